@@ -1,0 +1,38 @@
+//! Clones that equal what they were made from.
+ghost use Rattle.std.specs.Prelude.{◌≡◌, IfOk};
+
+use bytes::Bytes;
+use std::alloc::AllocError;
+
+/// A type whose clones equal their source, so that a copied RPC is the RPC.
+pub trait ExactClone: Clone {
+    /// A clone equals its source.
+    ghost exact: { (source copy : Self) → Self.is_clone source copy → copy ≡ source };
+}
+
+impl ExactClone for Bytes {
+    ghost exact = { λ source copy same. same };
+}
+
+/// A clone, which equals its source.
+///
+/// # Errors
+/// `AllocError` where there was no memory for it.
+pub fn clone_of<T: ExactClone>(value: &T) -> Result<T, AllocError>
+    ensures { IfOk result (λ copy. copy ≡ value.now) }
+{
+    value.clone()
+}
+
+/// A clone of an optional value, which equals its source.
+///
+/// # Errors
+/// `AllocError` where there was no memory for it.
+pub fn clone_option<T: ExactClone>(value: &Option<T>) -> Result<Option<T>, AllocError>
+    ensures { IfOk result (λ copy. copy ≡ value.now) }
+{
+    match value {
+        Some(value) => Ok(Some(clone_of(value)?)),
+        None => Ok(None),
+    }
+}
