@@ -1,0 +1,11 @@
+pub mod Faults
+pub mod Places
+pub mod Varints
+pub mod VarintLoops
+pub mod RecordReading
+pub mod RecordLists
+pub mod FieldValues
+pub mod Parts
+pub mod Rpcs
+pub mod Written
+pub mod RoundTrip

@@ -1,0 +1,5 @@
+use Rattle.gs_wire.proofs.RoundTrip.{frames_apart}
+use Rattle.gs_wire.proofs.laws.no_frame_begins_another.Goals as goal
+
+pub returns : goal.returns
+returns c = frames_apart

@@ -1,0 +1,70 @@
+//! Messages from records: each record is merged into the message as it is read.
+ghost use Rattle.std.specs.Prelude.{◌≡◌, List, [], ◌∷◌, ◌++◌, IfOk, OnOk, IsErrOf};
+ghost use Rattle.gs_wire.specs.Records.{Record as Spelled, SpellRecords};
+ghost use Rattle.gs_wire.specs.Messages.{Spells};
+ghost use Rattle.gs_wire.specs.Views.{view};
+
+use crate::reader::Reader;
+use crate::record::{Record, read_record};
+use std::alloc::{AllocError, Global};
+
+/// Why bytes were not read as a message.
+#[derive(Clone, Copy, Debug, PartialEq, Eq)]
+pub(crate) enum DecodeError {
+    Malformed,
+    NoMemory,
+}
+
+impl From<AllocError> for DecodeError {
+    ghost use Rattle.gs_wire.specs.declared.decoding.DecodeError.TheVariants.{NoMemory};
+
+    ghost from_gives = { λ _ error. error ≡ NoMemory };
+
+    fn from(_error: AllocError) -> DecodeError {
+        DecodeError::NoMemory
+    }
+}
+
+/// A message that records say.
+pub(crate) trait Decode: Drop {
+    /// The records say the value.
+    ghost says: { List Spelled → Self → Type 0 };
+
+    /// The message that no records say.
+    fn empty(alloc: Global) -> Self
+        ensures { says [] result };
+
+    /// Adds a record to those that say the message.
+    fn merge(&mut self, alloc: Global, record: Record<'_>) -> Result<(), DecodeError>
+        ensures merged { OnOk result ((before : List Spelled) → says before self.old → says (before ++ view «record».entry ∷ []) self.new) }
+        ensures malformed { IsErrOf result DecodeError.Malformed → (before after : List Spelled) (message : Self) → ¬ says (before ++ view «record».entry ∷ after) message };
+}
+
+/// Reads all that is left, and merges each record into the message.
+fn merge_all<M: Decode>(
+    alloc: Global,
+    reader: Reader<'_>,
+    message: &mut M,
+) -> Result<(), DecodeError>
+    ensures merged { OnOk result ((records : List Spelled) × SpellRecords reader.entry records × ((before : List Spelled) → M.says before message.old → M.says (before ++ records) message.new)) }
+    ensures malformed { IsErrOf result DecodeError.Malformed → (before records : List Spelled) (other : M) → SpellRecords reader.entry records → ¬ M.says (before ++ records) other }
+{
+    let mut reader = reader;
+    while !reader.is_empty() {
+        let Some(record) = read_record(&mut reader) else {
+            return Err(DecodeError::Malformed);
+        };
+        message.merge(alloc, record)?;
+    }
+    Ok(())
+}
+
+/// The message that the bytes spell.
+pub(crate) fn decode_message<M: Decode>(alloc: Global, reader: Reader<'_>) -> Result<M, DecodeError>
+    ensures found { IfOk result (λ message. Spells M.says reader.entry message) }
+    ensures malformed { IsErrOf result DecodeError.Malformed → (message : M) → ¬ Spells M.says reader.entry message }
+{
+    let mut message = M::empty(alloc);
+    merge_all(alloc, reader, &mut message)?;
+    Ok(message)
+}

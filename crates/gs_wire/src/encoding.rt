@@ -1,0 +1,154 @@
+//! Messages as records: first the length of what is written, and then the writing, at the end of a
+//! buffer that has the room. Lengths are exact up to the largest `usize`, and stop there.
+ghost use Rattle.std.specs.Prelude.{◌≡◌, ◌+◌, ◌*◌, ◌<◌, ◌≤◌, ◌∷◌, ◌++◌, List, ℕ, min, length, map, option_copied, option_map, vec_len, vec_capacity};
+ghost use Rattle.gs_wire.specs.Varint.{varint};
+ghost use Rattle.gs_wire.specs.Records.{Record as Spelled, records_text, record_text};
+ghost use Rattle.gs_wire.specs.Messages.{bool_records, bytes_records, topic_bytes, part_records, len_record};
+
+use crate::varint::{put_varint, varint_len};
+use bytes::Bytes;
+use gs_base::Topic;
+
+/// A message as records.
+pub(crate) trait Encode {
+    /// The records that are written, in order.
+    ghost records: { Self → List Spelled };
+
+    /// How many bytes `put` writes.
+    fn encoded_len(&self) -> usize
+        ensures { result ≡ min usize.MAX (length (records_text (records self.now))) };
+
+    /// Writes the message.
+    fn put(&self, buffer: &mut Vec<u8>)
+        requires { vec_len buffer.old + length (records_text (records self.now)) ≤ vec_capacity buffer.old }
+        ensures written { buffer.new.items ≡ buffer.old.items ++ records_text (records self.now) }
+        ensures capacity { vec_capacity buffer.old ≤ vec_capacity buffer.new };
+}
+
+/// The bytes of an optional field.
+pub(crate) fn bytes_of(value: &Option<Bytes>) -> Option<&[u8]>
+    ensures { option_copied result ≡ value.now }
+{
+    match value {
+        Some(bytes) => Some(bytes.as_slice()),
+        None => None,
+    }
+}
+
+/// The bytes of an optional topic.
+pub(crate) fn bytes_of_topic(value: &Option<Topic>) -> Option<&[u8]>
+    ensures { option_copied result ≡ topic_bytes value.now }
+{
+    match value {
+        Some(topic) => Some(topic.0.as_slice()),
+        None => None,
+    }
+}
+
+/// The length of a record with a value of `len` bytes, in a field whose tag is one byte.
+pub(crate) fn len_record_len(len: usize) -> usize
+    ensures { (field : ℕ) (bytes : List ℕ) → field < 16 → len ≡ min usize.MAX (length bytes) → result ≡ min usize.MAX (length (record_text (len_record field bytes))) }
+{
+    (1 + varint_len(len as u64)).saturating_add(len)
+}
+
+/// The length of an optional field of bytes.
+pub(crate) fn optional_len(value: Option<&[u8]>) -> usize
+    ensures { (field : ℕ) → field < 16 → result ≡ min usize.MAX (length (records_text (bytes_records field (option_copied value.entry)))) }
+{
+    match value {
+        Some(bytes) => len_record_len(bytes.len()),
+        None => 0,
+    }
+}
+
+/// The length of an optional truth value.
+pub(crate) fn bool_len(value: Option<bool>) -> usize
+    ensures { (field : ℕ) → field < 16 → result ≡ min usize.MAX (length (records_text (bool_records field value))) }
+{
+    match value {
+        Some(_) => 2,
+        None => 0,
+    }
+}
+
+/// The length of a repeated field of messages.
+pub(crate) fn parts_len<M: Encode>(parts: &[M]) -> usize
+    ensures { (field : ℕ) → field < 16 → result ≡ min usize.MAX (length (records_text (part_records M.records field parts.now))) }
+{
+    let mut total: usize = 0;
+    for part in parts {
+        total = total.saturating_add(len_record_len(part.encoded_len()));
+    }
+    total
+}
+
+/// Writes the tag and the length of a record of `len` bytes, in a field whose tag is one byte.
+fn put_len(buffer: &mut Vec<u8>, field: u64, len: usize)
+    requires small { field < 16 }
+    requires room { vec_len buffer.old + (1 + length (varint len)) ≤ vec_capacity buffer.old }
+    ensures written { buffer.new.items ≡ buffer.old.items ++ (8 * field + 2) ∷ varint len }
+    ensures capacity { vec_capacity buffer.new ≡ vec_capacity buffer.old }
+{
+    buffer.push_reserved((8 * field + 2) as u8);
+    put_varint(buffer, len as u64);
+}
+
+/// Writes a truth value.
+pub(crate) fn put_bool(buffer: &mut Vec<u8>, field: u64, value: Option<bool>)
+    requires small { field < 16 }
+    requires room { vec_len buffer.old + length (records_text (bool_records field value)) ≤ vec_capacity buffer.old }
+    ensures written { buffer.new.items ≡ buffer.old.items ++ records_text (bool_records field value) }
+    ensures capacity { vec_capacity buffer.new ≡ vec_capacity buffer.old }
+{
+    if let Some(value) = value {
+        buffer.push_reserved((8 * field) as u8);
+        buffer.push_reserved(u8::from(value));
+    }
+}
+
+/// Writes bytes.
+fn put_bytes(buffer: &mut Vec<u8>, field: u64, bytes: &[u8])
+    requires small { field < 16 }
+    requires room { vec_len buffer.old + length (record_text (len_record field bytes.now)) ≤ vec_capacity buffer.old }
+    ensures written { buffer.new.items ≡ buffer.old.items ++ record_text (len_record field bytes.now) }
+    ensures capacity { vec_capacity buffer.old ≤ vec_capacity buffer.new }
+{
+    put_len(buffer, field, bytes.len());
+    let _fits = buffer.extend_from_slice(bytes);
+}
+
+/// Writes bytes where there are any to write.
+pub(crate) fn put_optional(buffer: &mut Vec<u8>, field: u64, value: Option<&[u8]>)
+    requires small { field < 16 }
+    requires room { vec_len buffer.old + length (records_text (bytes_records field (option_copied value))) ≤ vec_capacity buffer.old }
+    ensures written { buffer.new.items ≡ buffer.old.items ++ records_text (bytes_records field (option_copied value.entry)) }
+    ensures capacity { vec_capacity buffer.old ≤ vec_capacity buffer.new }
+{
+    if let Some(bytes) = value {
+        put_bytes(buffer, field, bytes);
+    }
+}
+
+/// Writes a part.
+fn put_part<M: Encode>(buffer: &mut Vec<u8>, field: u64, part: &M)
+    requires small { field < 16 }
+    requires room { vec_len buffer.old + length (record_text (len_record field (records_text (M.records part.now)))) ≤ vec_capacity buffer.old }
+    ensures written { buffer.new.items ≡ buffer.old.items ++ record_text (len_record field (records_text (M.records part.now))) }
+    ensures capacity { vec_capacity buffer.old ≤ vec_capacity buffer.new }
+{
+    put_len(buffer, field, part.encoded_len());
+    part.put(buffer);
+}
+
+/// Writes each part in order.
+pub(crate) fn put_parts<M: Encode>(buffer: &mut Vec<u8>, field: u64, parts: &[M])
+    requires small { field < 16 }
+    requires room { vec_len buffer.old + length (records_text (part_records M.records field parts.now)) ≤ vec_capacity buffer.old }
+    ensures written { buffer.new.items ≡ buffer.old.items ++ records_text (part_records M.records field parts.now) }
+    ensures capacity { vec_capacity buffer.old ≤ vec_capacity buffer.new }
+{
+    for part in parts {
+        put_part(buffer, field, part);
+    }
+}

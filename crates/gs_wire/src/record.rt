@@ -1,0 +1,55 @@
+//! Records: a field number and a value (Protocol Buffers, Encoding, "Message Structure").
+ghost use Rattle.std.specs.Prelude.{◌≡◌, option_map};
+ghost use Rattle.gs_wire.specs.Reading.{value_at, record_at};
+ghost use Rattle.gs_wire.specs.Views.{view, view_value};
+
+use crate::reader::Reader;
+
+/// What a record holds, by its wire type.
+#[derive(Drop)]
+pub(crate) enum Value<'a> {
+    Varint(u64),
+    I64(Reader<'a>),
+    Len(Reader<'a>),
+    I32(Reader<'a>),
+}
+
+/// A field number and a value.
+#[derive(Drop)]
+pub(crate) struct Record<'a> {
+    pub field: u64,
+    pub value: Value<'a>,
+}
+
+/// Reads the value of a wire type.
+#[tactic(auto, unfolding(crate::specs::Reading::value_at))]
+fn read_value<'a>(reader: &mut Reader<'a>, wire_type: u64) -> Option<Value<'a>>
+    ensures { option_map (λ value. (view_value value, reader.new)) result ≡ value_at wire_type reader.old }
+{
+    match wire_type {
+        0 => Some(Value::Varint(reader.varint()?)),
+        1 => Some(Value::I64(reader.bytes(8)?)),
+        2 => {
+            let len = reader.varint()?;
+            Some(Value::Len(reader.bytes(len)?))
+        }
+        5 => Some(Value::I32(reader.bytes(4)?)),
+        _ => None,
+    }
+}
+
+/// Reads a record.
+#[tactic(auto, unfolding(crate::specs::Reading::record_at))]
+pub(crate) fn read_record<'a>(reader: &mut Reader<'a>) -> Option<Record<'a>>
+    ensures { option_map (λ found. (view found, reader.new)) result ≡ record_at reader.old }
+{
+    let tag = reader.varint()?;
+    if tag < 8 {
+        return None;
+    }
+    let value = read_value(reader, tag % 8)?;
+    Some(Record {
+        field: tag / 8,
+        value,
+    })
+}
