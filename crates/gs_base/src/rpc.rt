@@ -1,6 +1,7 @@
 //! What two peers send each other: the messages of gossipsub's `rpc.proto`.
 ghost use Rattle.std.specs.Prelude.{◌≡◌};
 
+use crate::control::Control;
 use crate::exact::{ExactClone, clone_option};
 use crate::names::Topic;
 use crate::seq::Seq;
@@ -74,6 +75,8 @@ pub struct Rpc {
     pub subs: Seq<SubOpt>,
     /// The messages that it passes on.
     pub publish: Seq<Message>,
+    /// What it says of meshes and of what it has seen.
+    pub control: Option<Control>,
 }
 
 impl Clone for Rpc {
@@ -83,6 +86,7 @@ impl Clone for Rpc {
         Ok(Rpc {
             subs: self.subs.clone()?,
             publish: self.publish.clone()?,
+            control: clone_option(&self.control)?,
         })
     }
 }

@@ -21,6 +21,7 @@ fn rpc(alloc: Global, payloads: &[&[u8]]) -> Result<Rpc, AllocError> {
     Ok(Rpc {
         subs: Seq::new(alloc),
         publish,
+        control: None,
     })
 }
 

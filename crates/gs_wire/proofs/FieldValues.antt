@@ -1,5 +1,5 @@
 -- What one more record adds to the values of a field.
-use Rattle.std.proofs.Common.{◌≡◌, ℕ, List, [], ◌∷◌, ◌++◌, Option, Some, None, refl, ap, ◌∙◌}
+use Rattle.std.proofs.Common.{◌≡◌, ℕ, List, [], ◌∷◌, ◌++◌, Option, Some, None, refl, ap, ◌∙◌, append-nil}
 use Rattle.std.specs.List.{cons_option}
 use Rattle.std.proofs.lemmas.List.Elements.{filter_map-append}
 use Rattle.gs_wire.specs.declared.record.Value.{Value as Stored}
@@ -21,6 +21,18 @@ varint_values-push wanted rs r = filter_map-append (λ r. varint_in wanted r.fie
 
 pub len_values-push : (wanted : ℕ) (rs : List Record) (r : Record) → len_values wanted (rs ++ r ∷ []) ≡ len_values wanted rs ++ cons_option (len_in wanted r.field r.value) []
 len_values-push wanted rs r = filter_map-append (λ r. len_in wanted r.field r.value) rs (r ∷ [])
+
+-- the values of a field, after one more was or wasn't found
+abbrev pub push_option : {A : Type 0} → List A → Option A → List A
+push_option xs None = xs
+push_option xs (Some x) = xs ++ x ∷ []
+
+append_option : {A : Type 0} (xs : List A) (o : Option A) → xs ++ cons_option o [] ≡ push_option xs o
+append_option xs None = append-nil xs
+append_option xs (Some x) = refl
+
+pub all_len-push : (wanted : ℕ) (rs : List Record) (r : Record) (found : Option (List ℕ)) → len_in wanted r.field r.value ≡ found → len_values wanted (rs ++ r ∷ []) ≡ push_option (len_values wanted rs) found
+all_len-push wanted rs r found e = len_values-push wanted rs r ∙ append_option (len_values wanted rs) (len_in wanted r.field r.value) ∙ ap (push_option (len_values wanted rs)) e
 
 pub last_varint-push : (wanted : ℕ) (rs : List Record) (r : Record) (found : Option ℕ) → varint_in wanted r.field r.value ≡ found → last (varint_values wanted (rs ++ r ∷ [])) ≡ last_then (varint_values wanted rs) found
 last_varint-push wanted rs r found e =

@@ -5,7 +5,13 @@ pub mod VarintLoops
 pub mod RecordReading
 pub mod RecordLists
 pub mod FieldValues
+pub mod Zips
 pub mod Parts
+pub mod ControlParts
+pub mod Controls
 pub mod Rpcs
 pub mod Written
 pub mod RoundTrip
+pub mod RpcRoundTrip
+pub mod Lengths
+pub mod FrameLists

@@ -5,8 +5,21 @@ use Rattle.std.proofs.lemmas.Bool.{ne_eqb}
 use Rattle.gs_base.specs.declared.rpc.SubOpt.{SubOpt}
 use Rattle.gs_base.specs.declared.rpc.Message.{Message}
 use Rattle.gs_wire.specs.Records.{Record, varint_in, len_in, varint_values, len_values}
-use Rattle.gs_wire.specs.Messages.{sub_of, message_of, as_topic, len_record}
+use Rattle.gs_wire.specs.Fields.{bool_of, topic_of, number_of, bytes_of, as_topic, len_record}
 use Rattle.gs_wire.proofs.FieldValues.{last_then, last_varint-push, last_len-push}
+
+abbrev pub sub_of : List Record → SubOpt
+sub_of rs = record { subscribe = bool_of 1 rs; topic = topic_of 2 rs }
+
+abbrev pub message_of : List Record → Message
+message_of rs = record {
+  origin = bytes_of 1 rs;
+  payload = bytes_of 2 rs;
+  seqno = bytes_of 3 rs;
+  topic = topic_of 4 rs;
+  signature = bytes_of 5 rs;
+  key = bytes_of 6 rs;
+}
 
 abbrev sub_then : List Record → Option ℕ → Option (List ℕ) → SubOpt
 sub_then rs subscribe topic = record {

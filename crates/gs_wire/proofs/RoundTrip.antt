@@ -1,6 +1,6 @@
--- What is written for a value spells it.
+-- What is written for a part of an RPC spells it.
 use Rattle.std.proofs.Common.{◌≡◌, ℕ, ◌+◌, ◌*◌, ◌<◌, ◌≤◌, ◌^◌, List, [], ◌∷◌, ◌++◌, length, map, take, drop, Option, Some, None, Bool, true, false, cond, eqb, refl, sym, ap, subst, ◌∙◌, append_assoc, append-nil, length-append, arith}
-use Rattle.std.specs.Prelude.{option_map, ◌==◌, if◌then◌else◌}
+use Rattle.std.specs.Prelude.{IfSome, option_map, ◌==◌, if◌then◌else◌}
 use Rattle.std.specs.List.{AllZip, AllByRecursion}
 use Rattle.std.proofs.lemmas.List.{take_at, drop_at}
 use Rattle.std.proofs.lemmas.List.Elements.{filter_map-append}
@@ -12,23 +12,24 @@ use Rattle.gs_base.specs.declared.rpc.Rpc.{Rpc}
 use Rattle.gs_wire.specs.Varint.{varint}
 use Rattle.gs_wire.specs.Reading.{varint_at}
 use Rattle.gs_wire.specs.Records.{Value, Varint, I64, Len, I32, Record, SpellsRecord, SpellRecords, len_in, len_values, last, record_text, records_text}
-use Rattle.gs_wire.specs.Messages.{Spells, SaysSub, SaysMessage, SpellsRpc, sub_of, message_of, as_topic, len_record, bool_records, bytes_records, topic_bytes, sub_records, message_records, part_records, body, frame}
+use Rattle.gs_wire.specs.Fields.{Spells, as_topic, len_record, number_records, bool_records, bytes_records, topic_bytes, repeated_records, part_records}
+use Rattle.gs_wire.specs.Messages.{SaysSub, SaysMessage, SpellsRpc, sub_records, message_records, body, frame}
 use Rattle.gs_wire.proofs.Varints.{written_varint, varint_read}
 use Rattle.gs_wire.proofs.FieldValues.{last_then, last_len-push}
-use Rattle.gs_wire.proofs.Parts.{when}
+use Rattle.gs_wire.proofs.Parts.{when, sub_of, message_of}
 use Rattle.gs_wire.proofs.Rpcs.{one_rpc}
 use Rattle.gs_wire.proofs.Written.{records_text-append, len_text-length}
 
 -- ---- records
 
 -- a record that can be written: a small field number, and a varint or bytes
-abbrev IsWritableValue : Value → Type 0
+abbrev pub IsWritableValue : Value → Type 0
 IsWritableValue (Varint n) = n < 2 ^ 64
 IsWritableValue (I64 bytes) = ⊥
 IsWritableValue (Len bytes) = Unit {0}
 IsWritableValue (I32 bytes) = ⊥
 
-abbrev IsWritable : Record → Type 0
+abbrev pub IsWritable : Record → Type 0
 IsWritable r = (1 ≤ r.field) × (r.field < 16) × IsWritableValue r.value
 
 record_spelled : (field : ℕ) (value : Value) → IsWritable (record { field = field; value = value }) → length (record_text (record { field = field; value = value })) < 2 ^ 64 → SpellsRecord (record_text (record { field = field; value = value })) (record { field = field; value = value })
@@ -65,7 +66,7 @@ records_spelled (r ∷ rs) all small =
       records_spelled rs all.1 (omega (arith, small, len)),
     )
 
-all-append : {A : Type 0} (P : A → Type 0) (xs ys : List A) → AllByRecursion P xs → AllByRecursion P ys → AllByRecursion P (xs ++ ys)
+pub all-append : {A : Type 0} (P : A → Type 0) (xs ys : List A) → AllByRecursion P xs → AllByRecursion P ys → AllByRecursion P (xs ++ ys)
 all-append P [] ys h k = k
 all-append P (x ∷ xs) ys h k = (h.0, all-append P xs ys h.1 k)
 
@@ -74,11 +75,19 @@ bool_writable field None low high = tt
 bool_writable field (Some true) low high = ((low, high, omega arith), tt)
 bool_writable field (Some false) low high = ((low, high, omega arith), tt)
 
-bytes_writable : (field : ℕ) (o : Option (List ℕ)) → 1 ≤ field → field < 16 → AllByRecursion IsWritable (bytes_records field o)
+pub number_writable : (field : ℕ) (o : Option ℕ) → IfSome o (λ n. n < 2 ^ 64) → 1 ≤ field → field < 16 → AllByRecursion IsWritable (number_records field o)
+number_writable field None fits low high = tt
+number_writable field (Some n) fits low high = ((low, high, fits), tt)
+
+pub repeated_writable : (field : ℕ) (values : List (List ℕ)) → 1 ≤ field → field < 16 → AllByRecursion IsWritable (repeated_records field values)
+repeated_writable field [] low high = tt
+repeated_writable field (bytes ∷ values) low high = ((low, high, tt), repeated_writable field values low high)
+
+pub bytes_writable : (field : ℕ) (o : Option (List ℕ)) → 1 ≤ field → field < 16 → AllByRecursion IsWritable (bytes_records field o)
 bytes_writable field None low high = tt
 bytes_writable field (Some bytes) low high = ((low, high, tt), tt)
 
-parts_writable : {V : Type 0} (records_of : V → List Record) (field : ℕ) (vs : List V) → 1 ≤ field → field < 16 → AllByRecursion IsWritable (part_records records_of field vs)
+pub parts_writable : {V : Type 0} (records_of : V → List Record) (field : ℕ) (vs : List V) → 1 ≤ field → field < 16 → AllByRecursion IsWritable (part_records records_of field vs)
 parts_writable records_of field [] low high = tt
 parts_writable records_of field (v ∷ vs) low high = ((low, high, tt), parts_writable records_of field vs low high)
 
@@ -149,26 +158,42 @@ message_says v =
 
 -- ---- parts
 
-part_values : {V : Type 0} (records_of : V → List Record) (wanted field : ℕ) (vs : List V) → eqb field wanted ≡ true → len_values wanted (part_records records_of field vs) ≡ map (λ v. records_text (records_of v)) vs
+pub part_values : {V : Type 0} (records_of : V → List Record) (wanted field : ℕ) (vs : List V) → eqb field wanted ≡ true → len_values wanted (part_records records_of field vs) ≡ map (λ v. records_text (records_of v)) vs
 part_values records_of wanted field [] same = refl
 part_values records_of wanted field (v ∷ vs) same = rw same (ap (λ (t : List (List ℕ)). records_text (records_of v) ∷ t) (part_values records_of wanted field vs same))
 
-no_values : {V : Type 0} (records_of : V → List Record) (wanted field : ℕ) (vs : List V) → eqb field wanted ≡ false → len_values wanted (part_records records_of field vs) ≡ []
+pub no_values : {V : Type 0} (records_of : V → List Record) (wanted field : ℕ) (vs : List V) → eqb field wanted ≡ false → len_values wanted (part_records records_of field vs) ≡ []
 no_values records_of wanted field [] other = refl
 no_values records_of wanted field (v ∷ vs) other = rw other (no_values records_of wanted field vs other)
 
-parts_spelled : {V : Type 0} (Says : List Record → V → Type 0) (records_of : V → List Record) (field : ℕ) (vs : List V) → field < 16 → ((v : V) → length (records_text (records_of v)) < 2 ^ 64 → Spells Says (records_text (records_of v)) v) → length (records_text (part_records records_of field vs)) < 2 ^ 64 → AllZip (Spells Says) (map (λ v. records_text (records_of v)) vs) vs
-parts_spelled Says records_of field [] low spelled small = tt
-parts_spelled Says records_of field (v ∷ vs) low spelled small =
+-- the values of a field of bytes
+pub repeated_values : (wanted field : ℕ) (values : List (List ℕ)) → eqb field wanted ≡ true → len_values wanted (repeated_records field values) ≡ values
+repeated_values wanted field [] same = refl
+repeated_values wanted field (bytes ∷ values) same = rw same (ap (λ (t : List (List ℕ)). bytes ∷ t) (repeated_values wanted field values same))
+
+pub other_values : (wanted field : ℕ) (values : List (List ℕ)) → eqb field wanted ≡ false → len_values wanted (repeated_records field values) ≡ []
+other_values wanted field [] other = refl
+other_values wanted field (bytes ∷ values) other = rw other (other_values wanted field values other)
+
+pub parts_spelled : {V : Type 0} (Says : List Record → V → Type 0) (Fits : V → Type 0) (records_of : V → List Record) (field : ℕ) (vs : List V) → field < 16 → ((v : V) → Fits v → length (records_text (records_of v)) < 2 ^ 64 → Spells Says (records_text (records_of v)) v) → AllByRecursion Fits vs → length (records_text (part_records records_of field vs)) < 2 ^ 64 → AllZip (Spells Says) (map (λ v. records_text (records_of v)) vs) vs
+parts_spelled Says Fits records_of field [] low spelled fit small = tt
+parts_spelled Says Fits records_of field (v ∷ vs) low spelled fit small =
     let one = len_record field (records_text (records_of v)) in
     let whole = length-append (record_text one) (records_text (part_records records_of field vs)) in
     let len = len_text-length field (records_text (records_of v)) low in (
-      spelled v (omega (arith, small, whole, len)),
-      parts_spelled Says records_of field vs low spelled (omega (arith, small, whole)),
+      spelled v fit.0 (omega (arith, small, whole, len)),
+      parts_spelled Says Fits records_of field vs low spelled fit.1 (omega (arith, small, whole)),
     )
 
-sub_spelled : (v : SubOpt) → length (records_text (sub_records v)) < 2 ^ 64 → Spells SaysSub (records_text (sub_records v)) v
-sub_spelled v small = (
+abbrev pub Any : {V : Type 0} → V → Type 0
+Any v = Unit {0}
+
+pub all_any : {V : Type 0} (vs : List V) → AllByRecursion Any vs
+all_any [] = tt
+all_any (v ∷ vs) = (tt, all_any vs)
+
+pub sub_spelled : (v : SubOpt) → Any v → length (records_text (sub_records v)) < 2 ^ 64 → Spells SaysSub (records_text (sub_records v)) v
+sub_spelled v any small = (
   sub_records v,
   records_spelled (sub_records v) (all-append IsWritable (bool_records 1 v.subscribe) (bytes_records 2 (topic_bytes v.topic)) (bool_writable 1 v.subscribe (omega arith) (omega arith)) (bytes_writable 2 (topic_bytes v.topic) (omega arith) (omega arith))) small,
   sub_says v.subscribe v.topic,
@@ -179,34 +204,5 @@ message_writable v =
     let more : (rs : List Record) (field : ℕ) (o : Option (List ℕ)) → AllByRecursion IsWritable rs → 1 ≤ field → field < 16 → AllByRecursion IsWritable (rs ++ bytes_records field o) = λ rs field o all low high. all-append IsWritable rs (bytes_records field o) all (bytes_writable field o low high) in
     more _ 6 v.key (more _ 5 v.signature (more _ 4 (topic_bytes v.topic) (more _ 3 v.seqno (more _ 2 v.payload (bytes_writable 1 v.origin (omega arith) (omega arith)) (omega arith) (omega arith)) (omega arith) (omega arith)) (omega arith) (omega arith)) (omega arith) (omega arith)) (omega arith) (omega arith)
 
-message_spelled : (v : Message) → length (records_text (message_records v)) < 2 ^ 64 → Spells SaysMessage (records_text (message_records v)) v
-message_spelled v small = (message_records v, records_spelled (message_records v) (message_writable v) small, message_says v)
-
--- ---- an RPC
-
-pub body_spelled : (v : Rpc) → length (body v) < 2 ^ 64 → SpellsRpc (body v) v
-body_spelled v small =
-    let A = part_records sub_records 1 v.subs in
-    let B = part_records message_records 2 v.publish in
-    let len : length (body v) ≡ length (records_text A) + length (records_text B) = ap length (records_text-append A B) ∙ length-append (records_text A) (records_text B) in
-    let subs : len_values 1 (A ++ B) ≡ map (λ s. records_text (sub_records s)) v.subs = filter_map-append (λ r. len_in 1 r.field r.value) A B ∙ ap (λ (t : List (List ℕ)). len_values 1 A ++ t) (no_values message_records 1 2 v.publish refl) ∙ append-nil (len_values 1 A) ∙ part_values sub_records 1 1 v.subs refl in
-    let publish : len_values 2 (A ++ B) ≡ map (λ m. records_text (message_records m)) v.publish = filter_map-append (λ r. len_in 2 r.field r.value) A B ∙ ap (λ (t : List (List ℕ)). t ++ len_values 2 B) (no_values sub_records 2 1 v.subs refl) ∙ part_values message_records 2 2 v.publish refl in (
-      A ++ B,
-      records_spelled (A ++ B) (all-append IsWritable A B (parts_writable sub_records 1 v.subs (omega arith) (omega arith)) (parts_writable message_records 2 v.publish (omega arith) (omega arith))) small,
-      record {
-        subs = rw subs (parts_spelled SaysSub sub_records 1 v.subs (omega arith) sub_spelled (omega (arith, small, len)));
-        publish = rw publish (parts_spelled SaysMessage message_records 2 v.publish (omega arith) message_spelled (omega (arith, small, len)));
-      },
-    )
-
--- two fronts of one length
-same_fronts : (a b x y : List ℕ) → length a ≡ length b → a ++ x ≡ b ++ y → (a ≡ b) × (x ≡ y)
-same_fronts a b x y len e =
-    (sym (take_at a x (length a) refl) ∙ ap (take (length a)) e ∙ take_at b y (length a) (sym len), sym (drop_at a x (length a) refl) ∙ ap (drop (length a)) e ∙ drop_at b y (length a) (sym len))
-
-pub frames_apart : (v w : Rpc) (x y : List ℕ) → length (body v) < 2 ^ 64 → length (body w) < 2 ^ 64 → frame v ++ x ≡ frame w ++ y → (v ≡ w) × (x ≡ y)
-frames_apart v w x y small small' e =
-    let read : (u : Rpc) (z : List ℕ) → length (body u) < 2 ^ 64 → varint_at (frame u ++ z) ≡ Some (length (body u), body u ++ z) = λ u z few. ap varint_at (append_assoc (varint (length (body u))) (body u) z) ∙ varint_read (varint (length (body u))) (length (body u)) (body u ++ z) (written_varint (length (body u)) few) in
-    let both = some_pair_parts (length (body v)) (length (body w)) (body v ++ x) (body w ++ y) (sym (read v x small) ∙ ap varint_at e ∙ read w y small') in
-    let apart = same_fronts (body v) (body w) x y both.0 both.1 in
-    (one_rpc (body v) v w (body_spelled v small) (subst (λ (t : List ℕ). SpellsRpc t w) (sym apart.0) (body_spelled w small')), apart.1)
+pub message_spelled : (v : Message) → Any v → length (records_text (message_records v)) < 2 ^ 64 → Spells SaysMessage (records_text (message_records v)) v
+message_spelled v any small = (message_records v, records_spelled (message_records v) (message_writable v) small, message_says v)

@@ -1,5 +1,5 @@
 -- What is written for records, and how long it is.
-use Rattle.std.proofs.Common.{◌≡◌, ℕ, ◌+◌, ◌*◌, ◌<◌, ◌≤◌, List, [], ◌∷◌, ◌++◌, length, map, take, get_or, min, Some, None, Bool, true, false, refl, ap, ◌∙◌, append-nil, length-append, arith, inl, inr}
+use Rattle.std.proofs.Common.{◌≡◌, ℕ, ◌+◌, ◌*◌, ◌<◌, ◌≤◌, List, [], ◌∷◌, ◌++◌, length, map, take, get_or, min, Some, None, refl, ap, ◌∙◌, append-nil, length-append, arith, inl, inr}
 use Rattle.std.proofs.lemmas.Bool.{cases_lt}
 use Rattle.std.proofs.lemmas.Grind.{flat_map-append}
 use Rattle.std.proofs.lemmas.List.{take_more, map_push}
@@ -7,7 +7,8 @@ use Rattle.std.proofs.lemmas.List.Folds.{flat_map-map, length-flat_map-take}
 use Rattle.gs_base.specs.declared.names.Topic.{Topic}
 use Rattle.gs_wire.specs.Varint.{varint}
 use Rattle.gs_wire.specs.Records.{Record, record_text, records_text}
-use Rattle.gs_wire.specs.Messages.{len_record, varint_record, bool_number, bool_records, bytes_records, part_records, message_records, body, publication}
+use Rattle.gs_wire.specs.Fields.{len_record, varint_record, number_records, bytes_records}
+use Rattle.gs_wire.specs.Messages.{message_records, body, publication}
 use Rattle.gs_wire.proofs.Varints.{varint_small, written_len}
 
 pub varint_ten : (n : ℕ) → length (varint n) ≤ 10
@@ -41,30 +42,23 @@ len_record_most field bytes len most small is = elim (cases_lt (length bytes) mo
 pub bytes_text : (field : ℕ) (bytes : List ℕ) → records_text (bytes_records field (Some bytes)) ≡ record_text (len_record field bytes)
 bytes_text field bytes = records_text-single (len_record field bytes)
 
--- ---- a truth value
+-- ---- a number
 
-pub bool_text : (field : ℕ) (b : Bool) → field < 16 → records_text (bool_records field (Some b)) ≡ (8 * field) ∷ bool_number b ∷ []
-bool_text field b small =
-    let tag : varint (8 * field + 0) ≡ (8 * field) ∷ [] = varint_small (8 * field + 0) (omega arith) ∙ ap (λ (n : ℕ). n ∷ []) (omega arith) in
-    let value : varint (bool_number b) ≡ bool_number b ∷ [] = varint_small (bool_number b) (bool_small b) in
-    append-nil (record_text (varint_record field (bool_number b))) ∙ rw (tag, value) refl
-  where
-    bool_small : (b : Bool) → bool_number b < 128
-    bool_small true = omega arith
-    bool_small false = omega arith
+pub number_text : (field n : ℕ) → field < 16 → records_text (number_records field (Some n)) ≡ (8 * field) ∷ varint n
+number_text field n small =
+    let tag : varint (8 * field + 0) ≡ (8 * field) ∷ [] = varint_small (8 * field + 0) (omega arith) ∙ ap (λ (m : ℕ). m ∷ []) (omega arith) in
+    append-nil (record_text (varint_record field n)) ∙ ap (λ (t : List ℕ). t ++ varint n) tag
 
 -- ---- parts
 
--- one part more
-pub parts_text-more : {V : Type 0} (records_of : V → List Record) (field : ℕ) (vs : List V) (i : ℕ) (d : V) → i < length vs → records_text (part_records records_of field (take (i + 1) vs)) ≡ records_text (part_records records_of field (take i vs)) ++ record_text (len_record field (records_text (records_of (get_or vs i d))))
-parts_text-more {V} records_of field vs i d lt =
-    let one : V → Record = λ v. len_record field (records_text (records_of v)) in
+-- one record more
+pub texts-more : {V : Type 0} (one : V → Record) (vs : List V) (i : ℕ) (d : V) → i < length vs → records_text (map one (take (i + 1) vs)) ≡ records_text (map one (take i vs)) ++ record_text (one (get_or vs i d))
+texts-more {V} one vs i d lt =
     ap (λ (t : List V). records_text (map one t)) (take_more vs i d lt) ∙ ap records_text (map_push one (take i vs) (get_or vs i d)) ∙ records_text-append (map one (take i vs)) (one (get_or vs i d) ∷ []) ∙ ap (λ (t : List ℕ). records_text (map one (take i vs)) ++ t) (records_text-single (one (get_or vs i d)))
 
--- the parts so far and the next one are no longer than all
-pub parts_text-room : {V : Type 0} (records_of : V → List Record) (field : ℕ) (vs : List V) (i : ℕ) (d : V) → i < length vs → length (records_text (part_records records_of field (take i vs))) + length (record_text (len_record field (records_text (records_of (get_or vs i d))))) ≤ length (records_text (part_records records_of field vs))
-parts_text-room {V} records_of field vs i d lt =
-    let one : V → Record = λ v. len_record field (records_text (records_of v)) in
+-- the records so far and the next one are no longer than all
+pub texts-room : {V : Type 0} (one : V → Record) (vs : List V) (i : ℕ) (d : V) → i < length vs → length (records_text (map one (take i vs))) + length (record_text (one (get_or vs i d))) ≤ length (records_text (map one vs))
+texts-room {V} one vs i d lt =
     rw (flat_map-map record_text one (take i vs), flat_map-map record_text one vs) (length-flat_map-take (λ v. record_text (one v)) vs i d lt)
 
 -- ---- lengths, up to a bound

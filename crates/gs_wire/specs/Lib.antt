@@ -1,6 +1,9 @@
 pub mod Varint
 pub mod Records
+pub mod Fields
+pub mod Controls
 pub mod Messages
 pub mod Reading
 pub mod Views
 pub mod Placed
+pub mod Stream

@@ -1,77 +1,44 @@
 -- RPCs and their parts as lists of records (libp2p pubsub, "The RPC": `rpc.proto`).
-use Rattle.std.specs.Prelude.{◌≡◌, ℕ, Bool, true, false, not, ◌==◌, List, [], ◌∷◌, ◌++◌, length, map, Option, Some, None, option_map}
-use Rattle.std.specs.List.{AllZip}
+use Rattle.std.specs.Prelude.{◌≡◌, ℕ, ◌<◌, ◌^◌, List, [], ◌∷◌, ◌++◌, length, Option, Some, None, IfSome, option_to_list}
+use Rattle.std.specs.List.{AllZip, AllByRecursion}
 use Rattle.gs_base.specs.declared.names.Topic.{Topic}
+use Rattle.gs_base.specs.declared.control.Prune.{Prune}
+use Rattle.gs_base.specs.declared.control.Control.{Control}
 use Rattle.gs_base.specs.declared.rpc.SubOpt.{SubOpt}
 use Rattle.gs_base.specs.declared.rpc.Message.{Message}
 use Rattle.gs_base.specs.declared.rpc.Rpc.{Rpc}
-use Rattle.gs_wire.specs.declared.field.TheConstants.{RPC_SUBSCRIPTIONS, RPC_PUBLISH, SUB_SUBSCRIBE, SUB_TOPIC, MESSAGE_FROM, MESSAGE_DATA, MESSAGE_SEQNO, MESSAGE_TOPIC, MESSAGE_SIGNATURE, MESSAGE_KEY}
+use Rattle.gs_wire.specs.declared.field.TheConstants.{RPC_SUBSCRIPTIONS, RPC_PUBLISH, RPC_CONTROL, SUB_SUBSCRIBE, SUB_TOPIC, MESSAGE_FROM, MESSAGE_DATA, MESSAGE_SEQNO, MESSAGE_TOPIC, MESSAGE_SIGNATURE, MESSAGE_KEY}
 use Rattle.gs_wire.specs.Varint.{varint}
-use Rattle.gs_wire.specs.Records.{Record, Varint, Len, SpellRecords, varint_values, len_values, last, records_text}
+use Rattle.gs_wire.specs.Records.{Record, len_values, records_text}
+use Rattle.gs_wire.specs.Fields.{Spells, bytes_of, topic_of, bool_of, topic_bytes, bool_records, bytes_records, part_records}
+use Rattle.gs_wire.specs.Controls.{SaysMerged, control_records}
 
 -- ---- what records say
 
--- The bytes spell the value: they spell records, and those say it.
-abbrev pub Spells : {V : Type 0} → (List Record → V → Type 0) → List ℕ → V → Type 0
-Spells Says bytes v = (rs : List Record) × SpellRecords bytes rs × Says rs v
-
-abbrev pub as_topic : List ℕ → Topic
-as_topic bytes = record { 0 = bytes }
-
--- The last value of a field stands, and a truth value is true where it isn't 0.
-abbrev pub sub_of : List Record → SubOpt
-sub_of rs = record {
-  subscribe = option_map (λ n. not (n == 0)) (last (varint_values SUB_SUBSCRIBE rs));
-  topic = option_map as_topic (last (len_values SUB_TOPIC rs));
-}
-
-abbrev pub message_of : List Record → Message
-message_of rs = record {
-  origin = last (len_values MESSAGE_FROM rs);
-  payload = last (len_values MESSAGE_DATA rs);
-  seqno = last (len_values MESSAGE_SEQNO rs);
-  topic = option_map as_topic (last (len_values MESSAGE_TOPIC rs));
-  signature = last (len_values MESSAGE_SIGNATURE rs);
-  key = last (len_values MESSAGE_KEY rs);
-}
-
 abbrev pub SaysSub : List Record → SubOpt → Type 0
-SaysSub rs v = v ≡ sub_of rs
+SaysSub rs v = v ≡ record { subscribe = bool_of SUB_SUBSCRIBE rs; topic = topic_of SUB_TOPIC rs }
 
 abbrev pub SaysMessage : List Record → Message → Type 0
-SaysMessage rs v = v ≡ message_of rs
+SaysMessage rs v = v ≡ record {
+  origin = bytes_of MESSAGE_FROM rs;
+  payload = bytes_of MESSAGE_DATA rs;
+  seqno = bytes_of MESSAGE_SEQNO rs;
+  topic = topic_of MESSAGE_TOPIC rs;
+  signature = bytes_of MESSAGE_SIGNATURE rs;
+  key = bytes_of MESSAGE_KEY rs;
+}
 
--- Each value of a repeated field spells one part, in order.
+-- Each value of a repeated field spells one part, in order; the values of control are merged.
 pub record SaysRpc (rs : List Record) (v : Rpc) : Type 0 where
   pub subs : AllZip (Spells SaysSub) (len_values RPC_SUBSCRIPTIONS rs) v.subs
   pub publish : AllZip (Spells SaysMessage) (len_values RPC_PUBLISH rs) v.publish
+  pub control : SaysMerged (len_values RPC_CONTROL rs) v.control
 
 -- The bytes spell the RPC.
 abbrev pub SpellsRpc : List ℕ → Rpc → Type 0
 SpellsRpc bytes v = Spells SaysRpc bytes v
 
 -- ---- the records of a value: fields ascending, repeated ones in order, and nothing for what is absent
-
-abbrev pub varint_record : ℕ → ℕ → Record
-varint_record field n = record { field = field; value = Varint n }
-
-abbrev pub len_record : ℕ → List ℕ → Record
-len_record field bytes = record { field = field; value = Len bytes }
-
-abbrev pub bool_number : Bool → ℕ
-bool_number true = 1
-bool_number false = 0
-
-abbrev pub bool_records : ℕ → Option Bool → List Record
-bool_records field None = []
-bool_records field (Some b) = varint_record field (bool_number b) ∷ []
-
-abbrev pub bytes_records : ℕ → Option (List ℕ) → List Record
-bytes_records field None = []
-bytes_records field (Some bytes) = len_record field bytes ∷ []
-
-abbrev pub topic_bytes : Option Topic → Option (List ℕ)
-topic_bytes o = option_map (λ t. t.0) o
 
 abbrev pub sub_records : SubOpt → List Record
 sub_records v = bool_records SUB_SUBSCRIBE v.subscribe ++ bytes_records SUB_TOPIC (topic_bytes v.topic)
@@ -85,12 +52,11 @@ message_records v =
     ++ bytes_records MESSAGE_SIGNATURE v.signature
     ++ bytes_records MESSAGE_KEY v.key
 
--- one record for each part, which holds the part's shortest spelling
-abbrev pub part_records : {V : Type 0} → (V → List Record) → ℕ → List V → List Record
-part_records records_of field vs = map (λ v. len_record field (records_text (records_of v))) vs
-
 abbrev pub rpc_records : Rpc → List Record
-rpc_records v = part_records sub_records RPC_SUBSCRIPTIONS v.subs ++ part_records message_records RPC_PUBLISH v.publish
+rpc_records v =
+    part_records sub_records RPC_SUBSCRIPTIONS v.subs
+    ++ part_records message_records RPC_PUBLISH v.publish
+    ++ part_records control_records RPC_CONTROL (option_to_list v.control)
 
 -- the body that is written for an RPC
 abbrev pub body : Rpc → List ℕ
@@ -105,4 +71,19 @@ abbrev pub publication : Topic → List ℕ → Rpc
 publication topic payload = record {
   subs = [];
   publish = record { origin = None; payload = Some payload; seqno = None; topic = Some topic; signature = None; key = None } ∷ [];
+  control = None;
 }
+
+-- ---- the values that a program holds
+
+-- The backoff is a number of 64 bits.
+abbrev pub IsPrune : Prune → Type 0
+IsPrune v = IfSome v.backoff (λ n. n < 2 ^ 64)
+
+abbrev pub IsControl : Control → Type 0
+IsControl v = AllByRecursion IsPrune v.prune
+
+-- The body fits in memory, and each backoff is a number of 64 bits.
+pub record IsInMemory (v : Rpc) : Type 0 where
+  pub body : length (body v) < 2 ^ 64
+  pub control : IfSome v.control IsControl

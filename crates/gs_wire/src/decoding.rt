@@ -1,7 +1,7 @@
 //! Messages from records: each record is merged into the message as it is read.
 ghost use Rattle.std.specs.Prelude.{◌≡◌, List, [], ◌∷◌, ◌++◌, IfOk, OnOk, IsErrOf};
 ghost use Rattle.gs_wire.specs.Records.{Record as Spelled, SpellRecords};
-ghost use Rattle.gs_wire.specs.Messages.{Spells};
+ghost use Rattle.gs_wire.specs.Fields.{Spells};
 ghost use Rattle.gs_wire.specs.Views.{view};
 
 use crate::reader::Reader;
@@ -41,13 +41,13 @@ pub(crate) trait Decode: Drop {
 }
 
 /// Reads all that is left, and merges each record into the message.
-fn merge_all<M: Decode>(
+pub(crate) fn merge_all<M: Decode>(
     alloc: Global,
     reader: Reader<'_>,
     message: &mut M,
 ) -> Result<(), DecodeError>
     ensures merged { OnOk result ((records : List Spelled) × SpellRecords reader.entry records × ((before : List Spelled) → M.says before message.old → M.says (before ++ records) message.new)) }
-    ensures malformed { IsErrOf result DecodeError.Malformed → (before records : List Spelled) (other : M) → SpellRecords reader.entry records → ¬ M.says (before ++ records) other }
+    ensures malformed { IsErrOf result DecodeError.Malformed → (before records after : List Spelled) (other : M) → SpellRecords reader.entry records → ¬ M.says (before ++ (records ++ after)) other }
 {
     let mut reader = reader;
     while !reader.is_empty() {

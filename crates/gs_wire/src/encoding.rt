@@ -3,7 +3,7 @@
 ghost use Rattle.std.specs.Prelude.{◌≡◌, ◌+◌, ◌*◌, ◌<◌, ◌≤◌, ◌∷◌, ◌++◌, List, ℕ, min, length, map, option_copied, option_map, vec_len, vec_capacity};
 ghost use Rattle.gs_wire.specs.Varint.{varint};
 ghost use Rattle.gs_wire.specs.Records.{Record as Spelled, records_text, record_text};
-ghost use Rattle.gs_wire.specs.Messages.{bool_records, bytes_records, topic_bytes, part_records, len_record};
+ghost use Rattle.gs_wire.specs.Fields.{bool_number, number_records, bytes_records, topic_bytes, repeated_records, part_records, len_record};
 
 use crate::varint::{put_varint, varint_len};
 use bytes::Bytes;
@@ -62,14 +62,36 @@ pub(crate) fn optional_len(value: Option<&[u8]>) -> usize
     }
 }
 
-/// The length of an optional truth value.
-pub(crate) fn bool_len(value: Option<bool>) -> usize
-    ensures { (field : ℕ) → field < 16 → result ≡ min usize.MAX (length (records_text (bool_records field value))) }
+/// The number that stands for an optional truth value.
+pub(crate) fn bool_number(value: Option<bool>) -> Option<u64>
+    ensures { result ≡ option_map bool_number value }
 {
     match value {
-        Some(_) => 2,
+        Some(true) => Some(1),
+        Some(false) => Some(0),
+        None => None,
+    }
+}
+
+/// The length of an optional field of a number.
+pub(crate) fn number_len(value: Option<u64>) -> usize
+    ensures { (field : ℕ) → field < 16 → result ≡ min usize.MAX (length (records_text (number_records field value))) }
+{
+    match value {
+        Some(number) => 1 + varint_len(number),
         None => 0,
     }
+}
+
+/// The length of a repeated field of bytes.
+pub(crate) fn repeated_len(values: &[Bytes]) -> usize
+    ensures { (field : ℕ) → field < 16 → result ≡ min usize.MAX (length (records_text (repeated_records field values.now))) }
+{
+    let mut total: usize = 0;
+    for bytes in values {
+        total = total.saturating_add(len_record_len(bytes.len()));
+    }
+    total
 }
 
 /// The length of a repeated field of messages.
@@ -94,16 +116,16 @@ fn put_len(buffer: &mut Vec<u8>, field: u64, len: usize)
     put_varint(buffer, len as u64);
 }
 
-/// Writes a truth value.
-pub(crate) fn put_bool(buffer: &mut Vec<u8>, field: u64, value: Option<bool>)
+/// Writes a number where there is one to write.
+pub(crate) fn put_number(buffer: &mut Vec<u8>, field: u64, value: Option<u64>)
     requires small { field < 16 }
-    requires room { vec_len buffer.old + length (records_text (bool_records field value)) ≤ vec_capacity buffer.old }
-    ensures written { buffer.new.items ≡ buffer.old.items ++ records_text (bool_records field value) }
-    ensures capacity { vec_capacity buffer.new ≡ vec_capacity buffer.old }
+    requires room { vec_len buffer.old + length (records_text (number_records field value)) ≤ vec_capacity buffer.old }
+    ensures written { buffer.new.items ≡ buffer.old.items ++ records_text (number_records field value) }
+    ensures capacity { vec_capacity buffer.old ≤ vec_capacity buffer.new }
 {
-    if let Some(value) = value {
+    if let Some(number) = value {
         buffer.push_reserved((8 * field) as u8);
-        buffer.push_reserved(u8::from(value));
+        put_varint(buffer, number);
     }
 }
 
@@ -127,6 +149,18 @@ pub(crate) fn put_optional(buffer: &mut Vec<u8>, field: u64, value: Option<&[u8]
 {
     if let Some(bytes) = value {
         put_bytes(buffer, field, bytes);
+    }
+}
+
+/// Writes each value in order.
+pub(crate) fn put_repeated(buffer: &mut Vec<u8>, field: u64, values: &[Bytes])
+    requires small { field < 16 }
+    requires room { vec_len buffer.old + length (records_text (repeated_records field values.now)) ≤ vec_capacity buffer.old }
+    ensures written { buffer.new.items ≡ buffer.old.items ++ records_text (repeated_records field values.now) }
+    ensures capacity { vec_capacity buffer.old ≤ vec_capacity buffer.new }
+{
+    for bytes in values {
+        put_bytes(buffer, field, bytes.as_slice());
     }
 }
 

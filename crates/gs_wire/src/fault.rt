@@ -3,15 +3,18 @@ ghost use Rattle.std.specs.Prelude.{◌≡◌};
 
 use std::alloc::AllocError;
 
-/// Why bytes were not read as an RPC, or an RPC was not written.
+/// Why bytes were not read as an RPC or as frames, or an RPC was not written.
 #[derive(Clone, Copy, Debug, PartialEq, Eq, thiserror::Error)]
 pub enum WireFault {
     /// The bytes spell no RPC.
     #[error("the bytes spell no RPC")]
     Malformed,
-    /// The body is longer than `MAX_BODY`.
+    /// A body is longer than `MAX_BODY`, or than a reader's limit.
     #[error("the body is too long")]
     TooLong,
+    /// The reader has met a fault before.
+    #[error("the stream has failed before")]
+    Failed,
     /// There was no memory.
     #[error("there was no memory")]
     NoMemory,

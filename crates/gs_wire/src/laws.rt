@@ -1,9 +1,12 @@
 //! Laws of the wire format. Each holds of its definitions alone, and its function does nothing.
-ghost use Rattle.std.specs.Prelude.{◌≡◌, ◌<◌, ◌≤◌, ◌^◌, ◌++◌, List, ℕ, length};
+ghost use Rattle.std.specs.Prelude.{[], ◌∷◌, ◌≡◌, ◌<◌, ◌≤◌, ◌^◌, ◌++◌, List, ℕ, length};
 ghost use Rattle.gs_base.specs.declared.rpc.Rpc.{Rpc};
 ghost use Rattle.gs_wire.specs.Varint.{IsVarint, varint};
 ghost use Rattle.gs_wire.specs.Records.{Record, SpellRecords};
-ghost use Rattle.gs_wire.specs.Messages.{SpellsRpc, body, frame};
+ghost use Rattle.std.specs.List.{concat};
+ghost use Rattle.gs_wire.specs.declared.frames.End.{End};
+ghost use Rattle.gs_wire.specs.Stream.{IsStream, FindsIn};
+ghost use Rattle.gs_wire.specs.Messages.{SpellsRpc, IsInMemory, body, frame};
 
 /// Bytes spell at most one list of records.
 pub fn bytes_spell_one_list_of_records()
@@ -17,16 +20,31 @@ pub fn bytes_spell_one_rpc()
 
 /// The body that is written for an RPC spells it.
 pub fn a_body_spells_its_rpc()
-    ensures { (v : Rpc) → length (body v) < 2 ^ 64 → SpellsRpc (body v) v }
+    ensures { (v : Rpc) → IsInMemory v → SpellsRpc (body v) v }
 {}
 
 /// No frame begins another: whatever follows a frame, it is read back, and what follows it is left.
 pub fn no_frame_begins_another()
-    ensures { (v w : Rpc) (x y : List ℕ) → length (body v) < 2 ^ 64 → length (body w) < 2 ^ 64 → frame v ++ x ≡ frame w ++ y → (v ≡ w) × (x ≡ y) }
+    ensures { (v w : Rpc) (x y : List ℕ) → IsInMemory v → IsInMemory w → frame v ++ x ≡ frame w ++ y → (v ≡ w) × (x ≡ y) }
 {}
 
 /// A written varint spells its number, and no spelling is shorter.
 pub fn the_written_varint_is_shortest()
     ensures spells { (n : ℕ) → n < 2 ^ 64 → IsVarint (varint n) n }
     ensures shortest { (text : List ℕ) (n : ℕ) → IsVarint text n → length (varint n) ≤ length text }
+{}
+
+/// A stream is one list of frames, and goes on in one way.
+pub fn a_stream_is_one()
+    ensures { (limit : ℕ) (bytes : List ℕ) (vs ws : List Rpc) (r s : List ℕ) (e d : End) → IsStream limit bytes vs r e → IsStream limit bytes ws s d → (vs ≡ ws) × (r ≡ s) × (e ≡ d) }
+{}
+
+/// However a stream is cut into pieces, what a reader finds in them is what stands in all of it.
+pub fn a_stream_may_be_cut_anywhere()
+    ensures { (limit : ℕ) (pieces : List (List ℕ)) (vs : List Rpc) (end : End) → FindsIn limit [] pieces vs end → (rest : List ℕ) × IsStream limit (concat pieces) vs rest end }
+{}
+
+/// A written frame whose body is within a reader's limit is read back, whatever follows it.
+pub fn a_written_frame_is_read_back()
+    ensures { (limit : ℕ) (v : Rpc) (more : List ℕ) (vs : List Rpc) (rest : List ℕ) (end : End) → IsInMemory v → length (body v) ≤ limit → IsStream limit more vs rest end → IsStream limit (frame v ++ more) (v ∷ vs) rest end }
 {}

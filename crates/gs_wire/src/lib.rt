@@ -1,10 +1,14 @@
 //! RPCs as bytes: the encoding of Protocol Buffers for gossipsub's `rpc.proto`, and frames.
 #![tactic(auto)]
 
+mod control;
+mod control_parts;
 mod decoding;
 mod encoding;
 mod fault;
 mod field;
+mod frame_reader;
+mod frames;
 mod laws;
 mod message;
 mod reader;
@@ -14,11 +18,16 @@ mod sub_opt;
 mod varint;
 
 pub use fault::WireFault;
+pub use frame_reader::FrameReader;
+pub use frames::End;
 pub use laws::{
-    a_body_spells_its_rpc, bytes_spell_one_list_of_records, bytes_spell_one_rpc,
+    a_body_spells_its_rpc, a_stream_is_one, a_stream_may_be_cut_anywhere,
+    a_written_frame_is_read_back, bytes_spell_one_list_of_records, bytes_spell_one_rpc,
     no_frame_begins_another, the_written_varint_is_shortest,
 };
 pub use rpc::{MAX_BODY, decode, encode, encode_frame, publish_len};
 
+#[cfg(test)]
+mod stream_tests;
 #[cfg(test)]
 mod tests;

@@ -1,9 +1,12 @@
 //! RPCs as bodies and frames.
-ghost use Rattle.std.specs.Prelude.{◌≡◌, ◌≢◌, ◌<◌, ◌≤◌, ◌+◌, ◌++◌, ◌↔◌, Err, IfOk, IfErr, OnOk, OnErr, IsErrOf, length, vec_len, vec_capacity};
+ghost use Rattle.std.specs.Prelude.{◌≡◌, ◌⊎◌, ◌<◌, ◌≤◌, ◌+◌, ◌++◌, ◌↔◌, Err, IfOk, IfErr, OnOk, OnErr, IsErrOf, List, unwrap_or, length, vec_len, vec_capacity};
 ghost use Rattle.gs_base.specs.declared.rpc.Rpc.{Rpc as RpcValue};
+ghost use Rattle.gs_base.specs.declared.control.Control.{Control as ControlValue};
+ghost use Rattle.gs_wire.specs.Records.{Record as Spelled, SpellRecords};
+ghost use Rattle.gs_wire.specs.Controls.{SaysControl, no_control};
 ghost use Rattle.gs_wire.specs.Messages.{SaysRpc, SpellsRpc, rpc_records, body, frame, publication};
 
-use crate::decoding::{Decode, DecodeError, decode_message};
+use crate::decoding::{Decode, DecodeError, decode_message, merge_all};
 use crate::encoding::{Encode, len_record_len, parts_len, put_parts};
 use crate::fault::WireFault;
 use crate::field;
@@ -11,11 +14,24 @@ use crate::reader::Reader;
 use crate::record::{Record, Value};
 use crate::varint::{put_varint, varint_len};
 use bytes::Bytes;
-use gs_base::{Rpc, Seq, Topic};
+use gs_base::{Control, Rpc, Seq, Topic};
 use std::alloc::Global;
 
 /// The longest body that is written, in bytes.
 pub const MAX_BODY: usize = 1_048_576;
+
+/// The control that was read before, or an empty one, with the records of one more value.
+fn merged(alloc: Global, before: Option<Control>, bytes: Reader<'_>) -> Result<Control, DecodeError>
+    ensures merged { IfOk result (λ control. (records : List Spelled) × SpellRecords bytes.entry records × ((front : List Spelled) → SaysControl front (unwrap_or before no_control) → SaysControl (front ++ records) control)) }
+    ensures malformed { IsErrOf result DecodeError.Malformed → (front records after : List Spelled) (other : ControlValue) → SpellRecords bytes.entry records → ¬ SaysControl (front ++ (records ++ after)) other }
+{
+    let mut control = match before {
+        Some(control) => control,
+        None => Control::empty(alloc),
+    };
+    merge_all(alloc, bytes, &mut control)?;
+    Ok(control)
+}
 
 impl Decode for Rpc {
     ghost says = { SaysRpc };
@@ -24,6 +40,7 @@ impl Decode for Rpc {
         Rpc {
             subs: Seq::new(alloc),
             publish: Seq::new(alloc),
+            control: None,
         }
     }
 
@@ -35,6 +52,7 @@ impl Decode for Rpc {
         match field {
             field::RPC_SUBSCRIPTIONS => self.subs.push(decode_message(alloc, bytes)?)?,
             field::RPC_PUBLISH => self.publish.push(decode_message(alloc, bytes)?)?,
+            field::RPC_CONTROL => self.control = Some(merged(alloc, self.control.take(), bytes)?),
             _ => {}
         }
         Ok(())
@@ -45,12 +63,29 @@ impl Encode for Rpc {
     ghost records = { rpc_records };
 
     fn encoded_len(&self) -> usize {
-        parts_len(self.subs.as_slice()).saturating_add(parts_len(self.publish.as_slice()))
+        parts_len(self.subs.as_slice())
+            .saturating_add(parts_len(self.publish.as_slice()))
+            .saturating_add(parts_len(self.control.as_slice()))
     }
 
     fn put(&self, buffer: &mut Vec<u8>) {
         put_parts(buffer, field::RPC_SUBSCRIPTIONS, self.subs.as_slice());
         put_parts(buffer, field::RPC_PUBLISH, self.publish.as_slice());
+        put_parts(buffer, field::RPC_CONTROL, self.control.as_slice());
+    }
+}
+
+/// The RPC that a body spells, which shares one copy of the body.
+pub(crate) fn read_body(alloc: Global, body: &[u8]) -> Result<Rpc, DecodeError>
+    ensures spelled { IfOk result (λ rpc. SpellsRpc body.now rpc) }
+    ensures malformed { IsErrOf result DecodeError.Malformed → (rpc : RpcValue) → ¬ SpellsRpc body.now rpc }
+{
+    let shared = Bytes::copy_from_slice(alloc, body)?;
+    let reader = Reader::new(&shared);
+    match decode_message(alloc, reader) {
+        Ok(rpc) => Ok(rpc),
+        Err(DecodeError::Malformed) => Err(DecodeError::Malformed),
+        Err(DecodeError::NoMemory) => Err(DecodeError::NoMemory),
     }
 }
 
@@ -63,10 +98,9 @@ impl Encode for Rpc {
 pub fn decode(alloc: Global, body: &[u8]) -> Result<Rpc, WireFault>
     ensures spelled { IfOk result (λ rpc. SpellsRpc body.now rpc) }
     ensures malformed { IsErrOf result WireFault.Malformed → (rpc : RpcValue) → ¬ SpellsRpc body.now rpc }
-    ensures no_other { IfErr result (λ fault. fault ≢ WireFault.TooLong) }
+    ensures no_other { IfErr result (λ fault. (fault ≡ WireFault.Malformed) ⊎ (fault ≡ WireFault.NoMemory)) }
 {
-    let shared = Bytes::copy_from_slice(alloc, body)?;
-    match decode_message(alloc, Reader::new(&shared)) {
+    match read_body(alloc, body) {
         Ok(rpc) => Ok(rpc),
         Err(DecodeError::Malformed) => Err(WireFault::Malformed),
         Err(DecodeError::NoMemory) => Err(WireFault::NoMemory),
@@ -96,7 +130,7 @@ pub fn encode(rpc: &Rpc, buffer: &mut Vec<u8>) -> Result<(), WireFault>
     ensures kept { OnErr result (buffer.new.items ≡ buffer.old.items) }
     ensures too_long { (result ≡ Err WireFault.TooLong) ↔ (MAX_BODY < length (body rpc.now)) }
     ensures no_memory { result ≡ Err WireFault.NoMemory → vec_capacity buffer.old < vec_len buffer.old + length (body rpc.now) }
-    ensures no_other { IfErr result (λ fault. fault ≢ WireFault.Malformed) }
+    ensures no_other { IfErr result (λ fault. (fault ≡ WireFault.TooLong) ⊎ (fault ≡ WireFault.NoMemory)) }
 {
     let len = body_len(rpc)?;
     buffer.reserve(len)?;
@@ -114,7 +148,7 @@ pub fn encode_frame(rpc: &Rpc, buffer: &mut Vec<u8>) -> Result<(), WireFault>
     ensures kept { OnErr result (buffer.new.items ≡ buffer.old.items) }
     ensures too_long { (result ≡ Err WireFault.TooLong) ↔ (MAX_BODY < length (body rpc.now)) }
     ensures no_memory { result ≡ Err WireFault.NoMemory → vec_capacity buffer.old < vec_len buffer.old + length (frame rpc.now) }
-    ensures no_other { IfErr result (λ fault. fault ≢ WireFault.Malformed) }
+    ensures no_other { IfErr result (λ fault. (fault ≡ WireFault.TooLong) ⊎ (fault ≡ WireFault.NoMemory)) }
 {
     let len = body_len(rpc)?;
     buffer.reserve(varint_len(len as u64) + len)?;

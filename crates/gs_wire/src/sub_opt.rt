@@ -2,7 +2,9 @@
 ghost use Rattle.gs_wire.specs.Messages.{SaysSub, sub_records};
 
 use crate::decoding::{Decode, DecodeError};
-use crate::encoding::{Encode, bool_len, bytes_of_topic, optional_len, put_bool, put_optional};
+use crate::encoding::{
+    Encode, bool_number, bytes_of_topic, number_len, optional_len, put_number, put_optional,
+};
 use crate::field;
 use crate::record::{Record, Value};
 use gs_base::{SubOpt, Topic};
@@ -41,11 +43,13 @@ impl Encode for SubOpt {
     ghost records = { sub_records };
 
     fn encoded_len(&self) -> usize {
-        bool_len(self.subscribe).saturating_add(optional_len(bytes_of_topic(&self.topic)))
+        number_len(bool_number(self.subscribe)).saturating_add(optional_len(bytes_of_topic(
+            &self.topic,
+        )))
     }
 
     fn put(&self, buffer: &mut Vec<u8>) {
-        put_bool(buffer, field::SUB_SUBSCRIBE, self.subscribe);
+        put_number(buffer, field::SUB_SUBSCRIBE, bool_number(self.subscribe));
         put_optional(buffer, field::SUB_TOPIC, bytes_of_topic(&self.topic));
     }
 }

@@ -1,12 +1,13 @@
 use super::*;
 use bytes::Bytes;
-use gs_base::{Message, Rpc, Seq, SubOpt, Topic};
+use gs_base::{Control, Graft, IHave, IWant, Message, Prune, Rpc, Seq, SubOpt, Topic};
 use std::alloc::{AllocError, Global};
 
 fn empty(alloc: Global) -> Rpc {
     Rpc {
         subs: Seq::new(alloc),
         publish: Seq::new(alloc),
+        control: None,
     }
 }
 
@@ -62,6 +63,78 @@ fn frames_are_read_and_written(rt: HostRuntime) -> Result<(), AllocError> {
     let abc = publication(alloc, b"a", Bytes::copy_from_slice(alloc, b"abc")?)?;
     assert!(rt; is_read_and_written(alloc, &publish[1..], &abc, publish));
     assert!(rt; is_read_and_written(alloc, b"", &empty(alloc), b"\x00"));
+    Ok(())
+}
+
+fn no_control(alloc: Global) -> Control {
+    Control {
+        ihave: Seq::new(alloc),
+        iwant: Seq::new(alloc),
+        graft: Seq::new(alloc),
+        prune: Seq::new(alloc),
+    }
+}
+
+fn with_control(alloc: Global, control: Control) -> Rpc {
+    Rpc {
+        subs: Seq::new(alloc),
+        publish: Seq::new(alloc),
+        control: Some(control),
+    }
+}
+
+#[test]
+fn a_prune_is_read_and_written(rt: HostRuntime) -> Result<(), AllocError> {
+    let alloc = rt.alloc();
+    let frame = b"\x09\x1a\x07\x22\x05\x0a\x01\x61\x18\x3c";
+    let mut control = no_control(alloc);
+    control.prune.push(Prune {
+        topic: topic(alloc, b"a")?,
+        backoff: Some(60),
+    })?;
+    let rpc = with_control(alloc, control);
+    assert!(rt; is_read_and_written(alloc, &frame[1..], &rpc, frame));
+    let with_peers = b"\x1a\x0b\x22\x09\x0a\x01\x61\x12\x02\xff\xff\x18\x3c";
+    assert!(rt; is_read_and_written(alloc, with_peers, &rpc, frame));
+    Ok(())
+}
+
+#[test]
+fn control_records_are_merged(rt: HostRuntime) -> Result<(), AllocError> {
+    let alloc = rt.alloc();
+    let body = b"\x78\x01\x1a\x05\x1a\x03\x0a\x01\x61\x1a\x05\x1a\x03\x0a\x01\x62";
+    let frame = b"\x0c\x1a\x0a\x1a\x03\x0a\x01\x61\x1a\x03\x0a\x01\x62";
+    let mut control = no_control(alloc);
+    control.graft.push(Graft {
+        topic: topic(alloc, b"a")?,
+    })?;
+    control.graft.push(Graft {
+        topic: topic(alloc, b"b")?,
+    })?;
+    assert!(rt; is_read_and_written(alloc, body, &with_control(alloc, control), frame));
+    let empty = with_control(alloc, no_control(alloc));
+    assert!(rt; is_read_and_written(alloc, b"\x1a\x00", &empty, b"\x02\x1a\x00"));
+    assert!(rt; is_malformed(alloc, b"\x1a\x03\x1a\x02\x0a\x1a\x02\x01\x61"));
+    Ok(())
+}
+
+#[test]
+fn offers_and_requests_are_read_and_written(rt: HostRuntime) -> Result<(), AllocError> {
+    let alloc = rt.alloc();
+    let frame = b"\x10\x1a\x0e\x0a\x07\x0a\x01\x61\x12\x00\x12\x00\x12\x03\x0a\x01\x07";
+    let mut ids = Seq::new(alloc);
+    ids.push(Bytes::new())?;
+    ids.push(Bytes::new())?;
+    let mut asked = Seq::new(alloc);
+    asked.push(Bytes::copy_from_slice(alloc, b"\x07")?)?;
+    let mut control = no_control(alloc);
+    control.ihave.push(IHave {
+        topic: topic(alloc, b"a")?,
+        ids,
+    })?;
+    control.iwant.push(IWant { ids: asked })?;
+    let rpc = with_control(alloc, control);
+    assert!(rt; is_read_and_written(alloc, &frame[1..], &rpc, frame));
     Ok(())
 }
 

@@ -4,7 +4,7 @@ ghost use Rattle.gs_wire.specs.Reading.{varint_at, varint_at_most};
 ghost use Rattle.gs_wire.specs.Varint.{varint, varint_within};
 
 /// The most bytes that a varint takes.
-const MAX_VARINT: u32 = 10;
+pub(crate) const MAX_VARINT: u32 = 10;
 
 /// The varint of at most `most` bytes at the front, and how many bytes it takes.
 #[tactic(auto, unfolding(crate::specs::Reading::varint_at_most))]

@@ -9,7 +9,7 @@ use Rattle.gs_wire.proofs.RecordLists.{read_one, read_stuck, read_front}
 use Rattle.gs_wire.proofs.decoding.merge_all.Goals as goal
 
 pub returns-in_default-clause-malformed : goal.returns-in_default-clause-malformed
-returns-in_default-clause-malformed g c = λ _ before records other spells _.
+returns-in_default-clause-malformed g c = λ _ before records after other spells _.
     let (rs, read, _) = c.loop-reader.invariant in
     read_stuck c.args.reader c.loop-reader.reader rs read (search rules) (sym c.in_default.ensures) records spells
 
@@ -29,9 +29,13 @@ loop-reader-preserved g c =
 pub returns-in_err-merge-clause-malformed : goal.returns-in_err-merge-clause-malformed
 returns-in_err-merge-clause-malformed g c =
     let p = err_from_is_err_and c.from_residual.result c.from_residual.ensures.1 in
-    λ e before records other spells says.
+    λ e before records after other spells says.
     let (rs, read, _) = c.loop-reader.invariant in
     let r = view c.in-Some.record in
     let more = read_front c.args.reader c.read_record.new.reader (rs ++ r ∷ []) (read_one c.args.reader c.loop-reader.reader rs r c.read_record.new.reader read (sym c.in-Some.ensures)) records spells in
-    let regrouped : before ++ records ≡ (before ++ rs) ++ r ∷ more.0 = ap (λ (t : List Record). before ++ t) more.1 ∙ sym (append_assoc before (rs ++ r ∷ []) more.0) ∙ ap (λ (t : List Record). t ++ more.0) (sym (append_assoc before rs (r ∷ []))) ∙ append_assoc (before ++ rs) (r ∷ []) more.0 in
-    c.in_err-merge.ensures.malformed (same_fault c.in_err-merge.field-0.0 Malformed c.from_residual.result (p.1 ∙ ap (λ f. Err f) p.2) e) (before ++ rs) more.0 other (subst (λ (all : List Record). g.M.Decode.says all other) regrouped says)
+    let tail = more.0 ++ after in
+    let regrouped : before ++ (records ++ after) ≡ (before ++ rs) ++ r ∷ tail =
+    ap (λ (t : List Record). before ++ (t ++ after)) more.1
+    ∙ ap (λ (t : List Record). before ++ t) (append_assoc (rs ++ r ∷ []) more.0 after ∙ append_assoc rs (r ∷ []) tail)
+    ∙ sym (append_assoc before rs (r ∷ tail)) in
+    c.in_err-merge.ensures.malformed (same_fault c.in_err-merge.field-0.0 Malformed c.from_residual.result (p.1 ∙ ap (λ f. Err f) p.2) e) (before ++ rs) tail other (subst (λ (all : List Record). g.M.Decode.says all other) regrouped says)

@@ -1,6 +1,6 @@
 use Rattle.std.proofs.Common.{◌≡◌, ℕ, ◌<◌, ◌-◌, ◌^◌, min, length, take}
 use Rattle.gs_wire.specs.Records.{records_text}
-use Rattle.gs_wire.specs.Messages.{part_records}
+use Rattle.gs_wire.specs.Fields.{part_records}
 use Rattle.gs_wire.proofs.encoding.parts_len.Given as goal
 
 -- the length of the parts so far

@@ -1,6 +1,6 @@
 use Rattle.std.proofs.Common.{◌≡◌, ◌≤◌, ◌++◌, take, vec_capacity}
 use Rattle.gs_wire.specs.Records.{records_text}
-use Rattle.gs_wire.specs.Messages.{part_records}
+use Rattle.gs_wire.specs.Fields.{part_records}
 use Rattle.gs_wire.proofs.encoding.put_parts.Given as goal
 
 -- the parts so far were written

@@ -1,4 +1,4 @@
-use Rattle.gs_wire.proofs.RoundTrip.{frames_apart}
+use Rattle.gs_wire.proofs.RpcRoundTrip.{frames_apart}
 use Rattle.gs_wire.proofs.laws.no_frame_begins_another.Goals as goal
 
 pub returns : goal.returns

@@ -1,6 +1,6 @@
 use Rattle.std.proofs.Common.{◌≡◌, ◌+◌, ◌<◌, ◌-◌, ◌^◌, ◌++◌, List, ℕ, length, min, refl, arith, rules, ap, sym, ◌∙◌, length-append}
 use Rattle.gs_wire.specs.Records.{record_text}
-use Rattle.gs_wire.specs.Messages.{len_record}
+use Rattle.gs_wire.specs.Fields.{len_record}
 use Rattle.gs_wire.proofs.Written.{varint_ten, len_text-length, publication_text}
 use Rattle.gs_wire.proofs.rpc.publish_len.Goals as goal
 

@@ -1,7 +1,7 @@
 use Rattle.std.proofs.Common.{rules, ◌≡◌, Some, refl, sym, ap, ◌∙◌}
 use Rattle.gs_base.specs.declared.rpc.Message.{Message}
 use Rattle.gs_wire.specs.Views.{view}
-use Rattle.gs_wire.specs.Messages.{len_record, as_topic}
+use Rattle.gs_wire.specs.Fields.{len_record, as_topic}
 use Rattle.gs_wire.proofs.FieldValues.{not_len}
 use Rattle.gs_wire.proofs.Parts.{message_of-push_len, message_of-push_other, message_of-push_unknown}
 use Rattle.gs_wire.proofs.message.MessageDecode.merge.Goals as goal

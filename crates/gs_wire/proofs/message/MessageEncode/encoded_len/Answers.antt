@@ -1,5 +1,5 @@
 use Rattle.std.proofs.Common.{◌++◌, arith, ◌∙◌}
-use Rattle.gs_wire.specs.Messages.{bytes_records, topic_bytes}
+use Rattle.gs_wire.specs.Fields.{bytes_records, topic_bytes}
 use Rattle.gs_wire.proofs.Written.{sum_most}
 use Rattle.gs_wire.proofs.message.MessageEncode.encoded_len.Goals as goal
 

@@ -3,7 +3,7 @@ use Rattle.std.specs.Prelude.{not, ◌==◌}
 use Rattle.std.proofs.lemmas.Bool.{ne_eqb}
 use Rattle.gs_base.specs.declared.rpc.SubOpt.{SubOpt}
 use Rattle.gs_wire.specs.Views.{view}
-use Rattle.gs_wire.specs.Messages.{as_topic}
+use Rattle.gs_wire.specs.Fields.{as_topic}
 use Rattle.gs_wire.proofs.Parts.{sub_of-push}
 use Rattle.gs_wire.proofs.sub_opt.SubOptDecode.merge.Goals as goal
 

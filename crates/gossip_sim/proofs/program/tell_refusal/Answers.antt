@@ -1,0 +1,26 @@
+use Rattle.std.proofs.Common.{◌≡◌, ◌∙◌, ℕ, List, codes, inl, inr, refl, subst, sym}
+use Rattle.std.specs.Fmt.{digits}
+use Rattle.gossip_sim.specs.declared.fault.ScenarioFault.TheVariants.{NoMemory}
+use Rattle.gossip_sim.specs.Program.{refusal_line}
+use Rattle.gossip_sim.specs.Streams.{AppendsFront}
+use Rattle.gossip_sim.proofs.program.tell_refusal.Goals as goal
+
+line_of_no_memory : codes "scenario refused: 32\n" ≡ refusal_line NoMemory
+unfolding digits
+line_of_no_memory = refl
+
+pub returns-in-Ok : goal.returns-in-Ok
+returns-in-Ok g c =
+    let line : c.as_str.result.now ≡ refusal_line c.args.fault.now = c.as_str.ensures.value ∙ c.in-Ok.ensures in
+    record {
+      told = c.args.fault.now;
+      which = inl refl;
+      line = subst (λ (text : List ℕ). AppendsFront (g.E.Write.contents c.args.errors.now) (g.E.Write.contents c.tell.new.errors) text) line c.tell.ensures;
+    }
+
+pub returns-in-Err : goal.returns-in-Err
+returns-in-Err g c = record {
+  told = NoMemory;
+  which = inr refl;
+  line = subst (λ (text : List ℕ). AppendsFront (g.E.Write.contents c.args.errors.now) (g.E.Write.contents c.tell-in-Err.new.errors) text) line_of_no_memory c.tell-in-Err.ensures;
+}

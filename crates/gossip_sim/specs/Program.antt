@@ -1,0 +1,94 @@
+-- How a run of the program ends, and what it has then written.
+use Rattle.std.specs.Prelude.{◌≡◌, ◌≤◌, ◌<◌, ◌++◌, ℕ, List, length, codes, Option, IfSome, Result, Ok, Err, IsUtf8, ◌⊎◌}
+use Rattle.std.specs.Io.KnownBytes.{Appends, Keeps}
+use Rattle.gossip_sim.specs.declared.streams.TheConstants.{LONGEST_INPUT}
+use Rattle.gossip_sim.specs.declared.fault.ScenarioFault.{ScenarioFault}
+use Rattle.gossip_sim.specs.declared.fault.ScenarioFault.TheVariants.{Toml, Range, NoMemory}
+use Rattle.gossip_sim.specs.declared.plan.Plan.{Plan}
+use Rattle.gossip_sim.specs.declared.report.Delivery.{Delivery}
+use Rattle.gossip_sim.specs.declared.program.ExitStatus.{ExitStatus}
+use Rattle.gossip_sim.specs.declared.program.ExitStatus.TheVariants as ends
+use Rattle.gossip_sim.specs.PlanOf.{plan_of}
+use Rattle.gossip_sim.specs.Refusal.{refusal_text}
+use Rattle.gossip_sim.specs.Report.{report_text}
+use Rattle.gossip_sim.specs.Streams.{AppendsFront}
+
+-- The plan is what the whole input describes. Where the input's bytes are not known, some text does.
+pub record IsScenario (input : Option (List ℕ)) (plan : Plan) : Type 0 where
+  pub text : List ℕ
+  pub whole : IfSome input (λ bytes. text ≡ bytes)
+  pub short : length text ≤ LONGEST_INPUT
+  pub readable : IsUtf8 text
+  pub described : plan_of text ≡ Ok plan
+
+-- Why bytes are refused: they are too many, whatever they are; they are no text; the text describes
+-- no plan; or there was no memory to find out.
+pub data IsRefusal (bytes : List ℕ) (fault : ScenarioFault) : Type 0 where
+  too_long : LONGEST_INPUT < length bytes → fault ≡ Range (codes "input") → IsRefusal bytes fault
+  no_text : length bytes ≤ LONGEST_INPUT → ¬ (IsUtf8 bytes) → fault ≡ Toml → IsRefusal bytes fault
+  no_plan : length bytes ≤ LONGEST_INPUT → IsUtf8 bytes → plan_of bytes ≡ Err fault → IsRefusal bytes fault
+  no_memory : fault ≡ NoMemory → IsRefusal bytes fault
+
+abbrev pub refusal_line : ScenarioFault → List ℕ
+refusal_line fault = codes "scenario refused: " ++ refusal_text fault ++ codes "\n"
+
+-- Of each end: what the reader had is `input`, and each writer held the first and then the second.
+
+-- the whole report of a run of the scenario is on the output, and nothing more on errors
+pub record Reported (input output output' errors errors' : Option (List ℕ)) : Type 0 where
+  pub plan : Plan
+  pub scenario : IsScenario input plan
+  pub deliveries : List Delivery
+  pub report : Appends output output' (report_text plan deliveries)
+  pub silent : Keeps errors errors'
+
+-- the line of the scenario's refusal is on errors, or a front of it, and nothing more on the output
+pub record ScenarioRefused (input output output' errors errors' : Option (List ℕ)) : Type 0 where
+  pub fault : ScenarioFault
+  pub refused : IfSome input (λ bytes. IsRefusal bytes fault)
+  pub line : AppendsFront errors errors' (refusal_line fault)
+  pub silent : Keeps output output'
+
+-- there was no memory to run the scenario or to report on it, which errors has the line of, or a
+-- front of it, and the output has nothing more
+pub record RunRefused (input output output' errors errors' : Option (List ℕ)) : Type 0 where
+  pub plan : Plan
+  pub scenario : IsScenario input plan
+  pub line : AppendsFront errors errors' (codes "run refused: 24\n")
+  pub silent : Keeps output output'
+
+-- the input could not be read
+pub record InputFailed (output output' errors errors' : Option (List ℕ)) : Type 0 where
+  pub line : AppendsFront errors errors' (codes "input failed\n")
+  pub silent : Keeps output output'
+
+-- a front of the report of a run of the scenario is on the output, which failed then
+pub record OutputFailed (input output output' errors errors' : Option (List ℕ)) : Type 0 where
+  pub plan : Plan
+  pub scenario : IsScenario input plan
+  pub deliveries : List Delivery
+  pub report : AppendsFront output output' (report_text plan deliveries)
+  pub line : AppendsFront errors errors' (codes "output failed\n")
+
+-- what each status says
+abbrev pub EndsAs : ExitStatus → (input output output' errors errors' : Option (List ℕ)) → Type 0
+EndsAs ends.Reported input output output' errors errors' = Reported input output output' errors errors'
+EndsAs ends.ScenarioRefused input output output' errors errors' = ScenarioRefused input output output' errors errors'
+EndsAs ends.RunRefused input output output' errors errors' = RunRefused input output output' errors errors'
+EndsAs ends.InputFailed input output output' errors errors' = InputFailed output output' errors errors'
+EndsAs ends.OutputFailed input output output' errors errors' = OutputFailed input output output' errors errors'
+
+-- the status that the process ends with
+abbrev pub status_of : ExitStatus → ℕ
+status_of ends.Reported = 0
+status_of ends.ScenarioRefused = 1
+status_of ends.RunRefused = 2
+status_of ends.InputFailed = 3
+status_of ends.OutputFailed = 3
+
+-- the line of the refusal was added to errors, or a front of it; of want of memory, where there was
+-- none for the line
+pub record TellsRefusal (fault : ScenarioFault) (errors errors' : Option (List ℕ)) : Type 0 where
+  pub told : ScenarioFault
+  pub which : (told ≡ fault) ⊎ (told ≡ NoMemory)
+  pub line : AppendsFront errors errors' (refusal_line told)

@@ -1,0 +1,160 @@
+//! The program: what it reads, what it writes and how it ends.
+ghost use Rattle.std.specs.Prelude.{◌≡◌, ◌≤◌, ◌⊎◌, IfErr, IfOk, IfSome, List, codes, length, string_bytes};
+ghost use Rattle.std.specs.Process.{exit_status};
+ghost use Rattle.gossip_sim.specs.Program.{EndsAs, IsRefusal, IsScenario, TellsRefusal, refusal_line, status_of};
+ghost use Rattle.gossip_sim.specs.Report.{report_text};
+ghost use Rattle.gossip_sim.specs.Streams.{AppendsFront};
+
+use crate::fault::ScenarioFault;
+use crate::peers::run_peers;
+use crate::plan::Plan;
+use crate::report::{Delivery, report_text};
+use crate::scenario::read_plan;
+use crate::streams::{LONGEST_INPUT, ReadFault, read_input, write_text};
+use gs_base::Text;
+use std::alloc::{AllocError, Global};
+use std::io::{Read, Write};
+use std::process::ExitCode;
+
+/// How a run of the program ends.
+#[derive(Clone, Copy, Debug, PartialEq, Eq)]
+pub enum ExitStatus {
+    /// The report is on the output.
+    Reported,
+    /// The scenario is refused.
+    ScenarioRefused,
+    /// There was no memory to run it.
+    RunRefused,
+    /// The input could not be read.
+    InputFailed,
+    /// The report could not be written.
+    OutputFailed,
+}
+
+impl From<ExitStatus> for ExitCode {
+    ghost from_gives = { λ status code. exit_status code ≡ status_of status };
+
+    fn from(status: ExitStatus) -> ExitCode {
+        ExitCode::from(match status {
+            ExitStatus::Reported => 0u8,
+            ExitStatus::ScenarioRefused => 1,
+            ExitStatus::RunRefused => 2,
+            ExitStatus::InputFailed | ExitStatus::OutputFailed => 3,
+        })
+    }
+}
+
+/// Reads a scenario from the input, runs it, and writes its report to the output once the run has
+/// ended. Why there is no report is a line on `errors`; where that can't be written, the status
+/// stays the same.
+pub fn run<R: Read, W: Write, E: Write>(
+    alloc: Global,
+    input: &mut R,
+    output: &mut W,
+    errors: &mut E,
+) -> ExitStatus
+    ensures { EndsAs result (R.remaining input.old) (W.contents output.old) (W.contents output.new) (E.contents errors.old) (E.contents errors.new) }
+{
+    let plan = match plan_in(alloc, input) {
+        Ok(plan) => plan,
+        Err(NoPlan::InputFailed) => {
+            tell(errors, "input failed\n");
+            return ExitStatus::InputFailed;
+        }
+        Err(NoPlan::Refused(fault)) => {
+            tell_refusal(alloc, errors, &fault);
+            return ExitStatus::ScenarioRefused;
+        }
+    };
+    let Ok(report) = report_of(alloc, &plan) else {
+        tell(errors, "run refused: 24\n");
+        return ExitStatus::RunRefused;
+    };
+    if write_text(output, &report).is_err() {
+        tell(errors, "output failed\n");
+        return ExitStatus::OutputFailed;
+    }
+    ExitStatus::Reported
+}
+
+/// Why there is no plan to run.
+#[derive(Debug, Drop)]
+enum NoPlan {
+    /// The input could not be read.
+    InputFailed,
+    /// What was read is refused.
+    Refused(ScenarioFault),
+}
+
+/// The plan that the input describes.
+fn plan_in<R: Read>(alloc: Global, input: &mut R) -> Result<Plan, NoPlan>
+    ensures found { IfOk result (λ plan. IsScenario (R.remaining input.old) plan) }
+    ensures refused { IfErr result (λ why. (fault : ScenarioFault) → why ≡ NoPlan.Refused fault → IfSome (R.remaining input.old) (λ bytes. IsRefusal bytes fault)) }
+{
+    match read_input(alloc, input) {
+        Ok(text) => match plan_from(alloc, &text) {
+            Ok(plan) => Ok(plan),
+            Err(fault) => Err(NoPlan::Refused(fault)),
+        },
+        Err(ReadFault::Failed) => Err(NoPlan::InputFailed),
+        Err(ReadFault::TooLong) => Err(NoPlan::Refused(input_too_long(alloc))),
+        Err(ReadFault::NoMemory) => Err(NoPlan::Refused(ScenarioFault::NoMemory)),
+    }
+}
+
+/// The plan that the bytes of a text describe.
+fn plan_from(alloc: Global, bytes: &[u8]) -> Result<Plan, ScenarioFault>
+    requires { length bytes.now ≤ LONGEST_INPUT }
+    ensures found { IfOk result (λ plan. IsScenario (Some bytes.now) plan) }
+    ensures refused { IfErr result (IsRefusal bytes.now) }
+{
+    match str::from_utf8(bytes) {
+        Ok(text) => read_plan(alloc, text),
+        Err(_) => Err(ScenarioFault::Toml),
+    }
+}
+
+/// The refusal of an input that is too long, whatever stands in it.
+fn input_too_long(alloc: Global) -> ScenarioFault
+    ensures { (result ≡ ScenarioFault.Range (codes "input")) ⊎ (result ≡ ScenarioFault.NoMemory) }
+{
+    match Text::from_str(alloc, "input") {
+        Ok(place) => ScenarioFault::Range(place),
+        Err(_) => ScenarioFault::NoMemory,
+    }
+}
+
+/// The report of a run of the plan.
+fn report_of(alloc: Global, plan: &Plan) -> Result<Vec<u8>, AllocError>
+    ensures { IfOk result (λ text. (deliveries : List Delivery) × (text.items ≡ report_text plan.now deliveries)) }
+{
+    let deliveries = run_peers(alloc, plan)?;
+    report_text(alloc, plan, &deliveries)
+}
+
+/// Writes the line of a refusal, or a front of it. Where there is no memory for the line, the
+/// refusal is that.
+fn tell_refusal<E: Write>(alloc: Global, errors: &mut E, fault: &ScenarioFault)
+    ensures { TellsRefusal fault.now (E.contents errors.old) (E.contents errors.new) }
+{
+    match refusal_line(alloc, fault) {
+        Ok(line) => tell(errors, line.as_str()),
+        Err(_) => tell(errors, "scenario refused: 32\n"),
+    }
+}
+
+fn refusal_line(alloc: Global, fault: &ScenarioFault) -> Result<String, AllocError>
+    ensures { IfOk result (λ line. string_bytes line ≡ refusal_line fault.now) }
+{
+    format!(in alloc; "scenario refused: {fault}\n")
+}
+
+/// Writes a line, or a front of it: there is nowhere to report that this fails.
+fn tell<E: Write>(errors: &mut E, line: &str)
+    ensures { AppendsFront (E.contents errors.old) (E.contents errors.new) line.now }
+{
+    let _ = write_text(errors, line.as_bytes());
+}
+
+#[cfg(test)]
+mod tests;

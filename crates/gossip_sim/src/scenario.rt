@@ -1,0 +1,79 @@
+//! Scenarios: the plan that a TOML text describes, or its first refusal.
+ghost use Rattle.std.specs.Prelude.{◌≡◌};
+ghost use Rattle.toml.specs.View.{table_view};
+ghost use Rattle.gossip_sim.specs.Refusal.{Gives};
+ghost use Rattle.gossip_sim.specs.PlanOf.{plan_of, plan_in};
+
+mod dials;
+mod field;
+mod peers;
+mod place;
+mod script;
+mod section;
+mod top;
+mod topics;
+
+use crate::fault::ScenarioFault;
+use crate::plan::Plan;
+use crate::scenario::dials::dials_in;
+use crate::scenario::peers::peers_in;
+use crate::scenario::place::Path;
+use crate::scenario::script::{Known, lines_in};
+use crate::scenario::section::Section;
+use crate::scenario::top::Top;
+use crate::scenario::topics::topics_in;
+use std::alloc::Global;
+use toml::Table;
+
+/// The plan that a scenario describes.
+///
+/// # Errors
+/// The first refusal. First comes a text that is no TOML. Then the top table is read, and then
+/// its lists, element by element. In each table an unknown key is refused first, and then each key
+/// is looked at in a fixed order. `NoMemory` may come at any step before.
+pub fn read_plan(alloc: Global, text: &str) -> Result<Plan, ScenarioFault>
+    ensures { Gives (λ plan. plan) result (plan_of text.now) }
+{
+    match toml::table_from_str(alloc, text) {
+        Ok(table) => plan_in(alloc, &table),
+        Err(fault) => {
+            if fault.is_memory() {
+                Err(ScenarioFault::NoMemory)
+            } else {
+                Err(ScenarioFault::Toml)
+            }
+        }
+    }
+}
+
+/// The plan that a document describes.
+#[tactic(auto, unfolding(crate::specs::PlanOf::plan_in))]
+fn plan_in(alloc: Global, table: &Table) -> Result<Plan, ScenarioFault>
+    ensures { Gives (λ plan. plan) result (plan_in (table_view table.now)) }
+{
+    let path = Path::Top;
+    let top = Top::read(alloc, Section { path, table })?;
+    let topics = topics_in(alloc, top.topics)?;
+    let peers = peers_in(alloc, top.peers)?;
+    let dials = dials_in(alloc, peers.as_slice(), top.dials)?;
+    let known = Known {
+        topics: topics.as_slice(),
+        peers: peers.as_slice(),
+        rounds: top.rounds,
+    };
+    let script = lines_in(alloc, &known, top.script)?;
+    Ok(Plan {
+        round_ms: top.round_ms,
+        rounds: top.rounds,
+        workers: top.workers,
+        capacity: top.capacity,
+        seed: top.seed,
+        topics,
+        peers,
+        dials,
+        script,
+    })
+}
+
+#[cfg(test)]
+mod tests;

@@ -1,0 +1,127 @@
+//! A value at its place, read as what it must be.
+ghost use Rattle.std.specs.Prelude.{◌≡◌, ◌≤◌, IfOk, length, option_map, option_and_then};
+ghost use Rattle.std.specs.List.{list_all};
+ghost use Rattle.toml.specs.Data.{as_integer, as_str, as_array};
+ghost use Rattle.toml.specs.View.{view, items_view};
+ghost use Rattle.gossip_sim.specs.Refusal.{Gives};
+ghost use Rattle.gossip_sim.specs.Kinds as kinds;
+ghost use Rattle.gossip_sim.specs.Views.{element_text, read_as, section_of};
+
+use crate::fault::ScenarioFault;
+use crate::scenario::place::{Element, Path, Place};
+use crate::scenario::section::Section;
+use bytes::Bytes;
+use hex::FromHexError;
+use std::alloc::Global;
+use toml::Value;
+
+/// A value of a scenario, and where it stands.
+#[derive(Clone, Copy)]
+pub struct Field<'a> {
+    pub place: Place<'a>,
+    pub value: &'a Value,
+}
+
+impl<'a> Field<'a> {
+    /// A whole number from low to high.
+    pub fn whole_number(&self, alloc: Global, low: u64, high: u64) -> Result<u64, ScenarioFault>
+        ensures { Gives (λ number. number) result (read_as (kinds.whole_number low high) self.now) }
+    {
+        if let Some(number) = self.value.as_integer() {
+            if number >= 0 {
+                let number = number as u64;
+                if low <= number && number <= high {
+                    return Ok(number);
+                }
+            }
+        }
+        Err(ScenarioFault::Range(self.place.to_text(alloc)?))
+    }
+
+    /// A list of low to high elements.
+    #[tactic(auto, using(crate::proofs::Lists::item_count_view))]
+    pub fn list(&self, alloc: Global, low: usize, high: usize) -> Result<&'a [Value], ScenarioFault>
+        ensures list { Gives (λ list. items_view list.now) result
+            (read_as (kinds.list_of low high) self.now) }
+        ensures within { IfOk result (λ list. (low ≤ length list.now) × (length list.now ≤ high)) }
+    {
+        if let Some(list) = self.value.as_array() {
+            if low <= list.len() && list.len() <= high {
+                return Ok(list.as_slice());
+            }
+        }
+        Err(ScenarioFault::Range(self.place.to_text(alloc)?))
+    }
+
+    /// A list.
+    pub fn any_list(&self, alloc: Global) -> Result<&'a [Value], ScenarioFault>
+        ensures { Gives (λ list. items_view list.now) result (read_as kinds.any_list self.now) }
+    {
+        match self.value.as_array() {
+            Some(list) => Ok(list.as_slice()),
+            None => Err(ScenarioFault::Range(self.place.to_text(alloc)?)),
+        }
+    }
+
+    /// A name: 1 to 32 of `a` to `z`, `0` to `9`, `_` and `-`.
+    pub fn name(&self, alloc: Global) -> Result<&'a str, ScenarioFault>
+        ensures { Gives (λ text. text.now) result (read_as kinds.name_text self.now) }
+    {
+        if let Some(text) = self.value.as_str() {
+            if is_name(text) {
+                return Ok(text);
+            }
+        }
+        Err(ScenarioFault::Range(self.place.to_text(alloc)?))
+    }
+
+    /// The bytes of a text of hex digits, in either case and even in number.
+    pub fn hex(&self, alloc: Global) -> Result<Bytes, ScenarioFault>
+        ensures { Gives (λ bytes. bytes) result (read_as kinds.hex_text self.now) }
+    {
+        if let Some(text) = self.value.as_str() {
+            match hex::decode(alloc, text) {
+                Ok(bytes) => return Ok(Bytes::from_vec(bytes)?),
+                Err(FromHexError::OutOfMemory) => return Err(ScenarioFault::NoMemory),
+                Err(_) => {}
+            }
+        }
+        Err(ScenarioFault::Range(self.place.to_text(alloc)?))
+    }
+}
+
+/// The table that an element of a list is.
+pub fn table_of<'a>(
+    alloc: Global,
+    element: Element<'a>,
+    value: &'a Value,
+) -> Result<Section<'a>, ScenarioFault>
+    ensures { Gives section_of result (kinds.table_at (element_text element.entry) (view value.now)) }
+{
+    match value.as_table() {
+        Some(table) => Ok(Section {
+            path: Path::Within(element),
+            table,
+        }),
+        None => Err(ScenarioFault::Range(Place::Element(element).to_text(alloc)?)),
+    }
+}
+
+/// Whether a text is a name.
+fn is_name(text: &str) -> bool
+    ensures { result ≡ kinds.is_name text.now }
+{
+    1 <= text.len() && text.len() <= 32 && has_name_bytes(text)
+}
+
+fn has_name_bytes(text: &str) -> bool
+    ensures { result ≡ list_all kinds.is_name_byte text.now }
+{
+    text.as_bytes().iter().all(|byte| is_name_byte(*byte))
+}
+
+fn is_name_byte(byte: u8) -> bool
+    ensures { result ≡ kinds.is_name_byte byte }
+{
+    matches!(byte, b'a'..=b'z' | b'0'..=b'9' | b'_' | b'-')
+}

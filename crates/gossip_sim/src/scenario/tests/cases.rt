@@ -1,0 +1,267 @@
+//! Scenarios, and what each of them gives.
+
+/// Two peers and a message from one to the other.
+pub const TWO_PEERS: &str = "\
+round_ms = 100
+rounds = 10
+workers = 2
+capacity = 8
+seed = 1
+
+[[topic]]
+name = \"news\"
+
+[[peer]]
+name = \"a\"
+
+[[peer]]
+name = \"b\"
+
+[[dial]]
+from = \"a\"
+to = \"b\"
+
+[[do]]
+at = 0
+peer = \"a\"
+what = \"subscribe\"
+topic = \"news\"
+
+[[do]]
+at = 0
+peer = \"b\"
+what = \"subscribe\"
+topic = \"news\"
+
+[[do]]
+at = 2
+peer = \"a\"
+what = \"publish\"
+topic = \"news\"
+hex = \"616263\"
+";
+
+/// The lists of that scenario, which `with_lists` puts others for.
+pub const LISTS: &str = "\
+[[topic]]
+name = \"news\"
+
+[[peer]]
+name = \"a\"
+
+[[peer]]
+name = \"b\"
+";
+
+/// What an edit of one place of that scenario gives.
+pub const EDITS: [(&str, &str, &str); 58] = [
+    // The text as a whole.
+    ("rounds = 10\n", "rounds = 10\nrounds = 10\n", "26"),
+    ("seed = 1\n", "seed = 9223372036854775808\n", "26"),
+    ("seed = 1\n", "seed = -99999999999999999999\n", "26"),
+    ("seed = 1\n", "seed = \"\u{1}\"\n", "26"),
+    ("seed = 1\n", "seed = \n", "26"),
+    (
+        "name = \"news\"\n",
+        "name = \"news\"\nname = \"news\"\n",
+        "26",
+    ),
+    // Unknown keys come first in their table, and the first of them by bytes.
+    ("round_ms", "speed = 1\nround_ms", "27 speed"),
+    ("round_ms = 100\n", "speed = 1\n", "27 speed"),
+    (
+        "round_ms",
+        "speed = 1\nSpeed = 2\nspare = 3\nround_ms",
+        "27 Speed",
+    ),
+    (
+        "round_ms",
+        "speed = 1\n\"\u{e9}\" = 2\nround_ms",
+        "27 speed",
+    ),
+    ("round_ms", "\"\" = 1\nround_ms", "27 "),
+    ("round_ms", "\"a b\\n\" = 1\nround_ms", "27 a b\n"),
+    ("round_ms", "app = []\nround_ms", "27 app"),
+    ("round_ms", "params = {}\nround_ms", "27 params"),
+    (
+        "name = \"news\"\n",
+        "name = \"news\"\ncolour = 1\n",
+        "27 topic[0].colour",
+    ),
+    ("name = \"b\"\n", "address = \"b\"\n", "27 peer[1].address"),
+    (
+        "name = \"a\"\n",
+        "name = \"a\"\nwords = []\n",
+        "27 peer[0].words",
+    ),
+    ("from = \"a\"\n", "via = \"a\"\n", "27 dial[0].via"),
+    // Then each key in its order.
+    ("seed = 1\n", "", "28 seed"),
+    ("rounds = 10\nworkers = 2\n", "rounds = 0\n", "29 rounds"),
+    ("rounds = 10\nworkers = 2\n", "workers = 0\n", "28 rounds"),
+    ("workers = 2", "workers = 0", "29 workers"),
+    ("workers = 2", "workers = 17", "29 workers"),
+    ("workers = 2", "workers = 16", "a plan"),
+    (
+        "capacity = 8\nseed = 1\n",
+        "capacity = 1025\n",
+        "29 capacity",
+    ),
+    ("seed = 1\n", "seed = 9223372036854775807\n", "a plan"),
+    // Names.
+    ("name = \"news\"\n", "", "28 topic[0].name"),
+    ("name = \"news\"\n", "name = \"News\"\n", "29 topic[0].name"),
+    ("name = \"news\"\n", "name = \"\"\n", "29 topic[0].name"),
+    (
+        "name = \"news\"\n",
+        "name = \"new\\u0001\"\n",
+        "29 topic[0].name",
+    ),
+    ("name = \"b\"", "name = \"a\"", "31 peer[1].name"),
+    (
+        "name = \"b\"",
+        "name = \"abcdefghijklmnopqrstuvwxyz-_01234\"",
+        "29 peer[1].name",
+    ),
+    (
+        "name = \"b\"",
+        "name = \"abcdefghijklmnopqrstuvwxyz-_0123\"",
+        "30 dial[0].to",
+    ),
+    // Dials.
+    ("to = \"b\"", "to = \"c\"", "30 dial[0].to"),
+    ("to = \"b\"", "to = \"C\"", "29 dial[0].to"),
+    ("to = \"b\"", "to = \"a\"", "29 dial[0].to"),
+    ("to = \"b\"", "", "28 dial[0].to"),
+    (
+        "from = \"a\"\nto = \"b\"",
+        "from = 1\nto = \"c\"",
+        "29 dial[0].from",
+    ),
+    (
+        "to = \"b\"\n",
+        "to = \"b\"\n[[dial]]\nfrom = \"a\"\nto = \"b\"\n",
+        "31 dial[1]",
+    ),
+    (
+        "to = \"b\"\n",
+        "to = \"b\"\n[[dial]]\nfrom = \"b\"\nto = \"a\"\n",
+        "31 dial[1]",
+    ),
+    (
+        "to = \"b\"\n",
+        "to = \"b\"\n[[dial]]\nfrom = \"b\"\n",
+        "28 dial[1].to",
+    ),
+    ("[[dial]]\nfrom = \"a\"\nto = \"b\"\n", "", "a plan"),
+    // What a line says comes before its unknown keys, and those before its other keys.
+    ("what = \"subscribe\"\n", "colour = 1\n", "28 do[0].what"),
+    (
+        "what = \"subscribe\"\n",
+        "colour = 1\nwhat = 1\n",
+        "29 do[0].what",
+    ),
+    (
+        "what = \"subscribe\"\n",
+        "colour = 1\nwhat = \"unsubscribe\"\n",
+        "29 do[0].what",
+    ),
+    ("what = \"publish\"\n", "what = \"raw\"\n", "29 do[2].what"),
+    (
+        "what = \"publish\"\n",
+        "what = \"hang_up\"\n",
+        "29 do[2].what",
+    ),
+    (
+        "what = \"publish\"\n",
+        "what = \"subscribe\"\n",
+        "27 do[2].hex",
+    ),
+    (
+        "at = 2\npeer = \"a\"\n",
+        "peer = \"a\"\ncolour = 1\n",
+        "27 do[2].colour",
+    ),
+    ("at = 2\npeer = \"a\"\n", "peer = \"c\"\n", "28 do[2].at"),
+    (
+        "at = 2\npeer = \"a\"\n",
+        "at = 11\npeer = \"c\"\n",
+        "29 do[2].at",
+    ),
+    (
+        "at = 2\npeer = \"a\"\n",
+        "at = 10\npeer = \"c\"\n",
+        "30 do[2].peer",
+    ),
+    (
+        "topic = \"news\"\nhex = \"616263\"\n",
+        "topic = \"blog\"\n",
+        "30 do[2].topic",
+    ),
+    (
+        "topic = \"news\"\nhex = \"616263\"\n",
+        "topic = \"new s\"\n",
+        "29 do[2].topic",
+    ),
+    ("hex = \"616263\"\n", "", "28 do[2].hex"),
+    ("hex = \"616263\"", "hex = \"6\"", "29 do[2].hex"),
+    ("hex = \"616263\"", "hex = \"6g\"", "29 do[2].hex"),
+    ("hex = \"616263\"", "hex = \"\"", "a plan"),
+];
+
+/// What other lists in place of the topics and peers of that scenario give.
+pub const OTHER_LISTS: [(&str, &str); 12] = [
+    ("peer = [1]\n", "28 topic"),
+    ("topic = [1]\n", "28 peer"),
+    ("topic = []\npeer = [1]\n", "29 topic"),
+    ("topic = [1]\npeer = []\n", "29 peer"),
+    ("topic = [1]\npeer = [1]\n", "29 topic[0]"),
+    ("topic = [{name = 'x'}, 'x']\npeer = [1]\n", "29 topic[1]"),
+    (
+        "topic = [{name = 'x'}, {name = 'x'}]\npeer = [1]\n",
+        "31 topic[1].name",
+    ),
+    ("topic = [{name = 'x'}]\npeer = [[]]\n", "29 peer[0]"),
+    ("topic = {name = 'x'}\npeer = [1]\n", "29 topic"),
+    ("topic = 'x'\npeer = 'x'\n", "29 topic"),
+    ("topic = [{name = 1}]\npeer = [{}]\n", "29 topic[0].name"),
+    ("topic = [{name = 'x'}]\npeer = [{}]\n", "28 peer[0].name"),
+];
+
+/// The keys of the top table, and a value of each.
+pub const TOP: [(&str, &str); 9] = [
+    ("round_ms", "100"),
+    ("rounds", "10"),
+    ("workers", "2"),
+    ("capacity", "8"),
+    ("seed", "1"),
+    ("topic", "[{ name = 'news' }]"),
+    ("peer", "[{ name = 'a' }]"),
+    ("dial", "[]"),
+    ("do", "[]"),
+];
+
+/// Values that none of them may have.
+pub const WRONG: [&str; 7] = ["-1", "1.0", "nan", "true", "'1'", "1979-05-27", "{ a = 1 }"];
+
+/// Values of a key, and what they give.
+pub const BOUNDS: [(&str, &str, &str); 18] = [
+    ("round_ms", "0", "29 round_ms"),
+    ("round_ms", "1", "a plan"),
+    ("round_ms", "60000", "a plan"),
+    ("round_ms", "60001", "29 round_ms"),
+    ("rounds", "0", "29 rounds"),
+    ("rounds", "1", "a plan"),
+    ("rounds", "100000", "a plan"),
+    ("rounds", "100001", "29 rounds"),
+    ("workers", "1", "a plan"),
+    ("workers", "[1]", "29 workers"),
+    ("capacity", "0", "29 capacity"),
+    ("capacity", "1", "a plan"),
+    ("capacity", "1024", "a plan"),
+    ("seed", "0", "a plan"),
+    ("dial", "[1]", "29 dial[0]"),
+    ("dial", "[{}]", "28 dial[0].from"),
+    ("do", "[[]]", "29 do[0]"),
+    ("do", "[{}]", "28 do[0].what"),
+];

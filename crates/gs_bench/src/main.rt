@@ -1,0 +1,39 @@
+//! Measures the codec: reads a line `KIND COUNT` and prints `KIND COUNT CHECKSUM`. It holds no work
+//! but the codec's, so that the instructions between two counts are those of the operations.
+#![tactic(auto)]
+
+mod fault;
+mod kind;
+mod measure;
+mod samples;
+
+use fault::BenchFault;
+use kind::Kind;
+use measure::checksum;
+use std::alloc::Global;
+
+/// The line that tells what was measured.
+fn told(alloc: Global, line: &str) -> Result<String, BenchFault> {
+    let Some((word, count)) = line.trim_ascii_end().split_once(' ') else {
+        return Err(BenchFault::Line);
+    };
+    let (Some(kind), Ok(count)) = (Kind::from_word(word), count.parse::<u32>()) else {
+        return Err(BenchFault::Line);
+    };
+    let sum = checksum(alloc, kind, count)?;
+    Ok(format!(in alloc; "{word} {count} {sum}")?)
+}
+
+fn main(rt: HostRuntime) -> Result<(), BenchFault> {
+    for line in rt.lines(rt.alloc()) {
+        let Ok(line) = line else {
+            return Err(BenchFault::Stream);
+        };
+        let told = told(rt.alloc(), line.as_str())?;
+        if rt.println(told).is_err() {
+            return Err(BenchFault::Stream);
+        }
+        return Ok(());
+    }
+    Err(BenchFault::Line)
+}

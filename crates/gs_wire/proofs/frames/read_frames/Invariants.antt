@@ -1,0 +1,11 @@
+use Rattle.std.proofs.Common.{◌≡◌, ◌-◌, ◌++◌, List, length, take}
+use Rattle.gs_base.specs.declared.rpc.Rpc.{Rpc}
+use Rattle.gs_wire.proofs.FrameLists.{ReadFrames}
+use Rattle.gs_wire.proofs.frames.read_frames.Given as goal
+
+-- some frames were read and their RPCs added, and the rest is left
+abbrev pub invariant-loop-rpc : goal.invariant-loop-rpc
+invariant-loop-rpc l = (found : List Rpc) × ReadFrames l.limit l.bytes l.taken found × (l.rpcs.items ≡ l.initial.rpcs.items ++ found)
+
+abbrev pub decreases-loop-rpc : goal.decreases-loop-rpc
+decreases-loop-rpc l = length l.bytes - l.taken

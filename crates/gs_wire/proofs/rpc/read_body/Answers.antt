@@ -1,0 +1,6 @@
+use Rattle.std.proofs.Common.{rules}
+use Rattle.gs_wire.proofs.rpc.read_body.Goals as goal
+
+pub returns-in-Err-Malformed-clause-malformed : goal.returns-in-Err-Malformed-clause-malformed
+returns-in-Err-Malformed-clause-malformed c = λ e rpc spelled.
+    c.in-Err-Malformed.ensures.malformed (search rules) rpc (rw (c.new-reader.ensures, c.in_ok-shared.ensures) spelled)

@@ -1,0 +1,66 @@
+-- Control messages as lists of records (gossipsub v1.0 and v1.1, "Control messages": `rpc.proto`).
+use Rattle.std.specs.Prelude.{◌≡◌, ℕ, ◌++◌, List, [], ◌∷◌, Option, Some, None}
+use Rattle.std.specs.List.{AllZip, flat_map}
+use Rattle.gs_base.specs.declared.control.IHave.{IHave}
+use Rattle.gs_base.specs.declared.control.IWant.{IWant}
+use Rattle.gs_base.specs.declared.control.Graft.{Graft}
+use Rattle.gs_base.specs.declared.control.Prune.{Prune}
+use Rattle.gs_base.specs.declared.control.Control.{Control}
+use Rattle.gs_wire.specs.declared.field.TheConstants.{CONTROL_IHAVE, CONTROL_IWANT, CONTROL_GRAFT, CONTROL_PRUNE, IHAVE_TOPIC, IHAVE_IDS, IWANT_IDS, GRAFT_TOPIC, PRUNE_TOPIC, PRUNE_BACKOFF}
+use Rattle.gs_wire.specs.Records.{Record, SpellRecords, len_values}
+use Rattle.gs_wire.specs.Fields.{Spells, topic_of, number_of, topic_bytes, bytes_records, number_records, repeated_records, part_records}
+
+-- ---- what records say
+
+abbrev pub SaysIHave : List Record → IHave → Type 0
+SaysIHave rs v = v ≡ record { topic = topic_of IHAVE_TOPIC rs; ids = len_values IHAVE_IDS rs }
+
+abbrev pub SaysIWant : List Record → IWant → Type 0
+SaysIWant rs v = v ≡ record { ids = len_values IWANT_IDS rs }
+
+abbrev pub SaysGraft : List Record → Graft → Type 0
+SaysGraft rs v = v ≡ record { topic = topic_of GRAFT_TOPIC rs }
+
+-- The peers that are offered in exchange aren't looked into.
+abbrev pub SaysPrune : List Record → Prune → Type 0
+SaysPrune rs v = v ≡ record { topic = topic_of PRUNE_TOPIC rs; backoff = number_of PRUNE_BACKOFF rs }
+
+-- Each value of a repeated field spells one part, in order.
+pub record SaysControl (rs : List Record) (v : Control) : Type 0 where
+  pub ihave : AllZip (Spells SaysIHave) (len_values CONTROL_IHAVE rs) v.ihave
+  pub iwant : AllZip (Spells SaysIWant) (len_values CONTROL_IWANT rs) v.iwant
+  pub graft : AllZip (Spells SaysGraft) (len_values CONTROL_GRAFT rs) v.graft
+  pub prune : AllZip (Spells SaysPrune) (len_values CONTROL_PRUNE rs) v.prune
+
+abbrev pub no_control : Control
+no_control = record { ihave = []; iwant = []; graft = []; prune = [] }
+
+abbrev pub joined : List (List Record) → List Record
+joined lists = flat_map (λ rs. rs) lists
+
+-- The control of an RPC, by the values of its field: absent where there are none. Each value spells records by itself, and
+-- all of those, joined, say the control.
+abbrev pub SaysMerged : List (List ℕ) → Option Control → Type 0
+SaysMerged [] control = control ≡ None
+SaysMerged (bytes ∷ more) control = (v : Control) × (lists : List (List Record)) × (control ≡ Some v) × AllZip SpellRecords (bytes ∷ more) lists × SaysControl (joined lists) v
+
+-- ---- the records of a value
+
+abbrev pub ihave_records : IHave → List Record
+ihave_records v = bytes_records IHAVE_TOPIC (topic_bytes v.topic) ++ repeated_records IHAVE_IDS v.ids
+
+abbrev pub iwant_records : IWant → List Record
+iwant_records v = repeated_records IWANT_IDS v.ids
+
+abbrev pub graft_records : Graft → List Record
+graft_records v = bytes_records GRAFT_TOPIC (topic_bytes v.topic)
+
+abbrev pub prune_records : Prune → List Record
+prune_records v = bytes_records PRUNE_TOPIC (topic_bytes v.topic) ++ number_records PRUNE_BACKOFF v.backoff
+
+abbrev pub control_records : Control → List Record
+control_records v =
+    part_records ihave_records CONTROL_IHAVE v.ihave
+    ++ part_records iwant_records CONTROL_IWANT v.iwant
+    ++ part_records graft_records CONTROL_GRAFT v.graft
+    ++ part_records prune_records CONTROL_PRUNE v.prune

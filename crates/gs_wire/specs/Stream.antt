@@ -1,0 +1,81 @@
+-- Streams of frames: a varint length, and then that many bytes of a body. A stream is told as a whole, so it doesn't matter
+-- how it was cut into pieces.
+use Rattle.std.specs.Prelude.{◌≡◌, ℕ, ◌<◌, ◌≤◌, List, [], ◌∷◌, ◌++◌, length, Option, Some, None, ◌⊎◌}
+use Rattle.std.specs.List.{AllByRecursion}
+use Rattle.gs_base.specs.declared.rpc.Rpc.{Rpc}
+use Rattle.gs_wire.specs.declared.frames.End.{End}
+use Rattle.gs_wire.specs.declared.frames.End.TheVariants as ends
+use Rattle.gs_wire.specs.Varint.{IsVarint}
+use Rattle.gs_wire.specs.Messages.{SpellsRpc}
+
+-- The text is one frame of the RPC, with its length in any spelling and a body within the limit.
+pub record SpellsFrame (limit : ℕ) (text : List ℕ) (v : Rpc) : Type 0 where
+  pub len : List ℕ
+  pub body : List ℕ
+  pub parts : text ≡ len ++ body
+  pub spells_len : IsVarint len (length body)
+  pub within : length body ≤ limit
+  pub spells_body : SpellsRpc body v
+
+-- The text is one frame of each RPC, in order.
+abbrev pub SpellFrames : ℕ → List ℕ → List Rpc → Type 0
+SpellFrames limit text [] = text ≡ []
+SpellFrames limit text (v ∷ vs) = (one : List ℕ) × (rest : List ℕ) × (text ≡ one ++ rest) × SpellsFrame limit one v × SpellFrames limit rest vs
+
+-- The bytes begin with a length, and go on with the rest.
+pub record HasLength (bytes : List ℕ) (n : ℕ) (rest : List ℕ) : Type 0 where
+  pub len : List ℕ
+  pub parts : bytes ≡ len ++ rest
+  pub spells : IsVarint len n
+
+-- The bytes are the front of a length, or nothing.
+abbrev pub BeginsLength : List ℕ → Type 0
+BeginsLength bytes = (length bytes < 10) × AllByRecursion (λ b. 128 ≤ b) bytes
+
+-- How a stream goes on behind its whole frames: it waits for more of a frame, a length is above the limit, or no length or
+-- no RPC stands there.
+abbrev pub GoesOn : ℕ → List ℕ → End → Type 0
+GoesOn limit rest ends.Waits = BeginsLength rest ⊎ ((n : ℕ) × (more : List ℕ) × HasLength rest n more × (n ≤ limit) × (length more < n))
+GoesOn limit rest ends.TooLong = (n : ℕ) × (more : List ℕ) × HasLength rest n more × (limit < n)
+GoesOn limit rest ends.Malformed = (¬ (BeginsLength rest) × ((n : ℕ) (more : List ℕ) → ¬ (HasLength rest n more)))
+    ⊎ ((body : List ℕ) × (more : List ℕ) × HasLength rest (length body) (body ++ more) × (length body ≤ limit) × ((v : Rpc) → ¬ (SpellsRpc body v)))
+
+-- The stream is the frames of these RPCs, and then the rest, which goes on so.
+pub record IsStream (limit : ℕ) (bytes : List ℕ) (vs : List Rpc) (rest : List ℕ) (end : End) : Type 0 where
+  pub front : List ℕ
+  pub parts : bytes ≡ front ++ rest
+  pub frames : SpellFrames limit front vs
+  pub goes_on : GoesOn limit rest end
+
+-- ---- a reader
+
+-- What a reader holds: the bytes of an unfinished frame, or nothing any more after a fault.
+pub record Holding : Type 0 where
+  pub limit : ℕ
+  pub held : Option (List ℕ)
+
+abbrev pub held_after : End → List ℕ → Option (List ℕ)
+held_after ends.Waits rest = Some rest
+held_after ends.TooLong rest = None
+held_after ends.Malformed rest = None
+
+-- A feed of the piece adds the RPCs of what was held and the piece, as one stream that goes on so.
+pub record Feeds (old : Holding) (piece : List ℕ) (new : Holding) (before after : List Rpc) (end : End) : Type 0 where
+  pub held : List ℕ
+  pub was_held : old.held ≡ Some held
+  pub found : List Rpc
+  pub rest : List ℕ
+  pub stream : IsStream old.limit (held ++ piece) found rest end
+  pub added : after ≡ before ++ found
+  pub keeps : new ≡ record { limit = old.limit; held = held_after end rest }
+
+-- What a reader that held these bytes finds in the pieces that it is fed in turn, and how the last one ended. After a fault
+-- nothing more is found.
+abbrev pub FindsAfter : End → Type 0 → List Rpc → End → Type 0
+FindsAfter ends.Waits later more end = later
+FindsAfter ends.TooLong later more end = (more ≡ []) × (end ≡ ends.TooLong)
+FindsAfter ends.Malformed later more end = (more ≡ []) × (end ≡ ends.Malformed)
+
+abbrev pub FindsIn : ℕ → List ℕ → List (List ℕ) → List Rpc → End → Type 0
+FindsIn limit held [] vs end = (vs ≡ []) × (end ≡ ends.Waits)
+FindsIn limit held (piece ∷ pieces) vs end = (found : List Rpc) × (rest : List ℕ) × (first : End) × (more : List Rpc) × IsStream limit (held ++ piece) found rest first × (vs ≡ found ++ more) × FindsAfter first (FindsIn limit rest pieces more end) more end

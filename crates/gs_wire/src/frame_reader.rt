@@ -1,0 +1,99 @@
+//! A reader of frames from a stream that comes in pieces.
+ghost use Rattle.std.specs.Prelude.{◌≡◌, ◌↔◌, ◌≤◌, [], Some, None, Err, OnOk, IsErrOf, length, unwrap_or};
+ghost use Rattle.gs_wire.specs.Stream.{Feeds};
+
+use crate::fault::WireFault;
+use crate::frames::{End, read_frames};
+use crate::rpc::MAX_BODY;
+use bytes::BytesMut;
+use gs_base::Rpc;
+use std::alloc::Global;
+use std::marker::Model;
+
+/// Reads RPCs from a stream of frames that comes in pieces, however it is cut. Contracts see its
+/// limit and the bytes that it holds of an unfinished frame, of which there are none any more after
+/// a fault.
+#[derive(Drop)]
+pub struct FrameReader {
+    limit: usize,
+    held: BytesMut,
+    failed: bool,
+}
+
+impl Model for FrameReader {
+    ghost use Rattle.std.specs.Prelude.{Some, None, if◌then◌else◌};
+    ghost use Rattle.gs_wire.specs.Stream.{Holding};
+
+    ghost Value = { Holding };
+
+    ghost view = { λ r. record { limit = r.limit; held = if r.failed then None else Some r.held.items } };
+}
+
+impl FrameReader {
+    /// A reader that has read nothing, of bodies of at most `limit` bytes. It takes no memory.
+    pub fn new(alloc: Global, limit: usize) -> FrameReader
+        requires { limit ≤ MAX_BODY }
+        ensures { result ≡ record { limit = limit; held = Some [] } }
+    {
+        FrameReader {
+            limit,
+            held: BytesMut::new(alloc),
+            failed: false,
+        }
+    }
+
+    /// How many bytes are held of an unfinished frame. After a fault there are none.
+    pub fn pending(&self) -> usize
+        ensures { result ≡ length (unwrap_or self.now.held []) }
+    {
+        if self.failed { 0 } else { self.held.len() }
+    }
+
+    /// Takes the next piece of the stream, and adds the RPC of each frame that is whole now.
+    ///
+    /// # Errors
+    /// `Failed` exactly after a fault; nothing changes. `Malformed` and `TooLong` where the first
+    /// fault of the stream is that; the RPCs before it are added, and the reader has failed.
+    /// `NoMemory`; the reader and the list are as they were.
+    pub fn feed(
+        &mut self,
+        alloc: Global,
+        piece: &[u8],
+        rpcs: &mut Vec<Rpc>,
+    ) -> Result<(), WireFault>
+        ensures fed { OnOk result (Feeds self.old piece.now self.new rpcs.old.items rpcs.new.items End.Waits) }
+        ensures malformed { IsErrOf result WireFault.Malformed → Feeds self.old piece.now self.new rpcs.old.items rpcs.new.items End.Malformed }
+        ensures too_long { IsErrOf result WireFault.TooLong → Feeds self.old piece.now self.new rpcs.old.items rpcs.new.items End.TooLong }
+        ensures failed { (result ≡ Err WireFault.Failed) ↔ (self.old.held ≡ None) }
+        ensures failed_reader { result ≡ Err WireFault.Failed → self.new ≡ self.old }
+        ensures failed_list { result ≡ Err WireFault.Failed → rpcs.new.items ≡ rpcs.old.items }
+        ensures no_memory_reader { result ≡ Err WireFault.NoMemory → self.new ≡ self.old }
+        ensures no_memory_list { result ≡ Err WireFault.NoMemory → rpcs.new.items ≡ rpcs.old.items }
+    {
+        if self.failed {
+            return Err(WireFault::Failed);
+        }
+        let held = self.held.len();
+        let count = rpcs.len();
+        self.held.extend_from_slice(piece)?;
+        match read_frames(alloc, self.limit, self.held.as_slice(), rpcs) {
+            Ok((taken, End::Waits)) => {
+                self.held.advance(taken);
+                Ok(())
+            }
+            Ok((_, End::TooLong)) => {
+                self.failed = true;
+                Err(WireFault::TooLong)
+            }
+            Ok((_, End::Malformed)) => {
+                self.failed = true;
+                Err(WireFault::Malformed)
+            }
+            Err(_) => {
+                self.held.truncate(held);
+                rpcs.truncate(count);
+                Err(WireFault::NoMemory)
+            }
+        }
+    }
+}
