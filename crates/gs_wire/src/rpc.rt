@@ -81,12 +81,7 @@ pub(crate) fn read_body(alloc: Global, body: &[u8]) -> Result<Rpc, DecodeError>
     ensures malformed { IsErrOf result DecodeError.Malformed → (rpc : RpcValue) → ¬ SpellsRpc body.now rpc }
 {
     let shared = Bytes::copy_from_slice(alloc, body)?;
-    let reader = Reader::new(&shared);
-    match decode_message(alloc, reader) {
-        Ok(rpc) => Ok(rpc),
-        Err(DecodeError::Malformed) => Err(DecodeError::Malformed),
-        Err(DecodeError::NoMemory) => Err(DecodeError::NoMemory),
-    }
+    decode_message(alloc, Reader::new(&shared))
 }
 
 /// The RPC that a body spells. Unknown fields, and known ones of another wire type, are skipped; of

@@ -25,13 +25,17 @@ fn varint_at_most(most: u32, bytes: &[u8]) -> Option<(u64, usize)>
     Some((number, count + 1))
 }
 
-/// The varint at the front, in any of its spellings, and how many bytes it takes.
-#[tactic(auto, unfolding(crate::specs::Reading::varint_at))]
+/// The varint at the front, in any of its spellings, and how many bytes it takes. Most take one.
+#[inline]
+#[tactic(auto, unfolding(crate::specs::Reading::varint_at, crate::specs::Reading::varint_at_most))]
 pub(crate) fn varint_at(bytes: &[u8]) -> Option<(u64, usize)>
     ensures value { option_map (λ x. (x.0, drop x.1 bytes.now)) result ≡ varint_at bytes.now }
     ensures within { IfSome result (λ x. x.1 ≤ length bytes.now) }
 {
-    varint_at_most(MAX_VARINT, bytes)
+    match bytes.first() {
+        Some(first) if *first < 128 => Some((u64::from(*first), 1)),
+        _ => varint_at_most(MAX_VARINT, bytes),
+    }
 }
 
 /// How many bytes the shortest spelling of a number takes.

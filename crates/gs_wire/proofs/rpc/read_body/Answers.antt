@@ -1,6 +1,4 @@
-use Rattle.std.proofs.Common.{rules}
 use Rattle.gs_wire.proofs.rpc.read_body.Goals as goal
 
-pub returns-in-Err-Malformed-clause-malformed : goal.returns-in-Err-Malformed-clause-malformed
-returns-in-Err-Malformed-clause-malformed c = λ e rpc spelled.
-    c.in-Err-Malformed.ensures.malformed (search rules) rpc (rw (c.new-reader.ensures, c.in_ok-shared.ensures) spelled)
+pub returns-clause-malformed : goal.returns-clause-malformed
+returns-clause-malformed c = λ e rpc spelled. c.decode_message.ensures.malformed e rpc (rw (c.new.ensures, c.in_ok-shared.ensures) spelled)
