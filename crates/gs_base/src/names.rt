@@ -1,8 +1,10 @@
 //! Names of peers, topics and messages, and moments.
 ghost use Rattle.std.specs.Prelude.{◌≡◌};
+ghost use Rattle.gs_base.specs.Names.{message_id};
 
 use crate::exact::ExactClone;
 use bytes::Bytes;
+use sha2::{Digest, Sha256};
 use std::alloc::AllocError;
 
 /// A peer of a run, numbered from 0.
@@ -10,7 +12,7 @@ use std::alloc::AllocError;
 pub struct PeerNo(pub u16);
 
 /// A topic. It is any bytes: whether they are UTF-8 is not looked at.
-#[derive(Debug, Drop, PartialEq, Eq, PartialOrd, Ord)]
+#[derive(Debug, Drop, PartialEq, Eq, PartialOrd, Ord, Hash)]
 pub struct Topic(pub Bytes);
 
 impl Clone for Topic {
@@ -25,9 +27,24 @@ impl ExactClone for Topic {
     ghost exact = { λ source copy same. same };
 }
 
+/// The longest topic that a peer subscribes to or publishes on, in bytes.
+pub const LONGEST_TOPIC: usize = 1_024;
+
+/// How many topics a peer may ever be subscribed to.
+pub const MOST_TOPICS: usize = 1_024;
+
 /// The identifier of a message: the SHA-256 of its payload.
 #[derive(Clone, Copy, Debug, PartialEq, Eq, PartialOrd, Ord, Hash)]
 pub struct MsgId(pub [u8; 32]);
+
+impl MsgId {
+    /// The identifier of a message with this payload.
+    pub fn of(payload: &[u8]) -> MsgId
+        ensures { result ≡ message_id payload.now }
+    {
+        MsgId(Sha256::digest(payload))
+    }
+}
 
 /// A moment or a span of time, in milliseconds.
 #[derive(Clone, Copy, Debug, PartialEq, Eq, PartialOrd, Ord, Hash)]

@@ -7,3 +7,4 @@ pub mod Reading
 pub mod Views
 pub mod Placed
 pub mod Stream
+pub mod Codec

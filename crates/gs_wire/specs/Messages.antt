@@ -7,6 +7,7 @@ use Rattle.gs_base.specs.declared.control.Control.{Control}
 use Rattle.gs_base.specs.declared.rpc.SubOpt.{SubOpt}
 use Rattle.gs_base.specs.declared.rpc.Message.{Message}
 use Rattle.gs_base.specs.declared.rpc.Rpc.{Rpc}
+pub use Rattle.gs_base.specs.Names.{publication}
 use Rattle.gs_wire.specs.declared.field.TheConstants.{RPC_SUBSCRIPTIONS, RPC_PUBLISH, RPC_CONTROL, SUB_SUBSCRIBE, SUB_TOPIC, MESSAGE_FROM, MESSAGE_DATA, MESSAGE_SEQNO, MESSAGE_TOPIC, MESSAGE_SIGNATURE, MESSAGE_KEY}
 use Rattle.gs_wire.specs.Varint.{varint}
 use Rattle.gs_wire.specs.Records.{Record, len_values, records_text}
@@ -65,14 +66,6 @@ body v = records_text (rpc_records v)
 -- the frame that is written for an RPC: the length of its body, and the body
 abbrev pub frame : Rpc → List ℕ
 frame v = varint (length (body v)) ++ body v
-
--- an RPC that publishes one message under StrictNoSign
-abbrev pub publication : Topic → List ℕ → Rpc
-publication topic payload = record {
-  subs = [];
-  publish = record { origin = None; payload = Some payload; seqno = None; topic = Some topic; signature = None; key = None } ∷ [];
-  control = None;
-}
 
 -- ---- the values that a program holds
 

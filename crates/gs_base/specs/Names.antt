@@ -1,0 +1,55 @@
+-- When names are the same, what an absent one stands for, and what messages are known by.
+use Rattle.std.specs.Prelude.{ℕ, Bool, nat_eq, ◌||◌, List, [], ◌∷◌, Option, Some, None, is_some, unwrap_or}
+use Rattle.std.specs.Cmp.Lexicographic.{pointwise}
+use Rattle.sha2.specs.Sha256.{sha256}
+use Rattle.gs_base.specs.declared.names.PeerNo.{PeerNo}
+use Rattle.gs_base.specs.declared.names.Topic.{Topic}
+use Rattle.gs_base.specs.declared.names.MsgId.{MsgId}
+use Rattle.gs_base.specs.declared.rpc.Message.{Message}
+use Rattle.gs_base.specs.declared.rpc.Rpc.{Rpc}
+
+abbrev pub same_peer : PeerNo → PeerNo → Bool
+same_peer p q = nat_eq p.0 q.0
+
+abbrev pub same_topic : Topic → Topic → Bool
+same_topic t u = pointwise nat_eq t.0 u.0
+
+abbrev pub same_id : MsgId → MsgId → Bool
+same_id x y = pointwise nat_eq x.0 y.0
+
+-- an absent topic stands for the empty one
+abbrev pub topic_or_empty : Option Topic → Topic
+topic_or_empty topic = unwrap_or topic (record { 0 = [] })
+
+-- the topic that a message is on
+abbrev pub topic_of : Message → Topic
+topic_of m = topic_or_empty m.topic
+
+-- what a message carries: an absent payload stands for the empty one
+abbrev pub payload_of : Message → List ℕ
+payload_of m = unwrap_or m.payload []
+
+-- the identifier of a message is the SHA-256 of its payload
+unfoldable pub message_id : List ℕ → MsgId
+message_id payload = record { 0 = sha256 payload }
+
+-- an author, a number, a signature or a key is there, even an empty one, which StrictNoSign forbids
+-- (libp2p pubsub, "Signature Policy Options")
+abbrev pub is_signed : Message → Bool
+is_signed m = is_some m.origin || (is_some m.seqno || (is_some m.signature || is_some m.key))
+
+-- an RPC that says that its sender subscribes to the topic, or leaves it
+abbrev pub announcement : Bool → Topic → Rpc
+announcement subscribes topic = record {
+  subs = record { subscribe = Some subscribes; topic = Some topic } ∷ [];
+  publish = [];
+  control = None;
+}
+
+-- an RPC that publishes one message under StrictNoSign
+abbrev pub publication : Topic → List ℕ → Rpc
+publication topic payload = record {
+  subs = [];
+  publish = record { origin = None; payload = Some payload; seqno = None; topic = Some topic; signature = None; key = None } ∷ [];
+  control = None;
+}
