@@ -1,5 +1,5 @@
 -- The keys of a table, each by one line that says its name, whether it is required, and its kind.
-use Rattle.std.specs.Prelude.{ℕ, ◌++◌, Bool, nat_eq, codes, List, [], ◌∷◌, Option, Some, None, Result, Ok, Err, if◌then◌else◌}
+use Rattle.std.specs.Prelude.{ℕ, ◌++◌, Bool, nat_eq, List, [], ◌∷◌, Option, Some, None, Result, Ok, Err, if◌then◌else◌}
 use Rattle.std.specs.List.{list_any}
 use Rattle.std.specs.Cmp.Lexicographic.{pointwise}
 use Rattle.toml.specs.Data.{Data, Members, no_members, member, get_member, Items, no_items, item}

@@ -1,5 +1,5 @@
 -- The kinds of values that a key of a scenario holds.
-use Rattle.std.specs.Prelude.{ℕ, ◌+◌, ◌++◌, ◌&&◌, ◌||◌, ◌==◌, Bool, nat_eq, nat_le, length, decimal, codes, List, [], ◌∷◌, Option, Some, None, option_and_then, is_some, Result, Ok, Err, if◌then◌else◌, ℤ, pos, negsuc}
+use Rattle.std.specs.Prelude.{ℕ, ◌+◌, ◌++◌, ◌&&◌, ◌||◌, ◌==◌, Bool, nat_le, length, decimal, codes, List, Option, Some, None, option_and_then, is_some, Result, Ok, Err, if◌then◌else◌, ℤ, pos, negsuc}
 use Rattle.std.specs.List.{list_all}
 use Rattle.toml.specs.Data.{Data, Items, no_items, item, as_integer, as_str, as_table, as_array, Members}
 use Rattle.hex.specs.declared.error.FromHexError.{FromHexError}

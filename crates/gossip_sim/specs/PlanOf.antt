@@ -1,5 +1,5 @@
 -- The plan that a scenario describes, or its first refusal: the keys of each table in their order.
-use Rattle.std.specs.Prelude.{ℕ, ◌-◌, ◌^◌, ◌++◌, ◌&&◌, ◌||◌, ◌==◌, Bool, nat_eq, length, map, codes, position, find, List, [], ◌∷◌, Option, Some, None, option_map, Result, Ok, Err, if◌then◌else◌}
+use Rattle.std.specs.Prelude.{ℕ, ◌-◌, ◌^◌, ◌&&◌, ◌||◌, ◌==◌, Bool, nat_eq, length, codes, position, find, List, [], ◌∷◌, Option, Some, None, option_map, Result, Ok, Err, if◌then◌else◌}
 use Rattle.std.specs.List.{list_any}
 use Rattle.std.specs.Cmp.Lexicographic.{pointwise}
 use Rattle.toml.specs.Data.{Data, Items, no_items, Members}
@@ -8,12 +8,13 @@ use Rattle.gs_base.specs.declared.names.PeerNo.{PeerNo}
 use Rattle.gs_base.specs.declared.names.Topic.{Topic}
 use Rattle.gossip_sim.specs.declared.fault.ScenarioFault.{ScenarioFault}
 use Rattle.gossip_sim.specs.declared.fault.ScenarioFault.TheVariants.{Toml, Range, Repeated}
+use Rattle.gossip_sim.specs.declared.plan.TheConstants.{LONGEST_ROUND, MOST_ROUNDS, MOST_PEERS}
 use Rattle.gossip_sim.specs.declared.plan.Plan.{Plan}
 use Rattle.gossip_sim.specs.declared.plan.Peer.{Peer}
 use Rattle.gossip_sim.specs.declared.plan.Dial.{Dial}
 use Rattle.gossip_sim.specs.declared.plan.Line.{Line}
 use Rattle.gossip_sim.specs.declared.plan.What.{What}
-use Rattle.gossip_sim.specs.declared.plan.What.TheVariants.{Subscribe, Publish}
+use Rattle.gossip_sim.specs.declared.plan.What.TheVariants.{Subscribe, Unsubscribe, Publish}
 use Rattle.gossip_sim.specs.declared.scenario.script.Verb.{Verb}
 use Rattle.gossip_sim.specs.declared.scenario.script.Verb.TheVariants as verbs
 use Rattle.gossip_sim.specs.Keys.{Key, Kind, Section, ◌>>=◌, refuse_if, required, optional, read_key, only, read_each}
@@ -22,10 +23,10 @@ use Rattle.gossip_sim.specs.Kinds.{whole_number, list_of, any_list, hex_text, ne
 -- ---- the top table
 
 abbrev pub round_ms_key : Key ℕ
-round_ms_key = required (codes "round_ms") (whole_number 1 60000)
+round_ms_key = required (codes "round_ms") (whole_number 1 LONGEST_ROUND)
 
 abbrev pub rounds_key : Key ℕ
-rounds_key = required (codes "rounds") (whole_number 1 100000)
+rounds_key = required (codes "rounds") (whole_number 1 MOST_ROUNDS)
 
 abbrev pub workers_key : Key ℕ
 workers_key = required (codes "workers") (whole_number 1 16)
@@ -40,7 +41,7 @@ abbrev pub topics_key : Key Items
 topics_key = required (codes "topic") (list_of 1 32)
 
 abbrev pub peers_key : Key Items
-peers_key = required (codes "peer") (list_of 1 64)
+peers_key = required (codes "peer") (list_of 1 MOST_PEERS)
 
 abbrev pub dials_key : Key Items
 dials_key = optional (codes "dial") any_list no_items
@@ -147,6 +148,7 @@ dial_in peers earlier d = do
 abbrev pub verb_of : List ℕ → Option Verb
 verb_of text =
     if pointwise nat_eq text (codes "subscribe") then Some verbs.Subscribe
+    else if pointwise nat_eq text (codes "unsubscribe") then Some verbs.Unsubscribe
     else if pointwise nat_eq text (codes "publish") then Some verbs.Publish
     else None
 
@@ -172,12 +174,16 @@ line_keys others = what_key.name ∷ (at_key 0).name ∷ (peer_key []).name ∷ 
 -- the keys of a line that tells this
 abbrev pub keys_of : Verb → List (List ℕ)
 keys_of verbs.Subscribe = line_keys ((topic_key []).name ∷ [])
+keys_of verbs.Unsubscribe = line_keys ((topic_key []).name ∷ [])
 keys_of verbs.Publish = line_keys ((topic_key []).name ∷ hex_key.name ∷ [])
 
 unfoldable pub what_in : List Topic → Section → Verb → Result What ScenarioFault
 what_in topics section verbs.Subscribe = do
   topic ← read_key section (topic_key topics)
   Ok (Subscribe topic)
+what_in topics section verbs.Unsubscribe = do
+  topic ← read_key section (topic_key topics)
+  Ok (Unsubscribe topic)
 what_in topics section verbs.Publish = do
   topic ← read_key section (topic_key topics)
   payload ← read_key section hex_key

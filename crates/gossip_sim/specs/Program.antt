@@ -1,16 +1,17 @@
 -- How a run of the program ends, and what it has then written.
-use Rattle.std.specs.Prelude.{◌≡◌, ◌≤◌, ◌<◌, ◌++◌, ℕ, List, length, codes, Option, IfSome, Result, Ok, Err, IsUtf8, ◌⊎◌}
+use Rattle.std.specs.Prelude.{◌≡◌, ◌≤◌, ◌<◌, ◌++◌, ℕ, List, length, codes, Option, IfSome, Ok, Err, IsUtf8, ◌⊎◌}
 use Rattle.std.specs.Io.KnownBytes.{Appends, Keeps}
 use Rattle.gossip_sim.specs.declared.streams.TheConstants.{LONGEST_INPUT}
 use Rattle.gossip_sim.specs.declared.fault.ScenarioFault.{ScenarioFault}
 use Rattle.gossip_sim.specs.declared.fault.ScenarioFault.TheVariants.{Toml, Range, NoMemory}
 use Rattle.gossip_sim.specs.declared.plan.Plan.{Plan}
-use Rattle.gossip_sim.specs.declared.report.Delivery.{Delivery}
+use Rattle.gossip_sim.specs.declared.finished.Finished.{Finished}
 use Rattle.gossip_sim.specs.declared.program.ExitStatus.{ExitStatus}
 use Rattle.gossip_sim.specs.declared.program.ExitStatus.TheVariants as ends
 use Rattle.gossip_sim.specs.PlanOf.{plan_of}
 use Rattle.gossip_sim.specs.Refusal.{refusal_text}
 use Rattle.gossip_sim.specs.Report.{report_text}
+use Rattle.gossip_sim.specs.Rounds.{IsRun}
 use Rattle.gossip_sim.specs.Streams.{AppendsFront}
 
 -- The plan is what the whole input describes. Where the input's bytes are not known, some text does.
@@ -38,8 +39,9 @@ refusal_line fault = codes "scenario refused: " ++ refusal_text fault ++ codes "
 pub record Reported (input output output' errors errors' : Option (List ℕ)) : Type 0 where
   pub plan : Plan
   pub scenario : IsScenario input plan
-  pub deliveries : List Delivery
-  pub report : Appends output output' (report_text plan deliveries)
+  pub finished : List Finished
+  pub run : IsRun plan finished
+  pub report : Appends output output' (report_text plan finished)
   pub silent : Keeps errors errors'
 
 -- the line of the scenario's refusal is on errors, or a front of it, and nothing more on the output
@@ -66,8 +68,9 @@ pub record InputFailed (output output' errors errors' : Option (List ℕ)) : Typ
 pub record OutputFailed (input output output' errors errors' : Option (List ℕ)) : Type 0 where
   pub plan : Plan
   pub scenario : IsScenario input plan
-  pub deliveries : List Delivery
-  pub report : AppendsFront output output' (report_text plan deliveries)
+  pub finished : List Finished
+  pub run : IsRun plan finished
+  pub report : AppendsFront output output' (report_text plan finished)
   pub line : AppendsFront errors errors' (codes "output failed\n")
 
 -- what each status says

@@ -1,27 +1,71 @@
 -- What a run's report says.
-use Rattle.std.specs.Prelude.{ℕ, List, [], ◌∷◌, ◌++◌, codes, decimal, option_map, unwrap_or, slice_get}
-use Rattle.std.specs.List.{flat_map}
+use Rattle.std.specs.Prelude.{ℕ, List, [], ◌∷◌, ◌++◌, codes, decimal, option_map, unwrap_or, slice_get, reverse}
+use Rattle.std.specs.List.{flat_map, enumerate_from}
 use Rattle.hex.specs.Hex.{encode_lower}
-use Rattle.gs_base.specs.declared.names.PeerNo.{PeerNo}
+use Rattle.gs_base.specs.declared.names.Millis.{Millis}
+use Rattle.gs_base.specs.declared.names.Topic.{Topic}
+use Rattle.gs_base.specs.declared.trace.Entry.{Entry}
 use Rattle.gossip_sim.specs.declared.plan.Plan.{Plan}
 use Rattle.gossip_sim.specs.declared.plan.Peer.{Peer}
-use Rattle.gossip_sim.specs.declared.report.Delivery.{Delivery}
+use Rattle.gossip_sim.specs.declared.plan.Line.{Line}
+use Rattle.gossip_sim.specs.declared.plan.What.{What}
+use Rattle.gossip_sim.specs.declared.plan.What.TheVariants.{Subscribe, Unsubscribe, Publish}
+use Rattle.gossip_sim.specs.declared.finished.Refusal.{Refusal}
+use Rattle.gossip_sim.specs.declared.finished.Finished.{Finished}
+
+-- ---- words
 
 -- a peer's name: a number that is no peer's has the empty one
-abbrev pub name_of : Plan → PeerNo → List ℕ
-name_of plan number = unwrap_or (option_map (λ (peer : Peer). peer.name) (slice_get plan.peers number.0)) []
+abbrev pub name_of : Plan → ℕ → List ℕ
+name_of plan number = unwrap_or (option_map (λ (peer : Peer). peer.name) (slice_get plan.peers number)) []
+
+-- the word for what a peer is told to do
+abbrev pub what_word : What → List ℕ
+what_word (Subscribe topic) = codes "subscribe"
+what_word (Unsubscribe topic) = codes "unsubscribe"
+what_word (Publish topic payload) = codes "publish"
+
+-- the word of the script's line at a place: a place that is no line's has the empty one
+abbrev pub word_of : Plan → ℕ → List ℕ
+word_of plan place = unwrap_or (option_map (λ (line : Line). what_word line.what) (slice_get plan.script place)) []
 
 -- a payload in lower-case hexadecimal digits, and the empty one as a dash
 abbrev pub payload_text : List ℕ → List ℕ
 payload_text [] = codes "-"
 payload_text (byte ∷ bytes) = encode_lower (byte ∷ bytes)
 
--- `delivered PEER MOMENT TOPIC PAYLOAD`
-abbrev pub delivered_line : Plan → Delivery → List ℕ
-delivered_line plan d =
-    codes "delivered " ++ name_of plan d.peer ++ codes " " ++ decimal d.at.0 ++ codes " " ++ d.topic.0
-    ++ codes " " ++ payload_text d.payload ++ codes "\n"
+-- ---- lines
 
--- a line for each delivery, in their order
-abbrev pub report_text : Plan → List Delivery → List ℕ
-report_text plan deliveries = flat_map (delivered_line plan) deliveries
+-- `delivered PEER MOMENT TOPIC PAYLOAD`
+abbrev pub delivered_line : List ℕ → Millis → Topic × List ℕ → List ℕ
+delivered_line name at x =
+    codes "delivered " ++ name ++ codes " " ++ decimal at.0 ++ codes " " ++ x.0.0 ++ codes " " ++ payload_text x.1 ++ codes "\n"
+
+-- a line for each delivery of an entry
+abbrev pub entry_lines : List ℕ → Entry → List ℕ
+entry_lines name e = flat_map (delivered_line name e.at) e.delivered
+
+-- `refused PEER MOMENT WHAT NUMBER`
+abbrev pub refused_line : Plan → List ℕ → Refusal → List ℕ
+refused_line plan name r =
+    codes "refused " ++ name ++ codes " " ++ decimal r.at.0 ++ codes " " ++ word_of plan r.line ++ codes " " ++ decimal r.number ++ codes "\n"
+
+-- ---- a peer with its number
+
+-- what was delivered to it, the oldest entry first
+abbrev pub delivered_lines : Plan → ℕ × Finished → List ℕ
+delivered_lines plan peer = flat_map (entry_lines (name_of plan peer.0)) (reverse peer.1.trace)
+
+-- what it refused
+abbrev pub refused_lines : Plan → ℕ × Finished → List ℕ
+refused_lines plan peer = flat_map (refused_line plan (name_of plan peer.0)) peer.1.refused
+
+-- ---- the report
+
+-- the peers with their numbers
+abbrev pub numbered : List Finished → List (ℕ × Finished)
+numbered peers = enumerate_from 0 peers
+
+-- what was delivered, peer by peer, and then what was refused
+abbrev pub report_text : Plan → List Finished → List ℕ
+report_text plan peers = flat_map (delivered_lines plan) (numbered peers) ++ flat_map (refused_lines plan) (numbered peers)

@@ -2,10 +2,13 @@
 #![tactic(auto)]
 
 mod fault;
+mod finished;
+mod laws;
 mod peers;
 mod plan;
 mod program;
 mod report;
+mod router;
 mod scenario;
 mod streams;
 

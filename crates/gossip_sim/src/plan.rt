@@ -1,6 +1,27 @@
 //! What is simulated.
+ghost use Rattle.std.specs.Prelude.{◌≡◌};
+ghost use Rattle.gossip_sim.specs.Report.{what_word};
+
 use bytes::Bytes;
 use gs_base::{PeerNo, Seq, Text, Topic};
+
+/// How many milliseconds a round lasts at most.
+pub const LONGEST_ROUND: u64 = 60_000;
+
+/// The highest number that the last round may have.
+pub const MOST_ROUNDS: u64 = 100_000;
+
+/// How many peers there are at most.
+pub const MOST_PEERS: usize = 64;
+
+/// The word that tells a peer to subscribe.
+pub const SUBSCRIBE: &str = "subscribe";
+
+/// The word that tells a peer to leave a topic.
+pub const UNSUBSCRIBE: &str = "unsubscribe";
+
+/// The word that tells a peer to publish.
+pub const PUBLISH: &str = "publish";
 
 /// What is simulated.
 #[derive(Debug, Drop, PartialEq, Eq)]
@@ -55,6 +76,21 @@ pub struct Line {
 pub enum What {
     /// Subscribe to a topic.
     Subscribe(Topic),
+    /// Leave a topic.
+    Unsubscribe(Topic),
     /// Publish a payload on a topic.
     Publish(Topic, Bytes),
+}
+
+impl What {
+    /// The word for it in a scenario and in a report.
+    pub fn word(&self) -> &'static str
+        ensures { result.now ≡ what_word self.now }
+    {
+        match self {
+            What::Subscribe(_) => SUBSCRIBE,
+            What::Unsubscribe(_) => UNSUBSCRIBE,
+            What::Publish(_, _) => PUBLISH,
+        }
+    }
 }

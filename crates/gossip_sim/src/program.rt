@@ -2,13 +2,16 @@
 ghost use Rattle.std.specs.Prelude.{◌≡◌, ◌≤◌, ◌⊎◌, IfErr, IfOk, IfSome, List, codes, length, string_bytes};
 ghost use Rattle.std.specs.Process.{exit_status};
 ghost use Rattle.gossip_sim.specs.Program.{EndsAs, IsRefusal, IsScenario, TellsRefusal, refusal_line, status_of};
+ghost use Rattle.gossip_sim.specs.Ranges.{IsInRange};
 ghost use Rattle.gossip_sim.specs.Report.{report_text};
+ghost use Rattle.gossip_sim.specs.Rounds.{IsRun};
 ghost use Rattle.gossip_sim.specs.Streams.{AppendsFront};
 
 use crate::fault::ScenarioFault;
+use crate::finished::Finished;
 use crate::peers::run_peers;
 use crate::plan::Plan;
-use crate::report::{Delivery, report_text};
+use crate::report::report_text;
 use crate::scenario::read_plan;
 use crate::streams::{LONGEST_INPUT, ReadFault, read_input, write_text};
 use gs_base::Text;
@@ -89,6 +92,7 @@ enum NoPlan {
 /// The plan that the input describes.
 fn plan_in<R: Read>(alloc: Global, input: &mut R) -> Result<Plan, NoPlan>
     ensures found { IfOk result (λ plan. IsScenario (R.remaining input.old) plan) }
+    ensures in_range { IfOk result (λ plan. IsInRange plan) }
     ensures refused { IfErr result (λ why. (fault : ScenarioFault) → why ≡ NoPlan.Refused fault → IfSome (R.remaining input.old) (λ bytes. IsRefusal bytes fault)) }
 {
     match read_input(alloc, input) {
@@ -106,6 +110,7 @@ fn plan_in<R: Read>(alloc: Global, input: &mut R) -> Result<Plan, NoPlan>
 fn plan_from(alloc: Global, bytes: &[u8]) -> Result<Plan, ScenarioFault>
     requires { length bytes.now ≤ LONGEST_INPUT }
     ensures found { IfOk result (λ plan. IsScenario (Some bytes.now) plan) }
+    ensures in_range { IfOk result (λ plan. IsInRange plan) }
     ensures refused { IfErr result (IsRefusal bytes.now) }
 {
     match str::from_utf8(bytes) {
@@ -126,10 +131,11 @@ fn input_too_long(alloc: Global) -> ScenarioFault
 
 /// The report of a run of the plan.
 fn report_of(alloc: Global, plan: &Plan) -> Result<Vec<u8>, AllocError>
-    ensures { IfOk result (λ text. (deliveries : List Delivery) × (text.items ≡ report_text plan.now deliveries)) }
+    requires { IsInRange plan.now }
+    ensures { IfOk result (λ text. (finished : List Finished) × IsRun plan.now finished × (text.items ≡ report_text plan.now finished)) }
 {
-    let deliveries = run_peers(alloc, plan)?;
-    report_text(alloc, plan, &deliveries)
+    let finished = run_peers(alloc, plan)?;
+    report_text(alloc, plan, &finished)
 }
 
 /// Writes the line of a refusal, or a front of it. Where there is no memory for the line, the

@@ -1,69 +1,168 @@
 //! What a run reports.
 ghost use Rattle.std.specs.Prelude.{◌≡◌, ◌++◌, IfOk, OnOk, string_bytes};
-ghost use Rattle.std.specs.List.{AllPass};
-ghost use Rattle.gossip_sim.specs.Report.{delivered_line, name_of, payload_text, report_text};
+ghost use Rattle.std.specs.List.{flat_map};
+ghost use Rattle.gossip_sim.specs.Report.{delivered_line, delivered_lines, entry_lines, name_of, numbered, payload_text, refused_line, refused_lines, report_text, word_of};
 
+use crate::finished::{Finished, Refusal};
 use crate::plan::Plan;
 use bytes::Bytes;
-use gs_base::{Millis, PeerNo, Topic};
+use gs_base::{Entry, Millis, Topic};
 use std::alloc::{AllocError, Global};
 
-/// A message that reached a peer which is subscribed to its topic.
-#[derive(Debug, Drop, PartialEq, Eq)]
-pub struct Delivery {
-    /// The peer that it was delivered at.
-    pub peer: PeerNo,
-    /// The moment of the round in which it was.
-    pub at: Millis,
-    /// The topic that it was published on.
-    pub topic: Topic,
-    /// What was published.
-    pub payload: Bytes,
-}
-
-/// The report: a line for each delivery, in their order.
+/// The report on the peers of a run, each at its number: first a line for each message that was
+/// delivered, peer by peer in the order of its trace, and then a line for each refusal, peer by
+/// peer in the order of its list.
 ///
 /// # Errors
 /// `AllocError` where there was no memory for it.
-pub fn report_text(
-    alloc: Global,
-    plan: &Plan,
-    deliveries: &[Delivery],
-) -> Result<Vec<u8>, AllocError>
-    ensures { IfOk result (λ text. text.items ≡ report_text plan.now deliveries.now) }
+pub fn report_text(alloc: Global, plan: &Plan, finished: &[Finished]) -> Result<Vec<u8>, AllocError>
+    ensures { IfOk result (λ text. text.items ≡ report_text plan.now finished.now) }
 {
     let mut text = Vec::new(alloc);
-    for delivery in deliveries {
-        push_line(alloc, &mut text, plan, delivery)?;
-    }
+    push_delivered(alloc, &mut text, plan, finished)?;
+    push_refused(alloc, &mut text, plan, finished)?;
     Ok(text)
 }
 
-fn push_line(
+/// Adds the lines of what was delivered to all peers.
+fn push_delivered(
     alloc: Global,
     text: &mut Vec<u8>,
     plan: &Plan,
-    delivery: &Delivery,
+    finished: &[Finished],
 ) -> Result<(), AllocError>
-    ensures { OnOk result (text.new.items ≡ text.old.items ++ delivered_line plan.now delivery.now) }
+    ensures { OnOk result (text.new.items ≡ text.old.items ++ flat_map (delivered_lines plan.now) (numbered finished.now)) }
 {
-    let name = name_of(plan, delivery.peer);
-    let moment = delivery.at.0;
+    for (number, peer) in finished.iter().enumerate() {
+        push_entries(alloc, text, name_of(plan, number), peer.trace.entries())?;
+    }
+    Ok(())
+}
+
+/// Adds the lines of what was delivered to a peer in these entries.
+fn push_entries(
+    alloc: Global,
+    text: &mut Vec<u8>,
+    name: &str,
+    entries: &[Entry],
+) -> Result<(), AllocError>
+    ensures { OnOk result (text.new.items ≡ text.old.items ++ flat_map (entry_lines name.now) entries.now) }
+{
+    for entry in entries {
+        push_deliveries(alloc, text, name, entry.at, entry.delivered.as_slice())?;
+    }
+    Ok(())
+}
+
+/// Adds the lines of what was delivered to a peer at a moment.
+fn push_deliveries(
+    alloc: Global,
+    text: &mut Vec<u8>,
+    name: &str,
+    at: Millis,
+    deliveries: &[(Topic, Bytes)],
+) -> Result<(), AllocError>
+    ensures { OnOk result (text.new.items ≡ text.old.items ++ flat_map (delivered_line name.now at) deliveries.now) }
+{
+    for delivery in deliveries {
+        push_delivery(alloc, text, name, at, delivery)?;
+    }
+    Ok(())
+}
+
+/// Adds the line of a payload that was delivered to a peer.
+fn push_delivery(
+    alloc: Global,
+    text: &mut Vec<u8>,
+    name: &str,
+    at: Millis,
+    delivery: &(Topic, Bytes),
+) -> Result<(), AllocError>
+    ensures { OnOk result (text.new.items ≡ text.old.items ++ delivered_line name.now at delivery.now) }
+{
+    let (topic, payload) = delivery;
+    let moment = at.0;
     let front = format!(in alloc; "delivered {name} {moment} ")?;
-    let payload = payload_text(alloc, &delivery.payload)?;
+    let payload = payload_text(alloc, payload)?;
     text.extend_from_slice(front.as_bytes())?;
-    text.extend_from_slice(&delivery.topic.0)?;
+    text.extend_from_slice(&topic.0)?;
     text.extend_from_slice(b" ")?;
     text.extend_from_slice(payload.as_bytes())?;
     text.extend_from_slice(b"\n")
 }
 
-/// A peer's name. A number that is no peer's has the empty one.
-fn name_of(plan: &Plan, peer: PeerNo) -> &str
-    ensures { result.now ≡ name_of plan.now peer }
+/// Adds the lines of what all peers refused.
+fn push_refused(
+    alloc: Global,
+    text: &mut Vec<u8>,
+    plan: &Plan,
+    finished: &[Finished],
+) -> Result<(), AllocError>
+    ensures { OnOk result (text.new.items ≡ text.old.items ++ flat_map (refused_lines plan.now) (numbered finished.now)) }
 {
-    match plan.peers.as_slice().get(usize::from(peer.0)) {
+    for (number, peer) in finished.iter().enumerate() {
+        push_refusals(
+            alloc,
+            text,
+            plan,
+            name_of(plan, number),
+            peer.refused.as_slice(),
+        )?;
+    }
+    Ok(())
+}
+
+/// Adds the lines of what a peer refused.
+fn push_refusals(
+    alloc: Global,
+    text: &mut Vec<u8>,
+    plan: &Plan,
+    name: &str,
+    refusals: &[Refusal],
+) -> Result<(), AllocError>
+    ensures { OnOk result (text.new.items ≡ text.old.items ++ flat_map (refused_line plan.now name.now) refusals.now) }
+{
+    for refusal in refusals {
+        push_refusal(alloc, text, plan, name, *refusal)?;
+    }
+    Ok(())
+}
+
+/// Adds the line of a refusal.
+fn push_refusal(
+    alloc: Global,
+    text: &mut Vec<u8>,
+    plan: &Plan,
+    name: &str,
+    refusal: Refusal,
+) -> Result<(), AllocError>
+    ensures { OnOk result (text.new.items ≡ text.old.items ++ refused_line plan.now name.now refusal) }
+{
+    let moment = refusal.at.0;
+    let word = word_of(plan, refusal.line);
+    let number = refusal.number;
+    let front = format!(in alloc; "refused {name} {moment} ")?;
+    let back = format!(in alloc; "{word} {number}\n")?;
+    text.extend_from_slice(front.as_bytes())?;
+    text.extend_from_slice(back.as_bytes())
+}
+
+/// The name of the peer with a number. A number that is no peer's has the empty one.
+fn name_of(plan: &Plan, number: usize) -> &str
+    ensures { result.now ≡ name_of plan.now number }
+{
+    match plan.peers.as_slice().get(number) {
         Some(peer) => peer.name.as_str(),
+        None => "",
+    }
+}
+
+/// The word of the script's line at a place. A place that is no line's has the empty one.
+fn word_of(plan: &Plan, place: usize) -> &'static str
+    ensures { result.now ≡ word_of plan.now place }
+{
+    match plan.script.as_slice().get(place) {
+        Some(line) => line.what.word(),
         None => "",
     }
 }
@@ -79,3 +178,6 @@ fn payload_text(alloc: Global, payload: &[u8]) -> Result<String, AllocError>
         hex::encode(alloc, payload)
     }
 }
+
+#[cfg(test)]
+mod tests;

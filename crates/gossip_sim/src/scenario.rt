@@ -1,8 +1,9 @@
 //! Scenarios: the plan that a TOML text describes, or its first refusal.
-ghost use Rattle.std.specs.Prelude.{◌≡◌};
+ghost use Rattle.std.specs.Prelude.{◌≡◌, IfOk};
 ghost use Rattle.toml.specs.View.{table_view};
 ghost use Rattle.gossip_sim.specs.Refusal.{Gives};
 ghost use Rattle.gossip_sim.specs.PlanOf.{plan_of, plan_in};
+ghost use Rattle.gossip_sim.specs.Ranges.{IsInRange};
 
 mod dials;
 mod field;
@@ -32,7 +33,8 @@ use toml::Table;
 /// its lists, element by element. In each table an unknown key is refused first, and then each key
 /// is looked at in a fixed order. `NoMemory` may come at any step before.
 pub fn read_plan(alloc: Global, text: &str) -> Result<Plan, ScenarioFault>
-    ensures { Gives (λ plan. plan) result (plan_of text.now) }
+    ensures plan { Gives (λ plan. plan) result (plan_of text.now) }
+    ensures in_range { IfOk result (λ plan. IsInRange plan) }
 {
     match toml::table_from_str(alloc, text) {
         Ok(table) => plan_in(alloc, &table),
@@ -49,7 +51,8 @@ pub fn read_plan(alloc: Global, text: &str) -> Result<Plan, ScenarioFault>
 /// The plan that a document describes.
 #[tactic(auto, unfolding(crate::specs::PlanOf::plan_in))]
 fn plan_in(alloc: Global, table: &Table) -> Result<Plan, ScenarioFault>
-    ensures { Gives (λ plan. plan) result (plan_in (table_view table.now)) }
+    ensures plan { Gives (λ plan. plan) result (plan_in (table_view table.now)) }
+    ensures in_range { IfOk result (λ plan. IsInRange plan) }
 {
     let path = Path::Top;
     let top = Top::read(alloc, Section { path, table })?;

@@ -1,184 +1,162 @@
 use super::*;
-use crate::plan::{Dial, Peer};
 use crate::report::report_text;
-use gs_base::Text;
+use crate::scenario::read_plan;
 
-/// A line of a script: the round, the peer, the topic, and what is published on it, or that it is
-/// subscribed to.
-type Told<'a> = (u64, u16, &'a str, Option<&'a [u8]>);
+/// Eleven rounds of 100 milliseconds, the topics `news` and `blog`, and peers `a` and `b`.
+const TWO: &str = "round_ms = 100\nrounds = 10\nworkers = 2\ncapacity = 8\nseed = 1\n\
+    [[topic]]\nname = \"news\"\n[[topic]]\nname = \"blog\"\n\
+    [[peer]]\nname = \"a\"\n[[peer]]\nname = \"b\"\n";
 
-fn topic(alloc: Global, name: &str) -> Result<Topic, AllocError> {
-    Ok(Topic(Bytes::copy_from_slice(alloc, name.as_bytes())?))
-}
+const C: &str = "[[peer]]\nname = \"c\"\n";
 
-/// A plan of rounds 0 to 10 of 100 ms.
-fn plan(
-    alloc: Global,
-    names: &[&str],
-    dials: &[(u16, u16)],
-    script: &[Told<'_>],
-) -> Result<Plan, AllocError> {
-    let mut plan = Plan {
-        round_ms: 100,
-        rounds: 10,
-        workers: 2,
-        capacity: 8,
-        seed: 1,
-        topics: Seq::new(alloc),
-        peers: Seq::new(alloc),
-        dials: Seq::new(alloc),
-        script: Seq::new(alloc),
-    };
-    for name in names {
-        plan.peers.push(Peer {
-            name: Text::from_str(alloc, name)?,
-        })?;
-    }
-    for (from, to) in dials {
-        plan.dials.push(Dial {
-            from: PeerNo(*from),
-            to: PeerNo(*to),
-        })?;
-    }
-    for (at, peer, name, payload) in script {
-        let topic = topic(alloc, name)?;
-        let what = match payload {
-            Some(payload) => What::Publish(topic, Bytes::copy_from_slice(alloc, payload)?),
-            None => What::Subscribe(topic),
-        };
-        plan.script.push(Line {
-            at: *at,
-            peer: PeerNo(*peer),
-            what,
-        })?;
-    }
-    Ok(plan)
-}
+const A_DIALS_B: &str = "[[dial]]\nfrom = \"a\"\nto = \"b\"\n";
 
-/// Whether peers `a`, `b` and `c` that are dialled so and are told this make such a report.
+const B_DIALS_A: &str = "[[dial]]\nfrom = \"b\"\nto = \"a\"\n";
+
+const C_DIALS_BOTH: &str =
+    "[[dial]]\nfrom = \"c\"\nto = \"b\"\n[[dial]]\nfrom = \"a\"\nto = \"c\"\n";
+
+/// A line of a script: the round, the peer, what it is told, the topic, and what it publishes.
+type Told<'a> = (u64, &'a str, &'a str, &'a str, Option<&'a str>);
+
+/// Whether the peers of such a scenario that are told this make such a report.
 fn reports(
     alloc: Global,
-    dials: &[(u16, u16)],
+    front: &[&str],
     script: &[Told<'_>],
     report: &str,
 ) -> Result<bool, AllocError> {
-    let plan = plan(alloc, &["a", "b", "c"], dials, script)?;
-    let deliveries = run_peers(alloc, &plan)?;
-    Ok(report_text(alloc, &plan, &deliveries)?.as_slice() == report.as_bytes())
-}
-
-/// How many deliveries there are of `length` zero bytes that `a` publishes on a topic which `b` is
-/// subscribed to.
-fn delivered(alloc: Global, name: &str, length: usize) -> Result<usize, AllocError> {
-    let payload = vec![in alloc; 0u8; length]?;
-    let script = [(0, 1, name, None), (2, 0, name, Some(payload.as_slice()))];
-    let plan = plan(alloc, &["a", "b"], &[(0, 1)], &script)?;
-    Ok(run_peers(alloc, &plan)?.len())
+    let mut text = String::new(alloc);
+    for part in front {
+        text.push_str(part)?;
+    }
+    for (at, peer, what, topic, hex) in script {
+        let line = format!(in alloc; "[[do]]\nat = {at}\npeer = \"{peer}\"\n")?;
+        text.push_str(&line)?;
+        let line = format!(in alloc; "what = \"{what}\"\ntopic = \"{topic}\"\n")?;
+        text.push_str(&line)?;
+        if let Some(hex) = hex {
+            text.push_str(&format!(in alloc; "hex = \"{hex}\"\n")?)?;
+        }
+    }
+    let Ok(plan) = read_plan(alloc, &text) else {
+        return Ok(false);
+    };
+    let lives = run_peers(alloc, &plan)?;
+    Ok(report_text(alloc, &plan, &lives)?.as_slice() == report.as_bytes())
 }
 
 #[test]
 fn two_subscribers_get_one_message(rt: HostRuntime) -> Result<(), AllocError> {
     let script: [Told<'_>; 3] = [
-        (0, 0, "news", None),
-        (0, 1, "news", None),
-        (2, 0, "news", Some(b"abc")),
+        (0, "a", "subscribe", "news", None),
+        (0, "b", "subscribe", "news", None),
+        (2, "a", "publish", "news", Some("616263")),
     ];
     let report = "delivered a 200 news 616263\ndelivered b 300 news 616263\n";
-    assert!(rt; reports(rt.alloc(), &[(0, 1)], &script, report)?);
-    assert!(rt; reports(rt.alloc(), &[(1, 0)], &script, report)?);
-    assert!(rt;
-        reports(
-            rt.alloc(),
-            &[(1, 2)],
-            &script,
-            "delivered a 200 news 616263\n"
-        )?
-    );
+    assert!(rt; reports(rt.alloc(), &[TWO, A_DIALS_B], &script, report)?);
+    assert!(rt; reports(rt.alloc(), &[TWO, B_DIALS_A], &script, report)?);
+    assert!(rt; reports(rt.alloc(), &[TWO], &script, "delivered a 200 news 616263\n")?);
     Ok(())
 }
 
 #[test]
-fn a_subscription_counts_from_its_line_on(rt: HostRuntime) -> Result<(), AllocError> {
-    let script: [Told<'_>; 4] = [
-        (2, 0, "news", Some(b"1")),
-        (2, 0, "news", None),
-        (2, 0, "news", Some(b"2")),
-        (2, 0, "blog", Some(b"3")),
+fn leaving_a_topic_twice_is_refused(rt: HostRuntime) -> Result<(), AllocError> {
+    let script: [Told<'_>; 5] = [
+        (0, "a", "subscribe", "news", None),
+        (0, "b", "subscribe", "news", None),
+        (2, "a", "publish", "news", Some("616263")),
+        (4, "b", "unsubscribe", "news", None),
+        (5, "b", "unsubscribe", "news", None),
     ];
-    assert!(rt; reports(rt.alloc(), &[(0, 1)], &script, "delivered a 200 news 32\n")?);
+    let report = "delivered a 200 news 616263\ndelivered b 300 news 616263\n\
+        refused b 500 unsubscribe 19\n";
+    assert!(rt; reports(rt.alloc(), &[TWO, A_DIALS_B], &script, report)?);
     Ok(())
 }
 
 #[test]
-fn a_neighbour_gets_what_is_sent_after_its_round(rt: HostRuntime) -> Result<(), AllocError> {
-    let script: [Told<'_>; 4] = [
-        (3, 1, "news", None),
-        (3, 0, "news", Some(b"\x03")),
-        (4, 0, "news", Some(b"\x04")),
-        (4, 0, "blog", Some(b"\x05")),
+fn a_peer_by_itself_publishes_once(rt: HostRuntime) -> Result<(), AllocError> {
+    let alone = "round_ms = 100\nrounds = 1\nworkers = 2\ncapacity = 8\nseed = 1\n\
+        [[topic]]\nname = \"news\"\n[[peer]]\nname = \"a\"\n";
+    let script: [Told<'_>; 3] = [
+        (0, "a", "subscribe", "news", None),
+        (1, "a", "publish", "news", Some("")),
+        (1, "a", "publish", "news", Some("")),
     ];
-    assert!(rt; reports(rt.alloc(), &[(0, 1)], &script, "delivered b 500 news 04\n")?);
-    let script: [Told<'_>; 2] = [(0, 0, "news", None), (1, 1, "news", Some(b""))];
-    assert!(rt; reports(rt.alloc(), &[(0, 1)], &script, "delivered a 200 news -\n")?);
+    let report = "delivered a 100 news -\nrefused a 100 publish 16\n";
+    assert!(rt; reports(rt.alloc(), &[alone], &script, report)?);
     Ok(())
 }
 
 #[test]
-fn nothing_is_heard_after_the_last_round(rt: HostRuntime) -> Result<(), AllocError> {
+fn a_neighbour_that_left_gets_nothing_more(rt: HostRuntime) -> Result<(), AllocError> {
+    let script: [Told<'_>; 5] = [
+        (0, "b", "subscribe", "news", None),
+        (2, "a", "publish", "news", Some("01")),
+        (3, "b", "unsubscribe", "news", None),
+        (4, "a", "publish", "news", Some("02")),
+        (5, "b", "subscribe", "news", None),
+    ];
+    let report = "delivered b 300 news 01\n";
+    assert!(rt; reports(rt.alloc(), &[TWO, A_DIALS_B], &script, report)?);
+    Ok(())
+}
+
+#[test]
+fn what_is_said_in_a_round_is_heard_in_the_next(rt: HostRuntime) -> Result<(), AllocError> {
     let script: [Told<'_>; 4] = [
-        (0, 0, "news", None),
-        (0, 1, "news", None),
-        (9, 0, "news", Some(b"\x09")),
-        (10, 0, "news", Some(b"\x10")),
+        (3, "b", "subscribe", "news", None),
+        (3, "a", "publish", "news", Some("03")),
+        (4, "a", "publish", "news", Some("04")),
+        (4, "a", "publish", "blog", Some("05")),
+    ];
+    let report = "delivered b 500 news 04\n";
+    assert!(rt; reports(rt.alloc(), &[TWO, A_DIALS_B], &script, report)?);
+    Ok(())
+}
+
+#[test]
+fn what_is_said_in_the_last_round_is_late(rt: HostRuntime) -> Result<(), AllocError> {
+    let script: [Told<'_>; 4] = [
+        (0, "a", "subscribe", "news", None),
+        (0, "b", "subscribe", "news", None),
+        (9, "a", "publish", "news", Some("09")),
+        (10, "a", "publish", "news", Some("10")),
     ];
     let report = "delivered a 900 news 09\ndelivered a 1000 news 10\ndelivered b 1000 news 09\n";
-    assert!(rt; reports(rt.alloc(), &[(0, 1)], &script, report)?);
+    assert!(rt; reports(rt.alloc(), &[TWO, A_DIALS_B], &script, report)?);
     Ok(())
 }
 
 #[test]
-fn a_second_subscription_changes_nothing(rt: HostRuntime) -> Result<(), AllocError> {
-    let script: [Told<'_>; 4] = [
-        (0, 1, "news", None),
-        (0, 1, "news", None),
-        (1, 1, "news", None),
-        (4, 0, "news", Some(b"abc")),
+fn refusals_stand_by_moment_and_then_in_file_order(rt: HostRuntime) -> Result<(), AllocError> {
+    let script: [Told<'_>; 6] = [
+        (4, "b", "publish", "news", Some("616263")),
+        (0, "b", "subscribe", "news", None),
+        (0, "b", "subscribe", "news", None),
+        (0, "b", "unsubscribe", "blog", None),
+        (1, "b", "subscribe", "news", None),
+        (3, "a", "publish", "news", Some("616263")),
     ];
-    assert!(rt;
-        reports(
-            rt.alloc(),
-            &[(0, 1)],
-            &script,
-            "delivered b 500 news 616263\n"
-        )?
-    );
+    let report = "delivered b 400 news 616263\nrefused b 0 subscribe 18\n\
+        refused b 0 unsubscribe 19\nrefused b 100 subscribe 18\nrefused b 400 publish 16\n";
+    assert!(rt; reports(rt.alloc(), &[TWO, A_DIALS_B], &script, report)?);
     Ok(())
 }
 
 #[test]
 fn what_is_heard_comes_first_and_by_neighbour(rt: HostRuntime) -> Result<(), AllocError> {
     let script: [Told<'_>; 6] = [
-        (0, 2, "news", None),
-        (4, 1, "news", Some(b"\xb1")),
-        (5, 2, "news", Some(b"\xc1")),
-        (4, 0, "news", Some(b"\xa1")),
-        (4, 1, "news", Some(b"\xb2")),
-        (4, 0, "news", Some(b"\xa2")),
+        (0, "c", "subscribe", "news", None),
+        (4, "b", "publish", "news", Some("b1")),
+        (5, "c", "publish", "news", Some("c1")),
+        (4, "a", "publish", "news", Some("a1")),
+        (4, "b", "publish", "news", Some("b2")),
+        (4, "a", "publish", "news", Some("a2")),
     ];
     let report = "delivered c 500 news a1\ndelivered c 500 news a2\n\
         delivered c 500 news b1\ndelivered c 500 news b2\ndelivered c 500 news c1\n";
-    assert!(rt; reports(rt.alloc(), &[(2, 1), (0, 2)], &script, report)?);
-    Ok(())
-}
-
-#[test]
-fn a_message_is_published_that_a_frame_can_hold(rt: HostRuntime) -> Result<(), AllocError> {
-    let alloc = rt.alloc();
-    let long = "t".repeat(alloc, 1_024)?;
-    let too_long = "t".repeat(alloc, 1_025)?;
-    assert!(rt; delivered(alloc, long.as_str(), 3)? == 1);
-    assert!(rt; delivered(alloc, too_long.as_str(), 3)? == 0);
-    assert!(rt; delivered(alloc, "news", 1_048_562)? == 1);
-    assert!(rt; delivered(alloc, "news", 1_048_563)? == 0);
+    assert!(rt; reports(rt.alloc(), &[TWO, C, C_DIALS_BOTH], &script, report)?);
     Ok(())
 }

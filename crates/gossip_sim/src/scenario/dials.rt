@@ -7,7 +7,7 @@ ghost use Rattle.gossip_sim.specs.Keys.{read_each};
 ghost use Rattle.gossip_sim.specs.PlanOf.{dial_in, joins_same};
 
 use crate::fault::ScenarioFault;
-use crate::plan::{Dial, Peer};
+use crate::plan::{Dial, MOST_PEERS, Peer};
 use crate::scenario::field::table_of;
 use crate::scenario::peers::peer_of;
 use crate::scenario::place::{Element, Place};
@@ -22,7 +22,7 @@ const TO: &str = "to";
 /// The dials of a list, in its order.
 #[tactic(auto, unfolding(crate::specs::Keys::read_each))]
 pub fn dials_in(alloc: Global, peers: &[Peer], list: &[Value]) -> Result<Seq<Dial>, ScenarioFault>
-    requires { length peers.now ≤ 64 }
+    requires { length peers.now ≤ MOST_PEERS }
     ensures { Gives (λ dials. dials) result
         (read_each (dial_in peers.now) [] (items_view list.now)) }
 {
@@ -42,7 +42,7 @@ fn dial_in(
     earlier: &[Dial],
     value: &Value,
 ) -> Result<Dial, ScenarioFault>
-    requires { length peers.now ≤ 64 }
+    requires { length peers.now ≤ MOST_PEERS }
     ensures { Gives (λ dial. dial) result (dial_in peers.now earlier.now (view value.now)) }
 {
     let element = Element {

@@ -25,7 +25,9 @@ pub struct Field<'a> {
 impl<'a> Field<'a> {
     /// A whole number from low to high.
     pub fn whole_number(&self, alloc: Global, low: u64, high: u64) -> Result<u64, ScenarioFault>
-        ensures { Gives (λ number. number) result (read_as (kinds.whole_number low high) self.now) }
+        ensures number { Gives (λ number. number) result
+            (read_as (kinds.whole_number low high) self.now) }
+        ensures within { IfOk result (λ number. (low ≤ number) × (number ≤ high)) }
     {
         if let Some(number) = self.value.as_integer() {
             if number >= 0 {

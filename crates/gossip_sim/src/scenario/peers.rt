@@ -9,7 +9,7 @@ ghost use Rattle.gossip_sim.specs.Views.{read_as};
 ghost use Rattle.gossip_sim.specs.PlanOf.{peer_in, peer_named};
 
 use crate::fault::ScenarioFault;
-use crate::plan::Peer;
+use crate::plan::{MOST_PEERS, Peer};
 use crate::scenario::field::{Field, table_of};
 use crate::scenario::place::Element;
 use gs_base::{PeerNo, Seq, Text};
@@ -21,7 +21,7 @@ const NAME: &str = "name";
 /// The peers of a list, in its order.
 #[tactic(auto, unfolding(crate::specs::Keys::read_each))]
 pub fn peers_in(alloc: Global, list: &[Value]) -> Result<Seq<Peer>, ScenarioFault>
-    requires { length list.now ≤ 64 }
+    requires { length list.now ≤ MOST_PEERS }
     ensures read { Gives (λ peers. peers) result (read_each peer_in [] (items_view list.now)) }
     ensures count { IfOk result (λ peers. length peers ≡ length list.now) }
 {
@@ -36,7 +36,7 @@ pub fn peers_in(alloc: Global, list: &[Value]) -> Result<Seq<Peer>, ScenarioFaul
 /// The peer that stands in the list after the earlier ones.
 #[tactic(auto, unfolding(crate::specs::PlanOf::peer_in))]
 fn peer_in(alloc: Global, earlier: &[Peer], value: &Value) -> Result<Peer, ScenarioFault>
-    requires { length earlier.now ≤ 64 }
+    requires { length earlier.now ≤ MOST_PEERS }
     ensures { Gives (λ peer. peer) result (peer_in earlier.now (view value.now)) }
 {
     let element = Element {
@@ -57,7 +57,7 @@ fn peer_in(alloc: Global, earlier: &[Peer], value: &Value) -> Result<Peer, Scena
 
 /// The number of the peer that a value names.
 pub fn peer_of(alloc: Global, peers: &[Peer], field: &Field<'_>) -> Result<PeerNo, ScenarioFault>
-    requires { length peers.now ≤ 64 }
+    requires { length peers.now ≤ MOST_PEERS }
     ensures { Gives (λ peer. peer) result
         (read_as (reference (peer_named peers.now)) field.now) }
 {
@@ -70,7 +70,7 @@ pub fn peer_of(alloc: Global, peers: &[Peer], field: &Field<'_>) -> Result<PeerN
 
 /// The number of the peer that has a name.
 fn peer_named(peers: &[Peer], name: &str) -> Option<PeerNo>
-    requires { length peers.now ≤ 64 }
+    requires { length peers.now ≤ MOST_PEERS }
     ensures { result ≡ peer_named peers.now name.now }
 {
     let index = index_of(peers, name)?;

@@ -8,7 +8,7 @@ ghost use Rattle.gossip_sim.specs.Views.{read_as, section_of};
 ghost use Rattle.gossip_sim.specs.PlanOf.{line_in, what_in, verb_of, keys_of};
 
 use crate::fault::ScenarioFault;
-use crate::plan::{Line, Peer, What};
+use crate::plan::{Line, MOST_PEERS, PUBLISH, Peer, SUBSCRIBE, UNSUBSCRIBE, What};
 use crate::scenario::field::{Field, table_of};
 use crate::scenario::peers::peer_of;
 use crate::scenario::place::Element;
@@ -41,6 +41,7 @@ pub struct Known<'a> {
 #[derive(Clone, Copy)]
 pub enum Verb {
     Subscribe,
+    Unsubscribe,
     Publish,
 }
 
@@ -50,7 +51,7 @@ impl Verb {
         ensures { map (λ key. key.now) result.now ≡ keys_of self }
     {
         match self {
-            Verb::Subscribe => &[WHAT, AT, PEER, TOPIC],
+            Verb::Subscribe | Verb::Unsubscribe => &[WHAT, AT, PEER, TOPIC],
             Verb::Publish => &[WHAT, AT, PEER, TOPIC, HEX],
         }
     }
@@ -63,7 +64,7 @@ pub fn lines_in(
     known: &Known<'_>,
     list: &[Value],
 ) -> Result<Seq<Line>, ScenarioFault>
-    requires { length known.now.peers.now ≤ 64 }
+    requires { length known.now.peers.now ≤ MOST_PEERS }
     ensures { let known = known.now in Gives (λ lines. lines) result
         (read_each (line_in known.topics.now known.peers.now known.rounds) [] (items_view list.now)) }
 {
@@ -83,7 +84,7 @@ fn line_in(
     earlier: &[Line],
     value: &Value,
 ) -> Result<Line, ScenarioFault>
-    requires { length known.now.peers.now ≤ 64 }
+    requires { length known.now.peers.now ≤ MOST_PEERS }
     ensures { let known = known.now in Gives (λ line. line) result
         (line_in known.topics.now known.peers.now known.rounds earlier.now (view value.now)) }
 {
@@ -114,6 +115,7 @@ fn what_in(
     let topic = topic_of(alloc, topics, &section.required(alloc, TOPIC)?)?;
     match verb {
         Verb::Subscribe => Ok(What::Subscribe(topic)),
+        Verb::Unsubscribe => Ok(What::Unsubscribe(topic)),
         Verb::Publish => Ok(What::Publish(topic, section.hex(alloc, HEX)?)),
     }
 }
@@ -135,8 +137,9 @@ fn verb_of(word: &str) -> Option<Verb>
     ensures { result ≡ verb_of word.now }
 {
     match word {
-        "subscribe" => Some(Verb::Subscribe),
-        "publish" => Some(Verb::Publish),
+        SUBSCRIBE => Some(Verb::Subscribe),
+        UNSUBSCRIBE => Some(Verb::Unsubscribe),
+        PUBLISH => Some(Verb::Publish),
         _ => None,
     }
 }

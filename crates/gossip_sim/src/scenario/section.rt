@@ -69,8 +69,9 @@ impl<'a> Section<'a> {
         low: u64,
         high: u64,
     ) -> Result<u64, ScenarioFault>
-        ensures { Gives (λ number. number) result
+        ensures number { Gives (λ number. number) result
             (held_at (required key.now (kinds.whole_number low high)) self.now) }
+        ensures within { IfOk result (λ number. (low ≤ number) × (number ≤ high)) }
     {
         self.required(alloc, key)?.whole_number(alloc, low, high)
     }

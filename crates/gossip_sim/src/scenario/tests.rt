@@ -3,7 +3,9 @@ mod cases;
 
 use super::*;
 use crate::plan::{Dial, Line, Peer, What};
-use crate::scenario::tests::cases::{BOUNDS, EDITS, LISTS, OTHER_LISTS, TOP, TWO_PEERS, WRONG};
+use crate::scenario::tests::cases::{
+    BOUNDS, EDITS, LEAVING, LISTS, OTHER_LISTS, TOP, TWO_PEERS, WRONG,
+};
 use bytes::Bytes;
 use gs_base::{PeerNo, Seq, Text, Topic};
 use std::alloc::AllocError;
@@ -198,6 +200,31 @@ fn a_scenario_gives_its_plan(rt: HostRuntime) -> Result<(), AllocError> {
     let silent = edited(alloc, "[[dial]]\nfrom = \"a\"\nto = \"b\"\n", "")?;
     plan.dials = Seq::new(alloc);
     assert!(rt; gives(alloc, silent.as_str(), &plan));
+    Ok(())
+}
+
+#[test]
+fn a_peer_leaves_a_topic_where_the_scenario_says_so(rt: HostRuntime) -> Result<(), AllocError> {
+    let alloc = rt.alloc();
+    let text = format!(in alloc; "{TWO_PEERS}\n{LEAVING}")?;
+    let mut plan = two_peers(alloc, b"abc")?;
+    plan.script.push(Line {
+        at: 3,
+        peer: PeerNo(1),
+        what: What::Unsubscribe(topic(alloc)?),
+    })?;
+    assert!(rt; gives(alloc, text.as_str(), &plan));
+    assert!(rt; !gives(alloc, TWO_PEERS, &plan));
+    Ok(())
+}
+
+#[test]
+fn what_is_told_has_its_word(rt: HostRuntime) -> Result<(), AllocError> {
+    let alloc = rt.alloc();
+    assert_eq!(rt; What::Subscribe(topic(alloc)?).word(), "subscribe");
+    assert_eq!(rt; What::Unsubscribe(topic(alloc)?).word(), "unsubscribe");
+    let nothing = Bytes::copy_from_slice(alloc, b"")?;
+    assert_eq!(rt; What::Publish(topic(alloc)?, nothing).word(), "publish");
     Ok(())
 }
 

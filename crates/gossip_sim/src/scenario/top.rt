@@ -5,6 +5,7 @@ ghost use Rattle.gossip_sim.specs.PlanOf as spec;
 ghost use Rattle.gossip_sim.specs.Views.{section_of, top_view};
 
 use crate::fault::ScenarioFault;
+use crate::plan::{LONGEST_ROUND, MOST_PEERS, MOST_ROUNDS};
 use crate::scenario::section::Section;
 use std::alloc::Global;
 use toml::Value;
@@ -46,7 +47,9 @@ impl<'a> Top<'a> {
     #[tactic(auto, unfolding(crate::specs::PlanOf::top_in, crate::specs::Keys::only))]
     pub fn read(alloc: Global, top: Section<'a>) -> Result<Top<'a>, ScenarioFault>
         ensures plan { Gives top_view result (spec.top_in (section_of top.entry)) }
-        ensures peers { IfOk result (λ top. length top.peers.now ≤ 64) }
+        ensures round_ms { IfOk result (λ top. top.round_ms ≤ LONGEST_ROUND) }
+        ensures rounds { IfOk result (λ top. top.rounds ≤ MOST_ROUNDS) }
+        ensures peers { IfOk result (λ top. length top.peers.now ≤ MOST_PEERS) }
     {
         top.only(
             alloc,
@@ -55,13 +58,13 @@ impl<'a> Top<'a> {
             ],
         )?;
         Ok(Top {
-            round_ms: top.number(alloc, ROUND_MS, 1, 60_000)?,
-            rounds: top.number(alloc, ROUNDS, 1, 100_000)?,
+            round_ms: top.number(alloc, ROUND_MS, 1, LONGEST_ROUND)?,
+            rounds: top.number(alloc, ROUNDS, 1, MOST_ROUNDS)?,
             workers: top.number(alloc, WORKERS, 1, 16)?,
             capacity: top.number(alloc, CAPACITY, 1, 1_024)?,
             seed: top.number(alloc, SEED, 0, 0x7FFF_FFFF_FFFF_FFFF)?,
             topics: top.list(alloc, TOPIC, 1, 32)?,
-            peers: top.list(alloc, PEER, 1, 64)?,
+            peers: top.list(alloc, PEER, 1, MOST_PEERS)?,
             dials: top.optional_list(alloc, DIAL)?,
             script: top.optional_list(alloc, DO)?,
         })

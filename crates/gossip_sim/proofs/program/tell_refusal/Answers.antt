@@ -1,4 +1,4 @@
-use Rattle.std.proofs.Common.{◌≡◌, ◌∙◌, ℕ, List, codes, inl, inr, refl, subst, sym}
+use Rattle.std.proofs.Common.{◌≡◌, ◌∙◌, ℕ, List, codes, inl, inr, refl, subst}
 use Rattle.std.specs.Fmt.{digits}
 use Rattle.gossip_sim.specs.declared.fault.ScenarioFault.TheVariants.{NoMemory}
 use Rattle.gossip_sim.specs.Program.{refusal_line}

@@ -41,6 +41,15 @@ topic = \"news\"
 hex = \"616263\"
 ";
 
+/// A line that may stand behind that scenario.
+pub const LEAVING: &str = "\
+[[do]]
+at = 3
+peer = \"b\"
+what = \"unsubscribe\"
+topic = \"news\"
+";
+
 /// The lists of that scenario, which `with_lists` puts others for.
 pub const LISTS: &str = "\
 [[topic]]
@@ -54,7 +63,7 @@ name = \"b\"
 ";
 
 /// What an edit of one place of that scenario gives.
-pub const EDITS: [(&str, &str, &str); 58] = [
+pub const EDITS: [(&str, &str, &str); 68] = [
     // The text as a whole.
     ("rounds = 10\n", "rounds = 10\nrounds = 10\n", "26"),
     ("seed = 1\n", "seed = 9223372036854775808\n", "26"),
@@ -163,8 +172,58 @@ pub const EDITS: [(&str, &str, &str); 58] = [
     ),
     (
         "what = \"subscribe\"\n",
-        "colour = 1\nwhat = \"unsubscribe\"\n",
+        "colour = 1\nwhat = \"Unsubscribe\"\n",
         "29 do[0].what",
+    ),
+    (
+        "what = \"subscribe\"\n",
+        "colour = 1\nwhat = \"unsubscribe\"\n",
+        "27 do[0].colour",
+    ),
+    (
+        "what = \"publish\"\n",
+        "what = \"unsubscribe\"\n",
+        "27 do[2].hex",
+    ),
+    (
+        "what = \"subscribe\"\n",
+        "what = \"unsubscribe\"\n",
+        "a plan",
+    ),
+    (
+        "at = 0\npeer = \"a\"\nwhat = \"subscribe\"\n",
+        "what = \"unsubscribe\"\n",
+        "28 do[0].at",
+    ),
+    (
+        "at = 0\npeer = \"a\"\nwhat = \"subscribe\"\n",
+        "at = 11\nwhat = \"unsubscribe\"\n",
+        "29 do[0].at",
+    ),
+    (
+        "peer = \"a\"\nwhat = \"subscribe\"\ntopic = \"news\"\n",
+        "what = \"unsubscribe\"\n",
+        "28 do[0].peer",
+    ),
+    (
+        "peer = \"a\"\nwhat = \"subscribe\"\ntopic = \"news\"\n",
+        "peer = \"c\"\nwhat = \"unsubscribe\"\n",
+        "30 do[0].peer",
+    ),
+    (
+        "what = \"subscribe\"\ntopic = \"news\"\n",
+        "what = \"unsubscribe\"\n",
+        "28 do[0].topic",
+    ),
+    (
+        "what = \"subscribe\"\ntopic = \"news\"\n",
+        "what = \"unsubscribe\"\ntopic = \"\"\n",
+        "29 do[0].topic",
+    ),
+    (
+        "what = \"subscribe\"\ntopic = \"news\"\n",
+        "what = \"unsubscribe\"\ntopic = \"blog\"\n",
+        "30 do[0].topic",
     ),
     ("what = \"publish\"\n", "what = \"raw\"\n", "29 do[2].what"),
     (
