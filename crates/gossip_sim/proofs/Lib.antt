@@ -1,16 +1,2 @@
 pub mod Lists
 pub mod Fronts
-pub mod RouterTables
-pub mod Steps
-pub mod Calls
-pub mod Running
-pub mod Lines
-pub mod Links
-pub mod Handled
-pub mod History
-pub mod Saying
-pub mod Fits
-pub mod Speeches
-pub mod Playing
-pub mod Whole
-pub mod EachPeer

@@ -6,9 +6,3 @@ pub mod Views
 pub mod Streams
 pub mod Report
 pub mod Program
-pub mod Router
-pub mod Said
-pub mod Rounds
-pub mod Nodes
-pub mod Speech
-pub mod Ranges

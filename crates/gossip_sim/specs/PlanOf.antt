@@ -8,13 +8,13 @@ use Rattle.gs_base.specs.declared.names.PeerNo.{PeerNo}
 use Rattle.gs_base.specs.declared.names.Topic.{Topic}
 use Rattle.gossip_sim.specs.declared.fault.ScenarioFault.{ScenarioFault}
 use Rattle.gossip_sim.specs.declared.fault.ScenarioFault.TheVariants.{Toml, Range, Repeated}
-use Rattle.gossip_sim.specs.declared.plan.TheConstants.{LONGEST_ROUND, MOST_ROUNDS, MOST_PEERS}
-use Rattle.gossip_sim.specs.declared.plan.Plan.{Plan}
-use Rattle.gossip_sim.specs.declared.plan.Peer.{Peer}
-use Rattle.gossip_sim.specs.declared.plan.Dial.{Dial}
-use Rattle.gossip_sim.specs.declared.plan.Line.{Line}
-use Rattle.gossip_sim.specs.declared.plan.What.{What}
-use Rattle.gossip_sim.specs.declared.plan.What.TheVariants.{Subscribe, Unsubscribe, Publish}
+use Rattle.gs_net.specs.declared.plan.TheConstants.{LONGEST_ROUND, MOST_ROUNDS, MOST_PEERS}
+use Rattle.gs_net.specs.declared.plan.Plan.{Plan}
+use Rattle.gs_net.specs.declared.plan.Peer.{Peer}
+use Rattle.gs_net.specs.declared.plan.Dial.{Dial}
+use Rattle.gs_net.specs.declared.plan.Line.{Line}
+use Rattle.gs_net.specs.declared.plan.What.{What}
+use Rattle.gs_net.specs.declared.plan.What.TheVariants.{Subscribe, Unsubscribe, Publish}
 use Rattle.gossip_sim.specs.declared.scenario.script.Verb.{Verb}
 use Rattle.gossip_sim.specs.declared.scenario.script.Verb.TheVariants as verbs
 use Rattle.gossip_sim.specs.Keys.{Key, Kind, Section, ◌>>=◌, refuse_if, required, optional, read_key, only, read_each}

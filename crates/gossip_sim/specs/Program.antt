@@ -4,14 +4,14 @@ use Rattle.std.specs.Io.KnownBytes.{Appends, Keeps}
 use Rattle.gossip_sim.specs.declared.streams.TheConstants.{LONGEST_INPUT}
 use Rattle.gossip_sim.specs.declared.fault.ScenarioFault.{ScenarioFault}
 use Rattle.gossip_sim.specs.declared.fault.ScenarioFault.TheVariants.{Toml, Range, NoMemory}
-use Rattle.gossip_sim.specs.declared.plan.Plan.{Plan}
-use Rattle.gossip_sim.specs.declared.finished.Finished.{Finished}
+use Rattle.gs_net.specs.declared.plan.Plan.{Plan}
+use Rattle.gs_net.specs.declared.finished.Finished.{Finished}
 use Rattle.gossip_sim.specs.declared.program.ExitStatus.{ExitStatus}
 use Rattle.gossip_sim.specs.declared.program.ExitStatus.TheVariants as ends
 use Rattle.gossip_sim.specs.PlanOf.{plan_of}
 use Rattle.gossip_sim.specs.Refusal.{refusal_text}
 use Rattle.gossip_sim.specs.Report.{report_text}
-use Rattle.gossip_sim.specs.Rounds.{IsRun}
+use Rattle.gs_net.specs.Rounds.{IsRun}
 use Rattle.gossip_sim.specs.Streams.{AppendsFront}
 
 -- The plan is what the whole input describes. Where the input's bytes are not known, some text does.

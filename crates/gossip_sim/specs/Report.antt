@@ -5,13 +5,13 @@ use Rattle.hex.specs.Hex.{encode_lower}
 use Rattle.gs_base.specs.declared.names.Millis.{Millis}
 use Rattle.gs_base.specs.declared.names.Topic.{Topic}
 use Rattle.gs_base.specs.declared.trace.Entry.{Entry}
-use Rattle.gossip_sim.specs.declared.plan.Plan.{Plan}
-use Rattle.gossip_sim.specs.declared.plan.Peer.{Peer}
-use Rattle.gossip_sim.specs.declared.plan.Line.{Line}
-use Rattle.gossip_sim.specs.declared.plan.What.{What}
-use Rattle.gossip_sim.specs.declared.plan.What.TheVariants.{Subscribe, Unsubscribe, Publish}
-use Rattle.gossip_sim.specs.declared.finished.Refusal.{Refusal}
-use Rattle.gossip_sim.specs.declared.finished.Finished.{Finished}
+use Rattle.gs_net.specs.declared.plan.Plan.{Plan}
+use Rattle.gs_net.specs.declared.plan.Peer.{Peer}
+use Rattle.gs_net.specs.declared.plan.Line.{Line}
+use Rattle.gs_net.specs.declared.plan.What.{What}
+use Rattle.gs_net.specs.declared.plan.What.TheVariants.{Subscribe, Unsubscribe, Publish}
+use Rattle.gs_net.specs.declared.finished.Refusal.{Refusal}
+use Rattle.gs_net.specs.declared.finished.Finished.{Finished}
 
 -- ---- words
 

@@ -2,15 +2,11 @@
 #![tactic(auto)]
 
 mod fault;
-mod finished;
-mod laws;
-mod peers;
-mod plan;
 mod program;
 mod report;
-mod router;
 mod scenario;
 mod streams;
+mod words;
 
 use std::process::ExitCode;
 
@@ -23,3 +19,6 @@ fn main(rt: HostRuntime) -> ExitCode {
     );
     ExitCode::from(status)
 }
+
+#[cfg(test)]
+mod tests;

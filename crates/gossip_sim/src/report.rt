@@ -3,10 +3,10 @@ ghost use Rattle.std.specs.Prelude.{◌≡◌, ◌++◌, IfOk, OnOk, string_byte
 ghost use Rattle.std.specs.List.{flat_map};
 ghost use Rattle.gossip_sim.specs.Report.{delivered_line, delivered_lines, entry_lines, name_of, numbered, payload_text, refused_line, refused_lines, report_text, word_of};
 
-use crate::finished::{Finished, Refusal};
-use crate::plan::Plan;
+use crate::words::what_word;
 use bytes::Bytes;
 use gs_base::{Entry, Millis, Topic};
+use gs_net::{Finished, Plan, Refusal};
 use std::alloc::{AllocError, Global};
 
 /// The report on the peers of a run, each at its number: first a line for each message that was
@@ -162,7 +162,7 @@ fn word_of(plan: &Plan, place: usize) -> &'static str
     ensures { result.now ≡ word_of plan.now place }
 {
     match plan.script.as_slice().get(place) {
-        Some(line) => line.what.word(),
+        Some(line) => what_word(&line.what),
         None => "",
     }
 }

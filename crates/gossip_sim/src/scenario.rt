@@ -3,7 +3,7 @@ ghost use Rattle.std.specs.Prelude.{◌≡◌, IfOk};
 ghost use Rattle.toml.specs.View.{table_view};
 ghost use Rattle.gossip_sim.specs.Refusal.{Gives};
 ghost use Rattle.gossip_sim.specs.PlanOf.{plan_of, plan_in};
-ghost use Rattle.gossip_sim.specs.Ranges.{IsInRange};
+ghost use Rattle.gs_net.specs.Ranges.{IsInRange};
 
 mod dials;
 mod field;
@@ -15,7 +15,6 @@ mod top;
 mod topics;
 
 use crate::fault::ScenarioFault;
-use crate::plan::Plan;
 use crate::scenario::dials::dials_in;
 use crate::scenario::peers::peers_in;
 use crate::scenario::place::Path;
@@ -23,6 +22,7 @@ use crate::scenario::script::{Known, lines_in};
 use crate::scenario::section::Section;
 use crate::scenario::top::Top;
 use crate::scenario::topics::topics_in;
+use gs_net::Plan;
 use std::alloc::Global;
 use toml::Table;
 

@@ -1,6 +1,6 @@
 use super::*;
-use crate::plan::{Line, Peer, What};
 use gs_base::{Event, PeerNo, Seq, Text, Trace};
+use gs_net::{Line, Peer, What};
 
 fn bytes(alloc: Global, text: &[u8]) -> Result<Bytes, AllocError> {
     Bytes::copy_from_slice(alloc, text)

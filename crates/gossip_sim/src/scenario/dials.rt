@@ -7,11 +7,11 @@ ghost use Rattle.gossip_sim.specs.Keys.{read_each};
 ghost use Rattle.gossip_sim.specs.PlanOf.{dial_in, joins_same};
 
 use crate::fault::ScenarioFault;
-use crate::plan::{Dial, MOST_PEERS, Peer};
 use crate::scenario::field::table_of;
 use crate::scenario::peers::peer_of;
 use crate::scenario::place::{Element, Place};
 use gs_base::Seq;
+use gs_net::{Dial, MOST_PEERS, Peer};
 use std::alloc::Global;
 use toml::Value;
 

@@ -9,10 +9,10 @@ ghost use Rattle.gossip_sim.specs.Views.{read_as};
 ghost use Rattle.gossip_sim.specs.PlanOf.{peer_in, peer_named};
 
 use crate::fault::ScenarioFault;
-use crate::plan::{MOST_PEERS, Peer};
 use crate::scenario::field::{Field, table_of};
 use crate::scenario::place::Element;
 use gs_base::{PeerNo, Seq, Text};
+use gs_net::{MOST_PEERS, Peer};
 use std::alloc::Global;
 use toml::Value;
 

@@ -8,13 +8,14 @@ ghost use Rattle.gossip_sim.specs.Views.{read_as, section_of};
 ghost use Rattle.gossip_sim.specs.PlanOf.{line_in, what_in, verb_of, keys_of};
 
 use crate::fault::ScenarioFault;
-use crate::plan::{Line, MOST_PEERS, PUBLISH, Peer, SUBSCRIBE, UNSUBSCRIBE, What};
 use crate::scenario::field::{Field, table_of};
 use crate::scenario::peers::peer_of;
 use crate::scenario::place::Element;
 use crate::scenario::section::Section;
 use crate::scenario::topics::topic_of;
+use crate::words::{PUBLISH, SUBSCRIBE, UNSUBSCRIBE};
 use gs_base::{Seq, Topic};
+use gs_net::{Line, MOST_PEERS, Peer, What};
 use std::alloc::Global;
 use toml::Value;
 

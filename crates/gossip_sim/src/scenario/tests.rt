@@ -2,12 +2,13 @@
 mod cases;
 
 use super::*;
-use crate::plan::{Dial, Line, Peer, What};
 use crate::scenario::tests::cases::{
     BOUNDS, EDITS, LEAVING, LISTS, OTHER_LISTS, TOP, TWO_PEERS, WRONG,
 };
+use crate::words::what_word;
 use bytes::Bytes;
 use gs_base::{PeerNo, Seq, Text, Topic};
+use gs_net::{Dial, Line, Peer, What};
 use std::alloc::AllocError;
 
 fn edited(alloc: Global, old: &str, new: &str) -> Result<String, AllocError> {
@@ -221,10 +222,13 @@ fn a_peer_leaves_a_topic_where_the_scenario_says_so(rt: HostRuntime) -> Result<(
 #[test]
 fn what_is_told_has_its_word(rt: HostRuntime) -> Result<(), AllocError> {
     let alloc = rt.alloc();
-    assert_eq!(rt; What::Subscribe(topic(alloc)?).word(), "subscribe");
-    assert_eq!(rt; What::Unsubscribe(topic(alloc)?).word(), "unsubscribe");
+    assert_eq!(rt; what_word(&What::Subscribe(topic(alloc)?)), "subscribe");
+    assert_eq!(rt; what_word(&What::Unsubscribe(topic(alloc)?)), "unsubscribe");
     let nothing = Bytes::copy_from_slice(alloc, b"")?;
-    assert_eq!(rt; What::Publish(topic(alloc)?, nothing).word(), "publish");
+    assert_eq!(rt;
+        what_word(&What::Publish(topic(alloc)?, nothing)),
+        "publish"
+    );
     Ok(())
 }
 

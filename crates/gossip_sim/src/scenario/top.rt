@@ -5,8 +5,8 @@ ghost use Rattle.gossip_sim.specs.PlanOf as spec;
 ghost use Rattle.gossip_sim.specs.Views.{section_of, top_view};
 
 use crate::fault::ScenarioFault;
-use crate::plan::{LONGEST_ROUND, MOST_PEERS, MOST_ROUNDS};
 use crate::scenario::section::Section;
+use gs_net::{LONGEST_ROUND, MOST_PEERS, MOST_ROUNDS};
 use std::alloc::Global;
 use toml::Value;
 

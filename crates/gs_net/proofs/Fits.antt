@@ -1,0 +1,211 @@
+-- A legal trace sends only what fits a frame.
+use Rattle.std.proofs.Common.{◌≡◌, ℕ, ◌+◌, ◌*◌, ◌≤◌, Bool, true, false, if◌then◌else◌, List, [], ◌∷◌, ◌++◌, length, map, take, drop, take-append-drop, reverse, Some, refl, sym, ap, subst, ◌∙◌, append-nil, length-append, arith}
+use Rattle.std.specs.List.{AllByRecursion}
+use Rattle.std.specs.Prelude.{is_some}
+use Rattle.std.proofs.lemmas.Bool.{le-leb}
+use Rattle.std.proofs.lemmas.Cmp.{nat_eq_equiv}
+use Rattle.std.proofs.lemmas.List.{reverse-append}
+use Rattle.std.proofs.lemmas.Slice.Eq.{bytes_eq-Decides}
+use Rattle.gs_base.specs.declared.names.TheConstants.{LONGEST_TOPIC}
+use Rattle.gs_base.specs.declared.names.PeerNo.{PeerNo}
+use Rattle.gs_base.specs.declared.names.Topic.{Topic}
+use Rattle.gs_base.specs.declared.names.Millis.{Millis}
+use Rattle.gs_base.specs.declared.rpc.SubOpt.{SubOpt}
+use Rattle.gs_base.specs.declared.rpc.Message.{Message}
+use Rattle.gs_base.specs.declared.rpc.Rpc.{Rpc}
+use Rattle.gs_base.specs.declared.trace.Event.{Event}
+use Rattle.gs_base.specs.declared.trace.Event.TheVariants.{Heard, Sub, Msg, Subscribe, Unsubscribe, Publish}
+use Rattle.gs_base.specs.declared.trace.Entry.{Entry}
+use Rattle.gs_base.specs.Names.{same_peer, same_topic, topic_of, payload_of, message_id, is_signed, announcement, publication}
+use Rattle.gs_base.specs.Tables.{Entries, owed, owed_after, joined, joined_after, seen}
+use Rattle.gs_base.specs.Rules.{Peer, to_each, up_neighbours, listeners, SaysTheSame, sent_to, Follows, message_rule, rule_of, free}
+use Rattle.gs_base.specs.Legal.{MaySubscribe, MayUnsubscribe, MayPublish, MayOpen, IsNext, Legal}
+use Rattle.gs_wire.specs.Varint.{varint}
+use Rattle.gs_wire.specs.Records.{record_text, records_text}
+use Rattle.gs_wire.specs.Fields.{bool_number, varint_record, len_record}
+use Rattle.gs_wire.specs.Messages.{sub_records, body}
+use Rattle.gs_wire.specs.Codec.{codec}
+use Rattle.gs_wire.proofs.RoundTrip.{all-append}
+use Rattle.gs_wire.proofs.Written.{varint_ten, records_text-single, len_text-length}
+use Rattle.gs_router.specs.Router.{peer_of}
+use Rattle.gs_net.specs.Speech.{SendsFit, AllFit}
+
+-- ---- an announcement
+
+-- how it is written
+announcement_text : (subscribes : Bool) (t : Topic) → body (announcement subscribes t) ≡ record_text (len_record 1 (record_text (varint_record 1 (bool_number subscribes)) ++ record_text (len_record 2 t.0)))
+announcement_text subscribes t =
+    let flag : List ℕ = record_text (varint_record 1 (bool_number subscribes)) in
+    let whole : List ℕ = records_text (sub_records (record { subscribe = Some subscribes; topic = Some t })) in
+    let text : whole ≡ flag ++ record_text (len_record 2 t.0) = ap (λ (rest : List ℕ). flag ++ rest) (append-nil (record_text (len_record 2 t.0))) in
+    records_text-single (len_record 1 whole) ∙ ap (λ (bytes : List ℕ). record_text (len_record 1 bytes)) text
+
+-- a number takes ten bytes at most, and so does its tag
+number_short : (field n : ℕ) → length (record_text (varint_record field n)) ≤ 20
+number_short field n = omega (arith, length-append (varint (8 * field + 0)) (varint n), varint_ten (8 * field + 0), varint_ten n)
+
+announcement_short : (subscribes : Bool) (t : Topic) → length t.0 ≤ 1024 → length (body (announcement subscribes t)) ≤ 1048576
+announcement_short subscribes t short =
+    let flag : List ℕ = record_text (varint_record 1 (bool_number subscribes)) in
+    let name : List ℕ = record_text (len_record 2 t.0) in
+    omega (arith, ap length (announcement_text subscribes t), len_text-length 1 (flag ++ name) (omega arith), varint_ten (length (flag ++ name)), length-append flag name, number_short 1 (bool_number subscribes), len_text-length 2 t.0 (omega arith), varint_ten (length t.0))
+
+announcement_fits : (subscribes : Bool) (t : Topic) → length t.0 ≤ LONGEST_TOPIC → codec.fits (announcement subscribes t) ≡ true
+announcement_fits subscribes t short = le-leb (length (body (announcement subscribes t))) 1048576 (announcement_short subscribes t short)
+
+-- ---- what is sent
+
+abbrev RpcsFit : List Rpc → Type 0
+RpcsFit rpcs = AllByRecursion (λ rpc. codec.fits rpc ≡ true) rpcs
+
+each_fits : (rpc : Rpc) (qs : List PeerNo) → codec.fits rpc ≡ true → SendsFit (to_each rpc qs)
+each_fits rpc [] fits = tt
+each_fits rpc (q ∷ qs) fits = (fits, each_fits rpc qs fits)
+
+-- what one receiver is sent, from what all are sent
+received_fit : (q : PeerNo) (sends : List (PeerNo × Rpc)) → SendsFit sends → RpcsFit (sent_to q sends)
+received_fit q [] all = tt
+received_fit q (x ∷ sends) all = with_first (same_peer x.0 q) x.1 (sent_to q sends) all.0 (received_fit q sends all.1)
+  where
+    with_first : (goes : Bool) (rpc : Rpc) (rpcs : List Rpc) → codec.fits rpc ≡ true → RpcsFit rpcs → RpcsFit (if goes then rpc ∷ rpcs else rpcs)
+    with_first true rpc rpcs fits rest = (fits, rest)
+    with_first false rpc rpcs fits rest = rest
+
+-- and back
+sends_fit : (sends : List (PeerNo × Rpc)) → ((q : PeerNo) → RpcsFit (sent_to q sends)) → SendsFit sends
+sends_fit [] all = tt
+sends_fit (x ∷ sends) all = (first.0, sends_fit sends (λ q. without_first (same_peer x.0 q) x.1 (sent_to q sends) (all q)))
+  where
+    first : RpcsFit (x.1 ∷ sent_to x.0 sends)
+    first = rw (nat_eq_equiv.refl x.0.0) at (all x.0)
+
+    without_first : (goes : Bool) (rpc : Rpc) (rpcs : List Rpc) → RpcsFit (if goes then rpc ∷ rpcs else rpcs) → RpcsFit rpcs
+    without_first true rpc rpcs fit = fit.1
+    without_first false rpc rpcs fit = fit
+
+-- what says the same fits as well
+same_fits : (e x : Entry) → SaysTheSame e x → SendsFit x.sends → SendsFit e.sends
+same_fits e x same fit = sends_fit e.sends (λ q. subst RpcsFit (sym (same.sends q)) (received_fit q x.sends fit))
+
+-- ---- what is owed
+
+-- a part of an RPC
+abbrev IsPart : Event → Type 0
+IsPart (Sub q sub) = Unit {0}
+IsPart (Msg q m) = Unit {0}
+IsPart other = ⊥
+
+subs_are_parts : (q : PeerNo) (subs : List SubOpt) (rest : List Event) → AllByRecursion IsPart rest → AllByRecursion IsPart (map (Sub q) subs ++ rest)
+subs_are_parts q [] rest h = h
+subs_are_parts q (sub ∷ subs) rest h = (tt, subs_are_parts q subs rest h)
+
+messages_are_parts : (q : PeerNo) (ms : List Message) → AllByRecursion IsPart (map (Msg q) ms)
+messages_are_parts q [] = tt
+messages_are_parts q (m ∷ ms) = (tt, messages_are_parts q ms)
+
+rest_are_parts : (events : List Event) → AllByRecursion IsPart events → AllByRecursion IsPart (drop 1 events)
+rest_are_parts [] h = tt
+rest_are_parts (first ∷ rest) h = h.1
+
+owed_after_are_parts : (event : Event) (before : List Event) → AllByRecursion IsPart before → AllByRecursion IsPart (owed_after event before)
+owed_after_are_parts (Heard q rpc) before h = subs_are_parts q rpc.subs (map (Msg q) rpc.publish) (messages_are_parts q rpc.publish)
+owed_after_are_parts other before h = rest_are_parts before h
+
+-- parts of RPCs alone are ever owed
+owed_are_parts : (L : Entries) → AllByRecursion IsPart (owed L)
+owed_are_parts [] = tt
+owed_are_parts (e ∷ L) = owed_after_are_parts e.event (owed L) (owed_are_parts L)
+
+opens_by : (p : Peer) (L : Entries) (at : ℕ) (owing : List Event) (event : Event) → AllByRecursion IsPart owing → ¬ (IsPart event) → IsNext p L at owing event → MayOpen p L at event
+opens_by p L at [] event parts own next = next
+opens_by p L at (first ∷ rest) event parts own next = absurd (own (subst IsPart (sym next) parts.0))
+
+-- so what is no part comes where it may open
+opens : (p : Peer) (L : Entries) (at : ℕ) (event : Event) → ¬ (IsPart event) → IsNext p L at (owed L) event → MayOpen p L at event
+opens p L at event own next = opens_by p L at (owed L) event (owed_are_parts L) own next
+
+-- ---- a topic that the peer is subscribed to
+
+abbrev IsShort : Topic → Type 0
+IsShort t = length t.0 ≤ LONGEST_TOPIC
+
+subscribed_short : (u t : Topic) (same before : Bool) → same_topic u t ≡ same → IsShort u → (before ≡ true → IsShort t) → (if same then true else before) ≡ true → IsShort t
+subscribed_short u t true before is short earlier joins = subst (λ (bytes : List ℕ). length bytes ≤ LONGEST_TOPIC) ((bytes_eq-Decides u.0 t.0).0 is) short
+subscribed_short u t false before is short earlier joins = earlier joins
+
+still_joined : (left before : Bool) → (if left then false else before) ≡ true → before ≡ true
+still_joined true before joins = absurd cc
+still_joined false before joins = joins
+
+short_after : (p : Peer) (L : Entries) (at : ℕ) (event : Event) (t : Topic) → IsNext p L at (owed L) event → (joined L t ≡ true → IsShort t) → joined_after t event (joined L t) ≡ true → IsShort t
+short_after p L at (Subscribe u) t next earlier joins = subscribed_short u t (same_topic u t) (joined L t) refl (opens p L at (Subscribe u) (λ h. h) next).short earlier joins
+short_after p L at (Unsubscribe u) t next earlier joins = earlier (still_joined (same_topic u t) (joined L t) joins)
+short_after p L at other t next earlier joins = earlier joins
+
+joined_short : (p : Peer) (L : Entries) (t : Topic) → Legal p L → joined L t ≡ true → IsShort t
+joined_short p [] t legal joins = absurd cc
+joined_short p (e ∷ L) t legal joins = short_after p L e.at.0 e.event t legal.2.next (joined_short p L t legal.1) joins
+
+-- ---- one entry
+
+-- a message sends nothing
+message_fits : (p : Peer) (L : Entries) (at : Millis) (q : PeerNo) (m : Message) → SendsFit (message_rule p L at q m).sends
+message_fits p L at q m = by_tests (joined L (topic_of m)) (is_signed m) (is_some (seen p.seen_ttl L (message_id (payload_of m)) at.0)) refl refl refl
+  where
+    by_tests : (is_joined signed known : Bool) → joined L (topic_of m) ≡ is_joined → is_signed m ≡ signed → is_some (seen p.seen_ttl L (message_id (payload_of m)) at.0) ≡ known → SendsFit (message_rule p L at q m).sends
+    by_tests false signed known j s k = rw j tt
+    by_tests true true known j s k = rw (j, s) tt
+    by_tests true false true j s k = rw (j, s, k) tt
+    by_tests true false false j s k = rw (j, s, k) tt
+
+-- each event sends what fits, or nothing
+module _ (neighbours : List PeerNo) (seen_ttl : ℕ) (L : Entries) (legal : Legal (peer_of neighbours seen_ttl) L) where
+  abbrev p : Peer
+  p = peer_of neighbours seen_ttl
+
+  by_event : (event : Event) (e : Entry) → IsNext p L e.at.0 (owed L) event → Follows free (rule_of p L e.at event) tt e tt → SendsFit e.sends
+  by_event (Msg q m) e next effects = same_fits e _ effects.0 (message_fits p L e.at q m)
+  by_event (Subscribe t) e next effects =
+      let may : MaySubscribe L t = opens p L e.at.0 (Subscribe t) (λ h. h) next in
+      same_fits e _ effects.0 (each_fits (announcement true t) (up_neighbours p L) (announcement_fits true t may.short))
+  by_event (Unsubscribe t) e next effects =
+      let may : MayUnsubscribe L t = opens p L e.at.0 (Unsubscribe t) (λ h. h) next in
+      same_fits e _ effects.0 (each_fits (announcement false t) (up_neighbours p L) (announcement_fits false t (joined_short p L t legal may.joined)))
+  by_event (Publish t payload) e next effects =
+      let may : MayPublish p L e.at.0 t payload = opens p L e.at.0 (Publish t payload) (λ h. h) next in
+      same_fits e _ effects.0 (each_fits (publication t payload) (listeners p L t) may.fits)
+  by_event other e next effects = same_fits e _ effects.0 tt
+
+-- ---- a legal trace
+
+pub legal_fits : (neighbours : List PeerNo) (seen_ttl : ℕ) (L : Entries) → Legal (peer_of neighbours seen_ttl) L → AllFit L
+legal_fits neighbours seen_ttl [] legal = tt
+legal_fits neighbours seen_ttl (e ∷ L) legal = (by_event neighbours seen_ttl L legal.1 e.event e legal.2.next legal.2.effects, legal_fits neighbours seen_ttl L legal.1)
+
+-- ---- parts of a trace, and its other order
+
+pub fits_front : (xs ys : List Entry) → AllFit (xs ++ ys) → AllFit xs
+fits_front [] ys all = tt
+fits_front (e ∷ xs) ys all = (all.0, fits_front xs ys all.1)
+
+pub fits_back : (xs ys : List Entry) → AllFit (xs ++ ys) → AllFit ys
+fits_back [] ys all = all
+fits_back (e ∷ xs) ys all = fits_back xs ys all.1
+
+pub fits_both : (xs ys : List Entry) → AllFit xs → AllFit ys → AllFit (xs ++ ys)
+fits_both xs ys front back = all-append (λ (e : Entry). SendsFit e.sends) xs ys front back
+
+pub fits_take : (n : ℕ) (xs : List Entry) → AllFit xs → AllFit (take n xs)
+fits_take n xs all = fits_front (take n xs) (drop n xs) (rw take-append-drop all)
+
+pub fits_drop : (n : ℕ) (xs : List Entry) → AllFit xs → AllFit (drop n xs)
+fits_drop n xs all = fits_back (take n xs) (drop n xs) (rw take-append-drop all)
+
+pub fits_reverse : (L : List Entry) → AllFit L → AllFit (reverse L)
+fits_reverse [] all = tt
+fits_reverse (e ∷ L) all = subst AllFit (sym (reverse-append (e ∷ []) L)) (fits_both (reverse L) (e ∷ []) (fits_reverse L all.1) (all.0, tt))
+
+-- any part of a legal trace, the oldest entry first
+pub legal_part_fits : (neighbours : List PeerNo) (seen_ttl : ℕ) (L : Entries) (skipped most : ℕ) → Legal (peer_of neighbours seen_ttl) L → AllFit (take most (drop skipped (reverse L)))
+legal_part_fits neighbours seen_ttl L skipped most legal =
+    fits_take most (drop skipped (reverse L)) (fits_drop skipped (reverse L) (fits_reverse L (legal_fits neighbours seen_ttl L legal)))

@@ -1,0 +1,11 @@
+pub mod Running
+pub mod Lines
+pub mod Links
+pub mod Handled
+pub mod History
+pub mod Saying
+pub mod Fits
+pub mod Speeches
+pub mod Playing
+pub mod Whole
+pub mod EachPeer

@@ -1,0 +1,5 @@
+pub mod Said
+pub mod Rounds
+pub mod Nodes
+pub mod Speech
+pub mod Ranges

@@ -1,0 +1,121 @@
+//! The peers of a plan, round by round.
+ghost use Rattle.std.specs.Prelude.{◌≡◌, ◌≤◌, IfOk, length};
+ghost use Rattle.std.specs.List.{AllZip, list_any};
+ghost use Rattle.gs_net.specs.Ranges.{IsInRange};
+ghost use Rattle.gs_net.specs.Rounds.{IsRun, joins, moment, neighbours, numbers};
+ghost use Rattle.gs_net.specs.Nodes.{AllRunning, ClosesEach, IsNew, PlaysEach};
+
+mod node;
+mod speech;
+
+use crate::finished::Finished;
+use crate::peers::node::Node;
+use crate::peers::speech::Speech;
+use crate::plan::{Dial, MOST_PEERS, Plan};
+use gs_base::PeerNo;
+use std::alloc::{AllocError, Global};
+
+/// Runs the peers of a plan, in rounds: in each, the peers in the order of their numbers. What is
+/// said in a round is heard in the next, and after the last round it is late.
+///
+/// # Errors
+/// `AllocError` where there was no memory.
+pub fn run_peers(alloc: Global, plan: &Plan) -> Result<Vec<Finished>, AllocError>
+    requires { IsInRange plan.now }
+    ensures { IfOk result (λ lives. IsRun plan.now lives.items) }
+{
+    let mut nodes = nodes_of(alloc, plan)?;
+    let mut said = Vec::new(alloc);
+    for round in 0..plan.rounds + 1 {
+        let (played, speeches) = play(alloc, plan, round, nodes, &said)?;
+        nodes = played;
+        said = speeches;
+    }
+    let lives = close(alloc, plan, nodes, &said)?;
+    Ok(lives)
+}
+
+/// Plays a round. It gives the peers after it, and what each said in it.
+fn play(
+    alloc: Global,
+    plan: &Plan,
+    round: u64,
+    nodes: Vec<Node>,
+    said: &[Speech],
+) -> Result<(Vec<Node>, Vec<Speech>), AllocError>
+    requires range { IsInRange plan.now }
+    requires round { round ≤ plan.now.rounds }
+    requires running { AllRunning (moment plan.now round) nodes.items }
+    ensures { IfOk result (λ played. PlaysEach plan.now round said.now nodes.items played.0.items played.1.items) }
+{
+    let mut played = Vec::new(alloc);
+    let mut speeches = Vec::new(alloc);
+    for node in nodes {
+        let (node, speech) = node.play(alloc, plan, round, said)?;
+        played.push(node)?;
+        speeches.push(speech)?;
+    }
+    Ok((played, speeches))
+}
+
+/// Has all peers shut down, and gives what is left of them.
+fn close(
+    alloc: Global,
+    plan: &Plan,
+    nodes: Vec<Node>,
+    said: &[Speech],
+) -> Result<Vec<Finished>, AllocError>
+    requires range { IsInRange plan.now }
+    requires running { AllRunning (moment plan.now plan.now.rounds) nodes.items }
+    ensures { IfOk result (λ lives. ClosesEach plan.now said.now nodes.items lives.items) }
+{
+    let mut finished = Vec::new(alloc);
+    for node in nodes {
+        finished.push(node.close(alloc, plan, said)?)?;
+    }
+    Ok(finished)
+}
+
+/// The peers of a plan, each with its neighbours.
+fn nodes_of(alloc: Global, plan: &Plan) -> Result<Vec<Node>, AllocError>
+    requires { IsInRange plan.now }
+    ensures { IfOk result (λ nodes. AllZip (IsNew plan.now) (numbers plan.now) nodes.items) }
+{
+    let count = plan.peers.len() as u16;
+    let mut nodes = Vec::new(alloc);
+    for number in 0..count {
+        let peer = PeerNo(number);
+        nodes.push(Node::new(alloc, peer, neighbours_of(alloc, plan, peer)?)?)?;
+    }
+    Ok(nodes)
+}
+
+/// The neighbours of a peer, ascending: whom it dials, and who dials it.
+fn neighbours_of(alloc: Global, plan: &Plan, peer: PeerNo) -> Result<Vec<PeerNo>, AllocError>
+    requires { length plan.now.peers ≤ MOST_PEERS }
+    ensures { IfOk result (λ found. found.items ≡ neighbours plan.now peer) }
+{
+    let count = plan.peers.len() as u16;
+    let mut found = Vec::new(alloc);
+    for number in 0..count {
+        let other = PeerNo(number);
+        if are_joined(peer, other, plan.dials.as_slice()) {
+            found.push(other)?;
+        }
+    }
+    Ok(found)
+}
+
+/// Whether one of two peers dials the other.
+fn are_joined(one: PeerNo, other: PeerNo, dials: &[Dial]) -> bool
+    ensures { result ≡ list_any (joins one other) dials.now }
+{
+    dials.iter().any(|dial| joins(one, other, dial))
+}
+
+/// Whether a dial joins two peers.
+fn joins(one: PeerNo, other: PeerNo, dial: &Dial) -> bool
+    ensures { result ≡ joins one other dial.now }
+{
+    (dial.from == one && dial.to == other) || (dial.from == other && dial.to == one)
+}

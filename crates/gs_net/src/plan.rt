@@ -1,0 +1,71 @@
+//! What is simulated.
+use bytes::Bytes;
+use gs_base::{PeerNo, Seq, Text, Topic};
+
+/// How many milliseconds a round lasts at most.
+pub const LONGEST_ROUND: u64 = 60_000;
+
+/// The highest number that the last round may have.
+pub const MOST_ROUNDS: u64 = 100_000;
+
+/// How many peers there are at most.
+pub const MOST_PEERS: usize = 64;
+
+/// What is simulated.
+#[derive(Debug, Drop, PartialEq, Eq)]
+pub struct Plan {
+    /// The length of a round in milliseconds: 1 to 60,000.
+    pub round_ms: u64,
+    /// The last round, where the first is 0: 1 to 100,000.
+    pub rounds: u64,
+    /// How many workers run the peers: 1 to 16.
+    pub workers: u64,
+    /// How many items a link holds: 1 to 1,024.
+    pub capacity: u64,
+    /// The seed of random choices: 0 to 2^63 - 1.
+    pub seed: u64,
+    /// The topics in file order: 1 to 32, all different.
+    pub topics: Seq<Topic>,
+    /// The peers in file order: 1 to 64, with different names. A peer's number is its index.
+    pub peers: Seq<Peer>,
+    /// Who dials whom, in file order: no peer itself, and each two peers at most once.
+    pub dials: Seq<Dial>,
+    /// What the peers are told to do, in file order.
+    pub script: Seq<Line>,
+}
+
+/// A peer that is simulated.
+#[derive(Debug, Drop, PartialEq, Eq)]
+pub struct Peer {
+    /// Its name: 1 to 32 of `a` to `z`, `0` to `9`, `_` and `-`.
+    pub name: Text,
+}
+
+/// A link between two peers, which the first of them dials.
+#[derive(Clone, Copy, Debug, PartialEq, Eq)]
+pub struct Dial {
+    pub from: PeerNo,
+    pub to: PeerNo,
+}
+
+/// Something that a peer is told to do.
+#[derive(Debug, Drop, PartialEq, Eq)]
+pub struct Line {
+    /// The round in which it is done: 0 to the last.
+    pub at: u64,
+    /// Who does it.
+    pub peer: PeerNo,
+    /// What is done.
+    pub what: What,
+}
+
+/// What a peer may be told to do.
+#[derive(Debug, Drop, PartialEq, Eq)]
+pub enum What {
+    /// Subscribe to a topic.
+    Subscribe(Topic),
+    /// Leave a topic.
+    Unsubscribe(Topic),
+    /// Publish a payload on a topic.
+    Publish(Topic, Bytes),
+}

@@ -1,0 +1,3 @@
+pub mod RouterTables
+pub mod Steps
+pub mod Calls

@@ -1,0 +1,40 @@
+use Rattle.std.proofs.Common.{◌≡◌, ◌∷◌, ◌∙◌, refl, sym, ap, subst}
+use Rattle.gs_base.specs.Rules.{bare}
+use Rattle.gs_base.specs.Tables.{Entries}
+use Rattle.gs_base.specs.declared.trace.Entry.{Entry}
+use Rattle.gs_base.specs.declared.trace.Event.TheVariants.{RoundEnd}
+use Rattle.gs_router.specs.Router.{Agrees, peer_with}
+use Rattle.gs_router.proofs.Steps.{Added, adds, unmarked_agrees}
+use Rattle.gs_router.proofs.own.end_round.Goals as goal
+
+pub returns-clause-ready : goal.returns-clause-ready
+returns-clause-ready c =
+    let x : Entry = bare c.args.now (RoundEnd c.args.round) in
+    let is : c.push.new.self ≡ x ∷ c.args.trace.now = c.in_ok-push.ensures.ok ∙ ap (λ (e : Entry). e ∷ c.args.trace.now) (c.bare.ensures) in
+    let added : Added (peer_with c.args.setup.now) c.args.trace.now x c.push.new.self = adds (peer_with c.args.setup.now) c.args.trace.now c.push.new.self x is c.requires.ready.legal c.requires.ready.settled c.requires.time c.requires.may refl refl in
+    record {
+      legal = added.legal;
+      settled = added.settled;
+      agrees = subst (λ (L : Entries). Agrees c.args.tables.now L) (sym is) (unmarked_agrees c.args.tables.now c.args.trace.now x tt (λ id. refl) c.requires.ready.agrees);
+    }
+
+pub returns-clause-opens : goal.returns-clause-opens
+returns-clause-opens c =
+    let x : Entry = bare c.args.now (RoundEnd c.args.round) in
+    let is : c.push.new.self ≡ x ∷ c.args.trace.now = c.in_ok-push.ensures.ok ∙ ap (λ (e : Entry). e ∷ c.args.trace.now) (c.bare.ensures) in
+    let added : Added (peer_with c.args.setup.now) c.args.trace.now x c.push.new.self = adds (peer_with c.args.setup.now) c.args.trace.now c.push.new.self x is c.requires.ready.legal c.requires.ready.settled c.requires.time c.requires.may refl refl in
+    added.opens
+
+pub returns-clause-legal : goal.returns-clause-legal
+returns-clause-legal c =
+    let x : Entry = bare c.args.now (RoundEnd c.args.round) in
+    let is : c.push.new.self ≡ x ∷ c.args.trace.now = c.in_ok-push.ensures.ok ∙ ap (λ (e : Entry). e ∷ c.args.trace.now) (c.bare.ensures) in
+    let added : Added (peer_with c.args.setup.now) c.args.trace.now x c.push.new.self = adds (peer_with c.args.setup.now) c.args.trace.now c.push.new.self x is c.requires.ready.legal c.requires.ready.settled c.requires.time c.requires.may refl refl in
+    added.legal
+
+pub returns-clause-goes_on : goal.returns-clause-goes_on
+returns-clause-goes_on c =
+    let x : Entry = bare c.args.now (RoundEnd c.args.round) in
+    let is : c.push.new.self ≡ x ∷ c.args.trace.now = c.in_ok-push.ensures.ok ∙ ap (λ (e : Entry). e ∷ c.args.trace.now) (c.bare.ensures) in
+    let added : Added (peer_with c.args.setup.now) c.args.trace.now x c.push.new.self = adds (peer_with c.args.setup.now) c.args.trace.now c.push.new.self x is c.requires.ready.legal c.requires.ready.settled c.requires.time c.requires.may refl refl in
+    added.goes_on

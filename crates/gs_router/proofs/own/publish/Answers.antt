@@ -1,0 +1,43 @@
+use Rattle.std.proofs.Common.{◌≡◌, [], ◌∷◌, ◌∙◌, refl, sym, ap, subst}
+use Rattle.gs_base.specs.Rules.{publish_rule}
+use Rattle.gs_base.specs.Tables.{Entries}
+use Rattle.gs_base.specs.declared.names.MsgId.{MsgId}
+use Rattle.gs_base.specs.declared.trace.Verdict.TheVariants.{Accept}
+use Rattle.gs_base.specs.declared.trace.Mark.TheVariants.{Seen}
+use Rattle.gs_base.specs.declared.trace.Entry.{Entry}
+use Rattle.gs_base.specs.Names.{message_id}
+use Rattle.gs_router.specs.Router.{Agrees, peer_with}
+use Rattle.gs_router.proofs.Steps.{Added, adds}
+use Rattle.gs_router.proofs.own.publish.Goals as goal
+
+pub returns-clause-ready : goal.returns-clause-ready
+returns-clause-ready c =
+    let x : Entry = publish_rule (peer_with c.args.setup.now) c.args.trace.now c.args.now c.args.topic c.args.payload in
+    let is : c.push.new.self ≡ x ∷ c.args.trace.now = c.in_ok-push.ensures.ok ∙ ap (λ (e : Entry). e ∷ c.args.trace.now) (c.in_ok-entry.ensures c.args.trace.now c.requires.ready.agrees) in
+    let added : Added (peer_with c.args.setup.now) c.args.trace.now x c.push.new.self = adds (peer_with c.args.setup.now) c.args.trace.now c.push.new.self x is c.requires.ready.legal c.requires.ready.settled c.requires.time c.requires.may refl refl in
+    record {
+      legal = added.legal;
+      settled = added.settled;
+      agrees = subst (λ (L : Entries). Agrees c.see.new.self L) (sym is) (c.in_ok-see.ensures c.args.trace.now x tt (sym (ap (λ (id : MsgId). Seen id Accept ∷ []) (c.of-id.ensures ∙ ap message_id c.deref.ensures))) refl c.requires.ready.agrees);
+    }
+
+pub returns-clause-opens : goal.returns-clause-opens
+returns-clause-opens c =
+    let x : Entry = publish_rule (peer_with c.args.setup.now) c.args.trace.now c.args.now c.args.topic c.args.payload in
+    let is : c.push.new.self ≡ x ∷ c.args.trace.now = c.in_ok-push.ensures.ok ∙ ap (λ (e : Entry). e ∷ c.args.trace.now) (c.in_ok-entry.ensures c.args.trace.now c.requires.ready.agrees) in
+    let added : Added (peer_with c.args.setup.now) c.args.trace.now x c.push.new.self = adds (peer_with c.args.setup.now) c.args.trace.now c.push.new.self x is c.requires.ready.legal c.requires.ready.settled c.requires.time c.requires.may refl refl in
+    added.opens
+
+pub returns-clause-legal : goal.returns-clause-legal
+returns-clause-legal c =
+    let x : Entry = publish_rule (peer_with c.args.setup.now) c.args.trace.now c.args.now c.args.topic c.args.payload in
+    let is : c.push.new.self ≡ x ∷ c.args.trace.now = c.in_ok-push.ensures.ok ∙ ap (λ (e : Entry). e ∷ c.args.trace.now) (c.in_ok-entry.ensures c.args.trace.now c.requires.ready.agrees) in
+    let added : Added (peer_with c.args.setup.now) c.args.trace.now x c.push.new.self = adds (peer_with c.args.setup.now) c.args.trace.now c.push.new.self x is c.requires.ready.legal c.requires.ready.settled c.requires.time c.requires.may refl refl in
+    added.legal
+
+pub returns-clause-goes_on : goal.returns-clause-goes_on
+returns-clause-goes_on c =
+    let x : Entry = publish_rule (peer_with c.args.setup.now) c.args.trace.now c.args.now c.args.topic c.args.payload in
+    let is : c.push.new.self ≡ x ∷ c.args.trace.now = c.in_ok-push.ensures.ok ∙ ap (λ (e : Entry). e ∷ c.args.trace.now) (c.in_ok-entry.ensures c.args.trace.now c.requires.ready.agrees) in
+    let added : Added (peer_with c.args.setup.now) c.args.trace.now x c.push.new.self = adds (peer_with c.args.setup.now) c.args.trace.now c.push.new.self x is c.requires.ready.legal c.requires.ready.settled c.requires.time c.requires.may refl refl in
+    added.goes_on

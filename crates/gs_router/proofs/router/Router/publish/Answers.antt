@@ -1,0 +1,25 @@
+use Rattle.std.proofs.Common.{◌∙◌, refl, sym}
+use Rattle.gs_base.specs.declared.trace.Event.TheVariants.{Publish}
+use Rattle.gs_router.specs.Router.{peer_with}
+use Rattle.gs_router.proofs.Calls.{refuses, finishes, wants_memory, may_publish}
+use Rattle.gs_router.proofs.router.Router.publish.Goals as goal
+
+pub returns-in-Some : goal.returns-in-Some
+returns-in-Some c =
+    let ready = c.self.invariant.ready c.if-self.false in
+    rw (← c.self.view_is) (refuses (Publish c.args.topic c.args.payload) c.args.now _ c.of_publish.result c.in-Some.fault c.if-self.false (c.of_publish.ensures c.self.inside.trace ready.agrees) c.in-Some.is c.self.invariant.legal)
+
+pub publish-requires-clause-may : goal.publish-requires-clause-may
+publish-requires-clause-may c =
+    let ready = c.self.invariant.ready c.if-self.false in
+    may_publish (peer_with c.self.inside.setup) c.self.inside.trace c.args.now.0 c.args.topic c.args.payload (sym (c.of_publish.ensures c.self.inside.trace ready.agrees) ∙ c.in_default.is)
+
+pub returns-in-Ok : goal.returns-in-Ok
+returns-in-Ok c =
+    let ready = c.self.invariant.ready c.if-self.false in
+    rw (← c.self.view_is) (finishes (Publish c.args.topic c.args.payload) c.args.now _ _ c.if-self.false (sym (c.of_publish.ensures c.self.inside.trace ready.agrees) ∙ c.in_default.is) c.in-Ok.ensures.opens c.if-self.false refl refl c.in-Ok.ensures.legal)
+
+pub returns-in-Err : goal.returns-in-Err
+returns-in-Err c =
+    let ready = c.self.invariant.ready c.if-self.false in
+    rw (← c.self.view_is, c.stop.ensures.fault) (wants_memory (Publish c.args.topic c.args.payload) c.args.now _ _ c.if-self.false (sym (c.of_publish.ensures c.self.inside.trace ready.agrees) ∙ c.in_default.is) c.in-Err.ensures.goes_on c.stop.ensures.stopped refl refl c.in-Err.ensures.legal)

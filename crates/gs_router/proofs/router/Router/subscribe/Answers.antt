@@ -1,0 +1,25 @@
+use Rattle.std.proofs.Common.{◌∙◌, refl, sym}
+use Rattle.gs_base.specs.declared.trace.Event.TheVariants.{Subscribe}
+use Rattle.gs_router.specs.Router.{peer_with}
+use Rattle.gs_router.proofs.Calls.{refuses, finishes, wants_memory, may_subscribe}
+use Rattle.gs_router.proofs.router.Router.subscribe.Goals as goal
+
+pub returns-in-Some : goal.returns-in-Some
+returns-in-Some c =
+    let ready = c.self.invariant.ready c.if-self.false in
+    rw (← c.self.view_is) (refuses (Subscribe c.args.topic) c.args.now _ c.of_subscribe.result c.in-Some.fault c.if-self.false (c.of_subscribe.ensures (peer_with c.self.inside.setup) c.self.inside.trace c.args.now.0 ready.agrees) c.in-Some.is c.self.invariant.legal)
+
+pub subscribe-requires-clause-may : goal.subscribe-requires-clause-may
+subscribe-requires-clause-may c =
+    let ready = c.self.invariant.ready c.if-self.false in
+    may_subscribe (peer_with c.self.inside.setup) c.self.inside.trace c.args.now.0 c.args.topic (sym (c.of_subscribe.ensures (peer_with c.self.inside.setup) c.self.inside.trace c.args.now.0 ready.agrees) ∙ c.in_default.is)
+
+pub returns-in-Ok : goal.returns-in-Ok
+returns-in-Ok c =
+    let ready = c.self.invariant.ready c.if-self.false in
+    rw (← c.self.view_is) (finishes (Subscribe c.args.topic) c.args.now _ _ c.if-self.false (sym (c.of_subscribe.ensures (peer_with c.self.inside.setup) c.self.inside.trace c.args.now.0 ready.agrees) ∙ c.in_default.is) c.in-Ok.ensures.opens c.if-self.false refl refl c.in-Ok.ensures.legal)
+
+pub returns-in-Err : goal.returns-in-Err
+returns-in-Err c =
+    let ready = c.self.invariant.ready c.if-self.false in
+    rw (← c.self.view_is, c.stop.ensures.fault) (wants_memory (Subscribe c.args.topic) c.args.now _ _ c.if-self.false (sym (c.of_subscribe.ensures (peer_with c.self.inside.setup) c.self.inside.trace c.args.now.0 ready.agrees) ∙ c.in_default.is) c.in-Err.ensures.goes_on c.stop.ensures.stopped refl refl c.in-Err.ensures.legal)
