@@ -1,6 +1,7 @@
 pub mod Refusal
 pub mod Keys
 pub mod Kinds
+pub mod ParamsOf
 pub mod PlanOf
 pub mod Views
 pub mod Streams

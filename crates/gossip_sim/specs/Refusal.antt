@@ -1,10 +1,12 @@
 -- What a refusal of a scenario is printed as, and what it says of a definition.
 use Rattle.std.specs.Prelude.{◌≡◌, ℕ, ◌++◌, decimal, codes, List, [], Option, Some, None, Result, Ok, Err}
 use Rattle.gossip_sim.specs.declared.fault.ScenarioFault.{ScenarioFault}
-use Rattle.gossip_sim.specs.declared.fault.ScenarioFault.TheVariants.{Toml, UnknownKey, Missing, Range, UnknownName, Repeated, NoMemory}
+use Rattle.gossip_sim.specs.declared.fault.ScenarioFault.TheVariants.{Toml, UnknownKey, Missing, Range, UnknownName, Repeated, NoMemory, Params}
+use Rattle.gs_base.specs.Params as params
 
 -- the number of a refusal
 abbrev pub number_of : ScenarioFault → ℕ
+number_of (Params fault) = params.number_of fault
 number_of Toml = 26
 number_of (UnknownKey place) = 27
 number_of (Missing place) = 28
@@ -15,6 +17,7 @@ number_of NoMemory = 32
 
 -- where it is refused
 abbrev pub place_of : ScenarioFault → Option (List ℕ)
+place_of (Params fault) = None
 place_of Toml = None
 place_of (UnknownKey place) = Some place
 place_of (Missing place) = Some place
@@ -34,6 +37,7 @@ refusal_text fault = decimal (number_of fault) ++ spaced (place_of fault)
 
 -- it is the refusal of a definition, unless it is want of memory
 abbrev pub Refuses : {B : Type 0} → ScenarioFault → Result B ScenarioFault → Type 0
+Refuses (Params fault) said = said ≡ Err (Params fault)
 Refuses Toml said = said ≡ Err Toml
 Refuses (UnknownKey place) said = said ≡ Err (UnknownKey place)
 Refuses (Missing place) said = said ≡ Err (Missing place)

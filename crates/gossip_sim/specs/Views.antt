@@ -1,5 +1,6 @@
 -- The code's places, tables and values, as the definitions see them.
-use Rattle.std.specs.Prelude.{ℕ, ◌++◌, codes, List, [], Result}
+use Rattle.std.specs.Prelude.{ℕ, ◌++◌, codes, List, [], Result, option_map, unwrap_or}
+use Rattle.toml.specs.Data.{no_members}
 use Rattle.toml.specs.View.{view, table_view, items_view}
 use Rattle.gossip_sim.specs.declared.fault.ScenarioFault.{ScenarioFault}
 use Rattle.gossip_sim.specs.declared.scenario.field.Field.{Field}
@@ -20,6 +21,7 @@ element_text e = element e.list.now e.index
 
 abbrev pub path_text : Path → List ℕ
 path_text paths.Top = []
+path_text (paths.Table key) = key.now ++ codes "."
 path_text (paths.Within e) = element_text e ++ codes "."
 
 abbrev pub place_text : Place → List ℕ
@@ -46,8 +48,10 @@ top_view top = record {
   workers = top.workers;
   capacity = top.capacity;
   seed = top.seed;
+  params = unwrap_or (option_map (λ table. table_view table.now) top.params) no_members;
   topics = items_view top.topics.now;
   peers = items_view top.peers.now;
   dials = items_view top.dials.now;
+  apps = items_view top.apps.now;
   script = items_view top.script.now;
 }

@@ -3,13 +3,13 @@ ghost use Rattle.std.specs.Prelude.{◌≡◌, Some, option_map};
 ghost use Rattle.gossip_sim.specs.declared.fault.ScenarioFault.TheVariants.{NoMemory};
 ghost use Rattle.gossip_sim.specs.Refusal.{number_of, place_of, refusal_text};
 
-use gs_base::Text;
+use gs_base::{ParamFault, Text};
 use std::alloc::{AllocError, AllocFailed};
 use std::error::Error;
 use std::fmt;
 
-/// Why a scenario is refused. Each fault but two names its place: a key of the top table by its
-/// name, and otherwise as `peer[1]` or `do[2].hex`, where elements count from 0.
+/// Why a scenario is refused. Each fault but three names its place: a key of the top table by its
+/// name, and otherwise as `params.d`, `peer[1]` or `do[2].hex`, where elements count from 0.
 #[derive(Debug, Drop, PartialEq, Eq)]
 pub enum ScenarioFault {
     /// The text is no TOML document.
@@ -20,16 +20,18 @@ pub enum ScenarioFault {
     Missing(Text),
     /// A value has another type, is out of its range, or is badly formed.
     Range(Text),
-    /// A name is well formed, and nothing has it.
+    /// A name is well formed, and nothing has it that may stand there.
     UnknownName(Text),
-    /// A name or a dial stands for the second time.
+    /// A name, a dial or the score of a neighbour stands for the second time.
     Repeated(Text),
+    /// The parameters don't pass their checks.
+    Params(ParamFault),
     /// There was no memory for the plan.
     NoMemory,
 }
 
 impl ScenarioFault {
-    /// The number of the refusal: 26 to 32.
+    /// The number of the refusal: 26 to 32, or 1 to 4 for parameters.
     pub fn number(&self) -> u8
         ensures { result ≡ number_of self.now }
     {
@@ -40,6 +42,7 @@ impl ScenarioFault {
             ScenarioFault::Range(_) => 29,
             ScenarioFault::UnknownName(_) => 30,
             ScenarioFault::Repeated(_) => 31,
+            ScenarioFault::Params(fault) => fault.number(),
             ScenarioFault::NoMemory => 32,
         }
     }
@@ -54,7 +57,7 @@ impl ScenarioFault {
             | ScenarioFault::Range(place)
             | ScenarioFault::UnknownName(place)
             | ScenarioFault::Repeated(place) => Some(place),
-            ScenarioFault::Toml | ScenarioFault::NoMemory => None,
+            ScenarioFault::Toml | ScenarioFault::Params(_) | ScenarioFault::NoMemory => None,
         }
     }
 }

@@ -1,6 +1,6 @@
 -- What is delivered in a legal trace was not seen lately, and is marked as seen. So nothing is delivered again before its mark
 -- counts no more.
-use Rattle.std.proofs.Common.{◌≡◌, refl, sym, ap, subst, ◌∙◌, ℕ, zero, suc, ◌+◌, ◌-◌, ◌≤◌, arith, Bool, true, false, List, [], ◌∷◌, ◌++◌, length, map, drop, Option, Some, None}
+use Rattle.std.proofs.Common.{◌≡◌, refl, sym, ap, subst, ◌∙◌, ℕ, zero, suc, ◌+◌, ◌-◌, ◌≤◌, arith, Bool, true, false, List, [], ◌∷◌, ◌++◌, length, Option, Some, None}
 use Rattle.std.specs.List.{All, AllByRecursion, IsAmong}
 use Rattle.std.specs.Prelude.{IsPermutation}
 use Rattle.std.proofs.lemmas.Cmp.{nat_list_eq_equiv}
@@ -10,47 +10,20 @@ use Rattle.std.proofs.lemmas.List.Sorted.{All-permutation, length_permutation}
 use Rattle.gs_base.specs.declared.names.PeerNo.{PeerNo}
 use Rattle.gs_base.specs.declared.names.Topic.{Topic}
 use Rattle.gs_base.specs.declared.names.MsgId.{MsgId}
-use Rattle.gs_base.specs.declared.rpc.SubOpt.{SubOpt}
 use Rattle.gs_base.specs.declared.rpc.Message.{Message}
 use Rattle.gs_base.specs.declared.trace.Verdict.{Verdict}
 use Rattle.gs_base.specs.declared.trace.Verdict.TheVariants.{Accept}
 use Rattle.gs_base.specs.declared.trace.Mark.TheVariants.{Seen}
 use Rattle.gs_base.specs.declared.trace.Event.{Event}
-use Rattle.gs_base.specs.declared.trace.Event.TheVariants.{Heard, Sub, Msg, Publish}
+use Rattle.gs_base.specs.declared.trace.Event.TheVariants.{Msg, Publish}
 use Rattle.gs_base.specs.declared.trace.Entry.{Entry}
 use Rattle.gs_base.specs.Names.{message_id, topic_of, payload_of, is_signed}
-use Rattle.gs_base.specs.Tables.{Entries, last_moment, owed_after, owed, joined, Sighting, verdict_in, last_seen, within, seen}
+use Rattle.gs_base.specs.Tables.{Entries, last_moment, owed, joined, Sighting, verdict_in, last_seen, within, seen}
 use Rattle.gs_base.specs.Rules.{Peer, SaysTheSame, Follows, rule_of, message_rule, publish_rule, free}
 use Rattle.gs_base.specs.Legal.{MayPublish, IsNext, IsAllowed, Legal, Delivers}
+use Rattle.gs_base.proofs.Owed.{IsPart, owed_are_parts}
 
 -- ---- what is owed
-
--- a part of an RPC
-abbrev IsPart : Event → Type 0
-IsPart (Sub q sub) = Unit {0}
-IsPart (Msg q m) = Unit {0}
-IsPart other = ⊥
-
-subs_are_parts : (q : PeerNo) (subs : List SubOpt) (rest : List Event) → AllByRecursion IsPart rest → AllByRecursion IsPart (map (Sub q) subs ++ rest)
-subs_are_parts q [] rest h = h
-subs_are_parts q (sub ∷ subs) rest h = (tt, subs_are_parts q subs rest h)
-
-messages_are_parts : (q : PeerNo) (ms : List Message) → AllByRecursion IsPart (map (Msg q) ms)
-messages_are_parts q [] = tt
-messages_are_parts q (m ∷ ms) = (tt, messages_are_parts q ms)
-
-rest_are_parts : (events : List Event) → AllByRecursion IsPart events → AllByRecursion IsPart (drop 1 events)
-rest_are_parts [] h = tt
-rest_are_parts (first ∷ rest) h = h.1
-
-owed_after_are_parts : (event : Event) (before : List Event) → AllByRecursion IsPart before → AllByRecursion IsPart (owed_after event before)
-owed_after_are_parts (Heard q rpc) before h = subs_are_parts q rpc.subs (map (Msg q) rpc.publish) (messages_are_parts q rpc.publish)
-owed_after_are_parts other before h = rest_are_parts before h
-
--- parts of RPCs alone are ever owed
-owed_are_parts : (L : Entries) → AllByRecursion IsPart (owed L)
-owed_are_parts [] = tt
-owed_are_parts (e ∷ L) = owed_after_are_parts e.event (owed L) (owed_are_parts L)
 
 -- so a peer publishes where it may
 may_publish : (p : Peer) (L : Entries) (at : ℕ) (before : List Event) (t : Topic) (payload : List ℕ) → AllByRecursion IsPart before → IsNext p L at before (Publish t payload) → MayPublish p L at t payload

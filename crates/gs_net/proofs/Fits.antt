@@ -1,5 +1,5 @@
 -- A legal trace sends only what fits a frame.
-use Rattle.std.proofs.Common.{◌≡◌, ℕ, ◌+◌, ◌*◌, ◌≤◌, Bool, true, false, if◌then◌else◌, List, [], ◌∷◌, ◌++◌, length, map, take, drop, take-append-drop, reverse, Some, refl, sym, ap, subst, ◌∙◌, append-nil, length-append, arith}
+use Rattle.std.proofs.Common.{◌≡◌, ℕ, ◌+◌, ◌*◌, ◌≤◌, Bool, true, false, if◌then◌else◌, List, [], ◌∷◌, ◌++◌, length, take, drop, take-append-drop, reverse, Some, refl, sym, ap, subst, ◌∙◌, append-nil, length-append, arith}
 use Rattle.std.specs.List.{AllByRecursion}
 use Rattle.std.specs.Prelude.{is_some}
 use Rattle.std.proofs.lemmas.Bool.{le-leb}
@@ -10,16 +10,16 @@ use Rattle.gs_base.specs.declared.names.TheConstants.{LONGEST_TOPIC}
 use Rattle.gs_base.specs.declared.names.PeerNo.{PeerNo}
 use Rattle.gs_base.specs.declared.names.Topic.{Topic}
 use Rattle.gs_base.specs.declared.names.Millis.{Millis}
-use Rattle.gs_base.specs.declared.rpc.SubOpt.{SubOpt}
 use Rattle.gs_base.specs.declared.rpc.Message.{Message}
 use Rattle.gs_base.specs.declared.rpc.Rpc.{Rpc}
 use Rattle.gs_base.specs.declared.trace.Event.{Event}
-use Rattle.gs_base.specs.declared.trace.Event.TheVariants.{Heard, Sub, Msg, Subscribe, Unsubscribe, Publish}
+use Rattle.gs_base.specs.declared.trace.Event.TheVariants.{Msg, Subscribe, Unsubscribe, Publish}
 use Rattle.gs_base.specs.declared.trace.Entry.{Entry}
 use Rattle.gs_base.specs.Names.{same_peer, same_topic, topic_of, payload_of, message_id, is_signed, announcement, publication}
-use Rattle.gs_base.specs.Tables.{Entries, owed, owed_after, joined, joined_after, seen}
+use Rattle.gs_base.specs.Tables.{Entries, owed, joined, joined_after, seen}
 use Rattle.gs_base.specs.Rules.{Peer, to_each, up_neighbours, listeners, SaysTheSame, sent_to, Follows, message_rule, rule_of, free}
 use Rattle.gs_base.specs.Legal.{MaySubscribe, MayUnsubscribe, MayPublish, MayOpen, IsNext, Legal}
+use Rattle.gs_base.proofs.Owed.{IsPart, owed_are_parts}
 use Rattle.gs_wire.specs.Varint.{varint}
 use Rattle.gs_wire.specs.Records.{record_text, records_text}
 use Rattle.gs_wire.specs.Fields.{bool_number, varint_record, len_record}
@@ -88,33 +88,6 @@ same_fits : (e x : Entry) → SaysTheSame e x → SendsFit x.sends → SendsFit 
 same_fits e x same fit = sends_fit e.sends (λ q. subst RpcsFit (sym (same.sends q)) (received_fit q x.sends fit))
 
 -- ---- what is owed
-
--- a part of an RPC
-abbrev IsPart : Event → Type 0
-IsPart (Sub q sub) = Unit {0}
-IsPart (Msg q m) = Unit {0}
-IsPart other = ⊥
-
-subs_are_parts : (q : PeerNo) (subs : List SubOpt) (rest : List Event) → AllByRecursion IsPart rest → AllByRecursion IsPart (map (Sub q) subs ++ rest)
-subs_are_parts q [] rest h = h
-subs_are_parts q (sub ∷ subs) rest h = (tt, subs_are_parts q subs rest h)
-
-messages_are_parts : (q : PeerNo) (ms : List Message) → AllByRecursion IsPart (map (Msg q) ms)
-messages_are_parts q [] = tt
-messages_are_parts q (m ∷ ms) = (tt, messages_are_parts q ms)
-
-rest_are_parts : (events : List Event) → AllByRecursion IsPart events → AllByRecursion IsPart (drop 1 events)
-rest_are_parts [] h = tt
-rest_are_parts (first ∷ rest) h = h.1
-
-owed_after_are_parts : (event : Event) (before : List Event) → AllByRecursion IsPart before → AllByRecursion IsPart (owed_after event before)
-owed_after_are_parts (Heard q rpc) before h = subs_are_parts q rpc.subs (map (Msg q) rpc.publish) (messages_are_parts q rpc.publish)
-owed_after_are_parts other before h = rest_are_parts before h
-
--- parts of RPCs alone are ever owed
-owed_are_parts : (L : Entries) → AllByRecursion IsPart (owed L)
-owed_are_parts [] = tt
-owed_are_parts (e ∷ L) = owed_after_are_parts e.event (owed L) (owed_are_parts L)
 
 opens_by : (p : Peer) (L : Entries) (at : ℕ) (owing : List Event) (event : Event) → AllByRecursion IsPart owing → ¬ (IsPart event) → IsNext p L at owing event → MayOpen p L at event
 opens_by p L at [] event parts own next = next

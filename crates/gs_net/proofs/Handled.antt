@@ -1,5 +1,5 @@
 -- A peer that keeps the rounds has handled what its neighbours said, and lives a life as it is specified.
-use Rattle.std.proofs.Common.{◌≡◌, ◌≢◌, ℕ, zero, suc, ◌+◌, ◌≤◌, Bool, true, false, cond, if◌then◌else◌, List, [], ◌∷◌, ◌++◌, length, map, filter, drop, Option, Some, None, ◌⊎◌, inl, inr, refl, sym, ap, ap₂, subst, ◌∙◌, append_assoc, append-nil, arith, eq-eqb, ne_eqb}
+use Rattle.std.proofs.Common.{◌≡◌, ◌≢◌, ℕ, zero, suc, ◌+◌, ◌≤◌, Bool, true, false, cond, if◌then◌else◌, List, [], ◌∷◌, ◌++◌, length, map, filter, Option, Some, None, ◌⊎◌, inl, inr, refl, sym, ap, ap₂, subst, ◌∙◌, append_assoc, append-nil, arith, eq-eqb, ne_eqb}
 use Rattle.std.specs.List.{flat_map, range_with_len, AllZip, AllByRecursion}
 use Rattle.std.proofs.lemmas.Grind.{flat_map-append}
 use Rattle.gs_base.specs.declared.names.PeerNo.{PeerNo}
@@ -9,11 +9,12 @@ use Rattle.gs_base.specs.declared.trace.Event.{Event}
 use Rattle.gs_base.specs.declared.trace.Event.TheVariants.{Heard, Late, Sub, Msg}
 use Rattle.gs_base.specs.declared.trace.Entry.{Entry}
 use Rattle.gs_base.specs.Names.{same_peer}
-use Rattle.gs_base.specs.Tables.{Entries, owed_after, owed, up}
+use Rattle.gs_base.specs.Tables.{Entries, owed, up}
 use Rattle.gs_base.specs.Rules.{Peer}
 use Rattle.gs_base.specs.Legal.{Legal, IsNext, ArePayments, Opens}
 use Rattle.gs_base.specs.Words.{Word, bytes_of, handled_by, handled}
 use Rattle.gs_base.proofs.Deliveries.{not_repeated}
+use Rattle.gs_base.proofs.Owed.{IsPart, owed_are_parts}
 use Rattle.gs_wire.specs.declared.frames.End.TheVariants.{Waits}
 use Rattle.gs_wire.specs.declared.rpc.TheConstants.{MAX_BODY}
 use Rattle.gs_wire.proofs.FrameLists.{one_stream}
@@ -23,37 +24,13 @@ use Rattle.gs_net.specs.declared.plan.What.{What}
 use Rattle.gs_net.specs.declared.plan.What.TheVariants.{Subscribe, Unsubscribe, Publish}
 use Rattle.gs_net.specs.declared.finished.Refusal.{Refusal}
 use Rattle.gs_net.specs.declared.finished.Finished.{Finished}
-use Rattle.gs_net.specs.declared.peers.node.TheConstants.{SEEN_TTL_MS}
 use Rattle.gs_router.specs.declared.fault.RouterFault.{RouterFault}
 use Rattle.gs_router.specs.Router.{GoesOn, refusal}
 use Rattle.gs_net.specs.Said.{Spell, bytes_before, EndIn, HeardIn}
-use Rattle.gs_net.specs.Rounds.{peer_no, neighbours, peer_in, moment, Todo, Hear, Obey, EndRound, Stop, hears, is_due, lines, event_of, unless_refused, opening, Takes, Does, AfterRounds, KeepsRounds, said_to, DeliversApart, IsLife}
+use Rattle.gs_net.specs.Rounds.{peer_no, neighbours, peer_in, moment, Todo, Hear, Obey, EndRound, Stop, hears, is_due, lines, event_of, unless_refused, opening, Takes, Does, AfterRounds, KeepsRounds, said_to, DeliversApart, IsLife, ttl_of}
 use Rattle.gs_router.proofs.Steps.{begun_goes_on}
 
 -- ---- what is owed is parts of RPCs
-
--- a part of an RPC
-abbrev pub IsPart : Event → Type 0
-IsPart (Sub q sub) = Unit {0}
-IsPart (Msg q m) = Unit {0}
-IsPart other = ⊥
-
-parts_made : {A : Type 0} (f : A → Event) → ((x : A) → IsPart (f x)) → (xs : List A) (rest : List Event) → AllByRecursion IsPart rest → AllByRecursion IsPart (map f xs ++ rest)
-parts_made f is [] rest h = h
-parts_made f is (x ∷ xs) rest h = (is x, parts_made f is xs rest h)
-
-parts_left : (events : List Event) → AllByRecursion IsPart events → AllByRecursion IsPart (drop 1 events)
-parts_left [] h = tt
-parts_left (first ∷ rest) h = h.1
-
-parts_after : (event : Event) (before : List Event) → AllByRecursion IsPart before → AllByRecursion IsPart (owed_after event before)
-parts_after (Heard q rpc) before h =
-    parts_made (Sub q) (λ sub. tt) rpc.subs (map (Msg q) rpc.publish) (subst (AllByRecursion IsPart) (append-nil (map (Msg q) rpc.publish)) (parts_made (Msg q) (λ m. tt) rpc.publish [] tt))
-parts_after other before h = parts_left before h
-
-pub owed_are_parts : (L : Entries) → AllByRecursion IsPart (owed L)
-owed_are_parts [] = tt
-owed_are_parts (e ∷ L) = parts_after e.event (owed L) (owed_are_parts L)
 
 next_is_part : (p : Peer) (L : Entries) (at : ℕ) (events : List Event) (event : Event) → AllByRecursion IsPart events → events ≢ [] → IsNext p L at events event → IsPart event
 next_is_part p L at [] event h some next = absurd (some refl)
@@ -297,7 +274,7 @@ said_is_handled plan p said life legal keeps = each_handled plan p said life (ne
 -- ---- a life
 
 -- nothing is delivered twice while it counts as seen
-pub deliveries_apart : (plan : Plan) (p : PeerNo) (L : Entries) → Legal (peer_in plan p) L → DeliversApart SEEN_TTL_MS L
+pub deliveries_apart : (plan : Plan) (p : PeerNo) (L : Entries) → Legal (peer_in plan p) L → DeliversApart (ttl_of plan) L
 deliveries_apart plan p L legal = λ later between earlier e f id is delivers_e delivers_f.
     not_repeated (peer_in plan p) later between earlier e f id (subst (Legal (peer_in plan p)) is legal) delivers_e delivers_f
 

@@ -1,5 +1,5 @@
 -- What a peer says by what it does in a round, and by its close.
-use Rattle.std.proofs.Common.{◌≡◌, ℕ, Bool, true, false, if◌then◌else◌, List, [], ◌∷◌, ◌++◌, length, map, drop, reverse, Option, Some, None, refl, sym, ap, ap₂, subst, subst₂, ◌∙◌, append_assoc, append-nil}
+use Rattle.std.proofs.Common.{◌≡◌, ℕ, Bool, true, false, not, if◌then◌else◌, List, [], ◌∷◌, ◌++◌, length, map, drop, reverse, Option, Some, None, refl, sym, ap, ap₂, subst, ◌∙◌, append_assoc, append-nil}
 use Rattle.std.specs.List.{flat_map, AllByRecursion}
 use Rattle.std.proofs.lemmas.List.{reverse-append, map-append, length-reverse, drop_at}
 use Rattle.std.proofs.lemmas.Grind.{flat_map-append}
@@ -9,7 +9,7 @@ use Rattle.gs_base.specs.declared.rpc.Rpc.{Rpc}
 use Rattle.gs_base.specs.declared.trace.Event.{Event}
 use Rattle.gs_base.specs.declared.trace.Event.TheVariants.{Heard, Late, Sub, Msg, RoundEnd, Shut}
 use Rattle.gs_base.specs.declared.trace.Entry.{Entry}
-use Rattle.gs_base.specs.Tables.{Entries, owed_after, owed, is_shut_after, is_shut, up_after, up}
+use Rattle.gs_base.specs.Tables.{Entries, owed_after, owed, is_shut, up_after, up}
 use Rattle.gs_base.specs.Rules.{Codec, Peer, Follows, rule_of, free, sent_to}
 use Rattle.gs_base.specs.Legal.{Legal, ArePayments, Begins, Opens}
 use Rattle.gs_base.specs.Words.{Byte, EndOf, Close, Word, sign, says, out}
@@ -21,15 +21,12 @@ use Rattle.gs_net.specs.declared.finished.Refusal.{Refusal}
 use Rattle.gs_router.specs.declared.fault.RouterFault.{RouterFault}
 use Rattle.gs_router.specs.Router.{refusal}
 use Rattle.gs_net.specs.Rounds.{neighbours, peer_in, moment, Todo, Hear, Obey, EndRound, Stop, hears, lines, event_of, unless_refused, opening, Takes, noted, Does}
-use Rattle.gs_net.proofs.Handled.{IsPart, payments_are_parts, legal_before, does_on}
+use Rattle.gs_base.proofs.Owed.{IsPart}
+use Rattle.gs_router.proofs.RouterTables.{up_unless_shut}
+use Rattle.gs_net.proofs.Handled.{payments_are_parts, legal_before, does_on}
 use Rattle.gs_net.proofs.History.{History, spoken, PlaysBy, PlayedBy, all_by_recursion}
 
 -- ---- what is done one after the other
-
-pub does_append : (p : Peer) (at : Millis) (xs ys : List Todo) (K M L : Entries) (earlier later : List Refusal) → Does p at xs K M earlier → Does p at ys M L later → Does p at (xs ++ ys) K L (earlier ++ later)
-does_append p at [] ys K M L earlier later h k = subst₂ (λ (N : Entries) (refused : List Refusal). Does p at ys N L (refused ++ later)) h.0 (sym h.1) k
-does_append p at (x ∷ xs) ys K M L earlier later (N, rest, takes, does, is) k =
-    (N, rest ++ later, takes, does_append p at xs ys N M L rest later does k, ap (λ (refused : List Refusal). refused ++ later) is ∙ append_assoc (noted p K at x) rest later)
 
 -- it is done up to a place, and from there on
 pub record DoesBoth (p : Peer) (at : Millis) (xs ys : List Todo) (K L : Entries) (refused : List Refusal) : Type 0 where
@@ -271,13 +268,8 @@ plays_says plan p H K L refused plays legal settled =
 -- ---- the rounds so far
 
 -- each neighbour is up until the peer shuts down
-pub up_unless_shut : (L : Entries) (q : PeerNo) → is_shut L ≡ false → up L q ≡ true
-up_unless_shut [] q runs = refl
-up_unless_shut (e ∷ L) q runs = either e.event (is_shut L) (up L q) (up_unless_shut L q) runs
-  where
-    either : (event : Event) (shut is_up : Bool) → (shut ≡ false → is_up ≡ true) → is_shut_after event shut ≡ false → up_after q event is_up ≡ true
-    either Shut shut is_up h runs = absurd cc
-    either other shut is_up h runs = h runs
+pub up_while_running : (L : Entries) (q : PeerNo) → is_shut L ≡ false → up L q ≡ true
+up_while_running L q runs = sym (up_unless_shut L q) ∙ ap not runs
 
 -- between two rounds nothing is owed
 pub played_settle : (plan : Plan) (p : PeerNo) (H : History) (L : Entries) (refused : List Refusal) → PlayedBy plan p H L refused → owed L ≡ []

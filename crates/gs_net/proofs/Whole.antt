@@ -16,13 +16,12 @@ use Rattle.gs_wire.proofs.FrameLists.{streams_join, one_stream, found_in_all}
 use Rattle.gs_net.specs.declared.plan.Plan.{Plan}
 use Rattle.gs_net.specs.declared.finished.Finished.{Finished}
 use Rattle.gs_net.specs.declared.finished.Refusal.{Refusal}
-use Rattle.gs_net.specs.declared.peers.node.TheConstants.{SEEN_TTL_MS}
 use Rattle.gs_net.specs.declared.peers.node.Link.{Link}
 use Rattle.gs_net.specs.declared.peers.node.Node.{Node}
 use Rattle.gs_net.specs.declared.peers.speech.Speech.{Speech}
 use Rattle.gs_router.specs.Router.{RouterView, peer, peer_of}
 use Rattle.gs_net.specs.Said.{Spell, EndIn}
-use Rattle.gs_net.specs.Rounds.{peer_no, numbers, neighbours, peer_in, moment, EndRound, Stop, hears, lines, Does, said_to, IsLife, IsRun}
+use Rattle.gs_net.specs.Rounds.{peer_no, numbers, neighbours, peer_in, moment, EndRound, Stop, hears, lines, Does, said_to, IsLife, IsRun, ttl_of}
 use Rattle.gs_net.specs.Speech.{speech_to, said_by}
 use Rattle.gs_net.specs.Nodes.{IsNew, IsRunning, Reads, ReadsEach, NodePlays, NodeCloses, PlaysEach, ClosesEach, AllRunning, peers_of}
 use Rattle.gs_net.proofs.Handled.{is_life}
@@ -50,7 +49,7 @@ pub record IsBetween (plan : Plan) (H : History) (p : PeerNo) (node : Node) : Ty
   pub number : node.number ≡ p
   pub links : peers_of node.links.items ≡ neighbours plan p
   pub neighbours_are : node.router.neighbours ≡ neighbours plan p
-  pub seen_ttl : node.router.seen_ttl ≡ SEEN_TTL_MS
+  pub seen_ttl : node.router.seen_ttl ≡ ttl_of plan
   pub running : node.router.is_stopped ≡ false
   pub time : last_moment node.router.trace ≤ pred (length H) * plan.round_ms
   pub legal : Legal (peer node.router) node.router.trace
@@ -163,7 +162,7 @@ links_read H p piece (o ∷ olds) (n ∷ news) [] is h k = absurd k
 
 -- ---- one peer
 
-same_peer_in : (plan : Plan) (p : PeerNo) (v : RouterView) → v.neighbours ≡ neighbours plan p → v.seen_ttl ≡ SEEN_TTL_MS → peer v ≡ peer_in plan p
+same_peer_in : (plan : Plan) (p : PeerNo) (v : RouterView) → v.neighbours ≡ neighbours plan p → v.seen_ttl ≡ ttl_of plan → peer v ≡ peer_in plan p
 same_peer_in plan p v n t = ap₂ peer_of n t
 
 -- a round more, in which the peer's speech was said
@@ -179,7 +178,7 @@ node_goes_on plan m H said p old new speech saying mine b n =
     subst₂ (λ (qs : List PeerNo) (one : PeerNo). Does (peer_in plan p) (moment plan r) (hears qs n.heard ++ (lines plan one r ++ EndRound r ∷ [])) K L n.more) b.links b.number by_links in
     let plays : PlaysBy plan p H K L n.more = record { heard = n.heard; was_said = was_said; does = does } in
     let neighbours_are : new.router.neighbours ≡ neighbours plan p = n.runs.neighbours ∙ b.neighbours_are in
-    let seen_ttl : new.router.seen_ttl ≡ SEEN_TTL_MS = n.runs.seen_ttl ∙ b.seen_ttl in
+    let seen_ttl : new.router.seen_ttl ≡ ttl_of plan = n.runs.seen_ttl ∙ b.seen_ttl in
     let legal = subst (λ (one : Peer). Legal one L) (same_peer_in plan p new.router neighbours_are seen_ttl) n.runs.runs_on.legal in
     let round : SaysRound r K L = plays_says plan p H K L n.more plays legal (played_settle plan p H K old.refused.items b.played) in
     record {

@@ -15,8 +15,7 @@ use Rattle.gs_net.specs.declared.peers.node.Link.{Link}
 use Rattle.gs_net.specs.declared.peers.node.Node.{Node}
 use Rattle.gs_net.specs.declared.peers.speech.Speech.{Speech}
 use Rattle.gs_router.specs.Router.{RouterView, peer}
-use Rattle.gs_net.specs.Rounds.{Todo, EndRound, Stop, Does, hears, lines, moment, neighbours}
-use Rattle.gs_net.specs.declared.peers.node.TheConstants.{SEEN_TTL_MS}
+use Rattle.gs_net.specs.Rounds.{Todo, EndRound, Stop, Does, hears, lines, moment, neighbours, ttl_of}
 use Rattle.gs_wire.specs.declared.rpc.TheConstants.{MAX_BODY}
 use Rattle.gs_net.specs.Speech.{speech_to, said_by, frames_to}
 
@@ -79,7 +78,7 @@ pub record IsNew (plan : Plan) (p : PeerNo) (node : Node) : Type 0 where
   pub number : node.number ≡ p
   pub links : peers_of node.links.items ≡ neighbours plan p
   pub readers : AreUnread node.links.items
-  pub router : node.router ≡ record { neighbours = neighbours plan p; seen_ttl = SEEN_TTL_MS; trace = []; is_stopped = false }
+  pub router : node.router ≡ record { neighbours = neighbours plan p; seen_ttl = ttl_of plan; trace = []; is_stopped = false }
   pub refused : node.refused.items ≡ []
 
 -- each peer plays a round, where this was said in the one before

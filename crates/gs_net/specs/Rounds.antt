@@ -21,7 +21,6 @@ use Rattle.gs_net.specs.declared.plan.What.{What}
 use Rattle.gs_net.specs.declared.plan.What.TheVariants.{Subscribe, Unsubscribe, Publish}
 use Rattle.gs_net.specs.declared.finished.Refusal.{Refusal}
 use Rattle.gs_net.specs.declared.finished.Finished.{Finished}
-use Rattle.gs_net.specs.declared.peers.node.TheConstants.{SEEN_TTL_MS}
 use Rattle.gs_router.specs.declared.fault.RouterFault.{RouterFault}
 use Rattle.gs_router.specs.Router.{peer_of, refusal, number_of, hearing}
 use Rattle.gs_net.specs.Said.{Spell, HeardIn, HeardAfter}
@@ -43,9 +42,13 @@ joins p q dial = (same_peer dial.from p && same_peer dial.to q) || (same_peer di
 abbrev pub neighbours : Plan → PeerNo → List PeerNo
 neighbours plan p = filter (λ q. list_any (joins p q) plan.dials) (numbers plan)
 
+-- for how long a message counts as seen, in milliseconds
+abbrev pub ttl_of : Plan → ℕ
+ttl_of plan = plan.params.windows.seen_ttl_ms
+
 -- a peer of the plan, as its trace is read
 abbrev pub peer_in : Plan → PeerNo → Peer
-peer_in plan p = peer_of (neighbours plan p) SEEN_TTL_MS
+peer_in plan p = peer_of (neighbours plan p) (ttl_of plan)
 
 -- the moment of a round
 abbrev pub moment : Plan → ℕ → Millis
@@ -165,7 +168,7 @@ pub record IsLife (plan : Plan) (lives : List Finished) (p : PeerNo) (life : Fin
   -- what it handled from a neighbour is what the bytes spell that the neighbour's trace sent it, whole, once, in order
   pub exchanged : AllByRecursion (λ q. Spell (bytes_of (said_to lives p q)) (handled life.trace q)) (neighbours plan p)
   -- no identifier is delivered twice while it counts as seen
-  pub apart : DeliversApart SEEN_TTL_MS life.trace
+  pub apart : DeliversApart (ttl_of plan) life.trace
 
 -- the lives of all peers of a plan, by their numbers
 abbrev pub IsRun : Plan → List Finished → Type 0

@@ -4,10 +4,9 @@ ghost use Rattle.gs_base.specs.Legal.{Legal};
 ghost use Rattle.gs_base.specs.Tables.{Entries};
 ghost use Rattle.gs_base.specs.Words.{Word, bytes_of, handled};
 ghost use Rattle.gs_base.specs.declared.names.PeerNo.{PeerNo as PeerNoValue};
-ghost use Rattle.gs_net.specs.Rounds.{DeliversApart, KeepsRounds, neighbours, peer_in};
+ghost use Rattle.gs_net.specs.Rounds.{DeliversApart, KeepsRounds, neighbours, peer_in, ttl_of};
 ghost use Rattle.gs_net.specs.Said.{Spell};
 ghost use Rattle.gs_net.specs.declared.finished.Finished.{Finished as FinishedValue};
-ghost use Rattle.gs_net.specs.declared.peers.node.TheConstants.{SEEN_TTL_MS};
 ghost use Rattle.gs_net.specs.declared.plan.Plan.{Plan as PlanValue};
 
 /// A peer that keeps the rounds has handled of each neighbour what the bytes spell that the neighbour said to it: whole, once and in
@@ -18,5 +17,5 @@ pub fn what_was_said_is_handled()
 
 /// No identifier is delivered twice while it counts as seen.
 pub fn deliveries_stay_apart()
-    ensures { (plan : PlanValue) (p : PeerNoValue) (entries : Entries) → Legal (peer_in plan p) entries → DeliversApart SEEN_TTL_MS entries }
+    ensures { (plan : PlanValue) (p : PeerNoValue) (entries : Entries) → Legal (peer_in plan p) entries → DeliversApart (ttl_of plan) entries }
 {}

@@ -12,7 +12,7 @@ use crate::finished::Finished;
 use crate::peers::node::Node;
 use crate::peers::speech::Speech;
 use crate::plan::{Dial, MOST_PEERS, Plan};
-use gs_base::PeerNo;
+use gs_base::{Millis, PeerNo};
 use std::alloc::{AllocError, Global};
 
 /// Runs the peers of a plan, in rounds: in each, the peers in the order of their numbers. What is
@@ -82,10 +82,12 @@ fn nodes_of(alloc: Global, plan: &Plan) -> Result<Vec<Node>, AllocError>
     ensures { IfOk result (λ nodes. AllZip (IsNew plan.now) (numbers plan.now) nodes.items) }
 {
     let count = plan.peers.len() as u16;
+    let seen_ttl = Millis(plan.params.windows.seen_ttl_ms);
     let mut nodes = Vec::new(alloc);
     for number in 0..count {
         let peer = PeerNo(number);
-        nodes.push(Node::new(alloc, peer, neighbours_of(alloc, plan, peer)?)?)?;
+        let neighbours = neighbours_of(alloc, plan, peer)?;
+        nodes.push(Node::new(alloc, peer, neighbours, seen_ttl)?)?;
     }
     Ok(nodes)
 }

@@ -1,6 +1,6 @@
 //! What is simulated.
 use bytes::Bytes;
-use gs_base::{PeerNo, Seq, Text, Topic};
+use gs_base::{Params, PeerNo, Seq, Text, Topic};
 
 /// How many milliseconds a round lasts at most.
 pub const LONGEST_ROUND: u64 = 60_000;
@@ -24,12 +24,14 @@ pub struct Plan {
     pub capacity: u64,
     /// The seed of random choices: 0 to 2^63 - 1.
     pub seed: u64,
-    /// The topics in file order: 1 to 32, all different.
-    pub topics: Seq<Topic>,
+    /// The parameters of the peers, with those of each topic, in file order: 1 to 32 different ones.
+    pub params: Params,
     /// The peers in file order: 1 to 64, with different names. A peer's number is its index.
     pub peers: Seq<Peer>,
     /// Who dials whom, in file order: no peer itself, and each two peers at most once.
     pub dials: Seq<Dial>,
+    /// What the application thinks of a neighbour, in file order: each at most once.
+    pub apps: Seq<App>,
     /// What the peers are told to do, in file order.
     pub script: Seq<Line>,
 }
@@ -39,6 +41,10 @@ pub struct Plan {
 pub struct Peer {
     /// Its name: 1 to 32 of `a` to `z`, `0` to `9`, `_` and `-`.
     pub name: Text,
+    /// Where it is: neighbours at one address count against each other.
+    pub address: Text,
+    /// The first of its random words.
+    pub words: Seq<u32>,
 }
 
 /// A link between two peers, which the first of them dials.
@@ -46,6 +52,15 @@ pub struct Peer {
 pub struct Dial {
     pub from: PeerNo,
     pub to: PeerNo,
+}
+
+/// The score that a peer's application gives a neighbour.
+#[derive(Clone, Copy, Debug, PartialEq, Eq)]
+pub struct App {
+    pub peer: PeerNo,
+    pub about: PeerNo,
+    /// In millionths: -10^9 to 10^9.
+    pub value: i64,
 }
 
 /// Something that a peer is told to do.

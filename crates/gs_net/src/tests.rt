@@ -7,7 +7,7 @@ use crate::{
     what_was_said_is_handled,
 };
 use bytes::Bytes;
-use gs_base::{Millis, PeerNo, Seq, Text, Topic};
+use gs_base::{Millis, Params, PeerNo, Seq, Text, Topic};
 use std::alloc::{AllocError, Global};
 
 fn topic(alloc: Global) -> Result<Topic, AllocError> {
@@ -31,11 +31,18 @@ fn script(alloc: Global) -> Result<Seq<Line>, AllocError> {
     Ok(Seq::from(lines))
 }
 
-fn peer(alloc: Global, name: &str) -> Result<Peer, AllocError> {
+fn text(alloc: Global, bytes: &str) -> Result<Text, AllocError> {
     let mut text = String::new(alloc);
-    text.push_str(name)?;
-    let name = Text::from(text);
-    Ok(Peer { name })
+    text.push_str(bytes)?;
+    Ok(Text::from(text))
+}
+
+fn peer(alloc: Global, name: &str) -> Result<Peer, AllocError> {
+    Ok(Peer {
+        name: text(alloc, name)?,
+        address: text(alloc, name)?,
+        words: Seq::new(alloc),
+    })
 }
 
 /// Five rounds of 100 milliseconds of the peers `a` and `b`.
@@ -45,8 +52,6 @@ fn plan(alloc: Global, dials: &[Dial]) -> Result<Plan, AllocError>
     let mut peers = Seq::new(alloc);
     peers.push(peer(alloc, "a")?)?;
     peers.push(peer(alloc, "b")?)?;
-    let mut topics = Seq::new(alloc);
-    topics.push(topic(alloc)?)?;
     let mut all = Seq::new(alloc);
     for dial in dials {
         all.push(*dial)?;
@@ -57,9 +62,10 @@ fn plan(alloc: Global, dials: &[Dial]) -> Result<Plan, AllocError>
         workers: 2,
         capacity: 8,
         seed: 1,
-        topics,
+        params: Params::new(alloc),
         peers,
         dials: all,
+        apps: Seq::new(alloc),
         script: script(alloc)?,
     })
 }

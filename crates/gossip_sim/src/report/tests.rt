@@ -1,5 +1,8 @@
 use super::*;
-use gs_base::{Event, PeerNo, Seq, Text, Trace};
+use gs_base::{
+    DEFAULT_DEGREES, DEFAULT_FACTORS, DEFAULT_FLOOD_PUBLISH, DEFAULT_THRESHOLDS, DEFAULT_WINDOWS,
+    Event, Params, PeerNo, Seq, Text, Trace,
+};
 use gs_net::{Line, Peer, What};
 
 fn bytes(alloc: Global, text: &[u8]) -> Result<Bytes, AllocError> {
@@ -16,6 +19,8 @@ fn plan(alloc: Global) -> Result<Plan, AllocError> {
     for name in ["a", "b"] {
         peers.push(Peer {
             name: Text::from_str(alloc, name)?,
+            address: Text::from_str(alloc, name)?,
+            words: Seq::new(alloc),
         })?;
     }
     let mut script = Seq::new(alloc);
@@ -36,9 +41,17 @@ fn plan(alloc: Global) -> Result<Plan, AllocError> {
         workers: 2,
         capacity: 8,
         seed: 1,
-        topics: Seq::new(alloc),
+        params: Params {
+            degrees: DEFAULT_DEGREES,
+            thresholds: DEFAULT_THRESHOLDS,
+            factors: DEFAULT_FACTORS,
+            windows: DEFAULT_WINDOWS,
+            flood_publish: DEFAULT_FLOOD_PUBLISH,
+            topics: Seq::new(alloc),
+        },
         peers,
         dials: Seq::new(alloc),
+        apps: Seq::new(alloc),
         script,
     })
 }

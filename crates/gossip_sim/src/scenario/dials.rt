@@ -1,16 +1,16 @@
 //! The dials of a scenario.
 ghost use Rattle.std.specs.Prelude.{◌≡◌, ◌≤◌, [], length};
-ghost use Rattle.std.specs.List.{list_any};
 ghost use Rattle.toml.specs.View.{view, items_view};
 ghost use Rattle.gossip_sim.specs.Refusal.{Gives};
 ghost use Rattle.gossip_sim.specs.Keys.{read_each};
-ghost use Rattle.gossip_sim.specs.PlanOf.{dial_in, joins_same};
+ghost use Rattle.gossip_sim.specs.PlanOf.{dial_in, are_joined};
+ghost use Rattle.gs_net.specs.Rounds.{joins};
 
 use crate::fault::ScenarioFault;
 use crate::scenario::field::table_of;
 use crate::scenario::peers::peer_of;
 use crate::scenario::place::{Element, Place};
-use gs_base::Seq;
+use gs_base::{PeerNo, Seq};
 use gs_net::{Dial, MOST_PEERS, Peer};
 use std::alloc::Global;
 use toml::Value;
@@ -66,14 +66,21 @@ fn dial_in(
 
 /// Whether an earlier dial joins the same peers.
 fn is_repeated(earlier: &[Dial], dial: &Dial) -> bool
-    ensures { result ≡ list_any (joins_same dial.now) earlier.now }
+    ensures { result ≡ are_joined earlier.now dial.now.from dial.now.to }
 {
-    earlier.iter().any(|other| joins_same(dial, other))
+    are_joined(earlier, dial.from, dial.to)
 }
 
-/// Whether two dials join the same peers.
-fn joins_same(one: &Dial, other: &Dial) -> bool
-    ensures { result ≡ joins_same one.now other.now }
+/// Whether one of two peers dials the other.
+pub fn are_joined(dials: &[Dial], one: PeerNo, other: PeerNo) -> bool
+    ensures { result ≡ are_joined dials.now one other }
 {
-    (one.from == other.from && one.to == other.to) || (one.from == other.to && one.to == other.from)
+    dials.iter().any(|dial| joins(one, other, dial))
+}
+
+/// Whether a dial joins two peers.
+fn joins(one: PeerNo, other: PeerNo, dial: &Dial) -> bool
+    ensures { result ≡ joins one other dial.now }
+{
+    (dial.from == one && dial.to == other) || (dial.from == other && dial.to == one)
 }

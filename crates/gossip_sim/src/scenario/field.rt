@@ -2,7 +2,7 @@
 ghost use Rattle.std.specs.Prelude.{◌≡◌, ◌≤◌, IfOk, length, option_map, option_and_then};
 ghost use Rattle.std.specs.List.{list_all};
 ghost use Rattle.toml.specs.Data.{as_integer, as_str, as_array};
-ghost use Rattle.toml.specs.View.{view, items_view};
+ghost use Rattle.toml.specs.View.{view, items_view, table_view};
 ghost use Rattle.gossip_sim.specs.Refusal.{Gives};
 ghost use Rattle.gossip_sim.specs.Kinds as kinds;
 ghost use Rattle.gossip_sim.specs.Views.{element_text, read_as, section_of};
@@ -11,9 +11,10 @@ use crate::fault::ScenarioFault;
 use crate::scenario::place::{Element, Path, Place};
 use crate::scenario::section::Section;
 use bytes::Bytes;
+use gs_base::Seq;
 use hex::FromHexError;
 use std::alloc::Global;
-use toml::Value;
+use toml::{Table, Value};
 
 /// A value of a scenario, and where it stands.
 #[derive(Clone, Copy)]
@@ -40,6 +41,40 @@ impl<'a> Field<'a> {
         Err(ScenarioFault::Range(self.place.to_text(alloc)?))
     }
 
+    /// A whole number of either sign, from low to high.
+    pub fn signed_number(&self, alloc: Global, low: i64, high: i64) -> Result<i64, ScenarioFault>
+        ensures { Gives (λ number. number) result
+            (read_as (kinds.signed_number low high) self.now) }
+    {
+        if let Some(number) = self.value.as_integer() {
+            if (low..=high).contains(&number) {
+                return Ok(number);
+            }
+        }
+        Err(ScenarioFault::Range(self.place.to_text(alloc)?))
+    }
+
+    /// True or false.
+    pub fn truth_value(&self, alloc: Global) -> Result<bool, ScenarioFault>
+        ensures { Gives (λ value. value) result (read_as kinds.truth_value self.now) }
+    {
+        match self.value.as_bool() {
+            Some(value) => Ok(value),
+            None => Err(ScenarioFault::Range(self.place.to_text(alloc)?)),
+        }
+    }
+
+    /// A table.
+    pub fn table(&self, alloc: Global) -> Result<&'a Table, ScenarioFault>
+        ensures { Gives (λ table. table_view table.now) result
+            (read_as kinds.any_table self.now) }
+    {
+        match self.value.as_table() {
+            Some(table) => Ok(table),
+            None => Err(ScenarioFault::Range(self.place.to_text(alloc)?)),
+        }
+    }
+
     /// A list of low to high elements.
     #[tactic(auto, using(crate::proofs::Lists::item_count_view))]
     pub fn list(&self, alloc: Global, low: usize, high: usize) -> Result<&'a [Value], ScenarioFault>
@@ -61,6 +96,16 @@ impl<'a> Field<'a> {
     {
         match self.value.as_array() {
             Some(list) => Ok(list.as_slice()),
+            None => Err(ScenarioFault::Range(self.place.to_text(alloc)?)),
+        }
+    }
+
+    /// Any text.
+    pub fn text(&self, alloc: Global) -> Result<&'a str, ScenarioFault>
+        ensures { Gives (λ text. text.now) result (read_as kinds.any_text self.now) }
+    {
+        match self.value.as_str() {
+            Some(text) => Ok(text),
             None => Err(ScenarioFault::Range(self.place.to_text(alloc)?)),
         }
     }
@@ -89,6 +134,37 @@ impl<'a> Field<'a> {
             }
         }
         Err(ScenarioFault::Range(self.place.to_text(alloc)?))
+    }
+
+    /// The bytes of each hex text of a list.
+    #[tactic(auto, unfolding(crate::specs::Keys::read_each))]
+    pub fn prefixes(&self, alloc: Global) -> Result<Seq<Bytes>, ScenarioFault>
+        ensures { Gives (λ prefixes. prefixes) result
+            (read_as (kinds.list_of_each kinds.hex_text) self.now) }
+    {
+        let place = self.place;
+        let list = self.any_list(alloc)?;
+        let mut prefixes = Seq::new(alloc);
+        for value in list {
+            let prefix = Field { place, value }.hex(alloc)?;
+            prefixes.push(prefix)?;
+        }
+        Ok(prefixes)
+    }
+
+    /// The words of 32 bits of a list.
+    #[tactic(auto, unfolding(crate::specs::Keys::read_each))]
+    pub fn words(&self, alloc: Global) -> Result<Seq<u32>, ScenarioFault>
+        ensures { Gives (λ words. words) result (read_as kinds.words self.now) }
+    {
+        let place = self.place;
+        let list = self.any_list(alloc)?;
+        let mut words = Seq::new(alloc);
+        for value in list {
+            let word = Field { place, value }.whole_number(alloc, 0, 0xFFFF_FFFF)?;
+            words.push(word as u32)?;
+        }
+        Ok(words)
     }
 }
 

@@ -18,6 +18,10 @@ use toml::Value;
 
 const NAME: &str = "name";
 
+const ADDRESS: &str = "address";
+
+const WORDS: &str = "words";
+
 /// The peers of a list, in its order.
 #[tactic(auto, unfolding(crate::specs::Keys::read_each))]
 pub fn peers_in(alloc: Global, list: &[Value]) -> Result<Seq<Peer>, ScenarioFault>
@@ -44,14 +48,18 @@ fn peer_in(alloc: Global, earlier: &[Peer], value: &Value) -> Result<Peer, Scena
         index: earlier.len(),
     };
     let section = table_of(alloc, element, value)?;
-    section.only(alloc, &[NAME])?;
+    section.only(alloc, &[NAME, ADDRESS, WORDS])?;
     let field = section.required(alloc, NAME)?;
     let name = field.name(alloc)?;
     if peer_named(earlier, name).is_some() {
         return Err(ScenarioFault::Repeated(field.place.to_text(alloc)?));
     }
+    let address = section.text(alloc, ADDRESS, name)?;
+    let words = section.words(alloc, WORDS)?;
     Ok(Peer {
         name: Text::from_str(alloc, name)?,
+        address: Text::from_str(alloc, address)?,
+        words,
     })
 }
 

@@ -13,11 +13,14 @@ pub struct Element<'a> {
     pub index: usize,
 }
 
-/// The table that a key stands in, as what the key's place begins with: `peer[1].` or nothing.
+/// The table that a key stands in, as what the key's place begins with: `params.`, `peer[1].` or
+/// nothing.
 #[derive(Clone, Copy)]
 pub enum Path<'a> {
     /// The top table.
     Top,
+    /// The table at a key of the top table.
+    Table(&'a str),
     /// An element that is a table.
     Within(Element<'a>),
 }
@@ -45,6 +48,7 @@ impl<'a> fmt::Display for Path<'a> {
     fn fmt<W: fmt::Write>(&self, f: &mut fmt::Formatter<W>) -> fmt::Result {
         match self {
             Path::Top => Ok(()),
+            Path::Table(key) => write!(f, "{key}."),
             Path::Within(element) => write!(f, "{element}."),
         }
     }

@@ -12,9 +12,9 @@ use crate::scenario::field::{Field, table_of};
 use crate::scenario::peers::peer_of;
 use crate::scenario::place::Element;
 use crate::scenario::section::Section;
-use crate::scenario::topics::topic_of;
+use crate::scenario::topics::{TopicEntry, topic_of};
 use crate::words::{PUBLISH, SUBSCRIBE, UNSUBSCRIBE};
-use gs_base::{Seq, Topic};
+use gs_base::Seq;
 use gs_net::{Line, MOST_PEERS, Peer, What};
 use std::alloc::Global;
 use toml::Value;
@@ -32,7 +32,7 @@ const HEX: &str = "hex";
 /// What the lines of a script may speak of.
 #[derive(Clone, Copy)]
 pub struct Known<'a> {
-    pub topics: &'a [Topic],
+    pub topics: &'a [TopicEntry],
     pub peers: &'a [Peer],
     /// The last round.
     pub rounds: u64,
@@ -107,7 +107,7 @@ fn line_in(
 #[tactic(auto, unfolding(crate::specs::PlanOf::what_in))]
 fn what_in(
     alloc: Global,
-    topics: &[Topic],
+    topics: &[TopicEntry],
     section: &Section<'_>,
     verb: Verb,
 ) -> Result<What, ScenarioFault>

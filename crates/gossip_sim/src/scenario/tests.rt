@@ -1,25 +1,39 @@
 //! Scenarios with the plan or the refusal that each must give.
 mod cases;
+mod each_key;
+mod keys;
+mod order;
+mod plans;
+mod values;
 
 use super::*;
-use crate::scenario::tests::cases::{
-    BOUNDS, EDITS, LEAVING, LISTS, OTHER_LISTS, TOP, TWO_PEERS, WRONG,
+use crate::scenario::tests::cases::{BOUNDS, EDITS, LISTS, OTHER_LISTS, TOP, TWO_PEERS, WRONG};
+use crate::scenario::tests::keys::{
+    APPS, IN_PARAMS, IN_TOPIC, LINES, OF_TOPIC, PARAMS_IN_RANGE, Range, SIGNED_OF_TOPIC,
+    SIGNED_PARAMS, TABLES,
 };
 use crate::words::what_word;
 use bytes::Bytes;
-use gs_base::{PeerNo, Seq, Text, Topic};
-use gs_net::{Dial, Line, Peer, What};
+use gs_base::{ParamFault, Text, Topic};
+use gs_net::What;
 use std::alloc::AllocError;
 
-fn edited(alloc: Global, old: &str, new: &str) -> Result<String, AllocError> {
-    match TWO_PEERS.split_once(old) {
+/// A scenario with another text in the place of the first of these.
+fn edited(alloc: Global, scenario: &str, old: &str, new: &str) -> Result<String, AllocError> {
+    match scenario.split_once(old) {
         Some((front, back)) => format!(in alloc; "{front}{new}{back}"),
         None => String::from_str(alloc, "no such text"),
     }
 }
 
 fn with_lists(alloc: Global, lists: &str) -> Result<String, AllocError> {
-    edited(alloc, LISTS, lists)
+    edited(alloc, TWO_PEERS, LISTS, lists)
+}
+
+/// The scenario that says something in each table, with a line more behind one of its lines.
+fn with_line(alloc: Global, behind: &str, line: &str) -> Result<String, AllocError> {
+    let lines = format!(in alloc; "{behind}{line}\n")?;
+    edited(alloc, TABLES, behind, lines.as_str())
 }
 
 /// The top table with another value at a key, and without the key where the value is empty.
@@ -65,6 +79,53 @@ fn outcome(alloc: Global, text: &str) -> Result<String, AllocError> {
     }
 }
 
+/// Whether each edit of a scenario gives what stands beside it.
+fn all_give(
+    alloc: Global,
+    scenario: &str,
+    edits: &[(&str, &str, &str)],
+) -> Result<bool, AllocError> {
+    for (old, new, want) in edits {
+        let text = edited(alloc, scenario, old, new)?;
+        if outcome(alloc, text.as_str())?.as_str() != *want {
+            return Ok(false);
+        }
+    }
+    Ok(true)
+}
+
+/// What a line behind another line gives.
+fn outcome_behind(alloc: Global, behind: &str, line: &str) -> Result<String, AllocError> {
+    let text = with_line(alloc, behind, line)?;
+    outcome(alloc, text.as_str())
+}
+
+/// Whether a key takes the numbers from `low` to 10^12, of which the first and the last give what
+/// they must, and neither `below` nor another type.
+fn has_range(
+    alloc: Global,
+    behind: &str,
+    path: &str,
+    range: &Range,
+    low: &str,
+    below: &str,
+) -> Result<bool, AllocError> {
+    let (key, at_lowest, at_highest) = range;
+    let refused = format!(in alloc; "29 {path}.{key}")?;
+    for value in [below, "1000000000001", "'1'", "true", "1.0", "[1]", "{}"] {
+        let line = format!(in alloc; "{key} = {value}")?;
+        if outcome_behind(alloc, behind, line.as_str())? != refused {
+            return Ok(false);
+        }
+    }
+    let lowest = format!(in alloc; "{key} = {low}")?;
+    let highest = format!(in alloc; "{key} = 1000000000000")?;
+    Ok(
+        outcome_behind(alloc, behind, lowest.as_str())?.as_str() == *at_lowest
+            && outcome_behind(alloc, behind, highest.as_str())?.as_str() == *at_highest,
+    )
+}
+
 /// What the top table gives with another value at a key.
 fn outcome_with(alloc: Global, key: &str, value: &str) -> Result<String, AllocError> {
     let text = with_value(alloc, key, value)?;
@@ -75,7 +136,7 @@ fn outcome_with(alloc: Global, key: &str, value: &str) -> Result<String, AllocEr
 fn the_first_refusal_is_named(rt: HostRuntime) -> Result<(), AllocError> {
     let alloc = rt.alloc();
     for (old, new, want) in &EDITS {
-        let text = edited(alloc, old, new)?;
+        let text = edited(alloc, TWO_PEERS, old, new)?;
         let given = outcome(alloc, text.as_str())?;
         assert_eq!(rt; given.as_str(), *want, "{new:?} for {old:?}");
     }
@@ -102,9 +163,60 @@ fn each_key_has_its_type_and_range(rt: HostRuntime) -> Result<(), AllocError> {
         }
         let missing = format!(in alloc; "28 {key}")?;
         let given = outcome_with(alloc, key, "")?;
-        let may_miss = *key == "dial" || *key == "do";
+        let may_miss = ["params", "dial", "app", "do"].contains(key);
         assert!(rt; may_miss == (given.as_str() == "a plan"), "without {key}");
         assert!(rt; may_miss || given == missing, "without {key}");
+    }
+    Ok(())
+}
+
+#[test]
+fn numbers_of_parameters_have_their_ranges(rt: HostRuntime) -> Result<(), AllocError> {
+    let alloc = rt.alloc();
+    let low = "-1000000000000";
+    let below = "-1000000000001";
+    for range in &PARAMS_IN_RANGE {
+        assert!(rt;
+            has_range(alloc, IN_PARAMS, "params", range, "0", "-1")?,
+            "{}",
+            range.0
+        );
+    }
+    for range in &SIGNED_PARAMS {
+        assert!(rt;
+            has_range(alloc, IN_PARAMS, "params", range, low, below)?,
+            "{}",
+            range.0
+        );
+    }
+    for range in &OF_TOPIC {
+        assert!(rt;
+            has_range(alloc, IN_TOPIC, "topic[0]", range, "0", "-1")?,
+            "{}",
+            range.0
+        );
+    }
+    for range in &SIGNED_OF_TOPIC {
+        assert!(rt;
+            has_range(alloc, IN_TOPIC, "topic[0]", range, low, below)?,
+            "{}",
+            range.0
+        );
+    }
+    Ok(())
+}
+
+#[test]
+fn other_keys_have_their_types(rt: HostRuntime) -> Result<(), AllocError> {
+    let alloc = rt.alloc();
+    for (behind, line, want) in &LINES {
+        let given = outcome_behind(alloc, behind, line)?;
+        assert_eq!(rt; given.as_str(), *want, "{line}");
+    }
+    for (old, new, want) in &APPS {
+        let text = edited(alloc, TABLES, old, new)?;
+        let given = outcome(alloc, text.as_str())?;
+        assert_eq!(rt; given.as_str(), *want, "{new:?} for {old:?}");
     }
     Ok(())
 }
@@ -118,6 +230,7 @@ fn lists_have_their_lengths(rt: HostRuntime) -> Result<(), AllocError> {
         ("peer", 64, "29 peer[0]"),
         ("peer", 65, "29 peer"),
         ("dial", 1000, "29 dial[0]"),
+        ("app", 1000, "29 app[0]"),
     ] {
         let list = numbers(alloc, *count)?;
         let given = outcome_with(alloc, key, list.as_str())?;
@@ -133,100 +246,24 @@ fn lists_have_their_lengths(rt: HostRuntime) -> Result<(), AllocError> {
     Ok(())
 }
 
-fn topic(alloc: Global) -> Result<Topic, AllocError> {
-    Ok(Topic(Bytes::copy_from_slice(alloc, b"news")?))
-}
-
-fn peer(alloc: Global, name: &str) -> Result<Peer, AllocError> {
-    Ok(Peer {
-        name: Text::from_str(alloc, name)?,
-    })
-}
-
-/// The plan of the scenario with two peers, where this is published.
-fn two_peers(alloc: Global, payload: &[u8]) -> Result<Plan, AllocError> {
-    let mut topics = Seq::new(alloc);
-    topics.push(topic(alloc)?)?;
-    let mut peers = Seq::new(alloc);
-    peers.push(peer(alloc, "a")?)?;
-    peers.push(peer(alloc, "b")?)?;
-    let mut dials = Seq::new(alloc);
-    dials.push(Dial {
-        from: PeerNo(0),
-        to: PeerNo(1),
-    })?;
-    let mut script = Seq::new(alloc);
-    for number in [0, 1] {
-        script.push(Line {
-            at: 0,
-            peer: PeerNo(number),
-            what: What::Subscribe(topic(alloc)?),
-        })?;
-    }
-    script.push(Line {
-        at: 2,
-        peer: PeerNo(0),
-        what: What::Publish(topic(alloc)?, Bytes::copy_from_slice(alloc, payload)?),
-    })?;
-    Ok(Plan {
-        round_ms: 100,
-        rounds: 10,
-        workers: 2,
-        capacity: 8,
-        seed: 1,
-        topics,
-        peers,
-        dials,
-        script,
-    })
-}
-
-/// Whether a scenario gives this plan.
-fn gives(alloc: Global, text: &str, plan: &Plan) -> bool {
-    match read_plan(alloc, text) {
-        Ok(read) => read == *plan,
-        Err(_) => false,
-    }
-}
-
-#[test]
-fn a_scenario_gives_its_plan(rt: HostRuntime) -> Result<(), AllocError> {
-    let alloc = rt.alloc();
-    let mut plan = two_peers(alloc, b"abc")?;
-    assert!(rt; gives(alloc, TWO_PEERS, &plan));
-    let letters = edited(alloc, "616263", "4A4b")?;
-    assert!(rt; gives(alloc, letters.as_str(), &two_peers(alloc, b"JK")?));
-    let empty = edited(alloc, "616263", "")?;
-    assert!(rt; gives(alloc, empty.as_str(), &two_peers(alloc, b"")?));
-    let silent = edited(alloc, "[[dial]]\nfrom = \"a\"\nto = \"b\"\n", "")?;
-    plan.dials = Seq::new(alloc);
-    assert!(rt; gives(alloc, silent.as_str(), &plan));
-    Ok(())
-}
-
-#[test]
-fn a_peer_leaves_a_topic_where_the_scenario_says_so(rt: HostRuntime) -> Result<(), AllocError> {
-    let alloc = rt.alloc();
-    let text = format!(in alloc; "{TWO_PEERS}\n{LEAVING}")?;
-    let mut plan = two_peers(alloc, b"abc")?;
-    plan.script.push(Line {
-        at: 3,
-        peer: PeerNo(1),
-        what: What::Unsubscribe(topic(alloc)?),
-    })?;
-    assert!(rt; gives(alloc, text.as_str(), &plan));
-    assert!(rt; !gives(alloc, TWO_PEERS, &plan));
-    Ok(())
+fn topic(alloc: Global, name: &str) -> Result<Topic, AllocError> {
+    Ok(Topic(Bytes::copy_from_slice(alloc, name.as_bytes())?))
 }
 
 #[test]
 fn what_is_told_has_its_word(rt: HostRuntime) -> Result<(), AllocError> {
     let alloc = rt.alloc();
-    assert_eq!(rt; what_word(&What::Subscribe(topic(alloc)?)), "subscribe");
-    assert_eq!(rt; what_word(&What::Unsubscribe(topic(alloc)?)), "unsubscribe");
+    assert_eq!(rt;
+        what_word(&What::Subscribe(topic(alloc, "news")?)),
+        "subscribe"
+    );
+    assert_eq!(rt;
+        what_word(&What::Unsubscribe(topic(alloc, "news")?)),
+        "unsubscribe"
+    );
     let nothing = Bytes::copy_from_slice(alloc, b"")?;
     assert_eq!(rt;
-        what_word(&What::Publish(topic(alloc)?, nothing)),
+        what_word(&What::Publish(topic(alloc, "news")?, nothing)),
         "publish"
     );
     Ok(())
@@ -239,6 +276,10 @@ fn a_fault_has_its_number_and_place(rt: HostRuntime) -> Result<(), AllocError> {
     assert_eq!(rt; fault.number(), 29);
     assert!(rt; fault.place() == Some(&Text::from_str(alloc, "do[2].hex")?));
     assert!(rt; format!(in alloc; "{fault}")?.as_str() == "29 do[2].hex");
+    let fault = ScenarioFault::Params(ParamFault::Factor);
+    assert_eq!(rt; fault.number(), 3);
+    assert!(rt; fault.place().is_none());
+    assert!(rt; format!(in alloc; "{fault}")?.as_str() == "3");
     let fault = ScenarioFault::NoMemory;
     assert_eq!(rt; fault.number(), 32);
     assert!(rt; fault.place().is_none());

@@ -8,7 +8,7 @@ use crate::fault::ScenarioFault;
 use crate::scenario::section::Section;
 use gs_net::{LONGEST_ROUND, MOST_PEERS, MOST_ROUNDS};
 use std::alloc::Global;
-use toml::Value;
+use toml::{Table, Value};
 
 const ROUND_MS: &str = "round_ms";
 
@@ -20,15 +20,19 @@ const CAPACITY: &str = "capacity";
 
 const SEED: &str = "seed";
 
+const PARAMS: &str = "params";
+
 const TOPIC: &str = "topic";
 
 const PEER: &str = "peer";
 
 const DIAL: &str = "dial";
 
+const APP: &str = "app";
+
 const DO: &str = "do";
 
-/// What the top table holds. Its lists are walked later.
+/// What the top table holds. The table in it and its lists are walked later.
 #[derive(Clone, Copy)]
 pub struct Top<'a> {
     pub round_ms: u64,
@@ -36,9 +40,11 @@ pub struct Top<'a> {
     pub workers: u64,
     pub capacity: u64,
     pub seed: u64,
+    pub params: Option<&'a Table>,
     pub topics: &'a [Value],
     pub peers: &'a [Value],
     pub dials: &'a [Value],
+    pub apps: &'a [Value],
     pub script: &'a [Value],
 }
 
@@ -47,14 +53,15 @@ impl<'a> Top<'a> {
     #[tactic(auto, unfolding(crate::specs::PlanOf::top_in, crate::specs::Keys::only))]
     pub fn read(alloc: Global, top: Section<'a>) -> Result<Top<'a>, ScenarioFault>
         ensures plan { Gives top_view result (spec.top_in (section_of top.entry)) }
-        ensures round_ms { IfOk result (λ top. top.round_ms ≤ LONGEST_ROUND) }
+        ensures round_ms { IfOk result (λ top.
+            (1 ≤ top.round_ms) × (top.round_ms ≤ LONGEST_ROUND)) }
         ensures rounds { IfOk result (λ top. top.rounds ≤ MOST_ROUNDS) }
         ensures peers { IfOk result (λ top. length top.peers.now ≤ MOST_PEERS) }
     {
         top.only(
             alloc,
             &[
-                ROUND_MS, ROUNDS, WORKERS, CAPACITY, SEED, TOPIC, PEER, DIAL, DO,
+                ROUND_MS, ROUNDS, WORKERS, CAPACITY, SEED, PARAMS, TOPIC, PEER, DIAL, APP, DO,
             ],
         )?;
         Ok(Top {
@@ -63,9 +70,11 @@ impl<'a> Top<'a> {
             workers: top.number(alloc, WORKERS, 1, 16)?,
             capacity: top.number(alloc, CAPACITY, 1, 1_024)?,
             seed: top.number(alloc, SEED, 0, 0x7FFF_FFFF_FFFF_FFFF)?,
+            params: top.table(alloc, PARAMS)?,
             topics: top.list(alloc, TOPIC, 1, 32)?,
             peers: top.list(alloc, PEER, 1, MOST_PEERS)?,
             dials: top.optional_list(alloc, DIAL)?,
+            apps: top.optional_list(alloc, APP)?,
             script: top.optional_list(alloc, DO)?,
         })
     }

@@ -1,26 +1,56 @@
 //! The topics of a scenario.
-ghost use Rattle.std.specs.Prelude.{◌≡◌, [], option_map, is_some};
+ghost use Rattle.std.specs.Prelude.{◌≡◌, [], option_map, is_some, map};
 ghost use Rattle.std.specs.Option.{option_copied};
 ghost use Rattle.toml.specs.View.{view, items_view};
 ghost use Rattle.gossip_sim.specs.Refusal.{Gives};
 ghost use Rattle.gossip_sim.specs.Keys.{read_each};
 ghost use Rattle.gossip_sim.specs.Kinds.{reference};
 ghost use Rattle.gossip_sim.specs.Views.{read_as};
-ghost use Rattle.gossip_sim.specs.PlanOf.{topic_in, topic_named};
+ghost use Rattle.gossip_sim.specs.PlanOf.{topic_in, topic_keys, topic_named};
 
 use crate::fault::ScenarioFault;
 use crate::scenario::field::{Field, table_of};
 use crate::scenario::place::Element;
+use crate::scenario::topic_params::topic_params_in;
 use bytes::Bytes;
-use gs_base::{Seq, Topic, clone_of};
+use gs_base::{Seq, Topic, TopicParams, clone_of};
 use std::alloc::Global;
 use toml::Value;
 
-const NAME: &str = "name";
+/// A topic, with its parameters.
+pub type TopicEntry = (Topic, TopicParams);
+
+/// The keys of a topic's table.
+fn keys() -> &'static [&'static str]
+    ensures { map (λ key. key.now) result.now ≡ topic_keys }
+{
+    &[
+        "name",
+        "topic_weight",
+        "w1",
+        "w2",
+        "w3",
+        "w3b",
+        "w4",
+        "p2_decay",
+        "p3_decay",
+        "p3b_decay",
+        "p4_decay",
+        "p1_cap",
+        "p2_cap",
+        "p3_cap",
+        "p3_threshold",
+        "p1_quantum_ms",
+        "p3_window_ms",
+        "p3_activation_ms",
+        "reject",
+        "ignore",
+    ]
+}
 
 /// The topics of a list, in its order.
 #[tactic(auto, unfolding(crate::specs::Keys::read_each))]
-pub fn topics_in(alloc: Global, list: &[Value]) -> Result<Seq<Topic>, ScenarioFault>
+pub fn topics_in(alloc: Global, list: &[Value]) -> Result<Seq<TopicEntry>, ScenarioFault>
     ensures { Gives (λ topics. topics) result (read_each topic_in [] (items_view list.now)) }
 {
     let mut topics = Seq::new(alloc);
@@ -33,7 +63,11 @@ pub fn topics_in(alloc: Global, list: &[Value]) -> Result<Seq<Topic>, ScenarioFa
 
 /// The topic that stands in the list after the earlier ones.
 #[tactic(auto, unfolding(crate::specs::PlanOf::topic_in))]
-fn topic_in(alloc: Global, earlier: &[Topic], value: &Value) -> Result<Topic, ScenarioFault>
+fn topic_in(
+    alloc: Global,
+    earlier: &[TopicEntry],
+    value: &Value,
+) -> Result<TopicEntry, ScenarioFault>
     ensures { Gives (λ topic. topic) result (topic_in earlier.now (view value.now)) }
 {
     let element = Element {
@@ -41,17 +75,23 @@ fn topic_in(alloc: Global, earlier: &[Topic], value: &Value) -> Result<Topic, Sc
         index: earlier.len(),
     };
     let section = table_of(alloc, element, value)?;
-    section.only(alloc, &[NAME])?;
-    let field = section.required(alloc, NAME)?;
+    section.only(alloc, keys())?;
+    let field = section.required(alloc, "name")?;
     let name = field.name(alloc)?;
     if topic_named(earlier, name).is_some() {
         return Err(ScenarioFault::Repeated(field.place.to_text(alloc)?));
     }
-    Ok(Topic(Bytes::copy_from_slice(alloc, name.as_bytes())?))
+    let topic = Topic(Bytes::copy_from_slice(alloc, name.as_bytes())?);
+    let params = topic_params_in(alloc, &section)?;
+    Ok((topic, params))
 }
 
 /// The topic that a value names.
-pub fn topic_of(alloc: Global, topics: &[Topic], field: &Field<'_>) -> Result<Topic, ScenarioFault>
+pub fn topic_of(
+    alloc: Global,
+    topics: &[TopicEntry],
+    field: &Field<'_>,
+) -> Result<Topic, ScenarioFault>
     ensures { Gives (λ topic. topic) result
         (read_as (reference (topic_named topics.now)) field.now) }
 {
@@ -63,10 +103,11 @@ pub fn topic_of(alloc: Global, topics: &[Topic], field: &Field<'_>) -> Result<To
 }
 
 /// The topic that has a name.
-fn topic_named<'a>(topics: &'a [Topic], name: &str) -> Option<&'a Topic>
+fn topic_named<'a>(topics: &'a [TopicEntry], name: &str) -> Option<&'a Topic>
     ensures { option_map (λ topic. topic.now) result ≡ topic_named topics.now name.now }
 {
-    topics
+    let (topic, _params) = topics
         .iter()
-        .find(|topic| topic.0.as_slice() == name.as_bytes())
+        .find(|entry| entry.0.0.as_slice() == name.as_bytes())?;
+    Some(topic)
 }

@@ -5,7 +5,7 @@ ghost use Rattle.gs_net.specs.declared.finished.Refusal.{Refusal as RefusalValue
 ghost use Rattle.gs_router.specs.Router.{Calls};
 ghost use Rattle.gs_base.specs.declared.rpc.Rpc.{Rpc as RpcValue};
 ghost use Rattle.gs_net.specs.declared.plan.Plan.{Plan as PlanValue};
-ghost use Rattle.gs_net.specs.Rounds.{Hear, Obey, event_of, hears, lines_from, moment, neighbours};
+ghost use Rattle.gs_net.specs.Rounds.{Hear, Obey, event_of, hears, lines_from, moment, neighbours, ttl_of};
 ghost use Rattle.gs_net.specs.Speech.{said_by};
 ghost use Rattle.gs_net.specs.Nodes.{AreUnread, IsNew, IsRunning, NodeCloses, NodePlays, Reads, ReadsEach, Runs, peers_of};
 
@@ -16,9 +16,6 @@ use gs_base::{Millis, PeerNo, Rpc, Seq, clone_of};
 use gs_router::{Router, RouterFault};
 use gs_wire::{FrameReader, MAX_BODY, WireFault};
 use std::alloc::{AllocError, Global};
-
-/// For how long a message that was seen is not delivered again, in milliseconds.
-pub const SEEN_TTL_MS: u64 = 120_000;
 
 /// A neighbour, and the reader of what it says.
 #[derive(Drop)]
@@ -38,13 +35,18 @@ pub struct Node {
 
 impl Node {
     /// A peer with these neighbours, ascending, that has done nothing.
-    pub fn new(alloc: Global, number: PeerNo, peers: Vec<PeerNo>) -> Result<Node, AllocError>
-        ensures { IfOk result (λ node. (plan : PlanValue) → peers.items ≡ neighbours plan number → IsNew plan number node) }
+    pub fn new(
+        alloc: Global,
+        number: PeerNo,
+        peers: Vec<PeerNo>,
+        seen_ttl: Millis,
+    ) -> Result<Node, AllocError>
+        ensures { IfOk result (λ node. (plan : PlanValue) → peers.items ≡ neighbours plan number → seen_ttl.0 ≡ ttl_of plan → IsNew plan number node) }
     {
         Ok(Node {
             number,
             links: links_to(alloc, &peers)?,
-            router: Router::new(alloc, peers, Millis(SEEN_TTL_MS)),
+            router: Router::new(alloc, peers, seen_ttl),
             refused: Vec::new(alloc),
         })
     }

@@ -63,7 +63,7 @@ name = \"b\"
 ";
 
 /// What an edit of one place of that scenario gives.
-pub const EDITS: [(&str, &str, &str); 68] = [
+pub static EDITS: [(&str, &str, &str); 70] = [
     // The text as a whole.
     ("rounds = 10\n", "rounds = 10\nrounds = 10\n", "26"),
     ("seed = 1\n", "seed = 9223372036854775808\n", "26"),
@@ -90,18 +90,20 @@ pub const EDITS: [(&str, &str, &str); 68] = [
     ),
     ("round_ms", "\"\" = 1\nround_ms", "27 "),
     ("round_ms", "\"a b\\n\" = 1\nround_ms", "27 a b\n"),
-    ("round_ms", "app = []\nround_ms", "27 app"),
-    ("round_ms", "params = {}\nround_ms", "27 params"),
+    ("round_ms", "app = []\nround_ms", "a plan"),
+    ("round_ms", "params = {}\nround_ms", "a plan"),
+    ("round_ms", "params = []\nround_ms", "29 params"),
+    ("round_ms", "params = { D = 1 }\nround_ms", "27 params.D"),
     (
         "name = \"news\"\n",
         "name = \"news\"\ncolour = 1\n",
         "27 topic[0].colour",
     ),
-    ("name = \"b\"\n", "address = \"b\"\n", "27 peer[1].address"),
+    ("name = \"b\"\n", "address = \"b\"\n", "28 peer[1].name"),
     (
         "name = \"a\"\n",
-        "name = \"a\"\nwords = []\n",
-        "27 peer[0].words",
+        "name = \"a\"\nword = []\n",
+        "27 peer[0].word",
     ),
     ("from = \"a\"\n", "via = \"a\"\n", "27 dial[0].via"),
     // Then each key in its order.
@@ -269,7 +271,7 @@ pub const EDITS: [(&str, &str, &str); 68] = [
 ];
 
 /// What other lists in place of the topics and peers of that scenario give.
-pub const OTHER_LISTS: [(&str, &str); 12] = [
+pub static OTHER_LISTS: [(&str, &str); 12] = [
     ("peer = [1]\n", "28 topic"),
     ("topic = [1]\n", "28 peer"),
     ("topic = []\npeer = [1]\n", "29 topic"),
@@ -288,26 +290,29 @@ pub const OTHER_LISTS: [(&str, &str); 12] = [
 ];
 
 /// The keys of the top table, and a value of each.
-pub const TOP: [(&str, &str); 9] = [
+pub static TOP: [(&str, &str); 11] = [
     ("round_ms", "100"),
     ("rounds", "10"),
     ("workers", "2"),
     ("capacity", "8"),
     ("seed", "1"),
+    ("params", "{}"),
     ("topic", "[{ name = 'news' }]"),
     ("peer", "[{ name = 'a' }]"),
     ("dial", "[]"),
+    ("app", "[]"),
     ("do", "[]"),
 ];
 
 /// Values that none of them may have.
-pub const WRONG: [&str; 7] = ["-1", "1.0", "nan", "true", "'1'", "1979-05-27", "{ a = 1 }"];
+pub static WRONG: [&str; 6] = ["-1", "1.0", "nan", "true", "'1'", "1979-05-27"];
 
 /// Values of a key, and what they give.
-pub const BOUNDS: [(&str, &str, &str); 18] = [
+pub static BOUNDS: [(&str, &str, &str); 25] = [
     ("round_ms", "0", "29 round_ms"),
     ("round_ms", "1", "a plan"),
-    ("round_ms", "60000", "a plan"),
+    ("round_ms", "1000", "a plan"),
+    ("round_ms", "60000", "29 params.heartbeat_ms"),
     ("round_ms", "60001", "29 round_ms"),
     ("rounds", "0", "29 rounds"),
     ("rounds", "1", "a plan"),
@@ -319,6 +324,12 @@ pub const BOUNDS: [(&str, &str, &str); 18] = [
     ("capacity", "1", "a plan"),
     ("capacity", "1024", "a plan"),
     ("seed", "0", "a plan"),
+    ("seed", "{ a = 1 }", "29 seed"),
+    ("params", "[]", "29 params"),
+    ("params", "[{}]", "29 params"),
+    ("topic", "{ a = 1 }", "29 topic"),
+    ("app", "[1]", "29 app[0]"),
+    ("app", "[{}]", "28 app[0].peer"),
     ("dial", "[1]", "29 dial[0]"),
     ("dial", "[{}]", "28 dial[0].from"),
     ("do", "[[]]", "29 do[0]"),

@@ -1,0 +1,192 @@
+//! The keys of parameters, topics, peers and scores, and what their values give.
+
+/// A scenario that says something in each of its tables.
+pub const TABLES: &str = "\
+round_ms = 100
+rounds = 10
+workers = 2
+capacity = 8
+seed = 1
+
+[params]
+
+[[topic]]
+name = \"news\"
+
+[[peer]]
+name = \"a\"
+
+[[peer]]
+name = \"b\"
+
+[[peer]]
+name = \"c\"
+
+[[dial]]
+from = \"a\"
+to = \"b\"
+
+[[app]]
+peer = \"a\"
+about = \"b\"
+value = 5
+";
+
+/// What the lines of its parameters stand behind.
+pub const IN_PARAMS: &str = "[params]\n";
+
+/// What the lines of its topic stand behind.
+pub const IN_TOPIC: &str = "name = \"news\"\n";
+
+/// What the lines of its second peer stand behind.
+pub const IN_PEER: &str = "name = \"b\"\n";
+
+/// What the lines of its score stand behind, and tables behind its own.
+pub const IN_APP: &str = "value = 5\n";
+
+/// A key, and what its lowest and its highest number give.
+pub type Range = (&'static str, &'static str, &'static str);
+
+/// The keys of parameters that take 0 to 10^12.
+pub static PARAMS_IN_RANGE: [Range; 27] = [
+    ("d", "1", "1"),
+    ("d_low", "1", "1"),
+    ("d_high", "1", "1"),
+    ("d_score", "a plan", "1"),
+    ("d_out", "a plan", "1"),
+    ("d_lazy", "a plan", "1"),
+    ("opportunistic_threshold", "a plan", "a plan"),
+    ("gossip_factor", "a plan", "3"),
+    ("p7_decay", "a plan", "3"),
+    ("w5", "a plan", "3"),
+    ("topic_cap", "a plan", "a plan"),
+    ("decay_to_zero", "a plan", "a plan"),
+    ("p6_threshold", "3", "3"),
+    ("heartbeat_ms", "4", "4"),
+    ("decay_ms", "4", "4"),
+    ("fanout_ttl_ms", "4", "4"),
+    ("seen_ttl_ms", "4", "4"),
+    ("iwant_followup_ms", "4", "4"),
+    ("prune_backoff_s", "4", "4"),
+    ("unsubscribe_backoff_s", "4", "4"),
+    ("mcache_len", "4", "4"),
+    ("mcache_gossip", "4", "4"),
+    ("opportunistic_ticks", "4", "4"),
+    ("opportunistic_peers", "a plan", "4"),
+    ("max_ihave", "4", "4"),
+    ("max_ihave_ids", "4", "4"),
+    ("gossip_retransmission", "4", "4"),
+];
+
+/// The keys of parameters that take -10^12 to 10^12.
+pub static SIGNED_PARAMS: [Range; 5] = [
+    ("gossip_threshold", "2", "2"),
+    ("publish_threshold", "2", "2"),
+    ("graylist_threshold", "a plan", "2"),
+    ("w6", "3", "3"),
+    ("w7", "3", "3"),
+];
+
+/// The keys of a topic that take 0 to 10^12.
+pub static OF_TOPIC: [Range; 14] = [
+    ("topic_weight", "a plan", "3"),
+    ("w1", "a plan", "3"),
+    ("w2", "a plan", "3"),
+    ("p2_decay", "a plan", "3"),
+    ("p3_decay", "a plan", "3"),
+    ("p3b_decay", "a plan", "3"),
+    ("p4_decay", "a plan", "3"),
+    ("p1_cap", "a plan", "a plan"),
+    ("p2_cap", "a plan", "a plan"),
+    ("p3_cap", "a plan", "a plan"),
+    ("p3_threshold", "a plan", "a plan"),
+    ("p1_quantum_ms", "4", "4"),
+    ("p3_window_ms", "a plan", "4"),
+    ("p3_activation_ms", "a plan", "4"),
+];
+
+/// The keys of a topic that take -10^12 to 10^12.
+pub static SIGNED_OF_TOPIC: [Range; 3] = [("w3", "3", "3"), ("w3b", "3", "3"), ("w4", "3", "3")];
+
+/// Lines of those tables, and what each gives.
+pub static LINES: [(&str, &str, &str); 38] = [
+    (IN_PARAMS, "flood_publish = false", "a plan"),
+    (IN_PARAMS, "flood_publish = true", "a plan"),
+    (IN_PARAMS, "flood_publish = 1", "29 params.flood_publish"),
+    (
+        IN_PARAMS,
+        "flood_publish = 'true'",
+        "29 params.flood_publish",
+    ),
+    (IN_PARAMS, "flood_publish = []", "29 params.flood_publish"),
+    (IN_PARAMS, "explicit = 1", "27 params.explicit"),
+    (IN_PARAMS, "w3 = 0", "27 params.w3"),
+    (IN_PARAMS, "reject = []", "27 params.reject"),
+    (IN_PARAMS, "D = 6\nd = -1", "27 params.D"),
+    (IN_PARAMS, "heartbeat_ms = 900", "a plan"),
+    (IN_PARAMS, "heartbeat_ms = 950", "29 params.heartbeat_ms"),
+    (IN_PARAMS, "decay_ms = 99", "29 params.decay_ms"),
+    (IN_PARAMS, "decay_ms = 101", "29 params.decay_ms"),
+    (IN_TOPIC, "d = 6", "27 topic[0].d"),
+    (IN_TOPIC, "reject = []", "a plan"),
+    (IN_TOPIC, "reject = ['00', 'fF', '', '616263']", "a plan"),
+    (IN_TOPIC, "reject = '00'", "29 topic[0].reject"),
+    (IN_TOPIC, "reject = ['00', '0']", "29 topic[0].reject"),
+    (IN_TOPIC, "reject = ['0g']", "29 topic[0].reject"),
+    (IN_TOPIC, "reject = [0]", "29 topic[0].reject"),
+    (IN_TOPIC, "ignore = ['00', 'fF', '', '616263']", "a plan"),
+    (IN_TOPIC, "ignore = {}", "29 topic[0].ignore"),
+    (IN_TOPIC, "ignore = ['00', '0']", "29 topic[0].ignore"),
+    (IN_TOPIC, "ignore = [['00']]", "29 topic[0].ignore"),
+    (IN_PEER, "address = '10.0.0.1'", "a plan"),
+    (IN_PEER, "address = ''", "a plan"),
+    (IN_PEER, "address = 'A b\\n'", "a plan"),
+    (IN_PEER, "address = 1", "29 peer[1].address"),
+    (IN_PEER, "address = []", "29 peer[1].address"),
+    (IN_PEER, "words = []", "a plan"),
+    (IN_PEER, "words = [0, 4294967295]", "a plan"),
+    (IN_PEER, "words = [4294967296]", "29 peer[1].words"),
+    (IN_PEER, "words = [-1]", "29 peer[1].words"),
+    (IN_PEER, "words = [1, '1']", "29 peer[1].words"),
+    (IN_PEER, "words = [true]", "29 peer[1].words"),
+    (IN_PEER, "words = 1", "29 peer[1].words"),
+    (IN_PEER, "word = 1", "27 peer[1].word"),
+    (IN_APP, "score = 1", "27 app[0].score"),
+];
+
+/// Edits of that scenario, and what each gives.
+pub static APPS: [(&str, &str, &str); 21] = [
+    ("peer = \"a\"\n", "", "28 app[0].peer"),
+    ("peer = \"a\"\n", "peer = 1\n", "29 app[0].peer"),
+    ("peer = \"a\"\n", "peer = \"A\"\n", "29 app[0].peer"),
+    ("peer = \"a\"\n", "peer = \"d\"\n", "30 app[0].peer"),
+    ("about = \"b\"\n", "", "28 app[0].about"),
+    ("about = \"b\"\n", "about = 1\n", "29 app[0].about"),
+    ("about = \"b\"\n", "about = \"B\"\n", "29 app[0].about"),
+    ("about = \"b\"\n", "about = \"d\"\n", "30 app[0].about"),
+    ("about = \"b\"\n", "about = \"c\"\n", "30 app[0].about"),
+    ("about = \"b\"\n", "about = \"a\"\n", "30 app[0].about"),
+    ("value = 5\n", "", "28 app[0].value"),
+    ("value = 5\n", "value = \"5\"\n", "29 app[0].value"),
+    ("value = 5\n", "value = 5.0\n", "29 app[0].value"),
+    ("value = 5\n", "value = 1000000000\n", "a plan"),
+    ("value = 5\n", "value = 1000000001\n", "29 app[0].value"),
+    ("value = 5\n", "value = -1000000000\n", "a plan"),
+    ("value = 5\n", "value = -1000000001\n", "29 app[0].value"),
+    (
+        "peer = \"a\"\nabout = \"b\"\n",
+        "peer = \"b\"\nabout = \"a\"\n",
+        "a plan",
+    ),
+    (
+        "peer = \"a\"\nabout = \"b\"\n",
+        "about = \"d\"\n",
+        "28 app[0].peer",
+    ),
+    (
+        "about = \"b\"\nvalue = 5\n",
+        "about = \"c\"\nvalue = \"5\"\n",
+        "30 app[0].about",
+    ),
+    ("to = \"b\"\n", "to = \"c\"\n", "30 app[0].about"),
+];
