@@ -1,21 +1,8 @@
 -- Lemmas on lists.
-use Rattle.std.proofs.Common.{◌≡◌, ℕ, ◌+◌, ◌<◌, Bool, List, [], ◌∷◌, ◌++◌, length, map, take, get_or, refl, arith, ◌∙◌, ap, append-nil, length-take}
+use Rattle.std.proofs.Common.{◌≡◌, ℕ, ◌+◌, ◌<◌, List, [], ◌∷◌, ◌++◌, length, take, get_or, arith, ◌∙◌, ap, append-nil, length-take}
 use Rattle.std.proofs.lemmas.List.{take_more}
 use Rattle.std.proofs.lemmas.Grind.{flat_map-append}
-use Rattle.std.specs.List.{list_any, flat_map, enumerate_from}
-use Rattle.toml.specs.declared.value.Value.{Value}
-use Rattle.toml.specs.View.{items_view}
-use Rattle.gossip_sim.specs.Kinds.{item_count}
-
--- a test of what a function makes of each element
-pub list_any_map : {X Y : Type 0} (p : Y → Bool) (f : X → Y) (xs : List X) → list_any p (map f xs) ≡ list_any (λ x. p (f x)) xs
-list_any_map p f [] = refl
-list_any_map p f (x ∷ xs) = rw (list_any_map p f xs)
-
--- how many items a list of values is seen as
-pub item_count_view : (values : List Value) → item_count (items_view values) ≡ length values
-item_count_view [] = refl
-item_count_view (value ∷ values) = omega (arith, item_count_view values)
+use Rattle.std.specs.List.{flat_map, enumerate_from}
 
 -- one element more, with its number
 pub enumerate_more : {X : Type 0} (n : ℕ) (xs : List X) (x : X) → enumerate_from n (xs ++ x ∷ []) ≡ enumerate_from n xs ++ (n + length xs, x) ∷ []

@@ -2,14 +2,14 @@
 use Rattle.std.specs.Prelude.{◌≡◌, ◌≤◌, ◌<◌, ◌++◌, ℕ, List, length, codes, Option, IfSome, Ok, Err, IsUtf8, ◌⊎◌}
 use Rattle.std.specs.Io.KnownBytes.{Appends, Keeps}
 use Rattle.gossip_sim.specs.declared.streams.TheConstants.{LONGEST_INPUT}
-use Rattle.gossip_sim.specs.declared.fault.ScenarioFault.{ScenarioFault}
-use Rattle.gossip_sim.specs.declared.fault.ScenarioFault.TheVariants.{Toml, Range, NoMemory}
-use Rattle.gs_net.specs.declared.plan.Plan.{Plan}
+use Rattle.gs_scenario.specs.declared.fault.ScenarioFault.{ScenarioFault}
+use Rattle.gs_scenario.specs.declared.fault.ScenarioFault.TheVariants.{Toml, Range, NoMemory}
+use Rattle.gs_base.specs.declared.plan.Plan.{Plan}
 use Rattle.gs_net.specs.declared.finished.Finished.{Finished}
 use Rattle.gossip_sim.specs.declared.program.ExitStatus.{ExitStatus}
 use Rattle.gossip_sim.specs.declared.program.ExitStatus.TheVariants as ends
-use Rattle.gossip_sim.specs.PlanOf.{plan_of}
-use Rattle.gossip_sim.specs.Refusal.{refusal_text}
+use Rattle.gs_scenario.specs.PlanOf.{plan_of}
+use Rattle.gs_scenario.specs.Refusal.{refusal_text}
 use Rattle.gossip_sim.specs.Report.{report_text}
 use Rattle.gs_net.specs.Rounds.{IsRun}
 use Rattle.gossip_sim.specs.Streams.{AppendsFront}

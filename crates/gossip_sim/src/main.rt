@@ -1,12 +1,9 @@
 //! Simulates gossipsub peers: reads a scenario, runs it and reports what happened.
 #![tactic(auto)]
 
-mod fault;
 mod program;
 mod report;
-mod scenario;
 mod streams;
-mod words;
 
 use std::process::ExitCode;
 

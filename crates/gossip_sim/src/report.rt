@@ -3,10 +3,10 @@ ghost use Rattle.std.specs.Prelude.{◌≡◌, ◌++◌, IfOk, OnOk, string_byte
 ghost use Rattle.std.specs.List.{flat_map};
 ghost use Rattle.gossip_sim.specs.Report.{delivered_line, delivered_lines, entry_lines, name_of, numbered, payload_text, refused_line, refused_lines, report_text, word_of};
 
-use crate::words::what_word;
 use bytes::Bytes;
-use gs_base::{Entry, Millis, Topic};
-use gs_net::{Finished, Plan, Refusal};
+use gs_base::{Entry, Millis, Plan, Topic};
+use gs_net::{Finished, Refusal};
+use gs_scenario::what_word;
 use std::alloc::{AllocError, Global};
 
 /// The report on the peers of a run, each at its number: first a line for each message that was

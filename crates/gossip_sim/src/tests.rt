@@ -1,7 +1,7 @@
 //! Whole runs, from a scenario to its report.
 use crate::report::report_text;
-use crate::scenario::read_plan;
 use gs_net::run_peers;
+use gs_scenario::read_plan;
 use std::alloc::{AllocError, Global};
 
 /// Eleven rounds of 100 milliseconds, the topics `news` and `blog`, and peers `a` and `b`.

@@ -6,3 +6,4 @@ pub mod Words
 pub mod Params
 pub mod Picks
 pub mod ScriptWords
+pub mod Plans

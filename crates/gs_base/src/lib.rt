@@ -1,5 +1,5 @@
 //! Names of peers, topics and messages, the RPCs that gossipsub peers send each other, what a peer
-//! does, entry by entry, its parameters, and its random choices.
+//! does, entry by entry, its parameters, its random choices, and plans of many peers.
 #![tactic(auto)]
 
 mod control;
@@ -9,6 +9,7 @@ mod names;
 mod param_fault;
 mod params;
 mod picks;
+mod plan;
 mod ranges;
 mod rpc;
 mod script;
@@ -28,6 +29,9 @@ pub use params::{
     Degrees, Factors, Params, Thresholds, Windows,
 };
 pub use picks::{a_pick_is_the_front_of_a_shuffle, pick, pick_one};
+pub use plan::{
+    App, Dial, LONGEST_ROUND, Line, MOST_PEERS, MOST_ROUNDS, Peer, Plan, What, are_joined,
+};
 pub use rpc::{Message, Rpc, SubOpt};
 pub use script::{Script, a_script_gives_its_list_first};
 pub use seq::Seq;

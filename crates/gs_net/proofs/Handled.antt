@@ -18,10 +18,10 @@ use Rattle.gs_base.proofs.Owed.{IsPart, owed_are_parts}
 use Rattle.gs_wire.specs.declared.frames.End.TheVariants.{Waits}
 use Rattle.gs_wire.specs.declared.rpc.TheConstants.{MAX_BODY}
 use Rattle.gs_wire.proofs.FrameLists.{one_stream}
-use Rattle.gs_net.specs.declared.plan.Plan.{Plan}
-use Rattle.gs_net.specs.declared.plan.Line.{Line}
-use Rattle.gs_net.specs.declared.plan.What.{What}
-use Rattle.gs_net.specs.declared.plan.What.TheVariants.{Subscribe, Unsubscribe, Publish}
+use Rattle.gs_base.specs.declared.plan.Plan.{Plan}
+use Rattle.gs_base.specs.declared.plan.Line.{Line}
+use Rattle.gs_base.specs.declared.plan.What.{What}
+use Rattle.gs_base.specs.declared.plan.What.TheVariants.{Subscribe, Unsubscribe, Publish}
 use Rattle.gs_net.specs.declared.finished.Refusal.{Refusal}
 use Rattle.gs_net.specs.declared.finished.Finished.{Finished}
 use Rattle.gs_router.specs.declared.fault.RouterFault.{RouterFault}

@@ -3,7 +3,7 @@ use Rattle.std.proofs.Common.{◌≡◌, ℕ, ◌+◌, ◌<◌, Bool, true, fals
 use Rattle.std.specs.List.{enumerate_from}
 use Rattle.std.proofs.lemmas.List.{drop_more}
 use Rattle.gs_base.specs.declared.names.PeerNo.{PeerNo}
-use Rattle.gs_net.specs.declared.plan.Line.{Line}
+use Rattle.gs_base.specs.declared.plan.Line.{Line}
 use Rattle.gs_net.specs.Rounds.{Todo, is_due, obey, lines_from}
 
 -- the first line, and those behind it

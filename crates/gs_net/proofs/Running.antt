@@ -8,7 +8,7 @@ use Rattle.gs_base.specs.Tables.{Entries, last_moment}
 use Rattle.gs_base.specs.Rules.{Peer}
 use Rattle.gs_base.specs.Legal.{Opens, ArePayments}
 use Rattle.gs_net.specs.declared.finished.Refusal.{Refusal}
-use Rattle.gs_net.specs.declared.plan.What.{What}
+use Rattle.gs_base.specs.declared.plan.What.{What}
 use Rattle.gs_router.specs.declared.fault.RouterFault.{RouterFault}
 use Rattle.gs_router.specs.declared.fault.RouterFault.TheVariants.{NoMemory, Stopped}
 use Rattle.gs_router.specs.Router.{RouterView, Calls, peer, peer_of, refusal, refusal_of, number_of}

@@ -13,10 +13,10 @@ use Rattle.gs_base.specs.Tables.{Entries, owed_after, owed, is_shut, up_after, u
 use Rattle.gs_base.specs.Rules.{Codec, Peer, Follows, rule_of, free, sent_to}
 use Rattle.gs_base.specs.Legal.{Legal, ArePayments, Begins, Opens}
 use Rattle.gs_base.specs.Words.{Byte, EndOf, Close, Word, sign, says, out}
-use Rattle.gs_net.specs.declared.plan.Plan.{Plan}
-use Rattle.gs_net.specs.declared.plan.Line.{Line}
-use Rattle.gs_net.specs.declared.plan.What.{What}
-use Rattle.gs_net.specs.declared.plan.What.TheVariants.{Subscribe, Unsubscribe, Publish}
+use Rattle.gs_base.specs.declared.plan.Plan.{Plan}
+use Rattle.gs_base.specs.declared.plan.Line.{Line}
+use Rattle.gs_base.specs.declared.plan.What.{What}
+use Rattle.gs_base.specs.declared.plan.What.TheVariants.{Subscribe, Unsubscribe, Publish}
 use Rattle.gs_net.specs.declared.finished.Refusal.{Refusal}
 use Rattle.gs_router.specs.declared.fault.RouterFault.{RouterFault}
 use Rattle.gs_router.specs.Router.{refusal}

@@ -13,7 +13,7 @@ use Rattle.gs_wire.specs.declared.rpc.TheConstants.{MAX_BODY}
 use Rattle.gs_wire.specs.Stream.{Holding, IsStream, Feeds, held_after}
 use Rattle.gs_wire.specs.Codec.{codec}
 use Rattle.gs_wire.proofs.FrameLists.{streams_join, one_stream, found_in_all}
-use Rattle.gs_net.specs.declared.plan.Plan.{Plan}
+use Rattle.gs_base.specs.declared.plan.Plan.{Plan}
 use Rattle.gs_net.specs.declared.finished.Finished.{Finished}
 use Rattle.gs_net.specs.declared.finished.Refusal.{Refusal}
 use Rattle.gs_net.specs.declared.peers.node.Link.{Link}

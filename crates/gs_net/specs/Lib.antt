@@ -2,4 +2,3 @@ pub mod Said
 pub mod Rounds
 pub mod Nodes
 pub mod Speech
-pub mod Ranges

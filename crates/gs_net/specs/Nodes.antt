@@ -10,7 +10,7 @@ use Rattle.gs_wire.specs.declared.frames.End.{End}
 use Rattle.gs_wire.specs.Stream.{Holding, Feeds}
 use Rattle.gs_net.specs.declared.finished.Refusal.{Refusal}
 use Rattle.gs_net.specs.declared.finished.Finished.{Finished}
-use Rattle.gs_net.specs.declared.plan.Plan.{Plan}
+use Rattle.gs_base.specs.declared.plan.Plan.{Plan}
 use Rattle.gs_net.specs.declared.peers.node.Link.{Link}
 use Rattle.gs_net.specs.declared.peers.node.Node.{Node}
 use Rattle.gs_net.specs.declared.peers.speech.Speech.{Speech}

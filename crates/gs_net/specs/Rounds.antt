@@ -1,6 +1,6 @@
 -- What the peers of a plan do, round by round.
-use Rattle.std.specs.Prelude.{◌≡◌, ◌≤◌, ◌+◌, ℕ, zero, suc, ◌*◌, Bool, ◌&&◌, ◌||◌, nat_eq, List, [], ◌∷◌, ◌++◌, length, map, filter, Option, Some, None, option_map, unwrap_or, slice_get}
-use Rattle.std.specs.List.{list_any, flat_map, zip, enumerate_from, range_with_len, AllZip, AllByRecursion}
+use Rattle.std.specs.Prelude.{◌≡◌, ◌≤◌, ◌+◌, ℕ, zero, suc, ◌*◌, Bool, ◌&&◌, nat_eq, List, [], ◌∷◌, ◌++◌, length, map, filter, Option, Some, None, option_map, unwrap_or, slice_get}
+use Rattle.std.specs.List.{flat_map, zip, enumerate_from, range_with_len, AllZip, AllByRecursion}
 use Rattle.gs_base.specs.declared.names.PeerNo.{PeerNo}
 use Rattle.gs_base.specs.declared.names.MsgId.{MsgId}
 use Rattle.gs_base.specs.declared.names.Millis.{Millis}
@@ -11,14 +11,14 @@ use Rattle.gs_base.specs.declared.trace.Entry.{Entry}
 use Rattle.gs_base.specs.Names.{same_peer}
 use Rattle.gs_base.specs.Tables.{Entries}
 use Rattle.gs_base.specs.Rules.{Peer}
+use Rattle.gs_base.specs.Plans.{are_joined}
 use Rattle.gs_base.specs.Legal.{Legal, Opens, Delivers}
 use Rattle.gs_base.specs.Words.{Word, bytes_of, out, handled}
 use Rattle.gs_wire.specs.Codec.{codec}
-use Rattle.gs_net.specs.declared.plan.Plan.{Plan}
-use Rattle.gs_net.specs.declared.plan.Dial.{Dial}
-use Rattle.gs_net.specs.declared.plan.Line.{Line}
-use Rattle.gs_net.specs.declared.plan.What.{What}
-use Rattle.gs_net.specs.declared.plan.What.TheVariants.{Subscribe, Unsubscribe, Publish}
+use Rattle.gs_base.specs.declared.plan.Plan.{Plan}
+use Rattle.gs_base.specs.declared.plan.Line.{Line}
+use Rattle.gs_base.specs.declared.plan.What.{What}
+use Rattle.gs_base.specs.declared.plan.What.TheVariants.{Subscribe, Unsubscribe, Publish}
 use Rattle.gs_net.specs.declared.finished.Refusal.{Refusal}
 use Rattle.gs_net.specs.declared.finished.Finished.{Finished}
 use Rattle.gs_router.specs.declared.fault.RouterFault.{RouterFault}
@@ -34,13 +34,9 @@ peer_no n = record { 0 = n }
 abbrev pub numbers : Plan → List PeerNo
 numbers plan = map peer_no (range_with_len 0 (length plan.peers))
 
--- one of them dials the other
-abbrev pub joins : PeerNo → PeerNo → Dial → Bool
-joins p q dial = (same_peer dial.from p && same_peer dial.to q) || (same_peer dial.from q && same_peer dial.to p)
-
 -- the neighbours of a peer, ascending
 abbrev pub neighbours : Plan → PeerNo → List PeerNo
-neighbours plan p = filter (λ q. list_any (joins p q) plan.dials) (numbers plan)
+neighbours plan p = filter (are_joined plan.dials p) (numbers plan)
 
 -- for how long a message counts as seen, in milliseconds
 abbrev pub ttl_of : Plan → ℕ

@@ -7,7 +7,7 @@ ghost use Rattle.gs_base.specs.declared.names.PeerNo.{PeerNo as PeerNoValue};
 ghost use Rattle.gs_net.specs.Rounds.{DeliversApart, KeepsRounds, neighbours, peer_in, ttl_of};
 ghost use Rattle.gs_net.specs.Said.{Spell};
 ghost use Rattle.gs_net.specs.declared.finished.Finished.{Finished as FinishedValue};
-ghost use Rattle.gs_net.specs.declared.plan.Plan.{Plan as PlanValue};
+ghost use Rattle.gs_base.specs.declared.plan.Plan.{Plan as PlanValue};
 
 /// A peer that keeps the rounds has handled of each neighbour what the bytes spell that the neighbour said to it: whole, once and in
 /// order.

@@ -1,8 +1,8 @@
 //! The peers of a plan, round by round.
 ghost use Rattle.std.specs.Prelude.{◌≡◌, ◌≤◌, IfOk, length};
-ghost use Rattle.std.specs.List.{AllZip, list_any};
-ghost use Rattle.gs_net.specs.Ranges.{IsInRange};
-ghost use Rattle.gs_net.specs.Rounds.{IsRun, joins, moment, neighbours, numbers};
+ghost use Rattle.std.specs.List.{AllZip};
+ghost use Rattle.gs_base.specs.Plans.{IsInRange};
+ghost use Rattle.gs_net.specs.Rounds.{IsRun, moment, neighbours, numbers};
 ghost use Rattle.gs_net.specs.Nodes.{AllRunning, ClosesEach, IsNew, PlaysEach};
 
 mod node;
@@ -11,8 +11,7 @@ mod speech;
 use crate::finished::Finished;
 use crate::peers::node::Node;
 use crate::peers::speech::Speech;
-use crate::plan::{Dial, MOST_PEERS, Plan};
-use gs_base::{Millis, PeerNo};
+use gs_base::{MOST_PEERS, Millis, PeerNo, Plan, are_joined};
 use std::alloc::{AllocError, Global};
 
 /// Runs the peers of a plan, in rounds: in each, the peers in the order of their numbers. What is
@@ -101,23 +100,9 @@ fn neighbours_of(alloc: Global, plan: &Plan, peer: PeerNo) -> Result<Vec<PeerNo>
     let mut found = Vec::new(alloc);
     for number in 0..count {
         let other = PeerNo(number);
-        if are_joined(peer, other, plan.dials.as_slice()) {
+        if are_joined(plan.dials.as_slice(), peer, other) {
             found.push(other)?;
         }
     }
     Ok(found)
-}
-
-/// Whether one of two peers dials the other.
-fn are_joined(one: PeerNo, other: PeerNo, dials: &[Dial]) -> bool
-    ensures { result ≡ list_any (joins one other) dials.now }
-{
-    dials.iter().any(|dial| joins(one, other, dial))
-}
-
-/// Whether a dial joins two peers.
-fn joins(one: PeerNo, other: PeerNo, dial: &Dial) -> bool
-    ensures { result ≡ joins one other dial.now }
-{
-    (dial.from == one && dial.to == other) || (dial.from == other && dial.to == one)
 }

@@ -1,13 +1,10 @@
 //! A run of two peers, of which one dials the other.
 ghost use Rattle.std.specs.Prelude.{IfOk};
-ghost use Rattle.gs_net.specs.Ranges.{IsInRange};
+ghost use Rattle.gs_base.specs.Plans.{IsInRange};
 
-use crate::{
-    Dial, Finished, Line, Peer, Plan, Refusal, What, deliveries_stay_apart, run_peers,
-    what_was_said_is_handled,
-};
+use crate::{Finished, Refusal, deliveries_stay_apart, run_peers, what_was_said_is_handled};
 use bytes::Bytes;
-use gs_base::{Millis, Params, PeerNo, Seq, Text, Topic};
+use gs_base::{Dial, Line, Millis, Params, Peer, PeerNo, Plan, Seq, Text, Topic, What};
 use std::alloc::{AllocError, Global};
 
 fn topic(alloc: Global) -> Result<Topic, AllocError> {

@@ -1,9 +1,8 @@
 use super::*;
 use gs_base::{
     DEFAULT_DEGREES, DEFAULT_FACTORS, DEFAULT_FLOOD_PUBLISH, DEFAULT_THRESHOLDS, DEFAULT_WINDOWS,
-    Event, Params, PeerNo, Seq, Text, Trace,
+    Event, Line, Params, Peer, PeerNo, Seq, Text, Trace, What,
 };
-use gs_net::{Line, Peer, What};
 
 fn bytes(alloc: Global, text: &[u8]) -> Result<Bytes, AllocError> {
     Bytes::copy_from_slice(alloc, text)

@@ -4,15 +4,14 @@ ghost use Rattle.std.specs.Result.{IsOk};
 ghost use Rattle.gs_net.specs.declared.finished.Refusal.{Refusal as RefusalValue};
 ghost use Rattle.gs_router.specs.Router.{Calls};
 ghost use Rattle.gs_base.specs.declared.rpc.Rpc.{Rpc as RpcValue};
-ghost use Rattle.gs_net.specs.declared.plan.Plan.{Plan as PlanValue};
+ghost use Rattle.gs_base.specs.declared.plan.Plan.{Plan as PlanValue};
 ghost use Rattle.gs_net.specs.Rounds.{Hear, Obey, event_of, hears, lines_from, moment, neighbours, ttl_of};
 ghost use Rattle.gs_net.specs.Speech.{said_by};
 ghost use Rattle.gs_net.specs.Nodes.{AreUnread, IsNew, IsRunning, NodeCloses, NodePlays, Reads, ReadsEach, Runs, peers_of};
 
 use crate::finished::{Finished, Refusal};
 use crate::peers::speech::{Speech, said};
-use crate::plan::{Line, Plan, What};
-use gs_base::{Millis, PeerNo, Rpc, Seq, clone_of};
+use gs_base::{Line, Millis, PeerNo, Plan, Rpc, Seq, What, clone_of};
 use gs_router::{Router, RouterFault};
 use gs_wire::{FrameReader, MAX_BODY, WireFault};
 use std::alloc::{AllocError, Global};

@@ -1,6 +1,6 @@
 use Rattle.std.proofs.Common.{◌≡◌, ◌∙◌, ℕ, List, codes, inl, inr, refl, subst}
 use Rattle.std.specs.Fmt.{digits}
-use Rattle.gossip_sim.specs.declared.fault.ScenarioFault.TheVariants.{NoMemory}
+use Rattle.gs_scenario.specs.declared.fault.ScenarioFault.TheVariants.{NoMemory}
 use Rattle.gossip_sim.specs.Program.{refusal_line}
 use Rattle.gossip_sim.specs.Streams.{AppendsFront}
 use Rattle.gossip_sim.proofs.program.tell_refusal.Goals as goal

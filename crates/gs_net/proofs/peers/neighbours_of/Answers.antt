@@ -1,8 +1,9 @@
 use Rattle.std.proofs.Common.{◌≡◌, ℕ, ◌+◌, Bool, cond, List, [], ◌∷◌, ◌++◌, map, filter, zero-add, rules, arith}
-use Rattle.std.specs.List.{list_any, range_with_len}
+use Rattle.std.specs.List.{range_with_len}
 use Rattle.std.proofs.lemmas.List.FromFn.{filter_of_map_range_with_len_more}
 use Rattle.gs_base.specs.declared.names.PeerNo.{PeerNo}
-use Rattle.gs_net.specs.Rounds.{joins, peer_no}
+use Rattle.gs_base.specs.Plans.{are_joined}
+use Rattle.gs_net.specs.Rounds.{peer_no}
 use Rattle.gs_net.proofs.peers.neighbours_of.Goals as goal
 use Rattle.gs_net.proofs.peers.neighbours_of.Goals.{then-are_joined+in_ok-push, else-are_joined}
 
@@ -12,5 +13,5 @@ more p n b found next is tested added = rw (filter_of_map_range_with_len_more p 
 
 pub loop-number-preserved : goal.loop-number-preserved
 loop-number-preserved c =
-    more (λ q. list_any (joins c.args.peer q) c.args.plan.now.dials) _ c.are_joined.result c.loop-number.found.items _ c.loop-number.invariant (search rules)
+    more (are_joined c.args.plan.now.dials c.args.peer) _ c.are_joined.result c.loop-number.found.items _ c.loop-number.invariant (search rules)
     (elim c.if-are_joined.branch [ then-are_joined+in_ok-push w ↦ grind (arith, w.in_ok-push.ensures.items) | else-are_joined w ↦ search rules ])

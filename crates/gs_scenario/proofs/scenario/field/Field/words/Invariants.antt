@@ -1,0 +1,12 @@
+use Rattle.std.proofs.Common.{◌≡◌, ℕ, List, [], drop, ◌-◌, ◌^◌}
+use Rattle.toml.specs.View.{items_view}
+use Rattle.gs_scenario.specs.Keys.{read_each}
+use Rattle.gs_scenario.specs.Kinds.{whole_number}
+use Rattle.gs_scenario.specs.Views.{place_text}
+use Rattle.gs_scenario.proofs.scenario.field.Field.words.Given as goal
+
+-- what the rest of the list gives after these words is what the whole gives
+abbrev pub invariant-loop-value : goal.invariant-loop-value
+invariant-loop-value l =
+    let read = λ (before : List ℕ). whole_number 0 (2 ^ 32 - 1) (place_text l.place) in
+    read_each read l.words (items_view (drop l.value-index l.list)) ≡ read_each read [] (items_view l.list)

@@ -1,0 +1,6 @@
+pub mod Refusal
+pub mod Keys
+pub mod Kinds
+pub mod ParamsOf
+pub mod PlanOf
+pub mod Views

@@ -1,0 +1,372 @@
+-- The parameters that a scenario gives, or its first refusal: the keys of each table in their order.
+use Rattle.std.specs.Prelude.{ℕ, ◌++◌, Bool, codes, List, [], ◌∷◌, Result, Ok, Err, ℤ, pos, neg_ℤ}
+use Rattle.gs_base.specs.Params.{most, checked}
+use Rattle.gs_base.specs.declared.names.Topic.{Topic}
+use Rattle.gs_base.specs.declared.params.TheConstants.{DEFAULT_DEGREES, DEFAULT_THRESHOLDS, DEFAULT_FACTORS, DEFAULT_WINDOWS, DEFAULT_FLOOD_PUBLISH}
+use Rattle.gs_base.specs.declared.params.Degrees.{Degrees}
+use Rattle.gs_base.specs.declared.params.Thresholds.{Thresholds}
+use Rattle.gs_base.specs.declared.params.Factors.{Factors}
+use Rattle.gs_base.specs.declared.params.Windows.{Windows}
+use Rattle.gs_base.specs.declared.params.Params.{Params}
+use Rattle.gs_base.specs.declared.topic_params.TheConstants.{DEFAULT_TOPIC_FACTORS, DEFAULT_TOPIC_WINDOWS}
+use Rattle.gs_base.specs.declared.topic_params.TopicFactors.{TopicFactors}
+use Rattle.gs_base.specs.declared.topic_params.TopicWindows.{TopicWindows}
+use Rattle.gs_base.specs.declared.topic_params.TopicParams.{TopicParams}
+use Rattle.gs_base.specs.declared.param_fault.ParamFault.{ParamFault}
+use Rattle.gs_scenario.specs.declared.fault.ScenarioFault.{ScenarioFault}
+use Rattle.gs_scenario.specs.declared.fault.ScenarioFault.TheVariants as faults
+use Rattle.gs_scenario.specs.declared.scenario.params.Shared.{Shared}
+use Rattle.gs_scenario.specs.declared.scenario.topic_params.TopicWeights.{TopicWeights}
+use Rattle.gs_scenario.specs.declared.scenario.topic_params.TopicCounters.{TopicCounters}
+use Rattle.gs_scenario.specs.Keys.{Key, Section, ◌>>=◌, optional, read_key, only}
+use Rattle.gs_scenario.specs.Kinds.{whole_number, signed_number, truth_value, hex_text, list_of_each, multiple_of}
+
+-- ---- kinds of keys
+
+-- a number of things, of milliseconds or of seconds
+abbrev pub count_key : List ℕ → ℕ → Key ℕ
+count_key name default = optional name (whole_number 0 most) default
+
+-- millionths, none of them below zero
+abbrev pub amount_key : List ℕ → ℤ → Key ℤ
+amount_key name default = optional name (signed_number (pos 0) (pos most)) default
+
+-- millionths of either sign
+abbrev pub score_key : List ℕ → ℤ → Key ℤ
+score_key name default = optional name (signed_number (neg_ℤ (pos most)) (pos most)) default
+
+-- a list of the bytes that hex texts stand for, without which it is empty
+abbrev pub prefixes_key : List ℕ → Key (List (List ℕ))
+prefixes_key name = optional name (list_of_each hex_text) []
+
+-- ---- degrees
+
+abbrev pub d_key : Key ℕ
+d_key = count_key (codes "d") DEFAULT_DEGREES.d
+
+abbrev pub d_low_key : Key ℕ
+d_low_key = count_key (codes "d_low") DEFAULT_DEGREES.d_low
+
+abbrev pub d_high_key : Key ℕ
+d_high_key = count_key (codes "d_high") DEFAULT_DEGREES.d_high
+
+abbrev pub d_score_key : Key ℕ
+d_score_key = count_key (codes "d_score") DEFAULT_DEGREES.d_score
+
+abbrev pub d_out_key : Key ℕ
+d_out_key = count_key (codes "d_out") DEFAULT_DEGREES.d_out
+
+abbrev pub d_lazy_key : Key ℕ
+d_lazy_key = count_key (codes "d_lazy") DEFAULT_DEGREES.d_lazy
+
+abbrev pub degree_names : List (List ℕ)
+degree_names = d_key.name ∷ d_low_key.name ∷ d_high_key.name ∷ d_score_key.name ∷ d_out_key.name ∷ d_lazy_key.name ∷ []
+
+unfoldable pub degrees_in : Section → Result Degrees ScenarioFault
+degrees_in section = do
+  d ← read_key section d_key
+  d_low ← read_key section d_low_key
+  d_high ← read_key section d_high_key
+  d_score ← read_key section d_score_key
+  d_out ← read_key section d_out_key
+  d_lazy ← read_key section d_lazy_key
+  Ok (record { d = d; d_low = d_low; d_high = d_high; d_score = d_score; d_out = d_out; d_lazy = d_lazy })
+
+-- ---- thresholds
+
+abbrev pub gossip_threshold_key : Key ℤ
+gossip_threshold_key = score_key (codes "gossip_threshold") DEFAULT_THRESHOLDS.gossip_threshold
+
+abbrev pub publish_threshold_key : Key ℤ
+publish_threshold_key = score_key (codes "publish_threshold") DEFAULT_THRESHOLDS.publish_threshold
+
+abbrev pub graylist_threshold_key : Key ℤ
+graylist_threshold_key = score_key (codes "graylist_threshold") DEFAULT_THRESHOLDS.graylist_threshold
+
+abbrev pub opportunistic_threshold_key : Key ℤ
+opportunistic_threshold_key = amount_key (codes "opportunistic_threshold") DEFAULT_THRESHOLDS.opportunistic_threshold
+
+abbrev pub threshold_names : List (List ℕ)
+threshold_names = gossip_threshold_key.name ∷ publish_threshold_key.name ∷ graylist_threshold_key.name ∷ opportunistic_threshold_key.name ∷ []
+
+unfoldable pub thresholds_in : Section → Result Thresholds ScenarioFault
+thresholds_in section = do
+  gossip_threshold ← read_key section gossip_threshold_key
+  publish_threshold ← read_key section publish_threshold_key
+  graylist_threshold ← read_key section graylist_threshold_key
+  opportunistic_threshold ← read_key section opportunistic_threshold_key
+  Ok (record { gossip_threshold = gossip_threshold; publish_threshold = publish_threshold; graylist_threshold = graylist_threshold; opportunistic_threshold = opportunistic_threshold })
+
+-- ---- factors
+
+abbrev pub gossip_factor_key : Key ℕ
+gossip_factor_key = count_key (codes "gossip_factor") DEFAULT_FACTORS.gossip_factor
+
+abbrev pub p7_decay_key : Key ℤ
+p7_decay_key = amount_key (codes "p7_decay") DEFAULT_FACTORS.p7_decay
+
+abbrev pub w5_key : Key ℤ
+w5_key = amount_key (codes "w5") DEFAULT_FACTORS.w5
+
+abbrev pub w6_key : Key ℤ
+w6_key = score_key (codes "w6") DEFAULT_FACTORS.w6
+
+abbrev pub w7_key : Key ℤ
+w7_key = score_key (codes "w7") DEFAULT_FACTORS.w7
+
+abbrev pub topic_cap_key : Key ℤ
+topic_cap_key = amount_key (codes "topic_cap") DEFAULT_FACTORS.topic_cap
+
+abbrev pub decay_to_zero_key : Key ℤ
+decay_to_zero_key = amount_key (codes "decay_to_zero") DEFAULT_FACTORS.decay_to_zero
+
+abbrev pub p6_threshold_key : Key ℕ
+p6_threshold_key = count_key (codes "p6_threshold") DEFAULT_FACTORS.p6_threshold
+
+abbrev pub factor_names : List (List ℕ)
+factor_names = gossip_factor_key.name ∷ p7_decay_key.name ∷ w5_key.name ∷ w6_key.name ∷ w7_key.name ∷ topic_cap_key.name ∷ decay_to_zero_key.name ∷ p6_threshold_key.name ∷ []
+
+unfoldable pub factors_in : Section → Result Factors ScenarioFault
+factors_in section = do
+  gossip_factor ← read_key section gossip_factor_key
+  p7_decay ← read_key section p7_decay_key
+  w5 ← read_key section w5_key
+  w6 ← read_key section w6_key
+  w7 ← read_key section w7_key
+  topic_cap ← read_key section topic_cap_key
+  decay_to_zero ← read_key section decay_to_zero_key
+  p6_threshold ← read_key section p6_threshold_key
+  Ok (record { gossip_factor = gossip_factor; p7_decay = p7_decay; w5 = w5; w6 = w6; w7 = w7; topic_cap = topic_cap; decay_to_zero = decay_to_zero; p6_threshold = p6_threshold })
+
+-- ---- windows, of which two are whole rounds
+
+abbrev pub heartbeat_ms_key : ℕ → Key ℕ
+heartbeat_ms_key round_ms = multiple_of round_ms (count_key (codes "heartbeat_ms") DEFAULT_WINDOWS.heartbeat_ms)
+
+abbrev pub decay_ms_key : ℕ → Key ℕ
+decay_ms_key round_ms = multiple_of round_ms (count_key (codes "decay_ms") DEFAULT_WINDOWS.decay_ms)
+
+abbrev pub fanout_ttl_ms_key : Key ℕ
+fanout_ttl_ms_key = count_key (codes "fanout_ttl_ms") DEFAULT_WINDOWS.fanout_ttl_ms
+
+abbrev pub seen_ttl_ms_key : Key ℕ
+seen_ttl_ms_key = count_key (codes "seen_ttl_ms") DEFAULT_WINDOWS.seen_ttl_ms
+
+abbrev pub iwant_followup_ms_key : Key ℕ
+iwant_followup_ms_key = count_key (codes "iwant_followup_ms") DEFAULT_WINDOWS.iwant_followup_ms
+
+abbrev pub prune_backoff_s_key : Key ℕ
+prune_backoff_s_key = count_key (codes "prune_backoff_s") DEFAULT_WINDOWS.prune_backoff_s
+
+abbrev pub unsubscribe_backoff_s_key : Key ℕ
+unsubscribe_backoff_s_key = count_key (codes "unsubscribe_backoff_s") DEFAULT_WINDOWS.unsubscribe_backoff_s
+
+abbrev pub mcache_len_key : Key ℕ
+mcache_len_key = count_key (codes "mcache_len") DEFAULT_WINDOWS.mcache_len
+
+abbrev pub mcache_gossip_key : Key ℕ
+mcache_gossip_key = count_key (codes "mcache_gossip") DEFAULT_WINDOWS.mcache_gossip
+
+abbrev pub opportunistic_ticks_key : Key ℕ
+opportunistic_ticks_key = count_key (codes "opportunistic_ticks") DEFAULT_WINDOWS.opportunistic_ticks
+
+abbrev pub opportunistic_peers_key : Key ℕ
+opportunistic_peers_key = count_key (codes "opportunistic_peers") DEFAULT_WINDOWS.opportunistic_peers
+
+abbrev pub max_ihave_key : Key ℕ
+max_ihave_key = count_key (codes "max_ihave") DEFAULT_WINDOWS.max_ihave
+
+abbrev pub max_ihave_ids_key : Key ℕ
+max_ihave_ids_key = count_key (codes "max_ihave_ids") DEFAULT_WINDOWS.max_ihave_ids
+
+abbrev pub gossip_retransmission_key : Key ℕ
+gossip_retransmission_key = count_key (codes "gossip_retransmission") DEFAULT_WINDOWS.gossip_retransmission
+
+abbrev pub window_names : List (List ℕ)
+window_names = (heartbeat_ms_key 1).name ∷ (decay_ms_key 1).name ∷ fanout_ttl_ms_key.name ∷ seen_ttl_ms_key.name ∷ iwant_followup_ms_key.name ∷ prune_backoff_s_key.name ∷ unsubscribe_backoff_s_key.name ∷ mcache_len_key.name ∷ mcache_gossip_key.name ∷ opportunistic_ticks_key.name ∷ opportunistic_peers_key.name ∷ max_ihave_key.name ∷ max_ihave_ids_key.name ∷ gossip_retransmission_key.name ∷ []
+
+unfoldable pub windows_in : ℕ → Section → Result Windows ScenarioFault
+windows_in round_ms section = do
+  heartbeat_ms ← read_key section (heartbeat_ms_key round_ms)
+  decay_ms ← read_key section (decay_ms_key round_ms)
+  fanout_ttl_ms ← read_key section fanout_ttl_ms_key
+  seen_ttl_ms ← read_key section seen_ttl_ms_key
+  iwant_followup_ms ← read_key section iwant_followup_ms_key
+  prune_backoff_s ← read_key section prune_backoff_s_key
+  unsubscribe_backoff_s ← read_key section unsubscribe_backoff_s_key
+  mcache_len ← read_key section mcache_len_key
+  mcache_gossip ← read_key section mcache_gossip_key
+  opportunistic_ticks ← read_key section opportunistic_ticks_key
+  opportunistic_peers ← read_key section opportunistic_peers_key
+  max_ihave ← read_key section max_ihave_key
+  max_ihave_ids ← read_key section max_ihave_ids_key
+  gossip_retransmission ← read_key section gossip_retransmission_key
+  Ok (record { heartbeat_ms = heartbeat_ms; decay_ms = decay_ms; fanout_ttl_ms = fanout_ttl_ms; seen_ttl_ms = seen_ttl_ms; iwant_followup_ms = iwant_followup_ms; prune_backoff_s = prune_backoff_s; unsubscribe_backoff_s = unsubscribe_backoff_s; mcache_len = mcache_len; mcache_gossip = mcache_gossip; opportunistic_ticks = opportunistic_ticks; opportunistic_peers = opportunistic_peers; max_ihave = max_ihave; max_ihave_ids = max_ihave_ids; gossip_retransmission = gossip_retransmission })
+
+-- ---- the parameters that all topics share
+
+abbrev pub flood_publish_key : Key Bool
+flood_publish_key = optional (codes "flood_publish") truth_value DEFAULT_FLOOD_PUBLISH
+
+abbrev pub shared_names : List (List ℕ)
+shared_names = degree_names ++ threshold_names ++ factor_names ++ window_names ++ flood_publish_key.name ∷ []
+
+unfoldable pub shared_in : ℕ → Section → Result Shared ScenarioFault
+shared_in round_ms section = do
+  _ ← only shared_names section
+  degrees ← degrees_in section
+  thresholds ← thresholds_in section
+  factors ← factors_in section
+  windows ← windows_in round_ms section
+  flood_publish ← read_key section flood_publish_key
+  Ok (record { degrees = degrees; thresholds = thresholds; factors = factors; windows = windows; flood_publish = flood_publish })
+
+-- ---- the parameters of a topic
+
+abbrev pub topic_weight_key : Key ℤ
+topic_weight_key = amount_key (codes "topic_weight") DEFAULT_TOPIC_FACTORS.topic_weight
+
+abbrev pub w1_key : Key ℤ
+w1_key = amount_key (codes "w1") DEFAULT_TOPIC_FACTORS.w1
+
+abbrev pub w2_key : Key ℤ
+w2_key = amount_key (codes "w2") DEFAULT_TOPIC_FACTORS.w2
+
+abbrev pub w3_key : Key ℤ
+w3_key = score_key (codes "w3") DEFAULT_TOPIC_FACTORS.w3
+
+abbrev pub w3b_key : Key ℤ
+w3b_key = score_key (codes "w3b") DEFAULT_TOPIC_FACTORS.w3b
+
+abbrev pub w4_key : Key ℤ
+w4_key = score_key (codes "w4") DEFAULT_TOPIC_FACTORS.w4
+
+abbrev pub p2_decay_key : Key ℤ
+p2_decay_key = amount_key (codes "p2_decay") DEFAULT_TOPIC_FACTORS.p2_decay
+
+abbrev pub p3_decay_key : Key ℤ
+p3_decay_key = amount_key (codes "p3_decay") DEFAULT_TOPIC_FACTORS.p3_decay
+
+abbrev pub p3b_decay_key : Key ℤ
+p3b_decay_key = amount_key (codes "p3b_decay") DEFAULT_TOPIC_FACTORS.p3b_decay
+
+abbrev pub p4_decay_key : Key ℤ
+p4_decay_key = amount_key (codes "p4_decay") DEFAULT_TOPIC_FACTORS.p4_decay
+
+abbrev pub p1_cap_key : Key ℤ
+p1_cap_key = amount_key (codes "p1_cap") DEFAULT_TOPIC_FACTORS.p1_cap
+
+abbrev pub p2_cap_key : Key ℤ
+p2_cap_key = amount_key (codes "p2_cap") DEFAULT_TOPIC_FACTORS.p2_cap
+
+abbrev pub p3_cap_key : Key ℤ
+p3_cap_key = amount_key (codes "p3_cap") DEFAULT_TOPIC_FACTORS.p3_cap
+
+abbrev pub p3_threshold_key : Key ℤ
+p3_threshold_key = amount_key (codes "p3_threshold") DEFAULT_TOPIC_FACTORS.p3_threshold
+
+abbrev pub p1_quantum_ms_key : Key ℕ
+p1_quantum_ms_key = count_key (codes "p1_quantum_ms") DEFAULT_TOPIC_WINDOWS.p1_quantum_ms
+
+abbrev pub p3_window_ms_key : Key ℕ
+p3_window_ms_key = count_key (codes "p3_window_ms") DEFAULT_TOPIC_WINDOWS.p3_window_ms
+
+abbrev pub p3_activation_ms_key : Key ℕ
+p3_activation_ms_key = count_key (codes "p3_activation_ms") DEFAULT_TOPIC_WINDOWS.p3_activation_ms
+
+abbrev pub reject_key : Key (List (List ℕ))
+reject_key = prefixes_key (codes "reject")
+
+abbrev pub ignore_key : Key (List (List ℕ))
+ignore_key = prefixes_key (codes "ignore")
+
+abbrev pub topic_factor_names : List (List ℕ)
+topic_factor_names = topic_weight_key.name ∷ w1_key.name ∷ w2_key.name ∷ w3_key.name ∷ w3b_key.name ∷ w4_key.name ∷ p2_decay_key.name ∷ p3_decay_key.name ∷ p3b_decay_key.name ∷ p4_decay_key.name ∷ p1_cap_key.name ∷ p2_cap_key.name ∷ p3_cap_key.name ∷ p3_threshold_key.name ∷ []
+
+abbrev pub topic_window_names : List (List ℕ)
+topic_window_names = p1_quantum_ms_key.name ∷ p3_window_ms_key.name ∷ p3_activation_ms_key.name ∷ []
+
+abbrev pub topic_param_names : List (List ℕ)
+topic_param_names = topic_factor_names ++ topic_window_names ++ reject_key.name ∷ ignore_key.name ∷ []
+
+unfoldable pub topic_weights_in : Section → Result TopicWeights ScenarioFault
+topic_weights_in section = do
+  topic_weight ← read_key section topic_weight_key
+  w1 ← read_key section w1_key
+  w2 ← read_key section w2_key
+  w3 ← read_key section w3_key
+  w3b ← read_key section w3b_key
+  w4 ← read_key section w4_key
+  Ok (record { topic_weight = topic_weight; w1 = w1; w2 = w2; w3 = w3; w3b = w3b; w4 = w4 })
+
+unfoldable pub topic_counters_in : Section → Result TopicCounters ScenarioFault
+topic_counters_in section = do
+  p2_decay ← read_key section p2_decay_key
+  p3_decay ← read_key section p3_decay_key
+  p3b_decay ← read_key section p3b_decay_key
+  p4_decay ← read_key section p4_decay_key
+  p1_cap ← read_key section p1_cap_key
+  p2_cap ← read_key section p2_cap_key
+  p3_cap ← read_key section p3_cap_key
+  p3_threshold ← read_key section p3_threshold_key
+  Ok (record { p2_decay = p2_decay; p3_decay = p3_decay; p3b_decay = p3b_decay; p4_decay = p4_decay; p1_cap = p1_cap; p2_cap = p2_cap; p3_cap = p3_cap; p3_threshold = p3_threshold })
+
+-- both together
+abbrev pub joined : TopicWeights → TopicCounters → TopicFactors
+joined weights counters = record {
+  topic_weight = weights.topic_weight;
+  w1 = weights.w1;
+  w2 = weights.w2;
+  w3 = weights.w3;
+  w3b = weights.w3b;
+  w4 = weights.w4;
+  p2_decay = counters.p2_decay;
+  p3_decay = counters.p3_decay;
+  p3b_decay = counters.p3b_decay;
+  p4_decay = counters.p4_decay;
+  p1_cap = counters.p1_cap;
+  p2_cap = counters.p2_cap;
+  p3_cap = counters.p3_cap;
+  p3_threshold = counters.p3_threshold;
+}
+
+unfoldable pub topic_factors_in : Section → Result TopicFactors ScenarioFault
+topic_factors_in section = do
+  weights ← topic_weights_in section
+  counters ← topic_counters_in section
+  Ok (joined weights counters)
+
+unfoldable pub topic_windows_in : Section → Result TopicWindows ScenarioFault
+topic_windows_in section = do
+  p1_quantum_ms ← read_key section p1_quantum_ms_key
+  p3_window_ms ← read_key section p3_window_ms_key
+  p3_activation_ms ← read_key section p3_activation_ms_key
+  Ok (record { p1_quantum_ms = p1_quantum_ms; p3_window_ms = p3_window_ms; p3_activation_ms = p3_activation_ms })
+
+unfoldable pub topic_params_in : Section → Result TopicParams ScenarioFault
+topic_params_in section = do
+  factors ← topic_factors_in section
+  windows ← topic_windows_in section
+  reject ← read_key section reject_key
+  ignore ← read_key section ignore_key
+  Ok (record { factors = factors; windows = windows; reject = reject; ignore = ignore })
+
+-- ---- all of them
+
+abbrev pub with_topics : Shared → List (Topic × TopicParams) → Params
+with_topics shared topics = record {
+  degrees = shared.degrees;
+  thresholds = shared.thresholds;
+  factors = shared.factors;
+  windows = shared.windows;
+  flood_publish = shared.flood_publish;
+  topics = topics;
+}
+
+-- what a check of parameters gives
+abbrev pub or_refuse_params : Result Params ParamFault → Result Params ScenarioFault
+or_refuse_params (Ok params) = Ok params
+or_refuse_params (Err fault) = Err (faults.Params fault)
+
+unfoldable pub params_of : Shared → List (Topic × TopicParams) → Result Params ScenarioFault
+params_of shared topics = or_refuse_params (checked (with_topics shared topics))

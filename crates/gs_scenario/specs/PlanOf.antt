@@ -1,0 +1,290 @@
+-- The plan that a scenario describes, or its first refusal: the keys of each table in their order.
+use Rattle.std.specs.Prelude.{ℕ, ◌-◌, ◌^◌, ◌&&◌, ◌==◌, Bool, not, nat_eq, length, codes, position, find, List, [], ◌∷◌, Option, Some, None, option_map, Result, Ok, Err, if◌then◌else◌, ℤ, pos, neg_ℤ}
+use Rattle.std.specs.List.{list_any}
+use Rattle.std.specs.Cmp.Lexicographic.{pointwise}
+use Rattle.toml.specs.Data.{Data, Items, no_items, Members, no_members}
+use Rattle.toml.specs.Parse.{parse_document}
+use Rattle.gs_base.specs.declared.names.PeerNo.{PeerNo}
+use Rattle.gs_base.specs.declared.names.Topic.{Topic}
+use Rattle.gs_base.specs.declared.topic_params.TopicParams.{TopicParams}
+use Rattle.gs_scenario.specs.declared.fault.ScenarioFault.{ScenarioFault}
+use Rattle.gs_scenario.specs.declared.fault.ScenarioFault.TheVariants.{Toml, Range, UnknownName, Repeated}
+use Rattle.gs_base.specs.declared.plan.TheConstants.{LONGEST_ROUND, MOST_ROUNDS, MOST_PEERS}
+use Rattle.gs_base.specs.declared.plan.Plan.{Plan}
+use Rattle.gs_base.specs.declared.plan.Peer.{Peer}
+use Rattle.gs_base.specs.declared.plan.Dial.{Dial}
+use Rattle.gs_base.specs.declared.plan.App.{App}
+use Rattle.gs_base.specs.declared.plan.Line.{Line}
+use Rattle.gs_base.specs.declared.plan.What.{What}
+use Rattle.gs_base.specs.declared.plan.What.TheVariants.{Subscribe, Unsubscribe, Publish}
+use Rattle.gs_base.specs.Plans.{are_joined}
+use Rattle.gs_scenario.specs.declared.scenario.script.Verb.{Verb}
+use Rattle.gs_scenario.specs.declared.scenario.script.Verb.TheVariants as verbs
+use Rattle.gs_scenario.specs.Keys.{Key, Kind, Section, ◌>>=◌, refuse_if, required, optional, read_key, only, read_each}
+use Rattle.gs_scenario.specs.Kinds.{whole_number, signed_number, list_of, any_list, any_table, any_text, words, hex_text, new_name, reference, word, element, section_at, table_at}
+use Rattle.gs_scenario.specs.ParamsOf.{shared_in, topic_param_names, topic_params_in, params_of}
+
+-- ---- the top table
+
+abbrev pub round_ms_key : Key ℕ
+round_ms_key = required (codes "round_ms") (whole_number 1 LONGEST_ROUND)
+
+abbrev pub rounds_key : Key ℕ
+rounds_key = required (codes "rounds") (whole_number 1 MOST_ROUNDS)
+
+abbrev pub workers_key : Key ℕ
+workers_key = required (codes "workers") (whole_number 1 16)
+
+abbrev pub capacity_key : Key ℕ
+capacity_key = required (codes "capacity") (whole_number 1 1024)
+
+abbrev pub seed_key : Key ℕ
+seed_key = required (codes "seed") (whole_number 0 (2 ^ 63 - 1))
+
+abbrev pub params_key : Key Members
+params_key = optional (codes "params") any_table no_members
+
+abbrev pub topics_key : Key Items
+topics_key = required (codes "topic") (list_of 1 32)
+
+abbrev pub peers_key : Key Items
+peers_key = required (codes "peer") (list_of 1 MOST_PEERS)
+
+abbrev pub dials_key : Key Items
+dials_key = optional (codes "dial") any_list no_items
+
+abbrev pub apps_key : Key Items
+apps_key = optional (codes "app") any_list no_items
+
+abbrev pub script_key : Key Items
+script_key = optional (codes "do") any_list no_items
+
+abbrev pub top_keys : List (List ℕ)
+top_keys = round_ms_key.name ∷ rounds_key.name ∷ workers_key.name ∷ capacity_key.name ∷ seed_key.name ∷ params_key.name ∷ topics_key.name ∷ peers_key.name ∷ dials_key.name ∷ apps_key.name ∷ script_key.name ∷ []
+
+-- what the top table holds: the table in it and its lists are walked later
+pub record Top : Type 0 where
+  pub round_ms : ℕ
+  pub rounds : ℕ
+  pub workers : ℕ
+  pub capacity : ℕ
+  pub seed : ℕ
+  pub params : Members
+  pub topics : Items
+  pub peers : Items
+  pub dials : Items
+  pub apps : Items
+  pub script : Items
+
+unfoldable pub top_in : Section → Result Top ScenarioFault
+top_in top = do
+  _ ← only top_keys top
+  round_ms ← read_key top round_ms_key
+  rounds ← read_key top rounds_key
+  workers ← read_key top workers_key
+  capacity ← read_key top capacity_key
+  seed ← read_key top seed_key
+  params ← read_key top params_key
+  topics ← read_key top topics_key
+  peers ← read_key top peers_key
+  dials ← read_key top dials_key
+  apps ← read_key top apps_key
+  script ← read_key top script_key
+  Ok (record { round_ms = round_ms; rounds = rounds; workers = workers; capacity = capacity; seed = seed; params = params; topics = topics; peers = peers; dials = dials; apps = apps; script = script })
+
+-- ---- a topic
+
+-- the topic that has a name
+abbrev pub topic_named : List (Topic × TopicParams) → List ℕ → Option Topic
+topic_named topics text = option_map (λ (found : Topic × TopicParams). found.0) (find (λ (topic : Topic × TopicParams). pointwise nat_eq topic.0.0 text) topics)
+
+abbrev pub topic_name_key : List (Topic × TopicParams) → Key (List ℕ)
+topic_name_key earlier = required (codes "name") (new_name (topic_named earlier))
+
+abbrev pub topic_keys : List (List ℕ)
+topic_keys = (topic_name_key []).name ∷ topic_param_names
+
+unfoldable pub topic_in : List (Topic × TopicParams) → Data → Result (Topic × TopicParams) ScenarioFault
+topic_in earlier d = do
+  section ← table_at (element (codes "topic") (length earlier)) d
+  _ ← only topic_keys section
+  text ← read_key section (topic_name_key earlier)
+  params ← topic_params_in section
+  Ok (record { 0 = text }, params)
+
+-- ---- a peer
+
+-- the number of the peer that has a name
+abbrev pub peer_named : List Peer → List ℕ → Option PeerNo
+peer_named peers text = option_map (λ n. record { 0 = n }) (position (λ peer. pointwise nat_eq peer.name text) peers)
+
+abbrev pub peer_name_key : List Peer → Key (List ℕ)
+peer_name_key earlier = required (codes "name") (new_name (peer_named earlier))
+
+-- where a peer is: its name, where nothing else is said
+abbrev pub address_key : List ℕ → Key (List ℕ)
+address_key name = optional (codes "address") any_text name
+
+abbrev pub words_key : Key (List ℕ)
+words_key = optional (codes "words") words []
+
+abbrev pub peer_keys : List (List ℕ)
+peer_keys = (peer_name_key []).name ∷ (address_key []).name ∷ words_key.name ∷ []
+
+unfoldable pub peer_in : List Peer → Data → Result Peer ScenarioFault
+peer_in earlier d = do
+  section ← table_at (element (codes "peer") (length earlier)) d
+  _ ← only peer_keys section
+  text ← read_key section (peer_name_key earlier)
+  address ← read_key section (address_key text)
+  firsts ← read_key section words_key
+  Ok (record { name = text; address = address; words = firsts })
+
+-- ---- a dial
+
+-- a peer that has a name, and is another
+abbrev pub other_peer : List Peer → PeerNo → Kind PeerNo
+other_peer peers one place d = do
+  other ← reference (peer_named peers) place d
+  refuse_if (one.0 == other.0) (Range place) other
+
+abbrev pub from_key : List Peer → Key PeerNo
+from_key peers = required (codes "from") (reference (peer_named peers))
+
+abbrev pub to_key : List Peer → PeerNo → Key PeerNo
+to_key peers one = required (codes "to") (other_peer peers one)
+
+abbrev pub dial_keys : List (List ℕ)
+dial_keys = (from_key []).name ∷ (to_key [] (record { 0 = 0 })).name ∷ []
+
+abbrev pub new_dial : List ℕ → List Dial → Dial → Result Dial ScenarioFault
+new_dial place earlier dial = refuse_if (are_joined earlier dial.from dial.to) (Repeated place) dial
+
+unfoldable pub dial_in : List Peer → List Dial → Data → Result Dial ScenarioFault
+dial_in peers earlier d = do
+  section ← table_at (element (codes "dial") (length earlier)) d
+  _ ← only dial_keys section
+  one ← read_key section (from_key peers)
+  other ← read_key section (to_key peers one)
+  new_dial (element (codes "dial") (length earlier)) earlier (record { from = one; to = other })
+
+-- ---- what an application thinks of a neighbour
+
+-- whom a table speaks of
+abbrev pub peer_key : List Peer → Key PeerNo
+peer_key peers = required (codes "peer") (reference (peer_named peers))
+
+-- a neighbour of a peer, which has a name
+abbrev pub neighbour : List Peer → List Dial → PeerNo → Kind PeerNo
+neighbour peers dials one place d = do
+  other ← reference (peer_named peers) place d
+  refuse_if (not (are_joined dials one other)) (UnknownName place) other
+
+abbrev pub about_key : List Peer → List Dial → PeerNo → Key PeerNo
+about_key peers dials one = required (codes "about") (neighbour peers dials one)
+
+abbrev pub value_key : Key ℤ
+value_key = required (codes "value") (signed_number (neg_ℤ (pos (10 ^ 9))) (pos (10 ^ 9)))
+
+abbrev pub app_keys : List (List ℕ)
+app_keys = (peer_key []).name ∷ (about_key [] [] (record { 0 = 0 })).name ∷ value_key.name ∷ []
+
+-- two say what the same peer thinks of the same neighbour
+abbrev pub is_of_same : App → App → Bool
+is_of_same x y = (x.peer.0 == y.peer.0) && (x.about.0 == y.about.0)
+
+abbrev pub new_app : List ℕ → List App → App → Result App ScenarioFault
+new_app place earlier app = refuse_if (list_any (is_of_same app) earlier) (Repeated place) app
+
+unfoldable pub app_in : List Peer → List Dial → List App → Data → Result App ScenarioFault
+app_in peers dials earlier d = do
+  section ← table_at (element (codes "app") (length earlier)) d
+  _ ← only app_keys section
+  peer ← read_key section (peer_key peers)
+  about ← read_key section (about_key peers dials peer)
+  value ← read_key section value_key
+  new_app (element (codes "app") (length earlier)) earlier (record { peer = peer; about = about; value = value })
+
+-- ---- a line of the script
+
+-- what a word of the script tells a peer to do
+abbrev pub verb_of : List ℕ → Option Verb
+verb_of text =
+    if pointwise nat_eq text (codes "subscribe") then Some verbs.Subscribe
+    else if pointwise nat_eq text (codes "unsubscribe") then Some verbs.Unsubscribe
+    else if pointwise nat_eq text (codes "publish") then Some verbs.Publish
+    else None
+
+-- the word for what a peer is told to do
+abbrev pub what_word : What → List ℕ
+what_word (Subscribe topic) = codes "subscribe"
+what_word (Unsubscribe topic) = codes "unsubscribe"
+what_word (Publish topic payload) = codes "publish"
+
+abbrev pub what_key : Key Verb
+what_key = required (codes "what") (word verb_of)
+
+abbrev pub at_key : ℕ → Key ℕ
+at_key rounds = required (codes "at") (whole_number 0 rounds)
+
+abbrev pub topic_key : List (Topic × TopicParams) → Key Topic
+topic_key topics = required (codes "topic") (reference (topic_named topics))
+
+abbrev pub hex_key : Key (List ℕ)
+hex_key = required (codes "hex") hex_text
+
+-- the keys that every line has
+abbrev pub line_keys : List (List ℕ) → List (List ℕ)
+line_keys others = what_key.name ∷ (at_key 0).name ∷ (peer_key []).name ∷ others
+
+-- the keys of a line that tells this
+abbrev pub keys_of : Verb → List (List ℕ)
+keys_of verbs.Subscribe = line_keys ((topic_key []).name ∷ [])
+keys_of verbs.Unsubscribe = line_keys ((topic_key []).name ∷ [])
+keys_of verbs.Publish = line_keys ((topic_key []).name ∷ hex_key.name ∷ [])
+
+unfoldable pub what_in : List (Topic × TopicParams) → Section → Verb → Result What ScenarioFault
+what_in topics section verbs.Subscribe = do
+  topic ← read_key section (topic_key topics)
+  Ok (Subscribe topic)
+what_in topics section verbs.Unsubscribe = do
+  topic ← read_key section (topic_key topics)
+  Ok (Unsubscribe topic)
+what_in topics section verbs.Publish = do
+  topic ← read_key section (topic_key topics)
+  payload ← read_key section hex_key
+  Ok (Publish topic payload)
+
+unfoldable pub line_in : List (Topic × TopicParams) → List Peer → ℕ → List Line → Data → Result Line ScenarioFault
+line_in topics peers rounds earlier d = do
+  section ← table_at (element (codes "do") (length earlier)) d
+  verb ← read_key section what_key
+  _ ← only (keys_of verb) section
+  round ← read_key section (at_key rounds)
+  peer ← read_key section (peer_key peers)
+  what ← what_in topics section verb
+  Ok (record { at = round; peer = peer; what = what })
+
+-- ---- the plan
+
+-- the top table, then the tables and lists in it in the order of their keys, and then the checks of
+-- the parameters
+unfoldable pub plan_in : Members → Result Plan ScenarioFault
+plan_in members = do
+  top ← top_in (record { path = []; members = members })
+  shared ← shared_in top.round_ms (section_at params_key.name top.params)
+  topics ← read_each topic_in [] top.topics
+  peers ← read_each peer_in [] top.peers
+  dials ← read_each (dial_in peers) [] top.dials
+  apps ← read_each (app_in peers dials) [] top.apps
+  script ← read_each (line_in topics peers top.rounds) [] top.script
+  params ← params_of shared topics
+  Ok (record { round_ms = top.round_ms; rounds = top.rounds; workers = top.workers; capacity = top.capacity; seed = top.seed; params = params; peers = peers; dials = dials; apps = apps; script = script })
+
+abbrev pub plan_of_document : Option Members → Result Plan ScenarioFault
+plan_of_document None = Err Toml
+plan_of_document (Some members) = plan_in members
+
+-- the plan that a text describes, or its first refusal
+abbrev pub plan_of : List ℕ → Result Plan ScenarioFault
+plan_of text = plan_of_document (parse_document text)

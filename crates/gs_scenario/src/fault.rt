@@ -1,0 +1,94 @@
+//! Why a scenario is refused.
+ghost use Rattle.std.specs.Prelude.{◌≡◌, Some, option_map};
+ghost use Rattle.gs_scenario.specs.declared.fault.ScenarioFault.TheVariants.{NoMemory};
+ghost use Rattle.gs_scenario.specs.Refusal.{number_of, place_of, refusal_text};
+
+use gs_base::{ParamFault, Text};
+use std::alloc::{AllocError, AllocFailed};
+use std::error::Error;
+use std::fmt;
+
+/// Why a scenario is refused. Each fault but three names its place: a key of the top table by its
+/// name, and otherwise as `params.d`, `peer[1]` or `do[2].hex`, where elements count from 0.
+#[derive(Debug, Drop, PartialEq, Eq)]
+pub enum ScenarioFault {
+    /// The text is no TOML document.
+    Toml,
+    /// A table has a key that is not known there.
+    UnknownKey(Text),
+    /// A key that is required is missing.
+    Missing(Text),
+    /// A value has another type, is out of its range, or is badly formed.
+    Range(Text),
+    /// A name is well formed, and nothing has it that may stand there.
+    UnknownName(Text),
+    /// A name, a dial or the score of a neighbour stands for the second time.
+    Repeated(Text),
+    /// The parameters don't pass their checks.
+    Params(ParamFault),
+    /// There was no memory for the plan.
+    NoMemory,
+}
+
+impl ScenarioFault {
+    /// The number of the refusal: 26 to 32, or 1 to 4 for parameters.
+    pub fn number(&self) -> u8
+        ensures { result ≡ number_of self.now }
+    {
+        match self {
+            ScenarioFault::Toml => 26,
+            ScenarioFault::UnknownKey(_) => 27,
+            ScenarioFault::Missing(_) => 28,
+            ScenarioFault::Range(_) => 29,
+            ScenarioFault::UnknownName(_) => 30,
+            ScenarioFault::Repeated(_) => 31,
+            ScenarioFault::Params(fault) => fault.number(),
+            ScenarioFault::NoMemory => 32,
+        }
+    }
+
+    /// Where the scenario is refused.
+    pub fn place(&self) -> Option<&Text>
+        ensures { option_map (λ place. place.now) result ≡ place_of self.now }
+    {
+        match self {
+            ScenarioFault::UnknownKey(place)
+            | ScenarioFault::Missing(place)
+            | ScenarioFault::Range(place)
+            | ScenarioFault::UnknownName(place)
+            | ScenarioFault::Repeated(place) => Some(place),
+            ScenarioFault::Toml | ScenarioFault::Params(_) | ScenarioFault::NoMemory => None,
+        }
+    }
+}
+
+/// The number, and behind a space the place where there is one, as `29 do[2].hex`.
+impl fmt::Display for ScenarioFault {
+    ghost output = { λ fault. Some (refusal_text fault) };
+
+    fn fmt<W: fmt::Write>(&self, f: &mut fmt::Formatter<W>) -> fmt::Result {
+        let number = self.number();
+        match self.place() {
+            Some(place) => write!(f, "{number} {}", place.as_str()),
+            None => write!(f, "{number}"),
+        }
+    }
+}
+
+impl Error for ScenarioFault {}
+
+impl From<AllocError> for ScenarioFault {
+    ghost from_gives = { λ _ fault. fault ≡ NoMemory };
+
+    fn from(_error: AllocError) -> ScenarioFault {
+        ScenarioFault::NoMemory
+    }
+}
+
+impl<T: Drop> From<AllocFailed<T>> for ScenarioFault {
+    ghost from_gives = { λ _ fault. fault ≡ NoMemory };
+
+    fn from(_error: AllocFailed<T>) -> ScenarioFault {
+        ScenarioFault::NoMemory
+    }
+}

@@ -1,0 +1,92 @@
+//! Scenarios: the plan that a TOML text describes, or its first refusal.
+ghost use Rattle.std.specs.Prelude.{◌≡◌, IfOk};
+ghost use Rattle.toml.specs.View.{table_view};
+ghost use Rattle.gs_scenario.specs.Refusal.{Gives};
+ghost use Rattle.gs_scenario.specs.PlanOf.{plan_of, plan_in};
+ghost use Rattle.gs_base.specs.Plans.{IsInRange};
+
+mod apps;
+mod dials;
+mod field;
+mod params;
+mod peers;
+mod place;
+mod script;
+mod section;
+mod top;
+mod topic_params;
+mod topics;
+
+use crate::fault::ScenarioFault;
+use crate::scenario::apps::apps_in;
+use crate::scenario::dials::dials_in;
+use crate::scenario::params::{params_of, shared_of};
+use crate::scenario::peers::peers_in;
+use crate::scenario::place::Path;
+use crate::scenario::script::{Known, lines_in};
+use crate::scenario::section::Section;
+use crate::scenario::top::Top;
+use crate::scenario::topics::topics_in;
+use gs_base::Plan;
+use std::alloc::Global;
+use toml::Table;
+
+/// The plan that a scenario describes.
+///
+/// # Errors
+/// The first refusal. First comes a text that is no TOML. Then the top table is read, then the
+/// table of parameters, and then the lists, element by element. In each table an unknown key is
+/// refused first, and then each key is looked at in a fixed order. Last the parameters are checked.
+/// `NoMemory` may come at any step before.
+pub fn read_plan(alloc: Global, text: &str) -> Result<Plan, ScenarioFault>
+    ensures plan { Gives (λ plan. plan) result (plan_of text.now) }
+    ensures in_range { IfOk result (λ plan. IsInRange plan) }
+{
+    match toml::table_from_str(alloc, text) {
+        Ok(table) => plan_in(alloc, &table),
+        Err(fault) => {
+            if fault.is_memory() {
+                Err(ScenarioFault::NoMemory)
+            } else {
+                Err(ScenarioFault::Toml)
+            }
+        }
+    }
+}
+
+/// The plan that a document describes.
+#[tactic(auto, unfolding(crate::specs::PlanOf::plan_in))]
+fn plan_in(alloc: Global, table: &Table) -> Result<Plan, ScenarioFault>
+    ensures plan { Gives (λ plan. plan) result (plan_in (table_view table.now)) }
+    ensures in_range { IfOk result (λ plan. IsInRange plan) }
+{
+    let path = Path::Top;
+    let top = Top::read(alloc, Section { path, table })?;
+    let shared = shared_of(alloc, top.params, top.round_ms)?;
+    let topics = topics_in(alloc, top.topics)?;
+    let peers = peers_in(alloc, top.peers)?;
+    let dials = dials_in(alloc, peers.as_slice(), top.dials)?;
+    let apps = apps_in(alloc, peers.as_slice(), dials.as_slice(), top.apps)?;
+    let known = Known {
+        topics: topics.as_slice(),
+        peers: peers.as_slice(),
+        rounds: top.rounds,
+    };
+    let script = lines_in(alloc, &known, top.script)?;
+    let params = params_of(shared, topics)?;
+    Ok(Plan {
+        round_ms: top.round_ms,
+        rounds: top.rounds,
+        workers: top.workers,
+        capacity: top.capacity,
+        seed: top.seed,
+        params,
+        peers,
+        dials,
+        apps,
+        script,
+    })
+}
+
+#[cfg(test)]
+mod tests;

@@ -1,0 +1,109 @@
+//! What the applications of a scenario think of their peers' neighbours.
+ghost use Rattle.std.specs.Prelude.{◌≡◌, ◌≤◌, [], length};
+ghost use Rattle.std.specs.List.{list_any};
+ghost use Rattle.toml.specs.View.{view, items_view};
+ghost use Rattle.gs_scenario.specs.Refusal.{Gives};
+ghost use Rattle.gs_scenario.specs.Keys.{read_each};
+ghost use Rattle.gs_scenario.specs.PlanOf.{app_in, is_of_same, neighbour};
+ghost use Rattle.gs_scenario.specs.Views.{read_as};
+
+use crate::fault::ScenarioFault;
+use crate::scenario::field::{Field, table_of};
+use crate::scenario::peers::peer_of;
+use crate::scenario::place::{Element, Place};
+use gs_base::{App, Dial, MOST_PEERS, Peer, PeerNo, Seq, are_joined};
+use std::alloc::Global;
+use toml::Value;
+
+const PEER: &str = "peer";
+
+const ABOUT: &str = "about";
+
+const VALUE: &str = "value";
+
+/// The highest score that an application gives. The lowest is as far below zero.
+const MOST: i64 = 1_000_000_000;
+
+/// The scores of a list, in its order.
+#[tactic(auto, unfolding(crate::specs::Keys::read_each))]
+pub fn apps_in(
+    alloc: Global,
+    peers: &[Peer],
+    dials: &[Dial],
+    list: &[Value],
+) -> Result<Seq<App>, ScenarioFault>
+    requires { length peers.now ≤ MOST_PEERS }
+    ensures { Gives (λ apps. apps) result
+        (read_each (app_in peers.now dials.now) [] (items_view list.now)) }
+{
+    let mut apps = Seq::new(alloc);
+    for value in list {
+        let app = app_in(alloc, peers, dials, apps.as_slice(), value)?;
+        apps.push(app)?;
+    }
+    Ok(apps)
+}
+
+/// The score that stands in the list after the earlier ones.
+#[tactic(auto, unfolding(crate::specs::PlanOf::app_in))]
+fn app_in(
+    alloc: Global,
+    peers: &[Peer],
+    dials: &[Dial],
+    earlier: &[App],
+    value: &Value,
+) -> Result<App, ScenarioFault>
+    requires { length peers.now ≤ MOST_PEERS }
+    ensures { Gives (λ app. app) result
+        (app_in peers.now dials.now earlier.now (view value.now)) }
+{
+    let element = Element {
+        list: "app",
+        index: earlier.len(),
+    };
+    let section = table_of(alloc, element, value)?;
+    section.only(alloc, &[PEER, ABOUT, VALUE])?;
+    let peer = peer_of(alloc, peers, &section.required(alloc, PEER)?)?;
+    let field = section.required(alloc, ABOUT)?;
+    let about = neighbour_of(alloc, peers, dials, peer, &field)?;
+    let value = section.signed_number(alloc, VALUE, -MOST, MOST)?;
+    let app = App { peer, about, value };
+    if is_repeated(earlier, &app) {
+        return Err(ScenarioFault::Repeated(Place::Element(element).to_text(alloc)?));
+    }
+    Ok(app)
+}
+
+/// The neighbour of a peer that a value names.
+fn neighbour_of(
+    alloc: Global,
+    peers: &[Peer],
+    dials: &[Dial],
+    peer: PeerNo,
+    field: &Field<'_>,
+) -> Result<PeerNo, ScenarioFault>
+    requires { length peers.now ≤ MOST_PEERS }
+    ensures { Gives (λ other. other) result
+        (read_as (neighbour peers.now dials.now peer) field.now) }
+{
+    let other = peer_of(alloc, peers, field)?;
+    if are_joined(dials, peer, other) {
+        Ok(other)
+    } else {
+        Err(ScenarioFault::UnknownName(field.place.to_text(alloc)?))
+    }
+}
+
+/// Whether an earlier score is of the same neighbour of the same peer.
+fn is_repeated(earlier: &[App], app: &App) -> bool
+    ensures { result ≡ list_any (is_of_same app.now) earlier.now }
+{
+    earlier.iter().any(|other| is_of_same(app, other))
+}
+
+/// Whether two scores are of the same neighbour of the same peer.
+fn is_of_same(one: &App, other: &App) -> bool
+    ensures { result ≡ is_of_same one.now other.now }
+{
+    one.peer == other.peer && one.about == other.about
+}

@@ -1,0 +1,71 @@
+//! The dials of a scenario.
+ghost use Rattle.std.specs.Prelude.{◌≡◌, ◌≤◌, [], length};
+ghost use Rattle.toml.specs.View.{view, items_view};
+ghost use Rattle.gs_scenario.specs.Refusal.{Gives};
+ghost use Rattle.gs_scenario.specs.Keys.{read_each};
+ghost use Rattle.gs_scenario.specs.PlanOf.{dial_in};
+ghost use Rattle.gs_base.specs.Plans.{are_joined};
+
+use crate::fault::ScenarioFault;
+use crate::scenario::field::table_of;
+use crate::scenario::peers::peer_of;
+use crate::scenario::place::{Element, Place};
+use gs_base::{Dial, MOST_PEERS, Peer, Seq, are_joined};
+use std::alloc::Global;
+use toml::Value;
+
+const FROM: &str = "from";
+
+const TO: &str = "to";
+
+/// The dials of a list, in its order.
+#[tactic(auto, unfolding(crate::specs::Keys::read_each))]
+pub fn dials_in(alloc: Global, peers: &[Peer], list: &[Value]) -> Result<Seq<Dial>, ScenarioFault>
+    requires { length peers.now ≤ MOST_PEERS }
+    ensures { Gives (λ dials. dials) result
+        (read_each (dial_in peers.now) [] (items_view list.now)) }
+{
+    let mut dials = Seq::new(alloc);
+    for value in list {
+        let dial = dial_in(alloc, peers, dials.as_slice(), value)?;
+        dials.push(dial)?;
+    }
+    Ok(dials)
+}
+
+/// The dial that stands in the list after the earlier ones.
+#[tactic(auto, unfolding(crate::specs::PlanOf::dial_in))]
+fn dial_in(
+    alloc: Global,
+    peers: &[Peer],
+    earlier: &[Dial],
+    value: &Value,
+) -> Result<Dial, ScenarioFault>
+    requires { length peers.now ≤ MOST_PEERS }
+    ensures { Gives (λ dial. dial) result (dial_in peers.now earlier.now (view value.now)) }
+{
+    let element = Element {
+        list: "dial",
+        index: earlier.len(),
+    };
+    let section = table_of(alloc, element, value)?;
+    section.only(alloc, &[FROM, TO])?;
+    let from = peer_of(alloc, peers, &section.required(alloc, FROM)?)?;
+    let field = section.required(alloc, TO)?;
+    let to = peer_of(alloc, peers, &field)?;
+    if from == to {
+        return Err(ScenarioFault::Range(field.place.to_text(alloc)?));
+    }
+    let dial = Dial { from, to };
+    if is_repeated(earlier, &dial) {
+        return Err(ScenarioFault::Repeated(Place::Element(element).to_text(alloc)?));
+    }
+    Ok(dial)
+}
+
+/// Whether an earlier dial joins the same peers.
+fn is_repeated(earlier: &[Dial], dial: &Dial) -> bool
+    ensures { result ≡ are_joined earlier.now dial.now.from dial.now.to }
+{
+    are_joined(earlier, dial.from, dial.to)
+}

@@ -1,0 +1,205 @@
+//! A value at its place, read as what it must be.
+ghost use Rattle.std.specs.Prelude.{◌≡◌, ◌≤◌, IfOk, length, option_map, option_and_then};
+ghost use Rattle.std.specs.List.{list_all};
+ghost use Rattle.toml.specs.Data.{as_integer, as_str, as_array};
+ghost use Rattle.toml.specs.View.{view, items_view, table_view};
+ghost use Rattle.gs_scenario.specs.Refusal.{Gives};
+ghost use Rattle.gs_scenario.specs.Kinds as kinds;
+ghost use Rattle.gs_scenario.specs.Views.{element_text, read_as, section_of};
+
+use crate::fault::ScenarioFault;
+use crate::scenario::place::{Element, Path, Place};
+use crate::scenario::section::Section;
+use bytes::Bytes;
+use gs_base::Seq;
+use hex::FromHexError;
+use std::alloc::Global;
+use toml::{Table, Value};
+
+/// A value of a scenario, and where it stands.
+#[derive(Clone, Copy)]
+pub struct Field<'a> {
+    pub place: Place<'a>,
+    pub value: &'a Value,
+}
+
+impl<'a> Field<'a> {
+    /// A whole number from low to high.
+    pub fn whole_number(&self, alloc: Global, low: u64, high: u64) -> Result<u64, ScenarioFault>
+        ensures number { Gives (λ number. number) result
+            (read_as (kinds.whole_number low high) self.now) }
+        ensures within { IfOk result (λ number. (low ≤ number) × (number ≤ high)) }
+    {
+        if let Some(number) = self.value.as_integer() {
+            if number >= 0 {
+                let number = number as u64;
+                if low <= number && number <= high {
+                    return Ok(number);
+                }
+            }
+        }
+        Err(ScenarioFault::Range(self.place.to_text(alloc)?))
+    }
+
+    /// A whole number of either sign, from low to high.
+    pub fn signed_number(&self, alloc: Global, low: i64, high: i64) -> Result<i64, ScenarioFault>
+        ensures { Gives (λ number. number) result
+            (read_as (kinds.signed_number low high) self.now) }
+    {
+        if let Some(number) = self.value.as_integer() {
+            if (low..=high).contains(&number) {
+                return Ok(number);
+            }
+        }
+        Err(ScenarioFault::Range(self.place.to_text(alloc)?))
+    }
+
+    /// True or false.
+    pub fn truth_value(&self, alloc: Global) -> Result<bool, ScenarioFault>
+        ensures { Gives (λ value. value) result (read_as kinds.truth_value self.now) }
+    {
+        match self.value.as_bool() {
+            Some(value) => Ok(value),
+            None => Err(ScenarioFault::Range(self.place.to_text(alloc)?)),
+        }
+    }
+
+    /// A table.
+    pub fn table(&self, alloc: Global) -> Result<&'a Table, ScenarioFault>
+        ensures { Gives (λ table. table_view table.now) result
+            (read_as kinds.any_table self.now) }
+    {
+        match self.value.as_table() {
+            Some(table) => Ok(table),
+            None => Err(ScenarioFault::Range(self.place.to_text(alloc)?)),
+        }
+    }
+
+    /// A list of low to high elements.
+    #[tactic(auto, using(crate::proofs::Lists::item_count_view))]
+    pub fn list(&self, alloc: Global, low: usize, high: usize) -> Result<&'a [Value], ScenarioFault>
+        ensures list { Gives (λ list. items_view list.now) result
+            (read_as (kinds.list_of low high) self.now) }
+        ensures within { IfOk result (λ list. (low ≤ length list.now) × (length list.now ≤ high)) }
+    {
+        if let Some(list) = self.value.as_array() {
+            if low <= list.len() && list.len() <= high {
+                return Ok(list.as_slice());
+            }
+        }
+        Err(ScenarioFault::Range(self.place.to_text(alloc)?))
+    }
+
+    /// A list.
+    pub fn any_list(&self, alloc: Global) -> Result<&'a [Value], ScenarioFault>
+        ensures { Gives (λ list. items_view list.now) result (read_as kinds.any_list self.now) }
+    {
+        match self.value.as_array() {
+            Some(list) => Ok(list.as_slice()),
+            None => Err(ScenarioFault::Range(self.place.to_text(alloc)?)),
+        }
+    }
+
+    /// Any text.
+    pub fn text(&self, alloc: Global) -> Result<&'a str, ScenarioFault>
+        ensures { Gives (λ text. text.now) result (read_as kinds.any_text self.now) }
+    {
+        match self.value.as_str() {
+            Some(text) => Ok(text),
+            None => Err(ScenarioFault::Range(self.place.to_text(alloc)?)),
+        }
+    }
+
+    /// A name: 1 to 32 of `a` to `z`, `0` to `9`, `_` and `-`.
+    pub fn name(&self, alloc: Global) -> Result<&'a str, ScenarioFault>
+        ensures { Gives (λ text. text.now) result (read_as kinds.name_text self.now) }
+    {
+        if let Some(text) = self.value.as_str() {
+            if is_name(text) {
+                return Ok(text);
+            }
+        }
+        Err(ScenarioFault::Range(self.place.to_text(alloc)?))
+    }
+
+    /// The bytes of a text of hex digits, in either case and even in number.
+    pub fn hex(&self, alloc: Global) -> Result<Bytes, ScenarioFault>
+        ensures { Gives (λ bytes. bytes) result (read_as kinds.hex_text self.now) }
+    {
+        if let Some(text) = self.value.as_str() {
+            match hex::decode(alloc, text) {
+                Ok(bytes) => return Ok(Bytes::from_vec(bytes)?),
+                Err(FromHexError::OutOfMemory) => return Err(ScenarioFault::NoMemory),
+                Err(_) => {}
+            }
+        }
+        Err(ScenarioFault::Range(self.place.to_text(alloc)?))
+    }
+
+    /// The bytes of each hex text of a list.
+    #[tactic(auto, unfolding(crate::specs::Keys::read_each))]
+    pub fn prefixes(&self, alloc: Global) -> Result<Seq<Bytes>, ScenarioFault>
+        ensures { Gives (λ prefixes. prefixes) result
+            (read_as (kinds.list_of_each kinds.hex_text) self.now) }
+    {
+        let place = self.place;
+        let list = self.any_list(alloc)?;
+        let mut prefixes = Seq::new(alloc);
+        for value in list {
+            let prefix = Field { place, value }.hex(alloc)?;
+            prefixes.push(prefix)?;
+        }
+        Ok(prefixes)
+    }
+
+    /// The words of 32 bits of a list.
+    #[tactic(auto, unfolding(crate::specs::Keys::read_each))]
+    pub fn words(&self, alloc: Global) -> Result<Seq<u32>, ScenarioFault>
+        ensures { Gives (λ words. words) result (read_as kinds.words self.now) }
+    {
+        let place = self.place;
+        let list = self.any_list(alloc)?;
+        let mut words = Seq::new(alloc);
+        for value in list {
+            let word = Field { place, value }.whole_number(alloc, 0, 0xFFFF_FFFF)?;
+            words.push(word as u32)?;
+        }
+        Ok(words)
+    }
+}
+
+/// The table that an element of a list is.
+pub fn table_of<'a>(
+    alloc: Global,
+    element: Element<'a>,
+    value: &'a Value,
+) -> Result<Section<'a>, ScenarioFault>
+    ensures { Gives section_of result (kinds.table_at (element_text element.entry) (view value.now)) }
+{
+    match value.as_table() {
+        Some(table) => Ok(Section {
+            path: Path::Within(element),
+            table,
+        }),
+        None => Err(ScenarioFault::Range(Place::Element(element).to_text(alloc)?)),
+    }
+}
+
+/// Whether a text is a name.
+fn is_name(text: &str) -> bool
+    ensures { result ≡ kinds.is_name text.now }
+{
+    1 <= text.len() && text.len() <= 32 && has_name_bytes(text)
+}
+
+fn has_name_bytes(text: &str) -> bool
+    ensures { result ≡ list_all kinds.is_name_byte text.now }
+{
+    text.as_bytes().iter().all(|byte| is_name_byte(*byte))
+}
+
+fn is_name_byte(byte: u8) -> bool
+    ensures { result ≡ kinds.is_name_byte byte }
+{
+    matches!(byte, b'a'..=b'z' | b'0'..=b'9' | b'_' | b'-')
+}

@@ -1,0 +1,217 @@
+//! The parameters of a scenario that all topics share.
+ghost use Rattle.std.specs.Prelude.{◌≡◌, ◌≤◌, IfOk, Ok, map, option_map, unwrap_or};
+ghost use Rattle.toml.specs.Data.{no_members};
+ghost use Rattle.toml.specs.View.{table_view};
+ghost use Rattle.gs_base.specs.Params.{checked};
+ghost use Rattle.gs_scenario.specs.Refusal.{Gives};
+ghost use Rattle.gs_scenario.specs.ParamsOf.{shared_in, shared_names, degrees_in, thresholds_in, factors_in, windows_in, params_of};
+ghost use Rattle.gs_scenario.specs.Kinds.{section_at};
+ghost use Rattle.gs_scenario.specs.PlanOf.{params_key};
+ghost use Rattle.gs_scenario.specs.Views.{section_of};
+
+use crate::fault::ScenarioFault;
+use crate::scenario::place::Path;
+use crate::scenario::section::Section;
+use gs_base::{
+    DEFAULT_DEGREES, DEFAULT_FACTORS, DEFAULT_FLOOD_PUBLISH, DEFAULT_THRESHOLDS, DEFAULT_WINDOWS,
+    Degrees, Factors, Params, Seq, Thresholds, Topic, TopicParams, Windows,
+};
+use std::alloc::Global;
+use toml::Table;
+
+/// The parameters that all topics share.
+#[derive(Clone, Copy)]
+pub struct Shared {
+    pub degrees: Degrees,
+    pub thresholds: Thresholds,
+    pub factors: Factors,
+    pub windows: Windows,
+    pub flood_publish: bool,
+}
+
+/// The parameters of the table at `params`, which may be missing. The heartbeat and the decay take
+/// whole rounds of `round_ms`.
+pub fn shared_of(
+    alloc: Global,
+    table: Option<&Table>,
+    round_ms: u64,
+) -> Result<Shared, ScenarioFault>
+    requires { 1 ≤ round_ms }
+    ensures { Gives (λ shared. shared) result (shared_in round_ms (section_at params_key.name
+        (unwrap_or (option_map (λ found. table_view found.now) table.entry) no_members))) }
+{
+    let path = Path::Table("params");
+    match table {
+        Some(table) => shared_in(alloc, &Section { path, table }, round_ms),
+        None => {
+            let table = &Table::new(alloc);
+            shared_in(alloc, &Section { path, table }, round_ms)
+        }
+    }
+}
+
+/// The keys of the table.
+fn keys() -> &'static [&'static str]
+    ensures { map (λ key. key.now) result.now ≡ shared_names }
+{
+    &[
+        "d",
+        "d_low",
+        "d_high",
+        "d_score",
+        "d_out",
+        "d_lazy",
+        "gossip_threshold",
+        "publish_threshold",
+        "graylist_threshold",
+        "opportunistic_threshold",
+        "gossip_factor",
+        "p7_decay",
+        "w5",
+        "w6",
+        "w7",
+        "topic_cap",
+        "decay_to_zero",
+        "p6_threshold",
+        "heartbeat_ms",
+        "decay_ms",
+        "fanout_ttl_ms",
+        "seen_ttl_ms",
+        "iwant_followup_ms",
+        "prune_backoff_s",
+        "unsubscribe_backoff_s",
+        "mcache_len",
+        "mcache_gossip",
+        "opportunistic_ticks",
+        "opportunistic_peers",
+        "max_ihave",
+        "max_ihave_ids",
+        "gossip_retransmission",
+        "flood_publish",
+    ]
+}
+
+/// The parameters of a table.
+#[tactic(auto, unfolding(crate::specs::ParamsOf::shared_in))]
+fn shared_in(alloc: Global, section: &Section<'_>, round_ms: u64) -> Result<Shared, ScenarioFault>
+    requires { 1 ≤ round_ms }
+    ensures { Gives (λ shared. shared) result (shared_in round_ms (section_of section.now)) }
+{
+    section.only(alloc, keys())?;
+    Ok(Shared {
+        degrees: degrees_in(alloc, section)?,
+        thresholds: thresholds_in(alloc, section)?,
+        factors: factors_in(alloc, section)?,
+        windows: windows_in(alloc, section, round_ms)?,
+        flood_publish: section.truth_value(alloc, "flood_publish", DEFAULT_FLOOD_PUBLISH)?,
+    })
+}
+
+#[tactic(auto, unfolding(crate::specs::ParamsOf::degrees_in))]
+fn degrees_in(alloc: Global, section: &Section<'_>) -> Result<Degrees, ScenarioFault>
+    ensures { Gives (λ degrees. degrees) result (degrees_in (section_of section.now)) }
+{
+    let default = DEFAULT_DEGREES;
+    Ok(Degrees {
+        d: section.count(alloc, "d", default.d)?,
+        d_low: section.count(alloc, "d_low", default.d_low)?,
+        d_high: section.count(alloc, "d_high", default.d_high)?,
+        d_score: section.count(alloc, "d_score", default.d_score)?,
+        d_out: section.count(alloc, "d_out", default.d_out)?,
+        d_lazy: section.count(alloc, "d_lazy", default.d_lazy)?,
+    })
+}
+
+#[tactic(auto, unfolding(crate::specs::ParamsOf::thresholds_in))]
+fn thresholds_in(alloc: Global, section: &Section<'_>) -> Result<Thresholds, ScenarioFault>
+    ensures { Gives (λ thresholds. thresholds) result (thresholds_in (section_of section.now)) }
+{
+    let default = DEFAULT_THRESHOLDS;
+    Ok(Thresholds {
+        gossip_threshold: section.score(alloc, "gossip_threshold", default.gossip_threshold)?,
+        publish_threshold: section.score(alloc, "publish_threshold", default.publish_threshold)?,
+        graylist_threshold: section.score(alloc, "graylist_threshold", default.graylist_threshold)?,
+        opportunistic_threshold: section.amount(
+            alloc,
+            "opportunistic_threshold",
+            default.opportunistic_threshold,
+        )?,
+    })
+}
+
+#[tactic(auto, unfolding(crate::specs::ParamsOf::factors_in))]
+fn factors_in(alloc: Global, section: &Section<'_>) -> Result<Factors, ScenarioFault>
+    ensures { Gives (λ factors. factors) result (factors_in (section_of section.now)) }
+{
+    let default = DEFAULT_FACTORS;
+    Ok(Factors {
+        gossip_factor: section.count(alloc, "gossip_factor", default.gossip_factor)?,
+        p7_decay: section.amount(alloc, "p7_decay", default.p7_decay)?,
+        w5: section.amount(alloc, "w5", default.w5)?,
+        w6: section.score(alloc, "w6", default.w6)?,
+        w7: section.score(alloc, "w7", default.w7)?,
+        topic_cap: section.amount(alloc, "topic_cap", default.topic_cap)?,
+        decay_to_zero: section.amount(alloc, "decay_to_zero", default.decay_to_zero)?,
+        p6_threshold: section.count(alloc, "p6_threshold", default.p6_threshold)?,
+    })
+}
+
+#[tactic(auto, unfolding(crate::specs::ParamsOf::windows_in))]
+fn windows_in(alloc: Global, section: &Section<'_>, round_ms: u64) -> Result<Windows, ScenarioFault>
+    requires { 1 ≤ round_ms }
+    ensures { Gives (λ windows. windows) result (windows_in round_ms (section_of section.now)) }
+{
+    let default = DEFAULT_WINDOWS;
+    Ok(Windows {
+        heartbeat_ms: section.multiple(alloc, "heartbeat_ms", default.heartbeat_ms, round_ms)?,
+        decay_ms: section.multiple(alloc, "decay_ms", default.decay_ms, round_ms)?,
+        fanout_ttl_ms: section.count(alloc, "fanout_ttl_ms", default.fanout_ttl_ms)?,
+        seen_ttl_ms: section.count(alloc, "seen_ttl_ms", default.seen_ttl_ms)?,
+        iwant_followup_ms: section.count(alloc, "iwant_followup_ms", default.iwant_followup_ms)?,
+        prune_backoff_s: section.count(alloc, "prune_backoff_s", default.prune_backoff_s)?,
+        unsubscribe_backoff_s: section.count(
+            alloc,
+            "unsubscribe_backoff_s",
+            default.unsubscribe_backoff_s,
+        )?,
+        mcache_len: section.count(alloc, "mcache_len", default.mcache_len)?,
+        mcache_gossip: section.count(alloc, "mcache_gossip", default.mcache_gossip)?,
+        opportunistic_ticks: section.count(
+            alloc,
+            "opportunistic_ticks",
+            default.opportunistic_ticks,
+        )?,
+        opportunistic_peers: section.count(
+            alloc,
+            "opportunistic_peers",
+            default.opportunistic_peers,
+        )?,
+        max_ihave: section.count(alloc, "max_ihave", default.max_ihave)?,
+        max_ihave_ids: section.count(alloc, "max_ihave_ids", default.max_ihave_ids)?,
+        gossip_retransmission: section.count(
+            alloc,
+            "gossip_retransmission",
+            default.gossip_retransmission,
+        )?,
+    })
+}
+
+/// All parameters, if they pass their checks.
+#[tactic(auto, unfolding(crate::specs::ParamsOf::params_of))]
+pub fn params_of(shared: Shared, topics: Seq<(Topic, TopicParams)>) -> Result<Params, ScenarioFault>
+    ensures params { Gives (λ params. params) result (params_of shared topics) }
+    ensures checked { IfOk result (λ params. checked params ≡ Ok params) }
+{
+    let params = Params {
+        degrees: shared.degrees,
+        thresholds: shared.thresholds,
+        factors: shared.factors,
+        windows: shared.windows,
+        flood_publish: shared.flood_publish,
+        topics,
+    };
+    match params.check() {
+        Ok(params) => Ok(params),
+        Err(fault) => Err(ScenarioFault::Params(fault)),
+    }
+}

@@ -1,0 +1,92 @@
+//! The peers of a scenario.
+ghost use Rattle.std.specs.Prelude.{◌≡◌, ◌<◌, ◌≤◌, [], IfOk, IfSome, length, nat_eq, position};
+ghost use Rattle.std.specs.Cmp.Lexicographic.{pointwise};
+ghost use Rattle.toml.specs.View.{view, items_view};
+ghost use Rattle.gs_scenario.specs.Refusal.{Gives};
+ghost use Rattle.gs_scenario.specs.Keys.{read_each};
+ghost use Rattle.gs_scenario.specs.Kinds.{reference};
+ghost use Rattle.gs_scenario.specs.Views.{read_as};
+ghost use Rattle.gs_scenario.specs.PlanOf.{peer_in, peer_named};
+
+use crate::fault::ScenarioFault;
+use crate::scenario::field::{Field, table_of};
+use crate::scenario::place::Element;
+use gs_base::{MOST_PEERS, Peer, PeerNo, Seq, Text};
+use std::alloc::Global;
+use toml::Value;
+
+const NAME: &str = "name";
+
+const ADDRESS: &str = "address";
+
+const WORDS: &str = "words";
+
+/// The peers of a list, in its order.
+#[tactic(auto, unfolding(crate::specs::Keys::read_each))]
+pub fn peers_in(alloc: Global, list: &[Value]) -> Result<Seq<Peer>, ScenarioFault>
+    requires { length list.now ≤ MOST_PEERS }
+    ensures read { Gives (λ peers. peers) result (read_each peer_in [] (items_view list.now)) }
+    ensures count { IfOk result (λ peers. length peers ≡ length list.now) }
+{
+    let mut peers = Seq::new(alloc);
+    for value in list {
+        let peer = peer_in(alloc, peers.as_slice(), value)?;
+        peers.push(peer)?;
+    }
+    Ok(peers)
+}
+
+/// The peer that stands in the list after the earlier ones.
+#[tactic(auto, unfolding(crate::specs::PlanOf::peer_in))]
+fn peer_in(alloc: Global, earlier: &[Peer], value: &Value) -> Result<Peer, ScenarioFault>
+    requires { length earlier.now ≤ MOST_PEERS }
+    ensures { Gives (λ peer. peer) result (peer_in earlier.now (view value.now)) }
+{
+    let element = Element {
+        list: "peer",
+        index: earlier.len(),
+    };
+    let section = table_of(alloc, element, value)?;
+    section.only(alloc, &[NAME, ADDRESS, WORDS])?;
+    let field = section.required(alloc, NAME)?;
+    let name = field.name(alloc)?;
+    if peer_named(earlier, name).is_some() {
+        return Err(ScenarioFault::Repeated(field.place.to_text(alloc)?));
+    }
+    let address = section.text(alloc, ADDRESS, name)?;
+    let words = section.words(alloc, WORDS)?;
+    Ok(Peer {
+        name: Text::from_str(alloc, name)?,
+        address: Text::from_str(alloc, address)?,
+        words,
+    })
+}
+
+/// The number of the peer that a value names.
+pub fn peer_of(alloc: Global, peers: &[Peer], field: &Field<'_>) -> Result<PeerNo, ScenarioFault>
+    requires { length peers.now ≤ MOST_PEERS }
+    ensures { Gives (λ peer. peer) result
+        (read_as (reference (peer_named peers.now)) field.now) }
+{
+    let name = field.name(alloc)?;
+    match peer_named(peers, name) {
+        Some(peer) => Ok(peer),
+        None => Err(ScenarioFault::UnknownName(field.place.to_text(alloc)?)),
+    }
+}
+
+/// The number of the peer that has a name.
+fn peer_named(peers: &[Peer], name: &str) -> Option<PeerNo>
+    requires { length peers.now ≤ MOST_PEERS }
+    ensures { result ≡ peer_named peers.now name.now }
+{
+    let index = index_of(peers, name)?;
+    Some(PeerNo(index as u16))
+}
+
+fn index_of(peers: &[Peer], name: &str) -> Option<usize>
+    ensures index { result ≡ position (λ peer. pointwise nat_eq peer.name name.now) peers.now }
+    ensures within { IfSome result (λ index. index < length peers.now) }
+{
+    peers.iter().position(|peer| peer.name.as_str() == name)
+}

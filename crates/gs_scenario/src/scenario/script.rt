@@ -1,0 +1,145 @@
+//! The script of a scenario: what the peers are told to do.
+ghost use Rattle.std.specs.Prelude.{◌≡◌, ◌≤◌, [], length, map};
+ghost use Rattle.toml.specs.View.{view, items_view};
+ghost use Rattle.gs_scenario.specs.Refusal.{Gives};
+ghost use Rattle.gs_scenario.specs.Keys.{read_each};
+ghost use Rattle.gs_scenario.specs.Kinds.{word};
+ghost use Rattle.gs_scenario.specs.Views.{read_as, section_of};
+ghost use Rattle.gs_scenario.specs.PlanOf.{line_in, what_in, verb_of, keys_of};
+
+use crate::fault::ScenarioFault;
+use crate::scenario::field::{Field, table_of};
+use crate::scenario::peers::peer_of;
+use crate::scenario::place::Element;
+use crate::scenario::section::Section;
+use crate::scenario::topics::{TopicEntry, topic_of};
+use crate::words::{PUBLISH, SUBSCRIBE, UNSUBSCRIBE};
+use gs_base::{Line, MOST_PEERS, Peer, Seq, What};
+use std::alloc::Global;
+use toml::Value;
+
+const WHAT: &str = "what";
+
+const AT: &str = "at";
+
+const PEER: &str = "peer";
+
+const TOPIC: &str = "topic";
+
+const HEX: &str = "hex";
+
+/// What the lines of a script may speak of.
+#[derive(Clone, Copy)]
+pub struct Known<'a> {
+    pub topics: &'a [TopicEntry],
+    pub peers: &'a [Peer],
+    /// The last round.
+    pub rounds: u64,
+}
+
+/// The word that says what a peer is told to do.
+#[derive(Clone, Copy)]
+pub enum Verb {
+    Subscribe,
+    Unsubscribe,
+    Publish,
+}
+
+impl Verb {
+    /// The keys of a line that says this.
+    fn keys(self) -> &'static [&'static str]
+        ensures { map (λ key. key.now) result.now ≡ keys_of self }
+    {
+        match self {
+            Verb::Subscribe | Verb::Unsubscribe => &[WHAT, AT, PEER, TOPIC],
+            Verb::Publish => &[WHAT, AT, PEER, TOPIC, HEX],
+        }
+    }
+}
+
+/// The lines of a list, in its order.
+#[tactic(auto, unfolding(crate::specs::Keys::read_each))]
+pub fn lines_in(
+    alloc: Global,
+    known: &Known<'_>,
+    list: &[Value],
+) -> Result<Seq<Line>, ScenarioFault>
+    requires { length known.now.peers.now ≤ MOST_PEERS }
+    ensures { let known = known.now in Gives (λ lines. lines) result
+        (read_each (line_in known.topics.now known.peers.now known.rounds) [] (items_view list.now)) }
+{
+    let mut lines = Seq::new(alloc);
+    for value in list {
+        let line = line_in(alloc, known, lines.as_slice(), value)?;
+        lines.push(line)?;
+    }
+    Ok(lines)
+}
+
+/// The line that stands in the list after the earlier ones.
+#[tactic(auto, unfolding(crate::specs::PlanOf::line_in, crate::specs::Keys::only))]
+fn line_in(
+    alloc: Global,
+    known: &Known<'_>,
+    earlier: &[Line],
+    value: &Value,
+) -> Result<Line, ScenarioFault>
+    requires { length known.now.peers.now ≤ MOST_PEERS }
+    ensures { let known = known.now in Gives (λ line. line) result
+        (line_in known.topics.now known.peers.now known.rounds earlier.now (view value.now)) }
+{
+    let element = Element {
+        list: "do",
+        index: earlier.len(),
+    };
+    let section = table_of(alloc, element, value)?;
+    let verb = verb_in(alloc, &section.required(alloc, WHAT)?)?;
+    section.only(alloc, verb.keys())?;
+    Ok(Line {
+        at: section.number(alloc, AT, 0, known.rounds)?,
+        peer: peer_of(alloc, known.peers, &section.required(alloc, PEER)?)?,
+        what: what_in(alloc, known.topics, &section, verb)?,
+    })
+}
+
+/// What a peer is told to do by a line that begins with a word.
+#[tactic(auto, unfolding(crate::specs::PlanOf::what_in))]
+fn what_in(
+    alloc: Global,
+    topics: &[TopicEntry],
+    section: &Section<'_>,
+    verb: Verb,
+) -> Result<What, ScenarioFault>
+    ensures { Gives (λ what. what) result (what_in topics.now (section_of section.now) verb) }
+{
+    let topic = topic_of(alloc, topics, &section.required(alloc, TOPIC)?)?;
+    match verb {
+        Verb::Subscribe => Ok(What::Subscribe(topic)),
+        Verb::Unsubscribe => Ok(What::Unsubscribe(topic)),
+        Verb::Publish => Ok(What::Publish(topic, section.hex(alloc, HEX)?)),
+    }
+}
+
+/// The word that a value is.
+fn verb_in(alloc: Global, field: &Field<'_>) -> Result<Verb, ScenarioFault>
+    ensures { Gives (λ verb. verb) result (read_as (word verb_of) field.now) }
+{
+    if let Some(text) = field.value.as_str() {
+        if let Some(verb) = verb_of(text) {
+            return Ok(verb);
+        }
+    }
+    Err(ScenarioFault::Range(field.place.to_text(alloc)?))
+}
+
+/// What a word says.
+fn verb_of(word: &str) -> Option<Verb>
+    ensures { result ≡ verb_of word.now }
+{
+    match word {
+        SUBSCRIBE => Some(Verb::Subscribe),
+        UNSUBSCRIBE => Some(Verb::Unsubscribe),
+        PUBLISH => Some(Verb::Publish),
+        _ => None,
+    }
+}

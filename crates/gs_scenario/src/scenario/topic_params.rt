@@ -1,0 +1,124 @@
+//! The parameters of a topic of a scenario.
+ghost use Rattle.std.specs.Prelude.{◌≡◌};
+ghost use Rattle.gs_scenario.specs.Refusal.{Gives};
+ghost use Rattle.gs_scenario.specs.ParamsOf.{topic_params_in, topic_factors_in, topic_weights_in, topic_counters_in, topic_windows_in, joined};
+ghost use Rattle.gs_scenario.specs.Views.{section_of};
+
+use crate::fault::ScenarioFault;
+use crate::scenario::section::Section;
+use gs_base::{
+    DEFAULT_TOPIC_FACTORS, DEFAULT_TOPIC_WINDOWS, TopicFactors, TopicParams, TopicWindows,
+};
+use std::alloc::Global;
+
+/// The weights of a topic's part of the score.
+#[derive(Clone, Copy)]
+pub struct TopicWeights {
+    pub topic_weight: i64,
+    pub w1: i64,
+    pub w2: i64,
+    pub w3: i64,
+    pub w3b: i64,
+    pub w4: i64,
+}
+
+/// What a decay leaves of a topic's counters, and their caps and threshold.
+#[derive(Clone, Copy)]
+pub struct TopicCounters {
+    pub p2_decay: i64,
+    pub p3_decay: i64,
+    pub p3b_decay: i64,
+    pub p4_decay: i64,
+    pub p1_cap: i64,
+    pub p2_cap: i64,
+    pub p3_cap: i64,
+    pub p3_threshold: i64,
+}
+
+/// The parameters in the table of a topic.
+#[tactic(auto, unfolding(crate::specs::ParamsOf::topic_params_in))]
+pub fn topic_params_in(alloc: Global, section: &Section<'_>) -> Result<TopicParams, ScenarioFault>
+    ensures { Gives (λ params. params) result (topic_params_in (section_of section.now)) }
+{
+    Ok(TopicParams {
+        factors: topic_factors_in(alloc, section)?,
+        windows: topic_windows_in(alloc, section)?,
+        reject: section.prefixes(alloc, "reject")?,
+        ignore: section.prefixes(alloc, "ignore")?,
+    })
+}
+
+#[tactic(auto, unfolding(crate::specs::ParamsOf::topic_factors_in))]
+fn topic_factors_in(alloc: Global, section: &Section<'_>) -> Result<TopicFactors, ScenarioFault>
+    ensures { Gives (λ factors. factors) result (topic_factors_in (section_of section.now)) }
+{
+    let weights = topic_weights_in(alloc, section)?;
+    let counters = topic_counters_in(alloc, section)?;
+    Ok(joined(weights, counters))
+}
+
+/// The weights and what is said of the counters, together.
+fn joined(weights: TopicWeights, counters: TopicCounters) -> TopicFactors
+    ensures { result ≡ joined weights counters }
+{
+    TopicFactors {
+        topic_weight: weights.topic_weight,
+        w1: weights.w1,
+        w2: weights.w2,
+        w3: weights.w3,
+        w3b: weights.w3b,
+        w4: weights.w4,
+        p2_decay: counters.p2_decay,
+        p3_decay: counters.p3_decay,
+        p3b_decay: counters.p3b_decay,
+        p4_decay: counters.p4_decay,
+        p1_cap: counters.p1_cap,
+        p2_cap: counters.p2_cap,
+        p3_cap: counters.p3_cap,
+        p3_threshold: counters.p3_threshold,
+    }
+}
+
+#[tactic(auto, unfolding(crate::specs::ParamsOf::topic_weights_in))]
+fn topic_weights_in(alloc: Global, section: &Section<'_>) -> Result<TopicWeights, ScenarioFault>
+    ensures { Gives (λ weights. weights) result (topic_weights_in (section_of section.now)) }
+{
+    let default = DEFAULT_TOPIC_FACTORS;
+    Ok(TopicWeights {
+        topic_weight: section.amount(alloc, "topic_weight", default.topic_weight)?,
+        w1: section.amount(alloc, "w1", default.w1)?,
+        w2: section.amount(alloc, "w2", default.w2)?,
+        w3: section.score(alloc, "w3", default.w3)?,
+        w3b: section.score(alloc, "w3b", default.w3b)?,
+        w4: section.score(alloc, "w4", default.w4)?,
+    })
+}
+
+#[tactic(auto, unfolding(crate::specs::ParamsOf::topic_counters_in))]
+fn topic_counters_in(alloc: Global, section: &Section<'_>) -> Result<TopicCounters, ScenarioFault>
+    ensures { Gives (λ counters. counters) result (topic_counters_in (section_of section.now)) }
+{
+    let default = DEFAULT_TOPIC_FACTORS;
+    Ok(TopicCounters {
+        p2_decay: section.amount(alloc, "p2_decay", default.p2_decay)?,
+        p3_decay: section.amount(alloc, "p3_decay", default.p3_decay)?,
+        p3b_decay: section.amount(alloc, "p3b_decay", default.p3b_decay)?,
+        p4_decay: section.amount(alloc, "p4_decay", default.p4_decay)?,
+        p1_cap: section.amount(alloc, "p1_cap", default.p1_cap)?,
+        p2_cap: section.amount(alloc, "p2_cap", default.p2_cap)?,
+        p3_cap: section.amount(alloc, "p3_cap", default.p3_cap)?,
+        p3_threshold: section.amount(alloc, "p3_threshold", default.p3_threshold)?,
+    })
+}
+
+#[tactic(auto, unfolding(crate::specs::ParamsOf::topic_windows_in))]
+fn topic_windows_in(alloc: Global, section: &Section<'_>) -> Result<TopicWindows, ScenarioFault>
+    ensures { Gives (λ windows. windows) result (topic_windows_in (section_of section.now)) }
+{
+    let default = DEFAULT_TOPIC_WINDOWS;
+    Ok(TopicWindows {
+        p1_quantum_ms: section.count(alloc, "p1_quantum_ms", default.p1_quantum_ms)?,
+        p3_window_ms: section.count(alloc, "p3_window_ms", default.p3_window_ms)?,
+        p3_activation_ms: section.count(alloc, "p3_activation_ms", default.p3_activation_ms)?,
+    })
+}

@@ -1,0 +1,113 @@
+//! The topics of a scenario.
+ghost use Rattle.std.specs.Prelude.{◌≡◌, [], option_map, is_some, map};
+ghost use Rattle.std.specs.Option.{option_copied};
+ghost use Rattle.toml.specs.View.{view, items_view};
+ghost use Rattle.gs_scenario.specs.Refusal.{Gives};
+ghost use Rattle.gs_scenario.specs.Keys.{read_each};
+ghost use Rattle.gs_scenario.specs.Kinds.{reference};
+ghost use Rattle.gs_scenario.specs.Views.{read_as};
+ghost use Rattle.gs_scenario.specs.PlanOf.{topic_in, topic_keys, topic_named};
+
+use crate::fault::ScenarioFault;
+use crate::scenario::field::{Field, table_of};
+use crate::scenario::place::Element;
+use crate::scenario::topic_params::topic_params_in;
+use bytes::Bytes;
+use gs_base::{Seq, Topic, TopicParams, clone_of};
+use std::alloc::Global;
+use toml::Value;
+
+/// A topic, with its parameters.
+pub type TopicEntry = (Topic, TopicParams);
+
+/// The keys of a topic's table.
+fn keys() -> &'static [&'static str]
+    ensures { map (λ key. key.now) result.now ≡ topic_keys }
+{
+    &[
+        "name",
+        "topic_weight",
+        "w1",
+        "w2",
+        "w3",
+        "w3b",
+        "w4",
+        "p2_decay",
+        "p3_decay",
+        "p3b_decay",
+        "p4_decay",
+        "p1_cap",
+        "p2_cap",
+        "p3_cap",
+        "p3_threshold",
+        "p1_quantum_ms",
+        "p3_window_ms",
+        "p3_activation_ms",
+        "reject",
+        "ignore",
+    ]
+}
+
+/// The topics of a list, in its order.
+#[tactic(auto, unfolding(crate::specs::Keys::read_each))]
+pub fn topics_in(alloc: Global, list: &[Value]) -> Result<Seq<TopicEntry>, ScenarioFault>
+    ensures { Gives (λ topics. topics) result (read_each topic_in [] (items_view list.now)) }
+{
+    let mut topics = Seq::new(alloc);
+    for value in list {
+        let topic = topic_in(alloc, topics.as_slice(), value)?;
+        topics.push(topic)?;
+    }
+    Ok(topics)
+}
+
+/// The topic that stands in the list after the earlier ones.
+#[tactic(auto, unfolding(crate::specs::PlanOf::topic_in))]
+fn topic_in(
+    alloc: Global,
+    earlier: &[TopicEntry],
+    value: &Value,
+) -> Result<TopicEntry, ScenarioFault>
+    ensures { Gives (λ topic. topic) result (topic_in earlier.now (view value.now)) }
+{
+    let element = Element {
+        list: "topic",
+        index: earlier.len(),
+    };
+    let section = table_of(alloc, element, value)?;
+    section.only(alloc, keys())?;
+    let field = section.required(alloc, "name")?;
+    let name = field.name(alloc)?;
+    if topic_named(earlier, name).is_some() {
+        return Err(ScenarioFault::Repeated(field.place.to_text(alloc)?));
+    }
+    let topic = Topic(Bytes::copy_from_slice(alloc, name.as_bytes())?);
+    let params = topic_params_in(alloc, &section)?;
+    Ok((topic, params))
+}
+
+/// The topic that a value names.
+pub fn topic_of(
+    alloc: Global,
+    topics: &[TopicEntry],
+    field: &Field<'_>,
+) -> Result<Topic, ScenarioFault>
+    ensures { Gives (λ topic. topic) result
+        (read_as (reference (topic_named topics.now)) field.now) }
+{
+    let name = field.name(alloc)?;
+    match topic_named(topics, name) {
+        Some(topic) => Ok(clone_of(topic)?),
+        None => Err(ScenarioFault::UnknownName(field.place.to_text(alloc)?)),
+    }
+}
+
+/// The topic that has a name.
+fn topic_named<'a>(topics: &'a [TopicEntry], name: &str) -> Option<&'a Topic>
+    ensures { option_map (λ topic. topic.now) result ≡ topic_named topics.now name.now }
+{
+    let (topic, _params) = topics
+        .iter()
+        .find(|entry| entry.0.0.as_slice() == name.as_bytes())?;
+    Some(topic)
+}

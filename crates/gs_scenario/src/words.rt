@@ -1,0 +1,25 @@
+//! The words for what a peer is told to do, in a scenario and in a report.
+ghost use Rattle.std.specs.Prelude.{◌≡◌};
+ghost use Rattle.gs_scenario.specs.PlanOf.{what_word};
+
+use gs_base::What;
+
+/// The word that tells a peer to subscribe.
+pub const SUBSCRIBE: &str = "subscribe";
+
+/// The word that tells a peer to leave a topic.
+pub const UNSUBSCRIBE: &str = "unsubscribe";
+
+/// The word that tells a peer to publish.
+pub const PUBLISH: &str = "publish";
+
+/// The word for what a peer is told to do.
+pub fn what_word(what: &What) -> &'static str
+    ensures { result.now ≡ what_word what.now }
+{
+    match what {
+        What::Subscribe(_) => SUBSCRIBE,
+        What::Unsubscribe(_) => UNSUBSCRIBE,
+        What::Publish(_, _) => PUBLISH,
+    }
+}
