@@ -62,12 +62,8 @@ type Row<'a> = (
 /// A call at a moment, with the number with which it must be refused; 0 where it mustn't.
 type Call<'a> = (u64, What<'a>, u8);
 
-fn bytes_of(alloc: Global, bytes: &[u8]) -> Result<Bytes, AllocError> {
-    Bytes::copy_from_slice(alloc, bytes)
-}
-
 fn topic_of(alloc: Global, name: &str) -> Result<Topic, AllocError> {
-    Ok(Topic(bytes_of(alloc, name.as_bytes())?))
+    Ok(Topic(Bytes::copy_from_slice(alloc, name.as_bytes())?))
 }
 
 fn named(alloc: Global, name: Option<&str>) -> Result<Option<Topic>, AllocError> {
@@ -86,7 +82,7 @@ fn sub_of(alloc: Global, said: Said<'_>) -> Result<SubOpt, AllocError> {
 
 fn message_of(alloc: Global, told: Told<'_>) -> Result<Message, AllocError> {
     let payload = match told.1 {
-        Some(payload) => Some(bytes_of(alloc, payload)?),
+        Some(payload) => Some(Bytes::copy_from_slice(alloc, payload)?),
         None => None,
     };
     let mut message = Message {
@@ -131,7 +127,10 @@ fn event_of(alloc: Global, what: What<'_>) -> Result<Event, AllocError> {
         What::Subscribe(name) => Event::Subscribe(topic_of(alloc, name)?),
         What::Unsubscribe(name) => Event::Unsubscribe(topic_of(alloc, name)?),
         What::Publish(name, payload) => {
-            Event::Publish(topic_of(alloc, name)?, bytes_of(alloc, payload)?)
+            Event::Publish(
+                topic_of(alloc, name)?,
+                Bytes::copy_from_slice(alloc, payload)?,
+            )
         }
         What::RoundEnd(round) => Event::RoundEnd(round),
         What::Shut => Event::Shut,
@@ -152,7 +151,10 @@ fn delivered_of(
 ) -> Result<Seq<(Topic, Bytes)>, AllocError> {
     let mut delivered = Seq::new(alloc);
     if let Some((name, payload)) = what {
-        delivered.push((topic_of(alloc, name)?, bytes_of(alloc, payload)?))?;
+        delivered.push((
+            topic_of(alloc, name)?,
+            Bytes::copy_from_slice(alloc, payload)?,
+        ))?;
     }
     Ok(delivered)
 }
