@@ -7,9 +7,9 @@ mod cases;
 use crate::fault::RouterFault;
 use crate::router::Router;
 use crate::tests::cases::{
-    DUPLICATES, DUPLICATES_TRACE, FULL, JOINED, JOINED_TRACE, LISTENERS, LISTENERS_TRACE, PARTS,
-    PARTS_TRACE, REFUSED, REFUSED_TRACE, SHUT, SHUT_TRACE, SIGNATURES, SIGNATURES_TRACE, TOPICS,
-    TOPICS_TRACE,
+    Call, DUPLICATES, DUPLICATES_TRACE, FULL, JOINED, JOINED_TRACE, LISTENERS, LISTENERS_TRACE,
+    PARTS, PARTS_TRACE, REFUSED, REFUSED_TRACE, SHUT, SHUT_TRACE, SIGNATURES, SIGNATURES_TRACE,
+    Sends, TOPICS, TOPICS_TRACE,
 };
 use bytes::Bytes;
 use gs_base::{
@@ -47,9 +47,6 @@ enum Left<'a> {
     Invalid(u16, &'a str),
 }
 
-/// To whom what is sent.
-type Sends<'a> = (&'a [u16], Parts<'a>);
-
 /// An entry: its moment, its event, what is sent, what is delivered, and what is marked.
 type Row<'a> = (
     u64,
@@ -58,9 +55,6 @@ type Row<'a> = (
     Option<(&'a str, &'a [u8])>,
     Option<Left<'a>>,
 );
-
-/// A call at a moment, with the number with which it must be refused; 0 where it mustn't.
-type Call<'a> = (u64, What<'a>, u8);
 
 fn topic_of(alloc: Global, name: &str) -> Result<Topic, AllocError> {
     Ok(Topic(Bytes::copy_from_slice(alloc, name.as_bytes())?))

@@ -1,6 +1,12 @@
 //! Calls with their numbers, and the traces that they must leave.
-use crate::tests::{Call, Left, Parts, Row, Sends, What};
+use crate::tests::{Left, Parts, Row, What};
 use gs_base::MsgId;
+
+/// To whom what is sent.
+pub type Sends<'a> = (&'a [u16], Parts<'a>);
+
+/// A call at a moment, with the number with which it must be refused; 0 where it mustn't.
+pub type Call<'a> = (u64, What<'a>, u8);
 
 /// The SHA-256 of `abc` (FIPS 180-2, B.1).
 const ABC: MsgId = MsgId([
