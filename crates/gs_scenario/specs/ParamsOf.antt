@@ -311,9 +311,9 @@ topic_counters_in section = do
   p3_threshold ← read_key section p3_threshold_key
   Ok (record { p2_decay = p2_decay; p3_decay = p3_decay; p3b_decay = p3b_decay; p4_decay = p4_decay; p1_cap = p1_cap; p2_cap = p2_cap; p3_cap = p3_cap; p3_threshold = p3_threshold })
 
--- both together
-abbrev pub joined : TopicWeights → TopicCounters → TopicFactors
-joined weights counters = record {
+-- both together are a topic's factors
+abbrev pub factors_of : TopicWeights → TopicCounters → TopicFactors
+factors_of weights counters = record {
   topic_weight = weights.topic_weight;
   w1 = weights.w1;
   w2 = weights.w2;
@@ -334,7 +334,7 @@ unfoldable pub topic_factors_in : Section → Result TopicFactors ScenarioFault
 topic_factors_in section = do
   weights ← topic_weights_in section
   counters ← topic_counters_in section
-  Ok (joined weights counters)
+  Ok (factors_of weights counters)
 
 unfoldable pub topic_windows_in : Section → Result TopicWindows ScenarioFault
 topic_windows_in section = do

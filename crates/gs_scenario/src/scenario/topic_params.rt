@@ -1,7 +1,7 @@
 //! The parameters of a topic of a scenario.
 ghost use Rattle.std.specs.Prelude.{◌≡◌};
 ghost use Rattle.gs_scenario.specs.Refusal.{Gives};
-ghost use Rattle.gs_scenario.specs.ParamsOf.{topic_params_in, topic_factors_in, topic_weights_in, topic_counters_in, topic_windows_in, joined};
+ghost use Rattle.gs_scenario.specs.ParamsOf.{topic_params_in, topic_factors_in, topic_weights_in, topic_counters_in, topic_windows_in, factors_of};
 ghost use Rattle.gs_scenario.specs.Views.{section_of};
 
 use crate::fault::ScenarioFault;
@@ -54,12 +54,13 @@ fn topic_factors_in(alloc: Global, section: &Section<'_>) -> Result<TopicFactors
 {
     let weights = topic_weights_in(alloc, section)?;
     let counters = topic_counters_in(alloc, section)?;
-    Ok(joined(weights, counters))
+    Ok(factors_of(weights, counters))
 }
 
-/// The weights and what is said of the counters, together.
-fn joined(weights: TopicWeights, counters: TopicCounters) -> TopicFactors
-    ensures { result ≡ joined weights counters }
+/// The factors of a topic. They are read in two parts, because the prover takes no literal of all
+/// fourteen calls.
+fn factors_of(weights: TopicWeights, counters: TopicCounters) -> TopicFactors
+    ensures { result ≡ factors_of weights counters }
 {
     TopicFactors {
         topic_weight: weights.topic_weight,
