@@ -1,5 +1,5 @@
 -- The ranges of parameters, and which is refused first.
-use Rattle.std.specs.Prelude.{◌≤◌, ◌<◌, ◌+◌, ◌*◌, ◌^◌, ◌&&◌, ◌≤ℤ◌, ◌<ℤ◌, ℕ, nat_le, nat_lt, Bool, not, [], Result, Ok, Err, if◌then◌else◌, ℤ, pos, neg_ℤ, int_le, int_lt}
+use Rattle.std.specs.Prelude.{◌≤◌, ◌<◌, ◌+◌, ◌*◌, ◌&&◌, ◌≤ℤ◌, ◌<ℤ◌, ℕ, nat_le, nat_lt, Bool, not, [], Result, Ok, Err, if◌then◌else◌, ℤ, pos, neg_ℤ, int_le, int_lt}
 use Rattle.std.specs.List.{All, list_all}
 use Rattle.gs_base.specs.declared.names.Topic.{Topic}
 use Rattle.gs_base.specs.declared.params.Degrees.{Degrees}
@@ -13,6 +13,7 @@ use Rattle.gs_base.specs.declared.topic_params.TopicParams.{TopicParams}
 use Rattle.gs_base.specs.declared.param_fault.ParamFault.{ParamFault}
 use Rattle.gs_base.specs.declared.param_fault.ParamFault.TheVariants as faults
 use Rattle.gs_base.specs.declared.params.TheConstants.{DEFAULT_DEGREES, DEFAULT_THRESHOLDS, DEFAULT_FACTORS, DEFAULT_WINDOWS, DEFAULT_FLOOD_PUBLISH}
+use Rattle.gs_base.specs.declared.ranges.TheConstants.{LONGEST_TIME, LONGEST_BACKOFF, HEAVIEST, HIGHEST_CAP}
 use Rattle.gs_base.specs.declared.topic_params.TheConstants.{DEFAULT_TOPIC_FACTORS, DEFAULT_TOPIC_WINDOWS}
 
 -- ---- where nothing else is said
@@ -43,34 +44,24 @@ within low high n = nat_le low n && nat_le n high
 abbrev pub int_within : ℤ → ℤ → ℤ → Bool
 int_within low high z = int_le low z && int_le z high
 
--- the heaviest weight, and the most that a counter holds
-abbrev pub heaviest : ℕ
-heaviest = 10 ^ 9
-
-abbrev pub most : ℕ
-most = 10 ^ 12
-
-abbrev pub longest : ℕ
-longest = 10 ^ 9
-
 -- a weight of what is good, of what is bad, a factor, a cap
 abbrev pub is_reward : ℤ → Bool
-is_reward = int_within (pos 0) (pos heaviest)
+is_reward = int_within (pos 0) HEAVIEST
 
 abbrev pub is_penalty : ℤ → Bool
-is_penalty = int_within (neg_ℤ (pos heaviest)) (pos 0)
+is_penalty = int_within (neg_ℤ HEAVIEST) (pos 0)
 
 abbrev pub is_part : ℤ → Bool
 is_part = int_within (pos 0) (pos 1_000_000)
 
 abbrev pub is_cap : ℤ → Bool
-is_cap = int_within (pos 0) (pos most)
+is_cap = int_within (pos 0) HIGHEST_CAP
 
 abbrev pub is_time : ℕ → Bool
-is_time = within 1 longest
+is_time = within 1 LONGEST_TIME
 
 abbrev pub is_backoff : ℕ → Bool
-is_backoff = within 1 86_400
+is_backoff = within 1 LONGEST_BACKOFF
 
 -- ---- the four checks
 
@@ -143,8 +134,8 @@ windows_hold x = times_hold x && budgets_hold x
 abbrev pub topic_windows_hold : TopicWindows → Bool
 topic_windows_hold x =
     is_time x.p1_quantum_ms
-    && within 0 longest x.p3_window_ms
-    && within 0 longest x.p3_activation_ms
+    && within 0 LONGEST_TIME x.p3_window_ms
+    && within 0 LONGEST_TIME x.p3_activation_ms
 
 -- and of all topics
 abbrev pub all_factors_hold : Params → Bool
@@ -171,16 +162,16 @@ number_of faults.Window = 4
 -- ---- what parameters that were checked are known to be
 
 abbrev pub IsReward : ℤ → Type 0
-IsReward z = (pos 0 ≤ℤ z) × (z ≤ℤ pos heaviest)
+IsReward z = (pos 0 ≤ℤ z) × (z ≤ℤ HEAVIEST)
 
 abbrev pub IsPenalty : ℤ → Type 0
-IsPenalty z = (neg_ℤ (pos heaviest) ≤ℤ z) × (z ≤ℤ pos 0)
+IsPenalty z = (neg_ℤ HEAVIEST ≤ℤ z) × (z ≤ℤ pos 0)
 
 abbrev pub IsPart : ℤ → Type 0
 IsPart z = (pos 0 ≤ℤ z) × (z ≤ℤ pos 1_000_000)
 
 abbrev pub IsCap : ℤ → Type 0
-IsCap z = (pos 0 ≤ℤ z) × (z ≤ℤ pos most)
+IsCap z = (pos 0 ≤ℤ z) × (z ≤ℤ HIGHEST_CAP)
 
 pub record DegreesAreInRange (x : Degrees) : Type 0 where
   pub some : 1 ≤ x.d_low
@@ -209,13 +200,13 @@ pub record FactorsAreInRange (x : Factors) : Type 0 where
   pub p6_threshold : (1 ≤ x.p6_threshold) × (x.p6_threshold ≤ 65_535)
 
 pub record WindowsAreInRange (x : Windows) : Type 0 where
-  pub heartbeat : (1 ≤ x.heartbeat_ms) × (x.heartbeat_ms ≤ longest)
-  pub decay : (1 ≤ x.decay_ms) × (x.decay_ms ≤ longest)
-  pub fanout_ttl : (1 ≤ x.fanout_ttl_ms) × (x.fanout_ttl_ms ≤ longest)
-  pub seen_ttl : (1 ≤ x.seen_ttl_ms) × (x.seen_ttl_ms ≤ longest)
-  pub iwant_followup : (1 ≤ x.iwant_followup_ms) × (x.iwant_followup_ms ≤ longest)
-  pub prune_backoff : (1 ≤ x.prune_backoff_s) × (x.prune_backoff_s ≤ 86_400)
-  pub unsubscribe_backoff : (1 ≤ x.unsubscribe_backoff_s) × (x.unsubscribe_backoff_s ≤ 86_400)
+  pub heartbeat : (1 ≤ x.heartbeat_ms) × (x.heartbeat_ms ≤ LONGEST_TIME)
+  pub decay : (1 ≤ x.decay_ms) × (x.decay_ms ≤ LONGEST_TIME)
+  pub fanout_ttl : (1 ≤ x.fanout_ttl_ms) × (x.fanout_ttl_ms ≤ LONGEST_TIME)
+  pub seen_ttl : (1 ≤ x.seen_ttl_ms) × (x.seen_ttl_ms ≤ LONGEST_TIME)
+  pub iwant_followup : (1 ≤ x.iwant_followup_ms) × (x.iwant_followup_ms ≤ LONGEST_TIME)
+  pub prune_backoff : (1 ≤ x.prune_backoff_s) × (x.prune_backoff_s ≤ LONGEST_BACKOFF)
+  pub unsubscribe_backoff : (1 ≤ x.unsubscribe_backoff_s) × (x.unsubscribe_backoff_s ≤ LONGEST_BACKOFF)
   pub mcache_gossip : (1 ≤ x.mcache_gossip) × (x.mcache_gossip ≤ x.mcache_len)
   pub mcache_len : x.mcache_len ≤ 64
   pub opportunistic_ticks : (1 ≤ x.opportunistic_ticks) × (x.opportunistic_ticks ≤ 1_000_000)
@@ -241,9 +232,9 @@ pub record TopicFactorsAreInRange (x : TopicFactors) : Type 0 where
   pub p3_threshold : IsCap x.p3_threshold
 
 pub record TopicWindowsAreInRange (x : TopicWindows) : Type 0 where
-  pub p1_quantum : (1 ≤ x.p1_quantum_ms) × (x.p1_quantum_ms ≤ longest)
-  pub p3_window : x.p3_window_ms ≤ longest
-  pub p3_activation : x.p3_activation_ms ≤ longest
+  pub p1_quantum : (1 ≤ x.p1_quantum_ms) × (x.p1_quantum_ms ≤ LONGEST_TIME)
+  pub p3_window : x.p3_window_ms ≤ LONGEST_TIME
+  pub p3_activation : x.p3_activation_ms ≤ LONGEST_TIME
 
 pub record AreInRange (p : Params) : Type 0 where
   pub degrees : DegreesAreInRange p.degrees

@@ -30,7 +30,8 @@ pub use params::{
 };
 pub use picks::{a_pick_is_the_front_of_a_shuffle, pick, pick_one};
 pub use plan::{
-    App, Dial, LONGEST_ROUND, Line, MOST_PEERS, MOST_ROUNDS, Peer, Plan, What, are_joined,
+    App, Dial, HIGHEST_APP_SCORE, LONGEST_ROUND, Line, MOST_PEERS, MOST_ROUNDS, Peer, Plan, What,
+    are_joined,
 };
 pub use rpc::{Message, Rpc, SubOpt};
 pub use script::{Script, a_script_gives_its_list_first};

@@ -17,6 +17,9 @@ pub const MOST_ROUNDS: u64 = 100_000;
 /// How many peers there are at most.
 pub const MOST_PEERS: usize = 64;
 
+/// The highest score that an application gives, in millionths. The lowest is as far below 0.
+pub const HIGHEST_APP_SCORE: i64 = 1_000_000_000;
+
 /// What is simulated.
 #[derive(Debug, Drop, PartialEq, Eq)]
 pub struct Plan {

@@ -3,6 +3,18 @@
 ghost use Rattle.std.specs.Prelude.{◌≡◌};
 ghost use Rattle.gs_base.specs.Params.{is_backoff, is_cap, is_part, is_penalty, is_reward, is_time, within};
 
+/// The longest time, in milliseconds.
+pub const LONGEST_TIME: u64 = 1_000_000_000;
+
+/// The longest backoff, in seconds: a day.
+pub const LONGEST_BACKOFF: u64 = 86_400;
+
+/// The heaviest weight, in millionths. What counts against a neighbour weighs as much below 0.
+pub const HEAVIEST: i64 = 1_000_000_000;
+
+/// The highest cap, in millionths.
+pub const HIGHEST_CAP: i64 = 1_000_000_000_000;
+
 /// From low to high.
 pub fn is_within(low: u64, high: u64, number: u64) -> bool
     ensures { result ≡ within low high number }
@@ -10,32 +22,32 @@ pub fn is_within(low: u64, high: u64, number: u64) -> bool
     low <= number && number <= high
 }
 
-/// A time: 1 to 10^9 milliseconds.
+/// A time that is not empty.
 pub fn is_time(number: u64) -> bool
     ensures { result ≡ is_time number }
 {
-    is_within(1, 1_000_000_000, number)
+    is_within(1, LONGEST_TIME, number)
 }
 
-/// A backoff: 1 second to a day.
+/// A backoff: from 1 second on.
 pub fn is_backoff(number: u64) -> bool
     ensures { result ≡ is_backoff number }
 {
-    is_within(1, 86_400, number)
+    is_within(1, LONGEST_BACKOFF, number)
 }
 
-/// The weight of what counts for a neighbour: 0 to 10^9.
+/// The weight of what counts for a neighbour.
 pub fn is_reward(number: i64) -> bool
     ensures { result ≡ is_reward number }
 {
-    (0..=1_000_000_000).contains(&number)
+    (0..=HEAVIEST).contains(&number)
 }
 
-/// The weight of what counts against a neighbour: -10^9 to 0.
+/// The weight of what counts against a neighbour.
 pub fn is_penalty(number: i64) -> bool
     ensures { result ≡ is_penalty number }
 {
-    (-1_000_000_000..=0).contains(&number)
+    (-HEAVIEST..=0).contains(&number)
 }
 
 /// A factor: 0 to 1,000,000.
@@ -45,9 +57,9 @@ pub fn is_part(number: i64) -> bool
     (0..=1_000_000).contains(&number)
 }
 
-/// A cap: 0 to 10^12.
+/// A cap.
 pub fn is_cap(number: i64) -> bool
     ensures { result ≡ is_cap number }
 {
-    (0..=1_000_000_000_000).contains(&number)
+    (0..=HIGHEST_CAP).contains(&number)
 }

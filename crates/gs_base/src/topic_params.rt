@@ -2,7 +2,7 @@
 ghost use Rattle.std.specs.Prelude.{◌≡◌};
 ghost use Rattle.gs_base.specs.Params.{decays_hold, caps_hold, default_topic_params, topic_factors_hold, penalties_hold, rewards_hold, topic_windows_hold};
 
-use crate::ranges::{is_cap, is_part, is_penalty, is_reward, is_time, is_within};
+use crate::ranges::{LONGEST_TIME, is_cap, is_part, is_penalty, is_reward, is_time, is_within};
 use crate::seq::Seq;
 use bytes::Bytes;
 use std::alloc::Global;
@@ -146,7 +146,7 @@ impl TopicWindows {
         ensures { result ≡ topic_windows_hold self.now }
     {
         is_time(self.p1_quantum_ms)
-            && is_within(0, 1_000_000_000, self.p3_window_ms)
-            && is_within(0, 1_000_000_000, self.p3_activation_ms)
+            && is_within(0, LONGEST_TIME, self.p3_window_ms)
+            && is_within(0, LONGEST_TIME, self.p3_activation_ms)
     }
 }

@@ -1,4 +1,5 @@
 pub mod Said
 pub mod Rounds
+pub mod Agenda
 pub mod Nodes
 pub mod Speech

@@ -1,14 +1,17 @@
 //! The peers of a plan, round by round.
-ghost use Rattle.std.specs.Prelude.{◌≡◌, ◌≤◌, IfOk, length};
+ghost use Rattle.std.specs.Prelude.{◌≡◌, ◌≤◌, IfOk, length, map};
 ghost use Rattle.std.specs.List.{AllZip};
 ghost use Rattle.gs_base.specs.Plans.{IsInRange};
 ghost use Rattle.gs_net.specs.Rounds.{IsRun, moment, neighbours, numbers};
+ghost use Rattle.gs_net.specs.Agenda.{due_from, seen};
 ghost use Rattle.gs_net.specs.Nodes.{AllRunning, ClosesEach, IsNew, PlaysEach};
 
+mod agenda;
 mod node;
 mod speech;
 
 use crate::finished::Finished;
+use crate::peers::agenda::{Agenda, Due};
 use crate::peers::node::Node;
 use crate::peers::speech::Speech;
 use gs_base::{MOST_PEERS, Millis, PeerNo, Plan, are_joined};
@@ -23,10 +26,11 @@ pub fn run_peers(alloc: Global, plan: &Plan) -> Result<Vec<Finished>, AllocError
     requires { IsInRange plan.now }
     ensures { IfOk result (λ lives. IsRun plan.now lives.items) }
 {
+    let agenda = Agenda::of(alloc, plan)?;
     let mut nodes = nodes_of(alloc, plan)?;
     let mut said = Vec::new(alloc);
     for round in 0..plan.rounds + 1 {
-        let (played, speeches) = play(alloc, plan, round, nodes, &said)?;
+        let (played, speeches) = play(alloc, plan, round, agenda.at(round), nodes, &said)?;
         nodes = played;
         said = speeches;
     }
@@ -34,23 +38,25 @@ pub fn run_peers(alloc: Global, plan: &Plan) -> Result<Vec<Finished>, AllocError
     Ok(lives)
 }
 
-/// Plays a round. It gives the peers after it, and what each said in it.
+/// Plays a round with its lines. It gives the peers after it, and what each said in it.
 fn play(
     alloc: Global,
     plan: &Plan,
     round: u64,
+    lines: &[Due<'_>],
     nodes: Vec<Node>,
     said: &[Speech],
 ) -> Result<(Vec<Node>, Vec<Speech>), AllocError>
     requires range { IsInRange plan.now }
     requires round { round ≤ plan.now.rounds }
+    requires lines { map seen lines.now ≡ due_from 0 round plan.now.script }
     requires running { AllRunning (moment plan.now round) nodes.items }
     ensures { IfOk result (λ played. PlaysEach plan.now round said.now nodes.items played.0.items played.1.items) }
 {
     let mut played = Vec::new(alloc);
     let mut speeches = Vec::new(alloc);
     for node in nodes {
-        let (node, speech) = node.play(alloc, plan, round, said)?;
+        let (node, speech) = node.play(alloc, plan, round, lines, said)?;
         played.push(node)?;
         speeches.push(speech)?;
     }

@@ -1,6 +1,6 @@
 -- The parameters that a scenario gives, or its first refusal: the keys of each table in their order.
 use Rattle.std.specs.Prelude.{ℕ, ◌++◌, Bool, codes, List, [], ◌∷◌, Result, Ok, Err, ℤ, pos, neg_ℤ}
-use Rattle.gs_base.specs.Params.{most, checked}
+use Rattle.gs_base.specs.Params.{checked}
 use Rattle.gs_base.specs.declared.names.Topic.{Topic}
 use Rattle.gs_base.specs.declared.params.TheConstants.{DEFAULT_DEGREES, DEFAULT_THRESHOLDS, DEFAULT_FACTORS, DEFAULT_WINDOWS, DEFAULT_FLOOD_PUBLISH}
 use Rattle.gs_base.specs.declared.params.Degrees.{Degrees}
@@ -16,6 +16,7 @@ use Rattle.gs_base.specs.declared.param_fault.ParamFault.{ParamFault}
 use Rattle.gs_scenario.specs.declared.fault.ScenarioFault.{ScenarioFault}
 use Rattle.gs_scenario.specs.declared.fault.ScenarioFault.TheVariants as faults
 use Rattle.gs_scenario.specs.declared.scenario.params.Shared.{Shared}
+use Rattle.gs_scenario.specs.declared.scenario.section.TheConstants.{HIGHEST_NUMBER}
 use Rattle.gs_scenario.specs.declared.scenario.topic_params.TopicWeights.{TopicWeights}
 use Rattle.gs_scenario.specs.declared.scenario.topic_params.TopicCounters.{TopicCounters}
 use Rattle.gs_scenario.specs.Keys.{Key, Section, ◌>>=◌, optional, read_key, only}
@@ -25,15 +26,15 @@ use Rattle.gs_scenario.specs.Kinds.{whole_number, signed_number, truth_value, he
 
 -- a number of things, of milliseconds or of seconds
 abbrev pub count_key : List ℕ → ℕ → Key ℕ
-count_key name default = optional name (whole_number 0 most) default
+count_key name default = optional name (whole_number 0 HIGHEST_NUMBER) default
 
 -- millionths, none of them below zero
 abbrev pub amount_key : List ℕ → ℤ → Key ℤ
-amount_key name default = optional name (signed_number (pos 0) (pos most)) default
+amount_key name default = optional name (signed_number (pos 0) (pos HIGHEST_NUMBER)) default
 
 -- millionths of either sign
 abbrev pub score_key : List ℕ → ℤ → Key ℤ
-score_key name default = optional name (signed_number (neg_ℤ (pos most)) (pos most)) default
+score_key name default = optional name (signed_number (neg_ℤ (pos HIGHEST_NUMBER)) (pos HIGHEST_NUMBER)) default
 
 -- a list of the bytes that hex texts stand for, without which it is empty
 abbrev pub prefixes_key : List ℕ → Key (List (List ℕ))

@@ -9,7 +9,7 @@ use Rattle.gs_base.specs.declared.names.Topic.{Topic}
 use Rattle.gs_base.specs.declared.topic_params.TopicParams.{TopicParams}
 use Rattle.gs_scenario.specs.declared.fault.ScenarioFault.{ScenarioFault}
 use Rattle.gs_scenario.specs.declared.fault.ScenarioFault.TheVariants.{Toml, Range, UnknownName, Repeated}
-use Rattle.gs_base.specs.declared.plan.TheConstants.{LONGEST_ROUND, MOST_ROUNDS, MOST_PEERS}
+use Rattle.gs_base.specs.declared.plan.TheConstants.{LONGEST_ROUND, MOST_ROUNDS, MOST_PEERS, HIGHEST_APP_SCORE}
 use Rattle.gs_base.specs.declared.plan.Plan.{Plan}
 use Rattle.gs_base.specs.declared.plan.Peer.{Peer}
 use Rattle.gs_base.specs.declared.plan.Dial.{Dial}
@@ -184,7 +184,7 @@ abbrev pub about_key : List Peer → List Dial → PeerNo → Key PeerNo
 about_key peers dials one = required (codes "about") (neighbour peers dials one)
 
 abbrev pub value_key : Key ℤ
-value_key = required (codes "value") (signed_number (neg_ℤ (pos (10 ^ 9))) (pos (10 ^ 9)))
+value_key = required (codes "value") (signed_number (neg_ℤ HIGHEST_APP_SCORE) HIGHEST_APP_SCORE)
 
 abbrev pub app_keys : List (List ℕ)
 app_keys = (peer_key []).name ∷ (about_key [] [] (record { 0 = 0 })).name ∷ value_key.name ∷ []

@@ -5,13 +5,15 @@ ghost use Rattle.gs_net.specs.declared.finished.Refusal.{Refusal as RefusalValue
 ghost use Rattle.gs_router.specs.Router.{Calls};
 ghost use Rattle.gs_base.specs.declared.rpc.Rpc.{Rpc as RpcValue};
 ghost use Rattle.gs_base.specs.declared.plan.Plan.{Plan as PlanValue};
-ghost use Rattle.gs_net.specs.Rounds.{Hear, Obey, event_of, hears, lines_from, moment, neighbours, ttl_of};
+ghost use Rattle.gs_net.specs.Rounds.{Hear, Obey, event_of, hears, moment, neighbours, ttl_of};
+ghost use Rattle.gs_net.specs.Agenda.{due_from, own, seen};
 ghost use Rattle.gs_net.specs.Speech.{said_by};
 ghost use Rattle.gs_net.specs.Nodes.{AreUnread, IsNew, IsRunning, NodeCloses, NodePlays, Reads, ReadsEach, Runs, peers_of};
 
 use crate::finished::{Finished, Refusal};
+use crate::peers::agenda::Due;
 use crate::peers::speech::{Speech, said};
-use gs_base::{Line, Millis, PeerNo, Plan, Rpc, Seq, What, clone_of};
+use gs_base::{Millis, PeerNo, Plan, Rpc, Seq, What, clone_of};
 use gs_router::{Router, RouterFault};
 use gs_wire::{FrameReader, MAX_BODY, WireFault};
 use std::alloc::{AllocError, Global};
@@ -50,15 +52,17 @@ impl Node {
         })
     }
 
-    /// Plays a round: hears what its neighbours said in the round before, follows its lines of the
-    /// script, and ends the round. It gives what the peer says in the round.
+    /// Plays a round: hears what its neighbours said in the round before, follows those of the
+    /// round's lines that are for it, and ends the round. It gives what the peer says in the round.
     pub fn play(
         self,
         alloc: Global,
         plan: &Plan,
         round: u64,
+        lines: &[Due<'_>],
         speeches: &[Speech],
     ) -> Result<(Node, Speech), AllocError>
+        requires lines { map seen lines.now ≡ due_from 0 round plan.now.script }
         requires running { IsRunning (moment plan.now round) self.router }
         requires small { round * plan.now.round_ms < 2 ^ 64 }
         ensures { IfOk result (λ played. NodePlays plan.now round (λ q. said_by speeches.now q self.number) self played.0 played.1) }
@@ -72,14 +76,7 @@ impl Node {
         let now = Millis(round * plan.round_ms);
         let start = router.trace().entries().len();
         let links = hear(alloc, &mut router, number, links, speeches, now)?;
-        follow(
-            &mut router,
-            &mut refused,
-            number,
-            plan.script.as_slice(),
-            round,
-            now,
-        )?;
+        follow(&mut router, &mut refused, number, lines, now)?;
         done(router.end_round(round, now))?;
         let speech = Speech::of(alloc, plan.peers.len(), &router.trace().entries()[start..])?;
         let node = Node {
@@ -155,44 +152,38 @@ fn hear(
     Ok(heard)
 }
 
-/// Follows the lines of a peer in a round.
+/// Follows those of a round's lines that are for a peer.
 fn follow(
     router: &mut Router,
     refused: &mut Vec<Refusal>,
     number: PeerNo,
-    script: &[Line],
-    round: u64,
+    lines: &[Due<'_>],
     now: Millis,
 ) -> Result<(), AllocError>
     requires { IsRunning now router.old }
-    ensures { OnOk result ((more : List RefusalValue) × (refused.new.items ≡ refused.old.items ++ more) × Runs now (lines_from 0 number round script.now) router.old router.new more) }
+    ensures { OnOk result ((more : List RefusalValue) × (refused.new.items ≡ refused.old.items ++ more) × Runs now (own number (map seen lines.now)) router.old router.new more) }
 {
-    for (place, line) in script.iter().enumerate() {
-        follow_line(router, refused, number, line, place, round, now)?;
+    for due in lines {
+        follow_line(router, refused, number, *due, now)?;
     }
     Ok(())
 }
 
-/// Follows a line, where it is for the peer and the round.
+/// Follows a line, where it is for the peer.
 fn follow_line(
     router: &mut Router,
     refused: &mut Vec<Refusal>,
     number: PeerNo,
-    line: &Line,
-    place: usize,
-    round: u64,
+    due: Due<'_>,
     now: Millis,
 ) -> Result<(), AllocError>
     requires { IsRunning now router.old }
-    ensures { OnOk result ((more : List RefusalValue) × (refused.new.items ≡ refused.old.items ++ more) × Runs now (lines_from place number round (line.now ∷ [])) router.old router.new more) }
+    ensures { OnOk result ((more : List RefusalValue) × (refused.new.items ≡ refused.old.items ++ more) × Runs now (own number (seen due.entry ∷ [])) router.old router.new more) }
 {
-    if line.peer != number {
+    if due.line.peer != number {
         return Ok(());
     }
-    if line.at != round {
-        return Ok(());
-    }
-    obey(router, refused, &line.what, place, now)
+    obey(router, refused, &due.line.what, due.place, now)
 }
 
 /// The RPCs that end in a piece of a stream. Behind a fault there are none.

@@ -11,7 +11,7 @@ use crate::fault::ScenarioFault;
 use crate::scenario::field::{Field, table_of};
 use crate::scenario::peers::peer_of;
 use crate::scenario::place::{Element, Place};
-use gs_base::{App, Dial, MOST_PEERS, Peer, PeerNo, Seq, are_joined};
+use gs_base::{App, Dial, HIGHEST_APP_SCORE, MOST_PEERS, Peer, PeerNo, Seq, are_joined};
 use std::alloc::Global;
 use toml::Value;
 
@@ -20,9 +20,6 @@ const PEER: &str = "peer";
 const ABOUT: &str = "about";
 
 const VALUE: &str = "value";
-
-/// The highest score that an application gives. The lowest is as far below zero.
-const MOST: i64 = 1_000_000_000;
 
 /// The scores of a list, in its order.
 #[tactic(auto, unfolding(crate::specs::Keys::read_each))]
@@ -66,7 +63,7 @@ fn app_in(
     let peer = peer_of(alloc, peers, &section.required(alloc, PEER)?)?;
     let field = section.required(alloc, ABOUT)?;
     let about = neighbour_of(alloc, peers, dials, peer, &field)?;
-    let value = section.signed_number(alloc, VALUE, -MOST, MOST)?;
+    let value = section.signed_number(alloc, VALUE, -HIGHEST_APP_SCORE, HIGHEST_APP_SCORE)?;
     let app = App { peer, about, value };
     if is_repeated(earlier, &app) {
         return Err(ScenarioFault::Repeated(Place::Element(element).to_text(alloc)?));

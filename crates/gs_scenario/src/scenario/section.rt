@@ -18,8 +18,11 @@ use gs_base::Seq;
 use std::alloc::Global;
 use toml::{Table, Value};
 
-/// The highest number that a parameter may be given. The lowest is as far below zero.
-const MOST: i64 = 1_000_000_000_000;
+/// The highest number that a parameter may be given. The lowest is as far below 0.
+const HIGHEST_NUMBER: u64 = 1_000_000_000_000;
+
+/// The same, of a number of either sign.
+const HIGHEST_SCORE: i64 = HIGHEST_NUMBER as i64;
 
 /// A table of a scenario, and where it stands.
 #[derive(Clone, Copy)]
@@ -113,7 +116,7 @@ impl<'a> Section<'a> {
         ensures { Gives (λ number. number) result (held_at (count_key key.now default) self.now) }
     {
         match self.optional(key) {
-            Some(field) => field.whole_number(alloc, 0, MOST as u64),
+            Some(field) => field.whole_number(alloc, 0, HIGHEST_NUMBER),
             None => Ok(default),
         }
     }
@@ -144,7 +147,7 @@ impl<'a> Section<'a> {
         ensures { Gives (λ number. number) result (held_at (amount_key key.now default) self.now) }
     {
         match self.optional(key) {
-            Some(field) => field.signed_number(alloc, 0, MOST),
+            Some(field) => field.signed_number(alloc, 0, HIGHEST_SCORE),
             None => Ok(default),
         }
     }
@@ -154,7 +157,7 @@ impl<'a> Section<'a> {
         ensures { Gives (λ number. number) result (held_at (score_key key.now default) self.now) }
     {
         match self.optional(key) {
-            Some(field) => field.signed_number(alloc, -MOST, MOST),
+            Some(field) => field.signed_number(alloc, -HIGHEST_SCORE, HIGHEST_SCORE),
             None => Ok(default),
         }
     }

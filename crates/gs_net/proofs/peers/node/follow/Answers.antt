@@ -1,19 +1,19 @@
-use Rattle.std.proofs.Common.{◌++◌, ◌∙◌, [], ◌∷◌, List, ap, append_assoc}
+use Rattle.std.proofs.Common.{◌++◌, ◌∙◌, [], ◌∷◌, List, ap, append_assoc, map}
 use Rattle.gs_net.specs.declared.finished.Refusal.{Refusal}
-use Rattle.gs_net.specs.Rounds.{lines_from}
+use Rattle.gs_net.specs.Agenda.{own, seen}
 use Rattle.gs_net.proofs.Lines.{line_done}
 use Rattle.gs_net.proofs.Running.{runs_then}
 use Rattle.gs_net.proofs.peers.node.follow.Goals as goal
 
-pub loop-place-preserved : goal.loop-place-preserved
-loop-place-preserved c =
-    let (done, more, noted, runs, rest) = c.loop-place.invariant in
+pub loop-due-preserved : goal.loop-due-preserved
+loop-due-preserved c =
+    let (done, more, noted, runs, rest) = c.loop-due.invariant in
     let (new, added, runs_line) = c.in_ok-follow_line.ensures in
-    let place = c.loop-place.place in
-    let line = c.index-script-place.result in (
-      done ++ lines_from place c.args.number c.args.round (line ∷ []),
+    let p = c.args.number in
+    let due = c.due-item.result in (
+      done ++ own p (seen due ∷ []),
       more ++ new,
       added ∙ ap (λ (xs : List Refusal). xs ++ new) noted ∙ append_assoc c.args.refused.now.items more new,
-      runs_then c.args.now done (lines_from place c.args.number c.args.round (line ∷ [])) c.args.router.now c.loop-place.router c.follow_line.new.router more new runs runs_line,
-      line_done place c.args.number c.args.round c.args.script.now line done (lines_from 0 c.args.number c.args.round c.args.script.now) c.loop-place-test.true c.index-script-place.is rest,
+      runs_then c.args.now done (own p (seen due ∷ [])) c.args.router.now c.loop-due.router c.follow_line.new.router more new runs runs_line,
+      line_done p c.args.lines.now c.loop-due.due-index due done (own p (map seen c.args.lines.now)) c.loop-due-test.true c.due-item.is rest,
     )
