@@ -4,7 +4,7 @@ use Rattle.std.specs.Io.KnownBytes.{Appends, Keeps}
 use Rattle.gossip_sim.specs.declared.streams.TheConstants.{LONGEST_INPUT}
 use Rattle.gs_scenario.specs.declared.fault.ScenarioFault.{ScenarioFault}
 use Rattle.gs_scenario.specs.declared.fault.ScenarioFault.TheVariants.{Toml, Range, NoMemory}
-use Rattle.gs_base.specs.declared.plan.Plan.{Plan}
+use Rattle.gs_params.specs.declared.plan.Plan.{Plan}
 use Rattle.gs_net.specs.declared.finished.Finished.{Finished}
 use Rattle.gossip_sim.specs.declared.program.ExitStatus.{ExitStatus}
 use Rattle.gossip_sim.specs.declared.program.ExitStatus.TheVariants as ends

@@ -4,10 +4,10 @@ use Rattle.std.specs.List.{flat_map, enumerate_from}
 use Rattle.hex.specs.Hex.{encode_lower}
 use Rattle.gs_base.specs.declared.names.Millis.{Millis}
 use Rattle.gs_base.specs.declared.names.Topic.{Topic}
-use Rattle.gs_base.specs.declared.trace.Entry.{Entry}
-use Rattle.gs_base.specs.declared.plan.Plan.{Plan}
-use Rattle.gs_base.specs.declared.plan.Peer.{Peer}
-use Rattle.gs_base.specs.declared.plan.Line.{Line}
+use Rattle.gs_rules.specs.declared.trace.Entry.{Entry}
+use Rattle.gs_params.specs.declared.plan.Plan.{Plan}
+use Rattle.gs_params.specs.declared.plan.PlannedPeer.{PlannedPeer}
+use Rattle.gs_params.specs.declared.plan.Line.{Line}
 use Rattle.gs_net.specs.declared.finished.Refusal.{Refusal}
 use Rattle.gs_net.specs.declared.finished.Finished.{Finished}
 use Rattle.gs_scenario.specs.PlanOf.{what_word}
@@ -16,7 +16,7 @@ use Rattle.gs_scenario.specs.PlanOf.{what_word}
 
 -- a peer's name: a number that is no peer's has the empty one
 abbrev pub name_of : Plan → ℕ → List ℕ
-name_of plan number = unwrap_or (option_map (λ (peer : Peer). peer.name) (slice_get plan.peers number)) []
+name_of plan number = unwrap_or (option_map (λ (peer : PlannedPeer). peer.name) (slice_get plan.peers number)) []
 
 -- the word of the script's line at a place: a place that is no line's has the empty one
 abbrev pub word_of : Plan → ℕ → List ℕ

@@ -2,14 +2,15 @@
 ghost use Rattle.std.specs.Prelude.{◌≡◌, ◌≤◌, ◌⊎◌, IfErr, IfOk, IfSome, List, codes, length, string_bytes};
 ghost use Rattle.std.specs.Process.{exit_status};
 ghost use Rattle.gossip_sim.specs.Program.{EndsAs, IsRefusal, IsScenario, TellsRefusal, refusal_line, status_of};
-ghost use Rattle.gs_base.specs.Plans.{IsInRange};
+ghost use Rattle.gs_params.specs.Plans.{IsInRange};
 ghost use Rattle.gossip_sim.specs.Report.{report_text};
 ghost use Rattle.gs_net.specs.Rounds.{IsRun};
 ghost use Rattle.gossip_sim.specs.Streams.{AppendsFront};
 
 use crate::report::report_text;
 use crate::streams::{LONGEST_INPUT, ReadFault, read_input, write_text};
-use gs_base::{Plan, Text};
+use gs_base::Text;
+use gs_params::Plan;
 use gs_net::{Finished, run_peers};
 use gs_scenario::{ScenarioFault, read_plan};
 use std::alloc::{AllocError, Global};

@@ -4,7 +4,9 @@ ghost use Rattle.std.specs.List.{flat_map};
 ghost use Rattle.gossip_sim.specs.Report.{delivered_line, delivered_lines, entry_lines, name_of, numbered, payload_text, refused_line, refused_lines, report_text, word_of};
 
 use bytes::Bytes;
-use gs_base::{Entry, Millis, Plan, Topic};
+use gs_base::{Millis, Topic};
+use gs_params::Plan;
+use gs_rules::Entry;
 use gs_net::{Finished, Refusal};
 use gs_scenario::what_word;
 use std::alloc::{AllocError, Global};

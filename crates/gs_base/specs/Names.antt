@@ -1,21 +1,34 @@
 -- When names are the same, what an absent one stands for, and what messages are known by.
-use Rattle.std.specs.Prelude.{ℕ, Bool, nat_eq, ◌||◌, List, [], ◌∷◌, Option, Some, None, is_some, unwrap_or}
+use Rattle.std.specs.Prelude.{ℕ, Bool, nat_eq, ◌||◌, List, [], ◌∷◌, map, Option, Some, None, is_some, unwrap_or}
 use Rattle.std.specs.Cmp.Lexicographic.{pointwise}
 use Rattle.sha2.specs.Sha256.{sha256}
 use Rattle.gs_base.specs.declared.names.PeerNo.{PeerNo}
 use Rattle.gs_base.specs.declared.names.Topic.{Topic}
 use Rattle.gs_base.specs.declared.names.MsgId.{MsgId}
+use Rattle.gs_base.specs.declared.neighbour.Neighbour.{Neighbour}
 use Rattle.gs_base.specs.declared.rpc.Message.{Message}
 use Rattle.gs_base.specs.declared.rpc.Rpc.{Rpc}
 
 abbrev pub same_peer : PeerNo → PeerNo → Bool
 same_peer p q = nat_eq p.0 q.0
 
+-- the numbers of neighbours, in order
+abbrev pub peers_of : List Neighbour → List PeerNo
+peers_of neighbours = map (λ (n : Neighbour). n.peer) neighbours
+
 abbrev pub same_topic : Topic → Topic → Bool
 same_topic t u = pointwise nat_eq t.0 u.0
 
 abbrev pub same_id : MsgId → MsgId → Bool
 same_id x y = pointwise nat_eq x.0 y.0
+
+-- how many bytes a topic has at most that a peer subscribes to or publishes on
+abbrev pub longest_topic : ℕ
+longest_topic = 1_024
+
+-- how many topics a peer may ever be subscribed to
+abbrev pub most_topics : ℕ
+most_topics = 1_024
 
 -- an absent topic stands for the empty one
 abbrev pub topic_or_empty : Option Topic → Topic

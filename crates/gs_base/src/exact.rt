@@ -1,5 +1,6 @@
 //! Clones that equal what they were made from.
 ghost use Rattle.std.specs.Prelude.{◌≡◌, IfOk};
+ghost use Rattle.std.proofs.Common.{ap₂};
 
 use bytes::Bytes;
 use std::alloc::AllocError;
@@ -12,6 +13,10 @@ pub trait ExactClone: Clone {
 
 impl ExactClone for Bytes {
     ghost exact = { λ source copy same. same };
+}
+
+impl<A: ExactClone, B: ExactClone> ExactClone for (A, B) {
+    ghost exact = { λ source copy same. ap₂ (λ a b. (a, b)) (A.exact source.0 copy.0 same.0) (B.exact source.1 copy.1 same.1) };
 }
 
 /// A clone, which equals its source.

@@ -1,6 +1,6 @@
 //! Names of peers, topics and messages, and moments.
 ghost use Rattle.std.specs.Prelude.{◌≡◌};
-ghost use Rattle.gs_base.specs.Names.{message_id};
+ghost use Rattle.gs_base.specs.Names.{longest_topic, message_id, most_topics};
 
 use crate::exact::ExactClone;
 use bytes::Bytes;
@@ -49,3 +49,9 @@ impl MsgId {
 /// A moment or a span of time, in milliseconds.
 #[derive(Clone, Copy, Debug, PartialEq, Eq, PartialOrd, Ord, Hash)]
 pub struct Millis(pub u64);
+
+/// The limits of topics are those of the definitions.
+pub fn limits_of_topics()
+    ensures longest { LONGEST_TOPIC ≡ longest_topic }
+    ensures most { MOST_TOPICS ≡ most_topics }
+{}

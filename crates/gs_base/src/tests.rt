@@ -78,88 +78,40 @@ fn an_identifier_is_the_digest_of_the_payload(rt: HostRuntime) {
     assert!(rt; MsgId::of(b"") != MsgId(OF_ABC));
 }
 
-/// A message of neighbour 2 that came and was delivered.
-fn delivery(alloc: Global, at: u64, payload: &[u8]) -> Result<Entry, AllocError> {
-    let mut delivered = Seq::new(alloc);
-    delivered.push((topic(alloc)?, Bytes::copy_from_slice(alloc, payload)?))?;
-    let mut marks = Seq::new(alloc);
-    marks.push(Mark::Seen(MsgId::of(payload), Verdict::Accept))?;
-    Ok(Entry {
-        at: Millis(at),
-        event: Event::Msg(PeerNo(2), message(alloc, payload)?),
-        sends: Seq::new(alloc),
-        delivered,
-        marks,
-    })
-}
-
-/// A payload that was published and sent to neighbour 1.
-fn publishing(alloc: Global, at: u64, payload: &[u8]) -> Result<Entry, AllocError> {
-    let mut sends = Seq::new(alloc);
-    sends.push((PeerNo(1), rpc(alloc, &[payload])?))?;
-    let mut marks = Seq::new(alloc);
-    marks.push(Mark::Seen(MsgId::of(payload), Verdict::Accept))?;
-    Ok(Entry {
-        at: Millis(at),
-        event: Event::Publish(topic(alloc)?, Bytes::copy_from_slice(alloc, payload)?),
-        sends,
-        delivered: Seq::new(alloc),
-        marks,
-    })
-}
-
-/// A new trace has no entries, and one that two were pushed to has them in order.
-fn keeps_its_entries(alloc: Global) -> Result<bool, AllocError> {
-    let mut trace = Trace::new(alloc);
-    let starts_empty = trace.entries().is_empty();
-    trace.push(publishing(alloc, 5, b"first")?)?;
-    trace.push(delivery(alloc, 7, b"second")?)?;
-    let first = publishing(alloc, 5, b"first")?;
-    let second = delivery(alloc, 7, b"second")?;
-    Ok(match trace.entries() {
-        [older, newer] => starts_empty && *older == first && *newer == second,
-        _ => false,
-    })
+/// A neighbour's clone is the neighbour, and one that was dialled is not one that dialled.
+fn compares_neighbours(alloc: Global) -> Result<bool, AllocError> {
+    let dialled = Neighbour {
+        peer: PeerNo(1),
+        outbound: true,
+        address: Bytes::copy_from_slice(alloc, b"a")?,
+        app: -1,
+    };
+    let mut other = clone_of(&dialled)?;
+    let is_same = other == dialled;
+    other.outbound = false;
+    Ok(is_same && other != dialled)
 }
 
 #[test]
-fn a_trace_keeps_its_entries_in_order(rt: HostRuntime) -> Result<(), AllocError> {
-    assert!(rt; keeps_its_entries(rt.alloc())?);
+fn neighbours_are_equal_where_their_parts_are(rt: HostRuntime) -> Result<(), AllocError> {
+    assert!(rt; compares_neighbours(rt.alloc())?);
     Ok(())
 }
 
-/// Entries, events and marks are equal where their parts are, and differ where one part does.
-fn compares_entries(alloc: Global) -> Result<bool, AllocError> {
-    let seen = delivery(alloc, 7, b"second")?;
-    let later = delivery(alloc, 8, b"second")?;
-    let other = delivery(alloc, 7, b"third")?;
-    let invalid = Mark::Invalid(PeerNo(2), topic(alloc)?);
-    Ok(
-        seen == delivery(alloc, 7, b"second")?
-            && seen != later
-            && seen.event == later.event
-            && seen.event != other.event
-            && seen.marks == later.marks
-            && seen.marks != other.marks
-            && seen.delivered != other.delivered
-            && invalid == Mark::Invalid(PeerNo(2), topic(alloc)?)
-            && invalid != Mark::Invalid(PeerNo(3), topic(alloc)?)
-            && Mark::Seen(MsgId(OF_ABC), Verdict::Reject)
-                != Mark::Seen(MsgId(OF_ABC), Verdict::Ignore)
-            && Event::RoundEnd(1) != Event::RoundEnd(2)
-            && Event::RoundEnd(1) != Event::Shut,
-    )
+/// A pair is copied whole.
+fn copies_a_pair(alloc: Global) -> Result<bool, AllocError> {
+    let pair = (topic(alloc)?, Bytes::copy_from_slice(alloc, b"abc")?);
+    Ok(clone_of(&pair)? == pair)
 }
 
 #[test]
-fn entries_are_equal_where_their_parts_are(rt: HostRuntime) -> Result<(), AllocError> {
-    assert!(rt; compares_entries(rt.alloc())?);
+fn a_clone_of_a_pair_has_both(rt: HostRuntime) -> Result<(), AllocError> {
+    assert!(rt; copies_a_pair(rt.alloc())?);
     Ok(())
 }
 
-/// The laws take nothing and give nothing: that they can be called is all there is to test.
+/// The limits stand in the contract: that it can be called is all there is to test.
 #[test]
-fn laws_can_be_called(_rt: HostRuntime) {
-    one_more_entry();
-    a_delivery_is_not_repeated();
+fn limits_of_topics_hold(_rt: HostRuntime) {
+    limits_of_topics();
 }

@@ -2,7 +2,7 @@
 use Rattle.std.proofs.Common.{◌≡◌, ℕ, suc, ◌+◌, List, [], ◌∷◌, ◌++◌, map, ap, ◌∙◌, arith, zero, zero-add}
 use Rattle.std.proofs.lemmas.List.{map-append}
 use Rattle.std.specs.List.{AllZip, range_with_len}
-use Rattle.gs_base.specs.declared.plan.Plan.{Plan}
+use Rattle.gs_params.specs.declared.plan.Plan.{Plan}
 use Rattle.gs_net.specs.declared.peers.node.Node.{Node}
 use Rattle.gs_net.specs.declared.peers.speech.Speech.{Speech}
 use Rattle.gs_net.specs.Rounds.{peer_no}

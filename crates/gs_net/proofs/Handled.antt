@@ -5,23 +5,23 @@ use Rattle.std.proofs.lemmas.Grind.{flat_map-append}
 use Rattle.gs_base.specs.declared.names.PeerNo.{PeerNo}
 use Rattle.gs_base.specs.declared.names.Millis.{Millis}
 use Rattle.gs_base.specs.declared.rpc.Rpc.{Rpc}
-use Rattle.gs_base.specs.declared.trace.Event.{Event}
-use Rattle.gs_base.specs.declared.trace.Event.TheVariants.{Heard, Late, Sub, Msg}
-use Rattle.gs_base.specs.declared.trace.Entry.{Entry}
+use Rattle.gs_rules.specs.declared.trace.Event.{Event}
+use Rattle.gs_rules.specs.declared.trace.Event.TheVariants.{Heard, Late, Sub, Msg}
+use Rattle.gs_rules.specs.declared.trace.Entry.{Entry}
 use Rattle.gs_base.specs.Names.{same_peer}
-use Rattle.gs_base.specs.Tables.{Entries, owed, up}
-use Rattle.gs_base.specs.Rules.{Peer}
-use Rattle.gs_base.specs.Legal.{Legal, IsNext, ArePayments, Opens}
-use Rattle.gs_base.specs.Words.{Word, bytes_of, handled_by, handled}
-use Rattle.gs_base.proofs.Deliveries.{not_repeated}
-use Rattle.gs_base.proofs.Owed.{IsPart, owed_are_parts}
+use Rattle.gs_rules.specs.Tables.{Entries, owed, up}
+use Rattle.gs_rules.specs.Rules.{Peer}
+use Rattle.gs_rules.specs.Legal.{Legal, IsNext, ArePayments, Opens}
+use Rattle.gs_rules.specs.Words.{Word, bytes_of, handled_by, handled}
+use Rattle.gs_rules.proofs.Deliveries.{not_repeated}
+use Rattle.gs_rules.proofs.Owed.{IsPart, owed_are_parts}
 use Rattle.gs_wire.specs.declared.frames.End.TheVariants.{Waits}
 use Rattle.gs_wire.specs.declared.rpc.TheConstants.{MAX_BODY}
 use Rattle.gs_wire.proofs.FrameLists.{one_stream}
-use Rattle.gs_base.specs.declared.plan.Plan.{Plan}
-use Rattle.gs_base.specs.declared.plan.Line.{Line}
-use Rattle.gs_base.specs.declared.plan.What.{What}
-use Rattle.gs_base.specs.declared.plan.What.TheVariants.{Subscribe, Unsubscribe, Publish}
+use Rattle.gs_params.specs.declared.plan.Plan.{Plan}
+use Rattle.gs_params.specs.declared.plan.Line.{Line}
+use Rattle.gs_params.specs.declared.plan.What.{What}
+use Rattle.gs_params.specs.declared.plan.What.TheVariants.{Subscribe, Unsubscribe, Publish}
 use Rattle.gs_net.specs.declared.finished.Refusal.{Refusal}
 use Rattle.gs_net.specs.declared.finished.Finished.{Finished}
 use Rattle.gs_router.specs.declared.fault.RouterFault.{RouterFault}

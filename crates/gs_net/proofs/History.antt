@@ -3,9 +3,9 @@ use Rattle.std.proofs.Common.{◌≡◌, ℕ, zero, suc, ◌+◌, ◌<◌, ◌�
 use Rattle.std.specs.List.{range_with_len, AllZip, AllByRecursion}
 use Rattle.gs_base.specs.declared.names.PeerNo.{PeerNo}
 use Rattle.gs_base.specs.declared.rpc.Rpc.{Rpc}
-use Rattle.gs_base.specs.Tables.{Entries}
-use Rattle.gs_base.specs.Words.{Byte, EndOf, Close, Word, bytes_of}
-use Rattle.gs_base.specs.declared.plan.Plan.{Plan}
+use Rattle.gs_rules.specs.Tables.{Entries}
+use Rattle.gs_rules.specs.Words.{Byte, EndOf, Close, Word, bytes_of}
+use Rattle.gs_params.specs.declared.plan.Plan.{Plan}
 use Rattle.gs_net.specs.declared.finished.Refusal.{Refusal}
 use Rattle.gs_net.specs.declared.finished.Finished.{Finished}
 use Rattle.gs_net.specs.Said.{front, behind, after, bytes_before, EndIn, HeardIn, HeardAfter}

@@ -4,7 +4,7 @@ use Rattle.std.specs.List.{enumerate_from}
 use Rattle.std.proofs.lemmas.List.{drop_more, map-append}
 use Rattle.std.proofs.lemmas.List.Elements.{filter-append}
 use Rattle.gs_base.specs.declared.names.PeerNo.{PeerNo}
-use Rattle.gs_base.specs.declared.plan.Line.{Line}
+use Rattle.gs_params.specs.declared.plan.Line.{Line}
 use Rattle.gs_net.specs.declared.peers.agenda.Due.{Due}
 use Rattle.gs_net.specs.Rounds.{Todo, obey, lines_from}
 use Rattle.gs_net.specs.Agenda.{seen, is_at, is_for, due_from, own}

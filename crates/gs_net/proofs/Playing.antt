@@ -2,8 +2,8 @@
 use Rattle.std.proofs.Common.{◌≡◌, ◌≤◌, ◌-◌, ℕ, List, length, take, drop, reverse, sym, ap, subst, ◌∙◌, length-append, arith}
 use Rattle.std.proofs.lemmas.List.{take_rest, reverse-reverse, length-reverse}
 use Rattle.gs_base.specs.declared.names.Millis.{Millis}
-use Rattle.gs_base.specs.declared.trace.Entry.{Entry}
-use Rattle.gs_base.specs.Tables.{Entries}
+use Rattle.gs_rules.specs.declared.trace.Entry.{Entry}
+use Rattle.gs_rules.specs.Tables.{Entries}
 use Rattle.gs_net.specs.declared.finished.Refusal.{Refusal}
 use Rattle.gs_router.specs.Router.{RouterView, GoesOn, peer}
 use Rattle.gs_net.specs.Rounds.{Todo}

@@ -2,13 +2,13 @@
 use Rattle.std.proofs.Common.{◌≡◌, ◌≢◌, ℕ, Bool, false, List, [], ◌∷◌, ◌++◌, Option, None, Some, Ok, Err, Result, refl, sym, ap, ap₂, subst, ◌∙◌, append_assoc, append-nil, arith, if◌then◌else◌, inl, inr, true≢false}
 use Rattle.std.specs.Result.{IsOk}
 use Rattle.gs_base.specs.declared.names.Millis.{Millis}
-use Rattle.gs_base.specs.declared.trace.Event.{Event}
-use Rattle.gs_base.specs.declared.trace.Entry.{Entry}
-use Rattle.gs_base.specs.Tables.{Entries, last_moment}
-use Rattle.gs_base.specs.Rules.{Peer}
-use Rattle.gs_base.specs.Legal.{Opens, ArePayments}
+use Rattle.gs_rules.specs.declared.trace.Event.{Event}
+use Rattle.gs_rules.specs.declared.trace.Entry.{Entry}
+use Rattle.gs_rules.specs.Tables.{Entries, last_moment}
+use Rattle.gs_rules.specs.Rules.{Peer}
+use Rattle.gs_rules.specs.Legal.{Opens, ArePayments}
 use Rattle.gs_net.specs.declared.finished.Refusal.{Refusal}
-use Rattle.gs_base.specs.declared.plan.What.{What}
+use Rattle.gs_params.specs.declared.plan.What.{What}
 use Rattle.gs_router.specs.declared.fault.RouterFault.{RouterFault}
 use Rattle.gs_router.specs.declared.fault.RouterFault.TheVariants.{NoMemory, Stopped}
 use Rattle.gs_router.specs.Router.{RouterView, Calls, peer, peer_of, refusal, refusal_of, number_of}

@@ -6,22 +6,22 @@ use Rattle.std.proofs.lemmas.Grind.{flat_map-append}
 use Rattle.gs_base.specs.declared.names.PeerNo.{PeerNo}
 use Rattle.gs_base.specs.declared.names.Millis.{Millis}
 use Rattle.gs_base.specs.declared.rpc.Rpc.{Rpc}
-use Rattle.gs_base.specs.declared.trace.Event.{Event}
-use Rattle.gs_base.specs.declared.trace.Event.TheVariants.{Heard, Late, Sub, Msg, RoundEnd, Shut}
-use Rattle.gs_base.specs.declared.trace.Entry.{Entry}
-use Rattle.gs_base.specs.Tables.{Entries, owed_after, owed, is_shut, up_after, up}
-use Rattle.gs_base.specs.Rules.{Codec, Peer, Follows, rule_of, free, sent_to}
-use Rattle.gs_base.specs.Legal.{Legal, ArePayments, Begins, Opens}
-use Rattle.gs_base.specs.Words.{Byte, EndOf, Close, Word, sign, says, out}
-use Rattle.gs_base.specs.declared.plan.Plan.{Plan}
-use Rattle.gs_base.specs.declared.plan.Line.{Line}
-use Rattle.gs_base.specs.declared.plan.What.{What}
-use Rattle.gs_base.specs.declared.plan.What.TheVariants.{Subscribe, Unsubscribe, Publish}
+use Rattle.gs_rules.specs.declared.trace.Event.{Event}
+use Rattle.gs_rules.specs.declared.trace.Event.TheVariants.{Heard, Late, Sub, Msg, RoundEnd, Shut}
+use Rattle.gs_rules.specs.declared.trace.Entry.{Entry}
+use Rattle.gs_rules.specs.Tables.{Entries, owed_after, owed, is_shut, up_after, up}
+use Rattle.gs_rules.specs.Rules.{Codec, Peer, Follows, rule_of, free, sent_to}
+use Rattle.gs_rules.specs.Legal.{Legal, ArePayments, Begins, Opens}
+use Rattle.gs_rules.specs.Words.{Byte, EndOf, Close, Word, sign, says, out}
+use Rattle.gs_params.specs.declared.plan.Plan.{Plan}
+use Rattle.gs_params.specs.declared.plan.Line.{Line}
+use Rattle.gs_params.specs.declared.plan.What.{What}
+use Rattle.gs_params.specs.declared.plan.What.TheVariants.{Subscribe, Unsubscribe, Publish}
 use Rattle.gs_net.specs.declared.finished.Refusal.{Refusal}
 use Rattle.gs_router.specs.declared.fault.RouterFault.{RouterFault}
 use Rattle.gs_router.specs.Router.{refusal}
 use Rattle.gs_net.specs.Rounds.{neighbours, peer_in, moment, Todo, Hear, Obey, EndRound, Stop, hears, lines, event_of, unless_refused, opening, Takes, noted, Does}
-use Rattle.gs_base.proofs.Owed.{IsPart}
+use Rattle.gs_rules.proofs.Owed.{IsPart}
 use Rattle.gs_router.proofs.RouterTables.{up_unless_shut}
 use Rattle.gs_net.proofs.Handled.{payments_are_parts, legal_before, does_on}
 use Rattle.gs_net.proofs.History.{History, spoken, PlaysBy, PlayedBy, all_by_recursion}

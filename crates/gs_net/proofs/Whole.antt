@@ -3,17 +3,17 @@ use Rattle.std.proofs.Common.{◌≡◌, ◌≤◌, ◌<◌, ◌+◌, ◌*◌, �
 use Rattle.std.specs.List.{range_with_len, AllZip, AllByRecursion}
 use Rattle.gs_base.specs.declared.names.PeerNo.{PeerNo}
 use Rattle.gs_base.specs.declared.rpc.Rpc.{Rpc}
-use Rattle.gs_base.specs.Tables.{Entries, last_moment, up}
-use Rattle.gs_base.specs.Legal.{Legal}
-use Rattle.gs_base.specs.Rules.{Peer}
-use Rattle.gs_base.specs.Words.{Word, Close, out}
+use Rattle.gs_rules.specs.Tables.{Entries, last_moment, up}
+use Rattle.gs_rules.specs.Legal.{Legal}
+use Rattle.gs_rules.specs.Rules.{Peer}
+use Rattle.gs_rules.specs.Words.{Word, Close, out}
 use Rattle.gs_wire.specs.declared.frames.End.{End}
 use Rattle.gs_wire.specs.declared.frames.End.TheVariants as ends
 use Rattle.gs_wire.specs.declared.rpc.TheConstants.{MAX_BODY}
 use Rattle.gs_wire.specs.Stream.{Holding, IsStream, Feeds, held_after}
 use Rattle.gs_wire.specs.Codec.{codec}
 use Rattle.gs_wire.proofs.FrameLists.{streams_join, one_stream, found_in_all}
-use Rattle.gs_base.specs.declared.plan.Plan.{Plan}
+use Rattle.gs_params.specs.declared.plan.Plan.{Plan}
 use Rattle.gs_net.specs.declared.finished.Finished.{Finished}
 use Rattle.gs_net.specs.declared.finished.Refusal.{Refusal}
 use Rattle.gs_net.specs.declared.peers.node.Link.{Link}

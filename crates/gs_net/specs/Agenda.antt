@@ -3,7 +3,7 @@ use Rattle.std.specs.Prelude.{ℕ, Bool, nat_eq, List, [], length, map, filter, 
 use Rattle.std.specs.List.{enumerate_from}
 use Rattle.gs_base.specs.Names.{same_peer}
 use Rattle.gs_base.specs.declared.names.PeerNo.{PeerNo}
-use Rattle.gs_base.specs.declared.plan.Line.{Line}
+use Rattle.gs_params.specs.declared.plan.Line.{Line}
 use Rattle.gs_net.specs.declared.peers.agenda.Agenda.{Agenda}
 use Rattle.gs_net.specs.declared.peers.agenda.Due.{Due}
 use Rattle.gs_net.specs.Rounds.{Todo, obey}

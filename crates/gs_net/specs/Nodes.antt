@@ -4,13 +4,13 @@ use Rattle.std.specs.List.{AllZip, AllByRecursion}
 use Rattle.gs_base.specs.declared.names.PeerNo.{PeerNo}
 use Rattle.gs_base.specs.declared.names.Millis.{Millis}
 use Rattle.gs_base.specs.declared.rpc.Rpc.{Rpc}
-use Rattle.gs_base.specs.Tables.{last_moment}
-use Rattle.gs_base.specs.Legal.{Legal}
+use Rattle.gs_rules.specs.Tables.{last_moment}
+use Rattle.gs_rules.specs.Legal.{Legal}
 use Rattle.gs_wire.specs.declared.frames.End.{End}
 use Rattle.gs_wire.specs.Stream.{Holding, Feeds}
 use Rattle.gs_net.specs.declared.finished.Refusal.{Refusal}
 use Rattle.gs_net.specs.declared.finished.Finished.{Finished}
-use Rattle.gs_base.specs.declared.plan.Plan.{Plan}
+use Rattle.gs_params.specs.declared.plan.Plan.{Plan}
 use Rattle.gs_net.specs.declared.peers.node.Link.{Link}
 use Rattle.gs_net.specs.declared.peers.node.Node.{Node}
 use Rattle.gs_net.specs.declared.peers.speech.Speech.{Speech}

@@ -5,20 +5,20 @@ use Rattle.gs_base.specs.declared.names.PeerNo.{PeerNo}
 use Rattle.gs_base.specs.declared.names.MsgId.{MsgId}
 use Rattle.gs_base.specs.declared.names.Millis.{Millis}
 use Rattle.gs_base.specs.declared.rpc.Rpc.{Rpc}
-use Rattle.gs_base.specs.declared.trace.Event.{Event}
-use Rattle.gs_base.specs.declared.trace.Event.TheVariants as events
-use Rattle.gs_base.specs.declared.trace.Entry.{Entry}
+use Rattle.gs_rules.specs.declared.trace.Event.{Event}
+use Rattle.gs_rules.specs.declared.trace.Event.TheVariants as events
+use Rattle.gs_rules.specs.declared.trace.Entry.{Entry}
 use Rattle.gs_base.specs.Names.{same_peer}
-use Rattle.gs_base.specs.Tables.{Entries}
-use Rattle.gs_base.specs.Rules.{Peer}
-use Rattle.gs_base.specs.Plans.{are_joined}
-use Rattle.gs_base.specs.Legal.{Legal, Opens, Delivers}
-use Rattle.gs_base.specs.Words.{Word, bytes_of, out, handled}
+use Rattle.gs_rules.specs.Tables.{Entries}
+use Rattle.gs_rules.specs.Rules.{Peer}
+use Rattle.gs_params.specs.Plans.{are_joined}
+use Rattle.gs_rules.specs.Legal.{Legal, Opens, Delivers}
+use Rattle.gs_rules.specs.Words.{Word, bytes_of, out, handled}
 use Rattle.gs_wire.specs.Codec.{codec}
-use Rattle.gs_base.specs.declared.plan.Plan.{Plan}
-use Rattle.gs_base.specs.declared.plan.Line.{Line}
-use Rattle.gs_base.specs.declared.plan.What.{What}
-use Rattle.gs_base.specs.declared.plan.What.TheVariants.{Subscribe, Unsubscribe, Publish}
+use Rattle.gs_params.specs.declared.plan.Plan.{Plan}
+use Rattle.gs_params.specs.declared.plan.Line.{Line}
+use Rattle.gs_params.specs.declared.plan.What.{What}
+use Rattle.gs_params.specs.declared.plan.What.TheVariants.{Subscribe, Unsubscribe, Publish}
 use Rattle.gs_net.specs.declared.finished.Refusal.{Refusal}
 use Rattle.gs_net.specs.declared.finished.Finished.{Finished}
 use Rattle.gs_router.specs.declared.fault.RouterFault.{RouterFault}

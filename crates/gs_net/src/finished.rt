@@ -1,5 +1,6 @@
 //! What is left of the peers when a run has ended.
-use gs_base::{Millis, Seq, Trace};
+use gs_base::{Millis, Seq};
+use gs_rules::Trace;
 
 /// A script line that a peer could not follow.
 #[derive(Clone, Copy, Debug, PartialEq, Eq)]

@@ -1,7 +1,7 @@
 //! The peers of a plan, round by round.
 ghost use Rattle.std.specs.Prelude.{◌≡◌, ◌≤◌, IfOk, length, map};
 ghost use Rattle.std.specs.List.{AllZip};
-ghost use Rattle.gs_base.specs.Plans.{IsInRange};
+ghost use Rattle.gs_params.specs.Plans.{IsInRange};
 ghost use Rattle.gs_net.specs.Rounds.{IsRun, moment, neighbours, numbers};
 ghost use Rattle.gs_net.specs.Agenda.{due_from, seen};
 ghost use Rattle.gs_net.specs.Nodes.{AllRunning, ClosesEach, IsNew, PlaysEach};
@@ -14,7 +14,8 @@ use crate::finished::Finished;
 use crate::peers::agenda::{Agenda, Due};
 use crate::peers::node::Node;
 use crate::peers::speech::Speech;
-use gs_base::{MOST_PEERS, Millis, PeerNo, Plan, are_joined};
+use gs_base::{Millis, PeerNo};
+use gs_params::{MOST_PEERS, Plan, are_joined};
 use std::alloc::{AllocError, Global};
 
 /// Runs the peers of a plan, in rounds: in each, the peers in the order of their numbers. What is

@@ -1,10 +1,11 @@
 //! A run of two peers, of which one dials the other.
 ghost use Rattle.std.specs.Prelude.{IfOk};
-ghost use Rattle.gs_base.specs.Plans.{IsInRange};
+ghost use Rattle.gs_params.specs.Plans.{IsInRange};
 
 use crate::{Finished, Refusal, deliveries_stay_apart, run_peers, what_was_said_is_handled};
 use bytes::Bytes;
-use gs_base::{Dial, Line, Millis, Params, Peer, PeerNo, Plan, Seq, Text, Topic, What};
+use gs_base::{Millis, PeerNo, Seq, Text, Topic};
+use gs_params::{Dial, Line, Params, PlannedPeer, Plan, What};
 use std::alloc::{AllocError, Global};
 
 fn topic(alloc: Global) -> Result<Topic, AllocError> {
@@ -34,8 +35,8 @@ fn text(alloc: Global, bytes: &str) -> Result<Text, AllocError> {
     Ok(Text::from(text))
 }
 
-fn peer(alloc: Global, name: &str) -> Result<Peer, AllocError> {
-    Ok(Peer {
+fn peer(alloc: Global, name: &str) -> Result<PlannedPeer, AllocError> {
+    Ok(PlannedPeer {
         name: text(alloc, name)?,
         address: text(alloc, name)?,
         words: Seq::new(alloc),

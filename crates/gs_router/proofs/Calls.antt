@@ -5,11 +5,11 @@ use Rattle.std.specs.List.{AllByRecursion}
 use Rattle.gs_base.specs.declared.names.Millis.{Millis}
 use Rattle.gs_base.specs.declared.names.Topic.{Topic}
 use Rattle.std.specs.Result.{result_err}
-use Rattle.gs_base.specs.declared.trace.Event.{Event}
-use Rattle.gs_base.specs.declared.trace.Event.TheVariants.{Heard, Late, Sub, Msg, Subscribe, Unsubscribe, Publish, RoundEnd, Shut}
-use Rattle.gs_base.specs.Tables.{Entries, is_shut, joined, seen}
-use Rattle.gs_base.specs.Rules.{Peer}
-use Rattle.gs_base.specs.Legal.{Legal, Opens, MaySubscribe, MayUnsubscribe, MayPublish, has_room_for}
+use Rattle.gs_rules.specs.declared.trace.Event.{Event}
+use Rattle.gs_rules.specs.declared.trace.Event.TheVariants.{Heard, Late, Sub, Msg, Subscribe, Unsubscribe, Publish, RoundEnd, Shut}
+use Rattle.gs_rules.specs.Tables.{Entries, is_shut, joined, seen}
+use Rattle.gs_rules.specs.Rules.{Peer}
+use Rattle.gs_rules.specs.Legal.{Legal, Opens, MaySubscribe, MayUnsubscribe, MayPublish, has_room_for}
 use Rattle.gs_base.specs.Names.{message_id, publication}
 use Rattle.gs_base.specs.declared.names.TheConstants.{LONGEST_TOPIC}
 use Rattle.gs_router.specs.declared.fault.RouterFault.{RouterFault}

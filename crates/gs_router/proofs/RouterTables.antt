@@ -10,12 +10,12 @@ use Rattle.gs_base.specs.declared.names.Topic.{Topic}
 use Rattle.gs_base.specs.declared.names.MsgId.{MsgId}
 use Rattle.gs_base.specs.declared.names.Millis.{Millis}
 use Rattle.gs_base.specs.declared.rpc.SubOpt.{SubOpt}
-use Rattle.gs_base.specs.declared.trace.Mark.{Mark}
-use Rattle.gs_base.specs.declared.trace.Event.{Event}
-use Rattle.gs_base.specs.declared.trace.Event.TheVariants.{Sub, Subscribe, Unsubscribe, Shut}
-use Rattle.gs_base.specs.declared.trace.Entry.{Entry}
+use Rattle.gs_rules.specs.declared.trace.Mark.{Mark}
+use Rattle.gs_rules.specs.declared.trace.Event.{Event}
+use Rattle.gs_rules.specs.declared.trace.Event.TheVariants.{Sub, Subscribe, Unsubscribe, Shut}
+use Rattle.gs_rules.specs.declared.trace.Entry.{Entry}
 use Rattle.gs_base.specs.Names.{same_peer, same_topic, same_id, topic_or_empty}
-use Rattle.gs_base.specs.Tables.{Entries, is_shut, is_shut_after, up, up_after, on, on_after, joined, joined_after, known, known_after, verdict_in, sighting_after, last_seen}
+use Rattle.gs_rules.specs.Tables.{Entries, is_shut, is_shut_after, up, up_after, on, on_after, joined, joined_after, known, known_after, verdict_in, sighting_after, last_seen}
 use Rattle.gs_router.specs.declared.tables.Tables.{Tables}
 use Rattle.gs_router.specs.Router.{Agrees, same_listener, accepted_at}
 

@@ -9,14 +9,14 @@ use Rattle.gs_base.specs.declared.names.MsgId.{MsgId}
 use Rattle.gs_base.specs.declared.names.Millis.{Millis}
 use Rattle.gs_base.specs.declared.rpc.Message.{Message}
 use Rattle.gs_base.specs.declared.rpc.Rpc.{Rpc}
-use Rattle.gs_base.specs.declared.trace.Verdict.{Verdict}
-use Rattle.gs_base.specs.declared.trace.Event.{Event}
-use Rattle.gs_base.specs.declared.trace.Event.TheVariants.{Heard, Late, Sub, Msg, Subscribe, Unsubscribe, Publish, RoundEnd, Shut}
-use Rattle.gs_base.specs.declared.trace.Entry.{Entry}
+use Rattle.gs_rules.specs.declared.trace.Verdict.{Verdict}
+use Rattle.gs_rules.specs.declared.trace.Event.{Event}
+use Rattle.gs_rules.specs.declared.trace.Event.TheVariants.{Heard, Late, Sub, Msg, Subscribe, Unsubscribe, Publish, RoundEnd, Shut}
+use Rattle.gs_rules.specs.declared.trace.Entry.{Entry}
 use Rattle.gs_base.specs.Names.{same_topic}
-use Rattle.gs_base.specs.Tables.{Entries, up, parts, last_moment, owed, owed_after, is_shut, is_shut_after, on, on_after, joined, joined_after, known, known_after, verdict_in, sighting_after, last_seen}
-use Rattle.gs_base.specs.Rules.{Peer, bare, Rule, Gives, Follows, SaysTheSame, free, message_rule, rule_of}
-use Rattle.gs_base.specs.Legal.{Legal, IsNext, MayOpen, Begins, Opens}
+use Rattle.gs_rules.specs.Tables.{Entries, up, parts, last_moment, owed, owed_after, is_shut, is_shut_after, on, on_after, joined, joined_after, known, known_after, verdict_in, sighting_after, last_seen}
+use Rattle.gs_rules.specs.Rules.{Peer, bare, Rule, Gives, Follows, SaysTheSame, free, message_rule, rule_of}
+use Rattle.gs_rules.specs.Legal.{Legal, IsNext, MayOpen, Begins, Opens}
 use Rattle.gs_router.specs.declared.hearing.Fate.{Fate}
 use Rattle.gs_router.specs.declared.hearing.Fate.TheVariants.{Dropped, Invalid, Accepted}
 use Rattle.gs_router.specs.declared.tables.Tables.{Tables}

@@ -8,16 +8,16 @@ use Rattle.gs_base.specs.declared.names.Topic.{Topic}
 use Rattle.gs_base.specs.declared.names.MsgId.{MsgId}
 use Rattle.gs_base.specs.declared.names.Millis.{Millis}
 use Rattle.gs_base.specs.declared.rpc.Rpc.{Rpc}
-use Rattle.gs_base.specs.declared.trace.Verdict.TheVariants.{Accept}
+use Rattle.gs_rules.specs.declared.trace.Verdict.TheVariants.{Accept}
 use Rattle.gs_base.specs.declared.rpc.Message.{Message}
-use Rattle.gs_base.specs.declared.trace.Mark.TheVariants as marks
-use Rattle.gs_base.specs.declared.trace.Event.{Event}
-use Rattle.gs_base.specs.declared.trace.Event.TheVariants.{Heard, Late, Msg, Subscribe, Unsubscribe, Publish, RoundEnd, Shut}
-use Rattle.gs_base.specs.declared.trace.Entry.{Entry}
+use Rattle.gs_rules.specs.declared.trace.Mark.TheVariants as marks
+use Rattle.gs_rules.specs.declared.trace.Event.{Event}
+use Rattle.gs_rules.specs.declared.trace.Event.TheVariants.{Heard, Late, Msg, Subscribe, Unsubscribe, Publish, RoundEnd, Shut}
+use Rattle.gs_rules.specs.declared.trace.Entry.{Entry}
 use Rattle.gs_base.specs.Names.{same_peer, same_topic, same_id, topic_of, payload_of, message_id, publication}
-use Rattle.gs_base.specs.Tables.{Entries, Sighting, owed, is_shut, up, on, joined, known, last_seen, seen}
-use Rattle.gs_base.specs.Rules.{Peer, bare}
-use Rattle.gs_base.specs.Legal.{Legal, Opens, has_room_for}
+use Rattle.gs_rules.specs.Tables.{Entries, Sighting, owed, is_shut, up, on, joined, known, last_seen, seen}
+use Rattle.gs_rules.specs.Rules.{Peer, bare}
+use Rattle.gs_rules.specs.Legal.{Legal, Opens, has_room_for}
 use Rattle.gs_wire.specs.Codec.{codec}
 use Rattle.gs_router.specs.declared.setup.Setup.{Setup}
 use Rattle.gs_router.specs.declared.hearing.Fate.{Fate}

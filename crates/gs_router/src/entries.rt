@@ -1,15 +1,16 @@
 //! The entries of what a router's own user has it do, as the rules give them.
 ghost use Rattle.std.specs.Prelude.{◌≡◌, [], ◌∷◌, IfOk, if◌then◌else◌};
 ghost use Rattle.gs_base.specs.Names.{announcement};
-ghost use Rattle.gs_base.specs.Tables.{Entries, joined};
-ghost use Rattle.gs_base.specs.Rules.{bare, publish_rule, subscribe_rule, to_each, unsubscribe_rule, up_neighbours};
+ghost use Rattle.gs_rules.specs.Tables.{Entries, joined};
+ghost use Rattle.gs_rules.specs.Rules.{bare, publish_rule, subscribe_rule, to_each, unsubscribe_rule, up_neighbours};
 ghost use Rattle.gs_router.specs.Router.{Agrees, peer_with};
 
 use crate::sends::{announcement, listeners, only, publication, to_each, up_neighbours};
 use crate::setup::Setup;
 use crate::tables::Tables;
 use bytes::Bytes;
-use gs_base::{Entry, Event, Mark, Millis, MsgId, PeerNo, Rpc, Seq, Topic, Verdict, clone_of};
+use gs_base::{Millis, MsgId, PeerNo, Rpc, Seq, Topic, clone_of};
+use gs_rules::{Entry, Event, Mark, Verdict};
 use std::alloc::{AllocError, Global};
 
 /// An entry that says no more than that something happened.

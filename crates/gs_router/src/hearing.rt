@@ -1,10 +1,10 @@
 //! What a router does about what it hears: an entry for the RPC, and one for each part.
 ghost use Rattle.std.specs.Prelude.{◌≡◌, ◌≤◌, ◌∷◌, IfOk, OnOk, OnErr, true, false};
 ghost use Rattle.gs_base.specs.Names.{is_signed, payload_of, topic_of, topic_or_empty};
-ghost use Rattle.gs_base.specs.Tables.{Entries, last_moment, owed, up};
-ghost use Rattle.gs_base.specs.Rules.{message_rule};
-ghost use Rattle.gs_base.specs.Legal.{Legal, Opens};
-ghost use Rattle.gs_base.specs.declared.trace.Event.TheVariants as events;
+ghost use Rattle.gs_rules.specs.Tables.{Entries, last_moment, owed, up};
+ghost use Rattle.gs_rules.specs.Rules.{message_rule};
+ghost use Rattle.gs_rules.specs.Legal.{Legal, Opens};
+ghost use Rattle.gs_rules.specs.declared.trace.Event.TheVariants as events;
 ghost use Rattle.gs_base.specs.declared.names.PeerNo.{PeerNo as PeerNoValue};
 ghost use Rattle.gs_base.specs.declared.rpc.Message.{Message as MessageValue};
 ghost use Rattle.gs_router.specs.Router.{Agrees, GoesOn, IsDue, IsReady, Pays, hearing, judged, peer_with};
@@ -14,10 +14,8 @@ use crate::sends::only;
 use crate::setup::Setup;
 use crate::tables::Tables;
 use bytes::Bytes;
-use gs_base::{
-    Entry, Event, Mark, Message, Millis, MsgId, PeerNo, Rpc, SubOpt, Topic, Trace, Verdict,
-    clone_of,
-};
+use gs_base::{Message, Millis, MsgId, PeerNo, Rpc, SubOpt, Topic, clone_of};
+use gs_rules::{Entry, Event, Mark, Trace, Verdict};
 use std::alloc::{AllocError, Global};
 
 /// The topic that is named; an absent one is the empty one.

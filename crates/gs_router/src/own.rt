@@ -1,15 +1,16 @@
 //! What a router's own user has it do: each one entry, or none.
 ghost use Rattle.std.specs.Prelude.{◌≡◌, ◌≤◌, OnOk, false};
-ghost use Rattle.gs_base.specs.Tables.{is_shut, last_moment};
-ghost use Rattle.gs_base.specs.Legal.{Legal, MayPublish, MaySubscribe, MayUnsubscribe, Opens};
-ghost use Rattle.gs_base.specs.declared.trace.Event.TheVariants as events;
+ghost use Rattle.gs_rules.specs.Tables.{is_shut, last_moment};
+ghost use Rattle.gs_rules.specs.Legal.{Legal, MayPublish, MaySubscribe, MayUnsubscribe, Opens};
+ghost use Rattle.gs_rules.specs.declared.trace.Event.TheVariants as events;
 ghost use Rattle.gs_router.specs.Router.{GoesOn, IsReady, peer_with};
 
 use crate::entries;
 use crate::setup::Setup;
 use crate::tables::Tables;
 use bytes::Bytes;
-use gs_base::{Event, Millis, MsgId, Topic, Trace};
+use gs_base::{Millis, MsgId, Topic};
+use gs_rules::{Event, Trace};
 use std::alloc::{AllocError, Global};
 
 /// Subscribes to a topic.

@@ -1,8 +1,8 @@
 //! Why a router refuses a call, as its tables tell.
 ghost use Rattle.std.specs.Prelude.{◌≡◌, ℕ, Bool, List, [], ◌∷◌};
-ghost use Rattle.gs_base.specs.Tables.{Entries, is_shut};
-ghost use Rattle.gs_base.specs.Rules.{Peer};
-ghost use Rattle.gs_base.specs.declared.trace.Event.TheVariants as events;
+ghost use Rattle.gs_rules.specs.Tables.{Entries, is_shut};
+ghost use Rattle.gs_rules.specs.Rules.{Peer};
+ghost use Rattle.gs_rules.specs.declared.trace.Event.TheVariants as events;
 ghost use Rattle.gs_router.specs.Router.{Agrees, first_of, peer_with, refusal};
 
 use crate::fault::RouterFault;

@@ -1,8 +1,8 @@
 //! A router: what one gossipsub peer does, and its trace. It takes nothing from anywhere and sends
 //! nothing: what comes is handed in, and what is sent stands in the trace.
 ghost use Rattle.std.specs.Prelude.{◌≡◌, ◌≤◌, [], true, false};
-ghost use Rattle.gs_base.specs.Tables.{last_moment};
-ghost use Rattle.gs_base.specs.declared.trace.Event.TheVariants as events;
+ghost use Rattle.gs_rules.specs.Tables.{last_moment};
+ghost use Rattle.gs_rules.specs.declared.trace.Event.TheVariants as events;
 ghost use Rattle.gs_router.specs.declared.fault.RouterFault.TheVariants.{NoMemory};
 ghost use Rattle.gs_router.specs.Router.{Calls, hearing};
 
@@ -11,7 +11,8 @@ use crate::setup::Setup;
 use crate::tables::Tables;
 use crate::{hearing, own, refusal};
 use bytes::Bytes;
-use gs_base::{Millis, PeerNo, Rpc, Topic, Trace};
+use gs_base::{Millis, PeerNo, Rpc, Topic};
+use gs_rules::Trace;
 use std::alloc::Global;
 use std::marker::Model;
 

@@ -1,8 +1,8 @@
 //! The RPCs that a router sends, and to whom.
 ghost use Rattle.std.specs.Prelude.{◌≡◌, [], ◌∷◌, ◌&&◌, IfOk, filter};
 ghost use Rattle.gs_base.specs.Names.{announcement, publication};
-ghost use Rattle.gs_base.specs.Tables.{Entries, up, on};
-ghost use Rattle.gs_base.specs.Rules.{to_each};
+ghost use Rattle.gs_rules.specs.Tables.{Entries, up, on};
+ghost use Rattle.gs_rules.specs.Rules.{to_each};
 ghost use Rattle.gs_router.specs.Router.{Agrees};
 
 use crate::tables::Tables;

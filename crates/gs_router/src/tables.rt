@@ -1,11 +1,11 @@
 //! What a router knows beside its trace, so that no call looks through that.
 ghost use Rattle.std.specs.Prelude.{◌≡◌, [], ◌∷◌, Some, IfOk, OnOk, is_some, unwrap_or, true, false};
-ghost use Rattle.gs_base.specs.Tables.{Entries, is_shut, up, on, joined, seen};
-ghost use Rattle.gs_base.specs.Legal.{has_room_for};
-ghost use Rattle.gs_base.specs.declared.trace.Entry.{Entry};
-ghost use Rattle.gs_base.specs.declared.trace.Event.TheVariants as events;
-ghost use Rattle.gs_base.specs.declared.trace.Mark.TheVariants as marks;
-ghost use Rattle.gs_base.specs.declared.trace.Verdict.TheVariants as verdicts;
+ghost use Rattle.gs_rules.specs.Tables.{Entries, is_shut, up, on, joined, seen};
+ghost use Rattle.gs_rules.specs.Legal.{has_room_for};
+ghost use Rattle.gs_rules.specs.declared.trace.Entry.{Entry};
+ghost use Rattle.gs_rules.specs.declared.trace.Event.TheVariants as events;
+ghost use Rattle.gs_rules.specs.declared.trace.Mark.TheVariants as marks;
+ghost use Rattle.gs_rules.specs.declared.trace.Verdict.TheVariants as verdicts;
 ghost use Rattle.gs_base.specs.Names.{topic_or_empty};
 ghost use Rattle.gs_base.specs.declared.rpc.SubOpt.{SubOpt as SubOptValue};
 ghost use Rattle.gs_router.specs.Router.{Agrees, LeavesTopics};

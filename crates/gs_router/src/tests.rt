@@ -1,6 +1,6 @@
 //! Routers with neighbours 1 and 2: what their calls answer, and the trace that is left.
 ghost use Rattle.std.specs.Prelude.{true, ◌≡◌, ◌≤◌};
-ghost use Rattle.gs_base.specs.Tables.{last_moment};
+ghost use Rattle.gs_rules.specs.Tables.{last_moment};
 
 mod cases;
 
@@ -12,9 +12,8 @@ use crate::tests::cases::{
     Sends, TOPICS, TOPICS_TRACE,
 };
 use bytes::Bytes;
-use gs_base::{
-    Entry, Event, Mark, Message, Millis, MsgId, PeerNo, Rpc, Seq, SubOpt, Topic, Trace, Verdict,
-};
+use gs_base::{Message, Millis, MsgId, PeerNo, Rpc, Seq, SubOpt, Topic};
+use gs_rules::{Entry, Event, Mark, Trace, Verdict};
 use std::alloc::{AllocError, Global};
 
 /// Whether it subscribes, and the topic.

@@ -1,9 +1,9 @@
 -- Parameters that pass their checks.
 use Rattle.std.proofs.Common.{◌≡◌, Bool, true, false, not, Result, Ok, Err, subst}
-use Rattle.gs_base.specs.declared.params.Params.{Params}
-use Rattle.gs_base.specs.declared.param_fault.ParamFault.{ParamFault}
-use Rattle.gs_base.specs.declared.param_fault.ParamFault.TheVariants as faults
-use Rattle.gs_base.specs.Params.{checked, degrees_hold, thresholds_hold, all_factors_hold, all_windows_hold}
+use Rattle.gs_params.specs.declared.params.Params.{Params}
+use Rattle.gs_params.specs.declared.param_fault.ParamFault.{ParamFault}
+use Rattle.gs_params.specs.declared.param_fault.ParamFault.TheVariants as faults
+use Rattle.gs_params.specs.Params.{checked, degrees_hold, thresholds_hold, all_factors_hold, all_windows_hold}
 use Rattle.std.specs.Prelude.{if◌then◌else◌}
 
 -- four tests, one behind the other

@@ -7,7 +7,7 @@ use Rattle.hex.specs.Hex.{decode_of}
 use Rattle.gs_scenario.specs.declared.fault.ScenarioFault.{ScenarioFault}
 use Rattle.gs_scenario.specs.declared.fault.ScenarioFault.TheVariants.{Range, UnknownName, Repeated}
 use Rattle.gs_scenario.specs.Keys.{Kind, Key, Section, ◌>>=◌, or_refuse, refuse_if, read_each}
-use Rattle.gs_base.specs.Params.{int_within}
+use Rattle.gs_params.specs.Params.{int_in_range}
 
 -- a kind from the values that it allows: any other is out of range
 abbrev pub kind_of : {A : Type 0} → (Data → Option A) → Kind A
@@ -23,7 +23,7 @@ whole_number low high = kind_of (λ d. option_and_then (between low high) (as_in
 
 -- a whole number of either sign from low to high
 abbrev pub int_between : ℤ → ℤ → ℤ → Option ℤ
-int_between low high z = if int_within low high z then Some z else None
+int_between low high z = if int_in_range low high z then Some z else None
 
 abbrev pub signed_number : ℤ → ℤ → Kind ℤ
 signed_number low high = kind_of (λ d. option_and_then (int_between low high) (as_integer d))

@@ -1,18 +1,18 @@
 -- The parameters that a scenario gives, or its first refusal: the keys of each table in their order.
 use Rattle.std.specs.Prelude.{ℕ, ◌++◌, Bool, codes, List, [], ◌∷◌, Result, Ok, Err, ℤ, pos, neg_ℤ}
-use Rattle.gs_base.specs.Params.{checked}
+use Rattle.gs_params.specs.Params.{checked}
 use Rattle.gs_base.specs.declared.names.Topic.{Topic}
-use Rattle.gs_base.specs.declared.params.TheConstants.{DEFAULT_DEGREES, DEFAULT_THRESHOLDS, DEFAULT_FACTORS, DEFAULT_WINDOWS, DEFAULT_FLOOD_PUBLISH}
-use Rattle.gs_base.specs.declared.params.Degrees.{Degrees}
-use Rattle.gs_base.specs.declared.params.Thresholds.{Thresholds}
-use Rattle.gs_base.specs.declared.params.Factors.{Factors}
-use Rattle.gs_base.specs.declared.params.Windows.{Windows}
-use Rattle.gs_base.specs.declared.params.Params.{Params}
-use Rattle.gs_base.specs.declared.topic_params.TheConstants.{DEFAULT_TOPIC_FACTORS, DEFAULT_TOPIC_WINDOWS}
-use Rattle.gs_base.specs.declared.topic_params.TopicFactors.{TopicFactors}
-use Rattle.gs_base.specs.declared.topic_params.TopicWindows.{TopicWindows}
-use Rattle.gs_base.specs.declared.topic_params.TopicParams.{TopicParams}
-use Rattle.gs_base.specs.declared.param_fault.ParamFault.{ParamFault}
+use Rattle.gs_params.specs.declared.params.TheConstants.{DEFAULT_DEGREES, DEFAULT_THRESHOLDS, DEFAULT_FACTORS, DEFAULT_WINDOWS, DEFAULT_FLOOD_PUBLISH}
+use Rattle.gs_params.specs.declared.params.Degrees.{Degrees}
+use Rattle.gs_params.specs.declared.params.Thresholds.{Thresholds}
+use Rattle.gs_params.specs.declared.params.Factors.{Factors}
+use Rattle.gs_params.specs.declared.params.Windows.{Windows}
+use Rattle.gs_params.specs.declared.params.Params.{Params}
+use Rattle.gs_params.specs.declared.topic_params.TheConstants.{DEFAULT_TOPIC_FACTORS, DEFAULT_TOPIC_WINDOWS}
+use Rattle.gs_params.specs.declared.topic_params.TopicFactors.{TopicFactors}
+use Rattle.gs_params.specs.declared.topic_params.TopicWindows.{TopicWindows}
+use Rattle.gs_params.specs.declared.topic_params.TopicParams.{TopicParams}
+use Rattle.gs_params.specs.declared.param_fault.ParamFault.{ParamFault}
 use Rattle.gs_scenario.specs.declared.fault.ScenarioFault.{ScenarioFault}
 use Rattle.gs_scenario.specs.declared.fault.ScenarioFault.TheVariants as faults
 use Rattle.gs_scenario.specs.declared.scenario.params.Shared.{Shared}

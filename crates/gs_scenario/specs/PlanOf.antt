@@ -6,18 +6,18 @@ use Rattle.toml.specs.Data.{Data, Items, no_items, Members, no_members}
 use Rattle.toml.specs.Parse.{parse_document}
 use Rattle.gs_base.specs.declared.names.PeerNo.{PeerNo}
 use Rattle.gs_base.specs.declared.names.Topic.{Topic}
-use Rattle.gs_base.specs.declared.topic_params.TopicParams.{TopicParams}
+use Rattle.gs_params.specs.declared.topic_params.TopicParams.{TopicParams}
 use Rattle.gs_scenario.specs.declared.fault.ScenarioFault.{ScenarioFault}
 use Rattle.gs_scenario.specs.declared.fault.ScenarioFault.TheVariants.{Toml, Range, UnknownName, Repeated}
-use Rattle.gs_base.specs.declared.plan.TheConstants.{LONGEST_ROUND, MOST_ROUNDS, MOST_PEERS, HIGHEST_APP_SCORE}
-use Rattle.gs_base.specs.declared.plan.Plan.{Plan}
-use Rattle.gs_base.specs.declared.plan.Peer.{Peer}
-use Rattle.gs_base.specs.declared.plan.Dial.{Dial}
-use Rattle.gs_base.specs.declared.plan.App.{App}
-use Rattle.gs_base.specs.declared.plan.Line.{Line}
-use Rattle.gs_base.specs.declared.plan.What.{What}
-use Rattle.gs_base.specs.declared.plan.What.TheVariants.{Subscribe, Unsubscribe, Publish}
-use Rattle.gs_base.specs.Plans.{are_joined}
+use Rattle.gs_params.specs.declared.plan.TheConstants.{LONGEST_ROUND, MOST_ROUNDS, MOST_PEERS, HIGHEST_APP_SCORE}
+use Rattle.gs_params.specs.declared.plan.Plan.{Plan}
+use Rattle.gs_params.specs.declared.plan.PlannedPeer.{PlannedPeer}
+use Rattle.gs_params.specs.declared.plan.Dial.{Dial}
+use Rattle.gs_params.specs.declared.plan.App.{App}
+use Rattle.gs_params.specs.declared.plan.Line.{Line}
+use Rattle.gs_params.specs.declared.plan.What.{What}
+use Rattle.gs_params.specs.declared.plan.What.TheVariants.{Subscribe, Unsubscribe, Publish}
+use Rattle.gs_params.specs.Plans.{are_joined}
 use Rattle.gs_scenario.specs.declared.scenario.script.Verb.{Verb}
 use Rattle.gs_scenario.specs.declared.scenario.script.Verb.TheVariants as verbs
 use Rattle.gs_scenario.specs.Keys.{Key, Kind, Section, ◌>>=◌, refuse_if, required, optional, read_key, only, read_each}
@@ -115,10 +115,10 @@ topic_in earlier d = do
 -- ---- a peer
 
 -- the number of the peer that has a name
-abbrev pub peer_named : List Peer → List ℕ → Option PeerNo
+abbrev pub peer_named : List PlannedPeer → List ℕ → Option PeerNo
 peer_named peers text = option_map (λ n. record { 0 = n }) (position (λ peer. pointwise nat_eq peer.name text) peers)
 
-abbrev pub peer_name_key : List Peer → Key (List ℕ)
+abbrev pub peer_name_key : List PlannedPeer → Key (List ℕ)
 peer_name_key earlier = required (codes "name") (new_name (peer_named earlier))
 
 -- where a peer is: its name, where nothing else is said
@@ -131,7 +131,7 @@ words_key = optional (codes "words") words []
 abbrev pub peer_keys : List (List ℕ)
 peer_keys = (peer_name_key []).name ∷ (address_key []).name ∷ words_key.name ∷ []
 
-unfoldable pub peer_in : List Peer → Data → Result Peer ScenarioFault
+unfoldable pub peer_in : List PlannedPeer → Data → Result PlannedPeer ScenarioFault
 peer_in earlier d = do
   section ← table_at (element (codes "peer") (length earlier)) d
   _ ← only peer_keys section
@@ -143,15 +143,15 @@ peer_in earlier d = do
 -- ---- a dial
 
 -- a peer that has a name, and is another
-abbrev pub other_peer : List Peer → PeerNo → Kind PeerNo
+abbrev pub other_peer : List PlannedPeer → PeerNo → Kind PeerNo
 other_peer peers one place d = do
   other ← reference (peer_named peers) place d
   refuse_if (one.0 == other.0) (Range place) other
 
-abbrev pub from_key : List Peer → Key PeerNo
+abbrev pub from_key : List PlannedPeer → Key PeerNo
 from_key peers = required (codes "from") (reference (peer_named peers))
 
-abbrev pub to_key : List Peer → PeerNo → Key PeerNo
+abbrev pub to_key : List PlannedPeer → PeerNo → Key PeerNo
 to_key peers one = required (codes "to") (other_peer peers one)
 
 abbrev pub dial_keys : List (List ℕ)
@@ -160,7 +160,7 @@ dial_keys = (from_key []).name ∷ (to_key [] (record { 0 = 0 })).name ∷ []
 abbrev pub new_dial : List ℕ → List Dial → Dial → Result Dial ScenarioFault
 new_dial place earlier dial = refuse_if (are_joined earlier dial.from dial.to) (Repeated place) dial
 
-unfoldable pub dial_in : List Peer → List Dial → Data → Result Dial ScenarioFault
+unfoldable pub dial_in : List PlannedPeer → List Dial → Data → Result Dial ScenarioFault
 dial_in peers earlier d = do
   section ← table_at (element (codes "dial") (length earlier)) d
   _ ← only dial_keys section
@@ -171,16 +171,16 @@ dial_in peers earlier d = do
 -- ---- what an application thinks of a neighbour
 
 -- whom a table speaks of
-abbrev pub peer_key : List Peer → Key PeerNo
+abbrev pub peer_key : List PlannedPeer → Key PeerNo
 peer_key peers = required (codes "peer") (reference (peer_named peers))
 
 -- a neighbour of a peer, which has a name
-abbrev pub neighbour : List Peer → List Dial → PeerNo → Kind PeerNo
+abbrev pub neighbour : List PlannedPeer → List Dial → PeerNo → Kind PeerNo
 neighbour peers dials one place d = do
   other ← reference (peer_named peers) place d
   refuse_if (not (are_joined dials one other)) (UnknownName place) other
 
-abbrev pub about_key : List Peer → List Dial → PeerNo → Key PeerNo
+abbrev pub about_key : List PlannedPeer → List Dial → PeerNo → Key PeerNo
 about_key peers dials one = required (codes "about") (neighbour peers dials one)
 
 abbrev pub value_key : Key ℤ
@@ -196,7 +196,7 @@ is_of_same x y = (x.peer.0 == y.peer.0) && (x.about.0 == y.about.0)
 abbrev pub new_app : List ℕ → List App → App → Result App ScenarioFault
 new_app place earlier app = refuse_if (list_any (is_of_same app) earlier) (Repeated place) app
 
-unfoldable pub app_in : List Peer → List Dial → List App → Data → Result App ScenarioFault
+unfoldable pub app_in : List PlannedPeer → List Dial → List App → Data → Result App ScenarioFault
 app_in peers dials earlier d = do
   section ← table_at (element (codes "app") (length earlier)) d
   _ ← only app_keys section
@@ -255,7 +255,7 @@ what_in topics section verbs.Publish = do
   payload ← read_key section hex_key
   Ok (Publish topic payload)
 
-unfoldable pub line_in : List (Topic × TopicParams) → List Peer → ℕ → List Line → Data → Result Line ScenarioFault
+unfoldable pub line_in : List (Topic × TopicParams) → List PlannedPeer → ℕ → List Line → Data → Result Line ScenarioFault
 line_in topics peers rounds earlier d = do
   section ← table_at (element (codes "do") (length earlier)) d
   verb ← read_key section what_key

@@ -2,7 +2,7 @@
 use Rattle.std.specs.Prelude.{◌≡◌, ℕ, ◌++◌, decimal, codes, List, [], Option, Some, None, Result, Ok, Err}
 use Rattle.gs_scenario.specs.declared.fault.ScenarioFault.{ScenarioFault}
 use Rattle.gs_scenario.specs.declared.fault.ScenarioFault.TheVariants.{Toml, UnknownKey, Missing, Range, UnknownName, Repeated, NoMemory, Params}
-use Rattle.gs_base.specs.Params as params
+use Rattle.gs_params.specs.Params as params
 
 -- the number of a refusal
 abbrev pub number_of : ScenarioFault → ℕ

@@ -3,7 +3,8 @@ ghost use Rattle.std.specs.Prelude.{◌≡◌, Some, option_map};
 ghost use Rattle.gs_scenario.specs.declared.fault.ScenarioFault.TheVariants.{NoMemory};
 ghost use Rattle.gs_scenario.specs.Refusal.{number_of, place_of, refusal_text};
 
-use gs_base::{ParamFault, Text};
+use gs_base::Text;
+use gs_params::ParamFault;
 use std::alloc::{AllocError, AllocFailed};
 use std::error::Error;
 use std::fmt;

@@ -3,7 +3,7 @@ ghost use Rattle.std.specs.Prelude.{◌≡◌, IfOk};
 ghost use Rattle.toml.specs.View.{table_view};
 ghost use Rattle.gs_scenario.specs.Refusal.{Gives};
 ghost use Rattle.gs_scenario.specs.PlanOf.{plan_of, plan_in};
-ghost use Rattle.gs_base.specs.Plans.{IsInRange};
+ghost use Rattle.gs_params.specs.Plans.{IsInRange};
 
 mod apps;
 mod dials;
@@ -27,7 +27,7 @@ use crate::scenario::script::{Known, lines_in};
 use crate::scenario::section::Section;
 use crate::scenario::top::Top;
 use crate::scenario::topics::topics_in;
-use gs_base::Plan;
+use gs_params::Plan;
 use std::alloc::Global;
 use toml::Table;
 

@@ -2,7 +2,7 @@
 ghost use Rattle.std.specs.Prelude.{◌≡◌};
 ghost use Rattle.gs_scenario.specs.PlanOf.{what_word};
 
-use gs_base::What;
+use gs_params::What;
 
 /// The word that tells a peer to subscribe.
 pub const SUBSCRIBE: &str = "subscribe";

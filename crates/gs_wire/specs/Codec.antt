@@ -1,6 +1,6 @@
 -- What traces need of the codec.
 use Rattle.std.specs.Prelude.{length, nat_le}
-use Rattle.gs_base.specs.Rules.{Codec}
+use Rattle.gs_base.specs.Codecs.{Codec}
 use Rattle.gs_wire.specs.declared.rpc.TheConstants.{MAX_BODY}
 use Rattle.gs_wire.specs.Messages.{body, frame}
 

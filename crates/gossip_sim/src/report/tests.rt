@@ -1,8 +1,7 @@
 use super::*;
-use gs_base::{
-    DEFAULT_DEGREES, DEFAULT_FACTORS, DEFAULT_FLOOD_PUBLISH, DEFAULT_THRESHOLDS, DEFAULT_WINDOWS,
-    Event, Line, Params, Peer, PeerNo, Seq, Text, Trace, What,
-};
+use gs_base::{PeerNo, Seq, Text};
+use gs_params::{DEFAULT_DEGREES, DEFAULT_FACTORS, DEFAULT_FLOOD_PUBLISH, DEFAULT_THRESHOLDS, DEFAULT_WINDOWS, Line, Params, PlannedPeer, What};
+use gs_rules::{Event, Trace};
 
 fn bytes(alloc: Global, text: &[u8]) -> Result<Bytes, AllocError> {
     Bytes::copy_from_slice(alloc, text)
@@ -16,7 +15,7 @@ fn topic(alloc: Global, name: &str) -> Result<Topic, AllocError> {
 fn plan(alloc: Global) -> Result<Plan, AllocError> {
     let mut peers = Seq::new(alloc);
     for name in ["a", "b"] {
-        peers.push(Peer {
+        peers.push(PlannedPeer {
             name: Text::from_str(alloc, name)?,
             address: Text::from_str(alloc, name)?,
             words: Seq::new(alloc),

@@ -1,9 +1,9 @@
 //! Which lines of a script there are to follow in each round.
 ghost use Rattle.std.specs.Prelude.{◌≡◌, ◌≤◌, ◌<◌, ◌+◌, ◌++◌, ℕ, [], ◌∷◌, IfOk, OnOk, filter, map};
-ghost use Rattle.gs_base.specs.Plans.{IsInRange};
+ghost use Rattle.gs_params.specs.Plans.{IsInRange};
 ghost use Rattle.gs_net.specs.Agenda.{due_from, is_at, lines_at, round_count, seen};
 
-use gs_base::{Line, Plan};
+use gs_params::{Line, Plan};
 use std::alloc::{AllocError, Global};
 
 /// A line of a script with its place, where the first line's is 0.

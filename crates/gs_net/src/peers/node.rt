@@ -4,7 +4,7 @@ ghost use Rattle.std.specs.Result.{IsOk};
 ghost use Rattle.gs_net.specs.declared.finished.Refusal.{Refusal as RefusalValue};
 ghost use Rattle.gs_router.specs.Router.{Calls};
 ghost use Rattle.gs_base.specs.declared.rpc.Rpc.{Rpc as RpcValue};
-ghost use Rattle.gs_base.specs.declared.plan.Plan.{Plan as PlanValue};
+ghost use Rattle.gs_params.specs.declared.plan.Plan.{Plan as PlanValue};
 ghost use Rattle.gs_net.specs.Rounds.{Hear, Obey, event_of, hears, moment, neighbours, ttl_of};
 ghost use Rattle.gs_net.specs.Agenda.{due_from, own, seen};
 ghost use Rattle.gs_net.specs.Speech.{said_by};
@@ -13,7 +13,8 @@ ghost use Rattle.gs_net.specs.Nodes.{AreUnread, IsNew, IsRunning, NodeCloses, No
 use crate::finished::{Finished, Refusal};
 use crate::peers::agenda::Due;
 use crate::peers::speech::{Speech, said};
-use gs_base::{Millis, PeerNo, Plan, Rpc, Seq, What, clone_of};
+use gs_base::{Millis, PeerNo, Rpc, Seq, clone_of};
+use gs_params::{Plan, What};
 use gs_router::{Router, RouterFault};
 use gs_wire::{FrameReader, MAX_BODY, WireFault};
 use std::alloc::{AllocError, Global};

@@ -4,7 +4,8 @@ ghost use Rattle.gs_base.specs.declared.names.PeerNo.{PeerNo as PeerNoValue};
 ghost use Rattle.gs_wire.specs.Codec.{codec};
 ghost use Rattle.gs_net.specs.Speech.{AllFit, SendsFit, frames_to, receivers, said_by, sent_frames, speech_to};
 
-use gs_base::{Entry, PeerNo, Rpc};
+use gs_base::{PeerNo, Rpc};
+use gs_rules::Entry;
 use gs_wire::{WireFault, encode_frame};
 use std::alloc::{AllocError, Global};
 

@@ -11,7 +11,8 @@ use crate::fault::ScenarioFault;
 use crate::scenario::field::{Field, table_of};
 use crate::scenario::peers::peer_of;
 use crate::scenario::place::{Element, Place};
-use gs_base::{App, Dial, HIGHEST_APP_SCORE, MOST_PEERS, Peer, PeerNo, Seq, are_joined};
+use gs_base::{PeerNo, Seq};
+use gs_params::{App, Dial, HIGHEST_APP_SCORE, MOST_PEERS, PlannedPeer, are_joined};
 use std::alloc::Global;
 use toml::Value;
 
@@ -25,7 +26,7 @@ const VALUE: &str = "value";
 #[tactic(auto, unfolding(crate::specs::Keys::read_each))]
 pub fn apps_in(
     alloc: Global,
-    peers: &[Peer],
+    peers: &[PlannedPeer],
     dials: &[Dial],
     list: &[Value],
 ) -> Result<Seq<App>, ScenarioFault>
@@ -45,7 +46,7 @@ pub fn apps_in(
 #[tactic(auto, unfolding(crate::specs::PlanOf::app_in))]
 fn app_in(
     alloc: Global,
-    peers: &[Peer],
+    peers: &[PlannedPeer],
     dials: &[Dial],
     earlier: &[App],
     value: &Value,
@@ -74,7 +75,7 @@ fn app_in(
 /// The neighbour of a peer that a value names.
 fn neighbour_of(
     alloc: Global,
-    peers: &[Peer],
+    peers: &[PlannedPeer],
     dials: &[Dial],
     peer: PeerNo,
     field: &Field<'_>,

@@ -4,13 +4,14 @@ ghost use Rattle.toml.specs.View.{view, items_view};
 ghost use Rattle.gs_scenario.specs.Refusal.{Gives};
 ghost use Rattle.gs_scenario.specs.Keys.{read_each};
 ghost use Rattle.gs_scenario.specs.PlanOf.{dial_in};
-ghost use Rattle.gs_base.specs.Plans.{are_joined};
+ghost use Rattle.gs_params.specs.Plans.{are_joined};
 
 use crate::fault::ScenarioFault;
 use crate::scenario::field::table_of;
 use crate::scenario::peers::peer_of;
 use crate::scenario::place::{Element, Place};
-use gs_base::{Dial, MOST_PEERS, Peer, Seq, are_joined};
+use gs_base::Seq;
+use gs_params::{Dial, MOST_PEERS, PlannedPeer, are_joined};
 use std::alloc::Global;
 use toml::Value;
 
@@ -20,7 +21,7 @@ const TO: &str = "to";
 
 /// The dials of a list, in its order.
 #[tactic(auto, unfolding(crate::specs::Keys::read_each))]
-pub fn dials_in(alloc: Global, peers: &[Peer], list: &[Value]) -> Result<Seq<Dial>, ScenarioFault>
+pub fn dials_in(alloc: Global, peers: &[PlannedPeer], list: &[Value]) -> Result<Seq<Dial>, ScenarioFault>
     requires { length peers.now ≤ MOST_PEERS }
     ensures { Gives (λ dials. dials) result
         (read_each (dial_in peers.now) [] (items_view list.now)) }
@@ -37,7 +38,7 @@ pub fn dials_in(alloc: Global, peers: &[Peer], list: &[Value]) -> Result<Seq<Dia
 #[tactic(auto, unfolding(crate::specs::PlanOf::dial_in))]
 fn dial_in(
     alloc: Global,
-    peers: &[Peer],
+    peers: &[PlannedPeer],
     earlier: &[Dial],
     value: &Value,
 ) -> Result<Dial, ScenarioFault>

@@ -2,7 +2,7 @@
 ghost use Rattle.std.specs.Prelude.{◌≡◌, ◌≤◌, IfOk, Ok, map, option_map, unwrap_or};
 ghost use Rattle.toml.specs.Data.{no_members};
 ghost use Rattle.toml.specs.View.{table_view};
-ghost use Rattle.gs_base.specs.Params.{checked};
+ghost use Rattle.gs_params.specs.Params.{checked};
 ghost use Rattle.gs_scenario.specs.Refusal.{Gives};
 ghost use Rattle.gs_scenario.specs.ParamsOf.{shared_in, shared_names, degrees_in, thresholds_in, factors_in, windows_in, params_of};
 ghost use Rattle.gs_scenario.specs.Kinds.{section_at};
@@ -12,10 +12,8 @@ ghost use Rattle.gs_scenario.specs.Views.{section_of};
 use crate::fault::ScenarioFault;
 use crate::scenario::place::Path;
 use crate::scenario::section::Section;
-use gs_base::{
-    DEFAULT_DEGREES, DEFAULT_FACTORS, DEFAULT_FLOOD_PUBLISH, DEFAULT_THRESHOLDS, DEFAULT_WINDOWS,
-    Degrees, Factors, Params, Seq, Thresholds, Topic, TopicParams, Windows,
-};
+use gs_base::{Seq, Topic};
+use gs_params::{DEFAULT_DEGREES, DEFAULT_FACTORS, DEFAULT_FLOOD_PUBLISH, DEFAULT_THRESHOLDS, DEFAULT_WINDOWS, Degrees, Factors, Params, Thresholds, TopicParams, Windows};
 use std::alloc::Global;
 use toml::Table;
 

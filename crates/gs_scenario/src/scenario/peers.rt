@@ -11,7 +11,8 @@ ghost use Rattle.gs_scenario.specs.PlanOf.{peer_in, peer_named};
 use crate::fault::ScenarioFault;
 use crate::scenario::field::{Field, table_of};
 use crate::scenario::place::Element;
-use gs_base::{MOST_PEERS, Peer, PeerNo, Seq, Text};
+use gs_base::{PeerNo, Seq, Text};
+use gs_params::{MOST_PEERS, PlannedPeer};
 use std::alloc::Global;
 use toml::Value;
 
@@ -23,7 +24,7 @@ const WORDS: &str = "words";
 
 /// The peers of a list, in its order.
 #[tactic(auto, unfolding(crate::specs::Keys::read_each))]
-pub fn peers_in(alloc: Global, list: &[Value]) -> Result<Seq<Peer>, ScenarioFault>
+pub fn peers_in(alloc: Global, list: &[Value]) -> Result<Seq<PlannedPeer>, ScenarioFault>
     requires { length list.now ≤ MOST_PEERS }
     ensures read { Gives (λ peers. peers) result (read_each peer_in [] (items_view list.now)) }
     ensures count { IfOk result (λ peers. length peers ≡ length list.now) }
@@ -38,7 +39,7 @@ pub fn peers_in(alloc: Global, list: &[Value]) -> Result<Seq<Peer>, ScenarioFaul
 
 /// The peer that stands in the list after the earlier ones.
 #[tactic(auto, unfolding(crate::specs::PlanOf::peer_in))]
-fn peer_in(alloc: Global, earlier: &[Peer], value: &Value) -> Result<Peer, ScenarioFault>
+fn peer_in(alloc: Global, earlier: &[PlannedPeer], value: &Value) -> Result<PlannedPeer, ScenarioFault>
     requires { length earlier.now ≤ MOST_PEERS }
     ensures { Gives (λ peer. peer) result (peer_in earlier.now (view value.now)) }
 {
@@ -55,7 +56,7 @@ fn peer_in(alloc: Global, earlier: &[Peer], value: &Value) -> Result<Peer, Scena
     }
     let address = section.text(alloc, ADDRESS, name)?;
     let words = section.words(alloc, WORDS)?;
-    Ok(Peer {
+    Ok(PlannedPeer {
         name: Text::from_str(alloc, name)?,
         address: Text::from_str(alloc, address)?,
         words,
@@ -63,7 +64,7 @@ fn peer_in(alloc: Global, earlier: &[Peer], value: &Value) -> Result<Peer, Scena
 }
 
 /// The number of the peer that a value names.
-pub fn peer_of(alloc: Global, peers: &[Peer], field: &Field<'_>) -> Result<PeerNo, ScenarioFault>
+pub fn peer_of(alloc: Global, peers: &[PlannedPeer], field: &Field<'_>) -> Result<PeerNo, ScenarioFault>
     requires { length peers.now ≤ MOST_PEERS }
     ensures { Gives (λ peer. peer) result
         (read_as (reference (peer_named peers.now)) field.now) }
@@ -76,7 +77,7 @@ pub fn peer_of(alloc: Global, peers: &[Peer], field: &Field<'_>) -> Result<PeerN
 }
 
 /// The number of the peer that has a name.
-fn peer_named(peers: &[Peer], name: &str) -> Option<PeerNo>
+fn peer_named(peers: &[PlannedPeer], name: &str) -> Option<PeerNo>
     requires { length peers.now ≤ MOST_PEERS }
     ensures { result ≡ peer_named peers.now name.now }
 {
@@ -84,7 +85,7 @@ fn peer_named(peers: &[Peer], name: &str) -> Option<PeerNo>
     Some(PeerNo(index as u16))
 }
 
-fn index_of(peers: &[Peer], name: &str) -> Option<usize>
+fn index_of(peers: &[PlannedPeer], name: &str) -> Option<usize>
     ensures index { result ≡ position (λ peer. pointwise nat_eq peer.name name.now) peers.now }
     ensures within { IfSome result (λ index. index < length peers.now) }
 {

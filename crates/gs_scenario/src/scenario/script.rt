@@ -14,7 +14,8 @@ use crate::scenario::place::Element;
 use crate::scenario::section::Section;
 use crate::scenario::topics::{TopicEntry, topic_of};
 use crate::words::{PUBLISH, SUBSCRIBE, UNSUBSCRIBE};
-use gs_base::{Line, MOST_PEERS, Peer, Seq, What};
+use gs_base::Seq;
+use gs_params::{Line, MOST_PEERS, PlannedPeer, What};
 use std::alloc::Global;
 use toml::Value;
 
@@ -32,7 +33,7 @@ const HEX: &str = "hex";
 #[derive(Clone, Copy)]
 pub struct Known<'a> {
     pub topics: &'a [TopicEntry],
-    pub peers: &'a [Peer],
+    pub peers: &'a [PlannedPeer],
     /// The last round.
     pub rounds: u64,
 }

@@ -14,7 +14,8 @@ use crate::scenario::tests::keys::{
 };
 use crate::words::what_word;
 use bytes::Bytes;
-use gs_base::{ParamFault, Text, Topic, What};
+use gs_base::{Text, Topic};
+use gs_params::{ParamFault, What};
 use std::alloc::AllocError;
 
 /// A scenario with another text in the place of the first of these.

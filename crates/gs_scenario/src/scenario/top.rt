@@ -6,7 +6,7 @@ ghost use Rattle.gs_scenario.specs.Views.{section_of, top_view};
 
 use crate::fault::ScenarioFault;
 use crate::scenario::section::Section;
-use gs_base::{LONGEST_ROUND, MOST_PEERS, MOST_ROUNDS};
+use gs_params::{LONGEST_ROUND, MOST_PEERS, MOST_ROUNDS};
 use std::alloc::Global;
 use toml::{Table, Value};
 

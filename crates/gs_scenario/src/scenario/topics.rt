@@ -13,7 +13,8 @@ use crate::scenario::field::{Field, table_of};
 use crate::scenario::place::Element;
 use crate::scenario::topic_params::topic_params_in;
 use bytes::Bytes;
-use gs_base::{Seq, Topic, TopicParams, clone_of};
+use gs_base::{Seq, Topic, clone_of};
+use gs_params::TopicParams;
 use std::alloc::Global;
 use toml::Value;
 

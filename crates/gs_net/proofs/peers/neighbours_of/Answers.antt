@@ -2,7 +2,7 @@ use Rattle.std.proofs.Common.{◌≡◌, ℕ, ◌+◌, Bool, cond, List, [], ◌
 use Rattle.std.specs.List.{range_with_len}
 use Rattle.std.proofs.lemmas.List.FromFn.{filter_of_map_range_with_len_more}
 use Rattle.gs_base.specs.declared.names.PeerNo.{PeerNo}
-use Rattle.gs_base.specs.Plans.{are_joined}
+use Rattle.gs_params.specs.Plans.{are_joined}
 use Rattle.gs_net.specs.Rounds.{peer_no}
 use Rattle.gs_net.proofs.peers.neighbours_of.Goals as goal
 use Rattle.gs_net.proofs.peers.neighbours_of.Goals.{then-are_joined+in_ok-push, else-are_joined}

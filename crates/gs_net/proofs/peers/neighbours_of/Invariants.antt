@@ -1,6 +1,6 @@
 use Rattle.std.proofs.Common.{◌≡◌, map, filter}
 use Rattle.std.specs.List.{range_with_len}
-use Rattle.gs_base.specs.Plans.{are_joined}
+use Rattle.gs_params.specs.Plans.{are_joined}
 use Rattle.gs_net.specs.Rounds.{peer_no}
 use Rattle.gs_net.proofs.peers.neighbours_of.Given as goal
 

@@ -1,7 +1,7 @@
 use Rattle.std.proofs.Common.{◌∷◌, [], ◌∙◌, ap}
-use Rattle.gs_base.specs.declared.trace.Entry.{Entry}
-use Rattle.gs_base.specs.declared.trace.Event.TheVariants.{Late}
-use Rattle.gs_base.specs.Rules.{bare}
+use Rattle.gs_rules.specs.declared.trace.Entry.{Entry}
+use Rattle.gs_rules.specs.declared.trace.Event.TheVariants.{Late}
+use Rattle.gs_rules.specs.Rules.{bare}
 use Rattle.gs_router.proofs.hearing.hear_late.Goals as goal
 
 pub returns-clause-goes_on : goal.returns-clause-goes_on

@@ -1,6 +1,6 @@
 use Rattle.std.proofs.Common.{[], ◌∙◌, sym, map, append-nil}
-use Rattle.gs_base.specs.declared.trace.Event.TheVariants.{Heard, Sub, Msg}
-use Rattle.gs_base.specs.Tables.{owed}
+use Rattle.gs_rules.specs.declared.trace.Event.TheVariants.{Heard, Sub, Msg}
+use Rattle.gs_rules.specs.Tables.{owed}
 use Rattle.gs_router.proofs.Steps.{next_due, pays_more, pays_left, pays_moment, begun_goes_on}
 use Rattle.gs_router.proofs.hearing.hear_up.Goals as goal
 

@@ -1,7 +1,7 @@
 use Rattle.std.proofs.Common.{◌≡◌, ◌++◌, map, drop}
-use Rattle.gs_base.specs.declared.trace.Event.TheVariants.{Heard, Sub, Msg}
-use Rattle.gs_base.specs.Tables.{last_moment, owed}
-use Rattle.gs_base.specs.Legal.{Legal, Begins}
+use Rattle.gs_rules.specs.declared.trace.Event.TheVariants.{Heard, Sub, Msg}
+use Rattle.gs_rules.specs.Tables.{last_moment, owed}
+use Rattle.gs_rules.specs.Legal.{Legal, Begins}
 use Rattle.gs_router.specs.Router.{Agrees, peer_with}
 use Rattle.gs_router.proofs.hearing.hear_up.Given as goal
 

@@ -1,8 +1,8 @@
 use Rattle.std.proofs.Common.{◌≡◌, ◌∷◌, ◌∙◌, refl, sym, ap, subst}
-use Rattle.gs_base.specs.declared.trace.Entry.{Entry}
-use Rattle.gs_base.specs.declared.trace.Event.TheVariants.{Sub}
-use Rattle.gs_base.specs.Tables.{Entries}
-use Rattle.gs_base.specs.Rules.{bare}
+use Rattle.gs_rules.specs.declared.trace.Entry.{Entry}
+use Rattle.gs_rules.specs.declared.trace.Event.TheVariants.{Sub}
+use Rattle.gs_rules.specs.Tables.{Entries}
+use Rattle.gs_rules.specs.Rules.{bare}
 use Rattle.gs_router.specs.Router.{Agrees}
 use Rattle.gs_router.proofs.hearing.note.Goals as goal
 

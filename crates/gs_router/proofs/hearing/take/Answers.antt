@@ -1,6 +1,6 @@
 use Rattle.std.proofs.Common.{◌≡◌, ◌∷◌, ◌∙◌, sym, ap, subst}
-use Rattle.gs_base.specs.declared.trace.Entry.{Entry}
-use Rattle.gs_base.specs.Tables.{Entries}
+use Rattle.gs_rules.specs.declared.trace.Entry.{Entry}
+use Rattle.gs_rules.specs.Tables.{Entries}
 use Rattle.gs_router.specs.Router.{Agrees, judged, peer_with}
 use Rattle.gs_router.proofs.Steps.{takes}
 use Rattle.gs_router.proofs.hearing.take.Goals as goal

@@ -1,8 +1,8 @@
 use Rattle.std.proofs.Common.{◌≡◌, ◌∷◌, ◌∙◌, refl, sym, ap, subst}
-use Rattle.gs_base.specs.Rules.{bare}
-use Rattle.gs_base.specs.Tables.{Entries}
-use Rattle.gs_base.specs.declared.trace.Entry.{Entry}
-use Rattle.gs_base.specs.declared.trace.Event.TheVariants.{RoundEnd}
+use Rattle.gs_rules.specs.Rules.{bare}
+use Rattle.gs_rules.specs.Tables.{Entries}
+use Rattle.gs_rules.specs.declared.trace.Entry.{Entry}
+use Rattle.gs_rules.specs.declared.trace.Event.TheVariants.{RoundEnd}
 use Rattle.gs_router.specs.Router.{Agrees, peer_with}
 use Rattle.gs_router.proofs.Steps.{Added, adds, unmarked_agrees}
 use Rattle.gs_router.proofs.own.end_round.Goals as goal

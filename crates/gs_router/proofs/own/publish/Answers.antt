@@ -1,10 +1,10 @@
 use Rattle.std.proofs.Common.{◌≡◌, [], ◌∷◌, ◌∙◌, refl, sym, ap, subst}
-use Rattle.gs_base.specs.Rules.{publish_rule}
-use Rattle.gs_base.specs.Tables.{Entries}
+use Rattle.gs_rules.specs.Rules.{publish_rule}
+use Rattle.gs_rules.specs.Tables.{Entries}
 use Rattle.gs_base.specs.declared.names.MsgId.{MsgId}
-use Rattle.gs_base.specs.declared.trace.Verdict.TheVariants.{Accept}
-use Rattle.gs_base.specs.declared.trace.Mark.TheVariants.{Seen}
-use Rattle.gs_base.specs.declared.trace.Entry.{Entry}
+use Rattle.gs_rules.specs.declared.trace.Verdict.TheVariants.{Accept}
+use Rattle.gs_rules.specs.declared.trace.Mark.TheVariants.{Seen}
+use Rattle.gs_rules.specs.declared.trace.Entry.{Entry}
 use Rattle.gs_base.specs.Names.{message_id}
 use Rattle.gs_router.specs.Router.{Agrees, peer_with}
 use Rattle.gs_router.proofs.Steps.{Added, adds}

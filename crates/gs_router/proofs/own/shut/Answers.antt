@@ -1,8 +1,8 @@
 use Rattle.std.proofs.Common.{◌≡◌, ◌∷◌, ◌∙◌, refl, sym, ap, subst}
-use Rattle.gs_base.specs.Rules.{bare}
-use Rattle.gs_base.specs.Tables.{Entries}
-use Rattle.gs_base.specs.declared.trace.Entry.{Entry}
-use Rattle.gs_base.specs.declared.trace.Event.TheVariants.{Shut}
+use Rattle.gs_rules.specs.Rules.{bare}
+use Rattle.gs_rules.specs.Tables.{Entries}
+use Rattle.gs_rules.specs.declared.trace.Entry.{Entry}
+use Rattle.gs_rules.specs.declared.trace.Event.TheVariants.{Shut}
 use Rattle.gs_router.specs.Router.{Agrees, peer_with}
 use Rattle.gs_router.proofs.Steps.{Added, adds}
 use Rattle.gs_router.proofs.own.shut.Goals as goal

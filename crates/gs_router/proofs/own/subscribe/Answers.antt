@@ -1,7 +1,7 @@
 use Rattle.std.proofs.Common.{◌≡◌, ◌∷◌, ◌∙◌, refl, sym, ap, subst}
-use Rattle.gs_base.specs.Rules.{subscribe_rule}
-use Rattle.gs_base.specs.Tables.{Entries}
-use Rattle.gs_base.specs.declared.trace.Entry.{Entry}
+use Rattle.gs_rules.specs.Rules.{subscribe_rule}
+use Rattle.gs_rules.specs.Tables.{Entries}
+use Rattle.gs_rules.specs.declared.trace.Entry.{Entry}
 use Rattle.gs_router.specs.Router.{Agrees, peer_with}
 use Rattle.gs_router.proofs.Steps.{Added, adds}
 use Rattle.gs_router.proofs.own.subscribe.Goals as goal

@@ -1,6 +1,6 @@
 use Rattle.std.proofs.Common.{◌≡◌, ◌++◌, drop, filter}
 use Rattle.std.specs.Prelude.{◌&&◌}
-use Rattle.gs_base.specs.Tables.{Entries, up, on}
+use Rattle.gs_rules.specs.Tables.{Entries, up, on}
 use Rattle.gs_router.specs.Router.{Agrees}
 use Rattle.gs_router.proofs.sends.listeners.Given as goal
 

@@ -1,5 +1,5 @@
 use Rattle.std.proofs.Common.{◌≡◌, ◌++◌, drop, filter}
-use Rattle.gs_base.specs.Tables.{Entries, up}
+use Rattle.gs_rules.specs.Tables.{Entries, up}
 use Rattle.gs_router.specs.Router.{Agrees}
 use Rattle.gs_router.proofs.sends.up_neighbours.Given as goal
 

@@ -1,10 +1,8 @@
 //! A scenario with each key that there is, and its plan.
 use super::*;
 use crate::scenario::tests::plans::{bytes, default_topic_params, gives, peer};
-use gs_base::{
-    App, Degrees, Dial, Factors, Line, Params, PeerNo, Seq, Thresholds, TopicFactors, TopicParams,
-    TopicWindows, Windows,
-};
+use gs_base::{PeerNo, Seq};
+use gs_params::{App, Degrees, Dial, Factors, Line, Params, Thresholds, TopicFactors, TopicParams, TopicWindows, Windows};
 
 /// A scenario with each key that there is.
 const EACH_KEY: &str = "\

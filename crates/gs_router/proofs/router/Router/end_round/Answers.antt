@@ -1,5 +1,5 @@
 use Rattle.std.proofs.Common.{◌∙◌, refl, sym}
-use Rattle.gs_base.specs.declared.trace.Event.TheVariants.{RoundEnd}
+use Rattle.gs_rules.specs.declared.trace.Event.TheVariants.{RoundEnd}
 use Rattle.gs_router.specs.Router.{peer_with}
 use Rattle.gs_router.proofs.Calls.{refuses, finishes, wants_memory, may_end}
 use Rattle.gs_router.proofs.router.Router.end_round.Goals as goal

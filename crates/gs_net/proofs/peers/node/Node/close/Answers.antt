@@ -1,5 +1,5 @@
 use Rattle.std.proofs.Common.{[], ◌∷◌, refl}
-use Rattle.gs_base.specs.declared.trace.Event.TheVariants.{Shut}
+use Rattle.gs_rules.specs.declared.trace.Event.TheVariants.{Shut}
 use Rattle.gs_net.specs.Rounds.{Stop, hears, moment}
 use Rattle.gs_net.specs.Nodes.{peers_of}
 use Rattle.gs_net.proofs.Running.{told_runs, runs_then}

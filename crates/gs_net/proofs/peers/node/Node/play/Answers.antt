@@ -1,5 +1,5 @@
 use Rattle.std.proofs.Common.{◌<◌, ℕ, ◌∙◌, [], ◌∷◌, ◌++◌, List, refl, sym, ap, subst, append-nil}
-use Rattle.gs_base.specs.declared.trace.Event.TheVariants.{RoundEnd}
+use Rattle.gs_rules.specs.declared.trace.Event.TheVariants.{RoundEnd}
 use Rattle.gs_net.specs.declared.finished.Refusal.{Refusal}
 use Rattle.gs_net.specs.Rounds.{EndRound, hears, lines, moment}
 use Rattle.gs_net.specs.Agenda.{own}

@@ -1,0 +1,4 @@
+pub mod InRange
+pub mod Shuffles
+pub mod Picking
+pub mod Seeded

@@ -1,0 +1,4 @@
+pub mod Params
+pub mod Picks
+pub mod Seeding
+pub mod Plans

@@ -1,0 +1,245 @@
+-- The ranges of parameters, and which is refused first.
+use Rattle.std.specs.Prelude.{◌≤◌, ◌<◌, ◌+◌, ◌*◌, ◌&&◌, ◌≤ℤ◌, ◌<ℤ◌, ℕ, nat_le, nat_lt, Bool, not, [], Result, Ok, Err, if◌then◌else◌, ℤ, pos, neg_ℤ, int_le, int_lt}
+use Rattle.std.specs.List.{All, list_all}
+use Rattle.gs_base.specs.declared.names.Topic.{Topic}
+use Rattle.gs_params.specs.declared.params.Degrees.{Degrees}
+use Rattle.gs_params.specs.declared.params.Thresholds.{Thresholds}
+use Rattle.gs_params.specs.declared.params.Factors.{Factors}
+use Rattle.gs_params.specs.declared.params.Windows.{Windows}
+use Rattle.gs_params.specs.declared.params.Params.{Params}
+use Rattle.gs_params.specs.declared.topic_params.TopicFactors.{TopicFactors}
+use Rattle.gs_params.specs.declared.topic_params.TopicWindows.{TopicWindows}
+use Rattle.gs_params.specs.declared.topic_params.TopicParams.{TopicParams}
+use Rattle.gs_params.specs.declared.param_fault.ParamFault.{ParamFault}
+use Rattle.gs_params.specs.declared.param_fault.ParamFault.TheVariants as faults
+use Rattle.gs_params.specs.declared.params.TheConstants.{DEFAULT_DEGREES, DEFAULT_THRESHOLDS, DEFAULT_FACTORS, DEFAULT_WINDOWS, DEFAULT_FLOOD_PUBLISH}
+use Rattle.gs_params.specs.declared.ranges.TheConstants.{LONGEST_TIME, LONGEST_BACKOFF, HEAVIEST, HIGHEST_CAP}
+use Rattle.gs_params.specs.declared.topic_params.TheConstants.{DEFAULT_TOPIC_FACTORS, DEFAULT_TOPIC_WINDOWS}
+
+-- ---- where nothing else is said
+
+abbrev pub default_params : Params
+default_params = record {
+  degrees = DEFAULT_DEGREES;
+  thresholds = DEFAULT_THRESHOLDS;
+  factors = DEFAULT_FACTORS;
+  windows = DEFAULT_WINDOWS;
+  flood_publish = DEFAULT_FLOOD_PUBLISH;
+  topics = [];
+}
+
+abbrev pub default_topic_params : TopicParams
+default_topic_params = record {
+  factors = DEFAULT_TOPIC_FACTORS;
+  windows = DEFAULT_TOPIC_WINDOWS;
+  reject = [];
+  ignore = [];
+}
+
+-- ---- numbers
+
+abbrev pub in_range : ℕ → ℕ → ℕ → Bool
+in_range low high n = nat_le low n && nat_le n high
+
+abbrev pub int_in_range : ℤ → ℤ → ℤ → Bool
+int_in_range low high z = int_le low z && int_le z high
+
+-- a weight of what is good, of what is bad, a factor, a cap
+abbrev pub is_reward : ℤ → Bool
+is_reward = int_in_range (pos 0) HEAVIEST
+
+abbrev pub is_penalty : ℤ → Bool
+is_penalty = int_in_range (neg_ℤ HEAVIEST) (pos 0)
+
+abbrev pub is_fraction : ℤ → Bool
+is_fraction = int_in_range (pos 0) (pos 1_000_000)
+
+abbrev pub is_cap : ℤ → Bool
+is_cap = int_in_range (pos 0) HIGHEST_CAP
+
+abbrev pub is_time : ℕ → Bool
+is_time = in_range 1 LONGEST_TIME
+
+abbrev pub is_backoff : ℕ → Bool
+is_backoff = in_range 1 LONGEST_BACKOFF
+
+-- ---- the four checks
+
+abbrev pub degrees_hold : Degrees → Bool
+degrees_hold x =
+    nat_le 1 x.d_low
+    && nat_le x.d_low x.d
+    && nat_le x.d x.d_high
+    && nat_le x.d_high 64
+    && nat_lt x.d_out x.d_low
+    && nat_le (2 * x.d_out) x.d
+    && nat_le (x.d_score + x.d_out) x.d
+    && nat_le x.d_lazy 64
+
+abbrev pub thresholds_hold : Thresholds → Bool
+thresholds_hold x =
+    int_le x.graylist_threshold x.publish_threshold
+    && int_le x.publish_threshold x.gossip_threshold
+    && int_lt x.gossip_threshold (pos 0)
+    && is_cap x.opportunistic_threshold
+
+abbrev pub neighbour_weights_hold : Factors → Bool
+neighbour_weights_hold x = is_reward x.w5 && is_penalty x.w6 && is_penalty x.w7
+
+abbrev pub neighbour_caps_hold : Factors → Bool
+neighbour_caps_hold x = is_cap x.topic_cap && is_cap x.decay_to_zero && in_range 1 65_535 x.p6_threshold
+
+abbrev pub factors_hold : Factors → Bool
+factors_hold x = in_range 0 1_000_000 x.gossip_factor && is_fraction x.p7_decay && neighbour_weights_hold x && neighbour_caps_hold x
+
+abbrev pub rewards_hold : TopicFactors → Bool
+rewards_hold x = is_reward x.topic_weight && is_reward x.w1 && is_reward x.w2
+
+abbrev pub penalties_hold : TopicFactors → Bool
+penalties_hold x = is_penalty x.w3 && is_penalty x.w3b && is_penalty x.w4
+
+abbrev pub decays_hold : TopicFactors → Bool
+decays_hold x = is_fraction x.p2_decay && is_fraction x.p3_decay && is_fraction x.p3b_decay && is_fraction x.p4_decay
+
+abbrev pub caps_hold : TopicFactors → Bool
+caps_hold x = is_cap x.p1_cap && is_cap x.p2_cap && is_cap x.p3_cap && is_cap x.p3_threshold
+
+abbrev pub topic_factors_hold : TopicFactors → Bool
+topic_factors_hold x = rewards_hold x && penalties_hold x && decays_hold x && caps_hold x
+
+abbrev pub times_hold : Windows → Bool
+times_hold x =
+    is_time x.heartbeat_ms
+    && is_time x.decay_ms
+    && is_time x.fanout_ttl_ms
+    && is_time x.seen_ttl_ms
+    && is_time x.iwant_followup_ms
+    && is_backoff x.prune_backoff_s
+    && is_backoff x.unsubscribe_backoff_s
+
+abbrev pub budgets_hold : Windows → Bool
+budgets_hold x =
+    nat_le 1 x.mcache_gossip
+    && nat_le x.mcache_gossip x.mcache_len
+    && nat_le x.mcache_len 64
+    && in_range 1 1_000_000 x.opportunistic_ticks
+    && in_range 0 64 x.opportunistic_peers
+    && in_range 1 1_000 x.max_ihave
+    && in_range 1 5_000 x.max_ihave_ids
+    && in_range 1 1_000 x.gossip_retransmission
+
+abbrev pub windows_hold : Windows → Bool
+windows_hold x = times_hold x && budgets_hold x
+
+abbrev pub topic_windows_hold : TopicWindows → Bool
+topic_windows_hold x =
+    is_time x.p1_quantum_ms
+    && in_range 0 LONGEST_TIME x.p3_window_ms
+    && in_range 0 LONGEST_TIME x.p3_activation_ms
+
+-- and of all topics
+abbrev pub all_factors_hold : Params → Bool
+all_factors_hold p = factors_hold p.factors && list_all (λ (topic : Topic × TopicParams). topic_factors_hold topic.1.factors) p.topics
+
+abbrev pub all_windows_hold : Params → Bool
+all_windows_hold p = windows_hold p.windows && list_all (λ (topic : Topic × TopicParams). topic_windows_hold topic.1.windows) p.topics
+
+-- the parameters, or the first check that fails
+abbrev pub checked : Params → Result Params ParamFault
+checked p =
+    if not (degrees_hold p.degrees) then Err faults.Degrees
+    else if not (thresholds_hold p.thresholds) then Err faults.Thresholds
+    else if not (all_factors_hold p) then Err faults.Factor
+    else if not (all_windows_hold p) then Err faults.Window
+    else Ok p
+
+abbrev pub number_of : ParamFault → ℕ
+number_of faults.Degrees = 1
+number_of faults.Thresholds = 2
+number_of faults.Factor = 3
+number_of faults.Window = 4
+
+-- ---- what parameters that were checked are known to be
+
+abbrev pub IsReward : ℤ → Type 0
+IsReward z = (pos 0 ≤ℤ z) × (z ≤ℤ HEAVIEST)
+
+abbrev pub IsPenalty : ℤ → Type 0
+IsPenalty z = (neg_ℤ HEAVIEST ≤ℤ z) × (z ≤ℤ pos 0)
+
+abbrev pub IsFraction : ℤ → Type 0
+IsFraction z = (pos 0 ≤ℤ z) × (z ≤ℤ pos 1_000_000)
+
+abbrev pub IsCap : ℤ → Type 0
+IsCap z = (pos 0 ≤ℤ z) × (z ≤ℤ HIGHEST_CAP)
+
+pub record DegreesAreInRange (x : Degrees) : Type 0 where
+  pub some : 1 ≤ x.d_low
+  pub low : x.d_low ≤ x.d
+  pub high : x.d ≤ x.d_high
+  pub few : x.d_high ≤ 64
+  pub outbound : x.d_out < x.d_low
+  pub half : 2 * x.d_out ≤ x.d
+  pub best : x.d_score + x.d_out ≤ x.d
+  pub lazy : x.d_lazy ≤ 64
+
+pub record ThresholdsAreInRange (x : Thresholds) : Type 0 where
+  pub graylist : x.graylist_threshold ≤ℤ x.publish_threshold
+  pub publish : x.publish_threshold ≤ℤ x.gossip_threshold
+  pub gossip : x.gossip_threshold <ℤ pos 0
+  pub opportunistic : IsCap x.opportunistic_threshold
+
+pub record FactorsAreInRange (x : Factors) : Type 0 where
+  pub gossip_factor : x.gossip_factor ≤ 1_000_000
+  pub p7_decay : IsFraction x.p7_decay
+  pub w5 : IsReward x.w5
+  pub w6 : IsPenalty x.w6
+  pub w7 : IsPenalty x.w7
+  pub topic_cap : IsCap x.topic_cap
+  pub decay_to_zero : IsCap x.decay_to_zero
+  pub p6_threshold : (1 ≤ x.p6_threshold) × (x.p6_threshold ≤ 65_535)
+
+pub record WindowsAreInRange (x : Windows) : Type 0 where
+  pub heartbeat : (1 ≤ x.heartbeat_ms) × (x.heartbeat_ms ≤ LONGEST_TIME)
+  pub decay : (1 ≤ x.decay_ms) × (x.decay_ms ≤ LONGEST_TIME)
+  pub fanout_ttl : (1 ≤ x.fanout_ttl_ms) × (x.fanout_ttl_ms ≤ LONGEST_TIME)
+  pub seen_ttl : (1 ≤ x.seen_ttl_ms) × (x.seen_ttl_ms ≤ LONGEST_TIME)
+  pub iwant_followup : (1 ≤ x.iwant_followup_ms) × (x.iwant_followup_ms ≤ LONGEST_TIME)
+  pub prune_backoff : (1 ≤ x.prune_backoff_s) × (x.prune_backoff_s ≤ LONGEST_BACKOFF)
+  pub unsubscribe_backoff : (1 ≤ x.unsubscribe_backoff_s) × (x.unsubscribe_backoff_s ≤ LONGEST_BACKOFF)
+  pub mcache_gossip : (1 ≤ x.mcache_gossip) × (x.mcache_gossip ≤ x.mcache_len)
+  pub mcache_len : x.mcache_len ≤ 64
+  pub opportunistic_ticks : (1 ≤ x.opportunistic_ticks) × (x.opportunistic_ticks ≤ 1_000_000)
+  pub opportunistic_peers : x.opportunistic_peers ≤ 64
+  pub max_ihave : (1 ≤ x.max_ihave) × (x.max_ihave ≤ 1_000)
+  pub max_ihave_ids : (1 ≤ x.max_ihave_ids) × (x.max_ihave_ids ≤ 5_000)
+  pub gossip_retransmission : (1 ≤ x.gossip_retransmission) × (x.gossip_retransmission ≤ 1_000)
+
+pub record TopicFactorsAreInRange (x : TopicFactors) : Type 0 where
+  pub topic_weight : IsReward x.topic_weight
+  pub w1 : IsReward x.w1
+  pub w2 : IsReward x.w2
+  pub w3 : IsPenalty x.w3
+  pub w3b : IsPenalty x.w3b
+  pub w4 : IsPenalty x.w4
+  pub p2_decay : IsFraction x.p2_decay
+  pub p3_decay : IsFraction x.p3_decay
+  pub p3b_decay : IsFraction x.p3b_decay
+  pub p4_decay : IsFraction x.p4_decay
+  pub p1_cap : IsCap x.p1_cap
+  pub p2_cap : IsCap x.p2_cap
+  pub p3_cap : IsCap x.p3_cap
+  pub p3_threshold : IsCap x.p3_threshold
+
+pub record TopicWindowsAreInRange (x : TopicWindows) : Type 0 where
+  pub p1_quantum : (1 ≤ x.p1_quantum_ms) × (x.p1_quantum_ms ≤ LONGEST_TIME)
+  pub p3_window : x.p3_window_ms ≤ LONGEST_TIME
+  pub p3_activation : x.p3_activation_ms ≤ LONGEST_TIME
+
+pub record AreInRange (p : Params) : Type 0 where
+  pub degrees : DegreesAreInRange p.degrees
+  pub thresholds : ThresholdsAreInRange p.thresholds
+  pub factors : FactorsAreInRange p.factors
+  pub windows : WindowsAreInRange p.windows
+  pub topic_factors : All (λ (topic : Topic × TopicParams). TopicFactorsAreInRange topic.1.factors) p.topics
+  pub topic_windows : All (λ (topic : Topic × TopicParams). TopicWindowsAreInRange topic.1.windows) p.topics

@@ -1,0 +1,389 @@
+use super::*;
+use crate::topic_params::{TopicFactors, TopicWindows};
+use bytes::Bytes;
+use std::alloc::AllocError;
+
+const DEGREES: Degrees = Degrees {
+    d: 6,
+    d_low: 4,
+    d_high: 12,
+    d_score: 4,
+    d_out: 2,
+    d_lazy: 6,
+};
+
+const THRESHOLDS: Thresholds = Thresholds {
+    gossip_threshold: -10_000_000,
+    publish_threshold: -50_000_000,
+    graylist_threshold: -80_000_000,
+    opportunistic_threshold: 1_000_000,
+};
+
+const FACTORS: Factors = Factors {
+    gossip_factor: 250_000,
+    p7_decay: 900_000,
+    w5: 1_000_000,
+    w6: -5_000_000,
+    w7: -10_000_000,
+    topic_cap: 0,
+    decay_to_zero: 10_000,
+    p6_threshold: 1,
+};
+
+const WINDOWS: Windows = Windows {
+    heartbeat_ms: 1_000,
+    decay_ms: 1_000,
+    fanout_ttl_ms: 60_000,
+    seen_ttl_ms: 120_000,
+    iwant_followup_ms: 3_000,
+    prune_backoff_s: 60,
+    unsubscribe_backoff_s: 10,
+    mcache_len: 5,
+    mcache_gossip: 3,
+    opportunistic_ticks: 60,
+    opportunistic_peers: 2,
+    max_ihave: 10,
+    max_ihave_ids: 5_000,
+    gossip_retransmission: 3,
+};
+
+const TOPIC_FACTORS: TopicFactors = TopicFactors {
+    topic_weight: 1_000_000,
+    w1: 0,
+    w2: 0,
+    w3: 0,
+    w3b: 0,
+    w4: 0,
+    p2_decay: 500_000,
+    p3_decay: 500_000,
+    p3b_decay: 500_000,
+    p4_decay: 500_000,
+    p1_cap: 100_000_000,
+    p2_cap: 100_000_000,
+    p3_cap: 100_000_000,
+    p3_threshold: 0,
+};
+
+const TOPIC_WINDOWS: TopicWindows = TopicWindows {
+    p1_quantum_ms: 1_000,
+    p3_window_ms: 10,
+    p3_activation_ms: 5_000,
+};
+
+fn named(alloc: Global, name: &[u8]) -> Result<Topic, AllocError> {
+    Ok(Topic(Bytes::copy_from_slice(alloc, name)?))
+}
+
+/// The defaults as they are written above, and those of two topics.
+fn written_out(alloc: Global) -> Result<Params, AllocError> {
+    let mut topics = Seq::new(alloc);
+    for name in [b"news", b"talk"] {
+        let params = TopicParams {
+            factors: TOPIC_FACTORS,
+            windows: TOPIC_WINDOWS,
+            reject: Seq::new(alloc),
+            ignore: Seq::new(alloc),
+        };
+        topics.push((named(alloc, name)?, params))?;
+    }
+    Ok(Params {
+        degrees: DEGREES,
+        thresholds: THRESHOLDS,
+        factors: FACTORS,
+        windows: WINDOWS,
+        flood_publish: true,
+        topics,
+    })
+}
+
+/// The defaults pass, and come back as they were.
+fn defaults_pass(alloc: Global) -> Result<bool, AllocError> {
+    let mut params = Params::new(alloc);
+    let has_topics = !params.topics.is_empty();
+    params
+        .topics
+        .push((named(alloc, b"news")?, TopicParams::new(alloc)))?;
+    params
+        .topics
+        .push((named(alloc, b"talk")?, TopicParams::new(alloc)))?;
+    Ok(!has_topics && params.check() == Ok(written_out(alloc)?))
+}
+
+#[test]
+fn the_defaults_are_in_range(rt: HostRuntime) -> Result<(), AllocError> {
+    assert!(rt; defaults_pass(rt.alloc())?);
+    Ok(())
+}
+
+/// Gives the parameter of this name another value, and says whether there is one.
+fn set_degree(degrees: &mut Degrees, name: &str, value: i64) -> bool {
+    let count = value.unsigned_abs();
+    match name {
+        "d" => degrees.d = count,
+        "d_low" => degrees.d_low = count,
+        "d_high" => degrees.d_high = count,
+        "d_score" => degrees.d_score = count,
+        "d_out" => degrees.d_out = count,
+        "d_lazy" => degrees.d_lazy = count,
+        _ => return false,
+    }
+    true
+}
+
+fn set_threshold(thresholds: &mut Thresholds, name: &str, value: i64) -> bool {
+    match name {
+        "gossip_threshold" => thresholds.gossip_threshold = value,
+        "publish_threshold" => thresholds.publish_threshold = value,
+        "graylist_threshold" => thresholds.graylist_threshold = value,
+        "opportunistic_threshold" => thresholds.opportunistic_threshold = value,
+        _ => return false,
+    }
+    true
+}
+
+fn set_factor(factors: &mut Factors, name: &str, value: i64) -> bool {
+    match name {
+        "gossip_factor" => factors.gossip_factor = value.unsigned_abs(),
+        "p7_decay" => factors.p7_decay = value,
+        "w5" => factors.w5 = value,
+        "w6" => factors.w6 = value,
+        "w7" => factors.w7 = value,
+        "topic_cap" => factors.topic_cap = value,
+        "decay_to_zero" => factors.decay_to_zero = value,
+        "p6_threshold" => factors.p6_threshold = value.unsigned_abs(),
+        _ => return false,
+    }
+    true
+}
+
+fn set_window(windows: &mut Windows, name: &str, value: i64) -> bool {
+    let count = value.unsigned_abs();
+    match name {
+        "heartbeat_ms" => windows.heartbeat_ms = count,
+        "decay_ms" => windows.decay_ms = count,
+        "fanout_ttl_ms" => windows.fanout_ttl_ms = count,
+        "seen_ttl_ms" => windows.seen_ttl_ms = count,
+        "iwant_followup_ms" => windows.iwant_followup_ms = count,
+        "prune_backoff_s" => windows.prune_backoff_s = count,
+        "unsubscribe_backoff_s" => windows.unsubscribe_backoff_s = count,
+        "mcache_len" => windows.mcache_len = count,
+        "mcache_gossip" => windows.mcache_gossip = count,
+        "opportunistic_ticks" => windows.opportunistic_ticks = count,
+        "opportunistic_peers" => windows.opportunistic_peers = count,
+        "max_ihave" => windows.max_ihave = count,
+        "max_ihave_ids" => windows.max_ihave_ids = count,
+        "gossip_retransmission" => windows.gossip_retransmission = count,
+        _ => return false,
+    }
+    true
+}
+
+fn set_topic_factor(factors: &mut TopicFactors, name: &str, value: i64) -> bool {
+    match name {
+        "topic_weight" => factors.topic_weight = value,
+        "w1" => factors.w1 = value,
+        "w2" => factors.w2 = value,
+        "w3" => factors.w3 = value,
+        "w3b" => factors.w3b = value,
+        "w4" => factors.w4 = value,
+        "p2_decay" => factors.p2_decay = value,
+        "p3_decay" => factors.p3_decay = value,
+        "p3b_decay" => factors.p3b_decay = value,
+        "p4_decay" => factors.p4_decay = value,
+        "p1_cap" => factors.p1_cap = value,
+        "p2_cap" => factors.p2_cap = value,
+        "p3_cap" => factors.p3_cap = value,
+        "p3_threshold" => factors.p3_threshold = value,
+        _ => return false,
+    }
+    true
+}
+
+fn set_topic_window(windows: &mut TopicWindows, name: &str, value: i64) -> bool {
+    let count = value.unsigned_abs();
+    match name {
+        "p1_quantum_ms" => windows.p1_quantum_ms = count,
+        "p3_window_ms" => windows.p3_window_ms = count,
+        "p3_activation_ms" => windows.p3_activation_ms = count,
+        _ => return false,
+    }
+    true
+}
+
+/// The number of the refusal where these have other values than the defaults, and 0 where the check
+/// passes. Parameters of topics have those values in the second of two topics. A name that is none
+/// gives 255.
+fn refusal(alloc: Global, changes: &[(&str, i64)]) -> Result<u8, AllocError> {
+    let mut params = Params::new(alloc);
+    let mut second = TopicParams::new(alloc);
+    for (name, value) in changes {
+        let is_known = set_degree(&mut params.degrees, name, *value)
+            || set_threshold(&mut params.thresholds, name, *value)
+            || set_factor(&mut params.factors, name, *value)
+            || set_window(&mut params.windows, name, *value)
+            || set_topic_factor(&mut second.factors, name, *value)
+            || set_topic_window(&mut second.windows, name, *value);
+        if !is_known {
+            return Ok(u8::MAX);
+        }
+    }
+    params
+        .topics
+        .push((named(alloc, b"news")?, TopicParams::new(alloc)))?;
+    params.topics.push((named(alloc, b"talk")?, second))?;
+    match params.check() {
+        Ok(_params) => Ok(0),
+        Err(fault) => Ok(fault.number()),
+    }
+}
+
+/// A parameter, the least and the greatest value that it may have, and the number of the refusal of
+/// the values next to these.
+static RANGES: [(&str, i64, i64, u8); 38] = [
+    ("publish_threshold", -80_000_000, -10_000_000, 2),
+    ("gossip_threshold", -50_000_000, -1, 2),
+    ("opportunistic_threshold", 0, 1_000_000_000_000, 2),
+    ("p7_decay", 0, 1_000_000, 3),
+    ("w5", 0, 1_000_000_000, 3),
+    ("w6", -1_000_000_000, 0, 3),
+    ("w7", -1_000_000_000, 0, 3),
+    ("topic_cap", 0, 1_000_000_000_000, 3),
+    ("decay_to_zero", 0, 1_000_000_000_000, 3),
+    ("p6_threshold", 1, 65_535, 3),
+    ("topic_weight", 0, 1_000_000_000, 3),
+    ("w1", 0, 1_000_000_000, 3),
+    ("w2", 0, 1_000_000_000, 3),
+    ("w3", -1_000_000_000, 0, 3),
+    ("w3b", -1_000_000_000, 0, 3),
+    ("w4", -1_000_000_000, 0, 3),
+    ("p2_decay", 0, 1_000_000, 3),
+    ("p3_decay", 0, 1_000_000, 3),
+    ("p3b_decay", 0, 1_000_000, 3),
+    ("p4_decay", 0, 1_000_000, 3),
+    ("p1_cap", 0, 1_000_000_000_000, 3),
+    ("p2_cap", 0, 1_000_000_000_000, 3),
+    ("p3_cap", 0, 1_000_000_000_000, 3),
+    ("p3_threshold", 0, 1_000_000_000_000, 3),
+    ("heartbeat_ms", 1, 1_000_000_000, 4),
+    ("decay_ms", 1, 1_000_000_000, 4),
+    ("fanout_ttl_ms", 1, 1_000_000_000, 4),
+    ("seen_ttl_ms", 1, 1_000_000_000, 4),
+    ("iwant_followup_ms", 1, 1_000_000_000, 4),
+    ("prune_backoff_s", 1, 86_400, 4),
+    ("unsubscribe_backoff_s", 1, 86_400, 4),
+    ("mcache_len", 3, 64, 4),
+    ("mcache_gossip", 1, 5, 4),
+    ("opportunistic_ticks", 1, 1_000_000, 4),
+    ("max_ihave", 1, 1_000, 4),
+    ("max_ihave_ids", 1, 5_000, 4),
+    ("gossip_retransmission", 1, 1_000, 4),
+    ("p1_quantum_ms", 1, 1_000_000_000, 4),
+];
+
+fn are_bounds(
+    alloc: Global,
+    name: &str,
+    least: i64,
+    greatest: i64,
+    number: u8,
+) -> Result<bool, AllocError> {
+    Ok(
+        refusal(alloc, &[(name, least)])? == 0
+            && refusal(alloc, &[(name, least.saturating_sub(1))])? == number
+            && refusal(alloc, &[(name, greatest)])? == 0
+            && refusal(alloc, &[(name, greatest.saturating_add(1))])? == number,
+    )
+}
+
+#[test]
+fn each_range_has_its_bounds(rt: HostRuntime) -> Result<(), AllocError> {
+    for (name, least, greatest, number) in &RANGES {
+        assert!(rt;
+            are_bounds(rt.alloc(), name, *least, *greatest, *number)?,
+            "{name}"
+        );
+    }
+    Ok(())
+}
+
+/// Parameters with other values than the defaults, and the number of the refusal, or 0.
+static CHANGES: [(&[(&str, i64)], u8); 44] = [
+    (&[("d_low", 1), ("d_out", 0)], 0),
+    (&[("d_low", 0), ("d_out", 0)], 1),
+    (&[("d_low", 6)], 0),
+    (&[("d_low", 7)], 1),
+    (&[("d_high", 6)], 0),
+    (&[("d_high", 5)], 1),
+    (&[("d_high", 64)], 0),
+    (&[("d_high", 65)], 1),
+    (&[("d", 64), ("d_high", 64)], 0),
+    (&[("d_low", 3)], 0),
+    (&[("d_low", 2)], 1),
+    (&[("d_out", 3), ("d_score", 3)], 0),
+    (&[("d", 5), ("d_out", 3), ("d_score", 2)], 1),
+    (&[("d_score", 0)], 0),
+    (&[("d_score", 5)], 1),
+    (&[("d_lazy", 0)], 0),
+    (&[("d_lazy", 64)], 0),
+    (&[("d_lazy", 65)], 1),
+    (&[("graylist_threshold", -50_000_000)], 0),
+    (&[("graylist_threshold", -49_999_999)], 2),
+    (&[("gossip_factor", 0)], 0),
+    (&[("gossip_factor", 1_000_000)], 0),
+    (&[("gossip_factor", 1_000_001)], 3),
+    (&[("opportunistic_peers", 0)], 0),
+    (&[("opportunistic_peers", 64)], 0),
+    (&[("opportunistic_peers", 65)], 4),
+    (&[("mcache_len", 64), ("mcache_gossip", 64)], 0),
+    (&[("mcache_len", 0), ("mcache_gossip", 0)], 4),
+    (&[("p3_window_ms", 0)], 0),
+    (&[("p3_window_ms", 1_000_000_000)], 0),
+    (&[("p3_window_ms", 1_000_000_001)], 4),
+    (&[("p3_activation_ms", 0)], 0),
+    (&[("p3_activation_ms", 1_000_000_000)], 0),
+    (&[("p3_activation_ms", 1_000_000_001)], 4),
+    // Where two checks fail, the lower number.
+    (&[("gossip_threshold", 0), ("d_low", 7)], 1),
+    (&[("w5", -1), ("d_lazy", 65)], 1),
+    (&[("p1_quantum_ms", 0), ("d_high", 5)], 1),
+    (&[("gossip_factor", 1_000_001), ("gossip_threshold", 0)], 2),
+    (&[("w3", 1), ("graylist_threshold", 0)], 2),
+    (&[("mcache_len", 2), ("publish_threshold", 0)], 2),
+    (&[("mcache_len", 2), ("gossip_factor", 1_000_001)], 3),
+    (&[("heartbeat_ms", 0), ("p2_decay", -1)], 3),
+    (&[("p1_quantum_ms", 0), ("w6", 1)], 3),
+    (&[("p3_window_ms", 1_000_000_001), ("p1_cap", -1)], 3),
+];
+
+#[test]
+fn each_check_has_its_number(rt: HostRuntime) -> Result<(), AllocError> {
+    for (changes, number) in &CHANGES {
+        assert_eq!(rt; refusal(rt.alloc(), changes)?, *number, "{changes:?}");
+    }
+    Ok(())
+}
+
+#[test]
+fn each_refusal_has_its_text(rt: HostRuntime) -> Result<(), AllocError> {
+    for (fault, number, text) in [
+        (ParamFault::Degrees, 1, "the degrees don't fit together"),
+        (ParamFault::Thresholds, 2, "a threshold is out of range"),
+        (
+            ParamFault::Factor,
+            3,
+            "a factor, a weight or a cap is out of range",
+        ),
+        (ParamFault::Window, 4, "a time or a budget is out of range"),
+    ] {
+        let shown = format!(in rt.alloc(); "{fault}")?;
+        assert_eq!(rt; shown.as_str(), text);
+        assert_eq!(rt; fault.number(), number);
+    }
+    Ok(())
+}
+
+/// The law takes nothing and gives nothing: that it can be called is all there is to test.
+#[test]
+fn the_law_can_be_called(_rt: HostRuntime) {
+    parameters_in_range_pass();
+}

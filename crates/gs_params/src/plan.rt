@@ -1,0 +1,109 @@
+//! What is simulated.
+ghost use Rattle.std.specs.Prelude.{◌≡◌};
+ghost use Rattle.gs_params.specs.Plans.{are_joined, joins};
+
+use gs_base::{PeerNo, Topic};
+use crate::params::Params;
+use gs_base::Seq;
+use gs_base::Text;
+use bytes::Bytes;
+
+/// How many milliseconds a round lasts at most.
+pub const LONGEST_ROUND: u64 = 60_000;
+
+/// The highest number that the last round may have.
+pub const MOST_ROUNDS: u64 = 100_000;
+
+/// How many peers there are at most.
+pub const MOST_PEERS: usize = 64;
+
+/// The highest score that an application gives, in millionths. The lowest is as far below 0.
+pub const HIGHEST_APP_SCORE: i64 = 1_000_000_000;
+
+/// What is simulated.
+#[derive(Debug, Drop, PartialEq, Eq)]
+pub struct Plan {
+    /// The length of a round in milliseconds: 1 to 60,000.
+    pub round_ms: u64,
+    /// The last round, where the first is 0: 1 to 100,000.
+    pub rounds: u64,
+    /// How many workers run the peers: 1 to 16.
+    pub workers: u64,
+    /// How many items a link holds: 1 to 1,024.
+    pub capacity: u64,
+    /// The seed of random choices: 0 to 2^63 - 1.
+    pub seed: u64,
+    /// The parameters of the peers, with those of each topic, in file order: 1 to 32 different ones.
+    pub params: Params,
+    /// The peers in file order: 1 to 64, with different names. A peer's number is its index.
+    pub peers: Seq<PlannedPeer>,
+    /// Who dials whom, in file order: no peer itself, and each two peers at most once.
+    pub dials: Seq<Dial>,
+    /// What the application thinks of a neighbour, in file order: each at most once.
+    pub apps: Seq<App>,
+    /// What the peers are told to do, in file order.
+    pub script: Seq<Line>,
+}
+
+/// A peer that is simulated.
+#[derive(Debug, Drop, PartialEq, Eq)]
+pub struct PlannedPeer {
+    /// Its name: 1 to 32 of `a` to `z`, `0` to `9`, `_` and `-`.
+    pub name: Text,
+    /// Where it is: neighbours at one address count against each other.
+    pub address: Text,
+    /// The first of its random words.
+    pub words: Seq<u32>,
+}
+
+/// A link between two peers, which the first of them dials.
+#[derive(Clone, Copy, Debug, PartialEq, Eq)]
+pub struct Dial {
+    pub from: PeerNo,
+    pub to: PeerNo,
+}
+
+/// The score that a peer's application gives a neighbour.
+#[derive(Clone, Copy, Debug, PartialEq, Eq)]
+pub struct App {
+    pub peer: PeerNo,
+    pub about: PeerNo,
+    /// In millionths: -10^9 to 10^9.
+    pub value: i64,
+}
+
+/// Something that a peer is told to do.
+#[derive(Debug, Drop, PartialEq, Eq)]
+pub struct Line {
+    /// The round in which it is done: 0 to the last.
+    pub at: u64,
+    /// Who does it.
+    pub peer: PeerNo,
+    /// What is done.
+    pub what: What,
+}
+
+/// What a peer may be told to do.
+#[derive(Debug, Drop, PartialEq, Eq)]
+pub enum What {
+    /// Subscribe to a topic.
+    Subscribe(Topic),
+    /// Leave a topic.
+    Unsubscribe(Topic),
+    /// Publish a payload on a topic.
+    Publish(Topic, Bytes),
+}
+
+/// Whether one of two peers dials the other.
+pub fn are_joined(dials: &[Dial], one: PeerNo, other: PeerNo) -> bool
+    ensures { result ≡ are_joined dials.now one other }
+{
+    dials.iter().any(|dial| joins(one, other, dial))
+}
+
+/// Whether a dial joins two peers.
+fn joins(one: PeerNo, other: PeerNo, dial: &Dial) -> bool
+    ensures { result ≡ joins one other dial.now }
+{
+    (dial.from == one && dial.to == other) || (dial.from == other && dial.to == one)
+}

@@ -1,0 +1,169 @@
+//! The parameters of a topic: gossipsub v1.1, Peer Scoring, Topic Parameter Calculation.
+ghost use Rattle.std.specs.Prelude.{◌≡◌};
+ghost use Rattle.gs_params.specs.Params.{decays_hold, caps_hold, default_topic_params, topic_factors_hold, penalties_hold, rewards_hold, topic_windows_hold};
+
+use crate::ranges::{LONGEST_TIME, is_cap, is_fraction, is_penalty, is_reward, is_time, is_in_range};
+use gs_base::{ExactClone, Seq};
+use bytes::Bytes;
+use std::alloc::{AllocError, Global};
+
+/// Factors, weights and caps of a topic's part of the score, in millionths.
+#[derive(Clone, Copy, Debug, PartialEq, Eq)]
+pub struct TopicFactors {
+    /// The weight of the topic: 0 to 10^9.
+    pub topic_weight: i64,
+    /// The weight of the time in the mesh (P1): 0 to 10^9.
+    pub w1: i64,
+    /// The weight of first deliveries (P2): 0 to 10^9.
+    pub w2: i64,
+    /// The weight of missing deliveries in the mesh (P3): -10^9 to 0.
+    pub w3: i64,
+    /// The weight of deliveries that were missing when the mesh was left (P3b): -10^9 to 0.
+    pub w3b: i64,
+    /// The weight of invalid messages (P4): -10^9 to 0.
+    pub w4: i64,
+    /// What a decay leaves of the counter of first deliveries: 0 to 1,000,000.
+    pub p2_decay: i64,
+    /// What a decay leaves of the counter of deliveries in the mesh: 0 to 1,000,000.
+    pub p3_decay: i64,
+    /// What a decay leaves of the counter of missing deliveries: 0 to 1,000,000.
+    pub p3b_decay: i64,
+    /// What a decay leaves of the counter of invalid messages: 0 to 1,000,000.
+    pub p4_decay: i64,
+    /// The most that the time in the mesh counts: 0 to 10^12.
+    pub p1_cap: i64,
+    /// The most that the counter of first deliveries holds: 0 to 10^12.
+    pub p2_cap: i64,
+    /// The most that the counter of deliveries in the mesh holds: 0 to 10^12.
+    pub p3_cap: i64,
+    /// With less than this in the counter of deliveries in the mesh some are missing: 0 to 10^12.
+    pub p3_threshold: i64,
+}
+
+/// The factors of a topic where nothing else is said.
+pub const DEFAULT_TOPIC_FACTORS: TopicFactors = TopicFactors {
+    topic_weight: 1_000_000,
+    w1: 0,
+    w2: 0,
+    w3: 0,
+    w3b: 0,
+    w4: 0,
+    p2_decay: 500_000,
+    p3_decay: 500_000,
+    p3b_decay: 500_000,
+    p4_decay: 500_000,
+    p1_cap: 100_000_000,
+    p2_cap: 100_000_000,
+    p3_cap: 100_000_000,
+    p3_threshold: 0,
+};
+
+/// Times of a topic, in milliseconds.
+#[derive(Clone, Copy, Debug, PartialEq, Eq)]
+pub struct TopicWindows {
+    /// The time in the mesh that counts as one (P1): 1 to 10^9.
+    pub p1_quantum_ms: u64,
+    /// For how long after the first delivery another counts (P3): 0 to 10^9.
+    pub p3_window_ms: u64,
+    /// For how long nothing is missing of a new member of the mesh (P3): 0 to 10^9.
+    pub p3_activation_ms: u64,
+}
+
+/// The times of a topic where nothing else is said.
+pub const DEFAULT_TOPIC_WINDOWS: TopicWindows = TopicWindows {
+    p1_quantum_ms: 1_000,
+    p3_window_ms: 10,
+    p3_activation_ms: 5_000,
+};
+
+/// The parameters of a topic.
+#[derive(Debug, Drop, PartialEq, Eq)]
+pub struct TopicParams {
+    pub factors: TopicFactors,
+    pub windows: TopicWindows,
+    /// A payload that begins with one of these is rejected.
+    pub reject: Seq<Bytes>,
+    /// A payload that begins with one of these, and is not rejected, is ignored.
+    pub ignore: Seq<Bytes>,
+}
+
+impl Clone for TopicParams {
+    ghost is_clone = { λ source copy. copy ≡ source };
+
+    fn clone(&self) -> Result<TopicParams, AllocError> {
+        Ok(TopicParams {
+            factors: self.factors,
+            windows: self.windows,
+            reject: self.reject.clone()?,
+            ignore: self.ignore.clone()?,
+        })
+    }
+}
+
+impl ExactClone for TopicParams {
+    ghost exact = { λ source copy same. same };
+}
+
+impl TopicParams {
+    /// The parameters of a topic where nothing is said. They take no memory.
+    pub fn new(alloc: Global) -> TopicParams
+        ensures { result ≡ default_topic_params }
+    {
+        TopicParams {
+            factors: DEFAULT_TOPIC_FACTORS,
+            windows: DEFAULT_TOPIC_WINDOWS,
+            reject: Seq::new(alloc),
+            ignore: Seq::new(alloc),
+        }
+    }
+}
+
+impl TopicFactors {
+    /// Whether each is in its range.
+    pub(crate) fn hold(&self) -> bool
+        ensures { result ≡ topic_factors_hold self.now }
+    {
+        self.rewards_hold() && self.penalties_hold() && self.decays_hold() && self.caps_hold()
+    }
+
+    fn rewards_hold(&self) -> bool
+        ensures { result ≡ rewards_hold self.now }
+    {
+        is_reward(self.topic_weight) && is_reward(self.w1) && is_reward(self.w2)
+    }
+
+    fn penalties_hold(&self) -> bool
+        ensures { result ≡ penalties_hold self.now }
+    {
+        is_penalty(self.w3) && is_penalty(self.w3b) && is_penalty(self.w4)
+    }
+
+    fn decays_hold(&self) -> bool
+        ensures { result ≡ decays_hold self.now }
+    {
+        is_fraction(self.p2_decay)
+            && is_fraction(self.p3_decay)
+            && is_fraction(self.p3b_decay)
+            && is_fraction(self.p4_decay)
+    }
+
+    fn caps_hold(&self) -> bool
+        ensures { result ≡ caps_hold self.now }
+    {
+        is_cap(self.p1_cap)
+            && is_cap(self.p2_cap)
+            && is_cap(self.p3_cap)
+            && is_cap(self.p3_threshold)
+    }
+}
+
+impl TopicWindows {
+    /// Whether each is in its range.
+    pub(crate) fn hold(&self) -> bool
+        ensures { result ≡ topic_windows_hold self.now }
+    {
+        is_time(self.p1_quantum_ms)
+            && is_in_range(0, LONGEST_TIME, self.p3_window_ms)
+            && is_in_range(0, LONGEST_TIME, self.p3_activation_ms)
+    }
+}

@@ -1,0 +1,159 @@
+-- What is delivered in a legal trace was not seen lately, and is marked as seen. So nothing is delivered again before its mark
+-- counts no more.
+use Rattle.std.proofs.Common.{◌≡◌, refl, sym, ap, subst, ◌∙◌, ℕ, zero, suc, ◌+◌, ◌-◌, ◌≤◌, arith, Bool, true, false, if◌then◌else◌, List, [], ◌∷◌, ◌++◌, length, Option, Some, None}
+use Rattle.std.specs.List.{All, AllByRecursion, IsAmong}
+use Rattle.std.specs.Prelude.{IsPermutation}
+use Rattle.std.proofs.lemmas.Cmp.{nat_list_eq_equiv}
+use Rattle.std.proofs.lemmas.Bool.Decides.{nat_tests}
+use Rattle.std.proofs.lemmas.List.Elements.{All-from_recursion}
+use Rattle.std.proofs.lemmas.List.Sorted.{All-permutation, length_permutation}
+use Rattle.gs_base.specs.declared.names.PeerNo.{PeerNo}
+use Rattle.gs_base.specs.declared.names.Topic.{Topic}
+use Rattle.gs_base.specs.declared.names.MsgId.{MsgId}
+use Rattle.gs_base.specs.declared.rpc.Message.{Message}
+use Rattle.gs_rules.specs.declared.trace.Verdict.{Verdict}
+use Rattle.gs_rules.specs.declared.trace.Verdict.TheVariants.{Accept}
+use Rattle.gs_rules.specs.declared.trace.Mark.{Mark}
+use Rattle.gs_rules.specs.declared.trace.Mark.TheVariants.{Seen}
+use Rattle.gs_rules.specs.declared.trace.Event.{Event}
+use Rattle.gs_rules.specs.declared.trace.Event.TheVariants.{Msg, Publish}
+use Rattle.gs_rules.specs.declared.trace.Entry.{Entry}
+use Rattle.gs_base.specs.Names.{same_id, message_id, topic_of, payload_of, is_signed}
+use Rattle.gs_rules.specs.Tables.{Entries, last_moment, joined, Sighting, after_marks, sighting_after, last_seen, counting, seen}
+use Rattle.gs_rules.specs.Peers.{Peer, seen_ttl}
+use Rattle.gs_rules.specs.Owed.{owed}
+use Rattle.gs_rules.specs.Rules.{rule_of, message_rule, publish_rule}
+use Rattle.gs_rules.specs.Modes.{SaysTheSame, Follows, free}
+use Rattle.gs_rules.specs.Legal.{MayPublish, MayOpen, IsNext, IsAllowed, Legal, Delivers, DeliversApart}
+use Rattle.gs_rules.proofs.Legality.{legal_newest}
+use Rattle.gs_rules.proofs.Owed.{opens}
+
+-- ---- one entry
+
+-- a message was not seen lately, and is marked as seen now
+record IsFresh (p : Peer) (L : Entries) (e : Entry) (id : MsgId) : Type 0 where
+  unseen : seen (seen_ttl p) L id e.at.0 ≡ None
+  marked : (before : Option Sighting) → after_marks (sighting_after id e.at.0) e.marks before ≡ Some (record { at = e.at.0; verdict = Accept })
+
+-- what is among none, and among one
+nothing_among : {X : Type 0} (xs : List X) (x : X) → xs ≡ [] → IsAmong xs x → ⊥
+nothing_among xs x e among = omega (arith, among.1.0, ap length e)
+
+only_among : {X : Type 0} (y x : X) → IsAmong (y ∷ []) x → x ≡ y
+only_among y x (zero, (here, is)) = is
+only_among y x (suc i, (far, is)) = absurd (omega arith)
+
+-- a list of one element has one order
+single : {X : Type 0} (x : X) (ys : List X) → length ys ≡ 1 → All (λ y. y ≡ x) ys → ys ≡ x ∷ []
+single x [] long same = cc
+single x (y ∷ []) long same = ap (λ z. z ∷ []) (same 0 y (omega arith))
+single x (y ∷ z ∷ ys) long same = absurd (omega arith)
+
+one_order : {X : Type 0} (x : X) (ys : List X) → IsPermutation (x ∷ []) ys → ys ≡ x ∷ []
+one_order x ys same = single x ys (length_permutation (x ∷ []) ys same) (All-permutation (λ y. y ≡ x) (x ∷ []) ys same (All-from_recursion (λ y. y ≡ x) (x ∷ []) (refl, tt)))
+
+-- a message is found by its own identifier
+found_itself : (id : MsgId) (at : ℕ) (before : Option Sighting) → after_marks (sighting_after id at) (Seen id Accept ∷ []) before ≡ Some (record { at = at; verdict = Accept })
+found_itself id at before = rw (nat_list_eq_equiv.refl id.0) refl
+
+-- an entry is fresh where its rule gives one message that was not seen lately, and marks it
+delivers_one : (p : Peer) (L : Entries) (e x : Entry) (y : Topic × List ℕ) (id : MsgId) → SaysTheSame e x → x.delivered ≡ y ∷ [] → x.marks ≡ Seen (message_id y.1) Accept ∷ [] → seen (seen_ttl p) L (message_id y.1) e.at.0 ≡ None → Delivers e id → IsFresh p L e id
+delivers_one p L e x y id same delivered marks unseen (z, among, is) =
+    let this : z ≡ y = only_among y z (rw (same.delivered, delivered) at among) in
+    let known : message_id y.1 ≡ id = ap (λ w. message_id w.1) (sym this) ∙ is in
+    let order : e.marks ≡ Seen (message_id y.1) Accept ∷ [] = one_order _ e.marks (rw marks at same.marks) in
+    record {
+      unseen = rw (← known) unseen;
+      marked = λ before. rw (order, ← known) (found_itself (message_id y.1) e.at.0 before);
+    }
+
+-- where its rule gives no message, it delivers none
+delivers_none : (p : Peer) (L : Entries) (e x : Entry) (id : MsgId) → SaysTheSame e x → x.delivered ≡ [] → Delivers e id → IsFresh p L e id
+delivers_none p L e x id same delivered (z, among, is) = absurd (nothing_among e.delivered z (same.delivered ∙ delivered) among)
+
+-- a message that came, by what the tests of its rule find
+module _ (p : Peer) (L : Entries) (q : PeerNo) (m : Message) (e : Entry) (id : MsgId) (same : SaysTheSame e (message_rule p L e.at q m)) (delivers : Delivers e id) where
+  by_tests : (is_joined signed : Bool) (found : Option Verdict) → joined L (topic_of m) ≡ is_joined → is_signed m ≡ signed → seen (seen_ttl p) L (message_id (payload_of m)) e.at.0 ≡ found → IsFresh p L e id
+  by_tests false signed found j s f = delivers_none p L e (message_rule p L e.at q m) id same (rw j refl) delivers
+  by_tests true true found j s f = delivers_none p L e (message_rule p L e.at q m) id same (rw (j, s) refl) delivers
+  by_tests true false (Some v) j s f = delivers_none p L e (message_rule p L e.at q m) id same (rw (j, s, f) refl) delivers
+  by_tests true false None j s f = delivers_one p L e (message_rule p L e.at q m) (topic_of m, payload_of m) id same (rw (j, s, f) refl) (rw (j, s, f) refl) f delivers
+
+  heard : IsFresh p L e id
+  heard = by_tests (joined L (topic_of m)) (is_signed m) (seen (seen_ttl p) L (message_id (payload_of m)) e.at.0) refl refl refl
+
+-- a message that the peer published, by whether it is subscribed
+module _ (p : Peer) (L : Entries) (t : Topic) (payload : List ℕ) (e : Entry) (id : MsgId) (may : MayPublish p L e.at.0 t payload) (same : SaysTheSame e (publish_rule p L e.at t payload)) (delivers : Delivers e id) where
+  by_subscription : (is_joined : Bool) → joined L t ≡ is_joined → IsFresh p L e id
+  by_subscription false j = delivers_none p L e (publish_rule p L e.at t payload) id same (rw j refl) delivers
+  by_subscription true j = delivers_one p L e (publish_rule p L e.at t payload) (t, payload) id same (rw j refl) refl may.unseen delivers
+
+  published : IsFresh p L e id
+  published = by_subscription (joined L t) refl
+
+-- of all events, these two alone deliver
+by_event : (p : Peer) (L : Entries) (event : Event) (e : Entry) (id : MsgId) → IsNext p L e.at.0 (owed p L).events event → Follows free (rule_of p L e.at event) tt e tt → Delivers e id → IsFresh p L e id
+by_event p L (Msg q m) e id next effects delivers = heard p L q m e id effects.0 delivers
+by_event p L (Publish t payload) e id next effects delivers = published p L t payload e id (opens p L e.at.0 (Publish t payload) (λ h. h) next) effects.0 delivers
+by_event p L other e id next effects delivers = delivers_none p L e _ id effects.0 refl delivers
+
+delivered_is_fresh : (p : Peer) (L : Entries) (e : Entry) (id : MsgId) → IsAllowed free p L tt e tt → Delivers e id → IsFresh p L e id
+delivered_is_fresh p L e id allowed delivers = by_event p L e.event e id allowed.next allowed.effects delivers
+
+-- ---- a legal trace
+
+-- what came before is legal too
+pub legal_before : (p : Peer) (later L : Entries) → Legal p (later ++ L) → Legal p L
+legal_before p [] L legal = legal
+legal_before p (e ∷ later) L legal = legal_before p later L legal.1
+
+-- time never falls
+time_rises : (p : Peer) (between : Entries) (f : Entry) (earlier : Entries) → Legal p (between ++ f ∷ earlier) → f.at.0 ≤ last_moment (between ++ f ∷ earlier)
+time_rises p [] f earlier legal = omega arith
+time_rises p (g ∷ between) f earlier legal = omega (arith, (legal_newest p g (between ++ f ∷ earlier) legal).time, time_rises p between f earlier legal.1)
+
+-- a message was seen at this moment or after it
+record IsSince (moment : ℕ) (seen : Option Sighting) : Type 0 where
+  sighting : Sighting
+  is : seen ≡ Some sighting
+  since : moment ≤ sighting.at
+
+-- and so it was after each mark that came later
+since_by : (moment at : ℕ) (verdict : Verdict) (same : Bool) (before : Option Sighting) → moment ≤ at → IsSince moment before → IsSince moment (if same then Some (record { at = at; verdict = verdict }) else before)
+since_by moment at verdict true before later h = record { sighting = record { at = at; verdict = verdict }; is = refl; since = later }
+since_by moment at verdict false before later h = h
+
+since_mark : (moment at : ℕ) (id : MsgId) (mark : Mark) (before : Option Sighting) → moment ≤ at → IsSince moment before → IsSince moment (sighting_after id at mark before)
+since_mark moment at id (Seen other verdict) before later h = since_by moment at verdict (same_id other id) before later h
+since_mark moment at id other before later h = h
+
+since_marks : (moment at : ℕ) (id : MsgId) (marks : List Mark) (before : Option Sighting) → moment ≤ at → IsSince moment before → IsSince moment (after_marks (sighting_after id at) marks before)
+since_marks moment at id [] before later h = h
+since_marks moment at id (mark ∷ marks) before later h = since_marks moment at id marks (sighting_after id at mark before) later (since_mark moment at id mark before later h)
+
+-- what is marked is seen from then on
+seen_since : (p : Peer) (between : Entries) (f : Entry) (earlier : Entries) (id : MsgId) → Legal p (between ++ f ∷ earlier) → ((before : Option Sighting) → after_marks (sighting_after id f.at.0) f.marks before ≡ Some (record { at = f.at.0; verdict = Accept })) → IsSince f.at.0 (last_seen (between ++ f ∷ earlier) id)
+seen_since p [] f earlier id legal marked = record { sighting = record { at = f.at.0; verdict = Accept }; is = marked (last_seen earlier id); since = omega arith }
+seen_since p (g ∷ between) f earlier id legal marked =
+    since_marks f.at.0 g.at.0 id g.marks (last_seen (between ++ f ∷ earlier) id) (time_rises p (g ∷ between) f earlier legal) (seen_since p between f earlier id legal.1 marked)
+
+-- a sighting that does not count any more is as old as the time for which it counts
+is_past : (ttl now : ℕ) (s : Sighting) → counting ttl now (Some s) ≡ None → ttl ≤ now - s.at
+is_past ttl now s none = grind (arith, nat_tests)
+
+pub not_repeated : (p : Peer) (later between earlier : Entries) (e f : Entry) (id : MsgId) → Legal p (later ++ e ∷ (between ++ f ∷ earlier)) → Delivers e id → Delivers f id → f.at.0 + (seen_ttl p) ≤ e.at.0
+not_repeated p later between earlier e f id legal delivers_e delivers_f =
+    let now = legal_before p later (e ∷ (between ++ f ∷ earlier)) legal in
+    let before : Legal p (between ++ f ∷ earlier) = now.1 in
+    let start = legal_before p between (f ∷ earlier) before in
+    let first = delivered_is_fresh p earlier f id (legal_newest p f earlier start) delivers_f in
+    let second = delivered_is_fresh p (between ++ f ∷ earlier) e id (legal_newest p e (between ++ f ∷ earlier) now) delivers_e in
+    let sight = seen_since p between f earlier id before first.marked in
+    let past : (seen_ttl p) ≤ e.at.0 - sight.sighting.at = is_past (seen_ttl p) e.at.0 sight.sighting (rw sight.is at second.unseen) in
+    let rises : f.at.0 ≤ e.at.0 = time_rises p (e ∷ between) f earlier now in
+    omega (arith, sight.since)
+
+-- so nothing is delivered twice while it counts as seen
+pub deliveries_apart : (p : Peer) (L : Entries) → Legal p L → DeliversApart (seen_ttl p) L
+deliveries_apart p L legal = λ later between earlier e f id is delivers_e delivers_f.
+    not_repeated p later between earlier e f id (subst (Legal p) is legal) delivers_e delivers_f

@@ -1,0 +1,216 @@
+-- A legal trace sends only what fits a frame, and its frames spell what it sends.
+use Rattle.std.proofs.Common.{◌≡◌, ℕ, ◌+◌, ◌*◌, ◌≤◌, ◌<◌, ◌^◌, Bool, true, false, if◌then◌else◌, List, [], ◌∷◌, ◌++◌, length, take, drop, take-append-drop, reverse, Some, refl, sym, ap, subst, ◌∙◌, append-nil, length-append, arith}
+use Rattle.std.specs.List.{AllByRecursion}
+use Rattle.std.specs.Prelude.{is_some}
+use Rattle.std.proofs.lemmas.Bool.{le-leb}
+use Rattle.std.proofs.lemmas.Bool.Decides.{nat_tests}
+use Rattle.std.proofs.lemmas.Cmp.{nat_eq_equiv}
+use Rattle.std.proofs.lemmas.List.{reverse-append}
+use Rattle.std.proofs.lemmas.Slice.Eq.{bytes_eq-Decides}
+use Rattle.gs_base.specs.declared.names.PeerNo.{PeerNo}
+use Rattle.gs_base.specs.declared.names.Topic.{Topic}
+use Rattle.gs_base.specs.declared.names.Millis.{Millis}
+use Rattle.gs_base.specs.declared.rpc.Message.{Message}
+use Rattle.gs_base.specs.declared.rpc.Rpc.{Rpc}
+use Rattle.gs_rules.specs.declared.trace.Event.{Event}
+use Rattle.gs_rules.specs.declared.trace.Event.TheVariants.{Msg, Subscribe, Unsubscribe, Publish}
+use Rattle.gs_rules.specs.declared.trace.Entry.{Entry}
+use Rattle.gs_base.specs.Names.{longest_topic, same_peer, same_topic, topic_of, payload_of, message_id, is_signed, announcement, publication}
+use Rattle.gs_params.specs.declared.params.Params.{Params}
+use Rattle.gs_base.specs.declared.neighbour.Neighbour.{Neighbour}
+use Rattle.gs_wire.specs.Varint.{varint}
+use Rattle.gs_wire.specs.Records.{record_text, records_text}
+use Rattle.gs_wire.specs.Fields.{bool_number, varint_record, len_record}
+use Rattle.gs_wire.specs.Messages.{IsInMemory, sub_records, body}
+use Rattle.gs_wire.specs.Codec.{codec}
+use Rattle.gs_wire.proofs.RoundTrip.{all-append}
+use Rattle.gs_wire.proofs.Written.{varint_ten, records_text-single, len_text-length}
+use Rattle.gs_rules.specs.Peers.{Peer, seen_ttl}
+use Rattle.gs_rules.specs.Tables.{Entries, joined, joined_after, seen}
+use Rattle.gs_rules.specs.Owed.{owed}
+use Rattle.gs_rules.specs.Rules.{to_each, up_neighbours, listeners, message_rule, rule_of}
+use Rattle.gs_rules.specs.Modes.{SaysTheSame, sent_to, Follows, free}
+use Rattle.gs_rules.specs.Legal.{MaySubscribe, MayUnsubscribe, MayPublish, IsNext, Legal}
+use Rattle.gs_rules.specs.Saying.{SendsFit, AllFit}
+use Rattle.gs_rules.proofs.Owed.{opens}
+use Rattle.gs_rules.proofs.Legality.{legal_newest}
+
+-- a peer that writes as the codec says
+abbrev pub peer_of : Params → List Neighbour → Peer
+peer_of params neighbours = record { params = params; neighbours = neighbours; codec = codec }
+
+-- ---- an announcement
+
+-- how it is written
+announcement_text : (subscribes : Bool) (t : Topic) → body (announcement subscribes t) ≡ record_text (len_record 1 (record_text (varint_record 1 (bool_number subscribes)) ++ record_text (len_record 2 t.0)))
+announcement_text subscribes t =
+    let flag : List ℕ = record_text (varint_record 1 (bool_number subscribes)) in
+    let whole : List ℕ = records_text (sub_records (record { subscribe = Some subscribes; topic = Some t })) in
+    let text : whole ≡ flag ++ record_text (len_record 2 t.0) = ap (λ (rest : List ℕ). flag ++ rest) (append-nil (record_text (len_record 2 t.0))) in
+    records_text-single (len_record 1 whole) ∙ ap (λ (bytes : List ℕ). record_text (len_record 1 bytes)) text
+
+-- a number takes ten bytes at most, and so does its tag
+number_short : (field n : ℕ) → length (record_text (varint_record field n)) ≤ 20
+number_short field n = omega (arith, length-append (varint (8 * field + 0)) (varint n), varint_ten (8 * field + 0), varint_ten n)
+
+announcement_short : (subscribes : Bool) (t : Topic) → length t.0 ≤ 1024 → length (body (announcement subscribes t)) ≤ 1048576
+announcement_short subscribes t short =
+    let flag : List ℕ = record_text (varint_record 1 (bool_number subscribes)) in
+    let name : List ℕ = record_text (len_record 2 t.0) in
+    omega (arith, ap length (announcement_text subscribes t), len_text-length 1 (flag ++ name) (omega arith), varint_ten (length (flag ++ name)), length-append flag name, number_short 1 (bool_number subscribes), len_text-length 2 t.0 (omega arith), varint_ten (length t.0))
+
+announcement_fits : (subscribes : Bool) (t : Topic) → length t.0 ≤ longest_topic → codec.fits (announcement subscribes t) ≡ true
+announcement_fits subscribes t short = le-leb (length (body (announcement subscribes t))) 1048576 (announcement_short subscribes t short)
+
+-- ---- what is sent
+
+-- it fits a frame, and its numbers are of 64 bits, so that it is read back
+abbrev pub IsWritten : Rpc → Type 0
+IsWritten rpc = (codec.fits rpc ≡ true) × IsInMemory rpc
+
+abbrev pub SendsWritten : List (PeerNo × Rpc) → Type 0
+SendsWritten sends = AllByRecursion (λ x. IsWritten x.1) sends
+
+abbrev pub AllWritten : List Entry → Type 0
+AllWritten entries = AllByRecursion (λ e. SendsWritten e.sends) entries
+
+abbrev RpcsFit : List Rpc → Type 0
+RpcsFit rpcs = AllByRecursion IsWritten rpcs
+
+-- what fits a frame is short
+short_body : (rpc : Rpc) → codec.fits rpc ≡ true → length (body rpc) < 2 ^ 64
+short_body rpc fits = grind (arith, nat_tests)
+
+announcement_written : (subscribes : Bool) (t : Topic) → length t.0 ≤ longest_topic → IsWritten (announcement subscribes t)
+announcement_written subscribes t short =
+    let fits = announcement_fits subscribes t short in
+    (fits, record { body = short_body (announcement subscribes t) fits; control = tt })
+
+publication_written : (t : Topic) (payload : List ℕ) → codec.fits (publication t payload) ≡ true → IsWritten (publication t payload)
+publication_written t payload fits = (fits, record { body = short_body (publication t payload) fits; control = tt })
+
+each_fits : (rpc : Rpc) (qs : List PeerNo) → IsWritten rpc → SendsWritten (to_each rpc qs)
+each_fits rpc [] fits = tt
+each_fits rpc (q ∷ qs) fits = (fits, each_fits rpc qs fits)
+
+-- what one receiver is sent, from what all are sent
+received_fit : (q : PeerNo) (sends : List (PeerNo × Rpc)) → SendsWritten sends → RpcsFit (sent_to q sends)
+received_fit q [] all = tt
+received_fit q (x ∷ sends) all = with_first (same_peer x.0 q) x.1 (sent_to q sends) all.0 (received_fit q sends all.1)
+  where
+    with_first : (goes : Bool) (rpc : Rpc) (rpcs : List Rpc) → IsWritten rpc → RpcsFit rpcs → RpcsFit (if goes then rpc ∷ rpcs else rpcs)
+    with_first true rpc rpcs fits rest = (fits, rest)
+    with_first false rpc rpcs fits rest = rest
+
+-- and back
+sends_fit : (sends : List (PeerNo × Rpc)) → ((q : PeerNo) → RpcsFit (sent_to q sends)) → SendsWritten sends
+sends_fit [] all = tt
+sends_fit (x ∷ sends) all = (first.0, sends_fit sends (λ q. without_first (same_peer x.0 q) x.1 (sent_to q sends) (all q)))
+  where
+    first : RpcsFit (x.1 ∷ sent_to x.0 sends)
+    first = rw (nat_eq_equiv.refl x.0.0) at (all x.0)
+
+    without_first : (goes : Bool) (rpc : Rpc) (rpcs : List Rpc) → RpcsFit (if goes then rpc ∷ rpcs else rpcs) → RpcsFit rpcs
+    without_first true rpc rpcs fit = fit.1
+    without_first false rpc rpcs fit = fit
+
+-- what says the same fits as well
+same_fits : (e x : Entry) → SaysTheSame e x → SendsWritten x.sends → SendsWritten e.sends
+same_fits e x same fit = sends_fit e.sends (λ q. subst RpcsFit (sym (same.sends q)) (received_fit q x.sends fit))
+
+-- ---- a topic that the peer is subscribed to
+
+abbrev IsShort : Topic → Type 0
+IsShort t = length t.0 ≤ longest_topic
+
+subscribed_short : (u t : Topic) (same before : Bool) → same_topic u t ≡ same → IsShort u → (before ≡ true → IsShort t) → (if same then true else before) ≡ true → IsShort t
+subscribed_short u t true before is short earlier joins = subst (λ (bytes : List ℕ). length bytes ≤ longest_topic) ((bytes_eq-Decides u.0 t.0).0 is) short
+subscribed_short u t false before is short earlier joins = earlier joins
+
+still_joined : (left before : Bool) → (if left then false else before) ≡ true → before ≡ true
+still_joined true before joins = absurd cc
+still_joined false before joins = joins
+
+short_after : (p : Peer) (L : Entries) (at : ℕ) (event : Event) (t : Topic) → IsNext p L at (owed p L).events event → (joined L t ≡ true → IsShort t) → joined_after t event (joined L t) ≡ true → IsShort t
+short_after p L at (Subscribe u) t next earlier joins = subscribed_short u t (same_topic u t) (joined L t) refl (opens p L at (Subscribe u) (λ h. h) next).short earlier joins
+short_after p L at (Unsubscribe u) t next earlier joins = earlier (still_joined (same_topic u t) (joined L t) joins)
+short_after p L at other t next earlier joins = earlier joins
+
+joined_short : (p : Peer) (L : Entries) (t : Topic) → Legal p L → joined L t ≡ true → IsShort t
+joined_short p [] t legal joins = absurd cc
+joined_short p (e ∷ L) t legal joins = short_after p L e.at.0 e.event t (legal_newest p e L legal).next (joined_short p L t legal.1) joins
+
+-- ---- one entry
+
+-- a message sends nothing
+message_fits : (p : Peer) (L : Entries) (at : Millis) (q : PeerNo) (m : Message) → SendsWritten (message_rule p L at q m).sends
+message_fits p L at q m = by_tests (joined L (topic_of m)) (is_signed m) (is_some (seen (seen_ttl p) L (message_id (payload_of m)) at.0)) refl refl refl
+  where
+    by_tests : (is_joined signed known : Bool) → joined L (topic_of m) ≡ is_joined → is_signed m ≡ signed → is_some (seen (seen_ttl p) L (message_id (payload_of m)) at.0) ≡ known → SendsWritten (message_rule p L at q m).sends
+    by_tests false signed known j s k = rw j tt
+    by_tests true true known j s k = rw (j, s) tt
+    by_tests true false true j s k = rw (j, s, k) tt
+    by_tests true false false j s k = rw (j, s, k) tt
+
+-- each event sends what fits, or nothing
+module _ (params : Params) (neighbours : List Neighbour) (L : Entries) (legal : Legal (peer_of params neighbours) L) where
+  abbrev p : Peer
+  p = peer_of params neighbours
+
+  by_event : (event : Event) (e : Entry) → IsNext p L e.at.0 (owed p L).events event → Follows free (rule_of p L e.at event) tt e tt → SendsWritten e.sends
+  by_event (Msg q m) e next effects = same_fits e _ effects.0 (message_fits p L e.at q m)
+  by_event (Subscribe t) e next effects =
+      let may : MaySubscribe L t = opens p L e.at.0 (Subscribe t) (λ h. h) next in
+      same_fits e _ effects.0 (each_fits (announcement true t) (up_neighbours p L) (announcement_written true t may.short))
+  by_event (Unsubscribe t) e next effects =
+      let may : MayUnsubscribe L t = opens p L e.at.0 (Unsubscribe t) (λ h. h) next in
+      same_fits e _ effects.0 (each_fits (announcement false t) (up_neighbours p L) (announcement_written false t (joined_short p L t legal may.joined)))
+  by_event (Publish t payload) e next effects =
+      let may : MayPublish p L e.at.0 t payload = opens p L e.at.0 (Publish t payload) (λ h. h) next in
+      same_fits e _ effects.0 (each_fits (publication t payload) (listeners p L t) (publication_written t payload may.fits))
+  by_event other e next effects = same_fits e _ effects.0 tt
+
+-- ---- a legal trace
+
+pub legal_written : (params : Params) (neighbours : List Neighbour) (L : Entries) → Legal (peer_of params neighbours) L → AllWritten L
+legal_written params neighbours [] legal = tt
+legal_written params neighbours (e ∷ L) legal =
+    let newest = legal_newest (peer_of params neighbours) e L legal in
+    (by_event params neighbours L legal.1 e.event e newest.next newest.effects, legal_written params neighbours L legal.1)
+
+-- ---- parts of a trace, and its other order
+
+pub fits_front : (xs ys : List Entry) → AllWritten (xs ++ ys) → AllWritten xs
+fits_front [] ys all = tt
+fits_front (e ∷ xs) ys all = (all.0, fits_front xs ys all.1)
+
+pub fits_back : (xs ys : List Entry) → AllWritten (xs ++ ys) → AllWritten ys
+fits_back [] ys all = all
+fits_back (e ∷ xs) ys all = fits_back xs ys all.1
+
+pub fits_both : (xs ys : List Entry) → AllWritten xs → AllWritten ys → AllWritten (xs ++ ys)
+fits_both xs ys front back = all-append (λ (e : Entry). SendsWritten e.sends) xs ys front back
+
+pub fits_take : (n : ℕ) (xs : List Entry) → AllWritten xs → AllWritten (take n xs)
+fits_take n xs all = fits_front (take n xs) (drop n xs) (rw take-append-drop all)
+
+pub fits_drop : (n : ℕ) (xs : List Entry) → AllWritten xs → AllWritten (drop n xs)
+fits_drop n xs all = fits_back (take n xs) (drop n xs) (rw take-append-drop all)
+
+pub fits_reverse : (L : List Entry) → AllWritten L → AllWritten (reverse L)
+fits_reverse [] all = tt
+fits_reverse (e ∷ L) all = subst AllWritten (sym (reverse-append (e ∷ []) L)) (fits_both (reverse L) (e ∷ []) (fits_reverse L all.1) (all.0, tt))
+
+-- what was written fits
+sends_of_written : (sends : List (PeerNo × Rpc)) → SendsWritten sends → SendsFit codec sends
+sends_of_written [] h = tt
+sends_of_written (x ∷ sends) h = (h.0.0, sends_of_written sends h.1)
+
+all_of_written : (entries : List Entry) → AllWritten entries → AllFit codec entries
+all_of_written [] h = tt
+all_of_written (e ∷ entries) h = (sends_of_written e.sends h.0, all_of_written entries h.1)
+
+-- any part of a legal trace, the oldest entry first
+pub legal_part_fits : (params : Params) (neighbours : List Neighbour) (L : Entries) (skipped most : ℕ) → Legal (peer_of params neighbours) L → AllFit codec (take most (drop skipped (reverse L)))
+legal_part_fits params neighbours L skipped most legal =
+    all_of_written (take most (drop skipped (reverse L))) (fits_take most (drop skipped (reverse L)) (fits_drop skipped (reverse L) (fits_reverse L (legal_written params neighbours L legal))))

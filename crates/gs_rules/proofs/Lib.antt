@@ -1,0 +1,6 @@
+pub mod Owed
+pub mod Legality
+pub mod Deliveries
+pub mod Handled
+pub mod Fitting
+pub mod Spelled

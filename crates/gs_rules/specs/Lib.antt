@@ -1,0 +1,10 @@
+pub mod Peers
+pub mod Tables
+pub mod Owed
+pub mod Rules
+pub mod Modes
+pub mod Legal
+pub mod Refusals
+pub mod Saying
+pub mod Hearing
+pub mod Rounds

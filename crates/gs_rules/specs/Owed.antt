@@ -1,0 +1,68 @@
+-- What must come next. An event may owe others: after an RPC was heard, its parts follow. What is owed comes in groups, and a
+-- group holds what there is when it is reached.
+use Rattle.std.specs.Prelude.{List, [], ◌∷◌, ◌++◌, drop, map}
+use Rattle.gs_base.specs.declared.names.PeerNo.{PeerNo}
+use Rattle.gs_base.specs.declared.rpc.Rpc.{Rpc}
+use Rattle.gs_rules.specs.declared.trace.Event.{Event}
+use Rattle.gs_rules.specs.declared.trace.Event.TheVariants.{Heard, Sub, Msg}
+use Rattle.gs_rules.specs.declared.trace.Entry.{Entry}
+use Rattle.gs_rules.specs.Peers.{Peer}
+use Rattle.gs_rules.specs.Tables.{Entries}
+
+-- ---- groups
+
+-- Events that are owed together.
+pub data Group : Type 0 where
+  -- the parts of an RPC
+  PartsOf : PeerNo → Rpc → Group
+
+-- the parts of an RPC: its subscriptions and then its messages, each as they stand in it
+abbrev pub parts : PeerNo → Rpc → List Event
+parts q rpc = map (Sub q) rpc.subs ++ map (Msg q) rpc.publish
+
+-- the events of a group that is reached behind this trace
+abbrev pub events_in : Peer → Entries → Group → List Event
+events_in p L (PartsOf q rpc) = parts q rpc
+
+-- the groups that an event owes which comes behind this trace
+abbrev pub owes : Peer → Entries → Event → List Group
+owes p L (Heard q rpc) = PartsOf q rpc ∷ []
+owes p L other = []
+
+-- ---- debts
+
+-- What must come next: what is left of the group that was reached, and the groups behind it.
+pub record Debt : Type 0 where
+  pub events : List Event
+  pub groups : List Group
+
+abbrev pub nothing : Debt
+nothing = record { events = []; groups = [] }
+
+-- a group's events and the groups behind it; where it holds none, something else
+abbrev pub held_or : List Event → List Group → Debt → Debt
+held_or [] groups otherwise = otherwise
+held_or (event ∷ events) groups otherwise = record { events = event ∷ events; groups = groups }
+
+-- the first of these groups that holds an event when it is reached
+abbrev pub reached : Peer → Entries → List Group → Debt
+reached p L [] = nothing
+reached p L (group ∷ groups) = held_or (events_in p L group) groups (reached p L groups)
+
+-- one event less; behind the last one of a group the next group is reached
+abbrev pub paid : Peer → Entries → Debt → Debt
+paid p L debt = held_or (drop 1 debt.events) debt.groups (reached p L debt.groups)
+
+-- behind this trace, where an event owed these groups, and this had to come before it
+abbrev pub owing : Peer → Entries → List Group → Debt → Debt
+owing p L [] before = paid p L before
+owing p L (group ∷ groups) before = reached p L (group ∷ groups)
+
+-- what must come after an entry behind this trace, where this had to come before it
+abbrev pub owed_after : Peer → Entries → Entry → Debt → Debt
+owed_after p L e before = owing p (e ∷ L) (owes p L e.event) before
+
+-- what must come next
+abbrev pub owed : Peer → Entries → Debt
+owed p [] = nothing
+owed p (e ∷ L) = owed_after p L e (owed p L)

@@ -1,0 +1,180 @@
+-- What a peer does, round by round, by what it is given and by what its neighbours say to it.
+use Rattle.std.specs.Prelude.{◌≡◌, ℕ, zero, suc, ◌*◌, Bool, false, true, not, ◌&&◌, ◌||◌, nat_eq, if◌then◌else◌, List, [], ◌∷◌, ◌++◌, length, map, filter, Option, Some, None}
+use Rattle.std.specs.List.{flat_map, zip, AllZip}
+use Rattle.gs_base.specs.declared.names.PeerNo.{PeerNo}
+use Rattle.gs_base.specs.declared.names.Millis.{Millis}
+use Rattle.gs_base.specs.declared.rpc.Rpc.{Rpc}
+use Rattle.gs_params.specs.declared.plan.Line.{Line}
+use Rattle.gs_params.specs.declared.plan.What.{What}
+use Rattle.gs_params.specs.declared.plan.What.TheVariants.{Subscribe, Unsubscribe, Publish}
+use Rattle.gs_wire.specs.declared.frames.End.{End}
+use Rattle.gs_wire.specs.declared.frames.End.TheVariants as ends
+use Rattle.gs_rules.specs.declared.trace.Event.{Event}
+use Rattle.gs_rules.specs.declared.trace.Event.TheVariants as events
+use Rattle.gs_rules.specs.declared.refusal.Refusal.{Refusal}
+use Rattle.gs_rules.specs.declared.refusal.RefusedLine.{RefusedLine}
+use Rattle.gs_rules.specs.Peers.{Peer, links_of}
+use Rattle.gs_rules.specs.Tables.{Entries}
+use Rattle.gs_rules.specs.Legal.{Comes, hearing, losing}
+use Rattle.gs_rules.specs.Refusals.{refusal}
+use Rattle.gs_rules.specs.Saying.{Said}
+use Rattle.gs_rules.specs.Hearing.{Inbound, ComesIn, ComesAfter}
+
+-- ---- a seat
+
+-- What a peer is given in a run.
+pub record Seat : Type 0 where
+  pub number : PeerNo
+  pub peer : Peer
+  -- its own lines of the script with their places there, in file order
+  pub lines : List (ℕ × Line)
+  -- the length of a round in milliseconds, and the number of the last one
+  pub round_ms : ℕ
+  pub rounds : ℕ
+
+-- Where it is: in a round, or behind the last one.
+pub data Place : Type 0 where
+  Playing : ℕ → Place
+  Closing : Place
+
+-- the moment of a round
+abbrev pub moment_of : Seat → Place → Millis
+moment_of seat (Playing r) = record { 0 = r * seat.round_ms }
+moment_of seat Closing = record { 0 = seat.rounds * seat.round_ms }
+
+-- ---- what there is to do
+
+pub data Todo : Type 0 where
+  Hear : PeerNo → Rpc → Todo
+  -- a neighbour's bytes spell no RPC, or end within one
+  HearFault : PeerNo → Todo
+  -- a neighbour has closed its link
+  HearGone : PeerNo → Todo
+  -- the line of the script at this place
+  Obey : ℕ → What → Todo
+  EndRound : ℕ → Todo
+  Stop : Todo
+
+abbrev pub is_fault : End → Bool
+is_fault ends.Waits = false
+is_fault ends.Malformed = true
+is_fault ends.TooLong = true
+
+-- bytes that spell no RPC, or a close behind bytes that were not read
+abbrev pub is_broken : Inbound → Bool
+is_broken x = is_fault x.end || (x.closes && not (nat_eq (length x.rest) 0))
+
+-- how hearing a neighbour ends in a round
+abbrev pub ending : PeerNo → Inbound → List Todo
+ending q x = if is_broken x then HearFault q ∷ [] else if x.closes then HearGone q ∷ [] else []
+
+abbrev pub hears_of : PeerNo → Inbound → List Todo
+hears_of q x = map (Hear q) x.rpcs ++ ending q x
+
+-- what comes of each neighbour, one neighbour after the other
+abbrev pub hears : List PeerNo → List Inbound → List Todo
+hears qs xs = flat_map (λ y. hears_of y.0 y.1) (zip qs xs)
+
+-- the lines of a round, in file order
+abbrev pub is_at : ℕ → ℕ × Line → Bool
+is_at r x = nat_eq x.1.at r
+
+abbrev pub obey : ℕ × Line → Todo
+obey x = Obey x.0 x.1.what
+
+abbrev pub lines_at : Seat → ℕ → List Todo
+lines_at seat r = map obey (filter (is_at r) seat.lines)
+
+-- In a round a peer hears what came, follows its lines, and ends the round. Behind the last one it shuts down, and then hears
+-- what still comes.
+abbrev pub agenda : Seat → Place → List Inbound → List Todo
+agenda seat (Playing r) xs = hears (links_of seat.peer) xs ++ (lines_at seat r ++ EndRound r ∷ [])
+agenda seat Closing xs = Stop ∷ hears (links_of seat.peer) xs
+
+-- ---- how it is done
+
+abbrev pub event_of : What → Event
+event_of (Subscribe t) = events.Subscribe t
+event_of (Unsubscribe t) = events.Unsubscribe t
+event_of (Publish t payload) = events.Publish t payload
+
+abbrev pub unless_refused : Event → Option Refusal → Option Event
+unless_refused event None = Some event
+unless_refused event (Some why) = None
+
+-- the event that it opens behind a trace, if any
+abbrev pub opening : Peer → Entries → Millis → Todo → Option Event
+opening p L at (Hear q rpc) = Some (hearing L q rpc)
+opening p L at (HearFault q) = losing L q (events.Fault q)
+opening p L at (HearGone q) = losing L q (events.Gone q)
+opening p L at (Obey place what) = unless_refused (event_of what) (refusal p L at.0 (event_of what))
+opening p L at (EndRound r) = Some (events.RoundEnd r)
+opening p L at Stop = Some events.Shut
+
+abbrev pub note_of : Millis → ℕ → Option Refusal → List RefusedLine
+note_of at place None = []
+note_of at place (Some why) = record { at = at; line = place; why = why } ∷ []
+
+-- what is noted of it behind a trace, where it is refused
+abbrev pub noted : Peer → Entries → Millis → Todo → List RefusedLine
+noted p L at (Obey place what) = note_of at place (refusal p L at.0 (event_of what))
+noted p L at other = []
+
+-- it is done in order, at one moment, and this is refused
+abbrev pub Does : Peer → Millis → List Todo → Entries → Entries → List RefusedLine → Type 0
+Does p at [] K L refused = (L ≡ K) × (refused ≡ [])
+Does p at (todo ∷ todos) K L refused =
+    (M : Entries) × (later : List RefusedLine)
+    × Comes p at (opening p K at todo) K M
+    × Does p at todos M L later
+    × (refused ≡ noted p K at todo ++ later)
+
+-- ---- rounds
+
+-- what there is to hear at a place of one neighbour that says this
+abbrev pub ComesAt : Seat → Place → Said → Inbound → Type 0
+ComesAt seat (Playing r) w x = ComesIn r w x
+ComesAt seat Closing w x = ComesAfter seat.rounds w x
+
+-- At a place a peer does all that there is to do, where its neighbours say this.
+pub record Plays (seat : Seat) (said : PeerNo → Said) (place : Place) (K L : Entries) (refused : List RefusedLine) : Type 0 where
+  pub inbound : List Inbound
+  pub was_said : AllZip (λ q x. ComesAt seat place (said q) x) (links_of seat.peer) inbound
+  pub does : Does seat.peer (moment_of seat place) (agenda seat place inbound) K L refused
+
+-- It is done up to this, which is left.
+pub record PlaysInPart (seat : Seat) (said : PeerNo → Said) (place : Place) (left : List Todo) (K L : Entries) (refused : List RefusedLine) : Type 0 where
+  pub inbound : List Inbound
+  pub was_said : AllZip (λ q x. ComesAt seat place (said q) x) (links_of seat.peer) inbound
+  pub done : List Todo
+  pub split : agenda seat place inbound ≡ done ++ left
+  pub does : Does seat.peer (moment_of seat place) done K L refused
+
+-- the trace after so many rounds, and what was refused in them
+abbrev pub AfterRounds : Seat → (PeerNo → Said) → ℕ → Entries → List RefusedLine → Type 0
+AfterRounds seat said zero L refused = (L ≡ []) × (refused ≡ [])
+AfterRounds seat said (suc r) L refused =
+    (K : Entries) × (earlier : List RefusedLine) × (more : List RefusedLine)
+    × AfterRounds seat said r K earlier
+    × Plays seat said (Playing r) K L more
+    × (refused ≡ earlier ++ more)
+
+-- how many rounds are behind a place
+abbrev pub rounds_before : Seat → Place → ℕ
+rounds_before seat (Playing r) = r
+rounds_before seat Closing = suc seat.rounds
+
+-- So far: the rounds before this place, and what is done of it.
+pub record KeepsSoFar (seat : Seat) (said : PeerNo → Said) (place : Place) (left : List Todo) (L : Entries) (refused : List RefusedLine) : Type 0 where
+  pub start : Entries
+  pub earlier : List RefusedLine
+  pub more : List RefusedLine
+  pub begun : AfterRounds seat said (rounds_before seat place) start earlier
+  pub part : PlaysInPart seat said place left start L more
+  pub all_refused : refused ≡ earlier ++ more
+
+-- A whole life: the rounds 0 to the last, and the close.
+pub record KeepsRounds (seat : Seat) (said : PeerNo → Said) (L : Entries) (refused : List RefusedLine) : Type 0 where
+  pub last : Entries
+  pub played : AfterRounds seat said (suc seat.rounds) last refused
+  pub closed : Plays seat said Closing last L []

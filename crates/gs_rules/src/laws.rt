@@ -1,0 +1,116 @@
+//! Laws of traces and rounds. Each holds of its definitions alone, and its function does nothing.
+ghost use Rattle.std.specs.Prelude.{true, false, ◌≡◌, ◌≤◌, ◌+◌, ◌∷◌, ◌++◌, [], List, reverse};
+ghost use Rattle.std.specs.List.{AllByRecursion};
+ghost use Rattle.gs_base.specs.declared.names.PeerNo.{PeerNo as PeerNoValue};
+ghost use Rattle.gs_base.specs.Codecs.{Codec};
+ghost use Rattle.gs_params.specs.Picks.{IsAscending};
+ghost use Rattle.gs_wire.specs.Codec.{codec};
+ghost use Rattle.gs_rules.specs.declared.trace.Entry.{Entry};
+ghost use Rattle.gs_rules.specs.declared.refusal.RefusedLine.{RefusedLine};
+ghost use Rattle.gs_rules.specs.Peers.{Peer, links_of, seen_ttl};
+ghost use Rattle.gs_rules.specs.Tables.{Entries, up};
+ghost use Rattle.gs_rules.specs.Rules.{Gives, rule_of};
+ghost use Rattle.gs_rules.specs.Modes.{exact, free, settled};
+ghost use Rattle.gs_rules.specs.Legal.{DeliversApart, Legal, LegalOn};
+ghost use Rattle.gs_rules.specs.Saying.{Close, Said, bytes_of, handled, handled_by, out, says, sent};
+ghost use Rattle.gs_rules.specs.Hearing.{Spell};
+ghost use Rattle.gs_rules.specs.Rounds.{KeepsRounds, Place, Plays, PlaysInPart, Seat};
+
+use gs_params::Words;
+
+/// One more entry adds what it says and what it handles, and takes nothing back.
+pub fn one_more_entry()
+    ensures says { (codec : Codec) (entries : List Entry) (e : Entry) (q : PeerNoValue)
+        → up (reverse entries) q ≡ true
+        → out codec (reverse (entries ++ e ∷ [])) q ≡ out codec (reverse entries) q ++ says codec q e }
+    ensures silent { (codec : Codec) (entries : List Entry) (e : Entry) (q : PeerNoValue)
+        → up (reverse entries) q ≡ false
+        → out codec (reverse (entries ++ e ∷ [])) q ≡ out codec (reverse entries) q }
+    ensures handles { (entries : List Entry) (e : Entry) (q : PeerNoValue)
+        → handled (reverse (entries ++ e ∷ [])) q ≡ handled (reverse entries) q ++ handled_by q e.event }
+{}
+
+/// A close is the last that is said.
+pub fn nothing_is_said_behind_a_close()
+    ensures { (codec : Codec) (entries : Entries) (q : PeerNoValue) (before behind : Said)
+        → out codec entries q ≡ before ++ Close ∷ behind
+        → behind ≡ [] }
+{}
+
+/// Of two entries of a legal trace that deliver one identifier, on whatever topics, the later comes
+/// no sooner after the earlier than the time for which a message counts as seen.
+pub fn a_delivery_is_not_repeated()
+    ensures { (p : Peer) (entries : Entries) → Legal p entries → DeliversApart (seen_ttl p) entries }
+{}
+
+/// Entries that may come behind others may have further ones behind them, where these go on with the
+/// choices; and a whole trace falls into such parts.
+pub fn legal_entries_compose<W: Words>()
+    ensures joined { (p : Peer) (s u t : W) (first later more : Entries)
+        → LegalOn (exact W.word W.after) p s first later u
+        → LegalOn (exact W.word W.after) p u (later ++ first) more t
+        → LegalOn (exact W.word W.after) p s first (more ++ later) t }
+    ensures parted { (p : Peer) (s t : W) (first later more : Entries)
+        → LegalOn (exact W.word W.after) p s first (more ++ later) t
+        → (u : W) × LegalOn (exact W.word W.after) p s first later u
+        × LegalOn (exact W.word W.after) p u (later ++ first) more t }
+    ensures whole { (p : Peer) (first more : Entries)
+        → Legal p first
+        → LegalOn free p tt first more tt
+        → Legal p (more ++ first) }
+{}
+
+/// What the words choose is a choice: entries that are legal by the words of a source are legal.
+pub fn what_words_choose_is_legal<W: Words>()
+    ensures exact { (p : Peer) (s t : W) (first later : Entries)
+        → LegalOn (exact W.word W.after) p s first later t
+        → LegalOn free p tt first later tt }
+    ensures settled { (p : Peer) (s : W) (first later : Entries)
+        → LegalOn settled p tt first later tt
+        → LegalOn (exact W.word W.after) p s first later s }
+{}
+
+/// Nothing is left open: behind the same entries, and from the same words on, an event and its
+/// moment fix the next entry and the words that are left after it.
+pub fn words_fix_the_next_entry<W: Words>()
+    ensures { (p : Peer) (s t u : W) (first later : Entries) (e f : Entry)
+        → LegalOn (exact W.word W.after) p s first (e ∷ later) t
+        → LegalOn (exact W.word W.after) p s first (f ∷ later) u
+        → e.at ≡ f.at
+        → e.event ≡ f.event
+        → (e ≡ f) × (t ≡ u) }
+{}
+
+/// No word is drawn for an entry whose rule leaves nothing to choose.
+pub fn what_is_given_draws_no_word<W: Words>()
+    ensures { (p : Peer) (s t : W) (first : Entries) (e x : Entry)
+        → LegalOn (exact W.word W.after) p s first (e ∷ []) t
+        → rule_of p first e.at e.event ≡ Gives x
+        → t ≡ s }
+{}
+
+/// The bytes that a legal trace says to a neighbour are the frames of what it sends there, whole and in
+/// order, and nothing else.
+pub fn what_is_sent_is_spelled()
+    ensures { (p : Peer) (entries : Entries) (q : PeerNoValue)
+        → p.codec ≡ codec
+        → Legal p entries
+        → Spell (bytes_of (out codec entries q)) (sent entries q) }
+{}
+
+/// A peer that keeps the rounds has handled of each neighbour what the bytes spell that the neighbour
+/// said to it: whole, once and in order.
+pub fn what_was_said_is_handled()
+    ensures { (seat : Seat) (said : PeerNoValue → Said) (entries : Entries) (refused : List RefusedLine)
+        → IsAscending (links_of seat.peer)
+        → Legal seat.peer entries
+        → KeepsRounds seat said entries refused
+        → AllByRecursion (λ q. Spell (bytes_of (said q)) (handled entries q)) (links_of seat.peer) }
+{}
+
+/// A round of which nothing is left is a whole round.
+pub fn a_part_with_nothing_left_is_whole()
+    ensures { (seat : Seat) (said : PeerNoValue → Said) (place : Place) (old new : Entries) (refused : List RefusedLine)
+        → PlaysInPart seat said place [] old new refused
+        → Plays seat said place old new refused }
+{}

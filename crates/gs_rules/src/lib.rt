@@ -1,0 +1,19 @@
+//! What a gossipsub peer does, entry by entry: which entries may follow each other, by which choices, and
+//! what there is to do in each round.
+#![tactic(auto)]
+
+mod laws;
+mod refusal;
+mod trace;
+
+pub use laws::{
+    a_delivery_is_not_repeated, a_part_with_nothing_left_is_whole, legal_entries_compose,
+    nothing_is_said_behind_a_close, one_more_entry, what_is_given_draws_no_word,
+    what_is_sent_is_spelled, what_was_said_is_handled, what_words_choose_is_legal,
+    words_fix_the_next_entry,
+};
+pub use refusal::{Refusal, RefusedLine};
+pub use trace::{Entry, Event, Mark, Trace, Verdict};
+
+#[cfg(test)]
+mod tests;

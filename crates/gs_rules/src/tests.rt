@@ -1,0 +1,155 @@
+//! Traces keep their entries, entries compare, and laws can be called.
+use crate::{
+    Entry, Event, Mark, Refusal, Trace, Verdict, a_delivery_is_not_repeated,
+    a_part_with_nothing_left_is_whole, legal_entries_compose, nothing_is_said_behind_a_close,
+    one_more_entry, what_is_given_draws_no_word, what_is_sent_is_spelled, what_was_said_is_handled,
+    what_words_choose_is_legal, words_fix_the_next_entry,
+};
+use bytes::Bytes;
+use gs_base::{Message, Millis, MsgId, PeerNo, Rpc, Seq, Topic};
+use gs_params::SeededWords;
+use std::alloc::{AllocError, Global};
+
+/// The identifier of `abc` (FIPS 180-4, the worked example of SHA-256).
+const OF_ABC: [u8; 32] = [
+    0xba, 0x78, 0x16, 0xbf, 0x8f, 0x01, 0xcf, 0xea, 0x41, 0x41, 0x40, 0xde, 0x5d, 0xae, 0x22, 0x23,
+    0xb0, 0x03, 0x61, 0xa3, 0x96, 0x17, 0x7a, 0x9c, 0xb4, 0x10, 0xff, 0x61, 0xf2, 0x00, 0x15, 0xad,
+];
+
+fn topic(alloc: Global) -> Result<Topic, AllocError> {
+    Ok(Topic(Bytes::copy_from_slice(alloc, b"news")?))
+}
+
+fn message(alloc: Global, payload: &[u8]) -> Result<Message, AllocError> {
+    Ok(Message {
+        origin: None,
+        payload: Some(Bytes::copy_from_slice(alloc, payload)?),
+        seqno: None,
+        topic: Some(topic(alloc)?),
+        signature: None,
+        key: None,
+    })
+}
+
+fn rpc(alloc: Global, payloads: &[&[u8]]) -> Result<Rpc, AllocError> {
+    let mut publish = Seq::new(alloc);
+    for payload in payloads {
+        publish.push(message(alloc, payload)?)?;
+    }
+    Ok(Rpc {
+        subs: Seq::new(alloc),
+        publish,
+        control: None,
+    })
+}
+
+/// A message of neighbour 2 that came and was delivered.
+fn delivery(alloc: Global, at: u64, payload: &[u8]) -> Result<Entry, AllocError> {
+    let mut delivered = Seq::new(alloc);
+    delivered.push((topic(alloc)?, Bytes::copy_from_slice(alloc, payload)?))?;
+    let mut marks = Seq::new(alloc);
+    marks.push(Mark::Seen(MsgId::of(payload), Verdict::Accept))?;
+    Ok(Entry {
+        at: Millis(at),
+        event: Event::Msg(PeerNo(2), message(alloc, payload)?),
+        sends: Seq::new(alloc),
+        delivered,
+        marks,
+    })
+}
+
+/// A payload that was published and sent to neighbour 1.
+fn publishing(alloc: Global, at: u64, payload: &[u8]) -> Result<Entry, AllocError> {
+    let mut sends = Seq::new(alloc);
+    sends.push((PeerNo(1), rpc(alloc, &[payload])?))?;
+    let mut marks = Seq::new(alloc);
+    marks.push(Mark::Seen(MsgId::of(payload), Verdict::Accept))?;
+    Ok(Entry {
+        at: Millis(at),
+        event: Event::Publish(topic(alloc)?, Bytes::copy_from_slice(alloc, payload)?),
+        sends,
+        delivered: Seq::new(alloc),
+        marks,
+    })
+}
+
+/// A new trace has no entries, and one that two were pushed to has them in order.
+fn keeps_its_entries(alloc: Global) -> Result<bool, AllocError> {
+    let mut trace = Trace::new(alloc);
+    let starts_empty = trace.entries().is_empty();
+    trace.push(publishing(alloc, 5, b"first")?)?;
+    trace.push(delivery(alloc, 7, b"second")?)?;
+    let first = publishing(alloc, 5, b"first")?;
+    let second = delivery(alloc, 7, b"second")?;
+    Ok(match trace.entries() {
+        [older, newer] => starts_empty && *older == first && *newer == second,
+        _ => false,
+    })
+}
+
+#[test]
+fn a_trace_keeps_its_entries_in_order(rt: HostRuntime) -> Result<(), AllocError> {
+    assert!(rt; keeps_its_entries(rt.alloc())?);
+    Ok(())
+}
+
+/// Entries, events and marks are equal where their parts are, and differ where one part does.
+fn compares_entries(alloc: Global) -> Result<bool, AllocError> {
+    let seen = delivery(alloc, 7, b"second")?;
+    let later = delivery(alloc, 8, b"second")?;
+    let other = delivery(alloc, 7, b"third")?;
+    let invalid = Mark::Invalid(PeerNo(2), topic(alloc)?);
+    Ok(
+        seen == delivery(alloc, 7, b"second")?
+            && seen != later
+            && seen.event == later.event
+            && seen.event != other.event
+            && seen.marks == later.marks
+            && seen.marks != other.marks
+            && seen.delivered != other.delivered
+            && invalid == Mark::Invalid(PeerNo(2), topic(alloc)?)
+            && invalid != Mark::Invalid(PeerNo(3), topic(alloc)?)
+            && Mark::Seen(MsgId(OF_ABC), Verdict::Reject)
+                != Mark::Seen(MsgId(OF_ABC), Verdict::Ignore)
+            && Event::RoundEnd(1) != Event::RoundEnd(2)
+            && Event::RoundEnd(1) != Event::Shut
+            && Event::Gone(PeerNo(1)) != Event::Gone(PeerNo(2))
+            && Event::Gone(PeerNo(1)) != Event::Fault(PeerNo(1)),
+    )
+}
+
+#[test]
+fn entries_are_equal_where_their_parts_are(rt: HostRuntime) -> Result<(), AllocError> {
+    assert!(rt; compares_entries(rt.alloc())?);
+    Ok(())
+}
+
+/// The numbers of the refusals, as docs/FORMATS.md lists them.
+#[test]
+fn each_refusal_has_its_number(rt: HostRuntime) {
+    for (why, number) in [
+        (Refusal::AlreadySeen, 16),
+        (Refusal::TooLong, 17),
+        (Refusal::Joined, 18),
+        (Refusal::NotJoined, 19),
+        (Refusal::Stopped, 21),
+        (Refusal::TooMany, 34),
+    ] {
+        assert_eq!(rt; why.number(), number, "{why}");
+    }
+}
+
+/// The laws take nothing and give nothing: that they can be called is all there is to test.
+#[test]
+fn laws_can_be_called(_rt: HostRuntime) {
+    one_more_entry();
+    nothing_is_said_behind_a_close();
+    a_delivery_is_not_repeated();
+    legal_entries_compose::<SeededWords>();
+    what_words_choose_is_legal::<SeededWords>();
+    words_fix_the_next_entry::<SeededWords>();
+    what_is_given_draws_no_word::<SeededWords>();
+    what_is_sent_is_spelled();
+    what_was_said_is_handled();
+    a_part_with_nothing_left_is_whole();
+}

@@ -1,0 +1,116 @@
+//! What a peer did, entry by entry. docs/PROTOCOL.md says which entries may follow each other.
+ghost use Rattle.std.specs.Prelude.{◌≡◌, [], ◌∷◌, OnOk, OnErr};
+
+use bytes::Bytes;
+use gs_base::{Message, Millis, MsgId, PeerNo, Rpc, Seq, SubOpt, Topic};
+use std::alloc::{AllocError, Global};
+use std::marker::Model;
+
+/// What a message was found to be (gossipsub v1.1, Extended Validators).
+#[derive(Clone, Copy, Debug, PartialEq, Eq)]
+pub enum Verdict {
+    /// It is delivered and passed on.
+    Accept,
+    /// It is dropped, and counts against its sender.
+    Reject,
+    /// It is dropped.
+    Ignore,
+}
+
+/// What happened at a peer.
+#[derive(Debug, Drop, PartialEq, Eq)]
+pub enum Event {
+    /// A neighbour's RPC came. Its parts follow.
+    Heard(PeerNo, Rpc),
+    /// An RPC came of a neighbour that is not heard any more.
+    Late(PeerNo, Rpc),
+    /// A neighbour subscribed to a topic or left it.
+    Sub(PeerNo, SubOpt),
+    /// A neighbour passed on a message.
+    Msg(PeerNo, Message),
+    /// The peer subscribed to a topic.
+    Subscribe(Topic),
+    /// The peer left a topic.
+    Unsubscribe(Topic),
+    /// The peer published a payload on a topic.
+    Publish(Topic, Bytes),
+    /// A round ended.
+    RoundEnd(u64),
+    /// A neighbour closed its link.
+    Gone(PeerNo),
+    /// A neighbour's bytes spelled no RPC, or ended within one.
+    Fault(PeerNo),
+    /// The peer shut down.
+    Shut,
+}
+
+/// What an entry leaves to be remembered.
+#[derive(Debug, Drop, PartialEq, Eq)]
+pub enum Mark {
+    /// A message with this identifier was seen, and found to be so.
+    Seen(MsgId, Verdict),
+    /// A neighbour passed on a message on this topic that nobody may send.
+    Invalid(PeerNo, Topic),
+}
+
+/// One step of a peer: what happened, when, and what the peer did about it.
+#[derive(Debug, Drop, PartialEq, Eq)]
+pub struct Entry {
+    /// The moment of the event.
+    pub at: Millis,
+    /// What happened.
+    pub event: Event,
+    /// What was sent to whom, in order.
+    pub sends: Seq<(PeerNo, Rpc)>,
+    /// The topics and payloads of what was delivered to the peer's own user.
+    pub delivered: Seq<(Topic, Bytes)>,
+    /// What is to be remembered.
+    pub marks: Seq<Mark>,
+}
+
+/// What a peer did so far. Contracts see its entries with the newest first.
+#[derive(Debug, Drop)]
+pub struct Trace {
+    entries: Vec<Entry>,
+}
+
+impl Model for Trace {
+    ghost use Rattle.std.specs.Prelude.{List, reverse};
+    ghost use Rattle.gs_rules.specs.declared.trace.Entry.{Entry as EntryValue};
+
+    ghost Value = { List EntryValue };
+
+    ghost view = { λ t. reverse t.entries.items };
+}
+
+impl Trace {
+    ghost use Rattle.std.specs.Prelude.{reverse};
+
+    /// The trace of a peer that has done nothing. It takes no memory.
+    pub fn new(alloc: Global) -> Trace
+        ensures { result ≡ [] }
+    {
+        Trace {
+            entries: Vec::new(alloc),
+        }
+    }
+
+    /// The entries, the oldest first.
+    pub fn entries(&self) -> &[Entry]
+        ensures { reverse result.now ≡ self.now }
+    {
+        self.entries.as_slice()
+    }
+
+    /// Adds an entry as the newest.
+    ///
+    /// # Errors
+    /// `AllocError` where there was no memory; the trace is then as it was.
+    pub fn push(&mut self, entry: Entry) -> Result<(), AllocError>
+        ensures ok { OnOk result (self.new ≡ entry ∷ self.old) }
+        ensures err { OnErr result (self.new ≡ self.old) }
+    {
+        self.entries.push(entry)?;
+        Ok(())
+    }
+}
