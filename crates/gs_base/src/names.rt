@@ -1,8 +1,8 @@
 //! Names of peers, topics and messages, and moments.
-ghost use Rattle.std.specs.Prelude.{◌≡◌};
-ghost use Rattle.gs_base.specs.Names.{longest_topic, message_id, most_topics};
+ghost use Rattle.std.specs.Prelude.{◌≡◌, IfOk};
+ghost use Rattle.gs_base.specs.Names.{longest_topic, message_id, most_topics, topic_or_empty};
 
-use crate::exact::ExactClone;
+use crate::exact::{ExactClone, clone_of};
 use bytes::Bytes;
 use sha2::{Digest, Sha256};
 use std::alloc::AllocError;
@@ -25,6 +25,21 @@ impl Clone for Topic {
 
 impl ExactClone for Topic {
     ghost exact = { λ source copy same. same };
+}
+
+impl Topic {
+    /// The topic that is named; an absent one is the empty one.
+    ///
+    /// # Errors
+    /// `AllocError` where there was no memory for it.
+    pub fn or_empty(topic: &Option<Topic>) -> Result<Topic, AllocError>
+        ensures { IfOk result (λ named. named ≡ topic_or_empty topic.now) }
+    {
+        match topic {
+            Some(topic) => clone_of(topic),
+            None => Ok(Topic(Bytes::new())),
+        }
+    }
 }
 
 /// The longest topic that a peer subscribes to or publishes on, in bytes.

@@ -1,12 +1,13 @@
 //! What two peers send each other: the messages of gossipsub's `rpc.proto`.
-ghost use Rattle.std.specs.Prelude.{◌≡◌};
+ghost use Rattle.std.specs.Prelude.{◌≡◌, IfOk};
+ghost use Rattle.gs_base.specs.Names.{announcement, is_signed, payload_of, publication, topic_of, topic_or_empty};
 
 use crate::control::Control;
-use crate::exact::{ExactClone, clone_option};
+use crate::exact::{ExactClone, clone_of, clone_option};
 use crate::names::Topic;
 use crate::seq::Seq;
 use bytes::Bytes;
-use std::alloc::AllocError;
+use std::alloc::{AllocError, Global};
 
 /// A change of a subscription (`RPC.SubOpts`).
 #[derive(Debug, Drop, PartialEq, Eq)]
@@ -25,6 +26,18 @@ impl Clone for SubOpt {
             subscribe: self.subscribe,
             topic: clone_option(&self.topic)?,
         })
+    }
+}
+
+impl SubOpt {
+    /// Its topic; an absent one is the empty one.
+    ///
+    /// # Errors
+    /// `AllocError` where there was no memory for it.
+    pub fn topic_or_empty(&self) -> Result<Topic, AllocError>
+        ensures { IfOk result (λ topic. topic ≡ topic_or_empty self.now.topic) }
+    {
+        Topic::or_empty(&self.topic)
     }
 }
 
@@ -64,6 +77,52 @@ impl Clone for Message {
     }
 }
 
+impl Message {
+    /// The topic that it is on; an absent one is the empty one.
+    ///
+    /// # Errors
+    /// `AllocError` where there was no memory for it.
+    pub fn topic_or_empty(&self) -> Result<Topic, AllocError>
+        ensures { IfOk result (λ topic. topic ≡ topic_of self.now) }
+    {
+        Topic::or_empty(&self.topic)
+    }
+
+    /// What it carries; an absent payload is the empty one.
+    pub fn payload_bytes(&self) -> &[u8]
+        ensures { result.now ≡ payload_of self.now }
+    {
+        match &self.payload {
+            Some(payload) => payload.as_slice(),
+            None => &[],
+        }
+    }
+
+    /// What it carries, shared; an absent payload is the empty one.
+    ///
+    /// # Errors
+    /// `AllocError` where there was no memory for it.
+    pub fn payload_or_empty(&self) -> Result<Bytes, AllocError>
+        ensures { IfOk result (λ payload. payload ≡ payload_of self.now) }
+    {
+        match &self.payload {
+            Some(payload) => clone_of(payload),
+            None => Ok(Bytes::new()),
+        }
+    }
+
+    /// Whether it has a field that StrictNoSign forbids, even an empty one (libp2p pubsub, Signature
+    /// Policy Options).
+    pub fn is_signed(&self) -> bool
+        ensures { result ≡ is_signed self.now }
+    {
+        self.origin.is_some()
+            || self.seqno.is_some()
+            || self.signature.is_some()
+            || self.key.is_some()
+    }
+}
+
 impl ExactClone for Message {
     ghost exact = { λ source copy same. same };
 }
@@ -93,4 +152,46 @@ impl Clone for Rpc {
 
 impl ExactClone for Rpc {
     ghost exact = { λ source copy same. same };
+}
+
+impl Rpc {
+    /// An RPC that says that its sender subscribes to a topic or leaves it.
+    ///
+    /// # Errors
+    /// `AllocError` where there was no memory for it.
+    pub fn announcement(alloc: Global, subscribes: bool, topic: &Topic) -> Result<Rpc, AllocError>
+        ensures { IfOk result (λ rpc. rpc ≡ announcement subscribes topic.now) }
+    {
+        let sub = SubOpt {
+            subscribe: Some(subscribes),
+            topic: Some(clone_of(topic)?),
+        };
+        Ok(Rpc {
+            subs: Seq::only(alloc, sub)?,
+            publish: Seq::new(alloc),
+            control: None,
+        })
+    }
+
+    /// An RPC that publishes one message under StrictNoSign.
+    ///
+    /// # Errors
+    /// `AllocError` where there was no memory for it.
+    pub fn publication(alloc: Global, topic: &Topic, payload: &Bytes) -> Result<Rpc, AllocError>
+        ensures { IfOk result (λ rpc. rpc ≡ publication topic.now payload.now) }
+    {
+        let message = Message {
+            origin: None,
+            payload: Some(clone_of(payload)?),
+            seqno: None,
+            topic: Some(clone_of(topic)?),
+            signature: None,
+            key: None,
+        };
+        Ok(Rpc {
+            subs: Seq::new(alloc),
+            publish: Seq::only(alloc, message)?,
+            control: None,
+        })
+    }
 }

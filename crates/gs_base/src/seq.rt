@@ -62,6 +62,18 @@ impl<T> Seq<T> {
 }
 
 impl<T: Drop> Seq<T> {
+    /// The list of one element.
+    ///
+    /// # Errors
+    /// `AllocError` where there was no memory for it.
+    pub fn only(alloc: Global, item: T) -> Result<Seq<T>, AllocError>
+        ensures { IfOk result (λ list. list ≡ item ∷ []) }
+    {
+        let mut list = Seq::new(alloc);
+        list.push(item)?;
+        Ok(list)
+    }
+
     /// Adds an element at the end.
     ///
     /// # Errors

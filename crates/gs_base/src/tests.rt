@@ -115,3 +115,73 @@ fn a_clone_of_a_pair_has_both(rt: HostRuntime) -> Result<(), AllocError> {
 fn limits_of_topics_hold(_rt: HostRuntime) {
     limits_of_topics();
 }
+
+/// What is absent in a message and in a subscription has a value.
+fn absent_parts_have_values(alloc: Global) -> Result<bool, AllocError> {
+    let mut heard = message(alloc, b"abc")?;
+    let is_whole = heard.topic_or_empty()? == topic(alloc)?
+        && heard.payload_bytes() == b"abc".as_slice()
+        && heard.payload_or_empty()?.as_slice() == b"abc".as_slice();
+    heard.topic = None;
+    heard.payload = None;
+    let is_empty = heard.topic_or_empty()? == Topic(Bytes::new())
+        && heard.payload_bytes().is_empty()
+        && heard.payload_or_empty()?.is_empty();
+    Ok(is_whole && is_empty)
+}
+
+#[test]
+fn what_is_absent_in_a_message_is_empty(rt: HostRuntime) -> Result<(), AllocError> {
+    assert!(rt; absent_parts_have_values(rt.alloc())?);
+    let sub = SubOpt {
+        subscribe: None,
+        topic: None,
+    };
+    assert!(rt; sub.topic_or_empty()? == Topic(Bytes::new()));
+    assert!(rt; Topic::or_empty(&Some(topic(rt.alloc())?))? == topic(rt.alloc())?);
+    Ok(())
+}
+
+/// Each of the four fields that StrictNoSign forbids makes a message a signed one, even empty.
+fn signatures_are_seen(alloc: Global) -> Result<bool, AllocError> {
+    let mut by_origin = message(alloc, b"abc")?;
+    let is_plain = !by_origin.is_signed();
+    by_origin.origin = Some(Bytes::new());
+    let mut by_seqno = message(alloc, b"abc")?;
+    by_seqno.seqno = Some(Bytes::new());
+    let mut by_signature = message(alloc, b"abc")?;
+    by_signature.signature = Some(Bytes::new());
+    let mut by_key = message(alloc, b"abc")?;
+    by_key.key = Some(Bytes::new());
+    Ok(
+        is_plain
+            && by_origin.is_signed()
+            && by_seqno.is_signed()
+            && by_signature.is_signed()
+            && by_key.is_signed(),
+    )
+}
+
+#[test]
+fn a_message_with_a_signature_is_a_signed_one(rt: HostRuntime) -> Result<(), AllocError> {
+    assert!(rt; signatures_are_seen(rt.alloc())?);
+    Ok(())
+}
+
+/// A published message is alone in its RPC, and so is a subscription.
+fn makes_rpcs(alloc: Global) -> Result<bool, AllocError> {
+    let abc = Bytes::copy_from_slice(alloc, b"abc")?;
+    let published = Rpc::publication(alloc, &topic(alloc)?, &abc)?;
+    let joins = Rpc::announcement(alloc, true, &topic(alloc)?)?;
+    let [sub] = joins.subs.as_slice() else {
+        return Ok(false);
+    };
+    let is_told = sub.subscribe == Some(true) && sub.topic == Some(topic(alloc)?);
+    Ok(published == rpc(alloc, &[b"abc"])? && is_told && joins.publish.is_empty())
+}
+
+#[test]
+fn a_publication_and_an_announcement_say_one_thing(rt: HostRuntime) -> Result<(), AllocError> {
+    assert!(rt; makes_rpcs(rt.alloc())?);
+    Ok(())
+}

@@ -1,114 +1,100 @@
 -- How calls of a router end.
-use Rattle.std.proofs.Common.{rules, ◌≡◌, ◌≢◌, ℕ, Bool, true, false, List, [], ◌∷◌, Option, None, Some, Ok, Err, refl, sym, ap, ◌∙◌, inl, inr, if◌then◌else◌, unwrap_or, is_some, length, ◌≤◌, Result}
+use Rattle.std.proofs.Common.{rules, ◌≡◌, ◌≤◌, ℕ, Bool, true, false, List, [], ◌∷◌, Option, None, Some, Ok, Err, refl, sym, ap, subst, ◌∙◌, if◌then◌else◌, is_some, length, Result}
 use Rattle.std.specs.Prelude.{not, ◌||◌}
 use Rattle.std.specs.List.{AllByRecursion}
 use Rattle.gs_base.specs.declared.names.Millis.{Millis}
+use Rattle.gs_base.specs.declared.names.PeerNo.{PeerNo}
 use Rattle.gs_base.specs.declared.names.Topic.{Topic}
-use Rattle.std.specs.Result.{result_err}
+use Rattle.gs_base.specs.declared.rpc.Rpc.{Rpc}
+use Rattle.gs_base.specs.Names.{longest_topic, message_id, publication}
 use Rattle.gs_rules.specs.declared.trace.Event.{Event}
-use Rattle.gs_rules.specs.declared.trace.Event.TheVariants.{Heard, Late, Sub, Msg, Subscribe, Unsubscribe, Publish, RoundEnd, Shut}
-use Rattle.gs_rules.specs.Tables.{Entries, is_shut, joined, seen}
-use Rattle.gs_rules.specs.Rules.{Peer}
-use Rattle.gs_rules.specs.Legal.{Legal, Opens, MaySubscribe, MayUnsubscribe, MayPublish, has_room_for}
-use Rattle.gs_base.specs.Names.{message_id, publication}
-use Rattle.gs_base.specs.declared.names.TheConstants.{LONGEST_TOPIC}
+use Rattle.gs_rules.specs.declared.trace.Event.TheVariants.{Heard, Late, Subscribe, Unsubscribe, Publish, RoundEnd, Gone, Fault, Shut}
+use Rattle.gs_rules.specs.declared.refusal.Refusal.{Refusal}
+use Rattle.gs_rules.specs.declared.refusal.Refusal.TheVariants.{Stopped}
+use Rattle.gs_rules.specs.Peers.{Peer, seen_ttl}
+use Rattle.gs_rules.specs.Tables.{Entries, joined, seen, up}
+use Rattle.gs_rules.specs.Owed.{owes}
+use Rattle.gs_rules.specs.Modes.{Mode}
+use Rattle.gs_rules.specs.Legal.{Legal, MayOpen, MaySubscribe, MayUnsubscribe, MayPublish, has_room_for, hearing, losing}
+use Rattle.gs_rules.specs.Refusals.{first_of, is_long, reasons, refusal}
+use Rattle.gs_router.specs.declared.setup.Setup.{Setup}
+use Rattle.gs_router.specs.declared.state.State.{State}
 use Rattle.gs_router.specs.declared.fault.RouterFault.{RouterFault}
-use Rattle.gs_router.specs.declared.fault.RouterFault.TheVariants.{NoMemory, Stopped}
-use Rattle.gs_router.specs.Router.{RouterView, Calls, GoesOn, peer, first_of, is_long, reasons, refusal, refusal_of}
-
--- ---- what is refused
-
-some_inj : {A : Type 0} {a b : A} → Some a ≡ Some b → a ≡ b
-some_inj {A} {a} {b} h = ap (λ (o : Option A). unwrap_or o a) h
-
-err_inj : (a b : RouterFault) → ◌≡◌ {A = Result (Unit {0}) RouterFault} (Err a) (Err b) → a ≡ b
-err_inj a b h = some_inj (ap (λ (r : Result (Unit {0}) RouterFault). result_err r) h)
-
-not_none : {A : Type 0} (a : A) (o : Option A) → o ≡ None → o ≡ Some a → ⊥
-not_none a None h k = absurd cc
-not_none a (Some x) h k = absurd cc
-
-first_by : (b : Bool) (fault : RouterFault) (later : Option RouterFault) → fault ≢ NoMemory → later ≢ Some NoMemory → (if b then Some fault else later) ≢ Some NoMemory
-first_by true fault later here there is = here (some_inj is)
-first_by false fault later here there is = there is
-
--- want of memory is no reason that a table tells
-abbrev AreKnown : List (Bool × RouterFault) → Type 0
-AreKnown xs = AllByRecursion (λ (x : Bool × RouterFault). x.1 ≢ NoMemory) xs
-
-first_known : (xs : List (Bool × RouterFault)) → AreKnown xs → first_of xs ≢ Some NoMemory
-first_known [] known is = absurd cc
-first_known (x ∷ xs) known is = first_by x.0 x.1 (first_of xs) known.0 (first_known xs known.1) is
-
-reasons_known : (p : Peer) (L : Entries) (at : ℕ) (event : Event) → AreKnown (reasons p L at event)
-reasons_known p L at (Subscribe t) = ((λ h. absurd cc), ((λ h. absurd cc), ((λ h. absurd cc), ((λ h. absurd cc), tt))))
-reasons_known p L at (Unsubscribe t) = ((λ h. absurd cc), ((λ h. absurd cc), tt))
-reasons_known p L at (Publish t payload) = ((λ h. absurd cc), ((λ h. absurd cc), ((λ h. absurd cc), tt)))
-reasons_known p L at (RoundEnd r) = ((λ h. absurd cc), tt)
-reasons_known p L at Shut = ((λ h. absurd cc), tt)
-reasons_known p L at (Heard q rpc) = tt
-reasons_known p L at (Late q rpc) = tt
-reasons_known p L at (Sub q sub) = tt
-reasons_known p L at (Msg q m) = tt
-
-refusal_known : (p : Peer) (L : Entries) (at : ℕ) (event : Event) → refusal p L at event ≢ Some NoMemory
-refusal_known p L at event = first_known (reasons p L at event) (reasons_known p L at event)
+use Rattle.gs_router.specs.declared.fault.RouterFault.TheVariants.{Refused, NoMemory}
+use Rattle.gs_router.specs.State.{Ends, peer_with}
+use Rattle.gs_router.specs.Router.{RouterView, Calls, IsLoss, IsUsers, answer_of, fails, refusal_if, refusal_of, view_of}
 
 -- what a router that goes on refuses
-going : (v : RouterView) (at : ℕ) (event : Event) → v.is_stopped ≡ false → refusal_of v at event ≡ refusal (peer v) v.trace at event
-going v at event h = ap (λ (b : Bool). if b then Some Stopped else refusal (peer v) v.trace at event) h
+going : (v : RouterView) (at : ℕ) (event : Option Event) → v.is_stopped ≡ false → refusal_of v at event ≡ refusal_if v.peer v.trace at event
+going v at event h = ap (λ (b : Bool). if b then Some Stopped else refusal_if v.peer v.trace at event) h
 
 -- it is refused, and nothing changes
-pub refuses : (event : Event) (now : Millis) (v : RouterView) (found : Option RouterFault) (fault : RouterFault) → v.is_stopped ≡ false → found ≡ refusal (peer v) v.trace now.0 event → found ≡ Some fault → Legal (peer v) v.trace → Calls {A = Unit {0}} event now v (Err fault) v
-refuses event now v found fault runs told is legal =
-    let due : refusal_of v now.0 event ≡ Some fault = going v now.0 event runs ∙ sym told ∙ is in
-    record {
-      opened = tt;
-      refused = λ other h. ap Err (some_inj (sym due ∙ h));
-      fault = inr due;
-      unchanged = inr refl;
-      no_memory = λ h. absurd (refusal_known (peer v) v.trace now.0 event (sym told ∙ is ∙ ap Some (err_inj fault NoMemory h)));
-      running = tt;
-      neighbours = refl;
-      seen_ttl = refl;
-      legal = legal;
-    }
-
--- it is done
-pub finishes : (event : Event) (now : Millis) (v w : RouterView) → v.is_stopped ≡ false → refusal (peer v) v.trace now.0 event ≡ None → Opens now event v.trace w.trace → w.is_stopped ≡ false → w.neighbours ≡ v.neighbours → w.seen_ttl ≡ v.seen_ttl → Legal (peer w) w.trace → Calls {A = Unit {0}} event now v (Ok tt) w
-finishes event now v w runs free opens running neighbours seen_ttl legal = record {
-  opened = opens;
-  refused = λ other is. absurd (not_none other (refusal_of v now.0 event) (going v now.0 event runs ∙ free) is);
-  fault = tt;
-  unchanged = tt;
-  no_memory = λ is. absurd cc;
-  running = running;
-  neighbours = neighbours;
-  seen_ttl = seen_ttl;
+pub refuses : (m : Mode) (event : Event) (now : Millis) (v : RouterView) (s : m.State) (found : Option Refusal) (why : Refusal) → v.is_stopped ≡ false → found ≡ refusal v.peer v.trace now.0 event → found ≡ Some why → Legal v.peer v.trace → Calls {A = Unit {0}} m (Some event) now v s (Err (Refused why)) v s
+refuses m event now v s found why runs told is legal = record {
+  answer = record { first = going v now.0 (Some event) runs ∙ sym told ∙ is; unchanged = refl; undrawn = refl };
+  peer = refl;
   legal = legal;
 }
 
--- memory was wanting
-pub wants_memory : (event : Event) (now : Millis) (v w : RouterView) → v.is_stopped ≡ false → refusal (peer v) v.trace now.0 event ≡ None → GoesOn v.trace w.trace → w.is_stopped ≡ true → w.neighbours ≡ v.neighbours → w.seen_ttl ≡ v.seen_ttl → Legal (peer w) w.trace → Calls {A = Unit {0}} event now v (Err NoMemory) w
-wants_memory event now v w runs free goes_on stopped neighbours seen_ttl legal = record {
-  opened = tt;
-  refused = λ other is. absurd (not_none other (refusal_of v now.0 event) (going v now.0 event runs ∙ free) is);
-  fault = inl refl;
-  unchanged = inl refl;
-  no_memory = λ is. (goes_on, stopped);
-  running = tt;
-  neighbours = neighbours;
-  seen_ttl = seen_ttl;
+-- a router that has stopped refuses everything
+pub stopped : (m : Mode) (event : Option Event) (now : Millis) (v : RouterView) (s : m.State) → v.is_stopped ≡ true → Legal v.peer v.trace → Calls {A = Unit {0}} m event now v s (Err (Refused Stopped)) v s
+stopped m event now v s is legal = record {
+  answer = record { first = ap (λ (b : Bool). if b then Some Stopped else refusal_if v.peer v.trace now.0 event) is; unchanged = refl; undrawn = refl };
+  peer = refl;
   legal = legal;
 }
+
+-- there is nothing to do
+pub idles : (m : Mode) (now : Millis) (v : RouterView) (s : m.State) (q : PeerNo) (event : Event) → v.is_stopped ≡ false → up v.trace q ≡ false → Legal v.peer v.trace → Calls {A = Unit {0}} m (losing v.trace q event) now v s (Ok tt) v s
+idles m now v s q event runs down legal = subst (λ (o : Option Event). Calls {A = Unit {0}} m o now v s (Ok tt) v s) (sym (ap (λ (b : Bool). if b then Some event else None) down)) (record {
+  answer = record {
+    free = going v now.0 None runs;
+    comes = refl;
+    appended = record { entries = []; are = refl; legal = refl };
+    running = runs;
+  };
+  peer = refl;
+  legal = legal;
+})
+
+module _ (m : Mode) {E : Type 0} (event : Event) (now : Millis) (a b : State) (s t : m.State) (stopped after : Bool) (runs : stopped ≡ false) where
+  -- what is not refused is done, or memory was wanting
+  pub ends_call : (done : Result (Unit {0}) E) (answer : Result (Unit {0}) RouterFault) → answer ≡ answer_of done → after ≡ (stopped || fails done) → refusal (peer_with a.setup) a.trace now.0 event ≡ None → Ends m event now a s done b t → Calls m (Some event) now (view_of a stopped) s answer (view_of b after) t
+  ends_call done answer answer_is after_is free ends =
+      subst (λ (one : Result (Unit {0}) RouterFault). Calls m (Some event) now (view_of a stopped) s one (view_of b after) t) (sym answer_is) (by done after_is ends)
+    where
+      due : refusal_of (view_of a stopped) now.0 (Some event) ≡ None
+      due = going (view_of a stopped) now.0 (Some event) runs ∙ free
+
+      by : (done : Result (Unit {0}) E) → after ≡ (stopped || fails done) → Ends m event now a s done b t → Calls m (Some event) now (view_of a stopped) s (answer_of done) (view_of b after) t
+      by (Ok x) after_is ends = record {
+        answer = record {
+          free = due;
+          comes = ends.opened;
+          appended = ends.appended;
+          running = after_is ∙ ap (λ (b : Bool). b || false) runs;
+        };
+        peer = ap peer_with ends.setup;
+        legal = ends.legal;
+      }
+      by (Err e) after_is ends = record {
+        answer = record {
+          free = due;
+          breaks = ends.broken;
+          appended = ends.before;
+          stopped = after_is ∙ ap (λ (b : Bool). b || true) runs;
+        };
+        peer = ap peer_with ends.setup;
+        legal = ends.legal;
+      }
 
 -- ---- what is not refused
 
-none_by : (b : Bool) (fault : RouterFault) (later : Option RouterFault) → (if b then Some fault else later) ≡ None → (b ≡ false) × (later ≡ None)
+none_by : (b : Bool) (fault : Refusal) (later : Option Refusal) → (if b then Some fault else later) ≡ None → (b ≡ false) × (later ≡ None)
 none_by true fault later is = absurd cc
 none_by false fault later is = (refl, is)
 
-none_holds : (xs : List (Bool × RouterFault)) → first_of xs ≡ None → AllByRecursion (λ (x : Bool × RouterFault). x.0 ≡ false) xs
+none_holds : (xs : List (Bool × Refusal)) → first_of xs ≡ None → AllByRecursion (λ (x : Bool × Refusal). x.0 ≡ false) xs
 none_holds [] is = tt
 none_holds (x ∷ xs) is = let a = none_by x.0 x.1 (first_of xs) is in (a.0, none_holds xs a.1)
 
@@ -125,15 +111,15 @@ is_unseen : {A : Type 0} (o : Option A) → is_some o ≡ false → o ≡ None
 is_unseen None h = refl
 is_unseen (Some x) h = absurd cc
 
-is_short : (t : Topic) → is_long t ≡ false → length t.0 ≤ LONGEST_TOPIC
+is_short : (t : Topic) → is_long t ≡ false → length t.0 ≤ longest_topic
 is_short t h = search (rules, h)
 
-pub may_subscribe : (p : Peer) (L : Entries) (at : ℕ) (t : Topic) → refusal p L at (Subscribe t) ≡ None → MaySubscribe L t
+may_subscribe : (p : Peer) (L : Entries) (at : ℕ) (t : Topic) → refusal p L at (Subscribe t) ≡ None → MaySubscribe L t
 may_subscribe p L at t free =
     let h = none_holds (reasons p L at (Subscribe t)) free in
     record { running = h.0; short = is_short t h.1.0; apart = h.1.1.0; room = is_not (has_room_for L t) h.1.1.1.0 }
 
-pub may_unsubscribe : (p : Peer) (L : Entries) (at : ℕ) (t : Topic) → refusal p L at (Unsubscribe t) ≡ None → MayUnsubscribe L t
+may_unsubscribe : (p : Peer) (L : Entries) (at : ℕ) (t : Topic) → refusal p L at (Unsubscribe t) ≡ None → MayUnsubscribe L t
 may_unsubscribe p L at t free =
     let h = none_holds (reasons p L at (Unsubscribe t)) free in
     record { running = h.0; joined = is_not (joined L t) h.1.0 }
@@ -142,7 +128,45 @@ pub may_publish : (p : Peer) (L : Entries) (at : ℕ) (t : Topic) (payload : Lis
 may_publish p L at t payload free =
     let h = none_holds (reasons p L at (Publish t payload)) free in
     let short = neither (is_long t) (p.codec.fits (publication t payload)) h.1.0 in
-    record { running = h.0; short = is_short t short.0; fits = short.1; unseen = is_unseen (seen p.seen_ttl L (message_id payload) at) h.1.1.0 }
+    record { running = h.0; short = is_short t short.0; fits = short.1; unseen = is_unseen (seen (seen_ttl p) L (message_id payload) at) h.1.1.0 }
 
-pub may_end : (p : Peer) (L : Entries) (at r : ℕ) → refusal p L at (RoundEnd r) ≡ None → is_shut L ≡ false
-may_end p L at r free = (none_holds (reasons p L at (RoundEnd r)) free).0
+-- what its user wishes may come where it is not refused
+pub may_open : (p : Peer) (L : Entries) (at : ℕ) (event : Event) → IsUsers event → refusal p L at event ≡ None → MayOpen p L at event
+may_open p L at (Subscribe t) own free = may_subscribe p L at t free
+may_open p L at (Unsubscribe t) own free = may_unsubscribe p L at t free
+may_open p L at (RoundEnd r) own free = (none_holds (reasons p L at (RoundEnd r)) free).0
+may_open p L at Shut own free = (none_holds (reasons p L at Shut) free).0
+may_open p L at other own free = absurd own
+
+-- and owes nothing
+pub owes_nothing : (p : Peer) (L : Entries) (event : Event) → IsUsers event → owes p L event ≡ []
+owes_nothing p L (Heard q rpc) own = absurd own
+owes_nothing p L other own = refl
+
+-- what comes of a neighbour is not refused
+pub hearing_free : (p : Peer) (L : Entries) (at : ℕ) (q : PeerNo) (rpc : Rpc) → refusal p L at (hearing L q rpc) ≡ None
+hearing_free p L at q rpc = by (up L q)
+  where
+    by : (is_up : Bool) → refusal p L at (if is_up then Heard q rpc else Late q rpc) ≡ None
+    by true = refl
+    by false = refl
+
+-- a neighbour that is up is lost
+pub loses : (L : Entries) (q : PeerNo) (event : Event) → up L q ≡ true → losing L q event ≡ Some event
+loses L q event is_up = ap (λ (b : Bool). if b then Some event else None) is_up
+
+-- it may be, it is not refused, and it owes nothing
+pub may_lose : (p : Peer) (L : Entries) (at : ℕ) (q : PeerNo) (event : Event) → IsLoss q event → up L q ≡ true → MayOpen p L at event
+may_lose p L at q (Gone r) same is_up = ap (up L) same ∙ is_up
+may_lose p L at q (Fault r) same is_up = ap (up L) same ∙ is_up
+may_lose p L at q other same is_up = absurd same
+
+pub loss_free : (p : Peer) (L : Entries) (at : ℕ) (q : PeerNo) (event : Event) → IsLoss q event → refusal p L at event ≡ None
+loss_free p L at q (Gone r) same = refl
+loss_free p L at q (Fault r) same = refl
+loss_free p L at q other same = absurd same
+
+pub loss_owes : (p : Peer) (L : Entries) (q : PeerNo) (event : Event) → IsLoss q event → owes p L event ≡ []
+loss_owes p L q (Gone r) same = refl
+loss_owes p L q (Fault r) same = refl
+loss_owes p L q other same = absurd same

@@ -1,145 +1,238 @@
 -- One more entry of a router's trace.
-use Rattle.std.proofs.Common.{◌≡◌, ◌≢◌, ◌≤◌, ◌<◌, ◌+◌, ℕ, true, List, [], ◌∷◌, ◌++◌, length, map, drop, get_or, Option, None, refl, sym, ap, subst, ◌∙◌, append_assoc}
-use Rattle.std.specs.List.{list_any}
-use Rattle.std.proofs.lemmas.List.{drop_more}
-use Rattle.std.proofs.lemmas.List.Sorted.{IsPermutation-refl}
+use Rattle.std.proofs.Common.{◌≡◌, ◌≢◌, ◌≤◌, ℕ, Bool, true, false, if◌then◌else◌, List, [], ◌∷◌, ◌++◌, Result, Ok, Err, refl, sym, ap, ap₂, subst, subst₂, ◌∙◌, inl, inr}
+use Rattle.std.specs.Prelude.{not, is_some, OnOk, OnErr, IsErr}
 use Rattle.gs_base.specs.declared.names.PeerNo.{PeerNo}
-use Rattle.gs_base.specs.declared.names.Topic.{Topic}
-use Rattle.gs_base.specs.declared.names.MsgId.{MsgId}
 use Rattle.gs_base.specs.declared.names.Millis.{Millis}
 use Rattle.gs_base.specs.declared.rpc.Message.{Message}
 use Rattle.gs_base.specs.declared.rpc.Rpc.{Rpc}
-use Rattle.gs_rules.specs.declared.trace.Verdict.{Verdict}
+use Rattle.gs_rules.specs.declared.trace.Verdict.TheVariants.{Accept}
+use Rattle.gs_rules.specs.declared.trace.Mark.TheVariants as marks
 use Rattle.gs_rules.specs.declared.trace.Event.{Event}
-use Rattle.gs_rules.specs.declared.trace.Event.TheVariants.{Heard, Late, Sub, Msg, Subscribe, Unsubscribe, Publish, RoundEnd, Shut}
+use Rattle.gs_rules.specs.declared.trace.Event.TheVariants.{Heard, Msg, Publish}
 use Rattle.gs_rules.specs.declared.trace.Entry.{Entry}
-use Rattle.gs_base.specs.Names.{same_topic}
-use Rattle.gs_rules.specs.Tables.{Entries, up, parts, last_moment, owed, owed_after, is_shut, is_shut_after, on, on_after, joined, joined_after, known, known_after, verdict_in, sighting_after, last_seen}
-use Rattle.gs_rules.specs.Rules.{Peer, bare, Rule, Gives, Follows, SaysTheSame, free, message_rule, rule_of}
-use Rattle.gs_rules.specs.Legal.{Legal, IsNext, MayOpen, Begins, Opens}
-use Rattle.gs_router.specs.declared.hearing.Fate.{Fate}
-use Rattle.gs_router.specs.declared.hearing.Fate.TheVariants.{Dropped, Invalid, Accepted}
-use Rattle.gs_router.specs.declared.tables.Tables.{Tables}
-use Rattle.gs_router.specs.Router.{Agrees, GoesOn, IsDue, LeavesTopics, Pays, judged}
+use Rattle.gs_base.specs.Names.{topic_of, payload_of, message_id, is_signed}
+use Rattle.gs_rules.specs.Peers.{Peer, seen_ttl}
+use Rattle.gs_rules.specs.Tables.{Entries, last_moment, joined, seen}
+use Rattle.gs_rules.specs.Owed.{Debt, nothing, owed, owes, owing, paid, parts}
+use Rattle.gs_params.specs.Picks.{IsAscending}
+use Rattle.gs_rules.specs.Rules.{Rule, Gives, AnyOf, OneOf, bare, message_rule, rule_of}
+use Rattle.gs_rules.specs.Modes.{Mode, Follows, free}
+use Rattle.gs_rules.specs.Legal.{Legal, LegalOn, IsAllowed, IsNext, MayOpen, Begins}
+use Rattle.gs_base.specs.Names.{peers_of}
+use Rattle.gs_rules.proofs.Owed.{heard_owes, owes_none, paid_last}
+use Rattle.gs_rules.proofs.Legality.{Weakens, follows_weakly, legal_on, legal_one, legal_then, legal_weakly}
+use Rattle.gs_router.specs.declared.setup.Setup.{Setup}
+use Rattle.gs_router.specs.declared.state.State.{State}
+use Rattle.gs_router.specs.Tables.{Agrees}
+use Rattle.gs_router.specs.State.{Appends, Ends, IsCurrent, IsReady, Steps, peer_with}
 
--- an event leaves the tables as they were
-record Leaves (event : Event) (L : Entries) : Type 0 where
-  knows : known_after event (known L) ≡ known L
-  joins : (t : Topic) → joined_after t event (joined L t) ≡ joined L t
-  listens : (q : PeerNo) (t : Topic) → on_after q t event (on L q t) ≡ on L q t
-  shuts : is_shut_after event (is_shut L) ≡ is_shut L
+-- ---- rules
 
-leaves_tables : (event : Event) (L : Entries) → LeavesTopics event → Leaves event L
-leaves_tables (Heard q rpc) L h = record { knows = refl; joins = λ t. refl; listens = λ q t. refl; shuts = refl }
-leaves_tables (Late q rpc) L h = record { knows = refl; joins = λ t. refl; listens = λ q t. refl; shuts = refl }
-leaves_tables (Msg q m) L h = record { knows = refl; joins = λ t. refl; listens = λ q t. refl; shuts = refl }
-leaves_tables (Publish t payload) L h = record { knows = refl; joins = λ t. refl; listens = λ q t. refl; shuts = refl }
-leaves_tables (RoundEnd r) L h = record { knows = refl; joins = λ t. refl; listens = λ q t. refl; shuts = refl }
-leaves_tables (Sub q sub) L h = absurd h
-leaves_tables (Subscribe t) L h = absurd h
-leaves_tables (Unsubscribe t) L h = absurd h
-leaves_tables Shut L h = absurd h
+one_of : (P : Entry → Type 0) (a b c : Bool) (w x y z : Entry) → P w → P x → P y → P z → P (if a then w else if b then x else if c then y else z)
+one_of P true b c w x y z hw hx hy hz = hw
+one_of P false true c w x y z hw hx hy hz = hx
+one_of P false false true w x y z hw hx hy hz = hy
+one_of P false false false w x y z hw hx hy hz = hz
 
-pub says_itself : (x : Entry) → SaysTheSame x x
-says_itself x = record { at = refl; event = refl; sends = λ q. refl; delivered = refl; marks = IsPermutation-refl x.marks }
+-- the entry that a rule gives tells the event and the moment
+record Tells (at : Millis) (event : Event) (x : Entry) : Type 0 where
+  moment : x.at ≡ at
+  tells : x.event ≡ event
 
--- the entry that the rule gives may follow
-pub stays_legal : (p : Peer) (L : Entries) (x : Entry) → Legal p L → last_moment L ≤ x.at.0 → IsNext p L x.at.0 (owed L) x.event → rule_of p L x.at x.event ≡ Gives x → Legal p (x ∷ L)
-stays_legal p L x legal time next rule =
-    (tt, legal, record { time = time; next = next; effects = subst (λ (r : Rule). Follows free r tt x tt) (sym rule) (says_itself x, refl) })
+message_tells : (p : Peer) (L : Entries) (at : Millis) (q : PeerNo) (m : Message) → Tells at (Msg q m) (message_rule p L at q m)
+message_tells p L at q m =
+    let same : Tells at (Msg q m) (bare at (Msg q m)) = record { moment = refl; tells = refl } in
+    one_of (Tells at (Msg q m)) (not (joined L (topic_of m))) (is_signed m) (is_some (seen (seen_ttl p) L (message_id (payload_of m)) at.0))
+    (bare at (Msg q m)) (record (bare at (Msg q m)) { marks = marks.Invalid q (topic_of m) ∷ [] }) (bare at (Msg q m)) (record (bare at (Msg q m)) { delivered = (topic_of m, payload_of m) ∷ []; marks = marks.Seen (message_id (payload_of m)) Accept ∷ [] })
+    same (record { moment = refl; tells = refl }) same (record { moment = refl; tells = refl })
 
--- an event that owes nothing
-pub opens_alone : (L : Entries) (x : Entry) → owed_after x.event [] ≡ [] → owed L ≡ [] → Opens x.at x.event L (x ∷ L)
-opens_alone L x none settled = record {
-  begun = record { first = x; paid = []; entries = refl; opened = refl; moment = refl; payments = tt };
-  settled = ap (owed_after x.event) settled ∙ none;
-}
+-- and so does each that it may give
+abbrev TellsOnly : Millis → Event → Rule → Type 0
+TellsOnly at event (Gives x) = Tells at event x
+TellsOnly at event (AnyOf k candidates rule) = (chosen : List PeerNo) → TellsOnly at event (rule chosen)
+TellsOnly at event (OneOf n rule) = (place : ℕ) → TellsOnly at event (rule place)
+
+rule_tells : (p : Peer) (L : Entries) (at : Millis) (event : Event) → TellsOnly at event (rule_of p L at event)
+rule_tells p L at (Msg q m) = message_tells p L at q m
+rule_tells p L at other = record { moment = refl; tells = refl }
+
+follows_tells : (at : Millis) (event : Event) (r : Rule) (x : Entry) → TellsOnly at event r → Follows free r tt x tt → Tells at event x
+follows_tells at event (Gives y) x tells follows = record { moment = follows.0.at ∙ tells.moment; tells = follows.0.event ∙ tells.tells }
+follows_tells at event (AnyOf k candidates rule) x tells follows = follows_tells at event (rule follows.0) x (tells follows.0) follows.3
+follows_tells at event (OneOf n rule) x tells follows = follows_tells at event (rule follows.0) x (tells follows.0) follows.3
+
+-- ---- steps
+
+-- any way to choose by which no more is legal
+module _ (m : Mode) (weakens : Weakens m free (λ u. tt)) where
+  -- the entry may come
+  allowed : (p : Peer) (L : Entries) (at : Millis) (event : Event) (s t : m.State) (x : Entry) → Tells at event x → last_moment L ≤ at.0 → IsNext p L at.0 (owed p L).events event → Follows m (rule_of p L at event) s x t → IsAllowed m p L s x t
+  allowed p L at event s t x tells time next follows = record {
+    time = subst (λ (now : Millis). last_moment L ≤ now.0) (sym tells.moment) time;
+    next = subst₂ (λ (now : Millis) (ev : Event). IsNext p L now.0 (owed p L).events ev) (sym tells.moment) (sym tells.tells) next;
+    effects = subst₂ (λ (now : Millis) (ev : Event). Follows m (rule_of p L now ev) s x t) (sym tells.moment) (sym tells.tells) follows;
+  }
+
+  -- the choices that led to entries leave the whole legal
+  appended_legal : (p : Peer) (K L : Entries) (s t : m.State) → Legal p K → Appends m p K s L t → Legal p L
+  appended_legal p K L s t legal a = subst (Legal p) (sym a.are) (legal_on p K a.entries legal (legal_weakly m free (λ u. tt) weakens p s t K a.entries a.legal))
+
+  module _ {A E : Type 0} where
+    -- an entry that may follow was appended, or memory was wanting
+    pub followed : (event : Event) (now : Millis) (a b : State) (s t : m.State) (e : Entry) (done : Result A E) → IsCurrent a → last_moment a.trace ≤ now.0 → IsNext (peer_with a.setup) a.trace now.0 (owed (peer_with a.setup) a.trace).events event → Follows m (rule_of (peer_with a.setup) a.trace now event) s e t → OnOk done (b.trace ≡ e ∷ a.trace) → OnOk done ((L : Entries) → Agrees a.tables L → Agrees b.tables (e ∷ L)) → OnErr done (b.trace ≡ a.trace) → b.setup ≡ a.setup → Steps m event now a s done b t
+    followed event now a b s t e (Ok x) current time next follows added agrees kept setup =
+        let p = peer_with a.setup in
+        let tells = follows_tells now event (rule_of p a.trace now event) e (rule_tells p a.trace now event) (follows_weakly m free (λ u. tt) weakens (rule_of p a.trace now event) s e t follows) in
+        let one = legal_one m p s t a.trace e (allowed p a.trace now event s t e tells time next follows) in
+        record {
+          added = record { entry = e; added = added; moment = tells.moment; opened = tells.tells; legal = one };
+          current = record {
+            legal = subst (λ (g : Setup). Legal (peer_with g) b.trace) (sym setup) (appended_legal p a.trace b.trace s t current.legal (record { entries = e ∷ []; are = added; legal = one }));
+            agrees = subst (λ (L : Entries). Agrees b.tables L) (sym added) (agrees a.trace current.agrees);
+            ascending = subst (λ (g : Setup). IsAscending (peers_of g.neighbours.items)) (sym setup) current.ascending;
+          };
+          kept = tt;
+          setup = setup;
+        }
+    followed event now a b s t e (Err x) current time next follows added agrees kept setup = record { added = tt; current = tt; kept = kept; setup = setup }
+
+    -- memory was wanting before anything came
+    pub breaks_off : (event : Event) (now : Millis) (a b : State) (s t : m.State) (e : E) → IsCurrent a → b.trace ≡ a.trace → b.setup ≡ a.setup → Ends {A = A} {E = E} m event now a s (Err e) b t
+    breaks_off event now a b s t e current kept setup = record {
+      opened = tt;
+      appended = tt;
+      ready = tt;
+      broken = inl kept;
+      before = (s, record { entries = []; are = kept; legal = refl });
+      legal = subst₂ (λ (g : Setup) (L : Entries). Legal (peer_with g) L) (sym setup) (sym kept) current.legal;
+      setup = setup;
+    }
+
+    pub stops : (event : Event) (now : Millis) (a b : State) (s t : m.State) (done : Result A E) → IsErr done → IsCurrent a → b.trace ≡ a.trace → b.setup ≡ a.setup → Ends m event now a s done b t
+    stops event now a b s t (Ok x) fails current kept setup = absurd cc
+    stops event now a b s t (Err e) fails current kept setup = breaks_off event now a b s t e current kept setup
+
+    -- an event that owes nothing comes with its step
+    pub opens_alone : (event : Event) (now : Millis) (a b : State) (s t : m.State) (done : Result A E) → IsReady a → owes (peer_with a.setup) a.trace event ≡ [] → Steps m event now a s done b t → Ends m event now a s done b t
+    opens_alone event now a b s t (Ok x) ready none steps =
+        let one = steps.added in
+        let p = peer_with a.setup in
+        let after : owed p b.trace ≡ nothing = ap (owed p) one.added
+        ∙ ap (λ (ev : Event). owing p (one.entry ∷ a.trace) (owes p a.trace ev) (owed p a.trace)) one.opened
+        ∙ owes_none p a.trace (one.entry ∷ a.trace) event (owed p a.trace) none
+        ∙ ap (paid p (one.entry ∷ a.trace)) ready.settled in
+        record {
+          opened = record {
+            begun = record { first = one.entry; paid = []; entries = one.added; opened = one.opened; moment = one.moment; payments = tt };
+            settled = after;
+          };
+          appended = record { entries = one.entry ∷ []; are = one.added; legal = one.legal };
+          ready = record { current = steps.current; settled = subst (λ (g : Setup). owed (peer_with g) b.trace ≡ nothing) (sym steps.setup) after };
+          broken = tt;
+          before = tt;
+          legal = steps.current.legal;
+          setup = steps.setup;
+        }
+    opens_alone event now a b s t (Err e) ready none steps = breaks_off event now a b s t e ready.current steps.kept steps.setup
 
 -- it may come where nothing is owed
-pub next_opens : (p : Peer) (L : Entries) (at : ℕ) (event : Event) → owed L ≡ [] → MayOpen p L at event → IsNext p L at (owed L) event
-next_opens p L at event settled may = subst (λ (events : List Event). IsNext p L at events event) (sym settled) may
-
--- an entry that owes nothing is added: the trace is legal, and the event came alone
-pub record Added (p : Peer) (K : Entries) (x : Entry) (L : Entries) : Type 0 where
-  pub legal : Legal p L
-  pub opens : Opens x.at x.event K L
-  pub settled : owed L ≡ []
-  pub goes_on : GoesOn K L
-
-pub adds : (p : Peer) (K L : Entries) (x : Entry) → L ≡ x ∷ K → Legal p K → owed K ≡ [] → last_moment K ≤ x.at.0 → MayOpen p K x.at.0 x.event → owed_after x.event [] ≡ [] → rule_of p K x.at x.event ≡ Gives x → Added p K x L
-adds p K L x is legal settled time may none rule =
-    let done : Added p K x (x ∷ K) = record {
-      legal = stays_legal p K x legal time (next_opens p K x.at.0 x.event settled may) rule;
-      opens = opens_alone K x none settled;
-      settled = ap (owed_after x.event) settled ∙ none;
-      goes_on = (x ∷ [], refl);
-    } in
-    subst (Added p K x) (sym is) done
-
--- an entry without marks that changes no table
-pub unmarked_agrees : (tables : Tables) (L : Entries) (e : Entry) → LeavesTopics e.event → ((id : MsgId) → verdict_in id e.marks ≡ None) → Agrees tables L → Agrees tables (e ∷ L)
-unmarked_agrees tables L e leaves none agrees =
-    let same = leaves_tables e.event L leaves in
-    record {
-      knows = λ t. agrees.knows t ∙ ap (list_any (same_topic t)) (sym same.knows);
-      counts = agrees.counts ∙ ap length (sym same.knows);
-      joins = λ t. agrees.joins t ∙ sym (same.joins t);
-      listens = λ q t. agrees.listens q t ∙ sym (same.listens q t);
-      sees = λ id. agrees.sees id ∙ sym (ap (λ (v : Option Verdict). sighting_after e.at.0 v (last_seen L id)) (none id));
-      shuts = agrees.shuts ∙ sym same.shuts;
-    }
+pub next_opens : (p : Peer) (L : Entries) (at : ℕ) (event : Event) → owed p L ≡ nothing → MayOpen p L at event → IsNext p L at (owed p L).events event
+next_opens p L at event settled may = subst (λ (debt : Debt). IsNext p L at debt.events event) (sym settled) may
 
 -- ---- what is owed is paid
 
--- the first of what is owed for these
-pub next_due : {A : Type 0} (f : A → Event) (xs : List A) (i : ℕ) (x : A) (rest owing : List Event) → owing ≡ map f (drop i xs) ++ rest → i < length xs → x ≡ get_or xs i x → owing ≡ f x ∷ (map f (drop (i + 1) xs) ++ rest)
-next_due f xs i x rest owing is below there =
-    is ∙ ap (λ l. map f l ++ rest) (drop_more xs i x below ∙ ap (λ y. y ∷ drop (i + 1) xs) (sym there))
+-- these events are left of the last group that is owed
+abbrev pub last_group : List Event → Debt
+last_group events = record { events = events; groups = [] }
 
-pub is_due : (event : Event) (rest owing : List Event) → owing ≡ event ∷ rest → IsDue event owing
-is_due event rest owing is = subst (IsDue event) (sym is) refl
+-- Where an event has begun: its entry and those of some of what it owes stand behind the trace of a, by choices from s to t, and
+-- these events are left.
+pub record Paying (m : Mode) (now : Millis) (event : Event) (a : State) (s : m.State) (b : State) (t : m.State) (left : List Event) : Type 0 where
+  pub current : IsCurrent b
+  pub setup : b.setup ≡ a.setup
+  pub moment : last_moment b.trace ≡ now.0
+  pub owes : owed (peer_with a.setup) b.trace ≡ last_group left
+  pub begun : Begins (peer_with a.setup) now event a.trace b.trace
+  pub appended : Appends m (peer_with a.setup) a.trace s b.trace t
 
-not_nil : {A : Type 0} (x : A) (xs ys : List A) → ys ≡ x ∷ xs → ys ≢ []
+not_nil : {X : Type 0} (x : X) (xs ys : List X) → ys ≡ x ∷ xs → ys ≢ []
 not_nil x xs [] is = absurd cc
 not_nil x xs (y ∷ ys) is = λ none. absurd cc
 
--- one more payment
-pub pays_more : (now : Millis) (event first : Event) (rest : List Event) (K L M : Entries) → owed L ≡ first ∷ rest → Begins now event K L → Pays now L M → Begins now event K M
-pays_more now event first rest K L M owing begun pays = record {
-  first = begun.first;
-  paid = pays.entry ∷ begun.paid;
-  entries = pays.added ∙ ap (λ (N : Entries). pays.entry ∷ N) begun.entries;
-  opened = begun.opened;
-  moment = begun.moment;
-  payments = (pays.moment, not_nil first rest (owed (begun.paid ++ begun.first ∷ K)) (sym (ap owed begun.entries) ∙ owing), begun.payments);
-}
+-- what is owed first may come
+pub next_due : (m : Mode) (now : Millis) (event first : Event) (rest : List Event) (a b : State) (s t : m.State) → Paying m now event a s b t (first ∷ rest) → IsNext (peer_with b.setup) b.trace now.0 (owed (peer_with b.setup) b.trace).events first
+next_due m now event first rest a b s t h =
+    let owed_first : owed (peer_with b.setup) b.trace ≡ last_group (first ∷ rest) = ap (λ (g : Setup). owed (peer_with g) b.trace) h.setup ∙ h.owes in
+    subst (λ (debt : Debt). IsNext (peer_with b.setup) b.trace now.0 debt.events first) (sym owed_first) refl
 
-pub pays_left : (now : Millis) (first : Event) (rest : List Event) (L M : Entries) → owed L ≡ first ∷ rest → Pays now L M → owed M ≡ rest
-pays_left now first rest L M owing pays = pays.left ∙ ap (drop 1) owing
+module _ (m : Mode) {A E : Type 0} where
+  -- an RPC that is heard owes its parts
+  pub hears_first : (now : Millis) (q : PeerNo) (rpc : Rpc) (a b : State) (s t : m.State) (x : A) → Steps {A = A} {E = E} m (Heard q rpc) now a s (Ok x) b t → Paying m now (Heard q rpc) a s b t (parts q rpc)
+  hears_first now q rpc a b s t x steps =
+      let one = steps.added in
+      let p = peer_with a.setup in
+      record {
+        current = steps.current;
+        setup = steps.setup;
+        moment = ap last_moment one.added ∙ ap (λ (at : Millis). at.0) one.moment;
+        owes = ap (owed p) one.added
+            ∙ ap (λ (ev : Event). owing p (one.entry ∷ a.trace) (owes p a.trace ev) (owed p a.trace)) one.opened
+            ∙ heard_owes p (one.entry ∷ a.trace) q rpc;
+        begun = record { first = one.entry; paid = []; entries = one.added; opened = one.opened; moment = one.moment; payments = tt };
+        appended = record { entries = one.entry ∷ []; are = one.added; legal = one.legal };
+      }
 
-pub pays_moment : (now : Millis) (L M : Entries) → Pays now L M → last_moment M ≡ now.0
-pays_moment now L M pays = ap last_moment pays.added ∙ ap (λ (at : Millis). at.0) pays.moment
+  -- one more event of the group is paid, which owes nothing itself
+  pub pays_next : (now : Millis) (event first : Event) (rest : List Event) (a b c : State) (s t u : m.State) (x : A) → Paying m now event a s b t (first ∷ rest) → owes (peer_with a.setup) b.trace first ≡ [] → Steps {A = A} {E = E} m first now b t (Ok x) c u → Paying m now event a s c u rest
+  pays_next now event first rest a b c s t u x h alone steps =
+      let one = steps.added in
+      let p = peer_with a.setup in
+      let behind : LegalOn m p t (h.appended.entries ++ a.trace) (one.entry ∷ []) u = subst₂ (λ (g : Setup) (L : Entries). LegalOn m (peer_with g) t L (one.entry ∷ []) u) h.setup h.appended.are one.legal in
+      record {
+        current = steps.current;
+        setup = steps.setup ∙ h.setup;
+        moment = ap last_moment one.added ∙ ap (λ (at : Millis). at.0) one.moment;
+        owes = ap (owed p) one.added
+            ∙ ap (λ (ev : Event). owing p (one.entry ∷ b.trace) (owes p b.trace ev) (owed p b.trace)) one.opened
+            ∙ owes_none p b.trace (one.entry ∷ b.trace) first (owed p b.trace) alone
+            ∙ ap (paid p (one.entry ∷ b.trace)) h.owes
+            ∙ paid_last p (one.entry ∷ b.trace) (first ∷ rest);
+        begun = record {
+          first = h.begun.first;
+          paid = one.entry ∷ h.begun.paid;
+          entries = one.added ∙ ap (λ (L : Entries). one.entry ∷ L) h.begun.entries;
+          opened = h.begun.opened;
+          moment = h.begun.moment;
+          payments = (one.moment, not_nil first rest (owed p (h.begun.paid ++ h.begun.first ∷ a.trace)).events (sym (ap (λ (L : Entries). (owed p L).events) h.begun.entries) ∙ ap (λ (debt : Debt). debt.events) h.owes), h.begun.payments);
+        };
+        appended = record {
+          entries = one.entry ∷ h.appended.entries;
+          are = one.added ∙ ap (λ (L : Entries). one.entry ∷ L) h.appended.are;
+          legal = legal_then m p s t u a.trace h.appended.entries (one.entry ∷ []) h.appended.legal behind;
+        };
+      }
 
-pub begun_goes_on : (now : Millis) (event : Event) (K L : Entries) → Begins now event K L → GoesOn K L
-begun_goes_on now event K L begun = (begun.paid ++ begun.first ∷ [], begun.entries ∙ sym (append_assoc begun.paid (begun.first ∷ []) K))
+  -- nothing is left to pay
+  pub pays_all : (now : Millis) (event : Event) (a b : State) (s t : m.State) (x : A) → Paying m now event a s b t [] → Ends {A = A} {E = E} m event now a s (Ok x) b t
+  pays_all now event a b s t x h = record {
+    opened = record { begun = h.begun; settled = h.owes };
+    appended = h.appended;
+    ready = record { current = h.current; settled = ap (λ (g : Setup). owed (peer_with g) b.trace) h.setup ∙ h.owes };
+    broken = tt;
+    before = tt;
+    legal = h.current.legal;
+    setup = h.setup;
+  }
 
--- an RPC is heard
-pub heard_first : (p : Peer) (K L : Entries) (now : Millis) (q : PeerNo) (rpc : Rpc) → L ≡ bare now (Heard q rpc) ∷ K → Legal p K → owed K ≡ [] → last_moment K ≤ now.0 → up K q ≡ true → Legal p L × Begins now (Heard q rpc) K L × (owed L ≡ parts q rpc)
-heard_first p K L now q rpc is legal settled time is_up =
-    let x : Entry = bare now (Heard q rpc) in
-    let begun : Begins now (Heard q rpc) K (x ∷ K) = record { first = x; paid = []; entries = refl; opened = refl; moment = refl; payments = tt } in
-    (subst (Legal p) (sym is) (stays_legal p K x legal time (next_opens p K now.0 (Heard q rpc) settled is_up) refl), subst (Begins now (Heard q rpc) K) (sym is) begun, ap owed is)
-
--- the entry of a part that is owed
-pub pays_one : (p : Peer) (L M : Entries) (x : Entry) → M ≡ x ∷ L → Legal p L → last_moment L ≤ x.at.0 → IsDue x.event (owed L) → rule_of p L x.at x.event ≡ Gives x → Legal p M
-pays_one p L M x is legal time due rule = subst (Legal p) (sym is) (stays_legal p L x legal time (due_next (owed L) due) rule)
-  where
-    due_next : (owing : List Event) → IsDue x.event owing → IsNext p L x.at.0 owing x.event
-    due_next [] h = absurd h
-    due_next (first ∷ rest) h = h
-
--- the entry of a message that is owed
-pub takes : (p : Peer) (L M : Entries) (now : Millis) (q : PeerNo) (m : Message) (fate : Fate) → M ≡ judged q now m fate ∷ L → message_rule p L now q m ≡ judged q now m fate → Legal p L → last_moment L ≤ now.0 → IsDue (Msg q m) (owed L) → Legal p M
-takes p L M now q m Dropped is rule legal time due = pays_one p L M (judged q now m Dropped) is legal time due (ap Gives rule)
-takes p L M now q m Invalid is rule legal time due = pays_one p L M (judged q now m Invalid) is legal time due (ap Gives rule)
-takes p L M now q m (Accepted id) is rule legal time due = pays_one p L M (judged q now m (Accepted id)) is legal time due (ap Gives rule)
+  -- memory was wanting for what is owed
+  pub pays_some : (now : Millis) (event : Event) (left : List Event) (a b c : State) (s t u : m.State) (done : Result A E) → IsErr done → Paying m now event a s b t left → c.trace ≡ b.trace → c.setup ≡ b.setup → Ends m event now a s done c u
+  pays_some now event left a b c s t u (Ok x) fails h kept setup = absurd cc
+  pays_some now event left a b c s t u (Err e) fails h kept setup = record {
+    opened = tt;
+    appended = tt;
+    ready = tt;
+    broken = inr (subst (λ (L : Entries). Begins (peer_with a.setup) now event a.trace L) (sym kept) h.begun);
+    before = (t, record { entries = h.appended.entries; are = kept ∙ h.appended.are; legal = h.appended.legal });
+    legal = subst₂ (λ (g : Setup) (L : Entries). Legal (peer_with g) L) (sym setup) (sym kept) h.current.legal;
+    setup = setup ∙ h.setup;
+  }

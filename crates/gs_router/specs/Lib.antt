@@ -1,1 +1,4 @@
+pub mod PeerSets
+pub mod Tables
+pub mod State
 pub mod Router

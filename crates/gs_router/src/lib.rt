@@ -1,14 +1,12 @@
 //! A gossipsub router: what one peer does about what it hears and what its user tells it.
 #![tactic(auto)]
 
-mod entries;
 mod fault;
-mod hearing;
-mod own;
-mod refusal;
+mod peer_set;
 mod router;
-mod sends;
+mod rules;
 mod setup;
+mod state;
 mod tables;
 
 pub use fault::RouterFault;

@@ -1,58 +1,67 @@
 //! A router: what one gossipsub peer does, and its trace. It takes nothing from anywhere and sends
 //! nothing: what comes is handed in, and what is sent stands in the trace.
-ghost use Rattle.std.specs.Prelude.{◌≡◌, ◌≤◌, [], true, false};
-ghost use Rattle.gs_rules.specs.Tables.{last_moment};
+ghost use Rattle.std.specs.Prelude.{◌≡◌, ◌≤◌, ◌||◌, [], Some, true, false};
+ghost use Rattle.gs_base.specs.Names.{peers_of};
+ghost use Rattle.gs_params.specs.Picks.{IsAscending};
 ghost use Rattle.gs_rules.specs.declared.trace.Event.TheVariants as events;
-ghost use Rattle.gs_router.specs.declared.fault.RouterFault.TheVariants.{NoMemory};
-ghost use Rattle.gs_router.specs.Router.{Calls, hearing};
+ghost use Rattle.gs_rules.specs.Tables.{last_moment, up};
+ghost use Rattle.gs_rules.specs.Modes.{exact};
+ghost use Rattle.gs_rules.specs.Legal.{hearing, losing};
+ghost use Rattle.gs_wire.specs.Codec.{codec};
+ghost use Rattle.gs_router.specs.Router.{Calls, IsLoss, IsUsers, answer_of, fails};
 
 use crate::fault::RouterFault;
+use crate::rules;
+use crate::rules::messages::{self, Publishing};
 use crate::setup::Setup;
+use crate::state::State;
 use crate::tables::Tables;
-use crate::{hearing, own, refusal};
 use bytes::Bytes;
-use gs_base::{Millis, PeerNo, Rpc, Topic};
-use gs_rules::Trace;
-use std::alloc::Global;
+use gs_base::{Millis, MsgId, Neighbour, PeerNo, Rpc, Topic};
+use gs_params::{Params, Words};
+use gs_rules::{Event, Refusal, Trace};
+use std::alloc::{AllocError, Global};
 use std::marker::Model;
 
 /// A gossipsub router with its trace.
 ///
-/// A call that is refused changes nothing. After want of memory the trace ends with the last entry
-/// that was whole, and every call is refused as `Stopped`; after `shut` every call is but `hear`.
+/// Each call that may change it is handed the words by which it chooses, and leaves them as its choices
+/// do. A call that is refused changes nothing and draws no word. After want of memory the trace ends with
+/// the last entry that was whole, and every call is refused as `Stopped`; after `shut` every call of the
+/// user is.
 #[derive(Drop)]
 pub struct Router {
-    alloc: Global,
-    setup: Setup,
-    tables: Tables,
-    trace: Trace,
+    state: State,
     is_stopped: bool,
 }
 
 impl Model for Router {
-    ghost use Rattle.gs_router.specs.Router.{IsSound, RouterView};
+    ghost use Rattle.gs_router.specs.Router.{IsSound, RouterView, view_of};
 
     ghost Value = { RouterView };
 
-    ghost view = { λ r. record { neighbours = r.setup.neighbours.items; seen_ttl = r.setup.seen_ttl.0; trace = r.trace; is_stopped = r.is_stopped } };
+    ghost view = { λ r. view_of r.state r.is_stopped };
 
-    ghost invariant = { λ r. IsSound r.setup r.tables r.trace r.is_stopped };
+    ghost invariant = { λ r. IsSound r.state r.is_stopped };
 }
 
 impl Router {
-    /// A router that has done nothing, with these neighbours, ascending. A message that was seen is
-    /// not delivered again for `seen_ttl`.
-    pub fn new(alloc: Global, neighbours: Vec<PeerNo>, seen_ttl: Millis) -> Router
-        ensures { result ≡ record { neighbours = neighbours.items; seen_ttl = seen_ttl.0; trace = []; is_stopped = false } }
+    /// A router that has done nothing, with these parameters and these neighbours, ascending by number.
+    pub fn new(alloc: Global, params: Params, neighbours: Vec<Neighbour>) -> Router
+        requires { IsAscending (peers_of neighbours.items) }
+        ensures { result ≡ record {
+            peer = record { params = params; neighbours = neighbours.items };
+            trace = [];
+            is_stopped = false;
+        } }
     {
         Router {
-            alloc,
-            setup: Setup {
-                neighbours,
-                seen_ttl,
+            state: State {
+                alloc,
+                setup: Setup { params, neighbours },
+                tables: Tables::new(alloc),
+                trace: Trace::new(alloc),
             },
-            tables: Tables::new(alloc),
-            trace: Trace::new(alloc),
             is_stopped: false,
         }
     }
@@ -61,94 +70,109 @@ impl Router {
     pub fn trace(&self) -> &Trace
         ensures { result.now ≡ self.now.trace }
     {
-        &self.trace
+        &self.state.trace
     }
 
     /// What the router did.
     pub fn into_trace(self) -> Trace
         ensures { result ≡ self.trace }
     {
-        let Router { trace, .. } = self;
+        let Router { state, .. } = self;
+        let State { trace, .. } = state;
         trace
     }
 
-    /// Hears an RPC that came from a neighbour. After `shut` it is late, and has no effect.
+    /// Hears an RPC that came from a neighbour and fits a frame, as all do that a reader gives. Where the
+    /// neighbour is not up, it is late, and has no effect.
     ///
     /// # Errors
     /// `Stopped` after want of memory, and `NoMemory`.
-    pub fn hear(&mut self, from: PeerNo, rpc: Rpc, now: Millis) -> Result<(), RouterFault>
-        requires { last_moment self.old.trace ≤ now.0 }
-        ensures { Calls (hearing self.old.trace from rpc) now self.old result self.new }
+    pub fn hear<W: Words>(
+        &mut self,
+        from: PeerNo,
+        rpc: Rpc,
+        now: Millis,
+        words: &mut W,
+    ) -> Result<(), RouterFault>
+        requires time { last_moment self.old.trace ≤ now.0 }
+        requires fits { codec.fits rpc ≡ true }
+        ensures { Calls (exact W.word W.after) (Some (hearing self.old.trace from rpc)) now
+            self.old words.old result self.new words.new }
     {
         if self.is_stopped {
-            return Err(RouterFault::Stopped);
+            return Err(RouterFault::Refused(Refusal::Stopped));
         }
-        match hearing::hear(
-            self.alloc,
-            &self.setup,
-            &mut self.tables,
-            &mut self.trace,
-            from,
-            rpc,
-            now,
-        ) {
-            Ok(()) => Ok(()),
-            Err(_) => Err(stop(&mut self.is_stopped)),
-        }
+        let done = self.state.hear(from, rpc, now, words);
+        ended(&mut self.is_stopped, done)
+    }
+
+    /// Learns that a neighbour has closed its link. Where it is not up, this does nothing.
+    ///
+    /// # Errors
+    /// `Stopped` after want of memory, and `NoMemory`.
+    pub fn gone<W: Words>(
+        &mut self,
+        peer: PeerNo,
+        now: Millis,
+        words: &mut W,
+    ) -> Result<(), RouterFault>
+        requires { last_moment self.old.trace ≤ now.0 }
+        ensures { Calls (exact W.word W.after) (losing self.old.trace peer (events.Gone peer)) now
+            self.old words.old result self.new words.new }
+    {
+        self.lose(peer, Event::Gone(peer), now, words)
+    }
+
+    /// Learns that a neighbour's bytes spell no RPC, or end within one. Where it is not up, this does
+    /// nothing.
+    ///
+    /// # Errors
+    /// `Stopped` after want of memory, and `NoMemory`.
+    pub fn fault<W: Words>(
+        &mut self,
+        peer: PeerNo,
+        now: Millis,
+        words: &mut W,
+    ) -> Result<(), RouterFault>
+        requires { last_moment self.old.trace ≤ now.0 }
+        ensures { Calls (exact W.word W.after) (losing self.old.trace peer (events.Fault peer)) now
+            self.old words.old result self.new words.new }
+    {
+        self.lose(peer, Event::Fault(peer), now, words)
     }
 
     /// Subscribes to a topic, and announces it to every neighbour.
     ///
     /// # Errors
     /// `Stopped`, `TooLong`, `Joined`, `TooMany`, in this order, and `NoMemory`.
-    pub fn subscribe(&mut self, topic: Topic, now: Millis) -> Result<(), RouterFault>
+    pub fn subscribe<W: Words>(
+        &mut self,
+        topic: Topic,
+        now: Millis,
+        words: &mut W,
+    ) -> Result<(), RouterFault>
         requires { last_moment self.old.trace ≤ now.0 }
-        ensures { Calls (events.Subscribe topic) now self.old result self.new }
+        ensures { Calls (exact W.word W.after) (Some (events.Subscribe topic)) now
+            self.old words.old result self.new words.new }
     {
-        if self.is_stopped {
-            return Err(RouterFault::Stopped);
-        }
-        if let Some(fault) = refusal::of_subscribe(&self.tables, &topic) {
-            return Err(fault);
-        }
-        match own::subscribe(
-            self.alloc,
-            &self.setup,
-            &mut self.tables,
-            &mut self.trace,
-            topic,
-            now,
-        ) {
-            Ok(()) => Ok(()),
-            Err(_) => Err(stop(&mut self.is_stopped)),
-        }
+        self.obey(Event::Subscribe(topic), now, words)
     }
 
     /// Leaves a topic, and tells every neighbour.
     ///
     /// # Errors
     /// `Stopped` and `NotJoined`, in this order, and `NoMemory`.
-    pub fn unsubscribe(&mut self, topic: Topic, now: Millis) -> Result<(), RouterFault>
+    pub fn unsubscribe<W: Words>(
+        &mut self,
+        topic: Topic,
+        now: Millis,
+        words: &mut W,
+    ) -> Result<(), RouterFault>
         requires { last_moment self.old.trace ≤ now.0 }
-        ensures { Calls (events.Unsubscribe topic) now self.old result self.new }
+        ensures { Calls (exact W.word W.after) (Some (events.Unsubscribe topic)) now
+            self.old words.old result self.new words.new }
     {
-        if self.is_stopped {
-            return Err(RouterFault::Stopped);
-        }
-        if let Some(fault) = refusal::of_unsubscribe(&self.tables, &topic) {
-            return Err(fault);
-        }
-        match own::unsubscribe(
-            self.alloc,
-            &self.setup,
-            &mut self.tables,
-            &mut self.trace,
-            topic,
-            now,
-        ) {
-            Ok(()) => Ok(()),
-            Err(_) => Err(stop(&mut self.is_stopped)),
-        }
+        self.obey(Event::Unsubscribe(topic), now, words)
     }
 
     /// Publishes a payload: it goes to every neighbour that is on the topic, and is delivered to the
@@ -156,89 +180,113 @@ impl Router {
     ///
     /// # Errors
     /// `Stopped`, `TooLong` and `AlreadySeen`, in this order, and `NoMemory`.
-    pub fn publish(&mut self, topic: Topic, payload: Bytes, now: Millis) -> Result<(), RouterFault>
+    pub fn publish<W: Words>(
+        &mut self,
+        topic: Topic,
+        payload: Bytes,
+        now: Millis,
+        words: &mut W,
+    ) -> Result<(), RouterFault>
         requires { last_moment self.old.trace ≤ now.0 }
-        ensures { Calls (events.Publish topic payload) now self.old result self.new }
+        ensures { Calls (exact W.word W.after) (Some (events.Publish topic payload)) now
+            self.old words.old result self.new words.new }
     {
         if self.is_stopped {
-            return Err(RouterFault::Stopped);
+            return Err(RouterFault::Refused(Refusal::Stopped));
         }
-        if let Some(fault) = refusal::of_publish(&self.setup, &self.tables, &topic, &payload, now) {
-            return Err(fault);
+        let id = MsgId::of(&payload);
+        if let Some(why) = messages::refusal_of_publish(&self.state, &topic, &payload, id, now) {
+            return Err(RouterFault::Refused(why));
         }
-        match own::publish(
-            self.alloc,
-            &self.setup,
-            &mut self.tables,
-            &mut self.trace,
-            topic,
-            payload,
-            now,
-        ) {
-            Ok(()) => Ok(()),
-            Err(_) => Err(stop(&mut self.is_stopped)),
-        }
+        let publishing = Publishing { topic, payload, id };
+        let done = self.state.publish(publishing, now, words);
+        ended(&mut self.is_stopped, done)
     }
 
     /// Ends a round.
     ///
     /// # Errors
     /// `Stopped`, and `NoMemory`.
-    pub fn end_round(&mut self, round: u64, now: Millis) -> Result<(), RouterFault>
+    pub fn end_round<W: Words>(
+        &mut self,
+        round: u64,
+        now: Millis,
+        words: &mut W,
+    ) -> Result<(), RouterFault>
         requires { last_moment self.old.trace ≤ now.0 }
-        ensures { Calls (events.RoundEnd round) now self.old result self.new }
+        ensures { Calls (exact W.word W.after) (Some (events.RoundEnd round)) now
+            self.old words.old result self.new words.new }
     {
-        if self.is_stopped {
-            return Err(RouterFault::Stopped);
-        }
-        if let Some(fault) = refusal::of_anything(&self.tables) {
-            return Err(fault);
-        }
-        match own::end_round(
-            self.alloc,
-            &self.setup,
-            &self.tables,
-            &mut self.trace,
-            round,
-            now,
-        ) {
-            Ok(()) => Ok(()),
-            Err(_) => Err(stop(&mut self.is_stopped)),
-        }
+        self.obey(Event::RoundEnd(round), now, words)
     }
 
     /// Shuts down: nothing is sent any more.
     ///
     /// # Errors
     /// `Stopped`, and `NoMemory`.
-    pub fn shut(&mut self, now: Millis) -> Result<(), RouterFault>
+    pub fn shut<W: Words>(&mut self, now: Millis, words: &mut W) -> Result<(), RouterFault>
         requires { last_moment self.old.trace ≤ now.0 }
-        ensures { Calls events.Shut now self.old result self.new }
+        ensures { Calls (exact W.word W.after) (Some events.Shut) now
+            self.old words.old result self.new words.new }
+    {
+        self.obey(Event::Shut, now, words)
+    }
+
+    /// Does what the router's own user wishes, or refuses it.
+    fn obey<W: Words>(
+        &mut self,
+        event: Event,
+        now: Millis,
+        words: &mut W,
+    ) -> Result<(), RouterFault>
+        requires time { last_moment self.old.trace ≤ now.0 }
+        requires own { IsUsers event }
+        ensures { Calls (exact W.word W.after) (Some event) now self.old words.old result self.new words.new }
     {
         if self.is_stopped {
-            return Err(RouterFault::Stopped);
+            return Err(RouterFault::Refused(Refusal::Stopped));
         }
-        if let Some(fault) = refusal::of_anything(&self.tables) {
-            return Err(fault);
+        if let Some(why) = rules::refusal_of(&self.state, &event, now) {
+            return Err(RouterFault::Refused(why));
         }
-        match own::shut(
-            self.alloc,
-            &self.setup,
-            &mut self.tables,
-            &mut self.trace,
-            now,
-        ) {
-            Ok(()) => Ok(()),
-            Err(_) => Err(stop(&mut self.is_stopped)),
+        let done = self.state.open(event, now, words);
+        ended(&mut self.is_stopped, done)
+    }
+
+    /// Loses a neighbour by an event, where it is up.
+    fn lose<W: Words>(
+        &mut self,
+        peer: PeerNo,
+        event: Event,
+        now: Millis,
+        words: &mut W,
+    ) -> Result<(), RouterFault>
+        requires time { last_moment self.old.trace ≤ now.0 }
+        requires loss { IsLoss peer event }
+        ensures { Calls (exact W.word W.after) (losing self.old.trace peer event) now
+            self.old words.old result self.new words.new }
+    {
+        if self.is_stopped {
+            return Err(RouterFault::Refused(Refusal::Stopped));
         }
+        if !self.state.tables.neighbours.is_up(peer) {
+            return Ok(());
+        }
+        let done = self.state.open(event, now, words);
+        ended(&mut self.is_stopped, done)
     }
 }
 
-/// Has a router refuse everything after want of memory.
-fn stop(is_stopped: &mut bool) -> RouterFault
-    ensures fault { result ≡ NoMemory }
-    ensures stopped { is_stopped.new ≡ true }
+/// How a call ends: after want of memory the router has stopped.
+fn ended(is_stopped: &mut bool, done: Result<(), AllocError>) -> Result<(), RouterFault>
+    ensures answer { result ≡ answer_of done }
+    ensures stopped { is_stopped.new ≡ (is_stopped.old || fails done) }
 {
-    *is_stopped = true;
-    RouterFault::NoMemory
+    match done {
+        Ok(()) => Ok(()),
+        Err(_) => {
+            *is_stopped = true;
+            Err(RouterFault::NoMemory)
+        }
+    }
 }

@@ -16,8 +16,6 @@ use Rattle.gs_rules.specs.declared.trace.Event.{Event}
 use Rattle.gs_rules.specs.declared.trace.Event.TheVariants.{Msg, Subscribe, Unsubscribe, Publish}
 use Rattle.gs_rules.specs.declared.trace.Entry.{Entry}
 use Rattle.gs_base.specs.Names.{longest_topic, same_peer, same_topic, topic_of, payload_of, message_id, is_signed, announcement, publication}
-use Rattle.gs_params.specs.declared.params.Params.{Params}
-use Rattle.gs_base.specs.declared.neighbour.Neighbour.{Neighbour}
 use Rattle.gs_wire.specs.Varint.{varint}
 use Rattle.gs_wire.specs.Records.{record_text, records_text}
 use Rattle.gs_wire.specs.Fields.{bool_number, varint_record, len_record}
@@ -34,10 +32,6 @@ use Rattle.gs_rules.specs.Legal.{MaySubscribe, MayUnsubscribe, MayPublish, IsNex
 use Rattle.gs_rules.specs.Saying.{SendsFit, AllFit}
 use Rattle.gs_rules.proofs.Owed.{opens}
 use Rattle.gs_rules.proofs.Legality.{legal_newest}
-
--- a peer that writes as the codec says
-abbrev pub peer_of : Params → List Neighbour → Peer
-peer_of params neighbours = record { params = params; neighbours = neighbours; codec = codec }
 
 -- ---- an announcement
 
@@ -153,10 +147,7 @@ message_fits p L at q m = by_tests (joined L (topic_of m)) (is_signed m) (is_som
     by_tests true false false j s k = rw (j, s, k) tt
 
 -- each event sends what fits, or nothing
-module _ (params : Params) (neighbours : List Neighbour) (L : Entries) (legal : Legal (peer_of params neighbours) L) where
-  abbrev p : Peer
-  p = peer_of params neighbours
-
+module _ (p : Peer) (L : Entries) (legal : Legal p L) where
   by_event : (event : Event) (e : Entry) → IsNext p L e.at.0 (owed p L).events event → Follows free (rule_of p L e.at event) tt e tt → SendsWritten e.sends
   by_event (Msg q m) e next effects = same_fits e _ effects.0 (message_fits p L e.at q m)
   by_event (Subscribe t) e next effects =
@@ -172,11 +163,11 @@ module _ (params : Params) (neighbours : List Neighbour) (L : Entries) (legal : 
 
 -- ---- a legal trace
 
-pub legal_written : (params : Params) (neighbours : List Neighbour) (L : Entries) → Legal (peer_of params neighbours) L → AllWritten L
-legal_written params neighbours [] legal = tt
-legal_written params neighbours (e ∷ L) legal =
-    let newest = legal_newest (peer_of params neighbours) e L legal in
-    (by_event params neighbours L legal.1 e.event e newest.next newest.effects, legal_written params neighbours L legal.1)
+pub legal_written : (p : Peer) (L : Entries) → Legal p L → AllWritten L
+legal_written p [] legal = tt
+legal_written p (e ∷ L) legal =
+    let newest = legal_newest p e L legal in
+    (by_event p L legal.1 e.event e newest.next newest.effects, legal_written p L legal.1)
 
 -- ---- parts of a trace, and its other order
 
@@ -211,6 +202,6 @@ all_of_written [] h = tt
 all_of_written (e ∷ entries) h = (sends_of_written e.sends h.0, all_of_written entries h.1)
 
 -- any part of a legal trace, the oldest entry first
-pub legal_part_fits : (params : Params) (neighbours : List Neighbour) (L : Entries) (skipped most : ℕ) → Legal (peer_of params neighbours) L → AllFit codec (take most (drop skipped (reverse L)))
-legal_part_fits params neighbours L skipped most legal =
-    all_of_written (take most (drop skipped (reverse L))) (fits_take most (drop skipped (reverse L)) (fits_drop skipped (reverse L) (fits_reverse L (legal_written params neighbours L legal))))
+pub legal_part_fits : (p : Peer) (L : Entries) (skipped most : ℕ) → Legal p L → AllFit codec (take most (drop skipped (reverse L)))
+legal_part_fits p L skipped most legal =
+    all_of_written (take most (drop skipped (reverse L))) (fits_take most (drop skipped (reverse L)) (fits_drop skipped (reverse L) (fits_reverse L (legal_written p L legal))))

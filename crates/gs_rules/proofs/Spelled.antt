@@ -4,11 +4,9 @@ use Rattle.std.specs.List.{flat_map, AllByRecursion}
 use Rattle.std.proofs.lemmas.Bool.Decides.{nat_tests}
 use Rattle.std.proofs.lemmas.Grind.{flat_map-append}
 use Rattle.gs_base.specs.declared.names.PeerNo.{PeerNo}
-use Rattle.gs_base.specs.declared.neighbour.Neighbour.{Neighbour}
 use Rattle.gs_base.specs.declared.rpc.Rpc.{Rpc}
 use Rattle.gs_base.specs.Names.{same_peer}
 use Rattle.gs_base.specs.Codecs.{Codec}
-use Rattle.gs_params.specs.declared.params.Params.{Params}
 use Rattle.gs_wire.specs.declared.frames.End.TheVariants.{Waits}
 use Rattle.gs_wire.specs.declared.rpc.TheConstants.{MAX_BODY}
 use Rattle.gs_wire.specs.Messages.{body}
@@ -24,7 +22,7 @@ use Rattle.gs_rules.specs.Modes.{sent_to}
 use Rattle.gs_rules.specs.Legal.{Legal}
 use Rattle.gs_rules.specs.Saying.{Byte, EndOf, Close, Said, bytes_of, sign, says, out, sent}
 use Rattle.gs_rules.specs.Hearing.{Spell, closes}
-use Rattle.gs_rules.proofs.Fitting.{IsWritten, SendsWritten, AllWritten, legal_written, peer_of}
+use Rattle.gs_rules.proofs.Fitting.{IsWritten, SendsWritten, AllWritten, legal_written}
 
 -- ---- bytes
 
@@ -105,10 +103,8 @@ sent_written (e ∷ L) q all = by (up L q) (sent_written L q all.1)
 pub sent_stream : (L : Entries) (q : PeerNo) → AllWritten L → IsStream MAX_BODY (bytes_of (out codec L q)) (sent L q) [] Waits
 sent_stream L q all = subst (λ (bytes : List ℕ). IsStream MAX_BODY bytes (sent L q) [] Waits) (sym (out_is_sent codec L q)) (frames_spell (sent L q) (sent_written L q all))
 
-pub sent_is_spelled : (p : Peer) (L : Entries) (q : PeerNo) → p.codec ≡ codec → Legal p L → Spell (bytes_of (out codec L q)) (sent L q)
-sent_is_spelled p L q writes legal =
-    let same : p ≡ peer_of p.params p.neighbours = ap (λ (c : Codec). let r : Peer = record { params = p.params; neighbours = p.neighbours; codec = c } in r) writes in
-    ([], Waits, sent_stream L q (legal_written p.params p.neighbours L (subst (λ (one : Peer). Legal one L) same legal)))
+pub sent_is_spelled : (p : Peer) (L : Entries) (q : PeerNo) → Legal p L → Spell (bytes_of (out codec L q)) (sent L q)
+sent_is_spelled p L q legal = ([], Waits, sent_stream L q (legal_written p L legal))
 
 -- ---- a close
 

@@ -7,6 +7,7 @@ use Rattle.gs_base.specs.declared.names.Millis.{Millis}
 use Rattle.gs_base.specs.declared.names.MsgId.{MsgId}
 use Rattle.gs_base.specs.declared.rpc.Rpc.{Rpc}
 use Rattle.gs_base.specs.Names.{longest_topic, most_topics, same_topic, message_id, publication}
+use Rattle.gs_wire.specs.Codec.{codec}
 use Rattle.gs_rules.specs.declared.trace.Event.{Event}
 use Rattle.gs_rules.specs.declared.trace.Event.TheVariants.{Heard, Late, Subscribe, Unsubscribe, Publish, RoundEnd, Gone, Fault, Shut}
 use Rattle.gs_rules.specs.declared.trace.Entry.{Entry}
@@ -19,9 +20,9 @@ use Rattle.gs_rules.specs.Modes.{Mode, Follows, free}
 -- ---- what may be begun
 
 -- an RPC is heard whose sender is up, and which fits a frame, as all that a reader gives does
-pub record MayHear (p : Peer) (L : Entries) (q : PeerNo) (rpc : Rpc) : Type 0 where
+pub record MayHear (L : Entries) (q : PeerNo) (rpc : Rpc) : Type 0 where
   pub is_up : up L q ≡ true
-  pub fits : p.codec.fits rpc ≡ true
+  pub fits : codec.fits rpc ≡ true
 
 -- the peer may be subscribed to one topic more, or was subscribed to this one
 abbrev pub has_room_for : Entries → Topic → Bool
@@ -43,12 +44,12 @@ pub record MayUnsubscribe (L : Entries) (t : Topic) : Type 0 where
 pub record MayPublish (p : Peer) (L : Entries) (at : ℕ) (t : Topic) (payload : List ℕ) : Type 0 where
   pub running : is_shut L ≡ false
   pub short : length t.0 ≤ longest_topic
-  pub fits : p.codec.fits (publication t payload) ≡ true
+  pub fits : codec.fits (publication t payload) ≡ true
   pub unseen : seen (seen_ttl p) L (message_id payload) at ≡ None
 
 -- the event may come at this moment, where nothing is owed: one that is not named here comes only where it is owed
 abbrev pub MayOpen : Peer → Entries → ℕ → Event → Type 0
-MayOpen p L at (Heard q rpc) = MayHear p L q rpc
+MayOpen p L at (Heard q rpc) = MayHear L q rpc
 MayOpen p L at (Late q rpc) = up L q ≡ false
 MayOpen p L at (Gone q) = up L q ≡ true
 MayOpen p L at (Fault q) = up L q ≡ true

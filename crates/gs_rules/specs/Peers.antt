@@ -3,7 +3,6 @@ use Rattle.std.specs.Prelude.{ℕ, List}
 use Rattle.gs_base.specs.declared.names.PeerNo.{PeerNo}
 use Rattle.gs_base.specs.declared.neighbour.Neighbour.{Neighbour}
 use Rattle.gs_base.specs.Names.{peers_of}
-use Rattle.gs_base.specs.Codecs.{Codec}
 use Rattle.gs_params.specs.declared.params.Params.{Params}
 
 -- What is given of a peer, and stays as it is.
@@ -11,7 +10,6 @@ pub record Peer : Type 0 where
   pub params : Params
   -- ascending by number
   pub neighbours : List Neighbour
-  pub codec : Codec
 
 -- the numbers of its neighbours
 abbrev pub links_of : Peer → List PeerNo

@@ -2,6 +2,7 @@
 use Rattle.std.specs.Prelude.{ℕ, Bool, not, ◌||◌, nat_lt, if◌then◌else◌, List, [], ◌∷◌, length, Option, Some, None, is_some}
 use Rattle.gs_base.specs.declared.names.Topic.{Topic}
 use Rattle.gs_base.specs.Names.{longest_topic, message_id, publication}
+use Rattle.gs_wire.specs.Codec.{codec}
 use Rattle.gs_rules.specs.declared.trace.Event.{Event}
 use Rattle.gs_rules.specs.declared.trace.Event.TheVariants.{Subscribe, Unsubscribe, Publish, RoundEnd, Shut}
 use Rattle.gs_rules.specs.declared.refusal.Refusal.{Refusal}
@@ -38,7 +39,7 @@ reasons p L at (Subscribe t) =
 reasons p L at (Unsubscribe t) = (is_shut L, Stopped) ∷ (not (joined L t), NotJoined) ∷ []
 reasons p L at (Publish t payload) =
     (is_shut L, Stopped)
-    ∷ (is_long t || not (p.codec.fits (publication t payload)), TooLong)
+    ∷ (is_long t || not (codec.fits (publication t payload)), TooLong)
     ∷ (is_some (seen (seen_ttl p) L (message_id payload) at), AlreadySeen)
     ∷ []
 reasons p L at (RoundEnd r) = (is_shut L, Stopped) ∷ []

@@ -93,7 +93,6 @@ pub fn what_is_given_draws_no_word<W: Words>()
 /// order, and nothing else.
 pub fn what_is_sent_is_spelled()
     ensures { (p : Peer) (entries : Entries) (q : PeerNoValue)
-        → p.codec ≡ codec
         → Legal p entries
         → Spell (bytes_of (out codec entries q)) (sent entries q) }
 {}

@@ -1,25 +1,26 @@
-use Rattle.std.proofs.Common.{◌∙◌, refl, sym}
+use Rattle.std.proofs.Common.{◌∙◌, sym}
+use Rattle.gs_rules.specs.declared.trace.Event.{Event}
 use Rattle.gs_rules.specs.declared.trace.Event.TheVariants.{Publish}
-use Rattle.gs_router.specs.Router.{peer_with}
-use Rattle.gs_router.proofs.Calls.{refuses, finishes, wants_memory, may_publish}
+use Rattle.gs_rules.specs.Modes.{exact}
+use Rattle.gs_router.specs.State.{peer_with}
+use Rattle.gs_router.proofs.Calls.{ends_call, may_publish, refuses}
 use Rattle.gs_router.proofs.router.Router.publish.Goals as goal
 
 pub returns-in-Some : goal.returns-in-Some
-returns-in-Some c =
+returns-in-Some g c =
+    let s = c.self.inside.state in
     let ready = c.self.invariant.ready c.if-self.false in
-    rw (← c.self.view_is) (refuses (Publish c.args.topic c.args.payload) c.args.now _ c.of_publish.result c.in-Some.fault c.if-self.false (c.of_publish.ensures c.self.inside.trace ready.agrees) c.in-Some.is c.self.invariant.legal)
+    rw (← c.self.view_is) (refuses (exact g.W.Words.word g.W.Words.after) (Publish c.args.topic c.args.payload) c.args.now _ c.args.words.now c.refusal_of_publish.result c.in-Some.why c.if-self.false (c.refusal_of_publish.ensures s.trace ready.current.agrees) c.in-Some.is c.self.invariant.legal)
 
-pub publish-requires-clause-may : goal.publish-requires-clause-may
-publish-requires-clause-may c =
+pub publish-done-requires-clause-may : goal.publish-done-requires-clause-may
+publish-done-requires-clause-may g c =
+    let s = c.self.inside.state in
     let ready = c.self.invariant.ready c.if-self.false in
-    may_publish (peer_with c.self.inside.setup) c.self.inside.trace c.args.now.0 c.args.topic c.args.payload (sym (c.of_publish.ensures c.self.inside.trace ready.agrees) ∙ c.in_default.is)
+    may_publish (peer_with s.setup) s.trace c.args.now.0 c.args.topic c.args.payload (sym (c.refusal_of_publish.ensures s.trace ready.current.agrees) ∙ c.in_default.is)
 
-pub returns-in-Ok : goal.returns-in-Ok
-returns-in-Ok c =
+pub returns : goal.returns
+returns g c =
+    let s = c.self.inside.state in
     let ready = c.self.invariant.ready c.if-self.false in
-    rw (← c.self.view_is) (finishes (Publish c.args.topic c.args.payload) c.args.now _ _ c.if-self.false (sym (c.of_publish.ensures c.self.inside.trace ready.agrees) ∙ c.in_default.is) c.in-Ok.ensures.opens c.if-self.false refl refl c.in-Ok.ensures.legal)
-
-pub returns-in-Err : goal.returns-in-Err
-returns-in-Err c =
-    let ready = c.self.invariant.ready c.if-self.false in
-    rw (← c.self.view_is, c.stop.ensures.fault) (wants_memory (Publish c.args.topic c.args.payload) c.args.now _ _ c.if-self.false (sym (c.of_publish.ensures c.self.inside.trace ready.agrees) ∙ c.in_default.is) c.in-Err.ensures.goes_on c.stop.ensures.stopped refl refl c.in-Err.ensures.legal)
+    let event : Event = Publish c.args.topic c.args.payload in
+    rw (← c.self.view_is) (ends_call (exact g.W.Words.word g.W.Words.after) event c.args.now s c.publish-done.new.self c.args.words.now c.publish-done.new.words c.self.inside.is_stopped c.ended.new.is_stopped c.if-self.false c.publish-done.result c.ended.result c.ended.ensures.answer c.ended.ensures.stopped (sym (c.refusal_of_publish.ensures s.trace ready.current.agrees) ∙ c.in_default.is) c.publish-done.ensures)

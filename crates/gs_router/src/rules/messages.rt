@@ -1,0 +1,183 @@
+//! Messages: what becomes of one that a neighbour passed on, and publishing.
+ghost use Rattle.std.specs.Prelude.{◌≡◌, ◌&&◌, [], ◌∷◌, IfOk, filter, if◌then◌else◌};
+ghost use Rattle.gs_base.specs.Names.{message_id};
+ghost use Rattle.gs_base.specs.declared.names.PeerNo.{PeerNo as PeerNoValue};
+ghost use Rattle.gs_rules.specs.declared.trace.Event.TheVariants as events;
+ghost use Rattle.gs_rules.specs.Peers.{links_of};
+ghost use Rattle.gs_rules.specs.Tables.{Entries, joined, up};
+ghost use Rattle.gs_rules.specs.Rules.{listeners, message_rule, publish_rule};
+ghost use Rattle.gs_rules.specs.Refusals.{refusal};
+ghost use Rattle.gs_router.specs.PeerSets.{has};
+ghost use Rattle.gs_router.specs.Tables.{Agrees};
+ghost use Rattle.gs_router.specs.State.{judged, peer_with};
+
+use crate::peer_set::PeerSet;
+use crate::rules::to_each;
+use crate::state::State;
+use bytes::Bytes;
+use gs_base::{LONGEST_TOPIC, Message, Millis, MsgId, PeerNo, Rpc, Seq, Topic, clone_of};
+use gs_rules::{Entry, Event, Mark, Refusal, Verdict};
+use gs_wire::{MAX_BODY, publish_len};
+use std::alloc::{AllocError, Global};
+
+// ---- a message that came
+
+/// What becomes of a message that came.
+#[derive(Clone, Copy, Debug, PartialEq, Eq)]
+pub enum Fate {
+    /// Nothing.
+    Dropped,
+    /// It counts against its sender.
+    Invalid,
+    /// It is delivered, and its identifier marked as seen.
+    Accepted(MsgId),
+}
+
+/// What becomes of a message.
+fn fate_of(state: &State, message: &Message, now: Millis) -> Fate
+    ensures { (L : Entries) (q : PeerNoValue) → Agrees state.now.tables L → message_rule (peer_with state.now.setup) L now q message.now ≡ judged q now message.now result }
+{
+    if !state.tables.topics.is_joined_or_empty(&message.topic) {
+        return Fate::Dropped;
+    }
+    if message.is_signed() {
+        return Fate::Invalid;
+    }
+    let id = MsgId::of(message.payload_bytes());
+    let ttl = Millis(state.setup.params.windows.seen_ttl_ms);
+    if state.tables.sightings.is_seen(ttl, id, now) {
+        return Fate::Dropped;
+    }
+    Fate::Accepted(id)
+}
+
+/// The entry of a message of which this becomes.
+fn judged(
+    alloc: Global,
+    from: PeerNo,
+    message: Message,
+    fate: Fate,
+    now: Millis,
+) -> Result<Entry, AllocError>
+    ensures { IfOk result (λ entry. entry ≡ judged from now message fate) }
+{
+    let mut delivered = Seq::new(alloc);
+    let mut marks = Seq::new(alloc);
+    match fate {
+        Fate::Dropped => {}
+        Fate::Invalid => marks.push(Mark::Invalid(from, message.topic_or_empty()?))?,
+        Fate::Accepted(id) => {
+            delivered.push((message.topic_or_empty()?, message.payload_or_empty()?))?;
+            marks.push(Mark::Seen(id, Verdict::Accept))?;
+        }
+    }
+    Ok(Entry {
+        at: now,
+        event: Event::Msg(from, message),
+        sends: Seq::new(alloc),
+        delivered,
+        marks,
+    })
+}
+
+/// The entry of a message that a neighbour passed on.
+pub fn entry_of(
+    state: &State,
+    from: PeerNo,
+    message: Message,
+    now: Millis,
+) -> Result<Entry, AllocError>
+    ensures { IfOk result (λ entry. (L : Entries) → Agrees state.now.tables L → entry ≡ message_rule (peer_with state.now.setup) L now from message) }
+{
+    let fate = fate_of(state, &message, now);
+    let entry = judged(state.alloc, from, message, fate, now)?;
+    Ok(entry)
+}
+
+// ---- a message that is published
+
+/// A payload that the router's own user publishes, with the identifier of its message.
+#[derive(Drop)]
+pub struct Publishing {
+    pub topic: Topic,
+    pub payload: Bytes,
+    pub id: MsgId,
+}
+
+/// The neighbours that are up and on a topic.
+fn listeners(state: &State, topic: &Topic) -> Result<Vec<PeerNo>, AllocError>
+    ensures { IfOk result (λ receivers. (L : Entries) → Agrees state.now.tables L → receivers.items ≡ listeners (peer_with state.now.setup) L topic.now) }
+{
+    match state.tables.listeners.of(topic) {
+        Some(set) => up_among(state, set),
+        None => Ok(Vec::new(state.alloc)),
+    }
+}
+
+/// The neighbours that are up and in a set.
+fn up_among(state: &State, set: &PeerSet) -> Result<Vec<PeerNo>, AllocError>
+    ensures { IfOk result (λ receivers. (L : Entries) → Agrees state.now.tables L → receivers.items ≡ filter (λ q. up L q && has set.now q) (links_of (peer_with state.now.setup))) }
+{
+    let mut receivers = Vec::new(state.alloc);
+    for neighbour in &state.setup.neighbours {
+        if state.tables.neighbours.is_up(neighbour.peer) && set.contains(neighbour.peer) {
+            receivers.push(neighbour.peer)?;
+        }
+    }
+    Ok(receivers)
+}
+
+/// What is delivered to the router's own user of a payload that it publishes.
+fn delivered(state: &State, publishing: &Publishing) -> Result<Seq<(Topic, Bytes)>, AllocError>
+    ensures { IfOk result (λ list. (L : Entries) → Agrees state.now.tables L → list ≡ (if joined L publishing.now.topic then (publishing.now.topic, publishing.now.payload) ∷ [] else [])) }
+{
+    if state.tables.topics.is_joined(&publishing.topic) {
+        let message = (clone_of(&publishing.topic)?, clone_of(&publishing.payload)?);
+        Seq::only(state.alloc, message)
+    } else {
+        Ok(Seq::new(state.alloc))
+    }
+}
+
+/// The entry of a payload that the router's own user publishes.
+pub fn publish(state: &State, publishing: Publishing, now: Millis) -> Result<Entry, AllocError>
+    requires { publishing.id ≡ message_id publishing.payload }
+    ensures { IfOk result (λ entry. (L : Entries) → Agrees state.now.tables L → entry ≡ publish_rule (peer_with state.now.setup) L now publishing.topic publishing.payload) }
+{
+    let receivers = listeners(state, &publishing.topic)?;
+    let rpc = Rpc::publication(state.alloc, &publishing.topic, &publishing.payload)?;
+    let sends = to_each(state.alloc, &rpc, &receivers)?;
+    let delivered = delivered(state, &publishing)?;
+    let Publishing { topic, payload, id } = publishing;
+    Ok(Entry {
+        at: now,
+        event: Event::Publish(topic, payload),
+        sends,
+        delivered,
+        marks: Seq::only(state.alloc, Mark::Seen(id, Verdict::Accept))?,
+    })
+}
+
+/// Why the router may not publish a payload with this identifier on a topic.
+pub fn refusal_of_publish(
+    state: &State,
+    topic: &Topic,
+    payload: &Bytes,
+    id: MsgId,
+    now: Millis,
+) -> Option<Refusal>
+    requires { id ≡ message_id payload.now }
+    ensures { (L : Entries) → Agrees state.now.tables L → result ≡ refusal (peer_with state.now.setup) L now.0 (events.Publish topic.now payload.now) }
+{
+    if state.tables.neighbours.is_shut() {
+        return Some(Refusal::Stopped);
+    }
+    if topic.0.len() > LONGEST_TOPIC || publish_len(topic, payload) > MAX_BODY {
+        return Some(Refusal::TooLong);
+    }
+    let ttl = Millis(state.setup.params.windows.seen_ttl_ms);
+    if state.tables.sightings.is_seen(ttl, id, now) {
+        return Some(Refusal::AlreadySeen);
+    }
+    None
+}

@@ -1,0 +1,137 @@
+//! What a router knows, and how it takes a step.
+ghost use Rattle.std.specs.Prelude.{◌≡◌, ◌≤◌, [], ◌∷◌, OnOk, OnErr, true};
+ghost use Rattle.gs_base.specs.Names.{message_id};
+ghost use Rattle.gs_wire.specs.Codec.{codec};
+ghost use Rattle.gs_rules.specs.declared.trace.Event.TheVariants as events;
+ghost use Rattle.gs_rules.specs.Tables.{Entries, last_moment, up};
+ghost use Rattle.gs_rules.specs.Owed.{owed, owes};
+ghost use Rattle.gs_rules.specs.Modes.{exact};
+ghost use Rattle.gs_rules.specs.Legal.{IsNext, MayHear, MayOpen, hearing};
+ghost use Rattle.gs_router.specs.Tables.{Agrees};
+ghost use Rattle.gs_router.specs.State.{Ends, IsCurrent, IsReady, Steps, peer_with};
+
+use crate::rules;
+use crate::rules::messages::{self, Publishing};
+use crate::setup::Setup;
+use crate::tables::Tables;
+use gs_base::{Millis, PeerNo, Rpc, clone_of};
+use gs_params::Words;
+use gs_rules::{Entry, Event, Trace};
+use std::alloc::{AllocError, Global};
+
+/// What is given of a router, what it did, and what that says.
+///
+/// After a failed step the trace ends with the last whole entry, and the tables may not agree with
+/// it any more: then no further step can be taken.
+#[derive(Drop)]
+pub struct State {
+    pub alloc: Global,
+    pub setup: Setup,
+    pub tables: Tables,
+    pub trace: Trace,
+}
+
+impl State {
+    /// Brings every table up to date from an entry, and adds that to the trace.
+    ///
+    /// # Errors
+    /// `AllocError` where there was no memory; the trace is then as it was.
+    fn append(&mut self, entry: Entry) -> Result<(), AllocError>
+        ensures added { OnOk result (self.new.trace ≡ entry ∷ self.old.trace) }
+        ensures agrees { OnOk result ((L : Entries) → Agrees self.old.tables L → Agrees self.new.tables (entry ∷ L)) }
+        ensures kept { OnErr result (self.new.trace ≡ self.old.trace) }
+        ensures setup { self.new.setup ≡ self.old.setup }
+    {
+        self.tables.note(&entry)?;
+        self.trace.push(entry)?;
+        Ok(())
+    }
+
+    /// Does what the rule says of the event that comes next.
+    fn step<W: Words>(&mut self, event: Event, now: Millis, words: &mut W) -> Result<(), AllocError>
+        requires current { IsCurrent self.old }
+        requires time { last_moment self.old.trace ≤ now.0 }
+        requires next { IsNext (peer_with self.old.setup) self.old.trace now.0 (owed (peer_with self.old.setup) self.old.trace).events event }
+        ensures { Steps (exact W.word W.after) event now self.old words.old result self.new words.new }
+    {
+        let entry = rules::entry_of(self, event, now, words)?;
+        self.append(entry)
+    }
+
+    /// Does what the rule says of an event that owes nothing.
+    pub fn open<W: Words>(&mut self, event: Event, now: Millis, words: &mut W) -> Result<(), AllocError>
+        requires ready { IsReady self.old }
+        requires time { last_moment self.old.trace ≤ now.0 }
+        requires may { MayOpen (peer_with self.old.setup) self.old.trace now.0 event }
+        requires alone { owes (peer_with self.old.setup) self.old.trace event ≡ [] }
+        ensures { Ends (exact W.word W.after) event now self.old words.old result self.new words.new }
+    {
+        self.step(event, now, words)
+    }
+
+    /// Publishes a payload with its identifier.
+    pub fn publish<W: Words>(
+        &mut self,
+        publishing: Publishing,
+        now: Millis,
+        words: &mut W,
+    ) -> Result<(), AllocError>
+        requires ready { IsReady self.old }
+        requires time { last_moment self.old.trace ≤ now.0 }
+        requires may { MayOpen (peer_with self.old.setup) self.old.trace now.0 (events.Publish publishing.topic publishing.payload) }
+        requires id { publishing.id ≡ message_id publishing.payload }
+        ensures { Ends (exact W.word W.after) (events.Publish publishing.topic publishing.payload) now self.old words.old result self.new words.new }
+    {
+        let entry = messages::publish(self, publishing, now)?;
+        self.append(entry)
+    }
+
+    /// Hears an RPC, and all its parts where its sender is up.
+    pub fn hear<W: Words>(
+        &mut self,
+        from: PeerNo,
+        rpc: Rpc,
+        now: Millis,
+        words: &mut W,
+    ) -> Result<(), AllocError>
+        requires ready { IsReady self.old }
+        requires time { last_moment self.old.trace ≤ now.0 }
+        requires fits { codec.fits rpc ≡ true }
+        ensures { Ends (exact W.word W.after) (hearing self.old.trace from rpc) now self.old words.old result self.new words.new }
+    {
+        if self.tables.neighbours.is_up(from) {
+            self.hear_up(from, rpc, now, words)
+        } else {
+            self.open(Event::Late(from, rpc), now, words)
+        }
+    }
+
+    /// Hears an RPC of a neighbour that is up, and all its parts.
+    fn hear_up<W: Words>(
+        &mut self,
+        from: PeerNo,
+        rpc: Rpc,
+        now: Millis,
+        words: &mut W,
+    ) -> Result<(), AllocError>
+        requires ready { IsReady self.old }
+        requires time { last_moment self.old.trace ≤ now.0 }
+        requires may { MayHear self.old.trace from rpc }
+        ensures { Ends (exact W.word W.after) (events.Heard from rpc) now self.old words.old result self.new words.new }
+    {
+        let heard = clone_of(&rpc)?;
+        self.step(Event::Heard(from, heard), now, words)?;
+        let Rpc {
+            subs,
+            publish,
+            control: _,
+        } = rpc;
+        for sub in subs.into_vec() {
+            self.step(Event::Sub(from, sub), now, words)?;
+        }
+        for message in publish.into_vec() {
+            self.step(Event::Msg(from, message), now, words)?;
+        }
+        Ok(())
+    }
+}

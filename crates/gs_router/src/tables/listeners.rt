@@ -1,0 +1,74 @@
+//! What neighbours said of topics.
+ghost use Rattle.std.specs.Prelude.{◌≡◌, [], ◌∷◌, IfSome, IfNone, OnOk, false, if◌then◌else◌, ◌&&◌};
+ghost use Rattle.gs_base.specs.Names.{same_peer, same_topic};
+ghost use Rattle.gs_base.specs.declared.names.PeerNo.{PeerNo as PeerNoValue};
+ghost use Rattle.gs_base.specs.declared.names.Topic.{Topic as TopicValue};
+ghost use Rattle.gs_rules.specs.Tables.{Entries, on};
+ghost use Rattle.gs_router.specs.PeerSets.{has};
+ghost use Rattle.gs_router.specs.Tables.{AgreesOnListeners, listens};
+
+use crate::peer_set::PeerSet;
+use gs_base::{PeerNo, Topic};
+use gs_rules::{Entry, Event};
+use indexmap::IndexMap;
+use std::alloc::{AllocError, Global};
+
+/// Who is on which topic.
+#[derive(Drop)]
+pub struct Listeners {
+    alloc: Global,
+    /// Those who are on each topic that a neighbour ever spoke of.
+    topics: IndexMap<Topic, PeerSet>,
+}
+
+impl Listeners {
+    /// Nobody spoke of a topic.
+    pub fn new(alloc: Global) -> Listeners
+        ensures { AgreesOnListeners result [] }
+    {
+        Listeners {
+            alloc,
+            topics: IndexMap::new(alloc),
+        }
+    }
+
+    /// Those who are on a topic; `None` is nobody.
+    pub fn of(&self, topic: &Topic) -> Option<&PeerSet>
+        ensures some { IfSome result (λ set. (L : Entries) (q : PeerNoValue) → AgreesOnListeners self.now L → has set.now q ≡ on L q topic.now) }
+        ensures none { IfNone result ((L : Entries) (q : PeerNoValue) → AgreesOnListeners self.now L → on L q topic.now ≡ false) }
+    {
+        self.topics.get(topic)
+    }
+
+    /// Notes an entry.
+    pub fn note(&mut self, entry: &Entry) -> Result<(), AllocError>
+        ensures { OnOk result ((L : Entries) → AgreesOnListeners self.old L → AgreesOnListeners self.new (entry.now ∷ L)) }
+    {
+        match &entry.event {
+            Event::Sub(peer, sub) => {
+                let topic = sub.topic_or_empty()?;
+                self.put(topic, *peer, sub.subscribe.unwrap_or(false))?;
+                Ok(())
+            }
+            _ => Ok(()),
+        }
+    }
+
+    /// Notes whether a neighbour is on a topic.
+    fn put(&mut self, topic: Topic, peer: PeerNo, is_on: bool) -> Result<(), AllocError>
+        ensures { OnOk result ((q : PeerNoValue) (t : TopicValue) → listens self.new q t ≡ (if same_peer peer q && same_topic topic t then is_on else listens self.old q t)) }
+    {
+        match self.topics.get_mut(&topic) {
+            Some(set) => {
+                set.put(peer, is_on)?;
+                Ok(())
+            }
+            None => {
+                let mut set = PeerSet::new(self.alloc);
+                set.put(peer, is_on)?;
+                self.topics.insert(topic, set)?;
+                Ok(())
+            }
+        }
+    }
+}

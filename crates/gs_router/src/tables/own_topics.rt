@@ -1,0 +1,77 @@
+//! The topics that a router is or was subscribed to.
+ghost use Rattle.std.specs.Prelude.{◌≡◌, [], ◌∷◌, OnOk};
+ghost use Rattle.gs_base.specs.Names.{topic_or_empty};
+ghost use Rattle.gs_rules.specs.Tables.{Entries, joined};
+ghost use Rattle.gs_rules.specs.Legal.{has_room_for};
+ghost use Rattle.gs_router.specs.Tables.{AgreesOnTopics};
+
+use bytes::Bytes;
+use gs_base::{MOST_TOPICS, Topic, clone_of};
+use gs_rules::{Entry, Event};
+use std::alloc::{AllocError, Global};
+use std::collections::BTreeMap;
+
+/// The topics that a router was ever subscribed to, in the order of their bytes.
+#[derive(Drop)]
+pub struct OwnTopics {
+    /// Each, and whether it is subscribed to it now.
+    topics: BTreeMap<Topic, bool>,
+}
+
+impl OwnTopics {
+    /// No topics.
+    pub fn new(alloc: Global) -> OwnTopics
+        ensures { AgreesOnTopics result [] }
+    {
+        OwnTopics {
+            topics: BTreeMap::new(alloc),
+        }
+    }
+
+    /// Whether the router is subscribed to a topic.
+    pub fn is_joined(&self, topic: &Topic) -> bool
+        ensures { (L : Entries) → AgreesOnTopics self.now L → result ≡ joined L topic.now }
+    {
+        match self.topics.get(topic) {
+            Some(joined) => *joined,
+            None => false,
+        }
+    }
+
+    /// Whether the router is subscribed to the topic that is named; an absent one is the empty one.
+    pub fn is_joined_or_empty(&self, topic: &Option<Topic>) -> bool
+        ensures { (L : Entries) → AgreesOnTopics self.now L → result ≡ joined L (topic_or_empty topic.now) }
+    {
+        match topic {
+            Some(topic) => self.is_joined(topic),
+            None => self.is_joined(&Topic(Bytes::new())),
+        }
+    }
+
+    /// Whether the router may be subscribed to a topic beside all that it ever was subscribed to.
+    pub fn has_room_for(&self, topic: &Topic) -> bool
+        ensures { (L : Entries) → AgreesOnTopics self.now L → result ≡ has_room_for L topic.now }
+    {
+        self.topics.get(topic).is_some() || self.topics.len() < MOST_TOPICS
+    }
+
+    /// Notes an entry.
+    pub fn note(&mut self, entry: &Entry) -> Result<(), AllocError>
+        ensures { OnOk result ((L : Entries) → AgreesOnTopics self.old L → AgreesOnTopics self.new (entry.now ∷ L)) }
+    {
+        match &entry.event {
+            Event::Subscribe(topic) => {
+                self.topics.insert(clone_of(topic)?, true)?;
+                Ok(())
+            }
+            Event::Unsubscribe(topic) => {
+                if !self.topics.contains_key(topic) {
+                    return Ok(());
+                }
+                self.topics.insert(clone_of(topic)?, false)?;
+                Ok(())
+            }
+            _ => Ok(()),
+        }
+    }
+}
