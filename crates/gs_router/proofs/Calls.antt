@@ -7,6 +7,7 @@ use Rattle.gs_base.specs.declared.names.PeerNo.{PeerNo}
 use Rattle.gs_base.specs.declared.names.Topic.{Topic}
 use Rattle.gs_base.specs.declared.rpc.Rpc.{Rpc}
 use Rattle.gs_base.specs.Names.{longest_topic, message_id, publication}
+use Rattle.gs_wire.specs.Codec.{codec}
 use Rattle.gs_rules.specs.declared.trace.Event.{Event}
 use Rattle.gs_rules.specs.declared.trace.Event.TheVariants.{Heard, Late, Subscribe, Unsubscribe, Publish, RoundEnd, Gone, Fault, Shut}
 use Rattle.gs_rules.specs.declared.refusal.Refusal.{Refusal}
@@ -127,7 +128,7 @@ may_unsubscribe p L at t free =
 pub may_publish : (p : Peer) (L : Entries) (at : ℕ) (t : Topic) (payload : List ℕ) → refusal p L at (Publish t payload) ≡ None → MayPublish p L at t payload
 may_publish p L at t payload free =
     let h = none_holds (reasons p L at (Publish t payload)) free in
-    let short = neither (is_long t) (p.codec.fits (publication t payload)) h.1.0 in
+    let short = neither (is_long t) (codec.fits (publication t payload)) h.1.0 in
     record { running = h.0; short = is_short t short.0; fits = short.1; unseen = is_unseen (seen (seen_ttl p) L (message_id payload) at) h.1.1.0 }
 
 -- what its user wishes may come where it is not refused
