@@ -1,0 +1,184 @@
+//! RPCs, events, entries and traces from what a table tells of them.
+use crate::tests::cases::Sends;
+use bytes::Bytes;
+use gs_base::{Message, Millis, MsgId, PeerNo, Rpc, Seq, SubOpt, Topic};
+use gs_rules::{Entry, Event, Mark, Trace, Verdict};
+use std::alloc::{AllocError, Global};
+
+/// Whether it subscribes, and the topic.
+pub type Said<'a> = (Option<bool>, Option<&'a str>);
+
+/// A message's topic, its payload, and the number of a field that StrictNoSign forbids, which is
+/// there and empty.
+pub type Told<'a> = (Option<&'a str>, Option<&'a [u8]>, Option<u8>);
+
+/// The subscriptions and the messages of an RPC.
+pub type Parts<'a> = (&'a [Said<'a>], &'a [Told<'a>]);
+
+/// What a router is called with, or an event of its trace.
+#[derive(Clone, Copy)]
+pub enum What<'a> {
+    Heard(u16, Parts<'a>),
+    Late(u16, Parts<'a>),
+    Sub(u16, Said<'a>),
+    Msg(u16, Told<'a>),
+    Subscribe(&'a str),
+    Unsubscribe(&'a str),
+    Publish(&'a str, &'a [u8]),
+    RoundEnd(u64),
+    Gone(u16),
+    Fault(u16),
+    Shut,
+}
+
+#[derive(Clone, Copy)]
+pub enum Left<'a> {
+    Seen(MsgId),
+    Invalid(u16, &'a str),
+}
+
+/// An entry: its moment, its event, what is sent, what is delivered, and what is marked.
+pub type Row<'a> = (
+    u64,
+    What<'a>,
+    Sends<'a>,
+    Option<(&'a str, &'a [u8])>,
+    Option<Left<'a>>,
+);
+
+fn topic_of(alloc: Global, name: &str) -> Result<Topic, AllocError> {
+    Ok(Topic(Bytes::copy_from_slice(alloc, name.as_bytes())?))
+}
+
+fn named(alloc: Global, name: Option<&str>) -> Result<Option<Topic>, AllocError> {
+    match name {
+        Some(name) => Ok(Some(topic_of(alloc, name)?)),
+        None => Ok(None),
+    }
+}
+
+fn sub_of(alloc: Global, said: Said<'_>) -> Result<SubOpt, AllocError> {
+    Ok(SubOpt {
+        subscribe: said.0,
+        topic: named(alloc, said.1)?,
+    })
+}
+
+fn message_of(alloc: Global, told: Told<'_>) -> Result<Message, AllocError> {
+    let payload = match told.1 {
+        Some(payload) => Some(Bytes::copy_from_slice(alloc, payload)?),
+        None => None,
+    };
+    let mut message = Message {
+        origin: None,
+        payload,
+        seqno: None,
+        topic: named(alloc, told.0)?,
+        signature: None,
+        key: None,
+    };
+    match told.2 {
+        Some(0) => message.origin = Some(Bytes::new()),
+        Some(1) => message.seqno = Some(Bytes::new()),
+        Some(2) => message.signature = Some(Bytes::new()),
+        Some(_) => message.key = Some(Bytes::new()),
+        None => {}
+    }
+    Ok(message)
+}
+
+fn rpc_of(alloc: Global, parts: Parts<'_>) -> Result<Rpc, AllocError> {
+    let mut rpc = Rpc {
+        subs: Seq::new(alloc),
+        publish: Seq::new(alloc),
+        control: None,
+    };
+    for said in parts.0 {
+        rpc.subs.push(sub_of(alloc, *said)?)?;
+    }
+    for told in parts.1 {
+        rpc.publish.push(message_of(alloc, *told)?)?;
+    }
+    Ok(rpc)
+}
+
+pub fn event_of(alloc: Global, what: What<'_>) -> Result<Event, AllocError> {
+    Ok(match what {
+        What::Heard(from, parts) => Event::Heard(PeerNo(from), rpc_of(alloc, parts)?),
+        What::Late(from, parts) => Event::Late(PeerNo(from), rpc_of(alloc, parts)?),
+        What::Sub(from, said) => Event::Sub(PeerNo(from), sub_of(alloc, said)?),
+        What::Msg(from, told) => Event::Msg(PeerNo(from), message_of(alloc, told)?),
+        What::Subscribe(name) => Event::Subscribe(topic_of(alloc, name)?),
+        What::Unsubscribe(name) => Event::Unsubscribe(topic_of(alloc, name)?),
+        What::Publish(name, payload) => {
+            Event::Publish(
+                topic_of(alloc, name)?,
+                Bytes::copy_from_slice(alloc, payload)?,
+            )
+        }
+        What::RoundEnd(round) => Event::RoundEnd(round),
+        What::Gone(peer) => Event::Gone(PeerNo(peer)),
+        What::Fault(peer) => Event::Fault(PeerNo(peer)),
+        What::Shut => Event::Shut,
+    })
+}
+
+fn sends_of(alloc: Global, to: &[u16], sent: Parts<'_>) -> Result<Seq<(PeerNo, Rpc)>, AllocError> {
+    let mut sends = Seq::new(alloc);
+    for receiver in to {
+        sends.push((PeerNo(*receiver), rpc_of(alloc, sent)?))?;
+    }
+    Ok(sends)
+}
+
+fn delivered_of(
+    alloc: Global,
+    what: Option<(&str, &[u8])>,
+) -> Result<Seq<(Topic, Bytes)>, AllocError> {
+    let mut delivered = Seq::new(alloc);
+    if let Some((name, payload)) = what {
+        delivered.push((
+            topic_of(alloc, name)?,
+            Bytes::copy_from_slice(alloc, payload)?,
+        ))?;
+    }
+    Ok(delivered)
+}
+
+fn marks_of(alloc: Global, mark: Option<Left<'_>>) -> Result<Seq<Mark>, AllocError> {
+    let mut marks = Seq::new(alloc);
+    match mark {
+        Some(Left::Seen(id)) => marks.push(Mark::Seen(id, Verdict::Accept))?,
+        Some(Left::Invalid(from, name)) => {
+            marks.push(Mark::Invalid(PeerNo(from), topic_of(alloc, name)?))?;
+        }
+        None => {}
+    }
+    Ok(marks)
+}
+
+fn entry_of(alloc: Global, row: &Row<'_>) -> Result<Entry, AllocError> {
+    let (at, what, sends, delivered, mark) = *row;
+    let event = event_of(alloc, what)?;
+    let sends = sends_of(alloc, sends.0, sends.1)?;
+    let delivered = delivered_of(alloc, delivered)?;
+    let marks = marks_of(alloc, mark)?;
+    Ok(Entry {
+        at: Millis(at),
+        event,
+        sends,
+        delivered,
+        marks,
+    })
+}
+
+/// Whether this is the trace, from the first entry to the last.
+pub fn is_trace(alloc: Global, trace: &Trace, rows: &[Row<'_>]) -> Result<bool, AllocError> {
+    for (entry, row) in trace.entries().iter().zip(rows) {
+        let wanted = entry_of(alloc, row)?;
+        if *entry != wanted {
+            return Ok(false);
+        }
+    }
+    Ok(trace.entries().len() == rows.len())
+}
