@@ -2,3 +2,8 @@ pub mod InRange
 pub mod Shuffles
 pub mod Picking
 pub mod Seeded
+pub mod Ranks
+pub mod PeerLists
+pub mod Members
+pub mod Cutting
+pub mod CutExamples

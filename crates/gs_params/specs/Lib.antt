@@ -1,4 +1,5 @@
 pub mod Params
 pub mod Picks
+pub mod Cuts
 pub mod Seeding
 pub mod Plans

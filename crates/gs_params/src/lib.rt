@@ -2,6 +2,7 @@
 //! peers.
 #![tactic(auto)]
 
+mod cuts;
 mod param_fault;
 mod params;
 mod picks;
@@ -11,6 +12,7 @@ mod seeded_words;
 mod topic_params;
 mod words;
 
+pub use cuts::{Member, a_cut_by_words_is_a_cut};
 pub use param_fault::ParamFault;
 pub use params::{
     DEFAULT_DEGREES, DEFAULT_FACTORS, DEFAULT_FLOOD_PUBLISH, DEFAULT_THRESHOLDS, DEFAULT_WINDOWS,
@@ -18,8 +20,8 @@ pub use params::{
 };
 pub use picks::{a_pick_is_the_front_of_a_shuffle, pick, pick_one};
 pub use plan::{
-    App, Dial, HIGHEST_APP_SCORE, LONGEST_ROUND, Line, MOST_PEERS, MOST_ROUNDS, Plan, PlannedPeer, What,
-    are_joined,
+    App, Dial, HIGHEST_APP_SCORE, LONGEST_ROUND, Line, MOST_PEERS, MOST_ROUNDS, Plan, PlannedPeer,
+    What, are_joined,
 };
 pub use seeded_words::{SeededWords, seeded_words_give_their_list_first};
 pub use topic_params::{

@@ -8,11 +8,10 @@ ghost use Rattle.gs_params.specs.declared.params.Params.{Params as ParamsValue};
 ghost use Rattle.std.specs.List.{list_all};
 ghost use Rattle.gs_params.specs.Params.{AreInRange, all_factors_hold, all_windows_hold, budgets_hold, checked, default_params, degrees_hold, factors_hold, neighbour_caps_hold, neighbour_weights_hold, thresholds_hold, times_hold, topic_factors_hold, topic_windows_hold, windows_hold};
 
-use gs_base::Topic;
 use crate::param_fault::ParamFault;
-use crate::ranges::{is_backoff, is_cap, is_fraction, is_penalty, is_reward, is_time, is_in_range};
-use gs_base::{ExactClone, Seq};
+use crate::ranges::{is_backoff, is_cap, is_fraction, is_in_range, is_penalty, is_reward, is_time};
 use crate::topic_params::TopicParams;
+use gs_base::{ExactClone, Seq, Topic};
 use std::alloc::{AllocError, Global};
 
 /// The degrees of a mesh, in neighbours.

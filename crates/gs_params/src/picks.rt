@@ -5,8 +5,8 @@ ghost use Rattle.gs_base.specs.Names.{same_peer};
 ghost use Rattle.gs_base.specs.declared.names.PeerNo.{PeerNo as PeerNoValue};
 ghost use Rattle.gs_params.specs.Picks.{IsAscending, IsChoice, after_words, next_words, picked, picked_one, picked_one_words, picked_words, shuffled};
 
-use gs_base::PeerNo;
 use crate::words::Words;
+use gs_base::PeerNo;
 use std::alloc::{AllocError, Global};
 
 /// Shuffles the first k places: each is exchanged with itself or with one behind it.

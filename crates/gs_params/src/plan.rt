@@ -2,11 +2,9 @@
 ghost use Rattle.std.specs.Prelude.{◌≡◌};
 ghost use Rattle.gs_params.specs.Plans.{are_joined, joins};
 
-use gs_base::{PeerNo, Topic};
 use crate::params::Params;
-use gs_base::Seq;
-use gs_base::Text;
 use bytes::Bytes;
+use gs_base::{PeerNo, Seq, Text, Topic};
 
 /// How many milliseconds a round lasts at most.
 pub const LONGEST_ROUND: u64 = 60_000;

@@ -4,8 +4,8 @@ ghost use Rattle.gs_base.specs.declared.names.PeerNo.{PeerNo as PeerNoValue};
 ghost use Rattle.gs_params.specs.Picks.{next_words};
 ghost use Rattle.gs_params.specs.Seeding.{generator_after, generator_of, generator_word, new_seeded, seeded_after, seeded_word};
 
-use gs_base::PeerNo;
 use crate::words::Words;
+use gs_base::PeerNo;
 use rand_pcg::Pcg32;
 use rand_pcg::rand_core::utils::NextWord;
 use std::marker::Model;

@@ -2,9 +2,11 @@
 ghost use Rattle.std.specs.Prelude.{◌≡◌};
 ghost use Rattle.gs_params.specs.Params.{decays_hold, caps_hold, default_topic_params, topic_factors_hold, penalties_hold, rewards_hold, topic_windows_hold};
 
-use crate::ranges::{LONGEST_TIME, is_cap, is_fraction, is_penalty, is_reward, is_time, is_in_range};
-use gs_base::{ExactClone, Seq};
+use crate::ranges::{
+    LONGEST_TIME, is_cap, is_fraction, is_in_range, is_penalty, is_reward, is_time,
+};
 use bytes::Bytes;
+use gs_base::{ExactClone, Seq};
 use std::alloc::{AllocError, Global};
 
 /// Factors, weights and caps of a topic's part of the score, in millionths.

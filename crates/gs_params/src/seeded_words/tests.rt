@@ -47,7 +47,9 @@ fn gives_the_list_first(alloc: Global) -> Result<bool, AllocError> {
 }
 
 #[test]
-fn seeded_words_give_their_list_and_then_their_generator(rt: HostRuntime) -> Result<(), AllocError> {
+fn seeded_words_give_their_list_and_then_their_generator(
+    rt: HostRuntime,
+) -> Result<(), AllocError> {
     assert!(rt; gives_the_list_first(rt.alloc())?);
     Ok(())
 }

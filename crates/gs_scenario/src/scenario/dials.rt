@@ -21,7 +21,11 @@ const TO: &str = "to";
 
 /// The dials of a list, in its order.
 #[tactic(auto, unfolding(crate::specs::Keys::read_each))]
-pub fn dials_in(alloc: Global, peers: &[PlannedPeer], list: &[Value]) -> Result<Seq<Dial>, ScenarioFault>
+pub fn dials_in(
+    alloc: Global,
+    peers: &[PlannedPeer],
+    list: &[Value],
+) -> Result<Seq<Dial>, ScenarioFault>
     requires { length peers.now ≤ MOST_PEERS }
     ensures { Gives (λ dials. dials) result
         (read_each (dial_in peers.now) [] (items_view list.now)) }

@@ -13,7 +13,10 @@ use crate::fault::ScenarioFault;
 use crate::scenario::place::Path;
 use crate::scenario::section::Section;
 use gs_base::{Seq, Topic};
-use gs_params::{DEFAULT_DEGREES, DEFAULT_FACTORS, DEFAULT_FLOOD_PUBLISH, DEFAULT_THRESHOLDS, DEFAULT_WINDOWS, Degrees, Factors, Params, Thresholds, TopicParams, Windows};
+use gs_params::{
+    DEFAULT_DEGREES, DEFAULT_FACTORS, DEFAULT_FLOOD_PUBLISH, DEFAULT_THRESHOLDS, DEFAULT_WINDOWS,
+    Degrees, Factors, Params, Thresholds, TopicParams, Windows,
+};
 use std::alloc::Global;
 use toml::Table;
 

@@ -39,7 +39,11 @@ pub fn peers_in(alloc: Global, list: &[Value]) -> Result<Seq<PlannedPeer>, Scena
 
 /// The peer that stands in the list after the earlier ones.
 #[tactic(auto, unfolding(crate::specs::PlanOf::peer_in))]
-fn peer_in(alloc: Global, earlier: &[PlannedPeer], value: &Value) -> Result<PlannedPeer, ScenarioFault>
+fn peer_in(
+    alloc: Global,
+    earlier: &[PlannedPeer],
+    value: &Value,
+) -> Result<PlannedPeer, ScenarioFault>
     requires { length earlier.now ≤ MOST_PEERS }
     ensures { Gives (λ peer. peer) result (peer_in earlier.now (view value.now)) }
 {
@@ -64,7 +68,11 @@ fn peer_in(alloc: Global, earlier: &[PlannedPeer], value: &Value) -> Result<Plan
 }
 
 /// The number of the peer that a value names.
-pub fn peer_of(alloc: Global, peers: &[PlannedPeer], field: &Field<'_>) -> Result<PeerNo, ScenarioFault>
+pub fn peer_of(
+    alloc: Global,
+    peers: &[PlannedPeer],
+    field: &Field<'_>,
+) -> Result<PeerNo, ScenarioFault>
     requires { length peers.now ≤ MOST_PEERS }
     ensures { Gives (λ peer. peer) result
         (read_as (reference (peer_named peers.now)) field.now) }

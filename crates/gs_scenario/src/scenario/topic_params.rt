@@ -6,7 +6,9 @@ ghost use Rattle.gs_scenario.specs.Views.{section_of};
 
 use crate::fault::ScenarioFault;
 use crate::scenario::section::Section;
-use gs_params::{DEFAULT_TOPIC_FACTORS, DEFAULT_TOPIC_WINDOWS, TopicFactors, TopicParams, TopicWindows};
+use gs_params::{
+    DEFAULT_TOPIC_FACTORS, DEFAULT_TOPIC_WINDOWS, TopicFactors, TopicParams, TopicWindows,
+};
 use std::alloc::Global;
 
 /// The weights of a topic's part of the score.

@@ -2,7 +2,10 @@
 use super::*;
 use crate::scenario::tests::plans::{bytes, default_topic_params, gives, peer};
 use gs_base::{PeerNo, Seq};
-use gs_params::{App, Degrees, Dial, Factors, Line, Params, Thresholds, TopicFactors, TopicParams, TopicWindows, Windows};
+use gs_params::{
+    App, Degrees, Dial, Factors, Line, Params, Thresholds, TopicFactors, TopicParams, TopicWindows,
+    Windows,
+};
 
 /// A scenario with each key that there is.
 const EACH_KEY: &str = "\

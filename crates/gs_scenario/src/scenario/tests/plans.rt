@@ -2,7 +2,10 @@
 use super::*;
 use crate::scenario::tests::cases::LEAVING;
 use gs_base::{PeerNo, Seq};
-use gs_params::{Degrees, Dial, Factors, Line, Params, PlannedPeer, Thresholds, TopicFactors, TopicParams, TopicWindows, Windows};
+use gs_params::{
+    Degrees, Dial, Factors, Line, Params, PlannedPeer, Thresholds, TopicFactors, TopicParams,
+    TopicWindows, Windows,
+};
 
 pub fn bytes(alloc: Global, text: &[u8]) -> Result<Bytes, AllocError> {
     Bytes::copy_from_slice(alloc, text)
@@ -92,7 +95,12 @@ pub fn default_topic_params(alloc: Global) -> TopicParams {
     }
 }
 
-pub fn peer(alloc: Global, name: &str, address: &str, words: &[u32]) -> Result<PlannedPeer, AllocError> {
+pub fn peer(
+    alloc: Global,
+    name: &str,
+    address: &str,
+    words: &[u32],
+) -> Result<PlannedPeer, AllocError> {
     let mut firsts = Seq::new(alloc);
     for word in words {
         firsts.push(*word)?;
