@@ -8,7 +8,8 @@ use Rattle.gs_rules.specs.declared.trace.Entry.{Entry}
 use Rattle.gs_params.specs.declared.plan.Plan.{Plan}
 use Rattle.gs_params.specs.declared.plan.PlannedPeer.{PlannedPeer}
 use Rattle.gs_params.specs.declared.plan.Line.{Line}
-use Rattle.gs_net.specs.declared.finished.Refusal.{Refusal}
+use Rattle.gs_rules.specs.declared.refusal.RefusedLine.{RefusedLine}
+use Rattle.gs_rules.specs.Refusals.{number_of}
 use Rattle.gs_net.specs.declared.finished.Finished.{Finished}
 use Rattle.gs_scenario.specs.PlanOf.{what_word}
 
@@ -39,9 +40,10 @@ abbrev pub entry_lines : List ℕ → Entry → List ℕ
 entry_lines name e = flat_map (delivered_line name e.at) e.delivered
 
 -- `refused PEER MOMENT WHAT NUMBER`
-abbrev pub refused_line : Plan → List ℕ → Refusal → List ℕ
+abbrev pub refused_line : Plan → List ℕ → RefusedLine → List ℕ
 refused_line plan name r =
-    codes "refused " ++ name ++ codes " " ++ decimal r.at.0 ++ codes " " ++ word_of plan r.line ++ codes " " ++ decimal r.number ++ codes "\n"
+    codes "refused " ++ name ++ codes " " ++ decimal r.at.0 ++ codes " " ++ word_of plan r.line ++ codes " "
+    ++ decimal (number_of r.why) ++ codes "\n"
 
 -- ---- a peer with its number
 
