@@ -1,5 +1,5 @@
 -- Frames at the front of a stream, and streams that are cut.
-use Rattle.std.proofs.Common.{◌≡◌, ℕ, ◌+◌, ◌-◌, ◌<◌, ◌≤◌, List, [], ◌∷◌, ◌++◌, length, take, drop, refl, sym, ap, subst, ◌∙◌, append_assoc, append-nil, take-append-drop, length-append, length-take, length-drop, arith, inl, inr}
+use Rattle.std.proofs.Common.{◌≡◌, ℕ, ◌+◌, ◌-◌, ◌≤◌, List, [], ◌∷◌, ◌++◌, length, take, drop, refl, sym, ap, subst, ◌∙◌, append_assoc, append-nil, take-append-drop, length-append, length-take, length-drop, arith, inl, inr}
 use Rattle.std.specs.List.{concat}
 use Rattle.std.proofs.lemmas.List.{drop-drop}
 use Rattle.bytes.proofs.Ranges.{take-append_past}
@@ -7,13 +7,12 @@ use Rattle.gs_base.specs.declared.rpc.Rpc.{Rpc}
 use Rattle.gs_wire.specs.declared.frames.End.{End}
 use Rattle.gs_wire.specs.declared.frames.End.TheVariants as ends
 use Rattle.gs_wire.specs.Varint.{IsVarint, varint}
-use Rattle.gs_wire.specs.Reading.{varint_at}
 use Rattle.gs_wire.specs.Messages.{SpellsRpc, IsInMemory, body, frame}
-use Rattle.gs_wire.specs.Stream.{SpellsFrame, SpellFrames, HasLength, BeginsLength, GoesOn, IsStream, FindsIn, FindsAfter}
+use Rattle.gs_wire.specs.Stream.{SpellsFrame, SpellFrames, HasLength, GoesOn, IsStream, FindsIn, FindsAfter}
 use Rattle.gs_wire.proofs.Varints.{written_varint}
 use Rattle.gs_wire.proofs.Rpcs.{one_rpc}
 use Rattle.gs_wire.proofs.RpcRoundTrip.{body_spelled, same_fronts}
-use Rattle.gs_wire.proofs.Lengths.{one_length, length_more, length_shorter, begins_no_length, begins_front, no_length_more}
+use Rattle.gs_wire.proofs.Lengths.{one_length, length_more, begins_no_length, begins_front, no_length_more}
 
 -- ---- a frame at the front
 

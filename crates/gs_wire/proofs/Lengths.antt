@@ -1,10 +1,9 @@
 -- The length at the front of a frame.
-use Rattle.std.proofs.Common.{◌≡◌, ℕ, zero, suc, ◌+◌, ◌-◌, ◌*◌, ◌^◌, ◌<◌, ◌≤◌, cond, ltb, true, false, List, [], ◌∷◌, ◌++◌, length, take, drop, Option, Some, None, refl, sym, ap, subst, ◌∙◌, append_assoc, take-append-drop, length-append, length-take, length-drop, arith, inl, inr, ◌⊎◌}
+use Rattle.std.proofs.Common.{◌≡◌, ℕ, zero, suc, ◌+◌, ◌-◌, ◌*◌, ◌^◌, ◌<◌, ◌≤◌, cond, ltb, List, [], ◌∷◌, ◌++◌, length, Option, Some, None, refl, sym, ap, ◌∙◌, append_assoc, length-append, arith, inl, inr, ◌⊎◌}
 use Rattle.std.specs.List.{AllByRecursion}
 use Rattle.std.proofs.lemmas.Bool.{cases_lt, lt-ltb, le-ltb}
 use Rattle.std.proofs.lemmas.Option.{none-some, some_pair_parts}
-use Rattle.gs_wire.specs.Varint.{IsVarint}
-use Rattle.gs_wire.specs.Reading.{◌>>=◌, varint_at_most, varint_at}
+use Rattle.gs_wire.specs.Reading.{varint_at_most, varint_at}
 use Rattle.gs_wire.specs.Stream.{HasLength, BeginsLength}
 use Rattle.gs_wire.proofs.Varints.{varint_found, varint_again, varint_front, varint_read, groups_nonempty}
 

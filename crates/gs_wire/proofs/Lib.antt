@@ -15,3 +15,4 @@ pub mod RoundTrip
 pub mod RpcRoundTrip
 pub mod Lengths
 pub mod FrameLists
+pub mod Shorter

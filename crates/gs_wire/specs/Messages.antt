@@ -1,7 +1,6 @@
 -- RPCs and their parts as lists of records (libp2p pubsub, "The RPC": `rpc.proto`).
-use Rattle.std.specs.Prelude.{◌≡◌, ℕ, ◌<◌, ◌^◌, List, [], ◌∷◌, ◌++◌, length, Option, Some, None, IfSome, option_to_list}
+use Rattle.std.specs.Prelude.{◌≡◌, ℕ, ◌<◌, ◌^◌, List, ◌++◌, length, IfSome, option_to_list}
 use Rattle.std.specs.List.{AllZip, AllByRecursion}
-use Rattle.gs_base.specs.declared.names.Topic.{Topic}
 use Rattle.gs_base.specs.declared.control.Prune.{Prune}
 use Rattle.gs_base.specs.declared.control.Control.{Control}
 use Rattle.gs_base.specs.declared.rpc.SubOpt.{SubOpt}

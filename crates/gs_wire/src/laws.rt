@@ -3,7 +3,7 @@ ghost use Rattle.std.specs.Prelude.{[], ◌∷◌, ◌≡◌, ◌<◌, ◌≤◌
 ghost use Rattle.gs_base.specs.declared.rpc.Rpc.{Rpc};
 ghost use Rattle.gs_wire.specs.Varint.{IsVarint, varint};
 ghost use Rattle.gs_wire.specs.Records.{Record, SpellRecords};
-ghost use Rattle.std.specs.List.{concat};
+ghost use Rattle.std.specs.List.{concat, AllByRecursion};
 ghost use Rattle.gs_wire.specs.declared.frames.End.{End};
 ghost use Rattle.gs_wire.specs.Stream.{IsStream, FindsIn};
 ghost use Rattle.gs_wire.specs.Messages.{SpellsRpc, IsInMemory, body, frame};
@@ -47,4 +47,15 @@ pub fn a_stream_may_be_cut_anywhere()
 /// A written frame whose body is within a reader's limit is read back, whatever follows it.
 pub fn a_written_frame_is_read_back()
     ensures { (limit : ℕ) (v : Rpc) (more : List ℕ) (vs : List Rpc) (rest : List ℕ) (end : End) → IsInMemory v → length (body v) ≤ limit → IsStream limit more vs rest end → IsStream limit (frame v ++ more) (v ∷ vs) rest end }
+{}
+
+/// What was read is not longer when it is written: bytes that spell an RPC are at least as many as
+/// those of its body.
+pub fn what_was_read_is_no_longer_when_written()
+    ensures { (bytes : List ℕ) (v : Rpc) → SpellsRpc bytes v → length (body v) ≤ length bytes }
+{}
+
+/// Each RPC of a stream fits the limit when it is written again.
+pub fn what_was_read_fits_a_frame()
+    ensures { (limit : ℕ) (bytes : List ℕ) (vs : List Rpc) (rest : List ℕ) (end : End) → IsStream limit bytes vs rest end → AllByRecursion (λ v. length (body v) ≤ limit) vs }
 {}

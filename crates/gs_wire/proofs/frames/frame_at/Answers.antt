@@ -1,4 +1,4 @@
-use Rattle.std.proofs.Common.{rules, arith, ◌≡◌, ◌+◌, ◌<◌, ◌≤◌, ◌-◌, length, take, drop, sym, inl, inr, subst, List, ℕ, length-drop, length-take}
+use Rattle.std.proofs.Common.{rules, arith, ◌≡◌, ◌+◌, ◌-◌, length, take, drop, sym, inl, inr, subst, ℕ, length-drop, length-take}
 use Rattle.gs_wire.specs.Messages.{SpellsRpc}
 use Rattle.gs_wire.proofs.Lengths.{length_found, length_shorter, no_length}
 use Rattle.gs_wire.proofs.FrameLists.{body_named, frame_taken}

@@ -1,4 +1,4 @@
-use Rattle.std.proofs.Common.{rules, ◌≡◌, ◌∷◌, ◌++◌, [], List, length, take, drop, ap, ◌∙◌, append_assoc}
+use Rattle.std.proofs.Common.{rules, ◌∷◌, ◌++◌, [], List, drop, ap, ◌∙◌, append_assoc}
 use Rattle.std.proofs.lemmas.List.{take_rest}
 use Rattle.gs_base.specs.declared.rpc.Rpc.{Rpc}
 use Rattle.gs_wire.specs.declared.frames.End.TheVariants as ends

@@ -1,4 +1,4 @@
-use Rattle.std.proofs.Common.{◌≡◌, ◌-◌, ◌++◌, List, length, take}
+use Rattle.std.proofs.Common.{◌≡◌, ◌-◌, ◌++◌, List, length}
 use Rattle.gs_base.specs.declared.rpc.Rpc.{Rpc}
 use Rattle.gs_wire.proofs.FrameLists.{ReadFrames}
 use Rattle.gs_wire.proofs.frames.read_frames.Given as goal
