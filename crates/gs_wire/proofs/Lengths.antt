@@ -58,7 +58,7 @@ found_more k bytes x y e =
     let f = varint_found k bytes x e in
     ap (varint_at_most k) (ap (λ (t : List ℕ). t ++ y) f.parts ∙ append_assoc f.text x.1 y) ∙ varint_again k f.text x.0 (x.1 ++ y) f.groups f.len f.below
 
-option_cases : {A : Type 0} (o : Option A) → (o ≡ None) ⊎ ((x : A) × (o ≡ Some x))
+pub option_cases : {A : Type 0} (o : Option A) → (o ≡ None) ⊎ ((x : A) × (o ≡ Some x))
 option_cases None = inl refl
 option_cases (Some x) = inr (x, refl)
 

@@ -16,3 +16,5 @@ pub mod RpcRoundTrip
 pub mod Lengths
 pub mod FrameLists
 pub mod Shorter
+pub mod Readers
+pub mod EveryStream

@@ -1,11 +1,12 @@
 //! Messages from records: each record is merged into the message as it is read.
-ghost use Rattle.std.specs.Prelude.{◌≡◌, List, [], ◌∷◌, ◌++◌, IfOk, OnOk, IsErrOf};
+ghost use Rattle.std.specs.Prelude.{◌≡◌, List, [], ◌∷◌, ◌++◌, OnOk, IsErrOf};
 ghost use Rattle.gs_wire.specs.Records.{Record as Spelled, SpellRecords};
 ghost use Rattle.gs_wire.specs.Fields.{Spells};
 ghost use Rattle.gs_wire.specs.Views.{view};
 
 use crate::reader::Reader;
 use crate::record::{Record, read_record};
+use gs_base::Seq;
 use std::alloc::{AllocError, Global};
 
 /// Why bytes were not read as a message.
@@ -59,12 +60,17 @@ pub(crate) fn merge_all<M: Decode>(
     Ok(())
 }
 
-/// The message that the bytes spell.
-pub(crate) fn decode_message<M: Decode>(alloc: Global, reader: Reader<'_>) -> Result<M, DecodeError>
-    ensures found { IfOk result (λ message. Spells M.says reader.entry message) }
+/// Adds the message that the bytes spell to a list.
+pub(crate) fn push_message<M: Decode>(
+    alloc: Global,
+    reader: Reader<'_>,
+    list: &mut Seq<M>,
+) -> Result<(), DecodeError>
+    ensures pushed { OnOk result ((message : M) × Spells M.says reader.entry message × (list.new ≡ list.old ++ message ∷ [])) }
     ensures malformed { IsErrOf result DecodeError.Malformed → (message : M) → ¬ Spells M.says reader.entry message }
 {
     let mut message = M::empty(alloc);
     merge_all(alloc, reader, &mut message)?;
-    Ok(message)
+    list.push(message)?;
+    Ok(())
 }

@@ -2,7 +2,7 @@ use Rattle.std.proofs.Common.{Err, [], ap, ◌∙◌, append-nil}
 use Rattle.std.proofs.lemmas.Result.{err_from_is_err_and}
 use Rattle.gs_wire.specs.declared.decoding.DecodeError.TheVariants.{Malformed}
 use Rattle.gs_wire.proofs.Faults.{same_fault}
-use Rattle.gs_wire.proofs.decoding.decode_message.Goals as goal
+use Rattle.gs_wire.proofs.decoding.push_message.Goals as goal
 
 pub returns-in_err-merge_all-clause-malformed : goal.returns-in_err-merge_all-clause-malformed
 returns-in_err-merge_all-clause-malformed g c =
