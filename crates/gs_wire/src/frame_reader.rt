@@ -103,6 +103,9 @@ impl FrameReader {
         if self.failed {
             return Err(WireFault::Failed);
         }
+        if self.held.is_empty() {
+            return self.feed_whole(alloc, piece, rpcs);
+        }
         let held = self.held.len();
         let count = rpcs.len();
         self.held.extend_from_slice(piece)?;
@@ -124,15 +127,63 @@ impl FrameReader {
                 Ok(())
             }
             End::TooLong => {
-                self.next = None;
-                self.failed = true;
+                self.fail();
                 Err(WireFault::TooLong)
             }
             End::Malformed => {
-                self.next = None;
-                self.failed = true;
+                self.fail();
                 Err(WireFault::Malformed)
             }
         }
+    }
+
+    /// Takes a piece where nothing is held: its whole frames are read where they lie, and only the
+    /// rest is copied.
+    fn feed_whole(
+        &mut self,
+        alloc: Global,
+        piece: &[u8],
+        rpcs: &mut Vec<Rpc>,
+    ) -> Result<(), WireFault>
+        requires { self.old.held ≡ Some [] }
+        ensures fed { OnOk result (Feeds self.old piece.now self.new rpcs.old.items rpcs.new.items End.Waits) }
+        ensures malformed { IsErrOf result WireFault.Malformed → Feeds self.old piece.now self.new rpcs.old.items rpcs.new.items End.Malformed }
+        ensures too_long { IsErrOf result WireFault.TooLong → Feeds self.old piece.now self.new rpcs.old.items rpcs.new.items End.TooLong }
+        ensures failed { ¬ (result ≡ Err WireFault.Failed) }
+        ensures no_memory_reader { result ≡ Err WireFault.NoMemory → self.new ≡ self.old }
+        ensures no_memory_list { result ≡ Err WireFault.NoMemory → rpcs.new.items ≡ rpcs.old.items }
+    {
+        let count = rpcs.len();
+        let Ok(Progress { taken, next, end }) = read_frames(alloc, self.limit, None, piece, rpcs)
+        else {
+            rpcs.truncate(count);
+            return Err(WireFault::NoMemory);
+        };
+        match end {
+            End::Waits => {
+                if self.held.extend_from_slice(&piece[taken..]).is_err() {
+                    rpcs.truncate(count);
+                    return Err(WireFault::NoMemory);
+                }
+                self.next = next;
+                Ok(())
+            }
+            End::TooLong => {
+                self.fail();
+                Err(WireFault::TooLong)
+            }
+            End::Malformed => {
+                self.fail();
+                Err(WireFault::Malformed)
+            }
+        }
+    }
+
+    /// Nothing is held any more, nor taken.
+    fn fail(&mut self)
+        ensures { self.new ≡ record { limit = self.old.limit; held = None } }
+    {
+        self.next = None;
+        self.failed = true;
     }
 }

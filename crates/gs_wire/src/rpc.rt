@@ -15,8 +15,8 @@ use crate::reader::Reader;
 use crate::record::{Record, Value};
 use crate::varint::{put_varint, varint_len};
 use bytes::Bytes;
-use gs_base::{Control, Message, Rpc, Seq, Topic};
-use std::alloc::{AllocError, Global};
+use gs_base::{Control, Rpc, Seq, Topic};
+use std::alloc::Global;
 
 /// The longest body that is written, in bytes.
 pub const MAX_BODY: usize = 1_048_576;
@@ -32,17 +32,6 @@ fn merged(alloc: Global, before: Option<Control>, bytes: Reader<'_>) -> Result<C
     };
     merge_all(alloc, bytes, &mut control)?;
     Ok(control)
-}
-
-/// Makes room for one message in a list that has none: most RPCs publish one.
-fn make_room(alloc: Global, messages: &mut Seq<Message>) -> Result<(), AllocError>
-    ensures { messages.new ≡ messages.old }
-{
-    if !messages.is_empty() {
-        return Ok(());
-    }
-    *messages = Seq::from(Vec::with_capacity(alloc, 1)?);
-    Ok(())
 }
 
 impl Decode for Rpc {
@@ -63,10 +52,7 @@ impl Decode for Rpc {
         };
         match field {
             field::RPC_SUBSCRIPTIONS => push_message(alloc, bytes, &mut self.subs)?,
-            field::RPC_PUBLISH => {
-                make_room(alloc, &mut self.publish)?;
-                push_message(alloc, bytes, &mut self.publish)?;
-            }
+            field::RPC_PUBLISH => push_message(alloc, bytes, &mut self.publish)?,
             field::RPC_CONTROL => self.control = Some(merged(alloc, self.control.take(), bytes)?),
             _ => {}
         }

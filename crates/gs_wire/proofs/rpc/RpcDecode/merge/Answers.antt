@@ -40,7 +40,7 @@ pub returns-in_ok-push_message-in-2-clause-merged : goal.returns-in_ok-push_mess
 returns-in_ok-push_message-in-2-clause-merged c = λ before says.
     let is : view c.args.record ≡ len_record 2 c.in-Len.bytes = rw (c.in-Len.is, c.in-2.is) refl in
     let (part, spells, added) = c.in_ok-push_message-in-2.ensures.pushed in
-    rw (is, added, c.make_room.ensures) (rpc_publishes before c.in-Len.bytes c.args.self.now part says spells)
+    rw (is, added) (rpc_publishes before c.in-Len.bytes c.args.self.now part says spells)
 
 pub returns-in_default-field-clause-merged : goal.returns-in_default-field-clause-merged
 returns-in_default-field-clause-merged c = λ before says.
