@@ -1,5 +1,5 @@
 //! Frames of a stream: a varint length, and then that many bytes of a body.
-ghost use Rattle.std.specs.Prelude.{◌≡◌, ◌↔◌, ◌++◌, ◌∷◌, [], ◌-◌, ◌≤◌, List, length, take, drop, IfOk, IfErr, IfSome, OnOk, OnErr, IsErrOf, IsTrue};
+ghost use Rattle.std.specs.Prelude.{◌≡◌, ◌↔◌, ◌++◌, ◌∷◌, [], ◌-◌, ◌≤◌, List, length, take, drop, None, IfOk, IfErr, IfSome, OnOk, OnErr, IsErrOf, IsTrue};
 ghost use Rattle.gs_base.specs.declared.rpc.Rpc.{Rpc as RpcValue};
 ghost use Rattle.gs_wire.specs.Messages.{SpellsRpc, longest_body};
 ghost use Rattle.gs_wire.specs.Stream.{BeginsLength, GoesOn, IsStream, IsSpan};
@@ -37,6 +37,19 @@ pub(crate) struct Progress {
     pub next: Option<Span>,
     /// How the stream goes on behind the whole frames.
     pub end: End,
+}
+
+impl Progress {
+    /// So many bytes were taken, and the stream goes on so, with no length that is whole.
+    fn without_length(taken: usize, end: End) -> Progress
+        ensures { result ≡ record { taken = taken; next = None; end = end } }
+    {
+        Progress {
+            taken,
+            next: None,
+            end,
+        }
+    }
 }
 
 /// Whether the bytes are the front of a length, or nothing.
@@ -114,13 +127,7 @@ pub(crate) fn read_frames(
         let rest = &bytes[taken..];
         let span = match span_at(limit, next, rest) {
             Ok(span) => span,
-            Err(end) => {
-                return Ok(Progress {
-                    taken,
-                    next: None,
-                    end,
-                });
-            }
+            Err(end) => return Ok(Progress::without_length(taken, end)),
         };
         if rest.len() < span.end {
             return Ok(Progress {
@@ -135,11 +142,7 @@ pub(crate) fn read_frames(
                 next = None;
             }
             Err(DecodeError::Malformed) => {
-                return Ok(Progress {
-                    taken,
-                    next: None,
-                    end: End::Malformed,
-                });
+                return Ok(Progress::without_length(taken, End::Malformed));
             }
             Err(DecodeError::NoMemory) => return Err(AllocError),
         }

@@ -10,7 +10,7 @@ pub returns-in-Err-clause-read : goal.returns-in-Err-clause-read
 returns-in-Err-clause-read c =
     let (found, read, added) = c.loop-span.invariant.read in
     let on : GoesOn c.args.limit (drop c.loop-span.taken c.args.bytes.now) c.in-Err.end = rw (take_rest c.args.bytes.now c.loop-span.taken) at c.in-Err.ensures.no_length in
-    (found, frames_end c.args.limit c.args.bytes.now c.loop-span.taken found c.in-Err.end read on, added)
+    rw c.without_length.ensures (found, frames_end c.args.limit c.args.bytes.now c.loop-span.taken found c.in-Err.end read on, added)
 
 pub loop-span-preserved : goal.loop-span-preserved
 loop-span-preserved c =
@@ -43,4 +43,4 @@ returns-in-Err-Malformed-clause-read c =
     let span : IsSpan c.args.limit rest start end = rw left at c.in-Ok.ensures.found in
     let whole : end ≤ length rest = omega (arith, length-drop taken c.args.bytes.now, ap length left) in
     let none = rw left at (c.in-Err-Malformed.ensures.malformed (search rules)) in
-    (found, frames_end c.args.limit c.args.bytes.now taken found ends.Malformed read (span_malformed c.args.limit rest start end span whole none), c.in-Err-Malformed.ensures.kept ∙ added)
+    rw c.without_length-in-Err-Malformed.ensures (found, frames_end c.args.limit c.args.bytes.now taken found ends.Malformed read (span_malformed c.args.limit rest start end span whole none), c.in-Err-Malformed.ensures.kept ∙ added)
