@@ -1,0 +1,4 @@
+pub mod Closes
+pub mod KeepsRule
+pub mod Views
+pub mod Flats
