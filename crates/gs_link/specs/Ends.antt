@@ -1,5 +1,5 @@
 -- What contracts see of a link's two ends, and say of their calls.
-use Rattle.std.specs.Prelude.{◌≡◌, ℕ, Bool, true, false, List, [], ◌∷◌, ◌++◌, length, ⊤, if◌then◌else◌, Result, Ok, Err}
+use Rattle.std.specs.Prelude.{◌≡◌, ℕ, Bool, true, false, List, [], ◌∷◌, ◌++◌, length, ⊤, if◌then◌else◌, Result, Err}
 use Rattle.atomic_table.specs.Seated.{TableId}
 use Rattle.gs_link.specs.declared.item.Item.{Item}
 use Rattle.gs_link.specs.declared.item.Slot.{Slot}

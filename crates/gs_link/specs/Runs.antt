@@ -2,13 +2,14 @@
 use Rattle.std.specs.Prelude.{◌≡◌, ℕ, ◌≤◌, Bool, true, false, List, [], ◌∷◌, ◌++◌, length}
 use Rattle.std.specs.List.{All}
 use Rattle.gs_link.specs.declared.item.Slot.{Slot}
-use Rattle.gs_link.specs.declared.item.Slot.TheVariants.{Carried, Close}
+use Rattle.gs_link.specs.declared.item.Slot.TheVariants.{Piece, Round, Close}
 use Rattle.gs_link.specs.Items.{IsCarried}
 
 -- a close stands in the list
 abbrev pub closes : List Slot → Bool
 closes [] = false
-closes (Carried item ∷ slots) = closes slots
+closes (Piece bytes ∷ slots) = closes slots
+closes (Round r ∷ slots) = closes slots
 closes (Close ∷ slots) = true
 
 -- nothing stands behind a close, so it stands once at most

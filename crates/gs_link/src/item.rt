@@ -1,6 +1,6 @@
 //! What a link carries.
-ghost use Rattle.std.specs.Prelude.{◌↔◌, IsTrue};
-ghost use Rattle.gs_link.specs.Items.{IsCapacity, IsSendable};
+ghost use Rattle.std.specs.Prelude.{◌≡◌, ◌↔◌, IsTrue};
+ghost use Rattle.gs_link.specs.Items.{IsCapacity, IsSendable, slot_of};
 
 use bytes::Bytes;
 
@@ -19,13 +19,28 @@ pub enum Item {
     Round(u64),
 }
 
-/// What lies in a link: an item, or the close, which is the last.
+/// What lies in a link: an item, or the close, which is the last. It is no larger than an item, so
+/// that a link costs no more than a queue of items.
 #[derive(Debug, PartialEq, Eq, Drop)]
 pub enum Slot {
-    /// An item.
-    Carried(Item),
+    /// A piece.
+    Piece(Bytes),
+    /// The end of a round.
+    Round(u64),
     /// The close.
     Close,
+}
+
+impl Slot {
+    /// An item, as it lies in a link.
+    pub(crate) fn of(item: Item) -> Slot
+        ensures { result ≡ slot_of item }
+    {
+        match item {
+            Item::Piece(bytes) => Slot::Piece(bytes),
+            Item::Round(round) => Slot::Round(round),
+        }
+    }
 }
 
 /// Whether a link may have this capacity: 1 to 1,024 slots.

@@ -14,7 +14,7 @@ mod wiring;
 
 pub use fault::{CloseRefused, LinkFault, SendRefused};
 pub use item::{Item, LARGEST_CAPACITY, LONGEST_PIECE, Slot, is_capacity};
-pub use laws::{cutting_does_not_show, what_is_behind_is_said_later};
+pub use laws::{cutting_does_not_show, what_stands_behind_is_said_later};
 pub use receiver::{LinkRx, Taken};
 pub use sender::LinkTx;
 pub use settlement::{Settled, settle};

@@ -31,17 +31,16 @@ pub struct LinkRx {
 }
 
 impl Model for LinkRx {
-    ghost use Rattle.std.specs.Prelude.{◌≡◌, true};
     ghost use Rattle.std.specs.Arc.{arc_value};
     ghost use Rattle.crossbeam_queue.specs.Passes.{view as known, IsPassOf, ruled_capacity};
     ghost use Rattle.gs_link.specs.Ends.{TakingEnd};
-    ghost use Rattle.gs_link.specs.Runs.{closes};
+    ghost use Rattle.gs_link.specs.Fields.{taking_end, Takes};
 
     ghost Value = { TakingEnd };
 
-    ghost view = { λ s. record { link = s.end.table_id; capacity = ruled_capacity (arc_value s.queue); taken = (known s.end).taken } };
+    ghost view = { λ s. taking_end (ruled_capacity (arc_value s.queue)) s.end };
 
-    ghost invariant = { λ s. IsPassOf (arc_value s.queue) s.end × ((known s.end).takes ≡ true) × (closes (known s.end).taken ≡ s.closed) };
+    ghost invariant = { λ s. IsPassOf (arc_value s.queue) s.end × Takes (known s.end) s.closed };
 }
 
 impl LinkRx {
@@ -64,7 +63,8 @@ impl LinkRx {
         }
         let queue: &Queue = &self.queue;
         match queue.pop_as::<Pop, R>(rt, &mut self.end) {
-            Some(Slot::Carried(item)) => Taken::Got(item),
+            Some(Slot::Piece(bytes)) => Taken::Got(Item::Piece(bytes)),
+            Some(Slot::Round(round)) => Taken::Got(Item::Round(round)),
             Some(Slot::Close) => {
                 self.closed = true;
                 Taken::Closed

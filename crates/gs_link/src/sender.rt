@@ -3,7 +3,8 @@ ghost use Rattle.std.specs.Prelude.{◌≡◌, ◌++◌, ◌∷◌, [], OnOk, On
 ghost use Rattle.gs_link.specs.declared.item.Slot.TheVariants.{Close};
 ghost use Rattle.gs_link.specs.Items.{IsSendable, slot_of};
 ghost use Rattle.gs_link.specs.Runs.{closes};
-ghost use Rattle.gs_link.specs.Ends.{FoundFull, handed_back, send_found_full, send_found_closed, close_found_full, close_found_closed};
+ghost use Rattle.gs_link.specs.Ends.{FoundFull, handed_back, send_found_full, send_found_closed};
+ghost use Rattle.gs_link.specs.Ends.{close_found_full, close_found_closed};
 
 use crate::fault::{CloseRefused, SendRefused};
 use crate::item::{Item, Slot};
@@ -22,17 +23,16 @@ pub struct LinkTx {
 }
 
 impl Model for LinkTx {
-    ghost use Rattle.std.specs.Prelude.{◌≡◌, true};
     ghost use Rattle.std.specs.Arc.{arc_value};
     ghost use Rattle.crossbeam_queue.specs.Passes.{view as known, IsPassOf, ruled_capacity};
     ghost use Rattle.gs_link.specs.Ends.{SendingEnd};
-    ghost use Rattle.gs_link.specs.Runs.{closes};
+    ghost use Rattle.gs_link.specs.Fields.{sending_end, Sends};
 
     ghost Value = { SendingEnd };
 
-    ghost view = { λ s. record { link = s.end.table_id; capacity = ruled_capacity (arc_value s.queue); accepted = (known s.end).accepted } };
+    ghost view = { λ s. sending_end (ruled_capacity (arc_value s.queue)) s.end };
 
-    ghost invariant = { λ s. IsPassOf (arc_value s.queue) s.end × ((known s.end).sends ≡ true) × (closes (known s.end).accepted ≡ s.closed) };
+    ghost invariant = { λ s. IsPassOf (arc_value s.queue) s.end × Sends (known s.end) s.closed };
 }
 
 impl LinkTx {
@@ -54,9 +54,10 @@ impl LinkTx {
             return Err(SendRefused::Closed(item));
         }
         let queue: &Queue = &self.queue;
-        match queue.push_as::<Push, R>(rt, &mut self.end, Slot::Carried(item)) {
+        match queue.push_as::<Push, R>(rt, &mut self.end, Slot::of(item)) {
             Ok(()) => Ok(()),
-            Err(Slot::Carried(item)) => Err(SendRefused::Full(item)),
+            Err(Slot::Piece(bytes)) => Err(SendRefused::Full(Item::Piece(bytes))),
+            Err(Slot::Round(round)) => Err(SendRefused::Full(Item::Round(round))),
             Err(Slot::Close) => unreachable!(),
         }
     }

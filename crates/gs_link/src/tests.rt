@@ -17,6 +17,9 @@ fn piece(alloc: Global, bytes: &[u8]) -> Result<Item, AllocError>
     Ok(Item::Piece(bytes))
 }
 
+/// The bytes of a longest piece.
+static LONGEST: [u8; 64] = [255; 64];
+
 /// A link of one slot.
 fn narrow(alloc: Global) -> Result<(LinkTx, LinkRx), LinkFault>
     ensures { IfOk result (λ ends. ends.1.link ≡ ends.0.link) }
@@ -43,11 +46,11 @@ fn a_piece_that_was_sent_is_taken(rt: HostRuntime) -> Result<(), Fail> {
     };
     assert_eq!(rt; bytes.as_slice(), b"\x07\x0a\x05".as_slice());
     assert!(rt; rx.take(&rt) == Taken::Empty);
-    assert!(rt; tx.send(&rt, piece(rt.alloc(), &[255; 64])?).is_ok());
+    assert!(rt; tx.send(&rt, piece(rt.alloc(), &LONGEST)?).is_ok());
     let Some(bytes) = bytes_of(rx.take(&rt)) else {
         panic!(rt; "no piece");
     };
-    assert_eq!(rt; bytes.as_slice(), [255; 64].as_slice());
+    assert_eq!(rt; bytes.as_slice(), LONGEST.as_slice());
     Ok(())
 }
 

@@ -16,7 +16,8 @@ use std::sync::Arc;
 pub fn open_link(alloc: Global, capacity: usize) -> Result<(LinkTx, LinkRx), LinkFault>
     requires capacity { IsCapacity capacity }
     ensures link { IfOk result (λ ends. ends.1.link ≡ ends.0.link) }
-    ensures capacity { IfOk result (λ ends. (ends.0.capacity ≡ capacity) × (ends.1.capacity ≡ capacity)) }
+    ensures capacity { IfOk result (λ ends. ends.0.capacity ≡ capacity) }
+    ensures same_capacity { IfOk result (λ ends. ends.1.capacity ≡ ends.0.capacity) }
     ensures accepted { IfOk result (λ ends. ends.0.accepted ≡ []) }
     ensures taken { IfOk result (λ ends. ends.1.taken ≡ []) }
 {

@@ -11,5 +11,5 @@ pub returns-clause-all : goal.returns-clause-all
 returns-clause-all g c whole =
     let saw = c.len_as.ensures.rule.1 in
     ap (λ e. e.accepted) (sym c.tx.view_is)
-    ∙ settled (known c.tx.inside.end) (known c.rx.inside.end) _ saw.0 c.absorb.ensures.rule saw.2 (c.rx.invariant.2 ∙ whole)
+    ∙ settled (known c.tx.inside.end) (known c.rx.inside.end) _ saw.0 c.absorb.ensures.rule saw.2 (c.rx.invariant.1.1 ∙ whole)
     ∙ ap (λ e. e.taken) c.rx.view_is
