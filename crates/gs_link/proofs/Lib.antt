@@ -2,3 +2,4 @@ pub mod Closes
 pub mod KeepsRule
 pub mod Views
 pub mod Flats
+mod Rows

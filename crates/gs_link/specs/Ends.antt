@@ -12,7 +12,7 @@ use Rattle.gs_link.specs.declared.receiver.Taken.{Taken}
 use Rattle.gs_link.specs.declared.receiver.Taken.TheVariants as took
 use Rattle.gs_link.specs.Runs.{closes, RunWithin}
 
--- which link it is: the same for its two ends alone
+-- which link it is, by the memory of its queue: the two ends of one `open_link` are known to have one
 abbrev pub LinkId : Type 0
 LinkId = TableId
 
@@ -32,7 +32,10 @@ pub record TakingEnd : Type 0 where
 
 -- at one moment as many slots waited as may, at the end of what was accepted
 abbrev pub FoundFull : SendingEnd → Type 0
-FoundFull end = (taken : List Slot) × (waiting : List Slot) × (length waiting ≡ end.capacity) × RunWithin end.capacity end.accepted taken waiting
+FoundFull end =
+    (taken : List Slot) × (waiting : List Slot)
+    × (length waiting ≡ end.capacity)
+    × RunWithin end.capacity end.accepted taken waiting
 
 -- the item that a refusal hands back
 abbrev pub handed_back : SendRefused → Item

@@ -1,4 +1,4 @@
--- What a list of slots says, as a word of bytes, ends of rounds and a close. How bytes are cut into pieces doesn't show.
+-- What a list of slots says, as a word of bytes, ends of rounds and a close. How bytes are cut doesn't show.
 use Rattle.std.specs.Prelude.{◌≡◌, ℕ, List, [], ◌∷◌, ◌++◌, map}
 use Rattle.gs_base.specs.Words.{Byte, EndOf, Close as Closing, Word}
 use Rattle.gs_link.specs.declared.item.Slot.{Slot}

@@ -34,6 +34,7 @@ pub fn settle<R: Wait>(rt: &R, tx: LinkTx, rx: LinkRx) -> Settled
         closed: whole,
     } = rx;
     queue.absorb::<JoinEnds>(&mut end, other);
+    // Counts what waits, and so knows that it is no more than the capacity.
     queue.len_as::<JoinEnds, R>(rt, &mut end);
     Settled { whole }
 }
