@@ -1,4 +1,5 @@
 //! Why nothing was measured.
+use gs_link::LinkFault;
 use gs_wire::WireFault;
 use std::alloc::AllocError;
 
@@ -11,6 +12,9 @@ pub(crate) enum BenchFault {
     /// The codec refused a sample.
     #[error("the codec refused a sample")]
     Codec,
+    /// A link or a queue was full where it should have room.
+    #[error("a link was full")]
+    Full,
     /// There was no memory.
     #[error("there was no memory")]
     NoMemory,
@@ -25,6 +29,12 @@ impl From<WireFault> for BenchFault {
             WireFault::NoMemory => BenchFault::NoMemory,
             _ => BenchFault::Codec,
         }
+    }
+}
+
+impl From<LinkFault> for BenchFault {
+    fn from(_fault: LinkFault) -> BenchFault {
+        BenchFault::NoMemory
     }
 }
 

@@ -20,6 +20,10 @@ pub(crate) enum Kind {
     Encode(Sample),
     /// A stream of frames, in pieces of so many bytes.
     Feed(usize),
+    /// A link of 64 slots, filled with pieces and emptied.
+    Link,
+    /// The same over a plain queue.
+    Queue,
 }
 
 impl Kind {
@@ -35,6 +39,8 @@ impl Kind {
             "feed-1" => Some(Kind::Feed(1)),
             "feed-64" => Some(Kind::Feed(64)),
             "feed-65536" => Some(Kind::Feed(65_536)),
+            "link" => Some(Kind::Link),
+            "queue" => Some(Kind::Queue),
             _ => None,
         }
     }

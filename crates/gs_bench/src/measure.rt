@@ -1,24 +1,34 @@
 //! The operations that are measured, each with a sum that shows that it was done.
 
+use crate::carry::{link_all, queue_all};
 use crate::fault::BenchFault;
 use crate::kind::{Kind, Sample};
 use crate::samples::rpc_of;
 use gs_base::Rpc;
 use gs_wire::{FrameReader, MAX_BODY, decode, encode, encode_frame};
 use std::alloc::Global;
+use std::sync::Wait;
 
 /// Does what the kind says so many times, and answers the sum of what was found, modulo 2^32: the
-/// repeated elements of what was read, or the lengths of the bodies that were written.
-pub(crate) fn checksum(alloc: Global, kind: Kind, count: u32) -> Result<u32, BenchFault> {
+/// repeated elements of what was read, or the lengths of the bodies that were written, or of the
+/// pieces that were taken.
+pub(crate) fn checksum<R: Wait>(
+    rt: &R,
+    alloc: Global,
+    kind: Kind,
+    count: u32,
+) -> Result<u32, BenchFault> {
     match kind {
         Kind::Decode(sample) => decode_all(alloc, sample, count),
         Kind::Encode(sample) => encode_all(alloc, sample, count),
         Kind::Feed(piece) => feed_all(alloc, piece, count),
+        Kind::Link => link_all(rt, alloc, count),
+        Kind::Queue => queue_all(rt, alloc, count),
     }
 }
 
 /// A length modulo 2^32.
-fn low_bits(len: usize) -> u32 {
+pub(crate) fn low_bits(len: usize) -> u32 {
     (len % (1 << 32)) as u32
 }
 

@@ -14,7 +14,7 @@ use Rattle.gs_params.specs.declared.plan.What.{What}
 use Rattle.gs_params.specs.declared.plan.What.TheVariants.{Subscribe, Unsubscribe, Publish}
 use Rattle.gs_params.proofs.Picking.{distinct_from_ascending}
 use Rattle.gs_wire.specs.declared.frames.End.TheVariants.{Waits}
-use Rattle.gs_wire.specs.declared.rpc.TheConstants.{MAX_BODY}
+use Rattle.gs_wire.specs.Messages.{longest_body}
 use Rattle.gs_wire.proofs.FrameLists.{one_stream}
 use Rattle.gs_rules.specs.declared.trace.Event.{Event}
 use Rattle.gs_rules.specs.declared.trace.Event.TheVariants.{Heard, Late, Sub, Msg, Gone, Fault}
@@ -226,7 +226,7 @@ place_hears seat Closing q xs = refl
 -- ---- over the rounds
 
 pub spelled_once : (bytes : List ℕ) (vs ws : List Rpc) → Spell bytes vs → Spell bytes ws → vs ≡ ws
-spelled_once bytes vs ws h k = (one_stream MAX_BODY bytes vs ws h.0 k.0 h.1 k.1 h.2 k.2).0
+spelled_once bytes vs ws h k = (one_stream longest_body bytes vs ws h.0 k.0 h.1 k.1 h.2 k.2).0
 
 -- what was handled, and what has ended since
 handled_further : (before whole : List ℕ) (vs : List Rpc) (x : Inbound) → Spell before vs → IsBetween before whole x → Spell whole (vs ++ x.rpcs)

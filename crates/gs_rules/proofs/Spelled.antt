@@ -8,8 +8,7 @@ use Rattle.gs_base.specs.declared.rpc.Rpc.{Rpc}
 use Rattle.gs_base.specs.Names.{same_peer}
 use Rattle.gs_base.specs.Codecs.{Codec}
 use Rattle.gs_wire.specs.declared.frames.End.TheVariants.{Waits}
-use Rattle.gs_wire.specs.declared.rpc.TheConstants.{MAX_BODY}
-use Rattle.gs_wire.specs.Messages.{body}
+use Rattle.gs_wire.specs.Messages.{body, longest_body}
 use Rattle.gs_wire.specs.Codec.{codec}
 use Rattle.gs_wire.specs.Stream.{IsStream}
 use Rattle.gs_wire.proofs.FrameLists.{frame_read}
@@ -67,16 +66,16 @@ out_is_sent codec (e ∷ L) q = by (up L q) (out_is_sent codec L q)
 -- ---- frames
 
 -- nothing is a stream of nothing
-pub no_stream : IsStream MAX_BODY [] [] [] Waits
+pub no_stream : IsStream longest_body [] [] [] Waits
 no_stream = record { front = []; parts = refl; frames = refl; goes_on = inl (omega arith, tt) }
 
-fits_limit : (rpc : Rpc) → IsWritten rpc → length (body rpc) ≤ MAX_BODY
+fits_limit : (rpc : Rpc) → IsWritten rpc → length (body rpc) ≤ longest_body
 fits_limit rpc h = let fits = h.0 in grind (arith, nat_tests)
 
 -- frames spell their RPCs, and then a stream waits for more
-pub frames_spell : (rpcs : List Rpc) → AllByRecursion IsWritten rpcs → IsStream MAX_BODY (flat_map codec.frame rpcs) rpcs [] Waits
+pub frames_spell : (rpcs : List Rpc) → AllByRecursion IsWritten rpcs → IsStream longest_body (flat_map codec.frame rpcs) rpcs [] Waits
 frames_spell [] h = no_stream
-frames_spell (rpc ∷ rpcs) h = frame_read MAX_BODY rpc (flat_map codec.frame rpcs) rpcs [] Waits h.0.1 (fits_limit rpc h.0) (frames_spell rpcs h.1)
+frames_spell (rpc ∷ rpcs) h = frame_read longest_body rpc (flat_map codec.frame rpcs) rpcs [] Waits h.0.1 (fits_limit rpc h.0) (frames_spell rpcs h.1)
 
 -- ---- what is sent
 
@@ -100,8 +99,8 @@ sent_written (e ∷ L) q all = by (up L q) (sent_written L q all.1)
     by false before = before
     by true before = written_both (sent L q) (sent_to q e.sends) before (received_written q e.sends all.0)
 
-pub sent_stream : (L : Entries) (q : PeerNo) → AllWritten L → IsStream MAX_BODY (bytes_of (out codec L q)) (sent L q) [] Waits
-sent_stream L q all = subst (λ (bytes : List ℕ). IsStream MAX_BODY bytes (sent L q) [] Waits) (sym (out_is_sent codec L q)) (frames_spell (sent L q) (sent_written L q all))
+pub sent_stream : (L : Entries) (q : PeerNo) → AllWritten L → IsStream longest_body (bytes_of (out codec L q)) (sent L q) [] Waits
+sent_stream L q all = subst (λ (bytes : List ℕ). IsStream longest_body bytes (sent L q) [] Waits) (sym (out_is_sent codec L q)) (frames_spell (sent L q) (sent_written L q all))
 
 pub sent_is_spelled : (p : Peer) (L : Entries) (q : PeerNo) → Legal p L → Spell (bytes_of (out codec L q)) (sent L q)
 sent_is_spelled p L q legal = ([], Waits, sent_stream L q (legal_written p L legal))

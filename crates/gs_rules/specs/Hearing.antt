@@ -3,7 +3,7 @@ use Rattle.std.specs.Prelude.{◌≡◌, ℕ, zero, suc, Bool, true, false, nat_
 use Rattle.gs_base.specs.declared.rpc.Rpc.{Rpc}
 use Rattle.gs_wire.specs.declared.frames.End.{End}
 use Rattle.gs_wire.specs.declared.frames.End.TheVariants as ends
-use Rattle.gs_wire.specs.declared.rpc.TheConstants.{MAX_BODY}
+use Rattle.gs_wire.specs.Messages.{longest_body}
 use Rattle.gs_wire.specs.Stream.{IsStream}
 use Rattle.gs_rules.specs.Saying.{Byte, EndOf, Close, Said, bytes_of}
 
@@ -48,7 +48,7 @@ closes (Close ∷ w) = true
 
 -- these are the RPCs of the whole frames in the bytes, up to a fault
 abbrev pub Spell : List ℕ → List Rpc → Type 0
-Spell bytes rpcs = (rest : List ℕ) × (end : End) × IsStream MAX_BODY bytes rpcs rest end
+Spell bytes rpcs = (rest : List ℕ) × (end : End) × IsStream longest_body bytes rpcs rest end
 
 -- What there is to hear of a neighbour in a round.
 pub record Inbound : Type 0 where
@@ -68,7 +68,7 @@ silence = record { rpcs = []; rest = []; end = ends.Waits; closes = false }
 pub record IsBetween (before whole : List ℕ) (x : Inbound) : Type 0 where
   pub earlier : List Rpc
   pub spell_before : Spell before earlier
-  pub stream : IsStream MAX_BODY whole (earlier ++ x.rpcs) x.rest x.end
+  pub stream : IsStream longest_body whole (earlier ++ x.rpcs) x.rest x.end
 
 -- what there is to hear in a round: what was said in the one before it
 abbrev pub ComesIn : ℕ → Said → Inbound → Type 0

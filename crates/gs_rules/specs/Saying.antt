@@ -5,28 +5,12 @@ use Rattle.gs_base.specs.declared.names.PeerNo.{PeerNo}
 use Rattle.gs_base.specs.declared.rpc.Rpc.{Rpc}
 use Rattle.gs_base.specs.Names.{same_peer}
 use Rattle.gs_base.specs.Codecs.{Codec}
+pub use Rattle.gs_base.specs.Tokens.{Token, Byte, EndOf, Close, Said, bytes_of}
 use Rattle.gs_rules.specs.declared.trace.Event.{Event}
 use Rattle.gs_rules.specs.declared.trace.Event.TheVariants.{Heard, Late, RoundEnd, Gone, Fault, Shut}
 use Rattle.gs_rules.specs.declared.trace.Entry.{Entry}
 use Rattle.gs_rules.specs.Tables.{Entries, up}
 use Rattle.gs_rules.specs.Modes.{sent_to}
-
--- a byte, the end of a round, or the close
-pub data Token : Type 0 where
-  Byte : ℕ → Token
-  EndOf : ℕ → Token
-  Close : Token
-
--- what one peer says to another, in order
-abbrev pub Said : Type 0
-Said = List Token
-
--- its bytes
-abbrev pub bytes_of : Said → List ℕ
-bytes_of [] = []
-bytes_of (Byte b ∷ w) = b ∷ bytes_of w
-bytes_of (EndOf r ∷ w) = bytes_of w
-bytes_of (Close ∷ w) = bytes_of w
 
 -- what an event puts behind what is sent with it: whoever is lost, or all where the peer shuts down, are told no more
 abbrev pub sign : PeerNo → Event → Said

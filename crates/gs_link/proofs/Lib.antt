@@ -1,0 +1,5 @@
+pub mod Closes
+pub mod KeepsRule
+pub mod Views
+pub mod Flats
+mod Rows

@@ -1,0 +1,63 @@
+//! What a link carries.
+ghost use Rattle.std.specs.Prelude.{◌≡◌, ◌↔◌, IsTrue};
+ghost use Rattle.gs_link.specs.Items.{IsCapacity, IsSendable, slot_of};
+
+use bytes::Bytes;
+
+/// The most slots that may wait in a link.
+pub const LARGEST_CAPACITY: usize = 1_024;
+
+/// The most bytes of a piece.
+pub const LONGEST_PIECE: usize = 64;
+
+/// What is sent over a link.
+#[derive(Debug, PartialEq, Eq, Drop)]
+pub enum Item {
+    /// 1 to 64 bytes. Frames may be cut into pieces, and joined in one, in any way.
+    Piece(Bytes),
+    /// The end of a round, which stands behind all bytes that were sent in it.
+    Round(u64),
+}
+
+/// What lies in a link: an item, or the close, which is the last. It is no larger than an item, so
+/// that a link costs no more than a queue of items.
+#[derive(Debug, PartialEq, Eq, Drop)]
+pub enum Slot {
+    /// A piece.
+    Piece(Bytes),
+    /// The end of a round.
+    Round(u64),
+    /// The close.
+    Close,
+}
+
+impl Slot {
+    /// An item, as it lies in a link.
+    pub(crate) fn of(item: Item) -> Slot
+        ensures { result ≡ slot_of item }
+    {
+        match item {
+            Item::Piece(bytes) => Slot::Piece(bytes),
+            Item::Round(round) => Slot::Round(round),
+        }
+    }
+}
+
+/// Whether a link may have this capacity: 1 to 1,024 slots.
+pub fn is_capacity(capacity: usize) -> bool
+    ensures { IsTrue result ↔ IsCapacity capacity }
+{
+    1 <= capacity && capacity <= LARGEST_CAPACITY
+}
+
+impl Item {
+    /// Whether the item may be sent: a piece has 1 to 64 bytes.
+    pub fn is_sendable(&self) -> bool
+        ensures { IsTrue result ↔ IsSendable self.now }
+    {
+        match self {
+            Item::Piece(bytes) => 1 <= bytes.len() && bytes.len() <= LONGEST_PIECE,
+            Item::Round(_) => true,
+        }
+    }
+}

@@ -1,0 +1,24 @@
+//! A link from one peer to another: a sending end and a taking end over one queue without a lock.
+//! It carries pieces of bytes, marks of the ends of rounds and at last a close, each once and in
+//! order, between any two threads.
+#![tactic(auto)]
+
+mod fault;
+mod item;
+mod laws;
+mod receiver;
+mod rule;
+mod sender;
+mod settlement;
+mod wiring;
+
+pub use fault::{CloseRefused, LinkFault, SendRefused};
+pub use item::{Item, LARGEST_CAPACITY, LONGEST_PIECE, Slot, is_capacity};
+pub use laws::{cutting_does_not_show, what_stands_behind_is_said_later};
+pub use receiver::{LinkRx, Taken};
+pub use sender::LinkTx;
+pub use settlement::{Settled, settle};
+pub use wiring::open_link;
+
+#[cfg(test)]
+mod tests;
