@@ -75,8 +75,13 @@ pub fn pick_one<W: Words>(n: usize, words: &mut W) -> usize
 /// Who is picked. So many of the candidates are, ascending and none twice; and where not all are,
 /// they are those in the first k places of the shuffle by the next k words.
 pub fn a_pick_is_the_front_of_a_shuffle<W: Words>()
-    ensures choice { (k : ℕ) (candidates : List PeerNoValue) (words : W) → IsAscending candidates → IsChoice k candidates (picked W.word W.after k candidates words) }
-    ensures front { (k : ℕ) (candidates : List PeerNoValue) (words : W) (p : PeerNoValue) → k < length candidates → is_member same_peer (picked W.word W.after k candidates words) p ≡ is_member same_peer (take k (shuffled 0 (next_words W.word W.after k words) candidates)) p }
+    ensures choice { (k : ℕ) (candidates : List PeerNoValue) (words : W)
+        → IsAscending candidates
+        → IsChoice k candidates (picked W.word W.after k candidates words) }
+    ensures front { (k : ℕ) (candidates : List PeerNoValue) (words : W) (p : PeerNoValue)
+        → k < length candidates
+        → is_member same_peer (picked W.word W.after k candidates words) p ≡
+        is_member same_peer (take k (shuffled 0 (next_words W.word W.after k words) candidates)) p }
 {}
 
 #[cfg(test)]

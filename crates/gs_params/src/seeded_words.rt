@@ -67,7 +67,9 @@ impl Words for SeededWords {
 
 /// What seeded words give: their list in order, and then the words of their generator.
 pub fn seeded_words_give_their_list_first()
-    ensures { (list : List ℕ) (seed : ℕ) (peer : PeerNoValue) (n : ℕ) → next_words seeded_word seeded_after (length list + n) (new_seeded list seed peer) ≡ list ++ next_words generator_word generator_after n (generator_of seed peer) }
+    ensures { (list : List ℕ) (seed : ℕ) (peer : PeerNoValue) (n : ℕ)
+        → next_words seeded_word seeded_after (length list + n) (new_seeded list seed peer) ≡
+        list ++ next_words generator_word generator_after n (generator_of seed peer) }
 {}
 
 #[cfg(test)]

@@ -39,7 +39,8 @@ impl PeerSet {
     /// # Errors
     /// `AllocError` where there was no memory.
     pub fn put(&mut self, peer: PeerNo, is_in: bool) -> Result<(), AllocError>
-        ensures { OnOk result ((q : PeerNoValue) → has self.new q ≡ (if same_peer peer q then is_in else has self.old q)) }
+        ensures { OnOk result ((q : PeerNoValue)
+            → has self.new q ≡ (if same_peer peer q then is_in else has self.old q)) }
     {
         self.cover(peer)?;
         self.flags[usize::from(peer.0)] = is_in;

@@ -50,9 +50,9 @@ impl Router {
     pub fn new(alloc: Global, params: Params, neighbours: Vec<Neighbour>) -> Router
         requires { IsAscending (peers_of neighbours.items) }
         ensures { result ≡ record {
-            peer = record { params = params; neighbours = neighbours.items };
-            trace = [];
-            is_stopped = false;
+          peer = record { params = params; neighbours = neighbours.items };
+          trace = [];
+          is_stopped = false;
         } }
     {
         Router {

@@ -33,11 +33,7 @@ pub fn bare(alloc: Global, at: Millis, event: Event) -> Entry
 }
 
 /// The same RPC to each of these.
-fn to_each(
-    alloc: Global,
-    rpc: &Rpc,
-    receivers: &[PeerNo],
-) -> Result<Seq<(PeerNo, Rpc)>, AllocError>
+fn to_each(alloc: Global, rpc: &Rpc, receivers: &[PeerNo]) -> Result<Seq<(PeerNo, Rpc)>, AllocError>
     ensures { IfOk result (λ sends. sends ≡ to_each rpc.now receivers.now) }
 {
     let mut sends = Seq::new(alloc);
@@ -49,7 +45,9 @@ fn to_each(
 
 /// The neighbours that are up.
 fn up_neighbours(state: &State) -> Result<Vec<PeerNo>, AllocError>
-    ensures { IfOk result (λ receivers. (L : Entries) → Agrees state.now.tables L → receivers.items ≡ up_neighbours (peer_with state.now.setup) L) }
+    ensures { IfOk result (λ receivers. (L : Entries)
+        → Agrees state.now.tables L
+        → receivers.items ≡ up_neighbours (peer_with state.now.setup) L) }
 {
     let mut receivers = Vec::new(state.alloc);
     for neighbour in &state.setup.neighbours {
@@ -68,7 +66,9 @@ pub fn entry_of<W: Words>(
     words: &mut W,
 ) -> Result<Entry, AllocError>
     requires { IsCurrent state.now }
-    ensures { IfOk result (λ entry. (L : Entries) → Agrees state.now.tables L → Follows (exact W.word W.after) (rule_of (peer_with state.now.setup) L now event) words.old entry words.new) }
+    ensures { IfOk result (λ entry. (L : Entries)
+        → Agrees state.now.tables L
+        → Follows (exact W.word W.after) (rule_of (peer_with state.now.setup) L now event) words.old entry words.new) }
 {
     match event {
         Event::Msg(from, message) => messages::entry_of(state, from, message, now),
@@ -94,7 +94,9 @@ fn refusal_of_anything(state: &State) -> Option<Refusal>
 
 /// Why an event may not come.
 pub fn refusal_of(state: &State, event: &Event, now: Millis) -> Option<Refusal>
-    ensures { (L : Entries) → Agrees state.now.tables L → result ≡ refusal (peer_with state.now.setup) L now.0 event.now }
+    ensures { (L : Entries)
+        → Agrees state.now.tables L
+        → result ≡ refusal (peer_with state.now.setup) L now.0 event.now }
 {
     match event {
         Event::Subscribe(topic) => subscriptions::refusal_of_subscribe(state, topic),

@@ -51,7 +51,8 @@ impl State {
     fn step<W: Words>(&mut self, event: Event, now: Millis, words: &mut W) -> Result<(), AllocError>
         requires current { IsCurrent self.old }
         requires time { last_moment self.old.trace ≤ now.0 }
-        requires next { IsNext (peer_with self.old.setup) self.old.trace now.0 (owed (peer_with self.old.setup) self.old.trace).events event }
+        requires next { IsNext (peer_with self.old.setup) self.old.trace now.0
+            (owed (peer_with self.old.setup) self.old.trace).events event }
         ensures { Steps (exact W.word W.after) event now self.old words.old result self.new words.new }
     {
         let entry = rules::entry_of(self, event, now, words)?;
@@ -59,7 +60,12 @@ impl State {
     }
 
     /// Does what the rule says of an event that owes nothing.
-    pub fn open<W: Words>(&mut self, event: Event, now: Millis, words: &mut W) -> Result<(), AllocError>
+    pub fn open<W: Words>(
+        &mut self,
+        event: Event,
+        now: Millis,
+        words: &mut W,
+    ) -> Result<(), AllocError>
         requires ready { IsReady self.old }
         requires time { last_moment self.old.trace ≤ now.0 }
         requires may { MayOpen (peer_with self.old.setup) self.old.trace now.0 event }
@@ -78,9 +84,11 @@ impl State {
     ) -> Result<(), AllocError>
         requires ready { IsReady self.old }
         requires time { last_moment self.old.trace ≤ now.0 }
-        requires may { MayOpen (peer_with self.old.setup) self.old.trace now.0 (events.Publish publishing.topic publishing.payload) }
+        requires may { MayOpen (peer_with self.old.setup) self.old.trace now.0
+            (events.Publish publishing.topic publishing.payload) }
         requires id { publishing.id ≡ message_id publishing.payload }
-        ensures { Ends (exact W.word W.after) (events.Publish publishing.topic publishing.payload) now self.old words.old result self.new words.new }
+        ensures { Ends (exact W.word W.after) (events.Publish publishing.topic publishing.payload) now
+            self.old words.old result self.new words.new }
     {
         let entry = messages::publish(self, publishing, now)?;
         self.append(entry)
@@ -97,7 +105,8 @@ impl State {
         requires ready { IsReady self.old }
         requires time { last_moment self.old.trace ≤ now.0 }
         requires fits { codec.fits rpc ≡ true }
-        ensures { Ends (exact W.word W.after) (hearing self.old.trace from rpc) now self.old words.old result self.new words.new }
+        ensures { Ends (exact W.word W.after) (hearing self.old.trace from rpc) now
+            self.old words.old result self.new words.new }
     {
         if self.tables.neighbours.is_up(from) {
             self.hear_up(from, rpc, now, words)

@@ -35,7 +35,9 @@ pub enum Fate {
 
 /// What becomes of a message.
 fn fate_of(state: &State, message: &Message, now: Millis) -> Fate
-    ensures { (L : Entries) (q : PeerNoValue) → Agrees state.now.tables L → message_rule (peer_with state.now.setup) L now q message.now ≡ judged q now message.now result }
+    ensures { (L : Entries) (q : PeerNoValue)
+        → Agrees state.now.tables L
+        → message_rule (peer_with state.now.setup) L now q message.now ≡ judged q now message.now result }
 {
     if !state.tables.topics.is_joined_or_empty(&message.topic) {
         return Fate::Dropped;
@@ -87,7 +89,9 @@ pub fn entry_of(
     message: Message,
     now: Millis,
 ) -> Result<Entry, AllocError>
-    ensures { IfOk result (λ entry. (L : Entries) → Agrees state.now.tables L → entry ≡ message_rule (peer_with state.now.setup) L now from message) }
+    ensures { IfOk result (λ entry. (L : Entries)
+        → Agrees state.now.tables L
+        → entry ≡ message_rule (peer_with state.now.setup) L now from message) }
 {
     let fate = fate_of(state, &message, now);
     let entry = judged(state.alloc, from, message, fate, now)?;
@@ -106,7 +110,9 @@ pub struct Publishing {
 
 /// The neighbours that are up and on a topic.
 fn listeners(state: &State, topic: &Topic) -> Result<Vec<PeerNo>, AllocError>
-    ensures { IfOk result (λ receivers. (L : Entries) → Agrees state.now.tables L → receivers.items ≡ listeners (peer_with state.now.setup) L topic.now) }
+    ensures { IfOk result (λ receivers. (L : Entries)
+        → Agrees state.now.tables L
+        → receivers.items ≡ listeners (peer_with state.now.setup) L topic.now) }
 {
     match state.tables.listeners.of(topic) {
         Some(set) => up_among(state, set),
@@ -116,7 +122,9 @@ fn listeners(state: &State, topic: &Topic) -> Result<Vec<PeerNo>, AllocError>
 
 /// The neighbours that are up and in a set.
 fn up_among(state: &State, set: &PeerSet) -> Result<Vec<PeerNo>, AllocError>
-    ensures { IfOk result (λ receivers. (L : Entries) → Agrees state.now.tables L → receivers.items ≡ filter (λ q. up L q && has set.now q) (links_of (peer_with state.now.setup))) }
+    ensures { IfOk result (λ receivers. (L : Entries)
+        → Agrees state.now.tables L
+        → receivers.items ≡ filter (λ q. up L q && has set.now q) (links_of (peer_with state.now.setup))) }
 {
     let mut receivers = Vec::new(state.alloc);
     for neighbour in &state.setup.neighbours {
@@ -129,7 +137,9 @@ fn up_among(state: &State, set: &PeerSet) -> Result<Vec<PeerNo>, AllocError>
 
 /// What is delivered to the router's own user of a payload that it publishes.
 fn delivered(state: &State, publishing: &Publishing) -> Result<Seq<(Topic, Bytes)>, AllocError>
-    ensures { IfOk result (λ list. (L : Entries) → Agrees state.now.tables L → list ≡ (if joined L publishing.now.topic then (publishing.now.topic, publishing.now.payload) ∷ [] else [])) }
+    ensures { IfOk result (λ list. (L : Entries)
+        → Agrees state.now.tables L
+        → list ≡ (if joined L publishing.now.topic then (publishing.now.topic, publishing.now.payload) ∷ [] else [])) }
 {
     if state.tables.topics.is_joined(&publishing.topic) {
         let message = (clone_of(&publishing.topic)?, clone_of(&publishing.payload)?);
@@ -142,7 +152,9 @@ fn delivered(state: &State, publishing: &Publishing) -> Result<Seq<(Topic, Bytes
 /// The entry of a payload that the router's own user publishes.
 pub fn publish(state: &State, publishing: Publishing, now: Millis) -> Result<Entry, AllocError>
     requires { publishing.id ≡ message_id publishing.payload }
-    ensures { IfOk result (λ entry. (L : Entries) → Agrees state.now.tables L → entry ≡ publish_rule (peer_with state.now.setup) L now publishing.topic publishing.payload) }
+    ensures { IfOk result (λ entry. (L : Entries)
+        → Agrees state.now.tables L
+        → entry ≡ publish_rule (peer_with state.now.setup) L now publishing.topic publishing.payload) }
 {
     let receivers = listeners(state, &publishing.topic)?;
     let rpc = Rpc::publication(state.alloc, &publishing.topic, &publishing.payload)?;
@@ -167,7 +179,9 @@ pub fn refusal_of_publish(
     now: Millis,
 ) -> Option<Refusal>
     requires { id ≡ message_id payload.now }
-    ensures { (L : Entries) → Agrees state.now.tables L → result ≡ refusal (peer_with state.now.setup) L now.0 (events.Publish topic.now payload.now) }
+    ensures { (L : Entries)
+        → Agrees state.now.tables L
+        → result ≡ refusal (peer_with state.now.setup) L now.0 (events.Publish topic.now payload.now) }
 {
     if state.tables.neighbours.is_shut() {
         return Some(Refusal::Stopped);

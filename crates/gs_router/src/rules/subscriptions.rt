@@ -21,7 +21,9 @@ fn announced(
     subscribes: bool,
     topic: &Topic,
 ) -> Result<Seq<(PeerNo, Rpc)>, AllocError>
-    ensures { IfOk result (λ sends. (L : Entries) → Agrees state.now.tables L → sends ≡ to_each (announcement subscribes topic.now) (up_neighbours (peer_with state.now.setup) L)) }
+    ensures { IfOk result (λ sends. (L : Entries)
+        → Agrees state.now.tables L
+        → sends ≡ to_each (announcement subscribes topic.now) (up_neighbours (peer_with state.now.setup) L)) }
 {
     let receivers = up_neighbours(state)?;
     let rpc = Rpc::announcement(state.alloc, subscribes, topic)?;
@@ -31,7 +33,9 @@ fn announced(
 
 /// A subscription to a topic.
 pub fn subscribe(state: &State, topic: Topic, now: Millis) -> Result<Entry, AllocError>
-    ensures { IfOk result (λ entry. (L : Entries) → Agrees state.now.tables L → entry ≡ subscribe_rule (peer_with state.now.setup) L now topic) }
+    ensures { IfOk result (λ entry. (L : Entries)
+        → Agrees state.now.tables L
+        → entry ≡ subscribe_rule (peer_with state.now.setup) L now topic) }
 {
     let sends = announced(state, true, &topic)?;
     Ok(Entry {
@@ -45,7 +49,9 @@ pub fn subscribe(state: &State, topic: Topic, now: Millis) -> Result<Entry, Allo
 
 /// The end of a subscription.
 pub fn unsubscribe(state: &State, topic: Topic, now: Millis) -> Result<Entry, AllocError>
-    ensures { IfOk result (λ entry. (L : Entries) → Agrees state.now.tables L → entry ≡ unsubscribe_rule (peer_with state.now.setup) L now topic) }
+    ensures { IfOk result (λ entry. (L : Entries)
+        → Agrees state.now.tables L
+        → entry ≡ unsubscribe_rule (peer_with state.now.setup) L now topic) }
 {
     let sends = announced(state, false, &topic)?;
     Ok(Entry {
@@ -59,7 +65,9 @@ pub fn unsubscribe(state: &State, topic: Topic, now: Millis) -> Result<Entry, Al
 
 /// Why the router may not subscribe to a topic.
 pub fn refusal_of_subscribe(state: &State, topic: &Topic) -> Option<Refusal>
-    ensures { (p : Peer) (L : Entries) (at : ℕ) → Agrees state.now.tables L → result ≡ refusal p L at (events.Subscribe topic.now) }
+    ensures { (p : Peer) (L : Entries) (at : ℕ)
+        → Agrees state.now.tables L
+        → result ≡ refusal p L at (events.Subscribe topic.now) }
 {
     if state.tables.neighbours.is_shut() {
         return Some(Refusal::Stopped);
@@ -78,7 +86,9 @@ pub fn refusal_of_subscribe(state: &State, topic: &Topic) -> Option<Refusal>
 
 /// Why the router may not leave a topic.
 pub fn refusal_of_unsubscribe(state: &State, topic: &Topic) -> Option<Refusal>
-    ensures { (p : Peer) (L : Entries) (at : ℕ) → Agrees state.now.tables L → result ≡ refusal p L at (events.Unsubscribe topic.now) }
+    ensures { (p : Peer) (L : Entries) (at : ℕ)
+        → Agrees state.now.tables L
+        → result ≡ refusal p L at (events.Unsubscribe topic.now) }
 {
     if state.tables.neighbours.is_shut() {
         return Some(Refusal::Stopped);

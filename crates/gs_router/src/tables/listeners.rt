@@ -34,15 +34,21 @@ impl Listeners {
 
     /// Those who are on a topic; `None` is nobody.
     pub fn of(&self, topic: &Topic) -> Option<&PeerSet>
-        ensures some { IfSome result (λ set. (L : Entries) (q : PeerNoValue) → AgreesOnListeners self.now L → has set.now q ≡ on L q topic.now) }
-        ensures none { IfNone result ((L : Entries) (q : PeerNoValue) → AgreesOnListeners self.now L → on L q topic.now ≡ false) }
+        ensures some { IfSome result (λ set. (L : Entries) (q : PeerNoValue)
+            → AgreesOnListeners self.now L
+            → has set.now q ≡ on L q topic.now) }
+        ensures none { IfNone result ((L : Entries) (q : PeerNoValue)
+            → AgreesOnListeners self.now L
+            → on L q topic.now ≡ false) }
     {
         self.topics.get(topic)
     }
 
     /// Notes an entry.
     pub fn note(&mut self, entry: &Entry) -> Result<(), AllocError>
-        ensures { OnOk result ((L : Entries) → AgreesOnListeners self.old L → AgreesOnListeners self.new (entry.now ∷ L)) }
+        ensures { OnOk result ((L : Entries)
+            → AgreesOnListeners self.old L
+            → AgreesOnListeners self.new (entry.now ∷ L)) }
     {
         match &entry.event {
             Event::Sub(peer, sub) => {
@@ -56,7 +62,8 @@ impl Listeners {
 
     /// Notes whether a neighbour is on a topic.
     fn put(&mut self, topic: Topic, peer: PeerNo, is_on: bool) -> Result<(), AllocError>
-        ensures { OnOk result ((q : PeerNoValue) (t : TopicValue) → listens self.new q t ≡ (if same_peer peer q && same_topic topic t then is_on else listens self.old q t)) }
+        ensures { OnOk result ((q : PeerNoValue) (t : TopicValue)
+            → listens self.new q t ≡ (if same_peer peer q && same_topic topic t then is_on else listens self.old q t)) }
     {
         match self.topics.get_mut(&topic) {
             Some(set) => {

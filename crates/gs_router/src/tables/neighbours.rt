@@ -43,7 +43,9 @@ impl Neighbours {
 
     /// Notes an entry.
     pub fn note(&mut self, entry: &Entry) -> Result<(), AllocError>
-        ensures { OnOk result ((L : Entries) → AgreesOnNeighbours self.old L → AgreesOnNeighbours self.new (entry.now ∷ L)) }
+        ensures { OnOk result ((L : Entries)
+            → AgreesOnNeighbours self.old L
+            → AgreesOnNeighbours self.new (entry.now ∷ L)) }
     {
         match &entry.event {
             Event::Gone(peer) => {

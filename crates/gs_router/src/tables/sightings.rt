@@ -44,7 +44,8 @@ impl Sightings {
 
     /// Notes a mark that was made at a moment.
     fn note_mark(&mut self, mark: &Mark, at: Millis) -> Result<(), AllocError>
-        ensures { OnOk result ((id : MsgIdValue) → sighting_at self.new id ≡ sighting_after id at.0 mark.now (sighting_at self.old id)) }
+        ensures { OnOk result ((id : MsgIdValue)
+            → sighting_at self.new id ≡ sighting_after id at.0 mark.now (sighting_at self.old id)) }
     {
         match mark {
             Mark::Seen(id, verdict) => {
@@ -61,7 +62,9 @@ impl Sightings {
 
     /// Notes an entry.
     pub fn note(&mut self, entry: &Entry) -> Result<(), AllocError>
-        ensures { OnOk result ((L : Entries) → AgreesOnSightings self.old L → AgreesOnSightings self.new (entry.now ∷ L)) }
+        ensures { OnOk result ((L : Entries)
+            → AgreesOnSightings self.old L
+            → AgreesOnSightings self.new (entry.now ∷ L)) }
     {
         for mark in entry.marks.as_slice() {
             self.note_mark(mark, entry.at)?;
