@@ -1,6 +1,7 @@
 -- Who is joined in a plan, and what is known of every plan that was read.
-use Rattle.std.specs.Prelude.{◌≡◌, ◌≤◌, ◌<◌, ◌≤ℤ◌, ◌%◌, ◌^◌, ◌&&◌, ◌||◌, ◌==◌, ℕ, ℤ, pos, neg_ℤ, Bool, true, false, List, length, All, AllPairs, Ok}
+use Rattle.std.specs.Prelude.{◌≡◌, ◌≤◌, ◌<◌, ◌≤ℤ◌, ◌%◌, ◌^◌, ◌&&◌, ◌||◌, ◌==◌, ℕ, nat_eq, ℤ, pos, neg_ℤ, Bool, true, false, List, length, All, AllPairs, Ok}
 use Rattle.std.specs.List.{list_any}
+use Rattle.std.specs.Cmp.Lexicographic.{pointwise}
 use Rattle.gs_base.specs.Names.{same_peer, same_topic}
 use Rattle.gs_base.specs.declared.names.PeerNo.{PeerNo}
 use Rattle.gs_base.specs.declared.names.Topic.{Topic}
@@ -26,6 +27,10 @@ most_rounds = 100_000
 
 abbrev pub most_peers : ℕ
 most_peers = 64
+
+-- the most topics that have parameters
+abbrev pub most_planned_topics : ℕ
+most_planned_topics = 32
 
 abbrev pub most_workers : ℕ
 most_workers = 16
@@ -72,6 +77,10 @@ topic_of (Subscribe topic) = topic
 topic_of (Unsubscribe topic) = topic
 topic_of (Publish topic payload) = topic
 
+-- two peers have one name
+abbrev pub have_one_name : PlannedPeer → PlannedPeer → Bool
+have_one_name x y = pointwise nat_eq x.name y.name
+
 -- it is one of the topics that have parameters
 abbrev pub has_topic : List (Topic × TopicParams) → Topic → Bool
 has_topic topics topic = list_any (λ (known : Topic × TopicParams). same_topic known.0 topic) topics
@@ -92,6 +101,11 @@ pub record IsInRange (plan : Plan) : Type 0 where
   pub seed : plan.seed < 2 ^ 63
   pub some_peers : 1 ≤ length plan.peers
   pub peers : length plan.peers ≤ most_peers
+  pub some_topics : 1 ≤ length plan.params.topics
+  pub topics : length plan.params.topics ≤ most_planned_topics
+  -- each peer and each topic has a name of its own
+  pub names_differ : AllPairs (λ x y. have_one_name x y ≡ false) plan.peers
+  pub topics_differ : AllPairs (λ (x y : Topic × TopicParams). same_topic x.0 y.0 ≡ false) plan.params.topics
   -- its parameters passed their checks, and heartbeats and decays take whole rounds
   pub params : checked plan.params ≡ Ok plan.params
   pub heartbeat : plan.params.windows.heartbeat_ms % plan.round_ms ≡ 0

@@ -1,17 +1,17 @@
 -- A plan that is read is in range.
-use Rattle.std.proofs.Common.{◌≡◌, ℕ, ◌+◌, ◌≤◌, ◌<◌, ◌-◌, ◌^◌, ◌%◌, nat_eq, Bool, true, false, cond, not, List, [], ◌∷◌, ◌++◌, length, codes, Option, Some, None, Result, Ok, Err, refl, sym, subst, arith}
-use Rattle.std.specs.Prelude.{◌||◌, ◌==◌, neg_ℤ, IfOk, IfSome, option_map, position, find, All, AllPairs}
+use Rattle.std.proofs.Common.{◌≡◌, ℕ, ◌≤◌, ◌<◌, ◌-◌, ◌^◌, ◌%◌, nat_eq, Bool, true, false, cond, not, List, [], ◌∷◌, ◌++◌, length, codes, Option, Some, None, Result, Ok, Err, refl, subst, arith}
+use Rattle.std.specs.Prelude.{◌||◌, ◌==◌, neg_ℤ, IfOk, IfSome, is_some, option_map, position, find, All, AllPairs}
 use Rattle.std.specs.List.{list_any}
 use Rattle.std.specs.Cmp.Lexicographic.{pointwise}
 use Rattle.std.proofs.lemmas.List.Elements.{All-nil, All-push}
-use Rattle.std.proofs.lemmas.List.Quantifiers.{position-Some}
+use Rattle.std.proofs.lemmas.List.Quantifiers.{all_pairs_push, position-Some}
 use Rattle.toml.specs.Data.{Data, Items, Members}
 use Rattle.toml.specs.Parse.{parse_document}
 use Rattle.gs_base.specs.declared.names.PeerNo.{PeerNo}
 use Rattle.gs_base.specs.declared.names.Topic.{Topic}
-use Rattle.gs_base.specs.Names.{same_peer}
+use Rattle.gs_base.specs.Names.{same_peer, same_topic}
 use Rattle.gs_params.specs.Params.{checked, default_windows}
-use Rattle.gs_params.specs.Plans.{IsInRange, IsOneOf, IsAppScore, are_joined, are_of_the_same, has_topic, highest_app_score, highest_capacity, join_the_same, longest_round, most_peers, most_rounds, most_workers, topic_of}
+use Rattle.gs_params.specs.Plans.{IsInRange, IsOneOf, IsAppScore, are_joined, are_of_the_same, has_topic, highest_app_score, highest_capacity, have_one_name, join_the_same, longest_round, most_peers, most_planned_topics, most_rounds, most_workers, topic_of}
 use Rattle.gs_params.specs.declared.params.Params.{Params}
 use Rattle.gs_params.specs.declared.params.Windows.{Windows}
 use Rattle.gs_params.specs.declared.topic_params.TopicParams.{TopicParams}
@@ -28,12 +28,12 @@ use Rattle.gs_scenario.specs.declared.scenario.params.Shared.{Shared}
 use Rattle.gs_scenario.specs.declared.scenario.script.Verb.{Verb}
 use Rattle.gs_scenario.specs.declared.scenario.script.Verb.TheVariants as verbs
 use Rattle.gs_scenario.specs.Keys.{Section, only, required, read_key, read_each}
-use Rattle.gs_scenario.specs.Kinds.{whole_number, signed_number, item_count, list_of, reference, element, section_at, table_at}
-use Rattle.gs_scenario.specs.ParamsOf.{count_key, heartbeat_ms_key, decay_ms_key, fanout_ttl_ms_key, seen_ttl_ms_key, iwant_followup_ms_key, prune_backoff_s_key, unsubscribe_backoff_s_key, mcache_len_key, mcache_gossip_key, opportunistic_ticks_key, opportunistic_peers_key, max_ihave_key, max_ihave_ids_key, gossip_retransmission_key, degrees_in, thresholds_in, factors_in, windows_in, flood_publish_key, shared_names, shared_in, params_of, or_refuse_params, with_topics}
-use Rattle.gs_scenario.specs.PlanOf.{Top, round_ms_key, rounds_key, workers_key, capacity_key, seed_key, params_key, topics_key, peers_key, dials_key, apps_key, script_key, top_keys, from_key, to_key, dial_keys, peer_key, about_key, value_key, app_keys, what_key, at_key, topic_key, hex_key, keys_of, top_in, topic_named, topic_in, peer_named, peer_in, other_peer, dial_in, neighbour, app_in, what_in, line_in, plan_in, plan_of_document, plan_of}
+use Rattle.gs_scenario.specs.Kinds.{whole_number, signed_number, item_count, list_of, reference, new_name, element, section_at, table_at}
+use Rattle.gs_scenario.specs.ParamsOf.{count_key, heartbeat_ms_key, decay_ms_key, fanout_ttl_ms_key, seen_ttl_ms_key, iwant_followup_ms_key, prune_backoff_s_key, unsubscribe_backoff_s_key, mcache_len_key, mcache_gossip_key, opportunistic_ticks_key, opportunistic_peers_key, max_ihave_key, max_ihave_ids_key, gossip_retransmission_key, degrees_in, thresholds_in, factors_in, windows_in, topic_params_in, flood_publish_key, shared_names, shared_in, params_of, or_refuse_params, with_topics}
+use Rattle.gs_scenario.specs.PlanOf.{Top, round_ms_key, rounds_key, workers_key, capacity_key, seed_key, params_key, topics_key, peers_key, dials_key, apps_key, script_key, top_keys, from_key, to_key, dial_keys, topic_name_key, topic_keys, peer_name_key, address_key, words_key, peer_keys, peer_key, about_key, value_key, app_keys, what_key, at_key, topic_key, hex_key, keys_of, top_in, topic_named, topic_in, peer_named, peer_in, other_peer, dial_in, neighbour, app_in, what_in, line_in, plan_in, plan_of_document, plan_of}
 use Rattle.gs_scenario.specs.Refusal.{Gives}
 use Rattle.gs_scenario.proofs.Checked.{same_of_checked, checked_again}
-use Rattle.gs_scenario.proofs.Ranges.{next, past, not_refused, at_required, number_is, list_is, signed_is, reference_is, not_failed, multiple_is, each_is, count_is, differ_push, no_pairs, same_bytes}
+use Rattle.gs_scenario.proofs.Ranges.{next, past, not_refused, at_required, number_is, list_is, signed_is, reference_is, not_failed, multiple_is, each_is, count_is, none_at, and_also, new_is, no_position, not_found, differ_push, no_pairs, same_bytes}
 
 -- ---- names
 
@@ -68,6 +68,76 @@ found_is p (x ∷ topics) = elim (p x) as (λ b. IfSome (option_map (λ (found :
 
 pub topic_is : (topics : List (Topic × TopicParams)) (place : List ℕ) (d : Data) → IfOk (reference (topic_named topics) place d) (λ topic. has_topic topics topic ≡ true)
 topic_is topics = reference_is (λ topic. has_topic topics topic ≡ true) (topic_named topics) (λ text. found_is (λ (topic : Topic × TopicParams). pointwise nat_eq topic.0.0 text) topics)
+
+-- ---- peers and topics
+
+abbrev NamesDiffer : List PlannedPeer → Type 0
+NamesDiffer peers = AllPairs (λ x y. have_one_name x y ≡ false) peers
+
+-- nobody has the name yet
+abbrev IsNewName : List PlannedPeer → List ℕ → Type 0
+IsNewName earlier text = is_some (peer_named earlier text) ≡ false
+
+new_name_is : (earlier : List PlannedPeer) (place : List ℕ) (d : Data) → IfOk (new_name (peer_named earlier) place d) (IsNewName earlier)
+new_name_is earlier = new_is (IsNewName earlier) (peer_named earlier) (λ text e. e)
+
+one_peer_more : (earlier : List PlannedPeer) (peer : PlannedPeer) → IsNewName earlier peer.name → NamesDiffer earlier → NamesDiffer (earlier ++ peer ∷ [])
+one_peer_more earlier peer new h =
+    all_pairs_push (λ x y. have_one_name x y ≡ false) earlier peer h
+    (no_position (λ i. let p : PeerNo = record { 0 = i } in p) (λ (x : PlannedPeer). pointwise nat_eq x.name peer.name) earlier new)
+
+name_is : (earlier : List PlannedPeer) (d : Data) → NamesDiffer earlier → IfOk (peer_in earlier d) (λ peer. NamesDiffer (earlier ++ peer ∷ []))
+unfolding peer_in
+name_is earlier d h =
+    let P = λ (peer : PlannedPeer). NamesDiffer (earlier ++ peer ∷ []) in
+    past P (table_at (element (codes "peer") (length earlier)) d) _ (λ section.
+    past P (only peer_keys section) _ (λ none.
+    next (IsNewName earlier) P (read_key section (peer_name_key earlier)) _ (at_required (IsNewName earlier) (peer_name_key earlier).name (new_name (peer_named earlier)) section (new_name_is earlier)) (λ text new.
+    past P (read_key section (address_key text)) _ (λ address.
+    past P (read_key section words_key) _ (λ firsts.
+    one_peer_more earlier (record { name = text; address = address; words = firsts }) new h)))))
+
+-- so many, with different names
+abbrev PeersAre : ℕ → List PlannedPeer → Type 0
+PeersAre n peers = (length peers ≡ n) × NamesDiffer peers
+
+peers_are : (ds : Items) → IfOk (read_each peer_in [] ds) (PeersAre (item_count ds))
+peers_are ds =
+    and_also (λ peers. length peers ≡ item_count ds) NamesDiffer (read_each peer_in [] ds) (count_is peer_in (item_count ds) [] ds (omega arith))
+    (each_is NamesDiffer peer_in name_is [] ds (no_pairs (λ x y. have_one_name x y ≡ false)))
+
+abbrev TopicsDiffer : List (Topic × TopicParams) → Type 0
+TopicsDiffer topics = AllPairs (λ (x y : Topic × TopicParams). same_topic x.0 y.0 ≡ false) topics
+
+abbrev IsNewTopic : List (Topic × TopicParams) → List ℕ → Type 0
+IsNewTopic earlier text = is_some (topic_named earlier text) ≡ false
+
+new_topic_is : (earlier : List (Topic × TopicParams)) (place : List ℕ) (d : Data) → IfOk (new_name (topic_named earlier) place d) (IsNewTopic earlier)
+new_topic_is earlier = new_is (IsNewTopic earlier) (topic_named earlier) (λ text e. e)
+
+one_topic_more : (earlier : List (Topic × TopicParams)) (topic : Topic × TopicParams) → IsNewTopic earlier topic.0.0 → TopicsDiffer earlier → TopicsDiffer (earlier ++ topic ∷ [])
+one_topic_more earlier topic new h =
+    all_pairs_push (λ (x y : Topic × TopicParams). same_topic x.0 y.0 ≡ false) earlier topic h
+    (none_at (λ (x : Topic × TopicParams). pointwise nat_eq x.0.0 topic.0.0) earlier (not_found (λ (found : Topic × TopicParams). found.0) (λ (x : Topic × TopicParams). pointwise nat_eq x.0.0 topic.0.0) earlier new))
+
+topic_name_is : (earlier : List (Topic × TopicParams)) (d : Data) → TopicsDiffer earlier → IfOk (topic_in earlier d) (λ topic. TopicsDiffer (earlier ++ topic ∷ []))
+unfolding topic_in
+topic_name_is earlier d h =
+    let P = λ (topic : Topic × TopicParams). TopicsDiffer (earlier ++ topic ∷ []) in
+    past P (table_at (element (codes "topic") (length earlier)) d) _ (λ section.
+    past P (only topic_keys section) _ (λ none.
+    next (IsNewTopic earlier) P (read_key section (topic_name_key earlier)) _ (at_required (IsNewTopic earlier) (topic_name_key earlier).name (new_name (topic_named earlier)) section (new_topic_is earlier)) (λ text new.
+    past P (topic_params_in section) _ (λ params.
+    let name : Topic = record { 0 = text } in
+    one_topic_more earlier (name, params) new h))))
+
+abbrev TopicsAre : ℕ → List (Topic × TopicParams) → Type 0
+TopicsAre n topics = (length topics ≡ n) × TopicsDiffer topics
+
+topics_are : (ds : Items) → IfOk (read_each topic_in [] ds) (TopicsAre (item_count ds))
+topics_are ds =
+    and_also (λ topics. length topics ≡ item_count ds) TopicsDiffer (read_each topic_in [] ds) (count_is topic_in (item_count ds) [] ds (omega arith))
+    (each_is TopicsDiffer topic_in topic_name_is [] ds (no_pairs (λ (x y : Topic × TopicParams). same_topic x.0 y.0 ≡ false)))
 
 -- ---- dials
 
@@ -255,6 +325,7 @@ record TopIsInRange (top : Top) : Type 0 where
   workers : (1 ≤ top.workers) × (top.workers ≤ most_workers)
   capacity : (1 ≤ top.capacity) × (top.capacity ≤ highest_capacity)
   seed : top.seed < 2 ^ 63
+  topics : (1 ≤ item_count top.topics) × (item_count top.topics ≤ most_planned_topics)
   peers : (1 ≤ item_count top.peers) × (item_count top.peers ≤ most_peers)
 
 number_at : (name : List ℕ) (low high : ℕ) (section : Section) → IfOk (read_key section (required name (whole_number low high))) (λ n. (low ≤ n) × (n ≤ high))
@@ -263,13 +334,14 @@ number_at name low high section = at_required (λ n. (low ≤ n) × (n ≤ high)
 list_at : (name : List ℕ) (low high : ℕ) (section : Section) → IfOk (read_key section (required name (list_of low high))) (λ ds. (low ≤ item_count ds) × (item_count ds ≤ high))
 list_at name low high section = at_required (λ ds. (low ≤ item_count ds) × (item_count ds ≤ high)) name (list_of low high) section (list_is low high)
 
-top_from : (top : Top) → (1 ≤ top.round_ms) × (top.round_ms ≤ longest_round) → (1 ≤ top.rounds) × (top.rounds ≤ most_rounds) → (1 ≤ top.workers) × (top.workers ≤ most_workers) → (1 ≤ top.capacity) × (top.capacity ≤ highest_capacity) → (0 ≤ top.seed) × (top.seed ≤ 2 ^ 63 - 1) → (1 ≤ item_count top.peers) × (item_count top.peers ≤ most_peers) → TopIsInRange top
-top_from top round_ms rounds workers capacity seed peers = record {
+top_from : (top : Top) → (1 ≤ top.round_ms) × (top.round_ms ≤ longest_round) → (1 ≤ top.rounds) × (top.rounds ≤ most_rounds) → (1 ≤ top.workers) × (top.workers ≤ most_workers) → (1 ≤ top.capacity) × (top.capacity ≤ highest_capacity) → (0 ≤ top.seed) × (top.seed ≤ 2 ^ 63 - 1) → (1 ≤ item_count top.topics) × (item_count top.topics ≤ most_planned_topics) → (1 ≤ item_count top.peers) × (item_count top.peers ≤ most_peers) → TopIsInRange top
+top_from top round_ms rounds workers capacity seed topics peers = record {
   round_ms = round_ms;
   rounds = rounds;
   workers = workers;
   capacity = capacity;
   seed = omega (arith, seed.1);
+  topics = topics;
   peers = peers;
 }
 
@@ -284,18 +356,18 @@ top_is section =
     next (λ n. (1 ≤ n) × (n ≤ highest_capacity)) P (read_key section capacity_key) _ (number_at capacity_key.name 1 highest_capacity section) (λ capacity is_capacity.
     next (λ n. (0 ≤ n) × (n ≤ 2 ^ 63 - 1)) P (read_key section seed_key) _ (number_at seed_key.name 0 (2 ^ 63 - 1) section) (λ seed is_seed.
     past P (read_key section params_key) _ (λ params.
-    past P (read_key section topics_key) _ (λ topics.
+    next (λ ds. (1 ≤ item_count ds) × (item_count ds ≤ most_planned_topics)) P (read_key section topics_key) _ (list_at topics_key.name 1 most_planned_topics section) (λ topics are_topics.
     next (λ ds. (1 ≤ item_count ds) × (item_count ds ≤ most_peers)) P (read_key section peers_key) _ (list_at peers_key.name 1 most_peers section) (λ peers are_peers.
     past P (read_key section dials_key) _ (λ dials.
     past P (read_key section apps_key) _ (λ apps.
     past P (read_key section script_key) _ (λ script.
-    top_from (record { round_ms = round_ms; rounds = rounds; workers = workers; capacity = capacity; seed = seed; params = params; topics = topics; peers = peers; dials = dials; apps = apps; script = script }) is_time are_rounds are_workers is_capacity is_seed are_peers))))))))))))
+    top_from (record { round_ms = round_ms; rounds = rounds; workers = workers; capacity = capacity; seed = seed; params = params; topics = topics; peers = peers; dials = dials; apps = apps; script = script }) is_time are_rounds are_workers is_capacity is_seed are_topics are_peers))))))))))))
 
 -- ---- the plan
 
 module _ (top : Top) (shared : Shared) (topics : List (Topic × TopicParams)) (peers : List PlannedPeer) (dials : List Dial) (apps : List App) (script : List Line) (params : Params) where
-  all_in_range : TopIsInRange top → TakeRounds top.round_ms shared.windows → length peers ≡ item_count top.peers → DialsAre peers dials → AppsAre peers dials apps → LinesAre topics peers top.rounds script → AreChecked (with_topics shared topics) params → IsInRange (record { round_ms = top.round_ms; rounds = top.rounds; workers = top.workers; capacity = top.capacity; seed = top.seed; params = params; peers = peers; dials = dials; apps = apps; script = script })
-  all_in_range t s n d a l c = record {
+  all_in_range : TopIsInRange top → TakeRounds top.round_ms shared.windows → TopicsAre (item_count top.topics) topics → PeersAre (item_count top.peers) peers → DialsAre peers dials → AppsAre peers dials apps → LinesAre topics peers top.rounds script → AreChecked (with_topics shared topics) params → IsInRange (record { round_ms = top.round_ms; rounds = top.rounds; workers = top.workers; capacity = top.capacity; seed = top.seed; params = params; peers = peers; dials = dials; apps = apps; script = script })
+  all_in_range t s m n d a l c = record {
     some_rounds = t.rounds.0;
     rounds = t.rounds.1;
     some_time = t.round_ms.0;
@@ -305,8 +377,12 @@ module _ (top : Top) (shared : Shared) (topics : List (Topic × TopicParams)) (p
     some_capacity = t.capacity.0;
     capacity = t.capacity.1;
     seed = t.seed;
-    some_peers = omega (arith, n, t.peers.0);
-    peers = omega (arith, n, t.peers.1);
+    some_peers = omega (arith, n.0, t.peers.0);
+    peers = omega (arith, n.0, t.peers.1);
+    some_topics = subst (λ (p : Params). 1 ≤ length p.topics) c.0 (omega (arith, m.0, t.topics.0));
+    topics = subst (λ (p : Params). length p.topics ≤ most_planned_topics) c.0 (omega (arith, m.0, t.topics.1));
+    names_differ = n.1;
+    topics_differ = subst (λ (p : Params). TopicsDiffer p.topics) c.0 m.1;
     params = c.1;
     heartbeat = subst (λ (p : Params). p.windows.heartbeat_ms % top.round_ms ≡ 0) c.0 s.0;
     decay = subst (λ (p : Params). p.windows.decay_ms % top.round_ms ≡ 0) c.0 s.1;
@@ -329,13 +405,13 @@ plan_is all =
     let P = IsInRange in
     next TopIsInRange P (top_in (record { path = []; members = all })) _ (top_is (record { path = []; members = all })) (λ top t.
     next (λ shared. TakeRounds top.round_ms shared.windows) P (shared_in top.round_ms (section_at params_key.name top.params)) _ (shared_are top.round_ms (section_at params_key.name top.params)) (λ shared s.
-    past P (read_each topic_in [] top.topics) _ (λ topics.
-    next (λ peers. length peers ≡ item_count top.peers) P (read_each peer_in [] top.peers) _ (count_is peer_in (item_count top.peers) [] top.peers (omega arith)) (λ peers n.
+    next (TopicsAre (item_count top.topics)) P (read_each topic_in [] top.topics) _ (topics_are top.topics) (λ topics m.
+    next (PeersAre (item_count top.peers)) P (read_each peer_in [] top.peers) _ (peers_are top.peers) (λ peers n.
     next (DialsAre peers) P (read_each (dial_in peers) [] top.dials) _ (dials_are peers top.dials) (λ dials d.
     next (AppsAre peers dials) P (read_each (app_in peers dials) [] top.apps) _ (apps_are peers dials top.apps) (λ apps a.
     next (LinesAre topics peers top.rounds) P (read_each (line_in topics peers top.rounds) [] top.script) _ (lines_are topics peers top.rounds top.script) (λ script l.
     next (AreChecked (with_topics shared topics)) P (params_of shared topics) _ (params_are shared topics) (λ params c.
-    all_in_range top shared topics peers dials apps script params t s n d a l c))))))))
+    all_in_range top shared topics peers dials apps script params t s m n d a l c))))))))
 
 document_is : (found : Option Members) → IfOk (plan_of_document found) IsInRange
 document_is None = tt

@@ -1,10 +1,11 @@
 -- What is known of what the kinds of keys and the elements of lists are read as.
-use Rattle.std.proofs.Common.{◌≡◌, ℕ, ◌+◌, ◌≤◌, ◌<◌, ◌%◌, nat_le, nat_eq, Bool, true, false, not, T, ℤ, pos, negsuc, ◌≤ℤ◌, int_le, List, [], ◌∷◌, ◌++◌, length, get_or, Option, Some, None, Result, Ok, Err, Decides, refl, sym, subst, arith}
-use Rattle.std.specs.Prelude.{◌&&◌, ◌||◌, ◌==◌, IfOk, IfSome, if◌then◌else◌, option_and_then, AllPairs}
-use Rattle.std.specs.List.{list_any}
+use Rattle.std.proofs.Common.{◌≡◌, ℕ, ◌+◌, ◌≤◌, ◌<◌, ◌%◌, nat_le, nat_lt, nat_eq, cond, Bool, true, false, not, T, ℤ, pos, negsuc, ◌≤ℤ◌, int_le, List, [], ◌∷◌, ◌++◌, length, get_or, Option, Some, None, Result, Ok, Err, Decides, refl, sym, subst, arith}
+use Rattle.std.specs.Prelude.{◌&&◌, ◌||◌, ◌==◌, IfOk, IfSome, if◌then◌else◌, option_and_then, option_map, is_some, position, find, AllPairs}
+use Rattle.std.specs.List.{list_any, position_or_len}
+use Rattle.std.proofs.lemmas.List.Sums.{prefix_len_passes}
 use Rattle.std.specs.Cmp.Lexicographic.{pointwise}
 use Rattle.std.proofs.lemmas.Bool.{leb-true, le-leb}
-use Rattle.std.proofs.lemmas.Bool.Decides.{Decides-and, Decides-eqb}
+use Rattle.std.proofs.lemmas.Bool.Decides.{Decides-and, Decides-eqb, nat_tests}
 use Rattle.std.proofs.lemmas.List.{length_push}
 use Rattle.std.proofs.lemmas.List.Folds.{list_any_at}
 use Rattle.std.proofs.lemmas.List.Quantifiers.{all_pairs_push}
@@ -12,7 +13,7 @@ use Rattle.toml.specs.Data.{Data, Items, no_items, item, as_integer, as_array}
 use Rattle.gs_params.specs.Params.{int_in_range}
 use Rattle.gs_scenario.specs.declared.fault.ScenarioFault.{ScenarioFault}
 use Rattle.gs_scenario.specs.Keys.{◌>>=◌, or_refuse, refuse_if, Kind, Key, Section, reads_required, required, read_key, read_each}
-use Rattle.gs_scenario.specs.Kinds.{between, whole_number, int_between, signed_number, item_count, of_length, list_of, reference, name_text, reads_multiple, multiple_of}
+use Rattle.gs_scenario.specs.Kinds.{between, whole_number, int_between, signed_number, item_count, of_length, list_of, reference, new_name, name_text, multiple_of}
 
 -- ---- steps
 
@@ -140,3 +141,38 @@ same_bytes (x ∷ xs) = rw ((Decides-eqb x x).1 refl, same_bytes xs) refl
 -- no two elements of an empty list
 pub no_pairs : {A : Type 0} (R : A → A → Type 0) → AllPairs R []
 no_pairs R i j d below inside = absurd (let e : ⊥ = omega (arith, inside) in e)
+
+-- two facts of one value
+pub and_also : {A : Type 0} (P Q : A → Type 0) (r : Result A ScenarioFault) → IfOk r P → IfOk r Q → IfOk r (λ x. P x × Q x)
+and_also P Q (Ok x) h k = (h, k)
+and_also P Q (Err fault) h k = tt
+
+-- ---- new names
+
+-- a name that is not refused as repeated is new
+pub new_is : {A : Type 0} (Q : List ℕ → Type 0) (named : List ℕ → Option A) → ((text : List ℕ) → is_some (named text) ≡ false → Q text) → (place : List ℕ) (d : Data) → IfOk (new_name named place d) Q
+new_is Q named h place d = past Q (name_text place d) _ (λ text. not_refused Q (is_some (named text)) _ text (h text))
+
+no_place : {A : Type 0} (f : ℕ → A) (b : Bool) (n : ℕ) → is_some (option_map f (cond b (Some n) None)) ≡ false → b ≡ false
+no_place f true n e = e
+no_place f false n e = refl
+
+passes_not : (b : Bool) → not b ≡ true → b ≡ false
+passes_not true e = sym e
+passes_not false e = refl
+
+-- where no place is found, no element passes
+pub no_position : {A B : Type 0} (f : ℕ → B) (p : A → Bool) (xs : List A) → is_some (option_map f (position p xs)) ≡ false → (k : ℕ) (d : A) → k < length xs → p (get_or xs k d) ≡ false
+no_position f p xs e k d below =
+    let far : nat_lt (position_or_len p xs) (length xs) ≡ false = no_place f (nat_lt (position_or_len p xs) (length xs)) (position_or_len p xs) e in
+    let before : k < position_or_len p xs = grind (arith, nat_tests, far, below) in
+    passes_not (p (get_or xs k d)) (prefix_len_passes (λ x. not (p x)) xs k d before)
+
+find_step : {A B : Type 0} (f : A → B) (b : Bool) (x : A) (found : Option A) (rest : Bool) → (is_some (option_map f found) ≡ false → rest ≡ false) → is_some (option_map f (cond b (Some x) found)) ≡ false → (b || rest) ≡ false
+find_step f true x found rest h e = e
+find_step f false x found rest h e = h e
+
+-- where none is found, none passes
+pub not_found : {A B : Type 0} (f : A → B) (p : A → Bool) (xs : List A) → is_some (option_map f (find p xs)) ≡ false → list_any p xs ≡ false
+not_found f p [] e = refl
+not_found f p (x ∷ xs) e = find_step f (p x) x (find p xs) (list_any p xs) (not_found f p xs) e

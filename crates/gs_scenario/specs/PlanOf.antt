@@ -1,5 +1,5 @@
 -- The plan that a scenario describes, or its first refusal: the keys of each table in their order.
-use Rattle.std.specs.Prelude.{ℕ, ◌-◌, ◌^◌, ◌&&◌, ◌==◌, Bool, not, nat_eq, length, codes, position, find, List, [], ◌∷◌, Option, Some, None, option_map, Result, Ok, Err, if◌then◌else◌, ℤ, pos, neg_ℤ}
+use Rattle.std.specs.Prelude.{ℕ, ◌-◌, ◌^◌, ◌==◌, not, nat_eq, length, codes, position, find, List, [], ◌∷◌, Option, Some, None, option_map, Result, Ok, Err, if◌then◌else◌, ℤ, neg_ℤ}
 use Rattle.std.specs.List.{list_any}
 use Rattle.std.specs.Cmp.Lexicographic.{pointwise}
 use Rattle.toml.specs.Data.{Data, Items, no_items, Members, no_members}
@@ -16,7 +16,7 @@ use Rattle.gs_params.specs.declared.plan.App.{App}
 use Rattle.gs_params.specs.declared.plan.Line.{Line}
 use Rattle.gs_params.specs.declared.plan.What.{What}
 use Rattle.gs_params.specs.declared.plan.What.TheVariants.{Subscribe, Unsubscribe, Publish}
-use Rattle.gs_params.specs.Plans.{are_joined, are_of_the_same, join_the_same, longest_round, most_rounds, most_workers, highest_capacity, most_peers, highest_app_score}
+use Rattle.gs_params.specs.Plans.{are_joined, are_of_the_same, join_the_same, longest_round, most_rounds, most_workers, highest_capacity, most_peers, most_planned_topics, highest_app_score}
 use Rattle.gs_scenario.specs.declared.scenario.script.Verb.{Verb}
 use Rattle.gs_scenario.specs.declared.scenario.script.Verb.TheVariants as verbs
 use Rattle.gs_scenario.specs.Keys.{Key, Kind, Section, ◌>>=◌, refuse_if, required, optional, read_key, only, read_each}
@@ -44,7 +44,7 @@ abbrev pub params_key : Key Members
 params_key = optional (codes "params") any_table no_members
 
 abbrev pub topics_key : Key Items
-topics_key = required (codes "topic") (list_of 1 32)
+topics_key = required (codes "topic") (list_of 1 most_planned_topics)
 
 abbrev pub peers_key : Key Items
 peers_key = required (codes "peer") (list_of 1 most_peers)
