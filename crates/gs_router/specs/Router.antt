@@ -62,9 +62,9 @@ IsLoss q other = ⊥
 
 -- ---- how a call ends
 
--- where memory was wanting: nothing came, or an entry of the event and some of what it owes
+-- where memory was wanting: nothing came, or an entry of the event and some of what it owes; without an event none can be
 abbrev pub Breaks : Peer → Millis → Option Event → Entries → Entries → Type 0
-Breaks p now None K L = L ≡ K
+Breaks p now None K L = ⊥
 Breaks p now (Some event) K L = BreaksOff p now event K L
 
 -- The event came with all that it owes, by choices that lead from s to t.

@@ -103,7 +103,7 @@ module _ {S : Type 0} (word : S → ℕ) (after : S → S) where
   -- ---- one entry alone
 
   -- a rule and a state fix the entry and the state after it
-  follows_alone : (r : Rule) (s : S) (e f : Entry) (t u : S) → Follows (exact word after) r s e t → Follows (exact word after) r s f u → (e ≡ f) × (t ≡ u)
+  pub follows_alone : (r : Rule) (s : S) (e f : Entry) (t u : S) → Follows (exact word after) r s e t → Follows (exact word after) r s f u → (e ≡ f) × (t ≡ u)
   follows_alone (Gives x) s e f t u h k = (h.0 ∙ sym k.0, h.1 ∙ sym k.1)
   follows_alone (AnyOf n candidates rule) s e f t u h k =
       follows_alone (rule h.0) h.1 e f t u h.3 (subst₂ (λ (chosen : List PeerNo) (v : S). Follows (exact word after) (rule chosen) v f u) (k.2.chosen_are ∙ sym h.2.chosen_are) (k.2.words ∙ sym h.2.words) k.3)

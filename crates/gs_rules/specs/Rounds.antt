@@ -1,5 +1,5 @@
 -- What a peer does, round by round, by what it is given and by what its neighbours say to it.
-use Rattle.std.specs.Prelude.{◌≡◌, ℕ, zero, suc, ◌*◌, Bool, false, true, not, ◌&&◌, ◌||◌, nat_eq, if◌then◌else◌, List, [], ◌∷◌, ◌++◌, length, map, filter, Option, Some, None}
+use Rattle.std.specs.Prelude.{◌≡◌, ◌≤◌, ℕ, zero, suc, ◌*◌, Bool, false, true, not, ◌&&◌, ◌||◌, nat_eq, if◌then◌else◌, List, [], ◌∷◌, ◌++◌, length, map, filter, Option, Some, None}
 use Rattle.std.specs.List.{flat_map, zip, AllZip}
 use Rattle.gs_base.specs.declared.names.PeerNo.{PeerNo}
 use Rattle.gs_base.specs.declared.names.Millis.{Millis}
@@ -15,9 +15,10 @@ use Rattle.gs_rules.specs.declared.refusal.Refusal.{Refusal}
 use Rattle.gs_rules.specs.declared.refusal.RefusedLine.{RefusedLine}
 use Rattle.gs_rules.specs.Peers.{Peer, links_of}
 use Rattle.gs_rules.specs.Tables.{Entries}
-use Rattle.gs_rules.specs.Legal.{Comes, hearing, losing}
+use Rattle.gs_rules.specs.Legal.{Comes, Legal, hearing, losing}
 use Rattle.gs_rules.specs.Refusals.{refusal}
-use Rattle.gs_rules.specs.Saying.{Said}
+use Rattle.gs_wire.specs.Codec.{codec}
+use Rattle.gs_rules.specs.Saying.{Said, handled, out, sent}
 use Rattle.gs_rules.specs.Hearing.{Inbound, ComesIn, ComesAfter}
 
 -- ---- a seat
@@ -159,6 +160,11 @@ AfterRounds seat said (suc r) L refused =
     × Plays seat said (Playing r) K L more
     × (refused ≡ earlier ++ more)
 
+-- rounds are 0 to the last
+abbrev pub IsPlaceOf : Seat → Place → Type 0
+IsPlaceOf seat (Playing r) = r ≤ seat.rounds
+IsPlaceOf seat Closing = Unit {0}
+
 -- how many rounds are behind a place
 abbrev pub rounds_before : Seat → Place → ℕ
 rounds_before seat (Playing r) = r
@@ -166,12 +172,21 @@ rounds_before seat Closing = suc seat.rounds
 
 -- So far: the rounds before this place, and what is done of it.
 pub record KeepsSoFar (seat : Seat) (said : PeerNo → Said) (place : Place) (left : List Todo) (L : Entries) (refused : List RefusedLine) : Type 0 where
+  pub place_is : IsPlaceOf seat place
   pub start : Entries
   pub earlier : List RefusedLine
   pub more : List RefusedLine
   pub begun : AfterRounds seat said (rounds_before seat place) start earlier
   pub part : PlaysInPart seat said place left start L more
   pub all_refused : refused ≡ earlier ++ more
+
+-- what was handled of q is what any legal trace sends that says this
+abbrev pub HandlesWhatIsSent : Seat → (PeerNo → Said) → Entries → PeerNo → Type 0
+HandlesWhatIsSent seat said L q =
+    (other : Peer) (K : Entries)
+    → Legal other K
+    → said q ≡ out codec K seat.number
+    → handled L q ≡ sent K seat.number
 
 -- A whole life: the rounds 0 to the last, and the close.
 pub record KeepsRounds (seat : Seat) (said : PeerNo → Said) (L : Entries) (refused : List RefusedLine) : Type 0 where

@@ -9,12 +9,12 @@ ghost use Rattle.gs_rules.specs.declared.trace.Entry.{Entry};
 ghost use Rattle.gs_rules.specs.declared.refusal.RefusedLine.{RefusedLine};
 ghost use Rattle.gs_rules.specs.Peers.{Peer, links_of, seen_ttl};
 ghost use Rattle.gs_rules.specs.Tables.{Entries, up};
-ghost use Rattle.gs_rules.specs.Rules.{Gives, rule_of};
-ghost use Rattle.gs_rules.specs.Modes.{exact, free, settled};
+ghost use Rattle.gs_rules.specs.Rules.{Gives, Rule, rule_of};
+ghost use Rattle.gs_rules.specs.Modes.{Follows, exact, free, settled};
 ghost use Rattle.gs_rules.specs.Legal.{DeliversApart, Legal, LegalOn};
 ghost use Rattle.gs_rules.specs.Saying.{Close, Said, bytes_of, handled, handled_by, out, says, sent};
 ghost use Rattle.gs_rules.specs.Hearing.{Spell};
-ghost use Rattle.gs_rules.specs.Rounds.{KeepsRounds, Place, Plays, PlaysInPart, Seat};
+ghost use Rattle.gs_rules.specs.Rounds.{HandlesWhatIsSent, KeepsRounds, Place, Plays, PlaysInPart, Seat};
 
 use gs_params::Words;
 
@@ -65,6 +65,9 @@ pub fn what_words_choose_is_legal<W: Words>()
     ensures exact { (p : Peer) (s t : W) (first later : Entries)
         → LegalOn (exact W.word W.after) p s first later t
         → LegalOn free p tt first later tt }
+    ensures rule { (r : Rule) (s t : W) (e : Entry)
+        → Follows (exact W.word W.after) r s e t
+        → Follows free r tt e tt }
     ensures settled { (p : Peer) (s : W) (first later : Entries)
         → LegalOn settled p tt first later tt
         → LegalOn (exact W.word W.after) p s first later s }
@@ -78,6 +81,14 @@ pub fn words_fix_the_next_entry<W: Words>()
         → LegalOn (exact W.word W.after) p s first (f ∷ later) u
         → e.at ≡ f.at
         → e.event ≡ f.event
+        → (e ≡ f) × (t ≡ u) }
+{}
+
+/// A rule and the words fix what is chosen: one entry follows it, and leaves one state of the words.
+pub fn words_fix_what_follows_a_rule<W: Words>()
+    ensures { (r : Rule) (s t u : W) (e f : Entry)
+        → Follows (exact W.word W.after) r s e t
+        → Follows (exact W.word W.after) r s f u
         → (e ≡ f) × (t ≡ u) }
 {}
 
@@ -105,6 +116,16 @@ pub fn what_was_said_is_handled()
         → Legal seat.peer entries
         → KeepsRounds seat said entries refused
         → AllByRecursion (λ q. Spell (bytes_of (said q)) (handled entries q)) (links_of seat.peer) }
+{}
+
+/// A peer that keeps the rounds has handled of each neighbour the RPCs that the neighbour's legal trace
+/// sends to it, where that is what the neighbour says: whole, once and in order.
+pub fn what_was_sent_is_handled()
+    ensures { (seat : Seat) (said : PeerNoValue → Said) (entries : Entries) (refused : List RefusedLine)
+        → IsAscending (links_of seat.peer)
+        → Legal seat.peer entries
+        → KeepsRounds seat said entries refused
+        → AllByRecursion (HandlesWhatIsSent seat said entries) (links_of seat.peer) }
 {}
 
 /// A round of which nothing is left is a whole round.

@@ -9,8 +9,8 @@ mod trace;
 pub use laws::{
     a_delivery_is_not_repeated, a_part_with_nothing_left_is_whole, legal_entries_compose,
     nothing_is_said_behind_a_close, one_more_entry, what_is_given_draws_no_word,
-    what_is_sent_is_spelled, what_was_said_is_handled, what_words_choose_is_legal,
-    words_fix_the_next_entry,
+    what_is_sent_is_spelled, what_was_said_is_handled, what_was_sent_is_handled,
+    what_words_choose_is_legal, words_fix_the_next_entry, words_fix_what_follows_a_rule,
 };
 pub use refusal::{Refusal, RefusedLine};
 pub use trace::{Entry, Event, Mark, Trace, Verdict};
