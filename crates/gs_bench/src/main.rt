@@ -1,4 +1,4 @@
-//! Measures the codec: reads a line `KIND COUNT` and prints `KIND COUNT CHECKSUM`. It holds no work
+//! Measures the codec: for each line `KIND COUNT` it prints `KIND COUNT CHECKSUM`. It holds no work
 //! but the codec's, so that the instructions between two counts are those of the operations.
 #![tactic(auto)]
 
@@ -33,7 +33,6 @@ fn main(rt: HostRuntime) -> Result<(), BenchFault> {
         if rt.println(told).is_err() {
             return Err(BenchFault::Stream);
         }
-        return Ok(());
     }
-    Err(BenchFault::Line)
+    Ok(())
 }

@@ -90,10 +90,12 @@ fn feed_all(alloc: Global, piece: usize, count: u32) -> Result<u32, BenchFault> 
             return Err(BenchFault::Codec);
         };
         reader.feed(alloc, bytes, &mut rpcs)?;
-        for rpc in &rpcs {
-            sum = sum.wrapping_add(elements(rpc));
+        if !rpcs.is_empty() {
+            for rpc in &rpcs {
+                sum = sum.wrapping_add(elements(rpc));
+            }
+            rpcs.clear();
         }
-        rpcs.clear();
         left -= len;
         at = at.saturating_add(len) % third.max(1);
     }

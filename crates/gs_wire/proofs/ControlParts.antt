@@ -1,5 +1,5 @@
 -- What one more record makes of a part of a control message.
-use Rattle.std.proofs.Common.{◌≡◌, ℕ, List, [], ◌∷◌, ◌++◌, Option, refl, ap}
+use Rattle.std.proofs.Common.{◌≡◌, ℕ, List, [], ◌∷◌, ◌++◌, Option, refl}
 use Rattle.std.specs.Prelude.{option_map}
 use Rattle.gs_base.specs.declared.control.IHave.{IHave}
 use Rattle.gs_base.specs.declared.control.IWant.{IWant}

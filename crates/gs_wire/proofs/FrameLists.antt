@@ -1,15 +1,14 @@
 -- Frames at the front of a stream, and streams that are cut.
 use Rattle.std.proofs.Common.{◌≡◌, ℕ, ◌+◌, ◌-◌, ◌<◌, ◌≤◌, List, [], ◌∷◌, ◌++◌, length, take, drop, refl, sym, ap, subst, ◌∙◌, append_assoc, append-nil, take-append-drop, length-append, length-take, length-drop, arith, inl, inr}
 use Rattle.std.specs.List.{concat}
-use Rattle.std.proofs.lemmas.List.{drop-drop}
+use Rattle.std.proofs.lemmas.List.{drop-drop, drop-append-le}
 use Rattle.bytes.proofs.Ranges.{take-append_past}
 use Rattle.gs_base.specs.declared.rpc.Rpc.{Rpc}
 use Rattle.gs_wire.specs.declared.frames.End.{End}
 use Rattle.gs_wire.specs.declared.frames.End.TheVariants as ends
 use Rattle.gs_wire.specs.Varint.{IsVarint, varint}
-use Rattle.gs_wire.specs.Reading.{varint_at}
 use Rattle.gs_wire.specs.Messages.{SpellsRpc, IsInMemory, body, frame}
-use Rattle.gs_wire.specs.Stream.{SpellsFrame, SpellFrames, HasLength, BeginsLength, GoesOn, IsStream, FindsIn, FindsAfter}
+use Rattle.gs_wire.specs.Stream.{SpellsFrame, SpellFrames, HasLength, GoesOn, IsStream, IsSpan, FindsIn, FindsAfter}
 use Rattle.gs_wire.proofs.Varints.{written_varint}
 use Rattle.gs_wire.proofs.Rpcs.{one_rpc}
 use Rattle.gs_wire.proofs.RpcRoundTrip.{body_spelled, same_fronts}
@@ -39,6 +38,53 @@ frame_taken limit bytes n start v h within long low spells =
       within = omega (arith, length-take n rest, low);
       spells_body = spells;
     }
+
+-- ---- where the body at the front is
+
+pub span_found : (limit : ℕ) (bytes : List ℕ) (n start : ℕ) → HasLength bytes n (drop start bytes) → start ≤ length bytes → n ≤ limit → IsSpan limit bytes start (start + n)
+span_found limit bytes n start h begun low =
+    let same : start + n - start ≡ n = omega arith in
+    record { begun = begun; ordered = omega arith; within = omega (arith, low); says = subst (λ (k : ℕ). HasLength bytes k (drop start bytes)) (sym same) h }
+
+-- more bytes come
+pub span_more : (limit : ℕ) (bytes more : List ℕ) (start end : ℕ) → IsSpan limit bytes start end → IsSpan limit (bytes ++ more) start end
+span_more limit bytes more start end s =
+    let rest : drop start (bytes ++ more) ≡ drop start bytes ++ more = drop-append-le start bytes more s.begun in
+    record {
+      begun = omega (arith, s.begun, length-append bytes more);
+      ordered = s.ordered;
+      within = s.within;
+      says = subst (λ (t : List ℕ). HasLength (bytes ++ more) (end - start) t) (sym rest) (length_more bytes (end - start) (drop start bytes) more s.says);
+    }
+
+-- the body isn't whole
+pub span_waits : (limit : ℕ) (bytes : List ℕ) (start end : ℕ) → IsSpan limit bytes start end → length bytes < end → GoesOn limit bytes ends.Waits
+span_waits limit bytes start end s few = inr (end - start, drop start bytes, s.says, s.within, omega (arith, few, s.begun, s.ordered, length-drop start bytes))
+
+pub span_nonempty : (limit : ℕ) (bytes : List ℕ) (start end : ℕ) → IsSpan limit bytes start end → 0 < end
+span_nonempty limit bytes start end s = omega (arith, s.begun, s.ordered, length_shorter bytes (end - start) (drop start bytes) s.says, length-drop start bytes)
+
+-- the body is whole
+pub span_taken : (limit : ℕ) (bytes : List ℕ) (start end : ℕ) (v : Rpc) → IsSpan limit bytes start end → end ≤ length bytes → SpellsRpc (take (end - start) (drop start bytes)) v → SpellsFrame limit (take end bytes) v
+span_taken limit bytes start end v s long spells =
+    let whole : start + (end - start) ≡ end = omega (arith, s.ordered) in
+    subst (λ (k : ℕ). SpellsFrame limit (take k bytes) v) whole (frame_taken limit bytes (end - start) start v s.says s.begun (omega (arith, long)) s.within spells)
+
+pub span_malformed : (limit : ℕ) (bytes : List ℕ) (start end : ℕ) → IsSpan limit bytes start end → end ≤ length bytes → ((v : Rpc) → ¬ (SpellsRpc (take (end - start) (drop start bytes)) v)) → GoesOn limit bytes ends.Malformed
+span_malformed limit bytes start end s long none =
+    let n = end - start in
+    let rest = drop start bytes in
+    let whole : n ≡ length (take n rest) = omega (arith, long, s.begun, s.ordered, length-take n rest, length-drop start bytes) in
+    inr (take n rest, drop n rest, body_named bytes n rest s.says whole, omega (arith, whole, s.within), none)
+
+-- a piece that doesn't end the body
+pub span_stream : (limit : ℕ) (held piece : List ℕ) (start end : ℕ) → IsSpan limit held start end → length held + length piece < end → IsStream limit (held ++ piece) [] (held ++ piece) ends.Waits
+span_stream limit held piece start end s few = record {
+  front = [];
+  parts = refl;
+  frames = refl;
+  goes_on = span_waits limit (held ++ piece) start end (span_more limit held piece start end s) (omega (arith, few, length-append held piece));
+}
 
 -- ---- frames in order
 
@@ -171,16 +217,16 @@ streams_join limit x y r s vs ws end p q = record {
   goes_on = q.goes_on;
 }
 
-too_long_stays : (limit : ℕ) (rest y : List ℕ) → GoesOn limit rest ends.TooLong → GoesOn limit (rest ++ y) ends.TooLong
+pub too_long_stays : (limit : ℕ) (rest y : List ℕ) → GoesOn limit rest ends.TooLong → GoesOn limit (rest ++ y) ends.TooLong
 too_long_stays limit rest y on = (on.0, on.1 ++ y, length_more rest on.0 on.1 y on.2, on.3)
 
-malformed_stays : (limit : ℕ) (rest y : List ℕ) → GoesOn limit rest ends.Malformed → GoesOn limit (rest ++ y) ends.Malformed
+pub malformed_stays : (limit : ℕ) (rest y : List ℕ) → GoesOn limit rest ends.Malformed → GoesOn limit (rest ++ y) ends.Malformed
 malformed_stays limit rest y on = elim on [
   | inl none ↦ inl ((λ begins. none.0 (begins_front rest y begins)), no_length_more rest y none.0 none.1)
   | inr bad ↦ inr (bad.0, bad.1 ++ y, subst (λ (t : List ℕ). HasLength (rest ++ y) (length bad.0) t) (append_assoc bad.0 bad.1 y) (length_more rest (length bad.0) (bad.0 ++ bad.1) y bad.2), bad.3, bad.4)
 ]
 
-fault_stays : (limit : ℕ) (x y r : List ℕ) (vs : List Rpc) (end : End) → (GoesOn limit r end → GoesOn limit (r ++ y) end) → IsStream limit x vs r end → IsStream limit (x ++ y) vs (r ++ y) end
+pub fault_stays : (limit : ℕ) (x y r : List ℕ) (vs : List Rpc) (end : End) → (GoesOn limit r end → GoesOn limit (r ++ y) end) → IsStream limit x vs r end → IsStream limit (x ++ y) vs (r ++ y) end
 fault_stays limit x y r vs end stays p = record {
   front = p.front;
   parts = ap (λ (t : List ℕ). t ++ y) p.parts ∙ append_assoc p.front r y;

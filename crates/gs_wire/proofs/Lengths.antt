@@ -1,10 +1,9 @@
 -- The length at the front of a frame.
-use Rattle.std.proofs.Common.{◌≡◌, ℕ, zero, suc, ◌+◌, ◌-◌, ◌*◌, ◌^◌, ◌<◌, ◌≤◌, cond, ltb, true, false, List, [], ◌∷◌, ◌++◌, length, take, drop, Option, Some, None, refl, sym, ap, subst, ◌∙◌, append_assoc, take-append-drop, length-append, length-take, length-drop, arith, inl, inr, ◌⊎◌}
+use Rattle.std.proofs.Common.{◌≡◌, ℕ, zero, suc, ◌+◌, ◌-◌, ◌*◌, ◌^◌, ◌<◌, ◌≤◌, cond, ltb, List, [], ◌∷◌, ◌++◌, length, Option, Some, None, refl, sym, ap, ◌∙◌, append_assoc, length-append, arith, inl, inr, ◌⊎◌}
 use Rattle.std.specs.List.{AllByRecursion}
 use Rattle.std.proofs.lemmas.Bool.{cases_lt, lt-ltb, le-ltb}
 use Rattle.std.proofs.lemmas.Option.{none-some, some_pair_parts}
-use Rattle.gs_wire.specs.Varint.{IsVarint}
-use Rattle.gs_wire.specs.Reading.{◌>>=◌, varint_at_most, varint_at}
+use Rattle.gs_wire.specs.Reading.{varint_at_most, varint_at}
 use Rattle.gs_wire.specs.Stream.{HasLength, BeginsLength}
 use Rattle.gs_wire.proofs.Varints.{varint_found, varint_again, varint_front, varint_read, groups_nonempty}
 
@@ -59,7 +58,7 @@ found_more k bytes x y e =
     let f = varint_found k bytes x e in
     ap (varint_at_most k) (ap (λ (t : List ℕ). t ++ y) f.parts ∙ append_assoc f.text x.1 y) ∙ varint_again k f.text x.0 (x.1 ++ y) f.groups f.len f.below
 
-option_cases : {A : Type 0} (o : Option A) → (o ≡ None) ⊎ ((x : A) × (o ≡ Some x))
+pub option_cases : {A : Type 0} (o : Option A) → (o ≡ None) ⊎ ((x : A) × (o ≡ Some x))
 option_cases None = inl refl
 option_cases (Some x) = inr (x, refl)
 

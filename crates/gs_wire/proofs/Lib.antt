@@ -15,3 +15,6 @@ pub mod RoundTrip
 pub mod RpcRoundTrip
 pub mod Lengths
 pub mod FrameLists
+pub mod Shorter
+pub mod Readers
+pub mod EveryStream

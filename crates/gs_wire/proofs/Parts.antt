@@ -5,7 +5,7 @@ use Rattle.std.proofs.lemmas.Bool.{ne_eqb}
 use Rattle.gs_base.specs.declared.rpc.SubOpt.{SubOpt}
 use Rattle.gs_base.specs.declared.rpc.Message.{Message}
 use Rattle.gs_wire.specs.Records.{Record, varint_in, len_in, varint_values, len_values}
-use Rattle.gs_wire.specs.Fields.{bool_of, topic_of, number_of, bytes_of, as_topic, len_record}
+use Rattle.gs_wire.specs.Fields.{bool_of, topic_of, bytes_of, as_topic, len_record}
 use Rattle.gs_wire.proofs.FieldValues.{last_then, last_varint-push, last_len-push}
 
 abbrev pub sub_of : List Record → SubOpt

@@ -27,7 +27,7 @@ one_list (r ∷ rs) (q ∷ qs) text h k =
     cc (s.0, more)
 
 -- what begins with records goes on with records
-records_after : (rs qs : List Record) (front rest : List ℕ) → SpellRecords front rs → SpellRecords (front ++ rest) qs → (ps : List Record) × (qs ≡ rs ++ ps) × SpellRecords rest ps
+pub records_after : (rs qs : List Record) (front rest : List ℕ) → SpellRecords front rs → SpellRecords (front ++ rest) qs → (ps : List Record) × (qs ≡ rs ++ ps) × SpellRecords rest ps
 records_after [] qs front rest h k = (qs, refl, subst (λ (t : List ℕ). SpellRecords (t ++ rest) qs) h k)
 records_after (r ∷ rs) [] front rest h k =
     absurd (nothing_nonempty r h.0 (h.1 ++ rest) h.3 (sym k ∙ ap (λ (t : List ℕ). t ++ rest) h.2 ∙ append_assoc h.0 h.1 rest))
@@ -43,7 +43,7 @@ records_push [] r front one h p = (one, [], rw h (sym (append-nil one)), p, refl
 records_push (q ∷ rs) r front one h p = (h.0, h.1 ++ one, ap (λ (t : List ℕ). t ++ one) h.2 ∙ append_assoc h.0 h.1 one, h.3, records_push rs r h.1 one h.4 p)
 
 -- where no record stands, nothing is spelled
-records_stuck : (rs : List Record) (text : List ℕ) → 0 < length text → record_at text ≡ None → ¬ SpellRecords text rs
+pub records_stuck : (rs : List Record) (text : List ℕ) → 0 < length text → record_at text ≡ None → ¬ SpellRecords text rs
 records_stuck [] text long none h = omega (arith, ap length h)
 records_stuck (r ∷ rs) text long none h = none-some (r, h.1) (sym none ∙ ap record_at h.2 ∙ record_read r h.0 h.1 h.3)
 

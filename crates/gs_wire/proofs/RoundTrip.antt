@@ -1,24 +1,18 @@
 -- What is written for a part of an RPC spells it.
-use Rattle.std.proofs.Common.{◌≡◌, ℕ, ◌+◌, ◌*◌, ◌<◌, ◌≤◌, ◌^◌, List, [], ◌∷◌, ◌++◌, length, map, take, drop, Option, Some, None, Bool, true, false, cond, eqb, refl, sym, ap, subst, ◌∙◌, append_assoc, append-nil, length-append, arith}
+use Rattle.std.proofs.Common.{◌≡◌, ℕ, ◌+◌, ◌*◌, ◌<◌, ◌≤◌, ◌^◌, List, [], ◌∷◌, ◌++◌, length, map, Option, Some, None, Bool, true, false, cond, eqb, refl, sym, ap, ◌∙◌, append-nil, length-append, arith}
 use Rattle.std.specs.Prelude.{IfSome, option_map, ◌==◌, if◌then◌else◌}
 use Rattle.std.specs.List.{AllZip, AllByRecursion}
-use Rattle.std.proofs.lemmas.List.{take_at, drop_at}
-use Rattle.std.proofs.lemmas.List.Elements.{filter_map-append}
-use Rattle.std.proofs.lemmas.Option.{some_pair_parts}
 use Rattle.gs_base.specs.declared.names.Topic.{Topic}
 use Rattle.gs_base.specs.declared.rpc.SubOpt.{SubOpt}
 use Rattle.gs_base.specs.declared.rpc.Message.{Message}
-use Rattle.gs_base.specs.declared.rpc.Rpc.{Rpc}
 use Rattle.gs_wire.specs.Varint.{varint}
-use Rattle.gs_wire.specs.Reading.{varint_at}
-use Rattle.gs_wire.specs.Records.{Value, Varint, I64, Len, I32, Record, SpellsRecord, SpellRecords, len_in, len_values, last, record_text, records_text}
+use Rattle.gs_wire.specs.Records.{Value, Varint, I64, Len, I32, Record, SpellsRecord, SpellRecords, len_values, last, record_text, records_text}
 use Rattle.gs_wire.specs.Fields.{Spells, as_topic, len_record, number_records, bool_records, bytes_records, topic_bytes, repeated_records, part_records}
-use Rattle.gs_wire.specs.Messages.{SaysSub, SaysMessage, SpellsRpc, sub_records, message_records, body, frame}
-use Rattle.gs_wire.proofs.Varints.{written_varint, varint_read}
+use Rattle.gs_wire.specs.Messages.{SaysSub, SaysMessage, sub_records, message_records}
+use Rattle.gs_wire.proofs.Varints.{written_varint}
 use Rattle.gs_wire.proofs.FieldValues.{last_then, last_len-push}
 use Rattle.gs_wire.proofs.Parts.{when, sub_of, message_of}
-use Rattle.gs_wire.proofs.Rpcs.{one_rpc}
-use Rattle.gs_wire.proofs.Written.{records_text-append, len_text-length}
+use Rattle.gs_wire.proofs.Written.{len_text-length}
 
 -- ---- records
 

@@ -1,7 +1,7 @@
 -- What is written for an RPC spells it, and no frame begins another.
-use Rattle.std.proofs.Common.{◌≡◌, ℕ, ◌+◌, ◌<◌, ◌≤◌, ◌^◌, List, [], ◌∷◌, ◌++◌, length, map, take, drop, Option, Some, None, refl, sym, ap, subst, ◌∙◌, append_assoc, append-nil, length-append, arith}
+use Rattle.std.proofs.Common.{◌≡◌, ℕ, ◌+◌, ◌<◌, ◌^◌, List, [], ◌∷◌, ◌++◌, length, map, take, drop, Option, Some, None, refl, sym, ap, subst, ◌∙◌, append_assoc, append-nil, length-append, arith}
 use Rattle.std.specs.Prelude.{IfSome, option_to_list}
-use Rattle.std.specs.List.{AllZip, AllByRecursion, flat_map}
+use Rattle.std.specs.List.{AllByRecursion}
 use Rattle.std.proofs.lemmas.List.{take_at, drop_at}
 use Rattle.std.proofs.lemmas.List.Elements.{filter_map-append}
 use Rattle.std.proofs.lemmas.Option.{some_pair_parts}
@@ -14,10 +14,10 @@ use Rattle.gs_base.specs.declared.control.Control.{Control}
 use Rattle.gs_base.specs.declared.rpc.Rpc.{Rpc}
 use Rattle.gs_wire.specs.Varint.{varint}
 use Rattle.gs_wire.specs.Reading.{varint_at}
-use Rattle.gs_wire.specs.Records.{Record, SpellRecords, len_in, len_values, varint_values, last, records_text}
+use Rattle.gs_wire.specs.Records.{Record, len_in, len_values, records_text}
 use Rattle.gs_wire.specs.Fields.{Spells, topic_of, number_of, len_record, bytes_records, topic_bytes, number_records, repeated_records, part_records}
-use Rattle.gs_wire.specs.Controls.{SaysIHave, SaysIWant, SaysGraft, SaysPrune, SaysControl, SaysMerged, joined, ihave_records, iwant_records, graft_records, prune_records, control_records}
-use Rattle.gs_wire.specs.Messages.{SaysSub, SaysMessage, SpellsRpc, sub_records, message_records, rpc_records, body, frame, IsPrune, IsControl, IsInMemory}
+use Rattle.gs_wire.specs.Controls.{SaysIHave, SaysIWant, SaysGraft, SaysPrune, SaysControl, SaysMerged, ihave_records, iwant_records, graft_records, prune_records, control_records}
+use Rattle.gs_wire.specs.Messages.{SaysSub, SaysMessage, SpellsRpc, sub_records, message_records, body, frame, IsPrune, IsControl, IsInMemory}
 use Rattle.gs_wire.proofs.Varints.{written_varint, varint_read}
 use Rattle.gs_wire.proofs.Rpcs.{one_rpc}
 use Rattle.gs_wire.proofs.Written.{records_text-append, records_text-single, len_text-length}

@@ -1,9 +1,8 @@
 -- What traces need of the codec.
 use Rattle.std.specs.Prelude.{length, nat_le}
 use Rattle.gs_base.specs.Codecs.{Codec}
-use Rattle.gs_wire.specs.declared.rpc.TheConstants.{MAX_BODY}
-use Rattle.gs_wire.specs.Messages.{body, frame}
+use Rattle.gs_wire.specs.Messages.{longest_body, body, frame}
 
 -- the frame of an RPC, which it fits where its body is within the limit
 abbrev pub codec : Codec
-codec = record { frame = frame; fits = λ rpc. nat_le (length (body rpc)) MAX_BODY }
+codec = record { frame = frame; fits = λ rpc. nat_le (length (body rpc)) longest_body }

@@ -1,4 +1,5 @@
--- Control messages as lists of records (gossipsub v1.0 and v1.1, "Control messages": `rpc.proto`).
+-- Control messages as lists of records (gossipsub v1.0 and v1.1, "Control messages": `rpc.proto`). The numbers are those of
+-- the fields there.
 use Rattle.std.specs.Prelude.{◌≡◌, ℕ, ◌++◌, List, [], ◌∷◌, Option, Some, None}
 use Rattle.std.specs.List.{AllZip, flat_map}
 use Rattle.gs_base.specs.declared.control.IHave.{IHave}
@@ -6,31 +7,30 @@ use Rattle.gs_base.specs.declared.control.IWant.{IWant}
 use Rattle.gs_base.specs.declared.control.Graft.{Graft}
 use Rattle.gs_base.specs.declared.control.Prune.{Prune}
 use Rattle.gs_base.specs.declared.control.Control.{Control}
-use Rattle.gs_wire.specs.declared.field.TheConstants.{CONTROL_IHAVE, CONTROL_IWANT, CONTROL_GRAFT, CONTROL_PRUNE, IHAVE_TOPIC, IHAVE_IDS, IWANT_IDS, GRAFT_TOPIC, PRUNE_TOPIC, PRUNE_BACKOFF}
 use Rattle.gs_wire.specs.Records.{Record, SpellRecords, len_values}
 use Rattle.gs_wire.specs.Fields.{Spells, topic_of, number_of, topic_bytes, bytes_records, number_records, repeated_records, part_records}
 
 -- ---- what records say
 
 abbrev pub SaysIHave : List Record → IHave → Type 0
-SaysIHave rs v = v ≡ record { topic = topic_of IHAVE_TOPIC rs; ids = len_values IHAVE_IDS rs }
+SaysIHave rs v = v ≡ record { topic = topic_of 1 rs; ids = len_values 2 rs }
 
 abbrev pub SaysIWant : List Record → IWant → Type 0
-SaysIWant rs v = v ≡ record { ids = len_values IWANT_IDS rs }
+SaysIWant rs v = v ≡ record { ids = len_values 1 rs }
 
 abbrev pub SaysGraft : List Record → Graft → Type 0
-SaysGraft rs v = v ≡ record { topic = topic_of GRAFT_TOPIC rs }
+SaysGraft rs v = v ≡ record { topic = topic_of 1 rs }
 
 -- The peers that are offered in exchange aren't looked into.
 abbrev pub SaysPrune : List Record → Prune → Type 0
-SaysPrune rs v = v ≡ record { topic = topic_of PRUNE_TOPIC rs; backoff = number_of PRUNE_BACKOFF rs }
+SaysPrune rs v = v ≡ record { topic = topic_of 1 rs; backoff = number_of 3 rs }
 
 -- Each value of a repeated field spells one part, in order.
 pub record SaysControl (rs : List Record) (v : Control) : Type 0 where
-  pub ihave : AllZip (Spells SaysIHave) (len_values CONTROL_IHAVE rs) v.ihave
-  pub iwant : AllZip (Spells SaysIWant) (len_values CONTROL_IWANT rs) v.iwant
-  pub graft : AllZip (Spells SaysGraft) (len_values CONTROL_GRAFT rs) v.graft
-  pub prune : AllZip (Spells SaysPrune) (len_values CONTROL_PRUNE rs) v.prune
+  pub ihave : AllZip (Spells SaysIHave) (len_values 1 rs) v.ihave
+  pub iwant : AllZip (Spells SaysIWant) (len_values 2 rs) v.iwant
+  pub graft : AllZip (Spells SaysGraft) (len_values 3 rs) v.graft
+  pub prune : AllZip (Spells SaysPrune) (len_values 4 rs) v.prune
 
 abbrev pub no_control : Control
 no_control = record { ihave = []; iwant = []; graft = []; prune = [] }
@@ -47,20 +47,20 @@ SaysMerged (bytes ∷ more) control = (v : Control) × (lists : List (List Recor
 -- ---- the records of a value
 
 abbrev pub ihave_records : IHave → List Record
-ihave_records v = bytes_records IHAVE_TOPIC (topic_bytes v.topic) ++ repeated_records IHAVE_IDS v.ids
+ihave_records v = bytes_records 1 (topic_bytes v.topic) ++ repeated_records 2 v.ids
 
 abbrev pub iwant_records : IWant → List Record
-iwant_records v = repeated_records IWANT_IDS v.ids
+iwant_records v = repeated_records 1 v.ids
 
 abbrev pub graft_records : Graft → List Record
-graft_records v = bytes_records GRAFT_TOPIC (topic_bytes v.topic)
+graft_records v = bytes_records 1 (topic_bytes v.topic)
 
 abbrev pub prune_records : Prune → List Record
-prune_records v = bytes_records PRUNE_TOPIC (topic_bytes v.topic) ++ number_records PRUNE_BACKOFF v.backoff
+prune_records v = bytes_records 1 (topic_bytes v.topic) ++ number_records 3 v.backoff
 
 abbrev pub control_records : Control → List Record
 control_records v =
-    part_records ihave_records CONTROL_IHAVE v.ihave
-    ++ part_records iwant_records CONTROL_IWANT v.iwant
-    ++ part_records graft_records CONTROL_GRAFT v.graft
-    ++ part_records prune_records CONTROL_PRUNE v.prune
+    part_records ihave_records 1 v.ihave
+    ++ part_records iwant_records 2 v.iwant
+    ++ part_records graft_records 3 v.graft
+    ++ part_records prune_records 4 v.prune

@@ -1,14 +1,12 @@
--- RPCs and their parts as lists of records (libp2p pubsub, "The RPC": `rpc.proto`).
-use Rattle.std.specs.Prelude.{◌≡◌, ℕ, ◌<◌, ◌^◌, List, [], ◌∷◌, ◌++◌, length, Option, Some, None, IfSome, option_to_list}
+-- RPCs and their parts as lists of records (libp2p pubsub, "The RPC": `rpc.proto`). The numbers are those of the fields there.
+use Rattle.std.specs.Prelude.{◌≡◌, ℕ, ◌<◌, ◌^◌, List, ◌++◌, length, IfSome, option_to_list}
 use Rattle.std.specs.List.{AllZip, AllByRecursion}
-use Rattle.gs_base.specs.declared.names.Topic.{Topic}
 use Rattle.gs_base.specs.declared.control.Prune.{Prune}
 use Rattle.gs_base.specs.declared.control.Control.{Control}
 use Rattle.gs_base.specs.declared.rpc.SubOpt.{SubOpt}
 use Rattle.gs_base.specs.declared.rpc.Message.{Message}
 use Rattle.gs_base.specs.declared.rpc.Rpc.{Rpc}
 pub use Rattle.gs_base.specs.Names.{publication}
-use Rattle.gs_wire.specs.declared.field.TheConstants.{RPC_SUBSCRIPTIONS, RPC_PUBLISH, RPC_CONTROL, SUB_SUBSCRIBE, SUB_TOPIC, MESSAGE_FROM, MESSAGE_DATA, MESSAGE_SEQNO, MESSAGE_TOPIC, MESSAGE_SIGNATURE, MESSAGE_KEY}
 use Rattle.gs_wire.specs.Varint.{varint}
 use Rattle.gs_wire.specs.Records.{Record, len_values, records_text}
 use Rattle.gs_wire.specs.Fields.{Spells, bytes_of, topic_of, bool_of, topic_bytes, bool_records, bytes_records, part_records}
@@ -17,23 +15,23 @@ use Rattle.gs_wire.specs.Controls.{SaysMerged, control_records}
 -- ---- what records say
 
 abbrev pub SaysSub : List Record → SubOpt → Type 0
-SaysSub rs v = v ≡ record { subscribe = bool_of SUB_SUBSCRIBE rs; topic = topic_of SUB_TOPIC rs }
+SaysSub rs v = v ≡ record { subscribe = bool_of 1 rs; topic = topic_of 2 rs }
 
 abbrev pub SaysMessage : List Record → Message → Type 0
 SaysMessage rs v = v ≡ record {
-  origin = bytes_of MESSAGE_FROM rs;
-  payload = bytes_of MESSAGE_DATA rs;
-  seqno = bytes_of MESSAGE_SEQNO rs;
-  topic = topic_of MESSAGE_TOPIC rs;
-  signature = bytes_of MESSAGE_SIGNATURE rs;
-  key = bytes_of MESSAGE_KEY rs;
+  origin = bytes_of 1 rs;
+  payload = bytes_of 2 rs;
+  seqno = bytes_of 3 rs;
+  topic = topic_of 4 rs;
+  signature = bytes_of 5 rs;
+  key = bytes_of 6 rs;
 }
 
 -- Each value of a repeated field spells one part, in order; the values of control are merged.
 pub record SaysRpc (rs : List Record) (v : Rpc) : Type 0 where
-  pub subs : AllZip (Spells SaysSub) (len_values RPC_SUBSCRIPTIONS rs) v.subs
-  pub publish : AllZip (Spells SaysMessage) (len_values RPC_PUBLISH rs) v.publish
-  pub control : SaysMerged (len_values RPC_CONTROL rs) v.control
+  pub subs : AllZip (Spells SaysSub) (len_values 1 rs) v.subs
+  pub publish : AllZip (Spells SaysMessage) (len_values 2 rs) v.publish
+  pub control : SaysMerged (len_values 3 rs) v.control
 
 -- The bytes spell the RPC.
 abbrev pub SpellsRpc : List ℕ → Rpc → Type 0
@@ -42,26 +40,30 @@ SpellsRpc bytes v = Spells SaysRpc bytes v
 -- ---- the records of a value: fields ascending, repeated ones in order, and nothing for what is absent
 
 abbrev pub sub_records : SubOpt → List Record
-sub_records v = bool_records SUB_SUBSCRIBE v.subscribe ++ bytes_records SUB_TOPIC (topic_bytes v.topic)
+sub_records v = bool_records 1 v.subscribe ++ bytes_records 2 (topic_bytes v.topic)
 
 abbrev pub message_records : Message → List Record
 message_records v =
-    bytes_records MESSAGE_FROM v.origin
-    ++ bytes_records MESSAGE_DATA v.payload
-    ++ bytes_records MESSAGE_SEQNO v.seqno
-    ++ bytes_records MESSAGE_TOPIC (topic_bytes v.topic)
-    ++ bytes_records MESSAGE_SIGNATURE v.signature
-    ++ bytes_records MESSAGE_KEY v.key
+    bytes_records 1 v.origin
+    ++ bytes_records 2 v.payload
+    ++ bytes_records 3 v.seqno
+    ++ bytes_records 4 (topic_bytes v.topic)
+    ++ bytes_records 5 v.signature
+    ++ bytes_records 6 v.key
 
 abbrev pub rpc_records : Rpc → List Record
 rpc_records v =
-    part_records sub_records RPC_SUBSCRIPTIONS v.subs
-    ++ part_records message_records RPC_PUBLISH v.publish
-    ++ part_records control_records RPC_CONTROL (option_to_list v.control)
+    part_records sub_records 1 v.subs
+    ++ part_records message_records 2 v.publish
+    ++ part_records control_records 3 (option_to_list v.control)
 
 -- the body that is written for an RPC
 abbrev pub body : Rpc → List ℕ
 body v = records_text (rpc_records v)
+
+-- the longest body, in bytes, that is written or that a reader may take
+abbrev pub longest_body : ℕ
+longest_body = 1048576
 
 -- the frame that is written for an RPC: the length of its body, and the body
 abbrev pub frame : Rpc → List ℕ

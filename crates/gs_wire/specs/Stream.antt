@@ -1,12 +1,13 @@
 -- Streams of frames: a varint length, and then that many bytes of a body. A stream is told as a whole, so it doesn't matter
 -- how it was cut into pieces.
-use Rattle.std.specs.Prelude.{◌≡◌, ℕ, ◌<◌, ◌≤◌, List, [], ◌∷◌, ◌++◌, length, Option, Some, None, ◌⊎◌}
+use Rattle.std.specs.Prelude.{◌≡◌, ℕ, ◌-◌, ◌<◌, ◌≤◌, Bool, false, List, [], ◌∷◌, ◌++◌, length, drop, Option, Some, None, IfSome, IsSome, ◌⊎◌}
 use Rattle.std.specs.List.{AllByRecursion}
 use Rattle.gs_base.specs.declared.rpc.Rpc.{Rpc}
 use Rattle.gs_wire.specs.declared.frames.End.{End}
+use Rattle.gs_wire.specs.declared.frames.Span.{Span}
 use Rattle.gs_wire.specs.declared.frames.End.TheVariants as ends
 use Rattle.gs_wire.specs.Varint.{IsVarint}
-use Rattle.gs_wire.specs.Messages.{SpellsRpc}
+use Rattle.gs_wire.specs.Messages.{SpellsRpc, longest_body}
 
 -- The text is one frame of the RPC, with its length in any spelling and a body within the limit.
 pub record SpellsFrame (limit : ℕ) (text : List ℕ) (v : Rpc) : Type 0 where
@@ -47,7 +48,20 @@ pub record IsStream (limit : ℕ) (bytes : List ℕ) (vs : List Rpc) (rest : Lis
   pub frames : SpellFrames limit front vs
   pub goes_on : GoesOn limit rest end
 
+-- The length at the front says that the body stands from start to end, of which the bytes may have come or not.
+pub record IsSpan (limit : ℕ) (bytes : List ℕ) (start end : ℕ) : Type 0 where
+  pub begun : start ≤ length bytes
+  pub ordered : start ≤ end
+  pub within : end - start ≤ limit
+  pub says : HasLength bytes (end - start) (drop start bytes)
+
 -- ---- a reader
+
+-- What a reader keeps of the length at the front of what it holds. After a fault there is none.
+pub record AwaitsBody (limit : ℕ) (held : List ℕ) (next : Option Span) (failed : Bool) : Type 0 where
+  pub low : limit ≤ longest_body
+  pub right : IfSome next (λ span. IsSpan limit held span.start span.end)
+  pub sound : IsSome next → failed ≡ false
 
 -- What a reader holds: the bytes of an unfinished frame, or nothing any more after a fault.
 pub record Holding : Type 0 where
@@ -79,3 +93,20 @@ FindsAfter ends.Malformed later more end = (more ≡ []) × (end ≡ ends.Malfor
 abbrev pub FindsIn : ℕ → List ℕ → List (List ℕ) → List Rpc → End → Type 0
 FindsIn limit held [] vs end = (vs ≡ []) × (end ≡ ends.Waits)
 FindsIn limit held (piece ∷ pieces) vs end = (found : List Rpc) × (rest : List ℕ) × (first : End) × (more : List Rpc) × IsStream limit (held ++ piece) found rest first × (vs ≡ found ++ more) × FindsAfter first (FindsIn limit rest pieces more end) more end
+
+-- One call of a feed, and what it adds: what was held and the piece are read on. After a fault it changes nothing.
+abbrev pub FeedsOnce : Holding → List ℕ → Holding → List Rpc → Type 0
+FeedsOnce old piece new found = ((end : End) × Feeds old piece new [] found end) ⊎ ((old.held ≡ None) × (new ≡ old) × (found ≡ []))
+
+-- Feeds of pieces in turn, and all that they add.
+abbrev pub FeedsAll : Holding → List (List ℕ) → Holding → List Rpc → Type 0
+FeedsAll old [] new vs = (new ≡ old) × (vs ≡ [])
+FeedsAll old (piece ∷ pieces) new vs = (middle : Holding) × (found : List Rpc) × (more : List Rpc) × FeedsOnce old piece middle found × FeedsAll middle pieces new more × (vs ≡ found ++ more)
+
+-- A reader that was fed these bytes has found the RPCs of the stream that they are, and holds its unread end; after a fault
+-- it holds nothing.
+pub record HasRead (limit : ℕ) (bytes : List ℕ) (reader : Holding) (vs : List Rpc) : Type 0 where
+  pub rest : List ℕ
+  pub end : End
+  pub stream : IsStream limit bytes vs rest end
+  pub holds : reader ≡ record { limit = limit; held = held_after end rest }

@@ -1,7 +1,7 @@
 //! Control messages as records (`ControlMessage`).
 ghost use Rattle.gs_wire.specs.Controls.{SaysControl, control_records};
 
-use crate::decoding::{Decode, DecodeError, decode_message};
+use crate::decoding::{Decode, DecodeError, push_message};
 use crate::encoding::{Encode, parts_len, put_parts};
 use crate::field;
 use crate::record::{Record, Value};
@@ -26,10 +26,10 @@ impl Decode for Control {
             return Ok(());
         };
         match field {
-            field::CONTROL_IHAVE => self.ihave.push(decode_message(alloc, bytes)?)?,
-            field::CONTROL_IWANT => self.iwant.push(decode_message(alloc, bytes)?)?,
-            field::CONTROL_GRAFT => self.graft.push(decode_message(alloc, bytes)?)?,
-            field::CONTROL_PRUNE => self.prune.push(decode_message(alloc, bytes)?)?,
+            field::CONTROL_IHAVE => push_message(alloc, bytes, &mut self.ihave)?,
+            field::CONTROL_IWANT => push_message(alloc, bytes, &mut self.iwant)?,
+            field::CONTROL_GRAFT => push_message(alloc, bytes, &mut self.graft)?,
+            field::CONTROL_PRUNE => push_message(alloc, bytes, &mut self.prune)?,
             _ => {}
         }
         Ok(())

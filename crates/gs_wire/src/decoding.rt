@@ -1,12 +1,14 @@
 //! Messages from records: each record is merged into the message as it is read.
-ghost use Rattle.std.specs.Prelude.{◌≡◌, List, [], ◌∷◌, ◌++◌, IfOk, OnOk, IsErrOf};
+ghost use Rattle.std.specs.Prelude.{◌≡◌, List, [], ◌∷◌, ◌++◌, OnOk, IsErrOf};
 ghost use Rattle.gs_wire.specs.Records.{Record as Spelled, SpellRecords};
 ghost use Rattle.gs_wire.specs.Fields.{Spells};
 ghost use Rattle.gs_wire.specs.Views.{view};
 
 use crate::reader::Reader;
 use crate::record::{Record, read_record};
+use gs_base::Seq;
 use std::alloc::{AllocError, Global};
+use std::mem;
 
 /// Why bytes were not read as a message.
 #[derive(Clone, Copy, Debug, PartialEq, Eq)]
@@ -59,12 +61,34 @@ pub(crate) fn merge_all<M: Decode>(
     Ok(())
 }
 
-/// The message that the bytes spell.
-pub(crate) fn decode_message<M: Decode>(alloc: Global, reader: Reader<'_>) -> Result<M, DecodeError>
-    ensures found { IfOk result (λ message. Spells M.says reader.entry message) }
+/// Makes room for one element where there is none yet: most lists of an RPC have one.
+fn make_room<M: Drop>(items: &mut Vec<M>) -> Result<(), AllocError>
+    ensures { items.new.items ≡ items.old.items }
+{
+    if !items.is_empty() {
+        return Ok(());
+    }
+    items.reserve_exact(1)?;
+    Ok(())
+}
+
+/// Adds the message that the bytes spell to a list. An empty message is added first and merged into
+/// where it lies, so that none is moved. After an error the list is of no use.
+pub(crate) fn push_message<M: Decode>(
+    alloc: Global,
+    reader: Reader<'_>,
+    list: &mut Seq<M>,
+) -> Result<(), DecodeError>
+    ensures pushed { OnOk result ((message : M) × Spells M.says reader.entry message × (list.new ≡ list.old ++ message ∷ [])) }
     ensures malformed { IsErrOf result DecodeError.Malformed → (message : M) → ¬ Spells M.says reader.entry message }
 {
-    let mut message = M::empty(alloc);
-    merge_all(alloc, reader, &mut message)?;
-    Ok(message)
+    let mut items = mem::replace(list, Seq::new(alloc)).into_vec();
+    make_room(&mut items)?;
+    let last = items.len();
+    if items.push(M::empty(alloc)).is_err() {
+        return Err(DecodeError::NoMemory);
+    }
+    merge_all(alloc, reader, &mut items[last])?;
+    *list = Seq::from(items);
+    Ok(())
 }

@@ -164,14 +164,15 @@ pub(crate) fn put_repeated(buffer: &mut Vec<u8>, field: u64, values: &[Bytes])
     }
 }
 
-/// Writes a part.
-fn put_part<M: Encode>(buffer: &mut Vec<u8>, field: u64, part: &M)
+/// Writes a part whose length is known.
+pub(crate) fn put_sized_part<M: Encode>(buffer: &mut Vec<u8>, field: u64, part: &M, len: usize)
     requires small { field < 16 }
+    requires sized { len ≡ min usize.MAX (length (records_text (M.records part.now))) }
     requires room { vec_len buffer.old + length (record_text (len_record field (records_text (M.records part.now)))) ≤ vec_capacity buffer.old }
     ensures written { buffer.new.items ≡ buffer.old.items ++ record_text (len_record field (records_text (M.records part.now))) }
     ensures capacity { vec_capacity buffer.old ≤ vec_capacity buffer.new }
 {
-    put_len(buffer, field, part.encoded_len());
+    put_len(buffer, field, len);
     part.put(buffer);
 }
 
@@ -183,6 +184,6 @@ pub(crate) fn put_parts<M: Encode>(buffer: &mut Vec<u8>, field: u64, parts: &[M]
     ensures capacity { vec_capacity buffer.old ≤ vec_capacity buffer.new }
 {
     for part in parts {
-        put_part(buffer, field, part);
+        put_sized_part(buffer, field, part, part.encoded_len());
     }
 }

@@ -1,10 +1,10 @@
 //! A reader of frames from a stream that comes in pieces.
 ghost use Rattle.std.specs.Prelude.{◌≡◌, ◌↔◌, ◌≤◌, [], Some, None, Err, OnOk, IsErrOf, length, unwrap_or};
+ghost use Rattle.gs_wire.specs.Messages.{longest_body};
 ghost use Rattle.gs_wire.specs.Stream.{Feeds};
 
 use crate::fault::WireFault;
-use crate::frames::{End, read_frames};
-use crate::rpc::MAX_BODY;
+use crate::frames::{End, Progress, Span, read_frames};
 use bytes::BytesMut;
 use gs_base::Rpc;
 use std::alloc::Global;
@@ -12,32 +12,36 @@ use std::marker::Model;
 
 /// Reads RPCs from a stream of frames that comes in pieces, however it is cut. Contracts see its
 /// limit and the bytes that it holds of an unfinished frame, of which there are none any more after
-/// a fault.
+/// a fault. It reads each length once, and each body when its last byte is there.
 #[derive(Drop)]
 pub struct FrameReader {
     limit: usize,
     held: BytesMut,
+    next: Option<Span>,
     failed: bool,
 }
 
 impl Model for FrameReader {
     ghost use Rattle.std.specs.Prelude.{Some, None, if◌then◌else◌};
-    ghost use Rattle.gs_wire.specs.Stream.{Holding};
+    ghost use Rattle.gs_wire.specs.Stream.{Holding, AwaitsBody};
 
     ghost Value = { Holding };
 
     ghost view = { λ r. record { limit = r.limit; held = if r.failed then None else Some r.held.items } };
+
+    ghost invariant = { λ r. AwaitsBody r.limit r.held.items r.next r.failed };
 }
 
 impl FrameReader {
     /// A reader that has read nothing, of bodies of at most `limit` bytes. It takes no memory.
     pub fn new(alloc: Global, limit: usize) -> FrameReader
-        requires { limit ≤ MAX_BODY }
+        requires { limit ≤ longest_body }
         ensures { result ≡ record { limit = limit; held = Some [] } }
     {
         FrameReader {
             limit,
             held: BytesMut::new(alloc),
+            next: None,
             failed: false,
         }
     }
@@ -70,30 +74,116 @@ impl FrameReader {
         ensures no_memory_reader { result ≡ Err WireFault.NoMemory → self.new ≡ self.old }
         ensures no_memory_list { result ≡ Err WireFault.NoMemory → rpcs.new.items ≡ rpcs.old.items }
     {
+        if let Some(span) = self.next {
+            if self.held.len() + piece.len() < span.end {
+                self.held.extend_from_slice(piece)?;
+                return Ok(());
+            }
+        }
+        self.feed_frames(alloc, piece, rpcs)
+    }
+
+    /// Takes a piece that may end a length or a body.
+    #[inline(never)]
+    fn feed_frames(
+        &mut self,
+        alloc: Global,
+        piece: &[u8],
+        rpcs: &mut Vec<Rpc>,
+    ) -> Result<(), WireFault>
+        ensures fed { OnOk result (Feeds self.old piece.now self.new rpcs.old.items rpcs.new.items End.Waits) }
+        ensures malformed { IsErrOf result WireFault.Malformed → Feeds self.old piece.now self.new rpcs.old.items rpcs.new.items End.Malformed }
+        ensures too_long { IsErrOf result WireFault.TooLong → Feeds self.old piece.now self.new rpcs.old.items rpcs.new.items End.TooLong }
+        ensures failed { (result ≡ Err WireFault.Failed) ↔ (self.old.held ≡ None) }
+        ensures failed_reader { result ≡ Err WireFault.Failed → self.new ≡ self.old }
+        ensures failed_list { result ≡ Err WireFault.Failed → rpcs.new.items ≡ rpcs.old.items }
+        ensures no_memory_reader { result ≡ Err WireFault.NoMemory → self.new ≡ self.old }
+        ensures no_memory_list { result ≡ Err WireFault.NoMemory → rpcs.new.items ≡ rpcs.old.items }
+    {
         if self.failed {
             return Err(WireFault::Failed);
+        }
+        if self.held.is_empty() {
+            return self.feed_whole(alloc, piece, rpcs);
         }
         let held = self.held.len();
         let count = rpcs.len();
         self.held.extend_from_slice(piece)?;
-        match read_frames(alloc, self.limit, self.held.as_slice(), rpcs) {
-            Ok((taken, End::Waits)) => {
+        let Ok(Progress { taken, next, end }) = read_frames(
+            alloc,
+            self.limit,
+            self.next,
+            self.held.as_slice(),
+            rpcs,
+        ) else {
+            self.held.truncate(held);
+            rpcs.truncate(count);
+            return Err(WireFault::NoMemory);
+        };
+        match end {
+            End::Waits => {
                 self.held.advance(taken);
+                self.next = next;
                 Ok(())
             }
-            Ok((_, End::TooLong)) => {
-                self.failed = true;
+            End::TooLong => {
+                self.fail();
                 Err(WireFault::TooLong)
             }
-            Ok((_, End::Malformed)) => {
-                self.failed = true;
+            End::Malformed => {
+                self.fail();
                 Err(WireFault::Malformed)
             }
-            Err(_) => {
-                self.held.truncate(held);
-                rpcs.truncate(count);
-                Err(WireFault::NoMemory)
+        }
+    }
+
+    /// Takes a piece where nothing is held: its whole frames are read where they lie, and only the
+    /// rest is copied.
+    fn feed_whole(
+        &mut self,
+        alloc: Global,
+        piece: &[u8],
+        rpcs: &mut Vec<Rpc>,
+    ) -> Result<(), WireFault>
+        requires { self.old.held ≡ Some [] }
+        ensures fed { OnOk result (Feeds self.old piece.now self.new rpcs.old.items rpcs.new.items End.Waits) }
+        ensures malformed { IsErrOf result WireFault.Malformed → Feeds self.old piece.now self.new rpcs.old.items rpcs.new.items End.Malformed }
+        ensures too_long { IsErrOf result WireFault.TooLong → Feeds self.old piece.now self.new rpcs.old.items rpcs.new.items End.TooLong }
+        ensures failed { ¬ (result ≡ Err WireFault.Failed) }
+        ensures no_memory_reader { result ≡ Err WireFault.NoMemory → self.new ≡ self.old }
+        ensures no_memory_list { result ≡ Err WireFault.NoMemory → rpcs.new.items ≡ rpcs.old.items }
+    {
+        let count = rpcs.len();
+        let Ok(Progress { taken, next, end }) = read_frames(alloc, self.limit, None, piece, rpcs)
+        else {
+            rpcs.truncate(count);
+            return Err(WireFault::NoMemory);
+        };
+        match end {
+            End::Waits => {
+                if self.held.extend_from_slice(&piece[taken..]).is_err() {
+                    rpcs.truncate(count);
+                    return Err(WireFault::NoMemory);
+                }
+                self.next = next;
+                Ok(())
+            }
+            End::TooLong => {
+                self.fail();
+                Err(WireFault::TooLong)
+            }
+            End::Malformed => {
+                self.fail();
+                Err(WireFault::Malformed)
             }
         }
+    }
+
+    /// Nothing is held any more, nor taken.
+    fn fail(&mut self)
+        ensures { self.new ≡ record { limit = self.old.limit; held = None } }
+    {
+        self.next = None;
+        self.failed = true;
     }
 }

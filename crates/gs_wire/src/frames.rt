@@ -1,9 +1,10 @@
 //! Frames of a stream: a varint length, and then that many bytes of a body.
-ghost use Rattle.std.specs.Prelude.{◌≡◌, ◌↔◌, ◌++◌, ◌<◌, ◌≤◌, List, length, take, drop, Ok, None, IfOk, IfSome, IsErrOf, IsTrue};
+ghost use Rattle.std.specs.Prelude.{◌≡◌, ◌↔◌, ◌++◌, ◌∷◌, [], ◌-◌, ◌≤◌, List, length, take, drop, None, IfOk, IfErr, IfSome, OnOk, OnErr, IsErrOf, IsTrue};
 ghost use Rattle.gs_base.specs.declared.rpc.Rpc.{Rpc as RpcValue};
-ghost use Rattle.gs_wire.specs.Stream.{SpellsFrame, BeginsLength, GoesOn, IsStream};
+ghost use Rattle.gs_wire.specs.Messages.{SpellsRpc, longest_body};
+ghost use Rattle.gs_wire.specs.Stream.{BeginsLength, GoesOn, IsStream, IsSpan};
 
-use crate::decoding::DecodeError;
+use crate::decoding::{Decode, DecodeError};
 use crate::rpc::read_body;
 use crate::varint::{MAX_VARINT, varint_at};
 use gs_base::Rpc;
@@ -20,12 +21,35 @@ pub enum End {
     Malformed,
 }
 
-/// Why there is no frame.
+/// Where the body of the frame at the front begins and ends, as its length says.
 #[derive(Clone, Copy, Debug, PartialEq, Eq)]
-enum FrameError {
-    TooLong,
-    Malformed,
-    NoMemory,
+pub(crate) struct Span {
+    pub start: usize,
+    pub end: usize,
+}
+
+/// What was read of a stream.
+#[derive(Clone, Copy, Debug, PartialEq, Eq)]
+pub(crate) struct Progress {
+    /// How many bytes the whole frames take.
+    pub taken: usize,
+    /// Where the next body is, where its length is whole.
+    pub next: Option<Span>,
+    /// How the stream goes on behind the whole frames.
+    pub end: End,
+}
+
+impl Progress {
+    /// So many bytes were taken, and the stream goes on so, with no length that is whole.
+    fn without_length(taken: usize, end: End) -> Progress
+        ensures { result ≡ record { taken = taken; next = None; end = end } }
+    {
+        Progress {
+            taken,
+            next: None,
+            end,
+        }
+    }
 }
 
 /// Whether the bytes are the front of a length, or nothing.
@@ -35,59 +59,92 @@ fn begins_length(bytes: &[u8]) -> bool
     bytes.len() < MAX_VARINT as usize && bytes.iter().all(|byte| *byte >= 128)
 }
 
-/// The frame at the front and how many bytes it takes, or nothing while it isn't whole.
-fn frame_at(alloc: Global, limit: usize, bytes: &[u8]) -> Result<Option<(Rpc, usize)>, FrameError>
-    ensures within { IfOk result (λ found. IfSome found (λ x. x.1 ≤ length bytes.now)) }
-    ensures some { IfOk result (λ found. IfSome found (λ x. 0 < x.1)) }
-    ensures whole { IfOk result (λ found. IfSome found (λ x. SpellsFrame limit (take x.1 bytes.now) x.0)) }
-    ensures waits { result ≡ Ok None → GoesOn limit bytes.now End.Waits }
-    ensures malformed { IsErrOf result FrameError.Malformed → GoesOn limit bytes.now End.Malformed }
-    ensures too_long { IsErrOf result FrameError.TooLong → GoesOn limit bytes.now End.TooLong }
+/// Where the body of the frame at the front is, or how the stream goes on where no length says so.
+/// A length that was read before isn't read again.
+fn span_at(limit: usize, known: Option<Span>, bytes: &[u8]) -> Result<Span, End>
+    requires low { limit ≤ longest_body }
+    requires known { IfSome known (λ span. IsSpan limit bytes.now span.start span.end) }
+    ensures found { IfOk result (λ span. IsSpan limit bytes.now span.start span.end) }
+    ensures no_length { IfErr result (λ end. GoesOn limit bytes.now end) }
 {
+    if let Some(span) = known {
+        return Ok(span);
+    }
     let Some((len, start)) = varint_at(bytes) else {
-        return if begins_length(bytes) {
-            Ok(None)
+        return Err(if begins_length(bytes) {
+            End::Waits
         } else {
-            Err(FrameError::Malformed)
-        };
+            End::Malformed
+        });
     };
     if len > limit as u64 {
-        return Err(FrameError::TooLong);
+        return Err(End::TooLong);
     }
-    if ((bytes.len() - start) as u64) < len {
-        return Ok(None);
-    }
-    let end = start + len as usize;
-    match read_body(alloc, &bytes[start..end]) {
-        Ok(rpc) => Ok(Some((rpc, end))),
-        Err(DecodeError::Malformed) => Err(FrameError::Malformed),
-        Err(DecodeError::NoMemory) => Err(FrameError::NoMemory),
-    }
+    Ok(Span {
+        start,
+        end: start + len as usize,
+    })
 }
 
-/// Adds the RPCs of the whole frames to a list, and answers how many bytes they take and how the
-/// stream goes on behind them.
+/// Adds the RPC of a whole body to a list.
+fn push_body(
+    alloc: Global,
+    span: Span,
+    bytes: &[u8],
+    rpcs: &mut Vec<Rpc>,
+) -> Result<(), DecodeError>
+    requires { (span.start ≤ span.end) × (span.end ≤ length bytes.now) }
+    ensures pushed { OnOk result ((rpc : RpcValue) × SpellsRpc (take (span.end - span.start) (drop span.start bytes.now)) rpc × (rpcs.new.items ≡ rpcs.old.items ++ rpc ∷ [])) }
+    ensures malformed { IsErrOf result DecodeError.Malformed → (rpc : RpcValue) → ¬ SpellsRpc (take (span.end - span.start) (drop span.start bytes.now)) rpc }
+    ensures kept { OnErr result (rpcs.new.items ≡ rpcs.old.items) }
+{
+    let mut rpc = Rpc::empty(alloc);
+    read_body(alloc, &bytes[span.start..span.end], &mut rpc)?;
+    if rpcs.push(rpc).is_err() {
+        return Err(DecodeError::NoMemory);
+    }
+    Ok(())
+}
+
+/// Adds the RPCs of the whole frames to a list. The length at the front may be known.
 pub(crate) fn read_frames(
     alloc: Global,
     limit: usize,
+    known: Option<Span>,
     bytes: &[u8],
     rpcs: &mut Vec<Rpc>,
-) -> Result<(usize, End), AllocError>
-    ensures within { IfOk result (λ x. x.0 ≤ length bytes.now) }
-    ensures read { IfOk result (λ x. (found : List RpcValue) × IsStream limit bytes.now found (drop x.0 bytes.now) x.1 × (rpcs.new.items ≡ rpcs.old.items ++ found)) }
+) -> Result<Progress, AllocError>
+    requires low { limit ≤ longest_body }
+    requires known { IfSome known (λ span. IsSpan limit bytes.now span.start span.end) }
+    ensures within { IfOk result (λ p. p.taken ≤ length bytes.now) }
+    ensures next { IfOk result (λ p. IfSome p.next (λ span. IsSpan limit (drop p.taken bytes.now) span.start span.end)) }
+    ensures read { IfOk result (λ p. (found : List RpcValue) × IsStream limit bytes.now found (drop p.taken bytes.now) p.end × (rpcs.new.items ≡ rpcs.old.items ++ found)) }
     ensures kept { take (length rpcs.old.items) rpcs.new.items ≡ rpcs.old.items }
 {
     let mut taken = 0;
+    let mut next = known;
     loop {
-        match frame_at(alloc, limit, &bytes[taken..]) {
-            Ok(Some((rpc, count))) => {
-                rpcs.push(rpc)?;
-                taken += count;
+        let rest = &bytes[taken..];
+        let span = match span_at(limit, next, rest) {
+            Ok(span) => span,
+            Err(end) => return Ok(Progress::without_length(taken, end)),
+        };
+        if rest.len() < span.end {
+            return Ok(Progress {
+                taken,
+                next: Some(span),
+                end: End::Waits,
+            });
+        }
+        match push_body(alloc, span, rest, rpcs) {
+            Ok(()) => {
+                taken += span.end;
+                next = None;
             }
-            Ok(None) => return Ok((taken, End::Waits)),
-            Err(FrameError::TooLong) => return Ok((taken, End::TooLong)),
-            Err(FrameError::Malformed) => return Ok((taken, End::Malformed)),
-            Err(FrameError::NoMemory) => return Err(AllocError),
+            Err(DecodeError::Malformed) => {
+                return Ok(Progress::without_length(taken, End::Malformed));
+            }
+            Err(DecodeError::NoMemory) => return Err(AllocError),
         }
     }
 }

@@ -1,11 +1,11 @@
 //! Laws of the wire format. Each holds of its definitions alone, and its function does nothing.
-ghost use Rattle.std.specs.Prelude.{[], ◌∷◌, ◌≡◌, ◌<◌, ◌≤◌, ◌^◌, ◌++◌, List, ℕ, length};
+ghost use Rattle.std.specs.Prelude.{[], ◌∷◌, ◌≡◌, ◌<◌, ◌≤◌, ◌^◌, ◌++◌, List, ℕ, length, Some};
 ghost use Rattle.gs_base.specs.declared.rpc.Rpc.{Rpc};
 ghost use Rattle.gs_wire.specs.Varint.{IsVarint, varint};
 ghost use Rattle.gs_wire.specs.Records.{Record, SpellRecords};
-ghost use Rattle.std.specs.List.{concat};
+ghost use Rattle.std.specs.List.{concat, AllByRecursion};
 ghost use Rattle.gs_wire.specs.declared.frames.End.{End};
-ghost use Rattle.gs_wire.specs.Stream.{IsStream, FindsIn};
+ghost use Rattle.gs_wire.specs.Stream.{IsStream, FindsIn, Holding, FeedsAll, HasRead};
 ghost use Rattle.gs_wire.specs.Messages.{SpellsRpc, IsInMemory, body, frame};
 
 /// Bytes spell at most one list of records.
@@ -44,7 +44,29 @@ pub fn a_stream_may_be_cut_anywhere()
     ensures { (limit : ℕ) (pieces : List (List ℕ)) (vs : List Rpc) (end : End) → FindsIn limit [] pieces vs end → (rest : List ℕ) × IsStream limit (concat pieces) vs rest end }
 {}
 
+/// However bytes are fed, what a reader holds then is the unread end of all of them, where no fault
+/// stands. So a stream that is closed there ends behind unread bytes.
+pub fn a_reader_holds_the_unread_end()
+    ensures { (limit : ℕ) (pieces : List (List ℕ)) (reader : Holding) (vs : List Rpc) → FeedsAll (record { limit = limit; held = Some [] }) pieces reader vs → HasRead limit (concat pieces) reader vs }
+{}
+
+/// Every list of bytes is a stream, and by `a_stream_is_one` in one way.
+pub fn every_list_of_bytes_is_a_stream()
+    ensures { (limit : ℕ) (bytes : List ℕ) → (vs : List Rpc) × (rest : List ℕ) × (end : End) × IsStream limit bytes vs rest end }
+{}
+
 /// A written frame whose body is within a reader's limit is read back, whatever follows it.
 pub fn a_written_frame_is_read_back()
     ensures { (limit : ℕ) (v : Rpc) (more : List ℕ) (vs : List Rpc) (rest : List ℕ) (end : End) → IsInMemory v → length (body v) ≤ limit → IsStream limit more vs rest end → IsStream limit (frame v ++ more) (v ∷ vs) rest end }
+{}
+
+/// What was read is not longer when it is written: bytes that spell an RPC are at least as many as
+/// those of its body.
+pub fn what_was_read_is_no_longer_when_written()
+    ensures { (bytes : List ℕ) (v : Rpc) → SpellsRpc bytes v → length (body v) ≤ length bytes }
+{}
+
+/// Each RPC of a stream fits the limit when it is written again.
+pub fn what_was_read_fits_a_frame()
+    ensures { (limit : ℕ) (bytes : List ℕ) (vs : List Rpc) (rest : List ℕ) (end : End) → IsStream limit bytes vs rest end → AllByRecursion (λ v. length (body v) ≤ limit) vs }
 {}

@@ -22,7 +22,7 @@ pub(crate) struct Record<'a> {
 }
 
 /// Reads the value of a wire type.
-#[inline]
+#[inline(always)]
 #[tactic(auto, unfolding(crate::specs::Reading::value_at))]
 fn read_value<'a>(reader: &mut Reader<'a>, wire_type: u64) -> Option<Value<'a>>
     ensures { option_map (λ value. (view_value value, reader.new)) result ≡ value_at wire_type reader.old }
@@ -40,7 +40,7 @@ fn read_value<'a>(reader: &mut Reader<'a>, wire_type: u64) -> Option<Value<'a>>
 }
 
 /// Reads a record.
-#[inline]
+#[inline(always)]
 #[tactic(auto, unfolding(crate::specs::Reading::record_at))]
 pub(crate) fn read_record<'a>(reader: &mut Reader<'a>) -> Option<Record<'a>>
     ensures { option_map (λ found. (view found, reader.new)) result ≡ record_at reader.old }

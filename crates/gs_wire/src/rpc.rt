@@ -1,13 +1,14 @@
 //! RPCs as bodies and frames.
-ghost use Rattle.std.specs.Prelude.{◌≡◌, ◌⊎◌, ◌<◌, ◌≤◌, ◌+◌, ◌++◌, ◌↔◌, Err, IfOk, IfErr, OnOk, OnErr, IsErrOf, List, unwrap_or, length, vec_len, vec_capacity};
+ghost use Rattle.std.specs.Prelude.{◌≡◌, ◌⊎◌, ◌<◌, ◌≤◌, ◌+◌, ◌++◌, ◌↔◌, Err, IfOk, IfErr, OnOk, OnErr, IsErrOf, List, [], Option, min, option_map, option_to_list, unwrap_or, length, vec_len, vec_capacity};
 ghost use Rattle.gs_base.specs.declared.rpc.Rpc.{Rpc as RpcValue};
 ghost use Rattle.gs_base.specs.declared.control.Control.{Control as ControlValue};
-ghost use Rattle.gs_wire.specs.Records.{Record as Spelled, SpellRecords};
-ghost use Rattle.gs_wire.specs.Controls.{SaysControl, no_control};
-ghost use Rattle.gs_wire.specs.Messages.{SaysRpc, SpellsRpc, rpc_records, body, frame, publication};
+ghost use Rattle.gs_wire.specs.Records.{Record as Spelled, SpellRecords, records_text};
+ghost use Rattle.gs_wire.specs.Fields.{part_records};
+ghost use Rattle.gs_wire.specs.Controls.{SaysControl, no_control, control_records};
+ghost use Rattle.gs_wire.specs.Messages.{SaysRpc, SpellsRpc, longest_body, body, frame, publication};
 
-use crate::decoding::{Decode, DecodeError, decode_message, merge_all};
-use crate::encoding::{Encode, len_record_len, parts_len, put_parts};
+use crate::decoding::{Decode, DecodeError, merge_all, push_message};
+use crate::encoding::{Encode, len_record_len, parts_len, put_parts, put_sized_part};
 use crate::fault::WireFault;
 use crate::field;
 use crate::reader::Reader;
@@ -50,8 +51,8 @@ impl Decode for Rpc {
             return Ok(());
         };
         match field {
-            field::RPC_SUBSCRIPTIONS => self.subs.push(decode_message(alloc, bytes)?)?,
-            field::RPC_PUBLISH => self.publish.push(decode_message(alloc, bytes)?)?,
+            field::RPC_SUBSCRIPTIONS => push_message(alloc, bytes, &mut self.subs)?,
+            field::RPC_PUBLISH => push_message(alloc, bytes, &mut self.publish)?,
             field::RPC_CONTROL => self.control = Some(merged(alloc, self.control.take(), bytes)?),
             _ => {}
         }
@@ -59,29 +60,16 @@ impl Decode for Rpc {
     }
 }
 
-impl Encode for Rpc {
-    ghost records = { rpc_records };
-
-    fn encoded_len(&self) -> usize {
-        parts_len(self.subs.as_slice())
-            .saturating_add(parts_len(self.publish.as_slice()))
-            .saturating_add(parts_len(self.control.as_slice()))
-    }
-
-    fn put(&self, buffer: &mut Vec<u8>) {
-        put_parts(buffer, field::RPC_SUBSCRIPTIONS, self.subs.as_slice());
-        put_parts(buffer, field::RPC_PUBLISH, self.publish.as_slice());
-        put_parts(buffer, field::RPC_CONTROL, self.control.as_slice());
-    }
-}
-
-/// The RPC that a body spells, which shares one copy of the body.
-pub(crate) fn read_body(alloc: Global, body: &[u8]) -> Result<Rpc, DecodeError>
-    ensures spelled { IfOk result (λ rpc. SpellsRpc body.now rpc) }
+/// Adds what a body spells to an RPC that says nothing yet, and shares one copy of the body. After
+/// an error the RPC is of no use.
+pub(crate) fn read_body(alloc: Global, body: &[u8], rpc: &mut Rpc) -> Result<(), DecodeError>
+    requires { SaysRpc [] rpc.old }
+    ensures spelled { OnOk result (SpellsRpc body.now rpc.new) }
     ensures malformed { IsErrOf result DecodeError.Malformed → (rpc : RpcValue) → ¬ SpellsRpc body.now rpc }
 {
     let shared = Bytes::copy_from_slice(alloc, body)?;
-    decode_message(alloc, Reader::new(&shared))
+    merge_all(alloc, Reader::new(&shared), rpc)?;
+    Ok(())
 }
 
 /// The RPC that a body spells. Unknown fields, and known ones of another wire type, are skipped; of
@@ -95,23 +83,68 @@ pub fn decode(alloc: Global, body: &[u8]) -> Result<Rpc, WireFault>
     ensures malformed { IsErrOf result WireFault.Malformed → (rpc : RpcValue) → ¬ SpellsRpc body.now rpc }
     ensures no_other { IfErr result (λ fault. (fault ≡ WireFault.Malformed) ⊎ (fault ≡ WireFault.NoMemory)) }
 {
-    match read_body(alloc, body) {
-        Ok(rpc) => Ok(rpc),
+    let mut rpc = Rpc::empty(alloc);
+    match read_body(alloc, body, &mut rpc) {
+        Ok(()) => Ok(rpc),
         Err(DecodeError::Malformed) => Err(WireFault::Malformed),
         Err(DecodeError::NoMemory) => Err(WireFault::NoMemory),
     }
 }
 
-/// The length of the body of an RPC, where that isn't too long.
-fn body_len(rpc: &Rpc) -> Result<usize, WireFault>
-    ensures len { IfOk result (λ len. (len ≡ length (body rpc.now)) × (len ≤ MAX_BODY)) }
-    ensures too_long { IfErr result (λ fault. (fault ≡ WireFault.TooLong) × (MAX_BODY < length (body rpc.now))) }
+/// The length of the control of an RPC, where it has one.
+fn control_len(rpc: &Rpc) -> Option<usize>
+    ensures { result ≡ option_map (λ c. min usize.MAX (length (records_text (control_records c)))) rpc.now.control }
 {
-    let len = rpc.encoded_len();
+    match &rpc.control {
+        Some(control) => Some(control.encoded_len()),
+        None => None,
+    }
+}
+
+/// The length of the record of a control of this length, where there is one.
+fn control_record_len(len: Option<usize>) -> usize
+    ensures { (control : Option ControlValue) → len ≡ option_map (λ c. min usize.MAX (length (records_text (control_records c)))) control → result ≡ min usize.MAX (length (records_text (part_records control_records 3 (option_to_list control)))) }
+{
+    match len {
+        Some(len) => len_record_len(len),
+        None => 0,
+    }
+}
+
+/// The length of the body of an RPC, up to the largest `usize`.
+fn full_len(rpc: &Rpc, control: Option<usize>) -> usize
+    requires { control ≡ option_map (λ c. min usize.MAX (length (records_text (control_records c)))) rpc.now.control }
+    ensures { result ≡ min usize.MAX (length (body rpc.now)) }
+{
+    parts_len(rpc.subs.as_slice())
+        .saturating_add(parts_len(rpc.publish.as_slice()))
+        .saturating_add(control_record_len(control))
+}
+
+/// The length of the body of an RPC, where that isn't too long.
+fn body_len(rpc: &Rpc, control: Option<usize>) -> Result<usize, WireFault>
+    requires { control ≡ option_map (λ c. min usize.MAX (length (records_text (control_records c)))) rpc.now.control }
+    ensures len { IfOk result (λ len. (len ≡ length (body rpc.now)) × (len ≤ longest_body)) }
+    ensures too_long { IfErr result (λ fault. (fault ≡ WireFault.TooLong) × (longest_body < length (body rpc.now))) }
+{
+    let len = full_len(rpc, control);
     if len > MAX_BODY {
         return Err(WireFault::TooLong);
     }
     Ok(len)
+}
+
+/// Writes the body of an RPC.
+fn put_body(buffer: &mut Vec<u8>, rpc: &Rpc, control: Option<usize>)
+    requires sized { control ≡ option_map (λ c. min usize.MAX (length (records_text (control_records c)))) rpc.now.control }
+    requires room { vec_len buffer.old + length (body rpc.now) ≤ vec_capacity buffer.old }
+    ensures { buffer.new.items ≡ buffer.old.items ++ body rpc.now }
+{
+    put_parts(buffer, field::RPC_SUBSCRIPTIONS, rpc.subs.as_slice());
+    put_parts(buffer, field::RPC_PUBLISH, rpc.publish.as_slice());
+    if let (Some(part), Some(len)) = (&rpc.control, control) {
+        put_sized_part(buffer, field::RPC_CONTROL, part, len);
+    }
 }
 
 /// Writes the body of an RPC at the end of a buffer: fields ascending, repeated ones in order,
@@ -123,13 +156,14 @@ fn body_len(rpc: &Rpc) -> Result<usize, WireFault>
 pub fn encode(rpc: &Rpc, buffer: &mut Vec<u8>) -> Result<(), WireFault>
     ensures written { OnOk result (buffer.new.items ≡ buffer.old.items ++ body rpc.now) }
     ensures kept { OnErr result (buffer.new.items ≡ buffer.old.items) }
-    ensures too_long { (result ≡ Err WireFault.TooLong) ↔ (MAX_BODY < length (body rpc.now)) }
+    ensures too_long { (result ≡ Err WireFault.TooLong) ↔ (longest_body < length (body rpc.now)) }
     ensures no_memory { result ≡ Err WireFault.NoMemory → vec_capacity buffer.old < vec_len buffer.old + length (body rpc.now) }
     ensures no_other { IfErr result (λ fault. (fault ≡ WireFault.TooLong) ⊎ (fault ≡ WireFault.NoMemory)) }
 {
-    let len = body_len(rpc)?;
+    let control = control_len(rpc);
+    let len = body_len(rpc, control)?;
     buffer.reserve(len)?;
-    rpc.put(buffer);
+    put_body(buffer, rpc, control);
     Ok(())
 }
 
@@ -141,14 +175,15 @@ pub fn encode(rpc: &Rpc, buffer: &mut Vec<u8>) -> Result<(), WireFault>
 pub fn encode_frame(rpc: &Rpc, buffer: &mut Vec<u8>) -> Result<(), WireFault>
     ensures written { OnOk result (buffer.new.items ≡ buffer.old.items ++ frame rpc.now) }
     ensures kept { OnErr result (buffer.new.items ≡ buffer.old.items) }
-    ensures too_long { (result ≡ Err WireFault.TooLong) ↔ (MAX_BODY < length (body rpc.now)) }
+    ensures too_long { (result ≡ Err WireFault.TooLong) ↔ (longest_body < length (body rpc.now)) }
     ensures no_memory { result ≡ Err WireFault.NoMemory → vec_capacity buffer.old < vec_len buffer.old + length (frame rpc.now) }
     ensures no_other { IfErr result (λ fault. (fault ≡ WireFault.TooLong) ⊎ (fault ≡ WireFault.NoMemory)) }
 {
-    let len = body_len(rpc)?;
+    let control = control_len(rpc);
+    let len = body_len(rpc, control)?;
     buffer.reserve(varint_len(len as u64) + len)?;
     put_varint(buffer, len as u64);
-    rpc.put(buffer);
+    put_body(buffer, rpc, control);
     Ok(())
 }
 

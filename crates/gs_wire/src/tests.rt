@@ -207,3 +207,23 @@ fn what_is_written_goes_to_the_end(rt: HostRuntime) -> Result<(), AllocError> {
     );
     Ok(())
 }
+
+/// A message with each of its six fields.
+#[test]
+fn every_field_of_a_message_is_read_and_written(rt: HostRuntime) -> Result<(), AllocError> {
+    let alloc = rt.alloc();
+    let body = b"\x12\x12\x0a\x01\x61\x12\x01\x62\x1a\x01\x63\x22\x01\x64\x2a\x01\x65\x32\x01\x66";
+    let frame =
+        b"\x14\x12\x12\x0a\x01\x61\x12\x01\x62\x1a\x01\x63\x22\x01\x64\x2a\x01\x65\x32\x01\x66";
+    let mut rpc = empty(alloc);
+    rpc.publish.push(Message {
+        origin: Some(Bytes::copy_from_slice(alloc, b"a")?),
+        payload: Some(Bytes::copy_from_slice(alloc, b"b")?),
+        seqno: Some(Bytes::copy_from_slice(alloc, b"c")?),
+        topic: topic(alloc, b"d")?,
+        signature: Some(Bytes::copy_from_slice(alloc, b"e")?),
+        key: Some(Bytes::copy_from_slice(alloc, b"f")?),
+    })?;
+    assert!(rt; is_read_and_written(alloc, body, &rpc, frame));
+    Ok(())
+}

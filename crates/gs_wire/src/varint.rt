@@ -25,15 +25,22 @@ fn varint_at_most(most: u32, bytes: &[u8]) -> Option<(u64, usize)>
     Some((number, count + 1))
 }
 
-/// The varint at the front, in any of its spellings, and how many bytes it takes. Most take one.
-#[inline]
+/// The varint at the front, in any of its spellings, and how many bytes it takes. Most take one or
+/// two.
+#[inline(always)]
 #[tactic(auto, unfolding(crate::specs::Reading::varint_at, crate::specs::Reading::varint_at_most))]
 pub(crate) fn varint_at(bytes: &[u8]) -> Option<(u64, usize)>
     ensures value { option_map (λ x. (x.0, drop x.1 bytes.now)) result ≡ varint_at bytes.now }
     ensures within { IfSome result (λ x. x.1 ≤ length bytes.now) }
 {
-    match bytes.first() {
-        Some(first) if *first < 128 => Some((u64::from(*first), 1)),
+    let (first, rest) = bytes.split_first()?;
+    if *first < 128 {
+        return Some((u64::from(*first), 1));
+    }
+    match rest.first() {
+        Some(second) if *second < 128 => {
+            Some((u64::from(*first - 128) + 128 * u64::from(*second), 2))
+        }
         _ => varint_at_most(MAX_VARINT, bytes),
     }
 }

@@ -1,4 +1,4 @@
-use Rattle.std.proofs.Common.{◌≡◌, length, ap, arith}
+use Rattle.std.proofs.Common.{length, ap, arith}
 use Rattle.gs_wire.proofs.Written.{number_text, varint_ten}
 use Rattle.gs_wire.proofs.encoding.number_len.Goals as goal
 

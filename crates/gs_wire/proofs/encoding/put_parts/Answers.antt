@@ -4,8 +4,8 @@ use Rattle.gs_wire.specs.Fields.{len_record, part_records}
 use Rattle.gs_wire.proofs.Written.{texts-room}
 use Rattle.gs_wire.proofs.encoding.put_parts.Goals as goal
 
-pub put_part-requires-clause-room : goal.put_part-requires-clause-room
-put_part-requires-clause-room g c =
+pub put_sized_part-requires-clause-room : goal.put_sized_part-requires-clause-room
+put_sized_part-requires-clause-room g c =
     let i = c.loop-part.part-index in
     let parts = c.args.parts.now in
     let before = records_text (part_records g.M.Encode.records c.args.field (take i parts)) in

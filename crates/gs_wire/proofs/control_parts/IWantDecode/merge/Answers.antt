@@ -1,8 +1,7 @@
-use Rattle.std.proofs.Common.{◌≡◌, ◌++◌, ◌∷◌, [], List, ℕ, Some, None, refl, sym, ap, ◌∙◌}
+use Rattle.std.proofs.Common.{◌++◌, ◌∷◌, [], Some, None, refl, sym, ap, ◌∙◌}
 use Rattle.std.proofs.lemmas.Bool.{ne_eqb}
 use Rattle.gs_base.specs.declared.control.IWant.{IWant}
 use Rattle.gs_wire.specs.Views.{view}
-use Rattle.gs_wire.specs.Fields.{as_topic}
 use Rattle.gs_wire.proofs.FieldValues.{not_len}
 use Rattle.gs_wire.proofs.ControlParts.{iwant_of-push}
 use Rattle.gs_wire.proofs.control_parts.IWantDecode.merge.Goals as goal

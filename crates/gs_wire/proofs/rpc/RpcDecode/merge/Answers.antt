@@ -16,29 +16,31 @@ returns-in_default c = record {
   malformed = λ e. absurd cc;
 }
 
-pub returns-in_err-decode_message-in-1-clause-malformed : goal.returns-in_err-decode_message-in-1-clause-malformed
-returns-in_err-decode_message-in-1-clause-malformed c =
+pub returns-in_err-push_message-in-1-clause-malformed : goal.returns-in_err-push_message-in-1-clause-malformed
+returns-in_err-push_message-in-1-clause-malformed c =
     let p = err_from_is_err_and c.from_residual.result c.from_residual.ensures.1 in
     let is : view c.args.record ≡ len_record 1 c.in-Len.bytes = rw (c.in-Len.is, c.in-1.is) refl in
     λ e before after rpc says.
-    no_sub before after c.in-Len.bytes rpc (c.in_err-decode_message-in-1.ensures.malformed (same_fault c.in_err-decode_message-in-1.field-0.0 Malformed c.from_residual.result (p.1 ∙ ap (λ f. Err f) p.2) e)) (subst (λ (r : Record). SaysRpc (before ++ r ∷ after) rpc) is says)
+    no_sub before after c.in-Len.bytes rpc (c.in_err-push_message-in-1.ensures.malformed (same_fault c.in_err-push_message-in-1.field-0.0 Malformed c.from_residual.result (p.1 ∙ ap (λ f. Err f) p.2) e)) (subst (λ (r : Record). SaysRpc (before ++ r ∷ after) rpc) is says)
 
-pub returns-in_err-decode_message-in-2-clause-malformed : goal.returns-in_err-decode_message-in-2-clause-malformed
-returns-in_err-decode_message-in-2-clause-malformed c =
-    let p = err_from_is_err_and c.from_residual-in_err-decode_message-in-2.result c.from_residual-in_err-decode_message-in-2.ensures.1 in
+pub returns-in_err-push_message-in-2-clause-malformed : goal.returns-in_err-push_message-in-2-clause-malformed
+returns-in_err-push_message-in-2-clause-malformed c =
+    let p = err_from_is_err_and c.from_residual-in_err-push_message-in-2.result c.from_residual-in_err-push_message-in-2.ensures.1 in
     let is : view c.args.record ≡ len_record 2 c.in-Len.bytes = rw (c.in-Len.is, c.in-2.is) refl in
     λ e before after rpc says.
-    no_message before after c.in-Len.bytes rpc (c.in_err-decode_message-in-2.ensures.malformed (same_fault c.in_err-decode_message-in-2.field-0.0 Malformed c.from_residual-in_err-decode_message-in-2.result (p.1 ∙ ap (λ f. Err f) p.2) e)) (subst (λ (r : Record). SaysRpc (before ++ r ∷ after) rpc) is says)
+    no_message before after c.in-Len.bytes rpc (c.in_err-push_message-in-2.ensures.malformed (same_fault c.in_err-push_message-in-2.field-0.0 Malformed c.from_residual-in_err-push_message-in-2.result (p.1 ∙ ap (λ f. Err f) p.2) e)) (subst (λ (r : Record). SaysRpc (before ++ r ∷ after) rpc) is says)
 
-pub returns-in_ok-push-in-1-clause-merged : goal.returns-in_ok-push-in-1-clause-merged
-returns-in_ok-push-in-1-clause-merged c = λ before says.
+pub returns-in_ok-push_message-in-1-clause-merged : goal.returns-in_ok-push_message-in-1-clause-merged
+returns-in_ok-push_message-in-1-clause-merged c = λ before says.
     let is : view c.args.record ≡ len_record 1 c.in-Len.bytes = rw (c.in-Len.is, c.in-1.is) refl in
-    rw (is, c.in_ok-push-in-1.ensures.ok) (rpc_subscribes before c.in-Len.bytes c.args.self.now c.in_ok-decode_message-in-1.field-0 says c.in_ok-decode_message-in-1.ensures.found)
+    let (part, spells, added) = c.in_ok-push_message-in-1.ensures.pushed in
+    rw (is, added) (rpc_subscribes before c.in-Len.bytes c.args.self.now part says spells)
 
-pub returns-in_ok-push-in-2-clause-merged : goal.returns-in_ok-push-in-2-clause-merged
-returns-in_ok-push-in-2-clause-merged c = λ before says.
+pub returns-in_ok-push_message-in-2-clause-merged : goal.returns-in_ok-push_message-in-2-clause-merged
+returns-in_ok-push_message-in-2-clause-merged c = λ before says.
     let is : view c.args.record ≡ len_record 2 c.in-Len.bytes = rw (c.in-Len.is, c.in-2.is) refl in
-    rw (is, c.in_ok-push-in-2.ensures.ok) (rpc_publishes before c.in-Len.bytes c.args.self.now c.in_ok-decode_message-in-2.field-0 says c.in_ok-decode_message-in-2.ensures.found)
+    let (part, spells, added) = c.in_ok-push_message-in-2.ensures.pushed in
+    rw (is, added) (rpc_publishes before c.in-Len.bytes c.args.self.now part says spells)
 
 pub returns-in_default-field-clause-merged : goal.returns-in_default-field-clause-merged
 returns-in_default-field-clause-merged c = λ before says.
