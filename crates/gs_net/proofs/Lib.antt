@@ -1,10 +1,10 @@
+pub mod Neighbours
 pub mod Running
+pub mod Readers
 pub mod Lines
 pub mod Links
-pub mod Handled
 pub mod History
 pub mod Saying
-pub mod Fits
 pub mod Speeches
 pub mod Playing
 pub mod Whole

@@ -4,13 +4,14 @@ use Rattle.std.proofs.lemmas.List.{take_rest, reverse-reverse, length-reverse}
 use Rattle.gs_base.specs.declared.names.Millis.{Millis}
 use Rattle.gs_rules.specs.declared.trace.Entry.{Entry}
 use Rattle.gs_rules.specs.Tables.{Entries}
-use Rattle.gs_net.specs.declared.finished.Refusal.{Refusal}
-use Rattle.gs_router.specs.Router.{RouterView, GoesOn, peer}
-use Rattle.gs_net.specs.Rounds.{Todo}
-use Rattle.gs_net.specs.Speech.{AllFit}
+use Rattle.gs_wire.specs.Codec.{codec}
+use Rattle.gs_rules.specs.declared.refusal.RefusedLine.{RefusedLine}
+use Rattle.gs_rules.specs.Saying.{AllFit}
+use Rattle.gs_rules.specs.Rounds.{Todo}
+use Rattle.gs_rules.proofs.Fitting.{legal_part_fits}
+use Rattle.gs_rules.proofs.Handled.{GoesOn, does_on}
+use Rattle.gs_router.specs.Router.{RouterView}
 use Rattle.gs_net.specs.Nodes.{Runs}
-use Rattle.gs_net.proofs.Handled.{does_on}
-use Rattle.gs_net.proofs.Fits.{legal_part_fits}
 
 -- the entries of a trace, the oldest first
 seen_as : (entries : List Entry) (L : Entries) → reverse entries ≡ L → entries ≡ reverse L
@@ -23,13 +24,13 @@ longer old new K L was is goes_on =
     omega (arith, a, b, ap length goes_on.1, length-append goes_on.0 K)
 
 -- there are more of them then
-pub grows : (now : Millis) (todos : List Todo) (v w : RouterView) (refused : List Refusal) (old new : List Entry) → Runs now todos v w refused → reverse old ≡ v.trace → reverse new ≡ w.trace → length old ≤ length new
-grows now todos v w refused old new runs was is = longer old new v.trace w.trace was is (does_on (peer v) now todos v.trace w.trace refused runs.does)
+pub grows : (now : Millis) (todos : List Todo) (v w : RouterView) (refused : List RefusedLine) (old new : List Entry) → Runs now todos v w refused → reverse old ≡ v.trace → reverse new ≡ w.trace → length old ≤ length new
+grows now todos v w refused old new runs was is = longer old new v.trace w.trace was is (does_on v.peer now todos v.trace w.trace refused runs.does)
 
 -- those that came fit
-pub new_fit : (now : Millis) (todos : List Todo) (v w : RouterView) (refused : List Refusal) (old new : List Entry) → Runs now todos v w refused → reverse new ≡ w.trace → AllFit (take (length new - length old) (drop (length old) new))
+pub new_fit : (now : Millis) (todos : List Todo) (v w : RouterView) (refused : List RefusedLine) (old new : List Entry) → Runs now todos v w refused → reverse new ≡ w.trace → AllFit codec (take (length new - length old) (drop (length old) new))
 new_fit now todos v w refused old new runs is =
-    subst (λ (entries : List Entry). AllFit (take (length new - length old) (drop (length old) entries))) (sym (seen_as new w.trace is)) (legal_part_fits w.neighbours w.seen_ttl w.trace (length old) (length new - length old) runs.runs_on.legal)
+    subst (λ (entries : List Entry). AllFit codec (take (length new - length old) (drop (length old) entries))) (sym (seen_as new w.trace is)) (legal_part_fits w.peer w.trace (length old) (length new - length old) runs.runs_on.legal)
 
 -- and are these
 pub new_are : (old new : List Entry) (K L : Entries) → reverse old ≡ K → reverse new ≡ L → take (length new - length old) (drop (length old) new) ≡ drop (length K) (reverse L)

@@ -1,4 +1,3 @@
-pub mod Said
 pub mod Rounds
 pub mod Agenda
 pub mod Nodes

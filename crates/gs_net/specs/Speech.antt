@@ -1,10 +1,10 @@
 -- What a peer says to each other peer in a round.
-use Rattle.std.specs.Prelude.{◌≡◌, ℕ, true, List, [], length, option_map, unwrap_or, slice_get}
-use Rattle.std.specs.List.{flat_map, AllByRecursion}
+use Rattle.std.specs.Prelude.{ℕ, List, [], length, option_map, unwrap_or, slice_get}
+use Rattle.std.specs.List.{flat_map}
 use Rattle.gs_base.specs.declared.names.PeerNo.{PeerNo}
 use Rattle.gs_base.specs.declared.rpc.Rpc.{Rpc}
 use Rattle.gs_rules.specs.declared.trace.Entry.{Entry}
-use Rattle.gs_rules.specs.Rules.{sent_to}
+use Rattle.gs_rules.specs.Modes.{sent_to}
 use Rattle.gs_wire.specs.Codec.{codec}
 use Rattle.gs_net.specs.declared.peers.speech.Speech.{Speech}
 
@@ -27,11 +27,3 @@ sent_frames to sends = flat_map codec.frame (sent_to to sends)
 -- the frames of all that these entries send to a peer
 abbrev pub frames_to : PeerNo → List Entry → List ℕ
 frames_to to entries = flat_map (λ e. sent_frames to e.sends) entries
-
--- each RPC that is sent fits a frame
-abbrev pub SendsFit : List (PeerNo × Rpc) → Type 0
-SendsFit sends = AllByRecursion (λ x. codec.fits x.1 ≡ true) sends
-
--- and so of all that these entries send
-abbrev pub AllFit : List Entry → Type 0
-AllFit entries = AllByRecursion (λ e. SendsFit e.sends) entries

@@ -2,11 +2,9 @@
 #![tactic(auto)]
 
 mod finished;
-mod laws;
 mod peers;
 
-pub use finished::{Finished, Refusal};
-pub use laws::{deliveries_stay_apart, what_was_said_is_handled};
+pub use finished::Finished;
 pub use peers::run_peers;
 
 #[cfg(test)]

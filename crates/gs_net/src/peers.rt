@@ -1,21 +1,23 @@
 //! The peers of a plan, round by round.
-ghost use Rattle.std.specs.Prelude.{◌≡◌, ◌≤◌, IfOk, length, map};
+ghost use Rattle.std.specs.Prelude.{◌≡◌, ◌≤◌, IfOk, map};
 ghost use Rattle.std.specs.List.{AllZip};
 ghost use Rattle.gs_params.specs.Plans.{IsInRange};
-ghost use Rattle.gs_net.specs.Rounds.{IsRun, moment, neighbours, numbers};
-ghost use Rattle.gs_net.specs.Agenda.{due_from, seen};
-ghost use Rattle.gs_net.specs.Nodes.{AllRunning, ClosesEach, IsNew, PlaysEach};
+ghost use Rattle.gs_net.specs.Rounds.{IsRun, moment, numbers};
+ghost use Rattle.gs_net.specs.Agenda.{due_from, listed};
+ghost use Rattle.gs_net.specs.Nodes.{AllMayPlay, ClosesEach, IsNew, PlaysEach};
 
 mod agenda;
+mod neighbours;
 mod node;
+mod reading;
 mod speech;
 
 use crate::finished::Finished;
 use crate::peers::agenda::{Agenda, Due};
 use crate::peers::node::Node;
 use crate::peers::speech::Speech;
-use gs_base::{Millis, PeerNo};
-use gs_params::{MOST_PEERS, Plan, are_joined};
+use gs_base::PeerNo;
+use gs_params::Plan;
 use std::alloc::{AllocError, Global};
 
 /// Runs the peers of a plan, in rounds: in each, the peers in the order of their numbers. What is
@@ -50,9 +52,10 @@ fn play(
 ) -> Result<(Vec<Node>, Vec<Speech>), AllocError>
     requires range { IsInRange plan.now }
     requires round { round ≤ plan.now.rounds }
-    requires lines { map seen lines.now ≡ due_from 0 round plan.now.script }
-    requires running { AllRunning (moment plan.now round) nodes.items }
-    ensures { IfOk result (λ played. PlaysEach plan.now round said.now nodes.items played.0.items played.1.items) }
+    requires lines { map listed lines.now ≡ due_from 0 round plan.now.script }
+    requires ready { AllMayPlay (moment plan.now round) nodes.items }
+    ensures { IfOk result (λ played.
+        PlaysEach plan.now round said.now nodes.items played.0.items played.1.items) }
 {
     let mut played = Vec::new(alloc);
     let mut speeches = Vec::new(alloc);
@@ -72,7 +75,7 @@ fn close(
     said: &[Speech],
 ) -> Result<Vec<Finished>, AllocError>
     requires range { IsInRange plan.now }
-    requires running { AllRunning (moment plan.now plan.now.rounds) nodes.items }
+    requires ready { AllMayPlay (moment plan.now plan.now.rounds) nodes.items }
     ensures { IfOk result (λ lives. ClosesEach plan.now said.now nodes.items lives.items) }
 {
     let mut finished = Vec::new(alloc);
@@ -88,28 +91,9 @@ fn nodes_of(alloc: Global, plan: &Plan) -> Result<Vec<Node>, AllocError>
     ensures { IfOk result (λ nodes. AllZip (IsNew plan.now) (numbers plan.now) nodes.items) }
 {
     let count = plan.peers.len() as u16;
-    let seen_ttl = Millis(plan.params.windows.seen_ttl_ms);
     let mut nodes = Vec::new(alloc);
     for number in 0..count {
-        let peer = PeerNo(number);
-        let neighbours = neighbours_of(alloc, plan, peer)?;
-        nodes.push(Node::new(alloc, peer, neighbours, seen_ttl)?)?;
+        nodes.push(Node::new(alloc, plan, PeerNo(number))?)?;
     }
     Ok(nodes)
-}
-
-/// The neighbours of a peer, ascending: whom it dials, and who dials it.
-fn neighbours_of(alloc: Global, plan: &Plan, peer: PeerNo) -> Result<Vec<PeerNo>, AllocError>
-    requires { length plan.now.peers ≤ MOST_PEERS }
-    ensures { IfOk result (λ found. found.items ≡ neighbours plan.now peer) }
-{
-    let count = plan.peers.len() as u16;
-    let mut found = Vec::new(alloc);
-    for number in 0..count {
-        let other = PeerNo(number);
-        if are_joined(plan.dials.as_slice(), peer, other) {
-            found.push(other)?;
-        }
-    }
-    Ok(found)
 }

@@ -2,10 +2,11 @@
 ghost use Rattle.std.specs.Prelude.{IfOk};
 ghost use Rattle.gs_params.specs.Plans.{IsInRange};
 
-use crate::{Finished, Refusal, deliveries_stay_apart, run_peers, what_was_said_is_handled};
+use crate::{Finished, run_peers};
 use bytes::Bytes;
 use gs_base::{Millis, PeerNo, Seq, Text, Topic};
 use gs_params::{Dial, Line, Params, PlannedPeer, Plan, What};
+use gs_rules::{Refusal, RefusedLine};
 use std::alloc::{AllocError, Global};
 
 fn topic(alloc: Global) -> Result<Topic, AllocError> {
@@ -94,10 +95,10 @@ fn has_deliveries(alloc: Global, dials: &[Dial], a: &[u64], b: &[u64]) -> Result
     let [first, second] = lives.as_slice() else {
         return Ok(false);
     };
-    let refusal = Refusal {
+    let refusal = RefusedLine {
         at: Millis(500),
         line: 4,
-        number: 19,
+        why: Refusal::NotJoined,
     };
     Ok(
         delivered(first, a)
@@ -115,10 +116,4 @@ fn a_message_is_delivered_to_a_neighbour_a_round_later(rt: HostRuntime) -> Resul
     assert!(rt; has_deliveries(rt.alloc(), &[Dial { from: b, to: a }], &[200], &[300])?);
     assert!(rt; has_deliveries(rt.alloc(), &[], &[200], &[])?);
     Ok(())
-}
-
-#[test]
-fn laws_hold() {
-    what_was_said_is_handled();
-    deliveries_stay_apart();
 }

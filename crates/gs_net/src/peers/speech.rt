@@ -2,7 +2,8 @@
 ghost use Rattle.std.specs.Prelude.{◌≡◌, ◌<◌, ◌+◌, ◌++◌, [], ◌∷◌, true, length, OnOk, OnErr, IfOk, vec_len, vec_capacity};
 ghost use Rattle.gs_base.specs.declared.names.PeerNo.{PeerNo as PeerNoValue};
 ghost use Rattle.gs_wire.specs.Codec.{codec};
-ghost use Rattle.gs_net.specs.Speech.{AllFit, SendsFit, frames_to, receivers, said_by, sent_frames, speech_to};
+ghost use Rattle.gs_rules.specs.Saying.{AllFit, SendsFit};
+ghost use Rattle.gs_net.specs.Speech.{frames_to, receivers, said_by, sent_frames, speech_to};
 
 use gs_base::{PeerNo, Rpc};
 use gs_rules::Entry;
@@ -37,8 +38,10 @@ impl Speech {
     /// # Errors
     /// `AllocError` where there was no memory for it.
     pub fn of(alloc: Global, peers: usize, entries: &[Entry]) -> Result<Speech, AllocError>
-        requires { AllFit entries.now }
-        ensures { IfOk result (λ speech. (q : PeerNoValue) → q.0 < peers → speech_to speech q ≡ frames_to q entries.now) }
+        requires { AllFit codec entries.now }
+        ensures { IfOk result (λ speech. (q : PeerNoValue)
+            → q.0 < peers
+            → speech_to speech q ≡ frames_to q entries.now) }
     {
         let mut speech = Speech::silence(alloc, peers)?;
         for entry in entries {
@@ -49,9 +52,11 @@ impl Speech {
 
     /// Adds the frames of what an entry sends.
     fn add_sends(&mut self, sends: &[(PeerNo, Rpc)]) -> Result<(), AllocError>
-        requires { SendsFit sends.now }
+        requires { SendsFit codec sends.now }
         ensures receivers { OnOk result (receivers self.new ≡ receivers self.old) }
-        ensures added { OnOk result ((q : PeerNoValue) → q.0 < receivers self.old → speech_to self.new q ≡ speech_to self.old q ++ sent_frames q sends.now) }
+        ensures added { OnOk result ((q : PeerNoValue)
+            → q.0 < receivers self.old
+            → speech_to self.new q ≡ speech_to self.old q ++ sent_frames q sends.now) }
     {
         for (receiver, rpc) in sends {
             self.add(*receiver, rpc)?;
@@ -63,7 +68,9 @@ impl Speech {
     fn add(&mut self, receiver: PeerNo, rpc: &Rpc) -> Result<(), AllocError>
         requires { codec.fits rpc.now ≡ true }
         ensures receivers { OnOk result (receivers self.new ≡ receivers self.old) }
-        ensures added { OnOk result ((q : PeerNoValue) → q.0 < receivers self.old → speech_to self.new q ≡ speech_to self.old q ++ sent_frames q ((receiver, rpc.now) ∷ [])) }
+        ensures added { OnOk result ((q : PeerNoValue)
+            → q.0 < receivers self.old
+            → speech_to self.new q ≡ speech_to self.old q ++ sent_frames q ((receiver, rpc.now) ∷ [])) }
     {
         match self.to.get_mut(usize::from(receiver.0)) {
             Some(bytes) => write(rpc, bytes),

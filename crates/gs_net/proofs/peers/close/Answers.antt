@@ -3,7 +3,7 @@ use Rattle.gs_net.specs.declared.peers.node.Node.{Node}
 use Rattle.gs_net.specs.declared.finished.Finished.{Finished}
 use Rattle.gs_net.specs.Rounds.{moment}
 use Rattle.gs_net.specs.Speech.{said_by}
-use Rattle.gs_net.specs.Nodes.{AllRunning, ClosesEach, NodeCloses}
+use Rattle.gs_net.specs.Nodes.{AllMayPlay, ClosesEach, NodeCloses}
 use Rattle.gs_net.proofs.EachPeer.{zip_more}
 use Rattle.gs_net.proofs.peers.close.Goals as goal
 
@@ -13,5 +13,5 @@ loop-node-preserved c =
       tt,
       tt,
       subst (λ (lives : List Finished). ClosesEach c.args.plan.now c.args.said.now (c.loop-node.yielded ++ c.in-Some.node ∷ []) lives) (sym c.in_ok-push.ensures.items) closes,
-      (subst (AllRunning (moment c.args.plan.now c.args.plan.now.rounds)) c.in-Some.ensures.steps.0 c.loop-node.invariant.3).1,
+      (subst (AllMayPlay (moment c.args.plan.now c.args.plan.now.rounds)) c.in-Some.ensures.steps.0 c.loop-node.invariant.3).1,
     )

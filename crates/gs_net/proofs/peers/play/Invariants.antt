@@ -1,5 +1,5 @@
 use Rattle.gs_net.specs.Rounds.{moment}
-use Rattle.gs_net.specs.Nodes.{AllRunning, PlaysEach}
+use Rattle.gs_net.specs.Nodes.{AllMayPlay, PlaysEach}
 use Rattle.gs_net.proofs.peers.play.Given as goal
 
 abbrev pub invariant-loop-node : goal.invariant-loop-node
@@ -7,4 +7,4 @@ invariant-loop-node l =
     (goal.iterator-loop-node).can_next l.node-iterator
     × (goal.iterator-loop-node).is_finite l.node-iterator
     × PlaysEach l.plan l.round l.said l.yielded l.played.items l.speeches.items
-    × AllRunning (moment l.plan l.round) l.node-iterator.rest.items
+    × AllMayPlay (moment l.plan l.round) l.node-iterator.rest.items

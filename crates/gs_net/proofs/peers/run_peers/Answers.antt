@@ -1,16 +1,16 @@
 use Rattle.std.proofs.Common.{ℕ, ◌∷◌, [], length, refl, sym, subst, arith}
 use Rattle.gs_net.specs.Speech.{said_by}
 use Rattle.gs_net.specs.Nodes.{PlaysEach}
-use Rattle.gs_net.proofs.Whole.{begins, goes_on, all_running, played_by, played_all, finishes_after}
+use Rattle.gs_net.proofs.Whole.{begins, goes_on, all_may_play, played_by, played_all, finishes_after}
 use Rattle.gs_net.proofs.peers.run_peers.Goals as goal
 
 pub loop-round-init : goal.loop-round-init
 loop-round-init c = ([], refl, begins c.args.plan.now c.in_ok-nodes.nodes.items c.new-said.result.items c.new-said.ensures.items c.in_ok-nodes.ensures)
 
-pub play-requires-clause-running : goal.play-requires-clause-running
-play-requires-clause-running c =
+pub play-requires-clause-ready : goal.play-requires-clause-ready
+play-requires-clause-ready c =
     let (H, long, between) = c.loop-round.invariant in
-    all_running c.args.plan.now H c.loop-round.nodes.items c.loop-round.said.items c.loop-round.round between (played_by (length H) c.loop-round.round long)
+    all_may_play c.args.plan.now H c.loop-round.nodes.items c.loop-round.said.items c.loop-round.round between (played_by (length H) c.loop-round.round long)
 
 pub loop-round-preserved : goal.loop-round-preserved
 loop-round-preserved c =
@@ -21,10 +21,10 @@ loop-round-preserved c =
       goes_on c.args.plan.now H c.loop-round.nodes.items c.in_ok-played.played.items c.loop-round.said.items c.in_ok-played.speeches.items between (subst (λ (r : ℕ). PlaysEach c.args.plan.now r c.loop-round.said.items c.loop-round.nodes.items c.in_ok-played.played.items c.in_ok-played.speeches.items) (sym long) plays),
     )
 
-pub close-requires-clause-running : goal.close-requires-clause-running
-close-requires-clause-running c =
+pub close-requires-clause-ready : goal.close-requires-clause-ready
+close-requires-clause-ready c =
     let (H, long, between) = c.loop-round.invariant in
-    all_running c.args.plan.now H c.loop-round.nodes.items c.loop-round.said.items c.args.plan.now.rounds between (played_all (length H) c.args.plan.now.rounds (omega (arith, long, c.loop-round-test.false, c.loop-round.auto.round-end)))
+    all_may_play c.args.plan.now H c.loop-round.nodes.items c.loop-round.said.items c.args.plan.now.rounds between (played_all (length H) c.args.plan.now.rounds (omega (arith, long, c.loop-round-test.false, c.loop-round.auto.round-end)))
 
 pub returns : goal.returns
 returns c =

@@ -1,5 +1,0 @@
-use Rattle.gs_net.proofs.Handled.{said_is_handled}
-use Rattle.gs_net.proofs.laws.what_was_said_is_handled.Goals as goal
-
-pub returns : goal.returns
-returns c = said_is_handled
