@@ -5,9 +5,9 @@ ghost use Rattle.gossip_sim.specs.Report.{delivered_line, delivered_lines, entry
 
 use bytes::Bytes;
 use gs_base::{Millis, Topic};
+use gs_net::Finished;
 use gs_params::Plan;
-use gs_rules::Entry;
-use gs_net::{Finished, Refusal};
+use gs_rules::{Entry, RefusedLine};
 use gs_scenario::what_word;
 use std::alloc::{AllocError, Global};
 
@@ -33,7 +33,8 @@ fn push_delivered(
     plan: &Plan,
     finished: &[Finished],
 ) -> Result<(), AllocError>
-    ensures { OnOk result (text.new.items ≡ text.old.items ++ flat_map (delivered_lines plan.now) (numbered finished.now)) }
+    ensures { OnOk result (text.new.items
+        ≡ text.old.items ++ flat_map (delivered_lines plan.now) (numbered finished.now)) }
 {
     for (number, peer) in finished.iter().enumerate() {
         push_entries(alloc, text, name_of(plan, number), peer.trace.entries())?;
@@ -100,7 +101,8 @@ fn push_refused(
     plan: &Plan,
     finished: &[Finished],
 ) -> Result<(), AllocError>
-    ensures { OnOk result (text.new.items ≡ text.old.items ++ flat_map (refused_lines plan.now) (numbered finished.now)) }
+    ensures { OnOk result (text.new.items
+        ≡ text.old.items ++ flat_map (refused_lines plan.now) (numbered finished.now)) }
 {
     for (number, peer) in finished.iter().enumerate() {
         push_refusals(
@@ -120,7 +122,7 @@ fn push_refusals(
     text: &mut Vec<u8>,
     plan: &Plan,
     name: &str,
-    refusals: &[Refusal],
+    refusals: &[RefusedLine],
 ) -> Result<(), AllocError>
     ensures { OnOk result (text.new.items ≡ text.old.items ++ flat_map (refused_line plan.now name.now) refusals.now) }
 {
@@ -136,13 +138,13 @@ fn push_refusal(
     text: &mut Vec<u8>,
     plan: &Plan,
     name: &str,
-    refusal: Refusal,
+    refusal: RefusedLine,
 ) -> Result<(), AllocError>
     ensures { OnOk result (text.new.items ≡ text.old.items ++ refused_line plan.now name.now refusal) }
 {
     let moment = refusal.at.0;
     let word = word_of(plan, refusal.line);
-    let number = refusal.number;
+    let number = refusal.why.number();
     let front = format!(in alloc; "refused {name} {moment} ")?;
     let back = format!(in alloc; "{word} {number}\n")?;
     text.extend_from_slice(front.as_bytes())?;

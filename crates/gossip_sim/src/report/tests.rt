@@ -1,7 +1,10 @@
 use super::*;
 use gs_base::{PeerNo, Seq, Text};
-use gs_params::{DEFAULT_DEGREES, DEFAULT_FACTORS, DEFAULT_FLOOD_PUBLISH, DEFAULT_THRESHOLDS, DEFAULT_WINDOWS, Line, Params, PlannedPeer, What};
-use gs_rules::{Event, Trace};
+use gs_params::{
+    DEFAULT_DEGREES, DEFAULT_FACTORS, DEFAULT_FLOOD_PUBLISH, DEFAULT_THRESHOLDS, DEFAULT_WINDOWS,
+    Line, Params, PlannedPeer, What,
+};
+use gs_rules::{Event, Refusal, Trace};
 
 fn bytes(alloc: Global, text: &[u8]) -> Result<Bytes, AllocError> {
     Bytes::copy_from_slice(alloc, text)
@@ -69,18 +72,18 @@ fn entry(alloc: Global, at: u64, payloads: &[(&str, &[u8])]) -> Result<Entry, Al
     })
 }
 
-/// A peer that refused these lines, each with its moment, its place and its number.
+/// A peer that refused these lines, each with its moment, its place and why.
 fn refusing(
     alloc: Global,
     trace: Trace,
-    refusals: &[(u64, usize, u8)],
+    refusals: &[(u64, usize, Refusal)],
 ) -> Result<Finished, AllocError> {
     let mut refused = Seq::new(alloc);
-    for (at, line, number) in refusals {
-        refused.push(Refusal {
+    for (at, line, why) in refusals {
+        refused.push(RefusedLine {
             at: Millis(*at),
             line: *line,
-            number: *number,
+            why: *why,
         })?;
     }
     Ok(Finished { trace, refused })
@@ -97,9 +100,9 @@ delivered a 200 news 616263
 delivered a 300 news -
 delivered a 300 blog 0ff0
 delivered b 300 news 616263
-refused a 0 publish 3
-refused a 500 unsubscribe 7
-refused b 400 subscribe 24
+refused a 0 publish 16
+refused a 500 unsubscribe 19
+refused b 400 subscribe 34
 ";
 
 #[test]
@@ -112,8 +115,12 @@ fn refusals_come_after_all_deliveries(rt: HostRuntime) -> Result<(), AllocError>
     let mut second = Trace::new(alloc);
     second.push(entry(alloc, 300, &[("news", b"abc")])?)?;
     let finished = [
-        refusing(alloc, first, &[(0, 2, 3), (500, 1, 7)])?,
-        refusing(alloc, second, &[(400, 0, 24)])?,
+        refusing(
+            alloc,
+            first,
+            &[(0, 2, Refusal::AlreadySeen), (500, 1, Refusal::NotJoined)],
+        )?,
+        refusing(alloc, second, &[(400, 0, Refusal::TooMany)])?,
     ];
     assert!(rt; reports(alloc, &finished, REPORT)?);
     Ok(())
@@ -123,11 +130,15 @@ fn refusals_come_after_all_deliveries(rt: HostRuntime) -> Result<(), AllocError>
 fn what_is_no_peer_or_no_line_has_the_empty_word(rt: HostRuntime) -> Result<(), AllocError> {
     let alloc = rt.alloc();
     let silent = refusing(alloc, Trace::new(alloc), &[])?;
-    let refusing_no_line = refusing(alloc, Trace::new(alloc), &[(1, 3, 0), (2, usize::MAX, 255)])?;
+    let refusing_no_line = refusing(
+        alloc,
+        Trace::new(alloc),
+        &[(1, 3, Refusal::Joined), (2, usize::MAX, Refusal::Stopped)],
+    )?;
     let mut trace = Trace::new(alloc);
     trace.push(entry(alloc, u64::MAX, &[("news", b"1")])?)?;
     let finished = [silent, refusing_no_line, refusing(alloc, trace, &[])?];
-    let report = "delivered  18446744073709551615 news 31\nrefused b 1  0\nrefused b 2  255\n";
+    let report = "delivered  18446744073709551615 news 31\nrefused b 1  18\nrefused b 2  21\n";
     assert!(rt; reports(alloc, &finished, report)?);
     Ok(())
 }
