@@ -10,7 +10,7 @@ pub struct Member {
     /// Who it is.
     pub peer: PeerNo,
     /// Its score, in millionths.
-    pub score: i64,
+    pub score: i128,
     /// Whether this side dialled it.
     pub outbound: bool,
 }

@@ -15,7 +15,7 @@ use Rattle.gs_rules.specs.Peers.{Peer, seen_ttl}
 use Rattle.gs_rules.specs.Tables.{Entries, last_moment, joined, seen}
 use Rattle.gs_rules.specs.Owed.{Debt, nothing, owed, owes, owing, paid, parts}
 use Rattle.gs_params.specs.Picks.{IsAscending}
-use Rattle.gs_rules.specs.Rules.{Rule, Gives, AnyOf, OneOf, bare, message_rule, rule_of}
+use Rattle.gs_rules.specs.Rules.{Rule, Gives, AnyOf, CutOf, OneOf, bare, message_rule, rule_of}
 use Rattle.gs_rules.specs.Modes.{Mode, Follows, free}
 use Rattle.gs_rules.specs.Legal.{Legal, LegalOn, IsAllowed, IsNext, MayOpen, Begins}
 use Rattle.gs_base.specs.Names.{peers_of}
@@ -50,6 +50,7 @@ message_tells p L at q m =
 abbrev TellsOnly : Millis → Event → Rule → Type 0
 TellsOnly at event (Gives x) = Tells at event x
 TellsOnly at event (AnyOf k candidates rule) = (chosen : List PeerNo) → TellsOnly at event (rule chosen)
+TellsOnly at event (CutOf degrees members rule) = (kept : List PeerNo) → TellsOnly at event (rule kept)
 TellsOnly at event (OneOf n rule) = (place : ℕ) → TellsOnly at event (rule place)
 
 rule_tells : (p : Peer) (L : Entries) (at : Millis) (event : Event) → TellsOnly at event (rule_of p L at event)
@@ -59,6 +60,7 @@ rule_tells p L at other = record { moment = refl; tells = refl }
 follows_tells : (at : Millis) (event : Event) (r : Rule) (x : Entry) → TellsOnly at event r → Follows free r tt x tt → Tells at event x
 follows_tells at event (Gives y) x tells follows = record { moment = follows.0.at ∙ tells.moment; tells = follows.0.event ∙ tells.tells }
 follows_tells at event (AnyOf k candidates rule) x tells follows = follows_tells at event (rule follows.0) x (tells follows.0) follows.3
+follows_tells at event (CutOf degrees members rule) x tells follows = follows_tells at event (rule follows.0) x (tells follows.0) follows.3
 follows_tells at event (OneOf n rule) x tells follows = follows_tells at event (rule follows.0) x (tells follows.0) follows.3
 
 -- ---- steps

@@ -215,6 +215,9 @@ fn leaves_its_words(alloc: Global) -> Result<bool, AllocError> {
     let mut router = router(alloc)?;
     let mut words = SeededWords::new(vec![in alloc; 7]?, 1, PeerNo(0));
     let topic = Topic(Bytes::copy_from_slice(alloc, b"a")?);
+    if !is_due(router.trace(), Millis(0)) {
+        return Ok(false);
+    }
     let is_done = router.subscribe(topic, Millis(0), &mut words).is_ok();
     Ok(is_done && words.next_word() == 7)
 }

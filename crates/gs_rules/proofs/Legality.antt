@@ -10,10 +10,13 @@ use Rattle.gs_rules.specs.declared.trace.Entry.{Entry}
 use Rattle.gs_params.specs.Picks.{IsChoice, picked_one}
 use Rattle.gs_rules.specs.Tables.{Entries}
 use Rattle.gs_rules.specs.Peers.{Peer}
-use Rattle.gs_rules.specs.Rules.{Rule, Gives, AnyOf, OneOf, rule_of}
+use Rattle.gs_rules.specs.Rules.{Rule, Gives, AnyOf, CutOf, OneOf, rule_of}
 use Rattle.gs_rules.specs.Modes.{Mode, Follows, SaysTheSame, free, settled, exact}
 use Rattle.gs_rules.specs.Legal.{IsAllowed, LegalOn, Legal}
+use Rattle.gs_params.specs.declared.params.Degrees.{Degrees}
+use Rattle.gs_params.specs.declared.cuts.Member.{Member}
 use Rattle.gs_params.proofs.Picking.{picked_is_choice}
+use Rattle.gs_params.proofs.Cutting.{exact_cut_is_cut, exact_cut_is_one}
 
 pub says_itself : (x : Entry) → SaysTheSame x x
 says_itself x = record { at = refl; event = refl; sends = λ q. refl; delivered = refl; marks = IsPermutation-refl x.marks }
@@ -50,6 +53,7 @@ legal_one m p s t K e allowed = (s, refl, allowed)
 -- what the one way allows the other does, in the states that this says
 pub record Weakens (m n : Mode) (to : m.State → n.State) : Type 0 where
   pub picks : (k : ℕ) (candidates : List PeerNo) (s : m.State) (chosen : List PeerNo) (t : m.State) → m.Picks k candidates s chosen t → n.Picks k candidates (to s) chosen (to t)
+  pub cuts : (degrees : Degrees) (members : List Member) (s : m.State) (kept : List PeerNo) (t : m.State) → m.Cuts degrees members s kept t → n.Cuts degrees members (to s) kept (to t)
   pub one : (k : ℕ) (s : m.State) (place : ℕ) (t : m.State) → m.PicksOne k s place t → n.PicksOne k (to s) place (to t)
   pub meets : (e x : Entry) → m.Meets e x → n.Meets e x
 
@@ -57,6 +61,7 @@ module _ (m n : Mode) (to : m.State → n.State) (weakens : Weakens m n to) wher
   pub follows_weakly : (r : Rule) (s : m.State) (e : Entry) (t : m.State) → Follows m r s e t → Follows n r (to s) e (to t)
   follows_weakly (Gives x) s e t h = (weakens.meets e x h.0, ap to h.1)
   follows_weakly (AnyOf k candidates rule) s e t h = (h.0, to h.1, weakens.picks k candidates s h.0 h.1 h.2, follows_weakly (rule h.0) h.1 e t h.3)
+  follows_weakly (CutOf degrees members rule) s e t h = (h.0, to h.1, weakens.cuts degrees members s h.0 h.1 h.2, follows_weakly (rule h.0) h.1 e t h.3)
   follows_weakly (OneOf k rule) s e t h = (h.0, to h.1, weakens.one k s h.0 h.1 h.2, follows_weakly (rule h.0) h.1 e t h.3)
 
   pub legal_weakly : (p : Peer) (s t : m.State) (K L : Entries) → LegalOn m p s K L t → LegalOn n p (to s) K L (to t)
@@ -70,10 +75,10 @@ same_by e x is = subst (SaysTheSame e) is (says_itself e)
 
 -- where nothing is chosen, no word is drawn
 pub settled_is_exact : {S : Type 0} (word : S → ℕ) (after : S → S) (s : S) → Weakens settled (exact word after) (λ u. s)
-settled_is_exact word after s = record { picks = λ k candidates u chosen v h. absurd h; one = λ k u place v h. absurd h; meets = λ e x h. h }
+settled_is_exact word after s = record { picks = λ k candidates u chosen v h. absurd h; cuts = λ degrees members u kept v h. absurd h; one = λ k u place v h. absurd h; meets = λ e x h. h }
 
 pub settled_is_free : Weakens settled free (λ u. tt)
-settled_is_free = record { picks = λ k candidates u chosen v h. absurd h; one = λ k u place v h. absurd h; meets = same_by }
+settled_is_free = record { picks = λ k candidates u chosen v h. absurd h; cuts = λ degrees members u kept v h. absurd h; one = λ k u place v h. absurd h; meets = same_by }
 
 -- ---- words
 
@@ -90,6 +95,7 @@ module _ {S : Type 0} (word : S → ℕ) (after : S → S) where
   pub exact_is_free : Weakens (exact word after) free (λ u. tt)
   exact_is_free = record {
     picks = λ k candidates s chosen t h. subst (IsChoice k candidates) (sym h.chosen_are) (picked_is_choice word after k candidates s h.ascending);
+    cuts = λ degrees members s kept t h. exact_cut_is_cut word after degrees members s kept t h;
     one = λ k s place t h. subst (λ (j : ℕ). j < k) (sym h.place_is) (picked_below k s h.some);
     meets = same_by;
   }
@@ -101,6 +107,9 @@ module _ {S : Type 0} (word : S → ℕ) (after : S → S) where
   follows_alone (Gives x) s e f t u h k = (h.0 ∙ sym k.0, h.1 ∙ sym k.1)
   follows_alone (AnyOf n candidates rule) s e f t u h k =
       follows_alone (rule h.0) h.1 e f t u h.3 (subst₂ (λ (chosen : List PeerNo) (v : S). Follows (exact word after) (rule chosen) v f u) (k.2.chosen_are ∙ sym h.2.chosen_are) (k.2.words ∙ sym h.2.words) k.3)
+  follows_alone (CutOf degrees members rule) s e f t u h k =
+      let same = exact_cut_is_one word after degrees members s k.0 h.0 k.1 h.1 k.2 h.2 in
+      follows_alone (rule h.0) h.1 e f t u h.3 (subst₂ (λ (kept : List PeerNo) (v : S). Follows (exact word after) (rule kept) v f u) same.0 same.1 k.3)
   follows_alone (OneOf n rule) s e f t u h k =
       follows_alone (rule h.0) h.1 e f t u h.3 (subst₂ (λ (place : ℕ) (v : S). Follows (exact word after) (rule place) v f u) (k.2.place_is ∙ sym h.2.place_is) (k.2.words ∙ sym h.2.words) k.3)
 

@@ -3,15 +3,19 @@ use Rattle.std.specs.Prelude.{◌≡◌, ℕ, ◌<◌, List, [], ◌∷◌, if�
 use Rattle.gs_base.specs.declared.names.PeerNo.{PeerNo}
 use Rattle.gs_base.specs.declared.rpc.Rpc.{Rpc}
 use Rattle.gs_base.specs.Names.{same_peer}
+use Rattle.gs_params.specs.declared.params.Degrees.{Degrees}
+use Rattle.gs_params.specs.declared.cuts.Member.{Member}
+use Rattle.gs_params.specs.Cuts.{IsCut, IsExactCut}
 use Rattle.gs_params.specs.Picks.{IsAscending, IsChoice, picked, picked_words, picked_one, picked_one_words}
 use Rattle.gs_rules.specs.declared.trace.Entry.{Entry}
-use Rattle.gs_rules.specs.Rules.{Rule, Gives, AnyOf, OneOf}
+use Rattle.gs_rules.specs.Rules.{Rule, Gives, AnyOf, CutOf, OneOf}
 
 -- How choices are made: what they are made by, which they are, what they leave behind, and how near an entry must come to what
 -- a rule gives.
 pub record Mode : Type 1 where
   pub State : Type 0
   pub Picks : ℕ → List PeerNo → State → List PeerNo → State → Type 0
+  pub Cuts : Degrees → List Member → State → List PeerNo → State → Type 0
   pub PicksOne : ℕ → State → ℕ → State → Type 0
   pub Meets : Entry → Entry → Type 0
 
@@ -20,6 +24,8 @@ abbrev pub Follows : (m : Mode) → Rule → m.State → Entry → m.State → T
 Follows m (Gives x) s e t = m.Meets e x × (t ≡ s)
 Follows m (AnyOf k candidates rule) s e t =
     (chosen : List PeerNo) × (u : m.State) × m.Picks k candidates s chosen u × Follows m (rule chosen) u e t
+Follows m (CutOf degrees members rule) s e t =
+    (kept : List PeerNo) × (u : m.State) × m.Cuts degrees members s kept u × Follows m (rule kept) u e t
 Follows m (OneOf n rule) s e t =
     (place : ℕ) × (u : m.State) × m.PicksOne n s place u × Follows m (rule place) u e t
 
@@ -43,6 +49,7 @@ abbrev pub free : Mode
 free = record {
   State = Unit {0};
   Picks = λ k candidates s chosen t. IsChoice k candidates chosen;
+  Cuts = λ degrees members s kept t. IsCut degrees members kept;
   PicksOne = λ n s place t. place < n;
   Meets = SaysTheSame;
 }
@@ -52,6 +59,7 @@ abbrev pub settled : Mode
 settled = record {
   State = Unit {0};
   Picks = λ k candidates s chosen t. ⊥;
+  Cuts = λ degrees members s kept t. ⊥;
   PicksOne = λ n s place t. ⊥;
   Meets = λ e x. e ≡ x;
 }
@@ -73,4 +81,10 @@ module _ {S : Type 0} (word : S → ℕ) (after : S → S) where
 
   -- each choice is the one by the next words, and entries are as the rules give them
   abbrev pub exact : Mode
-  exact = record { State = S; Picks = IsPick; PicksOne = IsPickOfOne; Meets = λ e x. e ≡ x }
+  exact = record {
+    State = S;
+    Picks = IsPick;
+    Cuts = IsExactCut word after;
+    PicksOne = IsPickOfOne;
+    Meets = λ e x. e ≡ x;
+  }

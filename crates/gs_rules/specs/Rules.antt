@@ -7,6 +7,8 @@ use Rattle.gs_base.specs.declared.names.Millis.{Millis}
 use Rattle.gs_base.specs.declared.rpc.Message.{Message}
 use Rattle.gs_base.specs.declared.rpc.Rpc.{Rpc}
 use Rattle.gs_base.specs.Names.{topic_of, payload_of, message_id, is_signed, announcement, publication}
+use Rattle.gs_params.specs.declared.params.Degrees.{Degrees}
+use Rattle.gs_params.specs.declared.cuts.Member.{Member}
 use Rattle.gs_rules.specs.declared.trace.Verdict.TheVariants.{Accept}
 use Rattle.gs_rules.specs.declared.trace.Mark.TheVariants.{Seen, Invalid}
 use Rattle.gs_rules.specs.declared.trace.Event.{Event}
@@ -23,6 +25,8 @@ pub data Rule : Type 0 where
   Gives : Entry → Rule
   -- any so many of these peers, or all where there are fewer
   AnyOf : ℕ → List PeerNo → (List PeerNo → Rule) → Rule
+  -- who is kept of a mesh that has too many members: so many, the best by score among them, equal scores as it likes
+  CutOf : Degrees → List Member → (List PeerNo → Rule) → Rule
   -- one of so many places
   OneOf : ℕ → (ℕ → Rule) → Rule
 

@@ -72,7 +72,7 @@ fn entry(alloc: Global, at: u64, payloads: &[(&str, &[u8])]) -> Result<Entry, Al
     })
 }
 
-/// A peer that refused these lines, each with its moment, its place and why.
+/// A peer that refused these lines, each with its moment, its place and its reason.
 fn refusing(
     alloc: Global,
     trace: Trace,
@@ -130,15 +130,12 @@ fn refusals_come_after_all_deliveries(rt: HostRuntime) -> Result<(), AllocError>
 fn what_is_no_peer_or_no_line_has_the_empty_word(rt: HostRuntime) -> Result<(), AllocError> {
     let alloc = rt.alloc();
     let silent = refusing(alloc, Trace::new(alloc), &[])?;
-    let refusing_no_line = refusing(
-        alloc,
-        Trace::new(alloc),
-        &[(1, 3, Refusal::Joined), (2, usize::MAX, Refusal::Stopped)],
-    )?;
+    let no_lines = [(1, 3, Refusal::TooLong), (2, usize::MAX, Refusal::Stopped)];
+    let refusing_no_line = refusing(alloc, Trace::new(alloc), &no_lines)?;
     let mut trace = Trace::new(alloc);
     trace.push(entry(alloc, u64::MAX, &[("news", b"1")])?)?;
     let finished = [silent, refusing_no_line, refusing(alloc, trace, &[])?];
-    let report = "delivered  18446744073709551615 news 31\nrefused b 1  18\nrefused b 2  21\n";
+    let report = "delivered  18446744073709551615 news 31\nrefused b 1  17\nrefused b 2  21\n";
     assert!(rt; reports(alloc, &finished, report)?);
     Ok(())
 }
