@@ -33,7 +33,8 @@ payload_text (byte ∷ bytes) = encode_lower (byte ∷ bytes)
 -- `delivered PEER MOMENT TOPIC PAYLOAD`
 abbrev pub delivered_line : List ℕ → Millis → Topic × List ℕ → List ℕ
 delivered_line name at x =
-    codes "delivered " ++ name ++ codes " " ++ decimal at.0 ++ codes " " ++ x.0.0 ++ codes " " ++ payload_text x.1 ++ codes "\n"
+    codes "delivered " ++ name ++ codes " " ++ decimal at.0 ++ codes " " ++ x.0.0
+    ++ codes " " ++ payload_text x.1 ++ codes "\n"
 
 -- a line for each delivery of an entry
 abbrev pub entry_lines : List ℕ → Entry → List ℕ
@@ -42,8 +43,8 @@ entry_lines name e = flat_map (delivered_line name e.at) e.delivered
 -- `refused PEER MOMENT WHAT NUMBER`
 abbrev pub refused_line : Plan → List ℕ → RefusedLine → List ℕ
 refused_line plan name r =
-    codes "refused " ++ name ++ codes " " ++ decimal r.at.0 ++ codes " " ++ word_of plan r.line ++ codes " "
-    ++ decimal (number_of r.why) ++ codes "\n"
+    codes "refused " ++ name ++ codes " " ++ decimal r.at.0 ++ codes " " ++ word_of plan r.line
+    ++ codes " " ++ decimal (number_of r.why) ++ codes "\n"
 
 -- ---- a peer with its number
 

@@ -10,8 +10,8 @@ ghost use Rattle.gossip_sim.specs.Streams.{AppendsFront};
 use crate::report::report_text;
 use crate::streams::{LONGEST_INPUT, ReadFault, read_input, write_text};
 use gs_base::Text;
-use gs_params::Plan;
 use gs_net::{Finished, run_peers};
+use gs_params::Plan;
 use gs_scenario::{ScenarioFault, read_plan};
 use std::alloc::{AllocError, Global};
 use std::io::{Read, Write};
@@ -54,7 +54,8 @@ pub fn run<R: Read, W: Write, E: Write>(
     output: &mut W,
     errors: &mut E,
 ) -> ExitStatus
-    ensures { EndsAs result (R.remaining input.old) (W.contents output.old) (W.contents output.new) (E.contents errors.old) (E.contents errors.new) }
+    ensures { EndsAs result (R.remaining input.old)
+        (W.contents output.old) (W.contents output.new) (E.contents errors.old) (E.contents errors.new) }
 {
     let plan = match plan_in(alloc, input) {
         Ok(plan) => plan,
@@ -91,7 +92,9 @@ enum NoPlan {
 fn plan_in<R: Read>(alloc: Global, input: &mut R) -> Result<Plan, NoPlan>
     ensures found { IfOk result (λ plan. IsScenario (R.remaining input.old) plan) }
     ensures in_range { IfOk result (λ plan. IsInRange plan) }
-    ensures refused { IfErr result (λ why. (fault : ScenarioFault) → why ≡ NoPlan.Refused fault → IfSome (R.remaining input.old) (λ bytes. IsRefusal bytes fault)) }
+    ensures refused { IfErr result (λ why. (fault : ScenarioFault)
+        → why ≡ NoPlan.Refused fault
+        → IfSome (R.remaining input.old) (λ bytes. IsRefusal bytes fault)) }
 {
     match read_input(alloc, input) {
         Ok(text) => match plan_from(alloc, &text) {
@@ -130,7 +133,9 @@ fn input_too_long(alloc: Global) -> ScenarioFault
 /// The report of a run of the plan.
 fn report_of(alloc: Global, plan: &Plan) -> Result<Vec<u8>, AllocError>
     requires { IsInRange plan.now }
-    ensures { IfOk result (λ text. (finished : List Finished) × IsRun plan.now finished × (text.items ≡ report_text plan.now finished)) }
+    ensures { IfOk result (λ text. (finished : List Finished)
+        × IsRun plan.now finished
+        × (text.items ≡ report_text plan.now finished)) }
 {
     let finished = run_peers(alloc, plan)?;
     report_text(alloc, plan, &finished)

@@ -5,9 +5,9 @@ ghost use Rattle.gossip_sim.specs.Report.{delivered_line, delivered_lines, entry
 
 use bytes::Bytes;
 use gs_base::{Millis, Topic};
+use gs_net::Finished;
 use gs_params::Plan;
 use gs_rules::{Entry, RefusedLine};
-use gs_net::Finished;
 use gs_scenario::what_word;
 use std::alloc::{AllocError, Global};
 
@@ -33,7 +33,8 @@ fn push_delivered(
     plan: &Plan,
     finished: &[Finished],
 ) -> Result<(), AllocError>
-    ensures { OnOk result (text.new.items ≡ text.old.items ++ flat_map (delivered_lines plan.now) (numbered finished.now)) }
+    ensures { OnOk result (text.new.items
+        ≡ text.old.items ++ flat_map (delivered_lines plan.now) (numbered finished.now)) }
 {
     for (number, peer) in finished.iter().enumerate() {
         push_entries(alloc, text, name_of(plan, number), peer.trace.entries())?;
@@ -100,7 +101,8 @@ fn push_refused(
     plan: &Plan,
     finished: &[Finished],
 ) -> Result<(), AllocError>
-    ensures { OnOk result (text.new.items ≡ text.old.items ++ flat_map (refused_lines plan.now) (numbered finished.now)) }
+    ensures { OnOk result (text.new.items
+        ≡ text.old.items ++ flat_map (refused_lines plan.now) (numbered finished.now)) }
 {
     for (number, peer) in finished.iter().enumerate() {
         push_refusals(

@@ -46,7 +46,8 @@ pub fn read_input<R: Read>(alloc: Global, input: &mut R) -> Result<Vec<u8>, Read
     ensures whole { IfOk result (λ text. IfSome (R.remaining input.old) (λ given. text.items ≡ given)) }
     ensures at_end { OnOk result (IsAtEnd (R.remaining input.new)) }
     ensures short { IfOk result (λ text. length text.items ≤ LONGEST_INPUT) }
-    ensures too_long { IsErrOf result ReadFault.TooLong → IfSome (R.remaining input.old) (λ given. LONGEST_INPUT < length given) }
+    ensures too_long { IsErrOf result ReadFault.TooLong
+        → IfSome (R.remaining input.old) (λ given. LONGEST_INPUT < length given) }
     ensures front { (front : List ℕ) × Consumes (R.remaining input.old) (R.remaining input.new) front }
 {
     read_within(alloc, input, LONGEST_INPUT, MOST_READS)
@@ -65,7 +66,8 @@ pub fn read_within<R: Read>(
     ensures whole { IfOk result (λ text. IfSome (R.remaining input.old) (λ given. text.items ≡ given)) }
     ensures at_end { OnOk result (IsAtEnd (R.remaining input.new)) }
     ensures short { IfOk result (λ text. length text.items ≤ longest) }
-    ensures too_long { IsErrOf result ReadFault.TooLong → IfSome (R.remaining input.old) (λ given. longest < length given) }
+    ensures too_long { IsErrOf result ReadFault.TooLong
+        → IfSome (R.remaining input.old) (λ given. longest < length given) }
     ensures front { (front : List ℕ) × Consumes (R.remaining input.old) (R.remaining input.new) front }
 {
     let mut text = Vec::new(alloc);

@@ -5,7 +5,7 @@ ghost use Rattle.gs_params.specs.Plans.{IsInRange};
 use crate::{Finished, run_peers};
 use bytes::Bytes;
 use gs_base::{Millis, PeerNo, Seq, Text, Topic};
-use gs_params::{Dial, Line, Params, PlannedPeer, Plan, What};
+use gs_params::{Dial, Line, Params, Plan, PlannedPeer, What};
 use gs_rules::{Refusal, RefusedLine};
 use std::alloc::{AllocError, Global};
 

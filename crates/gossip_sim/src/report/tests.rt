@@ -1,6 +1,9 @@
 use super::*;
 use gs_base::{PeerNo, Seq, Text};
-use gs_params::{DEFAULT_DEGREES, DEFAULT_FACTORS, DEFAULT_FLOOD_PUBLISH, DEFAULT_THRESHOLDS, DEFAULT_WINDOWS, Line, Params, PlannedPeer, What};
+use gs_params::{
+    DEFAULT_DEGREES, DEFAULT_FACTORS, DEFAULT_FLOOD_PUBLISH, DEFAULT_THRESHOLDS, DEFAULT_WINDOWS,
+    Line, Params, PlannedPeer, What,
+};
 use gs_rules::{Event, Refusal, Trace};
 
 fn bytes(alloc: Global, text: &[u8]) -> Result<Bytes, AllocError> {
@@ -112,7 +115,11 @@ fn refusals_come_after_all_deliveries(rt: HostRuntime) -> Result<(), AllocError>
     let mut second = Trace::new(alloc);
     second.push(entry(alloc, 300, &[("news", b"abc")])?)?;
     let finished = [
-        refusing(alloc, first, &[(0, 2, Refusal::AlreadySeen), (500, 1, Refusal::NotJoined)])?,
+        refusing(
+            alloc,
+            first,
+            &[(0, 2, Refusal::AlreadySeen), (500, 1, Refusal::NotJoined)],
+        )?,
         refusing(alloc, second, &[(400, 0, Refusal::TooMany)])?,
     ];
     assert!(rt; reports(alloc, &finished, REPORT)?);

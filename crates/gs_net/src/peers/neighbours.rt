@@ -12,11 +12,7 @@ use std::alloc::{AllocError, Global};
 ///
 /// # Errors
 /// `AllocError` where there was no memory for it.
-pub fn neighbours_of(
-    alloc: Global,
-    plan: &Plan,
-    peer: PeerNo,
-) -> Result<Vec<Neighbour>, AllocError>
+pub fn neighbours_of(alloc: Global, plan: &Plan, peer: PeerNo) -> Result<Vec<Neighbour>, AllocError>
     requires { length plan.now.peers ≤ MOST_PEERS }
     ensures { IfOk result (λ found. found.items ≡ neighbours_in plan.now peer) }
 {
@@ -79,7 +75,12 @@ fn address_of(alloc: Global, plan: &Plan, peer: PeerNo) -> Result<Bytes, AllocEr
 fn app_of(plan: &Plan, peer: PeerNo, about: PeerNo) -> i64
     ensures { result ≡ app_of plan.now peer about }
 {
-    match plan.apps.as_slice().iter().find(|app| is_about(peer, about, app)) {
+    match plan
+        .apps
+        .as_slice()
+        .iter()
+        .find(|app| is_about(peer, about, app))
+    {
         Some(app) => app.value,
         None => 0,
     }

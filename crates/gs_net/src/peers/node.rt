@@ -299,7 +299,7 @@ fn tell(
     requires { IsRunning now router.old }
     ensures { IfOk result (λ told.
         Calls (exact seeded_word seeded_after) (Some (event_of what.now)) now
-            router.old words.old told router.new words.new) }
+        router.old words.old told router.new words.new) }
 {
     Ok(match what {
         What::Subscribe(topic) => router.subscribe(clone_of(topic)?, now, words),

@@ -22,11 +22,7 @@ impl Reading {
     ///
     /// # Errors
     /// `AllocError` where there was no memory for it.
-    pub fn of(
-        alloc: Global,
-        reader: &mut FrameReader,
-        piece: &[u8],
-    ) -> Result<Reading, AllocError>
+    pub fn of(alloc: Global, reader: &mut FrameReader, piece: &[u8]) -> Result<Reading, AllocError>
         requires { reader.old.limit ≡ MAX_BODY }
         ensures found { IfOk result (λ reading. (x : Inbound)
             × Reads reader.old piece.now reader.new x
