@@ -4,3 +4,4 @@ pub mod Deliveries
 pub mod Handled
 pub mod Fitting
 pub mod Spelled
+pub mod Examples
