@@ -1,7 +1,6 @@
 -- How a run of the program ends, and what it has then written.
 use Rattle.std.specs.Prelude.{◌≡◌, ◌≤◌, ◌<◌, ◌++◌, ℕ, List, length, codes, Option, IfSome, Ok, Err, IsUtf8, ◌⊎◌}
 use Rattle.std.specs.Io.KnownBytes.{Appends, Keeps}
-use Rattle.gossip_sim.specs.declared.streams.TheConstants.{LONGEST_INPUT}
 use Rattle.gs_scenario.specs.declared.fault.ScenarioFault.{ScenarioFault}
 use Rattle.gs_scenario.specs.declared.fault.ScenarioFault.TheVariants.{Toml, Range, NoMemory}
 use Rattle.gs_params.specs.declared.plan.Plan.{Plan}
@@ -12,22 +11,22 @@ use Rattle.gs_scenario.specs.PlanOf.{plan_of}
 use Rattle.gs_scenario.specs.Refusal.{refusal_text}
 use Rattle.gossip_sim.specs.Report.{report_text}
 use Rattle.gs_net.specs.Rounds.{IsRun}
-use Rattle.gossip_sim.specs.Streams.{AppendsFront}
+use Rattle.gossip_sim.specs.Streams.{AppendsFront, longest_input}
 
 -- The plan is what the whole input describes. Where the input's bytes are not known, some text does.
 pub record IsScenario (input : Option (List ℕ)) (plan : Plan) : Type 0 where
   pub text : List ℕ
   pub whole : IfSome input (λ bytes. text ≡ bytes)
-  pub short : length text ≤ LONGEST_INPUT
+  pub short : length text ≤ longest_input
   pub readable : IsUtf8 text
   pub described : plan_of text ≡ Ok plan
 
 -- Why bytes are refused: they are too many, whatever they are; they are no text; the text describes
 -- no plan; or there was no memory to find out.
 pub data IsRefusal (bytes : List ℕ) (fault : ScenarioFault) : Type 0 where
-  too_long : LONGEST_INPUT < length bytes → fault ≡ Range (codes "input") → IsRefusal bytes fault
-  no_text : length bytes ≤ LONGEST_INPUT → ¬ (IsUtf8 bytes) → fault ≡ Toml → IsRefusal bytes fault
-  no_plan : length bytes ≤ LONGEST_INPUT → IsUtf8 bytes → plan_of bytes ≡ Err fault → IsRefusal bytes fault
+  too_long : longest_input < length bytes → fault ≡ Range (codes "input") → IsRefusal bytes fault
+  no_text : length bytes ≤ longest_input → ¬ (IsUtf8 bytes) → fault ≡ Toml → IsRefusal bytes fault
+  no_plan : length bytes ≤ longest_input → IsUtf8 bytes → plan_of bytes ≡ Err fault → IsRefusal bytes fault
   no_memory : fault ≡ NoMemory → IsRefusal bytes fault
 
 abbrev pub refusal_line : ScenarioFault → List ℕ

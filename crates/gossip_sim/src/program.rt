@@ -5,10 +5,10 @@ ghost use Rattle.gossip_sim.specs.Program.{EndsAs, IsRefusal, IsScenario, TellsR
 ghost use Rattle.gs_params.specs.Plans.{IsInRange};
 ghost use Rattle.gossip_sim.specs.Report.{report_text};
 ghost use Rattle.gs_net.specs.Rounds.{IsRun};
-ghost use Rattle.gossip_sim.specs.Streams.{AppendsFront};
+ghost use Rattle.gossip_sim.specs.Streams.{AppendsFront, longest_input};
 
 use crate::report::report_text;
-use crate::streams::{LONGEST_INPUT, ReadFault, read_input, write_text};
+use crate::streams::{ReadFault, read_input, write_text};
 use gs_base::Text;
 use gs_net::{Finished, run_peers};
 use gs_params::Plan;
@@ -109,7 +109,7 @@ fn plan_in<R: Read>(alloc: Global, input: &mut R) -> Result<Plan, NoPlan>
 
 /// The plan that the bytes of a text describe.
 fn plan_from(alloc: Global, bytes: &[u8]) -> Result<Plan, ScenarioFault>
-    requires { length bytes.now ≤ LONGEST_INPUT }
+    requires { length bytes.now ≤ longest_input }
     ensures found { IfOk result (λ plan. IsScenario (Some bytes.now) plan) }
     ensures in_range { IfOk result (λ plan. IsInRange plan) }
     ensures refused { IfErr result (IsRefusal bytes.now) }

@@ -1,7 +1,7 @@
 //! Reading all of an input, and writing all of a text.
 ghost use Rattle.std.specs.Prelude.{◌≡◌, ◌≤◌, ◌<◌, length, IfOk, IfSome, IsErrOf, List, OnErr, OnOk, ℕ};
 ghost use Rattle.std.specs.Io.KnownBytes.{Appends, Consumes, IsAtEnd};
-ghost use Rattle.gossip_sim.specs.Streams.{AppendsFront};
+ghost use Rattle.gossip_sim.specs.Streams.{AppendsFront, longest_input};
 ghost use Rattle.gossip_sim.specs.declared.streams.ReadFault.TheVariants.{NoMemory};
 
 use std::alloc::{AllocError, Global};
@@ -45,9 +45,9 @@ pub struct WriteFailed;
 pub fn read_input<R: Read>(alloc: Global, input: &mut R) -> Result<Vec<u8>, ReadFault>
     ensures whole { IfOk result (λ text. IfSome (R.remaining input.old) (λ given. text.items ≡ given)) }
     ensures at_end { OnOk result (IsAtEnd (R.remaining input.new)) }
-    ensures short { IfOk result (λ text. length text.items ≤ LONGEST_INPUT) }
+    ensures short { IfOk result (λ text. length text.items ≤ longest_input) }
     ensures too_long { IsErrOf result ReadFault.TooLong
-        → IfSome (R.remaining input.old) (λ given. LONGEST_INPUT < length given) }
+        → IfSome (R.remaining input.old) (λ given. longest_input < length given) }
     ensures front { (front : List ℕ) × Consumes (R.remaining input.old) (R.remaining input.new) front }
 {
     read_within(alloc, input, LONGEST_INPUT, MOST_READS)

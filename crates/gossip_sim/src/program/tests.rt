@@ -1,4 +1,5 @@
 use super::*;
+use crate::streams::LONGEST_INPUT;
 use crate::streams::tests::{Broken, Narrow};
 
 const SCENARIO: &str = r#"
