@@ -1,5 +1,5 @@
 -- The ranges of parameters, and which is refused first.
-use Rattle.std.specs.Prelude.{◌≤◌, ◌<◌, ◌+◌, ◌*◌, ◌&&◌, ◌≤ℤ◌, ◌<ℤ◌, ℕ, nat_le, nat_lt, Bool, not, [], Result, Ok, Err, if◌then◌else◌, ℤ, pos, neg_ℤ, int_le, int_lt}
+use Rattle.std.specs.Prelude.{◌≤◌, ◌<◌, ◌+◌, ◌*◌, ◌&&◌, ◌≤ℤ◌, ◌<ℤ◌, ℕ, nat_le, nat_lt, Bool, true, not, [], Result, Ok, Err, if◌then◌else◌, ℤ, pos, neg_ℤ, int_le, int_lt}
 use Rattle.std.specs.List.{All, list_all}
 use Rattle.gs_base.specs.declared.names.Topic.{Topic}
 use Rattle.gs_params.specs.declared.params.Degrees.{Degrees}
@@ -12,31 +12,116 @@ use Rattle.gs_params.specs.declared.topic_params.TopicWindows.{TopicWindows}
 use Rattle.gs_params.specs.declared.topic_params.TopicParams.{TopicParams}
 use Rattle.gs_params.specs.declared.param_fault.ParamFault.{ParamFault}
 use Rattle.gs_params.specs.declared.param_fault.ParamFault.TheVariants as faults
-use Rattle.gs_params.specs.declared.params.TheConstants.{DEFAULT_DEGREES, DEFAULT_THRESHOLDS, DEFAULT_FACTORS, DEFAULT_WINDOWS, DEFAULT_FLOOD_PUBLISH}
-use Rattle.gs_params.specs.declared.ranges.TheConstants.{LONGEST_TIME, LONGEST_BACKOFF, HEAVIEST, HIGHEST_CAP}
-use Rattle.gs_params.specs.declared.topic_params.TheConstants.{DEFAULT_TOPIC_FACTORS, DEFAULT_TOPIC_WINDOWS}
 
 -- ---- where nothing else is said
 
+-- in neighbours
+abbrev pub default_degrees : Degrees
+default_degrees = record { d = 6; d_low = 4; d_high = 12; d_score = 4; d_out = 2; d_lazy = 6 }
+
+-- in millionths
+abbrev pub default_thresholds : Thresholds
+default_thresholds = record {
+  gossip_threshold = neg_ℤ (pos 10_000_000);
+  publish_threshold = neg_ℤ (pos 50_000_000);
+  graylist_threshold = neg_ℤ (pos 80_000_000);
+  opportunistic_threshold = pos 1_000_000;
+}
+
+-- in millionths, and whole neighbours at one address
+abbrev pub default_factors : Factors
+default_factors = record {
+  gossip_factor = 250_000;
+  p7_decay = pos 900_000;
+  w5 = pos 1_000_000;
+  w6 = neg_ℤ (pos 5_000_000);
+  w7 = neg_ℤ (pos 10_000_000);
+  topic_cap = pos 0;
+  decay_to_zero = pos 10_000;
+  p6_threshold = 1;
+}
+
+-- in milliseconds, backoffs in seconds, and numbers of heartbeats, neighbours and messages
+abbrev pub default_windows : Windows
+default_windows = record {
+  heartbeat_ms = 1_000;
+  decay_ms = 1_000;
+  fanout_ttl_ms = 60_000;
+  seen_ttl_ms = 120_000;
+  iwant_followup_ms = 3_000;
+  prune_backoff_s = 60;
+  unsubscribe_backoff_s = 10;
+  mcache_len = 5;
+  mcache_gossip = 3;
+  opportunistic_ticks = 60;
+  opportunistic_peers = 2;
+  max_ihave = 10;
+  max_ihave_ids = 5_000;
+  gossip_retransmission = 3;
+}
+
+-- an own message goes to all that are on its topic
+abbrev pub default_flood_publish : Bool
+default_flood_publish = true
+
 abbrev pub default_params : Params
 default_params = record {
-  degrees = DEFAULT_DEGREES;
-  thresholds = DEFAULT_THRESHOLDS;
-  factors = DEFAULT_FACTORS;
-  windows = DEFAULT_WINDOWS;
-  flood_publish = DEFAULT_FLOOD_PUBLISH;
+  degrees = default_degrees;
+  thresholds = default_thresholds;
+  factors = default_factors;
+  windows = default_windows;
+  flood_publish = default_flood_publish;
   topics = [];
 }
 
+-- in millionths
+abbrev pub default_topic_factors : TopicFactors
+default_topic_factors = record {
+  topic_weight = pos 1_000_000;
+  w1 = pos 0;
+  w2 = pos 0;
+  w3 = pos 0;
+  w3b = pos 0;
+  w4 = pos 0;
+  p2_decay = pos 500_000;
+  p3_decay = pos 500_000;
+  p3b_decay = pos 500_000;
+  p4_decay = pos 500_000;
+  p1_cap = pos 100_000_000;
+  p2_cap = pos 100_000_000;
+  p3_cap = pos 100_000_000;
+  p3_threshold = pos 0;
+}
+
+-- in milliseconds
+abbrev pub default_topic_windows : TopicWindows
+default_topic_windows = record { p1_quantum_ms = 1_000; p3_window_ms = 10; p3_activation_ms = 5_000 }
+
 abbrev pub default_topic_params : TopicParams
 default_topic_params = record {
-  factors = DEFAULT_TOPIC_FACTORS;
-  windows = DEFAULT_TOPIC_WINDOWS;
+  factors = default_topic_factors;
+  windows = default_topic_windows;
   reject = [];
   ignore = [];
 }
 
 -- ---- numbers
+
+-- the longest time, in milliseconds
+abbrev pub longest_time : ℕ
+longest_time = 1_000_000_000
+
+-- the longest backoff, in seconds: a day
+abbrev pub longest_backoff : ℕ
+longest_backoff = 86_400
+
+-- the heaviest weight, in millionths: what counts against a neighbour weighs as much below 0
+abbrev pub heaviest : ℤ
+heaviest = pos 1_000_000_000
+
+-- the highest cap, in millionths
+abbrev pub highest_cap : ℤ
+highest_cap = pos 1_000_000_000_000
 
 abbrev pub in_range : ℕ → ℕ → ℕ → Bool
 in_range low high n = nat_le low n && nat_le n high
@@ -46,22 +131,22 @@ int_in_range low high z = int_le low z && int_le z high
 
 -- a weight of what is good, of what is bad, a factor, a cap
 abbrev pub is_reward : ℤ → Bool
-is_reward = int_in_range (pos 0) HEAVIEST
+is_reward = int_in_range (pos 0) heaviest
 
 abbrev pub is_penalty : ℤ → Bool
-is_penalty = int_in_range (neg_ℤ HEAVIEST) (pos 0)
+is_penalty = int_in_range (neg_ℤ heaviest) (pos 0)
 
 abbrev pub is_fraction : ℤ → Bool
 is_fraction = int_in_range (pos 0) (pos 1_000_000)
 
 abbrev pub is_cap : ℤ → Bool
-is_cap = int_in_range (pos 0) HIGHEST_CAP
+is_cap = int_in_range (pos 0) highest_cap
 
 abbrev pub is_time : ℕ → Bool
-is_time = in_range 1 LONGEST_TIME
+is_time = in_range 1 longest_time
 
 abbrev pub is_backoff : ℕ → Bool
-is_backoff = in_range 1 LONGEST_BACKOFF
+is_backoff = in_range 1 longest_backoff
 
 -- ---- the four checks
 
@@ -134,8 +219,8 @@ windows_hold x = times_hold x && budgets_hold x
 abbrev pub topic_windows_hold : TopicWindows → Bool
 topic_windows_hold x =
     is_time x.p1_quantum_ms
-    && in_range 0 LONGEST_TIME x.p3_window_ms
-    && in_range 0 LONGEST_TIME x.p3_activation_ms
+    && in_range 0 longest_time x.p3_window_ms
+    && in_range 0 longest_time x.p3_activation_ms
 
 -- and of all topics
 abbrev pub all_factors_hold : Params → Bool
@@ -162,16 +247,16 @@ number_of faults.Window = 4
 -- ---- what parameters that were checked are known to be
 
 abbrev pub IsReward : ℤ → Type 0
-IsReward z = (pos 0 ≤ℤ z) × (z ≤ℤ HEAVIEST)
+IsReward z = (pos 0 ≤ℤ z) × (z ≤ℤ heaviest)
 
 abbrev pub IsPenalty : ℤ → Type 0
-IsPenalty z = (neg_ℤ HEAVIEST ≤ℤ z) × (z ≤ℤ pos 0)
+IsPenalty z = (neg_ℤ heaviest ≤ℤ z) × (z ≤ℤ pos 0)
 
 abbrev pub IsFraction : ℤ → Type 0
 IsFraction z = (pos 0 ≤ℤ z) × (z ≤ℤ pos 1_000_000)
 
 abbrev pub IsCap : ℤ → Type 0
-IsCap z = (pos 0 ≤ℤ z) × (z ≤ℤ HIGHEST_CAP)
+IsCap z = (pos 0 ≤ℤ z) × (z ≤ℤ highest_cap)
 
 pub record DegreesAreInRange (x : Degrees) : Type 0 where
   pub some : 1 ≤ x.d_low
@@ -200,13 +285,13 @@ pub record FactorsAreInRange (x : Factors) : Type 0 where
   pub p6_threshold : (1 ≤ x.p6_threshold) × (x.p6_threshold ≤ 65_535)
 
 pub record WindowsAreInRange (x : Windows) : Type 0 where
-  pub heartbeat : (1 ≤ x.heartbeat_ms) × (x.heartbeat_ms ≤ LONGEST_TIME)
-  pub decay : (1 ≤ x.decay_ms) × (x.decay_ms ≤ LONGEST_TIME)
-  pub fanout_ttl : (1 ≤ x.fanout_ttl_ms) × (x.fanout_ttl_ms ≤ LONGEST_TIME)
-  pub seen_ttl : (1 ≤ x.seen_ttl_ms) × (x.seen_ttl_ms ≤ LONGEST_TIME)
-  pub iwant_followup : (1 ≤ x.iwant_followup_ms) × (x.iwant_followup_ms ≤ LONGEST_TIME)
-  pub prune_backoff : (1 ≤ x.prune_backoff_s) × (x.prune_backoff_s ≤ LONGEST_BACKOFF)
-  pub unsubscribe_backoff : (1 ≤ x.unsubscribe_backoff_s) × (x.unsubscribe_backoff_s ≤ LONGEST_BACKOFF)
+  pub heartbeat : (1 ≤ x.heartbeat_ms) × (x.heartbeat_ms ≤ longest_time)
+  pub decay : (1 ≤ x.decay_ms) × (x.decay_ms ≤ longest_time)
+  pub fanout_ttl : (1 ≤ x.fanout_ttl_ms) × (x.fanout_ttl_ms ≤ longest_time)
+  pub seen_ttl : (1 ≤ x.seen_ttl_ms) × (x.seen_ttl_ms ≤ longest_time)
+  pub iwant_followup : (1 ≤ x.iwant_followup_ms) × (x.iwant_followup_ms ≤ longest_time)
+  pub prune_backoff : (1 ≤ x.prune_backoff_s) × (x.prune_backoff_s ≤ longest_backoff)
+  pub unsubscribe_backoff : (1 ≤ x.unsubscribe_backoff_s) × (x.unsubscribe_backoff_s ≤ longest_backoff)
   pub mcache_gossip : (1 ≤ x.mcache_gossip) × (x.mcache_gossip ≤ x.mcache_len)
   pub mcache_len : x.mcache_len ≤ 64
   pub opportunistic_ticks : (1 ≤ x.opportunistic_ticks) × (x.opportunistic_ticks ≤ 1_000_000)
@@ -232,9 +317,9 @@ pub record TopicFactorsAreInRange (x : TopicFactors) : Type 0 where
   pub p3_threshold : IsCap x.p3_threshold
 
 pub record TopicWindowsAreInRange (x : TopicWindows) : Type 0 where
-  pub p1_quantum : (1 ≤ x.p1_quantum_ms) × (x.p1_quantum_ms ≤ LONGEST_TIME)
-  pub p3_window : x.p3_window_ms ≤ LONGEST_TIME
-  pub p3_activation : x.p3_activation_ms ≤ LONGEST_TIME
+  pub p1_quantum : (1 ≤ x.p1_quantum_ms) × (x.p1_quantum_ms ≤ longest_time)
+  pub p3_window : x.p3_window_ms ≤ longest_time
+  pub p3_activation : x.p3_activation_ms ≤ longest_time
 
 pub record AreInRange (p : Params) : Type 0 where
   pub degrees : DegreesAreInRange p.degrees

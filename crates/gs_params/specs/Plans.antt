@@ -1,20 +1,49 @@
 -- Who is joined in a plan, and what is known of every plan that was read.
-use Rattle.std.specs.Prelude.{◌≡◌, ◌≤◌, ◌&&◌, ◌||◌, Bool, List, length, Ok}
+use Rattle.std.specs.Prelude.{◌≡◌, ◌≤◌, ◌<◌, ◌≤ℤ◌, ◌%◌, ◌^◌, ◌&&◌, ◌||◌, ◌==◌, ℕ, nat_eq, ℤ, pos, neg_ℤ, Bool, true, false, List, length, All, AllPairs, Ok}
 use Rattle.std.specs.List.{list_any}
-use Rattle.gs_base.specs.Names.{same_peer}
-use Rattle.gs_params.specs.Params.{checked}
+use Rattle.std.specs.Cmp.Lexicographic.{pointwise}
+use Rattle.gs_base.specs.Names.{same_peer, same_topic}
 use Rattle.gs_base.specs.declared.names.PeerNo.{PeerNo}
-use Rattle.gs_params.specs.declared.plan.TheConstants.{LONGEST_ROUND, MOST_ROUNDS, MOST_PEERS}
+use Rattle.gs_base.specs.declared.names.Topic.{Topic}
+use Rattle.gs_params.specs.Params.{checked}
+use Rattle.gs_params.specs.declared.topic_params.TopicParams.{TopicParams}
+use Rattle.gs_params.specs.declared.plan.App.{App}
 use Rattle.gs_params.specs.declared.plan.Dial.{Dial}
+use Rattle.gs_params.specs.declared.plan.Line.{Line}
 use Rattle.gs_params.specs.declared.plan.Plan.{Plan}
+use Rattle.gs_params.specs.declared.plan.PlannedPeer.{PlannedPeer}
+use Rattle.gs_params.specs.declared.plan.What.{What}
+use Rattle.gs_params.specs.declared.plan.What.TheVariants.{Subscribe, Unsubscribe, Publish}
 
--- A plan that was read has no longer rounds, no more of them, no more peers, and parameters that
--- passed their checks.
-pub record IsInRange (plan : Plan) : Type 0 where
-  pub rounds : plan.rounds ≤ MOST_ROUNDS
-  pub round_ms : plan.round_ms ≤ LONGEST_ROUND
-  pub peers : length plan.peers ≤ MOST_PEERS
-  pub params : checked plan.params ≡ Ok plan.params
+-- ---- numbers
+
+-- the most milliseconds of a round
+abbrev pub longest_round : ℕ
+longest_round = 60_000
+
+-- the highest number of the last round
+abbrev pub most_rounds : ℕ
+most_rounds = 100_000
+
+abbrev pub most_peers : ℕ
+most_peers = 64
+
+-- the most topics that have parameters
+abbrev pub most_planned_topics : ℕ
+most_planned_topics = 32
+
+abbrev pub most_workers : ℕ
+most_workers = 16
+
+-- the most items that a link holds
+abbrev pub highest_capacity : ℕ
+highest_capacity = 1_024
+
+-- in millionths: the lowest score is as far below 0
+abbrev pub highest_app_score : ℤ
+highest_app_score = pos 1_000_000_000
+
+-- ---- dials
 
 -- a dial joins two peers, whichever of them it is of
 abbrev pub joins : PeerNo → PeerNo → Dial → Bool
@@ -23,3 +52,75 @@ joins p q dial = (same_peer dial.from p && same_peer dial.to q) || (same_peer di
 -- one of two peers dials the other
 abbrev pub are_joined : List Dial → PeerNo → PeerNo → Bool
 are_joined dials p q = list_any (joins p q) dials
+
+-- two dials join the same peers
+abbrev pub join_the_same : Dial → Dial → Bool
+join_the_same x y = joins x.from x.to y
+
+-- ---- what a plan speaks of
+
+-- it is the number of one of these peers
+abbrev pub IsOneOf : List PlannedPeer → PeerNo → Type 0
+IsOneOf peers p = p.0 < length peers
+
+-- two scores are what the same peer thinks of the same neighbour
+abbrev pub are_of_the_same : App → App → Bool
+are_of_the_same x y = (x.peer.0 == y.peer.0) && (x.about.0 == y.about.0)
+
+-- a score in millionths that an application may give
+abbrev pub IsAppScore : ℤ → Type 0
+IsAppScore z = (neg_ℤ highest_app_score ≤ℤ z) × (z ≤ℤ highest_app_score)
+
+-- the topic that something is done on
+abbrev pub topic_of : What → Topic
+topic_of (Subscribe topic) = topic
+topic_of (Unsubscribe topic) = topic
+topic_of (Publish topic payload) = topic
+
+-- two peers have one name
+abbrev pub have_one_name : PlannedPeer → PlannedPeer → Bool
+have_one_name x y = pointwise nat_eq x.name y.name
+
+-- it is one of the topics that have parameters
+abbrev pub has_topic : List (Topic × TopicParams) → Topic → Bool
+has_topic topics topic = list_any (λ (known : Topic × TopicParams). same_topic known.0 topic) topics
+
+-- ---- plans
+
+-- What is known of every plan that was read.
+pub record IsInRange (plan : Plan) : Type 0 where
+  -- how long, how many, and from where random words begin
+  pub some_rounds : 1 ≤ plan.rounds
+  pub rounds : plan.rounds ≤ most_rounds
+  pub some_time : 1 ≤ plan.round_ms
+  pub round_ms : plan.round_ms ≤ longest_round
+  pub some_workers : 1 ≤ plan.workers
+  pub workers : plan.workers ≤ most_workers
+  pub some_capacity : 1 ≤ plan.capacity
+  pub capacity : plan.capacity ≤ highest_capacity
+  pub seed : plan.seed < 2 ^ 63
+  pub some_peers : 1 ≤ length plan.peers
+  pub peers : length plan.peers ≤ most_peers
+  pub some_topics : 1 ≤ length plan.params.topics
+  pub topics : length plan.params.topics ≤ most_planned_topics
+  -- each peer and each topic has a name of its own
+  pub names_differ : AllPairs (λ x y. have_one_name x y ≡ false) plan.peers
+  pub topics_differ : AllPairs (λ (x y : Topic × TopicParams). same_topic x.0 y.0 ≡ false) plan.params.topics
+  -- its parameters passed their checks, and heartbeats and decays take whole rounds
+  pub params : checked plan.params ≡ Ok plan.params
+  pub heartbeat : plan.params.windows.heartbeat_ms % plan.round_ms ≡ 0
+  pub decay : plan.params.windows.decay_ms % plan.round_ms ≡ 0
+  -- a dial joins two peers of the plan, and no other dial joins them
+  pub dials_from : All (λ (dial : Dial). IsOneOf plan.peers dial.from) plan.dials
+  pub dials_to : All (λ (dial : Dial). IsOneOf plan.peers dial.to) plan.dials
+  pub dials_to_others : All (λ (dial : Dial). same_peer dial.from dial.to ≡ false) plan.dials
+  pub dials_differ : AllPairs (λ x y. join_the_same y x ≡ false) plan.dials
+  -- an application speaks of a neighbour of its peer, and once of each
+  pub apps_of : All (λ (app : App). IsOneOf plan.peers app.peer) plan.apps
+  pub apps_about : All (λ (app : App). are_joined plan.dials app.peer app.about ≡ true) plan.apps
+  pub app_values : All (λ (app : App). IsAppScore app.value) plan.apps
+  pub apps_differ : AllPairs (λ x y. are_of_the_same y x ≡ false) plan.apps
+  -- a line of the script is of a peer of the plan, in one of its rounds, on one of its topics
+  pub lines_of : All (λ (line : Line). IsOneOf plan.peers line.peer) plan.script
+  pub lines_at : All (λ (line : Line). line.at ≤ plan.rounds) plan.script
+  pub lines_on : All (λ (line : Line). has_topic plan.params.topics (topic_of line.what) ≡ true) plan.script

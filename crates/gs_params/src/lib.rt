@@ -21,7 +21,7 @@ pub use params::{
 pub use picks::{a_pick_is_the_front_of_a_shuffle, pick, pick_one};
 pub use plan::{
     App, Dial, HIGHEST_APP_SCORE, LONGEST_ROUND, Line, MOST_PEERS, MOST_ROUNDS, Plan, PlannedPeer,
-    What, are_joined,
+    What, are_joined, limits_of_plans,
 };
 pub use seeded_words::{SeededWords, seeded_words_give_their_list_first};
 pub use topic_params::{

@@ -1,6 +1,6 @@
 //! What is simulated.
 ghost use Rattle.std.specs.Prelude.{◌≡◌};
-ghost use Rattle.gs_params.specs.Plans.{are_joined, joins};
+ghost use Rattle.gs_params.specs.Plans.{are_joined, highest_app_score, joins, longest_round, most_peers, most_rounds};
 
 use crate::params::Params;
 use bytes::Bytes;
@@ -105,3 +105,14 @@ fn joins(one: PeerNo, other: PeerNo, dial: &Dial) -> bool
 {
     (dial.from == one && dial.to == other) || (dial.from == other && dial.to == one)
 }
+
+/// The limits of plans are those of the definitions.
+pub fn limits_of_plans()
+    ensures round { LONGEST_ROUND ≡ longest_round }
+    ensures rounds { MOST_ROUNDS ≡ most_rounds }
+    ensures peers { MOST_PEERS ≡ most_peers }
+    ensures score { HIGHEST_APP_SCORE ≡ highest_app_score }
+{}
+
+#[cfg(test)]
+mod tests;

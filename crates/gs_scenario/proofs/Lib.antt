@@ -1,2 +1,4 @@
 pub mod Lists
 pub mod Checked
+pub mod Ranges
+pub mod PlanRanges

@@ -1,14 +1,12 @@
 -- The parameters that a scenario gives, or its first refusal: the keys of each table in their order.
 use Rattle.std.specs.Prelude.{ℕ, ◌++◌, Bool, codes, List, [], ◌∷◌, Result, Ok, Err, ℤ, pos, neg_ℤ}
-use Rattle.gs_params.specs.Params.{checked}
+use Rattle.gs_params.specs.Params.{checked, default_degrees, default_thresholds, default_factors, default_windows, default_flood_publish, default_topic_factors, default_topic_windows}
 use Rattle.gs_base.specs.declared.names.Topic.{Topic}
-use Rattle.gs_params.specs.declared.params.TheConstants.{DEFAULT_DEGREES, DEFAULT_THRESHOLDS, DEFAULT_FACTORS, DEFAULT_WINDOWS, DEFAULT_FLOOD_PUBLISH}
 use Rattle.gs_params.specs.declared.params.Degrees.{Degrees}
 use Rattle.gs_params.specs.declared.params.Thresholds.{Thresholds}
 use Rattle.gs_params.specs.declared.params.Factors.{Factors}
 use Rattle.gs_params.specs.declared.params.Windows.{Windows}
 use Rattle.gs_params.specs.declared.params.Params.{Params}
-use Rattle.gs_params.specs.declared.topic_params.TheConstants.{DEFAULT_TOPIC_FACTORS, DEFAULT_TOPIC_WINDOWS}
 use Rattle.gs_params.specs.declared.topic_params.TopicFactors.{TopicFactors}
 use Rattle.gs_params.specs.declared.topic_params.TopicWindows.{TopicWindows}
 use Rattle.gs_params.specs.declared.topic_params.TopicParams.{TopicParams}
@@ -16,7 +14,6 @@ use Rattle.gs_params.specs.declared.param_fault.ParamFault.{ParamFault}
 use Rattle.gs_scenario.specs.declared.fault.ScenarioFault.{ScenarioFault}
 use Rattle.gs_scenario.specs.declared.fault.ScenarioFault.TheVariants as faults
 use Rattle.gs_scenario.specs.declared.scenario.params.Shared.{Shared}
-use Rattle.gs_scenario.specs.declared.scenario.section.TheConstants.{HIGHEST_NUMBER}
 use Rattle.gs_scenario.specs.declared.scenario.topic_params.TopicWeights.{TopicWeights}
 use Rattle.gs_scenario.specs.declared.scenario.topic_params.TopicCounters.{TopicCounters}
 use Rattle.gs_scenario.specs.Keys.{Key, Section, ◌>>=◌, optional, read_key, only}
@@ -24,17 +21,21 @@ use Rattle.gs_scenario.specs.Kinds.{whole_number, signed_number, truth_value, he
 
 -- ---- kinds of keys
 
+-- the highest number that a parameter may be given: the lowest is as far below 0
+abbrev pub highest_number : ℕ
+highest_number = 1_000_000_000_000
+
 -- a number of things, of milliseconds or of seconds
 abbrev pub count_key : List ℕ → ℕ → Key ℕ
-count_key name default = optional name (whole_number 0 HIGHEST_NUMBER) default
+count_key name default = optional name (whole_number 0 highest_number) default
 
 -- millionths, none of them below zero
 abbrev pub amount_key : List ℕ → ℤ → Key ℤ
-amount_key name default = optional name (signed_number (pos 0) (pos HIGHEST_NUMBER)) default
+amount_key name default = optional name (signed_number (pos 0) (pos highest_number)) default
 
 -- millionths of either sign
 abbrev pub score_key : List ℕ → ℤ → Key ℤ
-score_key name default = optional name (signed_number (neg_ℤ (pos HIGHEST_NUMBER)) (pos HIGHEST_NUMBER)) default
+score_key name default = optional name (signed_number (neg_ℤ (pos highest_number)) (pos highest_number)) default
 
 -- a list of the bytes that hex texts stand for, without which it is empty
 abbrev pub prefixes_key : List ℕ → Key (List (List ℕ))
@@ -43,22 +44,22 @@ prefixes_key name = optional name (list_of_each hex_text) []
 -- ---- degrees
 
 abbrev pub d_key : Key ℕ
-d_key = count_key (codes "d") DEFAULT_DEGREES.d
+d_key = count_key (codes "d") default_degrees.d
 
 abbrev pub d_low_key : Key ℕ
-d_low_key = count_key (codes "d_low") DEFAULT_DEGREES.d_low
+d_low_key = count_key (codes "d_low") default_degrees.d_low
 
 abbrev pub d_high_key : Key ℕ
-d_high_key = count_key (codes "d_high") DEFAULT_DEGREES.d_high
+d_high_key = count_key (codes "d_high") default_degrees.d_high
 
 abbrev pub d_score_key : Key ℕ
-d_score_key = count_key (codes "d_score") DEFAULT_DEGREES.d_score
+d_score_key = count_key (codes "d_score") default_degrees.d_score
 
 abbrev pub d_out_key : Key ℕ
-d_out_key = count_key (codes "d_out") DEFAULT_DEGREES.d_out
+d_out_key = count_key (codes "d_out") default_degrees.d_out
 
 abbrev pub d_lazy_key : Key ℕ
-d_lazy_key = count_key (codes "d_lazy") DEFAULT_DEGREES.d_lazy
+d_lazy_key = count_key (codes "d_lazy") default_degrees.d_lazy
 
 abbrev pub degree_names : List (List ℕ)
 degree_names = d_key.name ∷ d_low_key.name ∷ d_high_key.name ∷ d_score_key.name ∷ d_out_key.name ∷ d_lazy_key.name ∷ []
@@ -76,16 +77,16 @@ degrees_in section = do
 -- ---- thresholds
 
 abbrev pub gossip_threshold_key : Key ℤ
-gossip_threshold_key = score_key (codes "gossip_threshold") DEFAULT_THRESHOLDS.gossip_threshold
+gossip_threshold_key = score_key (codes "gossip_threshold") default_thresholds.gossip_threshold
 
 abbrev pub publish_threshold_key : Key ℤ
-publish_threshold_key = score_key (codes "publish_threshold") DEFAULT_THRESHOLDS.publish_threshold
+publish_threshold_key = score_key (codes "publish_threshold") default_thresholds.publish_threshold
 
 abbrev pub graylist_threshold_key : Key ℤ
-graylist_threshold_key = score_key (codes "graylist_threshold") DEFAULT_THRESHOLDS.graylist_threshold
+graylist_threshold_key = score_key (codes "graylist_threshold") default_thresholds.graylist_threshold
 
 abbrev pub opportunistic_threshold_key : Key ℤ
-opportunistic_threshold_key = amount_key (codes "opportunistic_threshold") DEFAULT_THRESHOLDS.opportunistic_threshold
+opportunistic_threshold_key = amount_key (codes "opportunistic_threshold") default_thresholds.opportunistic_threshold
 
 abbrev pub threshold_names : List (List ℕ)
 threshold_names = gossip_threshold_key.name ∷ publish_threshold_key.name ∷ graylist_threshold_key.name ∷ opportunistic_threshold_key.name ∷ []
@@ -101,28 +102,28 @@ thresholds_in section = do
 -- ---- factors
 
 abbrev pub gossip_factor_key : Key ℕ
-gossip_factor_key = count_key (codes "gossip_factor") DEFAULT_FACTORS.gossip_factor
+gossip_factor_key = count_key (codes "gossip_factor") default_factors.gossip_factor
 
 abbrev pub p7_decay_key : Key ℤ
-p7_decay_key = amount_key (codes "p7_decay") DEFAULT_FACTORS.p7_decay
+p7_decay_key = amount_key (codes "p7_decay") default_factors.p7_decay
 
 abbrev pub w5_key : Key ℤ
-w5_key = amount_key (codes "w5") DEFAULT_FACTORS.w5
+w5_key = amount_key (codes "w5") default_factors.w5
 
 abbrev pub w6_key : Key ℤ
-w6_key = score_key (codes "w6") DEFAULT_FACTORS.w6
+w6_key = score_key (codes "w6") default_factors.w6
 
 abbrev pub w7_key : Key ℤ
-w7_key = score_key (codes "w7") DEFAULT_FACTORS.w7
+w7_key = score_key (codes "w7") default_factors.w7
 
 abbrev pub topic_cap_key : Key ℤ
-topic_cap_key = amount_key (codes "topic_cap") DEFAULT_FACTORS.topic_cap
+topic_cap_key = amount_key (codes "topic_cap") default_factors.topic_cap
 
 abbrev pub decay_to_zero_key : Key ℤ
-decay_to_zero_key = amount_key (codes "decay_to_zero") DEFAULT_FACTORS.decay_to_zero
+decay_to_zero_key = amount_key (codes "decay_to_zero") default_factors.decay_to_zero
 
 abbrev pub p6_threshold_key : Key ℕ
-p6_threshold_key = count_key (codes "p6_threshold") DEFAULT_FACTORS.p6_threshold
+p6_threshold_key = count_key (codes "p6_threshold") default_factors.p6_threshold
 
 abbrev pub factor_names : List (List ℕ)
 factor_names = gossip_factor_key.name ∷ p7_decay_key.name ∷ w5_key.name ∷ w6_key.name ∷ w7_key.name ∷ topic_cap_key.name ∷ decay_to_zero_key.name ∷ p6_threshold_key.name ∷ []
@@ -142,46 +143,46 @@ factors_in section = do
 -- ---- windows, of which two are whole rounds
 
 abbrev pub heartbeat_ms_key : ℕ → Key ℕ
-heartbeat_ms_key round_ms = multiple_of round_ms (count_key (codes "heartbeat_ms") DEFAULT_WINDOWS.heartbeat_ms)
+heartbeat_ms_key round_ms = multiple_of round_ms (count_key (codes "heartbeat_ms") default_windows.heartbeat_ms)
 
 abbrev pub decay_ms_key : ℕ → Key ℕ
-decay_ms_key round_ms = multiple_of round_ms (count_key (codes "decay_ms") DEFAULT_WINDOWS.decay_ms)
+decay_ms_key round_ms = multiple_of round_ms (count_key (codes "decay_ms") default_windows.decay_ms)
 
 abbrev pub fanout_ttl_ms_key : Key ℕ
-fanout_ttl_ms_key = count_key (codes "fanout_ttl_ms") DEFAULT_WINDOWS.fanout_ttl_ms
+fanout_ttl_ms_key = count_key (codes "fanout_ttl_ms") default_windows.fanout_ttl_ms
 
 abbrev pub seen_ttl_ms_key : Key ℕ
-seen_ttl_ms_key = count_key (codes "seen_ttl_ms") DEFAULT_WINDOWS.seen_ttl_ms
+seen_ttl_ms_key = count_key (codes "seen_ttl_ms") default_windows.seen_ttl_ms
 
 abbrev pub iwant_followup_ms_key : Key ℕ
-iwant_followup_ms_key = count_key (codes "iwant_followup_ms") DEFAULT_WINDOWS.iwant_followup_ms
+iwant_followup_ms_key = count_key (codes "iwant_followup_ms") default_windows.iwant_followup_ms
 
 abbrev pub prune_backoff_s_key : Key ℕ
-prune_backoff_s_key = count_key (codes "prune_backoff_s") DEFAULT_WINDOWS.prune_backoff_s
+prune_backoff_s_key = count_key (codes "prune_backoff_s") default_windows.prune_backoff_s
 
 abbrev pub unsubscribe_backoff_s_key : Key ℕ
-unsubscribe_backoff_s_key = count_key (codes "unsubscribe_backoff_s") DEFAULT_WINDOWS.unsubscribe_backoff_s
+unsubscribe_backoff_s_key = count_key (codes "unsubscribe_backoff_s") default_windows.unsubscribe_backoff_s
 
 abbrev pub mcache_len_key : Key ℕ
-mcache_len_key = count_key (codes "mcache_len") DEFAULT_WINDOWS.mcache_len
+mcache_len_key = count_key (codes "mcache_len") default_windows.mcache_len
 
 abbrev pub mcache_gossip_key : Key ℕ
-mcache_gossip_key = count_key (codes "mcache_gossip") DEFAULT_WINDOWS.mcache_gossip
+mcache_gossip_key = count_key (codes "mcache_gossip") default_windows.mcache_gossip
 
 abbrev pub opportunistic_ticks_key : Key ℕ
-opportunistic_ticks_key = count_key (codes "opportunistic_ticks") DEFAULT_WINDOWS.opportunistic_ticks
+opportunistic_ticks_key = count_key (codes "opportunistic_ticks") default_windows.opportunistic_ticks
 
 abbrev pub opportunistic_peers_key : Key ℕ
-opportunistic_peers_key = count_key (codes "opportunistic_peers") DEFAULT_WINDOWS.opportunistic_peers
+opportunistic_peers_key = count_key (codes "opportunistic_peers") default_windows.opportunistic_peers
 
 abbrev pub max_ihave_key : Key ℕ
-max_ihave_key = count_key (codes "max_ihave") DEFAULT_WINDOWS.max_ihave
+max_ihave_key = count_key (codes "max_ihave") default_windows.max_ihave
 
 abbrev pub max_ihave_ids_key : Key ℕ
-max_ihave_ids_key = count_key (codes "max_ihave_ids") DEFAULT_WINDOWS.max_ihave_ids
+max_ihave_ids_key = count_key (codes "max_ihave_ids") default_windows.max_ihave_ids
 
 abbrev pub gossip_retransmission_key : Key ℕ
-gossip_retransmission_key = count_key (codes "gossip_retransmission") DEFAULT_WINDOWS.gossip_retransmission
+gossip_retransmission_key = count_key (codes "gossip_retransmission") default_windows.gossip_retransmission
 
 abbrev pub window_names : List (List ℕ)
 window_names = (heartbeat_ms_key 1).name ∷ (decay_ms_key 1).name ∷ fanout_ttl_ms_key.name ∷ seen_ttl_ms_key.name ∷ iwant_followup_ms_key.name ∷ prune_backoff_s_key.name ∷ unsubscribe_backoff_s_key.name ∷ mcache_len_key.name ∷ mcache_gossip_key.name ∷ opportunistic_ticks_key.name ∷ opportunistic_peers_key.name ∷ max_ihave_key.name ∷ max_ihave_ids_key.name ∷ gossip_retransmission_key.name ∷ []
@@ -207,7 +208,7 @@ windows_in round_ms section = do
 -- ---- the parameters that all topics share
 
 abbrev pub flood_publish_key : Key Bool
-flood_publish_key = optional (codes "flood_publish") truth_value DEFAULT_FLOOD_PUBLISH
+flood_publish_key = optional (codes "flood_publish") truth_value default_flood_publish
 
 abbrev pub shared_names : List (List ℕ)
 shared_names = degree_names ++ threshold_names ++ factor_names ++ window_names ++ flood_publish_key.name ∷ []
@@ -225,55 +226,55 @@ shared_in round_ms section = do
 -- ---- the parameters of a topic
 
 abbrev pub topic_weight_key : Key ℤ
-topic_weight_key = amount_key (codes "topic_weight") DEFAULT_TOPIC_FACTORS.topic_weight
+topic_weight_key = amount_key (codes "topic_weight") default_topic_factors.topic_weight
 
 abbrev pub w1_key : Key ℤ
-w1_key = amount_key (codes "w1") DEFAULT_TOPIC_FACTORS.w1
+w1_key = amount_key (codes "w1") default_topic_factors.w1
 
 abbrev pub w2_key : Key ℤ
-w2_key = amount_key (codes "w2") DEFAULT_TOPIC_FACTORS.w2
+w2_key = amount_key (codes "w2") default_topic_factors.w2
 
 abbrev pub w3_key : Key ℤ
-w3_key = score_key (codes "w3") DEFAULT_TOPIC_FACTORS.w3
+w3_key = score_key (codes "w3") default_topic_factors.w3
 
 abbrev pub w3b_key : Key ℤ
-w3b_key = score_key (codes "w3b") DEFAULT_TOPIC_FACTORS.w3b
+w3b_key = score_key (codes "w3b") default_topic_factors.w3b
 
 abbrev pub w4_key : Key ℤ
-w4_key = score_key (codes "w4") DEFAULT_TOPIC_FACTORS.w4
+w4_key = score_key (codes "w4") default_topic_factors.w4
 
 abbrev pub p2_decay_key : Key ℤ
-p2_decay_key = amount_key (codes "p2_decay") DEFAULT_TOPIC_FACTORS.p2_decay
+p2_decay_key = amount_key (codes "p2_decay") default_topic_factors.p2_decay
 
 abbrev pub p3_decay_key : Key ℤ
-p3_decay_key = amount_key (codes "p3_decay") DEFAULT_TOPIC_FACTORS.p3_decay
+p3_decay_key = amount_key (codes "p3_decay") default_topic_factors.p3_decay
 
 abbrev pub p3b_decay_key : Key ℤ
-p3b_decay_key = amount_key (codes "p3b_decay") DEFAULT_TOPIC_FACTORS.p3b_decay
+p3b_decay_key = amount_key (codes "p3b_decay") default_topic_factors.p3b_decay
 
 abbrev pub p4_decay_key : Key ℤ
-p4_decay_key = amount_key (codes "p4_decay") DEFAULT_TOPIC_FACTORS.p4_decay
+p4_decay_key = amount_key (codes "p4_decay") default_topic_factors.p4_decay
 
 abbrev pub p1_cap_key : Key ℤ
-p1_cap_key = amount_key (codes "p1_cap") DEFAULT_TOPIC_FACTORS.p1_cap
+p1_cap_key = amount_key (codes "p1_cap") default_topic_factors.p1_cap
 
 abbrev pub p2_cap_key : Key ℤ
-p2_cap_key = amount_key (codes "p2_cap") DEFAULT_TOPIC_FACTORS.p2_cap
+p2_cap_key = amount_key (codes "p2_cap") default_topic_factors.p2_cap
 
 abbrev pub p3_cap_key : Key ℤ
-p3_cap_key = amount_key (codes "p3_cap") DEFAULT_TOPIC_FACTORS.p3_cap
+p3_cap_key = amount_key (codes "p3_cap") default_topic_factors.p3_cap
 
 abbrev pub p3_threshold_key : Key ℤ
-p3_threshold_key = amount_key (codes "p3_threshold") DEFAULT_TOPIC_FACTORS.p3_threshold
+p3_threshold_key = amount_key (codes "p3_threshold") default_topic_factors.p3_threshold
 
 abbrev pub p1_quantum_ms_key : Key ℕ
-p1_quantum_ms_key = count_key (codes "p1_quantum_ms") DEFAULT_TOPIC_WINDOWS.p1_quantum_ms
+p1_quantum_ms_key = count_key (codes "p1_quantum_ms") default_topic_windows.p1_quantum_ms
 
 abbrev pub p3_window_ms_key : Key ℕ
-p3_window_ms_key = count_key (codes "p3_window_ms") DEFAULT_TOPIC_WINDOWS.p3_window_ms
+p3_window_ms_key = count_key (codes "p3_window_ms") default_topic_windows.p3_window_ms
 
 abbrev pub p3_activation_ms_key : Key ℕ
-p3_activation_ms_key = count_key (codes "p3_activation_ms") DEFAULT_TOPIC_WINDOWS.p3_activation_ms
+p3_activation_ms_key = count_key (codes "p3_activation_ms") default_topic_windows.p3_activation_ms
 
 abbrev pub reject_key : Key (List (List ℕ))
 reject_key = prefixes_key (codes "reject")

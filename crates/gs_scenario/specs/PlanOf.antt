@@ -1,5 +1,5 @@
 -- The plan that a scenario describes, or its first refusal: the keys of each table in their order.
-use Rattle.std.specs.Prelude.{ℕ, ◌-◌, ◌^◌, ◌&&◌, ◌==◌, Bool, not, nat_eq, length, codes, position, find, List, [], ◌∷◌, Option, Some, None, option_map, Result, Ok, Err, if◌then◌else◌, ℤ, pos, neg_ℤ}
+use Rattle.std.specs.Prelude.{ℕ, ◌-◌, ◌^◌, ◌==◌, not, nat_eq, length, codes, position, find, List, [], ◌∷◌, Option, Some, None, option_map, Result, Ok, Err, if◌then◌else◌, ℤ, neg_ℤ}
 use Rattle.std.specs.List.{list_any}
 use Rattle.std.specs.Cmp.Lexicographic.{pointwise}
 use Rattle.toml.specs.Data.{Data, Items, no_items, Members, no_members}
@@ -9,7 +9,6 @@ use Rattle.gs_base.specs.declared.names.Topic.{Topic}
 use Rattle.gs_params.specs.declared.topic_params.TopicParams.{TopicParams}
 use Rattle.gs_scenario.specs.declared.fault.ScenarioFault.{ScenarioFault}
 use Rattle.gs_scenario.specs.declared.fault.ScenarioFault.TheVariants.{Toml, Range, UnknownName, Repeated}
-use Rattle.gs_params.specs.declared.plan.TheConstants.{LONGEST_ROUND, MOST_ROUNDS, MOST_PEERS, HIGHEST_APP_SCORE}
 use Rattle.gs_params.specs.declared.plan.Plan.{Plan}
 use Rattle.gs_params.specs.declared.plan.PlannedPeer.{PlannedPeer}
 use Rattle.gs_params.specs.declared.plan.Dial.{Dial}
@@ -17,7 +16,7 @@ use Rattle.gs_params.specs.declared.plan.App.{App}
 use Rattle.gs_params.specs.declared.plan.Line.{Line}
 use Rattle.gs_params.specs.declared.plan.What.{What}
 use Rattle.gs_params.specs.declared.plan.What.TheVariants.{Subscribe, Unsubscribe, Publish}
-use Rattle.gs_params.specs.Plans.{are_joined}
+use Rattle.gs_params.specs.Plans.{are_joined, are_of_the_same, join_the_same, longest_round, most_rounds, most_workers, highest_capacity, most_peers, most_planned_topics, highest_app_score}
 use Rattle.gs_scenario.specs.declared.scenario.script.Verb.{Verb}
 use Rattle.gs_scenario.specs.declared.scenario.script.Verb.TheVariants as verbs
 use Rattle.gs_scenario.specs.Keys.{Key, Kind, Section, ◌>>=◌, refuse_if, required, optional, read_key, only, read_each}
@@ -27,16 +26,16 @@ use Rattle.gs_scenario.specs.ParamsOf.{shared_in, topic_param_names, topic_param
 -- ---- the top table
 
 abbrev pub round_ms_key : Key ℕ
-round_ms_key = required (codes "round_ms") (whole_number 1 LONGEST_ROUND)
+round_ms_key = required (codes "round_ms") (whole_number 1 longest_round)
 
 abbrev pub rounds_key : Key ℕ
-rounds_key = required (codes "rounds") (whole_number 1 MOST_ROUNDS)
+rounds_key = required (codes "rounds") (whole_number 1 most_rounds)
 
 abbrev pub workers_key : Key ℕ
-workers_key = required (codes "workers") (whole_number 1 16)
+workers_key = required (codes "workers") (whole_number 1 most_workers)
 
 abbrev pub capacity_key : Key ℕ
-capacity_key = required (codes "capacity") (whole_number 1 1024)
+capacity_key = required (codes "capacity") (whole_number 1 highest_capacity)
 
 abbrev pub seed_key : Key ℕ
 seed_key = required (codes "seed") (whole_number 0 (2 ^ 63 - 1))
@@ -45,10 +44,10 @@ abbrev pub params_key : Key Members
 params_key = optional (codes "params") any_table no_members
 
 abbrev pub topics_key : Key Items
-topics_key = required (codes "topic") (list_of 1 32)
+topics_key = required (codes "topic") (list_of 1 most_planned_topics)
 
 abbrev pub peers_key : Key Items
-peers_key = required (codes "peer") (list_of 1 MOST_PEERS)
+peers_key = required (codes "peer") (list_of 1 most_peers)
 
 abbrev pub dials_key : Key Items
 dials_key = optional (codes "dial") any_list no_items
@@ -158,7 +157,7 @@ abbrev pub dial_keys : List (List ℕ)
 dial_keys = (from_key []).name ∷ (to_key [] (record { 0 = 0 })).name ∷ []
 
 abbrev pub new_dial : List ℕ → List Dial → Dial → Result Dial ScenarioFault
-new_dial place earlier dial = refuse_if (are_joined earlier dial.from dial.to) (Repeated place) dial
+new_dial place earlier dial = refuse_if (list_any (join_the_same dial) earlier) (Repeated place) dial
 
 unfoldable pub dial_in : List PlannedPeer → List Dial → Data → Result Dial ScenarioFault
 dial_in peers earlier d = do
@@ -184,17 +183,13 @@ abbrev pub about_key : List PlannedPeer → List Dial → PeerNo → Key PeerNo
 about_key peers dials one = required (codes "about") (neighbour peers dials one)
 
 abbrev pub value_key : Key ℤ
-value_key = required (codes "value") (signed_number (neg_ℤ HIGHEST_APP_SCORE) HIGHEST_APP_SCORE)
+value_key = required (codes "value") (signed_number (neg_ℤ highest_app_score) highest_app_score)
 
 abbrev pub app_keys : List (List ℕ)
 app_keys = (peer_key []).name ∷ (about_key [] [] (record { 0 = 0 })).name ∷ value_key.name ∷ []
 
--- two say what the same peer thinks of the same neighbour
-abbrev pub is_of_same : App → App → Bool
-is_of_same x y = (x.peer.0 == y.peer.0) && (x.about.0 == y.about.0)
-
 abbrev pub new_app : List ℕ → List App → App → Result App ScenarioFault
-new_app place earlier app = refuse_if (list_any (is_of_same app) earlier) (Repeated place) app
+new_app place earlier app = refuse_if (list_any (are_of_the_same app) earlier) (Repeated place) app
 
 unfoldable pub app_in : List PlannedPeer → List Dial → List App → Data → Result App ScenarioFault
 app_in peers dials earlier d = do

@@ -57,8 +57,7 @@ pub fn read_plan(alloc: Global, text: &str) -> Result<Plan, ScenarioFault>
 /// The plan that a document describes.
 #[tactic(auto, unfolding(crate::specs::PlanOf::plan_in))]
 fn plan_in(alloc: Global, table: &Table) -> Result<Plan, ScenarioFault>
-    ensures plan { Gives (λ plan. plan) result (plan_in (table_view table.now)) }
-    ensures in_range { IfOk result (λ plan. IsInRange plan) }
+    ensures { Gives (λ plan. plan) result (plan_in (table_view table.now)) }
 {
     let path = Path::Top;
     let top = Top::read(alloc, Section { path, table })?;

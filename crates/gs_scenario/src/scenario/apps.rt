@@ -4,7 +4,8 @@ ghost use Rattle.std.specs.List.{list_any};
 ghost use Rattle.toml.specs.View.{view, items_view};
 ghost use Rattle.gs_scenario.specs.Refusal.{Gives};
 ghost use Rattle.gs_scenario.specs.Keys.{read_each};
-ghost use Rattle.gs_scenario.specs.PlanOf.{app_in, is_of_same, neighbour};
+ghost use Rattle.gs_params.specs.Plans.{are_of_the_same};
+ghost use Rattle.gs_scenario.specs.PlanOf.{app_in, neighbour};
 ghost use Rattle.gs_scenario.specs.Views.{read_as};
 
 use crate::fault::ScenarioFault;
@@ -94,14 +95,14 @@ fn neighbour_of(
 
 /// Whether an earlier score is of the same neighbour of the same peer.
 fn is_repeated(earlier: &[App], app: &App) -> bool
-    ensures { result ≡ list_any (is_of_same app.now) earlier.now }
+    ensures { result ≡ list_any (are_of_the_same app.now) earlier.now }
 {
-    earlier.iter().any(|other| is_of_same(app, other))
+    earlier.iter().any(|other| are_of_the_same(app, other))
 }
 
 /// Whether two scores are of the same neighbour of the same peer.
-fn is_of_same(one: &App, other: &App) -> bool
-    ensures { result ≡ is_of_same one.now other.now }
+fn are_of_the_same(one: &App, other: &App) -> bool
+    ensures { result ≡ are_of_the_same one.now other.now }
 {
     one.peer == other.peer && one.about == other.about
 }

@@ -1,8 +1,7 @@
 //! The parameters of a scenario that all topics share.
-ghost use Rattle.std.specs.Prelude.{◌≡◌, ◌≤◌, IfOk, Ok, map, option_map, unwrap_or};
+ghost use Rattle.std.specs.Prelude.{◌≡◌, ◌≤◌, map, option_map, unwrap_or};
 ghost use Rattle.toml.specs.Data.{no_members};
 ghost use Rattle.toml.specs.View.{table_view};
-ghost use Rattle.gs_params.specs.Params.{checked};
 ghost use Rattle.gs_scenario.specs.Refusal.{Gives};
 ghost use Rattle.gs_scenario.specs.ParamsOf.{shared_in, shared_names, degrees_in, thresholds_in, factors_in, windows_in, params_of};
 ghost use Rattle.gs_scenario.specs.Kinds.{section_at};
@@ -200,8 +199,7 @@ fn windows_in(alloc: Global, section: &Section<'_>, round_ms: u64) -> Result<Win
 /// All parameters, if they pass their checks.
 #[tactic(auto, unfolding(crate::specs::ParamsOf::params_of))]
 pub fn params_of(shared: Shared, topics: Seq<(Topic, TopicParams)>) -> Result<Params, ScenarioFault>
-    ensures params { Gives (λ params. params) result (params_of shared topics) }
-    ensures checked { IfOk result (λ params. checked params ≡ Ok params) }
+    ensures { Gives (λ params. params) result (params_of shared topics) }
 {
     let params = Params {
         degrees: shared.degrees,

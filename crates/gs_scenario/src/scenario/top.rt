@@ -55,7 +55,6 @@ impl<'a> Top<'a> {
         ensures plan { Gives top_view result (spec.top_in (section_of top.entry)) }
         ensures round_ms { IfOk result (λ top.
             (1 ≤ top.round_ms) × (top.round_ms ≤ LONGEST_ROUND)) }
-        ensures rounds { IfOk result (λ top. top.rounds ≤ MOST_ROUNDS) }
         ensures peers { IfOk result (λ top. length top.peers.now ≤ MOST_PEERS) }
     {
         top.only(

@@ -1,0 +1,5 @@
+use Rattle.gs_scenario.proofs.PlanRanges.{plan_in_range}
+use Rattle.gs_scenario.proofs.scenario.read_plan.Goals as goal
+
+pub returns-in-Ok-clause-in_range : goal.returns-in-Ok-clause-in_range
+returns-in-Ok-clause-in_range c = plan_in_range c.args.text.now c.plan_in.result (rw c.in-Ok.ensures.ok c.plan_in.ensures)
