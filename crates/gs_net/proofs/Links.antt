@@ -1,8 +1,6 @@
 -- Links that are read one after the other.
 use Rattle.std.proofs.Common.{◌≡◌, ℕ, Bool, true, false, if◌then◌else◌, List, [], ◌∷◌, ◌++◌, map, sym, ap, ap₂, ◌∙◌, append_assoc, append-nil}
-use Rattle.std.specs.List.{AllByRecursion}
 use Rattle.gs_base.specs.declared.names.PeerNo.{PeerNo}
-use Rattle.gs_wire.specs.declared.rpc.TheConstants.{MAX_BODY}
 use Rattle.gs_rules.specs.Hearing.{Inbound}
 use Rattle.gs_rules.specs.Rounds.{Todo, Hear, HearFault, HearGone, ending, hears, hears_of, is_broken}
 use Rattle.gs_net.specs.declared.peers.node.Link.{Link}

@@ -1,5 +1,5 @@
 -- What a router that is called one thing after the other has done.
-use Rattle.std.proofs.Common.{◌≡◌, ◌≤◌, ℕ, Bool, true, false, List, [], ◌∷◌, ◌++◌, Option, None, Some, Ok, Err, Result, refl, sym, ap, subst, ◌∙◌, append_assoc, append-nil, arith, if◌then◌else◌, true≢false}
+use Rattle.std.proofs.Common.{◌≡◌, ◌≤◌, ℕ, Bool, false, List, [], ◌∷◌, ◌++◌, Option, None, Some, Ok, Err, Result, refl, sym, ap, subst, ◌∙◌, append_assoc, append-nil, arith, if◌then◌else◌, true≢false}
 use Rattle.std.specs.Result.{IsOk}
 use Rattle.gs_base.specs.declared.names.Millis.{Millis}
 use Rattle.gs_params.specs.declared.plan.What.{What}

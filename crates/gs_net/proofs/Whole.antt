@@ -1,5 +1,5 @@
 -- The peers of a plan, as the rounds go by.
-use Rattle.std.proofs.Common.{◌≡◌, ◌≤◌, ◌<◌, ◌+◌, ◌*◌, ℕ, zero, suc, pred, Bool, true, false, not, ◌&&◌, ◌||◌, nat_eq, List, [], ◌∷◌, ◌++◌, length, map, slice_get, Option, None, Some, unwrap_or, option_map, inl, inr, refl, sym, ap, ap₂, subst, subst₂, ◌∙◌, append-nil, le_trans, mul-le-mul_right, arith}
+use Rattle.std.proofs.Common.{◌≡◌, ◌≤◌, ◌<◌, ◌+◌, ◌*◌, ℕ, zero, suc, pred, Bool, true, false, not, ◌&&◌, ◌||◌, nat_eq, List, [], ◌∷◌, ◌++◌, length, map, slice_get, Option, None, Some, unwrap_or, option_map, inl, inr, refl, sym, ap, ap₂, subst, subst₂, ◌∙◌, le_trans, mul-le-mul_right, arith}
 use Rattle.std.specs.List.{range_with_len, AllZip, AllByRecursion}
 use Rattle.gs_base.specs.declared.names.PeerNo.{PeerNo}
 use Rattle.gs_base.specs.declared.rpc.Rpc.{Rpc}
@@ -7,7 +7,7 @@ use Rattle.gs_params.specs.declared.plan.Plan.{Plan}
 use Rattle.gs_wire.specs.declared.frames.End.{End}
 use Rattle.gs_wire.specs.declared.frames.End.TheVariants as ends
 use Rattle.gs_wire.specs.declared.rpc.TheConstants.{MAX_BODY}
-use Rattle.gs_wire.specs.Stream.{Holding, IsStream, Feeds, held_after}
+use Rattle.gs_wire.specs.Stream.{Holding, IsStream, held_after}
 use Rattle.gs_wire.specs.Codec.{codec}
 use Rattle.gs_wire.proofs.FrameLists.{streams_join, one_stream}
 use Rattle.gs_rules.specs.declared.refusal.RefusedLine.{RefusedLine}
@@ -16,7 +16,7 @@ use Rattle.gs_rules.specs.Tables.{Entries, last_moment, up}
 use Rattle.gs_rules.specs.Legal.{Legal}
 use Rattle.gs_rules.specs.Saying.{Said, Close, bytes_of, out, handled, sent}
 use Rattle.gs_rules.specs.Hearing.{Inbound, IsBetween as IsHeardBetween, Spell, silence}
-use Rattle.gs_rules.specs.Rounds.{Seat, Playing, Closing, Todo, EndRound, Stop, Does, KeepsRounds, agenda, hears, is_broken, is_fault, lines_at, moment_of}
+use Rattle.gs_rules.specs.Rounds.{Seat, Playing, EndRound, Stop, Does, KeepsRounds, agenda, hears, is_fault, lines_at, moment_of}
 use Rattle.gs_rules.proofs.Deliveries.{deliveries_apart}
 use Rattle.gs_rules.proofs.Fitting.{legal_written}
 use Rattle.gs_rules.proofs.Handled.{said_is_handled, spelled_once}
@@ -28,7 +28,7 @@ use Rattle.gs_net.specs.declared.peers.node.Node.{Node}
 use Rattle.gs_net.specs.declared.peers.speech.Speech.{Speech}
 use Rattle.gs_net.specs.Rounds.{peer_no, numbers, neighbours, peer_in, seat_in, moment, trace_of, said_to, IsLife, IsRun}
 use Rattle.gs_net.specs.Speech.{speech_to, said_by}
-use Rattle.gs_net.specs.Nodes.{AllMayPlay, AreClean, ClosesEach, Finds, IsNew, MayPlay, NodeCloses, NodePlays, PlaysEach, Reads, ReadsEach, StaysBroken, peers_of}
+use Rattle.gs_net.specs.Nodes.{AllMayPlay, AreClean, ClosesEach, Finds, IsNew, MayPlay, NodeCloses, NodePlays, PlaysEach, Reads, ReadsEach, peers_of}
 use Rattle.gs_net.proofs.History.{History, told, spoken, ComesOf, PlaysBy, PlayedBy, neighbours_below, all_zip, all_by_recursion, bytes_spoken, keeps_by_neighbours, with_close}
 use Rattle.gs_net.proofs.Links.{clean_are_wide}
 use Rattle.gs_net.proofs.Neighbours.{links_in, links_ascend}

@@ -5,6 +5,7 @@ use Rattle.gs_base.specs.declared.names.PeerNo.{PeerNo}
 use Rattle.gs_base.specs.declared.names.Millis.{Millis}
 use Rattle.gs_base.specs.declared.rpc.Rpc.{Rpc}
 use Rattle.gs_params.specs.declared.plan.Plan.{Plan}
+use Rattle.gs_params.specs.Seeding.{new_seeded}
 use Rattle.gs_wire.specs.declared.rpc.TheConstants.{MAX_BODY}
 use Rattle.gs_wire.specs.Codec.{codec}
 use Rattle.gs_wire.specs.Stream.{Holding, Feeds}
@@ -19,7 +20,7 @@ use Rattle.gs_net.specs.declared.peers.node.Link.{Link}
 use Rattle.gs_net.specs.declared.peers.node.Node.{Node}
 use Rattle.gs_net.specs.declared.peers.reading.Reading.{Reading}
 use Rattle.gs_net.specs.declared.peers.speech.Speech.{Speech}
-use Rattle.gs_net.specs.Rounds.{moment, neighbours, peer_in, seat_in}
+use Rattle.gs_net.specs.Rounds.{moment, neighbours, peer_in, seat_in, words_of}
 use Rattle.gs_net.specs.Speech.{speech_to, said_by, frames_to}
 
 -- ---- a router
@@ -125,6 +126,8 @@ pub record IsNew (plan : Plan) (p : PeerNo) (node : Node) : Type 0 where
   pub links : peers_of node.links.items ≡ neighbours plan p
   pub readers : AreClean node.links.items
   pub router : node.router ≡ record { peer = peer_in plan p; trace = []; is_stopped = false }
+  -- its choices are made by its words
+  pub words : node.words ≡ new_seeded (words_of plan p) plan.seed p
   pub refused : node.refused.items ≡ []
 
 -- each peer plays a round, where this was said in the one before

@@ -37,6 +37,10 @@ neighbours plan p = filter (are_joined plan.dials p) (numbers plan)
 abbrev pub address_of : Plan → PeerNo → List ℕ
 address_of plan p = unwrap_or (option_map (λ (planned : PlannedPeer). planned.address) (slice_get plan.peers p.0)) []
 
+-- the first of its random words
+abbrev pub words_of : Plan → PeerNo → List ℕ
+words_of plan p = unwrap_or (option_map (λ (planned : PlannedPeer). planned.words) (slice_get plan.peers p.0)) []
+
 -- the one dials the other
 abbrev pub is_dial : PeerNo → PeerNo → Dial → Bool
 is_dial p q dial = same_peer dial.from p && same_peer dial.to q

@@ -1,73 +1,25 @@
 //! A run of two peers, of which one dials the other.
-ghost use Rattle.std.specs.Prelude.{IfOk};
-ghost use Rattle.gs_params.specs.Plans.{IsInRange};
-
 use crate::{Finished, run_peers};
-use bytes::Bytes;
-use gs_base::{Millis, PeerNo, Seq, Text, Topic};
-use gs_params::{Dial, Line, Params, Plan, PlannedPeer, What};
+use gs_base::Millis;
 use gs_rules::{Refusal, RefusedLine};
+use gs_scenario::read_plan;
 use std::alloc::{AllocError, Global};
 
-fn topic(alloc: Global) -> Result<Topic, AllocError> {
-    Ok(Topic(Bytes::copy_from_slice(alloc, b"news")?))
-}
+/// Rounds 0 to 5 of 100 milliseconds, and the peers `a` and `b`.
+const PEERS: &str = "round_ms = 100\nrounds = 5\nworkers = 2\ncapacity = 8\nseed = 1\n\
+    [[topic]]\nname = \"news\"\n[[peer]]\nname = \"a\"\n[[peer]]\nname = \"b\"\n";
 
-/// The script of two subscribers: the second leaves the topic twice.
-fn script(alloc: Global) -> Result<Seq<Line>, AllocError> {
-    let abc = Bytes::copy_from_slice(alloc, b"abc")?;
-    let mut lines = Vec::new(alloc);
-    for (at, peer, what) in [
-        (0, 0, What::Subscribe(topic(alloc)?)),
-        (0, 1, What::Subscribe(topic(alloc)?)),
-        (2, 0, What::Publish(topic(alloc)?, abc)),
-        (4, 1, What::Unsubscribe(topic(alloc)?)),
-        (5, 1, What::Unsubscribe(topic(alloc)?)),
-    ] {
-        let peer = PeerNo(peer);
-        lines.push(Line { at, peer, what })?;
-    }
-    Ok(Seq::from(lines))
-}
+const A_DIALS_B: &str = "[[dial]]\nfrom = \"a\"\nto = \"b\"\n";
 
-fn text(alloc: Global, bytes: &str) -> Result<Text, AllocError> {
-    let mut text = String::new(alloc);
-    text.push_str(bytes)?;
-    Ok(Text::from(text))
-}
+const B_DIALS_A: &str = "[[dial]]\nfrom = \"b\"\nto = \"a\"\n";
 
-fn peer(alloc: Global, name: &str) -> Result<PlannedPeer, AllocError> {
-    Ok(PlannedPeer {
-        name: text(alloc, name)?,
-        address: text(alloc, name)?,
-        words: Seq::new(alloc),
-    })
-}
-
-/// Five rounds of 100 milliseconds of the peers `a` and `b`.
-fn plan(alloc: Global, dials: &[Dial]) -> Result<Plan, AllocError>
-    ensures { IfOk result IsInRange }
-{
-    let mut peers = Seq::new(alloc);
-    peers.push(peer(alloc, "a")?)?;
-    peers.push(peer(alloc, "b")?)?;
-    let mut all = Seq::new(alloc);
-    for dial in dials {
-        all.push(*dial)?;
-    }
-    Ok(Plan {
-        round_ms: 100,
-        rounds: 5,
-        workers: 2,
-        capacity: 8,
-        seed: 1,
-        params: Params::new(alloc),
-        peers,
-        dials: all,
-        apps: Seq::new(alloc),
-        script: script(alloc)?,
-    })
-}
+/// Both subscribe, `a` publishes `abc` in round 2, and `b` leaves the topic twice.
+const SCRIPT: &str = "\
+    [[do]]\nat = 0\npeer = \"a\"\nwhat = \"subscribe\"\ntopic = \"news\"\n\
+    [[do]]\nat = 0\npeer = \"b\"\nwhat = \"subscribe\"\ntopic = \"news\"\n\
+    [[do]]\nat = 2\npeer = \"a\"\nwhat = \"publish\"\ntopic = \"news\"\nhex = \"616263\"\n\
+    [[do]]\nat = 4\npeer = \"b\"\nwhat = \"unsubscribe\"\ntopic = \"news\"\n\
+    [[do]]\nat = 5\npeer = \"b\"\nwhat = \"unsubscribe\"\ntopic = \"news\"\n";
 
 /// Whether a peer was delivered `abc` on `news` at just these moments.
 fn delivered(life: &Finished, moments: &[u64]) -> bool {
@@ -90,8 +42,14 @@ fn delivered(life: &Finished, moments: &[u64]) -> bool {
 
 /// Whether two peers that are joined so have these deliveries, and the second refuses to leave the
 /// topic twice.
-fn has_deliveries(alloc: Global, dials: &[Dial], a: &[u64], b: &[u64]) -> Result<bool, AllocError> {
-    let lives = run_peers(alloc, &plan(alloc, dials)?)?;
+fn has_deliveries(alloc: Global, dial: &str, a: &[u64], b: &[u64]) -> Result<bool, AllocError> {
+    let mut scenario = String::from_str(alloc, PEERS)?;
+    scenario.push_str(dial)?;
+    scenario.push_str(SCRIPT)?;
+    let Ok(plan) = read_plan(alloc, &scenario) else {
+        return Ok(false);
+    };
+    let lives = run_peers(alloc, &plan)?;
     let [first, second] = lives.as_slice() else {
         return Ok(false);
     };
@@ -110,10 +68,8 @@ fn has_deliveries(alloc: Global, dials: &[Dial], a: &[u64], b: &[u64]) -> Result
 
 #[test]
 fn a_message_is_delivered_to_a_neighbour_a_round_later(rt: HostRuntime) -> Result<(), AllocError> {
-    let a = PeerNo(0);
-    let b = PeerNo(1);
-    assert!(rt; has_deliveries(rt.alloc(), &[Dial { from: a, to: b }], &[200], &[300])?);
-    assert!(rt; has_deliveries(rt.alloc(), &[Dial { from: b, to: a }], &[200], &[300])?);
-    assert!(rt; has_deliveries(rt.alloc(), &[], &[200], &[])?);
+    assert!(rt; has_deliveries(rt.alloc(), A_DIALS_B, &[200], &[300])?);
+    assert!(rt; has_deliveries(rt.alloc(), B_DIALS_A, &[200], &[300])?);
+    assert!(rt; has_deliveries(rt.alloc(), "", &[200], &[])?);
     Ok(())
 }

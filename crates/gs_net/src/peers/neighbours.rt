@@ -92,3 +92,6 @@ fn is_about(peer: PeerNo, about: PeerNo, app: &App) -> bool
 {
     app.peer == peer && app.about == about
 }
+
+#[cfg(test)]
+mod tests;

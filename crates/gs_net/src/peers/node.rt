@@ -1,5 +1,5 @@
 //! A peer as it runs.
-ghost use Rattle.std.specs.Prelude.{◌≡◌, ◌<◌, ◌*◌, ◌^◌, [], ◌∷◌, ◌++◌, false, IfOk, OnOk, List, Some, length, map};
+ghost use Rattle.std.specs.Prelude.{◌≡◌, ◌<◌, ◌*◌, ◌^◌, [], ◌∷◌, ◌++◌, false, IfOk, OnOk, List, Some, map};
 ghost use Rattle.std.specs.Result.{IsOk};
 ghost use Rattle.gs_base.specs.Names.{peers_of as numbers_of};
 ghost use Rattle.gs_params.specs.Plans.{IsInRange};
@@ -9,7 +9,7 @@ ghost use Rattle.gs_rules.specs.Modes.{exact};
 ghost use Rattle.gs_rules.specs.Hearing.{Inbound};
 ghost use Rattle.gs_rules.specs.Rounds.{Hear, Obey, event_of, hears, hears_of};
 ghost use Rattle.gs_router.specs.Router.{Calls};
-ghost use Rattle.gs_net.specs.Rounds.{moment};
+ghost use Rattle.gs_net.specs.Rounds.{moment, words_of};
 ghost use Rattle.gs_net.specs.Agenda.{due_from, listed, own};
 ghost use Rattle.gs_net.specs.Speech.{said_by};
 ghost use Rattle.gs_net.specs.Nodes.{AreClean, AreWide, IsNew, IsReadAs, IsRunning, MayPlay, NodeCloses, NodePlays, ReadsEach, RpcsFit, Runs, peers_of};
@@ -50,15 +50,13 @@ impl Node {
     /// # Errors
     /// `AllocError` where there was no memory for it.
     pub fn new(alloc: Global, plan: &Plan, number: PeerNo) -> Result<Node, AllocError>
-        requires range { IsInRange plan.now }
-        requires known { number.0 < length plan.now.peers }
+        requires { IsInRange plan.now }
         ensures { IfOk result (IsNew plan.now number) }
     {
         let neighbours = neighbours_of(alloc, plan, number)?;
         let links = links_to(alloc, &neighbours)?;
         let params = clone_of(&plan.params)?;
-        let list = &plan.peers.as_slice()[usize::from(number.0)].words;
-        let words = SeededWords::new(list.as_slice().to_vec(alloc)?, plan.seed, number);
+        let words = SeededWords::new(words_of(alloc, plan, number)?, plan.seed, number);
         Ok(Node {
             number,
             links,
@@ -132,6 +130,19 @@ impl Node {
             trace: router.into_trace(),
             refused: Seq::from(refused),
         })
+    }
+}
+
+/// The list of a peer's random words.
+fn words_of(alloc: Global, plan: &Plan, peer: PeerNo) -> Result<Vec<u32>, AllocError>
+    ensures { IfOk result (λ list. list.items ≡ words_of plan.now peer) }
+{
+    match plan.peers.as_slice().get(usize::from(peer.0)) {
+        Some(planned) => {
+            let list = planned.words.as_slice().to_vec(alloc)?;
+            Ok(list)
+        }
+        None => Ok(Vec::new(alloc)),
     }
 }
 

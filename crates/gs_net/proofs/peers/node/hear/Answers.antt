@@ -1,6 +1,5 @@
 use Rattle.std.proofs.Common.{◌++◌, [], ◌∷◌, List, ℕ, refl, sym, subst}
 use Rattle.gs_base.specs.declared.names.PeerNo.{PeerNo}
-use Rattle.gs_rules.specs.Hearing.{Inbound}
 use Rattle.gs_rules.specs.Rounds.{Todo, hears, hears_of}
 use Rattle.gs_net.specs.declared.peers.node.Link.{Link}
 use Rattle.gs_net.specs.Speech.{said_by}

@@ -1,4 +1,4 @@
-use Rattle.std.proofs.Common.{[], ◌∷◌, ◌++◌, List, map, true, false, sym, subst, refl, append-nil, ◌∙◌}
+use Rattle.std.proofs.Common.{[], ◌∷◌, List, map, true, false, sym, subst, refl, append-nil, ◌∙◌}
 use Rattle.gs_params.specs.Seeding.{seeded_after, seeded_word}
 use Rattle.gs_rules.specs.declared.trace.Event.TheVariants.{Fault}
 use Rattle.gs_rules.specs.Legal.{losing}

@@ -1,4 +1,4 @@
-use Rattle.std.proofs.Common.{◌∙◌, rules, arith}
+use Rattle.std.proofs.Common.{rules, arith}
 use Rattle.gs_net.specs.Agenda.{due_from, lines_at}
 use Rattle.gs_net.proofs.Lines.{line_listed}
 use Rattle.gs_net.proofs.peers.agenda.Agenda.of.Goals as goal

@@ -1,0 +1,86 @@
+//! Who is whose neighbour in a plan, and what is given of each.
+ghost use Rattle.std.specs.Prelude.{◌≤◌, IfOk, length};
+ghost use Rattle.gs_params.specs.declared.plan.TheConstants.{MOST_PEERS as most};
+
+use super::*;
+use gs_base::{Seq, Text};
+use gs_params::{Params, PlannedPeer};
+
+fn peer(alloc: Global, name: &str, address: &str) -> Result<PlannedPeer, AllocError> {
+    Ok(PlannedPeer {
+        name: Text::from_str(alloc, name)?,
+        address: Text::from_str(alloc, address)?,
+        words: Seq::new(alloc),
+    })
+}
+
+/// Peer 0 dials 1 and is dialled by 2; 0 and 1 are at one address; 0 and 1 think of each other.
+fn plan(alloc: Global) -> Result<Plan, AllocError>
+    ensures { IfOk result (λ plan. length plan.peers ≤ most) }
+{
+    let mut peers = Seq::new(alloc);
+    peers.push(peer(alloc, "a", "ten")?)?;
+    peers.push(peer(alloc, "b", "ten")?)?;
+    peers.push(peer(alloc, "c", "eleven")?)?;
+    let mut dials = Seq::new(alloc);
+    for (from, to) in [(2, 0), (0, 1)] {
+        dials.push(Dial {
+            from: PeerNo(from),
+            to: PeerNo(to),
+        })?;
+    }
+    let mut apps = Seq::new(alloc);
+    for (peer, about, value) in [(1, 0, -7), (0, 1, 5_000_000)] {
+        apps.push(App {
+            peer: PeerNo(peer),
+            about: PeerNo(about),
+            value,
+        })?;
+    }
+    Ok(Plan {
+        round_ms: 100,
+        rounds: 5,
+        workers: 2,
+        capacity: 8,
+        seed: 1,
+        params: Params::new(alloc),
+        peers,
+        dials,
+        apps,
+        script: Seq::new(alloc),
+    })
+}
+
+/// What is expected of a neighbour: its number, whether it was dialled, its address and its score.
+type Expected<'a> = (u16, bool, &'a str, i128);
+
+/// Whether a peer of the plan has just these neighbours.
+fn has_neighbours(
+    alloc: Global,
+    number: u16,
+    expected: &[Expected<'_>],
+) -> Result<bool, AllocError> {
+    let mut all = Vec::new(alloc);
+    for (other, outbound, address, app) in expected {
+        all.push(Neighbour {
+            peer: PeerNo(*other),
+            outbound: *outbound,
+            address: Bytes::copy_from_slice(alloc, address.as_bytes())?,
+            app: *app,
+        })?;
+    }
+    let found = neighbours_of(alloc, &plan(alloc)?, PeerNo(number))?;
+    Ok(found.as_slice() == all.as_slice())
+}
+
+#[test]
+fn a_neighbour_has_its_address_and_score_and_is_outbound_where_it_was_dialled(
+    rt: HostRuntime,
+) -> Result<(), AllocError> {
+    let of_a: [Expected<'_>; 2] = [(1, true, "ten", 5_000_000), (2, false, "eleven", 0)];
+    assert!(rt; has_neighbours(rt.alloc(), 0, &of_a)?);
+    assert!(rt; has_neighbours(rt.alloc(), 1, &[(0, false, "ten", -7)])?);
+    assert!(rt; has_neighbours(rt.alloc(), 2, &[(0, true, "ten", 0)])?);
+    assert!(rt; has_neighbours(rt.alloc(), 3, &[])?);
+    Ok(())
+}
