@@ -63,6 +63,8 @@ announcement subscribes topic = record {
 abbrev pub publication : Topic → List ℕ → Rpc
 publication topic payload = record {
   subs = [];
-  publish = record { origin = None; payload = Some payload; seqno = None; topic = Some topic; signature = None; key = None } ∷ [];
+  publish
+      = record { origin = None; payload = Some payload; seqno = None; topic = Some topic; signature = None; key = None }
+      ∷ [];
   control = None;
 }

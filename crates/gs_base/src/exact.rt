@@ -16,7 +16,8 @@ impl ExactClone for Bytes {
 }
 
 impl<A: ExactClone, B: ExactClone> ExactClone for (A, B) {
-    ghost exact = { λ source copy same. ap₂ (λ a b. (a, b)) (A.exact source.0 copy.0 same.0) (B.exact source.1 copy.1 same.1) };
+    ghost exact = { λ source copy same.
+        ap₂ (λ a b. (a, b)) (A.exact source.0 copy.0 same.0) (B.exact source.1 copy.1 same.1) };
 }
 
 /// A clone, which equals its source.

@@ -12,7 +12,8 @@ account sends takes accepted taken = record { sends = sends; takes = takes; acce
 
 -- ---- the rule
 
--- one pass at most may send, and it has the list of what was accepted; one may take, and it has the list of what was taken
+-- one pass at most may send, and it has the list of what was accepted;
+-- one may take, and it has the list of what was taken
 abbrev pub Fits : ℕ → ℕ → List Slot → List Slot → ℕ → Account → Type 0
 Fits sender taker accepted taken pass v =
     (v.sends ≡ true → (pass ≡ sender) × (v.accepted ≡ accepted)) × (v.takes ≡ true → (pass ≡ taker) × (v.taken ≡ taken))
@@ -24,27 +25,32 @@ InOrder waiting accounts =
     × Run accepted taken waiting
     × ((pass : ℕ) (v : Account) → get_elem? accounts pass ≡ some v → Fits sender taker accepted taken pass v)
 
--- ---- the eight moves (beside `FindsFull` the queue tells that its capacity waits, beside `FindsEmpty` that nothing does)
+-- ---- the eight moves
+-- (beside `FindsFull` the queue tells that its capacity waits, beside `FindsEmpty` that nothing does)
 
 -- Make: a new link has one pass, which may send and take, and nothing was accepted or taken.
 abbrev pub made : Account
 made = account true true [] []
 
--- Split off the sender's pass: a new pass gets the leave to send and the list of what was accepted, the old one keeps the rest.
+-- Split off the sender's pass: a new pass gets the leave to send and the list of what was accepted,
+-- the old one keeps the rest.
 abbrev pub split_sender : Account → Account × Account
 split_sender v = (account false v.takes [] v.taken, account v.sends false v.accepted [])
 
--- Split off the receiver's pass: a new pass gets the leave to take and the list of what was taken, the old one keeps the rest.
+-- Split off the receiver's pass: a new pass gets the leave to take and the list of what was taken,
+-- the old one keeps the rest.
 abbrev pub split_receiver : Account → Account × Account
 split_receiver v = (account v.sends false v.accepted [], account false v.takes [] v.taken)
 
--- Push: the pass that may send, and has not closed, puts a slot of its size at the back of what waits and of what was accepted.
+-- Push: the pass that may send, and has not closed, puts a slot of its size at the back of what waits
+-- and of what was accepted.
 abbrev pub Pushes : Account → Slot → Account → Type 0
 Pushes v slot w =
     (v.sends ≡ true) × (closes v.accepted ≡ false) × IsCarried slot
     × (w ≡ account v.sends v.takes (v.accepted ++ slot ∷ []) v.taken)
 
--- Push found full: the pass that may send sees as many slots waiting as there is room for, ending what was accepted; nothing changes.
+-- Push found full: the pass that may send sees as many slots waiting as there is room for,
+-- ending what was accepted; nothing changes.
 abbrev pub FindsFull : Account → List Slot → Type 0
 FindsFull v waiting = (v.sends ≡ true) × (taken : List Slot) × Run v.accepted taken waiting
 
@@ -52,7 +58,8 @@ FindsFull v waiting = (v.sends ≡ true) × (taken : List Slot) × Run v.accepte
 abbrev pub Pops : Account → Slot → Account → Type 0
 Pops v slot w = (v.takes ≡ true) × IsCarried slot × (w ≡ account v.sends v.takes v.accepted (v.taken ++ slot ∷ []))
 
--- Pop found empty: the pass that may take sees that nothing waits, so that all that was accepted was taken; nothing changes.
+-- Pop found empty: the pass that may take sees that nothing waits, so that all that was accepted was taken;
+-- nothing changes.
 abbrev pub FindsEmpty : Account → List Slot → Type 0
 FindsEmpty v waiting = (v.takes ≡ true) × (accepted : List Slot) × Run accepted v.taken waiting
 

@@ -26,8 +26,9 @@ outside peers members = filter (λ m. not (is_member same_peer peers m.peer)) me
 
 -- ---- any cut
 
--- d of the members are kept, or all where there are fewer. Among them are d_score best ones: no other member scores higher than
--- one of these, so it is free who counts as best of equal ones. And among them are d_out outbound ones, or all that there are.
+-- d of the members are kept, or all where there are fewer. Among them are d_score best ones: no other member scores
+-- higher than one of these, so it is free who counts as best of equal ones. And among them are d_out outbound ones,
+-- or all that there are.
 pub record IsCut (degrees : Degrees) (members : List Member) (kept : List PeerNo) : Type 0 where
   pub some : IsChoice degrees.d (peers_of members) kept
   pub best : List PeerNo
@@ -51,37 +52,48 @@ best_by_score n members = peers_of (filter (λ m. nat_lt (better_ones members m)
 
 -- how many outbound ones these lack
 unfoldable pub outbound_lacking : Degrees → List Member → List PeerNo → ℕ
-outbound_lacking degrees members these = min degrees.d_out (length (outbound_of members)) - length (among these (outbound_of members))
+outbound_lacking degrees members these =
+    min degrees.d_out (length (outbound_of members)) - length (among these (outbound_of members))
 
 module _ {S : Type 0} (word : S → ℕ) (after : S → S) where
   -- Outbound ones are picked first, as many as the best lack, among the outbound members that are not best.
   unfoldable pub outbound_picked : Degrees → List Member → List PeerNo → S → List PeerNo
-  outbound_picked degrees members best s = picked word after (outbound_lacking degrees members best) (peers_of (outside best (outbound_of members))) s
+  outbound_picked degrees members best s =
+      picked word after (outbound_lacking degrees members best) (peers_of (outside best (outbound_of members))) s
 
   unfoldable pub outbound_picked_words : Degrees → List Member → List PeerNo → S → S
-  outbound_picked_words degrees members best s = picked_words word after (outbound_lacking degrees members best) (peers_of (outside best (outbound_of members))) s
+  outbound_picked_words degrees members best s =
+      picked_words word after (outbound_lacking degrees members best) (peers_of (outside best (outbound_of members))) s
 
   -- Then others up to d, among all members that are left.
   unfoldable pub others_picked : Degrees → List Member → List PeerNo → S → List PeerNo
-  others_picked degrees members first s = picked word after (degrees.d - length first) (peers_of (outside first members)) s
+  others_picked degrees members first s =
+      picked word after (degrees.d - length first) (peers_of (outside first members)) s
 
   unfoldable pub others_picked_words : Degrees → List Member → List PeerNo → S → S
-  others_picked_words degrees members first s = picked_words word after (degrees.d - length first) (peers_of (outside first members)) s
+  others_picked_words degrees members first s =
+      picked_words word after (degrees.d - length first) (peers_of (outside first members)) s
 
   -- the best, and the outbound ones that were picked
   unfoldable pub first_kept : Degrees → List Member → S → List PeerNo
-  first_kept degrees members s = best_by_score degrees.d_score members ++ outbound_picked degrees members (best_by_score degrees.d_score members) s
+  first_kept degrees members s =
+      best_by_score degrees.d_score members
+      ++ outbound_picked degrees members (best_by_score degrees.d_score members) s
 
   unfoldable pub first_words : Degrees → List Member → S → S
   first_words degrees members s = outbound_picked_words degrees members (best_by_score degrees.d_score members) s
 
   -- the peers that are kept, in their order: these, and the others that were picked
   unfoldable pub cut : Degrees → List Member → S → List PeerNo
-  cut degrees members s = filter (is_member same_peer (first_kept degrees members s ++ others_picked degrees members (first_kept degrees members s) (first_words degrees members s))) (peers_of members)
+  cut degrees members s = filter
+      (is_member same_peer (first_kept degrees members s
+      ++ others_picked degrees members (first_kept degrees members s) (first_words degrees members s)))
+      (peers_of members)
 
   -- the state after both picks
   unfoldable pub cut_words : Degrees → List Member → S → S
-  cut_words degrees members s = others_picked_words degrees members (first_kept degrees members s) (first_words degrees members s)
+  cut_words degrees members s =
+      others_picked_words degrees members (first_kept degrees members s) (first_words degrees members s)
 
   -- The members stand ascending, as the candidates of a pick do, and d leaves room for the best and the outbound ones.
   pub record IsExactCut (degrees : Degrees) (members : List Member) (s : S) (kept : List PeerNo) (t : S) : Type 0 where
@@ -94,8 +106,15 @@ module _ {S : Type 0} (word : S → ℕ) (after : S → S) where
 
   -- whatever the words, it is a cut
   abbrev pub EachIsACut : Type 0
-  EachIsACut = (degrees : Degrees) (members : List Member) (s : S) (kept : List PeerNo) (t : S) → IsExactCut degrees members s kept t → IsCut degrees members kept
+  EachIsACut =
+      (degrees : Degrees) (members : List Member) (s : S) (kept : List PeerNo) (t : S)
+      → IsExactCut degrees members s kept t
+      → IsCut degrees members kept
 
   -- the members and the words determine who is kept, and the state after it
   abbrev pub IsDetermined : Type 0
-  IsDetermined = (degrees : Degrees) (members : List Member) (s : S) (kept other : List PeerNo) (t u : S) → IsExactCut degrees members s kept t → IsExactCut degrees members s other u → (kept ≡ other) × (t ≡ u)
+  IsDetermined =
+      (degrees : Degrees) (members : List Member) (s : S) (kept other : List PeerNo) (t u : S)
+      → IsExactCut degrees members s kept t
+      → IsExactCut degrees members s other u
+      → (kept ≡ other) × (t ≡ u)

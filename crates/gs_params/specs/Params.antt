@@ -175,7 +175,11 @@ abbrev pub neighbour_caps_hold : Factors → Bool
 neighbour_caps_hold x = is_cap x.topic_cap && is_cap x.decay_to_zero && in_range 1 65_535 x.p6_threshold
 
 abbrev pub factors_hold : Factors → Bool
-factors_hold x = in_range 0 1_000_000 x.gossip_factor && is_fraction x.p7_decay && neighbour_weights_hold x && neighbour_caps_hold x
+factors_hold x =
+    in_range 0 1_000_000 x.gossip_factor
+    && is_fraction x.p7_decay
+    && neighbour_weights_hold x
+    && neighbour_caps_hold x
 
 abbrev pub rewards_hold : TopicFactors → Bool
 rewards_hold x = is_reward x.topic_weight && is_reward x.w1 && is_reward x.w2
@@ -224,10 +228,14 @@ topic_windows_hold x =
 
 -- and of all topics
 abbrev pub all_factors_hold : Params → Bool
-all_factors_hold p = factors_hold p.factors && list_all (λ (topic : Topic × TopicParams). topic_factors_hold topic.1.factors) p.topics
+all_factors_hold p =
+    factors_hold p.factors
+    && list_all (λ (topic : Topic × TopicParams). topic_factors_hold topic.1.factors) p.topics
 
 abbrev pub all_windows_hold : Params → Bool
-all_windows_hold p = windows_hold p.windows && list_all (λ (topic : Topic × TopicParams). topic_windows_hold topic.1.windows) p.topics
+all_windows_hold p =
+    windows_hold p.windows
+    && list_all (λ (topic : Topic × TopicParams). topic_windows_hold topic.1.windows) p.topics
 
 -- the parameters, or the first check that fails
 abbrev pub checked : Params → Result Params ParamFault

@@ -33,15 +33,15 @@ module _ {S : Type 0} (word : S → ℕ) (after : S → S) where
 
 -- ---- picks
 
--- Place i is exchanged with itself or with one behind it, as the first word's remainder says; then place i + 1 by the next word,
--- and so on. (The shuffle of Fisher and Yates, in place, from the front.)
+-- Place i is exchanged with itself or with one behind it, as the first word's remainder says; then place i + 1 by the
+-- next word, and so on. (The shuffle of Fisher and Yates, in place, from the front.)
 unfoldable pub shuffled : {A : Type 0} → ℕ → List ℕ → List A → List A
 shuffled i [] xs = xs
 shuffled i (w ∷ ws) xs = shuffled (i + 1) ws (swap xs i (i + w % (length xs - i)))
 
 module _ {S : Type 0} (word : S → ℕ) (after : S → S) where
-  -- All candidates where they are at most k. Else those in the first k places of their shuffle by the next k words, ascending:
-  -- the candidates are ascending, and the filter leaves them in their order.
+  -- All candidates where they are at most k. Else those in the first k places of their shuffle by the next k words,
+  -- ascending: the candidates are ascending, and the filter leaves them in their order.
   unfoldable pub picked : ℕ → List PeerNo → S → List PeerNo
   picked k candidates s =
       if nat_le (length candidates) k then candidates

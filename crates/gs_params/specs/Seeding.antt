@@ -26,11 +26,14 @@ pub record SeededState : Type 0 where
 
 -- words of which none was given
 abbrev pub new_seeded : List ℕ → ℕ → PeerNo → SeededState
-new_seeded list seed peer = record { list = list; given = 0; seed = seed; peer = peer; generator = generator_of seed peer }
+new_seeded list seed peer =
+    record { list = list; given = 0; seed = seed; peer = peer; generator = generator_of seed peer }
 
 -- the next word: the list's, and behind its end the generator's
 abbrev pub seeded_word : SeededState → ℕ
 seeded_word s = if nat_lt s.given (length s.list) then slice_index s.list s.given else generator_word s.generator
 
 abbrev pub seeded_after : SeededState → SeededState
-seeded_after s = if nat_lt s.given (length s.list) then record s { given = s.given + 1 } else record s { generator = generator_after s.generator }
+seeded_after s =
+    if nat_lt s.given (length s.list) then record s { given = s.given + 1 }
+    else record s { generator = generator_after s.generator }

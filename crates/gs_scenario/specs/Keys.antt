@@ -69,7 +69,8 @@ unfoldable pub only : List (List ℕ) → Section → Result (Unit {0}) Scenario
 only known section = refuse_unknown section.path (first_unknown known section.members)
 
 -- the elements of a list in their order, each read with those before it
-unfoldable pub read_each : {A : Type 0} → (List A → Data → Result A ScenarioFault) → List A → Items → Result (List A) ScenarioFault
+unfoldable pub read_each : {A : Type 0} → (List A → Data → Result A ScenarioFault) → List A → Items
+    → Result (List A) ScenarioFault
 read_each read before no_items = Ok before
 read_each read before (item d ds) = do
   x ← read before d

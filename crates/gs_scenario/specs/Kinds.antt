@@ -103,7 +103,8 @@ abbrev pub word : {A : Type 0} → (List ℕ → Option A) → Kind A
 word meaning = kind_of (λ d. option_and_then meaning (as_str d))
 
 -- a key whose number, a default too, is a multiple of a step
-abbrev pub reads_multiple : ℕ → (List ℕ → Option Data → Result ℕ ScenarioFault) → List ℕ → Option Data → Result ℕ ScenarioFault
+abbrev pub reads_multiple : ℕ → (List ℕ → Option Data → Result ℕ ScenarioFault) → List ℕ → Option Data
+    → Result ℕ ScenarioFault
 reads_multiple step reads place found = do
   n ← reads place found
   refuse_if (not ((n % step) == 0)) (Range place) n

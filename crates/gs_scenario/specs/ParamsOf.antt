@@ -89,7 +89,12 @@ abbrev pub opportunistic_threshold_key : Key ℤ
 opportunistic_threshold_key = amount_key (codes "opportunistic_threshold") default_thresholds.opportunistic_threshold
 
 abbrev pub threshold_names : List (List ℕ)
-threshold_names = gossip_threshold_key.name ∷ publish_threshold_key.name ∷ graylist_threshold_key.name ∷ opportunistic_threshold_key.name ∷ []
+threshold_names =
+    gossip_threshold_key.name
+    ∷ publish_threshold_key.name
+    ∷ graylist_threshold_key.name
+    ∷ opportunistic_threshold_key.name
+    ∷ []
 
 unfoldable pub thresholds_in : Section → Result Thresholds ScenarioFault
 thresholds_in section = do
@@ -126,7 +131,16 @@ abbrev pub p6_threshold_key : Key ℕ
 p6_threshold_key = count_key (codes "p6_threshold") default_factors.p6_threshold
 
 abbrev pub factor_names : List (List ℕ)
-factor_names = gossip_factor_key.name ∷ p7_decay_key.name ∷ w5_key.name ∷ w6_key.name ∷ w7_key.name ∷ topic_cap_key.name ∷ decay_to_zero_key.name ∷ p6_threshold_key.name ∷ []
+factor_names =
+    gossip_factor_key.name
+    ∷ p7_decay_key.name
+    ∷ w5_key.name
+    ∷ w6_key.name
+    ∷ w7_key.name
+    ∷ topic_cap_key.name
+    ∷ decay_to_zero_key.name
+    ∷ p6_threshold_key.name
+    ∷ []
 
 unfoldable pub factors_in : Section → Result Factors ScenarioFault
 factors_in section = do
@@ -185,7 +199,22 @@ abbrev pub gossip_retransmission_key : Key ℕ
 gossip_retransmission_key = count_key (codes "gossip_retransmission") default_windows.gossip_retransmission
 
 abbrev pub window_names : List (List ℕ)
-window_names = (heartbeat_ms_key 1).name ∷ (decay_ms_key 1).name ∷ fanout_ttl_ms_key.name ∷ seen_ttl_ms_key.name ∷ iwant_followup_ms_key.name ∷ prune_backoff_s_key.name ∷ unsubscribe_backoff_s_key.name ∷ mcache_len_key.name ∷ mcache_gossip_key.name ∷ opportunistic_ticks_key.name ∷ opportunistic_peers_key.name ∷ max_ihave_key.name ∷ max_ihave_ids_key.name ∷ gossip_retransmission_key.name ∷ []
+window_names =
+    (heartbeat_ms_key 1).name
+    ∷ (decay_ms_key 1).name
+    ∷ fanout_ttl_ms_key.name
+    ∷ seen_ttl_ms_key.name
+    ∷ iwant_followup_ms_key.name
+    ∷ prune_backoff_s_key.name
+    ∷ unsubscribe_backoff_s_key.name
+    ∷ mcache_len_key.name
+    ∷ mcache_gossip_key.name
+    ∷ opportunistic_ticks_key.name
+    ∷ opportunistic_peers_key.name
+    ∷ max_ihave_key.name
+    ∷ max_ihave_ids_key.name
+    ∷ gossip_retransmission_key.name
+    ∷ []
 
 unfoldable pub windows_in : ℕ → Section → Result Windows ScenarioFault
 windows_in round_ms section = do
@@ -283,7 +312,22 @@ abbrev pub ignore_key : Key (List (List ℕ))
 ignore_key = prefixes_key (codes "ignore")
 
 abbrev pub topic_factor_names : List (List ℕ)
-topic_factor_names = topic_weight_key.name ∷ w1_key.name ∷ w2_key.name ∷ w3_key.name ∷ w3b_key.name ∷ w4_key.name ∷ p2_decay_key.name ∷ p3_decay_key.name ∷ p3b_decay_key.name ∷ p4_decay_key.name ∷ p1_cap_key.name ∷ p2_cap_key.name ∷ p3_cap_key.name ∷ p3_threshold_key.name ∷ []
+topic_factor_names =
+    topic_weight_key.name
+    ∷ w1_key.name
+    ∷ w2_key.name
+    ∷ w3_key.name
+    ∷ w3b_key.name
+    ∷ w4_key.name
+    ∷ p2_decay_key.name
+    ∷ p3_decay_key.name
+    ∷ p3b_decay_key.name
+    ∷ p4_decay_key.name
+    ∷ p1_cap_key.name
+    ∷ p2_cap_key.name
+    ∷ p3_cap_key.name
+    ∷ p3_threshold_key.name
+    ∷ []
 
 abbrev pub topic_window_names : List (List ℕ)
 topic_window_names = p1_quantum_ms_key.name ∷ p3_window_ms_key.name ∷ p3_activation_ms_key.name ∷ []

@@ -59,7 +59,19 @@ abbrev pub script_key : Key Items
 script_key = optional (codes "do") any_list no_items
 
 abbrev pub top_keys : List (List ℕ)
-top_keys = round_ms_key.name ∷ rounds_key.name ∷ workers_key.name ∷ capacity_key.name ∷ seed_key.name ∷ params_key.name ∷ topics_key.name ∷ peers_key.name ∷ dials_key.name ∷ apps_key.name ∷ script_key.name ∷ []
+top_keys =
+    round_ms_key.name
+    ∷ rounds_key.name
+    ∷ workers_key.name
+    ∷ capacity_key.name
+    ∷ seed_key.name
+    ∷ params_key.name
+    ∷ topics_key.name
+    ∷ peers_key.name
+    ∷ dials_key.name
+    ∷ apps_key.name
+    ∷ script_key.name
+    ∷ []
 
 -- what the top table holds: the table in it and its lists are walked later
 pub record Top : Type 0 where
@@ -95,7 +107,9 @@ top_in top = do
 
 -- the topic that has a name
 abbrev pub topic_named : List (Topic × TopicParams) → List ℕ → Option Topic
-topic_named topics text = option_map (λ (found : Topic × TopicParams). found.0) (find (λ (topic : Topic × TopicParams). pointwise nat_eq topic.0.0 text) topics)
+topic_named topics text = option_map
+    (λ (found : Topic × TopicParams). found.0)
+    (find (λ (topic : Topic × TopicParams). pointwise nat_eq topic.0.0 text) topics)
 
 abbrev pub topic_name_key : List (Topic × TopicParams) → Key (List ℕ)
 topic_name_key earlier = required (codes "name") (new_name (topic_named earlier))
@@ -250,7 +264,8 @@ what_in topics section verbs.Publish = do
   payload ← read_key section hex_key
   Ok (Publish topic payload)
 
-unfoldable pub line_in : List (Topic × TopicParams) → List PlannedPeer → ℕ → List Line → Data → Result Line ScenarioFault
+unfoldable pub line_in : List (Topic × TopicParams) → List PlannedPeer → ℕ → List Line → Data
+    → Result Line ScenarioFault
 line_in topics peers rounds earlier d = do
   section ← table_at (element (codes "do") (length earlier)) d
   verb ← read_key section what_key

@@ -1,5 +1,5 @@
--- Control messages as lists of records (gossipsub v1.0 and v1.1, "Control messages": `rpc.proto`). The numbers are those of
--- the fields there.
+-- Control messages as lists of records (gossipsub v1.0 and v1.1, "Control messages": `rpc.proto`).
+-- The numbers are those of the fields there.
 use Rattle.std.specs.Prelude.{◌≡◌, ℕ, ◌++◌, List, [], ◌∷◌, Option, Some, None}
 use Rattle.std.specs.List.{AllZip, flat_map}
 use Rattle.gs_base.specs.declared.control.IHave.{IHave}
@@ -38,11 +38,15 @@ no_control = record { ihave = []; iwant = []; graft = []; prune = [] }
 abbrev pub joined : List (List Record) → List Record
 joined lists = flat_map (λ rs. rs) lists
 
--- The control of an RPC, by the values of its field: absent where there are none. Each value spells records by itself, and
--- all of those, joined, say the control.
+-- The control of an RPC, by the values of its field: absent where there are none. Each value spells records by itself,
+-- and all of those, joined, say the control.
 abbrev pub SaysMerged : List (List ℕ) → Option Control → Type 0
 SaysMerged [] control = control ≡ None
-SaysMerged (bytes ∷ more) control = (v : Control) × (lists : List (List Record)) × (control ≡ Some v) × AllZip SpellRecords (bytes ∷ more) lists × SaysControl (joined lists) v
+SaysMerged (bytes ∷ more) control =
+    (v : Control) × (lists : List (List Record))
+    × (control ≡ Some v)
+    × AllZip SpellRecords (bytes ∷ more) lists
+    × SaysControl (joined lists) v
 
 -- ---- the records of a value
 

@@ -1,4 +1,5 @@
--- RPCs and their parts as lists of records (libp2p pubsub, "The RPC": `rpc.proto`). The numbers are those of the fields there.
+-- RPCs and their parts as lists of records (libp2p pubsub, "The RPC": `rpc.proto`).
+-- The numbers are those of the fields there.
 use Rattle.std.specs.Prelude.{◌≡◌, ℕ, ◌<◌, ◌^◌, List, ◌++◌, length, IfSome, option_to_list}
 use Rattle.std.specs.List.{AllZip, AllByRecursion}
 use Rattle.gs_base.specs.declared.control.Prune.{Prune}

@@ -13,7 +13,8 @@ varint_at_most zero bytes = None
 varint_at_most (suc k) [] = None
 varint_at_most (suc k) (b ∷ bytes) =
     if nat_lt b 128 then Some (b, bytes)
-    else if nat_lt b 256 then (varint_at_most k bytes >>= λ high. if nat_lt ((b - 128) + 128 * high.0) (2 ^ 64) then Some ((b - 128) + 128 * high.0, high.1) else None)
+    else if nat_lt b 256 then (varint_at_most k bytes >>= λ high.
+    if nat_lt ((b - 128) + 128 * high.0) (2 ^ 64) then Some ((b - 128) + 128 * high.0, high.1) else None)
     else None
 
 unfoldable pub varint_at : List ℕ → Option (ℕ × List ℕ)
@@ -34,4 +35,6 @@ value_at kind bytes =
 
 unfoldable pub record_at : List ℕ → Option (Record × List ℕ)
 record_at bytes =
-    varint_at bytes >>= λ tag. if nat_lt tag.0 8 then None else value_at (tag.0 % 8) tag.1 >>= λ v. Some (record { field = tag.0 / 8; value = v.0 }, v.1)
+    varint_at bytes >>= λ tag.
+    if nat_lt tag.0 8 then None
+    else value_at (tag.0 % 8) tag.1 >>= λ v. Some (record { field = tag.0 / 8; value = v.0 }, v.1)

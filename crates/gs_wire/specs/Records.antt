@@ -44,7 +44,11 @@ pub record SpellsRecord (text : List ℕ) (r : Record) : Type 0 where
 -- The text spells the records: one spelling of each, in order.
 abbrev pub SpellRecords : List ℕ → List Record → Type 0
 SpellRecords text [] = text ≡ []
-SpellRecords text (r ∷ rs) = (one : List ℕ) × (rest : List ℕ) × (text ≡ one ++ rest) × SpellsRecord one r × SpellRecords rest rs
+SpellRecords text (r ∷ rs) =
+    (one : List ℕ) × (rest : List ℕ)
+    × (text ≡ one ++ rest)
+    × SpellsRecord one r
+    × SpellRecords rest rs
 
 -- ---- the values of one field
 

@@ -1,5 +1,5 @@
--- Streams of frames: a varint length, and then that many bytes of a body. A stream is told as a whole, so it doesn't matter
--- how it was cut into pieces.
+-- Streams of frames: a varint length, and then that many bytes of a body. A stream is told as a whole, so it doesn't
+-- matter how it was cut into pieces.
 use Rattle.std.specs.Prelude.{◌≡◌, ℕ, ◌-◌, ◌<◌, ◌≤◌, Bool, false, List, [], ◌∷◌, ◌++◌, length, drop, Option, Some, None, IfSome, IsSome, ◌⊎◌}
 use Rattle.std.specs.List.{AllByRecursion}
 use Rattle.gs_base.specs.declared.rpc.Rpc.{Rpc}
@@ -21,7 +21,11 @@ pub record SpellsFrame (limit : ℕ) (text : List ℕ) (v : Rpc) : Type 0 where
 -- The text is one frame of each RPC, in order.
 abbrev pub SpellFrames : ℕ → List ℕ → List Rpc → Type 0
 SpellFrames limit text [] = text ≡ []
-SpellFrames limit text (v ∷ vs) = (one : List ℕ) × (rest : List ℕ) × (text ≡ one ++ rest) × SpellsFrame limit one v × SpellFrames limit rest vs
+SpellFrames limit text (v ∷ vs) =
+    (one : List ℕ) × (rest : List ℕ)
+    × (text ≡ one ++ rest)
+    × SpellsFrame limit one v
+    × SpellFrames limit rest vs
 
 -- The bytes begin with a length, and go on with the rest.
 pub record HasLength (bytes : List ℕ) (n : ℕ) (rest : List ℕ) : Type 0 where
@@ -33,13 +37,15 @@ pub record HasLength (bytes : List ℕ) (n : ℕ) (rest : List ℕ) : Type 0 whe
 abbrev pub BeginsLength : List ℕ → Type 0
 BeginsLength bytes = (length bytes < 10) × AllByRecursion (λ b. 128 ≤ b) bytes
 
--- How a stream goes on behind its whole frames: it waits for more of a frame, a length is above the limit, or no length or
--- no RPC stands there.
+-- How a stream goes on behind its whole frames: it waits for more of a frame, a length is above the limit, or no length
+-- or no RPC stands there.
 abbrev pub GoesOn : ℕ → List ℕ → End → Type 0
-GoesOn limit rest ends.Waits = BeginsLength rest ⊎ ((n : ℕ) × (more : List ℕ) × HasLength rest n more × (n ≤ limit) × (length more < n))
+GoesOn limit rest ends.Waits = BeginsLength rest
+    ⊎ ((n : ℕ) × (more : List ℕ) × HasLength rest n more × (n ≤ limit) × (length more < n))
 GoesOn limit rest ends.TooLong = (n : ℕ) × (more : List ℕ) × HasLength rest n more × (limit < n)
 GoesOn limit rest ends.Malformed = (¬ (BeginsLength rest) × ((n : ℕ) (more : List ℕ) → ¬ (HasLength rest n more)))
-    ⊎ ((body : List ℕ) × (more : List ℕ) × HasLength rest (length body) (body ++ more) × (length body ≤ limit) × ((v : Rpc) → ¬ (SpellsRpc body v)))
+    ⊎ ((body : List ℕ) × (more : List ℕ) × HasLength rest (length body) (body ++ more)
+    × (length body ≤ limit) × ((v : Rpc) → ¬ (SpellsRpc body v)))
 
 -- The stream is the frames of these RPCs, and then the rest, which goes on so.
 pub record IsStream (limit : ℕ) (bytes : List ℕ) (vs : List Rpc) (rest : List ℕ) (end : End) : Type 0 where
@@ -83,8 +89,8 @@ pub record Feeds (old : Holding) (piece : List ℕ) (new : Holding) (before afte
   pub added : after ≡ before ++ found
   pub keeps : new ≡ record { limit = old.limit; held = held_after end rest }
 
--- What a reader that held these bytes finds in the pieces that it is fed in turn, and how the last one ended. After a fault
--- nothing more is found.
+-- What a reader that held these bytes finds in the pieces that it is fed in turn, and how the last one ended.
+-- After a fault nothing more is found.
 abbrev pub FindsAfter : End → Type 0 → List Rpc → End → Type 0
 FindsAfter ends.Waits later more end = later
 FindsAfter ends.TooLong later more end = (more ≡ []) × (end ≡ ends.TooLong)
@@ -92,19 +98,29 @@ FindsAfter ends.Malformed later more end = (more ≡ []) × (end ≡ ends.Malfor
 
 abbrev pub FindsIn : ℕ → List ℕ → List (List ℕ) → List Rpc → End → Type 0
 FindsIn limit held [] vs end = (vs ≡ []) × (end ≡ ends.Waits)
-FindsIn limit held (piece ∷ pieces) vs end = (found : List Rpc) × (rest : List ℕ) × (first : End) × (more : List Rpc) × IsStream limit (held ++ piece) found rest first × (vs ≡ found ++ more) × FindsAfter first (FindsIn limit rest pieces more end) more end
+FindsIn limit held (piece ∷ pieces) vs end =
+    (found : List Rpc) × (rest : List ℕ) × (first : End) × (more : List Rpc)
+    × IsStream limit (held ++ piece) found rest first
+    × (vs ≡ found ++ more)
+    × FindsAfter first (FindsIn limit rest pieces more end) more end
 
 -- One call of a feed, and what it adds: what was held and the piece are read on. After a fault it changes nothing.
 abbrev pub FeedsOnce : Holding → List ℕ → Holding → List Rpc → Type 0
-FeedsOnce old piece new found = ((end : End) × Feeds old piece new [] found end) ⊎ ((old.held ≡ None) × (new ≡ old) × (found ≡ []))
+FeedsOnce old piece new found =
+    ((end : End) × Feeds old piece new [] found end)
+    ⊎ ((old.held ≡ None) × (new ≡ old) × (found ≡ []))
 
 -- Feeds of pieces in turn, and all that they add.
 abbrev pub FeedsAll : Holding → List (List ℕ) → Holding → List Rpc → Type 0
 FeedsAll old [] new vs = (new ≡ old) × (vs ≡ [])
-FeedsAll old (piece ∷ pieces) new vs = (middle : Holding) × (found : List Rpc) × (more : List Rpc) × FeedsOnce old piece middle found × FeedsAll middle pieces new more × (vs ≡ found ++ more)
+FeedsAll old (piece ∷ pieces) new vs =
+    (middle : Holding) × (found : List Rpc) × (more : List Rpc)
+    × FeedsOnce old piece middle found
+    × FeedsAll middle pieces new more
+    × (vs ≡ found ++ more)
 
--- A reader that was fed these bytes has found the RPCs of the stream that they are, and holds its unread end; after a fault
--- it holds nothing.
+-- A reader that was fed these bytes has found the RPCs of the stream that they are, and holds its unread end;
+-- after a fault it holds nothing.
 pub record HasRead (limit : ℕ) (bytes : List ℕ) (reader : Holding) (vs : List Rpc) : Type 0 where
   pub rest : List ℕ
   pub end : End

@@ -5,7 +5,9 @@ use Rattle.std.specs.Prelude.{◌≡◌, ℕ, zero, suc, ◌+◌, ◌*◌, ◌/�
 abbrev pub AreGroups : List ℕ → ℕ → Type 0
 AreGroups [] n = ⊥
 AreGroups (b ∷ []) n = (b < 128) × (n ≡ b)
-AreGroups (b ∷ c ∷ bytes) n = (128 ≤ b) × (b < 256) × ((high : ℕ) × (n + 128 ≡ b + 128 * high) × AreGroups (c ∷ bytes) high)
+AreGroups (b ∷ c ∷ bytes) n =
+    (128 ≤ b) × (b < 256)
+    × ((high : ℕ) × (n + 128 ≡ b + 128 * high) × AreGroups (c ∷ bytes) high)
 
 -- The bytes are one of the spellings of a number: there are several, since the last groups may be zero.
 pub record IsVarint (bytes : List ℕ) (n : ℕ) : Type 0 where

@@ -38,8 +38,12 @@ pub(crate) trait Decode: Drop {
 
     /// Adds a record to those that say the message.
     fn merge(&mut self, alloc: Global, record: Record<'_>) -> Result<(), DecodeError>
-        ensures merged { OnOk result ((before : List Spelled) → says before self.old → says (before ++ view «record».entry ∷ []) self.new) }
-        ensures malformed { IsErrOf result DecodeError.Malformed → (before after : List Spelled) (message : Self) → ¬ says (before ++ view «record».entry ∷ after) message };
+        ensures merged { OnOk result ((before : List Spelled)
+            → says before self.old
+            → says (before ++ view «record».entry ∷ []) self.new) }
+        ensures malformed { IsErrOf result DecodeError.Malformed
+            → (before after : List Spelled) (message : Self)
+            → ¬ says (before ++ view «record».entry ∷ after) message };
 }
 
 /// Reads all that is left, and merges each record into the message.
@@ -48,8 +52,13 @@ pub(crate) fn merge_all<M: Decode>(
     reader: Reader<'_>,
     message: &mut M,
 ) -> Result<(), DecodeError>
-    ensures merged { OnOk result ((records : List Spelled) × SpellRecords reader.entry records × ((before : List Spelled) → M.says before message.old → M.says (before ++ records) message.new)) }
-    ensures malformed { IsErrOf result DecodeError.Malformed → (before records after : List Spelled) (other : M) → SpellRecords reader.entry records → ¬ M.says (before ++ (records ++ after)) other }
+    ensures merged { OnOk result ((records : List Spelled)
+        × SpellRecords reader.entry records
+        × ((before : List Spelled) → M.says before message.old → M.says (before ++ records) message.new)) }
+    ensures malformed { IsErrOf result DecodeError.Malformed
+        → (before records after : List Spelled) (other : M)
+        → SpellRecords reader.entry records
+        → ¬ M.says (before ++ (records ++ after)) other }
 {
     let mut reader = reader;
     while !reader.is_empty() {
@@ -79,7 +88,9 @@ pub(crate) fn push_message<M: Decode>(
     reader: Reader<'_>,
     list: &mut Seq<M>,
 ) -> Result<(), DecodeError>
-    ensures pushed { OnOk result ((message : M) × Spells M.says reader.entry message × (list.new ≡ list.old ++ message ∷ [])) }
+    ensures pushed { OnOk result ((message : M)
+        × Spells M.says reader.entry message
+        × (list.new ≡ list.old ++ message ∷ [])) }
     ensures malformed { IsErrOf result DecodeError.Malformed → (message : M) → ¬ Spells M.says reader.entry message }
 {
     let mut items = mem::replace(list, Seq::new(alloc)).into_vec();

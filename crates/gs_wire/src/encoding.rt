@@ -47,14 +47,19 @@ pub(crate) fn bytes_of_topic(value: &Option<Topic>) -> Option<&[u8]>
 
 /// The length of a record with a value of `len` bytes, in a field whose tag is one byte.
 pub(crate) fn len_record_len(len: usize) -> usize
-    ensures { (field : ℕ) (bytes : List ℕ) → field < 16 → len ≡ min usize.MAX (length bytes) → result ≡ min usize.MAX (length (record_text (len_record field bytes))) }
+    ensures { (field : ℕ) (bytes : List ℕ)
+        → field < 16
+        → len ≡ min usize.MAX (length bytes)
+        → result ≡ min usize.MAX (length (record_text (len_record field bytes))) }
 {
     (1 + varint_len(len as u64)).saturating_add(len)
 }
 
 /// The length of an optional field of bytes.
 pub(crate) fn optional_len(value: Option<&[u8]>) -> usize
-    ensures { (field : ℕ) → field < 16 → result ≡ min usize.MAX (length (records_text (bytes_records field (option_copied value.entry)))) }
+    ensures { (field : ℕ)
+        → field < 16
+        → result ≡ min usize.MAX (length (records_text (bytes_records field (option_copied value.entry)))) }
 {
     match value {
         Some(bytes) => len_record_len(bytes.len()),
@@ -85,7 +90,9 @@ pub(crate) fn number_len(value: Option<u64>) -> usize
 
 /// The length of a repeated field of bytes.
 pub(crate) fn repeated_len(values: &[Bytes]) -> usize
-    ensures { (field : ℕ) → field < 16 → result ≡ min usize.MAX (length (records_text (repeated_records field values.now))) }
+    ensures { (field : ℕ)
+        → field < 16
+        → result ≡ min usize.MAX (length (records_text (repeated_records field values.now))) }
 {
     let mut total: usize = 0;
     for bytes in values {
@@ -96,7 +103,9 @@ pub(crate) fn repeated_len(values: &[Bytes]) -> usize
 
 /// The length of a repeated field of messages.
 pub(crate) fn parts_len<M: Encode>(parts: &[M]) -> usize
-    ensures { (field : ℕ) → field < 16 → result ≡ min usize.MAX (length (records_text (part_records M.records field parts.now))) }
+    ensures { (field : ℕ)
+        → field < 16
+        → result ≡ min usize.MAX (length (records_text (part_records M.records field parts.now))) }
 {
     let mut total: usize = 0;
     for part in parts {
@@ -143,8 +152,10 @@ fn put_bytes(buffer: &mut Vec<u8>, field: u64, bytes: &[u8])
 /// Writes bytes where there are any to write.
 pub(crate) fn put_optional(buffer: &mut Vec<u8>, field: u64, value: Option<&[u8]>)
     requires small { field < 16 }
-    requires room { vec_len buffer.old + length (records_text (bytes_records field (option_copied value))) ≤ vec_capacity buffer.old }
-    ensures written { buffer.new.items ≡ buffer.old.items ++ records_text (bytes_records field (option_copied value.entry)) }
+    requires room { vec_len buffer.old + length (records_text (bytes_records field (option_copied value)))
+        ≤ vec_capacity buffer.old }
+    ensures written { buffer.new.items ≡ buffer.old.items
+        ++ records_text (bytes_records field (option_copied value.entry)) }
     ensures capacity { vec_capacity buffer.old ≤ vec_capacity buffer.new }
 {
     if let Some(bytes) = value {
@@ -155,7 +166,8 @@ pub(crate) fn put_optional(buffer: &mut Vec<u8>, field: u64, value: Option<&[u8]
 /// Writes each value in order.
 pub(crate) fn put_repeated(buffer: &mut Vec<u8>, field: u64, values: &[Bytes])
     requires small { field < 16 }
-    requires room { vec_len buffer.old + length (records_text (repeated_records field values.now)) ≤ vec_capacity buffer.old }
+    requires room { vec_len buffer.old + length (records_text (repeated_records field values.now))
+        ≤ vec_capacity buffer.old }
     ensures written { buffer.new.items ≡ buffer.old.items ++ records_text (repeated_records field values.now) }
     ensures capacity { vec_capacity buffer.old ≤ vec_capacity buffer.new }
 {
@@ -168,8 +180,10 @@ pub(crate) fn put_repeated(buffer: &mut Vec<u8>, field: u64, values: &[Bytes])
 pub(crate) fn put_sized_part<M: Encode>(buffer: &mut Vec<u8>, field: u64, part: &M, len: usize)
     requires small { field < 16 }
     requires sized { len ≡ min usize.MAX (length (records_text (M.records part.now))) }
-    requires room { vec_len buffer.old + length (record_text (len_record field (records_text (M.records part.now)))) ≤ vec_capacity buffer.old }
-    ensures written { buffer.new.items ≡ buffer.old.items ++ record_text (len_record field (records_text (M.records part.now))) }
+    requires room { vec_len buffer.old + length (record_text (len_record field (records_text (M.records part.now))))
+        ≤ vec_capacity buffer.old }
+    ensures written { buffer.new.items ≡ buffer.old.items
+        ++ record_text (len_record field (records_text (M.records part.now))) }
     ensures capacity { vec_capacity buffer.old ≤ vec_capacity buffer.new }
 {
     put_len(buffer, field, len);
@@ -179,7 +193,8 @@ pub(crate) fn put_sized_part<M: Encode>(buffer: &mut Vec<u8>, field: u64, part: 
 /// Writes each part in order.
 pub(crate) fn put_parts<M: Encode>(buffer: &mut Vec<u8>, field: u64, parts: &[M])
     requires small { field < 16 }
-    requires room { vec_len buffer.old + length (records_text (part_records M.records field parts.now)) ≤ vec_capacity buffer.old }
+    requires room { vec_len buffer.old + length (records_text (part_records M.records field parts.now))
+        ≤ vec_capacity buffer.old }
     ensures written { buffer.new.items ≡ buffer.old.items ++ records_text (part_records M.records field parts.now) }
     ensures capacity { vec_capacity buffer.old ≤ vec_capacity buffer.new }
 {

@@ -66,8 +66,10 @@ impl FrameReader {
         rpcs: &mut Vec<Rpc>,
     ) -> Result<(), WireFault>
         ensures fed { OnOk result (Feeds self.old piece.now self.new rpcs.old.items rpcs.new.items End.Waits) }
-        ensures malformed { IsErrOf result WireFault.Malformed → Feeds self.old piece.now self.new rpcs.old.items rpcs.new.items End.Malformed }
-        ensures too_long { IsErrOf result WireFault.TooLong → Feeds self.old piece.now self.new rpcs.old.items rpcs.new.items End.TooLong }
+        ensures malformed { IsErrOf result WireFault.Malformed
+            → Feeds self.old piece.now self.new rpcs.old.items rpcs.new.items End.Malformed }
+        ensures too_long { IsErrOf result WireFault.TooLong
+            → Feeds self.old piece.now self.new rpcs.old.items rpcs.new.items End.TooLong }
         ensures failed { (result ≡ Err WireFault.Failed) ↔ (self.old.held ≡ None) }
         ensures failed_reader { result ≡ Err WireFault.Failed → self.new ≡ self.old }
         ensures failed_list { result ≡ Err WireFault.Failed → rpcs.new.items ≡ rpcs.old.items }
@@ -92,8 +94,10 @@ impl FrameReader {
         rpcs: &mut Vec<Rpc>,
     ) -> Result<(), WireFault>
         ensures fed { OnOk result (Feeds self.old piece.now self.new rpcs.old.items rpcs.new.items End.Waits) }
-        ensures malformed { IsErrOf result WireFault.Malformed → Feeds self.old piece.now self.new rpcs.old.items rpcs.new.items End.Malformed }
-        ensures too_long { IsErrOf result WireFault.TooLong → Feeds self.old piece.now self.new rpcs.old.items rpcs.new.items End.TooLong }
+        ensures malformed { IsErrOf result WireFault.Malformed
+            → Feeds self.old piece.now self.new rpcs.old.items rpcs.new.items End.Malformed }
+        ensures too_long { IsErrOf result WireFault.TooLong
+            → Feeds self.old piece.now self.new rpcs.old.items rpcs.new.items End.TooLong }
         ensures failed { (result ≡ Err WireFault.Failed) ↔ (self.old.held ≡ None) }
         ensures failed_reader { result ≡ Err WireFault.Failed → self.new ≡ self.old }
         ensures failed_list { result ≡ Err WireFault.Failed → rpcs.new.items ≡ rpcs.old.items }
@@ -147,8 +151,10 @@ impl FrameReader {
     ) -> Result<(), WireFault>
         requires { self.old.held ≡ Some [] }
         ensures fed { OnOk result (Feeds self.old piece.now self.new rpcs.old.items rpcs.new.items End.Waits) }
-        ensures malformed { IsErrOf result WireFault.Malformed → Feeds self.old piece.now self.new rpcs.old.items rpcs.new.items End.Malformed }
-        ensures too_long { IsErrOf result WireFault.TooLong → Feeds self.old piece.now self.new rpcs.old.items rpcs.new.items End.TooLong }
+        ensures malformed { IsErrOf result WireFault.Malformed
+            → Feeds self.old piece.now self.new rpcs.old.items rpcs.new.items End.Malformed }
+        ensures too_long { IsErrOf result WireFault.TooLong
+            → Feeds self.old piece.now self.new rpcs.old.items rpcs.new.items End.TooLong }
         ensures failed { ¬ (result ≡ Err WireFault.Failed) }
         ensures no_memory_reader { result ≡ Err WireFault.NoMemory → self.new ≡ self.old }
         ensures no_memory_list { result ≡ Err WireFault.NoMemory → rpcs.new.items ≡ rpcs.old.items }

@@ -94,8 +94,12 @@ fn push_body(
     rpcs: &mut Vec<Rpc>,
 ) -> Result<(), DecodeError>
     requires { (span.start ≤ span.end) × (span.end ≤ length bytes.now) }
-    ensures pushed { OnOk result ((rpc : RpcValue) × SpellsRpc (take (span.end - span.start) (drop span.start bytes.now)) rpc × (rpcs.new.items ≡ rpcs.old.items ++ rpc ∷ [])) }
-    ensures malformed { IsErrOf result DecodeError.Malformed → (rpc : RpcValue) → ¬ SpellsRpc (take (span.end - span.start) (drop span.start bytes.now)) rpc }
+    ensures pushed { OnOk result ((rpc : RpcValue)
+        × SpellsRpc (take (span.end - span.start) (drop span.start bytes.now)) rpc
+        × (rpcs.new.items ≡ rpcs.old.items ++ rpc ∷ [])) }
+    ensures malformed { IsErrOf result DecodeError.Malformed
+        → (rpc : RpcValue)
+        → ¬ SpellsRpc (take (span.end - span.start) (drop span.start bytes.now)) rpc }
     ensures kept { OnErr result (rpcs.new.items ≡ rpcs.old.items) }
 {
     let mut rpc = Rpc::empty(alloc);
@@ -117,8 +121,11 @@ pub(crate) fn read_frames(
     requires low { limit ≤ longest_body }
     requires known { IfSome known (λ span. IsSpan limit bytes.now span.start span.end) }
     ensures within { IfOk result (λ p. p.taken ≤ length bytes.now) }
-    ensures next { IfOk result (λ p. IfSome p.next (λ span. IsSpan limit (drop p.taken bytes.now) span.start span.end)) }
-    ensures read { IfOk result (λ p. (found : List RpcValue) × IsStream limit bytes.now found (drop p.taken bytes.now) p.end × (rpcs.new.items ≡ rpcs.old.items ++ found)) }
+    ensures next { IfOk result (λ p.
+        IfSome p.next (λ span. IsSpan limit (drop p.taken bytes.now) span.start span.end)) }
+    ensures read { IfOk result (λ p. (found : List RpcValue)
+        × IsStream limit bytes.now found (drop p.taken bytes.now) p.end
+        × (rpcs.new.items ≡ rpcs.old.items ++ found)) }
     ensures kept { take (length rpcs.old.items) rpcs.new.items ≡ rpcs.old.items }
 {
     let mut taken = 0;

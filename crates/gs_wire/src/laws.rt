@@ -25,7 +25,11 @@ pub fn a_body_spells_its_rpc()
 
 /// No frame begins another: whatever follows a frame, it is read back, and what follows it is left.
 pub fn no_frame_begins_another()
-    ensures { (v w : Rpc) (x y : List ℕ) → IsInMemory v → IsInMemory w → frame v ++ x ≡ frame w ++ y → (v ≡ w) × (x ≡ y) }
+    ensures { (v w : Rpc) (x y : List ℕ)
+        → IsInMemory v
+        → IsInMemory w
+        → frame v ++ x ≡ frame w ++ y
+        → (v ≡ w) × (x ≡ y) }
 {}
 
 /// A written varint spells its number, and no spelling is shorter.
@@ -36,28 +40,40 @@ pub fn the_written_varint_is_shortest()
 
 /// A stream is one list of frames, and goes on in one way.
 pub fn a_stream_is_one()
-    ensures { (limit : ℕ) (bytes : List ℕ) (vs ws : List Rpc) (r s : List ℕ) (e d : End) → IsStream limit bytes vs r e → IsStream limit bytes ws s d → (vs ≡ ws) × (r ≡ s) × (e ≡ d) }
+    ensures { (limit : ℕ) (bytes : List ℕ) (vs ws : List Rpc) (r s : List ℕ) (e d : End)
+        → IsStream limit bytes vs r e
+        → IsStream limit bytes ws s d
+        → (vs ≡ ws) × (r ≡ s) × (e ≡ d) }
 {}
 
 /// However a stream is cut into pieces, what a reader finds in them is what stands in all of it.
 pub fn a_stream_may_be_cut_anywhere()
-    ensures { (limit : ℕ) (pieces : List (List ℕ)) (vs : List Rpc) (end : End) → FindsIn limit [] pieces vs end → (rest : List ℕ) × IsStream limit (concat pieces) vs rest end }
+    ensures { (limit : ℕ) (pieces : List (List ℕ)) (vs : List Rpc) (end : End)
+        → FindsIn limit [] pieces vs end
+        → (rest : List ℕ) × IsStream limit (concat pieces) vs rest end }
 {}
 
 /// However bytes are fed, what a reader holds then is the unread end of all of them, where no fault
 /// stands. So a stream that is closed there ends behind unread bytes.
 pub fn a_reader_holds_the_unread_end()
-    ensures { (limit : ℕ) (pieces : List (List ℕ)) (reader : Holding) (vs : List Rpc) → FeedsAll (record { limit = limit; held = Some [] }) pieces reader vs → HasRead limit (concat pieces) reader vs }
+    ensures { (limit : ℕ) (pieces : List (List ℕ)) (reader : Holding) (vs : List Rpc)
+        → FeedsAll (record { limit = limit; held = Some [] }) pieces reader vs
+        → HasRead limit (concat pieces) reader vs }
 {}
 
 /// Every list of bytes is a stream, and by `a_stream_is_one` in one way.
 pub fn every_list_of_bytes_is_a_stream()
-    ensures { (limit : ℕ) (bytes : List ℕ) → (vs : List Rpc) × (rest : List ℕ) × (end : End) × IsStream limit bytes vs rest end }
+    ensures { (limit : ℕ) (bytes : List ℕ)
+        → (vs : List Rpc) × (rest : List ℕ) × (end : End) × IsStream limit bytes vs rest end }
 {}
 
 /// A written frame whose body is within a reader's limit is read back, whatever follows it.
 pub fn a_written_frame_is_read_back()
-    ensures { (limit : ℕ) (v : Rpc) (more : List ℕ) (vs : List Rpc) (rest : List ℕ) (end : End) → IsInMemory v → length (body v) ≤ limit → IsStream limit more vs rest end → IsStream limit (frame v ++ more) (v ∷ vs) rest end }
+    ensures { (limit : ℕ) (v : Rpc) (more : List ℕ) (vs : List Rpc) (rest : List ℕ) (end : End)
+        → IsInMemory v
+        → length (body v) ≤ limit
+        → IsStream limit more vs rest end
+        → IsStream limit (frame v ++ more) (v ∷ vs) rest end }
 {}
 
 /// What was read is not longer when it is written: bytes that spell an RPC are at least as many as
@@ -68,5 +84,7 @@ pub fn what_was_read_is_no_longer_when_written()
 
 /// Each RPC of a stream fits the limit when it is written again.
 pub fn what_was_read_fits_a_frame()
-    ensures { (limit : ℕ) (bytes : List ℕ) (vs : List Rpc) (rest : List ℕ) (end : End) → IsStream limit bytes vs rest end → AllByRecursion (λ v. length (body v) ≤ limit) vs }
+    ensures { (limit : ℕ) (bytes : List ℕ) (vs : List Rpc) (rest : List ℕ) (end : End)
+        → IsStream limit bytes vs rest end
+        → AllByRecursion (λ v. length (body v) ≤ limit) vs }
 {}

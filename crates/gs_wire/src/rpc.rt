@@ -23,8 +23,14 @@ pub const MAX_BODY: usize = 1_048_576;
 
 /// The control that was read before, or an empty one, with the records of one more value.
 fn merged(alloc: Global, before: Option<Control>, bytes: Reader<'_>) -> Result<Control, DecodeError>
-    ensures merged { IfOk result (λ control. (records : List Spelled) × SpellRecords bytes.entry records × ((front : List Spelled) → SaysControl front (unwrap_or before no_control) → SaysControl (front ++ records) control)) }
-    ensures malformed { IsErrOf result DecodeError.Malformed → (front records after : List Spelled) (other : ControlValue) → SpellRecords bytes.entry records → ¬ SaysControl (front ++ (records ++ after)) other }
+    ensures merged { IfOk result (λ control. (records : List Spelled)
+        × SpellRecords bytes.entry records
+        × ((front : List Spelled) → SaysControl front (unwrap_or before no_control)
+        → SaysControl (front ++ records) control)) }
+    ensures malformed { IsErrOf result DecodeError.Malformed
+        → (front records after : List Spelled) (other : ControlValue)
+        → SpellRecords bytes.entry records
+        → ¬ SaysControl (front ++ (records ++ after)) other }
 {
     let mut control = match before {
         Some(control) => control,
@@ -103,7 +109,9 @@ fn control_len(rpc: &Rpc) -> Option<usize>
 
 /// The length of the record of a control of this length, where there is one.
 fn control_record_len(len: Option<usize>) -> usize
-    ensures { (control : Option ControlValue) → len ≡ option_map (λ c. min usize.MAX (length (records_text (control_records c)))) control → result ≡ min usize.MAX (length (records_text (part_records control_records 3 (option_to_list control)))) }
+    ensures { (control : Option ControlValue)
+        → len ≡ option_map (λ c. min usize.MAX (length (records_text (control_records c)))) control
+        → result ≡ min usize.MAX (length (records_text (part_records control_records 3 (option_to_list control)))) }
 {
     match len {
         Some(len) => len_record_len(len),
@@ -136,7 +144,8 @@ fn body_len(rpc: &Rpc, control: Option<usize>) -> Result<usize, WireFault>
 
 /// Writes the body of an RPC.
 fn put_body(buffer: &mut Vec<u8>, rpc: &Rpc, control: Option<usize>)
-    requires sized { control ≡ option_map (λ c. min usize.MAX (length (records_text (control_records c)))) rpc.now.control }
+    requires sized { control ≡
+        option_map (λ c. min usize.MAX (length (records_text (control_records c)))) rpc.now.control }
     requires room { vec_len buffer.old + length (body rpc.now) ≤ vec_capacity buffer.old }
     ensures { buffer.new.items ≡ buffer.old.items ++ body rpc.now }
 {
@@ -157,7 +166,8 @@ pub fn encode(rpc: &Rpc, buffer: &mut Vec<u8>) -> Result<(), WireFault>
     ensures written { OnOk result (buffer.new.items ≡ buffer.old.items ++ body rpc.now) }
     ensures kept { OnErr result (buffer.new.items ≡ buffer.old.items) }
     ensures too_long { (result ≡ Err WireFault.TooLong) ↔ (longest_body < length (body rpc.now)) }
-    ensures no_memory { result ≡ Err WireFault.NoMemory → vec_capacity buffer.old < vec_len buffer.old + length (body rpc.now) }
+    ensures no_memory { result ≡ Err WireFault.NoMemory
+        → vec_capacity buffer.old < vec_len buffer.old + length (body rpc.now) }
     ensures no_other { IfErr result (λ fault. (fault ≡ WireFault.TooLong) ⊎ (fault ≡ WireFault.NoMemory)) }
 {
     let control = control_len(rpc);
@@ -176,7 +186,8 @@ pub fn encode_frame(rpc: &Rpc, buffer: &mut Vec<u8>) -> Result<(), WireFault>
     ensures written { OnOk result (buffer.new.items ≡ buffer.old.items ++ frame rpc.now) }
     ensures kept { OnErr result (buffer.new.items ≡ buffer.old.items) }
     ensures too_long { (result ≡ Err WireFault.TooLong) ↔ (longest_body < length (body rpc.now)) }
-    ensures no_memory { result ≡ Err WireFault.NoMemory → vec_capacity buffer.old < vec_len buffer.old + length (frame rpc.now) }
+    ensures no_memory { result ≡ Err WireFault.NoMemory
+        → vec_capacity buffer.old < vec_len buffer.old + length (frame rpc.now) }
     ensures no_other { IfErr result (λ fault. (fault ≡ WireFault.TooLong) ⊎ (fault ≡ WireFault.NoMemory)) }
 {
     let control = control_len(rpc);
