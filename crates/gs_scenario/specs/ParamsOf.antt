@@ -102,7 +102,12 @@ thresholds_in section = do
   publish_threshold ← read_key section publish_threshold_key
   graylist_threshold ← read_key section graylist_threshold_key
   opportunistic_threshold ← read_key section opportunistic_threshold_key
-  Ok (record { gossip_threshold = gossip_threshold; publish_threshold = publish_threshold; graylist_threshold = graylist_threshold; opportunistic_threshold = opportunistic_threshold })
+  Ok (record {
+    gossip_threshold = gossip_threshold;
+    publish_threshold = publish_threshold;
+    graylist_threshold = graylist_threshold;
+    opportunistic_threshold = opportunistic_threshold;
+  })
 
 -- ---- factors
 
@@ -152,7 +157,16 @@ factors_in section = do
   topic_cap ← read_key section topic_cap_key
   decay_to_zero ← read_key section decay_to_zero_key
   p6_threshold ← read_key section p6_threshold_key
-  Ok (record { gossip_factor = gossip_factor; p7_decay = p7_decay; w5 = w5; w6 = w6; w7 = w7; topic_cap = topic_cap; decay_to_zero = decay_to_zero; p6_threshold = p6_threshold })
+  Ok (record {
+    gossip_factor = gossip_factor;
+    p7_decay = p7_decay;
+    w5 = w5;
+    w6 = w6;
+    w7 = w7;
+    topic_cap = topic_cap;
+    decay_to_zero = decay_to_zero;
+    p6_threshold = p6_threshold;
+  })
 
 -- ---- windows, of which two are whole rounds
 
@@ -232,7 +246,22 @@ windows_in round_ms section = do
   max_ihave ← read_key section max_ihave_key
   max_ihave_ids ← read_key section max_ihave_ids_key
   gossip_retransmission ← read_key section gossip_retransmission_key
-  Ok (record { heartbeat_ms = heartbeat_ms; decay_ms = decay_ms; fanout_ttl_ms = fanout_ttl_ms; seen_ttl_ms = seen_ttl_ms; iwant_followup_ms = iwant_followup_ms; prune_backoff_s = prune_backoff_s; unsubscribe_backoff_s = unsubscribe_backoff_s; mcache_len = mcache_len; mcache_gossip = mcache_gossip; opportunistic_ticks = opportunistic_ticks; opportunistic_peers = opportunistic_peers; max_ihave = max_ihave; max_ihave_ids = max_ihave_ids; gossip_retransmission = gossip_retransmission })
+  Ok (record {
+    heartbeat_ms = heartbeat_ms;
+    decay_ms = decay_ms;
+    fanout_ttl_ms = fanout_ttl_ms;
+    seen_ttl_ms = seen_ttl_ms;
+    iwant_followup_ms = iwant_followup_ms;
+    prune_backoff_s = prune_backoff_s;
+    unsubscribe_backoff_s = unsubscribe_backoff_s;
+    mcache_len = mcache_len;
+    mcache_gossip = mcache_gossip;
+    opportunistic_ticks = opportunistic_ticks;
+    opportunistic_peers = opportunistic_peers;
+    max_ihave = max_ihave;
+    max_ihave_ids = max_ihave_ids;
+    gossip_retransmission = gossip_retransmission;
+  })
 
 -- ---- the parameters that all topics share
 
@@ -250,7 +279,13 @@ shared_in round_ms section = do
   factors ← factors_in section
   windows ← windows_in round_ms section
   flood_publish ← read_key section flood_publish_key
-  Ok (record { degrees = degrees; thresholds = thresholds; factors = factors; windows = windows; flood_publish = flood_publish })
+  Ok (record {
+    degrees = degrees;
+    thresholds = thresholds;
+    factors = factors;
+    windows = windows;
+    flood_publish = flood_publish;
+  })
 
 -- ---- the parameters of a topic
 
@@ -355,7 +390,16 @@ topic_counters_in section = do
   p2_cap ← read_key section p2_cap_key
   p3_cap ← read_key section p3_cap_key
   p3_threshold ← read_key section p3_threshold_key
-  Ok (record { p2_decay = p2_decay; p3_decay = p3_decay; p3b_decay = p3b_decay; p4_decay = p4_decay; p1_cap = p1_cap; p2_cap = p2_cap; p3_cap = p3_cap; p3_threshold = p3_threshold })
+  Ok (record {
+    p2_decay = p2_decay;
+    p3_decay = p3_decay;
+    p3b_decay = p3b_decay;
+    p4_decay = p4_decay;
+    p1_cap = p1_cap;
+    p2_cap = p2_cap;
+    p3_cap = p3_cap;
+    p3_threshold = p3_threshold;
+  })
 
 -- both together are a topic's factors
 abbrev pub factors_of : TopicWeights → TopicCounters → TopicFactors

@@ -101,7 +101,19 @@ top_in top = do
   dials ← read_key top dials_key
   apps ← read_key top apps_key
   script ← read_key top script_key
-  Ok (record { round_ms = round_ms; rounds = rounds; workers = workers; capacity = capacity; seed = seed; params = params; topics = topics; peers = peers; dials = dials; apps = apps; script = script })
+  Ok (record {
+    round_ms = round_ms;
+    rounds = rounds;
+    workers = workers;
+    capacity = capacity;
+    seed = seed;
+    params = params;
+    topics = topics;
+    peers = peers;
+    dials = dials;
+    apps = apps;
+    script = script;
+  })
 
 -- ---- a topic
 
@@ -289,7 +301,18 @@ plan_in members = do
   apps ← read_each (app_in peers dials) [] top.apps
   script ← read_each (line_in topics peers top.rounds) [] top.script
   params ← params_of shared topics
-  Ok (record { round_ms = top.round_ms; rounds = top.rounds; workers = top.workers; capacity = top.capacity; seed = top.seed; params = params; peers = peers; dials = dials; apps = apps; script = script })
+  Ok (record {
+    round_ms = top.round_ms;
+    rounds = top.rounds;
+    workers = top.workers;
+    capacity = top.capacity;
+    seed = top.seed;
+    params = params;
+    peers = peers;
+    dials = dials;
+    apps = apps;
+    script = script;
+  })
 
 abbrev pub plan_of_document : Option Members → Result Plan ScenarioFault
 plan_of_document None = Err Toml
