@@ -159,6 +159,9 @@ impl FrameReader {
         ensures no_memory_reader { result ≡ Err WireFault.NoMemory → self.new ≡ self.old }
         ensures no_memory_list { result ≡ Err WireFault.NoMemory → rpcs.new.items ≡ rpcs.old.items }
     {
+        if piece.is_empty() {
+            return Ok(());
+        }
         let count = rpcs.len();
         let Ok(Progress { taken, next, end }) = read_frames(alloc, self.limit, None, piece, rpcs)
         else {
