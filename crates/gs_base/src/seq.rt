@@ -62,16 +62,16 @@ impl<T> Seq<T> {
 }
 
 impl<T: Drop> Seq<T> {
-    /// The list of one element.
+    /// The list of one element, with no room for more.
     ///
     /// # Errors
     /// `AllocError` where there was no memory for it.
     pub fn only(alloc: Global, item: T) -> Result<Seq<T>, AllocError>
         ensures { IfOk result (λ list. list ≡ item ∷ []) }
     {
-        let mut list = Seq::new(alloc);
-        list.push(item)?;
-        Ok(list)
+        let mut items = Vec::with_capacity(alloc, 1)?;
+        items.push(item)?;
+        Ok(Seq { items })
     }
 
     /// Adds an element at the end.
