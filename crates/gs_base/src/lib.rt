@@ -8,6 +8,7 @@ mod names;
 mod neighbour;
 mod rpc;
 mod seq;
+mod shared;
 mod text;
 
 pub use control::{Control, Graft, IHave, IWant, Prune};
@@ -16,6 +17,7 @@ pub use names::{LONGEST_TOPIC, MOST_TOPICS, Millis, MsgId, PeerNo, Topic, limits
 pub use neighbour::Neighbour;
 pub use rpc::{Message, Rpc, SubOpt};
 pub use seq::Seq;
+pub use shared::Shared;
 pub use text::Text;
 
 #[cfg(test)]

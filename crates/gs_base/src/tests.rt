@@ -58,6 +58,17 @@ fn a_list_keeps_its_elements(rt: HostRuntime) -> Result<(), AllocError> {
 }
 
 #[test]
+fn a_shared_value_is_the_value(rt: HostRuntime) -> Result<(), AllocError> {
+    let alloc = rt.alloc();
+    let shared = Shared::new(alloc, topic(alloc)?)?;
+    let other = Shared::new(alloc, Topic(Bytes::new()))?;
+    let again = clone_of(&shared)?;
+    assert!(rt; *again.get() == topic(alloc)?);
+    assert!(rt; again == shared && again != other);
+    Ok(())
+}
+
+#[test]
 fn a_text_keeps_its_bytes(rt: HostRuntime) -> Result<(), AllocError> {
     let text = Text::from_str(rt.alloc(), "topic[0].name")?;
     let made = Text::from(String::from_str(rt.alloc(), "topic[0].name")?);

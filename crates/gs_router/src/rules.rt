@@ -14,7 +14,7 @@ pub mod subscriptions;
 
 use crate::rules::messages::Publishing;
 use crate::state::State;
-use gs_base::{Millis, MsgId, PeerNo, Rpc, Seq, clone_of};
+use gs_base::{Millis, MsgId, PeerNo, Rpc, Seq, Shared, clone_of};
 use gs_params::Words;
 use gs_rules::{Entry, Event, Refusal};
 use std::alloc::{AllocError, Global};
@@ -33,12 +33,17 @@ pub fn bare(alloc: Global, at: Millis, event: Event) -> Entry
 }
 
 /// The same RPC to each of these.
-fn to_each(alloc: Global, rpc: &Rpc, receivers: &[PeerNo]) -> Result<Seq<(PeerNo, Rpc)>, AllocError>
-    ensures { IfOk result (λ sends. sends ≡ to_each rpc.now receivers.now) }
+fn to_each(
+    alloc: Global,
+    rpc: Rpc,
+    receivers: &[PeerNo],
+) -> Result<Seq<(PeerNo, Shared<Rpc>)>, AllocError>
+    ensures { IfOk result (λ sends. sends ≡ to_each rpc receivers.now) }
 {
+    let shared = Shared::new(alloc, rpc)?;
     let mut sends = Seq::new(alloc);
     for receiver in receivers {
-        sends.push((*receiver, clone_of(rpc)?))?;
+        sends.push((*receiver, clone_of(&shared)?))?;
     }
     Ok(sends)
 }

@@ -14,7 +14,7 @@ use crate::rules;
 use crate::rules::messages::{self, Publishing};
 use crate::setup::Setup;
 use crate::tables::Tables;
-use gs_base::{Millis, PeerNo, Rpc, clone_of};
+use gs_base::{Message, Millis, PeerNo, Rpc, Shared, SubOpt, clone_of};
 use gs_params::Words;
 use gs_rules::{Entry, Event, Trace};
 use std::alloc::{AllocError, Global};
@@ -108,6 +108,7 @@ impl State {
         ensures { Ends (exact W.word W.after) (hearing self.old.trace from rpc) now
             self.old words.old result self.new words.new }
     {
+        let rpc = Shared::new(self.alloc, rpc)?;
         if self.tables.neighbours.is_up(from) {
             self.hear_up(from, rpc, now, words)
         } else {
@@ -119,7 +120,7 @@ impl State {
     fn hear_up<W: Words>(
         &mut self,
         from: PeerNo,
-        rpc: Rpc,
+        rpc: Shared<Rpc>,
         now: Millis,
         words: &mut W,
     ) -> Result<(), AllocError>
@@ -130,17 +131,49 @@ impl State {
     {
         let heard = clone_of(&rpc)?;
         self.step(Event::Heard(from, heard), now, words)?;
-        let Rpc {
-            subs,
-            publish,
-            control: _,
-        } = rpc;
-        for sub in subs.into_vec() {
-            self.step(Event::Sub(from, sub), now, words)?;
+        let parts = rpc.get();
+        for sub in parts.subs.as_slice() {
+            self.hear_sub(from, sub, now, words)?;
         }
-        for message in publish.into_vec() {
-            self.step(Event::Msg(from, message), now, words)?;
+        for message in parts.publish.as_slice() {
+            self.hear_message(from, message, now, words)?;
         }
         Ok(())
+    }
+
+    /// Hears a change of subscription, which comes next.
+    fn hear_sub<W: Words>(
+        &mut self,
+        from: PeerNo,
+        sub: &SubOpt,
+        now: Millis,
+        words: &mut W,
+    ) -> Result<(), AllocError>
+        requires current { IsCurrent self.old }
+        requires time { last_moment self.old.trace ≤ now.0 }
+        requires next { IsNext (peer_with self.old.setup) self.old.trace now.0
+            (owed (peer_with self.old.setup) self.old.trace).events (events.Sub from sub.now) }
+        ensures { Steps (exact W.word W.after) (events.Sub from sub.now) now self.old words.old result self.new words.new }
+    {
+        let sub = clone_of(sub)?;
+        self.step(Event::Sub(from, sub), now, words)
+    }
+
+    /// Hears a message, which comes next.
+    fn hear_message<W: Words>(
+        &mut self,
+        from: PeerNo,
+        message: &Message,
+        now: Millis,
+        words: &mut W,
+    ) -> Result<(), AllocError>
+        requires current { IsCurrent self.old }
+        requires time { last_moment self.old.trace ≤ now.0 }
+        requires next { IsNext (peer_with self.old.setup) self.old.trace now.0
+            (owed (peer_with self.old.setup) self.old.trace).events (events.Msg from message.now) }
+        ensures { Steps (exact W.word W.after) (events.Msg from message.now) now self.old words.old result self.new words.new }
+    {
+        let message = Shared::new(self.alloc, clone_of(message)?)?;
+        self.step(Event::Msg(from, message), now, words)
     }
 }

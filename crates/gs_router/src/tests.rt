@@ -15,7 +15,7 @@ use crate::tests::cases::{
 };
 use crate::tests::made::{Row, What, event_of, is_trace};
 use bytes::Bytes;
-use gs_base::{Millis, Neighbour, PeerNo, Rpc, Topic};
+use gs_base::{Millis, Neighbour, PeerNo, Rpc, Topic, clone_of};
 use gs_params::{Params, SeededWords, Words};
 use gs_rules::{Event, Refusal, Trace};
 use gs_wire::{MAX_BODY, encode};
@@ -47,11 +47,12 @@ fn hear(
     alloc: Global,
     router: &mut Router,
     from: PeerNo,
-    rpc: Rpc,
+    rpc: &Rpc,
     now: Millis,
 ) -> Result<Result<(), RouterFault>, AllocError>
     requires { last_moment router.old.trace ≤ now.0 }
 {
+    let rpc = clone_of(rpc)?;
     if !fits(alloc, &rpc)? {
         return Err(AllocError);
     }
@@ -71,7 +72,9 @@ fn ask(alloc: Global, router: &mut Router, at: u64, what: What<'_>) -> Result<u8
     }
     let words = &mut words(alloc);
     let result = match event_of(alloc, what)? {
-        Event::Heard(from, rpc) | Event::Late(from, rpc) => hear(alloc, router, from, rpc, now)?,
+        Event::Heard(from, rpc) | Event::Late(from, rpc) => {
+            hear(alloc, router, from, rpc.get(), now)?
+        }
         Event::Subscribe(topic) => router.subscribe(topic, now, words),
         Event::Unsubscribe(topic) => router.unsubscribe(topic, now, words),
         Event::Publish(topic, payload) => router.publish(topic, payload, now, words),

@@ -7,7 +7,7 @@ use crate::{
     words_fix_what_follows_a_rule,
 };
 use bytes::Bytes;
-use gs_base::{Message, Millis, MsgId, PeerNo, Rpc, Seq, Topic};
+use gs_base::{Message, Millis, MsgId, PeerNo, Rpc, Seq, Shared, Topic};
 use gs_params::SeededWords;
 use std::alloc::{AllocError, Global};
 
@@ -52,7 +52,7 @@ fn delivery(alloc: Global, at: u64, payload: &[u8]) -> Result<Entry, AllocError>
     marks.push(Mark::Seen(MsgId::of(payload), Verdict::Accept))?;
     Ok(Entry {
         at: Millis(at),
-        event: Event::Msg(PeerNo(2), message(alloc, payload)?),
+        event: Event::Msg(PeerNo(2), Shared::new(alloc, message(alloc, payload)?)?),
         sends: Seq::new(alloc),
         delivered,
         marks,
@@ -62,7 +62,7 @@ fn delivery(alloc: Global, at: u64, payload: &[u8]) -> Result<Entry, AllocError>
 /// A payload that was published and sent to neighbour 1.
 fn publishing(alloc: Global, at: u64, payload: &[u8]) -> Result<Entry, AllocError> {
     let mut sends = Seq::new(alloc);
-    sends.push((PeerNo(1), rpc(alloc, &[payload])?))?;
+    sends.push((PeerNo(1), Shared::new(alloc, rpc(alloc, &[payload])?)?))?;
     let mut marks = Seq::new(alloc);
     marks.push(Mark::Seen(MsgId::of(payload), Verdict::Accept))?;
     Ok(Entry {

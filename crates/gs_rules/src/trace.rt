@@ -2,7 +2,7 @@
 ghost use Rattle.std.specs.Prelude.{◌≡◌, [], ◌∷◌, OnOk, OnErr};
 
 use bytes::Bytes;
-use gs_base::{Message, Millis, MsgId, PeerNo, Rpc, Seq, SubOpt, Topic};
+use gs_base::{Message, Millis, MsgId, PeerNo, Rpc, Seq, Shared, SubOpt, Topic};
 use std::alloc::{AllocError, Global};
 use std::marker::Model;
 
@@ -17,17 +17,17 @@ pub enum Verdict {
     Ignore,
 }
 
-/// What happened at a peer.
+/// What happened at a peer. What is long of it stands apart, so that an entry is small.
 #[derive(Debug, Drop, PartialEq, Eq)]
 pub enum Event {
     /// A neighbour's RPC came. Its parts follow.
-    Heard(PeerNo, Rpc),
+    Heard(PeerNo, Shared<Rpc>),
     /// An RPC came of a neighbour that is not heard any more.
-    Late(PeerNo, Rpc),
+    Late(PeerNo, Shared<Rpc>),
     /// A neighbour subscribed to a topic or left it.
     Sub(PeerNo, SubOpt),
     /// A neighbour passed on a message.
-    Msg(PeerNo, Message),
+    Msg(PeerNo, Shared<Message>),
     /// The peer subscribed to a topic.
     Subscribe(Topic),
     /// The peer left a topic.
@@ -61,7 +61,7 @@ pub struct Entry {
     /// What happened.
     pub event: Event,
     /// What was sent to whom, in order.
-    pub sends: Seq<(PeerNo, Rpc)>,
+    pub sends: Seq<(PeerNo, Shared<Rpc>)>,
     /// The topics and payloads of what was delivered to the peer's own user.
     pub delivered: Seq<(Topic, Bytes)>,
     /// What is to be remembered.

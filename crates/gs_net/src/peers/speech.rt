@@ -5,7 +5,7 @@ ghost use Rattle.gs_wire.specs.Codec.{codec};
 ghost use Rattle.gs_rules.specs.Saying.{AllFit, SendsFit};
 ghost use Rattle.gs_net.specs.Speech.{frames_to, receivers, said_by, sent_frames, speech_to};
 
-use gs_base::{PeerNo, Rpc};
+use gs_base::{PeerNo, Rpc, Shared};
 use gs_rules::Entry;
 use gs_wire::{WireFault, encode_frame};
 use std::alloc::{AllocError, Global};
@@ -26,7 +26,7 @@ impl Speech {
         ensures receivers { IfOk result (λ speech. receivers speech ≡ peers) }
         ensures silent { IfOk result (λ speech. (q : PeerNoValue) → speech_to speech q ≡ []) }
     {
-        let mut to = Vec::new(alloc);
+        let mut to = Vec::with_capacity(alloc, peers)?;
         for _ in 0..peers {
             to.push(Vec::new(alloc))?;
         }
@@ -51,7 +51,7 @@ impl Speech {
     }
 
     /// Adds the frames of what an entry sends.
-    fn add_sends(&mut self, sends: &[(PeerNo, Rpc)]) -> Result<(), AllocError>
+    fn add_sends(&mut self, sends: &[(PeerNo, Shared<Rpc>)]) -> Result<(), AllocError>
         requires { SendsFit codec sends.now }
         ensures receivers { OnOk result (receivers self.new ≡ receivers self.old) }
         ensures added { OnOk result ((q : PeerNoValue)
@@ -59,7 +59,7 @@ impl Speech {
             → speech_to self.new q ≡ speech_to self.old q ++ sent_frames q sends.now) }
     {
         for (receiver, rpc) in sends {
-            self.add(*receiver, rpc)?;
+            self.add(*receiver, rpc.get())?;
         }
         Ok(())
     }

@@ -12,10 +12,10 @@ ghost use Rattle.gs_router.specs.Tables.{Agrees};
 ghost use Rattle.gs_router.specs.State.{judged, peer_with};
 
 use crate::peer_set::PeerSet;
-use crate::rules::to_each;
+use crate::rules::{bare, to_each};
 use crate::state::State;
 use bytes::Bytes;
-use gs_base::{LONGEST_TOPIC, Message, Millis, MsgId, PeerNo, Rpc, Seq, Topic, clone_of};
+use gs_base::{LONGEST_TOPIC, Message, Millis, MsgId, PeerNo, Rpc, Seq, Shared, Topic, clone_of};
 use gs_rules::{Entry, Event, Mark, Refusal, Verdict};
 use gs_wire::{MAX_BODY, publish_len};
 use std::alloc::{AllocError, Global};
@@ -57,43 +57,45 @@ fn fate_of(state: &State, message: &Message, now: Millis) -> Fate
 fn judged(
     alloc: Global,
     from: PeerNo,
-    message: Message,
+    message: Shared<Message>,
     fate: Fate,
     now: Millis,
 ) -> Result<Entry, AllocError>
     ensures { IfOk result (λ entry. entry ≡ judged from now message fate) }
 {
-    let mut delivered = Seq::new(alloc);
-    let mut marks = Seq::new(alloc);
     match fate {
-        Fate::Dropped => {}
-        Fate::Invalid => marks.push(Mark::Invalid(from, message.topic_or_empty()?))?,
+        Fate::Dropped => Ok(bare(alloc, now, Event::Msg(from, message))),
+        Fate::Invalid => {
+            let mark = Mark::Invalid(from, message.get().topic_or_empty()?);
+            Ok(Entry {
+                marks: Seq::only(alloc, mark)?,
+                ..bare(alloc, now, Event::Msg(from, message))
+            })
+        }
         Fate::Accepted(id) => {
-            delivered.push((message.topic_or_empty()?, message.payload_or_empty()?))?;
-            marks.push(Mark::Seen(id, Verdict::Accept))?;
+            let told = message.get();
+            let delivery = (told.topic_or_empty()?, told.payload_or_empty()?);
+            Ok(Entry {
+                delivered: Seq::only(alloc, delivery)?,
+                marks: Seq::only(alloc, Mark::Seen(id, Verdict::Accept))?,
+                ..bare(alloc, now, Event::Msg(from, message))
+            })
         }
     }
-    Ok(Entry {
-        at: now,
-        event: Event::Msg(from, message),
-        sends: Seq::new(alloc),
-        delivered,
-        marks,
-    })
 }
 
 /// The entry of a message that a neighbour passed on.
 pub fn entry_of(
     state: &State,
     from: PeerNo,
-    message: Message,
+    message: Shared<Message>,
     now: Millis,
 ) -> Result<Entry, AllocError>
     ensures { IfOk result (λ entry. (L : Entries)
         → Agrees state.now.tables L
         → entry ≡ message_rule (peer_with state.now.setup) L now from message) }
 {
-    let fate = fate_of(state, &message, now);
+    let fate = fate_of(state, message.get(), now);
     let entry = judged(state.alloc, from, message, fate, now)?;
     Ok(entry)
 }
@@ -158,7 +160,7 @@ pub fn publish(state: &State, publishing: Publishing, now: Millis) -> Result<Ent
 {
     let receivers = listeners(state, &publishing.topic)?;
     let rpc = Rpc::publication(state.alloc, &publishing.topic, &publishing.payload)?;
-    let sends = to_each(state.alloc, &rpc, &receivers)?;
+    let sends = to_each(state.alloc, rpc, &receivers)?;
     let delivered = delivered(state, &publishing)?;
     let Publishing { topic, payload, id } = publishing;
     Ok(Entry {

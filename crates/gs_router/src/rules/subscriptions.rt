@@ -11,7 +11,7 @@ ghost use Rattle.gs_router.specs.State.{peer_with};
 
 use crate::rules::{to_each, up_neighbours};
 use crate::state::State;
-use gs_base::{LONGEST_TOPIC, Millis, PeerNo, Rpc, Seq, Topic};
+use gs_base::{LONGEST_TOPIC, Millis, PeerNo, Rpc, Seq, Shared, Topic};
 use gs_rules::{Entry, Event, Refusal};
 use std::alloc::AllocError;
 
@@ -20,14 +20,14 @@ fn announced(
     state: &State,
     subscribes: bool,
     topic: &Topic,
-) -> Result<Seq<(PeerNo, Rpc)>, AllocError>
+) -> Result<Seq<(PeerNo, Shared<Rpc>)>, AllocError>
     ensures { IfOk result (λ sends. (L : Entries)
         → Agrees state.now.tables L
         → sends ≡ to_each (announcement subscribes topic.now) (up_neighbours (peer_with state.now.setup) L)) }
 {
     let receivers = up_neighbours(state)?;
     let rpc = Rpc::announcement(state.alloc, subscribes, topic)?;
-    let sends = to_each(state.alloc, &rpc, &receivers)?;
+    let sends = to_each(state.alloc, rpc, &receivers)?;
     Ok(sends)
 }
 

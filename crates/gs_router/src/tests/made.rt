@@ -1,7 +1,7 @@
 //! RPCs, events, entries and traces from what a table tells of them.
 use crate::tests::cases::Sends;
 use bytes::Bytes;
-use gs_base::{Message, Millis, MsgId, PeerNo, Rpc, Seq, SubOpt, Topic};
+use gs_base::{Message, Millis, MsgId, PeerNo, Rpc, Seq, Shared, SubOpt, Topic};
 use gs_rules::{Entry, Event, Mark, Trace, Verdict};
 use std::alloc::{AllocError, Global};
 
@@ -104,10 +104,19 @@ fn rpc_of(alloc: Global, parts: Parts<'_>) -> Result<Rpc, AllocError> {
 
 pub fn event_of(alloc: Global, what: What<'_>) -> Result<Event, AllocError> {
     Ok(match what {
-        What::Heard(from, parts) => Event::Heard(PeerNo(from), rpc_of(alloc, parts)?),
-        What::Late(from, parts) => Event::Late(PeerNo(from), rpc_of(alloc, parts)?),
+        What::Heard(from, parts) => Event::Heard(
+            PeerNo(from),
+            Shared::new(alloc, rpc_of(alloc, parts)?)?,
+        ),
+        What::Late(from, parts) => Event::Late(
+            PeerNo(from),
+            Shared::new(alloc, rpc_of(alloc, parts)?)?,
+        ),
         What::Sub(from, said) => Event::Sub(PeerNo(from), sub_of(alloc, said)?),
-        What::Msg(from, told) => Event::Msg(PeerNo(from), message_of(alloc, told)?),
+        What::Msg(from, told) => Event::Msg(
+            PeerNo(from),
+            Shared::new(alloc, message_of(alloc, told)?)?,
+        ),
         What::Subscribe(name) => Event::Subscribe(topic_of(alloc, name)?),
         What::Unsubscribe(name) => Event::Unsubscribe(topic_of(alloc, name)?),
         What::Publish(name, payload) => {
@@ -123,10 +132,14 @@ pub fn event_of(alloc: Global, what: What<'_>) -> Result<Event, AllocError> {
     })
 }
 
-fn sends_of(alloc: Global, to: &[u16], sent: Parts<'_>) -> Result<Seq<(PeerNo, Rpc)>, AllocError> {
+fn sends_of(
+    alloc: Global,
+    to: &[u16],
+    sent: Parts<'_>,
+) -> Result<Seq<(PeerNo, Shared<Rpc>)>, AllocError> {
     let mut sends = Seq::new(alloc);
     for receiver in to {
-        sends.push((PeerNo(*receiver), rpc_of(alloc, sent)?))?;
+        sends.push((PeerNo(*receiver), Shared::new(alloc, rpc_of(alloc, sent)?)?))?;
     }
     Ok(sends)
 }
