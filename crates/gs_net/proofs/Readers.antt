@@ -5,7 +5,6 @@ use Rattle.std.proofs.lemmas.Bool.{le-leb}
 use Rattle.gs_base.specs.declared.rpc.Rpc.{Rpc}
 use Rattle.gs_wire.specs.declared.frames.End.{End}
 use Rattle.gs_wire.specs.declared.frames.End.TheVariants as ends
-use Rattle.gs_wire.specs.declared.rpc.TheConstants.{MAX_BODY}
 use Rattle.gs_wire.specs.Messages.{body, longest_body}
 use Rattle.gs_wire.specs.Stream.{Holding, IsStream, Feeds}
 use Rattle.gs_wire.proofs.Shorter.{stream_fits}
@@ -35,15 +34,15 @@ fault_reads old new piece reading was same none broken = (
 
 -- ---- what is found fits
 
-short_fit : (rpcs : List Rpc) → AllByRecursion (λ rpc. length (body rpc) ≤ MAX_BODY) rpcs → RpcsFit rpcs
+short_fit : (rpcs : List Rpc) → AllByRecursion (λ rpc. length (body rpc) ≤ longest_body) rpcs → RpcsFit rpcs
 short_fit [] h = tt
 short_fit (rpc ∷ rpcs) h = (le-leb (length (body rpc)) longest_body h.0, short_fit rpcs h.1)
 
-pub feed_fits : (old new : Holding) (piece : List ℕ) (rpcs : List Rpc) (end : End) → old.limit ≡ MAX_BODY → Feeds old piece new [] rpcs end → RpcsFit rpcs
+pub feed_fits : (old new : Holding) (piece : List ℕ) (rpcs : List Rpc) (end : End) → old.limit ≡ longest_body → Feeds old piece new [] rpcs end → RpcsFit rpcs
 feed_fits old new piece rpcs end limit feeds =
     let bytes : List ℕ = feeds.held ++ piece in
-    let stream : IsStream MAX_BODY bytes feeds.found feeds.rest end = subst (λ (n : ℕ). IsStream n bytes feeds.found feeds.rest end) limit feeds.stream in
-    subst RpcsFit (sym feeds.added) (short_fit feeds.found (stream_fits MAX_BODY bytes feeds.found feeds.rest end stream))
+    let stream : IsStream longest_body bytes feeds.found feeds.rest end = subst (λ (n : ℕ). IsStream n bytes feeds.found feeds.rest end) limit feeds.stream in
+    subst RpcsFit (sym feeds.added) (short_fit feeds.found (stream_fits longest_body bytes feeds.found feeds.rest end stream))
 
 pub none_fit : (rpcs : List Rpc) → rpcs ≡ [] → RpcsFit rpcs
 none_fit rpcs none = subst RpcsFit (sym none) tt

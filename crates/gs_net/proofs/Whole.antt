@@ -6,7 +6,7 @@ use Rattle.gs_base.specs.declared.rpc.Rpc.{Rpc}
 use Rattle.gs_params.specs.declared.plan.Plan.{Plan}
 use Rattle.gs_wire.specs.declared.frames.End.{End}
 use Rattle.gs_wire.specs.declared.frames.End.TheVariants as ends
-use Rattle.gs_wire.specs.declared.rpc.TheConstants.{MAX_BODY}
+use Rattle.gs_wire.specs.Messages.{longest_body}
 use Rattle.gs_wire.specs.Stream.{Holding, IsStream, held_after}
 use Rattle.gs_wire.specs.Codec.{codec}
 use Rattle.gs_wire.proofs.FrameLists.{streams_join, one_stream}
@@ -45,7 +45,7 @@ newest (m ∷ H) q p = m q p
 
 -- the bytes are whole frames
 abbrev pub IsWhole : List ℕ → Type 0
-IsWhole bytes = (rpcs : List Rpc) × IsStream MAX_BODY bytes rpcs [] ends.Waits
+IsWhole bytes = (rpcs : List Rpc) × IsStream longest_body bytes rpcs [] ends.Waits
 
 -- A peer between two rounds, where this was said so far.
 pub record IsBetween (plan : Plan) (H : History) (p : PeerNo) (node : Node) : Type 0 where
@@ -77,7 +77,7 @@ some_same xs ys h = ap (λ (o : Option (List ℕ)). unwrap_or o []) h
 
 -- a reader that holds nothing
 abbrev clean : Holding
-clean = record { limit = MAX_BODY; held = Some [] }
+clean = record { limit = longest_body; held = Some [] }
 
 -- What is read of whole frames behind whole frames.
 record ReadsWhole (bytes piece : List ℕ) (new : Holding) (x : Inbound) : Type 0 where
@@ -91,18 +91,18 @@ found_whole : (new : Holding) (bytes piece : List ℕ) (x : Inbound) → IsWhole
 found_whole new bytes piece x (vs, before) (ws, all) found stays =
     let f = found.feeds in
     let held : f.held ≡ [] = some_same f.held [] (sym f.was_held) in
-    let second : IsStream MAX_BODY piece f.found f.rest x.end = subst (λ (t : List ℕ). IsStream MAX_BODY (t ++ piece) f.found f.rest x.end) held f.stream in
-    let joined : IsStream MAX_BODY (bytes ++ piece) (vs ++ f.found) f.rest x.end = streams_join MAX_BODY bytes piece [] f.rest vs f.found x.end before second in
-    let one = one_stream MAX_BODY (bytes ++ piece) (vs ++ f.found) ws f.rest [] x.end ends.Waits joined all in
+    let second : IsStream longest_body piece f.found f.rest x.end = subst (λ (t : List ℕ). IsStream longest_body (t ++ piece) f.found f.rest x.end) held f.stream in
+    let joined : IsStream longest_body (bytes ++ piece) (vs ++ f.found) f.rest x.end = streams_join longest_body bytes piece [] f.rest vs f.found x.end before second in
+    let one = one_stream longest_body (bytes ++ piece) (vs ++ f.found) ws f.rest [] x.end ends.Waits joined all in
     record {
-      holds = f.keeps ∙ ap₂ (λ (e : End) (t : List ℕ). record { limit = MAX_BODY; held = held_after e t }) one.2 one.1;
+      holds = f.keeps ∙ ap₂ (λ (e : End) (t : List ℕ). record { limit = longest_body; held = held_after e t }) one.2 one.1;
       stays_open = stays;
       rest = found.rest ∙ one.1;
       waits = one.2;
       between = record {
         earlier = vs;
         spell_before = ([], ends.Waits, before);
-        stream = subst₂ (λ (us : List Rpc) (t : List ℕ). IsStream MAX_BODY (bytes ++ piece) (vs ++ us) t x.end) (sym f.added) (sym found.rest) joined;
+        stream = subst₂ (λ (us : List Rpc) (t : List ℕ). IsStream longest_body (bytes ++ piece) (vs ++ us) t x.end) (sym f.added) (sym found.rest) joined;
       };
     }
 
@@ -127,7 +127,7 @@ inbound_is x rpcs rest end closes =
 -- what is read of the newest round is what there is to hear of it
 comes_so : (H : History) (p q : PeerNo) (new : Holding) (x : Inbound) → ReadsWhole (told (earlier H) q p) (newest H q p) new x → ComesOf H p q x
 comes_so [] p q new x h =
-    let one = one_stream MAX_BODY [] (h.between.earlier ++ x.rpcs) [] x.rest [] x.end ends.Waits h.between.stream no_stream in
+    let one = one_stream longest_body [] (h.between.earlier ++ x.rpcs) [] x.rest [] x.end ends.Waits h.between.stream no_stream in
     inbound_is x (both_none h.between.earlier x.rpcs one.0) h.rest h.waits h.stays_open
 comes_so (m ∷ H) p q new x h = (h.between, h.stays_open)
 
@@ -198,7 +198,7 @@ between_whole : (plan : Plan) (H : History) (p q : PeerNo) (node : Node) → q.0
 between_whole plan H p q node below b =
     let L = node.router.trace in
     let bytes : bytes_of (out codec L q) ≡ told H p q = ap bytes_of (b.says q below) ∙ bytes_spoken H p q in
-    (sent L q, subst (λ (t : List ℕ). IsStream MAX_BODY t (sent L q) [] ends.Waits) bytes (sent_stream L q (legal_written (peer_in plan p) L b.legal)))
+    (sent L q, subst (λ (t : List ℕ). IsStream longest_body t (sent L q) [] ends.Waits) bytes (sent_stream L q (legal_written (peer_in plan p) L b.legal)))
 
 -- ---- places
 

@@ -6,7 +6,7 @@ use Rattle.gs_base.specs.declared.names.Millis.{Millis}
 use Rattle.gs_base.specs.declared.rpc.Rpc.{Rpc}
 use Rattle.gs_params.specs.declared.plan.Plan.{Plan}
 use Rattle.gs_params.specs.Seeding.{new_seeded}
-use Rattle.gs_wire.specs.declared.rpc.TheConstants.{MAX_BODY}
+use Rattle.gs_wire.specs.Messages.{longest_body}
 use Rattle.gs_wire.specs.Codec.{codec}
 use Rattle.gs_wire.specs.Stream.{Holding, Feeds}
 use Rattle.gs_rules.specs.declared.refusal.RefusedLine.{RefusedLine}
@@ -74,7 +74,7 @@ peers_of links = map (λ (link : Link). link.peer) links
 
 -- the readers take frames of the same length as everyone writes
 abbrev pub AreWide : List Link → Type 0
-AreWide links = AllByRecursion (λ (link : Link). link.reader.limit ≡ MAX_BODY) links
+AreWide links = AllByRecursion (λ (link : Link). link.reader.limit ≡ longest_body) links
 
 -- each link's reader reads this in the piece that is for it
 abbrev pub ReadsEach : (PeerNo → List ℕ) → List Link → List Link → List Inbound → Type 0
@@ -118,7 +118,7 @@ pub record NodeCloses (plan : Plan) (piece : PeerNo → List ℕ) (old : Node) (
 
 -- nothing is held of what these links' readers have read
 abbrev pub AreClean : List Link → Type 0
-AreClean links = AllByRecursion (λ (link : Link). link.reader ≡ record { limit = MAX_BODY; held = Some [] }) links
+AreClean links = AllByRecursion (λ (link : Link). link.reader ≡ record { limit = longest_body; held = Some [] }) links
 
 -- A peer of the plan that has done nothing.
 pub record IsNew (plan : Plan) (p : PeerNo) (node : Node) : Type 0 where

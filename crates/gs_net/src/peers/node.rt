@@ -177,7 +177,7 @@ fn hear(
         × ReadsEach (λ q. said_by speeches.now q number) links.items heard.items inbound
         × Runs now (hears (peers_of links.items) inbound) router.old router.new []) }
 {
-    let mut heard = Vec::new(alloc);
+    let mut heard = Vec::with_capacity(alloc, links.len())?;
     for link in links {
         let Link { peer, mut reader } = link;
         let reading = Reading::of(alloc, &mut reader, said(speeches, peer, number))?;

@@ -1,6 +1,6 @@
 //! What a reader finds in a piece of a stream.
 ghost use Rattle.std.specs.Prelude.{◌≡◌, IfOk};
-ghost use Rattle.gs_wire.specs.declared.rpc.TheConstants.{MAX_BODY};
+ghost use Rattle.gs_wire.specs.Messages.{longest_body};
 ghost use Rattle.gs_rules.specs.Hearing.{Inbound};
 ghost use Rattle.gs_net.specs.Nodes.{IsReadAs, Reads, RpcsFit};
 
@@ -23,7 +23,7 @@ impl Reading {
     /// # Errors
     /// `AllocError` where there was no memory for it.
     pub fn of(alloc: Global, reader: &mut FrameReader, piece: &[u8]) -> Result<Reading, AllocError>
-        requires { reader.old.limit ≡ MAX_BODY }
+        requires { reader.old.limit ≡ longest_body }
         ensures found { IfOk result (λ reading. (x : Inbound)
             × Reads reader.old piece.now reader.new x
             × IsReadAs reading x) }
