@@ -15,6 +15,7 @@ use gs_params::Plan;
 use gs_scenario::{ScenarioFault, read_plan};
 use std::alloc::{AllocError, Global};
 use std::io::{Read, Write};
+use std::mem;
 use std::process::ExitCode;
 
 /// How a run of the program ends.
@@ -138,7 +139,11 @@ fn report_of(alloc: Global, plan: &Plan) -> Result<Vec<u8>, AllocError>
         × (text.items ≡ report_text plan.now finished)) }
 {
     let finished = run_peers(alloc, plan)?;
-    report_text(alloc, plan, &finished)
+    let text = report_text(alloc, plan, &finished)?;
+    // The program ends behind its report, and its memory goes back as a whole: to take the traces
+    // apart first, entry by entry, is a tenth of a run.
+    mem::forget(finished);
+    Ok(text)
 }
 
 /// Writes the line of a refusal, or a front of it. Where there is no memory for the line, the
