@@ -64,4 +64,5 @@ numbered peers = enumerate_from 0 peers
 
 -- what was delivered, peer by peer, and then what was refused
 abbrev pub report_text : Plan → List Finished → List ℕ
-report_text plan peers = flat_map (delivered_lines plan) (numbered peers) ++ flat_map (refused_lines plan) (numbered peers)
+report_text plan peers =
+    flat_map (delivered_lines plan) (numbered peers) ++ flat_map (refused_lines plan) (numbered peers)

@@ -62,38 +62,45 @@ IsLoss q other = ⊥
 
 -- ---- how a call ends
 
--- where memory was wanting: nothing came, or an entry of the event and some of what it owes; without an event none can be
+-- where memory was wanting: nothing came, or an entry of the event and some of what it owes; without an event none
+-- can be
 abbrev pub Breaks : Peer → Millis → Option Event → Entries → Entries → Type 0
 Breaks p now None K L = ⊥
 Breaks p now (Some event) K L = BreaksOff p now event K L
 
 -- The event came with all that it owes, by choices that lead from s to t.
-pub record Done (m : Mode) (event : Option Event) (now : Millis) (old : RouterView) (s : m.State) (new : RouterView) (t : m.State) : Type 0 where
+pub record Done (m : Mode) (event : Option Event) (now : Millis)
+    (old : RouterView) (s : m.State) (new : RouterView) (t : m.State) : Type 0 where
   pub free : refusal_of old now.0 event ≡ None
   pub comes : Comes old.peer now event old.trace new.trace
   pub appended : Appends m old.peer old.trace s new.trace t
   pub running : new.is_stopped ≡ false
 
 -- It is refused for the first reason that there is. Nothing changes, and nothing is chosen.
-pub record Declined (m : Mode) (why : Refusal) (event : Option Event) (now : Millis) (old : RouterView) (s : m.State) (new : RouterView) (t : m.State) : Type 0 where
+pub record Declined (m : Mode) (why : Refusal) (event : Option Event) (now : Millis)
+    (old : RouterView) (s : m.State) (new : RouterView) (t : m.State) : Type 0 where
   pub first : refusal_of old now.0 event ≡ Some why
   pub unchanged : new ≡ old
   pub undrawn : t ≡ s
 
--- Memory was wanting. The trace ends with the last whole entry, up to which choices led, and everything is refused from now on.
-pub record BrokenOff (m : Mode) (event : Option Event) (now : Millis) (old : RouterView) (s : m.State) (new : RouterView) : Type 0 where
+-- Memory was wanting. The trace ends with the last whole entry, up to which choices led, and everything is refused
+-- from now on.
+pub record BrokenOff (m : Mode) (event : Option Event) (now : Millis)
+    (old : RouterView) (s : m.State) (new : RouterView) : Type 0 where
   pub free : refusal_of old now.0 event ≡ None
   pub breaks : Breaks old.peer now event old.trace new.trace
   pub appended : (u : m.State) × Appends m old.peer old.trace s new.trace u
   pub stopped : new.is_stopped ≡ true
 
-abbrev pub Answers : {A : Type 0} → (m : Mode) → Option Event → Millis → RouterView → m.State → Result A RouterFault → RouterView → m.State → Type 0
+abbrev pub Answers : {A : Type 0} → (m : Mode) → Option Event → Millis
+    → RouterView → m.State → Result A RouterFault → RouterView → m.State → Type 0
 Answers m event now old s (Ok x) new t = Done m event now old s new t
 Answers m event now old s (Err (Refused why)) new t = Declined m why event now old s new t
 Answers m event now old s (Err NoMemory) new t = BrokenOff m event now old s new
 
 -- How a call ends that is for an event, or for none.
-pub record Calls {A : Type 0} (m : Mode) (event : Option Event) (now : Millis) (old : RouterView) (s : m.State) (result : Result A RouterFault) (new : RouterView) (t : m.State) : Type 0 where
+pub record Calls {A : Type 0} (m : Mode) (event : Option Event) (now : Millis)
+    (old : RouterView) (s : m.State) (result : Result A RouterFault) (new : RouterView) (t : m.State) : Type 0 where
   pub answer : Answers m event now old s result new t
   -- what is given of the router stays
   pub peer : new.peer ≡ old.peer

@@ -44,7 +44,8 @@ pub record Appends (m : Mode) (p : Peer) (K : Entries) (s : m.State) (L : Entrie
   pub legal : LegalOn m p s K entries t
 
 -- the one trace is the other with one more entry, of this event and moment
-pub record Adds (m : Mode) (p : Peer) (event : Event) (now : Millis) (K : Entries) (s : m.State) (L : Entries) (t : m.State) : Type 0 where
+pub record Adds (m : Mode) (p : Peer) (event : Event) (now : Millis)
+    (K : Entries) (s : m.State) (L : Entries) (t : m.State) : Type 0 where
   pub entry : Entry
   pub added : L ≡ entry ∷ K
   pub moment : entry.at ≡ now
@@ -52,7 +53,8 @@ pub record Adds (m : Mode) (p : Peer) (event : Event) (now : Millis) (K : Entrie
   pub legal : LegalOn m p s K (entry ∷ []) t
 
 -- How a step ends: the event came, by choices that lead from s to t, or nothing came for want of memory.
-pub record Steps {A E : Type 0} (m : Mode) (event : Event) (now : Millis) (old : State) (s : m.State) (result : Result A E) (new : State) (t : m.State) : Type 0 where
+pub record Steps {A E : Type 0} (m : Mode) (event : Event) (now : Millis)
+    (old : State) (s : m.State) (result : Result A E) (new : State) (t : m.State) : Type 0 where
   pub added : OnOk result (Adds m (peer_with old.setup) event now old.trace s new.trace t)
   pub current : OnOk result (IsCurrent new)
   pub kept : OnErr result (new.trace ≡ old.trace)
@@ -62,8 +64,10 @@ pub record Steps {A E : Type 0} (m : Mode) (event : Event) (now : Millis) (old :
 abbrev pub BreaksOff : Peer → Millis → Event → Entries → Entries → Type 0
 BreaksOff p now event K L = (L ≡ K) ⊎ Begins p now event K L
 
--- How the work on an event ends: it came with all that it owes, by choices that lead from s to t, or broke off for want of memory.
-pub record Ends {A E : Type 0} (m : Mode) (event : Event) (now : Millis) (old : State) (s : m.State) (result : Result A E) (new : State) (t : m.State) : Type 0 where
+-- How the work on an event ends: it came with all that it owes, by choices that lead from s to t, or broke off for
+-- want of memory.
+pub record Ends {A E : Type 0} (m : Mode) (event : Event) (now : Millis)
+    (old : State) (s : m.State) (result : Result A E) (new : State) (t : m.State) : Type 0 where
   pub opened : OnOk result (Opens (peer_with old.setup) now event old.trace new.trace)
   pub appended : OnOk result (Appends m (peer_with old.setup) old.trace s new.trace t)
   pub ready : OnOk result (IsReady new)

@@ -1,5 +1,5 @@
--- What must come next. An event may owe others: after an RPC was heard, its parts follow. What is owed comes in groups, and a
--- group holds what there is when it is reached.
+-- What must come next. An event may owe others: after an RPC was heard, its parts follow. What is owed comes in
+-- groups, and a group holds what there is when it is reached.
 use Rattle.std.specs.Prelude.{List, [], ◌∷◌, ◌++◌, drop, map}
 use Rattle.gs_base.specs.declared.names.PeerNo.{PeerNo}
 use Rattle.gs_base.specs.declared.rpc.Rpc.{Rpc}

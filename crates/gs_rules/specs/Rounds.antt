@@ -86,8 +86,8 @@ obey x = Obey x.0 x.1.what
 abbrev pub lines_at : Seat → ℕ → List Todo
 lines_at seat r = map obey (filter (is_at r) seat.lines)
 
--- In a round a peer hears what came, follows its lines, and ends the round. Behind the last one it shuts down, and then hears
--- what still comes.
+-- In a round a peer hears what came, follows its lines, and ends the round. Behind the last one it shuts down, and
+-- then hears what still comes.
 abbrev pub agenda : Seat → Place → List Inbound → List Todo
 agenda seat (Playing r) xs = hears (links_of seat.peer) xs ++ (lines_at seat r ++ EndRound r ∷ [])
 agenda seat Closing xs = Stop ∷ hears (links_of seat.peer) xs
@@ -138,13 +138,15 @@ ComesAt seat (Playing r) w x = ComesIn r w x
 ComesAt seat Closing w x = ComesAfter seat.rounds w x
 
 -- At a place a peer does all that there is to do, where its neighbours say this.
-pub record Plays (seat : Seat) (said : PeerNo → Said) (place : Place) (K L : Entries) (refused : List RefusedLine) : Type 0 where
+pub record Plays (seat : Seat) (said : PeerNo → Said) (place : Place)
+    (K L : Entries) (refused : List RefusedLine) : Type 0 where
   pub inbound : List Inbound
   pub was_said : AllZip (λ q x. ComesAt seat place (said q) x) (links_of seat.peer) inbound
   pub does : Does seat.peer (moment_of seat place) (agenda seat place inbound) K L refused
 
 -- It is done up to this, which is left.
-pub record PlaysInPart (seat : Seat) (said : PeerNo → Said) (place : Place) (left : List Todo) (K L : Entries) (refused : List RefusedLine) : Type 0 where
+pub record PlaysInPart (seat : Seat) (said : PeerNo → Said) (place : Place) (left : List Todo)
+    (K L : Entries) (refused : List RefusedLine) : Type 0 where
   pub inbound : List Inbound
   pub was_said : AllZip (λ q x. ComesAt seat place (said q) x) (links_of seat.peer) inbound
   pub done : List Todo
@@ -171,7 +173,8 @@ rounds_before seat (Playing r) = r
 rounds_before seat Closing = suc seat.rounds
 
 -- So far: the rounds before this place, and what is done of it.
-pub record KeepsSoFar (seat : Seat) (said : PeerNo → Said) (place : Place) (left : List Todo) (L : Entries) (refused : List RefusedLine) : Type 0 where
+pub record KeepsSoFar (seat : Seat) (said : PeerNo → Said) (place : Place) (left : List Todo)
+    (L : Entries) (refused : List RefusedLine) : Type 0 where
   pub place_is : IsPlaceOf seat place
   pub start : Entries
   pub earlier : List RefusedLine

@@ -1,5 +1,5 @@
--- What a peer does about an event: for each event one rule, which gives the whole entry. Rules look at the trace before the
--- entry alone.
+-- What a peer does about an event: for each event one rule, which gives the whole entry. Rules look at the trace
+-- before the entry alone.
 use Rattle.std.specs.Prelude.{ℕ, Bool, true, false, not, ◌&&◌, if◌then◌else◌, List, [], ◌∷◌, map, filter, is_some}
 use Rattle.gs_base.specs.declared.names.PeerNo.{PeerNo}
 use Rattle.gs_base.specs.declared.names.Topic.{Topic}
@@ -60,8 +60,8 @@ abbrev pub unsubscribe_rule : Peer → Entries → Millis → Topic → Entry
 unsubscribe_rule p L at t =
     record (bare at (Unsubscribe t)) { sends = to_each (announcement false t) (up_neighbours p L) }
 
--- what a peer publishes goes to every neighbour that is up and on the topic (gossipsub v1.1, "Flood Publishing"), and to itself
--- where it is subscribed
+-- what a peer publishes goes to every neighbour that is up and on the topic (gossipsub v1.1, "Flood Publishing"),
+-- and to itself where it is subscribed
 abbrev pub publish_rule : Peer → Entries → Millis → Topic → List ℕ → Entry
 publish_rule p L at t payload = record (bare at (Publish t payload)) {
   sends = to_each (publication t payload) (listeners p L t);
@@ -69,8 +69,8 @@ publish_rule p L at t payload = record (bare at (Publish t payload)) {
   marks = Seen (message_id payload) Accept ∷ [];
 }
 
--- A message that came is dropped where the peer isn't subscribed. One that is signed is invalid, and not marked as seen. One that
--- was seen lately is dropped. Any other is delivered.
+-- A message that came is dropped where the peer isn't subscribed. One that is signed is invalid, and not marked as
+-- seen. One that was seen lately is dropped. Any other is delivered.
 abbrev pub message_rule : Peer → Entries → Millis → PeerNo → Message → Entry
 message_rule p L at q m =
     if not (joined L (topic_of m)) then bare at (Msg q m)

@@ -1,6 +1,6 @@
--- What a trace says of a peer. Its entries stand with the newest first, so each table is read off the newest entry and what the
--- table said before it: a step by the entry's event, and where marks change it, a step by each mark. A new event or mark is one
--- line in the tables that it changes.
+-- What a trace says of a peer. Its entries stand with the newest first, so each table is read off the newest entry
+-- and what the table said before it: a step by the entry's event, and where marks change it, a step by each mark. A
+-- new event or mark is one line in the tables that it changes.
 use Rattle.std.specs.Prelude.{ℕ, ◌-◌, Bool, true, false, ◌&&◌, nat_lt, if◌then◌else◌, List, [], ◌∷◌, ◌++◌, Option, Some, None, unwrap_or}
 use Rattle.std.specs.List.{list_any}
 use Rattle.gs_base.specs.declared.names.PeerNo.{PeerNo}
