@@ -94,34 +94,52 @@ fn a_trace_keeps_its_entries_in_order(rt: HostRuntime) -> Result<(), AllocError>
     Ok(())
 }
 
-/// Entries, events and marks are equal where their parts are, and differ where one part does.
+/// Entries are equal where their parts are, and differ where one part does.
 fn compares_entries(alloc: Global) -> Result<bool, AllocError> {
     let seen = delivery(alloc, 7, b"second")?;
+    let again = delivery(alloc, 7, b"second")?;
     let later = delivery(alloc, 8, b"second")?;
     let other = delivery(alloc, 7, b"third")?;
-    let invalid = Mark::Invalid(PeerNo(2), topic(alloc)?);
     Ok(
-        seen == delivery(alloc, 7, b"second")?
+        seen == again
             && seen != later
             && seen.event == later.event
             && seen.event != other.event
             && seen.marks == later.marks
             && seen.marks != other.marks
-            && seen.delivered != other.delivered
-            && invalid == Mark::Invalid(PeerNo(2), topic(alloc)?)
-            && invalid != Mark::Invalid(PeerNo(3), topic(alloc)?)
-            && Mark::Seen(MsgId(OF_ABC), Verdict::Reject)
-                != Mark::Seen(MsgId(OF_ABC), Verdict::Ignore)
-            && Event::RoundEnd(1) != Event::RoundEnd(2)
-            && Event::RoundEnd(1) != Event::Shut
-            && Event::Gone(PeerNo(1)) != Event::Gone(PeerNo(2))
-            && Event::Gone(PeerNo(1)) != Event::Fault(PeerNo(1)),
+            && seen.delivered != other.delivered,
     )
+}
+
+/// Events that hold no memory differ in their variant or in their number.
+fn compares_events() -> bool {
+    Event::RoundEnd(1) == Event::RoundEnd(1)
+        && Event::RoundEnd(1) != Event::RoundEnd(2)
+        && Event::RoundEnd(1) != Event::Shut
+        && Event::Gone(PeerNo(1)) != Event::Gone(PeerNo(2))
+        && Event::Gone(PeerNo(1)) != Event::Fault(PeerNo(1))
+}
+
+/// Marks are equal where their parts are.
+fn compares_marks(alloc: Global) -> Result<bool, AllocError> {
+    let invalid = Mark::Invalid(PeerNo(2), topic(alloc)?);
+    let again = Mark::Invalid(PeerNo(2), topic(alloc)?);
+    let other = Mark::Invalid(PeerNo(3), topic(alloc)?);
+    let rejected = Mark::Seen(MsgId(OF_ABC), Verdict::Reject);
+    let ignored = Mark::Seen(MsgId(OF_ABC), Verdict::Ignore);
+    Ok(invalid == again && invalid != other && rejected != ignored)
 }
 
 #[test]
 fn entries_are_equal_where_their_parts_are(rt: HostRuntime) -> Result<(), AllocError> {
     assert!(rt; compares_entries(rt.alloc())?);
+    Ok(())
+}
+
+#[test]
+fn events_and_marks_are_equal_where_their_parts_are(rt: HostRuntime) -> Result<(), AllocError> {
+    assert!(rt; compares_events());
+    assert!(rt; compares_marks(rt.alloc())?);
     Ok(())
 }
 
