@@ -130,7 +130,7 @@ does_handle p q at (todo ∷ todos) K L refused (M, later, comes, does, is) lega
 -- ---- the neighbours are apart
 
 -- q stands in the list, and once
-abbrev StandsOnce : PeerNo → List PeerNo → Type 0
+abbrev pub StandsOnce : PeerNo → List PeerNo → Type 0
 StandsOnce q [] = ⊥
 StandsOnce q (r ∷ rs) = ((r ≡ q) × AllByRecursion (λ s. same_peer s q ≡ false) rs) ⊎ ((same_peer r q ≡ false) × StandsOnce q rs)
 
@@ -142,7 +142,7 @@ once_behind : (q : PeerNo) (qs rs : List PeerNo) → AllByRecursion (λ (r : Pee
 once_behind q qs [] h k = tt
 once_behind q qs (r ∷ rs) h k = (inr (h.0, k.0), once_behind q qs rs h.1 k.1)
 
-distinct_once : (qs : List PeerNo) → IsDistinct same_peer qs → AllByRecursion (λ q. StandsOnce q qs) qs
+pub distinct_once : (qs : List PeerNo) → IsDistinct same_peer qs → AllByRecursion (λ q. StandsOnce q qs) qs
 distinct_once [] h = tt
 distinct_once (q ∷ qs) h =
     let apart = IsDistinct-head same_peer q qs h in
@@ -237,7 +237,7 @@ pub no_bytes : Spell [] []
 no_bytes = ([], Waits, record { front = []; parts = refl; frames = refl; goes_on = inl (omega arith, tt) })
 
 -- what is handled after so many rounds: what was said before the last of them
-abbrev HandledIn : ℕ → Said → List Rpc → Type 0
+abbrev pub HandledIn : ℕ → Said → List Rpc → Type 0
 HandledIn zero w rpcs = rpcs ≡ []
 HandledIn (suc r) w rpcs = Spell (bytes_before r w) rpcs
 
@@ -266,7 +266,7 @@ place_handles seat said place q K L refused once plays legal =
           ∙ ap (λ (xs : List Rpc). handled K q ++ xs) (place_hears seat place q plays.inbound ∙ one.is);
     }
 
-rounds_handle : (seat : Seat) (said : PeerNo → Said) (q : PeerNo) (r : ℕ) (L : Entries) (refused : List RefusedLine) → StandsOnce q (links_of seat.peer) → AfterRounds seat said r L refused → Legal seat.peer L → HandledIn r (said q) (handled L q)
+pub rounds_handle : (seat : Seat) (said : PeerNo → Said) (q : PeerNo) (r : ℕ) (L : Entries) (refused : List RefusedLine) → StandsOnce q (links_of seat.peer) → AfterRounds seat said r L refused → Legal seat.peer L → HandledIn r (said q) (handled L q)
 rounds_handle seat said q zero L refused once h legal = ap (λ (M : Entries). handled M q) h.0
 rounds_handle seat said q (suc r) L refused once (K, earlier, more, before, plays, is) legal =
     let one = place_handles seat said (Playing r) q K L more once plays legal in

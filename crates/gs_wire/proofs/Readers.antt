@@ -8,7 +8,7 @@ use Rattle.gs_wire.specs.declared.frames.End.TheVariants as ends
 use Rattle.gs_wire.specs.Stream.{IsStream, Holding, held_after, FeedsOnce, FeedsAll, HasRead}
 use Rattle.gs_wire.proofs.FrameLists.{streams_join, fault_stays, too_long_stays, malformed_stays}
 
-read_nothing : (limit : ℕ) → HasRead limit [] (record { limit = limit; held = Some [] }) []
+pub read_nothing : (limit : ℕ) → HasRead limit [] (record { limit = limit; held = Some [] }) []
 read_nothing limit = record { rest = []; end = ends.Waits; stream = record { front = []; parts = refl; frames = refl; goes_on = inl (omega arith, tt) }; holds = refl }
 
 -- a feed while the stream waits
@@ -41,7 +41,7 @@ read_failed limit bytes piece rest old new vs found end stream failed holds once
   }
 ]
 
-read_once : (limit : ℕ) (bytes piece : List ℕ) (old new : Holding) (vs found : List Rpc) → HasRead limit bytes old vs → FeedsOnce old piece new found → HasRead limit (bytes ++ piece) new (vs ++ found)
+pub read_once : (limit : ℕ) (bytes piece : List ℕ) (old new : Holding) (vs found : List Rpc) → HasRead limit bytes old vs → FeedsOnce old piece new found → HasRead limit (bytes ++ piece) new (vs ++ found)
 read_once limit bytes piece old new vs found h once = by_end h.rest h.end h.stream h.holds
   where
     by_end : (rest : List ℕ) (end : End) → IsStream limit bytes vs rest end → old ≡ record { limit = limit; held = held_after end rest } → HasRead limit (bytes ++ piece) new (vs ++ found)

@@ -1,0 +1,5 @@
+pub mod PairLists
+pub mod Calls
+pub mod SlotLists
+pub mod Fresh
+pub mod Apart

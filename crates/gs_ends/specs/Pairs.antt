@@ -1,0 +1,48 @@
+-- A peer's ends in a list: each neighbour, with the end that sends to it and the end that takes from it.
+use Rattle.std.specs.Prelude.{ℕ, suc, Bool, if◌then◌else◌, List, [], ◌∷◌, map}
+use Rattle.gs_base.specs.declared.names.PeerNo.{PeerNo}
+use Rattle.gs_base.specs.Names.{same_peer}
+use Rattle.gs_link.specs.declared.item.Slot.{Slot}
+use Rattle.gs_link.specs.Ends.{SendingEnd, TakingEnd}
+use Rattle.gs_ends.specs.Ends.{Joint}
+
+-- a neighbour, the end that sends to it and the end that takes from it
+abbrev pub Pair : Type 0
+Pair = PeerNo × SendingEnd × TakingEnd
+
+-- ---- the neighbours of a list, whatever their ends are
+
+-- the element is of this neighbour
+abbrev pub is_of : {A B : Type 0} → PeerNo → PeerNo × A × B → Bool
+is_of q x = same_peer x.0 q
+
+-- the place of the first that is of this neighbour
+abbrev pub place_in : {A B : Type 0} → List (PeerNo × A × B) → PeerNo → ℕ
+place_in [] q = 0
+place_in (x ∷ xs) q = if is_of q x then 0 else suc (place_in xs q)
+
+-- the neighbours, in the order of the list
+abbrev pub peers_in : {A B : Type 0} → List (PeerNo × A × B) → List PeerNo
+peers_in xs = map (λ x. x.0) xs
+
+-- ---- what the ends are known for
+
+-- which links the ends of each neighbour belong to
+abbrev pub joint_of : Pair → Joint
+joint_of pair = record { peer = pair.0; to = pair.1.link; from = pair.2.link }
+
+abbrev pub joints_of : List Pair → List Joint
+joints_of pairs = map joint_of pairs
+
+-- the list that an end of a neighbour has, and none where there is no such neighbour
+abbrev pub listed : (Pair → List Slot) → List Pair → PeerNo → List Slot
+listed list [] q = []
+listed list (pair ∷ pairs) q = if is_of q pair then list pair else listed list pairs q
+
+-- all that the end to a neighbour accepted
+abbrev pub accepted_for : List Pair → PeerNo → List Slot
+accepted_for pairs q = listed (λ pair. pair.1.accepted) pairs q
+
+-- all that the end from a neighbour took
+abbrev pub taken_from : List Pair → PeerNo → List Slot
+taken_from pairs q = listed (λ pair. pair.2.taken) pairs q

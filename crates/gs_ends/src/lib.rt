@@ -1,0 +1,16 @@
+//! The ends of a peer's links, by neighbour: those of links, and lists in memory in their place.
+#![tactic(auto)]
+
+mod ends;
+mod inbound;
+mod link_ends;
+mod list_ends;
+mod outbound;
+mod place;
+
+pub use ends::Ends;
+pub use link_ends::LinkEnds;
+pub use list_ends::ListEnds;
+
+#[cfg(test)]
+mod tests;

@@ -1,0 +1,77 @@
+//! Ends that are those of links.
+ghost use Rattle.std.specs.Prelude.{◌≡◌};
+ghost use Rattle.std.specs.List.{IsDistinct};
+ghost use Rattle.gs_base.specs.Names.{same_peer};
+ghost use Rattle.gs_base.specs.declared.names.PeerNo.{PeerNo as PeerNoValue};
+ghost use Rattle.gs_link.specs.declared.item.Slot.{Slot};
+ghost use Rattle.gs_ends.specs.Ends.{IsFinished, IsPut, IsTaken, Joint, OthersStay, has};
+ghost use Rattle.gs_ends.specs.Pairs.{accepted_for, joints_of, peers_in, taken_from};
+
+use crate::ends::Ends;
+use crate::place::place_of;
+use gs_base::PeerNo;
+use gs_link::{CloseRefused, Item, LinkRx, LinkTx, SendRefused, Taken};
+use std::marker::Model;
+use std::sync::Wait;
+
+/// The ends of links, by neighbour. Contracts see them as the list of the neighbours, each with the
+/// end that sends to it and the end that takes from it. A neighbour is looked for one after the
+/// other.
+#[derive(Drop)]
+pub struct LinkEnds<R: Wait + Drop> {
+    rt: R,
+    list: Vec<(PeerNo, LinkTx, LinkRx)>,
+}
+
+impl<R: Wait + Drop> Model for LinkEnds<R> {
+    ghost use Rattle.std.specs.Prelude.{List};
+    ghost use Rattle.gs_ends.specs.Pairs.{Pair};
+
+    ghost Value = { List Pair };
+
+    ghost view = { λ s. s.list.items };
+}
+
+impl<R: Wait + Drop> LinkEnds<R> {
+    /// The ends of this list, in which no neighbour stands twice. The links wait through `rt`.
+    pub fn new(rt: R, list: Vec<(PeerNo, LinkTx, LinkRx)>) -> LinkEnds<R>
+        requires apart { IsDistinct same_peer (peers_in list.items) }
+        ensures ends { result ≡ list.items }
+    {
+        LinkEnds { rt, list }
+    }
+
+    /// Gives the ends back, in the order in which they were given.
+    pub fn into_list(self) -> Vec<(PeerNo, LinkTx, LinkRx)>
+        ensures ends { result.items ≡ self }
+    {
+        let LinkEnds { rt: _, list } = self;
+        list
+    }
+}
+
+impl<R: Wait + Drop> Ends for LinkEnds<R> {
+    ghost joints = { λ s. joints_of s };
+
+    ghost accepted = { λ s q. accepted_for s q };
+
+    ghost taken = { λ s q. taken_from s q };
+
+    fn put(&mut self, to: PeerNo, item: Item) -> Result<(), SendRefused> {
+        let place = place_of(self.list.as_slice(), to);
+        let pair = &mut self.list[place];
+        pair.1.send(&self.rt, item)
+    }
+
+    fn finish(&mut self, to: PeerNo) -> Result<(), CloseRefused> {
+        let place = place_of(self.list.as_slice(), to);
+        let pair = &mut self.list[place];
+        pair.1.close(&self.rt)
+    }
+
+    fn take(&mut self, from: PeerNo) -> Taken {
+        let place = place_of(self.list.as_slice(), from);
+        let pair = &mut self.list[place];
+        pair.2.take(&self.rt)
+    }
+}

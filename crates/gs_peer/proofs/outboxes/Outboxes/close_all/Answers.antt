@@ -1,0 +1,16 @@
+use Rattle.std.proofs.Common.{rules, [], ◌∷◌, length, ◌≡◌}
+use Rattle.gs_base.specs.Tokens.{Close}
+use Rattle.gs_link.specs.Flat.{flat}
+use Rattle.gs_peer.specs.Outboxes.{is_open, waiting}
+use Rattle.gs_peer.proofs.BoxPlaces.{shut_to_end, told_to_end}
+use Rattle.gs_peer.proofs.outboxes.Outboxes.close_all.Goals as goal
+
+pub returns-clause-told : goal.returns-clause-told
+returns-clause-told c =
+    let ends : c.loop-place.place ≡ length c.args.self.now.boxes.items = search rules in
+    λ q. told_to_end c.args.self.now.boxes.items q.0 c.loop-place.place (Close ∷ []) (flat (waiting c.args.self.now q)) (flat (waiting c.loop-place.self q)) ends (c.loop-place.invariant.told q)
+
+pub returns-clause-open : goal.returns-clause-open
+returns-clause-open c =
+    let ends : c.loop-place.place ≡ length c.args.self.now.boxes.items = search rules in
+    λ q. shut_to_end c.args.self.now.boxes.items q.0 c.loop-place.place (is_open c.loop-place.self q) ends (c.loop-place.invariant.may q)

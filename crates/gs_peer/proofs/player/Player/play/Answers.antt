@@ -1,0 +1,33 @@
+use Rattle.std.proofs.Common.{◌≡◌, ℕ, ◌++◌, [], ◌∷◌, List, Some, length, map, refl, rules, vec_len, ap, subst, append-nil, ◌∙◌}
+use Rattle.std.proofs.lemmas.List.{with_items_is}
+use Rattle.gs_params.specs.declared.plan.Line.{Line}
+use Rattle.gs_params.specs.Seeding.{seeded_after, seeded_word}
+use Rattle.gs_rules.specs.declared.refusal.RefusedLine.{RefusedLine}
+use Rattle.gs_rules.specs.declared.trace.Event.TheVariants.{RoundEnd}
+use Rattle.gs_rules.specs.Modes.{exact}
+use Rattle.gs_rules.specs.Rounds.{EndRound, obey}
+use Rattle.gs_peer.specs.Inboxes.{all_heard, turned}
+use Rattle.gs_peer.specs.Playing.{Runs, own_lines}
+use Rattle.gs_peer.proofs.Runs.{runs_then, told_runs}
+use Rattle.gs_peer.proofs.player.Player.play.Goals as goal
+
+pub returns : goal.returns
+returns c =
+    let m = exact seeded_word seeded_after in
+    let now = c.args.now in
+    let p = c.args.self.now in
+    let r = c.args.round in
+    let heard : Runs m now (all_heard p.inboxes.items) p.router p.words c.hear.new.router c.hear.new.words [] = search rules in
+    let (more, noted, followed) = c.in_ok-follow_all.ensures in
+    let follows : Runs m now (own_lines r c.args.agenda.now) c.hear.new.router c.hear.new.words c.follow_all.new.router c.follow_all.new.words more =
+    subst (λ (xs : List (ℕ × Line)). Runs m now (map obey xs) c.hear.new.router c.hear.new.words c.follow_all.new.router c.follow_all.new.words more) c.at.ensures followed in
+    let ends = told_runs m now (EndRound r) (Some (RoundEnd r)) c.follow_all.new.router c.end_round.new.self c.follow_all.new.words c.end_round.new.words c.end_round.result c.in_ok-done.ensures refl refl follows.runs_on c.end_round.ensures in
+    let rest = runs_then m now (own_lines r c.args.agenda.now) (EndRound r ∷ []) c.hear.new.router c.follow_all.new.router c.end_round.new.self c.hear.new.words c.follow_all.new.words c.end_round.new.words more [] follows ends in
+    let all = runs_then m now (all_heard p.inboxes.items) (own_lines r c.args.agenda.now ++ EndRound r ∷ []) p.router c.hear.new.router c.end_round.new.self p.words c.hear.new.words c.end_round.new.words [] (more ++ []) heard rest in
+    let len : length c.hear.new.inboxes ≡ vec_len p.inboxes = search rules in
+    record {
+      more = more;
+      refused = noted;
+      runs = subst (λ (xs : List RefusedLine). Runs m now (all_heard p.inboxes.items ++ (own_lines r c.args.agenda.now ++ EndRound r ∷ [])) p.router p.words c.end_round.new.self c.end_round.new.words xs) (append-nil more) all;
+      turns = with_items_is p.inboxes c.hear.new.inboxes len ∙ c.in_ok-hear.ensures.turned ∙ ap (map turned) c.deref_mut.ensures.value;
+    }

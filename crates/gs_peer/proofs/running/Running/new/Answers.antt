@@ -1,0 +1,16 @@
+use Rattle.std.proofs.Common.{refl, rules, ap}
+use Rattle.gs_link.specs.Flat.{flat}
+use Rattle.gs_peer.specs.Life.{words_of}
+use Rattle.gs_peer.specs.Running.{seat_with}
+use Rattle.gs_peer.proofs.Beginning.{kept_new}
+use Rattle.gs_peer.proofs.running.Running.new.Goals as goal
+
+pub returns-clause-kept : goal.returns-clause-kept
+returns-clause-kept g c =
+    let h = c.requires in
+    record {
+      small = h.small;
+      known = h.known;
+      kept = kept_new (seat_with c.args.assignment c.args.router.peer) (words_of (g.S.Ends.taken c.args.ends)) (words_of (g.S.Ends.accepted c.args.ends)) _ _ c.args.router _ _ c.args.words refl h.ascending h.fresh h.running (search rules)
+          (λ q. ap flat (h.none_taken q)) (λ q. ap flat (h.none_accepted q)) (search rules) (search rules) (search rules) (search rules);
+    }

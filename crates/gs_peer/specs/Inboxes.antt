@@ -1,0 +1,89 @@
+-- What a task keeps of what comes from a neighbour, and how that changes.
+use Rattle.std.specs.Prelude.{◌≡◌, ◌⊎◌, ℕ, zero, suc, Bool, true, false, not, ◌&&◌, ◌||◌, nat_eq, if◌then◌else◌, List, [], ◌∷◌, ◌++◌, length, map, Some, is_none, unwrap_or}
+use Rattle.std.specs.List.{flat_map}
+use Rattle.gs_base.specs.declared.names.PeerNo.{PeerNo}
+use Rattle.gs_base.specs.declared.rpc.Rpc.{Rpc}
+use Rattle.gs_wire.specs.Messages.{longest_body}
+use Rattle.gs_wire.specs.Stream.{Holding, FeedsOnce}
+use Rattle.gs_link.specs.declared.item.Slot.{Slot}
+use Rattle.gs_link.specs.declared.item.Slot.TheVariants as slots
+use Rattle.gs_rules.specs.Rounds.{Place, Playing, Closing, Todo, Hear, HearFault, HearGone}
+
+-- What a task keeps of what comes from a neighbour.
+pub record InboxView : Type 0 where
+  pub peer : PeerNo
+  pub reader : Holding
+  -- the RPCs that were taken and not handled
+  pub stage : List Rpc
+  -- all is taken that is heard at this place: the end of a round was
+  pub is_marked : Bool
+  -- the close was taken
+  pub is_closed : Bool
+
+-- one of which nothing was taken: in the first round there is nothing to hear
+abbrev pub new_inbox : PeerNo → InboxView
+new_inbox q = record {
+  peer = q;
+  reader = record { limit = longest_body; held = Some [] };
+  stage = [];
+  is_marked = true;
+  is_closed = false;
+}
+
+-- ---- what there is to hear
+
+-- its bytes spell no RPC, or end within one
+abbrev pub is_broken_off : InboxView → Bool
+is_broken_off x = is_none x.reader.held || (x.is_closed && not (nat_eq (length (unwrap_or x.reader.held [])) 0))
+
+-- how hearing it ends
+abbrev pub ending_of : InboxView → List Todo
+ending_of x = if is_broken_off x then HearFault x.peer ∷ [] else if x.is_closed then HearGone x.peer ∷ [] else []
+
+-- what there is to hear of it
+abbrev pub heard_of : InboxView → List Todo
+heard_of x = map (Hear x.peer) x.stage ++ ending_of x
+
+-- and of all of them
+abbrev pub all_heard : List InboxView → List Todo
+all_heard inboxes = flat_map heard_of inboxes
+
+-- the neighbours, in order
+abbrev pub peers_of : List InboxView → List PeerNo
+peers_of inboxes = map (λ (x : InboxView). x.peer) inboxes
+
+-- all is taken that is heard at this place
+abbrev pub is_full : InboxView → Bool
+is_full x = x.is_marked || x.is_closed
+
+-- ---- what is taken
+
+-- this mark ends what is heard at a place: that of the round before
+abbrev pub is_mark : Place → ℕ → Bool
+is_mark (Playing zero) k = false
+is_mark (Playing (suc r)) k = nat_eq k r
+is_mark Closing k = false
+
+-- a piece is read: the RPCs that are whole then are staged
+abbrev pub FeedsPiece : InboxView → List ℕ → InboxView → Type 0
+FeedsPiece old bytes new =
+    (reader : Holding) × (found : List Rpc)
+    × FeedsOnce old.reader bytes reader found
+    × (new ≡ record old { reader = reader; stage = old.stage ++ found })
+
+-- how an inbox changes when a slot is taken
+abbrev pub Reads : Place → InboxView → Slot → InboxView → Type 0
+Reads place old (slots.Piece bytes) new = FeedsPiece old bytes new
+Reads place old (slots.Round k) new = new ≡ record old { is_marked = is_mark place k }
+Reads place old slots.Close new = new ≡ record old { is_closed = true }
+
+-- nothing is taken, or one slot
+abbrev pub Listens : Place → List Slot → List Slot → InboxView → InboxView → Type 0
+Listens place before after old new =
+    ((after ≡ before) × (new ≡ old)) ⊎ ((slot : Slot) × (after ≡ before ++ slot ∷ []) × Reads place old slot new)
+
+-- ---- a place is over
+
+-- what was staged is handled, and nothing is taken yet of what is heard at the next place
+abbrev pub turned : InboxView → InboxView
+turned x = record x { stage = []; is_marked = false }

@@ -1,0 +1,12 @@
+pub mod Ended
+pub mod Places
+pub mod Inboxes
+pub mod Outboxes
+pub mod Playing
+pub mod Agendas
+pub mod Players
+pub mod Kept
+pub mod Life
+pub mod Running
+pub mod Faults
+pub mod Task

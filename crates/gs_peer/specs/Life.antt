@@ -1,0 +1,35 @@
+-- What is known of a life that has ended.
+use Rattle.std.specs.Prelude.{◌≡◌, true, List, []}
+use Rattle.std.specs.List.{AllByRecursion}
+use Rattle.gs_base.specs.declared.names.PeerNo.{PeerNo}
+use Rattle.gs_base.specs.Tokens.{Said, bytes_of}
+use Rattle.gs_params.specs.Seeding.{SeededState, seeded_after, seeded_word}
+use Rattle.gs_wire.specs.Codec.{codec}
+use Rattle.gs_link.specs.declared.item.Slot.{Slot}
+use Rattle.gs_link.specs.Flat.{flat}
+use Rattle.gs_rules.specs.Peers.{links_of}
+use Rattle.gs_rules.specs.Modes.{exact}
+use Rattle.gs_rules.specs.Legal.{LegalOn}
+use Rattle.gs_rules.specs.Saying.{handled, out}
+use Rattle.gs_rules.specs.Hearing.{Spell, closes}
+use Rattle.gs_rules.specs.Rounds.{Seat, KeepsRounds}
+use Rattle.gs_peer.specs.declared.finished.Finished.{Finished}
+
+-- what lists of slots say, by neighbour
+abbrev pub words_of : (PeerNo → List Slot) → PeerNo → Said
+words_of lists q = flat (lists q)
+
+-- A whole life at a seat, by choices that begin with these words.
+pub record IsLife {S : Type 0} (accepted taken : S → PeerNo → List Slot) (seat : Seat) (first : SeededState)
+    (f : Finished S) : Type 0 where
+  -- each entry is allowed by those before it, by the choices of the words
+  pub legal : (last : SeededState) × LegalOn (exact seeded_word seeded_after) seat.peer first [] f.trace last
+  -- it did what there was to do, round by round, and exactly this was refused
+  pub keeps : KeepsRounds seat (words_of (taken f.ends)) f.trace f.refused
+  -- of each neighbour, all RPCs were handled that the bytes spell that were taken
+  pub handles : AllByRecursion (λ q. Spell (bytes_of (words_of (taken f.ends) q)) (handled f.trace q))
+      (links_of seat.peer)
+  -- to each neighbour, all that the trace says was accepted
+  pub says : AllByRecursion (λ q. words_of (accepted f.ends) q ≡ out codec f.trace q) (links_of seat.peer)
+  -- and each neighbour has closed
+  pub closed : AllByRecursion (λ q. closes (words_of (taken f.ends) q) ≡ true) (links_of seat.peer)

@@ -1,0 +1,36 @@
+-- What a router that is called one thing after the other has done.
+use Rattle.std.specs.Prelude.{◌≡◌, ◌≤◌, false, true, ℕ, List, map, filter}
+use Rattle.std.specs.List.{AllByRecursion}
+use Rattle.gs_base.specs.declared.names.Millis.{Millis}
+use Rattle.gs_base.specs.declared.rpc.Rpc.{Rpc}
+use Rattle.gs_params.specs.declared.plan.Line.{Line}
+use Rattle.gs_wire.specs.Codec.{codec}
+use Rattle.gs_rules.specs.declared.refusal.RefusedLine.{RefusedLine}
+use Rattle.gs_rules.specs.Tables.{last_moment}
+use Rattle.gs_rules.specs.Modes.{Mode}
+use Rattle.gs_rules.specs.Legal.{Legal}
+use Rattle.gs_rules.specs.Rounds.{Todo, Does, is_at, obey}
+use Rattle.gs_router.specs.Router.{RouterView}
+use Rattle.gs_router.specs.State.{Appends}
+
+-- The router may be called at this moment.
+pub record IsRunning (now : Millis) (v : RouterView) : Type 0 where
+  pub running : v.is_stopped ≡ false
+  pub time : last_moment v.trace ≤ now.0
+  pub legal : Legal v.peer v.trace
+
+-- The router has done these things in order, at one moment, by choices that lead from s to t, and these were refused.
+pub record Runs (m : Mode) (now : Millis) (todos : List Todo)
+    (old : RouterView) (s : m.State) (new : RouterView) (t : m.State) (refused : List RefusedLine) : Type 0 where
+  pub does : Does old.peer now todos old.trace new.trace refused
+  pub appended : Appends m old.peer old.trace s new.trace t
+  pub runs_on : IsRunning now new
+  pub peer : new.peer ≡ old.peer
+
+-- each of these fits a frame
+abbrev pub RpcsFit : List Rpc → Type 0
+RpcsFit rpcs = AllByRecursion (λ rpc. codec.fits rpc ≡ true) rpcs
+
+-- what there is to do of these lines in a round
+abbrev pub own_lines : ℕ → List (ℕ × Line) → List Todo
+own_lines r lines = map obey (filter (is_at r) lines)

@@ -1,0 +1,111 @@
+-- What is known of a peer's task, wherever it may be suspended, and of what it gives.
+use Rattle.std.specs.Prelude.{◌≡◌, true, ◌++◌, ℕ, List, [], Option, Some, None, Result, Ok, Err, IfOk, MatchOption, ⊤}
+use Rattle.std.specs.List.{AllByRecursion}
+use Rattle.futures.specs.declared.task.Poll.{Poll}
+use Rattle.futures.specs.declared.task.Poll.TheVariants.{Ready, Pending}
+use Rattle.gs_base.specs.declared.names.PeerNo.{PeerNo}
+use Rattle.gs_base.specs.Tokens.{bytes_of}
+use Rattle.gs_params.specs.Seeding.{SeededState, seeded_after, seeded_word}
+use Rattle.gs_wire.specs.Codec.{codec}
+use Rattle.gs_link.specs.declared.item.Slot.{Slot}
+use Rattle.gs_link.specs.Flat.{flat}
+use Rattle.gs_rules.specs.Peers.{links_of}
+use Rattle.gs_rules.specs.Modes.{exact}
+use Rattle.gs_rules.specs.Legal.{LegalOn}
+use Rattle.gs_rules.specs.Saying.{handled, out}
+use Rattle.gs_rules.specs.Hearing.{Spell, bytes_before}
+use Rattle.gs_rules.specs.Rounds.{Seat, Todo, KeepsSoFar}
+use Rattle.gs_router.specs.Router.{RouterView}
+use Rattle.gs_ends.specs.Ends.{GrewBy, Joint}
+use Rattle.gs_peer.specs.declared.assignment.Assignment.{Assignment}
+use Rattle.gs_peer.specs.declared.finished.Finished.{Finished}
+use Rattle.gs_peer.specs.declared.finished.PeerFault.{PeerFault}
+use Rattle.gs_peer.specs.declared.running.Running.{Running}
+use Rattle.gs_peer.specs.declared.task.PeerTask.{PeerTask}
+use Rattle.gs_peer.specs.Ended.{whole}
+use Rattle.gs_peer.specs.Inboxes.{InboxView, peers_of}
+use Rattle.gs_peer.specs.Life.{IsLife, words_of}
+use Rattle.gs_peer.specs.Outboxes.{waiting}
+use Rattle.gs_peer.specs.Places.{place_of, settled}
+use Rattle.gs_peer.specs.Running.{IsKept, seat_of, seat_with}
+
+-- ---- what stays
+
+-- what no poll of a task changes: its seat, the words of its choices at first, and which links its ends belong to
+abbrev pub given_of : {G S : Type 0} → (S → List Joint) → PeerTask G S → Option (Seat × SeededState × List Joint)
+given_of joints task = elim task.running [ None ↦ None | Some t ↦ Some (seat_of t, t.first.value, joints t.ends) ]
+
+-- the task is of a peer that is given this
+abbrev pub IsTaskOf : {G S : Type 0} → (S → List Joint)
+    → Assignment → RouterView → SeededState → S → PeerTask G S → Type 0
+IsTaskOf joints a router words ends task = given_of joints task ≡ Some (seat_with a router.peer, words, joints ends)
+
+-- it has just these ends, with their lists
+abbrev pub HasEnds : {G S : Type 0} → S → PeerTask G S → Type 0
+HasEnds ends task = MatchOption task.running ⊥ (λ t. t.ends ≡ ends)
+
+-- its ends are of these links
+abbrev pub HasJoints : {G S : Type 0} → (S → List Joint) → List Joint → PeerTask G S → Type 0
+HasJoints joints of task = (seat : Seat) × (first : SeededState) × (given_of joints task ≡ Some (seat, first, of))
+
+-- ---- wherever it may be suspended
+
+module _ {G S : Type 0} (accepted taken : S → PeerNo → List Slot) where
+  -- What a task has done so far.
+  pub record SoFar (t : Running G S) : Type 0 where
+    -- each entry is allowed by those before it, by the choices of its words
+    pub legal : LegalOn (exact seeded_word seeded_after) (seat_of t).peer
+        t.first.value [] t.player.router.trace t.player.words
+    -- it keeps the rounds, up to some of what there is to do at its place
+    pub keeps : (left : List Todo) × KeepsSoFar (seat_of t) (words_of (taken t.ends)) (place_of t.place) left
+        t.player.router.trace t.player.refused.items
+    -- what was handled of each neighbour, and what is staged, are the RPCs of the bytes that were taken from it
+    pub names : peers_of t.player.inboxes.items ≡ links_of (seat_of t).peer
+    pub hears : AllByRecursion (λ (x : InboxView).
+        Spell (bytes_of (words_of (taken t.ends) x.peer)) (handled t.player.router.trace x.peer ++ x.stage))
+        t.player.inboxes.items
+    -- what was accepted for each neighbour, and what waits, is what the trace says to it
+    pub says : AllByRecursion (λ q.
+        words_of (accepted t.ends) q ++ flat (waiting t.outboxes q) ≡ out codec t.player.router.trace q)
+        (links_of (seat_of t).peer)
+    -- the rounds that were heard have ended, in what was taken of each neighbour
+    pub ended : AllByRecursion (λ q.
+        whole (settled (seat_of t) (place_of t.place)) (words_of (taken t.ends) q) ≡ true)
+        (links_of (seat_of t).peer)
+    -- what was handled of each neighbour is what it said in them, and nothing of the round that it is in
+    pub rounds : AllByRecursion (λ q.
+        Spell (bytes_before (settled (seat_of t) (place_of t.place)) (words_of (taken t.ends) q))
+        (handled t.player.router.trace q))
+        (links_of (seat_of t).peer)
+
+-- ---- a poll
+
+module _ {G S : Type 0} (joints : S → List Joint) (accepted taken : S → PeerNo → List Slot) where
+  -- it keeps what a running task keeps, or it has given its result
+  abbrev pub CanPoll : PeerTask G S → Type 0
+  CanPoll task = MatchOption task.running ⊤ (λ t. IsKept joints accepted taken t)
+
+  -- it is suspended, and has done so much
+  abbrev pub IsSuspended : PeerTask G S → Type 0
+  IsSuspended task = MatchOption task.running ⊥ (λ t. SoFar accepted taken t)
+
+  -- a whole life at the task's seat, by its words and with its ends; or a fault
+  abbrev pub Gives : PeerTask G S → Result (Finished S) PeerFault → Type 0
+  Gives task result = IfOk result (λ f.
+      (seat : Seat) × (first : SeededState)
+      × (given_of joints task ≡ Some (seat, first, joints f.ends))
+      × IsLife accepted taken seat first f)
+
+module _ {S : Type 0} (accepted taken : S → PeerNo → List Slot) where
+  -- over all neighbours at most so many slots were taken, and as many accepted
+  abbrev pub BothGrew : ℕ → S → S → Type 0
+  BothGrew most before after = GrewBy most (accepted before) (accepted after) × GrewBy most (taken before) (taken after)
+
+  -- what a poll takes and has accepted
+  abbrev pub Bounded : {G : Type 0} → ℕ → PeerTask G S → PeerTask G S → Poll (Result (Finished S) PeerFault) → Type 0
+  Bounded {G} most old new (Ready (Ok f)) = (t : Running G S) → old.running ≡ Some t → BothGrew most t.ends f.ends
+  Bounded {G} most old new (Ready (Err e)) = Unit {0}
+  Bounded {G} most old new Pending =
+      (t : Running G S)
+      → old.running ≡ Some t
+      → (u : Running G S) × (new.running ≡ Some u) × BothGrew most t.ends u.ends

@@ -1,0 +1,20 @@
+//! What a peer is given in a run.
+use crate::agenda::Agenda;
+use gs_base::PeerNo;
+
+/// What a peer is given in a run, and keeps to its end.
+#[derive(Drop)]
+pub struct Assignment {
+    /// Its number.
+    pub number: PeerNo,
+    /// The numbers of its neighbours, ascending.
+    pub neighbours: Vec<PeerNo>,
+    /// Its lines of the script.
+    pub lines: Agenda,
+    /// The length of a round in milliseconds: 1 to 60,000.
+    pub round_ms: u64,
+    /// The last round, where the first is 0: 1 to 100,000.
+    pub rounds: u64,
+    /// The number of the worker that it runs on.
+    pub worker: usize,
+}

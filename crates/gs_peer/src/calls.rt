@@ -1,0 +1,168 @@
+//! How a task has its router do what there is to do.
+ghost use Rattle.std.specs.Prelude.{◌≡◌, [], ◌∷◌, ◌++◌, OnOk, IfOk, List, Some, map};
+ghost use Rattle.std.specs.List.{AllByRecursion};
+ghost use Rattle.std.specs.Result.{IsOk};
+ghost use Rattle.gs_params.specs.Seeding.{seeded_after, seeded_word};
+ghost use Rattle.gs_rules.specs.declared.refusal.RefusedLine.{RefusedLine as RefusedValue};
+ghost use Rattle.gs_rules.specs.Modes.{exact};
+ghost use Rattle.gs_rules.specs.Rounds.{Hear, Obey, event_of, obey};
+ghost use Rattle.gs_router.specs.Router.{Calls};
+ghost use Rattle.gs_peer.specs.Inboxes.{all_heard, heard_of, turned};
+ghost use Rattle.gs_peer.specs.Playing.{IsRunning, Runs, RpcsFit};
+
+use crate::inbox::Inbox;
+use gs_base::{Millis, PeerNo, Rpc, clone_of};
+use gs_params::{Line, SeededWords, What};
+use gs_router::{Router, RouterFault};
+use gs_rules::RefusedLine;
+use std::alloc::{AllocError, Global};
+
+/// Hears what is staged of each neighbour, one neighbour after the other, and begins the next place.
+pub fn hear(
+    alloc: Global,
+    router: &mut Router,
+    words: &mut SeededWords,
+    inboxes: &mut [Inbox],
+    now: Millis,
+) -> Result<(), AllocError>
+    requires running { IsRunning now router.old }
+    requires fit { AllByRecursion (λ x. RpcsFit x.stage) inboxes.old }
+    ensures runs { OnOk result (Runs (exact seeded_word seeded_after) now (all_heard inboxes.old)
+        router.old words.old router.new words.new []) }
+    ensures turned { OnOk result (inboxes.new ≡ map turned inboxes.old) }
+{
+    for inbox in inboxes.iter_mut() {
+        hear_from(alloc, router, words, inbox, now)?;
+    }
+    Ok(())
+}
+
+/// Hears what is staged of a neighbour: the RPCs, and then that it is at fault or gone, where it is.
+fn hear_from(
+    alloc: Global,
+    router: &mut Router,
+    words: &mut SeededWords,
+    inbox: &mut Inbox,
+    now: Millis,
+) -> Result<(), AllocError>
+    requires running { IsRunning now router.old }
+    requires fit { RpcsFit inbox.old.stage }
+    ensures runs { OnOk result (Runs (exact seeded_word seeded_after) now (heard_of inbox.old)
+        router.old words.old router.new words.new []) }
+    ensures turned { OnOk result (inbox.new ≡ turned inbox.old) }
+{
+    let from = inbox.peer();
+    let rpcs = inbox.turn(alloc);
+    hear_each(router, words, from, rpcs, now)?;
+    if inbox.is_broken_off() {
+        done(router.fault(from, now, words))?;
+        return Ok(());
+    }
+    if inbox.is_closed() {
+        done(router.gone(from, now, words))?;
+        return Ok(());
+    }
+    Ok(())
+}
+
+/// Hears these RPCs of a neighbour.
+fn hear_each(
+    router: &mut Router,
+    words: &mut SeededWords,
+    from: PeerNo,
+    rpcs: Vec<Rpc>,
+    now: Millis,
+) -> Result<(), AllocError>
+    requires running { IsRunning now router.old }
+    requires fit { RpcsFit rpcs.items }
+    ensures { OnOk result (Runs (exact seeded_word seeded_after) now (map (Hear from) rpcs.items)
+        router.old words.old router.new words.new []) }
+{
+    for rpc in rpcs {
+        match router.hear(from, rpc, now, words) {
+            Ok(()) => {}
+            Err(_) => return Err(AllocError),
+        }
+    }
+    Ok(())
+}
+
+/// Follows these lines, in order.
+pub fn follow_all(
+    router: &mut Router,
+    words: &mut SeededWords,
+    refused: &mut Vec<RefusedLine>,
+    lines: &[(usize, Line)],
+    now: Millis,
+) -> Result<(), AllocError>
+    requires { IsRunning now router.old }
+    ensures { OnOk result ((more : List RefusedValue)
+        × (refused.new.items ≡ refused.old.items ++ more)
+        × Runs (exact seeded_word seeded_after) now (map obey lines.now)
+        router.old words.old router.new words.new more) }
+{
+    for line in lines {
+        follow(router, words, refused, line, now)?;
+    }
+    Ok(())
+}
+
+/// Follows a line of the script, or notes that it is refused.
+fn follow(
+    router: &mut Router,
+    words: &mut SeededWords,
+    refused: &mut Vec<RefusedLine>,
+    line: &(usize, Line),
+    now: Millis,
+) -> Result<(), AllocError>
+    requires { IsRunning now router.old }
+    ensures { OnOk result ((more : List RefusedValue)
+        × (refused.new.items ≡ refused.old.items ++ more)
+        × Runs (exact seeded_word seeded_after) now (obey line.now ∷ [])
+        router.old words.old router.new words.new more) }
+{
+    let (place, line) = line;
+    match tell(router, words, &line.what, now)? {
+        Ok(()) => Ok(()),
+        Err(RouterFault::Refused(why)) => {
+            refused.push(RefusedLine {
+                at: now,
+                line: *place,
+                why,
+            })?;
+            Ok(())
+        }
+        Err(RouterFault::NoMemory) => Err(AllocError),
+    }
+}
+
+/// Tells a router to do something.
+fn tell(
+    router: &mut Router,
+    words: &mut SeededWords,
+    what: &What,
+    now: Millis,
+) -> Result<Result<(), RouterFault>, AllocError>
+    requires { IsRunning now router.old }
+    ensures { IfOk result (λ told.
+        Calls (exact seeded_word seeded_after) (Some (event_of what.now)) now
+        router.old words.old told router.new words.new) }
+{
+    Ok(match what {
+        What::Subscribe(topic) => router.subscribe(clone_of(topic)?, now, words),
+        What::Unsubscribe(topic) => router.unsubscribe(clone_of(topic)?, now, words),
+        What::Publish(topic, payload) => {
+            router.publish(clone_of(topic)?, clone_of(payload)?, now, words)
+        }
+    })
+}
+
+/// A call that only want of memory can keep from being done.
+pub fn done(told: Result<(), RouterFault>) -> Result<(), AllocError>
+    ensures { OnOk result (IsOk told) }
+{
+    match told {
+        Ok(()) => Ok(()),
+        Err(_) => Err(AllocError),
+    }
+}

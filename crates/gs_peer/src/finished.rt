@@ -1,0 +1,40 @@
+//! What is left of a peer's life.
+ghost use Rattle.std.specs.Prelude.{◌≡◌};
+ghost use Rattle.gs_peer.specs.Faults.{number_of};
+
+use gs_base::Seq;
+use gs_rules::{RefusedLine, Trace};
+
+/// What is left of a peer's life that has ended.
+#[derive(Drop)]
+pub struct Finished<S: Drop> {
+    /// What it did.
+    pub trace: Trace,
+    /// What it could not follow, by moment and then by place in the script.
+    pub refused: Seq<RefusedLine>,
+    /// The ends of its links.
+    pub ends: S,
+}
+
+/// Why a task gives no life.
+#[derive(Clone, Copy, Debug, PartialEq, Eq, thiserror::Error)]
+pub enum PeerFault {
+    /// There was no memory. The stop flag was set before this was given.
+    #[error("there was no memory")]
+    NoMemory,
+    /// The stop flag was set, or the task had given its result.
+    #[error("the task was stopped")]
+    Stopped,
+}
+
+impl PeerFault {
+    /// The number of the fault: 22 for want of memory, 23 where the task was stopped.
+    pub fn number(self) -> u8
+        ensures { result ≡ number_of self }
+    {
+        match self {
+            PeerFault::NoMemory => 22,
+            PeerFault::Stopped => 23,
+        }
+    }
+}

@@ -1,0 +1,163 @@
+//! What a task keeps of what comes from a neighbour.
+ghost use Rattle.std.specs.Prelude.{◌≡◌, false, true, OnOk};
+ghost use Rattle.gs_base.specs.declared.names.PeerNo.{PeerNo as PeerNoValue};
+ghost use Rattle.gs_link.specs.Runs.{closes};
+ghost use Rattle.gs_ends.specs.Ends.{OthersStay, has};
+ghost use Rattle.gs_peer.specs.Inboxes.{FeedsPiece, Listens, is_broken_off, is_full, is_mark, new_inbox, turned};
+ghost use Rattle.gs_peer.specs.Places.{place_of};
+
+use crate::place::Place;
+use gs_base::{PeerNo, Rpc};
+use gs_ends::Ends;
+use gs_link::{Item, Taken};
+use gs_wire::{FrameReader, MAX_BODY, WireFault};
+use std::alloc::{AllocError, Global};
+use std::marker::Model;
+use std::mem;
+
+/// What a task keeps of what comes from a neighbour: what it has read and not handled, and whether
+/// all is taken that it hears at its place.
+#[derive(Drop)]
+pub struct Inbox {
+    peer: PeerNo,
+    reader: FrameReader,
+    stage: Vec<Rpc>,
+    is_marked: bool,
+    is_closed: bool,
+    /// The bytes spell no RPC any more.
+    is_failed: bool,
+}
+
+impl Model for Inbox {
+    ghost use Rattle.std.specs.Prelude.{◌≡◌, is_none};
+    ghost use Rattle.gs_peer.specs.Inboxes.{InboxView};
+
+    ghost Value = { InboxView };
+
+    ghost view = { λ x. record {
+      peer = x.peer;
+      reader = x.reader;
+      stage = x.stage.items;
+      is_marked = x.is_marked;
+      is_closed = x.is_closed;
+    } };
+
+    ghost invariant = { λ x. is_none x.reader.held ≡ x.is_failed };
+}
+
+impl Inbox {
+    /// An inbox of which nothing was taken. In the first round there is nothing to hear.
+    pub fn new(alloc: Global, peer: PeerNo) -> Inbox
+        ensures { result ≡ new_inbox peer }
+    {
+        Inbox {
+            peer,
+            reader: FrameReader::new(alloc, MAX_BODY),
+            stage: Vec::new(alloc),
+            is_marked: true,
+            is_closed: false,
+            is_failed: false,
+        }
+    }
+
+    /// Whose it is.
+    pub fn peer(&self) -> PeerNo
+        ensures { result ≡ self.now.peer }
+    {
+        self.peer
+    }
+
+    /// Whether all is taken that is heard at this place.
+    pub fn is_full(&self) -> bool
+        ensures { result ≡ is_full self.now }
+    {
+        self.is_marked || self.is_closed
+    }
+
+    /// Whether the close was taken.
+    pub fn is_closed(&self) -> bool
+        ensures { result ≡ self.now.is_closed }
+    {
+        self.is_closed
+    }
+
+    /// Whether its bytes spell no RPC, or end within one.
+    pub fn is_broken_off(&self) -> bool
+        ensures { result ≡ is_broken_off self.now }
+    {
+        self.is_failed || (self.is_closed && self.reader.pending() != 0)
+    }
+
+    /// Gives what is staged, and begins the next place.
+    pub fn turn(&mut self, alloc: Global) -> Vec<Rpc>
+        ensures staged { result.items ≡ self.old.stage }
+        ensures turned { self.new ≡ turned self.old }
+    {
+        self.is_marked = false;
+        mem::replace(&mut self.stage, Vec::new(alloc))
+    }
+
+    /// Takes what comes next from the neighbour, if anything does.
+    ///
+    /// # Errors
+    /// `AllocError` where there was no memory for it.
+    pub fn listen<S: Ends>(
+        &mut self,
+        alloc: Global,
+        ends: &mut S,
+        place: Place,
+    ) -> Result<bool, AllocError>
+        requires known { has (S.joints ends.old) self.old.peer ≡ true }
+        requires open { closes (S.taken ends.old self.old.peer) ≡ false }
+        ensures listened { OnOk result (Listens (place_of place)
+            (S.taken ends.old self.old.peer) (S.taken ends.new self.old.peer) self.old self.new) }
+        ensures joints { S.joints ends.new ≡ S.joints ends.old }
+        ensures others { OthersStay self.old.peer (S.taken ends.old) (S.taken ends.new) }
+        ensures accepted { (q : PeerNoValue) → S.accepted ends.new q ≡ S.accepted ends.old q }
+    {
+        match ends.take(self.peer) {
+            Taken::Got(Item::Piece(piece)) => {
+                self.read(alloc, &piece)?;
+                Ok(true)
+            }
+            Taken::Got(Item::Round(round)) => {
+                self.is_marked = ends_hearing(place, round);
+                Ok(true)
+            }
+            Taken::Empty => Ok(false),
+            Taken::Closed => {
+                self.is_closed = true;
+                Ok(true)
+            }
+        }
+    }
+
+    /// Reads a piece: the RPCs that are whole now are staged.
+    fn read(&mut self, alloc: Global, piece: &[u8]) -> Result<(), AllocError>
+        ensures { OnOk result (FeedsPiece self.old piece.now self.new) }
+    {
+        match self.reader.feed(alloc, piece, &mut self.stage) {
+            Ok(()) => Ok(()),
+            Err(WireFault::Malformed) => {
+                self.is_failed = true;
+                Ok(())
+            }
+            Err(WireFault::TooLong) => {
+                self.is_failed = true;
+                Ok(())
+            }
+            Err(WireFault::Failed) => Ok(()),
+            Err(WireFault::NoMemory) => Err(AllocError),
+        }
+    }
+}
+
+/// Whether the end of this round ends what is heard at a place: that is the round before.
+fn ends_hearing(place: Place, round: u64) -> bool
+    ensures { result ≡ is_mark (place_of place) round }
+{
+    match place {
+        Place::Playing(now) => now > 0 && round == now - 1,
+        Place::Closing => false,
+    }
+}

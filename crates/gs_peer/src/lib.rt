@@ -1,0 +1,25 @@
+//! A peer's whole life as a future that is polled by hand, over any ends of links.
+#![tactic(auto)]
+
+mod agenda;
+mod assignment;
+mod calls;
+mod finished;
+mod gate;
+mod inbox;
+mod outbox;
+mod outboxes;
+mod place;
+mod player;
+mod queue;
+mod running;
+mod task;
+
+pub use agenda::Agenda;
+pub use assignment::Assignment;
+pub use finished::{Finished, PeerFault};
+pub use gate::{Gate, NoGate, StopFlag};
+pub use task::{PeerTask, Surroundings};
+
+#[cfg(test)]
+mod tests;

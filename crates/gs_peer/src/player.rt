@@ -1,0 +1,101 @@
+//! What a task plays its rounds with.
+ghost use Rattle.std.specs.Prelude.{◌≡◌, [], ◌∷◌, OnOk};
+ghost use Rattle.std.specs.List.{AllByRecursion};
+ghost use Rattle.gs_params.specs.Seeding.{seeded_after, seeded_word};
+ghost use Rattle.gs_rules.specs.Modes.{exact};
+ghost use Rattle.gs_rules.specs.Rounds.{Stop};
+ghost use Rattle.gs_peer.specs.Inboxes.{all_heard};
+ghost use Rattle.gs_peer.specs.Playing.{IsRunning, Runs, RpcsFit};
+ghost use Rattle.gs_peer.specs.Players.{PlaysRound};
+
+use crate::agenda::Agenda;
+use crate::calls::{self, done};
+use crate::inbox::Inbox;
+use gs_base::Millis;
+use gs_params::SeededWords;
+use gs_router::Router;
+use gs_rules::RefusedLine;
+use std::alloc::{AllocError, Global};
+
+/// What a task plays its rounds with.
+#[derive(Drop)]
+pub struct Player {
+    pub router: Router,
+    /// What the router's choices are made by.
+    pub words: SeededWords,
+    /// What it could not follow so far.
+    pub refused: Vec<RefusedLine>,
+    /// What comes from each neighbour, in the order of their numbers.
+    pub inboxes: Vec<Inbox>,
+}
+
+impl Player {
+    /// Plays a round: hears what came, follows those of the lines that are for it, and ends it.
+    ///
+    /// # Errors
+    /// `AllocError` where there was no memory.
+    pub fn play(
+        &mut self,
+        alloc: Global,
+        agenda: &Agenda,
+        round: u64,
+        now: Millis,
+    ) -> Result<(), AllocError>
+        requires running { IsRunning now self.old.router }
+        requires fit { AllByRecursion (λ x. RpcsFit x.stage) self.old.inboxes.items }
+        ensures { OnOk result (PlaysRound round now agenda.now self.old self.new) }
+    {
+        calls::hear(
+            alloc,
+            &mut self.router,
+            &mut self.words,
+            &mut self.inboxes,
+            now,
+        )?;
+        calls::follow_all(
+            &mut self.router,
+            &mut self.words,
+            &mut self.refused,
+            agenda.at(round),
+            now,
+        )?;
+        done(self.router.end_round(round, now, &mut self.words))?;
+        Ok(())
+    }
+
+    /// Shuts down: nothing is said any more.
+    ///
+    /// # Errors
+    /// `AllocError` where there was no memory.
+    pub fn shut(&mut self, now: Millis) -> Result<(), AllocError>
+        requires { IsRunning now self.old.router }
+        ensures runs { OnOk result (Runs (exact seeded_word seeded_after) now (Stop ∷ [])
+            self.old.router self.old.words self.new.router self.new.words []) }
+        ensures refused { self.new.refused ≡ self.old.refused }
+        ensures inboxes { self.new.inboxes ≡ self.old.inboxes }
+    {
+        done(self.router.shut(now, &mut self.words))?;
+        Ok(())
+    }
+
+    /// Hears what came.
+    ///
+    /// # Errors
+    /// `AllocError` where there was no memory.
+    pub fn hear(&mut self, alloc: Global, now: Millis) -> Result<(), AllocError>
+        requires running { IsRunning now self.old.router }
+        requires fit { AllByRecursion (λ x. RpcsFit x.stage) self.old.inboxes.items }
+        ensures runs { OnOk result (Runs (exact seeded_word seeded_after) now (all_heard self.old.inboxes.items)
+            self.old.router self.old.words self.new.router self.new.words []) }
+        ensures refused { self.new.refused ≡ self.old.refused }
+    {
+        calls::hear(
+            alloc,
+            &mut self.router,
+            &mut self.words,
+            &mut self.inboxes,
+            now,
+        )?;
+        Ok(())
+    }
+}

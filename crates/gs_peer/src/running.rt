@@ -1,0 +1,326 @@
+//! A peer's life, step by step.
+ghost use Rattle.std.specs.Prelude.{◌≡◌, ◌<◌, ◌≤◌, ◌*◌, ◌^◌, [], true, length, map, IfOk, OnOk};
+ghost use Rattle.std.specs.List.{AllByRecursion};
+ghost use Rattle.gs_base.specs.declared.names.PeerNo.{PeerNo as PeerNoValue};
+ghost use Rattle.gs_rules.specs.Legal.{Legal};
+ghost use Rattle.gs_ends.specs.Ends.{GrewBy, has};
+ghost use Rattle.gs_peer.specs.declared.place.Place.TheVariants.{Playing};
+ghost use Rattle.gs_peer.specs.Inboxes.{is_full, new_inbox};
+ghost use Rattle.gs_peer.specs.Life.{IsLife};
+ghost use Rattle.gs_peer.specs.Running.{AllFull, AllSilent, Goes, IsFresh, IsKept, IsOver, MayBegin, TellsSince, seat_of};
+
+use crate::assignment::Assignment;
+use crate::finished::Finished;
+use crate::gate::Gate;
+use crate::inbox::Inbox;
+use crate::outboxes::Outboxes;
+use crate::place::Place;
+use crate::player::Player;
+use gs_base::{Millis, PeerNo, Seq};
+use gs_ends::Ends;
+use gs_params::SeededWords;
+use gs_router::Router;
+use std::alloc::{AllocError, Global};
+use std::snapshot::Snapshot;
+
+/// A peer between two steps.
+#[derive(Drop)]
+pub struct Running<G: Gate, S: Ends> {
+    alloc: Global,
+    assignment: Assignment,
+    gate: G,
+    player: Player,
+    /// What the words of its choices were at first, for proofs alone.
+    first: Snapshot<SeededWords>,
+    place: Place,
+    outboxes: Outboxes,
+    /// Which neighbour is looked at next, by its place among them.
+    turn: usize,
+    /// Of which neighbour it was seen last that not all is taken that is heard of it.
+    awaited: usize,
+    ends: S,
+}
+
+impl<G: Gate, S: Ends> Running<G, S> {
+    /// A peer that has done nothing.
+    ///
+    /// # Errors
+    /// `AllocError` where there was no memory for it.
+    pub fn new(
+        alloc: Global,
+        assignment: Assignment,
+        router: Router,
+        words: SeededWords,
+        ends: S,
+        gate: G,
+    ) -> Result<Running<G, S>, AllocError>
+        requires { MayBegin S.joints S.accepted S.taken assignment router ends }
+        ensures kept { IfOk result (λ t. IsKept S.joints S.accepted S.taken t) }
+        ensures fresh { IfOk result (λ t. IsFresh assignment router words ends t) }
+    {
+        let inboxes = inboxes_of(alloc, &assignment.neighbours)?;
+        let outboxes = Outboxes::new(alloc, &assignment.neighbours)?;
+        let first = Snapshot::of(&words);
+        Ok(Running {
+            alloc,
+            assignment,
+            gate,
+            player: Player {
+                router,
+                words,
+                refused: Vec::new(alloc),
+                inboxes,
+            },
+            first,
+            place: Place::Playing(0),
+            outboxes,
+            turn: 0,
+            awaited: 0,
+            ends,
+        })
+    }
+
+    /// Steps, at most 64 of them, until no neighbour moves anything. True where the life has ended.
+    ///
+    /// # Errors
+    /// `AllocError` where there was no memory.
+    pub fn run(&mut self) -> Result<bool, AllocError>
+        requires { IsKept S.joints S.accepted S.taken self.old }
+        ensures goes { OnOk result (Goes S.joints S.accepted S.taken self.old self.new) }
+        ensures taken { OnOk result (GrewBy 64 (S.taken self.old.ends) (S.taken self.new.ends)) }
+        ensures accepted { OnOk result (GrewBy 64 (S.accepted self.old.ends) (S.accepted self.new.ends)) }
+        ensures over { IfOk result (λ over. over ≡ true → IsOver self.new) }
+    {
+        let mut idle = 0;
+        for _ in 0..64u8 {
+            let moved = self.step()?;
+            idle = waited(idle, moved);
+            if idle > self.player.inboxes.len() {
+                let over = self.is_over();
+                return Ok(over);
+            }
+        }
+        let over = self.is_over();
+        Ok(over)
+    }
+
+    /// Looks at the neighbour whose turn it is: takes an item, plays the round where all is taken that
+    /// is heard in it, and has an item accepted. True where something moved; else the next one has its
+    /// turn.
+    fn step(&mut self) -> Result<bool, AllocError>
+        requires { IsKept S.joints S.accepted S.taken self.old }
+        ensures goes { OnOk result (Goes S.joints S.accepted S.taken self.old self.new) }
+        ensures taken { OnOk result (GrewBy 1 (S.taken self.old.ends) (S.taken self.new.ends)) }
+        ensures accepted { OnOk result (GrewBy 1 (S.accepted self.old.ends) (S.accepted self.new.ends)) }
+    {
+        let listened = self.listen()?;
+        let played = self.play_if_due()?;
+        let offered = self.offer()?;
+        let moved = listened || played || offered;
+        self.turn = next_turn(self.turn, self.player.inboxes.len(), moved);
+        Ok(moved)
+    }
+
+    /// Takes what comes next from the neighbour whose turn it is, unless all is taken that is heard
+    /// of it.
+    fn listen(&mut self) -> Result<bool, AllocError>
+        requires { IsKept S.joints S.accepted S.taken self.old }
+        ensures goes { OnOk result (Goes S.joints S.accepted S.taken self.old self.new) }
+        ensures taken { OnOk result (GrewBy 1 (S.taken self.old.ends) (S.taken self.new.ends)) }
+        ensures accepted { (q : PeerNoValue) → S.accepted self.new.ends q ≡ S.accepted self.old.ends q }
+    {
+        if self.turn >= self.player.inboxes.len() {
+            return Ok(false);
+        }
+        let inbox = &mut self.player.inboxes[self.turn];
+        if inbox.is_full() {
+            return Ok(false);
+        }
+        let listened = inbox.listen(self.alloc, &mut self.ends, self.place)?;
+        Ok(listened)
+    }
+
+    /// Offers the neighbour whose turn it is what waits first for it.
+    fn offer(&mut self) -> Result<bool, AllocError>
+        requires { IsKept S.joints S.accepted S.taken self.old }
+        ensures goes { OnOk result (Goes S.joints S.accepted S.taken self.old self.new) }
+        ensures accepted { OnOk result (GrewBy 1 (S.accepted self.old.ends) (S.accepted self.new.ends)) }
+        ensures taken { (q : PeerNoValue) → S.taken self.new.ends q ≡ S.taken self.old.ends q }
+    {
+        if self.turn >= self.player.inboxes.len() {
+            return Ok(false);
+        }
+        let peer = self.player.inboxes[self.turn].peer();
+        let offered = self.outboxes.offer(&mut self.ends, peer)?;
+        Ok(offered)
+    }
+
+    /// Plays the round, where all is taken that is heard in it.
+    fn play_if_due(&mut self) -> Result<bool, AllocError>
+        requires { IsKept S.joints S.accepted S.taken self.old }
+        ensures goes { OnOk result (Goes S.joints S.accepted S.taken self.old self.new) }
+        ensures ends { self.new.ends ≡ self.old.ends }
+    {
+        let Place::Playing(round) = self.place else {
+            return Ok(false);
+        };
+        if !is_due(&self.player.inboxes, &mut self.awaited) {
+            return Ok(false);
+        }
+        self.play(round)?;
+        Ok(true)
+    }
+
+    /// Plays a round: hears what came, follows the lines, and ends it. Behind the last one it shuts
+    /// down.
+    fn play(&mut self, round: u64) -> Result<(), AllocError>
+        requires kept { IsKept S.joints S.accepted S.taken self.old }
+        requires full { AllFull self.old.player.inboxes.items }
+        requires place { self.old.place ≡ Playing round }
+        ensures goes { OnOk result (Goes S.joints S.accepted S.taken self.old self.new) }
+        ensures ends { self.new.ends ≡ self.old.ends }
+    {
+        self.gate.turn(self.assignment.worker, round);
+        let now = Millis(round * self.assignment.round_ms);
+        let told = self.player.router.trace().entries().len();
+        self.player
+            .play(self.alloc, &self.assignment.lines, round, now)?;
+        if round < self.assignment.rounds {
+            tell_since(self.alloc, &mut self.outboxes, &self.player.router, told)?;
+            self.place = Place::Playing(round + 1);
+            return Ok(());
+        }
+        self.player.shut(now)?;
+        tell_since(self.alloc, &mut self.outboxes, &self.player.router, told)?;
+        self.place = Place::Closing;
+        Ok(())
+    }
+
+    /// Whether the life has ended, but for what still came: it has shut down, each neighbour has
+    /// closed, and all that was said is accepted.
+    fn is_over(&self) -> bool
+        ensures { result ≡ true → IsOver self.now }
+    {
+        let Place::Closing = self.place else {
+            return false;
+        };
+        all_full(&self.player.inboxes) && all_silent(&self.outboxes, &self.player.inboxes)
+    }
+
+    /// Hears what still came, and gives what is left of the life.
+    ///
+    /// # Errors
+    /// `AllocError` where there was no memory.
+    pub fn finish(self) -> Result<Finished<S>, AllocError>
+        requires kept { IsKept S.joints S.accepted S.taken self }
+        requires over { IsOver self }
+        ensures life { IfOk result (λ f. IsLife S.accepted S.taken (seat_of self) self.first.value f) }
+        ensures ends { IfOk result (λ f. f.ends ≡ self.ends) }
+    {
+        let Running {
+            alloc,
+            assignment,
+            mut player,
+            ends,
+            ..
+        } = self;
+        let now = Millis(assignment.rounds * assignment.round_ms);
+        player.hear(alloc, now)?;
+        let Player {
+            router,
+            refused,
+            ..
+        } = player;
+        Ok(Finished {
+            trace: router.into_trace(),
+            refused: Seq::from(refused),
+            ends,
+        })
+    }
+}
+
+/// Tells the neighbours what a router's trace says behind so many entries.
+fn tell_since(
+    alloc: Global,
+    outboxes: &mut Outboxes,
+    router: &Router,
+    told: usize,
+) -> Result<(), AllocError>
+    requires known { told ≤ length router.now.trace }
+    requires legal { Legal router.now.peer router.now.trace }
+    ensures { OnOk result (TellsSince told router.now.trace outboxes.old outboxes.new) }
+{
+    outboxes.tell_all(alloc, &router.trace().entries()[told..])?;
+    Ok(())
+}
+
+/// An inbox for each of these neighbours, of which nothing was taken.
+fn inboxes_of(alloc: Global, neighbours: &[PeerNo]) -> Result<Vec<Inbox>, AllocError>
+    ensures { IfOk result (λ inboxes. inboxes.items ≡ map new_inbox neighbours.now) }
+{
+    let mut inboxes = Vec::new(alloc);
+    for neighbour in neighbours {
+        inboxes.push(Inbox::new(alloc, *neighbour))?;
+    }
+    Ok(inboxes)
+}
+
+/// Whether all is taken that is heard at a place. It looks first at the neighbour that was awaited
+/// last.
+fn is_due(inboxes: &[Inbox], awaited: &mut usize) -> bool
+    ensures { result ≡ true → AllFull inboxes.now }
+{
+    *awaited = first_awaited(inboxes, *awaited);
+    if *awaited < inboxes.len() {
+        return false;
+    }
+    *awaited = 0;
+    all_full(inboxes)
+}
+
+/// The first inbox, from this one on, of which not all is taken; or how many there are.
+fn first_awaited(inboxes: &[Inbox], from: usize) -> usize {
+    for place in from..inboxes.len() {
+        if !inboxes[place].is_full() {
+            return place;
+        }
+    }
+    inboxes.len()
+}
+
+/// Whether all is taken that is heard at a place, of each neighbour.
+fn all_full(inboxes: &[Inbox]) -> bool
+    ensures { result ≡ true → AllFull inboxes.now }
+{
+    for inbox in inboxes {
+        if !inbox.is_full() {
+            return false;
+        }
+    }
+    true
+}
+
+/// Whether nothing waits for any neighbour.
+fn all_silent(outboxes: &Outboxes, inboxes: &[Inbox]) -> bool
+    ensures { result ≡ true → AllSilent outboxes.now inboxes.now }
+{
+    for inbox in inboxes {
+        if !outboxes.is_silent(inbox.peer()) {
+            return false;
+        }
+    }
+    true
+}
+
+/// For how many steps nothing has moved.
+fn waited(idle: usize, moved: bool) -> usize {
+    if moved { 0 } else { idle.saturating_add(1) }
+}
+
+/// Whose turn is next: the next one's, where nothing moved.
+fn next_turn(turn: usize, neighbours: usize, moved: bool) -> usize {
+    if moved {
+        return turn;
+    }
+    if turn < neighbours { turn + 1 } else { 0 }
+}

@@ -1,0 +1,141 @@
+//! A peer's life as a future.
+ghost use Rattle.std.specs.Prelude.{◌≡◌, None, Err, IfOk};
+ghost use Rattle.futures.specs.Poll.{IfReady, OnPending};
+ghost use Rattle.futures.specs.Task.{Covers, Keeps};
+ghost use Rattle.gs_peer.specs.Life.{IsLife};
+ghost use Rattle.gs_peer.specs.Running.{IsKept, IsOver, MayBegin, seat_of};
+ghost use Rattle.gs_peer.specs.Task.{Bounded, CanPoll, Gives, HasEnds, IsSuspended, IsTaskOf, given_of};
+
+use crate::assignment::Assignment;
+use crate::finished::{Finished, PeerFault};
+use crate::gate::{Gate, StopFlag};
+use crate::running::Running;
+use futures::Future;
+use futures::task::{Context, Poll};
+use gs_ends::Ends;
+use gs_params::SeededWords;
+use gs_router::Router;
+use std::alloc::Global;
+use std::sync::Arc;
+
+/// What a task has around it: the ends of its peer's links, a gate, and the flag that stops it.
+#[derive(Drop)]
+pub struct Surroundings<G: Gate, S: Ends> {
+    /// The ends of the links to and from each neighbour, of which none was used.
+    pub ends: S,
+    /// It is told of each round that the peer begins.
+    pub gate: G,
+    /// A task that meets want of memory sets it, and one that reads it as set gives up.
+    pub stop: Arc<StopFlag>,
+}
+
+/// A peer's whole life as a future, which is polled by hand. It gives what is left of the life, or a
+/// fault.
+///
+/// Contracts see, wherever it may be suspended, what it has done (`IsSuspended`), and of what it
+/// gives, that it is a whole life (`IsLife`).
+#[derive(Drop)]
+pub struct PeerTask<G: Gate, S: Ends> {
+    running: Option<Running<G, S>>,
+    stop: Arc<StopFlag>,
+}
+
+impl<G: Gate, S: Ends> PeerTask<G, S> {
+    /// A peer that has done nothing, with its router, and the words by which that chooses. The router
+    /// is new and has the assignment's neighbours, the ends were not used and have each of them, and
+    /// the rounds take less than 2^64 milliseconds.
+    ///
+    /// # Errors
+    /// `NoMemory`; the stop flag is set then.
+    pub fn new(
+        alloc: Global,
+        assignment: Assignment,
+        router: Router,
+        words: SeededWords,
+        surroundings: Surroundings<G, S>,
+    ) -> Result<PeerTask<G, S>, PeerFault>
+        requires { MayBegin S.joints S.accepted S.taken assignment router surroundings.ends }
+        ensures can { IfOk result (λ task. CanPoll S.joints S.accepted S.taken task) }
+        ensures is { IfOk result (λ task. IsTaskOf S.joints assignment router words surroundings.ends task) }
+        ensures ends { IfOk result (λ task. HasEnds surroundings.ends task) }
+        ensures suspended { IfOk result (λ task. IsSuspended S.joints S.accepted S.taken task) }
+    {
+        let Surroundings { ends, gate, stop } = surroundings;
+        match Running::new(alloc, assignment, router, words, ends, gate) {
+            Ok(running) => Ok(PeerTask {
+                running: Some(running),
+                stop,
+            }),
+            Err(_) => {
+                stop.set();
+                Err(PeerFault::NoMemory)
+            }
+        }
+    }
+}
+
+impl<G: Gate, S: Ends> Future for PeerTask<G, S> {
+    type Output = Result<Finished<S>, PeerFault>;
+
+    ghost can_poll = { λ task. CanPoll S.joints S.accepted S.taken task };
+
+    ghost gives = { λ task result. Gives S.joints S.accepted S.taken task result };
+
+    /// Takes at most 64 items and has at most 64 accepted, where a close is an item, and may stop between
+    /// any two of them. It asks to be polled again at once where the life has not ended.
+    ///
+    /// It gives what is left of the life; or `NoMemory`, with the stop flag set; or `Stopped` where that
+    /// was set, and where the result was given before. Behind any result there is nothing to give.
+    fn poll(&mut self, cx: &mut Context<'_>) -> Poll<Result<Finished<S>, PeerFault>>
+        requires { CanPoll S.joints S.accepted S.taken self.old }
+        ensures value { IfReady result (Gives S.joints S.accepted S.taken self.old) }
+        ensures again { OnPending result (CanPoll S.joints S.accepted S.taken self.new) }
+        ensures same { OnPending result ((x : _)
+            → Gives S.joints S.accepted S.taken self.new x
+            → Gives S.joints S.accepted S.taken self.old x) }
+        ensures registered { OnPending result (Covers cx.new (λ _. ⊥)) }
+        ensures kept { Keeps cx.old cx.new }
+        ensures suspended { OnPending result (IsSuspended S.joints S.accepted S.taken self.new) }
+        ensures stays { OnPending result (given_of S.joints self.new ≡ given_of S.joints self.old) }
+        ensures bounded { Bounded S.accepted S.taken 64 self.old self.new result }
+        ensures after { IfReady result (λ _. given_of S.joints self.new ≡ None) }
+        ensures spent { given_of S.joints self.old ≡ None → result ≡ Poll.Ready (Err PeerFault.Stopped) }
+    {
+        let Some(mut running) = self.running.take() else {
+            return Poll::Ready(Err(PeerFault::Stopped));
+        };
+        if self.stop.is_set() {
+            return Poll::Ready(Err(PeerFault::Stopped));
+        }
+        match running.run() {
+            Ok(true) => Poll::Ready(finish(&self.stop, running)),
+            Ok(false) => {
+                self.running = Some(running);
+                cx.yield_now()
+            }
+            Err(_) => {
+                self.stop.set();
+                Poll::Ready(Err(PeerFault::NoMemory))
+            }
+        }
+    }
+}
+
+/// Finishes a life that is over. Where there is no memory the flag is set first.
+fn finish<G: Gate, S: Ends>(
+    stop: &StopFlag,
+    running: Running<G, S>,
+) -> Result<Finished<S>, PeerFault>
+    requires kept { IsKept S.joints S.accepted S.taken running }
+    requires over { IsOver running }
+    ensures life { IfOk result (λ f. IsLife S.accepted S.taken (seat_of running) running.first.value f) }
+    ensures ends { IfOk result (λ f. f.ends ≡ running.ends) }
+{
+    match running.finish() {
+        Ok(finished) => Ok(finished),
+        Err(_) => {
+            stop.set();
+            Err(PeerFault::NoMemory)
+        }
+    }
+}

@@ -1,0 +1,281 @@
+//! Lives of a peer with one neighbour, over lists in memory and over links.
+ghost use Rattle.std.specs.Prelude.{◌≡◌, true};
+ghost use Rattle.gs_ends.specs.Ends.{has};
+ghost use Rattle.gs_ends.specs.Pairs.{joints_of};
+
+mod made;
+
+use crate::tests::made::{
+    AtMost, ONE, Pair, SUBSCRIBES, Step, cut, links, lists, long_frame, made, said, says, script,
+    task, task_in,
+};
+use crate::{Finished, Gate, NoGate, PeerFault, StopFlag, Surroundings};
+use futures::executor::block_on;
+use futures::future::join;
+use gs_base::{Millis, PeerNo};
+use gs_ends::ListEnds;
+use gs_link::open_link;
+use gs_rules::{Refusal, RefusedLine};
+use std::alloc::{AllocError, AllocGlobal, Global};
+use std::io;
+use std::random::RandomSource;
+use std::sync::atomic::{AtomicU64, Ordering};
+use std::sync::{Arc, Wait};
+use std::test::*;
+
+/// Lives of rounds 0 and 1, with no line, in which a neighbour says this and closes its link.
+fn hears<R>(rt: &R, bytes: &[u8], size: usize, steps: &[Step]) -> io::Result<bool>
+where
+    R: Wait + RandomSource + AllocGlobal,
+{
+    let items = cut(rt.alloc(), bytes, size)?;
+    let ends = lists(rt.alloc(), items, 10, 0)?;
+    let task = task(rt.alloc(), ONE, Vec::new(rt.alloc()), 1, ends)?;
+    match block_on(rt, task)? {
+        Ok(life) => Ok(made(&life.trace, steps)),
+        Err(_) => Ok(false),
+    }
+}
+
+/// The first fault ends what is handled of a neighbour.
+const AT_FAULT: [Step; 4] = [
+    Step::RoundEnd(0),
+    Step::Fault,
+    Step::RoundEnd(1),
+    Step::Shut,
+];
+
+const GONE: [Step; 6] = [
+    Step::RoundEnd(0),
+    Step::Heard,
+    Step::Sub,
+    Step::Gone,
+    Step::RoundEnd(1),
+    Step::Shut,
+];
+
+#[test]
+fn a_close_within_a_frame_is_a_fault(rt: HostRuntime) -> Result<(), Fail> {
+    assert!(rt; hears(&rt, &SUBSCRIBES[..7], 64, &AT_FAULT)?);
+    assert!(rt; hears(&rt, &SUBSCRIBES[..7], 1, &AT_FAULT)?);
+    Ok(())
+}
+
+#[test]
+fn a_close_behind_a_frame_is_a_leave(rt: HostRuntime) -> Result<(), Fail> {
+    assert!(rt; hears(&rt, &SUBSCRIBES, 64, &GONE)?);
+    assert!(rt; hears(&rt, &SUBSCRIBES, 3, &GONE)?);
+    Ok(())
+}
+
+/// An eleventh byte of a length, a field 0, a group, and a length above the limit: nothing behind
+/// them is handled.
+#[test]
+fn a_malformed_stream_is_one_fault(rt: HostRuntime) -> Result<(), Fail> {
+    for malformed in [
+        b"\x80\x80\x80\x80\x80\x80\x80\x80\x80\x80\x00".as_slice(),
+        b"\x02\x00\x00".as_slice(),
+        b"\x01\x0b".as_slice(),
+        b"\x81\x80\x40".as_slice(),
+    ] {
+        let mut bytes = malformed.to_vec(rt.alloc())?;
+        bytes.extend_from_slice(&SUBSCRIBES)?;
+        assert!(rt; hears(&rt, &bytes, 64, &AT_FAULT)?);
+        assert!(rt; hears(&rt, &bytes, 2, &AT_FAULT)?);
+    }
+    Ok(())
+}
+
+#[test]
+fn a_long_frame_comes_in_pieces_of_one_byte(rt: HostRuntime) -> Result<(), Fail> {
+    let frame = long_frame(rt.alloc())?;
+    assert_eq!(rt; frame.len(), 1_000);
+    let steps = [
+        Step::RoundEnd(0),
+        Step::Heard,
+        Step::Msg,
+        Step::Gone,
+        Step::RoundEnd(1),
+        Step::Shut,
+    ];
+    assert!(rt; hears(&rt, &frame, 1, &steps)?);
+    Ok(())
+}
+
+// ---- a script
+
+const SCRIPTED: [Step; 8] = [
+    Step::Subscribe,
+    Step::RoundEnd(0),
+    Step::Heard,
+    Step::Sub,
+    Step::Publish,
+    Step::RoundEnd(1),
+    Step::RoundEnd(2),
+    Step::Shut,
+];
+
+/// Whether a life is that of the script: its steps, its one refused line, and what it said.
+fn is_scripted(alloc: Global, life: &Finished<ListEnds>) -> Result<bool, AllocError>
+    requires { has (joints_of life.now.ends) (record { 0 = 2 }) ≡ true }
+{
+    let refusal = RefusedLine {
+        at: Millis(200),
+        line: 3,
+        why: Refusal::Joined,
+    };
+    let says = says(alloc)?;
+    Ok(
+        made(&life.trace, &SCRIPTED)
+            && life.refused.as_slice() == [refusal].as_slice()
+            && life.ends.sent(PeerNo(2)) == says.as_slice(),
+    )
+}
+
+/// Whether the script's life over lists ends within 10,000 polls, where every so many puts are refused.
+fn ends_scripted<R>(rt: &R, every: u64) -> io::Result<bool>
+where
+    R: Wait + RandomSource + AllocGlobal,
+{
+    let ends = lists(rt.alloc(), said(rt.alloc())?, 10, every)?;
+    let task = task(rt.alloc(), ONE, script(rt.alloc())?, 2, ends)?;
+    let polled = AtMost {
+        inner: task,
+        left: 10_000,
+    };
+    match block_on(rt, polled)? {
+        Some(Ok(life)) => Ok(is_scripted(rt.alloc(), &life)?),
+        _ => Ok(false),
+    }
+}
+
+#[test]
+fn a_script_over_lists_ends_however_often_a_put_is_refused(rt: HostRuntime) -> Result<(), Fail> {
+    for every in [0, 2, 3] {
+        assert!(rt; ends_scripted(&rt, every)?);
+    }
+    Ok(())
+}
+
+/// Where a neighbour takes one item alone, the life never ends.
+#[test]
+fn what_is_never_accepted_keeps_a_task_pending(rt: HostRuntime) -> Result<(), Fail> {
+    let ends = lists(rt.alloc(), said(rt.alloc())?, 1, 0)?;
+    let task = AtMost {
+        inner: task(rt.alloc(), ONE, script(rt.alloc())?, 2, ends)?,
+        left: 10_000,
+    };
+    assert!(rt; block_on(&rt, task)?.is_none());
+    Ok(())
+}
+
+// ---- faults
+
+/// A task whose flag is set gives up.
+#[test]
+fn a_flag_stops_a_task(rt: HostRuntime) -> Result<(), Fail> {
+    let stop = Arc::new(rt.alloc(), StopFlag::new())?;
+    assert!(rt; !stop.is_set());
+    stop.set();
+    assert!(rt; stop.is_set());
+    let ends = lists(rt.alloc(), said(rt.alloc())?, 10, 0)?;
+    let surroundings = Surroundings {
+        ends,
+        gate: NoGate,
+        stop,
+    };
+    let task = task_in(rt.alloc(), ONE, script(rt.alloc())?, 2, surroundings)?;
+    let Err(fault) = block_on(&rt, task)? else {
+        panic!(rt; "a life in spite of the flag");
+    };
+    assert_eq!(rt; fault, PeerFault::Stopped);
+    Ok(())
+}
+
+#[test]
+fn each_fault_has_its_number(rt: HostRuntime) {
+    assert_eq!(rt; PeerFault::NoMemory.number(), 22);
+    assert_eq!(rt; PeerFault::Stopped.number(), 23);
+    NoGate.turn(3, 7);
+}
+
+// ---- a gate
+
+/// The workers and rounds of all turns so far, two digits each.
+#[derive(Drop)]
+struct Turns {
+    seen: Arc<AtomicU64>,
+}
+
+impl Gate for Turns {
+    fn turn(&self, worker: usize, round: u64) {
+        let turn = round.wrapping_add((worker as u64).wrapping_mul(10));
+        let before = self.seen.load(Ordering::SeqCst);
+        self.seen.store(
+            before.wrapping_mul(100).wrapping_add(turn),
+            Ordering::SeqCst,
+        );
+    }
+}
+
+/// A gate is told of each round, once, in order, with the worker.
+#[test]
+fn a_gate_is_told_of_each_round(rt: HostRuntime) -> Result<(), Fail> {
+    let seen = Arc::new(rt.alloc(), AtomicU64::new(0))?;
+    let surroundings = Surroundings {
+        ends: lists(rt.alloc(), said(rt.alloc())?, 10, 0)?,
+        gate: Turns {
+            seen: seen.clone()?,
+        },
+        stop: Arc::new(rt.alloc(), StopFlag::new())?,
+    };
+    let task = task_in(rt.alloc(), ONE, script(rt.alloc())?, 2, surroundings)?;
+    assert!(rt; block_on(&rt, task)?.is_ok());
+    assert_eq!(rt; seen.load(Ordering::SeqCst), 404142);
+    Ok(())
+}
+
+// ---- links
+
+/// Both subscribe in round 0 and publish in round 1; what the one says in a round the other hears in
+/// the next. The message is one, so the second copy is not delivered again.
+const BOTH_PUBLISH: [Step; 10] = [
+    Step::Subscribe,
+    Step::RoundEnd(0),
+    Step::Heard,
+    Step::Sub,
+    Step::Publish,
+    Step::RoundEnd(1),
+    Step::Heard,
+    Step::Msg,
+    Step::RoundEnd(2),
+    Step::Shut,
+];
+
+/// The same script on both sides, over links of one place and of eight.
+#[test]
+fn two_tasks_hear_each_other_over_links(rt: HostRuntime) -> Result<(), Fail> {
+    for capacity in [1, 8] {
+        let (to_two, from_one) = open_link(rt.alloc(), capacity)?;
+        let (to_one, from_two) = open_link(rt.alloc(), capacity)?;
+        let two = Pair {
+            me: PeerNo(2),
+            other: PeerNo(1),
+        };
+        let first = links(rt, rt.alloc(), PeerNo(2), to_two, from_two)?;
+        let second = links(rt, rt.alloc(), PeerNo(1), to_one, from_one)?;
+        let first = task(rt.alloc(), ONE, script(rt.alloc())?, 2, first)?;
+        let second = task(rt.alloc(), two, script(rt.alloc())?, 2, second)?;
+        let (first, second) = block_on(&rt, join(first, second))?;
+        let Ok(first) = first else {
+            panic!(rt; "a fault of the first");
+        };
+        let Ok(second) = second else {
+            panic!(rt; "a fault of the second");
+        };
+        assert!(rt; made(&first.trace, &BOTH_PUBLISH));
+        assert!(rt; made(&second.trace, &BOTH_PUBLISH));
+        assert!(rt; first.ends.into_list().len() == 1);
+    }
+    Ok(())
+}

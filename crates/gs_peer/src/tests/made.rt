@@ -1,0 +1,302 @@
+//! Peers with one neighbour, and what it says to them.
+ghost use Rattle.std.specs.Prelude.{◌≡◌, ◌≤◌, [], IfOk, IfSome, true};
+ghost use Rattle.std.specs.List.{All};
+ghost use Rattle.gs_base.specs.declared.names.PeerNo.{PeerNo as PeerNoValue};
+ghost use Rattle.gs_link.specs.Items.{IsSendable};
+ghost use Rattle.gs_ends.specs.Ends.{has};
+ghost use Rattle.gs_ends.specs.Pairs.{accepted_for, joints_of, taken_from};
+ghost use Rattle.gs_peer.specs.Task.{CanPoll, HasJoints};
+
+use crate::{Agenda, Assignment, Gate, NoGate, PeerTask, StopFlag, Surroundings};
+use bytes::Bytes;
+use futures::Future;
+use futures::task::{Context, Poll};
+use gs_base::{Neighbour, PeerNo, Rpc, Topic};
+use gs_ends::{Ends, LinkEnds, ListEnds};
+use gs_link::{Item, LinkRx, LinkTx};
+use gs_params::{Line, Params, SeededWords, What};
+use gs_router::Router;
+use gs_rules::{Event, Trace};
+use gs_wire::encode_frame;
+use std::alloc::{AllocError, Global};
+use std::sync::{Arc, Wait};
+
+/// The frame that subscribes to `a`.
+pub const SUBSCRIBES: [u8; 8] = [0x07, 0x0a, 0x05, 0x08, 0x01, 0x12, 0x01, 0x61];
+
+/// What happened at a peer, without what it was about.
+#[derive(Clone, Copy, Debug, PartialEq, Eq)]
+pub enum Step {
+    Heard,
+    Late,
+    Sub,
+    Msg,
+    Subscribe,
+    Unsubscribe,
+    Publish,
+    RoundEnd(u64),
+    Gone,
+    Fault,
+    Shut,
+}
+
+fn step_of(event: &Event) -> Step {
+    match event {
+        Event::Heard(_, _) => Step::Heard,
+        Event::Late(_, _) => Step::Late,
+        Event::Sub(_, _) => Step::Sub,
+        Event::Msg(_, _) => Step::Msg,
+        Event::Subscribe(_) => Step::Subscribe,
+        Event::Unsubscribe(_) => Step::Unsubscribe,
+        Event::Publish(_, _) => Step::Publish,
+        Event::RoundEnd(round) => Step::RoundEnd(*round),
+        Event::Gone(_) => Step::Gone,
+        Event::Fault(_) => Step::Fault,
+        Event::Shut => Step::Shut,
+    }
+}
+
+/// Whether just these steps were made, in order.
+pub fn made(trace: &Trace, steps: &[Step]) -> bool {
+    let mut left = steps;
+    for entry in trace.entries() {
+        let [first, rest @ ..] = left else {
+            return false;
+        };
+        if step_of(&entry.event) != *first {
+            return false;
+        }
+        left = rest;
+    }
+    left.is_empty()
+}
+
+/// A peer and its neighbour.
+#[derive(Clone, Copy)]
+pub struct Pair {
+    pub me: PeerNo,
+    pub other: PeerNo,
+}
+
+/// Peer 1 with neighbour 2.
+pub const ONE: Pair = Pair {
+    me: PeerNo(1),
+    other: PeerNo(2),
+};
+
+/// A neighbour that dialled, at no address.
+fn neighbour(peer: PeerNo) -> Neighbour
+    ensures { result.peer ≡ peer }
+{
+    Neighbour {
+        peer,
+        outbound: false,
+        address: Bytes::new(),
+        app: 0,
+    }
+}
+
+/// A peer on worker 4 with one neighbour and these lines, in rounds of 100 milliseconds up to this one.
+pub fn task_in<G: Gate, S: Ends>(
+    alloc: Global,
+    pair: Pair,
+    lines: Vec<(usize, Line)>,
+    rounds: u64,
+    surroundings: Surroundings<G, S>,
+) -> Result<PeerTask<G, S>, AllocError>
+    requires rounds { rounds ≤ 100_000 }
+    requires known { has (S.joints surroundings.ends) pair.other ≡ true }
+    requires accepted { (q : PeerNoValue) → S.accepted surroundings.ends q ≡ [] }
+    requires taken { (q : PeerNoValue) → S.taken surroundings.ends q ≡ [] }
+    ensures can { IfOk result (λ task. CanPoll S.joints S.accepted S.taken task) }
+    ensures ends { IfOk result (λ task. HasJoints S.joints (S.joints surroundings.ends) task) }
+{
+    let neighbours = vec![in alloc; neighbour(pair.other)]?;
+    let router = Router::new(alloc, Params::new(alloc), neighbours);
+    let assignment = Assignment {
+        number: pair.me,
+        neighbours: vec![in alloc; pair.other]?,
+        lines: Agenda::of(alloc, lines)?,
+        round_ms: 100,
+        rounds,
+        worker: 4,
+    };
+    let words = SeededWords::new(Vec::new(alloc), 1, pair.me);
+    match PeerTask::new(alloc, assignment, router, words, surroundings) {
+        Ok(task) => Ok(task),
+        Err(_) => Err(AllocError),
+    }
+}
+
+/// The same with a gate that does nothing and a flag that nobody sets.
+pub fn task<S: Ends>(
+    alloc: Global,
+    pair: Pair,
+    lines: Vec<(usize, Line)>,
+    rounds: u64,
+    ends: S,
+) -> Result<PeerTask<NoGate, S>, AllocError>
+    requires rounds { rounds ≤ 100_000 }
+    requires known { has (S.joints ends) pair.other ≡ true }
+    requires accepted { (q : PeerNoValue) → S.accepted ends q ≡ [] }
+    requires taken { (q : PeerNoValue) → S.taken ends q ≡ [] }
+    ensures can { IfOk result (λ task. CanPoll S.joints S.accepted S.taken task) }
+    ensures ends { IfOk result (λ task. HasJoints S.joints (S.joints ends) task) }
+{
+    let surroundings = Surroundings {
+        ends,
+        gate: NoGate,
+        stop: Arc::new(alloc, StopFlag::new())?,
+    };
+    task_in(alloc, pair, lines, rounds, surroundings)
+}
+
+/// Whether each of these items may be sent.
+fn are_sendable(items: &[Item]) -> bool
+    ensures { result ≡ true → All IsSendable items.now }
+{
+    for item in items {
+        if !item.is_sendable() {
+            return false;
+        }
+    }
+    true
+}
+
+/// Ends to neighbour 2, from which these items come.
+pub fn lists(
+    alloc: Global,
+    items: Vec<Item>,
+    room: usize,
+    every: u64,
+) -> Result<ListEnds, AllocError>
+    ensures known { IfOk result (λ ends. has (joints_of ends) (record { 0 = 2 }) ≡ true) }
+    ensures accepted { IfOk result (λ ends. (q : PeerNoValue) → accepted_for ends q ≡ []) }
+    ensures taken { IfOk result (λ ends. (q : PeerNoValue) → taken_from ends q ≡ []) }
+{
+    if !are_sendable(&items) {
+        return Err(AllocError);
+    }
+    let inbound = vec![in alloc; (PeerNo(2), items)]?;
+    let ends = ListEnds::new(alloc, inbound, room, every)?;
+    Ok(ends)
+}
+
+pub fn piece(alloc: Global, bytes: &[u8]) -> Result<Item, AllocError> {
+    Ok(Item::Piece(Bytes::copy_from_slice(alloc, bytes)?))
+}
+
+/// What is said in pieces of so many bytes.
+pub fn cut(alloc: Global, bytes: &[u8], size: usize) -> Result<Vec<Item>, AllocError> {
+    let mut items = Vec::new(alloc);
+    let mut at = 0;
+    for _ in 0..bytes.len() {
+        if at >= bytes.len() || size == 0 {
+            return Ok(items);
+        }
+        let end = at.saturating_add(size).min(bytes.len());
+        items.push(piece(alloc, &bytes[at..end])?)?;
+        at = end;
+    }
+    Ok(items)
+}
+
+fn topic(alloc: Global) -> Result<Topic, AllocError> {
+    Ok(Topic(Bytes::copy_from_slice(alloc, b"a")?))
+}
+
+fn line(at: u64, what: What) -> Line {
+    Line {
+        at,
+        peer: PeerNo(1),
+        what,
+    }
+}
+
+/// Peer 1 subscribes to `a` in round 0 and again in round 2, and publishes `abc` in round 1.
+pub fn script(alloc: Global) -> Result<Vec<(usize, Line)>, AllocError> {
+    let abc = Bytes::copy_from_slice(alloc, b"abc")?;
+    let mut lines = Vec::new(alloc);
+    lines.push((3, line(2, What::Subscribe(topic(alloc)?))))?;
+    lines.push((5, line(0, What::Subscribe(topic(alloc)?))))?;
+    lines.push((8, line(1, What::Publish(topic(alloc)?, abc))))?;
+    Ok(lines)
+}
+
+/// What a neighbour says that subscribes to `a` in the first of three rounds.
+pub fn said(alloc: Global) -> Result<Vec<Item>, AllocError> {
+    let mut items = Vec::new(alloc);
+    items.push(piece(alloc, &SUBSCRIBES)?)?;
+    items.push(Item::Round(0))?;
+    items.push(Item::Round(1))?;
+    items.push(Item::Round(2))?;
+    Ok(items)
+}
+
+/// What the peer says to it: it subscribes, and publishes once the neighbour has subscribed.
+pub fn says(alloc: Global) -> Result<Vec<Item>, AllocError> {
+    let mut items = Vec::new(alloc);
+    items.push(piece(alloc, &SUBSCRIBES)?)?;
+    items.push(Item::Round(0))?;
+    items.push(piece(alloc, b"\x0a\x12\x08\x12\x03abc\x22\x01a")?)?;
+    items.push(Item::Round(1))?;
+    items.push(Item::Round(2))?;
+    Ok(items)
+}
+
+/// The frame of a message of 989 zero bytes on `a`.
+pub fn long_frame(alloc: Global) -> Result<Vec<u8>, AllocError> {
+    let payload = Bytes::copy_from_slice(alloc, &[0; 989])?;
+    let mut frame = Vec::new(alloc);
+    match encode_frame(
+        &Rpc::publication(alloc, &topic(alloc)?, &payload)?,
+        &mut frame,
+    ) {
+        Ok(()) => Ok(frame),
+        Err(_) => Err(AllocError),
+    }
+}
+
+/// A future that gives up after so many polls.
+#[derive(Drop)]
+pub struct AtMost<F: Future> {
+    pub inner: F,
+    pub left: u32,
+}
+
+impl<F: Future> Future for AtMost<F> {
+    type Output = Option<F::Output>;
+
+    ghost can_poll = { λ s. F.can_poll s.inner };
+
+    ghost gives = { λ s given. IfSome given (F.gives s.inner) };
+
+    fn poll(&mut self, cx: &mut Context<'_>) -> Poll<Option<F::Output>> {
+        if self.left == 0 {
+            return Poll::Ready(None);
+        }
+        self.left -= 1;
+        match self.inner.poll(cx) {
+            Poll::Ready(given) => Poll::Ready(Some(given)),
+            Poll::Pending => Poll::Pending,
+        }
+    }
+}
+
+/// The ends of the links to and from a neighbour, of which none was used.
+pub fn links<R: Wait + Drop>(
+    rt: R,
+    alloc: Global,
+    other: PeerNo,
+    tx: LinkTx,
+    rx: LinkRx,
+) -> Result<LinkEnds<R>, AllocError>
+    requires accepted { tx.accepted ≡ [] }
+    requires taken { rx.taken ≡ [] }
+    ensures known { IfOk result (λ ends. has (joints_of ends) other ≡ true) }
+    ensures accepted { IfOk result (λ ends. (q : PeerNoValue) → accepted_for ends q ≡ []) }
+    ensures taken { IfOk result (λ ends. (q : PeerNoValue) → taken_from ends q ≡ []) }
+{
+    let list = vec![in alloc; (other, tx, rx)]?;
+    Ok(LinkEnds::new(rt, list))
+}
