@@ -1,16 +1,20 @@
 -- How a run of the program ends, and what it has then written.
-use Rattle.std.specs.Prelude.{◌≡◌, ◌≤◌, ◌<◌, ◌++◌, ℕ, List, length, codes, Option, IfSome, Ok, Err, IsUtf8, ◌⊎◌}
+use Rattle.std.specs.Prelude.{◌≡◌, ◌≤◌, ◌<◌, ◌++◌, ℕ, List, [], length, codes, decimal, Option, Some, None, IfSome, Ok, Err, IsUtf8, ◌⊎◌}
 use Rattle.std.specs.Io.KnownBytes.{Appends, Keeps}
 use Rattle.gs_scenario.specs.declared.fault.ScenarioFault.{ScenarioFault}
 use Rattle.gs_scenario.specs.declared.fault.ScenarioFault.TheVariants.{Toml, Range, NoMemory}
+use Rattle.gs_base.specs.declared.names.PeerNo.{PeerNo}
 use Rattle.gs_params.specs.declared.plan.Plan.{Plan}
-use Rattle.gs_net.specs.declared.finished.Finished.{Finished}
+use Rattle.gs_workers.specs.declared.fault.NetFault.{NetFault}
+use Rattle.gs_workers.specs.declared.fault.NetFault.TheVariants as faults
+use Rattle.gs_net.specs.declared.report.Report.{Report}
 use Rattle.gossip_sim.specs.declared.program.ExitStatus.{ExitStatus}
 use Rattle.gossip_sim.specs.declared.program.ExitStatus.TheVariants as ends
 use Rattle.gs_scenario.specs.PlanOf.{plan_of}
 use Rattle.gs_scenario.specs.Refusal.{refusal_text}
-use Rattle.gossip_sim.specs.Report.{report_text}
-use Rattle.gs_net.specs.Rounds.{IsRun}
+use Rattle.gs_workers.specs.Faults.{number_of}
+use Rattle.gossip_sim.specs.Report.{name_of, report_text}
+use Rattle.gs_net.specs.Reports.{IsReport}
 use Rattle.gossip_sim.specs.Streams.{AppendsFront, longest_input}
 
 -- The plan is what the whole input describes. Where the input's bytes are not known, some text does.
@@ -32,15 +36,44 @@ pub data IsRefusal (bytes : List ℕ) (fault : ScenarioFault) : Type 0 where
 abbrev pub refusal_line : ScenarioFault → List ℕ
 refusal_line fault = codes "scenario refused: " ++ refusal_text fault ++ codes "\n"
 
+-- the line of the refusal was added to errors, or a front of it; of want of memory, where there was
+-- none for the line
+pub record TellsRefusal (fault : ScenarioFault) (errors errors' : Option (List ℕ)) : Type 0 where
+  pub told : ScenarioFault
+  pub which : (told ≡ fault) ⊎ (told ≡ NoMemory)
+  pub line : AppendsFront errors errors' (refusal_line told)
+
+-- the peer that a fault of a run names
+abbrev pub peer_of : NetFault → Option PeerNo
+peer_of (faults.NoMemory peer) = peer
+peer_of faults.NoThread = None
+
+-- the name of a peer behind a space
+abbrev pub spaced_name : Plan → Option PeerNo → List ℕ
+spaced_name plan None = []
+spaced_name plan (Some p) = codes " " ++ name_of plan p
+
+-- `run refused: NUMBER`, and the name of the peer where the fault names one
+abbrev pub run_refusal_line : Plan → NetFault → List ℕ
+run_refusal_line plan fault =
+    codes "run refused: " ++ decimal (number_of fault) ++ spaced_name plan (peer_of fault) ++ codes "\n"
+
+-- the line of the fault was added to errors, or a front of it; of want of memory, where there was
+-- none for the line
+pub record TellsFault (plan : Plan) (fault : NetFault) (errors errors' : Option (List ℕ)) : Type 0 where
+  pub told : NetFault
+  pub which : (told ≡ fault) ⊎ (told ≡ faults.NoMemory None)
+  pub line : AppendsFront errors errors' (run_refusal_line plan told)
+
 -- Of each end: what the reader had is `input`, and each writer held the first and then the second.
 
 -- the whole report of a run of the scenario is on the output, and nothing more on errors
 pub record Reported (input output output' errors errors' : Option (List ℕ)) : Type 0 where
   pub plan : Plan
   pub scenario : IsScenario input plan
-  pub finished : List Finished
-  pub run : IsRun plan finished
-  pub report : Appends output output' (report_text plan finished)
+  pub report : Report
+  pub run : IsReport plan report
+  pub text : Appends output output' (report_text plan report)
   pub silent : Keeps errors errors'
 
 -- the line of the scenario's refusal is on errors, or a front of it, and nothing more on the output
@@ -50,12 +83,13 @@ pub record ScenarioRefused (input output output' errors errors' : Option (List �
   pub line : AppendsFront errors errors' (refusal_line fault)
   pub silent : Keeps output output'
 
--- there was no memory to run the scenario or to report on it, which errors has the line of, or a
--- front of it, and the output has nothing more
+-- a run of the scenario met a fault, or there was no memory to report on it: errors has the line of
+-- that, or a front of it, and the output has nothing more
 pub record RunRefused (input output output' errors errors' : Option (List ℕ)) : Type 0 where
   pub plan : Plan
   pub scenario : IsScenario input plan
-  pub line : AppendsFront errors errors' (codes "run refused: 24\n")
+  pub fault : NetFault
+  pub tells : TellsFault plan fault errors errors'
   pub silent : Keeps output output'
 
 -- the input could not be read
@@ -67,9 +101,9 @@ pub record InputFailed (output output' errors errors' : Option (List ℕ)) : Typ
 pub record OutputFailed (input output output' errors errors' : Option (List ℕ)) : Type 0 where
   pub plan : Plan
   pub scenario : IsScenario input plan
-  pub finished : List Finished
-  pub run : IsRun plan finished
-  pub report : AppendsFront output output' (report_text plan finished)
+  pub report : Report
+  pub run : IsReport plan report
+  pub text : AppendsFront output output' (report_text plan report)
   pub line : AppendsFront errors errors' (codes "output failed\n")
 
 -- what each status says
@@ -87,10 +121,3 @@ status_of ends.ScenarioRefused = 1
 status_of ends.RunRefused = 2
 status_of ends.InputFailed = 3
 status_of ends.OutputFailed = 3
-
--- the line of the refusal was added to errors, or a front of it; of want of memory, where there was
--- none for the line
-pub record TellsRefusal (fault : ScenarioFault) (errors errors' : Option (List ℕ)) : Type 0 where
-  pub told : ScenarioFault
-  pub which : (told ≡ fault) ⊎ (told ≡ NoMemory)
-  pub line : AppendsFront errors errors' (refusal_line told)

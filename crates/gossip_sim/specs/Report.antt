@@ -1,8 +1,9 @@
 -- What a run's report says.
 use Rattle.std.specs.Prelude.{ℕ, List, [], ◌∷◌, ◌++◌, codes, decimal, option_map, unwrap_or, slice_get, reverse}
-use Rattle.std.specs.List.{flat_map, enumerate_from}
+use Rattle.std.specs.List.{flat_map}
 use Rattle.hex.specs.Hex.{encode_lower}
 use Rattle.gs_base.specs.declared.names.Millis.{Millis}
+use Rattle.gs_base.specs.declared.names.PeerNo.{PeerNo}
 use Rattle.gs_base.specs.declared.names.Topic.{Topic}
 use Rattle.gs_rules.specs.declared.trace.Entry.{Entry}
 use Rattle.gs_params.specs.declared.plan.Plan.{Plan}
@@ -11,13 +12,14 @@ use Rattle.gs_params.specs.declared.plan.Line.{Line}
 use Rattle.gs_rules.specs.declared.refusal.RefusedLine.{RefusedLine}
 use Rattle.gs_rules.specs.Refusals.{number_of}
 use Rattle.gs_net.specs.declared.finished.Finished.{Finished}
+use Rattle.gs_net.specs.declared.report.Report.{Report}
 use Rattle.gs_scenario.specs.PlanOf.{what_word}
 
 -- ---- words
 
 -- a peer's name: a number that is no peer's has the empty one
-abbrev pub name_of : Plan → ℕ → List ℕ
-name_of plan number = unwrap_or (option_map (λ (peer : PlannedPeer). peer.name) (slice_get plan.peers number)) []
+abbrev pub name_of : Plan → PeerNo → List ℕ
+name_of plan p = unwrap_or (option_map (λ (planned : PlannedPeer). planned.name) (slice_get plan.peers p.0)) []
 
 -- the word of the script's line at a place: a place that is no line's has the empty one
 abbrev pub word_of : Plan → ℕ → List ℕ
@@ -46,23 +48,24 @@ refused_line plan name r =
     codes "refused " ++ name ++ codes " " ++ decimal r.at.0 ++ codes " " ++ word_of plan r.line
     ++ codes " " ++ decimal (number_of r.why) ++ codes "\n"
 
--- ---- a peer with its number
+-- `links NUMBER settled`
+abbrev pub links_line : ℕ → List ℕ
+links_line settled = codes "links " ++ decimal settled ++ codes " settled\n"
+
+-- ---- a peer with what is left of it, by the name of its number
 
 -- what was delivered to it, the oldest entry first
-abbrev pub delivered_lines : Plan → ℕ × Finished → List ℕ
-delivered_lines plan peer = flat_map (entry_lines (name_of plan peer.0)) (reverse peer.1.trace)
+abbrev pub delivered_lines : Plan → PeerNo × Finished → List ℕ
+delivered_lines plan x = flat_map (entry_lines (name_of plan x.0)) (reverse x.1.trace)
 
 -- what it refused
-abbrev pub refused_lines : Plan → ℕ × Finished → List ℕ
-refused_lines plan peer = flat_map (refused_line plan (name_of plan peer.0)) peer.1.refused
+abbrev pub refused_lines : Plan → PeerNo × Finished → List ℕ
+refused_lines plan x = flat_map (refused_line plan (name_of plan x.0)) x.1.refused
 
 -- ---- the report
 
--- the peers with their numbers
-abbrev pub numbered : List Finished → List (ℕ × Finished)
-numbered peers = enumerate_from 0 peers
-
--- what was delivered, peer by peer, and then what was refused
-abbrev pub report_text : Plan → List Finished → List ℕ
-report_text plan peers =
-    flat_map (delivered_lines plan) (numbered peers) ++ flat_map (refused_lines plan) (numbered peers)
+-- what was delivered, peer by peer, then what was refused, and last how many links were settled
+abbrev pub report_text : Plan → Report → List ℕ
+report_text plan report =
+    flat_map (delivered_lines plan) report.peers.items ++ flat_map (refused_lines plan) report.peers.items
+    ++ links_line report.settled

@@ -5,11 +5,13 @@ mod program;
 mod report;
 mod streams;
 
+use gs_peer::NoGate;
 use std::process::ExitCode;
 
 fn main(rt: HostRuntime) -> ExitCode {
     let status = program::run(
-        rt.alloc(),
+        &rt,
+        &NoGate,
         &mut rt.stdin(),
         &mut rt.stdout(),
         &mut rt.stderr(),

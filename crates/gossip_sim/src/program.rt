@@ -1,22 +1,26 @@
 //! The program: what it reads, what it writes and how it ends.
-ghost use Rattle.std.specs.Prelude.{◌≡◌, ◌≤◌, ◌⊎◌, IfErr, IfOk, IfSome, List, codes, length, string_bytes};
+ghost use Rattle.std.specs.Prelude.{◌≡◌, ◌≤◌, ◌⊎◌, IfErr, IfOk, IfSome, List, Option, ℕ, codes, length, string_bytes};
 ghost use Rattle.std.specs.Process.{exit_status};
-ghost use Rattle.gossip_sim.specs.Program.{EndsAs, IsRefusal, IsScenario, TellsRefusal, refusal_line, status_of};
+ghost use Rattle.gossip_sim.specs.Program.{EndsAs, IsRefusal, IsScenario, TellsFault, TellsRefusal, peer_of, refusal_line, run_refusal_line, spaced_name, status_of};
 ghost use Rattle.gs_params.specs.Plans.{IsInRange};
 ghost use Rattle.gossip_sim.specs.Report.{report_text};
-ghost use Rattle.gs_net.specs.Rounds.{IsRun};
+ghost use Rattle.gs_net.specs.Reports.{IsReport};
 ghost use Rattle.gossip_sim.specs.Streams.{AppendsFront, longest_input};
 
-use crate::report::report_text;
+use crate::report::{name_of, report_text};
 use crate::streams::{ReadFault, read_input, write_text};
-use gs_base::Text;
-use gs_net::{Finished, run_peers};
+use gs_base::{PeerNo, Text};
+use gs_net::{NetFault, Report, run_net};
 use gs_params::Plan;
+use gs_peer::Gate;
 use gs_scenario::{ScenarioFault, read_plan};
-use std::alloc::{AllocError, Global};
+use std::alloc::{AllocError, AllocGlobal, Global};
 use std::io::{Read, Write};
 use std::mem;
 use std::process::ExitCode;
+use std::random::RandomSource;
+use std::sync::Wait;
+use std::thread::Threads;
 
 /// How a run of the program ends.
 #[derive(Clone, Copy, Debug, PartialEq, Eq)]
@@ -25,7 +29,7 @@ pub enum ExitStatus {
     Reported,
     /// The scenario is refused.
     ScenarioRefused,
-    /// There was no memory to run it.
+    /// The run met a fault, or there was no memory to report on it.
     RunRefused,
     /// The input could not be read.
     InputFailed,
@@ -47,31 +51,55 @@ impl From<ExitStatus> for ExitCode {
 }
 
 /// Reads a scenario from the input, runs it, and writes its report to the output once the run has
-/// ended. Why there is no report is a line on `errors`; where that can't be written, the status
-/// stays the same.
-pub fn run<R: Read, W: Write, E: Write>(
-    alloc: Global,
+/// ended. The gate is told of each round that a peer begins. Why there is no report is a line on
+/// `errors`; where that can't be written, the status stays the same.
+pub fn run<T, G, R, W, E>(
+    rt: &T,
+    gate: &G,
     input: &mut R,
     output: &mut W,
     errors: &mut E,
 ) -> ExitStatus
+where
+    T: Threads + Wait + RandomSource + AllocGlobal + Sync + Send + Copy,
+    G: Gate + Sync,
+    R: Read,
+    W: Write,
+    E: Write,
     ensures { EndsAs result (R.remaining input.old)
         (W.contents output.old) (W.contents output.new) (E.contents errors.old) (E.contents errors.new) }
 {
-    let plan = match plan_in(alloc, input) {
-        Ok(plan) => plan,
+    let alloc = rt.alloc();
+    match plan_in(alloc, input) {
+        Ok(plan) => run_plan(rt, gate, &plan, output, errors),
         Err(NoPlan::InputFailed) => {
             tell(errors, "input failed\n");
-            return ExitStatus::InputFailed;
+            ExitStatus::InputFailed
         }
         Err(NoPlan::Refused(fault)) => {
             tell_refusal(alloc, errors, &fault);
-            return ExitStatus::ScenarioRefused;
+            ExitStatus::ScenarioRefused
         }
-    };
-    let Ok(report) = report_of(alloc, &plan) else {
-        tell(errors, "run refused: 24\n");
-        return ExitStatus::RunRefused;
+    }
+}
+
+/// Runs a scenario's plan, and writes its report to the output once the run has ended.
+fn run_plan<T, G, W, E>(rt: &T, gate: &G, plan: &Plan, output: &mut W, errors: &mut E) -> ExitStatus
+where
+    T: Threads + Wait + RandomSource + AllocGlobal + Sync + Send + Copy,
+    G: Gate + Sync,
+    W: Write,
+    E: Write,
+    requires { IsInRange plan.now }
+    ensures { (input : Option (List ℕ)) → IsScenario input plan.now → EndsAs result input
+        (W.contents output.old) (W.contents output.new) (E.contents errors.old) (E.contents errors.new) }
+{
+    let report = match report_of(rt, gate, plan) {
+        Ok(report) => report,
+        Err(fault) => {
+            tell_fault(rt.alloc(), errors, plan, fault);
+            return ExitStatus::RunRefused;
+        }
     };
     if write_text(output, &report).is_err() {
         tell(errors, "output failed\n");
@@ -132,17 +160,22 @@ fn input_too_long(alloc: Global) -> ScenarioFault
 }
 
 /// The report of a run of the plan.
-fn report_of(alloc: Global, plan: &Plan) -> Result<Vec<u8>, AllocError>
+fn report_of<T, G>(rt: &T, gate: &G, plan: &Plan) -> Result<Vec<u8>, NetFault>
+where
+    T: Threads + Wait + RandomSource + AllocGlobal + Sync + Send + Copy,
+    G: Gate + Sync,
     requires { IsInRange plan.now }
-    ensures { IfOk result (λ text. (finished : List Finished)
-        × IsRun plan.now finished
-        × (text.items ≡ report_text plan.now finished)) }
+    ensures { IfOk result (λ text. (report : Report)
+        × IsReport plan.now report
+        × (text.items ≡ report_text plan.now report)) }
 {
-    let finished = run_peers(alloc, plan)?;
-    let text = report_text(alloc, plan, &finished)?;
+    let report = run_net(rt, plan, gate)?;
+    let Ok(text) = report_text(rt.alloc(), plan, &report) else {
+        return Err(NetFault::NoMemory(None));
+    };
     // The program ends behind its report, and its memory goes back as a whole: to take the traces
     // apart first, entry by entry, is a tenth of a run.
-    mem::forget(finished);
+    mem::forget(report);
     Ok(text)
 }
 
@@ -163,6 +196,48 @@ fn refusal_line(alloc: Global, fault: &ScenarioFault) -> Result<String, AllocErr
     format!(in alloc; "scenario refused: {fault}\n")
 }
 
+/// Writes the line of a run's fault, or a front of it. Where there is no memory for the line, the
+/// fault is that.
+fn tell_fault<E: Write>(alloc: Global, errors: &mut E, plan: &Plan, fault: NetFault)
+    ensures { TellsFault plan.now fault (E.contents errors.old) (E.contents errors.new) }
+{
+    match fault_line(alloc, plan, fault) {
+        Ok(line) => tell(errors, line.as_str()),
+        Err(_) => tell(errors, "run refused: 24\n"),
+    }
+}
+
+fn fault_line(alloc: Global, plan: &Plan, fault: NetFault) -> Result<String, AllocError>
+    ensures { IfOk result (λ line. string_bytes line ≡ run_refusal_line plan.now fault) }
+{
+    let number = fault.number();
+    let name = spaced_name(alloc, plan, peer_of(fault))?;
+    Ok(format!(in alloc; "run refused: {number}{name}\n")?)
+}
+
+/// The name of a peer behind a space, and nothing for none.
+fn spaced_name(alloc: Global, plan: &Plan, peer: Option<PeerNo>) -> Result<String, AllocError>
+    ensures { IfOk result (λ text. string_bytes text ≡ spaced_name plan.now peer) }
+{
+    match peer {
+        Some(number) => {
+            let name = name_of(plan, number);
+            format!(in alloc; " {name}")
+        }
+        None => Ok(String::new(alloc)),
+    }
+}
+
+/// The peer that a fault names.
+fn peer_of(fault: NetFault) -> Option<PeerNo>
+    ensures { result ≡ peer_of fault }
+{
+    match fault {
+        NetFault::NoMemory(peer) => peer,
+        NetFault::NoThread => None,
+    }
+}
+
 /// Writes a line, or a front of it: there is nowhere to report that this fails.
 fn tell<E: Write>(errors: &mut E, line: &str)
     ensures { AppendsFront (E.contents errors.old) (E.contents errors.new) line.now }
@@ -171,4 +246,4 @@ fn tell<E: Write>(errors: &mut E, line: &str)
 }
 
 #[cfg(test)]
-mod tests;
+pub(crate) mod tests;

@@ -1,28 +1,29 @@
 //! What a run reports.
 ghost use Rattle.std.specs.Prelude.{◌≡◌, ◌++◌, IfOk, OnOk, string_bytes};
 ghost use Rattle.std.specs.List.{flat_map};
-ghost use Rattle.gossip_sim.specs.Report.{delivered_line, delivered_lines, entry_lines, name_of, numbered, payload_text, refused_line, refused_lines, report_text, word_of};
+ghost use Rattle.gossip_sim.specs.Report.{delivered_line, delivered_lines, entry_lines, links_line, name_of, payload_text, refused_line, refused_lines, report_text, word_of};
 
 use bytes::Bytes;
-use gs_base::{Millis, Topic};
-use gs_net::Finished;
+use gs_base::{Millis, PeerNo, Topic};
+use gs_net::{Finished, Report};
 use gs_params::Plan;
 use gs_rules::{Entry, RefusedLine};
 use gs_scenario::what_word;
 use std::alloc::{AllocError, Global};
 
-/// The report on the peers of a run, each at its number: first a line for each message that was
-/// delivered, peer by peer in the order of its trace, and then a line for each refusal, peer by
-/// peer in the order of its list.
+/// The text of a run's report: first a line for each message that was delivered, peer by peer in the
+/// order of its trace, then a line for each refusal, peer by peer in the order of its list, and last
+/// the line of the links. A peer has the name that the plan gives its number.
 ///
 /// # Errors
 /// `AllocError` where there was no memory for it.
-pub fn report_text(alloc: Global, plan: &Plan, finished: &[Finished]) -> Result<Vec<u8>, AllocError>
-    ensures { IfOk result (λ text. text.items ≡ report_text plan.now finished.now) }
+pub fn report_text(alloc: Global, plan: &Plan, report: &Report) -> Result<Vec<u8>, AllocError>
+    ensures { IfOk result (λ text. text.items ≡ report_text plan.now report.now) }
 {
     let mut text = Vec::new(alloc);
-    push_delivered(alloc, &mut text, plan, finished)?;
-    push_refused(alloc, &mut text, plan, finished)?;
+    push_delivered(alloc, &mut text, plan, &report.peers)?;
+    push_refused(alloc, &mut text, plan, &report.peers)?;
+    push_links(alloc, &mut text, report.settled)?;
     Ok(text)
 }
 
@@ -31,13 +32,13 @@ fn push_delivered(
     alloc: Global,
     text: &mut Vec<u8>,
     plan: &Plan,
-    finished: &[Finished],
+    peers: &[(PeerNo, Finished)],
 ) -> Result<(), AllocError>
     ensures { OnOk result (text.new.items
-        ≡ text.old.items ++ flat_map (delivered_lines plan.now) (numbered finished.now)) }
+        ≡ text.old.items ++ flat_map (delivered_lines plan.now) peers.now) }
 {
-    for (number, peer) in finished.iter().enumerate() {
-        push_entries(alloc, text, name_of(plan, number), peer.trace.entries())?;
+    for (number, life) in peers {
+        push_entries(alloc, text, name_of(plan, *number), life.trace.entries())?;
     }
     Ok(())
 }
@@ -99,18 +100,18 @@ fn push_refused(
     alloc: Global,
     text: &mut Vec<u8>,
     plan: &Plan,
-    finished: &[Finished],
+    peers: &[(PeerNo, Finished)],
 ) -> Result<(), AllocError>
     ensures { OnOk result (text.new.items
-        ≡ text.old.items ++ flat_map (refused_lines plan.now) (numbered finished.now)) }
+        ≡ text.old.items ++ flat_map (refused_lines plan.now) peers.now) }
 {
-    for (number, peer) in finished.iter().enumerate() {
+    for (number, life) in peers {
         push_refusals(
             alloc,
             text,
             plan,
-            name_of(plan, number),
-            peer.refused.as_slice(),
+            name_of(plan, *number),
+            life.refused.as_slice(),
         )?;
     }
     Ok(())
@@ -151,11 +152,19 @@ fn push_refusal(
     text.extend_from_slice(back.as_bytes())
 }
 
+/// Adds the line of the links that were settled.
+fn push_links(alloc: Global, text: &mut Vec<u8>, settled: u64) -> Result<(), AllocError>
+    ensures { OnOk result (text.new.items ≡ text.old.items ++ links_line settled) }
+{
+    let line = format!(in alloc; "links {settled} settled\n")?;
+    text.extend_from_slice(line.as_bytes())
+}
+
 /// The name of the peer with a number. A number that is no peer's has the empty one.
-fn name_of(plan: &Plan, number: usize) -> &str
+pub fn name_of(plan: &Plan, number: PeerNo) -> &str
     ensures { result.now ≡ name_of plan.now number }
 {
-    match plan.peers.as_slice().get(number) {
+    match plan.peers.as_slice().get(usize::from(number.0)) {
         Some(peer) => peer.name.as_str(),
         None => "",
     }

@@ -1,8 +1,10 @@
 //! Whole runs, from a scenario to its report.
-use crate::report::report_text;
-use gs_net::run_peers;
-use gs_scenario::read_plan;
+use crate::program::tests::Host;
+use crate::program::{ExitStatus, run};
+use gs_peer::{Gate, NoGate};
 use std::alloc::{AllocError, Global};
+use std::sync::atomic::{AtomicU64, Ordering};
+use std::thread;
 
 /// Eleven rounds of 100 milliseconds, the topics `news` and `blog`, and peers `a` and `b`.
 const TWO: &str = "round_ms = 100\nrounds = 10\nworkers = 2\ncapacity = 8\nseed = 1\n\
@@ -21,15 +23,10 @@ const C_DIALS_BOTH: &str =
 /// A line of a script: the round, the peer, what it is told, the topic, and what it publishes.
 type Told<'a> = (u64, &'a str, &'a str, &'a str, Option<&'a str>);
 
-/// Whether the peers of such a scenario that are told this make such a report.
-fn reports(
-    alloc: Global,
-    front: &[&str],
-    script: &[Told<'_>],
-    report: &str,
-) -> Result<bool, AllocError> {
+/// The text of a scenario: these parts, and the lines of a script.
+fn scenario(alloc: Global, parts: &[&str], script: &[Told<'_>]) -> Result<String, AllocError> {
     let mut text = String::new(alloc);
-    for part in front {
+    for part in parts {
         text.push_str(part)?;
     }
     for (at, peer, what, topic, hex) in script {
@@ -41,11 +38,26 @@ fn reports(
             text.push_str(&format!(in alloc; "hex = \"{hex}\"\n")?)?;
         }
     }
-    let Ok(plan) = read_plan(alloc, &text) else {
-        return Ok(false);
-    };
-    let lives = run_peers(alloc, &plan)?;
-    Ok(report_text(alloc, &plan, &lives)?.as_slice() == report.as_bytes())
+    Ok(text)
+}
+
+/// Whether a run of a scenario ends with such a report, and with nothing on the error output.
+fn is_reported<T: Host, G: Gate + Sync>(rt: &T, gate: &G, text: &str, report: &str) -> bool {
+    let mut output = Vec::new(rt.alloc());
+    let mut errors = Vec::new(rt.alloc());
+    let ended = run(rt, gate, &mut text.as_bytes(), &mut output, &mut errors);
+    ended == ExitStatus::Reported && output.as_slice() == report.as_bytes() && errors.is_empty()
+}
+
+/// Whether the peers of such a scenario that are told this make such a report.
+fn reports<T: Host>(
+    rt: &T,
+    parts: &[&str],
+    script: &[Told<'_>],
+    report: &str,
+) -> Result<bool, AllocError> {
+    let text = scenario(rt.alloc(), parts, script)?;
+    Ok(is_reported(rt, &NoGate, &text, report))
 }
 
 #[test]
@@ -55,10 +67,11 @@ fn two_subscribers_get_one_message(rt: HostRuntime) -> Result<(), AllocError> {
         (0, "b", "subscribe", "news", None),
         (2, "a", "publish", "news", Some("616263")),
     ];
-    let report = "delivered a 200 news 616263\ndelivered b 300 news 616263\n";
-    assert!(rt; reports(rt.alloc(), &[TWO, A_DIALS_B], &script, report)?);
-    assert!(rt; reports(rt.alloc(), &[TWO, B_DIALS_A], &script, report)?);
-    assert!(rt; reports(rt.alloc(), &[TWO], &script, "delivered a 200 news 616263\n")?);
+    let report = "delivered a 200 news 616263\ndelivered b 300 news 616263\nlinks 2 settled\n";
+    assert!(rt; reports(&rt, &[TWO, A_DIALS_B], &script, report)?);
+    assert!(rt; reports(&rt, &[TWO, B_DIALS_A], &script, report)?);
+    let report = "delivered a 200 news 616263\nlinks 0 settled\n";
+    assert!(rt; reports(&rt, &[TWO], &script, report)?);
     Ok(())
 }
 
@@ -72,8 +85,8 @@ fn leaving_a_topic_twice_is_refused(rt: HostRuntime) -> Result<(), AllocError> {
         (5, "b", "unsubscribe", "news", None),
     ];
     let report = "delivered a 200 news 616263\ndelivered b 300 news 616263\n\
-        refused b 500 unsubscribe 19\n";
-    assert!(rt; reports(rt.alloc(), &[TWO, A_DIALS_B], &script, report)?);
+        refused b 500 unsubscribe 19\nlinks 2 settled\n";
+    assert!(rt; reports(&rt, &[TWO, A_DIALS_B], &script, report)?);
     Ok(())
 }
 
@@ -86,8 +99,8 @@ fn a_peer_by_itself_publishes_once(rt: HostRuntime) -> Result<(), AllocError> {
         (1, "a", "publish", "news", Some("")),
         (1, "a", "publish", "news", Some("")),
     ];
-    let report = "delivered a 100 news -\nrefused a 100 publish 16\n";
-    assert!(rt; reports(rt.alloc(), &[alone], &script, report)?);
+    let report = "delivered a 100 news -\nrefused a 100 publish 16\nlinks 0 settled\n";
+    assert!(rt; reports(&rt, &[alone], &script, report)?);
     Ok(())
 }
 
@@ -100,8 +113,8 @@ fn a_neighbour_that_left_gets_nothing_more(rt: HostRuntime) -> Result<(), AllocE
         (4, "a", "publish", "news", Some("02")),
         (5, "b", "subscribe", "news", None),
     ];
-    let report = "delivered b 300 news 01\n";
-    assert!(rt; reports(rt.alloc(), &[TWO, A_DIALS_B], &script, report)?);
+    let report = "delivered b 300 news 01\nlinks 2 settled\n";
+    assert!(rt; reports(&rt, &[TWO, A_DIALS_B], &script, report)?);
     Ok(())
 }
 
@@ -113,8 +126,8 @@ fn what_is_said_in_a_round_is_heard_in_the_next(rt: HostRuntime) -> Result<(), A
         (4, "a", "publish", "news", Some("04")),
         (4, "a", "publish", "blog", Some("05")),
     ];
-    let report = "delivered b 500 news 04\n";
-    assert!(rt; reports(rt.alloc(), &[TWO, A_DIALS_B], &script, report)?);
+    let report = "delivered b 500 news 04\nlinks 2 settled\n";
+    assert!(rt; reports(&rt, &[TWO, A_DIALS_B], &script, report)?);
     Ok(())
 }
 
@@ -126,8 +139,9 @@ fn what_is_said_in_the_last_round_is_late(rt: HostRuntime) -> Result<(), AllocEr
         (9, "a", "publish", "news", Some("09")),
         (10, "a", "publish", "news", Some("10")),
     ];
-    let report = "delivered a 900 news 09\ndelivered a 1000 news 10\ndelivered b 1000 news 09\n";
-    assert!(rt; reports(rt.alloc(), &[TWO, A_DIALS_B], &script, report)?);
+    let report = "delivered a 900 news 09\ndelivered a 1000 news 10\n\
+        delivered b 1000 news 09\nlinks 2 settled\n";
+    assert!(rt; reports(&rt, &[TWO, A_DIALS_B], &script, report)?);
     Ok(())
 }
 
@@ -142,8 +156,9 @@ fn refusals_stand_by_moment_and_then_in_file_order(rt: HostRuntime) -> Result<()
         (3, "a", "publish", "news", Some("616263")),
     ];
     let report = "delivered b 400 news 616263\nrefused b 0 subscribe 18\n\
-        refused b 0 unsubscribe 19\nrefused b 100 subscribe 18\nrefused b 400 publish 16\n";
-    assert!(rt; reports(rt.alloc(), &[TWO, A_DIALS_B], &script, report)?);
+        refused b 0 unsubscribe 19\nrefused b 100 subscribe 18\nrefused b 400 publish 16\n\
+        links 2 settled\n";
+    assert!(rt; reports(&rt, &[TWO, A_DIALS_B], &script, report)?);
     Ok(())
 }
 
@@ -158,7 +173,146 @@ fn what_is_heard_comes_first_and_by_neighbour(rt: HostRuntime) -> Result<(), All
         (4, "a", "publish", "news", Some("a2")),
     ];
     let report = "delivered c 500 news a1\ndelivered c 500 news a2\n\
-        delivered c 500 news b1\ndelivered c 500 news b2\ndelivered c 500 news c1\n";
-    assert!(rt; reports(rt.alloc(), &[TWO, C, C_DIALS_BOTH], &script, report)?);
+        delivered c 500 news b1\ndelivered c 500 news b2\ndelivered c 500 news c1\n\
+        links 4 settled\n";
+    assert!(rt; reports(&rt, &[TWO, C, C_DIALS_BOTH], &script, report)?);
+    Ok(())
+}
+
+/// What a scenario with the topic `news` and peers `p0`, `p1` and so on begins with.
+fn news(
+    alloc: Global,
+    rounds: u64,
+    workers: u64,
+    capacity: u64,
+    peers: u64,
+) -> Result<String, AllocError> {
+    let mut text = format!(in alloc; "round_ms = 100\nseed = 1\nrounds = {rounds}\n")?;
+    text.push_str(&format!(in alloc; "workers = {workers}\ncapacity = {capacity}\n")?)?;
+    text.push_str("[[topic]]\nname = \"news\"\n")?;
+    for number in 0..peers {
+        text.push_str(&format!(in alloc; "[[peer]]\nname = \"p{number}\"\n")?)?;
+    }
+    Ok(text)
+}
+
+/// Sixteen peers in a ring, who all subscribe in round 0. `p0` publishes in round 12.
+fn ring(alloc: Global, workers: u64, capacity: u64) -> Result<String, AllocError> {
+    let mut text = news(alloc, 20, workers, capacity, 16)?;
+    for number in 0..16u64 {
+        let next = (number + 1) % 16;
+        let dial = format!(in alloc; "[[dial]]\nfrom = \"p{number}\"\nto = \"p{next}\"\n")?;
+        text.push_str(&dial)?;
+        text.push_str(&format!(in alloc; "[[do]]\nat = 0\npeer = \"p{number}\"\n")?)?;
+        text.push_str("what = \"subscribe\"\ntopic = \"news\"\n")?;
+    }
+    text.push_str("[[do]]\nat = 12\npeer = \"p0\"\nwhat = \"publish\"\n")?;
+    text.push_str("topic = \"news\"\nhex = \"616263\"\n")?;
+    Ok(text)
+}
+
+/// What is published reaches the neighbours, who don't pass it on.
+const RING_REPORT: &str = "delivered p0 1200 news 616263\ndelivered p1 1300 news 616263\n\
+    delivered p15 1300 news 616263\nlinks 32 settled\n";
+
+#[test]
+fn a_ring_of_sixteen_threads_has_one_report(rt: HostRuntime) -> Result<(), AllocError> {
+    let text = ring(rt.alloc(), 16, 1)?;
+    for _ in 0..100u32 {
+        assert!(rt; is_reported(&rt, &NoGate, &text, RING_REPORT));
+    }
+    Ok(())
+}
+
+#[test]
+fn workers_and_capacity_change_no_report(rt: HostRuntime) -> Result<(), AllocError> {
+    for workers in [1, 2, 3, 8] {
+        for capacity in [1, 8] {
+            let text = ring(rt.alloc(), workers, capacity)?;
+            assert!(rt; is_reported(&rt, &NoGate, &text, RING_REPORT));
+        }
+    }
+    Ok(())
+}
+
+/// Who delivers a thousand zero bytes when, and what stands behind these.
+static ZEROS: [(&str, &str); 6] = [
+    ("p0 200", ""),
+    ("p0 200", "01"),
+    ("p0 300", "02"),
+    ("p1 200", "02"),
+    ("p1 300", ""),
+    ("p1 300", "01"),
+];
+
+fn zeros_report(alloc: Global, zeros: &str) -> Result<String, AllocError> {
+    let mut report = String::new(alloc);
+    for (peer_and_moment, last) in &ZEROS {
+        let line = format!(in alloc; "delivered {peer_and_moment} news {zeros}{last}\n")?;
+        report.push_str(&line)?;
+    }
+    report.push_str("refused p1 500 publish 16\nlinks 2 settled\n")?;
+    Ok(report)
+}
+
+#[test]
+fn a_thousand_zero_bytes_pass_a_link_of_one_place(rt: HostRuntime) -> Result<(), AllocError> {
+    let alloc = rt.alloc();
+    let mut zeros = String::new(alloc);
+    for _ in 0..1_000u32 {
+        zeros.push_str("00")?;
+    }
+    let one = format!(in alloc; "{zeros}01")?;
+    let two = format!(in alloc; "{zeros}02")?;
+    let front = news(alloc, 6, 2, 1, 2)?;
+    let report = zeros_report(alloc, &zeros)?;
+    let dial = "[[dial]]\nfrom = \"p0\"\nto = \"p1\"\n";
+    let script: [Told<'_>; 6] = [
+        (0, "p0", "subscribe", "news", None),
+        (0, "p1", "subscribe", "news", None),
+        (2, "p0", "publish", "news", Some(&zeros)),
+        (2, "p0", "publish", "news", Some(&one)),
+        (2, "p1", "publish", "news", Some(&two)),
+        (5, "p1", "publish", "news", Some(&zeros)),
+    ];
+    assert!(rt; reports(&rt, &[&front, dial], &script, &report)?);
+    Ok(())
+}
+
+/// Workers that wait for one another in round 5.
+#[derive(Drop)]
+struct Meeting {
+    /// Whether worker i is there, in bit i.
+    present: AtomicU64,
+    /// How many have seen that all sixteen were there.
+    met: AtomicU64,
+}
+
+impl Gate for Meeting {
+    fn turn(&self, worker: usize, round: u64) {
+        if round != 5 || worker >= 16 {
+            return;
+        }
+        self.present.fetch_or(1u64 << worker, Ordering::SeqCst);
+        for _ in 0..10_000_000u32 {
+            if self.present.load(Ordering::SeqCst) == 0xffff {
+                self.met.fetch_add(1, Ordering::SeqCst);
+                return;
+            }
+            // (there may be fewer processors than workers)
+            thread::yield_now();
+        }
+    }
+}
+
+#[test]
+fn workers_run_side_by_side(rt: HostRuntime) -> Result<(), AllocError> {
+    let meeting = Meeting {
+        present: AtomicU64::new(0),
+        met: AtomicU64::new(0),
+    };
+    let text = news(rt.alloc(), 6, 16, 1, 16)?;
+    assert!(rt; is_reported(&rt, &meeting, &text, "links 0 settled\n"));
+    assert!(rt; meeting.met.load(Ordering::SeqCst) == 16);
     Ok(())
 }

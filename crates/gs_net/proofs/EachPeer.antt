@@ -2,21 +2,7 @@
 use Rattle.std.proofs.Common.{◌≡◌, ℕ, suc, ◌+◌, List, [], ◌∷◌, ◌++◌, map, ap, ◌∙◌, arith, zero, zero-add}
 use Rattle.std.proofs.lemmas.List.{map-append}
 use Rattle.std.specs.List.{AllZip, range_with_len}
-use Rattle.gs_params.specs.declared.plan.Plan.{Plan}
-use Rattle.gs_net.specs.declared.peers.node.Node.{Node}
-use Rattle.gs_net.specs.declared.peers.speech.Speech.{Speech}
 use Rattle.gs_net.specs.Rounds.{peer_no}
-use Rattle.gs_net.specs.Speech.{said_by}
-use Rattle.gs_net.specs.Nodes.{NodePlays, PlaysEach}
-
--- one more peer plays
-pub plays_more : (plan : Plan) (r : ℕ) (said : List Speech) (olds news : List Node) (speeches : List Speech) (old new : Node) (speech : Speech) → PlaysEach plan r said olds news speeches → NodePlays plan r (λ q. said_by said q old.number) old new speech → PlaysEach plan r said (olds ++ old ∷ []) (news ++ new ∷ []) (speeches ++ speech ∷ [])
-plays_more plan r said [] [] [] old new speech each plays = (plays, tt)
-plays_more plan r said (o ∷ olds) (n ∷ news) (s ∷ speeches) old new speech each plays = (each.0, plays_more plan r said olds news speeches old new speech each.1 plays)
-plays_more plan r said [] [] (s ∷ speeches) old new speech each plays = absurd each
-plays_more plan r said [] (n ∷ news) speeches old new speech each plays = absurd each
-plays_more plan r said (o ∷ olds) [] speeches old new speech each plays = absurd each
-plays_more plan r said (o ∷ olds) (n ∷ news) [] old new speech each plays = absurd each
 
 -- one more pair of a relation
 pub zip_more : {A B : Type 0} (R : A → B → Type 0) (xs : List A) (ys : List B) (x : A) (y : B) → AllZip R xs ys → R x y → AllZip R (xs ++ x ∷ []) (ys ++ y ∷ [])

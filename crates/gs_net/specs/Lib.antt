@@ -1,4 +1,5 @@
 pub mod Rounds
-pub mod Agenda
-pub mod Nodes
-pub mod Speech
+pub mod Given
+pub mod Tasks
+pub mod Lives
+pub mod Reports

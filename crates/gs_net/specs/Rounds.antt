@@ -11,10 +11,12 @@ use Rattle.gs_params.specs.declared.plan.Line.{Line}
 use Rattle.gs_params.specs.declared.plan.Plan.{Plan}
 use Rattle.gs_params.specs.declared.plan.PlannedPeer.{PlannedPeer}
 use Rattle.gs_params.specs.Plans.{are_joined}
+use Rattle.gs_params.specs.Seeding.{SeededState, new_seeded, seeded_after, seeded_word}
 use Rattle.gs_wire.specs.Codec.{codec}
 use Rattle.gs_rules.specs.Peers.{Peer, seen_ttl}
 use Rattle.gs_rules.specs.Tables.{Entries}
-use Rattle.gs_rules.specs.Legal.{Legal, DeliversApart}
+use Rattle.gs_rules.specs.Modes.{exact}
+use Rattle.gs_rules.specs.Legal.{Legal, LegalOn, DeliversApart}
 use Rattle.gs_rules.specs.Saying.{Said, bytes_of, out, handled, sent}
 use Rattle.gs_rules.specs.Hearing.{Spell}
 use Rattle.gs_rules.specs.Rounds.{Seat, KeepsRounds}
@@ -37,9 +39,13 @@ neighbours plan p = filter (are_joined plan.dials p) (numbers plan)
 abbrev pub address_of : Plan → PeerNo → List ℕ
 address_of plan p = unwrap_or (option_map (λ (planned : PlannedPeer). planned.address) (slice_get plan.peers p.0)) []
 
--- the first of its random words
+-- the random words that are listed for it
 abbrev pub words_of : Plan → PeerNo → List ℕ
 words_of plan p = unwrap_or (option_map (λ (planned : PlannedPeer). planned.words) (slice_get plan.peers p.0)) []
+
+-- the words that its choices are made by, before the first of them
+abbrev pub first_words : Plan → PeerNo → SeededState
+first_words plan p = new_seeded (words_of plan p) plan.seed p
 
 -- the one dials the other
 abbrev pub is_dial : PeerNo → PeerNo → Dial → Bool
@@ -74,12 +80,16 @@ peer_in plan p = record { params = plan.params; neighbours = neighbours_in plan 
 abbrev pub is_for : PeerNo → ℕ × Line → Bool
 is_for p x = same_peer x.1.peer p
 
+-- its lines of the script with their places there, in file order
+abbrev pub lines_in : Plan → PeerNo → List (ℕ × Line)
+lines_in plan p = filter (is_for p) (enumerate_from 0 plan.script)
+
 -- what a peer is given
 abbrev pub seat_in : Plan → PeerNo → Seat
 seat_in plan p = record {
   number = p;
   peer = peer_in plan p;
-  lines = filter (is_for p) (enumerate_from 0 plan.script);
+  lines = lines_in plan p;
   round_ms = plan.round_ms;
   rounds = plan.rounds;
 }
@@ -102,6 +112,9 @@ said_to lives p q = out codec (trace_of lives q) p
 pub record IsLife (plan : Plan) (lives : List Finished) (p : PeerNo) (life : Finished) : Type 0 where
   -- each step is allowed by those before it
   pub legal : Legal (peer_in plan p) life.trace
+  -- and its choices are those of its words
+  pub chosen : (last : SeededState)
+      × LegalOn (exact seeded_word seeded_after) (peer_in plan p) (first_words plan p) [] life.trace last
   -- it did what there was to do, round by round
   pub keeps : KeepsRounds (seat_in plan p) (said_to lives p) life.trace life.refused
   -- what it handled of a neighbour is what the bytes spell that the neighbour's trace says to it

@@ -1,11 +1,19 @@
-//! Gossipsub peers over links: runs a plan, in rounds, and gives what is left of each peer.
+//! Gossipsub peers on worker threads, over links: runs a plan, and gives what is left of each peer.
 #![tactic(auto)]
 
 mod finished;
-mod peers;
+mod lines;
+mod lists;
+mod lives;
+mod neighbours;
+mod report;
+mod run;
+mod tasks;
 
 pub use finished::Finished;
-pub use peers::run_peers;
+pub use gs_workers::NetFault;
+pub use report::Report;
+pub use run::run_net;
 
 #[cfg(test)]
 mod tests;

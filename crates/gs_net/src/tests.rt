@@ -1,9 +1,14 @@
 //! A run of two peers, of which one dials the other.
-use crate::{Finished, run_peers};
+use crate::{Finished, NetFault, run_net};
 use gs_base::Millis;
+use gs_peer::NoGate;
 use gs_rules::{Refusal, RefusedLine};
 use gs_scenario::read_plan;
-use std::alloc::{AllocError, Global};
+use std::alloc::{AllocError, AllocGlobal};
+use std::random::RandomSource;
+use std::sync::Wait;
+use std::test::*;
+use std::thread::Threads;
 
 /// Rounds 0 to 5 of 100 milliseconds, and the peers `a` and `b`.
 const PEERS: &str = "round_ms = 100\nrounds = 5\nworkers = 2\ncapacity = 8\nseed = 1\n\
@@ -40,17 +45,28 @@ fn delivered(life: &Finished, moments: &[u64]) -> bool {
     left.is_empty()
 }
 
-/// Whether two peers that are joined so have these deliveries, and the second refuses to leave the
-/// topic twice.
-fn has_deliveries(alloc: Global, dial: &str, a: &[u64], b: &[u64]) -> Result<bool, AllocError> {
-    let mut scenario = String::from_str(alloc, PEERS)?;
+/// Whether two peers that are joined so have these deliveries, the second refuses to leave the topic
+/// twice, and so many links are whole.
+fn has_deliveries<R>(
+    rt: &R,
+    dial: &str,
+    a: &[u64],
+    b: &[u64],
+    links: u64,
+) -> Result<bool, AllocError>
+where
+    R: Threads + Wait + RandomSource + AllocGlobal + Sync + Send + Copy,
+{
+    let mut scenario = String::from_str(rt.alloc(), PEERS)?;
     scenario.push_str(dial)?;
     scenario.push_str(SCRIPT)?;
-    let Ok(plan) = read_plan(alloc, &scenario) else {
+    let Ok(plan) = read_plan(rt.alloc(), &scenario) else {
         return Ok(false);
     };
-    let lives = run_peers(alloc, &plan)?;
-    let [first, second] = lives.as_slice() else {
+    let Ok(report) = run_net(rt, &plan, &NoGate) else {
+        return Ok(false);
+    };
+    let [(zero, first), (one, second)] = report.peers.as_slice() else {
         return Ok(false);
     };
     let refusal = RefusedLine {
@@ -59,7 +75,10 @@ fn has_deliveries(alloc: Global, dial: &str, a: &[u64], b: &[u64]) -> Result<boo
         why: Refusal::NotJoined,
     };
     Ok(
-        delivered(first, a)
+        zero.0 == 0
+            && one.0 == 1
+            && report.settled == links
+            && delivered(first, a)
             && delivered(second, b)
             && first.refused.as_slice().is_empty()
             && second.refused.as_slice() == [refusal].as_slice(),
@@ -67,9 +86,15 @@ fn has_deliveries(alloc: Global, dial: &str, a: &[u64], b: &[u64]) -> Result<boo
 }
 
 #[test]
-fn a_message_is_delivered_to_a_neighbour_a_round_later(rt: HostRuntime) -> Result<(), AllocError> {
-    assert!(rt; has_deliveries(rt.alloc(), A_DIALS_B, &[200], &[300])?);
-    assert!(rt; has_deliveries(rt.alloc(), B_DIALS_A, &[200], &[300])?);
-    assert!(rt; has_deliveries(rt.alloc(), "", &[200], &[])?);
+fn a_message_is_delivered_to_a_neighbour_a_round_later(rt: HostRuntime) -> Result<(), Fail> {
+    assert!(rt; has_deliveries(&rt, A_DIALS_B, &[200], &[300], 2)?);
+    assert!(rt; has_deliveries(&rt, B_DIALS_A, &[200], &[300], 2)?);
+    assert!(rt; has_deliveries(&rt, "", &[200], &[], 0)?);
     Ok(())
+}
+
+#[test]
+fn faults_have_their_numbers(rt: HostRuntime) {
+    assert!(rt; NetFault::NoMemory(None).number() == 24);
+    assert!(rt; NetFault::NoThread.number() == 25);
 }

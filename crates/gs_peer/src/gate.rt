@@ -7,6 +7,12 @@ pub trait Gate: Drop {
     fn turn(&self, worker: usize, round: u64);
 }
 
+impl<G: Gate> Gate for &G {
+    fn turn(&self, worker: usize, round: u64) {
+        (**self).turn(worker, round)
+    }
+}
+
 /// A gate that does nothing.
 #[derive(Clone, Copy, Debug, Drop)]
 pub struct NoGate;

@@ -1,6 +1,8 @@
 use super::*;
 use crate::streams::LONGEST_INPUT;
 use crate::streams::tests::{Broken, Narrow};
+use gs_peer::NoGate;
+use std::io;
 
 const SCENARIO: &str = r#"
 round_ms = 100
@@ -42,20 +44,25 @@ topic = "news"
 hex = "616263"
 "#;
 
-const REPORT: &str = "delivered a 200 news 616263\ndelivered b 300 news 616263\n";
+const REPORT: &str = "delivered a 200 news 616263\ndelivered b 300 news 616263\nlinks 2 settled\n";
+
+/// What a run asks of a runtime.
+pub trait Host: Threads + Wait + RandomSource + AllocGlobal + Sync + Send + Copy {}
+
+impl<T: Threads + Wait + RandomSource + AllocGlobal + Sync + Send + Copy> Host for T {}
 
 /// Whether a run on an input ends so and writes that.
-fn ends<R: Read>(alloc: Global, input: &mut R, status: u8, output: &str, errors: &str) -> bool {
-    let mut out = Vec::new(alloc);
-    let mut err = Vec::new(alloc);
-    let ended = run(alloc, input, &mut out, &mut err);
+fn ends<T: Host, R: Read>(rt: &T, input: &mut R, status: u8, output: &str, errors: &str) -> bool {
+    let mut out = Vec::new(rt.alloc());
+    let mut err = Vec::new(rt.alloc());
+    let ended = run(rt, &NoGate, input, &mut out, &mut err);
     ExitCode::from(ended) == ExitCode::from(status)
         && out.as_slice() == output.as_bytes()
         && err.as_slice() == errors.as_bytes()
 }
 
-fn is_refused(alloc: Global, input: &[u8], line: &str) -> bool {
-    ends(alloc, &mut &input[..], 1, "", line)
+fn is_refused<T: Host>(rt: &T, input: &[u8], line: &str) -> bool {
+    ends(rt, &mut &input[..], 1, "", line)
 }
 
 /// A writer that takes `step` bytes at a time and `room` in all.
@@ -69,10 +76,10 @@ fn narrow(alloc: Global, step: usize, room: usize, fails: bool) -> Narrow {
 }
 
 /// Whether a run of the scenario whose output has so much room ends so, with a front of the report.
-fn writes_front(alloc: Global, room: usize, fails: bool, status: u8, errors: &str) -> bool {
-    let mut output = narrow(alloc, 3, room, fails);
-    let mut err = Vec::new(alloc);
-    let ended = run(alloc, &mut SCENARIO.as_bytes(), &mut output, &mut err);
+fn writes_front<T: Host>(rt: &T, room: usize, fails: bool, status: u8, errors: &str) -> bool {
+    let mut output = narrow(rt.alloc(), 3, room, fails);
+    let mut err = Vec::new(rt.alloc());
+    let ended = run(rt, &NoGate, &mut SCENARIO.as_bytes(), &mut output, &mut err);
     let front = REPORT.len().min(room);
     ExitCode::from(ended) == ExitCode::from(status)
         && output.taken.as_slice() == &REPORT.as_bytes()[..front]
@@ -80,12 +87,13 @@ fn writes_front(alloc: Global, room: usize, fails: bool, status: u8, errors: &st
 }
 
 /// Whether an input is refused where `errors` has so much room, with a front of the line.
-fn tells_front(alloc: Global, room: usize) -> bool {
+fn tells_front<T: Host>(rt: &T, room: usize) -> bool {
     let line = b"scenario refused: 28 rounds\n";
-    let mut out = Vec::new(alloc);
-    let mut errors = narrow(alloc, 2, room, true);
+    let mut out = Vec::new(rt.alloc());
+    let mut errors = narrow(rt.alloc(), 2, room, true);
     let ended = run(
-        alloc,
+        rt,
+        &NoGate,
         &mut b"round_ms = 100\n".as_slice(),
         &mut out,
         &mut errors,
@@ -95,52 +103,57 @@ fn tells_front(alloc: Global, room: usize) -> bool {
         && errors.taken.as_slice() == &line[..line.len().min(room)]
 }
 
+/// Whether a fault of a run of the scenario is told by such a line, or by a front of it where
+/// there is room for no more.
+fn tells(alloc: Global, fault: NetFault, line: &str) -> bool {
+    let Ok(plan) = read_plan(alloc, SCENARIO) else {
+        return false;
+    };
+    let mut errors = Vec::new(alloc);
+    tell_fault(alloc, &mut errors, &plan, fault);
+    let mut short = narrow(alloc, 1, 10, true);
+    tell_fault(alloc, &mut short, &plan, fault);
+    errors.as_slice() == line.as_bytes()
+        && short.taken.len() == 10
+        && line.as_bytes().starts_with(&short.taken)
+}
+
 #[test]
 fn two_subscribers_are_reported(rt: HostRuntime) {
-    assert!(rt; ends(rt.alloc(), &mut SCENARIO.as_bytes(), 0, REPORT, ""));
+    assert!(rt; ends(&rt, &mut SCENARIO.as_bytes(), 0, REPORT, ""));
 }
 
 #[test]
 fn a_scenario_is_refused_with_its_number_and_place(rt: HostRuntime) {
-    let alloc = rt.alloc();
-    assert!(rt;
-        is_refused(
-            alloc,
-            b"rounds = 10\nrounds = 10\n",
-            "scenario refused: 26\n"
-        )
-    );
-    assert!(rt; is_refused(alloc, b"speed = 1\n", "scenario refused: 27 speed\n"));
-    assert!(rt; is_refused(alloc, b"\"\" = 1\n", "scenario refused: 27 \n"));
-    assert!(rt; is_refused(alloc, b"", "scenario refused: 28 round_ms\n"));
-    assert!(rt; is_refused(alloc, b"round_ms = 0\n", "scenario refused: 29 round_ms\n"));
+    assert!(rt; is_refused(&rt, b"rounds = 10\nrounds = 10\n", "scenario refused: 26\n"));
+    assert!(rt; is_refused(&rt, b"speed = 1\n", "scenario refused: 27 speed\n"));
+    assert!(rt; is_refused(&rt, b"\"\" = 1\n", "scenario refused: 27 \n"));
+    assert!(rt; is_refused(&rt, b"", "scenario refused: 28 round_ms\n"));
+    assert!(rt; is_refused(&rt, b"round_ms = 0\n", "scenario refused: 29 round_ms\n"));
 }
 
 #[test]
 fn an_input_that_is_no_text_is_refused(rt: HostRuntime) {
-    let alloc = rt.alloc();
-    assert!(rt; is_refused(alloc, b"\xff", "scenario refused: 26\n"));
-    assert!(rt; is_refused(alloc, b"round_ms = 100 # \xc3", "scenario refused: 26\n"));
+    assert!(rt; is_refused(&rt, b"\xff", "scenario refused: 26\n"));
+    assert!(rt; is_refused(&rt, b"round_ms = 100 # \xc3", "scenario refused: 26\n"));
 }
 
 #[test]
 fn a_long_input_is_refused_whatever_it_is(rt: HostRuntime) -> Result<(), AllocError> {
-    let alloc = rt.alloc();
-    let mut input = vec![in alloc; 0xffu8; LONGEST_INPUT]?;
-    assert!(rt; is_refused(alloc, &input, "scenario refused: 26\n"));
+    let mut input = vec![in rt.alloc(); 0xffu8; LONGEST_INPUT]?;
+    assert!(rt; is_refused(&rt, &input, "scenario refused: 26\n"));
     input.push(b'\n')?;
-    assert!(rt; is_refused(alloc, &input, "scenario refused: 29 input\n"));
+    assert!(rt; is_refused(&rt, &input, "scenario refused: 29 input\n"));
     Ok(())
 }
 
 #[test]
 fn an_input_that_fails_is_not_run(rt: HostRuntime) {
-    let alloc = rt.alloc();
     let text = SCENARIO.as_bytes();
-    assert!(rt; ends(alloc, &mut Broken { rest: b"" }, 3, "", "input failed\n"));
+    assert!(rt; ends(&rt, &mut Broken { rest: b"" }, 3, "", "input failed\n"));
     assert!(rt;
         ends(
-            alloc,
+            &rt,
             &mut Broken {
                 rest: b"rounds = 0\n"
             },
@@ -149,20 +162,19 @@ fn an_input_that_fails_is_not_run(rt: HostRuntime) {
             "input failed\n"
         )
     );
-    assert!(rt; ends(alloc, &mut Broken { rest: text }, 3, "", "input failed\n"));
+    assert!(rt; ends(&rt, &mut Broken { rest: text }, 3, "", "input failed\n"));
 }
 
 #[test]
 fn a_report_is_written_in_small_pieces(rt: HostRuntime) {
-    assert!(rt; writes_front(rt.alloc(), REPORT.len(), false, 0, ""));
+    assert!(rt; writes_front(&rt, REPORT.len(), false, 0, ""));
 }
 
 #[test]
 fn an_output_that_fails_has_a_front_of_the_report(rt: HostRuntime) {
-    let alloc = rt.alloc();
     for room in 0..REPORT.len() {
-        assert!(rt; writes_front(alloc, room, false, 3, "output failed\n"));
-        assert!(rt; writes_front(alloc, room, true, 3, "output failed\n"));
+        assert!(rt; writes_front(&rt, room, false, 3, "output failed\n"));
+        assert!(rt; writes_front(&rt, room, true, 3, "output failed\n"));
     }
 }
 
@@ -170,13 +182,73 @@ fn an_output_that_fails_has_a_front_of_the_report(rt: HostRuntime) {
 fn a_failing_error_output_changes_no_status(rt: HostRuntime) {
     let alloc = rt.alloc();
     for room in 0..30 {
-        assert!(rt; tells_front(alloc, room));
+        assert!(rt; tells_front(&rt, room));
     }
     let mut out = Vec::new(alloc);
     let mut errors = narrow(alloc, 1, 0, true);
-    let ended = run(alloc, &mut Broken { rest: b"" }, &mut out, &mut errors);
+    let ended = run(
+        &rt,
+        &NoGate,
+        &mut Broken { rest: b"" },
+        &mut out,
+        &mut errors,
+    );
     assert!(rt; ended == ExitStatus::InputFailed && errors.taken.is_empty());
     let mut output = narrow(alloc, 1, 0, true);
-    let ended = run(alloc, &mut SCENARIO.as_bytes(), &mut output, &mut errors);
+    let ended = run(
+        &rt,
+        &NoGate,
+        &mut SCENARIO.as_bytes(),
+        &mut output,
+        &mut errors,
+    );
     assert!(rt; ended == ExitStatus::OutputFailed && errors.taken.is_empty());
+}
+
+#[test]
+fn a_fault_of_a_run_is_told_with_its_number_and_peer(rt: HostRuntime) {
+    let alloc = rt.alloc();
+    let no_memory = |number| NetFault::NoMemory(Some(PeerNo(number)));
+    assert!(rt; tells(alloc, no_memory(0), "run refused: 24 a\n"));
+    assert!(rt; tells(alloc, no_memory(1), "run refused: 24 b\n"));
+    assert!(rt; tells(alloc, no_memory(2), "run refused: 24 \n"));
+    assert!(rt; tells(alloc, NetFault::NoMemory(None), "run refused: 24\n"));
+    assert!(rt; tells(alloc, NetFault::NoThread, "run refused: 25\n"));
+}
+
+/// A runtime without random bytes, which a thread needs before it drives its peers.
+#[derive(Clone, Copy)]
+struct Unseeded<R>(R);
+
+impl<R: Threads> Threads for Unseeded<R> {}
+
+impl<R: Wait> Wait for Unseeded<R> {}
+
+impl<R: Alloc> Alloc for Unseeded<R> {
+    type A = R::A;
+
+    fn alloc(&self) -> R::A {
+        self.0.alloc()
+    }
+}
+
+impl<R> RandomSource for Unseeded<R> {
+    fn fill_bytes(&self, _buf: &mut [u8]) -> io::Result<()> {
+        Err(io::Error::from(io::ErrorKind::Unsupported))
+    }
+}
+
+#[test]
+fn a_run_that_meets_a_fault_is_refused(rt: HostRuntime) {
+    let mut out = Vec::new(rt.alloc());
+    let mut errors = Vec::new(rt.alloc());
+    let ended = run(
+        &Unseeded(rt),
+        &NoGate,
+        &mut SCENARIO.as_bytes(),
+        &mut out,
+        &mut errors,
+    );
+    assert!(rt; ended == ExitStatus::RunRefused && out.is_empty());
+    assert!(rt; errors.as_slice() == b"run refused: 25\n".as_slice());
 }

@@ -89,10 +89,16 @@ fn refusing(
     Ok(Finished { trace, refused })
 }
 
-/// Whether a run that leaves these has such a report.
-fn reports(alloc: Global, finished: &[Finished], report: &str) -> Result<bool, AllocError> {
-    let text = report_text(alloc, &plan(alloc)?, finished)?;
-    Ok(text.as_slice() == report.as_bytes())
+/// Whether the text of a run's report is this.
+fn is_told(
+    alloc: Global,
+    peers: Vec<(PeerNo, Finished)>,
+    settled: u64,
+    text: &str,
+) -> Result<bool, AllocError> {
+    let report = Report { peers, settled };
+    let told = report_text(alloc, &plan(alloc)?, &report)?;
+    Ok(told.as_slice() == text.as_bytes())
 }
 
 const REPORT: &str = "\
@@ -103,6 +109,7 @@ delivered b 300 news 616263
 refused a 0 publish 16
 refused a 500 unsubscribe 19
 refused b 400 subscribe 34
+links 2 settled
 ";
 
 #[test]
@@ -114,15 +121,30 @@ fn refusals_come_after_all_deliveries(rt: HostRuntime) -> Result<(), AllocError>
     first.push(entry(alloc, 300, &[("news", b""), ("blog", b"\x0f\xf0")])?)?;
     let mut second = Trace::new(alloc);
     second.push(entry(alloc, 300, &[("news", b"abc")])?)?;
-    let finished = [
-        refusing(
-            alloc,
-            first,
-            &[(0, 2, Refusal::AlreadySeen), (500, 1, Refusal::NotJoined)],
-        )?,
-        refusing(alloc, second, &[(400, 0, Refusal::TooMany)])?,
-    ];
-    assert!(rt; reports(alloc, &finished, REPORT)?);
+    let refusals = [(0, 2, Refusal::AlreadySeen), (500, 1, Refusal::NotJoined)];
+    let mut peers = Vec::new(alloc);
+    peers.push((PeerNo(0), refusing(alloc, first, &refusals)?))?;
+    let refusals = [(400, 0, Refusal::TooMany)];
+    peers.push((PeerNo(1), refusing(alloc, second, &refusals)?))?;
+    assert!(rt; is_told(alloc, peers, 2, REPORT)?);
+    Ok(())
+}
+
+#[test]
+fn a_peer_has_the_name_of_its_number(rt: HostRuntime) -> Result<(), AllocError> {
+    let alloc = rt.alloc();
+    let mut first = Trace::new(alloc);
+    first.push(entry(alloc, 200, &[("news", b"1")])?)?;
+    let mut second = Trace::new(alloc);
+    second.push(entry(alloc, 100, &[("blog", b"2")])?)?;
+    let mut peers = Vec::new(alloc);
+    let refusals = [(400, 0, Refusal::Joined)];
+    peers.push((PeerNo(1), refusing(alloc, first, &refusals)?))?;
+    let refusals = [(300, 1, Refusal::NotJoined)];
+    peers.push((PeerNo(0), refusing(alloc, second, &refusals)?))?;
+    let report = "delivered b 200 news 31\ndelivered a 100 blog 32\n\
+        refused b 400 subscribe 18\nrefused a 300 unsubscribe 19\nlinks 32 settled\n";
+    assert!(rt; is_told(alloc, peers, 32, report)?);
     Ok(())
 }
 
@@ -134,17 +156,22 @@ fn what_is_no_peer_or_no_line_has_the_empty_word(rt: HostRuntime) -> Result<(), 
     let refusing_no_line = refusing(alloc, Trace::new(alloc), &no_lines)?;
     let mut trace = Trace::new(alloc);
     trace.push(entry(alloc, u64::MAX, &[("news", b"1")])?)?;
-    let finished = [silent, refusing_no_line, refusing(alloc, trace, &[])?];
-    let report = "delivered  18446744073709551615 news 31\nrefused b 1  17\nrefused b 2  21\n";
-    assert!(rt; reports(alloc, &finished, report)?);
+    let mut peers = Vec::new(alloc);
+    peers.push((PeerNo(0), silent))?;
+    peers.push((PeerNo(1), refusing_no_line))?;
+    peers.push((PeerNo(2), refusing(alloc, trace, &[])?))?;
+    let report = "delivered  18446744073709551615 news 31\nrefused b 1  17\nrefused b 2  21\n\
+        links 18446744073709551615 settled\n";
+    assert!(rt; is_told(alloc, peers, u64::MAX, report)?);
     Ok(())
 }
 
 #[test]
-fn a_run_without_events_reports_nothing(rt: HostRuntime) -> Result<(), AllocError> {
+fn a_run_without_events_reports_its_links(rt: HostRuntime) -> Result<(), AllocError> {
     let alloc = rt.alloc();
-    assert!(rt; reports(alloc, &[], "")?);
-    let finished = [refusing(alloc, Trace::new(alloc), &[])?];
-    assert!(rt; reports(alloc, &finished, "")?);
+    assert!(rt; is_told(alloc, Vec::new(alloc), 0, "links 0 settled\n")?);
+    let mut peers = Vec::new(alloc);
+    peers.push((PeerNo(0), refusing(alloc, Trace::new(alloc), &[])?))?;
+    assert!(rt; is_told(alloc, peers, 10, "links 10 settled\n")?);
     Ok(())
 }

@@ -1,0 +1,38 @@
+-- What the peers' tasks give, and what the links between them carried.
+use Rattle.std.specs.Prelude.{◌≡◌, ℕ, List, [], option_map, unwrap_or, slice_get}
+use Rattle.gs_base.specs.declared.names.PeerNo.{PeerNo}
+use Rattle.gs_params.specs.declared.plan.Dial.{Dial}
+use Rattle.gs_params.specs.declared.plan.Plan.{Plan}
+use Rattle.gs_ends.specs.Pairs.{Pair, accepted_for, taken_from}
+use Rattle.gs_peer.specs.declared.finished.Finished.{Finished as GivenWith}
+use Rattle.gs_peer.specs.Life.{IsLife as IsLifeAt}
+use Rattle.gs_net.specs.declared.finished.Finished.{Finished}
+use Rattle.gs_net.specs.Rounds.{first_words, seat_in}
+
+-- ---- one peer
+
+-- what a peer's task gives: a life, with the ends of its links
+abbrev pub Given : Type 0
+Given = GivenWith (List Pair)
+
+-- it is a whole life at the peer's seat, by the peer's words
+abbrev pub GivenLife : Plan → PeerNo → Given → Type 0
+GivenLife plan p f = IsLifeAt accepted_for taken_from (seat_in plan p) (first_words plan p) f
+
+-- the life without the ends
+abbrev pub bare : Given → Finished
+bare f = record { trace = f.trace; refused = f.refused }
+
+-- ---- all peers
+
+-- the ends of the life at a place, and none where there is no such life
+abbrev pub ends_at : List Given → ℕ → List Pair
+ends_at givens n = unwrap_or (option_map (λ (f : Given). f.ends) (slice_get givens n)) []
+
+-- what the end of the one accepted for the other is what the other's end took
+abbrev pub Reaches : List Given → PeerNo → PeerNo → Type 0
+Reaches givens from to = accepted_for (ends_at givens from.0) to ≡ taken_from (ends_at givens to.0) from
+
+-- and so it is both ways between the two peers of a dial
+abbrev pub Exchanged : List Given → Dial → Type 0
+Exchanged givens dial = Reaches givens dial.from dial.to × Reaches givens dial.to dial.from

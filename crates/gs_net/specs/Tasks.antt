@@ -1,0 +1,46 @@
+-- Which ends a task may be built with, and what is known of it then.
+use Rattle.std.specs.Prelude.{◌≡◌, true, false, List, [], Some}
+use Rattle.std.specs.List.{AllByRecursion, IsDistinct}
+use Rattle.std.specs.declared.vec.Vec.{Vec}
+use Rattle.std.specs.declared.alloc.Global.{Global}
+use Rattle.gs_base.specs.declared.names.PeerNo.{PeerNo}
+use Rattle.gs_base.specs.Names.{same_peer}
+use Rattle.gs_params.specs.declared.plan.Plan.{Plan}
+use Rattle.gs_link.specs.declared.item.Slot.{Slot}
+use Rattle.gs_ends.specs.Ends.{Joint, has}
+use Rattle.gs_ends.specs.Pairs.{Pair, joints_of, peers_in}
+use Rattle.gs_router.specs.Router.{RouterView}
+use Rattle.gs_peer.specs.declared.assignment.Assignment.{Assignment}
+use Rattle.gs_peer.specs.declared.task.PeerTask.{PeerTask}
+use Rattle.gs_peer.specs.Task.{CanPoll, given_of}
+use Rattle.gs_dials.specs.Places.{list_at}
+use Rattle.gs_dials.specs.Dials.{IsFresh}
+use Rattle.gs_net.specs.Rounds.{first_words, lines_in, neighbours, peer_in, seat_in}
+
+-- There are ends to and from each neighbour, to none of them twice, and nothing has gone over them.
+pub record AreUsable (plan : Plan) (p : PeerNo) (pairs : List Pair) : Type 0 where
+  pub known : AllByRecursion (λ q. has (joints_of pairs) q ≡ true) (neighbours plan p)
+  pub apart : IsDistinct same_peer (peers_in pairs)
+  pub fresh : AllByRecursion IsFresh pairs
+
+-- What a peer of the plan is given.
+pub record IsAssignedIn (plan : Plan) (p : PeerNo) (a : Assignment) : Type 0 where
+  pub number : a.number ≡ p
+  pub numbers : a.neighbours.items ≡ neighbours plan p
+  pub lines : a.lines ≡ lines_in plan p
+  pub round_ms : a.round_ms ≡ plan.round_ms
+  pub rounds : a.rounds ≡ plan.rounds
+
+-- its router, before it has done anything
+abbrev pub new_router : Plan → PeerNo → RouterView
+new_router plan p = record { peer = peer_in plan p; trace = []; is_stopped = false }
+
+module _ {G S : Type 0} (joints : S → List Joint) (accepted taken : S → PeerNo → List Slot) where
+  -- A task of this peer, by its words, with ends of these links.
+  pub record IsTask (plan : Plan) (p : PeerNo) (of : List Joint) (task : PeerTask G S) : Type 0 where
+    pub can : CanPoll joints accepted taken task
+    pub is : given_of joints task ≡ Some (seat_in plan p, first_words plan p, of)
+
+  -- the same with the ends at its number
+  abbrev pub IsTaskFor : Plan → List (Vec Pair Global) → PeerNo → PeerTask G S → Type 0
+  IsTaskFor plan ends p task = IsTask plan p (joints_of (list_at ends p.0)) task

@@ -1,0 +1,73 @@
+//! What the tasks of a run gave.
+ghost use Rattle.std.specs.Prelude.{◌≡◌, ◌≤◌, IfOk, List, Ok, length, map};
+ghost use Rattle.gs_peer.specs.declared.finished.Finished.{Finished as Life};
+ghost use Rattle.gs_ends.specs.Pairs.{Pair};
+ghost use Rattle.gs_net.specs.Given.{bare};
+ghost use Rattle.gs_net.specs.Lives.{IsTakenApart};
+
+use crate::finished::Finished;
+use gs_base::PeerNo;
+use gs_ends::LinkEnds;
+use gs_link::{LinkRx, LinkTx};
+use gs_peer::PeerFault;
+use gs_workers::NetFault;
+use std::alloc::Global;
+use std::sync::Wait;
+
+/// What is left of each peer by number, and the ends of each.
+#[derive(Drop)]
+pub struct Lives {
+    pub peers: Vec<(PeerNo, Finished)>,
+    pub ends: Vec<Vec<(PeerNo, LinkTx, LinkRx)>>,
+}
+
+/// Takes apart what the tasks of all peers gave, by number.
+///
+/// # Errors
+/// `NoMemory` where a task gave a fault or there was no memory here, with the lowest peer that met
+/// want of memory, if one did.
+pub fn lives_of<R: Wait + Drop>(
+    alloc: Global,
+    results: Vec<Result<gs_peer::Finished<LinkEnds<R>>, PeerFault>>,
+) -> Result<Lives, NetFault>
+    requires { length results.items ≤ 64 }
+    ensures { IfOk result (λ lives. (given : List (Life (List Pair))) × (map Ok given ≡ results.items) × IsTakenApart given lives) }
+{
+    if let Some(peer) = first_without_memory(&results) {
+        return Err(NetFault::NoMemory(Some(peer)));
+    }
+    let mut peers = Vec::new(alloc);
+    let mut ends = Vec::new(alloc);
+    for result in results {
+        let number = PeerNo(peers.len() as u16);
+        let Ok(life) = result else {
+            return Err(NetFault::NoMemory(None));
+        };
+        let gs_peer::Finished {
+            trace,
+            refused,
+            ends: own,
+        } = life;
+        let Ok(()) = peers.push((number, Finished { trace, refused })) else {
+            return Err(NetFault::NoMemory(None));
+        };
+        let Ok(()) = ends.push(own.into_list()) else {
+            return Err(NetFault::NoMemory(None));
+        };
+    }
+    Ok(Lives { peers, ends })
+}
+
+/// The lowest peer whose task met want of memory.
+fn first_without_memory<R: Wait + Drop>(
+    results: &[Result<gs_peer::Finished<LinkEnds<R>>, PeerFault>],
+) -> Option<PeerNo>
+    requires { length results.now ≤ 64 }
+{
+    for (number, result) in results.iter().enumerate() {
+        if let Err(PeerFault::NoMemory) = result {
+            return Some(PeerNo(number as u16));
+        }
+    }
+    None
+}

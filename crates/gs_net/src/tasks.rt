@@ -1,0 +1,170 @@
+//! The tasks of a run.
+ghost use Rattle.std.specs.Prelude.{◌≡◌, ◌<◌, ℕ, true, IfOk, Some, length};
+ghost use Rattle.std.specs.List.{AllByRecursion, AllZip, IsDistinct};
+ghost use Rattle.gs_base.specs.declared.names.PeerNo.{PeerNo as PeerNoValue};
+ghost use Rattle.gs_base.specs.Names.{peers_of, same_peer};
+ghost use Rattle.gs_params.specs.Plans.{IsInRange};
+ghost use Rattle.gs_ends.specs.Pairs.{joints_of, peers_in};
+ghost use Rattle.gs_dials.specs.Places.{list_at};
+ghost use Rattle.gs_net.specs.Rounds.{first_words, lines_in, neighbours_in, numbers, words_of};
+ghost use Rattle.gs_net.specs.Tasks.{AreUsable, IsAssignedIn, IsTask, IsTaskFor, new_router};
+
+use crate::lists::take_list;
+use crate::neighbours::neighbours_of;
+use gs_base::{Neighbour, PeerNo, clone_of};
+use gs_ends::{Ends, LinkEnds};
+use gs_link::{LinkRx, LinkTx};
+use gs_params::{Line, Plan, SeededWords};
+use gs_peer::{Agenda, Assignment, Gate, PeerTask, StopFlag, Surroundings};
+use gs_router::Router;
+use gs_workers::NetFault;
+use std::alloc::{AllocError, Global};
+use std::sync::{Arc, Wait};
+
+/// What all tasks of a run are built from.
+#[derive(Drop)]
+pub struct Builder<'p, G: Gate + Copy, R: Wait + Drop + Copy> {
+    pub rt: R,
+    pub alloc: Global,
+    pub plan: &'p Plan,
+    pub gate: G,
+    pub stop: &'p Arc<StopFlag>,
+}
+
+impl<'p, G: Gate + Copy, R: Wait + Drop + Copy> Builder<'p, G, R> {
+    /// The tasks of all peers, by number. Each is given the list of its lines and that of its ends.
+    ///
+    /// # Errors
+    /// `NoMemory` with the peer for whose task there was none.
+    pub fn tasks(
+        &self,
+        lines: Vec<Vec<(usize, Line)>>,
+        ends: Vec<Vec<(PeerNo, LinkTx, LinkRx)>>,
+    ) -> Result<Vec<PeerTask<G, LinkEnds<R>>>, NetFault>
+        requires range { IsInRange self.now.plan.now }
+        requires lines { length lines.items ≡ length self.now.plan.now.peers }
+        requires own { (p : PeerNoValue) → p.0 < length self.now.plan.now.peers
+            → list_at lines.items p.0 ≡ lines_in self.now.plan.now p }
+        requires ends { length ends.items ≡ length self.now.plan.now.peers }
+        requires usable { (p : PeerNoValue) → p.0 < length self.now.plan.now.peers
+            → AreUsable self.now.plan.now p (list_at ends.items p.0) }
+        ensures { IfOk result (λ tasks. AllZip
+            (IsTaskFor ⟦<LinkEnds<R> as Ends>⟧.joints ⟦<LinkEnds<R> as Ends>⟧.accepted ⟦<LinkEnds<R> as Ends>⟧.taken
+            self.now.plan.now ends.items)
+            (numbers self.now.plan.now) tasks.items) }
+    {
+        let mut lines = lines;
+        let mut ends = ends;
+        let mut tasks = Vec::new(self.alloc);
+        let count = self.plan.peers.len() as u16;
+        for number in 0..count {
+            let peer = PeerNo(number);
+            let own_lines = take_list(self.alloc, &mut lines, peer);
+            let own_ends = take_list(self.alloc, &mut ends, peer);
+            let Ok(task) = self.task(peer, own_lines, own_ends) else {
+                return Err(NetFault::NoMemory(Some(peer)));
+            };
+            let Ok(()) = tasks.push(task) else {
+                return Err(NetFault::NoMemory(Some(peer)));
+            };
+        }
+        Ok(tasks)
+    }
+
+    /// The task of a peer, with its lines and its ends.
+    fn task(
+        &self,
+        number: PeerNo,
+        lines: Vec<(usize, Line)>,
+        ends: Vec<(PeerNo, LinkTx, LinkRx)>,
+    ) -> Result<PeerTask<G, LinkEnds<R>>, AllocError>
+        requires range { IsInRange self.now.plan.now }
+        requires own { lines.items ≡ lines_in self.now.plan.now number }
+        requires usable { AreUsable self.now.plan.now number ends.items }
+        ensures { IfOk result (IsTask ⟦<LinkEnds<R> as Ends>⟧.joints ⟦<LinkEnds<R> as Ends>⟧.accepted ⟦<LinkEnds<R> as Ends>⟧.taken
+            self.now.plan.now number (joints_of ends.items)) }
+    {
+        let neighbours = neighbours_of(self.alloc, self.plan, number)?;
+        let assignment = assignment_of(self.alloc, self.plan, number, &neighbours, lines)?;
+        let router = router_of(self.alloc, self.plan, number, neighbours)?;
+        let words = first_words(self.alloc, self.plan, number)?;
+        let surroundings = Surroundings {
+            ends: LinkEnds::new(self.rt, ends),
+            gate: self.gate,
+            stop: Arc::try_clone(self.stop)?,
+        };
+        match PeerTask::new(self.alloc, assignment, router, words, surroundings) {
+            Ok(task) => Ok(task),
+            Err(_) => Err(AllocError),
+        }
+    }
+}
+
+/// What a peer is given, with these neighbours and its lines.
+fn assignment_of(
+    alloc: Global,
+    plan: &Plan,
+    number: PeerNo,
+    neighbours: &[Neighbour],
+    lines: Vec<(usize, Line)>,
+) -> Result<Assignment, AllocError>
+    requires range { IsInRange plan.now }
+    requires neighbours { neighbours.now ≡ neighbours_in plan.now number }
+    requires own { lines.items ≡ lines_in plan.now number }
+    ensures { IfOk result (IsAssignedIn plan.now number) }
+{
+    Ok(Assignment {
+        number,
+        neighbours: numbers_of(alloc, neighbours)?,
+        lines: Agenda::of(alloc, lines)?,
+        round_ms: plan.round_ms,
+        rounds: plan.rounds,
+        worker: (u64::from(number.0) % plan.workers) as usize,
+    })
+}
+
+/// The router of a peer with these neighbours, which has done nothing.
+fn router_of(
+    alloc: Global,
+    plan: &Plan,
+    number: PeerNo,
+    neighbours: Vec<Neighbour>,
+) -> Result<Router, AllocError>
+    requires neighbours { neighbours.items ≡ neighbours_in plan.now number }
+    ensures { IfOk result (λ router. router ≡ new_router plan.now number) }
+{
+    let params = clone_of(&plan.params)?;
+    Ok(Router::new(alloc, params, neighbours))
+}
+
+/// The words by which a peer chooses, as they are at first.
+fn first_words(alloc: Global, plan: &Plan, number: PeerNo) -> Result<SeededWords, AllocError>
+    ensures { IfOk result (λ words. words ≡ first_words plan.now number) }
+{
+    let list = words_of(alloc, plan, number)?;
+    Ok(SeededWords::new(list, plan.seed, number))
+}
+
+/// The numbers of these neighbours.
+fn numbers_of(alloc: Global, neighbours: &[Neighbour]) -> Result<Vec<PeerNo>, AllocError>
+    ensures { IfOk result (λ found. found.items ≡ peers_of neighbours.now) }
+{
+    let mut found = Vec::with_capacity(alloc, neighbours.len())?;
+    for neighbour in neighbours {
+        found.push(neighbour.peer)?;
+    }
+    Ok(found)
+}
+
+/// The list of a peer's random words.
+fn words_of(alloc: Global, plan: &Plan, peer: PeerNo) -> Result<Vec<u32>, AllocError>
+    ensures { IfOk result (λ list. list.items ≡ words_of plan.now peer) }
+{
+    match plan.peers.as_slice().get(usize::from(peer.0)) {
+        Some(planned) => {
+            let list = planned.words.as_slice().to_vec(alloc)?;
+            Ok(list)
+        }
+        None => Ok(Vec::new(alloc)),
+    }
+}
