@@ -4,21 +4,25 @@
 
 mod control;
 mod exact;
+mod mark;
 mod names;
 mod neighbour;
 mod rpc;
 mod seq;
 mod shared;
 mod text;
+mod verdict;
 
 pub use control::{Control, Graft, IHave, IWant, Prune};
 pub use exact::{ExactClone, clone_of, clone_option};
+pub use mark::Mark;
 pub use names::{LONGEST_TOPIC, MOST_TOPICS, Millis, MsgId, PeerNo, Topic, limits_of_topics};
 pub use neighbour::Neighbour;
 pub use rpc::{Message, Rpc, SubOpt};
 pub use seq::Seq;
 pub use shared::Shared;
 pub use text::Text;
+pub use verdict::Verdict;
 
 #[cfg(test)]
 mod tests;

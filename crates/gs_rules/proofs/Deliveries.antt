@@ -11,10 +11,10 @@ use Rattle.gs_base.specs.declared.names.PeerNo.{PeerNo}
 use Rattle.gs_base.specs.declared.names.Topic.{Topic}
 use Rattle.gs_base.specs.declared.names.MsgId.{MsgId}
 use Rattle.gs_base.specs.declared.rpc.Message.{Message}
-use Rattle.gs_rules.specs.declared.trace.Verdict.{Verdict}
-use Rattle.gs_rules.specs.declared.trace.Verdict.TheVariants.{Accept}
-use Rattle.gs_rules.specs.declared.trace.Mark.{Mark}
-use Rattle.gs_rules.specs.declared.trace.Mark.TheVariants.{Seen}
+use Rattle.gs_base.specs.declared.verdict.Verdict.{Verdict}
+use Rattle.gs_base.specs.declared.verdict.Verdict.TheVariants.{Accept}
+use Rattle.gs_base.specs.declared.mark.Mark.{Mark}
+use Rattle.gs_base.specs.declared.mark.Mark.TheVariants.{Seen}
 use Rattle.gs_rules.specs.declared.trace.Event.{Event}
 use Rattle.gs_rules.specs.declared.trace.Event.TheVariants.{Msg, Publish}
 use Rattle.gs_rules.specs.declared.trace.Entry.{Entry}

@@ -9,8 +9,8 @@ use Rattle.gs_base.specs.declared.rpc.Rpc.{Rpc}
 use Rattle.gs_base.specs.Names.{topic_of, payload_of, message_id, is_signed, announcement, publication}
 use Rattle.gs_params.specs.declared.params.Degrees.{Degrees}
 use Rattle.gs_params.specs.declared.cuts.Member.{Member}
-use Rattle.gs_rules.specs.declared.trace.Verdict.TheVariants.{Accept}
-use Rattle.gs_rules.specs.declared.trace.Mark.TheVariants.{Seen, Invalid}
+use Rattle.gs_base.specs.declared.verdict.Verdict.TheVariants.{Accept}
+use Rattle.gs_base.specs.declared.mark.Mark.TheVariants.{Seen, Invalid}
 use Rattle.gs_rules.specs.declared.trace.Event.{Event}
 use Rattle.gs_rules.specs.declared.trace.Event.TheVariants.{Msg, Subscribe, Unsubscribe, Publish}
 use Rattle.gs_rules.specs.declared.trace.Entry.{Entry}

@@ -7,9 +7,9 @@ use Rattle.gs_base.specs.declared.names.PeerNo.{PeerNo}
 use Rattle.gs_base.specs.declared.names.Topic.{Topic}
 use Rattle.gs_base.specs.declared.names.MsgId.{MsgId}
 use Rattle.gs_base.specs.Names.{same_peer, same_topic, same_id, topic_or_empty}
-use Rattle.gs_rules.specs.declared.trace.Verdict.{Verdict}
-use Rattle.gs_rules.specs.declared.trace.Mark.{Mark}
-use Rattle.gs_rules.specs.declared.trace.Mark.TheVariants.{Seen}
+use Rattle.gs_base.specs.declared.verdict.Verdict.{Verdict}
+use Rattle.gs_base.specs.declared.mark.Mark.{Mark}
+use Rattle.gs_base.specs.declared.mark.Mark.TheVariants.{Seen}
 use Rattle.gs_rules.specs.declared.trace.Event.{Event}
 use Rattle.gs_rules.specs.declared.trace.Event.TheVariants.{Sub, Subscribe, Unsubscribe, Gone, Fault, Shut}
 use Rattle.gs_rules.specs.declared.trace.Entry.{Entry}

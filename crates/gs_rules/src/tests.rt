@@ -1,13 +1,13 @@
 //! Traces keep their entries, entries compare, and laws can be called.
 use crate::{
-    Entry, Event, Mark, Refusal, Trace, Verdict, a_delivery_is_not_repeated,
-    a_part_with_nothing_left_is_whole, legal_entries_compose, nothing_is_said_behind_a_close,
-    one_more_entry, what_is_given_draws_no_word, what_is_sent_is_spelled, what_was_said_is_handled,
+    Entry, Event, Refusal, Trace, a_delivery_is_not_repeated, a_part_with_nothing_left_is_whole,
+    legal_entries_compose, nothing_is_said_behind_a_close, one_more_entry,
+    what_is_given_draws_no_word, what_is_sent_is_spelled, what_was_said_is_handled,
     what_was_sent_is_handled, what_words_choose_is_legal, words_fix_the_next_entry,
     words_fix_what_follows_a_rule,
 };
 use bytes::Bytes;
-use gs_base::{Message, Millis, MsgId, PeerNo, Rpc, Seq, Shared, Topic};
+use gs_base::{Mark, Message, Millis, MsgId, PeerNo, Rpc, Seq, Shared, Topic, Verdict};
 use gs_params::SeededWords;
 use std::alloc::{AllocError, Global};
 

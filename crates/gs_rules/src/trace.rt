@@ -2,20 +2,9 @@
 ghost use Rattle.std.specs.Prelude.{◌≡◌, [], ◌∷◌, OnOk, OnErr};
 
 use bytes::Bytes;
-use gs_base::{Message, Millis, MsgId, PeerNo, Rpc, Seq, Shared, SubOpt, Topic};
+use gs_base::{Mark, Message, Millis, PeerNo, Rpc, Seq, Shared, SubOpt, Topic};
 use std::alloc::{AllocError, Global};
 use std::marker::Model;
-
-/// What a message was found to be (gossipsub v1.1, Extended Validators).
-#[derive(Clone, Copy, Debug, PartialEq, Eq)]
-pub enum Verdict {
-    /// It is delivered and passed on.
-    Accept,
-    /// It is dropped, and counts against its sender.
-    Reject,
-    /// It is dropped.
-    Ignore,
-}
 
 /// What happened at a peer. What is long of it stands apart, so that an entry is small.
 #[derive(Debug, Drop, PartialEq, Eq)]
@@ -42,15 +31,6 @@ pub enum Event {
     Fault(PeerNo),
     /// The peer shut down.
     Shut,
-}
-
-/// What an entry leaves to be remembered.
-#[derive(Debug, Drop, PartialEq, Eq)]
-pub enum Mark {
-    /// A message with this identifier was seen, and found to be so.
-    Seen(MsgId, Verdict),
-    /// A neighbour passed on a message on this topic that nobody may send.
-    Invalid(PeerNo, Topic),
 }
 
 /// One step of a peer: what happened, when, and what the peer did about it.

@@ -15,8 +15,10 @@ use crate::peer_set::PeerSet;
 use crate::rules::{bare, to_each};
 use crate::state::State;
 use bytes::Bytes;
-use gs_base::{LONGEST_TOPIC, Message, Millis, MsgId, PeerNo, Rpc, Seq, Shared, Topic, clone_of};
-use gs_rules::{Entry, Event, Mark, Refusal, Verdict};
+use gs_base::{
+    LONGEST_TOPIC, Mark, Message, Millis, MsgId, PeerNo, Rpc, Seq, Shared, Topic, Verdict, clone_of,
+};
+use gs_rules::{Entry, Event, Refusal};
 use gs_wire::{MAX_BODY, publish_len};
 use std::alloc::{AllocError, Global};
 

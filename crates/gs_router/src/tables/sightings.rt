@@ -4,8 +4,8 @@ ghost use Rattle.gs_base.specs.declared.names.MsgId.{MsgId as MsgIdValue};
 ghost use Rattle.gs_rules.specs.Tables.{Entries, seen, sighting_after};
 ghost use Rattle.gs_router.specs.Tables.{AgreesOnSightings, sighting_at};
 
-use gs_base::{Millis, MsgId};
-use gs_rules::{Entry, Mark, Verdict};
+use gs_base::{Mark, Millis, MsgId, Verdict};
+use gs_rules::Entry;
 use indexmap::IndexMap;
 use std::alloc::{AllocError, Global};
 

@@ -1,8 +1,8 @@
 //! RPCs, events, entries and traces from what a table tells of them.
 use crate::tests::cases::Sends;
 use bytes::Bytes;
-use gs_base::{Message, Millis, MsgId, PeerNo, Rpc, Seq, Shared, SubOpt, Topic};
-use gs_rules::{Entry, Event, Mark, Trace, Verdict};
+use gs_base::{Mark, Message, Millis, MsgId, PeerNo, Rpc, Seq, Shared, SubOpt, Topic, Verdict};
+use gs_rules::{Entry, Event, Trace};
 use std::alloc::{AllocError, Global};
 
 /// Whether it subscribes, and the topic.

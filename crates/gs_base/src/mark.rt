@@ -1,0 +1,21 @@
+//! What an entry of a trace leaves to be remembered.
+use crate::names::{MsgId, PeerNo, Topic};
+use crate::verdict::Verdict;
+
+/// What an entry leaves to be remembered. Counters of scores are raised by these marks alone (gossipsub
+/// v1.1, Peer Scoring). The rules make `Seen` and `Invalid` so far.
+#[derive(Debug, Drop, PartialEq, Eq)]
+pub enum Mark {
+    /// A message with this identifier was seen, and found to be so.
+    Seen(MsgId, Verdict),
+    /// A neighbour was the first to deliver a message on this topic (P2).
+    First(PeerNo, Topic, MsgId),
+    /// A mesh member delivered a message on this topic, first or soon after the first (P3).
+    Near(PeerNo, Topic, MsgId),
+    /// A neighbour passed on a message on this topic that nobody may send (P4).
+    Invalid(PeerNo, Topic),
+    /// A neighbour left the topic's mesh with this deficit of deliveries, squared, in millionths (P3b).
+    Deficit(PeerNo, Topic, i128),
+    /// A neighbour broke a promise, or came back into a mesh too soon (P7).
+    Behaviour(PeerNo),
+}

@@ -1,0 +1,12 @@
+//! What a message is found to be.
+
+/// What a message was found to be (gossipsub v1.1, Extended Validators).
+#[derive(Clone, Copy, Debug, PartialEq, Eq)]
+pub enum Verdict {
+    /// It is delivered and passed on.
+    Accept,
+    /// It is dropped, and counts against its sender.
+    Reject,
+    /// It is dropped.
+    Ignore,
+}
