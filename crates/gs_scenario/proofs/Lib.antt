@@ -1,4 +1,5 @@
 pub mod Lists
 pub mod Checked
 pub mod Ranges
+pub mod ElementRanges
 pub mod PlanRanges

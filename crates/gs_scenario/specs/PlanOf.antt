@@ -21,7 +21,8 @@ use Rattle.gs_scenario.specs.declared.scenario.script.Verb.{Verb}
 use Rattle.gs_scenario.specs.declared.scenario.script.Verb.TheVariants as verbs
 use Rattle.gs_scenario.specs.Keys.{Key, Kind, Section, ◌>>=◌, refuse_if, required, optional, read_key, only, read_each}
 use Rattle.gs_scenario.specs.Kinds.{whole_number, signed_number, list_of, any_list, any_table, any_text, words, hex_text, new_name, reference, word, element, section_at, table_at}
-use Rattle.gs_scenario.specs.ParamsOf.{shared_in, topic_param_names, topic_params_in, params_of}
+use Rattle.gs_scenario.specs.ParamsOf.{shared_in, params_of}
+use Rattle.gs_scenario.specs.TopicParamsOf.{topic_param_names, topic_params_in}
 
 -- ---- the top table
 

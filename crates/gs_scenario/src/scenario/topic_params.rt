@@ -1,7 +1,7 @@
 //! The parameters of a topic of a scenario.
 ghost use Rattle.std.specs.Prelude.{◌≡◌};
 ghost use Rattle.gs_scenario.specs.Refusal.{Gives};
-ghost use Rattle.gs_scenario.specs.ParamsOf.{topic_params_in, topic_factors_in, topic_weights_in, topic_counters_in, topic_windows_in, factors_of};
+ghost use Rattle.gs_scenario.specs.TopicParamsOf.{topic_params_in, topic_factors_in, topic_weights_in, topic_counters_in, topic_windows_in, factors_of};
 ghost use Rattle.gs_scenario.specs.Views.{section_of};
 
 use crate::fault::ScenarioFault;
@@ -36,7 +36,7 @@ pub struct TopicCounters {
 }
 
 /// The parameters in the table of a topic.
-#[tactic(auto, unfolding(crate::specs::ParamsOf::topic_params_in))]
+#[tactic(auto, unfolding(crate::specs::TopicParamsOf::topic_params_in))]
 pub fn topic_params_in(alloc: Global, section: &Section<'_>) -> Result<TopicParams, ScenarioFault>
     ensures { Gives (λ params. params) result (topic_params_in (section_of section.now)) }
 {
@@ -48,7 +48,7 @@ pub fn topic_params_in(alloc: Global, section: &Section<'_>) -> Result<TopicPara
     })
 }
 
-#[tactic(auto, unfolding(crate::specs::ParamsOf::topic_factors_in))]
+#[tactic(auto, unfolding(crate::specs::TopicParamsOf::topic_factors_in))]
 fn topic_factors_in(alloc: Global, section: &Section<'_>) -> Result<TopicFactors, ScenarioFault>
     ensures { Gives (λ factors. factors) result (topic_factors_in (section_of section.now)) }
 {
@@ -80,7 +80,7 @@ fn factors_of(weights: TopicWeights, counters: TopicCounters) -> TopicFactors
     }
 }
 
-#[tactic(auto, unfolding(crate::specs::ParamsOf::topic_weights_in))]
+#[tactic(auto, unfolding(crate::specs::TopicParamsOf::topic_weights_in))]
 fn topic_weights_in(alloc: Global, section: &Section<'_>) -> Result<TopicWeights, ScenarioFault>
     ensures { Gives (λ weights. weights) result (topic_weights_in (section_of section.now)) }
 {
@@ -95,7 +95,7 @@ fn topic_weights_in(alloc: Global, section: &Section<'_>) -> Result<TopicWeights
     })
 }
 
-#[tactic(auto, unfolding(crate::specs::ParamsOf::topic_counters_in))]
+#[tactic(auto, unfolding(crate::specs::TopicParamsOf::topic_counters_in))]
 fn topic_counters_in(alloc: Global, section: &Section<'_>) -> Result<TopicCounters, ScenarioFault>
     ensures { Gives (λ counters. counters) result (topic_counters_in (section_of section.now)) }
 {
@@ -112,7 +112,7 @@ fn topic_counters_in(alloc: Global, section: &Section<'_>) -> Result<TopicCounte
     })
 }
 
-#[tactic(auto, unfolding(crate::specs::ParamsOf::topic_windows_in))]
+#[tactic(auto, unfolding(crate::specs::TopicParamsOf::topic_windows_in))]
 fn topic_windows_in(alloc: Global, section: &Section<'_>) -> Result<TopicWindows, ScenarioFault>
     ensures { Gives (λ windows. windows) result (topic_windows_in (section_of section.now)) }
 {

@@ -1,0 +1,256 @@
+-- The peers, topics, dials, scores and lines of a plan that is read are in range.
+use Rattle.std.proofs.Common.{◌≡◌, ℕ, ◌≤◌, ◌<◌, ◌-◌, nat_eq, Bool, true, false, cond, not, List, [], ◌∷◌, ◌++◌, length, codes, Option, Some, None, Ok, refl, arith}
+use Rattle.std.specs.Prelude.{◌||◌, ◌==◌, neg_ℤ, IfOk, IfSome, is_some, option_map, position, find, All, AllPairs}
+use Rattle.std.specs.List.{list_any}
+use Rattle.std.specs.Cmp.Lexicographic.{pointwise}
+use Rattle.std.proofs.lemmas.List.Elements.{All-nil, All-push}
+use Rattle.std.proofs.lemmas.List.Quantifiers.{all_pairs_push, position-Some}
+use Rattle.toml.specs.Data.{Data, Items}
+use Rattle.gs_base.specs.declared.names.PeerNo.{PeerNo}
+use Rattle.gs_base.specs.declared.names.Topic.{Topic}
+use Rattle.gs_base.specs.Names.{same_peer, same_topic}
+use Rattle.gs_params.specs.Plans.{IsOneOf, IsAppScore, are_joined, are_of_the_same, has_topic, highest_app_score, have_one_name, join_the_same, topic_of}
+use Rattle.gs_params.specs.declared.topic_params.TopicParams.{TopicParams}
+use Rattle.gs_params.specs.declared.plan.App.{App}
+use Rattle.gs_params.specs.declared.plan.Dial.{Dial}
+use Rattle.gs_params.specs.declared.plan.Line.{Line}
+use Rattle.gs_params.specs.declared.plan.PlannedPeer.{PlannedPeer}
+use Rattle.gs_params.specs.declared.plan.What.{What}
+use Rattle.gs_params.specs.declared.plan.What.TheVariants.{Subscribe, Unsubscribe, Publish}
+use Rattle.gs_scenario.specs.declared.scenario.script.Verb.{Verb}
+use Rattle.gs_scenario.specs.declared.scenario.script.Verb.TheVariants as verbs
+use Rattle.gs_scenario.specs.Keys.{Section, only, read_key, read_each}
+use Rattle.gs_scenario.specs.Kinds.{whole_number, signed_number, item_count, reference, new_name, element, table_at}
+use Rattle.gs_scenario.specs.TopicParamsOf.{topic_params_in}
+use Rattle.gs_scenario.specs.PlanOf.{from_key, to_key, dial_keys, topic_name_key, topic_keys, peer_name_key, address_key, words_key, peer_keys, peer_key, about_key, value_key, app_keys, what_key, at_key, topic_key, hex_key, keys_of, topic_named, topic_in, peer_named, peer_in, other_peer, dial_in, neighbour, app_in, what_in, line_in}
+use Rattle.gs_scenario.proofs.Ranges.{next, past, not_refused, at_required, number_is, signed_is, reference_is, not_failed, each_is, count_is, none_at, and_also, new_is, no_position, not_found, differ_push, no_pairs, same_bytes}
+
+-- ---- names
+
+number_below : (n : ℕ) (o : Option ℕ) → ((i : ℕ) → o ≡ Some i → i < n) → IfSome (option_map (λ i. let p : PeerNo = record { 0 = i } in p) o) (λ p. p.0 < n)
+number_below n None h = tt
+number_below n (Some i) h = h i refl
+
+-- who has a name is one of the peers
+named_is : (peers : List PlannedPeer) (text : List ℕ) → IfSome (peer_named peers text) (IsOneOf peers)
+named_is peers text =
+    number_below (length peers) (position (λ peer. pointwise nat_eq peer.name text) peers)
+    (λ i e. (position-Some (λ (peer : PlannedPeer). pointwise nat_eq peer.name text) peers i (record { name = []; address = []; words = [] }) e).0)
+
+pub peer_is : (peers : List PlannedPeer) (place : List ℕ) (d : Data) → IfOk (reference (peer_named peers) place d) (IsOneOf peers)
+peer_is peers = reference_is (IsOneOf peers) (peer_named peers) (named_is peers)
+
+-- a topic that is found by a test is one of them
+or_later : (a b : Bool) → b ≡ true → (a || b) ≡ true
+or_later true b h = refl
+or_later false b h = h
+
+found_is : (p : (Topic × TopicParams) → Bool) (topics : List (Topic × TopicParams)) → IfSome (option_map (λ (found : Topic × TopicParams). found.0) (find p topics)) (λ topic. has_topic topics topic ≡ true)
+found_is p [] = tt
+found_is p (x ∷ topics) = elim (p x) as (λ b. IfSome (option_map (λ (found : Topic × TopicParams). found.0) (cond b (Some x) (find p topics))) (λ topic. has_topic (x ∷ topics) topic ≡ true)) [
+  | true ↦ rw (same_bytes x.0.0) refl
+  | false ↦ later (find p topics) (found_is p topics)
+]
+  where
+    later : (o : Option (Topic × TopicParams)) → IfSome (option_map (λ (found : Topic × TopicParams). found.0) o) (λ topic. has_topic topics topic ≡ true) → IfSome (option_map (λ (found : Topic × TopicParams). found.0) o) (λ topic. has_topic (x ∷ topics) topic ≡ true)
+    later None h = tt
+    later (Some y) h = or_later _ _ h
+
+pub topic_is : (topics : List (Topic × TopicParams)) (place : List ℕ) (d : Data) → IfOk (reference (topic_named topics) place d) (λ topic. has_topic topics topic ≡ true)
+topic_is topics = reference_is (λ topic. has_topic topics topic ≡ true) (topic_named topics) (λ text. found_is (λ (topic : Topic × TopicParams). pointwise nat_eq topic.0.0 text) topics)
+
+-- ---- peers and topics
+
+abbrev NamesDiffer : List PlannedPeer → Type 0
+NamesDiffer peers = AllPairs (λ x y. have_one_name x y ≡ false) peers
+
+-- nobody has the name yet
+abbrev IsNewName : List PlannedPeer → List ℕ → Type 0
+IsNewName earlier text = is_some (peer_named earlier text) ≡ false
+
+new_name_is : (earlier : List PlannedPeer) (place : List ℕ) (d : Data) → IfOk (new_name (peer_named earlier) place d) (IsNewName earlier)
+new_name_is earlier = new_is (IsNewName earlier) (peer_named earlier) (λ text e. e)
+
+one_peer_more : (earlier : List PlannedPeer) (peer : PlannedPeer) → IsNewName earlier peer.name → NamesDiffer earlier → NamesDiffer (earlier ++ peer ∷ [])
+one_peer_more earlier peer new h =
+    all_pairs_push (λ x y. have_one_name x y ≡ false) earlier peer h
+    (no_position (λ i. let p : PeerNo = record { 0 = i } in p) (λ (x : PlannedPeer). pointwise nat_eq x.name peer.name) earlier new)
+
+name_is : (earlier : List PlannedPeer) (d : Data) → NamesDiffer earlier → IfOk (peer_in earlier d) (λ peer. NamesDiffer (earlier ++ peer ∷ []))
+unfolding peer_in
+name_is earlier d h =
+    let P = λ (peer : PlannedPeer). NamesDiffer (earlier ++ peer ∷ []) in
+    past P (table_at (element (codes "peer") (length earlier)) d) _ (λ section.
+    past P (only peer_keys section) _ (λ none.
+    next (IsNewName earlier) P (read_key section (peer_name_key earlier)) _ (at_required (IsNewName earlier) (peer_name_key earlier).name (new_name (peer_named earlier)) section (new_name_is earlier)) (λ text new.
+    past P (read_key section (address_key text)) _ (λ address.
+    past P (read_key section words_key) _ (λ firsts.
+    one_peer_more earlier (record { name = text; address = address; words = firsts }) new h)))))
+
+-- so many, with different names
+abbrev pub PeersAre : ℕ → List PlannedPeer → Type 0
+PeersAre n peers = (length peers ≡ n) × NamesDiffer peers
+
+pub peers_are : (ds : Items) → IfOk (read_each peer_in [] ds) (PeersAre (item_count ds))
+peers_are ds =
+    and_also (λ peers. length peers ≡ item_count ds) NamesDiffer (read_each peer_in [] ds) (count_is peer_in (item_count ds) [] ds (omega arith))
+    (each_is NamesDiffer peer_in name_is [] ds (no_pairs (λ x y. have_one_name x y ≡ false)))
+
+abbrev pub TopicsDiffer : List (Topic × TopicParams) → Type 0
+TopicsDiffer topics = AllPairs (λ (x y : Topic × TopicParams). same_topic x.0 y.0 ≡ false) topics
+
+abbrev IsNewTopic : List (Topic × TopicParams) → List ℕ → Type 0
+IsNewTopic earlier text = is_some (topic_named earlier text) ≡ false
+
+new_topic_is : (earlier : List (Topic × TopicParams)) (place : List ℕ) (d : Data) → IfOk (new_name (topic_named earlier) place d) (IsNewTopic earlier)
+new_topic_is earlier = new_is (IsNewTopic earlier) (topic_named earlier) (λ text e. e)
+
+one_topic_more : (earlier : List (Topic × TopicParams)) (topic : Topic × TopicParams) → IsNewTopic earlier topic.0.0 → TopicsDiffer earlier → TopicsDiffer (earlier ++ topic ∷ [])
+one_topic_more earlier topic new h =
+    all_pairs_push (λ (x y : Topic × TopicParams). same_topic x.0 y.0 ≡ false) earlier topic h
+    (none_at (λ (x : Topic × TopicParams). pointwise nat_eq x.0.0 topic.0.0) earlier (not_found (λ (found : Topic × TopicParams). found.0) (λ (x : Topic × TopicParams). pointwise nat_eq x.0.0 topic.0.0) earlier new))
+
+topic_name_is : (earlier : List (Topic × TopicParams)) (d : Data) → TopicsDiffer earlier → IfOk (topic_in earlier d) (λ topic. TopicsDiffer (earlier ++ topic ∷ []))
+unfolding topic_in
+topic_name_is earlier d h =
+    let P = λ (topic : Topic × TopicParams). TopicsDiffer (earlier ++ topic ∷ []) in
+    past P (table_at (element (codes "topic") (length earlier)) d) _ (λ section.
+    past P (only topic_keys section) _ (λ none.
+    next (IsNewTopic earlier) P (read_key section (topic_name_key earlier)) _ (at_required (IsNewTopic earlier) (topic_name_key earlier).name (new_name (topic_named earlier)) section (new_topic_is earlier)) (λ text new.
+    past P (topic_params_in section) _ (λ params.
+    let name : Topic = record { 0 = text } in
+    one_topic_more earlier (name, params) new h))))
+
+abbrev pub TopicsAre : ℕ → List (Topic × TopicParams) → Type 0
+TopicsAre n topics = (length topics ≡ n) × TopicsDiffer topics
+
+pub topics_are : (ds : Items) → IfOk (read_each topic_in [] ds) (TopicsAre (item_count ds))
+topics_are ds =
+    and_also (λ topics. length topics ≡ item_count ds) TopicsDiffer (read_each topic_in [] ds) (count_is topic_in (item_count ds) [] ds (omega arith))
+    (each_is TopicsDiffer topic_in topic_name_is [] ds (no_pairs (λ (x y : Topic × TopicParams). same_topic x.0 y.0 ≡ false)))
+
+-- ---- dials
+
+pub record DialsAre (peers : List PlannedPeer) (dials : List Dial) : Type 0 where
+  pub from : All (λ (dial : Dial). IsOneOf peers dial.from) dials
+  pub to : All (λ (dial : Dial). IsOneOf peers dial.to) dials
+  pub others : All (λ (dial : Dial). same_peer dial.from dial.to ≡ false) dials
+  pub differ : AllPairs (λ x y. join_the_same y x ≡ false) dials
+
+-- one that is dialled is a peer, and not who dials
+abbrev IsOther : List PlannedPeer → PeerNo → PeerNo → Type 0
+IsOther peers one other = IsOneOf peers other × (same_peer one other ≡ false)
+
+other_is : (peers : List PlannedPeer) (one : PeerNo) (place : List ℕ) (d : Data) → IfOk (other_peer peers one place d) (IsOther peers one)
+other_is peers one place d =
+    next (IsOneOf peers) (IsOther peers one) (reference (peer_named peers) place d) _ (peer_is peers place d)
+    (λ other known. not_refused (IsOther peers one) (one.0 == other.0) _ other (λ e. (known, e)))
+
+one_dial_more : (peers : List PlannedPeer) (earlier : List Dial) (dial : Dial) → IsOneOf peers dial.from → IsOther peers dial.from dial.to → list_any (join_the_same dial) earlier ≡ false → DialsAre peers earlier → DialsAre peers (earlier ++ dial ∷ [])
+one_dial_more peers earlier dial from to new h = record {
+  from = All-push (λ (x : Dial). IsOneOf peers x.from) earlier dial h.from from;
+  to = All-push (λ (x : Dial). IsOneOf peers x.to) earlier dial h.to to.0;
+  others = All-push (λ (x : Dial). same_peer x.from x.to ≡ false) earlier dial h.others to.1;
+  differ = differ_push join_the_same earlier dial h.differ new;
+}
+
+dial_is : (peers : List PlannedPeer) (earlier : List Dial) (d : Data) → DialsAre peers earlier → IfOk (dial_in peers earlier d) (λ dial. DialsAre peers (earlier ++ dial ∷ []))
+unfolding dial_in
+dial_is peers earlier d h =
+    let P = λ (dial : Dial). DialsAre peers (earlier ++ dial ∷ []) in
+    past P (table_at (element (codes "dial") (length earlier)) d) _
+    (λ section. past P (only dial_keys section) _
+    (λ none. next (IsOneOf peers) P (read_key section (from_key peers)) _ (at_required (IsOneOf peers) (from_key peers).name (reference (peer_named peers)) section (peer_is peers))
+    (λ one from. next (IsOther peers one) P (read_key section (to_key peers one)) _ (at_required (IsOther peers one) (to_key peers one).name (other_peer peers one) section (other_is peers one))
+    (λ other to.
+    let dial : Dial = record { from = one; to = other } in
+    not_refused P (list_any (join_the_same dial) earlier) _ dial (λ new. one_dial_more peers earlier dial from to new h)))))
+
+pub dials_are : (peers : List PlannedPeer) (ds : Items) → IfOk (read_each (dial_in peers) [] ds) (DialsAre peers)
+dials_are peers ds = each_is (DialsAre peers) (dial_in peers) (dial_is peers) [] ds (record { from = All-nil _; to = All-nil _; others = All-nil _; differ = no_pairs (λ x y. join_the_same y x ≡ false) })
+
+-- ---- scores
+
+pub record AppsAre (peers : List PlannedPeer) (dials : List Dial) (apps : List App) : Type 0 where
+  pub of : All (λ (app : App). IsOneOf peers app.peer) apps
+  pub about : All (λ (app : App). are_joined dials app.peer app.about ≡ true) apps
+  pub values : All (λ (app : App). IsAppScore app.value) apps
+  pub differ : AllPairs (λ x y. are_of_the_same y x ≡ false) apps
+
+neighbour_is : (peers : List PlannedPeer) (dials : List Dial) (one : PeerNo) (place : List ℕ) (d : Data) → IfOk (neighbour peers dials one place d) (λ other. are_joined dials one other ≡ true)
+neighbour_is peers dials one place d =
+    let P = λ (other : PeerNo). are_joined dials one other ≡ true in
+    past P (reference (peer_named peers) place d) _
+    (λ other. not_refused P (not (are_joined dials one other)) _ other (not_failed (are_joined dials one other)))
+
+one_app_more : (peers : List PlannedPeer) (dials : List Dial) (earlier : List App) (app : App) → IsOneOf peers app.peer → are_joined dials app.peer app.about ≡ true → IsAppScore app.value → list_any (are_of_the_same app) earlier ≡ false → AppsAre peers dials earlier → AppsAre peers dials (earlier ++ app ∷ [])
+one_app_more peers dials earlier app of about value new h = record {
+  of = All-push (λ (x : App). IsOneOf peers x.peer) earlier app h.of of;
+  about = All-push (λ (x : App). are_joined dials x.peer x.about ≡ true) earlier app h.about about;
+  values = All-push (λ (x : App). IsAppScore x.value) earlier app h.values value;
+  differ = differ_push are_of_the_same earlier app h.differ new;
+}
+
+app_is : (peers : List PlannedPeer) (dials : List Dial) (earlier : List App) (d : Data) → AppsAre peers dials earlier → IfOk (app_in peers dials earlier d) (λ app. AppsAre peers dials (earlier ++ app ∷ []))
+unfolding app_in
+app_is peers dials earlier d h =
+    let P = λ (app : App). AppsAre peers dials (earlier ++ app ∷ []) in
+    past P (table_at (element (codes "app") (length earlier)) d) _
+    (λ section. past P (only app_keys section) _
+    (λ none. next (IsOneOf peers) P (read_key section (peer_key peers)) _ (at_required (IsOneOf peers) (peer_key peers).name (reference (peer_named peers)) section (peer_is peers))
+    (λ peer of. next (λ other. are_joined dials peer other ≡ true) P (read_key section (about_key peers dials peer)) _ (at_required (λ other. are_joined dials peer other ≡ true) (about_key peers dials peer).name (neighbour peers dials peer) section (neighbour_is peers dials peer))
+    (λ about joined. next IsAppScore P (read_key section value_key) _ (at_required IsAppScore value_key.name (signed_number (neg_ℤ highest_app_score) highest_app_score) section (signed_is (neg_ℤ highest_app_score) highest_app_score))
+    (λ value is_score.
+    let app : App = record { peer = peer; about = about; value = value } in
+    not_refused P (list_any (are_of_the_same app) earlier) _ app (λ new. one_app_more peers dials earlier app of joined is_score new h))))))
+
+pub apps_are : (peers : List PlannedPeer) (dials : List Dial) (ds : Items) → IfOk (read_each (app_in peers dials) [] ds) (AppsAre peers dials)
+apps_are peers dials ds = each_is (AppsAre peers dials) (app_in peers dials) (app_is peers dials) [] ds (record { of = All-nil _; about = All-nil _; values = All-nil _; differ = no_pairs (λ x y. are_of_the_same y x ≡ false) })
+
+-- ---- the script
+
+pub record LinesAre (topics : List (Topic × TopicParams)) (peers : List PlannedPeer) (rounds : ℕ) (lines : List Line) : Type 0 where
+  pub of : All (λ (line : Line). IsOneOf peers line.peer) lines
+  pub at : All (λ (line : Line). line.at ≤ rounds) lines
+  pub on : All (λ (line : Line). has_topic topics (topic_of line.what) ≡ true) lines
+
+-- it is done on one of the topics
+abbrev IsOn : List (Topic × TopicParams) → What → Type 0
+IsOn topics what = has_topic topics (topic_of what) ≡ true
+
+topic_at : (topics : List (Topic × TopicParams)) (section : Section) → IfOk (read_key section (topic_key topics)) (λ topic. has_topic topics topic ≡ true)
+topic_at topics section = at_required (λ topic. has_topic topics topic ≡ true) (topic_key topics).name (reference (topic_named topics)) section (topic_is topics)
+
+what_is : (topics : List (Topic × TopicParams)) (section : Section) (verb : Verb) → IfOk (what_in topics section verb) (IsOn topics)
+unfolding what_in
+what_is topics section verbs.Subscribe =
+    next (λ topic. has_topic topics topic ≡ true) (IsOn topics) (read_key section (topic_key topics)) (λ topic. Ok (Subscribe topic)) (topic_at topics section)
+    (λ topic h. h)
+what_is topics section verbs.Unsubscribe =
+    next (λ topic. has_topic topics topic ≡ true) (IsOn topics) (read_key section (topic_key topics)) (λ topic. Ok (Unsubscribe topic)) (topic_at topics section)
+    (λ topic h. h)
+what_is topics section verbs.Publish =
+    next (λ topic. has_topic topics topic ≡ true) (IsOn topics) (read_key section (topic_key topics)) _ (topic_at topics section)
+    (λ topic h. past (IsOn topics) (read_key section hex_key) (λ payload. Ok (Publish topic payload)) (λ payload. h))
+
+one_line_more : (topics : List (Topic × TopicParams)) (peers : List PlannedPeer) (rounds : ℕ) (earlier : List Line) (line : Line) → IsOneOf peers line.peer → line.at ≤ rounds → has_topic topics (topic_of line.what) ≡ true → LinesAre topics peers rounds earlier → LinesAre topics peers rounds (earlier ++ line ∷ [])
+one_line_more topics peers rounds earlier line of at on h = record {
+  of = All-push (λ (x : Line). IsOneOf peers x.peer) earlier line h.of of;
+  at = All-push (λ (x : Line). x.at ≤ rounds) earlier line h.at at;
+  on = All-push (λ (x : Line). has_topic topics (topic_of x.what) ≡ true) earlier line h.on on;
+}
+
+line_is : (topics : List (Topic × TopicParams)) (peers : List PlannedPeer) (rounds : ℕ) (earlier : List Line) (d : Data) → LinesAre topics peers rounds earlier → IfOk (line_in topics peers rounds earlier d) (λ line. LinesAre topics peers rounds (earlier ++ line ∷ []))
+unfolding line_in
+line_is topics peers rounds earlier d h =
+    let P = λ (line : Line). LinesAre topics peers rounds (earlier ++ line ∷ []) in
+    past P (table_at (element (codes "do") (length earlier)) d) _
+    (λ section. past P (read_key section what_key) _
+    (λ verb. past P (only (keys_of verb) section) _
+    (λ none. next (λ n. (0 ≤ n) × (n ≤ rounds)) P (read_key section (at_key rounds)) _ (at_required (λ n. (0 ≤ n) × (n ≤ rounds)) (at_key rounds).name (whole_number 0 rounds) section (number_is 0 rounds))
+    (λ round at. next (IsOneOf peers) P (read_key section (peer_key peers)) _ (at_required (IsOneOf peers) (peer_key peers).name (reference (peer_named peers)) section (peer_is peers))
+    (λ peer of. next (IsOn topics) P (what_in topics section verb) (λ what. Ok (record { at = round; peer = peer; what = what })) (what_is topics section verb)
+    (λ what on. one_line_more topics peers rounds earlier (record { at = round; peer = peer; what = what }) of at.1 on h))))))
+
+pub lines_are : (topics : List (Topic × TopicParams)) (peers : List PlannedPeer) (rounds : ℕ) (ds : Items) → IfOk (read_each (line_in topics peers rounds) [] ds) (LinesAre topics peers rounds)
+lines_are topics peers rounds ds = each_is (LinesAre topics peers rounds) (line_in topics peers rounds) (line_is topics peers rounds) [] ds (record { of = All-nil _; at = All-nil _; on = All-nil _ })
