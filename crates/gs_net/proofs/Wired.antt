@@ -18,7 +18,7 @@ use Rattle.gs_link.specs.Runs.{closes}
 use Rattle.gs_ends.specs.Ends.{Joint, has}
 use Rattle.gs_ends.specs.Pairs.{Pair, accepted_for, joints_of, listed, peers_in, taken_from}
 use Rattle.gs_dials.specs.Places.{list_at}
-use Rattle.gs_dials.specs.Dials.{AreWired, AtEach, Dialled, HasReached, IsClosed, IsExchanged, IsFresh, JoinsTwoOf, assigned, gives}
+use Rattle.gs_dials.specs.Dials.{AreWired, AtEach, Dialled, HasCapacity, HasReached, IsClosed, IsExchanged, IsFresh, JoinsTwoOf, assigned, gives}
 use Rattle.gs_net.specs.Given.{Exchanged, Given, GivenLife, Reaches, ends_at}
 use Rattle.gs_net.specs.Rounds.{neighbours, numbers, peer_no}
 use Rattle.gs_net.specs.Tasks.{AreUsable}
@@ -70,12 +70,13 @@ pub ends_apart : (plan : Plan) (lists : List (Vec Pair Global)) (p : PeerNo) →
 ends_apart plan lists p range wired = subst (IsDistinct same_peer) (sym (ends_partners plan.dials lists p wired)) (partners_apart plan.dials p range.dials_differ)
 
 -- the ends that a plan's dials give a peer serve its task
-pub usable : (plan : Plan) (lists : List (Vec Pair Global)) (p : PeerNo) → IsInRange plan → AreWired plan.dials lists → AtEach IsFresh lists → AreUsable plan p (list_at lists p.0)
-usable plan lists p range wired fresh =
+pub usable : (plan : Plan) (lists : List (Vec Pair Global)) (p : PeerNo) → IsInRange plan → AreWired plan.dials lists → AtEach (HasCapacity plan.capacity) lists → AtEach IsFresh lists → AreUsable plan p (list_at lists p.0)
+usable plan lists p range wired sized fresh =
     let joints : List Joint = joints_of (list_at lists p.0) in
     record {
       known = each_so (λ q. list_any (λ (r : PeerNo). same_peer r q) (partners plan.dials p) ≡ true) (λ q. has joints q ≡ true) (λ q is. has_as_any joints q ∙ ap (list_any (λ (r : PeerNo). same_peer r q)) (joints_partners plan.dials lists p wired) ∙ is) (neighbours plan p) (neighbours_are_partners plan p);
       apart = ends_apart plan lists p range wired;
+      sized = sized p;
       fresh = fresh p;
     }
 

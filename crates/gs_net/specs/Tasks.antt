@@ -1,5 +1,5 @@
 -- Which ends a task may be built with, and what is known of it then.
-use Rattle.std.specs.Prelude.{◌≡◌, true, false, List, [], Some}
+use Rattle.std.specs.Prelude.{◌≡◌, ◌%◌, true, false, List, [], Some}
 use Rattle.std.specs.List.{AllByRecursion, IsDistinct}
 use Rattle.std.specs.declared.vec.Vec.{Vec}
 use Rattle.std.specs.declared.alloc.Global.{Global}
@@ -14,13 +14,15 @@ use Rattle.gs_peer.specs.declared.assignment.Assignment.{Assignment}
 use Rattle.gs_peer.specs.declared.task.PeerTask.{PeerTask}
 use Rattle.gs_peer.specs.Task.{CanPoll, given_of}
 use Rattle.gs_dials.specs.Places.{list_at}
-use Rattle.gs_dials.specs.Dials.{IsFresh}
+use Rattle.gs_dials.specs.Dials.{HasCapacity, IsFresh}
 use Rattle.gs_net.specs.Rounds.{first_words, lines_in, neighbours, peer_in, seat_in}
 
--- There are ends to and from each neighbour, to none of them twice, and nothing has gone over them.
+-- There are ends to and from each neighbour, to none of them twice, of links of the plan's capacity, and nothing has gone
+-- over them.
 pub record AreUsable (plan : Plan) (p : PeerNo) (pairs : List Pair) : Type 0 where
   pub known : AllByRecursion (λ q. has (joints_of pairs) q ≡ true) (neighbours plan p)
   pub apart : IsDistinct same_peer (peers_in pairs)
+  pub sized : AllByRecursion (HasCapacity plan.capacity) pairs
   pub fresh : AllByRecursion IsFresh pairs
 
 -- What a peer of the plan is given.
@@ -30,6 +32,8 @@ pub record IsAssignedIn (plan : Plan) (p : PeerNo) (a : Assignment) : Type 0 whe
   pub lines : a.lines ≡ lines_in plan p
   pub round_ms : a.round_ms ≡ plan.round_ms
   pub rounds : a.rounds ≡ plan.rounds
+  -- the workers take turns
+  pub worker : a.worker ≡ p.0 % plan.workers
 
 -- its router, before it has done anything
 abbrev pub new_router : Plan → PeerNo → RouterView

@@ -1,9 +1,8 @@
 //! What the tasks of a run gave.
-ghost use Rattle.std.specs.Prelude.{◌≡◌, ◌≤◌, IfOk, List, Ok, length, map};
+ghost use Rattle.std.specs.Prelude.{◌≡◌, ◌≤◌, IfErr, IfOk, List, Ok, length, map, position};
 ghost use Rattle.gs_peer.specs.declared.finished.Finished.{Finished as Life};
 ghost use Rattle.gs_ends.specs.Pairs.{Pair};
-ghost use Rattle.gs_net.specs.Given.{bare};
-ghost use Rattle.gs_net.specs.Lives.{IsTakenApart};
+ghost use Rattle.gs_net.specs.Lives.{IsTakenApart, first_without_memory, wants_memory};
 
 use crate::finished::Finished;
 use gs_base::PeerNo;
@@ -31,7 +30,10 @@ pub fn lives_of<R: Wait + Drop>(
     results: Vec<Result<gs_peer::Finished<LinkEnds<R>>, PeerFault>>,
 ) -> Result<Lives, NetFault>
     requires { length results.items ≤ 64 }
-    ensures { IfOk result (λ lives. (given : List (Life (List Pair))) × (map Ok given ≡ results.items) × IsTakenApart given lives) }
+    ensures lives { IfOk result (λ lives. (given : List (Life (List Pair)))
+        × (map Ok given ≡ results.items)
+        × IsTakenApart given lives) }
+    ensures fault { IfErr result (λ fault. fault ≡ NetFault.NoMemory (first_without_memory results.items)) }
 {
     if let Some(peer) = first_without_memory(&results) {
         return Err(NetFault::NoMemory(Some(peer)));
@@ -63,11 +65,33 @@ fn first_without_memory<R: Wait + Drop>(
     results: &[Result<gs_peer::Finished<LinkEnds<R>>, PeerFault>],
 ) -> Option<PeerNo>
     requires { length results.now ≤ 64 }
+    ensures { result ≡ first_without_memory results.now }
 {
-    for (number, result) in results.iter().enumerate() {
-        if let Err(PeerFault::NoMemory) = result {
-            return Some(PeerNo(number as u16));
-        }
+    match place_of_want(results) {
+        Some(place) => Some(PeerNo(place as u16)),
+        None => None,
     }
-    None
 }
+
+/// The place of the first task that met want of memory.
+fn place_of_want<R: Wait + Drop>(
+    results: &[Result<gs_peer::Finished<LinkEnds<R>>, PeerFault>],
+) -> Option<usize>
+    ensures { result ≡ position wants_memory results.now }
+{
+    results.iter().position(|given| wants_memory(given))
+}
+
+/// Whether a task met want of memory.
+fn wants_memory<R: Wait + Drop>(given: &Result<gs_peer::Finished<LinkEnds<R>>, PeerFault>) -> bool
+    ensures { result ≡ wants_memory given.now }
+{
+    match given {
+        Err(PeerFault::NoMemory) => true,
+        Err(PeerFault::Stopped) => false,
+        Ok(_) => false,
+    }
+}
+
+#[cfg(test)]
+mod tests;

@@ -1,12 +1,13 @@
 //! A run of two peers, of which one dials the other.
-use crate::{Finished, NetFault, run_net};
+use crate::{Finished, run_net};
 use gs_base::Millis;
-use gs_peer::NoGate;
+use gs_peer::{Gate, NoGate};
 use gs_rules::{Refusal, RefusedLine};
 use gs_scenario::read_plan;
 use std::alloc::{AllocError, AllocGlobal};
 use std::random::RandomSource;
 use std::sync::Wait;
+use std::sync::atomic::{AtomicU64, Ordering};
 use std::test::*;
 use std::thread::Threads;
 
@@ -93,8 +94,51 @@ fn a_message_is_delivered_to_a_neighbour_a_round_later(rt: HostRuntime) -> Resul
     Ok(())
 }
 
+/// Counts the rounds that are begun on worker 0, on worker 1 and on others.
+#[derive(Drop)]
+struct Turns {
+    first: AtomicU64,
+    second: AtomicU64,
+    others: AtomicU64,
+}
+
+impl Gate for Turns {
+    fn turn(&self, worker: usize, _round: u64) {
+        let count = match worker {
+            0 => &self.first,
+            1 => &self.second,
+            _ => &self.others,
+        };
+        count.fetch_add(1, Ordering::SeqCst);
+    }
+}
+
+/// Whether three peers begin twelve rounds on the first of two workers, and six on the second.
+fn takes_turns<R>(rt: &R) -> Result<bool, AllocError>
+where
+    R: Threads + Wait + RandomSource + AllocGlobal + Sync + Send + Copy,
+{
+    let mut scenario = String::from_str(rt.alloc(), PEERS)?;
+    scenario.push_str("[[peer]]\nname = \"c\"\n")?;
+    let Ok(plan) = read_plan(rt.alloc(), &scenario) else {
+        return Ok(false);
+    };
+    let turns = Turns {
+        first: AtomicU64::new(0),
+        second: AtomicU64::new(0),
+        others: AtomicU64::new(0),
+    };
+    let ended = run_net(rt, &plan, &turns);
+    Ok(
+        ended.is_ok()
+            && turns.first.load(Ordering::SeqCst) == 12
+            && turns.second.load(Ordering::SeqCst) == 6
+            && turns.others.load(Ordering::SeqCst) == 0,
+    )
+}
+
 #[test]
-fn faults_have_their_numbers(rt: HostRuntime) {
-    assert!(rt; NetFault::NoMemory(None).number() == 24);
-    assert!(rt; NetFault::NoThread.number() == 25);
+fn peers_take_turns_on_workers(rt: HostRuntime) -> Result<(), Fail> {
+    assert!(rt; takes_turns(&rt)?);
+    Ok(())
 }

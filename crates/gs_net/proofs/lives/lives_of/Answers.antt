@@ -22,8 +22,8 @@ loop-result-preserved g c =
       ),
     )
 
-pub returns : goal.returns
-returns g c =
+pub returns-clause-lives : goal.returns-clause-lives
+returns-clause-lives g c =
     let (can, finite, front, few, (givens, are, apart)) = c.loop-result.invariant in
     let none : c.loop-result.result-iterator.rest.items ≡ [] = nil_by_length _ (search rules) in
     (givens, are ∙ sym (append-nil c.loop-result.yielded) ∙ ap (λ (xs : List (Result Given PeerFault)). c.loop-result.yielded ++ xs) (sym none) ∙ front, apart)

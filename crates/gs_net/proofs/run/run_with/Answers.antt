@@ -26,7 +26,7 @@ tasks-requires g c =
       lines = c.in_ok-lines.ensures.count;
       own = c.in_ok-lines.ensures.own;
       ends = c.in_ok-ends.ensures.count ∙ c.len.ensures;
-      usable = λ p within. usable plan c.in_ok-ends.ends.items p c.requires wired c.in_ok-ends.ensures.fresh;
+      usable = λ p within. usable plan c.in_ok-ends.ends.items p c.requires wired c.in_ok-ends.ensures.sized c.in_ok-ends.ensures.fresh;
     }
 
 pub run_tasks-requires-clause-ready : goal.run_tasks-requires-clause-ready
@@ -42,7 +42,7 @@ wired_behind : (g : _) (c : goal.After-as_slice-2 g) → AreWired c.args.plan.no
 wired_behind g c =
     let plan = c.args.plan.now in
     let ends = c.in_ok-ends.ends.items in
-    let (givens, are, apart) = c.in_ok-lives.ensures in
+    let (givens, are, apart) = c.in_ok-lives.ensures.lives in
     let all = gave plan ends c.in_ok-tasks.tasks.items c.in_ok-results.results.items givens c.in_ok-tasks.ensures c.in_ok-results.ensures.given are in
     still_wired plan.dials ends c.in_ok-lives.lives.ends.items (subst (λ (dials : List Dial). AreWired dials ends) c.as_slice.ensures c.in_ok-ends.ensures.wired) (same_joints plan ends givens _ (c.in_ok-ends.ensures.count ∙ c.len.ensures) all apart)
 
@@ -50,7 +50,7 @@ pub settle_all-settled-requires-clause-named : goal.settle_all-settled-requires-
 settle_all-settled-requires-clause-named g c =
     let plan = c.args.plan.now in
     let ends = c.in_ok-ends.ends.items in
-    let (givens, are, apart) = c.in_ok-lives.ensures in
+    let (givens, are, apart) = c.in_ok-lives.ensures.lives in
     let all = gave plan ends c.in_ok-tasks.tasks.items c.in_ok-results.results.items givens c.in_ok-tasks.ensures c.in_ok-results.ensures.given are in
     rw (c.as_slice-2.ensures, ends_as_many givens _ apart, as_many _ plan givens all) (dials_join plan c.requires)
 
@@ -64,7 +64,7 @@ pub settle_all-settled-requires-clause-closed : goal.settle_all-settled-requires
 settle_all-settled-requires-clause-closed g c =
     let plan = c.args.plan.now in
     let ends = c.in_ok-ends.ends.items in
-    let (givens, are, apart) = c.in_ok-lives.ensures in
+    let (givens, are, apart) = c.in_ok-lives.ensures.lives in
     let all = gave plan ends c.in_ok-tasks.tasks.items c.in_ok-results.results.items givens c.in_ok-tasks.ensures c.in_ok-results.ensures.given are in
     ends_closed plan givens c.in_ok-lives.lives.ends.items c.requires (lives_each plan ends (numbers plan) givens all) (ends_left givens _ apart) (wired_behind g c)
 
@@ -75,7 +75,7 @@ pub returns : goal.returns
 returns g c =
     let plan = c.args.plan.now in
     let ends = c.in_ok-ends.ends.items in
-    let (givens, are, apart) = c.in_ok-lives.ensures in
+    let (givens, are, apart) = c.in_ok-lives.ensures.lives in
     let all = gave plan ends c.in_ok-tasks.tasks.items c.in_ok-results.results.items givens c.in_ok-tasks.ensures c.in_ok-results.ensures.given are in
     let exchanged = ends_exchanged givens c.in_ok-lives.lives.ends.items plan.dials (ends_left givens _ apart) (subst (λ (dials : List Dial). AllByRecursion (IsExchanged c.in_ok-lives.lives.ends.items) dials) c.as_slice-2.ensures c.settle_all-settled.ensures.exchanged) in
     record {

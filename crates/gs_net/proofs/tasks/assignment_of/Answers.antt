@@ -1,4 +1,4 @@
-use Rattle.std.proofs.Common.{◌∙◌, ap, refl}
+use Rattle.std.proofs.Common.{◌∙◌, ◌%◌, ℕ, ap, refl}
 use Rattle.gs_base.specs.Names.{peers_of}
 use Rattle.gs_net.proofs.NeighbourLists.{links_in}
 use Rattle.gs_net.proofs.tasks.assignment_of.Goals as goal
@@ -10,4 +10,5 @@ returns c = record {
   lines = c.in_ok-of.ensures ∙ c.requires.own;
   round_ms = refl;
   rounds = refl;
+  worker = ap (λ (n : ℕ). n % c.args.plan.now.workers) c.from.ensures;
 }

@@ -1,0 +1,40 @@
+//! Which peer a fault names.
+use super::*;
+use std::alloc::AllocError;
+
+/// Whether tasks that gave these faults have this fault named.
+fn names<R: Wait + Drop>(
+    _rt: &R,
+    alloc: Global,
+    faults: &[PeerFault],
+    named: NetFault,
+) -> Result<bool, AllocError> {
+    let mut results: Vec<Result<gs_peer::Finished<LinkEnds<R>>, PeerFault>> = Vec::new(alloc);
+    for fault in faults {
+        results.push(Err(*fault))?;
+    }
+    if results.len() > 64 {
+        return Ok(false);
+    }
+    Ok(match lives_of(alloc, results) {
+        Ok(_) => false,
+        Err(fault) => fault == named,
+    })
+}
+
+#[test]
+fn the_lowest_peer_that_met_want_of_memory_is_named(rt: HostRuntime) -> Result<(), AllocError> {
+    let alloc = rt.alloc();
+    let first = [PeerFault::Stopped, PeerFault::NoMemory, PeerFault::NoMemory];
+    assert!(rt; names(&rt, alloc, &first, NetFault::NoMemory(Some(PeerNo(1))))?);
+    assert!(rt; names(&rt, alloc, &[PeerFault::Stopped], NetFault::NoMemory(None))?);
+    assert!(rt;
+        names(
+            &rt,
+            alloc,
+            &[PeerFault::NoMemory],
+            NetFault::NoMemory(Some(PeerNo(0)))
+        )?
+    );
+    Ok(())
+}
