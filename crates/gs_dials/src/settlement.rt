@@ -42,7 +42,7 @@ pub fn settle_all<R: Wait>(rt: &R, dials: &[Dial], lists: Vec<Vec<(PeerNo, LinkT
     settled
 }
 
-// Settles both links of a dial, by the ends of its two peers, and counts those that are whole.
+/// Settles both links of a dial, by the ends of its two peers, and counts those that are whole.
 fn settle_dial<R: Wait>(
     rt: &R,
     one: (PeerNo, LinkTx, LinkRx),

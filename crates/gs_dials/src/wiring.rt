@@ -36,7 +36,7 @@ pub fn wire_all(
     Ok(lists)
 }
 
-// Opens the two links of a dial.
+/// Opens the two links of a dial.
 fn wire_dial(
     alloc: Global,
     capacity: usize,

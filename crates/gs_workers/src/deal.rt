@@ -25,7 +25,8 @@ pub fn deal<F: Future<Output: Drop>>(
     mut futures: Vec<F>,
 ) -> Result<Groups<F, F::Output>, AllocError>
     requires { 1 ≤ count }
-    ensures { IfOk result (λ groups.
+    ensures len { IfOk result (λ groups. deque_len groups ≡ count) }
+    ensures dealt { IfOk result (λ groups.
         IsDealt (λ future member. member ≡ FutureValue future) futures.items (lists_of groups.items)) }
 {
     let mut groups = empty_groups(alloc, count)?;
