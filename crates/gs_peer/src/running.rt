@@ -105,8 +105,8 @@ impl<G: Gate, S: Ends> Running<G, S> {
     }
 
     /// Looks at the neighbour whose turn it is: takes an item, plays the round where all is taken that
-    /// is heard in it, and has an item accepted. True where something moved; else the next one has its
-    /// turn.
+    /// is heard in it, and has an item accepted. True where something moved. It keeps its turn where
+    /// more may move, so that no link is looked at in vain.
     fn step(&mut self) -> Result<bool, AllocError>
         requires { IsKept S.joints S.accepted S.taken self.old }
         ensures goes { OnOk result (Goes S.joints S.accepted S.taken self.old self.new) }
@@ -117,8 +117,18 @@ impl<G: Gate, S: Ends> Running<G, S> {
         let played = self.play_if_due()?;
         let offered = self.offer()?;
         let moved = listened || played || offered;
-        self.turn = next_turn(self.turn, self.player.inboxes.len(), moved);
+        let stays = moved && self.has_more();
+        self.turn = next_turn(self.turn, self.player.inboxes.len(), stays);
         Ok(moved)
+    }
+
+    /// Whether more is to be taken of the neighbour whose turn it is, or waits for it.
+    fn has_more(&self) -> bool {
+        if self.turn >= self.player.inboxes.len() {
+            return false;
+        }
+        let inbox = &self.player.inboxes[self.turn];
+        !inbox.is_full() || !self.outboxes.is_silent(inbox.peer())
     }
 
     /// Takes what comes next from the neighbour whose turn it is, unless all is taken that is heard
@@ -317,9 +327,9 @@ fn waited(idle: usize, moved: bool) -> usize {
     if moved { 0 } else { idle.saturating_add(1) }
 }
 
-/// Whose turn is next: the next one's, where nothing moved.
-fn next_turn(turn: usize, neighbours: usize, moved: bool) -> usize {
-    if moved {
+/// Whose turn is next: the next one's, unless this one keeps it.
+fn next_turn(turn: usize, neighbours: usize, stays: bool) -> usize {
+    if stays {
         return turn;
     }
     if turn < neighbours { turn + 1 } else { 0 }
