@@ -1,0 +1,8 @@
+//! Laws of what caches answer. Each holds of its definitions alone, and its function does nothing.
+ghost use Rattle.gs_cache.specs.Sightings.{StepsNeedWhatCounts};
+
+/// What counts after a step follows from what counted before it, and from nothing that was forgotten: so a
+/// cache that forgets agrees with a record of all sightings.
+pub fn a_step_needs_what_counts_alone()
+    ensures { StepsNeedWhatCounts }
+{}

@@ -1,0 +1,12 @@
+//! What a gossipsub peer remembers of messages for a while: which ones it has seen, so that none is handled
+//! twice, and the latest ones whole, to offer them and to send them to who asks.
+#![tactic(auto)]
+
+mod laws;
+mod seen;
+
+pub use laws::a_step_needs_what_counts_alone;
+pub use seen::{SeenCache, Sighting};
+
+#[cfg(test)]
+mod tests;

@@ -1,0 +1,131 @@
+//! The sightings of one span of time.
+ghost use Rattle.std.specs.Prelude.{◌≡◌, ◌≤◌, ◌-◌, [], None, false, nat_le, is_some, OnOk, OnErr, IfOk};
+ghost use Rattle.gs_base.specs.declared.names.MsgId.{MsgId as MsgIdValue};
+ghost use Rattle.gs_cache.specs.Buckets.{AreInOrder, Becomes, Forgets, Takes, IsUnchanged, IsWithin, put, sighting_in};
+ghost use Rattle.gs_cache.specs.Sightings.{noted};
+
+use crate::seen::sighting::Sighting;
+use gs_base::{Millis, MsgId, PeerNo};
+use indexmap::IndexMap;
+use std::alloc::{AllocError, Global};
+use std::mem::replace;
+
+/// Sightings that were made from a first moment to a last one.
+#[derive(Drop)]
+pub struct Bucket {
+    pub first: Millis,
+    pub last: Millis,
+    pub sightings: IndexMap<MsgId, Sighting>,
+}
+
+/// Whether a moment is a time ago or more.
+pub fn is_past(moment: Millis, ttl: Millis, now: Millis) -> bool
+    ensures { result ≡ nat_le ttl.0 (now.0 - moment.0) }
+{
+    ttl.0 <= now.0.saturating_sub(moment.0)
+}
+
+impl Bucket {
+    /// No sightings, from a moment on. It takes no memory.
+    pub fn new(alloc: Global, first: Millis) -> Bucket
+        ensures first { result.first ≡ first }
+        ensures last { result.last ≡ first }
+        ensures empty { result.sightings.entries ≡ [] }
+    {
+        Bucket {
+            first,
+            last: first,
+            sightings: IndexMap::new(alloc),
+        }
+    }
+
+    /// One sighting, in a bucket that begins with it.
+    ///
+    /// # Errors
+    /// `AllocError` where there was no memory.
+    pub fn of(alloc: Global, id: MsgId, sighting: Sighting) -> Result<Bucket, AllocError>
+        ensures one { IfOk result (λ bucket. (other : MsgIdValue) → sighting_in bucket other ≡ put id sighting other None) }
+        ensures first { IfOk result (λ bucket. bucket.first ≡ sighting.at) }
+        ensures last { IfOk result (λ bucket. bucket.last ≡ sighting.at) }
+    {
+        let at = sighting.at;
+        let mut sightings = IndexMap::new(alloc);
+        sightings.insert(id, sighting)?;
+        Ok(Bucket {
+            first: at,
+            last: at,
+            sightings,
+        })
+    }
+
+    /// Puts a sighting, which is now the last one, in the place of an earlier one of the message.
+    ///
+    /// # Errors
+    /// `AllocError` where there was no memory; nothing is changed then.
+    pub fn put(&mut self, id: MsgId, sighting: Sighting) -> Result<(), AllocError>
+        ensures puts { OnOk result (Becomes (put id sighting) self.old.first sighting.at self.old self.new) }
+        ensures err { OnErr result (IsUnchanged self.old self.new) }
+    {
+        let at = sighting.at;
+        self.sightings.insert(id, sighting)?;
+        self.last = at;
+        Ok(())
+    }
+
+    /// Notes a neighbour at the sighting of a message, and tells whether there is one.
+    ///
+    /// # Errors
+    /// `AllocError` where there was no memory; nothing is changed then.
+    pub fn note(&mut self, id: &MsgId, peer: PeerNo) -> Result<bool, AllocError>
+        ensures found { IfOk result (λ found. found ≡ is_some (sighting_in self.old id.now)) }
+        ensures none { IfOk result (λ found. found ≡ false → IsUnchanged self.old self.new) }
+        ensures notes { OnOk result (Becomes (noted id.now peer) self.old.first self.old.last self.old self.new) }
+        ensures err { OnErr result (IsUnchanged self.old self.new) }
+    {
+        match self.sightings.get_mut(id) {
+            Some(sighting) => {
+                sighting.note(peer)?;
+                Ok(true)
+            }
+            None => Ok(false),
+        }
+    }
+
+    /// Forgets all sightings, where the last of them counts no more, and gives their memory back.
+    pub fn forget(&mut self, alloc: Global, ttl: Millis, now: Millis)
+        requires { IsWithin self.old }
+        ensures { Forgets ttl.0 now.0 self.old self.new }
+    {
+        if is_past(self.last, ttl, now) {
+            self.sightings = IndexMap::new(alloc);
+        }
+    }
+}
+
+/// Takes a sighting into the newer bucket, or, where that began the time ago or more, into one of its own: the
+/// newer bucket is then the older one, and what that held counts no more.
+///
+/// # Errors
+/// `AllocError` where there was no memory; nothing is changed then.
+pub fn take(
+    alloc: Global,
+    ttl: Millis,
+    newer: &mut Bucket,
+    older: &mut Bucket,
+    id: MsgId,
+    sighting: Sighting,
+) -> Result<(), AllocError>
+    requires in_order { AreInOrder newer.old older.old }
+    requires no_earlier { newer.old.last.0 ≤ sighting.at.0 }
+    ensures takes { OnOk result (Takes ttl.0 id sighting newer.old older.old newer.new older.new) }
+    ensures newer_err { OnErr result (IsUnchanged newer.old newer.new) }
+    ensures older_err { OnErr result (older.new ≡ older.old) }
+{
+    if is_past(newer.first, ttl, sighting.at) {
+        let newest = Bucket::of(alloc, id, sighting)?;
+        *older = replace(newer, newest);
+        return Ok(());
+    }
+    newer.put(id, sighting)?;
+    Ok(())
+}
