@@ -1,2 +1,9 @@
 pub mod Counting
 pub mod Turning
+pub mod Lists
+pub mod Finding
+pub mod Putting
+pub mod Shifting
+pub mod Spending
+pub mod Gossiping
+pub mod Making

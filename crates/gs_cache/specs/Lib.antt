@@ -1,2 +1,4 @@
 pub mod Sightings
 pub mod Buckets
+pub mod Messages
+pub mod Windows

@@ -3,9 +3,11 @@
 #![tactic(auto)]
 
 mod laws;
+mod messages;
 mod seen;
 
-pub use laws::a_step_needs_what_counts_alone;
+pub use laws::{a_step_needs_what_counts_alone, limit_of_announcements};
+pub use messages::{Answer, MOST_ANNOUNCED, MessageCache};
 pub use seen::{SeenCache, Sighting};
 
 #[cfg(test)]

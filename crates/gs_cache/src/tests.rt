@@ -1,4 +1,5 @@
 //! What caches answer, by hand.
+mod messages;
 mod seen;
 
 use gs_base::MsgId;

@@ -1,0 +1,104 @@
+//! Which messages are announced.
+ghost use Rattle.std.specs.Prelude.{◌≡◌, ◌++◌, [], ◌∷◌, filter, OnOk, IfOk};
+ghost use Rattle.std.specs.List.{list_any};
+ghost use Rattle.gs_cache.specs.Messages.{last_of, most_announced};
+ghost use Rattle.gs_cache.specs.Windows.{announced_in, has, is_listed, is_listed_at, listed, placed};
+
+use crate::messages::window::Window;
+use gs_base::{MsgId, Topic};
+use std::alloc::{AllocError, Global};
+
+/// How many identifiers of a topic are announced at once at most: as many as one IHAVE may have.
+pub const MOST_ANNOUNCED: usize = 5_000;
+
+/// The identifiers to announce on a topic, of the messages in the newest so many windows, in the order of their
+/// last puts, the last 5,000.
+///
+/// # Errors
+/// `AllocError` where there was no memory.
+pub fn announce(
+    alloc: Global,
+    windows: &[Window],
+    gossip: usize,
+    topic: &Topic,
+) -> Result<Vec<MsgId>, AllocError>
+    ensures { IfOk result (λ ids. ids.items ≡ last_of most_announced (announced_in 0 gossip topic.now windows.now)) }
+{
+    let mut ids = Vec::new(alloc);
+    let end = gossip.min(windows.len());
+    for done in 0..end {
+        let age = end - 1 - done;
+        list_window(&mut ids, &windows[age], &windows[..age], topic)?;
+    }
+    keep_last(&mut ids);
+    Ok(ids)
+}
+
+/// Keeps the last 5,000.
+fn keep_last(ids: &mut Vec<MsgId>)
+    ensures { ids.new.items ≡ last_of most_announced ids.old.items }
+{
+    let extra = ids.len().saturating_sub(MOST_ANNOUNCED);
+    let kept = ids.len() - extra;
+    ids.rotate_left(extra);
+    ids.truncate(kept);
+}
+
+/// Lists the identifiers of a window that are announced, where these windows are newer.
+///
+/// # Errors
+/// `AllocError` where there was no memory.
+fn list_window(
+    ids: &mut Vec<MsgId>,
+    window: &Window,
+    newer: &[Window],
+    topic: &Topic,
+) -> Result<(), AllocError>
+    ensures { OnOk result (ids.new.items ≡ ids.old.items ++ listed newer.now window.now topic.now) }
+{
+    for place in 0..window.order.len() {
+        list_one(ids, window, newer, topic, place, &window.order[place])?;
+    }
+    Ok(())
+}
+
+/// Lists an identifier that stands at a place of a window, where it is announced.
+///
+/// # Errors
+/// `AllocError` where there was no memory.
+fn list_one(
+    ids: &mut Vec<MsgId>,
+    window: &Window,
+    newer: &[Window],
+    topic: &Topic,
+    place: usize,
+    id: &MsgId,
+) -> Result<(), AllocError>
+    ensures { OnOk result (ids.new.items ≡ ids.old.items ++ filter (is_listed newer.now window.now topic.now) (placed window.now.puts.entries place (id.now ∷ []))) }
+{
+    if !is_placed_on(window, topic, place, id) {
+        return Ok(());
+    }
+    if any_has(newer, id) {
+        return Ok(());
+    }
+    ids.push(*id)?;
+    Ok(())
+}
+
+/// Whether the last put of a message in a window was at a place, and on a topic.
+fn is_placed_on(window: &Window, topic: &Topic, place: usize, id: &MsgId) -> bool
+    ensures { result ≡ is_listed_at window.now topic.now place id.now }
+{
+    match window.puts.get(id) {
+        Some(kept) => kept.place == place && kept.topic == *topic,
+        None => false,
+    }
+}
+
+/// Whether one of the windows has a message.
+fn any_has(windows: &[Window], id: &MsgId) -> bool
+    ensures { result ≡ list_any (λ w. has w id.now) windows.now }
+{
+    windows.iter().any(|window| window.has(id))
+}
