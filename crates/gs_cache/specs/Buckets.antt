@@ -1,5 +1,5 @@
 -- What a bucket of sightings says, and how a cache's two stand to each other.
-use Rattle.std.specs.Prelude.{◌≡◌, ℕ, ◌≤◌, ◌++◌, Option, Some, IfSome, if◌then◌else◌}
+use Rattle.std.specs.Prelude.{◌≡◌, ℕ, ◌+◌, ◌*◌, ◌≤◌, ◌++◌, Option, Some, IfSome, if◌then◌else◌}
 use Rattle.std.specs.Map.{lookup}
 use Rattle.gs_base.specs.declared.names.MsgId.{MsgId}
 use Rattle.gs_base.specs.declared.names.Millis.{Millis}
@@ -12,16 +12,27 @@ use Rattle.gs_cache.specs.Sightings.{counting}
 abbrev pub sighting_in : Bucket → MsgId → Option Sighting
 sighting_in b id = lookup (same_id id) b.sightings.entries
 
--- no sighting is later than the last moment
-abbrev pub IsWithin : Bucket → Type 0
-IsWithin b = (id : MsgId) → IfSome (sighting_in b id) (λ s. s.at.0 ≤ b.last.0)
+-- each sighting was made from the first moment to the last, which lie no more than the time apart
+pub record Spans (ttl : ℕ) (b : Bucket) : Type 0 where
+  pub since : (id : MsgId) → IfSome (sighting_in b id) (λ s. b.first.0 ≤ s.at.0)
+  pub until : (id : MsgId) → IfSome (sighting_in b id) (λ s. s.at.0 ≤ b.last.0)
+  pub short : b.last.0 ≤ b.first.0 + ttl
 
--- both are within their moments, and the older one ends before the newer one begins
-pub record AreInOrder (newer older : Bucket) : Type 0 where
-  pub newer_within : IsWithin newer
-  pub older_within : IsWithin older
+-- the older one ends before the newer one begins
+pub record AreInOrder (ttl : ℕ) (newer older : Bucket) : Type 0 where
+  pub newer_spans : Spans ttl newer
+  pub older_spans : Spans ttl older
   pub apart : older.last.0 ≤ newer.first.0
   pub runs : newer.first.0 ≤ newer.last.0
+
+-- no sighting is older than twice the time
+abbrev pub IsRecent : ℕ → ℕ → Bucket → Type 0
+IsRecent ttl now b = (id : MsgId) → IfSome (sighting_in b id) (λ s. now ≤ s.at.0 + 2 * ttl)
+
+-- the older one ends before the newer one begins, and lately
+pub record AreKept (ttl : ℕ) (newer older : Bucket) : Type 0 where
+  pub in_order : AreInOrder ttl newer older
+  pub recent : IsRecent ttl newer.last.0 older
 
 -- a sighting of a message in the place of an earlier one
 abbrev pub put : MsgId → Sighting → MsgId → Option Sighting → Option Sighting
@@ -42,7 +53,8 @@ pub record Becomes (step : MsgId → Option Sighting → Option Sighting) (first
 -- what was forgotten counted no more
 pub record Forgets (ttl now : ℕ) (old new : Bucket) : Type 0 where
   pub counts : (id : MsgId) (t : ℕ) → now ≤ t → counting ttl t (sighting_in new id) ≡ counting ttl t (sighting_in old id)
-  pub within : IsWithin new
+  pub spans : Spans ttl new
+  pub recent : IsRecent ttl now new
   pub first : new.first ≡ old.first
   pub last : new.last ≡ old.last
 
@@ -55,5 +67,5 @@ pub record Takes (ttl : ℕ) (id : MsgId) (s : Sighting) (newer older newer' old
   pub counts
       : (other : MsgId) (t : ℕ) → s.at.0 ≤ t
       → counting ttl t (known newer' older' other) ≡ counting ttl t (put id s other (known newer older other))
-  pub in_order : AreInOrder newer' older'
+  pub in_order : AreInOrder ttl newer' older'
   pub ends : newer'.last ≡ s.at

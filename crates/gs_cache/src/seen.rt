@@ -2,9 +2,10 @@
 mod bucket;
 mod sighting;
 
-ghost use Rattle.std.specs.Prelude.{◌≡◌, ◌≤◌, [], length, OnOk, OnErr};
+ghost use Rattle.std.specs.Prelude.{◌≡◌, ◌+◌, ◌*◌, ◌≤◌, [], length, IfSome, OnOk, OnErr};
 ghost use Rattle.std.specs.Option.{option_copied};
 ghost use Rattle.std.specs.Map.{lookup};
+ghost use Rattle.gs_base.specs.declared.names.MsgId.{MsgId as MsgIdValue};
 ghost use Rattle.gs_base.specs.Names.{same_id};
 ghost use Rattle.gs_cache.specs.Sightings.{ChangesBy, is_near_in, noted, sighted, verdict_in, what_counts};
 
@@ -34,7 +35,7 @@ pub struct SeenCache {
 impl Model for SeenCache {
     ghost use Rattle.std.specs.Prelude.{◌++◌};
     ghost use Rattle.gs_cache.specs.Sightings.{Seen};
-    ghost use Rattle.gs_cache.specs.Buckets.{AreInOrder};
+    ghost use Rattle.gs_cache.specs.Buckets.{AreKept};
 
     ghost Value = { Seen };
 
@@ -44,7 +45,7 @@ impl Model for SeenCache {
       sightings = cache.newer.sightings.entries ++ cache.older.sightings.entries;
     } };
 
-    ghost invariant = { λ cache. AreInOrder cache.newer cache.older };
+    ghost invariant = { λ cache. AreKept cache.ttl.0 cache.newer cache.older };
 }
 
 impl SeenCache {
@@ -80,10 +81,11 @@ impl SeenCache {
         }
     }
 
-    /// How many sightings are held, for who watches the memory: a message that was marked again after the time
-    /// may count twice.
+    /// How many sightings are held, for who watches the memory: those of messages that were marked at most twice
+    /// the time before the last mark, where one that was marked again may count twice.
     pub fn held(&self) -> usize
-        ensures { result ≡ length self.now.sightings }
+        ensures counts { result ≡ length self.now.sightings }
+        ensures recent { (id : MsgIdValue) → IfSome (lookup (same_id id) self.now.sightings) (λ s. self.now.moment ≤ s.at.0 + 2 * self.now.ttl) }
     {
         self.newer.sightings.len() + self.older.sightings.len()
     }

@@ -1,7 +1,7 @@
 //! The sightings of one span of time.
 ghost use Rattle.std.specs.Prelude.{◌≡◌, ◌≤◌, ◌-◌, [], None, false, nat_le, is_some, OnOk, OnErr, IfOk};
 ghost use Rattle.gs_base.specs.declared.names.MsgId.{MsgId as MsgIdValue};
-ghost use Rattle.gs_cache.specs.Buckets.{AreInOrder, Becomes, Forgets, Takes, IsUnchanged, IsWithin, put, sighting_in};
+ghost use Rattle.gs_cache.specs.Buckets.{AreInOrder, Becomes, Forgets, Takes, IsUnchanged, Spans, put, sighting_in};
 ghost use Rattle.gs_cache.specs.Sightings.{noted};
 
 use crate::seen::sighting::Sighting;
@@ -93,7 +93,7 @@ impl Bucket {
 
     /// Forgets all sightings, where the last of them counts no more, and gives their memory back.
     pub fn forget(&mut self, alloc: Global, ttl: Millis, now: Millis)
-        requires { IsWithin self.old }
+        requires { Spans ttl.0 self.old }
         ensures { Forgets ttl.0 now.0 self.old self.new }
     {
         if is_past(self.last, ttl, now) {
@@ -115,7 +115,7 @@ pub fn take(
     id: MsgId,
     sighting: Sighting,
 ) -> Result<(), AllocError>
-    requires in_order { AreInOrder newer.old older.old }
+    requires in_order { AreInOrder ttl.0 newer.old older.old }
     requires no_earlier { newer.old.last.0 ≤ sighting.at.0 }
     ensures takes { OnOk result (Takes ttl.0 id sighting newer.old older.old newer.new older.new) }
     ensures newer_err { OnErr result (IsUnchanged newer.old newer.new) }

@@ -1,4 +1,4 @@
-use Rattle.std.proofs.Common.{◌≤◌, ◌-◌, rules}
+use Rattle.std.proofs.Common.{◌≤◌, ◌<◌, ◌-◌, rules}
 use Rattle.gs_cache.proofs.Turning.{takes_here, takes_turned}
 use Rattle.gs_cache.proofs.seen.bucket.take.Goals as goal
 
@@ -9,4 +9,6 @@ returns-then-is_past-clause-takes c =
     (takes_turned c.args.ttl.0 c.args.id c.args.sighting c.args.newer.now c.args.older.now c.in_ok-newest.newest c.requires.in_order c.requires.no_earlier past c.in_ok-newest.ensures.one c.in_ok-newest.ensures.first c.in_ok-newest.ensures.last)
 
 pub returns-clause-takes : goal.returns-clause-takes
-returns-clause-takes c = takes_here c.args.ttl.0 c.args.id c.args.sighting c.args.newer.now c.args.older.now c.put.new.self c.requires.in_order c.requires.no_earlier c.in_ok-put.ensures.puts
+returns-clause-takes c =
+    let soon : c.args.sighting.at.0 - c.args.newer.now.first.0 < c.args.ttl.0 = search rules in
+    takes_here c.args.ttl.0 c.args.id c.args.sighting c.args.newer.now c.args.older.now c.put.new.self c.requires.in_order c.requires.no_earlier soon c.in_ok-put.ensures.puts
