@@ -45,14 +45,17 @@ pub record IsUnchanged (old new : Bucket) : Type 0 where
   pub last : new.last ≡ old.last
 
 -- the sightings are those that a step makes of what they were, and the moments are given
-pub record Becomes (step : MsgId → Option Sighting → Option Sighting) (first last : Millis) (old new : Bucket) : Type 0 where
+pub record Becomes (step : MsgId → Option Sighting → Option Sighting) (first last : Millis)
+    (old new : Bucket) : Type 0 where
   pub sightings : (id : MsgId) → sighting_in new id ≡ step id (sighting_in old id)
   pub begins : new.first ≡ first
   pub ends : new.last ≡ last
 
 -- what was forgotten counted no more
 pub record Forgets (ttl now : ℕ) (old new : Bucket) : Type 0 where
-  pub counts : (id : MsgId) (t : ℕ) → now ≤ t → counting ttl t (sighting_in new id) ≡ counting ttl t (sighting_in old id)
+  pub counts : (id : MsgId) (t : ℕ)
+      → now ≤ t
+      → counting ttl t (sighting_in new id) ≡ counting ttl t (sighting_in old id)
   pub spans : Spans ttl new
   pub recent : IsRecent ttl now new
   pub first : new.first ≡ old.first

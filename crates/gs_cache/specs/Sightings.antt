@@ -70,7 +70,8 @@ ChangesBy step from old new =
 -- what counts after a step is the same, whether what no longer counted before it was known or not
 abbrev pub NeedsWhatCounts : (Option Sighting → Option Sighting) → Type 0
 NeedsWhatCounts step =
-    (ttl now : ℕ) (before : Option Sighting) → counting ttl now (step (counting ttl now before)) ≡ counting ttl now (step before)
+    (ttl now : ℕ) (before : Option Sighting)
+    → counting ttl now (step (counting ttl now before)) ≡ counting ttl now (step before)
 
 pub record StepsNeedWhatCounts : Type 0 where
   pub sighted : (id other : MsgId) (at : Millis) (verdict : Verdict) → NeedsWhatCounts (sighted id at verdict other)

@@ -73,7 +73,13 @@ impl MessageCache {
         answers: u64,
     ) -> Result<MessageCache, AllocError>
         requires some { 0 < len }
-        ensures { IfOk result (λ cache. cache ≡ record { len = len; gossip = gossip; answers = answers; puts = []; order = [] }) }
+        ensures { IfOk result (λ cache. cache ≡ record {
+          len = len;
+          gossip = gossip;
+          answers = answers;
+          puts = [];
+          order = [];
+        }) }
     {
         let mut windows = Vec::with_capacity(alloc, len)?;
         for _ in 0..len {

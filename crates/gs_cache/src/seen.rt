@@ -85,7 +85,8 @@ impl SeenCache {
     /// the time before the last mark, where one that was marked again may count twice.
     pub fn held(&self) -> usize
         ensures counts { result ≡ length self.now.sightings }
-        ensures recent { (id : MsgIdValue) → IfSome (lookup (same_id id) self.now.sightings) (λ s. self.now.moment ≤ s.at.0 + 2 * self.now.ttl) }
+        ensures recent { (id : MsgIdValue)
+            → IfSome (lookup (same_id id) self.now.sightings) (λ s. self.now.moment ≤ s.at.0 + 2 * self.now.ttl) }
     {
         self.newer.sightings.len() + self.older.sightings.len()
     }

@@ -74,7 +74,9 @@ fn list_one(
     place: usize,
     id: &MsgId,
 ) -> Result<(), AllocError>
-    ensures { OnOk result (ids.new.items ≡ ids.old.items ++ filter (is_listed newer.now window.now topic.now) (placed window.now.puts.entries place (id.now ∷ []))) }
+    ensures { OnOk result (ids.new.items
+        ≡ ids.old.items
+        ++ filter (is_listed newer.now window.now topic.now) (placed window.now.puts.entries place (id.now ∷ []))) }
 {
     if !is_placed_on(window, topic, place, id) {
         return Ok(());

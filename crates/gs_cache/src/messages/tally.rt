@@ -50,7 +50,8 @@ impl Tally {
     /// `AllocError` where there was no memory; nothing is changed then.
     pub fn count(&mut self, peer: PeerNo, answers: u64) -> Result<(), AllocError>
         ensures counts { OnOk result ((q : PeerNoValue)
-            → left_to answers q self.new ≡ (if same_peer peer q then left_to answers q self.old - 1 else left_to answers q self.old)) }
+            → left_to answers q self.new
+            ≡ (if same_peer peer q then left_to answers q self.old - 1 else left_to answers q self.old)) }
         ensures err { OnErr result (self.new ≡ self.old) }
     {
         let left = self.left_to(peer, answers).saturating_sub(1);

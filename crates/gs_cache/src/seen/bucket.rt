@@ -44,7 +44,8 @@ impl Bucket {
     /// # Errors
     /// `AllocError` where there was no memory.
     pub fn of(alloc: Global, id: MsgId, sighting: Sighting) -> Result<Bucket, AllocError>
-        ensures one { IfOk result (λ bucket. (other : MsgIdValue) → sighting_in bucket other ≡ put id sighting other None) }
+        ensures one { IfOk result (λ bucket. (other : MsgIdValue)
+            → sighting_in bucket other ≡ put id sighting other None) }
         ensures first { IfOk result (λ bucket. bucket.first ≡ sighting.at) }
         ensures last { IfOk result (λ bucket. bucket.last ≡ sighting.at) }
     {
