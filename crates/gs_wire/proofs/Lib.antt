@@ -16,5 +16,6 @@ pub mod RpcRoundTrip
 pub mod Lengths
 pub mod FrameLists
 pub mod Shorter
+pub mod SentOn
 pub mod Readers
 pub mod EveryStream

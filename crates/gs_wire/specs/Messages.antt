@@ -1,7 +1,8 @@
 -- RPCs and their parts as lists of records (libp2p pubsub, "The RPC": `rpc.proto`).
 -- The numbers are those of the fields there.
-use Rattle.std.specs.Prelude.{◌≡◌, ℕ, ◌<◌, ◌^◌, List, ◌++◌, length, IfSome, option_to_list}
+use Rattle.std.specs.Prelude.{◌≡◌, ℕ, ◌<◌, ◌^◌, List, [], ◌∷◌, ◌++◌, length, Some, None, IfSome, option_to_list}
 use Rattle.std.specs.List.{AllZip, AllByRecursion}
+use Rattle.gs_base.specs.declared.names.Topic.{Topic}
 use Rattle.gs_base.specs.declared.control.Prune.{Prune}
 use Rattle.gs_base.specs.declared.control.Control.{Control}
 use Rattle.gs_base.specs.declared.rpc.SubOpt.{SubOpt}
@@ -69,6 +70,36 @@ longest_body = 1048576
 -- the frame that is written for an RPC: the length of its body, and the body
 abbrev pub frame : Rpc → List ℕ
 frame v = varint (length (body v)) ++ body v
+
+-- ---- what peers send on
+
+-- a message by itself, as it was heard
+abbrev pub passed_on : Message → Rpc
+passed_on m = record { subs = []; publish = m ∷ []; control = None }
+
+-- an offer of messages on a topic (gossipsub v1.0, "Control messages", IHAVE)
+abbrev pub offering : Topic → List (List ℕ) → Rpc
+offering topic ids = record {
+  subs = [];
+  publish = [];
+  control = Some (record { ihave = record { topic = Some topic; ids = ids } ∷ []; iwant = []; graft = []; prune = [] });
+}
+
+-- a request for messages (gossipsub v1.0, "Control messages", IWANT)
+abbrev pub requesting : List (List ℕ) → Rpc
+requesting ids = record {
+  subs = [];
+  publish = [];
+  control = Some (record { ihave = []; iwant = record { ids = ids } ∷ []; graft = []; prune = [] });
+}
+
+-- the most identifiers in an offer or a request
+abbrev pub most_identifiers : ℕ
+most_identifiers = 5000
+
+-- as long as the identifier of a message
+abbrev pub HasIdentifierLength : List ℕ → Type 0
+HasIdentifierLength id = length id ≡ 32
 
 -- ---- the values that a program holds
 

@@ -1,12 +1,15 @@
 //! Laws of the wire format. Each holds of its definitions alone, and its function does nothing.
 ghost use Rattle.std.specs.Prelude.{[], ◌∷◌, ◌≡◌, ◌<◌, ◌≤◌, ◌^◌, ◌++◌, List, ℕ, length, Some};
+ghost use Rattle.gs_base.specs.declared.names.Topic.{Topic};
+ghost use Rattle.gs_base.specs.declared.rpc.Message.{Message};
 ghost use Rattle.gs_base.specs.declared.rpc.Rpc.{Rpc};
+ghost use Rattle.gs_base.specs.Names.{longest_topic};
 ghost use Rattle.gs_wire.specs.Varint.{IsVarint, varint};
 ghost use Rattle.gs_wire.specs.Records.{Record, SpellRecords};
-ghost use Rattle.std.specs.List.{concat, AllByRecursion};
+ghost use Rattle.std.specs.List.{concat, AllByRecursion, IsAmong};
 ghost use Rattle.gs_wire.specs.declared.frames.End.{End};
 ghost use Rattle.gs_wire.specs.Stream.{IsStream, FindsIn, Holding, FeedsAll, HasRead};
-ghost use Rattle.gs_wire.specs.Messages.{SpellsRpc, IsInMemory, body, frame};
+ghost use Rattle.gs_wire.specs.Messages.{HasIdentifierLength, SpellsRpc, IsInMemory, body, frame, longest_body, most_identifiers, offering, passed_on, requesting};
 
 /// Bytes spell at most one list of records.
 pub fn bytes_spell_one_list_of_records()
@@ -87,4 +90,29 @@ pub fn what_was_read_fits_a_frame()
     ensures { (limit : ℕ) (bytes : List ℕ) (vs : List Rpc) (rest : List ℕ) (end : End)
         → IsStream limit bytes vs rest end
         → AllByRecursion (λ v. length (body v) ≤ limit) vs }
+{}
+
+/// A message by itself is not longer than an RPC in which it stands. So what was heard fits a frame when it
+/// is passed on.
+pub fn a_message_by_itself_is_no_longer()
+    ensures { (v : Rpc) (m : Message)
+        → IsAmong v.publish m
+        → length (body (passed_on m)) ≤ length (body v) }
+{}
+
+/// An offer of at most 5,000 messages, on a topic within its limit, fits a frame.
+pub fn an_offer_fits_a_frame()
+    ensures { (topic : Topic) (ids : List (List ℕ))
+        → length topic.0 ≤ longest_topic
+        → length ids ≤ most_identifiers
+        → AllByRecursion HasIdentifierLength ids
+        → length (body (offering topic ids)) ≤ longest_body }
+{}
+
+/// A request for at most 5,000 messages fits a frame.
+pub fn a_request_fits_a_frame()
+    ensures { (ids : List (List ℕ))
+        → length ids ≤ most_identifiers
+        → AllByRecursion HasIdentifierLength ids
+        → length (body (requesting ids)) ≤ longest_body }
 {}
