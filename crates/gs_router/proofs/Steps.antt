@@ -1,5 +1,5 @@
 -- One more entry of a router's trace.
-use Rattle.std.proofs.Common.{◌≡◌, ◌≢◌, ◌≤◌, ℕ, Bool, true, false, if◌then◌else◌, List, [], ◌∷◌, ◌++◌, Result, Ok, Err, refl, sym, ap, ap₂, subst, subst₂, ◌∙◌, inl, inr}
+use Rattle.std.proofs.Common.{◌≡◌, ◌≢◌, ◌≤◌, arith, ℕ, Bool, true, false, if◌then◌else◌, List, [], ◌∷◌, ◌++◌, Result, Ok, Err, refl, sym, ap, ap₂, subst, subst₂, ◌∙◌, inl, inr}
 use Rattle.std.specs.Prelude.{not, is_some, OnOk, OnErr, IsErr}
 use Rattle.gs_base.specs.declared.names.PeerNo.{PeerNo}
 use Rattle.gs_base.specs.declared.names.Millis.{Millis}
@@ -24,7 +24,7 @@ use Rattle.gs_rules.proofs.Legality.{Weakens, follows_weakly, legal_on, legal_on
 use Rattle.gs_router.specs.declared.setup.Setup.{Setup}
 use Rattle.gs_router.specs.declared.state.State.{State}
 use Rattle.gs_router.specs.Tables.{Agrees}
-use Rattle.gs_router.specs.State.{Appends, Ends, IsCurrent, IsReady, Steps, peer_with}
+use Rattle.gs_router.specs.State.{Appends, Ends, IsCurrent, IsReady, Knows, Steps, peer_with}
 
 -- ---- rules
 
@@ -63,6 +63,12 @@ follows_tells at event (AnyOf k candidates rule) x tells follows = follows_tells
 follows_tells at event (CutOf degrees members rule) x tells follows = follows_tells at event (rule follows.0) x (tells follows.0) follows.3
 follows_tells at event (OneOf n rule) x tells follows = follows_tells at event (rule follows.0) x (tells follows.0) follows.3
 
+-- ---- what a router knows
+
+-- it knows its own trace
+pub knows : (s : State) (now : ℕ) → IsCurrent s → last_moment s.trace ≤ now → Knows s now s.trace
+knows s now current time = record { agrees = current.agrees; forgets = current.forgets; time = time }
+
 -- ---- steps
 
 -- any way to choose by which no more is legal
@@ -75,14 +81,21 @@ module _ (m : Mode) (weakens : Weakens m free (λ u. tt)) where
     effects = subst₂ (λ (now : Millis) (ev : Event). Follows m (rule_of p L now ev) s x t) (sym tells.moment) (sym tells.tells) follows;
   }
 
+  -- it comes no earlier than what the tables have noted
+  pub no_earlier : (event : Event) (now : Millis) (a : State) (s t : m.State) (e : Entry) → IsCurrent a → last_moment a.trace ≤ now.0 → Follows m (rule_of (peer_with a.setup) a.trace now event) s e t → a.tables.sightings.cache.moment ≤ e.at.0
+  no_earlier event now a s t e current time follows =
+      let p = peer_with a.setup in
+      let tells = follows_tells now event (rule_of p a.trace now event) e (rule_tells p a.trace now event) (follows_weakly m free (λ u. tt) weakens (rule_of p a.trace now event) s e t follows) in
+      omega (arith, current.agrees.sightings.past, time, ap (λ (at : Millis). at.0) tells.moment)
+
   -- the choices that led to entries leave the whole legal
   appended_legal : (p : Peer) (K L : Entries) (s t : m.State) → Legal p K → Appends m p K s L t → Legal p L
   appended_legal p K L s t legal a = subst (Legal p) (sym a.are) (legal_on p K a.entries legal (legal_weakly m free (λ u. tt) weakens p s t K a.entries a.legal))
 
   module _ {A E : Type 0} where
     -- an entry that may follow was appended, or memory was wanting
-    pub followed : (event : Event) (now : Millis) (a b : State) (s t : m.State) (e : Entry) (done : Result A E) → IsCurrent a → last_moment a.trace ≤ now.0 → IsNext (peer_with a.setup) a.trace now.0 (owed (peer_with a.setup) a.trace).events event → Follows m (rule_of (peer_with a.setup) a.trace now event) s e t → OnOk done (b.trace ≡ e ∷ a.trace) → OnOk done ((L : Entries) → Agrees a.tables L → Agrees b.tables (e ∷ L)) → OnErr done (b.trace ≡ a.trace) → b.setup ≡ a.setup → Steps m event now a s done b t
-    followed event now a b s t e (Ok x) current time next follows added agrees kept setup =
+    pub followed : (event : Event) (now : Millis) (a b : State) (s t : m.State) (e : Entry) (done : Result A E) → IsCurrent a → last_moment a.trace ≤ now.0 → IsNext (peer_with a.setup) a.trace now.0 (owed (peer_with a.setup) a.trace).events event → Follows m (rule_of (peer_with a.setup) a.trace now event) s e t → OnOk done (b.trace ≡ e ∷ a.trace) → OnOk done ((L : Entries) → Agrees a.tables L → Agrees b.tables (e ∷ L)) → OnOk done (b.tables.sightings.cache.ttl ≡ a.tables.sightings.cache.ttl) → OnErr done (b.trace ≡ a.trace) → b.setup ≡ a.setup → Steps m event now a s done b t
+    followed event now a b s t e (Ok x) current time next follows added agrees forgets kept setup =
         let p = peer_with a.setup in
         let tells = follows_tells now event (rule_of p a.trace now event) e (rule_tells p a.trace now event) (follows_weakly m free (λ u. tt) weakens (rule_of p a.trace now event) s e t follows) in
         let one = legal_one m p s t a.trace e (allowed p a.trace now event s t e tells time next follows) in
@@ -91,12 +104,13 @@ module _ (m : Mode) (weakens : Weakens m free (λ u. tt)) where
           current = record {
             legal = subst (λ (g : Setup). Legal (peer_with g) b.trace) (sym setup) (appended_legal p a.trace b.trace s t current.legal (record { entries = e ∷ []; are = added; legal = one }));
             agrees = subst (λ (L : Entries). Agrees b.tables L) (sym added) (agrees a.trace current.agrees);
+            forgets = forgets ∙ current.forgets ∙ ap (λ (g : Setup). seen_ttl (peer_with g)) (sym setup);
             ascending = subst (λ (g : Setup). IsAscending (peers_of g.neighbours.items)) (sym setup) current.ascending;
           };
           kept = tt;
           setup = setup;
         }
-    followed event now a b s t e (Err x) current time next follows added agrees kept setup = record { added = tt; current = tt; kept = kept; setup = setup }
+    followed event now a b s t e (Err x) current time next follows added agrees forgets kept setup = record { added = tt; current = tt; kept = kept; setup = setup }
 
     -- memory was wanting before anything came
     pub breaks_off : (event : Event) (now : Millis) (a b : State) (s t : m.State) (e : E) → IsCurrent a → b.trace ≡ a.trace → b.setup ≡ a.setup → Ends {A = A} {E = E} m event now a s (Err e) b t

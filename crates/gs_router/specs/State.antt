@@ -1,5 +1,5 @@
 -- What a router knows, and how its steps and its work on an event end.
-use Rattle.std.specs.Prelude.{◌≡◌, ◌⊎◌, List, [], ◌∷◌, ◌++◌, Result, OnOk, OnErr}
+use Rattle.std.specs.Prelude.{◌≡◌, ◌⊎◌, ◌≤◌, ℕ, List, [], ◌∷◌, ◌++◌, Result, OnOk, OnErr}
 use Rattle.gs_base.specs.declared.names.PeerNo.{PeerNo}
 use Rattle.gs_base.specs.declared.names.Millis.{Millis}
 use Rattle.gs_base.specs.declared.rpc.Message.{Message}
@@ -10,8 +10,8 @@ use Rattle.gs_base.specs.declared.mark.Mark.TheVariants as marks
 use Rattle.gs_rules.specs.declared.trace.Event.{Event}
 use Rattle.gs_rules.specs.declared.trace.Event.TheVariants.{Msg}
 use Rattle.gs_rules.specs.declared.trace.Entry.{Entry}
-use Rattle.gs_rules.specs.Peers.{Peer}
-use Rattle.gs_rules.specs.Tables.{Entries}
+use Rattle.gs_rules.specs.Peers.{Peer, seen_ttl}
+use Rattle.gs_rules.specs.Tables.{Entries, last_moment}
 use Rattle.gs_rules.specs.Owed.{owed, nothing}
 use Rattle.gs_rules.specs.Rules.{bare}
 use Rattle.gs_rules.specs.Modes.{Mode}
@@ -26,10 +26,21 @@ use Rattle.gs_router.specs.Tables.{Agrees}
 abbrev pub peer_with : Setup → Peer
 peer_with setup = record { params = setup.params; neighbours = setup.neighbours.items }
 
+-- messages count as seen for the time that is given of the router
+abbrev pub ForgetsInTime : State → Type 0
+ForgetsInTime s = s.tables.sightings.cache.ttl ≡ seen_ttl (peer_with s.setup)
+
+-- the tables say what this trace says at a moment that is no earlier than its last
+pub record Knows (s : State) (now : ℕ) (L : Entries) : Type 0 where
+  pub agrees : Agrees s.tables L
+  pub forgets : ForgetsInTime s
+  pub time : last_moment L ≤ now
+
 -- the trace is legal, the tables say what it says, and the neighbours are ascending
 pub record IsCurrent (s : State) : Type 0 where
   pub legal : Legal (peer_with s.setup) s.trace
   pub agrees : Agrees s.tables s.trace
+  pub forgets : ForgetsInTime s
   pub ascending : IsAscending (peers_of s.setup.neighbours.items)
 
 -- and nothing is owed

@@ -1,5 +1,5 @@
 -- A router's tables say what its trace says.
-use Rattle.std.specs.Prelude.{◌≡◌, Bool, false, not, ◌||◌, length, Option, Some, None, is_some, unwrap_or, option_map}
+use Rattle.std.specs.Prelude.{◌≡◌, ◌≤◌, ℕ, Bool, false, not, ◌||◌, if◌then◌else◌, length, Option, Some, None, is_some, unwrap_or}
 use Rattle.std.specs.declared.cmp.Ordering.{Ordering}
 use Rattle.std.specs.Ordering.{is_eq, nat_cmp}
 use Rattle.std.specs.Cmp.Lexicographic.{slice_cmp}
@@ -9,11 +9,14 @@ use Rattle.gs_base.specs.declared.names.PeerNo.{PeerNo}
 use Rattle.gs_base.specs.declared.names.Topic.{Topic}
 use Rattle.gs_base.specs.declared.names.MsgId.{MsgId}
 use Rattle.gs_base.specs.Names.{same_topic, same_id}
-use Rattle.gs_rules.specs.Tables.{Entries, Sighting, is_shut, up, on, joined, known, last_seen}
+use Rattle.gs_base.specs.declared.verdict.Verdict.{Verdict}
+use Rattle.gs_base.specs.declared.mark.Mark.{Mark}
+use Rattle.gs_base.specs.declared.mark.Mark.TheVariants.{Seen}
+use Rattle.gs_cache.specs.Sightings.{verdict_in, what_counts}
+use Rattle.gs_rules.specs.Tables.{Entries, counting, is_shut, last_moment, up, on, joined, known, seen}
 use Rattle.gs_router.specs.declared.peer_set.PeerSet.{PeerSet}
 use Rattle.gs_router.specs.declared.tables.own_topics.OwnTopics.{OwnTopics}
 use Rattle.gs_router.specs.declared.tables.listeners.Listeners.{Listeners}
-use Rattle.gs_router.specs.declared.tables.sightings.Sighting.{Sighting as KeptSighting}
 use Rattle.gs_router.specs.declared.tables.sightings.Sightings.{Sightings}
 use Rattle.gs_router.specs.declared.tables.neighbours.Neighbours.{Neighbours}
 use Rattle.gs_router.specs.declared.tables.Tables.{Tables}
@@ -48,15 +51,20 @@ pub record AgreesOnListeners (kept : Listeners) (L : Entries) : Type 0 where
 
 -- ---- messages
 
-abbrev pub told : KeptSighting → Sighting
-told s = record { at = s.at.0; verdict = s.verdict }
+-- the verdict on a message that counts as seen at a moment, as the table has it
+abbrev pub verdict_at : Sightings → MsgId → ℕ → Option Verdict
+verdict_at kept id now = verdict_in (what_counts kept.cache id now)
 
--- when a message was seen last, as the table has it
-abbrev pub sighting_at : Sightings → MsgId → Option Sighting
-sighting_at kept id = option_map told (lookup (same_id id) kept.sightings.entries)
+-- what a mark leaves of the verdict on a message, where a sighting counts for less than a time
+abbrev pub verdict_after : ℕ → ℕ → MsgId → ℕ → Mark → Option Verdict → Option Verdict
+verdict_after ttl now id at (Seen other verdict) before =
+    if same_id other id then counting ttl now (Some (record { at = at; verdict = verdict })) else before
+verdict_after ttl now id at other before = before
 
+-- the table may have forgotten what counts no more
 pub record AgreesOnSightings (kept : Sightings) (L : Entries) : Type 0 where
-  pub sees : (id : MsgId) → sighting_at kept id ≡ last_seen L id
+  pub sees : (id : MsgId) (now : ℕ) → kept.cache.moment ≤ now → verdict_at kept id now ≡ seen kept.cache.ttl L id now
+  pub past : kept.cache.moment ≤ last_moment L
 
 -- ---- neighbours
 

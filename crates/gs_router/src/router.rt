@@ -55,11 +55,12 @@ impl Router {
           is_stopped = false;
         } }
     {
+        let seen_ttl = Millis(params.windows.seen_ttl_ms);
         Router {
             state: State {
                 alloc,
                 setup: Setup { params, neighbours },
-                tables: Tables::new(alloc),
+                tables: Tables::new(alloc, seen_ttl),
                 trace: Trace::new(alloc),
             },
             is_stopped: false,

@@ -7,7 +7,7 @@ ghost use Rattle.gs_rules.specs.Modes.{Follows, exact};
 ghost use Rattle.gs_rules.specs.Refusals.{first_of, refusal};
 ghost use Rattle.gs_rules.specs.declared.refusal.Refusal.TheVariants as refusals;
 ghost use Rattle.gs_router.specs.Tables.{Agrees};
-ghost use Rattle.gs_router.specs.State.{IsCurrent, peer_with};
+ghost use Rattle.gs_router.specs.State.{IsCurrent, Knows, peer_with};
 
 pub mod messages;
 pub mod subscriptions;
@@ -72,7 +72,7 @@ pub fn entry_of<W: Words>(
 ) -> Result<Entry, AllocError>
     requires { IsCurrent state.now }
     ensures { IfOk result (λ entry. (L : Entries)
-        → Agrees state.now.tables L
+        → Knows state.now now.0 L
         → Follows (exact W.word W.after) (rule_of (peer_with state.now.setup) L now event) words.old entry words.new) }
 {
     match event {
@@ -100,7 +100,7 @@ fn refusal_of_anything(state: &State) -> Option<Refusal>
 /// Why an event may not come.
 pub fn refusal_of(state: &State, event: &Event, now: Millis) -> Option<Refusal>
     ensures { (L : Entries)
-        → Agrees state.now.tables L
+        → Knows state.now now.0 L
         → result ≡ refusal (peer_with state.now.setup) L now.0 event.now }
 {
     match event {

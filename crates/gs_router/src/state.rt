@@ -37,8 +37,10 @@ impl State {
     /// # Errors
     /// `AllocError` where there was no memory; the trace is then as it was.
     fn append(&mut self, entry: Entry) -> Result<(), AllocError>
+        requires { self.old.tables.sightings.cache.moment ≤ entry.at.0 }
         ensures added { OnOk result (self.new.trace ≡ entry ∷ self.old.trace) }
         ensures agrees { OnOk result ((L : Entries) → Agrees self.old.tables L → Agrees self.new.tables (entry ∷ L)) }
+        ensures forgets { OnOk result (self.new.tables.sightings.cache.ttl ≡ self.old.tables.sightings.cache.ttl) }
         ensures kept { OnErr result (self.new.trace ≡ self.old.trace) }
         ensures setup { self.new.setup ≡ self.old.setup }
     {

@@ -9,7 +9,7 @@ ghost use Rattle.gs_rules.specs.Rules.{listeners, message_rule, publish_rule};
 ghost use Rattle.gs_rules.specs.Refusals.{refusal};
 ghost use Rattle.gs_router.specs.PeerSets.{has};
 ghost use Rattle.gs_router.specs.Tables.{Agrees};
-ghost use Rattle.gs_router.specs.State.{judged, peer_with};
+ghost use Rattle.gs_router.specs.State.{Knows, judged, peer_with};
 
 use crate::peer_set::PeerSet;
 use crate::rules::{bare, to_each};
@@ -38,7 +38,7 @@ pub enum Fate {
 /// What becomes of a message.
 fn fate_of(state: &State, message: &Message, now: Millis) -> Fate
     ensures { (L : Entries) (q : PeerNoValue)
-        → Agrees state.now.tables L
+        → Knows state.now now.0 L
         → message_rule (peer_with state.now.setup) L now q message.now ≡ judged q now message.now result }
 {
     if !state.tables.topics.is_joined_or_empty(&message.topic) {
@@ -48,8 +48,7 @@ fn fate_of(state: &State, message: &Message, now: Millis) -> Fate
         return Fate::Invalid;
     }
     let id = MsgId::of(message.payload_bytes());
-    let ttl = Millis(state.setup.params.windows.seen_ttl_ms);
-    if state.tables.sightings.is_seen(ttl, id, now) {
+    if state.tables.sightings.is_seen(&id, now) {
         return Fate::Dropped;
     }
     Fate::Accepted(id)
@@ -94,7 +93,7 @@ pub fn entry_of(
     now: Millis,
 ) -> Result<Entry, AllocError>
     ensures { IfOk result (λ entry. (L : Entries)
-        → Agrees state.now.tables L
+        → Knows state.now now.0 L
         → entry ≡ message_rule (peer_with state.now.setup) L now from message) }
 {
     let fate = fate_of(state, message.get(), now);
@@ -119,7 +118,10 @@ fn listeners(state: &State, topic: &Topic) -> Result<Vec<PeerNo>, AllocError>
         → receivers.items ≡ listeners (peer_with state.now.setup) L topic.now) }
 {
     match state.tables.listeners.of(topic) {
-        Some(set) => up_among(state, set),
+        Some(set) => {
+            let receivers = up_among(state, set)?;
+            Ok(receivers)
+        }
         None => Ok(Vec::new(state.alloc)),
     }
 }
@@ -184,7 +186,7 @@ pub fn refusal_of_publish(
 ) -> Option<Refusal>
     requires { id ≡ message_id payload.now }
     ensures { (L : Entries)
-        → Agrees state.now.tables L
+        → Knows state.now now.0 L
         → result ≡ refusal (peer_with state.now.setup) L now.0 (events.Publish topic.now payload.now) }
 {
     if state.tables.neighbours.is_shut() {
@@ -193,8 +195,7 @@ pub fn refusal_of_publish(
     if topic.0.len() > LONGEST_TOPIC || publish_len(topic, payload) > MAX_BODY {
         return Some(Refusal::TooLong);
     }
-    let ttl = Millis(state.setup.params.windows.seen_ttl_ms);
-    if state.tables.sightings.is_seen(ttl, id, now) {
+    if state.tables.sightings.is_seen(&id, now) {
         return Some(Refusal::AlreadySeen);
     }
     None

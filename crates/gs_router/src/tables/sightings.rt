@@ -1,70 +1,66 @@
-//! When messages were seen last.
-ghost use Rattle.std.specs.Prelude.{◌≡◌, [], ◌∷◌, OnOk, is_some};
+//! Which messages were seen lately.
+ghost use Rattle.std.specs.Prelude.{◌≡◌, ◌≤◌, ℕ, [], ◌∷◌, OnOk, is_some};
 ghost use Rattle.gs_base.specs.declared.names.MsgId.{MsgId as MsgIdValue};
-ghost use Rattle.gs_rules.specs.Tables.{Entries, seen, sighting_after};
-ghost use Rattle.gs_router.specs.Tables.{AgreesOnSightings, sighting_at};
+ghost use Rattle.gs_rules.specs.Tables.{Entries, last_moment, seen};
+ghost use Rattle.gs_router.specs.Tables.{AgreesOnSightings, verdict_after, verdict_at};
 
-use gs_base::{Mark, Millis, MsgId, Verdict};
+use gs_base::{Mark, Millis, MsgId};
+use gs_cache::SeenCache;
 use gs_rules::Entry;
-use indexmap::IndexMap;
 use std::alloc::{AllocError, Global};
 
-/// When a message was seen, and what it was found to be.
-#[derive(Clone, Copy, Debug)]
-pub struct Sighting {
-    pub at: Millis,
-    pub verdict: Verdict,
-}
-
-/// When each message was seen last.
+/// Which messages were seen lately. It forgets what no longer counts.
 #[derive(Drop)]
 pub struct Sightings {
-    sightings: IndexMap<MsgId, Sighting>,
+    cache: SeenCache,
 }
 
 impl Sightings {
-    /// No message was seen.
-    pub fn new(alloc: Global) -> Sightings
-        ensures { AgreesOnSightings result [] }
+    /// No message was seen. A sighting will count for less than a time.
+    pub fn new(alloc: Global, ttl: Millis) -> Sightings
+        ensures agrees { AgreesOnSightings result [] }
+        ensures ttl { result.cache.ttl ≡ ttl.0 }
     {
         Sightings {
-            sightings: IndexMap::new(alloc),
+            cache: SeenCache::new(alloc, ttl),
         }
     }
 
-    /// Whether a message was seen less than a time ago.
-    pub fn is_seen(&self, ttl: Millis, id: MsgId, now: Millis) -> bool
-        ensures { (L : Entries) → AgreesOnSightings self.now L → result ≡ is_some (seen ttl.0 L id now.0) }
+    /// Whether a message was seen lately.
+    pub fn is_seen(&self, id: &MsgId, now: Millis) -> bool
+        ensures { (L : Entries)
+            → AgreesOnSightings self.now L
+            → last_moment L ≤ now.0
+            → result ≡ is_some (seen self.now.cache.ttl L id.now now.0) }
     {
-        match self.sightings.get(&id) {
-            Some(sighting) => now.0.saturating_sub(sighting.at.0) < ttl.0,
-            None => false,
-        }
+        self.cache.seen(id, now).is_some()
     }
 
     /// Notes a mark that was made at a moment.
     fn note_mark(&mut self, mark: &Mark, at: Millis) -> Result<(), AllocError>
-        ensures { OnOk result ((id : MsgIdValue)
-            → sighting_at self.new id ≡ sighting_after id at.0 mark.now (sighting_at self.old id)) }
+        requires { self.old.cache.moment ≤ at.0 }
+        ensures marks { OnOk result ((id : MsgIdValue) (now : ℕ)
+            → self.new.cache.moment ≤ now
+            → verdict_at self.new id now ≡ verdict_after self.old.cache.ttl now id at.0 mark.now (verdict_at self.old id now)) }
+        ensures moment { OnOk result ((self.old.cache.moment ≤ self.new.cache.moment) × (self.new.cache.moment ≤ at.0)) }
+        ensures ttl { OnOk result (self.new.cache.ttl ≡ self.old.cache.ttl) }
     {
         match mark {
             Mark::Seen(id, verdict) => {
-                let sighting = Sighting {
-                    at,
-                    verdict: *verdict,
-                };
-                self.sightings.insert(*id, sighting)?;
+                self.cache.mark(*id, at, *verdict)?;
                 Ok(())
             }
             _ => Ok(()),
         }
     }
 
-    /// Notes an entry.
+    /// Notes an entry, which comes no earlier than those before it.
     pub fn note(&mut self, entry: &Entry) -> Result<(), AllocError>
-        ensures { OnOk result ((L : Entries)
+        requires { self.old.cache.moment ≤ entry.now.at.0 }
+        ensures agrees { OnOk result ((L : Entries)
             → AgreesOnSightings self.old L
             → AgreesOnSightings self.new (entry.now ∷ L)) }
+        ensures ttl { OnOk result (self.new.cache.ttl ≡ self.old.cache.ttl) }
     {
         for mark in entry.marks.as_slice() {
             self.note_mark(mark, entry.at)?;

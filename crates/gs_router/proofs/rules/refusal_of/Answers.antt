@@ -5,7 +5,7 @@ use Rattle.gs_rules.specs.Refusals.{refusal}
 use Rattle.gs_router.proofs.rules.refusal_of.Goals as goal
 
 pub returns-in-Subscribe : goal.returns-in-Subscribe
-returns-in-Subscribe c = λ L agrees. c.refusal_of_subscribe.ensures (peer_with c.args.state.now.setup) L c.args.now.0 agrees ∙ sym (ap (λ (event : Event). refusal (peer_with c.args.state.now.setup) L c.args.now.0 event) c.in-Subscribe.is)
+returns-in-Subscribe c = λ L knows. c.refusal_of_subscribe.ensures (peer_with c.args.state.now.setup) L c.args.now.0 knows.agrees ∙ sym (ap (λ (event : Event). refusal (peer_with c.args.state.now.setup) L c.args.now.0 event) c.in-Subscribe.is)
 
 pub returns-in-Unsubscribe : goal.returns-in-Unsubscribe
-returns-in-Unsubscribe c = λ L agrees. c.refusal_of_unsubscribe.ensures (peer_with c.args.state.now.setup) L c.args.now.0 agrees ∙ sym (ap (λ (event : Event). refusal (peer_with c.args.state.now.setup) L c.args.now.0 event) c.in-Unsubscribe.is)
+returns-in-Unsubscribe c = λ L knows. c.refusal_of_unsubscribe.ensures (peer_with c.args.state.now.setup) L c.args.now.0 knows.agrees ∙ sym (ap (λ (event : Event). refusal (peer_with c.args.state.now.setup) L c.args.now.0 event) c.in-Unsubscribe.is)

@@ -1,9 +1,14 @@
 use Rattle.gs_rules.specs.Modes.{exact}
 use Rattle.gs_rules.proofs.Legality.{exact_is_free}
-use Rattle.gs_router.proofs.Steps.{followed}
+use Rattle.gs_router.proofs.Steps.{followed, knows, no_earlier}
 use Rattle.gs_router.proofs.state.State.step.Goals as goal
+
+pub append-requires : goal.append-requires
+append-requires g c =
+    let a = c.args.self.now in
+    no_earlier (exact g.W.Words.word g.W.Words.after) (exact_is_free g.W.Words.word g.W.Words.after) c.args.event c.args.now a c.args.words.now c.entry_of.new.words c.in_ok-entry.entry c.requires.current c.requires.time (c.in_ok-entry.ensures a.trace (knows a c.args.now.0 c.requires.current c.requires.time))
 
 pub returns : goal.returns
 returns g c =
     let a = c.args.self.now in
-    followed (exact g.W.Words.word g.W.Words.after) (exact_is_free g.W.Words.word g.W.Words.after) c.args.event c.args.now a c.append.new.self c.args.words.now c.entry_of.new.words c.in_ok-entry.entry c.append.result c.requires.current c.requires.time c.requires.next (c.in_ok-entry.ensures a.trace c.requires.current.agrees) c.append.ensures.added c.append.ensures.agrees c.append.ensures.kept c.append.ensures.setup
+    followed (exact g.W.Words.word g.W.Words.after) (exact_is_free g.W.Words.word g.W.Words.after) c.args.event c.args.now a c.append.new.self c.args.words.now c.entry_of.new.words c.in_ok-entry.entry c.append.result c.requires.current c.requires.time c.requires.next (c.in_ok-entry.ensures a.trace (knows a c.args.now.0 c.requires.current c.requires.time)) c.append.ensures.added c.append.ensures.agrees c.append.ensures.forgets c.append.ensures.kept c.append.ensures.setup

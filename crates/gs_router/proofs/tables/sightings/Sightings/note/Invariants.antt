@@ -1,11 +1,6 @@
-use Rattle.std.proofs.Common.{◌≡◌, drop}
-use Rattle.gs_base.specs.declared.names.MsgId.{MsgId}
-use Rattle.gs_rules.specs.Tables.{after_marks, sighting_after}
-use Rattle.gs_router.specs.Tables.{sighting_at}
+use Rattle.std.proofs.Common.{drop}
+use Rattle.gs_router.proofs.Sighting.{Marking}
 use Rattle.gs_router.proofs.tables.sightings.Sightings.note.Given as goal
 
 abbrev pub invariant-loop-mark : goal.invariant-loop-mark
-invariant-loop-mark l =
-    (id : MsgId)
-    → after_marks (sighting_after id l.entry.at.0) (drop l.mark-index l.mark-items) (sighting_at l.self id)
-    ≡ after_marks (sighting_after id l.entry.at.0) l.mark-items (sighting_at l.fn.self id)
+invariant-loop-mark l = Marking l.entry.at.0 l.mark-items (drop l.mark-index l.mark-items) l.fn.self l.self
