@@ -58,7 +58,8 @@ impl FrameReader {
     /// # Errors
     /// `Failed` exactly after a fault; nothing changes. `Malformed` and `TooLong` where the first
     /// fault of the stream is that; the RPCs before it are added, and the reader has failed.
-    /// `NoMemory`; the reader and the list are as they were.
+    /// `NoMemory`; the reader and the list are as they were. It may come in the place of `Malformed` and
+    /// `TooLong`: that a fault of the stream isn't refused as want of memory, only tests say.
     pub fn feed(
         &mut self,
         alloc: Global,

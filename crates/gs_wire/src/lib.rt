@@ -31,6 +31,8 @@ pub use laws::{
 pub use rpc::{MAX_BODY, decode, encode, encode_frame, publish_len};
 
 #[cfg(test)]
+mod proto_tests;
+#[cfg(test)]
 mod size_tests;
 #[cfg(test)]
 mod stream_tests;

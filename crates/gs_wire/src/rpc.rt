@@ -83,7 +83,8 @@ pub(crate) fn read_body(alloc: Global, body: &[u8], rpc: &mut Rpc) -> Result<(),
 /// The RPC keeps one copy of the body, which its payloads and topics share.
 ///
 /// # Errors
-/// `Malformed` exactly where the body spells no RPC, and `NoMemory`.
+/// `Malformed` only where the body spells no RPC, and `NoMemory`, which may come in the place of any
+/// answer: that a body which spells no RPC isn't refused as want of memory, only tests say.
 pub fn decode(alloc: Global, body: &[u8]) -> Result<Rpc, WireFault>
     ensures spelled { IfOk result (λ rpc. SpellsRpc body.now rpc) }
     ensures malformed { IsErrOf result WireFault.Malformed → (rpc : RpcValue) → ¬ SpellsRpc body.now rpc }

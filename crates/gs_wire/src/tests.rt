@@ -1,6 +1,6 @@
 use super::*;
 use bytes::Bytes;
-use gs_base::{Control, Graft, IHave, IWant, Message, Prune, Rpc, Seq, SubOpt, Topic};
+use gs_base::{Control, Graft, Message, Rpc, Seq, SubOpt, Topic};
 use std::alloc::{AllocError, Global};
 
 fn empty(alloc: Global) -> Rpc {
@@ -84,22 +84,6 @@ fn with_control(alloc: Global, control: Control) -> Rpc {
 }
 
 #[test]
-fn a_prune_is_read_and_written(rt: HostRuntime) -> Result<(), AllocError> {
-    let alloc = rt.alloc();
-    let frame = b"\x09\x1a\x07\x22\x05\x0a\x01\x61\x18\x3c";
-    let mut control = no_control(alloc);
-    control.prune.push(Prune {
-        topic: topic(alloc, b"a")?,
-        backoff: Some(60),
-    })?;
-    let rpc = with_control(alloc, control);
-    assert!(rt; is_read_and_written(alloc, &frame[1..], &rpc, frame));
-    let with_peers = b"\x1a\x0b\x22\x09\x0a\x01\x61\x12\x02\xff\xff\x18\x3c";
-    assert!(rt; is_read_and_written(alloc, with_peers, &rpc, frame));
-    Ok(())
-}
-
-#[test]
 fn control_records_are_merged(rt: HostRuntime) -> Result<(), AllocError> {
     let alloc = rt.alloc();
     let body = b"\x78\x01\x1a\x05\x1a\x03\x0a\x01\x61\x1a\x05\x1a\x03\x0a\x01\x62";
@@ -115,26 +99,6 @@ fn control_records_are_merged(rt: HostRuntime) -> Result<(), AllocError> {
     let empty = with_control(alloc, no_control(alloc));
     assert!(rt; is_read_and_written(alloc, b"\x1a\x00", &empty, b"\x02\x1a\x00"));
     assert!(rt; is_malformed(alloc, b"\x1a\x03\x1a\x02\x0a\x1a\x02\x01\x61"));
-    Ok(())
-}
-
-#[test]
-fn offers_and_requests_are_read_and_written(rt: HostRuntime) -> Result<(), AllocError> {
-    let alloc = rt.alloc();
-    let frame = b"\x10\x1a\x0e\x0a\x07\x0a\x01\x61\x12\x00\x12\x00\x12\x03\x0a\x01\x07";
-    let mut ids = Seq::new(alloc);
-    ids.push(Bytes::new())?;
-    ids.push(Bytes::new())?;
-    let mut asked = Seq::new(alloc);
-    asked.push(Bytes::copy_from_slice(alloc, b"\x07")?)?;
-    let mut control = no_control(alloc);
-    control.ihave.push(IHave {
-        topic: topic(alloc, b"a")?,
-        ids,
-    })?;
-    control.iwant.push(IWant { ids: asked })?;
-    let rpc = with_control(alloc, control);
-    assert!(rt; is_read_and_written(alloc, &frame[1..], &rpc, frame));
     Ok(())
 }
 
@@ -205,25 +169,5 @@ fn what_is_written_goes_to_the_end(rt: HostRuntime) -> Result<(), AllocError> {
         buffer.as_slice(),
         b"kept\x0a\x05\x08\x00\x12\x01\x61".as_slice()
     );
-    Ok(())
-}
-
-/// A message with each of its six fields.
-#[test]
-fn every_field_of_a_message_is_read_and_written(rt: HostRuntime) -> Result<(), AllocError> {
-    let alloc = rt.alloc();
-    let body = b"\x12\x12\x0a\x01\x61\x12\x01\x62\x1a\x01\x63\x22\x01\x64\x2a\x01\x65\x32\x01\x66";
-    let frame =
-        b"\x14\x12\x12\x0a\x01\x61\x12\x01\x62\x1a\x01\x63\x22\x01\x64\x2a\x01\x65\x32\x01\x66";
-    let mut rpc = empty(alloc);
-    rpc.publish.push(Message {
-        origin: Some(Bytes::copy_from_slice(alloc, b"a")?),
-        payload: Some(Bytes::copy_from_slice(alloc, b"b")?),
-        seqno: Some(Bytes::copy_from_slice(alloc, b"c")?),
-        topic: topic(alloc, b"d")?,
-        signature: Some(Bytes::copy_from_slice(alloc, b"e")?),
-        key: Some(Bytes::copy_from_slice(alloc, b"f")?),
-    })?;
-    assert!(rt; is_read_and_written(alloc, body, &rpc, frame));
     Ok(())
 }
