@@ -15,7 +15,7 @@ use Rattle.gs_scenario.specs.Refusal.{refusal_text}
 use Rattle.gs_workers.specs.Faults.{number_of}
 use Rattle.gossip_sim.specs.Report.{name_of, report_text}
 use Rattle.gs_net.specs.Reports.{IsReport}
-use Rattle.gossip_sim.specs.Streams.{AppendsFront, longest_input}
+use Rattle.gs_streams.specs.Streams.{AppendsFront, longest_input}
 
 -- The plan is what the whole input describes. Where the input's bytes are not known, some text does.
 pub record IsScenario (input : Option (List ℕ)) (plan : Plan) : Type 0 where
@@ -92,7 +92,7 @@ pub record RunRefused (input output output' errors errors' : Option (List ℕ)) 
   pub tells : TellsFault plan fault errors errors'
   pub silent : Keeps output output'
 
--- the input could not be read
+-- a read of the input failed, or the reads ran out
 pub record InputFailed (output output' errors errors' : Option (List ℕ)) : Type 0 where
   pub line : AppendsFront errors errors' (codes "input failed\n")
   pub silent : Keeps output output'

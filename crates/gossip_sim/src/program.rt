@@ -5,15 +5,15 @@ ghost use Rattle.gossip_sim.specs.Program.{EndsAs, IsRefusal, IsScenario, TellsF
 ghost use Rattle.gs_params.specs.Plans.{IsInRange};
 ghost use Rattle.gossip_sim.specs.Report.{report_text};
 ghost use Rattle.gs_net.specs.Reports.{IsReport};
-ghost use Rattle.gossip_sim.specs.Streams.{AppendsFront, longest_input};
+ghost use Rattle.gs_streams.specs.Streams.{AppendsFront, longest_input};
 
 use crate::report::{name_of, report_text};
-use crate::streams::{ReadFault, read_input, write_text};
 use gs_base::{PeerNo, Text};
 use gs_net::{NetFault, Report, run_net};
 use gs_params::Plan;
 use gs_peer::Gate;
 use gs_scenario::{ScenarioFault, read_plan};
+use gs_streams::{ReadFault, read_input, write_text};
 use std::alloc::{AllocError, AllocGlobal, Global};
 use std::io::{Read, Write};
 use std::mem;
@@ -31,7 +31,7 @@ pub enum ExitStatus {
     ScenarioRefused,
     /// The run met a fault, or there was no memory to report on it.
     RunRefused,
-    /// The input could not be read.
+    /// A read of the input failed, or it was read `MOST_READS` times and had not ended.
     InputFailed,
     /// The report could not be written.
     OutputFailed,
@@ -111,7 +111,7 @@ where
 /// Why there is no plan to run.
 #[derive(Debug, Drop)]
 enum NoPlan {
-    /// The input could not be read.
+    /// A read of the input failed, or the reads ran out.
     InputFailed,
     /// What was read is refused.
     Refused(ScenarioFault),

@@ -1,6 +1,6 @@
 use Rattle.std.proofs.Common.{ℕ, List, subst}
-use Rattle.gossip_sim.specs.Streams.{AppendsFront}
-use Rattle.gossip_sim.proofs.Fronts.{whole_or_front}
+use Rattle.gs_streams.specs.Streams.{AppendsFront}
+use Rattle.gs_streams.proofs.Fronts.{whole_or_front}
 use Rattle.gossip_sim.proofs.program.tell.Goals as goal
 
 pub returns : goal.returns

@@ -3,7 +3,7 @@ use Rattle.std.specs.Fmt.{digits}
 use Rattle.gs_params.specs.declared.plan.Plan.{Plan}
 use Rattle.gs_workers.specs.declared.fault.NetFault.TheVariants.{NoMemory}
 use Rattle.gossip_sim.specs.Program.{run_refusal_line}
-use Rattle.gossip_sim.specs.Streams.{AppendsFront}
+use Rattle.gs_streams.specs.Streams.{AppendsFront}
 use Rattle.gossip_sim.proofs.program.tell_fault.Goals as goal
 
 line_of_no_memory : (plan : Plan) → codes "run refused: 24\n" ≡ run_refusal_line plan (NoMemory None)

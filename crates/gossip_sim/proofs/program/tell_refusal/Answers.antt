@@ -2,7 +2,7 @@ use Rattle.std.proofs.Common.{◌≡◌, ◌∙◌, ℕ, List, codes, inl, inr, 
 use Rattle.std.specs.Fmt.{digits}
 use Rattle.gs_scenario.specs.declared.fault.ScenarioFault.TheVariants.{NoMemory}
 use Rattle.gossip_sim.specs.Program.{refusal_line}
-use Rattle.gossip_sim.specs.Streams.{AppendsFront}
+use Rattle.gs_streams.specs.Streams.{AppendsFront}
 use Rattle.gossip_sim.proofs.program.tell_refusal.Goals as goal
 
 line_of_no_memory : codes "scenario refused: 32\n" ≡ refusal_line NoMemory

@@ -1,5 +1,5 @@
 use Rattle.std.proofs.KnownBytes.{Consumes-trans}
-use Rattle.gossip_sim.proofs.streams.read_within.Goals as goal
+use Rattle.gs_streams.proofs.read_within.Goals as goal
 
 pub returns-then-count-longest-clause-front : goal.returns-then-count-longest-clause-front
 returns-then-count-longest-clause-front g c =

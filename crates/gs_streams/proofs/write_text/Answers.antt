@@ -1,7 +1,7 @@
 use Rattle.std.proofs.Common.{◌++◌, take, drop}
 use Rattle.std.proofs.KnownBytes.{Appends-kept, Appends-trans}
-use Rattle.gossip_sim.proofs.Fronts.{front_written, split_further, split_at_slice}
-use Rattle.gossip_sim.proofs.streams.write_text.Goals as goal
+use Rattle.gs_streams.proofs.Fronts.{front_written, split_further, split_at_slice}
+use Rattle.gs_streams.proofs.write_text.Goals as goal
 
 pub loop-rest-preserved : goal.loop-rest-preserved
 loop-rest-preserved g c =

@@ -1,8 +1,12 @@
 //! Reading all of an input, and writing all of a text.
+#![tactic(auto)]
+
 ghost use Rattle.std.specs.Prelude.{◌≡◌, ◌≤◌, ◌<◌, length, IfOk, IfSome, IsErrOf, List, OnErr, OnOk, ℕ};
 ghost use Rattle.std.specs.Io.KnownBytes.{Appends, Consumes, IsAtEnd};
-ghost use Rattle.gossip_sim.specs.Streams.{AppendsFront, longest_input};
-ghost use Rattle.gossip_sim.specs.declared.streams.ReadFault.TheVariants.{NoMemory};
+ghost use Rattle.gs_streams.specs.Streams.{AppendsFront, longest_input};
+ghost use Rattle.gs_streams.specs.declared.ReadFault.TheVariants.{NoMemory};
+
+pub mod fakes;
 
 use std::alloc::{AllocError, Global};
 use std::io::{ErrorKind, Read, Write};
@@ -16,7 +20,9 @@ pub const MOST_READS: u32 = 10_000_000;
 /// Why an input was not read to its end.
 #[derive(Clone, Copy, Debug, PartialEq, Eq)]
 pub enum ReadFault {
-    /// A read failed, or the input had not ended after the most reads.
+    /// A read failed otherwise than by an interruption, or the input had not ended after
+    /// `MOST_READS` reads. Nothing else comes as this; no clause can say so, since a reader's
+    /// contract doesn't tell when a read fails.
     Failed,
     /// The input is longer than it may be.
     TooLong,
@@ -40,8 +46,9 @@ pub struct WriteFailed;
 /// them and is tried again.
 ///
 /// # Errors
-/// `TooLong` where there are more than `LONGEST_INPUT` bytes, `Failed` and `NoMemory` as they are
-/// met. The reader is then behind what was read.
+/// `TooLong` where there are more than `LONGEST_INPUT` bytes; `Failed` where a read failed or the
+/// reads ran out; `NoMemory` where there is none for the bytes. The reader is then behind what was
+/// read.
 pub fn read_input<R: Read>(alloc: Global, input: &mut R) -> Result<Vec<u8>, ReadFault>
     ensures whole { IfOk result (λ text. IfSome (R.remaining input.old) (λ given. text.items ≡ given)) }
     ensures at_end { OnOk result (IsAtEnd (R.remaining input.new)) }
@@ -57,7 +64,7 @@ pub fn read_input<R: Read>(alloc: Global, input: &mut R) -> Result<Vec<u8>, Read
 ///
 /// # Errors
 /// As at `read_input`.
-pub fn read_within<R: Read>(
+fn read_within<R: Read>(
     alloc: Global,
     input: &mut R,
     longest: usize,
@@ -112,4 +119,4 @@ pub fn write_text<W: Write>(output: &mut W, text: &[u8]) -> Result<(), WriteFail
 }
 
 #[cfg(test)]
-pub(crate) mod tests;
+mod tests;

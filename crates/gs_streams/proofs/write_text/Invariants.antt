@@ -1,6 +1,6 @@
 use Rattle.std.proofs.Common.{◌≡◌, ℕ, List, ◌++◌, length}
 use Rattle.std.specs.Io.KnownBytes.{Appends}
-use Rattle.gossip_sim.proofs.streams.write_text.Given as goal
+use Rattle.gs_streams.proofs.write_text.Given as goal
 
 -- a front of the text is written, and the rest is left
 abbrev pub invariant-loop-rest : goal.invariant-loop-rest

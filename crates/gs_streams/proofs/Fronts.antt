@@ -2,7 +2,7 @@
 use Rattle.std.proofs.Common.{◌≡◌, ℕ, ◌-◌, List, ◌++◌, length, take, drop, Option, refl, sym, ap, subst, ◌∙◌, append_assoc, append-nil, take-append-drop, [], Result, Ok, Err, OnOk, OnErr}
 use Rattle.std.proofs.lemmas.List.{take_at, take_rest}
 use Rattle.std.specs.Io.KnownBytes.{Appends}
-use Rattle.gossip_sim.specs.Streams.{AppendsFront}
+use Rattle.gs_streams.specs.Streams.{AppendsFront}
 
 -- what was written is a front of the text
 pub front_written : (old new : Option (List ℕ)) (text done rest : List ℕ) → text ≡ done ++ rest → Appends old new done → AppendsFront old new text

@@ -1,4 +1,5 @@
 use super::*;
+use crate::fakes::{Broken, Narrow};
 use std::io;
 
 /// Gives single zero bytes without end.
@@ -15,12 +16,15 @@ impl Read for Endless {
     }
 }
 
-/// Gives nothing, and doesn't end.
+/// Gives nothing, and doesn't end. Counts how often it is read.
 #[derive(Drop)]
-struct Stalled;
+struct Stalled {
+    reads: u64,
+}
 
 impl Read for Stalled {
     fn read(&mut self, _buf: &mut [u8]) -> io::Result<usize> {
+        self.reads = self.reads.saturating_add(1);
         Err(io::Error::from(ErrorKind::Interrupted))
     }
 }
@@ -46,46 +50,6 @@ impl Read for Trickle {
             }
             _ => Ok(0),
         }
-    }
-}
-
-/// Gives a text and fails behind it.
-#[derive(Drop)]
-pub struct Broken<'a> {
-    pub rest: &'a [u8],
-}
-
-impl<'a> Read for Broken<'a> {
-    fn read(&mut self, buf: &mut [u8]) -> io::Result<usize> {
-        if self.rest.is_empty() {
-            return Err(io::Error::from(ErrorKind::ConnectionReset));
-        }
-        self.rest.read(buf)
-    }
-}
-
-/// Takes at most `step` bytes at a time, `room` in all, and then fails or takes none.
-#[derive(Drop)]
-pub struct Narrow {
-    pub taken: Vec<u8>,
-    pub step: usize,
-    pub room: usize,
-    pub fails: bool,
-}
-
-impl Write for Narrow {
-    fn write(&mut self, buf: &[u8]) -> io::Result<usize> {
-        let count = buf.len().min(self.step).min(self.room);
-        if count == 0 && self.fails {
-            return Err(io::Error::from(ErrorKind::BrokenPipe));
-        }
-        self.taken.extend_from_slice(&buf[..count])?;
-        self.room -= count;
-        Ok(count)
-    }
-
-    fn flush(&mut self) -> io::Result<()> {
-        Ok(())
     }
 }
 
@@ -166,10 +130,26 @@ fn an_input_is_read_so_often_at_most(rt: HostRuntime) {
     );
     assert!(rt;
         matches!(
-            read_within(alloc, &mut Stalled, 4, 100),
+            read_within(alloc, &mut Stalled { reads: 0 }, 4, 100),
             Err(ReadFault::Failed)
         )
     );
+}
+
+/// How much is read of so many bytes.
+fn read_of(alloc: Global, length: usize) -> Result<usize, ReadFault> {
+    let input = vec![in alloc; 7u8; length]?;
+    Ok(read_input(alloc, &mut input.as_slice())?.len())
+}
+
+#[test]
+fn the_longest_input_and_the_most_reads_are_these(rt: HostRuntime) {
+    let alloc = rt.alloc();
+    assert_eq!(rt; read_of(alloc, 8_388_608), Ok(8_388_608));
+    assert_eq!(rt; read_of(alloc, 8_388_609), Err(ReadFault::TooLong));
+    let mut stalled = Stalled { reads: 0 };
+    assert!(rt; matches!(read_input(alloc, &mut stalled), Err(ReadFault::Failed)));
+    assert_eq!(rt; stalled.reads, 10_000_000);
 }
 
 #[test]

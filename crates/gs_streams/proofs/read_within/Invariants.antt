@@ -1,6 +1,6 @@
 use Rattle.std.proofs.Common.{length, ◌≤◌}
 use Rattle.std.specs.Io.KnownBytes.{Consumes}
-use Rattle.gossip_sim.proofs.streams.read_within.Given as goal
+use Rattle.gs_streams.proofs.read_within.Given as goal
 
 -- what was read so far is the text
 abbrev pub invariant-loop : goal.invariant-loop
