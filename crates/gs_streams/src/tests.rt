@@ -177,3 +177,17 @@ fn a_text_is_written_piece_by_piece(rt: HostRuntime) {
     assert!(rt; writes(alloc, (0, 5, false), b"", false));
     assert!(rt; writes(alloc, (0, 5, true), b"", false));
 }
+
+#[test]
+fn a_line_is_told_as_far_as_there_is_room(rt: HostRuntime) {
+    for room in 0..8 {
+        let mut errors = Narrow {
+            taken: Vec::new(rt.alloc()),
+            step: 4,
+            room,
+            fails: true,
+        };
+        tell(&mut errors, "failed\n");
+        assert!(rt; errors.taken.as_slice() == &b"failed\n"[..room]);
+    }
+}

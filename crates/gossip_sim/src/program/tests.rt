@@ -1,5 +1,6 @@
 use super::*;
 use gs_peer::NoGate;
+use gs_scenario::read_plan;
 use gs_streams::LONGEST_INPUT;
 use gs_streams::fakes::{Broken, Narrow};
 use std::io;
