@@ -3,6 +3,8 @@ use Rattle.std.specs.Prelude.{◌≡◌, ◌≤◌, ◌<◌, ◌++◌, ℕ, List
 use Rattle.std.specs.Io.KnownBytes.{Appends, Keeps}
 use Rattle.gs_scenario.specs.declared.fault.ScenarioFault.{ScenarioFault}
 use Rattle.gs_scenario.specs.declared.fault.ScenarioFault.TheVariants.{Toml, Range, NoMemory}
+use Rattle.gs_scenario.specs.declared.reason.Found.TheVariants.{LongInput}
+use Rattle.gs_scenario.specs.declared.reason.Wanted.TheVariants.{ShortInput}
 use Rattle.gs_base.specs.declared.names.PeerNo.{PeerNo}
 use Rattle.gs_params.specs.declared.plan.Plan.{Plan}
 use Rattle.gs_workers.specs.declared.fault.NetFault.{NetFault}
@@ -25,10 +27,14 @@ pub record IsScenario (input : Option (List ℕ)) (plan : Plan) : Type 0 where
   pub readable : IsUtf8 text
   pub described : plan_of text ≡ Ok plan
 
+-- the refusal of an input that is too long: it is named as a place of its own
+abbrev pub input_too_long : ScenarioFault
+input_too_long = Range (codes "input") LongInput (ShortInput longest_input)
+
 -- Why bytes are refused: they are too many, whatever they are; they are no text; the text describes
 -- no plan; or there was no memory to find out.
 pub data IsRefusal (bytes : List ℕ) (fault : ScenarioFault) : Type 0 where
-  too_long : longest_input < length bytes → fault ≡ Range (codes "input") → IsRefusal bytes fault
+  too_long : longest_input < length bytes → fault ≡ input_too_long → IsRefusal bytes fault
   no_text : length bytes ≤ longest_input → ¬ (IsUtf8 bytes) → fault ≡ Toml → IsRefusal bytes fault
   no_plan : length bytes ≤ longest_input → IsUtf8 bytes → plan_of bytes ≡ Err fault → IsRefusal bytes fault
   no_memory : fault ≡ NoMemory → IsRefusal bytes fault

@@ -1,19 +1,19 @@
 //! The program: what it reads, what it writes and how it ends.
-ghost use Rattle.std.specs.Prelude.{◌≡◌, ◌≤◌, ◌⊎◌, IfErr, IfOk, IfSome, List, Option, ℕ, codes, length, string_bytes};
+ghost use Rattle.std.specs.Prelude.{◌≡◌, ◌≤◌, ◌⊎◌, IfErr, IfOk, IfSome, List, Option, ℕ, length, string_bytes};
 ghost use Rattle.std.specs.Process.{exit_status};
-ghost use Rattle.gossip_sim.specs.Program.{EndsAs, IsRefusal, IsScenario, TellsFault, TellsRefusal, peer_of, refusal_line, run_refusal_line, spaced_name, status_of};
+ghost use Rattle.gossip_sim.specs.Program.{EndsAs, IsRefusal, IsScenario, TellsFault, TellsRefusal, input_too_long, peer_of, refusal_line, run_refusal_line, spaced_name, status_of};
 ghost use Rattle.gs_params.specs.Plans.{IsInRange};
 ghost use Rattle.gossip_sim.specs.Report.{report_text};
 ghost use Rattle.gs_net.specs.Reports.{IsReport};
 ghost use Rattle.gossip_sim.specs.Streams.{AppendsFront, longest_input};
 
 use crate::report::{name_of, report_text};
-use crate::streams::{ReadFault, read_input, write_text};
+use crate::streams::{LONGEST_INPUT, ReadFault, read_input, write_text};
 use gs_base::{PeerNo, Text};
 use gs_net::{NetFault, Report, run_net};
 use gs_params::Plan;
 use gs_peer::Gate;
-use gs_scenario::{ScenarioFault, read_plan};
+use gs_scenario::{Found, ScenarioFault, Wanted, read_plan};
 use std::alloc::{AllocError, AllocGlobal, Global};
 use std::io::{Read, Write};
 use std::mem;
@@ -151,10 +151,13 @@ fn plan_from(alloc: Global, bytes: &[u8]) -> Result<Plan, ScenarioFault>
 
 /// The refusal of an input that is too long, whatever stands in it.
 fn input_too_long(alloc: Global) -> ScenarioFault
-    ensures { (result ≡ ScenarioFault.Range (codes "input")) ⊎ (result ≡ ScenarioFault.NoMemory) }
+    ensures { (result ≡ input_too_long) ⊎ (result ≡ ScenarioFault.NoMemory) }
 {
     match Text::from_str(alloc, "input") {
-        Ok(place) => ScenarioFault::Range(place),
+        Ok(place) => {
+            let wanted = Wanted::ShortInput(LONGEST_INPUT as u64);
+            ScenarioFault::Range(place, Found::LongInput, wanted)
+        }
         Err(_) => ScenarioFault::NoMemory,
     }
 }
