@@ -281,24 +281,31 @@ known_keys kinds.App = app_keys
 known_keys kinds.SubscriptionLine = line_keys []
 known_keys kinds.PublishLine = line_keys (hex_key.name ∷ [])
 
-unfoldable pub what_in : List (Topic × TopicParams) → Section → Verb → Result What ScenarioFault
-what_in topics section verbs.Subscribe = do
-  topic ← read_key section (topic_key topics)
-  Ok (Subscribe topic)
-what_in topics section verbs.Unsubscribe = do
-  topic ← read_key section (topic_key topics)
-  Ok (Unsubscribe topic)
-what_in topics section verbs.Publish = do
-  topic ← read_key section (topic_key topics)
+-- what a line with this word tells, of a topic
+abbrev pub told_in : Section → Topic → Verb → Result What ScenarioFault
+told_in section topic verbs.Subscribe = Ok (Subscribe topic)
+told_in section topic verbs.Unsubscribe = Ok (Unsubscribe topic)
+told_in section topic verbs.Publish = do
   payload ← read_key section hex_key
   Ok (Publish topic payload)
+
+unfoldable pub what_in : List (Topic × TopicParams) → Section → Verb → Result What ScenarioFault
+what_in topics section verb = do
+  topic ← read_key section (topic_key topics)
+  told_in section topic verb
+
+-- what a line tells, which has no other key than one that tells this may have
+unfoldable pub verb_in : Section → Result Verb ScenarioFault
+verb_in section = do
+  verb ← read_key section what_key
+  _ ← only (line_kind verb) (known_keys (line_kind verb)) section
+  Ok verb
 
 unfoldable pub line_in : List (Topic × TopicParams) → List PlannedPeer → ℕ → List Line → Data
     → Result Line ScenarioFault
 line_in topics peers rounds earlier d = do
   section ← table_at (element (codes "do") (length earlier)) d
-  verb ← read_key section what_key
-  _ ← only (line_kind verb) (known_keys (line_kind verb)) section
+  verb ← verb_in section
   round ← read_key section (at_key rounds)
   peer ← read_key section (peer_key peers)
   what ← what_in topics section verb

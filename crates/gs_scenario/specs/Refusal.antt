@@ -20,7 +20,7 @@ found_of (float x) = found.Float
 found_of (boolean b) = found.TruthValue b
 found_of (datetime time) = found.Date
 found_of (array ds) = found.List (item_count ds)
-found_of (table members) = found.Table
+found_of (table entries) = found.Table
 
 -- the number of a refusal
 abbrev pub number_of : ScenarioFault → ℕ

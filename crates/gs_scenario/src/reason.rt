@@ -63,18 +63,19 @@ pub enum Found {
 
 impl Found {
     /// What a value is found to be.
+    #[tactic(auto, using(crate::proofs::Lists::item_count_view))]
     pub(crate) fn of(alloc: Global, value: &Value) -> Result<Found, AllocError>
         ensures { IfOk result (λ found. found ≡ found_of (view value.now)) }
     {
-        Ok(match value {
-            Value::String(text) => Found::Text(Text::from_str(alloc, text.as_str())?),
-            Value::Integer(number) => Found::Number(*number),
-            Value::Float(_) => Found::Float,
-            Value::Boolean(value) => Found::TruthValue(*value),
-            Value::Datetime(_) => Found::Date,
-            Value::Array(list) => Found::List(list.len()),
-            Value::Table(_) => Found::Table,
-        })
+        match value {
+            Value::String(text) => Ok(Found::Text(Text::from_str(alloc, text.as_str())?)),
+            Value::Integer(number) => Ok(Found::Number(*number)),
+            Value::Float(_) => Ok(Found::Float),
+            Value::Boolean(value) => Ok(Found::TruthValue(*value)),
+            Value::Datetime(_) => Ok(Found::Date),
+            Value::Array(list) => Ok(Found::List(list.len())),
+            Value::Table(_) => Ok(Found::Table),
+        }
     }
 }
 

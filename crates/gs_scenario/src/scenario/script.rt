@@ -6,7 +6,7 @@ ghost use Rattle.gs_scenario.specs.Refusal.{Gives};
 ghost use Rattle.gs_scenario.specs.Keys.{read_each};
 ghost use Rattle.gs_scenario.specs.Kinds.{word};
 ghost use Rattle.gs_scenario.specs.Views.{read_as, section_of};
-ghost use Rattle.gs_scenario.specs.PlanOf.{line_in, what_in, verb_of, line_kind, known_keys};
+ghost use Rattle.gs_scenario.specs.PlanOf.{line_in, what_in, verb_in, verb_of, line_kind, known_keys};
 
 use crate::fault::ScenarioFault;
 use crate::reason::Wanted;
@@ -95,7 +95,7 @@ pub fn lines_in(
 }
 
 /// The line that stands in the list after the earlier ones.
-#[tactic(auto, unfolding(crate::specs::PlanOf::line_in, crate::specs::Keys::only))]
+#[tactic(auto, unfolding(crate::specs::PlanOf::line_in))]
 fn line_in(
     alloc: Global,
     known: &Known<'_>,
@@ -111,13 +111,11 @@ fn line_in(
         index: earlier.len(),
     };
     let section = table_of(alloc, element, value)?;
-    let verb = verb_in(&section.required(WHAT)?)?;
-    section.only(verb.line_kind())?;
-    Ok(Line {
-        at: section.number(AT, 0, known.rounds)?,
-        peer: peer_of(known.peers, &section.required(PEER)?)?,
-        what: what_in(known.topics, &section, verb)?,
-    })
+    let verb = verb_in(&section)?;
+    let at = section.number(AT, 0, known.rounds)?;
+    let peer = peer_of(known.peers, &section.required(PEER)?)?;
+    let what = what_in(known.topics, &section, verb)?;
+    Ok(Line { at, peer, what })
 }
 
 /// What a peer is told to do by a line that begins with a word.
@@ -133,8 +131,18 @@ fn what_in(topics: &[TopicEntry], section: &Section<'_>, verb: Verb) -> Result<W
     }
 }
 
+/// What a line tells a peer, which has no other key than one that tells this may have.
+#[tactic(auto, unfolding(crate::specs::PlanOf::verb_in))]
+fn verb_in(section: &Section<'_>) -> Result<Verb, ScenarioFault>
+    ensures { Gives (λ verb. verb) result (verb_in (section_of section.now)) }
+{
+    let verb = verb_at(&section.required(WHAT)?)?;
+    section.only(verb.line_kind())?;
+    Ok(verb)
+}
+
 /// The word that a value is.
-fn verb_in(field: &Field<'_>) -> Result<Verb, ScenarioFault>
+fn verb_at(field: &Field<'_>) -> Result<Verb, ScenarioFault>
     ensures { Gives (λ verb. verb) result (read_as (word verb_of) field.now) }
 {
     if let Some(text) = field.value.as_str() {
