@@ -47,7 +47,12 @@ where
     match answer_to(alloc, input) {
         Ok(Answer { verdict, text }) => tell_answer(verdict, &text, output, errors),
         Err(NoAnswer::NoMemory) => {
-            tell_answer(Verdict::NoMemory, NO_MEMORY_ANSWER.as_bytes(), output, errors)
+            tell_answer(
+                Verdict::NoMemory,
+                NO_MEMORY_ANSWER.as_bytes(),
+                output,
+                errors,
+            )
         }
         Err(NoAnswer::InputFailed) => {
             tell(errors, "input failed\n");

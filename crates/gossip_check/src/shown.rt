@@ -47,4 +47,3 @@ fn write_escaped<W: fmt::Write>(f: &mut fmt::Formatter<W>, character: char) -> f
         _ => write!(f, "{}", character.escape_debug()),
     }
 }
-

@@ -16,7 +16,11 @@ struct Count<'a> {
 
 impl<'a> fmt::Display for Count<'a> {
     fn fmt<W: fmt::Write>(&self, f: &mut fmt::Formatter<W>) -> fmt::Result {
-        let noun = if self.number == 1 { self.one } else { self.many };
+        let noun = if self.number == 1 {
+            self.one
+        } else {
+            self.many
+        };
         write!(f, "{} {noun}", self.number)
     }
 }

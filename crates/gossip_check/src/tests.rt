@@ -126,7 +126,12 @@ fn writes_front(alloc: Global, room: usize) -> bool {
         fails: true,
     };
     let mut errors = Vec::new(alloc);
-    let ended = run(alloc, &mut b"round_ms = 0.5".as_slice(), &mut output, &mut errors);
+    let ended = run(
+        alloc,
+        &mut b"round_ms = 0.5".as_slice(),
+        &mut output,
+        &mut errors,
+    );
     ended == ExitStatus::OutputFailed
         && output.taken.as_slice() == &answer[..room.min(answer.len())]
         && errors.as_slice() == b"output failed\n".as_slice()

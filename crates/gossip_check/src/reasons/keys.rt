@@ -12,20 +12,48 @@ const LONGEST_NEAR: usize = 40;
 type Required = (&'static str, &'static str, &'static str);
 
 static REQUIRED: [Required; 19] = [
-    ("", "round_ms", "the milliseconds of a round, a whole number from 1 to 60000"),
-    ("", "rounds", "the number of the last round, a whole number from 1 to 100000"),
-    ("", "workers", "how many threads run the peers, a whole number from 1 to 16"),
-    ("", "capacity", "how many items a link holds, a whole number from 1 to 1024"),
+    (
+        "",
+        "round_ms",
+        "the milliseconds of a round, a whole number from 1 to 60000",
+    ),
+    (
+        "",
+        "rounds",
+        "the number of the last round, a whole number from 1 to 100000",
+    ),
+    (
+        "",
+        "workers",
+        "how many threads run the peers, a whole number from 1 to 16",
+    ),
+    (
+        "",
+        "capacity",
+        "how many items a link holds, a whole number from 1 to 1024",
+    ),
     ("", "seed", "a whole number from 0 to 9223372036854775807"),
-    ("", "topic", "a list of 1 to 32 tables, each written under `[[topic]]`"),
-    ("", "peer", "a list of 1 to 64 tables, each written under `[[peer]]`"),
+    (
+        "",
+        "topic",
+        "a list of 1 to 32 tables, each written under `[[topic]]`",
+    ),
+    (
+        "",
+        "peer",
+        "a list of 1 to 64 tables, each written under `[[peer]]`",
+    ),
     ("topic", "name", "a name that no other topic has"),
     ("peer", "name", "a name that no other peer has"),
     ("dial", "from", "the name of a peer"),
     ("dial", "to", "the name of another peer"),
     ("app", "peer", "the name of a peer"),
     ("app", "about", "the name of a neighbour of that peer"),
-    ("app", "value", "millionths, a whole number from -1000000000 to 1000000000"),
+    (
+        "app",
+        "value",
+        "millionths, a whole number from -1000000000 to 1000000000",
+    ),
     ("do", "what", "`subscribe`, `unsubscribe` or `publish`"),
     ("do", "at", "the number of a round, from 0 to `rounds`"),
     ("do", "peer", "the name of a peer"),
