@@ -1,3 +1,2 @@
-pub mod Streams
 pub mod Report
 pub mod Program

@@ -1,8 +1,8 @@
 -- How a run of the program ends, and what it has then written.
-use Rattle.std.specs.Prelude.{◌≡◌, ◌≤◌, ◌<◌, ◌++◌, ℕ, List, [], length, codes, decimal, Option, Some, None, IfSome, Ok, Err, IsUtf8, ◌⊎◌}
+use Rattle.std.specs.Prelude.{◌≡◌, ◌++◌, ℕ, List, [], codes, decimal, Option, Some, None, IfSome, ◌⊎◌}
 use Rattle.std.specs.Io.KnownBytes.{Appends, Keeps}
 use Rattle.gs_scenario.specs.declared.fault.ScenarioFault.{ScenarioFault}
-use Rattle.gs_scenario.specs.declared.fault.ScenarioFault.TheVariants.{Toml, Range, NoMemory}
+use Rattle.gs_scenario.specs.declared.fault.ScenarioFault.TheVariants.{NoMemory}
 use Rattle.gs_base.specs.declared.names.PeerNo.{PeerNo}
 use Rattle.gs_params.specs.declared.plan.Plan.{Plan}
 use Rattle.gs_workers.specs.declared.fault.NetFault.{NetFault}
@@ -10,28 +10,12 @@ use Rattle.gs_workers.specs.declared.fault.NetFault.TheVariants as faults
 use Rattle.gs_net.specs.declared.report.Report.{Report}
 use Rattle.gossip_sim.specs.declared.program.ExitStatus.{ExitStatus}
 use Rattle.gossip_sim.specs.declared.program.ExitStatus.TheVariants as ends
-use Rattle.gs_scenario.specs.PlanOf.{plan_of}
 use Rattle.gs_scenario.specs.Refusal.{refusal_text}
 use Rattle.gs_workers.specs.Faults.{number_of}
 use Rattle.gossip_sim.specs.Report.{name_of, report_text}
 use Rattle.gs_net.specs.Reports.{IsReport}
-use Rattle.gossip_sim.specs.Streams.{AppendsFront, longest_input}
-
--- The plan is what the whole input describes. Where the input's bytes are not known, some text does.
-pub record IsScenario (input : Option (List ℕ)) (plan : Plan) : Type 0 where
-  pub text : List ℕ
-  pub whole : IfSome input (λ bytes. text ≡ bytes)
-  pub short : length text ≤ longest_input
-  pub readable : IsUtf8 text
-  pub described : plan_of text ≡ Ok plan
-
--- Why bytes are refused: they are too many, whatever they are; they are no text; the text describes
--- no plan; or there was no memory to find out.
-pub data IsRefusal (bytes : List ℕ) (fault : ScenarioFault) : Type 0 where
-  too_long : longest_input < length bytes → fault ≡ Range (codes "input") → IsRefusal bytes fault
-  no_text : length bytes ≤ longest_input → ¬ (IsUtf8 bytes) → fault ≡ Toml → IsRefusal bytes fault
-  no_plan : length bytes ≤ longest_input → IsUtf8 bytes → plan_of bytes ≡ Err fault → IsRefusal bytes fault
-  no_memory : fault ≡ NoMemory → IsRefusal bytes fault
+use Rattle.gs_input.specs.Inputs.{IsRefusal, IsScenario}
+use Rattle.gs_streams.specs.Streams.{AppendsFront}
 
 abbrev pub refusal_line : ScenarioFault → List ℕ
 refusal_line fault = codes "scenario refused: " ++ refusal_text fault ++ codes "\n"
@@ -92,7 +76,7 @@ pub record RunRefused (input output output' errors errors' : Option (List ℕ)) 
   pub tells : TellsFault plan fault errors errors'
   pub silent : Keeps output output'
 
--- the input could not be read
+-- a read of the input failed, or the reads ran out
 pub record InputFailed (output output' errors errors' : Option (List ℕ)) : Type 0 where
   pub line : AppendsFront errors errors' (codes "input failed\n")
   pub silent : Keeps output output'

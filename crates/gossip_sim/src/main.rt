@@ -3,7 +3,6 @@
 
 mod program;
 mod report;
-mod streams;
 
 use gs_peer::NoGate;
 use std::process::ExitCode;

@@ -1,19 +1,20 @@
 //! The program: what it reads, what it writes and how it ends.
-ghost use Rattle.std.specs.Prelude.{◌≡◌, ◌≤◌, ◌⊎◌, IfErr, IfOk, IfSome, List, Option, ℕ, codes, length, string_bytes};
+ghost use Rattle.std.specs.Prelude.{◌≡◌, IfErr, IfOk, IfSome, List, Option, ℕ, string_bytes};
 ghost use Rattle.std.specs.Process.{exit_status};
-ghost use Rattle.gossip_sim.specs.Program.{EndsAs, IsRefusal, IsScenario, TellsFault, TellsRefusal, peer_of, refusal_line, run_refusal_line, spaced_name, status_of};
+ghost use Rattle.gossip_sim.specs.Program.{EndsAs, TellsFault, TellsRefusal, peer_of, refusal_line, run_refusal_line, spaced_name, status_of};
+ghost use Rattle.gs_input.specs.Inputs.{IsRefusal, IsScenario};
 ghost use Rattle.gs_params.specs.Plans.{IsInRange};
 ghost use Rattle.gossip_sim.specs.Report.{report_text};
 ghost use Rattle.gs_net.specs.Reports.{IsReport};
-ghost use Rattle.gossip_sim.specs.Streams.{AppendsFront, longest_input};
 
 use crate::report::{name_of, report_text};
-use crate::streams::{ReadFault, read_input, write_text};
-use gs_base::{PeerNo, Text};
+use gs_base::PeerNo;
+use gs_input::{input_too_long, plan_from};
 use gs_net::{NetFault, Report, run_net};
 use gs_params::Plan;
 use gs_peer::Gate;
-use gs_scenario::{ScenarioFault, read_plan};
+use gs_scenario::ScenarioFault;
+use gs_streams::{ReadFault, read_input, tell, write_text};
 use std::alloc::{AllocError, AllocGlobal, Global};
 use std::io::{Read, Write};
 use std::mem;
@@ -31,7 +32,7 @@ pub enum ExitStatus {
     ScenarioRefused,
     /// The run met a fault, or there was no memory to report on it.
     RunRefused,
-    /// The input could not be read.
+    /// A read of the input failed, or it was read `MOST_READS` times and had not ended.
     InputFailed,
     /// The report could not be written.
     OutputFailed,
@@ -111,7 +112,7 @@ where
 /// Why there is no plan to run.
 #[derive(Debug, Drop)]
 enum NoPlan {
-    /// The input could not be read.
+    /// A read of the input failed, or the reads ran out.
     InputFailed,
     /// What was read is refused.
     Refused(ScenarioFault),
@@ -133,29 +134,6 @@ fn plan_in<R: Read>(alloc: Global, input: &mut R) -> Result<Plan, NoPlan>
         Err(ReadFault::Failed) => Err(NoPlan::InputFailed),
         Err(ReadFault::TooLong) => Err(NoPlan::Refused(input_too_long(alloc))),
         Err(ReadFault::NoMemory) => Err(NoPlan::Refused(ScenarioFault::NoMemory)),
-    }
-}
-
-/// The plan that the bytes of a text describe.
-fn plan_from(alloc: Global, bytes: &[u8]) -> Result<Plan, ScenarioFault>
-    requires { length bytes.now ≤ longest_input }
-    ensures found { IfOk result (λ plan. IsScenario (Some bytes.now) plan) }
-    ensures in_range { IfOk result (λ plan. IsInRange plan) }
-    ensures refused { IfErr result (IsRefusal bytes.now) }
-{
-    match str::from_utf8(bytes) {
-        Ok(text) => read_plan(alloc, text),
-        Err(_) => Err(ScenarioFault::Toml),
-    }
-}
-
-/// The refusal of an input that is too long, whatever stands in it.
-fn input_too_long(alloc: Global) -> ScenarioFault
-    ensures { (result ≡ ScenarioFault.Range (codes "input")) ⊎ (result ≡ ScenarioFault.NoMemory) }
-{
-    match Text::from_str(alloc, "input") {
-        Ok(place) => ScenarioFault::Range(place),
-        Err(_) => ScenarioFault::NoMemory,
     }
 }
 
@@ -236,13 +214,6 @@ fn peer_of(fault: NetFault) -> Option<PeerNo>
         NetFault::NoMemory(peer) => peer,
         NetFault::NoThread => None,
     }
-}
-
-/// Writes a line, or a front of it: there is nowhere to report that this fails.
-fn tell<E: Write>(errors: &mut E, line: &str)
-    ensures { AppendsFront (E.contents errors.old) (E.contents errors.new) line.now }
-{
-    let _ = write_text(errors, line.as_bytes());
 }
 
 #[cfg(test)]

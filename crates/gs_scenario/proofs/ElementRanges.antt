@@ -16,13 +16,16 @@ use Rattle.gs_params.specs.declared.plan.Dial.{Dial}
 use Rattle.gs_params.specs.declared.plan.Line.{Line}
 use Rattle.gs_params.specs.declared.plan.PlannedPeer.{PlannedPeer}
 use Rattle.gs_params.specs.declared.plan.What.{What}
-use Rattle.gs_params.specs.declared.plan.What.TheVariants.{Subscribe, Unsubscribe, Publish}
+use Rattle.gs_params.specs.declared.plan.What.TheVariants.{Publish}
 use Rattle.gs_scenario.specs.declared.scenario.script.Verb.{Verb}
 use Rattle.gs_scenario.specs.declared.scenario.script.Verb.TheVariants as verbs
+use Rattle.gs_scenario.specs.declared.reason.NameKind.TheVariants as names
+use Rattle.gs_scenario.specs.declared.scenario.tables.TableKind.TheVariants as kinds
+use Rattle.gs_scenario.specs.Refusal.{item_count}
 use Rattle.gs_scenario.specs.Keys.{Section, only, read_key, read_each}
-use Rattle.gs_scenario.specs.Kinds.{whole_number, signed_number, item_count, reference, new_name, element, table_at}
+use Rattle.gs_scenario.specs.Kinds.{whole_number, signed_number, name_text, reference, new_name, element, table_at}
 use Rattle.gs_scenario.specs.TopicParamsOf.{topic_params_in}
-use Rattle.gs_scenario.specs.PlanOf.{from_key, to_key, dial_keys, topic_name_key, topic_keys, peer_name_key, address_key, words_key, peer_keys, peer_key, about_key, value_key, app_keys, what_key, at_key, topic_key, hex_key, keys_of, topic_named, topic_in, peer_named, peer_in, other_peer, dial_in, neighbour, app_in, what_in, line_in}
+use Rattle.gs_scenario.specs.PlanOf.{from_key, to_key, dial_keys, topic_name_key, topic_keys, peer_name_key, address_key, words_key, peer_keys, peer_key, about_key, value_key, app_keys, at_key, topic_key, hex_key, topic_named, topic_in, peer_named, peer_in, other_peer, dial_in, neighbour, app_in, told_in, what_in, verb_in, line_in}
 use Rattle.gs_scenario.proofs.Ranges.{next, past, not_refused, at_required, number_is, signed_is, reference_is, not_failed, each_is, count_is, none_at, and_also, new_is, no_position, not_found, differ_push, no_pairs, same_bytes}
 
 -- ---- names
@@ -37,8 +40,8 @@ named_is peers text =
     number_below (length peers) (position (λ peer. pointwise nat_eq peer.name text) peers)
     (λ i e. (position-Some (λ (peer : PlannedPeer). pointwise nat_eq peer.name text) peers i (record { name = []; address = []; words = [] }) e).0)
 
-pub peer_is : (peers : List PlannedPeer) (place : List ℕ) (d : Data) → IfOk (reference (peer_named peers) place d) (IsOneOf peers)
-peer_is peers = reference_is (IsOneOf peers) (peer_named peers) (named_is peers)
+pub peer_is : (peers : List PlannedPeer) (place : List ℕ) (d : Data) → IfOk (reference names.Peer (peer_named peers) place d) (IsOneOf peers)
+peer_is peers = reference_is (IsOneOf peers) names.Peer (peer_named peers) (named_is peers)
 
 -- a topic that is found by a test is one of them
 or_later : (a b : Bool) → b ≡ true → (a || b) ≡ true
@@ -56,8 +59,8 @@ found_is p (x ∷ topics) = elim (p x) as (λ b. IfSome (option_map (λ (found :
     later None h = tt
     later (Some y) h = or_later _ _ h
 
-pub topic_is : (topics : List (Topic × TopicParams)) (place : List ℕ) (d : Data) → IfOk (reference (topic_named topics) place d) (λ topic. has_topic topics topic ≡ true)
-topic_is topics = reference_is (λ topic. has_topic topics topic ≡ true) (topic_named topics) (λ text. found_is (λ (topic : Topic × TopicParams). pointwise nat_eq topic.0.0 text) topics)
+pub topic_is : (topics : List (Topic × TopicParams)) (place : List ℕ) (d : Data) → IfOk (reference names.Topic (topic_named topics) place d) (λ topic. has_topic topics topic ≡ true)
+topic_is topics = reference_is (λ topic. has_topic topics topic ≡ true) names.Topic (topic_named topics) (λ text. found_is (λ (topic : Topic × TopicParams). pointwise nat_eq topic.0.0 text) topics)
 
 -- ---- peers and topics
 
@@ -81,7 +84,7 @@ unfolding peer_in
 name_is earlier d h =
     let P = λ (peer : PlannedPeer). NamesDiffer (earlier ++ peer ∷ []) in
     past P (table_at (element (codes "peer") (length earlier)) d) _ (λ section.
-    past P (only peer_keys section) _ (λ none.
+    past P (only kinds.Peer peer_keys section) _ (λ none.
     next (IsNewName earlier) P (read_key section (peer_name_key earlier)) _ (at_required (IsNewName earlier) (peer_name_key earlier).name (new_name (peer_named earlier)) section (new_name_is earlier)) (λ text new.
     past P (read_key section (address_key text)) _ (λ address.
     past P (read_key section words_key) _ (λ firsts.
@@ -115,7 +118,7 @@ unfolding topic_in
 topic_name_is earlier d h =
     let P = λ (topic : Topic × TopicParams). TopicsDiffer (earlier ++ topic ∷ []) in
     past P (table_at (element (codes "topic") (length earlier)) d) _ (λ section.
-    past P (only topic_keys section) _ (λ none.
+    past P (only kinds.Topic topic_keys section) _ (λ none.
     next (IsNewTopic earlier) P (read_key section (topic_name_key earlier)) _ (at_required (IsNewTopic earlier) (topic_name_key earlier).name (new_name (topic_named earlier)) section (new_topic_is earlier)) (λ text new.
     past P (topic_params_in section) _ (λ params.
     let name : Topic = record { 0 = text } in
@@ -143,7 +146,7 @@ IsOther peers one other = IsOneOf peers other × (same_peer one other ≡ false)
 
 other_is : (peers : List PlannedPeer) (one : PeerNo) (place : List ℕ) (d : Data) → IfOk (other_peer peers one place d) (IsOther peers one)
 other_is peers one place d =
-    next (IsOneOf peers) (IsOther peers one) (reference (peer_named peers) place d) _ (peer_is peers place d)
+    next (IsOneOf peers) (IsOther peers one) (reference names.Peer (peer_named peers) place d) _ (peer_is peers place d)
     (λ other known. not_refused (IsOther peers one) (one.0 == other.0) _ other (λ e. (known, e)))
 
 one_dial_more : (peers : List PlannedPeer) (earlier : List Dial) (dial : Dial) → IsOneOf peers dial.from → IsOther peers dial.from dial.to → list_any (join_the_same dial) earlier ≡ false → DialsAre peers earlier → DialsAre peers (earlier ++ dial ∷ [])
@@ -159,8 +162,8 @@ unfolding dial_in
 dial_is peers earlier d h =
     let P = λ (dial : Dial). DialsAre peers (earlier ++ dial ∷ []) in
     past P (table_at (element (codes "dial") (length earlier)) d) _
-    (λ section. past P (only dial_keys section) _
-    (λ none. next (IsOneOf peers) P (read_key section (from_key peers)) _ (at_required (IsOneOf peers) (from_key peers).name (reference (peer_named peers)) section (peer_is peers))
+    (λ section. past P (only kinds.Dial dial_keys section) _
+    (λ none. next (IsOneOf peers) P (read_key section (from_key peers)) _ (at_required (IsOneOf peers) (from_key peers).name (reference names.Peer (peer_named peers)) section (peer_is peers))
     (λ one from. next (IsOther peers one) P (read_key section (to_key peers one)) _ (at_required (IsOther peers one) (to_key peers one).name (other_peer peers one) section (other_is peers one))
     (λ other to.
     let dial : Dial = record { from = one; to = other } in
@@ -180,8 +183,9 @@ pub record AppsAre (peers : List PlannedPeer) (dials : List Dial) (apps : List A
 neighbour_is : (peers : List PlannedPeer) (dials : List Dial) (one : PeerNo) (place : List ℕ) (d : Data) → IfOk (neighbour peers dials one place d) (λ other. are_joined dials one other ≡ true)
 neighbour_is peers dials one place d =
     let P = λ (other : PeerNo). are_joined dials one other ≡ true in
-    past P (reference (peer_named peers) place d) _
-    (λ other. not_refused P (not (are_joined dials one other)) _ other (not_failed (are_joined dials one other)))
+    past P (name_text place d) _
+    (λ text. past P (reference names.Peer (peer_named peers) place d) _
+    (λ other. not_refused P (not (are_joined dials one other)) _ other (not_failed (are_joined dials one other))))
 
 one_app_more : (peers : List PlannedPeer) (dials : List Dial) (earlier : List App) (app : App) → IsOneOf peers app.peer → are_joined dials app.peer app.about ≡ true → IsAppScore app.value → list_any (are_of_the_same app) earlier ≡ false → AppsAre peers dials earlier → AppsAre peers dials (earlier ++ app ∷ [])
 one_app_more peers dials earlier app of about value new h = record {
@@ -196,8 +200,8 @@ unfolding app_in
 app_is peers dials earlier d h =
     let P = λ (app : App). AppsAre peers dials (earlier ++ app ∷ []) in
     past P (table_at (element (codes "app") (length earlier)) d) _
-    (λ section. past P (only app_keys section) _
-    (λ none. next (IsOneOf peers) P (read_key section (peer_key peers)) _ (at_required (IsOneOf peers) (peer_key peers).name (reference (peer_named peers)) section (peer_is peers))
+    (λ section. past P (only kinds.App app_keys section) _
+    (λ none. next (IsOneOf peers) P (read_key section (peer_key peers)) _ (at_required (IsOneOf peers) (peer_key peers).name (reference names.Peer (peer_named peers)) section (peer_is peers))
     (λ peer of. next (λ other. are_joined dials peer other ≡ true) P (read_key section (about_key peers dials peer)) _ (at_required (λ other. are_joined dials peer other ≡ true) (about_key peers dials peer).name (neighbour peers dials peer) section (neighbour_is peers dials peer))
     (λ about joined. next IsAppScore P (read_key section value_key) _ (at_required IsAppScore value_key.name (signed_number (neg_ℤ highest_app_score) highest_app_score) section (signed_is (neg_ℤ highest_app_score) highest_app_score))
     (λ value is_score.
@@ -219,19 +223,18 @@ abbrev IsOn : List (Topic × TopicParams) → What → Type 0
 IsOn topics what = has_topic topics (topic_of what) ≡ true
 
 topic_at : (topics : List (Topic × TopicParams)) (section : Section) → IfOk (read_key section (topic_key topics)) (λ topic. has_topic topics topic ≡ true)
-topic_at topics section = at_required (λ topic. has_topic topics topic ≡ true) (topic_key topics).name (reference (topic_named topics)) section (topic_is topics)
+topic_at topics section = at_required (λ topic. has_topic topics topic ≡ true) (topic_key topics).name (reference names.Topic (topic_named topics)) section (topic_is topics)
+
+told_is : (topics : List (Topic × TopicParams)) (section : Section) (topic : Topic) (verb : Verb) → has_topic topics topic ≡ true → IfOk (told_in section topic verb) (IsOn topics)
+told_is topics section topic verbs.Subscribe h = h
+told_is topics section topic verbs.Unsubscribe h = h
+told_is topics section topic verbs.Publish h = past (IsOn topics) (read_key section hex_key) (λ payload. Ok (Publish topic payload)) (λ payload. h)
 
 what_is : (topics : List (Topic × TopicParams)) (section : Section) (verb : Verb) → IfOk (what_in topics section verb) (IsOn topics)
 unfolding what_in
-what_is topics section verbs.Subscribe =
-    next (λ topic. has_topic topics topic ≡ true) (IsOn topics) (read_key section (topic_key topics)) (λ topic. Ok (Subscribe topic)) (topic_at topics section)
-    (λ topic h. h)
-what_is topics section verbs.Unsubscribe =
-    next (λ topic. has_topic topics topic ≡ true) (IsOn topics) (read_key section (topic_key topics)) (λ topic. Ok (Unsubscribe topic)) (topic_at topics section)
-    (λ topic h. h)
-what_is topics section verbs.Publish =
+what_is topics section verb =
     next (λ topic. has_topic topics topic ≡ true) (IsOn topics) (read_key section (topic_key topics)) _ (topic_at topics section)
-    (λ topic h. past (IsOn topics) (read_key section hex_key) (λ payload. Ok (Publish topic payload)) (λ payload. h))
+    (λ topic h. told_is topics section topic verb h)
 
 one_line_more : (topics : List (Topic × TopicParams)) (peers : List PlannedPeer) (rounds : ℕ) (earlier : List Line) (line : Line) → IsOneOf peers line.peer → line.at ≤ rounds → has_topic topics (topic_of line.what) ≡ true → LinesAre topics peers rounds earlier → LinesAre topics peers rounds (earlier ++ line ∷ [])
 one_line_more topics peers rounds earlier line of at on h = record {
@@ -245,12 +248,11 @@ unfolding line_in
 line_is topics peers rounds earlier d h =
     let P = λ (line : Line). LinesAre topics peers rounds (earlier ++ line ∷ []) in
     past P (table_at (element (codes "do") (length earlier)) d) _
-    (λ section. past P (read_key section what_key) _
-    (λ verb. past P (only (keys_of verb) section) _
-    (λ none. next (λ n. (0 ≤ n) × (n ≤ rounds)) P (read_key section (at_key rounds)) _ (at_required (λ n. (0 ≤ n) × (n ≤ rounds)) (at_key rounds).name (whole_number 0 rounds) section (number_is 0 rounds))
-    (λ round at. next (IsOneOf peers) P (read_key section (peer_key peers)) _ (at_required (IsOneOf peers) (peer_key peers).name (reference (peer_named peers)) section (peer_is peers))
+    (λ section. past P (verb_in section) _
+    (λ verb. next (λ n. (0 ≤ n) × (n ≤ rounds)) P (read_key section (at_key rounds)) _ (at_required (λ n. (0 ≤ n) × (n ≤ rounds)) (at_key rounds).name (whole_number 0 rounds) section (number_is 0 rounds))
+    (λ round at. next (IsOneOf peers) P (read_key section (peer_key peers)) _ (at_required (IsOneOf peers) (peer_key peers).name (reference names.Peer (peer_named peers)) section (peer_is peers))
     (λ peer of. next (IsOn topics) P (what_in topics section verb) (λ what. Ok (record { at = round; peer = peer; what = what })) (what_is topics section verb)
-    (λ what on. one_line_more topics peers rounds earlier (record { at = round; peer = peer; what = what }) of at.1 on h))))))
+    (λ what on. one_line_more topics peers rounds earlier (record { at = round; peer = peer; what = what }) of at.1 on h)))))
 
 pub lines_are : (topics : List (Topic × TopicParams)) (peers : List PlannedPeer) (rounds : ℕ) (ds : Items) → IfOk (read_each (line_in topics peers rounds) [] ds) (LinesAre topics peers rounds)
 lines_are topics peers rounds ds = each_is (LinesAre topics peers rounds) (line_in topics peers rounds) (line_is topics peers rounds) [] ds (record { of = All-nil _; at = All-nil _; on = All-nil _ })

@@ -17,11 +17,12 @@ use Rattle.gs_params.specs.declared.plan.Plan.{Plan}
 use Rattle.gs_params.specs.declared.plan.PlannedPeer.{PlannedPeer}
 use Rattle.gs_scenario.specs.declared.fault.ScenarioFault.{ScenarioFault}
 use Rattle.gs_scenario.specs.declared.scenario.params.Shared.{Shared}
+use Rattle.gs_scenario.specs.declared.scenario.tables.TableKind.TheVariants as kinds
 use Rattle.gs_scenario.specs.Keys.{Section, only, required, read_key, read_each}
-use Rattle.gs_scenario.specs.Kinds.{whole_number, item_count, list_of, section_at}
-use Rattle.gs_scenario.specs.ParamsOf.{count_key, heartbeat_ms_key, decay_ms_key, fanout_ttl_ms_key, seen_ttl_ms_key, iwant_followup_ms_key, prune_backoff_s_key, unsubscribe_backoff_s_key, mcache_len_key, mcache_gossip_key, opportunistic_ticks_key, opportunistic_peers_key, max_ihave_key, max_ihave_ids_key, gossip_retransmission_key, degrees_in, thresholds_in, factors_in, windows_in, flood_publish_key, shared_names, shared_in, params_of, or_refuse_params, with_topics}
+use Rattle.gs_scenario.specs.Kinds.{whole_number, list_of, section_at}
+use Rattle.gs_scenario.specs.ParamsOf.{highest_number, heartbeat_ms_key, decay_ms_key, fanout_ttl_ms_key, seen_ttl_ms_key, iwant_followup_ms_key, prune_backoff_s_key, unsubscribe_backoff_s_key, mcache_len_key, mcache_gossip_key, opportunistic_ticks_key, opportunistic_peers_key, max_ihave_key, max_ihave_ids_key, gossip_retransmission_key, degrees_in, thresholds_in, factors_in, windows_in, flood_publish_key, shared_names, shared_in, params_of, or_refuse_params, with_topics}
 use Rattle.gs_scenario.specs.PlanOf.{Top, round_ms_key, rounds_key, workers_key, capacity_key, seed_key, params_key, topics_key, peers_key, dials_key, apps_key, script_key, top_keys, top_in, topic_in, peer_in, dial_in, app_in, line_in, plan_in, plan_of_document, plan_of}
-use Rattle.gs_scenario.specs.Refusal.{Gives}
+use Rattle.gs_scenario.specs.Refusal.{Gives, item_count}
 use Rattle.gs_scenario.proofs.Checked.{same_of_checked, checked_again}
 use Rattle.gs_scenario.proofs.Ranges.{next, past, at_required, number_is, list_is, multiple_is}
 use Rattle.gs_scenario.proofs.ElementRanges.{PeersAre, peers_are, TopicsDiffer, TopicsAre, topics_are, DialsAre, dials_are, AppsAre, apps_are, LinesAre, lines_are}
@@ -39,8 +40,8 @@ windows_are : (round_ms : ℕ) (section : Section) → IfOk (windows_in round_ms
 unfolding windows_in
 windows_are round_ms section =
     let P = TakeRounds round_ms in
-    next (λ n. n % round_ms ≡ 0) P (read_key section (heartbeat_ms_key round_ms)) _ (multiple_is round_ms (count_key (codes "heartbeat_ms") default_windows.heartbeat_ms) section)
-    (λ heartbeat_ms h. next (λ n. n % round_ms ≡ 0) P (read_key section (decay_ms_key round_ms)) _ (multiple_is round_ms (count_key (codes "decay_ms") default_windows.decay_ms) section)
+    next (λ n. n % round_ms ≡ 0) P (read_key section (heartbeat_ms_key round_ms)) _ (multiple_is round_ms (heartbeat_ms_key round_ms).name (whole_number 0 highest_number) default_windows.heartbeat_ms section)
+    (λ heartbeat_ms h. next (λ n. n % round_ms ≡ 0) P (read_key section (decay_ms_key round_ms)) _ (multiple_is round_ms (decay_ms_key round_ms).name (whole_number 0 highest_number) default_windows.decay_ms section)
     (λ decay_ms k.
     past P (read_key section fanout_ttl_ms_key) _ (λ fanout_ttl_ms.
     past P (read_key section seen_ttl_ms_key) _ (λ seen_ttl_ms.
@@ -59,7 +60,7 @@ shared_are : (round_ms : ℕ) (section : Section) → IfOk (shared_in round_ms s
 unfolding shared_in
 shared_are round_ms section =
     let P = λ (shared : Shared). TakeRounds round_ms shared.windows in
-    past P (only shared_names section) _
+    past P (only kinds.Params shared_names section) _
     (λ none. past P (degrees_in section) _
     (λ degrees. past P (thresholds_in section) _
     (λ thresholds. past P (factors_in section) _
@@ -110,7 +111,7 @@ top_is : (section : Section) → IfOk (top_in section) TopIsInRange
 unfolding top_in
 top_is section =
     let P = TopIsInRange in
-    past P (only top_keys section) _ (λ none.
+    past P (only kinds.Top top_keys section) _ (λ none.
     next (λ n. (1 ≤ n) × (n ≤ longest_round)) P (read_key section round_ms_key) _ (number_at round_ms_key.name 1 longest_round section) (λ round_ms is_time.
     next (λ n. (1 ≤ n) × (n ≤ most_rounds)) P (read_key section rounds_key) _ (number_at rounds_key.name 1 most_rounds section) (λ rounds are_rounds.
     next (λ n. (1 ≤ n) × (n ≤ most_workers)) P (read_key section workers_key) _ (number_at workers_key.name 1 most_workers section) (λ workers are_workers.

@@ -12,8 +12,10 @@ use Rattle.std.proofs.lemmas.List.Quantifiers.{all_pairs_push}
 use Rattle.toml.specs.Data.{Data, Items, no_items, item, as_integer, as_array}
 use Rattle.gs_params.specs.Params.{int_in_range}
 use Rattle.gs_scenario.specs.declared.fault.ScenarioFault.{ScenarioFault}
+use Rattle.gs_scenario.specs.declared.reason.NameKind.{NameKind}
+use Rattle.gs_scenario.specs.Refusal.{item_count}
 use Rattle.gs_scenario.specs.Keys.{◌>>=◌, or_refuse, refuse_if, Kind, Key, Section, reads_required, required, read_key, read_each}
-use Rattle.gs_scenario.specs.Kinds.{between, whole_number, int_between, signed_number, item_count, of_length, list_of, reference, new_name, name_text, multiple_of}
+use Rattle.gs_scenario.specs.Kinds.{between, whole_number, int_between, signed_number, of_length, list_of, reference, new_name, name_text, is_multiple, multiple_of, reads_multiple, optional_multiple}
 
 -- ---- steps
 
@@ -91,18 +93,23 @@ read_ints_between low high (Some z) = kept_if (λ y. (low ≤ℤ y) × (y ≤ℤ
 pub signed_is : (low high : ℤ) (place : List ℕ) (d : Data) → IfOk (signed_number low high place d) (λ z. (low ≤ℤ z) × (z ≤ℤ high))
 signed_is low high place d = allowed (λ z. (low ≤ℤ z) × (z ≤ℤ high)) _ _ (read_ints_between low high (as_integer d))
 
-pub reference_is : {A : Type 0} (Q : A → Type 0) (named : List ℕ → Option A) → ((text : List ℕ) → IfSome (named text) Q) → (place : List ℕ) (d : Data) → IfOk (reference named place d) Q
-reference_is Q named h place d = past Q (name_text place d) _ (λ text. allowed Q _ (named text) (h text))
+pub reference_is : {A : Type 0} (Q : A → Type 0) (kind : NameKind) (named : List ℕ → Option A) → ((text : List ℕ) → IfSome (named text) Q) → (place : List ℕ) (d : Data) → IfOk (reference kind named place d) Q
+reference_is Q kind named h place d = past Q (name_text place d) _ (λ text. allowed Q _ (named text) (h text))
 
 -- a test that is not refused as failed has passed
 pub not_failed : (b : Bool) → not b ≡ false → b ≡ true
 not_failed true e = refl
 not_failed false e = search (e)
 
-pub multiple_is : (step : ℕ) (key : Key ℕ) (section : Section) → IfOk (read_key section (multiple_of step key)) (λ n. n % step ≡ 0)
-multiple_is step key section =
-    past (λ n. n % step ≡ 0) (read_key section key) _
-    (λ n. not_refused (λ m. m % step ≡ 0) (not ((n % step) == 0)) _ n (λ e. (Decides-eqb (n % step) 0).0 (not_failed ((n % step) == 0) e)))
+passes_step : (step n : ℕ) (fault : ScenarioFault) → IfOk (refuse_if (not (is_multiple step n)) fault n) (λ m. m % step ≡ 0)
+passes_step step n fault = not_refused (λ m. m % step ≡ 0) (not (is_multiple step n)) fault n (λ e. (Decides-eqb (n % step) 0).0 (not_failed (is_multiple step n) e))
+
+read_multiple : (step : ℕ) (kind : Kind ℕ) (default : ℕ) (place : List ℕ) (found : Option Data) → IfOk (reads_multiple step kind default place found) (λ n. n % step ≡ 0)
+read_multiple step kind default place None = passes_step step default _
+read_multiple step kind default place (Some d) = past (λ n. n % step ≡ 0) (kind place d) _ (λ n. passes_step step n _)
+
+pub multiple_is : (step : ℕ) (name : List ℕ) (kind : Kind ℕ) (default : ℕ) (section : Section) → IfOk (read_key section (optional_multiple step name kind default)) (λ n. n % step ≡ 0)
+multiple_is step name kind default section = read_multiple step kind default _ _
 
 -- ---- lists
 

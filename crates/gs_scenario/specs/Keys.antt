@@ -5,6 +5,7 @@ use Rattle.std.specs.Cmp.Lexicographic.{pointwise}
 use Rattle.toml.specs.Data.{Data, Members, no_members, member, get_member, Items, no_items, item}
 use Rattle.gs_scenario.specs.declared.fault.ScenarioFault.{ScenarioFault}
 use Rattle.gs_scenario.specs.declared.fault.ScenarioFault.TheVariants.{UnknownKey, Missing}
+use Rattle.gs_scenario.specs.declared.scenario.tables.TableKind.{TableKind}
 
 -- the second step, where the first is not refused
 infixl 10 ◌>>=◌
@@ -60,13 +61,13 @@ abbrev pub first_unknown : List (List ℕ) → Members → Option (List ℕ)
 first_unknown known no_members = None
 first_unknown known (member key d rest) = if is_one_of known key then first_unknown known rest else Some key
 
-abbrev pub refuse_unknown : List ℕ → Option (List ℕ) → Result (Unit {0}) ScenarioFault
-refuse_unknown path None = Ok tt
-refuse_unknown path (Some key) = Err (UnknownKey (path ++ key))
+abbrev pub refuse_unknown : List ℕ → TableKind → Option (List ℕ) → Result (Unit {0}) ScenarioFault
+refuse_unknown path kind None = Ok tt
+refuse_unknown path kind (Some key) = Err (UnknownKey (path ++ key) kind)
 
--- a table has no other key
-unfoldable pub only : List (List ℕ) → Section → Result (Unit {0}) ScenarioFault
-only known section = refuse_unknown section.path (first_unknown known section.members)
+-- a table of a kind has no other key
+unfoldable pub only : TableKind → List (List ℕ) → Section → Result (Unit {0}) ScenarioFault
+only kind known section = refuse_unknown section.path kind (first_unknown known section.members)
 
 -- the elements of a list in their order, each read with those before it
 unfoldable pub read_each : {A : Type 0} → (List A → Data → Result A ScenarioFault) → List A → Items

@@ -6,12 +6,21 @@ use Rattle.hex.specs.declared.error.FromHexError.{FromHexError}
 use Rattle.hex.specs.Hex.{decode_of}
 use Rattle.gs_scenario.specs.declared.fault.ScenarioFault.{ScenarioFault}
 use Rattle.gs_scenario.specs.declared.fault.ScenarioFault.TheVariants.{Range, UnknownName, Repeated}
+use Rattle.gs_scenario.specs.declared.reason.Found.TheVariants.{Default}
+use Rattle.gs_scenario.specs.declared.reason.NameKind.{NameKind}
+use Rattle.gs_scenario.specs.declared.reason.Wanted.{Wanted}
+use Rattle.gs_scenario.specs.declared.reason.Wanted.TheVariants as wanted
+use Rattle.gs_scenario.specs.Refusal.{found_of, item_count}
 use Rattle.gs_scenario.specs.Keys.{Kind, Key, Section, ◌>>=◌, or_refuse, refuse_if, read_each}
 use Rattle.gs_params.specs.Params.{int_in_range}
 
+-- a value that is refused, since another is wanted
+abbrev pub out_of_range : List ℕ → Data → Wanted → ScenarioFault
+out_of_range place d wanted = Range place (found_of d) wanted
+
 -- a kind from the values that it allows: any other is out of range
-abbrev pub kind_of : {A : Type 0} → (Data → Option A) → Kind A
-kind_of value place d = or_refuse (Range place) (value d)
+abbrev pub kind_of : {A : Type 0} → Wanted → (Data → Option A) → Kind A
+kind_of wanted value place d = or_refuse (out_of_range place d wanted) (value d)
 
 -- a whole number from low to high
 abbrev pub between : ℕ → ℕ → ℤ → Option ℕ
@@ -19,37 +28,33 @@ between low high (negsuc n) = None
 between low high (pos n) = if nat_le low n && nat_le n high then Some n else None
 
 abbrev pub whole_number : ℕ → ℕ → Kind ℕ
-whole_number low high = kind_of (λ d. option_and_then (between low high) (as_integer d))
+whole_number low high = kind_of (wanted.Number low high) (λ d. option_and_then (between low high) (as_integer d))
 
 -- a whole number of either sign from low to high
 abbrev pub int_between : ℤ → ℤ → ℤ → Option ℤ
 int_between low high z = if int_in_range low high z then Some z else None
 
 abbrev pub signed_number : ℤ → ℤ → Kind ℤ
-signed_number low high = kind_of (λ d. option_and_then (int_between low high) (as_integer d))
+signed_number low high = kind_of (wanted.SignedNumber low high) (λ d. option_and_then (int_between low high) (as_integer d))
 
 -- true or false
 abbrev pub truth_value : Kind Bool
-truth_value = kind_of as_bool
+truth_value = kind_of wanted.TruthValue as_bool
 
 -- a list of low to high elements, which are looked at later
-abbrev pub item_count : Items → ℕ
-item_count no_items = 0
-item_count (item d ds) = item_count ds + 1
-
 abbrev pub of_length : ℕ → ℕ → Items → Option Items
 of_length low high ds = if nat_le low (item_count ds) && nat_le (item_count ds) high then Some ds else None
 
 abbrev pub list_of : ℕ → ℕ → Kind Items
-list_of low high = kind_of (λ d. option_and_then (of_length low high) (as_array d))
+list_of low high = kind_of (wanted.Elements low high) (λ d. option_and_then (of_length low high) (as_array d))
 
 -- a list of any length
 abbrev pub any_list : Kind Items
-any_list = kind_of as_array
+any_list = kind_of wanted.List as_array
 
 -- a table, whose keys are looked at later
 abbrev pub any_table : Kind Members
-any_table = kind_of as_table
+any_table = kind_of wanted.Table as_table
 
 -- a list of any length of values of a kind: a value that is none is refused at the list's place
 abbrev pub list_of_each : {A : Type 0} → Kind A → Kind (List A)
@@ -63,7 +68,7 @@ words = list_of_each (whole_number 0 (2 ^ 32 - 1))
 
 -- any text, the empty one too
 abbrev pub any_text : Kind (List ℕ)
-any_text = kind_of as_str
+any_text = kind_of wanted.Text as_str
 
 -- an even number of hex digits: the bytes that they stand for
 abbrev pub ok_value : {A : Type 0} → Result A FromHexError → Option A
@@ -71,7 +76,7 @@ ok_value (Ok x) = Some x
 ok_value (Err fault) = None
 
 abbrev pub hex_text : Kind (List ℕ)
-hex_text = kind_of (λ d. option_and_then (λ text. ok_value (decode_of text)) (as_str d))
+hex_text = kind_of wanted.Hex (λ d. option_and_then (λ text. ok_value (decode_of text)) (as_str d))
 
 -- a name: 1 to 32 of `a` to `z`, `0` to `9`, `_` and `-`
 abbrev pub is_name_byte : ℕ → Bool
@@ -84,13 +89,13 @@ abbrev pub if_name : List ℕ → Option (List ℕ)
 if_name text = if is_name text then Some text else None
 
 abbrev pub name_text : Kind (List ℕ)
-name_text = kind_of (λ d. option_and_then if_name (as_str d))
+name_text = kind_of wanted.Name (λ d. option_and_then if_name (as_str d))
 
--- a name that something has, which it stands for
-abbrev pub reference : {A : Type 0} → (List ℕ → Option A) → Kind A
-reference named place d = do
+-- a name that something of a kind has, which it stands for
+abbrev pub reference : {A : Type 0} → NameKind → (List ℕ → Option A) → Kind A
+reference kind named place d = do
   text ← name_text place d
-  or_refuse (UnknownName place) (named text)
+  or_refuse (UnknownName place text kind) (named text)
 
 -- a name that nothing has yet
 abbrev pub new_name : {A : Type 0} → (List ℕ → Option A) → Kind (List ℕ)
@@ -98,19 +103,27 @@ new_name named place d = do
   text ← name_text place d
   refuse_if (is_some (named text)) (Repeated place) text
 
--- one of a few words, each with what it stands for
+-- one of the words of a script, each with what it stands for
 abbrev pub word : {A : Type 0} → (List ℕ → Option A) → Kind A
-word meaning = kind_of (λ d. option_and_then meaning (as_str d))
+word meaning = kind_of wanted.Verb (λ d. option_and_then meaning (as_str d))
 
--- a key whose number, a default too, is a multiple of a step
-abbrev pub reads_multiple : ℕ → (List ℕ → Option Data → Result ℕ ScenarioFault) → List ℕ → Option Data
-    → Result ℕ ScenarioFault
-reads_multiple step reads place found = do
-  n ← reads place found
-  refuse_if (not ((n % step) == 0)) (Range place) n
+-- a multiple of a step
+abbrev pub is_multiple : ℕ → ℕ → Bool
+is_multiple step n = (n % step) == 0
 
-abbrev pub multiple_of : ℕ → Key ℕ → Key ℕ
-multiple_of step key = record { name = key.name; reads = reads_multiple step key.reads }
+abbrev pub multiple_of : ℕ → Kind ℕ → Kind ℕ
+multiple_of step kind place d = do
+  n ← kind place d
+  refuse_if (not (is_multiple step n)) (out_of_range place d (wanted.Multiple step)) n
+
+-- a key of which the default too must be a multiple of a step
+abbrev pub reads_multiple : ℕ → Kind ℕ → ℕ → List ℕ → Option Data → Result ℕ ScenarioFault
+reads_multiple step kind default place (Some d) = multiple_of step kind place d
+reads_multiple step kind default place None =
+    refuse_if (not (is_multiple step default)) (Range place (Default default) (wanted.Multiple step)) default
+
+abbrev pub optional_multiple : ℕ → List ℕ → Kind ℕ → ℕ → Key ℕ
+optional_multiple step name kind default = record { name = name; reads = reads_multiple step kind default }
 
 -- the place of an element of a list, which counts from 0
 abbrev pub element : List ℕ → ℕ → List ℕ

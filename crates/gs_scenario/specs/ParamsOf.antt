@@ -11,9 +11,10 @@ use Rattle.gs_params.specs.declared.topic_params.TopicParams.{TopicParams}
 use Rattle.gs_params.specs.declared.param_fault.ParamFault.{ParamFault}
 use Rattle.gs_scenario.specs.declared.fault.ScenarioFault.{ScenarioFault}
 use Rattle.gs_scenario.specs.declared.fault.ScenarioFault.TheVariants as faults
+use Rattle.gs_scenario.specs.declared.scenario.tables.TableKind.TheVariants as kinds
 use Rattle.gs_scenario.specs.declared.scenario.params.Shared.{Shared}
 use Rattle.gs_scenario.specs.Keys.{Key, Section, ◌>>=◌, optional, read_key, only}
-use Rattle.gs_scenario.specs.Kinds.{whole_number, signed_number, truth_value, hex_text, list_of_each, multiple_of}
+use Rattle.gs_scenario.specs.Kinds.{whole_number, signed_number, truth_value, hex_text, list_of_each, optional_multiple}
 
 -- ---- kinds of keys
 
@@ -24,6 +25,10 @@ highest_number = 1_000_000_000_000
 -- a number of things, of milliseconds or of seconds
 abbrev pub count_key : List ℕ → ℕ → Key ℕ
 count_key name default = optional name (whole_number 0 highest_number) default
+
+-- a number of milliseconds that are a multiple of a step
+abbrev pub multiple_key : ℕ → List ℕ → ℕ → Key ℕ
+multiple_key step name default = optional_multiple step name (whole_number 0 highest_number) default
 
 -- millionths, none of them below zero
 abbrev pub amount_key : List ℕ → ℤ → Key ℤ
@@ -167,10 +172,10 @@ factors_in section = do
 -- ---- windows, of which two are whole rounds
 
 abbrev pub heartbeat_ms_key : ℕ → Key ℕ
-heartbeat_ms_key round_ms = multiple_of round_ms (count_key (codes "heartbeat_ms") default_windows.heartbeat_ms)
+heartbeat_ms_key round_ms = multiple_key round_ms (codes "heartbeat_ms") default_windows.heartbeat_ms
 
 abbrev pub decay_ms_key : ℕ → Key ℕ
-decay_ms_key round_ms = multiple_of round_ms (count_key (codes "decay_ms") default_windows.decay_ms)
+decay_ms_key round_ms = multiple_key round_ms (codes "decay_ms") default_windows.decay_ms
 
 abbrev pub fanout_ttl_ms_key : Key ℕ
 fanout_ttl_ms_key = count_key (codes "fanout_ttl_ms") default_windows.fanout_ttl_ms
@@ -269,7 +274,7 @@ shared_names = degree_names ++ threshold_names ++ factor_names ++ window_names +
 
 unfoldable pub shared_in : ℕ → Section → Result Shared ScenarioFault
 shared_in round_ms section = do
-  _ ← only shared_names section
+  _ ← only kinds.Params shared_names section
   degrees ← degrees_in section
   thresholds ← thresholds_in section
   factors ← factors_in section

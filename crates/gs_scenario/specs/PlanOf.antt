@@ -8,7 +8,11 @@ use Rattle.gs_base.specs.declared.names.PeerNo.{PeerNo}
 use Rattle.gs_base.specs.declared.names.Topic.{Topic}
 use Rattle.gs_params.specs.declared.topic_params.TopicParams.{TopicParams}
 use Rattle.gs_scenario.specs.declared.fault.ScenarioFault.{ScenarioFault}
-use Rattle.gs_scenario.specs.declared.fault.ScenarioFault.TheVariants.{Toml, Range, UnknownName, Repeated}
+use Rattle.gs_scenario.specs.declared.fault.ScenarioFault.TheVariants.{Toml, UnknownName, Repeated}
+use Rattle.gs_scenario.specs.declared.reason.NameKind.TheVariants as names
+use Rattle.gs_scenario.specs.declared.scenario.tables.TableKind.{TableKind}
+use Rattle.gs_scenario.specs.declared.scenario.tables.TableKind.TheVariants as kinds
+use Rattle.gs_scenario.specs.declared.reason.Wanted.TheVariants as wanted
 use Rattle.gs_params.specs.declared.plan.Plan.{Plan}
 use Rattle.gs_params.specs.declared.plan.PlannedPeer.{PlannedPeer}
 use Rattle.gs_params.specs.declared.plan.Dial.{Dial}
@@ -20,8 +24,8 @@ use Rattle.gs_params.specs.Plans.{are_joined, are_of_the_same, join_the_same, lo
 use Rattle.gs_scenario.specs.declared.scenario.script.Verb.{Verb}
 use Rattle.gs_scenario.specs.declared.scenario.script.Verb.TheVariants as verbs
 use Rattle.gs_scenario.specs.Keys.{Key, Kind, Section, ◌>>=◌, refuse_if, required, optional, read_key, only, read_each}
-use Rattle.gs_scenario.specs.Kinds.{whole_number, signed_number, list_of, any_list, any_table, any_text, words, hex_text, new_name, reference, word, element, section_at, table_at}
-use Rattle.gs_scenario.specs.ParamsOf.{shared_in, params_of}
+use Rattle.gs_scenario.specs.Kinds.{whole_number, signed_number, list_of, any_list, any_table, any_text, words, name_text, hex_text, out_of_range, new_name, reference, word, element, section_at, table_at}
+use Rattle.gs_scenario.specs.ParamsOf.{shared_names, shared_in, params_of}
 use Rattle.gs_scenario.specs.TopicParamsOf.{topic_param_names, topic_params_in}
 
 -- ---- the top table
@@ -90,7 +94,7 @@ pub record Top : Type 0 where
 
 unfoldable pub top_in : Section → Result Top ScenarioFault
 top_in top = do
-  _ ← only top_keys top
+  _ ← only kinds.Top top_keys top
   round_ms ← read_key top round_ms_key
   rounds ← read_key top rounds_key
   workers ← read_key top workers_key
@@ -133,7 +137,7 @@ topic_keys = (topic_name_key []).name ∷ topic_param_names
 unfoldable pub topic_in : List (Topic × TopicParams) → Data → Result (Topic × TopicParams) ScenarioFault
 topic_in earlier d = do
   section ← table_at (element (codes "topic") (length earlier)) d
-  _ ← only topic_keys section
+  _ ← only kinds.Topic topic_keys section
   text ← read_key section (topic_name_key earlier)
   params ← topic_params_in section
   Ok (record { 0 = text }, params)
@@ -160,7 +164,7 @@ peer_keys = (peer_name_key []).name ∷ (address_key []).name ∷ words_key.name
 unfoldable pub peer_in : List PlannedPeer → Data → Result PlannedPeer ScenarioFault
 peer_in earlier d = do
   section ← table_at (element (codes "peer") (length earlier)) d
-  _ ← only peer_keys section
+  _ ← only kinds.Peer peer_keys section
   text ← read_key section (peer_name_key earlier)
   address ← read_key section (address_key text)
   firsts ← read_key section words_key
@@ -171,11 +175,11 @@ peer_in earlier d = do
 -- a peer that has a name, and is another
 abbrev pub other_peer : List PlannedPeer → PeerNo → Kind PeerNo
 other_peer peers one place d = do
-  other ← reference (peer_named peers) place d
-  refuse_if (one.0 == other.0) (Range place) other
+  other ← reference names.Peer (peer_named peers) place d
+  refuse_if (one.0 == other.0) (out_of_range place d wanted.AnotherPeer) other
 
 abbrev pub from_key : List PlannedPeer → Key PeerNo
-from_key peers = required (codes "from") (reference (peer_named peers))
+from_key peers = required (codes "from") (reference names.Peer (peer_named peers))
 
 abbrev pub to_key : List PlannedPeer → PeerNo → Key PeerNo
 to_key peers one = required (codes "to") (other_peer peers one)
@@ -189,7 +193,7 @@ new_dial place earlier dial = refuse_if (list_any (join_the_same dial) earlier) 
 unfoldable pub dial_in : List PlannedPeer → List Dial → Data → Result Dial ScenarioFault
 dial_in peers earlier d = do
   section ← table_at (element (codes "dial") (length earlier)) d
-  _ ← only dial_keys section
+  _ ← only kinds.Dial dial_keys section
   one ← read_key section (from_key peers)
   other ← read_key section (to_key peers one)
   new_dial (element (codes "dial") (length earlier)) earlier (record { from = one; to = other })
@@ -198,13 +202,14 @@ dial_in peers earlier d = do
 
 -- whom a table speaks of
 abbrev pub peer_key : List PlannedPeer → Key PeerNo
-peer_key peers = required (codes "peer") (reference (peer_named peers))
+peer_key peers = required (codes "peer") (reference names.Peer (peer_named peers))
 
--- a neighbour of a peer, which has a name
+-- a peer that has a name, and is a neighbour of another
 abbrev pub neighbour : List PlannedPeer → List Dial → PeerNo → Kind PeerNo
 neighbour peers dials one place d = do
-  other ← reference (peer_named peers) place d
-  refuse_if (not (are_joined dials one other)) (UnknownName place) other
+  text ← name_text place d
+  other ← reference names.Peer (peer_named peers) place d
+  refuse_if (not (are_joined dials one other)) (UnknownName place text names.Neighbour) other
 
 abbrev pub about_key : List PlannedPeer → List Dial → PeerNo → Key PeerNo
 about_key peers dials one = required (codes "about") (neighbour peers dials one)
@@ -221,7 +226,7 @@ new_app place earlier app = refuse_if (list_any (are_of_the_same app) earlier) (
 unfoldable pub app_in : List PlannedPeer → List Dial → List App → Data → Result App ScenarioFault
 app_in peers dials earlier d = do
   section ← table_at (element (codes "app") (length earlier)) d
-  _ ← only app_keys section
+  _ ← only kinds.App app_keys section
   peer ← read_key section (peer_key peers)
   about ← read_key section (about_key peers dials peer)
   value ← read_key section value_key
@@ -250,39 +255,57 @@ abbrev pub at_key : ℕ → Key ℕ
 at_key rounds = required (codes "at") (whole_number 0 rounds)
 
 abbrev pub topic_key : List (Topic × TopicParams) → Key Topic
-topic_key topics = required (codes "topic") (reference (topic_named topics))
+topic_key topics = required (codes "topic") (reference names.Topic (topic_named topics))
 
 abbrev pub hex_key : Key (List ℕ)
 hex_key = required (codes "hex") hex_text
 
 -- the keys that every line has
 abbrev pub line_keys : List (List ℕ) → List (List ℕ)
-line_keys others = what_key.name ∷ (at_key 0).name ∷ (peer_key []).name ∷ others
+line_keys others = what_key.name ∷ (at_key 0).name ∷ (peer_key []).name ∷ (topic_key []).name ∷ others
 
--- the keys of a line that tells this
-abbrev pub keys_of : Verb → List (List ℕ)
-keys_of verbs.Subscribe = line_keys ((topic_key []).name ∷ [])
-keys_of verbs.Unsubscribe = line_keys ((topic_key []).name ∷ [])
-keys_of verbs.Publish = line_keys ((topic_key []).name ∷ hex_key.name ∷ [])
+-- the table of a line that tells this
+abbrev pub line_kind : Verb → TableKind
+line_kind verbs.Subscribe = kinds.SubscriptionLine
+line_kind verbs.Unsubscribe = kinds.SubscriptionLine
+line_kind verbs.Publish = kinds.PublishLine
 
-unfoldable pub what_in : List (Topic × TopicParams) → Section → Verb → Result What ScenarioFault
-what_in topics section verbs.Subscribe = do
-  topic ← read_key section (topic_key topics)
-  Ok (Subscribe topic)
-what_in topics section verbs.Unsubscribe = do
-  topic ← read_key section (topic_key topics)
-  Ok (Unsubscribe topic)
-what_in topics section verbs.Publish = do
-  topic ← read_key section (topic_key topics)
+-- the keys that each table may have
+abbrev pub known_keys : TableKind → List (List ℕ)
+known_keys kinds.Top = top_keys
+known_keys kinds.Params = shared_names
+known_keys kinds.Topic = topic_keys
+known_keys kinds.Peer = peer_keys
+known_keys kinds.Dial = dial_keys
+known_keys kinds.App = app_keys
+known_keys kinds.SubscriptionLine = line_keys []
+known_keys kinds.PublishLine = line_keys (hex_key.name ∷ [])
+
+-- what a line with this word tells, of a topic
+abbrev pub told_in : Section → Topic → Verb → Result What ScenarioFault
+told_in section topic verbs.Subscribe = Ok (Subscribe topic)
+told_in section topic verbs.Unsubscribe = Ok (Unsubscribe topic)
+told_in section topic verbs.Publish = do
   payload ← read_key section hex_key
   Ok (Publish topic payload)
+
+unfoldable pub what_in : List (Topic × TopicParams) → Section → Verb → Result What ScenarioFault
+what_in topics section verb = do
+  topic ← read_key section (topic_key topics)
+  told_in section topic verb
+
+-- what a line tells, which has no other key than one that tells this may have
+unfoldable pub verb_in : Section → Result Verb ScenarioFault
+verb_in section = do
+  verb ← read_key section what_key
+  _ ← only (line_kind verb) (known_keys (line_kind verb)) section
+  Ok verb
 
 unfoldable pub line_in : List (Topic × TopicParams) → List PlannedPeer → ℕ → List Line → Data
     → Result Line ScenarioFault
 line_in topics peers rounds earlier d = do
   section ← table_at (element (codes "do") (length earlier)) d
-  verb ← read_key section what_key
-  _ ← only (keys_of verb) section
+  verb ← verb_in section
   round ← read_key section (at_key rounds)
   peer ← read_key section (peer_key peers)
   what ← what_in topics section verb

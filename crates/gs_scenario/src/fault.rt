@@ -3,26 +3,30 @@ ghost use Rattle.std.specs.Prelude.{◌≡◌, Some, option_map};
 ghost use Rattle.gs_scenario.specs.declared.fault.ScenarioFault.TheVariants.{NoMemory};
 ghost use Rattle.gs_scenario.specs.Refusal.{number_of, place_of, refusal_text};
 
+use crate::reason::{Found, NameKind, Wanted};
+use crate::scenario::TableKind;
 use gs_base::Text;
 use gs_params::ParamFault;
 use std::alloc::{AllocError, AllocFailed};
 use std::error::Error;
 use std::fmt;
 
-/// Why a scenario is refused. Each fault but three names its place: a key of the top table by its
-/// name, and otherwise as `params.d`, `peer[1]` or `do[2].hex`, where elements count from 0.
+/// Why a scenario is refused. Each fault but three names its place first: a key of the top table by
+/// its name, and otherwise as `params.d`, `peer[1]` or `do[2].hex`, where elements count from 0.
 #[derive(Debug, Drop, PartialEq, Eq)]
 pub enum ScenarioFault {
     /// The text is no TOML document.
     Toml,
-    /// A table has a key that is not known there.
-    UnknownKey(Text),
+    /// A table of this kind has a key that is not known there: the last part of the place.
+    UnknownKey(Text, TableKind),
     /// A key that is required is missing.
     Missing(Text),
-    /// A value has another type, is out of its range, or is badly formed.
-    Range(Text),
-    /// A name is well formed, and nothing has it that may stand there.
-    UnknownName(Text),
+    /// A value has another type, is out of its range, or is badly formed: what stands at the place,
+    /// and what must.
+    Range(Text, Found, Wanted),
+    /// A name is well formed, and nothing of the kind that may stand there has it: the place, and
+    /// the name.
+    UnknownName(Text, Text, NameKind),
     /// A name, a dial or the score of a neighbour stands for the second time.
     Repeated(Text),
     /// The parameters don't pass their checks.
@@ -38,10 +42,10 @@ impl ScenarioFault {
     {
         match self {
             ScenarioFault::Toml => 26,
-            ScenarioFault::UnknownKey(_) => 27,
+            ScenarioFault::UnknownKey(..) => 27,
             ScenarioFault::Missing(_) => 28,
-            ScenarioFault::Range(_) => 29,
-            ScenarioFault::UnknownName(_) => 30,
+            ScenarioFault::Range(..) => 29,
+            ScenarioFault::UnknownName(..) => 30,
             ScenarioFault::Repeated(_) => 31,
             ScenarioFault::Params(fault) => fault.number(),
             ScenarioFault::NoMemory => 32,
@@ -53,10 +57,10 @@ impl ScenarioFault {
         ensures { option_map (λ place. place.now) result ≡ place_of self.now }
     {
         match self {
-            ScenarioFault::UnknownKey(place)
+            ScenarioFault::UnknownKey(place, _)
             | ScenarioFault::Missing(place)
-            | ScenarioFault::Range(place)
-            | ScenarioFault::UnknownName(place)
+            | ScenarioFault::Range(place, _, _)
+            | ScenarioFault::UnknownName(place, _, _)
             | ScenarioFault::Repeated(place) => Some(place),
             ScenarioFault::Toml | ScenarioFault::Params(_) | ScenarioFault::NoMemory => None,
         }

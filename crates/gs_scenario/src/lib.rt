@@ -2,9 +2,11 @@
 #![tactic(auto)]
 
 mod fault;
+mod reason;
 mod scenario;
 mod words;
 
 pub use fault::ScenarioFault;
-pub use scenario::read_plan;
+pub use reason::{Found, NameKind, Wanted};
+pub use scenario::{TableKind, read_plan};
 pub use words::what_word;

@@ -13,6 +13,7 @@ mod peers;
 mod place;
 mod script;
 mod section;
+mod tables;
 mod top;
 mod topic_params;
 mod topics;
@@ -29,6 +30,7 @@ use crate::scenario::top::Top;
 use crate::scenario::topics::topics_in;
 use gs_params::Plan;
 use std::alloc::Global;
+pub use tables::TableKind;
 use toml::Table;
 
 /// The plan that a scenario describes.
@@ -61,7 +63,7 @@ fn plan_in(alloc: Global, table: &Table) -> Result<Plan, ScenarioFault>
     ensures { Gives (λ plan. plan) result (plan_in (table_view table.now)) }
 {
     let path = Path::Top;
-    let top = Top::read(alloc, Section { path, table })?;
+    let top = Top::read(Section { alloc, path, table })?;
     let shared = shared_of(alloc, top.params, top.round_ms)?;
     let topics = topics_in(alloc, top.topics)?;
     let peers = peers_in(alloc, top.peers)?;

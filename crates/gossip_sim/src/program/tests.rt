@@ -1,7 +1,8 @@
 use super::*;
-use crate::streams::LONGEST_INPUT;
-use crate::streams::tests::{Broken, Narrow};
 use gs_peer::NoGate;
+use gs_scenario::read_plan;
+use gs_streams::LONGEST_INPUT;
+use gs_streams::fakes::{Broken, Narrow};
 use std::io;
 
 const SCENARIO: &str = r#"

@@ -1,17 +1,19 @@
 //! What the applications of a scenario think of their peers' neighbours.
-ghost use Rattle.std.specs.Prelude.{◌≡◌, ◌≤◌, [], length};
+ghost use Rattle.std.specs.Prelude.{◌≡◌, ◌≤◌, [], length, map};
 ghost use Rattle.std.specs.List.{list_any};
 ghost use Rattle.toml.specs.View.{view, items_view};
 ghost use Rattle.gs_scenario.specs.Refusal.{Gives};
 ghost use Rattle.gs_scenario.specs.Keys.{read_each};
 ghost use Rattle.gs_params.specs.Plans.{are_of_the_same};
-ghost use Rattle.gs_scenario.specs.PlanOf.{app_in, neighbour};
+ghost use Rattle.gs_scenario.specs.PlanOf.{app_in, app_keys, neighbour};
 ghost use Rattle.gs_scenario.specs.Views.{read_as};
 
 use crate::fault::ScenarioFault;
+use crate::reason::NameKind;
 use crate::scenario::field::{Field, table_of};
 use crate::scenario::peers::peer_of;
 use crate::scenario::place::{Element, Place};
+use crate::scenario::tables::TableKind;
 use gs_base::{PeerNo, Seq};
 use gs_params::{App, Dial, HIGHEST_APP_SCORE, MOST_PEERS, PlannedPeer, are_joined};
 use std::alloc::Global;
@@ -22,6 +24,13 @@ const PEER: &str = "peer";
 const ABOUT: &str = "about";
 
 const VALUE: &str = "value";
+
+/// The keys of a score's table.
+pub fn keys() -> &'static [&'static str]
+    ensures { map (λ key. key.now) result.now ≡ app_keys }
+{
+    &[PEER, ABOUT, VALUE]
+}
 
 /// The scores of a list, in its order.
 #[tactic(auto, unfolding(crate::specs::Keys::read_each))]
@@ -61,11 +70,11 @@ fn app_in(
         index: earlier.len(),
     };
     let section = table_of(alloc, element, value)?;
-    section.only(alloc, &[PEER, ABOUT, VALUE])?;
-    let peer = peer_of(alloc, peers, &section.required(alloc, PEER)?)?;
-    let field = section.required(alloc, ABOUT)?;
-    let about = neighbour_of(alloc, peers, dials, peer, &field)?;
-    let value = section.signed_number(alloc, VALUE, -HIGHEST_APP_SCORE, HIGHEST_APP_SCORE)?;
+    section.only(TableKind::App)?;
+    let peer = peer_of(peers, &section.required(PEER)?)?;
+    let field = section.required(ABOUT)?;
+    let about = neighbour_of(peers, dials, peer, &field)?;
+    let value = section.signed_number(VALUE, -HIGHEST_APP_SCORE, HIGHEST_APP_SCORE)?;
     let app = App { peer, about, value };
     if is_repeated(earlier, &app) {
         return Err(ScenarioFault::Repeated(Place::Element(element).to_text(alloc)?));
@@ -75,7 +84,6 @@ fn app_in(
 
 /// The neighbour of a peer that a value names.
 fn neighbour_of(
-    alloc: Global,
     peers: &[PlannedPeer],
     dials: &[Dial],
     peer: PeerNo,
@@ -85,11 +93,12 @@ fn neighbour_of(
     ensures { Gives (λ other. other) result
         (read_as (neighbour peers.now dials.now peer) field.now) }
 {
-    let other = peer_of(alloc, peers, field)?;
+    let name = field.name()?;
+    let other = peer_of(peers, field)?;
     if are_joined(dials, peer, other) {
         Ok(other)
     } else {
-        Err(ScenarioFault::UnknownName(field.place.to_text(alloc)?))
+        Err(field.unknown(name, NameKind::Neighbour)?)
     }
 }
 

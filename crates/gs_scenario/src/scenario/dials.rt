@@ -1,15 +1,17 @@
 //! The dials of a scenario.
-ghost use Rattle.std.specs.Prelude.{◌≡◌, ◌≤◌, [], length};
+ghost use Rattle.std.specs.Prelude.{◌≡◌, ◌≤◌, [], length, map};
 ghost use Rattle.toml.specs.View.{view, items_view};
 ghost use Rattle.gs_scenario.specs.Refusal.{Gives};
 ghost use Rattle.gs_scenario.specs.Keys.{read_each};
-ghost use Rattle.gs_scenario.specs.PlanOf.{dial_in};
+ghost use Rattle.gs_scenario.specs.PlanOf.{dial_in, dial_keys};
 ghost use Rattle.gs_params.specs.Plans.{are_joined};
 
 use crate::fault::ScenarioFault;
+use crate::reason::Wanted;
 use crate::scenario::field::table_of;
 use crate::scenario::peers::peer_of;
 use crate::scenario::place::{Element, Place};
+use crate::scenario::tables::TableKind;
 use gs_base::Seq;
 use gs_params::{Dial, MOST_PEERS, PlannedPeer, are_joined};
 use std::alloc::Global;
@@ -18,6 +20,13 @@ use toml::Value;
 const FROM: &str = "from";
 
 const TO: &str = "to";
+
+/// The keys of a dial's table.
+pub fn keys() -> &'static [&'static str]
+    ensures { map (λ key. key.now) result.now ≡ dial_keys }
+{
+    &[FROM, TO]
+}
 
 /// The dials of a list, in its order.
 #[tactic(auto, unfolding(crate::specs::Keys::read_each))]
@@ -54,12 +63,12 @@ fn dial_in(
         index: earlier.len(),
     };
     let section = table_of(alloc, element, value)?;
-    section.only(alloc, &[FROM, TO])?;
-    let from = peer_of(alloc, peers, &section.required(alloc, FROM)?)?;
-    let field = section.required(alloc, TO)?;
-    let to = peer_of(alloc, peers, &field)?;
+    section.only(TableKind::Dial)?;
+    let from = peer_of(peers, &section.required(FROM)?)?;
+    let field = section.required(TO)?;
+    let to = peer_of(peers, &field)?;
     if from == to {
-        return Err(ScenarioFault::Range(field.place.to_text(alloc)?));
+        return Err(field.out_of_range(Wanted::AnotherPeer)?);
     }
     let dial = Dial { from, to };
     if is_repeated(earlier, &dial) {

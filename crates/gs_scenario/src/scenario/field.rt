@@ -3,29 +3,68 @@ ghost use Rattle.std.specs.Prelude.{◌≡◌, ◌≤◌, IfOk, length, option_m
 ghost use Rattle.std.specs.List.{list_all};
 ghost use Rattle.toml.specs.Data.{as_integer, as_str, as_array};
 ghost use Rattle.toml.specs.View.{view, items_view, table_view};
+ghost use Rattle.gs_scenario.specs.declared.fault.ScenarioFault.TheVariants.{UnknownName, Repeated};
 ghost use Rattle.gs_scenario.specs.Refusal.{Gives};
 ghost use Rattle.gs_scenario.specs.Kinds as kinds;
-ghost use Rattle.gs_scenario.specs.Views.{element_text, read_as, section_of};
+ghost use Rattle.gs_scenario.specs.Views.{element_text, place_text, read_as, section_of};
 
 use crate::fault::ScenarioFault;
+use crate::reason::{Found, NameKind, Wanted};
 use crate::scenario::place::{Element, Path, Place};
 use crate::scenario::section::Section;
 use bytes::Bytes;
-use gs_base::Seq;
+use gs_base::{Seq, Text};
 use hex::FromHexError;
-use std::alloc::Global;
+use std::alloc::{AllocError, Global};
 use toml::{Table, Value};
 
 /// A value of a scenario, and where it stands.
 #[derive(Clone, Copy)]
 pub struct Field<'a> {
+    /// Where the memory of what is read, or of the refusal, comes from.
+    pub alloc: Global,
     pub place: Place<'a>,
     pub value: &'a Value,
 }
 
 impl<'a> Field<'a> {
+    /// The refusal of this value, in whose place another is wanted.
+    ///
+    /// # Errors
+    /// `AllocError` where there was no memory for it.
+    pub fn out_of_range(&self, wanted: Wanted) -> Result<ScenarioFault, AllocError>
+        ensures { IfOk result (λ fault. fault
+            ≡ kinds.out_of_range (place_text self.now.place) (view self.now.value.now) wanted) }
+    {
+        let place = self.place.to_text(self.alloc)?;
+        let found = Found::of(self.alloc, self.value)?;
+        Ok(ScenarioFault::Range(place, found, wanted))
+    }
+
+    /// The refusal of a name, which nothing of a kind has.
+    ///
+    /// # Errors
+    /// `AllocError` where there was no memory for it.
+    pub fn unknown(&self, name: &str, kind: NameKind) -> Result<ScenarioFault, AllocError>
+        ensures { IfOk result (λ fault. fault ≡ UnknownName (place_text self.now.place) name.now kind) }
+    {
+        let place = self.place.to_text(self.alloc)?;
+        let name = Text::from_str(self.alloc, name)?;
+        Ok(ScenarioFault::UnknownName(place, name, kind))
+    }
+
+    /// The refusal of a name that stands for the second time.
+    ///
+    /// # Errors
+    /// `AllocError` where there was no memory for it.
+    pub fn repeated(&self) -> Result<ScenarioFault, AllocError>
+        ensures { IfOk result (λ fault. fault ≡ Repeated (place_text self.now.place)) }
+    {
+        Ok(ScenarioFault::Repeated(self.place.to_text(self.alloc)?))
+    }
+
     /// A whole number from low to high.
-    pub fn whole_number(&self, alloc: Global, low: u64, high: u64) -> Result<u64, ScenarioFault>
+    pub fn whole_number(&self, low: u64, high: u64) -> Result<u64, ScenarioFault>
         ensures number { Gives (λ number. number) result
             (read_as (kinds.whole_number low high) self.now) }
         ensures within { IfOk result (λ number. (low ≤ number) × (number ≤ high)) }
@@ -38,11 +77,11 @@ impl<'a> Field<'a> {
                 }
             }
         }
-        Err(ScenarioFault::Range(self.place.to_text(alloc)?))
+        Err(self.out_of_range(Wanted::Number(low, high))?)
     }
 
     /// A whole number of either sign, from low to high.
-    pub fn signed_number(&self, alloc: Global, low: i64, high: i64) -> Result<i64, ScenarioFault>
+    pub fn signed_number(&self, low: i64, high: i64) -> Result<i64, ScenarioFault>
         ensures { Gives (λ number. number) result
             (read_as (kinds.signed_number low high) self.now) }
     {
@@ -51,33 +90,47 @@ impl<'a> Field<'a> {
                 return Ok(number);
             }
         }
-        Err(ScenarioFault::Range(self.place.to_text(alloc)?))
+        Err(self.out_of_range(Wanted::SignedNumber(low, high))?)
+    }
+
+    /// A whole number from low to high that is a multiple of a step.
+    pub fn multiple(&self, low: u64, high: u64, step: u64) -> Result<u64, ScenarioFault>
+        requires { 1 ≤ step }
+        ensures { Gives (λ number. number) result
+            (read_as (kinds.multiple_of step (kinds.whole_number low high)) self.now) }
+    {
+        let number = self.whole_number(low, high)?;
+        if number % step == 0 {
+            Ok(number)
+        } else {
+            Err(self.out_of_range(Wanted::Multiple(step))?)
+        }
     }
 
     /// True or false.
-    pub fn truth_value(&self, alloc: Global) -> Result<bool, ScenarioFault>
+    pub fn truth_value(&self) -> Result<bool, ScenarioFault>
         ensures { Gives (λ value. value) result (read_as kinds.truth_value self.now) }
     {
         match self.value.as_bool() {
             Some(value) => Ok(value),
-            None => Err(ScenarioFault::Range(self.place.to_text(alloc)?)),
+            None => Err(self.out_of_range(Wanted::TruthValue)?),
         }
     }
 
     /// A table.
-    pub fn table(&self, alloc: Global) -> Result<&'a Table, ScenarioFault>
+    pub fn table(&self) -> Result<&'a Table, ScenarioFault>
         ensures { Gives (λ table. table_view table.now) result
             (read_as kinds.any_table self.now) }
     {
         match self.value.as_table() {
             Some(table) => Ok(table),
-            None => Err(ScenarioFault::Range(self.place.to_text(alloc)?)),
+            None => Err(self.out_of_range(Wanted::Table)?),
         }
     }
 
     /// A list of low to high elements.
     #[tactic(auto, using(crate::proofs::Lists::item_count_view))]
-    pub fn list(&self, alloc: Global, low: usize, high: usize) -> Result<&'a [Value], ScenarioFault>
+    pub fn list(&self, low: usize, high: usize) -> Result<&'a [Value], ScenarioFault>
         ensures list { Gives (λ list. items_view list.now) result
             (read_as (kinds.list_of low high) self.now) }
         ensures within { IfOk result (λ list. (low ≤ length list.now) × (length list.now ≤ high)) }
@@ -87,31 +140,31 @@ impl<'a> Field<'a> {
                 return Ok(list.as_slice());
             }
         }
-        Err(ScenarioFault::Range(self.place.to_text(alloc)?))
+        Err(self.out_of_range(Wanted::Elements(low, high))?)
     }
 
     /// A list.
-    pub fn any_list(&self, alloc: Global) -> Result<&'a [Value], ScenarioFault>
+    pub fn any_list(&self) -> Result<&'a [Value], ScenarioFault>
         ensures { Gives (λ list. items_view list.now) result (read_as kinds.any_list self.now) }
     {
         match self.value.as_array() {
             Some(list) => Ok(list.as_slice()),
-            None => Err(ScenarioFault::Range(self.place.to_text(alloc)?)),
+            None => Err(self.out_of_range(Wanted::List)?),
         }
     }
 
     /// Any text.
-    pub fn text(&self, alloc: Global) -> Result<&'a str, ScenarioFault>
+    pub fn text(&self) -> Result<&'a str, ScenarioFault>
         ensures { Gives (λ text. text.now) result (read_as kinds.any_text self.now) }
     {
         match self.value.as_str() {
             Some(text) => Ok(text),
-            None => Err(ScenarioFault::Range(self.place.to_text(alloc)?)),
+            None => Err(self.out_of_range(Wanted::Text)?),
         }
     }
 
     /// A name: 1 to 32 of `a` to `z`, `0` to `9`, `_` and `-`.
-    pub fn name(&self, alloc: Global) -> Result<&'a str, ScenarioFault>
+    pub fn name(&self) -> Result<&'a str, ScenarioFault>
         ensures { Gives (λ text. text.now) result (read_as kinds.name_text self.now) }
     {
         if let Some(text) = self.value.as_str() {
@@ -119,34 +172,34 @@ impl<'a> Field<'a> {
                 return Ok(text);
             }
         }
-        Err(ScenarioFault::Range(self.place.to_text(alloc)?))
+        Err(self.out_of_range(Wanted::Name)?)
     }
 
     /// The bytes of a text of hex digits, in either case and even in number.
-    pub fn hex(&self, alloc: Global) -> Result<Bytes, ScenarioFault>
+    pub fn hex(&self) -> Result<Bytes, ScenarioFault>
         ensures { Gives (λ bytes. bytes) result (read_as kinds.hex_text self.now) }
     {
         if let Some(text) = self.value.as_str() {
-            match hex::decode(alloc, text) {
+            match hex::decode(self.alloc, text) {
                 Ok(bytes) => return Ok(Bytes::from_vec(bytes)?),
                 Err(FromHexError::OutOfMemory) => return Err(ScenarioFault::NoMemory),
                 Err(_) => {}
             }
         }
-        Err(ScenarioFault::Range(self.place.to_text(alloc)?))
+        Err(self.out_of_range(Wanted::Hex)?)
     }
 
     /// The bytes of each hex text of a list.
     #[tactic(auto, unfolding(crate::specs::Keys::read_each))]
-    pub fn prefixes(&self, alloc: Global) -> Result<Seq<Bytes>, ScenarioFault>
+    pub fn prefixes(&self) -> Result<Seq<Bytes>, ScenarioFault>
         ensures { Gives (λ prefixes. prefixes) result
             (read_as (kinds.list_of_each kinds.hex_text) self.now) }
     {
-        let place = self.place;
-        let list = self.any_list(alloc)?;
-        let mut prefixes = Seq::new(alloc);
+        let list = self.any_list()?;
+        let mut prefixes = Seq::new(self.alloc);
         for value in list {
-            let prefix = Field { place, value }.hex(alloc)?;
+            let item = Field { value, ..*self };
+            let prefix = item.hex()?;
             prefixes.push(prefix)?;
         }
         Ok(prefixes)
@@ -154,14 +207,14 @@ impl<'a> Field<'a> {
 
     /// The words of 32 bits of a list.
     #[tactic(auto, unfolding(crate::specs::Keys::read_each))]
-    pub fn words(&self, alloc: Global) -> Result<Seq<u32>, ScenarioFault>
+    pub fn words(&self) -> Result<Seq<u32>, ScenarioFault>
         ensures { Gives (λ words. words) result (read_as kinds.words self.now) }
     {
-        let place = self.place;
-        let list = self.any_list(alloc)?;
-        let mut words = Seq::new(alloc);
+        let list = self.any_list()?;
+        let mut words = Seq::new(self.alloc);
         for value in list {
-            let word = Field { place, value }.whole_number(alloc, 0, 0xFFFF_FFFF)?;
+            let item = Field { value, ..*self };
+            let word = item.whole_number(0, 0xFFFF_FFFF)?;
             words.push(word as u32)?;
         }
         Ok(words)
@@ -176,13 +229,15 @@ pub fn table_of<'a>(
 ) -> Result<Section<'a>, ScenarioFault>
     ensures { Gives section_of result (kinds.table_at (element_text element.entry) (view value.now)) }
 {
-    match value.as_table() {
-        Some(table) => Ok(Section {
-            path: Path::Within(element),
-            table,
-        }),
-        None => Err(ScenarioFault::Range(Place::Element(element).to_text(alloc)?)),
+    let place = Place::Element(element);
+    let table = Field {
+        alloc,
+        place,
+        value,
     }
+    .table()?;
+    let path = Path::Within(element);
+    Ok(Section { alloc, path, table })
 }
 
 /// Whether a text is a name.

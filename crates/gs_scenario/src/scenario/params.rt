@@ -11,6 +11,7 @@ ghost use Rattle.gs_scenario.specs.Views.{section_of};
 use crate::fault::ScenarioFault;
 use crate::scenario::place::Path;
 use crate::scenario::section::Section;
+use crate::scenario::tables::TableKind;
 use gs_base::{Seq, Topic};
 use gs_params::{
     DEFAULT_DEGREES, DEFAULT_FACTORS, DEFAULT_FLOOD_PUBLISH, DEFAULT_THRESHOLDS, DEFAULT_WINDOWS,
@@ -42,16 +43,16 @@ pub fn shared_of(
 {
     let path = Path::Table("params");
     match table {
-        Some(table) => shared_in(alloc, &Section { path, table }, round_ms),
+        Some(table) => shared_in(&Section { alloc, path, table }, round_ms),
         None => {
             let table = &Table::new(alloc);
-            shared_in(alloc, &Section { path, table }, round_ms)
+            shared_in(&Section { alloc, path, table }, round_ms)
         }
     }
 }
 
 /// The keys of the table.
-fn keys() -> &'static [&'static str]
+pub fn keys() -> &'static [&'static str]
     ensures { map (λ key. key.now) result.now ≡ shared_names }
 {
     &[
@@ -93,46 +94,45 @@ fn keys() -> &'static [&'static str]
 
 /// The parameters of a table.
 #[tactic(auto, unfolding(crate::specs::ParamsOf::shared_in))]
-fn shared_in(alloc: Global, section: &Section<'_>, round_ms: u64) -> Result<Shared, ScenarioFault>
+fn shared_in(section: &Section<'_>, round_ms: u64) -> Result<Shared, ScenarioFault>
     requires { 1 ≤ round_ms }
     ensures { Gives (λ shared. shared) result (shared_in round_ms (section_of section.now)) }
 {
-    section.only(alloc, keys())?;
+    section.only(TableKind::Params)?;
     Ok(Shared {
-        degrees: degrees_in(alloc, section)?,
-        thresholds: thresholds_in(alloc, section)?,
-        factors: factors_in(alloc, section)?,
-        windows: windows_in(alloc, section, round_ms)?,
-        flood_publish: section.truth_value(alloc, "flood_publish", DEFAULT_FLOOD_PUBLISH)?,
+        degrees: degrees_in(section)?,
+        thresholds: thresholds_in(section)?,
+        factors: factors_in(section)?,
+        windows: windows_in(section, round_ms)?,
+        flood_publish: section.truth_value("flood_publish", DEFAULT_FLOOD_PUBLISH)?,
     })
 }
 
 #[tactic(auto, unfolding(crate::specs::ParamsOf::degrees_in))]
-fn degrees_in(alloc: Global, section: &Section<'_>) -> Result<Degrees, ScenarioFault>
+fn degrees_in(section: &Section<'_>) -> Result<Degrees, ScenarioFault>
     ensures { Gives (λ degrees. degrees) result (degrees_in (section_of section.now)) }
 {
     let default = DEFAULT_DEGREES;
     Ok(Degrees {
-        d: section.count(alloc, "d", default.d)?,
-        d_low: section.count(alloc, "d_low", default.d_low)?,
-        d_high: section.count(alloc, "d_high", default.d_high)?,
-        d_score: section.count(alloc, "d_score", default.d_score)?,
-        d_out: section.count(alloc, "d_out", default.d_out)?,
-        d_lazy: section.count(alloc, "d_lazy", default.d_lazy)?,
+        d: section.count("d", default.d)?,
+        d_low: section.count("d_low", default.d_low)?,
+        d_high: section.count("d_high", default.d_high)?,
+        d_score: section.count("d_score", default.d_score)?,
+        d_out: section.count("d_out", default.d_out)?,
+        d_lazy: section.count("d_lazy", default.d_lazy)?,
     })
 }
 
 #[tactic(auto, unfolding(crate::specs::ParamsOf::thresholds_in))]
-fn thresholds_in(alloc: Global, section: &Section<'_>) -> Result<Thresholds, ScenarioFault>
+fn thresholds_in(section: &Section<'_>) -> Result<Thresholds, ScenarioFault>
     ensures { Gives (λ thresholds. thresholds) result (thresholds_in (section_of section.now)) }
 {
     let default = DEFAULT_THRESHOLDS;
     Ok(Thresholds {
-        gossip_threshold: section.score(alloc, "gossip_threshold", default.gossip_threshold)?,
-        publish_threshold: section.score(alloc, "publish_threshold", default.publish_threshold)?,
-        graylist_threshold: section.score(alloc, "graylist_threshold", default.graylist_threshold)?,
+        gossip_threshold: section.score("gossip_threshold", default.gossip_threshold)?,
+        publish_threshold: section.score("publish_threshold", default.publish_threshold)?,
+        graylist_threshold: section.score("graylist_threshold", default.graylist_threshold)?,
         opportunistic_threshold: section.amount(
-            alloc,
             "opportunistic_threshold",
             default.opportunistic_threshold,
         )?,
@@ -140,56 +140,46 @@ fn thresholds_in(alloc: Global, section: &Section<'_>) -> Result<Thresholds, Sce
 }
 
 #[tactic(auto, unfolding(crate::specs::ParamsOf::factors_in))]
-fn factors_in(alloc: Global, section: &Section<'_>) -> Result<Factors, ScenarioFault>
+fn factors_in(section: &Section<'_>) -> Result<Factors, ScenarioFault>
     ensures { Gives (λ factors. factors) result (factors_in (section_of section.now)) }
 {
     let default = DEFAULT_FACTORS;
     Ok(Factors {
-        gossip_factor: section.count(alloc, "gossip_factor", default.gossip_factor)?,
-        p7_decay: section.amount(alloc, "p7_decay", default.p7_decay)?,
-        w5: section.amount(alloc, "w5", default.w5)?,
-        w6: section.score(alloc, "w6", default.w6)?,
-        w7: section.score(alloc, "w7", default.w7)?,
-        topic_cap: section.amount(alloc, "topic_cap", default.topic_cap)?,
-        decay_to_zero: section.amount(alloc, "decay_to_zero", default.decay_to_zero)?,
-        p6_threshold: section.count(alloc, "p6_threshold", default.p6_threshold)?,
+        gossip_factor: section.count("gossip_factor", default.gossip_factor)?,
+        p7_decay: section.amount("p7_decay", default.p7_decay)?,
+        w5: section.amount("w5", default.w5)?,
+        w6: section.score("w6", default.w6)?,
+        w7: section.score("w7", default.w7)?,
+        topic_cap: section.amount("topic_cap", default.topic_cap)?,
+        decay_to_zero: section.amount("decay_to_zero", default.decay_to_zero)?,
+        p6_threshold: section.count("p6_threshold", default.p6_threshold)?,
     })
 }
 
 #[tactic(auto, unfolding(crate::specs::ParamsOf::windows_in))]
-fn windows_in(alloc: Global, section: &Section<'_>, round_ms: u64) -> Result<Windows, ScenarioFault>
+fn windows_in(section: &Section<'_>, round_ms: u64) -> Result<Windows, ScenarioFault>
     requires { 1 ≤ round_ms }
     ensures { Gives (λ windows. windows) result (windows_in round_ms (section_of section.now)) }
 {
     let default = DEFAULT_WINDOWS;
     Ok(Windows {
-        heartbeat_ms: section.multiple(alloc, "heartbeat_ms", default.heartbeat_ms, round_ms)?,
-        decay_ms: section.multiple(alloc, "decay_ms", default.decay_ms, round_ms)?,
-        fanout_ttl_ms: section.count(alloc, "fanout_ttl_ms", default.fanout_ttl_ms)?,
-        seen_ttl_ms: section.count(alloc, "seen_ttl_ms", default.seen_ttl_ms)?,
-        iwant_followup_ms: section.count(alloc, "iwant_followup_ms", default.iwant_followup_ms)?,
-        prune_backoff_s: section.count(alloc, "prune_backoff_s", default.prune_backoff_s)?,
+        heartbeat_ms: section.multiple("heartbeat_ms", default.heartbeat_ms, round_ms)?,
+        decay_ms: section.multiple("decay_ms", default.decay_ms, round_ms)?,
+        fanout_ttl_ms: section.count("fanout_ttl_ms", default.fanout_ttl_ms)?,
+        seen_ttl_ms: section.count("seen_ttl_ms", default.seen_ttl_ms)?,
+        iwant_followup_ms: section.count("iwant_followup_ms", default.iwant_followup_ms)?,
+        prune_backoff_s: section.count("prune_backoff_s", default.prune_backoff_s)?,
         unsubscribe_backoff_s: section.count(
-            alloc,
             "unsubscribe_backoff_s",
             default.unsubscribe_backoff_s,
         )?,
-        mcache_len: section.count(alloc, "mcache_len", default.mcache_len)?,
-        mcache_gossip: section.count(alloc, "mcache_gossip", default.mcache_gossip)?,
-        opportunistic_ticks: section.count(
-            alloc,
-            "opportunistic_ticks",
-            default.opportunistic_ticks,
-        )?,
-        opportunistic_peers: section.count(
-            alloc,
-            "opportunistic_peers",
-            default.opportunistic_peers,
-        )?,
-        max_ihave: section.count(alloc, "max_ihave", default.max_ihave)?,
-        max_ihave_ids: section.count(alloc, "max_ihave_ids", default.max_ihave_ids)?,
+        mcache_len: section.count("mcache_len", default.mcache_len)?,
+        mcache_gossip: section.count("mcache_gossip", default.mcache_gossip)?,
+        opportunistic_ticks: section.count("opportunistic_ticks", default.opportunistic_ticks)?,
+        opportunistic_peers: section.count("opportunistic_peers", default.opportunistic_peers)?,
+        max_ihave: section.count("max_ihave", default.max_ihave)?,
+        max_ihave_ids: section.count("max_ihave_ids", default.max_ihave_ids)?,
         gossip_retransmission: section.count(
-            alloc,
             "gossip_retransmission",
             default.gossip_retransmission,
         )?,

@@ -1,16 +1,19 @@
 //! The peers of a scenario.
-ghost use Rattle.std.specs.Prelude.{◌≡◌, ◌<◌, ◌≤◌, [], IfOk, IfSome, length, nat_eq, position};
+ghost use Rattle.std.specs.Prelude.{◌≡◌, ◌<◌, ◌≤◌, [], IfOk, IfSome, length, map, nat_eq, position};
 ghost use Rattle.std.specs.Cmp.Lexicographic.{pointwise};
 ghost use Rattle.toml.specs.View.{view, items_view};
+ghost use Rattle.gs_scenario.specs.declared.reason.NameKind.TheVariants as names;
 ghost use Rattle.gs_scenario.specs.Refusal.{Gives};
 ghost use Rattle.gs_scenario.specs.Keys.{read_each};
 ghost use Rattle.gs_scenario.specs.Kinds.{reference};
 ghost use Rattle.gs_scenario.specs.Views.{read_as};
-ghost use Rattle.gs_scenario.specs.PlanOf.{peer_in, peer_named};
+ghost use Rattle.gs_scenario.specs.PlanOf.{peer_in, peer_keys, peer_named};
 
 use crate::fault::ScenarioFault;
+use crate::reason::NameKind;
 use crate::scenario::field::{Field, table_of};
 use crate::scenario::place::Element;
+use crate::scenario::tables::TableKind;
 use gs_base::{PeerNo, Seq, Text};
 use gs_params::{MOST_PEERS, PlannedPeer};
 use std::alloc::Global;
@@ -21,6 +24,13 @@ const NAME: &str = "name";
 const ADDRESS: &str = "address";
 
 const WORDS: &str = "words";
+
+/// The keys of a peer's table.
+pub fn keys() -> &'static [&'static str]
+    ensures { map (λ key. key.now) result.now ≡ peer_keys }
+{
+    &[NAME, ADDRESS, WORDS]
+}
 
 /// The peers of a list, in its order.
 #[tactic(auto, unfolding(crate::specs::Keys::read_each))]
@@ -52,14 +62,14 @@ fn peer_in(
         index: earlier.len(),
     };
     let section = table_of(alloc, element, value)?;
-    section.only(alloc, &[NAME, ADDRESS, WORDS])?;
-    let field = section.required(alloc, NAME)?;
-    let name = field.name(alloc)?;
+    section.only(TableKind::Peer)?;
+    let field = section.required(NAME)?;
+    let name = field.name()?;
     if peer_named(earlier, name).is_some() {
-        return Err(ScenarioFault::Repeated(field.place.to_text(alloc)?));
+        return Err(field.repeated()?);
     }
-    let address = section.text(alloc, ADDRESS, name)?;
-    let words = section.words(alloc, WORDS)?;
+    let address = section.text(ADDRESS, name)?;
+    let words = section.words(WORDS)?;
     Ok(PlannedPeer {
         name: Text::from_str(alloc, name)?,
         address: Text::from_str(alloc, address)?,
@@ -68,19 +78,15 @@ fn peer_in(
 }
 
 /// The number of the peer that a value names.
-pub fn peer_of(
-    alloc: Global,
-    peers: &[PlannedPeer],
-    field: &Field<'_>,
-) -> Result<PeerNo, ScenarioFault>
+pub fn peer_of(peers: &[PlannedPeer], field: &Field<'_>) -> Result<PeerNo, ScenarioFault>
     requires { length peers.now ≤ MOST_PEERS }
     ensures { Gives (λ peer. peer) result
-        (read_as (reference (peer_named peers.now)) field.now) }
+        (read_as (reference names.Peer (peer_named peers.now)) field.now) }
 {
-    let name = field.name(alloc)?;
+    let name = field.name()?;
     match peer_named(peers, name) {
         Some(peer) => Ok(peer),
-        None => Err(ScenarioFault::UnknownName(field.place.to_text(alloc)?)),
+        None => Err(field.unknown(name, NameKind::Peer)?),
     }
 }
 

@@ -1,17 +1,20 @@
 //! The script of a scenario: what the peers are told to do.
 ghost use Rattle.std.specs.Prelude.{◌≡◌, ◌≤◌, [], length, map};
 ghost use Rattle.toml.specs.View.{view, items_view};
+ghost use Rattle.gs_scenario.specs.declared.scenario.tables.TableKind.TheVariants as kinds;
 ghost use Rattle.gs_scenario.specs.Refusal.{Gives};
 ghost use Rattle.gs_scenario.specs.Keys.{read_each};
 ghost use Rattle.gs_scenario.specs.Kinds.{word};
 ghost use Rattle.gs_scenario.specs.Views.{read_as, section_of};
-ghost use Rattle.gs_scenario.specs.PlanOf.{line_in, what_in, verb_of, keys_of};
+ghost use Rattle.gs_scenario.specs.PlanOf.{line_in, what_in, verb_in, verb_of, line_kind, known_keys};
 
 use crate::fault::ScenarioFault;
+use crate::reason::Wanted;
 use crate::scenario::field::{Field, table_of};
 use crate::scenario::peers::peer_of;
 use crate::scenario::place::Element;
 use crate::scenario::section::Section;
+use crate::scenario::tables::TableKind;
 use crate::scenario::topics::{TopicEntry, topic_of};
 use crate::words::{PUBLISH, SUBSCRIBE, UNSUBSCRIBE};
 use gs_base::Seq;
@@ -47,15 +50,29 @@ pub enum Verb {
 }
 
 impl Verb {
-    /// The keys of a line that says this.
-    fn keys(self) -> &'static [&'static str]
-        ensures { map (λ key. key.now) result.now ≡ keys_of self }
+    /// The table of a line that says this.
+    fn line_kind(self) -> TableKind
+        ensures { result ≡ line_kind self }
     {
         match self {
-            Verb::Subscribe | Verb::Unsubscribe => &[WHAT, AT, PEER, TOPIC],
-            Verb::Publish => &[WHAT, AT, PEER, TOPIC, HEX],
+            Verb::Subscribe | Verb::Unsubscribe => TableKind::SubscriptionLine,
+            Verb::Publish => TableKind::PublishLine,
         }
     }
+}
+
+/// The keys of a line that tells a peer to subscribe or to unsubscribe.
+pub fn subscription_keys() -> &'static [&'static str]
+    ensures { map (λ key. key.now) result.now ≡ known_keys kinds.SubscriptionLine }
+{
+    &[WHAT, AT, PEER, TOPIC]
+}
+
+/// The keys of a line that tells a peer to publish.
+pub fn publish_keys() -> &'static [&'static str]
+    ensures { map (λ key. key.now) result.now ≡ known_keys kinds.PublishLine }
+{
+    &[WHAT, AT, PEER, TOPIC, HEX]
 }
 
 /// The lines of a list, in its order.
@@ -78,7 +95,7 @@ pub fn lines_in(
 }
 
 /// The line that stands in the list after the earlier ones.
-#[tactic(auto, unfolding(crate::specs::PlanOf::line_in, crate::specs::Keys::only))]
+#[tactic(auto, unfolding(crate::specs::PlanOf::line_in))]
 fn line_in(
     alloc: Global,
     known: &Known<'_>,
@@ -94,35 +111,38 @@ fn line_in(
         index: earlier.len(),
     };
     let section = table_of(alloc, element, value)?;
-    let verb = verb_in(alloc, &section.required(alloc, WHAT)?)?;
-    section.only(alloc, verb.keys())?;
-    Ok(Line {
-        at: section.number(alloc, AT, 0, known.rounds)?,
-        peer: peer_of(alloc, known.peers, &section.required(alloc, PEER)?)?,
-        what: what_in(alloc, known.topics, &section, verb)?,
-    })
+    let verb = verb_in(&section)?;
+    let at = section.number(AT, 0, known.rounds)?;
+    let peer = peer_of(known.peers, &section.required(PEER)?)?;
+    let what = what_in(known.topics, &section, verb)?;
+    Ok(Line { at, peer, what })
 }
 
 /// What a peer is told to do by a line that begins with a word.
 #[tactic(auto, unfolding(crate::specs::PlanOf::what_in))]
-fn what_in(
-    alloc: Global,
-    topics: &[TopicEntry],
-    section: &Section<'_>,
-    verb: Verb,
-) -> Result<What, ScenarioFault>
+fn what_in(topics: &[TopicEntry], section: &Section<'_>, verb: Verb) -> Result<What, ScenarioFault>
     ensures { Gives (λ what. what) result (what_in topics.now (section_of section.now) verb) }
 {
-    let topic = topic_of(alloc, topics, &section.required(alloc, TOPIC)?)?;
+    let topic = topic_of(topics, &section.required(TOPIC)?)?;
     match verb {
         Verb::Subscribe => Ok(What::Subscribe(topic)),
         Verb::Unsubscribe => Ok(What::Unsubscribe(topic)),
-        Verb::Publish => Ok(What::Publish(topic, section.hex(alloc, HEX)?)),
+        Verb::Publish => Ok(What::Publish(topic, section.hex(HEX)?)),
     }
 }
 
+/// What a line tells a peer, which has no other key than one that tells this may have.
+#[tactic(auto, unfolding(crate::specs::PlanOf::verb_in))]
+fn verb_in(section: &Section<'_>) -> Result<Verb, ScenarioFault>
+    ensures { Gives (λ verb. verb) result (verb_in (section_of section.now)) }
+{
+    let verb = verb_at(&section.required(WHAT)?)?;
+    section.only(verb.line_kind())?;
+    Ok(verb)
+}
+
 /// The word that a value is.
-fn verb_in(alloc: Global, field: &Field<'_>) -> Result<Verb, ScenarioFault>
+fn verb_at(field: &Field<'_>) -> Result<Verb, ScenarioFault>
     ensures { Gives (λ verb. verb) result (read_as (word verb_of) field.now) }
 {
     if let Some(text) = field.value.as_str() {
@@ -130,7 +150,7 @@ fn verb_in(alloc: Global, field: &Field<'_>) -> Result<Verb, ScenarioFault>
             return Ok(verb);
         }
     }
-    Err(ScenarioFault::Range(field.place.to_text(alloc)?))
+    Err(field.out_of_range(Wanted::Verb)?)
 }
 
 /// What a word says.

@@ -6,13 +6,15 @@ ghost use Rattle.gs_scenario.specs.declared.fault.ScenarioFault.TheVariants.{Mis
 ghost use Rattle.gs_scenario.specs.Refusal.{Gives};
 ghost use Rattle.gs_scenario.specs.Keys.{required, optional, read_key, only, is_one_of, or_refuse};
 ghost use Rattle.gs_scenario.specs.Kinds as kinds;
-ghost use Rattle.gs_scenario.specs.Kinds.{multiple_of};
-ghost use Rattle.gs_scenario.specs.ParamsOf.{count_key, amount_key, score_key, prefixes_key};
+ghost use Rattle.gs_scenario.specs.ParamsOf.{count_key, multiple_key, amount_key, score_key, prefixes_key};
+ghost use Rattle.gs_scenario.specs.PlanOf.{known_keys};
 ghost use Rattle.gs_scenario.specs.Views.{held_at, path_text, place_text, section_of};
 
 use crate::fault::ScenarioFault;
+use crate::reason::{Found, Wanted};
 use crate::scenario::field::Field;
 use crate::scenario::place::{Path, Place};
+use crate::scenario::tables::TableKind;
 use bytes::Bytes;
 use gs_base::Seq;
 use std::alloc::Global;
@@ -27,21 +29,24 @@ const HIGHEST_SCORE: i64 = HIGHEST_NUMBER as i64;
 /// A table of a scenario, and where it stands.
 #[derive(Clone, Copy)]
 pub struct Section<'a> {
+    /// Where the memory of what is read, or of a refusal, comes from.
+    pub alloc: Global,
     pub path: Path<'a>,
     pub table: &'a Table,
 }
 
 impl<'a> Section<'a> {
-    /// Refuses the first key, in the order of bytes, that is none of these.
+    /// Refuses the first key, in the order of bytes, that such a table may not have.
     #[tactic(auto, unfolding(crate::specs::Keys::only))]
-    pub fn only(&self, alloc: Global, known: &[&str]) -> Result<(), ScenarioFault>
+    pub fn only(&self, kind: TableKind) -> Result<(), ScenarioFault>
         ensures { Gives (λ x. x) result
-            (only (map (λ name. name.now) known.now) (section_of self.now)) }
+            (only kind (known_keys kind) (section_of self.now)) }
     {
+        let known = kind.known_keys();
         for (key, _value) in self.table {
             if !is_one_of(known, key.as_str()) {
                 let place = Place::Key(self.path, key.as_str());
-                return Err(ScenarioFault::UnknownKey(place.to_text(alloc)?));
+                return Err(ScenarioFault::UnknownKey(place.to_text(self.alloc)?, kind));
             }
         }
         Ok(())
@@ -56,7 +61,7 @@ impl<'a> Section<'a> {
     }
 
     /// What the table holds at a key that is required.
-    pub fn required(&self, alloc: Global, key: &'a str) -> Result<Field<'a>, ScenarioFault>
+    pub fn required(&self, key: &'a str) -> Result<Field<'a>, ScenarioFault>
         ensures place { IfOk result (λ field.
             place_text field.place ≡ path_text self.now.path ++ key.now) }
         ensures found { Gives (λ field. view field.value.now) result (or_refuse
@@ -65,8 +70,12 @@ impl<'a> Section<'a> {
     {
         let place = Place::Key(self.path, key);
         match self.get(key) {
-            Some(value) => Ok(Field { place, value }),
-            None => Err(ScenarioFault::Missing(place.to_text(alloc)?)),
+            Some(value) => Ok(Field {
+                alloc: self.alloc,
+                place,
+                value,
+            }),
+            None => Err(ScenarioFault::Missing(place.to_text(self.alloc)?)),
         }
     }
 
@@ -77,151 +86,128 @@ impl<'a> Section<'a> {
         ensures found { option_map (λ field. view field.value.now) result
             ≡ get_member key.now (section_of self.now).members }
     {
-        let place = Place::Key(self.path, key);
         let value = self.get(key)?;
-        Some(Field { place, value })
+        Some(Field {
+            alloc: self.alloc,
+            place: Place::Key(self.path, key),
+            value,
+        })
     }
 
     /// The whole number from low to high at a key that is required.
-    pub fn number(
-        &self,
-        alloc: Global,
-        key: &'a str,
-        low: u64,
-        high: u64,
-    ) -> Result<u64, ScenarioFault>
+    pub fn number(&self, key: &'a str, low: u64, high: u64) -> Result<u64, ScenarioFault>
         ensures number { Gives (λ number. number) result
             (held_at (required key.now (kinds.whole_number low high)) self.now) }
         ensures within { IfOk result (λ number. (low ≤ number) × (number ≤ high)) }
     {
-        self.required(alloc, key)?.whole_number(alloc, low, high)
+        self.required(key)?.whole_number(low, high)
     }
 
     /// The whole number of either sign from low to high at a key that is required.
-    pub fn signed_number(
-        &self,
-        alloc: Global,
-        key: &'a str,
-        low: i64,
-        high: i64,
-    ) -> Result<i64, ScenarioFault>
+    pub fn signed_number(&self, key: &'a str, low: i64, high: i64) -> Result<i64, ScenarioFault>
         ensures { Gives (λ number. number) result
             (held_at (required key.now (kinds.signed_number low high)) self.now) }
     {
-        self.required(alloc, key)?.signed_number(alloc, low, high)
+        self.required(key)?.signed_number(low, high)
     }
 
     /// The count at a key, and the default where the key is missing.
-    pub fn count(&self, alloc: Global, key: &'a str, default: u64) -> Result<u64, ScenarioFault>
+    pub fn count(&self, key: &'a str, default: u64) -> Result<u64, ScenarioFault>
         ensures { Gives (λ number. number) result (held_at (count_key key.now default) self.now) }
     {
         match self.optional(key) {
-            Some(field) => field.whole_number(alloc, 0, HIGHEST_NUMBER),
+            Some(field) => field.whole_number(0, HIGHEST_NUMBER),
             None => Ok(default),
         }
     }
 
     /// The count at a key, and the default where the key is missing, if it is a multiple of a step.
-    pub fn multiple(
-        &self,
-        alloc: Global,
-        key: &'a str,
-        default: u64,
-        step: u64,
-    ) -> Result<u64, ScenarioFault>
+    pub fn multiple(&self, key: &'a str, default: u64, step: u64) -> Result<u64, ScenarioFault>
         requires { 1 ≤ step }
         ensures { Gives (λ number. number) result
-            (held_at (multiple_of step (count_key key.now default)) self.now) }
+            (held_at (multiple_key step key.now default) self.now) }
     {
-        let number = self.count(alloc, key, default)?;
-        if number % step == 0 {
-            Ok(number)
-        } else {
-            let place = Place::Key(self.path, key);
-            Err(ScenarioFault::Range(place.to_text(alloc)?))
+        if let Some(field) = self.optional(key) {
+            return field.multiple(0, HIGHEST_NUMBER, step);
         }
+        if default % step == 0 {
+            return Ok(default);
+        }
+        let place = Place::Key(self.path, key).to_text(self.alloc)?;
+        let found = Found::Default(default);
+        Err(ScenarioFault::Range(place, found, Wanted::Multiple(step)))
     }
 
     /// The millionths, none of them below zero, at a key, and the default where the key is missing.
-    pub fn amount(&self, alloc: Global, key: &'a str, default: i64) -> Result<i64, ScenarioFault>
+    pub fn amount(&self, key: &'a str, default: i64) -> Result<i64, ScenarioFault>
         ensures { Gives (λ number. number) result (held_at (amount_key key.now default) self.now) }
     {
         match self.optional(key) {
-            Some(field) => field.signed_number(alloc, 0, HIGHEST_SCORE),
+            Some(field) => field.signed_number(0, HIGHEST_SCORE),
             None => Ok(default),
         }
     }
 
     /// The millionths of either sign at a key, and the default where the key is missing.
-    pub fn score(&self, alloc: Global, key: &'a str, default: i64) -> Result<i64, ScenarioFault>
+    pub fn score(&self, key: &'a str, default: i64) -> Result<i64, ScenarioFault>
         ensures { Gives (λ number. number) result (held_at (score_key key.now default) self.now) }
     {
         match self.optional(key) {
-            Some(field) => field.signed_number(alloc, -HIGHEST_SCORE, HIGHEST_SCORE),
+            Some(field) => field.signed_number(-HIGHEST_SCORE, HIGHEST_SCORE),
             None => Ok(default),
         }
     }
 
     /// The truth value at a key, and the default where the key is missing.
-    pub fn truth_value(
-        &self,
-        alloc: Global,
-        key: &'a str,
-        default: bool,
-    ) -> Result<bool, ScenarioFault>
+    pub fn truth_value(&self, key: &'a str, default: bool) -> Result<bool, ScenarioFault>
         ensures { Gives (λ value. value) result
             (held_at (optional key.now kinds.truth_value default) self.now) }
     {
         match self.optional(key) {
-            Some(field) => field.truth_value(alloc),
+            Some(field) => field.truth_value(),
             None => Ok(default),
         }
     }
 
     /// The bytes of each hex text of the list at a key, none where the key is missing.
-    pub fn prefixes(&self, alloc: Global, key: &'a str) -> Result<Seq<Bytes>, ScenarioFault>
+    pub fn prefixes(&self, key: &'a str) -> Result<Seq<Bytes>, ScenarioFault>
         ensures { Gives (λ prefixes. prefixes) result (held_at (prefixes_key key.now) self.now) }
     {
         match self.optional(key) {
-            Some(field) => field.prefixes(alloc),
-            None => Ok(Seq::new(alloc)),
+            Some(field) => field.prefixes(),
+            None => Ok(Seq::new(self.alloc)),
         }
     }
 
     /// The words of 32 bits of the list at a key, none where the key is missing.
-    pub fn words(&self, alloc: Global, key: &'a str) -> Result<Seq<u32>, ScenarioFault>
+    pub fn words(&self, key: &'a str) -> Result<Seq<u32>, ScenarioFault>
         ensures { Gives (λ words. words) result (held_at (optional key.now kinds.words []) self.now) }
     {
         match self.optional(key) {
-            Some(field) => field.words(alloc),
-            None => Ok(Seq::new(alloc)),
+            Some(field) => field.words(),
+            None => Ok(Seq::new(self.alloc)),
         }
     }
 
     /// The text at a key, and the default where the key is missing.
-    pub fn text(
-        &self,
-        alloc: Global,
-        key: &'a str,
-        default: &'a str,
-    ) -> Result<&'a str, ScenarioFault>
+    pub fn text(&self, key: &'a str, default: &'a str) -> Result<&'a str, ScenarioFault>
         ensures { Gives (λ text. text.now) result
             (held_at (optional key.now kinds.any_text default.now) self.now) }
     {
         match self.optional(key) {
-            Some(field) => field.text(alloc),
+            Some(field) => field.text(),
             None => Ok(default),
         }
     }
 
     /// The table at a key that may be missing.
-    pub fn table(&self, alloc: Global, key: &'a str) -> Result<Option<&'a Table>, ScenarioFault>
+    pub fn table(&self, key: &'a str) -> Result<Option<&'a Table>, ScenarioFault>
         ensures { Gives (λ table. unwrap_or (option_map (λ found. table_view found.now) table) no_members)
             result (held_at (optional key.now kinds.any_table no_members) self.now) }
     {
         match self.optional(key) {
             Some(field) => {
-                let table = field.table(alloc)?;
+                let table = field.table()?;
                 Ok(Some(table))
             }
             None => Ok(None),
@@ -229,45 +215,39 @@ impl<'a> Section<'a> {
     }
 
     /// The list of low to high elements at a key that is required.
-    pub fn list(
-        &self,
-        alloc: Global,
-        key: &'a str,
-        low: usize,
-        high: usize,
-    ) -> Result<&'a [Value], ScenarioFault>
+    pub fn list(&self, key: &'a str, low: usize, high: usize) -> Result<&'a [Value], ScenarioFault>
         ensures list { Gives (λ list. items_view list.now) result
             (held_at (required key.now (kinds.list_of low high)) self.now) }
         ensures within { IfOk result (λ list. (low ≤ length list.now) × (length list.now ≤ high)) }
     {
-        self.required(alloc, key)?.list(alloc, low, high)
+        self.required(key)?.list(low, high)
     }
 
     /// The list at a key, empty where the key is missing.
-    pub fn optional_list(&self, alloc: Global, key: &'a str) -> Result<&'a [Value], ScenarioFault>
+    pub fn optional_list(&self, key: &'a str) -> Result<&'a [Value], ScenarioFault>
         ensures { Gives (λ list. items_view list.now) result
             (held_at (optional key.now kinds.any_list no_items) self.now) }
     {
         match self.optional(key) {
-            Some(field) => field.any_list(alloc),
+            Some(field) => field.any_list(),
             None => Ok(&[]),
         }
     }
 
     /// The name at a key that is required.
-    pub fn name(&self, alloc: Global, key: &'a str) -> Result<&'a str, ScenarioFault>
+    pub fn name(&self, key: &'a str) -> Result<&'a str, ScenarioFault>
         ensures { Gives (λ text. text.now) result
             (held_at (required key.now kinds.name_text) self.now) }
     {
-        self.required(alloc, key)?.name(alloc)
+        self.required(key)?.name()
     }
 
     /// The bytes of the hex text at a key that is required.
-    pub fn hex(&self, alloc: Global, key: &'a str) -> Result<Bytes, ScenarioFault>
+    pub fn hex(&self, key: &'a str) -> Result<Bytes, ScenarioFault>
         ensures { Gives (λ bytes. bytes) result
             (held_at (required key.now kinds.hex_text) self.now) }
     {
-        self.required(alloc, key)?.hex(alloc)
+        self.required(key)?.hex()
     }
 }
 

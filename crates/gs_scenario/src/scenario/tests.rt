@@ -7,6 +7,7 @@ mod plans;
 mod values;
 
 use super::*;
+use crate::reason::{Found, Wanted};
 use crate::scenario::tests::cases::{BOUNDS, EDITS, LISTS, OTHER_LISTS, TOP, TWO_PEERS, WRONG};
 use crate::scenario::tests::keys::{
     APPS, IN_PARAMS, IN_TOPIC, LINES, OF_TOPIC, PARAMS_IN_RANGE, Range, SIGNED_OF_TOPIC,
@@ -272,7 +273,8 @@ fn what_is_told_has_its_word(rt: HostRuntime) -> Result<(), AllocError> {
 #[test]
 fn a_fault_has_its_number_and_place(rt: HostRuntime) -> Result<(), AllocError> {
     let alloc = rt.alloc();
-    let fault = ScenarioFault::Range(Text::from_str(alloc, "do[2].hex")?);
+    let place = Text::from_str(alloc, "do[2].hex")?;
+    let fault = ScenarioFault::Range(place, Found::Number(6), Wanted::Hex);
     assert_eq!(rt; fault.number(), 29);
     assert!(rt; fault.place() == Some(&Text::from_str(alloc, "do[2].hex")?));
     assert!(rt; format!(in alloc; "{fault}")?.as_str() == "29 do[2].hex");

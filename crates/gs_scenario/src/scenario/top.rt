@@ -1,13 +1,13 @@
 //! The top table of a scenario.
-ghost use Rattle.std.specs.Prelude.{◌≤◌, IfOk, length};
+ghost use Rattle.std.specs.Prelude.{◌≡◌, ◌≤◌, IfOk, length, map};
 ghost use Rattle.gs_scenario.specs.Refusal.{Gives};
 ghost use Rattle.gs_scenario.specs.PlanOf as spec;
 ghost use Rattle.gs_scenario.specs.Views.{section_of, top_view};
 
 use crate::fault::ScenarioFault;
 use crate::scenario::section::Section;
+use crate::scenario::tables::TableKind;
 use gs_params::{LONGEST_ROUND, MOST_PEERS, MOST_ROUNDS};
-use std::alloc::Global;
 use toml::{Table, Value};
 
 const ROUND_MS: &str = "round_ms";
@@ -32,6 +32,15 @@ const APP: &str = "app";
 
 const DO: &str = "do";
 
+/// The keys of the top table.
+pub fn keys() -> &'static [&'static str]
+    ensures { map (λ key. key.now) result.now ≡ spec.top_keys }
+{
+    &[
+        ROUND_MS, ROUNDS, WORKERS, CAPACITY, SEED, PARAMS, TOPIC, PEER, DIAL, APP, DO,
+    ]
+}
+
 /// What the top table holds. The table in it and its lists are walked later.
 #[derive(Clone, Copy)]
 pub struct Top<'a> {
@@ -51,30 +60,25 @@ pub struct Top<'a> {
 impl<'a> Top<'a> {
     /// Reads the keys in their order.
     #[tactic(auto, unfolding(crate::specs::PlanOf::top_in, crate::specs::Keys::only))]
-    pub fn read(alloc: Global, top: Section<'a>) -> Result<Top<'a>, ScenarioFault>
+    pub fn read(top: Section<'a>) -> Result<Top<'a>, ScenarioFault>
         ensures plan { Gives top_view result (spec.top_in (section_of top.entry)) }
         ensures round_ms { IfOk result (λ top.
             (1 ≤ top.round_ms) × (top.round_ms ≤ LONGEST_ROUND)) }
         ensures peers { IfOk result (λ top. length top.peers.now ≤ MOST_PEERS) }
     {
-        top.only(
-            alloc,
-            &[
-                ROUND_MS, ROUNDS, WORKERS, CAPACITY, SEED, PARAMS, TOPIC, PEER, DIAL, APP, DO,
-            ],
-        )?;
+        top.only(TableKind::Top)?;
         Ok(Top {
-            round_ms: top.number(alloc, ROUND_MS, 1, LONGEST_ROUND)?,
-            rounds: top.number(alloc, ROUNDS, 1, MOST_ROUNDS)?,
-            workers: top.number(alloc, WORKERS, 1, 16)?,
-            capacity: top.number(alloc, CAPACITY, 1, 1_024)?,
-            seed: top.number(alloc, SEED, 0, 0x7FFF_FFFF_FFFF_FFFF)?,
-            params: top.table(alloc, PARAMS)?,
-            topics: top.list(alloc, TOPIC, 1, 32)?,
-            peers: top.list(alloc, PEER, 1, MOST_PEERS)?,
-            dials: top.optional_list(alloc, DIAL)?,
-            apps: top.optional_list(alloc, APP)?,
-            script: top.optional_list(alloc, DO)?,
+            round_ms: top.number(ROUND_MS, 1, LONGEST_ROUND)?,
+            rounds: top.number(ROUNDS, 1, MOST_ROUNDS)?,
+            workers: top.number(WORKERS, 1, 16)?,
+            capacity: top.number(CAPACITY, 1, 1_024)?,
+            seed: top.number(SEED, 0, 0x7FFF_FFFF_FFFF_FFFF)?,
+            params: top.table(PARAMS)?,
+            topics: top.list(TOPIC, 1, 32)?,
+            peers: top.list(PEER, 1, MOST_PEERS)?,
+            dials: top.optional_list(DIAL)?,
+            apps: top.optional_list(APP)?,
+            script: top.optional_list(DO)?,
         })
     }
 }

@@ -9,7 +9,6 @@ use crate::scenario::section::Section;
 use gs_params::{
     DEFAULT_TOPIC_FACTORS, DEFAULT_TOPIC_WINDOWS, TopicFactors, TopicParams, TopicWindows,
 };
-use std::alloc::Global;
 
 /// The weights of a topic's part of the score.
 #[derive(Clone, Copy)]
@@ -37,23 +36,23 @@ pub struct TopicCounters {
 
 /// The parameters in the table of a topic.
 #[tactic(auto, unfolding(crate::specs::TopicParamsOf::topic_params_in))]
-pub fn topic_params_in(alloc: Global, section: &Section<'_>) -> Result<TopicParams, ScenarioFault>
+pub fn topic_params_in(section: &Section<'_>) -> Result<TopicParams, ScenarioFault>
     ensures { Gives (λ params. params) result (topic_params_in (section_of section.now)) }
 {
     Ok(TopicParams {
-        factors: topic_factors_in(alloc, section)?,
-        windows: topic_windows_in(alloc, section)?,
-        reject: section.prefixes(alloc, "reject")?,
-        ignore: section.prefixes(alloc, "ignore")?,
+        factors: topic_factors_in(section)?,
+        windows: topic_windows_in(section)?,
+        reject: section.prefixes("reject")?,
+        ignore: section.prefixes("ignore")?,
     })
 }
 
 #[tactic(auto, unfolding(crate::specs::TopicParamsOf::topic_factors_in))]
-fn topic_factors_in(alloc: Global, section: &Section<'_>) -> Result<TopicFactors, ScenarioFault>
+fn topic_factors_in(section: &Section<'_>) -> Result<TopicFactors, ScenarioFault>
     ensures { Gives (λ factors. factors) result (topic_factors_in (section_of section.now)) }
 {
-    let weights = topic_weights_in(alloc, section)?;
-    let counters = topic_counters_in(alloc, section)?;
+    let weights = topic_weights_in(section)?;
+    let counters = topic_counters_in(section)?;
     Ok(factors_of(weights, counters))
 }
 
@@ -81,45 +80,45 @@ fn factors_of(weights: TopicWeights, counters: TopicCounters) -> TopicFactors
 }
 
 #[tactic(auto, unfolding(crate::specs::TopicParamsOf::topic_weights_in))]
-fn topic_weights_in(alloc: Global, section: &Section<'_>) -> Result<TopicWeights, ScenarioFault>
+fn topic_weights_in(section: &Section<'_>) -> Result<TopicWeights, ScenarioFault>
     ensures { Gives (λ weights. weights) result (topic_weights_in (section_of section.now)) }
 {
     let default = DEFAULT_TOPIC_FACTORS;
     Ok(TopicWeights {
-        topic_weight: section.amount(alloc, "topic_weight", default.topic_weight)?,
-        w1: section.amount(alloc, "w1", default.w1)?,
-        w2: section.amount(alloc, "w2", default.w2)?,
-        w3: section.score(alloc, "w3", default.w3)?,
-        w3b: section.score(alloc, "w3b", default.w3b)?,
-        w4: section.score(alloc, "w4", default.w4)?,
+        topic_weight: section.amount("topic_weight", default.topic_weight)?,
+        w1: section.amount("w1", default.w1)?,
+        w2: section.amount("w2", default.w2)?,
+        w3: section.score("w3", default.w3)?,
+        w3b: section.score("w3b", default.w3b)?,
+        w4: section.score("w4", default.w4)?,
     })
 }
 
 #[tactic(auto, unfolding(crate::specs::TopicParamsOf::topic_counters_in))]
-fn topic_counters_in(alloc: Global, section: &Section<'_>) -> Result<TopicCounters, ScenarioFault>
+fn topic_counters_in(section: &Section<'_>) -> Result<TopicCounters, ScenarioFault>
     ensures { Gives (λ counters. counters) result (topic_counters_in (section_of section.now)) }
 {
     let default = DEFAULT_TOPIC_FACTORS;
     Ok(TopicCounters {
-        p2_decay: section.amount(alloc, "p2_decay", default.p2_decay)?,
-        p3_decay: section.amount(alloc, "p3_decay", default.p3_decay)?,
-        p3b_decay: section.amount(alloc, "p3b_decay", default.p3b_decay)?,
-        p4_decay: section.amount(alloc, "p4_decay", default.p4_decay)?,
-        p1_cap: section.amount(alloc, "p1_cap", default.p1_cap)?,
-        p2_cap: section.amount(alloc, "p2_cap", default.p2_cap)?,
-        p3_cap: section.amount(alloc, "p3_cap", default.p3_cap)?,
-        p3_threshold: section.amount(alloc, "p3_threshold", default.p3_threshold)?,
+        p2_decay: section.amount("p2_decay", default.p2_decay)?,
+        p3_decay: section.amount("p3_decay", default.p3_decay)?,
+        p3b_decay: section.amount("p3b_decay", default.p3b_decay)?,
+        p4_decay: section.amount("p4_decay", default.p4_decay)?,
+        p1_cap: section.amount("p1_cap", default.p1_cap)?,
+        p2_cap: section.amount("p2_cap", default.p2_cap)?,
+        p3_cap: section.amount("p3_cap", default.p3_cap)?,
+        p3_threshold: section.amount("p3_threshold", default.p3_threshold)?,
     })
 }
 
 #[tactic(auto, unfolding(crate::specs::TopicParamsOf::topic_windows_in))]
-fn topic_windows_in(alloc: Global, section: &Section<'_>) -> Result<TopicWindows, ScenarioFault>
+fn topic_windows_in(section: &Section<'_>) -> Result<TopicWindows, ScenarioFault>
     ensures { Gives (λ windows. windows) result (topic_windows_in (section_of section.now)) }
 {
     let default = DEFAULT_TOPIC_WINDOWS;
     Ok(TopicWindows {
-        p1_quantum_ms: section.count(alloc, "p1_quantum_ms", default.p1_quantum_ms)?,
-        p3_window_ms: section.count(alloc, "p3_window_ms", default.p3_window_ms)?,
-        p3_activation_ms: section.count(alloc, "p3_activation_ms", default.p3_activation_ms)?,
+        p1_quantum_ms: section.count("p1_quantum_ms", default.p1_quantum_ms)?,
+        p3_window_ms: section.count("p3_window_ms", default.p3_window_ms)?,
+        p3_activation_ms: section.count("p3_activation_ms", default.p3_activation_ms)?,
     })
 }

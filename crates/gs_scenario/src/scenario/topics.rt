@@ -2,6 +2,7 @@
 ghost use Rattle.std.specs.Prelude.{◌≡◌, [], option_map, is_some, map};
 ghost use Rattle.std.specs.Option.{option_copied};
 ghost use Rattle.toml.specs.View.{view, items_view};
+ghost use Rattle.gs_scenario.specs.declared.reason.NameKind.TheVariants as names;
 ghost use Rattle.gs_scenario.specs.Refusal.{Gives};
 ghost use Rattle.gs_scenario.specs.Keys.{read_each};
 ghost use Rattle.gs_scenario.specs.Kinds.{reference};
@@ -9,8 +10,10 @@ ghost use Rattle.gs_scenario.specs.Views.{read_as};
 ghost use Rattle.gs_scenario.specs.PlanOf.{topic_in, topic_keys, topic_named};
 
 use crate::fault::ScenarioFault;
+use crate::reason::NameKind;
 use crate::scenario::field::{Field, table_of};
 use crate::scenario::place::Element;
+use crate::scenario::tables::TableKind;
 use crate::scenario::topic_params::topic_params_in;
 use bytes::Bytes;
 use gs_base::{Seq, Topic, clone_of};
@@ -22,7 +25,7 @@ use toml::Value;
 pub type TopicEntry = (Topic, TopicParams);
 
 /// The keys of a topic's table.
-fn keys() -> &'static [&'static str]
+pub fn keys() -> &'static [&'static str]
     ensures { map (λ key. key.now) result.now ≡ topic_keys }
 {
     &[
@@ -76,30 +79,26 @@ fn topic_in(
         index: earlier.len(),
     };
     let section = table_of(alloc, element, value)?;
-    section.only(alloc, keys())?;
-    let field = section.required(alloc, "name")?;
-    let name = field.name(alloc)?;
+    section.only(TableKind::Topic)?;
+    let field = section.required("name")?;
+    let name = field.name()?;
     if topic_named(earlier, name).is_some() {
-        return Err(ScenarioFault::Repeated(field.place.to_text(alloc)?));
+        return Err(field.repeated()?);
     }
     let topic = Topic(Bytes::copy_from_slice(alloc, name.as_bytes())?);
-    let params = topic_params_in(alloc, &section)?;
+    let params = topic_params_in(&section)?;
     Ok((topic, params))
 }
 
 /// The topic that a value names.
-pub fn topic_of(
-    alloc: Global,
-    topics: &[TopicEntry],
-    field: &Field<'_>,
-) -> Result<Topic, ScenarioFault>
+pub fn topic_of(topics: &[TopicEntry], field: &Field<'_>) -> Result<Topic, ScenarioFault>
     ensures { Gives (λ topic. topic) result
-        (read_as (reference (topic_named topics.now)) field.now) }
+        (read_as (reference names.Topic (topic_named topics.now)) field.now) }
 {
-    let name = field.name(alloc)?;
+    let name = field.name()?;
     match topic_named(topics, name) {
         Some(topic) => Ok(clone_of(topic)?),
-        None => Err(ScenarioFault::UnknownName(field.place.to_text(alloc)?)),
+        None => Err(field.unknown(name, NameKind::Topic)?),
     }
 }
 

@@ -1,7 +1,7 @@
 use Rattle.std.proofs.Common.{ℕ, List, subst, ◌∙◌, rules}
 use Rattle.std.specs.Io.KnownBytes.{Appends}
-use Rattle.gossip_sim.specs.Streams.{AppendsFront}
-use Rattle.gossip_sim.proofs.Fronts.{whole_or_front}
+use Rattle.gs_streams.specs.Streams.{AppendsFront}
+use Rattle.gs_streams.proofs.Fronts.{whole_or_front}
 use Rattle.gossip_sim.proofs.program.run_plan.Goals as goal
 
 pub returns-then-is_err : goal.returns-then-is_err

@@ -2,7 +2,7 @@ use Rattle.std.proofs.Common.{◌≡◌, ◌∙◌, ℕ, List, codes, inl, inr, 
 use Rattle.std.specs.Fmt.{digits}
 use Rattle.gs_scenario.specs.declared.fault.ScenarioFault.TheVariants.{NoMemory}
 use Rattle.gossip_sim.specs.Program.{refusal_line}
-use Rattle.gossip_sim.specs.Streams.{AppendsFront}
+use Rattle.gs_streams.specs.Streams.{AppendsFront}
 use Rattle.gossip_sim.proofs.program.tell_refusal.Goals as goal
 
 line_of_no_memory : codes "scenario refused: 32\n" ≡ refusal_line NoMemory
@@ -15,12 +15,12 @@ returns-in-Ok g c =
     record {
       told = c.args.fault.now;
       which = inl refl;
-      line = subst (λ (text : List ℕ). AppendsFront (g.E.Write.contents c.args.errors.now) (g.E.Write.contents c.tell.new.errors) text) line c.tell.ensures;
+      line = subst (λ (text : List ℕ). AppendsFront (g.E.Write.contents c.args.errors.now) (g.E.Write.contents c.tell.new.output) text) line c.tell.ensures;
     }
 
 pub returns-in-Err : goal.returns-in-Err
 returns-in-Err g c = record {
   told = NoMemory;
   which = inr refl;
-  line = subst (λ (text : List ℕ). AppendsFront (g.E.Write.contents c.args.errors.now) (g.E.Write.contents c.tell-in-Err.new.errors) text) line_of_no_memory c.tell-in-Err.ensures;
+  line = subst (λ (text : List ℕ). AppendsFront (g.E.Write.contents c.args.errors.now) (g.E.Write.contents c.tell-in-Err.new.output) text) line_of_no_memory c.tell-in-Err.ensures;
 }

@@ -8,5 +8,5 @@ use Rattle.gs_scenario.proofs.scenario.field.Field.prefixes.Given as goal
 -- what the rest of the list gives after these prefixes is what the whole gives
 abbrev pub invariant-loop-value : goal.invariant-loop-value
 invariant-loop-value l =
-    let read = λ (before : List (List ℕ)). hex_text (place_text l.place) in
+    let read = λ (before : List (List ℕ)). hex_text (place_text l.self.place) in
     read_each read l.prefixes (items_view (drop l.value-index l.list)) ≡ read_each read [] (items_view l.list)

@@ -1,0 +1,2 @@
+pub mod PlainPlaces
+pub mod Verdicts

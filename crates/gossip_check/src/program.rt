@@ -1,0 +1,77 @@
+//! The program: what it reads, what it writes and how it ends.
+ghost use Rattle.std.specs.Prelude.{◌≡◌, List, Option, ℕ};
+ghost use Rattle.std.specs.Process.{exit_status};
+ghost use Rattle.gossip_check.specs.Program.{Answers, EndsAs, status_of};
+
+use crate::answer::{Answer, NO_MEMORY_ANSWER, NoAnswer, Verdict, answer_to};
+use gs_streams::{tell, write_text};
+use std::alloc::Global;
+use std::io::{Read, Write};
+use std::process::ExitCode;
+
+/// How a run of the program ends.
+#[derive(Clone, Copy, Debug, PartialEq, Eq)]
+pub enum ExitStatus {
+    /// The answer is on the output.
+    Answered(Verdict),
+    /// A read of the input failed, or it was read `MOST_READS` times and had not ended.
+    InputFailed,
+    /// The answer could not be written.
+    OutputFailed,
+}
+
+impl From<ExitStatus> for ExitCode {
+    ghost from_gives = { λ status code. exit_status code ≡ status_of status };
+
+    fn from(status: ExitStatus) -> ExitCode {
+        ExitCode::from(match status {
+            ExitStatus::Answered(Verdict::Accepted) => 0u8,
+            ExitStatus::Answered(Verdict::Refused) => 1,
+            ExitStatus::Answered(Verdict::NoMemory) => 2,
+            ExitStatus::InputFailed | ExitStatus::OutputFailed => 3,
+        })
+    }
+}
+
+/// Reads a scenario from the input, and writes what is to be said of it to the output. Where the
+/// input or the output fails, that is a line on `errors`; where that can't be written, the status
+/// stays the same.
+pub fn run<R, W, E>(alloc: Global, input: &mut R, output: &mut W, errors: &mut E) -> ExitStatus
+where
+    R: Read,
+    W: Write,
+    E: Write,
+    ensures { EndsAs result (R.remaining input.old)
+        (W.contents output.old) (W.contents output.new) (E.contents errors.old) (E.contents errors.new) }
+{
+    match answer_to(alloc, input) {
+        Ok(Answer { verdict, text }) => tell_answer(verdict, &text, output, errors),
+        Err(NoAnswer::NoMemory) => {
+            tell_answer(
+                Verdict::NoMemory,
+                NO_MEMORY_ANSWER.as_bytes(),
+                output,
+                errors,
+            )
+        }
+        Err(NoAnswer::InputFailed) => {
+            tell(errors, "input failed\n");
+            ExitStatus::InputFailed
+        }
+    }
+}
+
+/// Writes an answer to the output.
+fn tell_answer<W, E>(verdict: Verdict, answer: &[u8], output: &mut W, errors: &mut E) -> ExitStatus
+where
+    W: Write,
+    E: Write,
+    ensures { (input : Option (List ℕ)) → Answers verdict input answer.now → EndsAs result input
+        (W.contents output.old) (W.contents output.new) (E.contents errors.old) (E.contents errors.new) }
+{
+    if write_text(output, answer).is_err() {
+        tell(errors, "output failed\n");
+        return ExitStatus::OutputFailed;
+    }
+    ExitStatus::Answered(verdict)
+}

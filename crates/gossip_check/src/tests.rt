@@ -1,0 +1,145 @@
+//! Whole answers, and whole runs.
+mod cases;
+
+use crate::answer::{NO_MEMORY_ANSWER, Verdict};
+use crate::program::{ExitStatus, run};
+use crate::tests::cases::{Case, FINE, KEYS, NAMES, NO_TOML, PARAMS, SCENARIO, VALUES};
+use gs_streams::fakes::{Broken, Narrow};
+use std::alloc::{AllocError, Global};
+use std::io::Read;
+use std::process::{Abort, ExitCode};
+
+/// The scenario with another text in the place of the first of these.
+fn changed(alloc: Global, old: &str, new: &str) -> Result<String, AllocError> {
+    match SCENARIO.split_once(old) {
+        Some((front, back)) => format!(in alloc; "{front}{new}{back}"),
+        None => String::from_str(alloc, "no such text"),
+    }
+}
+
+/// Whether a run on an input ends so and writes that.
+fn ends<R: Read>(alloc: Global, input: &mut R, status: u8, output: &str, errors: &str) -> bool {
+    let mut out = Vec::new(alloc);
+    let mut err = Vec::new(alloc);
+    let ended = run(alloc, input, &mut out, &mut err);
+    ExitCode::from(ended) == ExitCode::from(status)
+        && out.as_slice() == output.as_bytes()
+        && err.as_slice() == errors.as_bytes()
+}
+
+/// What is said of the bytes of a scenario.
+fn said(alloc: Global, bytes: &[u8]) -> Vec<u8> {
+    let mut out = Vec::new(alloc);
+    let mut err = Vec::new(alloc);
+    run(alloc, &mut &bytes[..], &mut out, &mut err);
+    out
+}
+
+/// Checks that each of these scenarios has its answer.
+fn answer_all<T: AllocGlobal + Abort>(rt: &T, cases: &[Case]) -> Result<(), AllocError> {
+    for (name, old, new, answer) in cases {
+        let scenario = changed(rt.alloc(), old, new)?;
+        let said = said(rt.alloc(), scenario.as_bytes());
+        assert_eq!(rt; str::from_utf8(&said), Ok(*answer), "{name}");
+    }
+    Ok(())
+}
+
+#[test]
+fn scenarios_that_are_fine_are_summed_up(rt: HostRuntime) -> Result<(), AllocError> {
+    answer_all(&rt, &FINE)
+}
+
+#[test]
+fn what_is_no_toml_is_refused_with_line_and_column(rt: HostRuntime) -> Result<(), AllocError> {
+    answer_all(&rt, &NO_TOML)
+}
+
+#[test]
+fn keys_that_are_unknown_or_missing_are_refused(rt: HostRuntime) -> Result<(), AllocError> {
+    answer_all(&rt, &KEYS)
+}
+
+#[test]
+fn values_are_refused_with_what_they_must_be(rt: HostRuntime) -> Result<(), AllocError> {
+    answer_all(&rt, &VALUES)
+}
+
+#[test]
+fn names_are_refused_that_nothing_has_or_two_have(rt: HostRuntime) -> Result<(), AllocError> {
+    answer_all(&rt, &NAMES)
+}
+
+#[test]
+fn parameters_are_refused_with_their_rules(rt: HostRuntime) -> Result<(), AllocError> {
+    answer_all(&rt, &PARAMS)
+}
+
+#[test]
+fn an_input_that_is_no_text_is_refused(rt: HostRuntime) {
+    let said = said(rt.alloc(), b"round_ms = 100\nrounds = \"\xff\"\n");
+    let answer = "26\nTOML parse error at line 2, column 11\ninvalid UTF-8\n";
+    assert_eq!(rt; str::from_utf8(&said), Ok(answer));
+}
+
+#[test]
+fn a_long_input_is_refused_whatever_it_is(rt: HostRuntime) -> Result<(), AllocError> {
+    let input = vec![in rt.alloc(); b'#'; 8_388_609]?;
+    let said = said(rt.alloc(), &input);
+    let answer = "29 input\n`input` is too long: a scenario has at most 8388608 bytes\n";
+    assert_eq!(rt; str::from_utf8(&said), Ok(answer));
+    Ok(())
+}
+
+#[test]
+fn each_answer_has_its_status(rt: HostRuntime) {
+    let alloc = rt.alloc();
+    let answer = "28 round_ms\n`round_ms` is missing: it must be the milliseconds of a round, \
+        a whole number from 1 to 60000\n";
+    assert!(rt; ends(alloc, &mut b"".as_slice(), 1, answer, ""));
+    let answer = "ok\n2 peers, 1 connection (2 links), 1 topic\n\
+        11 rounds of 100 ms: 1.100 s of simulated time\n2 lines in the script\n";
+    assert!(rt; ends(alloc, &mut SCENARIO.as_bytes(), 0, answer, ""));
+    let no_memory = ExitStatus::Answered(Verdict::NoMemory);
+    assert!(rt; ExitCode::from(no_memory) == ExitCode::from(2u8));
+    assert!(rt; NO_MEMORY_ANSWER.starts_with("32\n"));
+}
+
+#[test]
+fn an_input_that_fails_is_not_judged(rt: HostRuntime) {
+    let alloc = rt.alloc();
+    let mut input = Broken { rest: b"" };
+    assert!(rt; ends(alloc, &mut input, 3, "", "input failed\n"));
+    let mut input = Broken {
+        rest: SCENARIO.as_bytes(),
+    };
+    assert!(rt; ends(alloc, &mut input, 3, "", "input failed\n"));
+}
+
+/// Whether an output with so much room gets a front of an answer, and the failure is told.
+fn writes_front(alloc: Global, room: usize) -> bool {
+    let answer = b"29 round_ms\n`round_ms`";
+    let mut output = Narrow {
+        taken: Vec::new(alloc),
+        step: 3,
+        room,
+        fails: true,
+    };
+    let mut errors = Vec::new(alloc);
+    let ended = run(
+        alloc,
+        &mut b"round_ms = 0.5".as_slice(),
+        &mut output,
+        &mut errors,
+    );
+    ended == ExitStatus::OutputFailed
+        && output.taken.as_slice() == &answer[..room.min(answer.len())]
+        && errors.as_slice() == b"output failed\n".as_slice()
+}
+
+#[test]
+fn an_output_that_fails_has_a_front_of_the_answer(rt: HostRuntime) {
+    for room in 0..10 {
+        assert!(rt; writes_front(rt.alloc(), room));
+    }
+}

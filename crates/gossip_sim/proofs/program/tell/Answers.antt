@@ -1,9 +1,0 @@
-use Rattle.std.proofs.Common.{ℕ, List, subst}
-use Rattle.gossip_sim.specs.Streams.{AppendsFront}
-use Rattle.gossip_sim.proofs.Fronts.{whole_or_front}
-use Rattle.gossip_sim.proofs.program.tell.Goals as goal
-
-pub returns : goal.returns
-returns g c =
-    let written = whole_or_front c.write_text.result _ _ _ c.write_text.ensures.ok c.write_text.ensures.err in
-    subst (λ (line : List ℕ). AppendsFront (g.E.Write.contents c.args.errors.now) (g.E.Write.contents c.write_text.new.output) line) c.as_bytes.ensures.value written

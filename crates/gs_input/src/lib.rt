@@ -1,0 +1,47 @@
+//! The scenario that an input holds: the plan of its bytes, or why they are refused.
+#![tactic(auto)]
+
+ghost use Rattle.std.specs.Prelude.{◌≡◌, ◌≤◌, ◌⊎◌, IfErr, IfOk, Some, codes, length};
+ghost use Rattle.gs_input.specs.Inputs.{IsRefusal, IsScenario, input_too_long};
+ghost use Rattle.gs_params.specs.Plans.{IsInRange};
+ghost use Rattle.gs_scenario.specs.declared.fault.ScenarioFault.TheVariants.{NoMemory};
+ghost use Rattle.gs_streams.specs.Streams.{longest_input};
+
+use gs_base::Text;
+use gs_params::Plan;
+use gs_scenario::{Found, ScenarioFault, Wanted, read_plan};
+use gs_streams::LONGEST_INPUT;
+use std::alloc::Global;
+
+/// The plan that the bytes of a whole input describe.
+///
+/// # Errors
+/// `Toml` where the bytes are no UTF-8, and else as at `read_plan`.
+pub fn plan_from(alloc: Global, bytes: &[u8]) -> Result<Plan, ScenarioFault>
+    requires { length bytes.now ≤ longest_input }
+    ensures found { IfOk result (λ plan. IsScenario (Some bytes.now) plan) }
+    ensures in_range { IfOk result (λ plan. IsInRange plan) }
+    ensures refused { IfErr result (IsRefusal bytes.now) }
+{
+    match str::from_utf8(bytes) {
+        Ok(text) => read_plan(alloc, text),
+        Err(_) => Err(ScenarioFault::Toml),
+    }
+}
+
+/// The refusal of an input that is too long, whatever stands in it: 29, at `input`. `NoMemory` where
+/// there is none for the place.
+pub fn input_too_long(alloc: Global) -> ScenarioFault
+    ensures { (result ≡ input_too_long) ⊎ (result ≡ NoMemory) }
+{
+    match Text::from_str(alloc, "input") {
+        Ok(place) => {
+            let wanted = Wanted::ShortInput(LONGEST_INPUT as u64);
+            ScenarioFault::Range(place, Found::LongInput, wanted)
+        }
+        Err(_) => ScenarioFault::NoMemory,
+    }
+}
+
+#[cfg(test)]
+mod tests;

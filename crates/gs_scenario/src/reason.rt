@@ -1,0 +1,91 @@
+//! What a refusal says of the value that it refuses.
+ghost use Rattle.std.specs.Prelude.{◌≡◌, IfOk};
+ghost use Rattle.toml.specs.View.{view};
+ghost use Rattle.gs_scenario.specs.Refusal.{found_of};
+
+use gs_base::Text;
+use std::alloc::{AllocError, Global};
+use toml::Value;
+
+/// What a value must be where it stands.
+#[derive(Clone, Copy, Debug, PartialEq, Eq)]
+pub enum Wanted {
+    /// A whole number, from the first to the second.
+    Number(u64, u64),
+    /// A whole number of either sign, from the first to the second.
+    SignedNumber(i64, i64),
+    /// A multiple of so many, as of the milliseconds of a round.
+    Multiple(u64),
+    /// True or false.
+    TruthValue,
+    /// A table.
+    Table,
+    /// A list of any length.
+    List,
+    /// A list of so many to so many elements.
+    Elements(usize, usize),
+    /// Any text.
+    Text,
+    /// A name: a text of 1 to 32 of `a` to `z`, `0` to `9`, `_` and `-`.
+    Name,
+    /// A text of hex digits, in either case and even in number.
+    Hex,
+    /// A word that tells a peer what to do, as `subscribe`.
+    Verb,
+    /// The name of another peer than the one that dials.
+    AnotherPeer,
+    /// An input of at most so many bytes.
+    ShortInput(u64),
+}
+
+/// What stands there instead.
+#[derive(Debug, Drop, PartialEq, Eq)]
+pub enum Found {
+    /// A whole number.
+    Number(i64),
+    /// A number with a fraction or an exponent, an infinity, or no number (`nan`).
+    Float,
+    /// A text.
+    Text(Text),
+    /// True or false.
+    TruthValue(bool),
+    /// A date, a time, or both.
+    Date,
+    /// A list of so many elements.
+    List(usize),
+    /// A table.
+    Table,
+    /// Nothing, so that the key's default counts, which is this number.
+    Default(u64),
+    /// More bytes than an input may have.
+    LongInput,
+}
+
+impl Found {
+    /// What a value is found to be.
+    #[tactic(auto, using(crate::proofs::Lists::item_count_view))]
+    pub(crate) fn of(alloc: Global, value: &Value) -> Result<Found, AllocError>
+        ensures { IfOk result (λ found. found ≡ found_of (view value.now)) }
+    {
+        match value {
+            Value::String(text) => Ok(Found::Text(Text::from_str(alloc, text.as_str())?)),
+            Value::Integer(number) => Ok(Found::Number(*number)),
+            Value::Float(_) => Ok(Found::Float),
+            Value::Boolean(value) => Ok(Found::TruthValue(*value)),
+            Value::Datetime(_) => Ok(Found::Date),
+            Value::Array(list) => Ok(Found::List(list.len())),
+            Value::Table(_) => Ok(Found::Table),
+        }
+    }
+}
+
+/// What a name must be the name of.
+#[derive(Clone, Copy, Debug, PartialEq, Eq)]
+pub enum NameKind {
+    /// A topic of the scenario.
+    Topic,
+    /// A peer of the scenario.
+    Peer,
+    /// A peer that dials the peer that the same table names, or is dialled by it.
+    Neighbour,
+}

@@ -1,0 +1,44 @@
+//! The kinds of tables of a scenario.
+ghost use Rattle.std.specs.Prelude.{◌≡◌, map};
+ghost use Rattle.gs_scenario.specs.PlanOf.{known_keys};
+
+use crate::scenario::{apps, dials, params, peers, script, top, topics};
+
+/// The tables of a scenario, by the keys that they may have.
+#[derive(Clone, Copy, Debug, PartialEq, Eq)]
+pub enum TableKind {
+    /// The top table.
+    Top,
+    /// The table at `params`.
+    Params,
+    /// An element of `topic`.
+    Topic,
+    /// An element of `peer`.
+    Peer,
+    /// An element of `dial`.
+    Dial,
+    /// An element of `app`.
+    App,
+    /// An element of `do` that tells a peer to subscribe or to unsubscribe.
+    SubscriptionLine,
+    /// An element of `do` that tells a peer to publish.
+    PublishLine,
+}
+
+impl TableKind {
+    /// The keys that such a table may have, in the order in which they are looked at.
+    pub fn known_keys(self) -> &'static [&'static str]
+        ensures { map (λ key. key.now) result.now ≡ known_keys self }
+    {
+        match self {
+            TableKind::Top => top::keys(),
+            TableKind::Params => params::keys(),
+            TableKind::Topic => topics::keys(),
+            TableKind::Peer => peers::keys(),
+            TableKind::Dial => dials::keys(),
+            TableKind::App => apps::keys(),
+            TableKind::SubscriptionLine => script::subscription_keys(),
+            TableKind::PublishLine => script::publish_keys(),
+        }
+    }
+}
