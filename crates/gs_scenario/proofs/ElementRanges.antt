@@ -1,5 +1,5 @@
 -- The peers, topics, dials, scores and lines of a plan that is read are in range.
-use Rattle.std.proofs.Common.{◌≡◌, ℕ, ◌≤◌, ◌<◌, ◌-◌, nat_eq, Bool, true, false, cond, not, List, [], ◌∷◌, ◌++◌, length, codes, Option, Some, None, Ok, refl, arith}
+use Rattle.std.proofs.Common.{◌≡◌, ℕ, ◌≤◌, ◌<◌, nat_eq, Bool, true, false, cond, not, List, [], ◌∷◌, ◌++◌, length, codes, Option, Some, None, Ok, refl, arith}
 use Rattle.std.specs.Prelude.{◌||◌, ◌==◌, neg_ℤ, IfOk, IfSome, is_some, option_map, position, find, All, AllPairs}
 use Rattle.std.specs.List.{list_any}
 use Rattle.std.specs.Cmp.Lexicographic.{pointwise}

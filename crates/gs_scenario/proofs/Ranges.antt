@@ -1,6 +1,6 @@
 -- What is known of what the kinds of keys and the elements of lists are read as.
 use Rattle.std.proofs.Common.{◌≡◌, ℕ, ◌+◌, ◌≤◌, ◌<◌, ◌%◌, nat_le, nat_lt, nat_eq, cond, Bool, true, false, not, T, ℤ, pos, negsuc, ◌≤ℤ◌, int_le, List, [], ◌∷◌, ◌++◌, length, get_or, Option, Some, None, Result, Ok, Err, Decides, refl, sym, subst, arith}
-use Rattle.std.specs.Prelude.{◌&&◌, ◌||◌, ◌==◌, IfOk, IfSome, if◌then◌else◌, option_and_then, option_map, is_some, position, find, AllPairs}
+use Rattle.std.specs.Prelude.{◌&&◌, ◌||◌, IfOk, IfSome, if◌then◌else◌, option_and_then, option_map, is_some, position, find, AllPairs}
 use Rattle.std.specs.List.{list_any, position_or_len}
 use Rattle.std.proofs.lemmas.List.Sums.{prefix_len_passes}
 use Rattle.std.specs.Cmp.Lexicographic.{pointwise}
@@ -14,8 +14,8 @@ use Rattle.gs_params.specs.Params.{int_in_range}
 use Rattle.gs_scenario.specs.declared.fault.ScenarioFault.{ScenarioFault}
 use Rattle.gs_scenario.specs.declared.reason.NameKind.{NameKind}
 use Rattle.gs_scenario.specs.Refusal.{item_count}
-use Rattle.gs_scenario.specs.Keys.{◌>>=◌, or_refuse, refuse_if, Kind, Key, Section, reads_required, required, read_key, read_each}
-use Rattle.gs_scenario.specs.Kinds.{between, whole_number, int_between, signed_number, of_length, list_of, reference, new_name, name_text, is_multiple, multiple_of, reads_multiple, optional_multiple}
+use Rattle.gs_scenario.specs.Keys.{◌>>=◌, or_refuse, refuse_if, Kind, Section, reads_required, required, read_key, read_each}
+use Rattle.gs_scenario.specs.Kinds.{between, whole_number, int_between, signed_number, of_length, list_of, reference, new_name, name_text, is_multiple, reads_multiple, optional_multiple}
 
 -- ---- steps
 

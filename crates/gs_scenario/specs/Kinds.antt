@@ -1,7 +1,7 @@
 -- The kinds of values that a key of a scenario holds.
-use Rattle.std.specs.Prelude.{ℕ, ◌+◌, ◌-◌, ◌^◌, ◌++◌, ◌&&◌, ◌||◌, ◌==◌, ◌%◌, Bool, not, nat_le, length, decimal, codes, List, [], Option, Some, None, option_and_then, is_some, Result, Ok, Err, if◌then◌else◌, ℤ, pos, negsuc}
+use Rattle.std.specs.Prelude.{ℕ, ◌-◌, ◌^◌, ◌++◌, ◌&&◌, ◌||◌, ◌==◌, ◌%◌, Bool, not, nat_le, length, decimal, codes, List, [], Option, Some, None, option_and_then, is_some, Result, Ok, Err, if◌then◌else◌, ℤ, pos, negsuc}
 use Rattle.std.specs.List.{list_all}
-use Rattle.toml.specs.Data.{Data, Items, no_items, item, as_integer, as_bool, as_str, as_table, as_array, Members}
+use Rattle.toml.specs.Data.{Data, Items, as_integer, as_bool, as_str, as_table, as_array, Members}
 use Rattle.hex.specs.declared.error.FromHexError.{FromHexError}
 use Rattle.hex.specs.Hex.{decode_of}
 use Rattle.gs_scenario.specs.declared.fault.ScenarioFault.{ScenarioFault}

@@ -115,10 +115,8 @@ impl<'a> Section<'a> {
     pub fn count(&self, key: &'a str, default: u64) -> Result<u64, ScenarioFault>
         ensures { Gives (λ number. number) result (held_at (count_key key.now default) self.now) }
     {
-        match self.optional(key) {
-            Some(field) => field.whole_number(0, HIGHEST_NUMBER),
-            None => Ok(default),
-        }
+        self.optional(key)
+            .map_or(Ok(default), |field| field.whole_number(0, HIGHEST_NUMBER))
     }
 
     /// The count at a key, and the default where the key is missing, if it is a multiple of a step.
@@ -142,20 +140,18 @@ impl<'a> Section<'a> {
     pub fn amount(&self, key: &'a str, default: i64) -> Result<i64, ScenarioFault>
         ensures { Gives (λ number. number) result (held_at (amount_key key.now default) self.now) }
     {
-        match self.optional(key) {
-            Some(field) => field.signed_number(0, HIGHEST_SCORE),
-            None => Ok(default),
-        }
+        self.optional(key)
+            .map_or(Ok(default), |field| field.signed_number(0, HIGHEST_SCORE))
     }
 
     /// The millionths of either sign at a key, and the default where the key is missing.
     pub fn score(&self, key: &'a str, default: i64) -> Result<i64, ScenarioFault>
         ensures { Gives (λ number. number) result (held_at (score_key key.now default) self.now) }
     {
-        match self.optional(key) {
-            Some(field) => field.signed_number(-HIGHEST_SCORE, HIGHEST_SCORE),
-            None => Ok(default),
-        }
+        self.optional(key).map_or(
+            Ok(default),
+            |field| field.signed_number(-HIGHEST_SCORE, HIGHEST_SCORE),
+        )
     }
 
     /// The truth value at a key, and the default where the key is missing.
@@ -163,30 +159,24 @@ impl<'a> Section<'a> {
         ensures { Gives (λ value. value) result
             (held_at (optional key.now kinds.truth_value default) self.now) }
     {
-        match self.optional(key) {
-            Some(field) => field.truth_value(),
-            None => Ok(default),
-        }
+        self.optional(key)
+            .map_or(Ok(default), |field| field.truth_value())
     }
 
     /// The bytes of each hex text of the list at a key, none where the key is missing.
     pub fn prefixes(&self, key: &'a str) -> Result<Seq<Bytes>, ScenarioFault>
         ensures { Gives (λ prefixes. prefixes) result (held_at (prefixes_key key.now) self.now) }
     {
-        match self.optional(key) {
-            Some(field) => field.prefixes(),
-            None => Ok(Seq::new(self.alloc)),
-        }
+        self.optional(key)
+            .map_or(Ok(Seq::new(self.alloc)), |field| field.prefixes())
     }
 
     /// The words of 32 bits of the list at a key, none where the key is missing.
     pub fn words(&self, key: &'a str) -> Result<Seq<u32>, ScenarioFault>
         ensures { Gives (λ words. words) result (held_at (optional key.now kinds.words []) self.now) }
     {
-        match self.optional(key) {
-            Some(field) => field.words(),
-            None => Ok(Seq::new(self.alloc)),
-        }
+        self.optional(key)
+            .map_or(Ok(Seq::new(self.alloc)), |field| field.words())
     }
 
     /// The text at a key, and the default where the key is missing.
@@ -194,10 +184,7 @@ impl<'a> Section<'a> {
         ensures { Gives (λ text. text.now) result
             (held_at (optional key.now kinds.any_text default.now) self.now) }
     {
-        match self.optional(key) {
-            Some(field) => field.text(),
-            None => Ok(default),
-        }
+        self.optional(key).map_or(Ok(default), |field| field.text())
     }
 
     /// The table at a key that may be missing.
@@ -205,13 +192,7 @@ impl<'a> Section<'a> {
         ensures { Gives (λ table. unwrap_or (option_map (λ found. table_view found.now) table) no_members)
             result (held_at (optional key.now kinds.any_table no_members) self.now) }
     {
-        match self.optional(key) {
-            Some(field) => {
-                let table = field.table()?;
-                Ok(Some(table))
-            }
-            None => Ok(None),
-        }
+        self.optional(key).map(|field| field.table()).transpose()
     }
 
     /// The list of low to high elements at a key that is required.
@@ -228,10 +209,7 @@ impl<'a> Section<'a> {
         ensures { Gives (λ list. items_view list.now) result
             (held_at (optional key.now kinds.any_list no_items) self.now) }
     {
-        match self.optional(key) {
-            Some(field) => field.any_list(),
-            None => Ok(&[]),
-        }
+        self.optional(key).map_or(Ok(&[]), |field| field.any_list())
     }
 
     /// The name at a key that is required.
