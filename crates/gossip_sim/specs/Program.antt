@@ -1,6 +1,6 @@
 -- How a run of the program ends, and what it has then written.
 use Rattle.std.specs.Prelude.{◌≡◌, ◌++◌, ℕ, List, [], codes, decimal, Option, Some, None, IfSome, ◌⊎◌}
-use Rattle.std.specs.Io.KnownBytes.{Appends, Keeps}
+use Rattle.std.specs.Io.KnownBytes.{Appends, IsAtEnd, Keeps}
 use Rattle.gs_scenario.specs.declared.fault.ScenarioFault.{ScenarioFault}
 use Rattle.gs_scenario.specs.declared.fault.ScenarioFault.TheVariants.{NoMemory}
 use Rattle.gs_base.specs.declared.names.PeerNo.{PeerNo}
@@ -49,12 +49,15 @@ pub record TellsFault (plan : Plan) (fault : NetFault) (errors errors' : Option 
   pub which : (told ≡ fault) ⊎ (told ≡ faults.NoMemory None)
   pub line : AppendsFront errors errors' (run_refusal_line plan told)
 
--- Of each end: what the reader had is `input`, and each writer held the first and then the second.
+-- Of each end: the reader had the first left to read and then the second, and each writer held the first and then the
+-- second.
 
--- the whole report of a run of the scenario is on the output, and nothing more on errors
-pub record Reported (input output output' errors errors' : Option (List ℕ)) : Type 0 where
+-- the whole report of a run of the scenario, of which nothing is left to read, is on the output, and nothing more on
+-- errors
+pub record Reported (input input' output output' errors errors' : Option (List ℕ)) : Type 0 where
   pub plan : Plan
   pub scenario : IsScenario input plan
+  pub at_end : IsAtEnd input'
   pub report : Report
   pub run : IsReport plan report
   pub text : Appends output output' (report_text plan report)
@@ -91,12 +94,12 @@ pub record OutputFailed (input output output' errors errors' : Option (List ℕ)
   pub line : AppendsFront errors errors' (codes "output failed\n")
 
 -- what each status says
-abbrev pub EndsAs : ExitStatus → (input output output' errors errors' : Option (List ℕ)) → Type 0
-EndsAs ends.Reported input output output' errors errors' = Reported input output output' errors errors'
-EndsAs ends.ScenarioRefused input output output' errors errors' = ScenarioRefused input output output' errors errors'
-EndsAs ends.RunRefused input output output' errors errors' = RunRefused input output output' errors errors'
-EndsAs ends.InputFailed input output output' errors errors' = InputFailed output output' errors errors'
-EndsAs ends.OutputFailed input output output' errors errors' = OutputFailed input output output' errors errors'
+abbrev pub EndsAs : ExitStatus → (input input' output output' errors errors' : Option (List ℕ)) → Type 0
+EndsAs ends.Reported input input' output output' errors errors' = Reported input input' output output' errors errors'
+EndsAs ends.ScenarioRefused input input' output output' errors errors' = ScenarioRefused input output output' errors errors'
+EndsAs ends.RunRefused input input' output output' errors errors' = RunRefused input output output' errors errors'
+EndsAs ends.InputFailed input input' output output' errors errors' = InputFailed output output' errors errors'
+EndsAs ends.OutputFailed input input' output output' errors errors' = OutputFailed input output output' errors errors'
 
 -- the status that the process ends with
 abbrev pub status_of : ExitStatus → ℕ

@@ -1,5 +1,6 @@
 //! The program: what it reads, what it writes and how it ends.
-ghost use Rattle.std.specs.Prelude.{◌≡◌, IfErr, IfOk, IfSome, List, Option, ℕ, string_bytes};
+ghost use Rattle.std.specs.Io.KnownBytes.{IsAtEnd};
+ghost use Rattle.std.specs.Prelude.{◌≡◌, IfErr, IfOk, IfSome, List, OnOk, Option, ℕ, string_bytes};
 ghost use Rattle.std.specs.Process.{exit_status};
 ghost use Rattle.gossip_sim.specs.Program.{EndsAs, TellsFault, TellsRefusal, peer_of, refusal_line, run_refusal_line, spaced_name, status_of};
 ghost use Rattle.gs_input.specs.Inputs.{IsRefusal, IsScenario};
@@ -67,7 +68,7 @@ where
     R: Read,
     W: Write,
     E: Write,
-    ensures { EndsAs result (R.remaining input.old)
+    ensures { EndsAs result (R.remaining input.old) (R.remaining input.new)
         (W.contents output.old) (W.contents output.new) (E.contents errors.old) (E.contents errors.new) }
 {
     let alloc = rt.alloc();
@@ -92,7 +93,7 @@ where
     W: Write,
     E: Write,
     requires { IsInRange plan.now }
-    ensures { (input : Option (List ℕ)) → IsScenario input plan.now → EndsAs result input
+    ensures { (input input' : Option (List ℕ)) → IsScenario input plan.now → IsAtEnd input' → EndsAs result input input'
         (W.contents output.old) (W.contents output.new) (E.contents errors.old) (E.contents errors.new) }
 {
     let report = match report_of(rt, gate, plan) {
@@ -121,6 +122,7 @@ enum NoPlan {
 /// The plan that the input describes.
 fn plan_in<R: Read>(alloc: Global, input: &mut R) -> Result<Plan, NoPlan>
     ensures found { IfOk result (λ plan. IsScenario (R.remaining input.old) plan) }
+    ensures at_end { OnOk result (IsAtEnd (R.remaining input.new)) }
     ensures in_range { IfOk result (λ plan. IsInRange plan) }
     ensures refused { IfErr result (λ why. (fault : ScenarioFault)
         → why ≡ NoPlan.Refused fault
