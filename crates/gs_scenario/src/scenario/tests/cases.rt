@@ -1,5 +1,8 @@
 //! Scenarios, and what each of them gives.
 
+/// A text of a scenario, what stands in its place, and what that gives.
+pub type Case = (&'static str, &'static str, &'static str);
+
 /// Two peers and a message from one to the other.
 pub const TWO_PEERS: &str = "\
 round_ms = 100
@@ -41,17 +44,8 @@ topic = \"news\"
 hex = \"616263\"
 ";
 
-/// A line that may stand behind that scenario.
-pub const LEAVING: &str = "\
-[[do]]
-at = 3
-peer = \"b\"
-what = \"unsubscribe\"
-topic = \"news\"
-";
-
-/// The lists of that scenario, which `with_lists` puts others for.
-pub const LISTS: &str = "\
+/// The lists of that scenario, which others stand in the place of.
+const LISTS: &str = "\
 [[topic]]
 name = \"news\"
 
@@ -63,7 +57,7 @@ name = \"b\"
 ";
 
 /// What an edit of one place of that scenario gives.
-pub static EDITS: [(&str, &str, &str); 70] = [
+pub static EDITS: [Case; 70] = [
     // The text as a whole.
     ("rounds = 10\n", "rounds = 10\nrounds = 10\n", "26"),
     ("seed = 1\n", "seed = 9223372036854775808\n", "26"),
@@ -271,22 +265,35 @@ pub static EDITS: [(&str, &str, &str); 70] = [
 ];
 
 /// What other lists in place of the topics and peers of that scenario give.
-pub static OTHER_LISTS: [(&str, &str); 12] = [
-    ("peer = [1]\n", "28 topic"),
-    ("topic = [1]\n", "28 peer"),
-    ("topic = []\npeer = [1]\n", "29 topic"),
-    ("topic = [1]\npeer = []\n", "29 peer"),
-    ("topic = [1]\npeer = [1]\n", "29 topic[0]"),
-    ("topic = [{name = 'x'}, 'x']\npeer = [1]\n", "29 topic[1]"),
+pub static OTHER_LISTS: [Case; 12] = [
+    (LISTS, "peer = [1]\n", "28 topic"),
+    (LISTS, "topic = [1]\n", "28 peer"),
+    (LISTS, "topic = []\npeer = [1]\n", "29 topic"),
+    (LISTS, "topic = [1]\npeer = []\n", "29 peer"),
+    (LISTS, "topic = [1]\npeer = [1]\n", "29 topic[0]"),
     (
+        LISTS,
+        "topic = [{name = 'x'}, 'x']\npeer = [1]\n",
+        "29 topic[1]",
+    ),
+    (
+        LISTS,
         "topic = [{name = 'x'}, {name = 'x'}]\npeer = [1]\n",
         "31 topic[1].name",
     ),
-    ("topic = [{name = 'x'}]\npeer = [[]]\n", "29 peer[0]"),
-    ("topic = {name = 'x'}\npeer = [1]\n", "29 topic"),
-    ("topic = 'x'\npeer = 'x'\n", "29 topic"),
-    ("topic = [{name = 1}]\npeer = [{}]\n", "29 topic[0].name"),
-    ("topic = [{name = 'x'}]\npeer = [{}]\n", "28 peer[0].name"),
+    (LISTS, "topic = [{name = 'x'}]\npeer = [[]]\n", "29 peer[0]"),
+    (LISTS, "topic = {name = 'x'}\npeer = [1]\n", "29 topic"),
+    (LISTS, "topic = 'x'\npeer = 'x'\n", "29 topic"),
+    (
+        LISTS,
+        "topic = [{name = 1}]\npeer = [{}]\n",
+        "29 topic[0].name",
+    ),
+    (
+        LISTS,
+        "topic = [{name = 'x'}]\npeer = [{}]\n",
+        "28 peer[0].name",
+    ),
 ];
 
 /// The keys of the top table, and a value of each.
@@ -335,3 +342,16 @@ pub static BOUNDS: [(&str, &str, &str); 25] = [
     ("do", "[[]]", "29 do[0]"),
     ("do", "[{}]", "28 do[0].what"),
 ];
+
+/// How many numbers stand in a list, and what that gives.
+pub static LENGTHS: [(&str, usize, &str); 6] = [
+    ("topic", 32, "29 topic[0]"),
+    ("topic", 33, "29 topic"),
+    ("peer", 64, "29 peer[0]"),
+    ("peer", 65, "29 peer"),
+    ("dial", 1000, "29 dial[0]"),
+    ("app", 1000, "29 app[0]"),
+];
+
+/// How deep lists lie in lists, and what that gives as a seed.
+pub static DEPTHS: [(usize, &str); 2] = [(40, "29 seed"), (20_000, "26")];

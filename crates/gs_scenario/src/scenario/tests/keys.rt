@@ -44,69 +44,100 @@ pub const IN_PEER: &str = "name = \"b\"\n";
 /// What the lines of its score stand behind, and tables behind its own.
 pub const IN_APP: &str = "value = 5\n";
 
-/// A key, and what its lowest and its highest number give.
-pub type Range = (&'static str, &'static str, &'static str);
+/// Where a parameter stands, its lowest number and one below.
+#[derive(Clone, Copy)]
+pub struct Sort {
+    pub behind: &'static str,
+    pub path: &'static str,
+    pub low: &'static str,
+    pub below: &'static str,
+}
 
-/// The keys of parameters that take 0 to 10^12.
-pub static PARAMS_IN_RANGE: [Range; 27] = [
-    ("d", "1", "1"),
-    ("d_low", "1", "1"),
-    ("d_high", "1", "1"),
-    ("d_score", "a plan", "1"),
-    ("d_out", "a plan", "1"),
-    ("d_lazy", "a plan", "1"),
-    ("opportunistic_threshold", "a plan", "a plan"),
-    ("gossip_factor", "a plan", "3"),
-    ("p7_decay", "a plan", "3"),
-    ("w5", "a plan", "3"),
-    ("topic_cap", "a plan", "a plan"),
-    ("decay_to_zero", "a plan", "a plan"),
-    ("p6_threshold", "3", "3"),
-    ("heartbeat_ms", "4", "4"),
-    ("decay_ms", "4", "4"),
-    ("fanout_ttl_ms", "4", "4"),
-    ("seen_ttl_ms", "4", "4"),
-    ("iwant_followup_ms", "4", "4"),
-    ("prune_backoff_s", "4", "4"),
-    ("unsubscribe_backoff_s", "4", "4"),
-    ("mcache_len", "4", "4"),
-    ("mcache_gossip", "4", "4"),
-    ("opportunistic_ticks", "4", "4"),
-    ("opportunistic_peers", "a plan", "4"),
-    ("max_ihave", "4", "4"),
-    ("max_ihave_ids", "4", "4"),
-    ("gossip_retransmission", "4", "4"),
+const PARAM: Sort = Sort {
+    behind: IN_PARAMS,
+    path: "params",
+    low: "0",
+    below: "-1",
+};
+
+const SIGNED_PARAM: Sort = Sort {
+    behind: IN_PARAMS,
+    path: "params",
+    low: "-1000000000000",
+    below: "-1000000000001",
+};
+
+const OF_TOPIC: Sort = Sort {
+    behind: IN_TOPIC,
+    path: "topic[0]",
+    low: "0",
+    below: "-1",
+};
+
+const SIGNED_OF_TOPIC: Sort = Sort {
+    behind: IN_TOPIC,
+    path: "topic[0]",
+    low: "-1000000000000",
+    below: "-1000000000001",
+};
+
+/// A key that takes numbers to 10^12, and what its lowest and its highest number give.
+pub type Range = (Sort, &'static str, &'static str, &'static str);
+
+/// What no such key takes.
+pub static NO_NUMBERS: [&str; 6] = ["1000000000001", "'1'", "true", "1.0", "[1]", "{}"];
+
+pub static RANGES: [Range; 49] = [
+    (PARAM, "d", "1", "1"),
+    (PARAM, "d_low", "1", "1"),
+    (PARAM, "d_high", "1", "1"),
+    (PARAM, "d_score", "a plan", "1"),
+    (PARAM, "d_out", "a plan", "1"),
+    (PARAM, "d_lazy", "a plan", "1"),
+    (PARAM, "opportunistic_threshold", "a plan", "a plan"),
+    (PARAM, "gossip_factor", "a plan", "3"),
+    (PARAM, "p7_decay", "a plan", "3"),
+    (PARAM, "w5", "a plan", "3"),
+    (PARAM, "topic_cap", "a plan", "a plan"),
+    (PARAM, "decay_to_zero", "a plan", "a plan"),
+    (PARAM, "p6_threshold", "3", "3"),
+    (PARAM, "heartbeat_ms", "4", "4"),
+    (PARAM, "decay_ms", "4", "4"),
+    (PARAM, "fanout_ttl_ms", "4", "4"),
+    (PARAM, "seen_ttl_ms", "4", "4"),
+    (PARAM, "iwant_followup_ms", "4", "4"),
+    (PARAM, "prune_backoff_s", "4", "4"),
+    (PARAM, "unsubscribe_backoff_s", "4", "4"),
+    (PARAM, "mcache_len", "4", "4"),
+    (PARAM, "mcache_gossip", "4", "4"),
+    (PARAM, "opportunistic_ticks", "4", "4"),
+    (PARAM, "opportunistic_peers", "a plan", "4"),
+    (PARAM, "max_ihave", "4", "4"),
+    (PARAM, "max_ihave_ids", "4", "4"),
+    (PARAM, "gossip_retransmission", "4", "4"),
+    (SIGNED_PARAM, "gossip_threshold", "2", "2"),
+    (SIGNED_PARAM, "publish_threshold", "2", "2"),
+    (SIGNED_PARAM, "graylist_threshold", "a plan", "2"),
+    (SIGNED_PARAM, "w6", "3", "3"),
+    (SIGNED_PARAM, "w7", "3", "3"),
+    (OF_TOPIC, "topic_weight", "a plan", "3"),
+    (OF_TOPIC, "w1", "a plan", "3"),
+    (OF_TOPIC, "w2", "a plan", "3"),
+    (OF_TOPIC, "p2_decay", "a plan", "3"),
+    (OF_TOPIC, "p3_decay", "a plan", "3"),
+    (OF_TOPIC, "p3b_decay", "a plan", "3"),
+    (OF_TOPIC, "p4_decay", "a plan", "3"),
+    (OF_TOPIC, "p1_cap", "a plan", "a plan"),
+    (OF_TOPIC, "p2_cap", "a plan", "a plan"),
+    (OF_TOPIC, "p3_cap", "a plan", "a plan"),
+    (OF_TOPIC, "p3_threshold", "a plan", "a plan"),
+    (OF_TOPIC, "p1_quantum_ms", "4", "4"),
+    (OF_TOPIC, "p3_window_ms", "a plan", "4"),
+    (OF_TOPIC, "p3_activation_ms", "a plan", "4"),
+    (SIGNED_OF_TOPIC, "w3", "3", "3"),
+    (SIGNED_OF_TOPIC, "w3b", "3", "3"),
+    (SIGNED_OF_TOPIC, "w4", "3", "3"),
 ];
-
-/// The keys of parameters that take -10^12 to 10^12.
-pub static SIGNED_PARAMS: [Range; 5] = [
-    ("gossip_threshold", "2", "2"),
-    ("publish_threshold", "2", "2"),
-    ("graylist_threshold", "a plan", "2"),
-    ("w6", "3", "3"),
-    ("w7", "3", "3"),
-];
-
-/// The keys of a topic that take 0 to 10^12.
-pub static OF_TOPIC: [Range; 14] = [
-    ("topic_weight", "a plan", "3"),
-    ("w1", "a plan", "3"),
-    ("w2", "a plan", "3"),
-    ("p2_decay", "a plan", "3"),
-    ("p3_decay", "a plan", "3"),
-    ("p3b_decay", "a plan", "3"),
-    ("p4_decay", "a plan", "3"),
-    ("p1_cap", "a plan", "a plan"),
-    ("p2_cap", "a plan", "a plan"),
-    ("p3_cap", "a plan", "a plan"),
-    ("p3_threshold", "a plan", "a plan"),
-    ("p1_quantum_ms", "4", "4"),
-    ("p3_window_ms", "a plan", "4"),
-    ("p3_activation_ms", "a plan", "4"),
-];
-
-/// The keys of a topic that take -10^12 to 10^12.
-pub static SIGNED_OF_TOPIC: [Range; 3] = [("w3", "3", "3"), ("w3b", "3", "3"), ("w4", "3", "3")];
 
 /// Lines of those tables, and what each gives.
 pub static LINES: [(&str, &str, &str); 38] = [

@@ -1,11 +1,13 @@
 //! What is refused first.
 use super::*;
+use crate::scenario::tests::cases::TWO_PEERS;
+use crate::scenario::tests::keys::TABLES;
 
 #[test]
 fn changes_of_a_scenario_are_refused_with_number_and_place(
     rt: HostRuntime,
 ) -> Result<(), AllocError> {
-    static EDITS: [(&str, &str, &str); 12] = [
+    static EDITS: [Case; 12] = [
         ("rounds = 10\n", "rounds = 10\nrounds = 10\n", "26"),
         ("round_ms", "speed = 1\nround_ms", "27 speed"),
         ("seed = 1\n", "", "28 seed"),
@@ -31,13 +33,13 @@ fn changes_of_a_scenario_are_refused_with_number_and_place(
         ("seed = 1\n", "seed = 1\n[params]\nmcache_len = 2\n", "4"),
         ("hex = \"616263\"", "hex = \"6\"", "29 do[2].hex"),
     ];
-    assert!(rt; all_give(rt.alloc(), TWO_PEERS, &EDITS)?);
+    assert_eq!(rt; first_wrong(rt.alloc(), TWO_PEERS, &EDITS)?, None);
     Ok(())
 }
 
 #[test]
 fn a_key_goes_through_all_its_checks_before_the_next(rt: HostRuntime) -> Result<(), AllocError> {
-    static EDITS: [(&str, &str, &str); 11] = [
+    static EDITS: [Case; 11] = [
         ("rounds = 10\nworkers = 2\n", "rounds = 0\n", "29 rounds"),
         ("rounds = 10\nworkers = 2\n", "workers = 0\n", "28 rounds"),
         (
@@ -82,7 +84,7 @@ fn a_key_goes_through_all_its_checks_before_the_next(rt: HostRuntime) -> Result<
             "29 topic[0].reject",
         ),
     ];
-    assert!(rt; all_give(rt.alloc(), TABLES, &EDITS)?);
+    assert_eq!(rt; first_wrong(rt.alloc(), TABLES, &EDITS)?, None);
     Ok(())
 }
 
@@ -90,7 +92,7 @@ fn a_key_goes_through_all_its_checks_before_the_next(rt: HostRuntime) -> Result<
 fn tables_and_lists_are_walked_in_the_order_of_the_top_keys(
     rt: HostRuntime,
 ) -> Result<(), AllocError> {
-    static EDITS: [(&str, &str, &str); 9] = [
+    static EDITS: [Case; 9] = [
         (
             "[params]\n\n[[topic]]\nname = \"news\"\n",
             "[params]\nd = -1\n[[topic]]\nname = 1\n",
@@ -137,7 +139,7 @@ fn tables_and_lists_are_walked_in_the_order_of_the_top_keys(
             "29 do",
         ),
     ];
-    assert!(rt; all_give(rt.alloc(), TABLES, &EDITS)?);
+    assert_eq!(rt; first_wrong(rt.alloc(), TABLES, &EDITS)?, None);
     Ok(())
 }
 
@@ -145,7 +147,7 @@ fn tables_and_lists_are_walked_in_the_order_of_the_top_keys(
 fn an_element_that_is_no_table_is_refused_where_the_walk_reaches_it(
     rt: HostRuntime,
 ) -> Result<(), AllocError> {
-    static VALUES: [(&str, &str, &str); 11] = [
+    static VALUES: [Case; 11] = [
         ("topic", "[1]", "29 topic[0]"),
         ("topic", "[{ name = 'x' }, []]", "29 topic[1]"),
         ("topic", "[{ name = 1 }, []]", "29 topic[0].name"),
@@ -158,17 +160,13 @@ fn an_element_that_is_no_table_is_refused_where_the_walk_reaches_it(
         ("app", "[]", "a plan"),
         ("do", "[{}, 1]", "28 do[0].what"),
     ];
-    let alloc = rt.alloc();
-    for (key, value, want) in &VALUES {
-        let given = outcome_with(alloc, key, value)?;
-        assert_eq!(rt; given.as_str(), *want, "{key} = {value}");
-    }
+    assert_eq!(rt; first_wrong_value(rt.alloc(), &VALUES)?, None);
     Ok(())
 }
 
 #[test]
 fn a_repeat_is_noticed_after_all_keys_of_its_element(rt: HostRuntime) -> Result<(), AllocError> {
-    static EDITS: [(&str, &str, &str); 7] = [
+    static EDITS: [Case; 7] = [
         (
             "value = 5\n",
             "value = 5\n[[app]]\npeer = 'a'\nabout = 'b'\n",
@@ -205,13 +203,13 @@ fn a_repeat_is_noticed_after_all_keys_of_its_element(rt: HostRuntime) -> Result<
             "31 dial[1]",
         ),
     ];
-    assert!(rt; all_give(rt.alloc(), TABLES, &EDITS)?);
+    assert_eq!(rt; first_wrong(rt.alloc(), TABLES, &EDITS)?, None);
     Ok(())
 }
 
 #[test]
 fn the_heartbeat_and_the_decay_take_whole_rounds(rt: HostRuntime) -> Result<(), AllocError> {
-    static EDITS: [(&str, &str, &str); 12] = [
+    static EDITS: [Case; 12] = [
         ("round_ms = 100", "round_ms = 300", "29 params.heartbeat_ms"),
         (
             "round_ms = 100\n",
@@ -261,13 +259,13 @@ fn the_heartbeat_and_the_decay_take_whole_rounds(rt: HostRuntime) -> Result<(), 
             "29 params.decay_ms",
         ),
     ];
-    assert!(rt; all_give(rt.alloc(), TWO_PEERS, &EDITS)?);
+    assert_eq!(rt; first_wrong(rt.alloc(), TWO_PEERS, &EDITS)?, None);
     Ok(())
 }
 
 #[test]
 fn what_a_line_says_comes_before_its_unknown_keys(rt: HostRuntime) -> Result<(), AllocError> {
-    static EDITS: [(&str, &str, &str); 6] = [
+    static EDITS: [Case; 6] = [
         ("what = \"subscribe\"\n", "colour = 1\n", "28 do[0].what"),
         (
             "what = \"subscribe\"\n",
@@ -295,7 +293,7 @@ fn what_a_line_says_comes_before_its_unknown_keys(rt: HostRuntime) -> Result<(),
             "28 do[0].at",
         ),
     ];
-    assert!(rt; all_give(rt.alloc(), TWO_PEERS, &EDITS)?);
+    assert_eq!(rt; first_wrong(rt.alloc(), TWO_PEERS, &EDITS)?, None);
     Ok(())
 }
 
@@ -303,7 +301,7 @@ fn what_a_line_says_comes_before_its_unknown_keys(rt: HostRuntime) -> Result<(),
 fn the_checks_run_over_all_topics_in_the_order_of_their_numbers(
     rt: HostRuntime,
 ) -> Result<(), AllocError> {
-    static EDITS: [(&str, &str, &str); 6] = [
+    static EDITS: [Case; 6] = [
         (
             "[params]\n\n[[topic]]\nname = \"news\"\n",
             "[params]\nmcache_len = 2\n[[topic]]\nname = 'news'\nw3 = 1\n",
@@ -335,6 +333,6 @@ fn the_checks_run_over_all_topics_in_the_order_of_their_numbers(
             "4",
         ),
     ];
-    assert!(rt; all_give(rt.alloc(), TABLES, &EDITS)?);
+    assert_eq!(rt; first_wrong(rt.alloc(), TABLES, &EDITS)?, None);
     Ok(())
 }

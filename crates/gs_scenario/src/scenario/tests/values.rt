@@ -1,12 +1,13 @@
 //! What keys, names and values may be.
 use super::*;
-use crate::scenario::tests::keys::{IN_APP, IN_PEER};
+use crate::scenario::tests::keys::{IN_APP, IN_PARAMS, IN_PEER, IN_TOPIC, TABLES};
+use gs_params::PlannedPeer;
 
 #[test]
 fn a_badly_formed_name_is_out_of_range_and_an_unknown_one_unknown(
     rt: HostRuntime,
 ) -> Result<(), AllocError> {
-    static EDITS: [(&str, &str, &str); 13] = [
+    static EDITS: [Case; 13] = [
         ("from = \"a\"", "from = \"A\"", "29 dial[0].from"),
         ("from = \"a\"", "from = \"d\"", "30 dial[0].from"),
         ("to = \"b\"", "to = \"\"", "29 dial[0].to"),
@@ -29,13 +30,13 @@ fn a_badly_formed_name_is_out_of_range_and_an_unknown_one_unknown(
             "30 do[0].topic",
         ),
     ];
-    assert!(rt; all_give(rt.alloc(), TABLES, &EDITS)?);
+    assert_eq!(rt; first_wrong(rt.alloc(), TABLES, &EDITS)?, None);
     Ok(())
 }
 
 #[test]
 fn negative_numbers_are_for_eight_keys_alone(rt: HostRuntime) -> Result<(), AllocError> {
-    static LINES: [(&str, &str, &str); 19] = [
+    static LINES: [Case; 19] = [
         (IN_PARAMS, "gossip_threshold = -1", "a plan"),
         (IN_PARAMS, "publish_threshold = -80000000", "a plan"),
         (IN_PARAMS, "graylist_threshold = -50000000", "a plan"),
@@ -60,27 +61,19 @@ fn negative_numbers_are_for_eight_keys_alone(rt: HostRuntime) -> Result<(), Allo
         (IN_PARAMS, "heartbeat_ms = 0", "4"),
         (IN_PARAMS, "heartbeat_ms = 2000000000", "4"),
     ];
-    let alloc = rt.alloc();
-    for (behind, line, want) in &LINES {
-        let given = outcome_behind(alloc, behind, line)?;
-        assert_eq!(rt; given.as_str(), *want, "{line}");
-    }
+    assert_eq!(rt; first_wrong_line(rt.alloc(), &LINES)?, None);
     Ok(())
 }
 
 #[test]
 fn a_bad_item_is_refused_at_the_key_of_its_list(rt: HostRuntime) -> Result<(), AllocError> {
-    static LINES: [(&str, &str, &str); 4] = [
+    static LINES: [Case; 4] = [
         (IN_PEER, "words = [0, -1]", "29 peer[1].words"),
         (IN_PEER, "words = [0, 4294967296]", "29 peer[1].words"),
         (IN_TOPIC, "reject = ['00', 0]", "29 topic[0].reject"),
         (IN_TOPIC, "ignore = ['00', '000']", "29 topic[0].ignore"),
     ];
-    let alloc = rt.alloc();
-    for (behind, line, want) in &LINES {
-        let given = outcome_behind(alloc, behind, line)?;
-        assert_eq!(rt; given.as_str(), *want, "{line}");
-    }
+    assert_eq!(rt; first_wrong_line(rt.alloc(), &LINES)?, None);
     Ok(())
 }
 
@@ -88,7 +81,7 @@ fn a_bad_item_is_refused_at_the_key_of_its_list(rt: HostRuntime) -> Result<(), A
 fn what_no_toml_reader_takes_is_refused_wherever_it_stands(
     rt: HostRuntime,
 ) -> Result<(), AllocError> {
-    static EDITS: [(&str, &str, &str); 7] = [
+    static EDITS: [Case; 7] = [
         ("value = 5\n", "value = 9223372036854775808\n", "26"),
         (
             "value = 5\n",
@@ -109,13 +102,13 @@ fn what_no_toml_reader_takes_is_refused_wherever_it_stands(
         ("name = \"b\"\n", "name = \"b\"\nname = \"b\"\n", "26"),
         ("[params]\n", "[params]\n[params]\n", "26"),
     ];
-    assert!(rt; all_give(rt.alloc(), TABLES, &EDITS)?);
+    assert_eq!(rt; first_wrong(rt.alloc(), TABLES, &EDITS)?, None);
     Ok(())
 }
 
 #[test]
 fn unknown_keys_are_named_as_they_were_read(rt: HostRuntime) -> Result<(), AllocError> {
-    static EDITS: [(&str, &str, &str); 7] = [
+    static EDITS: [Case; 7] = [
         ("round_ms", "\"\" = 1\nround_ms", "27 "),
         ("round_ms", "\"a\\tb\" = 1\nround_ms", "27 a\tb"),
         ("[params]\n", "[params]\n\"\" = 1\n", "27 params."),
@@ -136,22 +129,33 @@ fn unknown_keys_are_named_as_they_were_read(rt: HostRuntime) -> Result<(), Alloc
         ),
         ("value = 5\n", "value = 5\nValue = 5\n", "27 app[0].Value"),
     ];
-    assert!(rt; all_give(rt.alloc(), TABLES, &EDITS)?);
+    assert_eq!(rt; first_wrong(rt.alloc(), TABLES, &EDITS)?, None);
     Ok(())
 }
 
 #[test]
 fn hex_may_be_of_either_case(rt: HostRuntime) -> Result<(), AllocError> {
-    static LINES: [(&str, &str, &str); 4] = [
+    static LINES: [Case; 4] = [
         (IN_TOPIC, "reject = ['aF', 'Af', '09']", "a plan"),
         (IN_TOPIC, "reject = ['0x00']", "29 topic[0].reject"),
         (IN_TOPIC, "reject = ['ag']", "29 topic[0].reject"),
         (IN_TOPIC, "reject = ['0 ']", "29 topic[0].reject"),
     ];
+    assert_eq!(rt; first_wrong_line(rt.alloc(), &LINES)?, None);
+    Ok(())
+}
+
+#[test]
+fn an_address_is_any_text(rt: HostRuntime) -> Result<(), AllocError> {
+    static ADDRESSES: [(&str, &str); 4] = [
+        ("", "b"),
+        ("address = ''", ""),
+        ("address = 'a'", "a"),
+        ("address = '/ip4 \u{e9}'", "/ip4 \u{e9}"),
+    ];
     let alloc = rt.alloc();
-    for (behind, line, want) in &LINES {
-        let given = outcome_behind(alloc, behind, line)?;
-        assert_eq!(rt; given.as_str(), *want, "{line}");
+    for (line, want) in &ADDRESSES {
+        assert!(rt; has_address(alloc, line, want)?, "{line}");
     }
     Ok(())
 }
@@ -159,28 +163,22 @@ fn hex_may_be_of_either_case(rt: HostRuntime) -> Result<(), AllocError> {
 /// Whether a line more in the table of the second peer has that peer at this address.
 fn has_address(alloc: Global, line: &str, address: &str) -> Result<bool, AllocError> {
     let text = with_line(alloc, IN_PEER, line)?;
-    let Ok(plan) = read_plan(alloc, text.as_str()) else {
-        return Ok(false);
-    };
-    match plan.peers.as_slice() {
-        [_, peer, _] => Ok(peer.address.as_str() == address),
-        _ => Ok(false),
+    match read_plan(alloc, text.as_str()) {
+        Ok(plan) => Ok(is_second_at(plan.peers.as_slice(), address)),
+        Err(_) => Ok(false),
+    }
+}
+
+fn is_second_at(peers: &[PlannedPeer], address: &str) -> bool {
+    match peers {
+        [_, peer, _] => peer.address.as_str() == address,
+        _ => false,
     }
 }
 
 #[test]
-fn an_address_is_any_text(rt: HostRuntime) -> Result<(), AllocError> {
-    let alloc = rt.alloc();
-    assert!(rt; has_address(alloc, "", "b")?);
-    assert!(rt; has_address(alloc, "address = ''", "")?);
-    assert!(rt; has_address(alloc, "address = 'a'", "a")?);
-    assert!(rt; has_address(alloc, "address = '/ip4 \u{e9}'", "/ip4 \u{e9}")?);
-    Ok(())
-}
-
-#[test]
 fn a_truth_value_is_no_number_and_one_is_no_truth_value(rt: HostRuntime) -> Result<(), AllocError> {
-    static LINES: [(&str, &str, &str); 11] = [
+    static LINES: [Case; 11] = [
         (IN_PARAMS, "d = true", "29 params.d"),
         (IN_PARAMS, "d = 6.0", "29 params.d"),
         (IN_PARAMS, "d = '6'", "29 params.d"),
@@ -201,10 +199,6 @@ fn a_truth_value_is_no_number_and_one_is_no_truth_value(rt: HostRuntime) -> Resu
             "29 app[1].value",
         ),
     ];
-    let alloc = rt.alloc();
-    for (behind, line, want) in &LINES {
-        let given = outcome_behind(alloc, behind, line)?;
-        assert_eq!(rt; given.as_str(), *want, "{line}");
-    }
+    assert_eq!(rt; first_wrong_line(rt.alloc(), &LINES)?, None);
     Ok(())
 }
