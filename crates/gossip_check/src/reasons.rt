@@ -37,6 +37,7 @@ pub fn reason(alloc: Global, bytes: &[u8], fault: &ScenarioFault) -> Result<Stri
 fn toml_reason(alloc: Global, bytes: &[u8]) -> Result<String, AllocError> {
     match toml::table_from_slice(alloc, bytes) {
         Ok(_) => String::from_str(alloc, "the scenario is no TOML\n"),
+        Err(fault) if fault.is_memory() => Err(AllocError),
         Err(fault) => format!(in alloc; "{fault}"),
     }
 }

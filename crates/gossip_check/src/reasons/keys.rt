@@ -2,7 +2,7 @@
 use crate::shown::Ticked;
 use gs_scenario::TableKind;
 use std::alloc::{AllocError, Global};
-use strsim::levenshtein;
+use strsim::osa_distance;
 
 /// A longer key is near none that is known.
 const LONGEST_NEAR: usize = 40;
@@ -119,7 +119,8 @@ fn table_words(kind: TableKind) -> &'static str {
 }
 
 /// The known key that fewest edits lead to, the first of several; none where those are more than a
-/// third of the characters of the longer key.
+/// third of the characters of the longer key. An edit puts a character in, leaves one out, changes
+/// one, or swaps two that stand side by side.
 fn nearest<'a>(
     alloc: Global,
     key: &str,
@@ -131,7 +132,7 @@ fn nearest<'a>(
     let mut nearest = None;
     let mut fewest = LONGEST_NEAR;
     for name in known {
-        let edits = levenshtein(alloc, key, name)?;
+        let edits = osa_distance(alloc, key, name)?;
         if edits < fewest && edits <= key.len().max(name.len()) / 3 {
             fewest = edits;
             nearest = Some(*name);

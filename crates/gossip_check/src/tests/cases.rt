@@ -177,7 +177,7 @@ pub static KEYS: [Case; 14] = [
         "an unknown key of a dial",
         "from = \"a\"",
         "form = \"a\"",
-        "27 dial[0].form\n`dial[0].form` is no key of a `[[dial]]`\n",
+        "27 dial[0].form\n`dial[0].form` is no key of a `[[dial]]`; did you mean `from`?\n",
     ),
     (
         "a payload where a peer subscribes",
