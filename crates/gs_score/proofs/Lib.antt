@@ -1,0 +1,4 @@
+pub mod Bounds
+pub mod Decaying
+pub mod Raising
+pub mod Stepping

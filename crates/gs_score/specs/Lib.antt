@@ -1,0 +1,5 @@
+pub mod Millionths
+pub mod Counters
+pub mod Standings
+pub mod Ranges
+pub mod Formula

@@ -1,0 +1,4 @@
+//! Counters and scores, by hand.
+mod counters;
+mod products;
+mod standings;
