@@ -3,7 +3,7 @@ use Rattle.std.proofs.Common.{◌≡◌, ℕ, ◌+◌, ◌*◌, ◌≤◌, ◌<�
 use Rattle.std.proofs.lemmas.Int.{ints, to_z-of_z, unsigned_abs-mul, fits_signed_from_abs}
 use Rattle.std.specs.Int.{int_div_euclid, w64, w128}
 use mir.Val.{to_z, of_z}
-use Rattle.gs_params.specs.Params.{IsReward, IsPenalty}
+use Rattle.gs_params.specs.Params.{IsCap, IsReward, IsPenalty}
 use Rattle.gs_score.specs.Millionths.{times, scaled}
 
 -- what code of 128 bits makes of a number
@@ -54,9 +54,26 @@ sum_back a b c d e m p q r s t f =
       five,
     )
 
+pub sum_of_four_back : (a b c d : ℤ) (m : ℕ)
+    → unsigned_abs a ≤ m → unsigned_abs b ≤ m → unsigned_abs c ≤ m → unsigned_abs d ≤ m
+    → 4 * m < 2 ^ 127
+    → (coded (coded (coded a +ℤ coded b) +ℤ coded c) +ℤ coded d ≡ a +ℤ b +ℤ c +ℤ d)
+    × (unsigned_abs (a +ℤ b +ℤ c +ℤ d) ≤ 4 * m)
+sum_of_four_back a b c d m p q r s f =
+    let two : unsigned_abs (a +ℤ b) ≤ 2 * m = omega (arith, abs_add a b) in
+    let three : unsigned_abs (a +ℤ b +ℤ c) ≤ 3 * m = omega (arith, abs_add (a +ℤ b) c) in
+    let four : unsigned_abs (a +ℤ b +ℤ c +ℤ d) ≤ 4 * m = omega (arith, abs_add (a +ℤ b +ℤ c) d) in
+    let lt : m < 2 ^ 127 = omega arith in (
+      rw (back a m p lt, back b m q lt, back c m r lt, back d m s lt, back (a +ℤ b) (2 * m) two (omega arith), back (a +ℤ b +ℤ c) (3 * m) three (omega arith)) refl,
+      four,
+    )
+
 -- a weight is what code of 64 bits makes of it
 pub reward_back : (z : ℤ) → IsReward z → to_z w64 (of_z w64 z) ≡ z
 reward_back z h = let f : FitsSigned w64 z = fits_signed_from_abs w64 z (omega (arith, ints, h.0, h.1)) in to_z-of_z w64 z f
 
 pub penalty_back : (z : ℤ) → IsPenalty z → to_z w64 (of_z w64 z) ≡ z
 penalty_back z h = let f : FitsSigned w64 z = fits_signed_from_abs w64 z (omega (arith, ints, h.0, h.1)) in to_z-of_z w64 z f
+
+pub cap_back : (z : ℤ) → IsCap z → to_z w64 (of_z w64 z) ≡ z
+cap_back z h = let f : FitsSigned w64 z = fits_signed_from_abs w64 z (omega (arith, ints, h.0, h.1)) in to_z-of_z w64 z f

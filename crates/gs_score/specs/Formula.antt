@@ -1,6 +1,8 @@
 -- The parts of a score (gossipsub v1.1, Peer Scoring, "The Score Function"), each product rounded down.
-use Rattle.std.specs.Prelude.{ℕ, ◌*◌, ◌-◌, ◌/◌, min, nat_le, nat_lt, ℤ, pos, ◌+ℤ◌, Bool, false, ◌&&◌, if◌then◌else◌, Option, Some, None}
+use Rattle.std.specs.Prelude.{ℕ, ◌*◌, ◌-◌, ◌/◌, min, nat_le, nat_lt, int_lt, ℤ, pos, ◌+ℤ◌, Bool, false, ◌&&◌, if◌then◌else◌, Option, Some, None}
+use Rattle.std.specs.Int.{int_min}
 use Rattle.gs_base.specs.declared.names.Millis.{Millis}
+use Rattle.gs_params.specs.declared.params.Factors.{Factors}
 use Rattle.gs_score.specs.declared.rules.TopicRules.{TopicRules}
 use Rattle.gs_score.specs.Millionths.{times, squared}
 use Rattle.gs_score.specs.Standings.{Held, amount}
@@ -46,3 +48,30 @@ weighed r now h =
 -- what a topic gives
 unfoldable pub topic_part : TopicRules → ℕ → Held → ℤ
 topic_part r now h = times r.factors.topic_weight (weighed r now h)
+
+-- ---- of a neighbour, whatever the topic
+
+-- P5, the score that the application gives it
+abbrev pub p5 : ℤ → ℤ
+p5 app = app
+
+-- P6, IP colocation: the square of how many more neighbours are at its address than may be
+abbrev pub p6 : ℕ → ℕ → ℕ
+p6 threshold n = if nat_lt threshold n then squared (1_000_000 * (n - threshold)) else 0
+
+-- P7, behavioural penalty
+abbrev pub p7 : ℕ → ℕ
+p7 behaviour = squared behaviour
+
+-- at most the cap, where there is one
+abbrev pub capped : ℤ → ℤ → ℤ
+capped cap x = if int_lt (pos 0) cap then int_min x cap else x
+
+-- the score of a neighbour with this sum over topics, this score of the application, so many neighbours at its address,
+-- and this misbehaviour
+unfoldable pub score_of : Factors → ℤ → ℤ → ℕ → ℕ → ℤ
+score_of f topics app n behaviour =
+    capped f.topic_cap topics
+    +ℤ times f.w5 (p5 app)
+    +ℤ times f.w6 (pos (p6 f.p6_threshold n))
+    +ℤ times f.w7 (pos (p7 behaviour))

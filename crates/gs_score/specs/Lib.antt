@@ -3,3 +3,5 @@ pub mod Counters
 pub mod Standings
 pub mod Ranges
 pub mod Formula
+pub mod Accounts
+pub mod Places

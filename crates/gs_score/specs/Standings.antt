@@ -67,13 +67,6 @@ decayed_held r h = record {
   invalid = decay_step (decay_of r Invalid) h.invalid;
 }
 
--- it comes into the mesh, and leaves it: no counter is reset
-abbrev pub grafted_held : Millis → Held → Held
-grafted_held now h = record h { since = Some now }
-
-abbrev pub pruned_held : Held → Held
-pruned_held h = record h { since = None }
-
 -- ---- what is kept of it
 
 -- the counters as they are kept
@@ -108,6 +101,14 @@ raised_stored r kind by tick s = record { value = raised (cap_of r kind) by (rea
 
 abbrev pub raised_standing : TopicRules → Kind → ℕ → ℕ → Standing → Standing
 raised_standing r kind by tick s = with_stored kind (raised_stored r kind by tick s) s
+
+-- out of the mesh, with the counters that it had
+abbrev pub pruned : Standing → Standing
+pruned s = record s { since = None }
+
+-- in the mesh since a moment
+abbrev pub grafted : Millis → Standing → Standing
+grafted now s = record s { since = Some now }
 
 -- nothing yet
 abbrev pub no_count : Stored

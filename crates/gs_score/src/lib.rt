@@ -5,8 +5,11 @@
 mod counter;
 mod laws;
 mod millionths;
+mod places;
 mod rules;
+mod score;
 mod standing;
+mod topics;
 
 pub use counter::{Counter, Decay, MOST_COUNTED};
 pub use laws::{
@@ -14,8 +17,11 @@ pub use laws::{
     products_of_amounts_are_scaled,
 };
 pub use millionths::{scaled, squared, times};
+pub use places::{Place, Places};
 pub use rules::TopicRules;
+pub use score::score_of;
 pub use standing::{Kind, Standing};
+pub use topics::Topics;
 
 #[cfg(test)]
 mod tests;

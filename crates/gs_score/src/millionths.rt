@@ -55,6 +55,18 @@ pub(crate) fn sum_of_five(a: i128, b: i128, c: i128, d: i128, e: i128) -> i128
     a + b + c + d + e
 }
 
+/// The sum of four amounts of at most 10^29 either way.
+pub(crate) fn sum_of_four(a: i128, b: i128, c: i128, d: i128) -> i128
+    requires a { unsigned_abs a ≤ 10 ^ 29 }
+    requires b { unsigned_abs b ≤ 10 ^ 29 }
+    requires c { unsigned_abs c ≤ 10 ^ 29 }
+    requires d { unsigned_abs d ≤ 10 ^ 29 }
+    ensures value { result ≡ a +ℤ b +ℤ c +ℤ d }
+    ensures bound { unsigned_abs result ≤ 10 ^ 30 }
+{
+    a + b + c + d
+}
+
 /// The part of an amount that a factor leaves, rounded down. Both are at most 10^12.
 pub fn scaled(factor: u64, amount: u64) -> u64
     requires factor { factor ≤ 10 ^ 12 }

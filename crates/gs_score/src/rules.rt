@@ -1,13 +1,17 @@
 //! How a topic is scored.
 ghost use Rattle.std.specs.Prelude.{◌≡◌, ◌≤◌, ◌^◌};
+ghost use Rattle.gs_params.specs.Params.{AreInRange};
+ghost use Rattle.gs_score.specs.Accounts.{factors_in, rules_of};
 ghost use Rattle.gs_score.specs.Formula.{is_active, p1};
 ghost use Rattle.gs_score.specs.Ranges.{RulesAreInRange};
 ghost use Rattle.gs_score.specs.Standings.{cap_of, decay_of};
 
 use crate::counter::{Decay, MOST_COUNTED};
 use crate::standing::Kind;
-use gs_base::Millis;
-use gs_params::{TopicFactors, TopicWindows};
+use gs_base::{Millis, Topic};
+use gs_params::{
+    DEFAULT_TOPIC_FACTORS, DEFAULT_TOPIC_WINDOWS, Params, TopicFactors, TopicParams, TopicWindows,
+};
 
 /// How a topic is scored (gossipsub v1.1, Peer Scoring, Topic Parameters).
 #[derive(Clone, Copy, Debug, PartialEq, Eq)]
@@ -21,6 +25,21 @@ pub struct TopicRules {
 }
 
 impl TopicRules {
+    /// How a topic is scored by the parameters of a peer: the first parameters of the topic count, and a
+    /// topic without any has the defaults.
+    pub fn of(params: &Params, topic: &Topic) -> TopicRules
+        requires in_range { AreInRange params.now }
+        ensures value { result ≡ rules_of params.now topic.now }
+        ensures in_range { RulesAreInRange result }
+    {
+        let (factors, windows) = factors_of(params.topics.as_slice(), topic);
+        TopicRules {
+            factors,
+            windows,
+            decay_to_zero: params.factors.decay_to_zero,
+        }
+    }
+
     /// How a counter decays.
     pub fn decay_of(&self, kind: Kind) -> Decay
         requires in_range { RulesAreInRange self.now }
@@ -79,4 +98,16 @@ impl TopicRules {
             None => 0,
         }
     }
+}
+
+/// The factors and the times of a topic.
+fn factors_of(topics: &[(Topic, TopicParams)], topic: &Topic) -> (TopicFactors, TopicWindows)
+    ensures { result ≡ factors_in topics.now topic.now }
+{
+    for (other, found) in topics {
+        if topic == other {
+            return (found.factors, found.windows);
+        }
+    }
+    (DEFAULT_TOPIC_FACTORS, DEFAULT_TOPIC_WINDOWS)
 }

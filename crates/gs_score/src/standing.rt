@@ -1,8 +1,8 @@
 //! What a neighbour has on a topic.
-ghost use Rattle.std.specs.Prelude.{◌≡◌, ◌≤◌, ◌^◌, Some, None, unsigned_abs};
+ghost use Rattle.std.specs.Prelude.{◌≡◌, ◌≤◌, ◌^◌, unsigned_abs};
 ghost use Rattle.gs_score.specs.Formula.{p3, topic_part};
 ghost use Rattle.gs_score.specs.Ranges.{RulesAreInRange};
-ghost use Rattle.gs_score.specs.Standings.{count, fresh, held, raised_held, raised_standing, stored, with_stored};
+ghost use Rattle.gs_score.specs.Standings.{count, fresh, grafted, held, pruned, raised_held, raised_standing, stored, with_stored};
 
 use crate::counter::Counter;
 use crate::millionths::{squared, sum_of_five, weighed, weighed_sum};
@@ -71,7 +71,8 @@ impl Standing {
     /// Raises a counter by an amount, up to its cap.
     pub fn raise(&mut self, kind: Kind, by: u64, rules: &TopicRules, tick: u64)
         requires in_range { RulesAreInRange rules.now }
-        ensures raises { held rules.now tick self.new ≡ raised_held rules.now kind by (held rules.now tick self.old) }
+        ensures raises { held rules.now tick self.new
+            ≡ raised_held rules.now kind by (held rules.now tick self.old) }
         ensures keeps { self.new ≡ raised_standing rules.now kind by tick self.old }
     {
         let mut counter = self.counter(kind);
@@ -93,14 +94,14 @@ impl Standing {
 
     /// It comes into the mesh.
     pub fn graft(&mut self, now: Millis)
-        ensures { self.new ≡ record self.old { since = Some now } }
+        ensures { self.new ≡ grafted now self.old }
     {
         self.since = Some(now);
     }
 
     /// It leaves the mesh. Its counters stay.
     pub fn prune(&mut self)
-        ensures { self.new ≡ record self.old { since = None } }
+        ensures { self.new ≡ pruned self.old }
     {
         self.since = None;
     }
