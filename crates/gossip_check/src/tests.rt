@@ -1,9 +1,11 @@
 //! Whole answers, and whole runs.
 mod cases;
+mod values;
 
 use crate::answer::{NO_MEMORY_ANSWER, Verdict};
 use crate::program::{ExitStatus, run};
-use crate::tests::cases::{Case, FINE, KEYS, NAMES, NO_TOML, PARAMS, SCENARIO, VALUES};
+use crate::tests::cases::{Case, FINE, KEYS, NO_TOML, SCENARIO};
+use crate::tests::values::{NAMES, PARAMS, VALUES};
 use gs_streams::fakes::{Broken, Narrow};
 use std::alloc::{AllocError, Global};
 use std::io::Read;
