@@ -1,0 +1,37 @@
+-- What is kept for topics, after one is put or changed.
+use Rattle.std.proofs.Common.{◌≡◌, inl, inr, is_some, Bool, true, false, cond, List, Option, Some, None, refl, sym, ap, ◌∙◌}
+use Rattle.std.specs.Option.{unwrap_or}
+use Rattle.std.specs.Map.{lookup}
+use Rattle.gs_base.specs.Names.{same_topic}
+use Rattle.gs_base.specs.declared.names.Topic.{Topic}
+use Rattle.gs_score.specs.declared.standing.Standing.{Standing}
+use Rattle.gs_score.specs.Accounts.{has_topic, standing_in}
+use Rattle.gs_score.specs.Standings.{fresh, pruned}
+use Rattle.gs_score.proofs.Sums.{topics_tell}
+
+pub cond_unwrap : {A : Type 0} (b : Bool) (x d : A) (o : Option A) → unwrap_or (cond b (Some x) o) d ≡ cond b x (unwrap_or o d)
+cond_unwrap true x d o = refl
+cond_unwrap false x d o = refl
+
+pub kept_put : (old new : List (Topic × Standing)) (topic : Topic) (s : Standing)
+    → ((q : Topic) → lookup (same_topic q) new ≡ cond (same_topic topic q) (Some s) (lookup (same_topic q) old))
+    → (t : Topic) → standing_in new t ≡ cond (same_topic topic t) s (standing_in old t)
+kept_put old new topic s h t =
+    ap (λ (o : Option Standing). unwrap_or o fresh) (h t) ∙ cond_unwrap (same_topic topic t) s fresh (lookup (same_topic t) old)
+
+-- to put nothing where nothing is kept changes nothing
+pub absent_put : (es : List (Topic × Standing)) (topic : Topic) (s : Standing) → lookup (same_topic topic) es ≡ None → s ≡ fresh
+    → (t : Topic) → standing_in es t ≡ cond (same_topic topic t) s (standing_in es t)
+absent_put es topic s e h t =
+    elim (topics_tell topic t) [
+      | inl p ↦ rw p.0 (ap (standing_in es) (sym p.1) ∙ ap (λ (o : Option Standing). unwrap_or o fresh) e ∙ sym h)
+      | inr p ↦ rw p.0 refl
+    ]
+
+-- who has nothing on a topic has nothing there out of its mesh
+pub absent_pruned : (es : List (Topic × Standing)) (topic : Topic) → has_topic es topic ≡ false → pruned (standing_in es topic) ≡ fresh
+absent_pruned es topic none = by (lookup (same_topic topic) es) none
+  where
+    by : (o : Option Standing) → is_some o ≡ false → pruned (unwrap_or o fresh) ≡ fresh
+    by None e = refl
+    by (Some s) e = cc

@@ -1,0 +1,67 @@
+-- What is known of a neighbour, on all topics.
+use Rattle.std.specs.Prelude.{◌≡◌, ℕ, ℤ, pos, ◌+ℤ◌, Bool, false, List, [], ◌∷◌, map, is_some}
+use Rattle.std.specs.List.{list_any, IsDistinct}
+use Rattle.std.specs.Map.{lookup}
+use Rattle.std.specs.Option.{unwrap_or}
+use Rattle.gs_base.specs.declared.names.Topic.{Topic}
+use Rattle.gs_base.specs.Names.{same_topic}
+use Rattle.gs_params.specs.declared.params.Params.{Params}
+use Rattle.gs_params.specs.declared.topic_params.TopicFactors.{TopicFactors}
+use Rattle.gs_params.specs.declared.topic_params.TopicWindows.{TopicWindows}
+use Rattle.gs_params.specs.declared.topic_params.TopicParams.{TopicParams}
+use Rattle.gs_params.specs.Params.{default_topic_params}
+use Rattle.gs_score.specs.declared.counter.Decay.{Decay}
+use Rattle.gs_score.specs.declared.rules.TopicRules.{TopicRules}
+use Rattle.gs_score.specs.declared.standing.Standing.{Standing}
+use Rattle.gs_score.specs.Standings.{Held, amount, fresh, held, nothing_held}
+use Rattle.gs_score.specs.Formula.{topic_part}
+
+-- ---- how topics are scored
+
+-- the first parameters of a topic count, and a topic without any has the defaults
+abbrev pub params_in : List (Topic × TopicParams) → Topic → TopicParams
+params_in topics t = unwrap_or (lookup (same_topic t) topics) default_topic_params
+
+abbrev pub factors_in : List (Topic × TopicParams) → Topic → TopicFactors × TopicWindows
+factors_in topics t =
+    ((params_in topics t).factors, (params_in topics t).windows)
+
+abbrev pub rules_of : Params → Topic → TopicRules
+rules_of params t = record {
+  factors = (params_in params.topics t).factors;
+  windows = (params_in params.topics t).windows;
+  decay_to_zero = params.factors.decay_to_zero;
+}
+
+-- how misbehaviour decays
+abbrev pub behaviour_decay : Params → Decay
+behaviour_decay params = record { factor = amount params.factors.p7_decay; floor = amount params.factors.decay_to_zero }
+
+-- ---- what a neighbour has on topics
+
+-- what it has on a topic
+abbrev pub standing_in : List (Topic × Standing) → Topic → Standing
+standing_in topics t = unwrap_or (lookup (same_topic t) topics) fresh
+
+-- a topic that has a standing
+abbrev pub has_topic : List (Topic × Standing) → Topic → Bool
+has_topic topics t = is_some (lookup (same_topic t) topics)
+
+-- ---- sums over topics
+
+abbrev pub total : List ℤ → ℤ
+total [] = pos 0
+total (x ∷ xs) = x +ℤ total xs
+
+-- the sum of the parts of these topics, by what is held on each
+abbrev pub topic_sum : Params → ℕ → (Topic → Held) → List Topic → ℤ
+topic_sum params now at ts = total (map (λ t. topic_part (rules_of params t) now (at t)) ts)
+
+-- no topic stands twice, and each on which something is held stands
+pub record Covers (at : Topic → Held) (ts : List Topic) : Type 0 where
+  pub apart : IsDistinct same_topic ts
+  pub all : (t : Topic) → list_any (same_topic t) ts ≡ false → at t ≡ nothing_held
+
+-- what is held on a topic at a tick
+abbrev pub held_in : Params → ℕ → List (Topic × Standing) → Topic → Held
+held_in params tick topics t = held (rules_of params t) tick (standing_in topics t)

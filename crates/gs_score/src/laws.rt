@@ -1,0 +1,35 @@
+//! Laws of scores. Each holds of its definitions alone, and its function does nothing.
+ghost use Rattle.std.specs.Prelude.{◌≡◌, ℕ, ◌+◌, ◌≤◌, pos};
+ghost use Rattle.gs_score.specs.Counters.{Stored, decayed, most_counted, read_at};
+ghost use Rattle.gs_score.specs.Millionths.{scaled, times};
+ghost use Rattle.gs_score.specs.Ranges.{IsUpTo};
+ghost use Rattle.gs_score.specs.Standings.{decayed_held, held};
+ghost use Rattle.gs_score.specs.declared.rules.TopicRules.{TopicRules as TopicRulesValue};
+ghost use Rattle.gs_score.specs.declared.standing.Standing.{Standing as StandingValue};
+ghost use Rattle.gs_score.specs.declared.counter.Decay.{Decay as DecayValue};
+
+use crate::counter::MOST_COUNTED;
+
+/// Products of weights that are not negative and amounts are those of amounts.
+pub fn products_of_amounts_are_scaled()
+    ensures { (a b : ℕ) → times (pos a) (pos b) ≡ pos (scaled a b) }
+{}
+
+/// What a counter is read as after some more steps is what those steps make of what it was read as before.
+pub fn a_later_read_decays_on()
+    ensures { (d : DecayValue) (c : Stored) (tick n : ℕ)
+        → c.tick ≤ tick
+        → read_at d (tick + n) c ≡ decayed d n (read_at d tick c) }
+{}
+
+/// A step of decay makes of all that a standing holds what it makes of each counter.
+pub fn a_standing_decays_by_its_counters()
+    ensures { (r : TopicRulesValue) (tick : ℕ) (s : StandingValue)
+        → IsUpTo tick s
+        → held r (tick + 1) s ≡ decayed_held r (held r tick s) }
+{}
+
+/// The limit of counters is that of the definitions.
+pub fn limits_of_counters()
+    ensures { MOST_COUNTED ≡ most_counted }
+{}

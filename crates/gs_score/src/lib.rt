@@ -1,0 +1,27 @@
+//! The scores of a gossipsub peer's neighbours (gossipsub v1.1, Peer Scoring), in fixed point: amounts,
+//! weights and scores are whole millionths, so that 1,000,000 is one.
+#![tactic(auto)]
+
+mod counter;
+mod laws;
+mod millionths;
+mod places;
+mod rules;
+mod score;
+mod standing;
+mod topics;
+
+pub use counter::{Counter, Decay, MOST_COUNTED};
+pub use laws::{
+    a_later_read_decays_on, a_standing_decays_by_its_counters, limits_of_counters,
+    products_of_amounts_are_scaled,
+};
+pub use millionths::{scaled, squared, times};
+pub use places::{Place, Places};
+pub use rules::TopicRules;
+pub use score::score_of;
+pub use standing::{Kind, Standing};
+pub use topics::Topics;
+
+#[cfg(test)]
+mod tests;

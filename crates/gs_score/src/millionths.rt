@@ -1,0 +1,87 @@
+//! Products of whole millionths, rounded down.
+ghost use Rattle.std.specs.Prelude.{◌≡◌, ◌≤◌, ◌^◌, pos, ◌+ℤ◌, ◌*ℤ◌, FitsSigned, unsigned_abs};
+ghost use Rattle.std.specs.Int.{w128};
+ghost use Rattle.gs_score.specs.Millionths.{scaled, squared, times};
+
+/// The product of a weight and an amount, rounded down: towards minus infinity, so that -1 times 500,000
+/// millionths is -1. The weight is at most 10^9 either way, and the amount at most 10^24.
+pub fn times(weight: i64, amount: i128) -> i128
+    requires weight { unsigned_abs weight ≤ 10 ^ 9 }
+    requires amount { unsigned_abs amount ≤ 10 ^ 24 }
+    ensures { result ≡ times weight amount }
+{
+    product(weight as i128, amount)
+}
+
+/// A product that fits, rounded down.
+#[tactic(auto, unfolding(crate::specs::Millionths::times))]
+fn product(a: i128, b: i128) -> i128
+    requires { FitsSigned w128 (a *ℤ b) }
+    ensures { result ≡ times a b }
+{
+    (a * b).div_euclid(1_000_000)
+}
+
+/// An amount of at most 10^18 under a weight: at most 10^21 either way.
+pub(crate) fn weighed(weight: i64, amount: u64) -> i128
+    requires weight { unsigned_abs weight ≤ 10 ^ 9 }
+    requires amount { amount ≤ 10 ^ 18 }
+    ensures value { result ≡ times weight (pos amount) }
+    ensures bound { unsigned_abs result ≤ 10 ^ 21 }
+{
+    times(weight, amount as i128)
+}
+
+/// A sum of at most 10^22 either way under a weight: at most 10^25 either way.
+pub(crate) fn weighed_sum(weight: i64, sum: i128) -> i128
+    requires weight { unsigned_abs weight ≤ 10 ^ 9 }
+    requires sum { unsigned_abs sum ≤ 10 ^ 22 }
+    ensures value { result ≡ times weight sum }
+    ensures bound { unsigned_abs result ≤ 10 ^ 25 }
+{
+    times(weight, sum)
+}
+
+/// The sum of five amounts of at most 10^21 either way.
+pub(crate) fn sum_of_five(a: i128, b: i128, c: i128, d: i128, e: i128) -> i128
+    requires a { unsigned_abs a ≤ 10 ^ 21 }
+    requires b { unsigned_abs b ≤ 10 ^ 21 }
+    requires c { unsigned_abs c ≤ 10 ^ 21 }
+    requires d { unsigned_abs d ≤ 10 ^ 21 }
+    requires e { unsigned_abs e ≤ 10 ^ 21 }
+    ensures value { result ≡ a +ℤ b +ℤ c +ℤ d +ℤ e }
+    ensures bound { unsigned_abs result ≤ 10 ^ 22 }
+{
+    a + b + c + d + e
+}
+
+/// The sum of four amounts of at most 10^29 either way.
+pub(crate) fn sum_of_four(a: i128, b: i128, c: i128, d: i128) -> i128
+    requires a { unsigned_abs a ≤ 10 ^ 29 }
+    requires b { unsigned_abs b ≤ 10 ^ 29 }
+    requires c { unsigned_abs c ≤ 10 ^ 29 }
+    requires d { unsigned_abs d ≤ 10 ^ 29 }
+    ensures value { result ≡ a +ℤ b +ℤ c +ℤ d }
+    ensures bound { unsigned_abs result ≤ 10 ^ 30 }
+{
+    a + b + c + d
+}
+
+/// The part of an amount that a factor leaves, rounded down. Both are at most 10^12.
+pub fn scaled(factor: u64, amount: u64) -> u64
+    requires factor { factor ≤ 10 ^ 12 }
+    requires amount { amount ≤ 10 ^ 12 }
+    ensures value { result ≡ scaled factor amount }
+    ensures most { result ≤ 10 ^ 18 }
+{
+    (u128::from(factor) * u128::from(amount) / 1_000_000) as u64
+}
+
+/// The square of an amount of at most 10^12, rounded down.
+pub fn squared(amount: u64) -> u64
+    requires { amount ≤ 10 ^ 12 }
+    ensures value { result ≡ squared amount }
+    ensures most { result ≤ 10 ^ 18 }
+{
+    scaled(amount, amount)
+}

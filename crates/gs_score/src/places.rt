@@ -1,0 +1,200 @@
+//! Where neighbours are, and what the application thinks of them.
+ghost use Rattle.std.specs.Prelude.{◌≡◌, ◌+◌, ◌-◌, ◌≤◌, ◌<◌, ◌^◌, ℕ, List, [], map, drop, length, IfOk, OnOk};
+ghost use Rattle.indexmap.specs.IndexMap.{insert_all};
+ghost use Rattle.gs_base.specs.Names.{same_peer};
+ghost use Rattle.gs_score.specs.Places.{app_of, counts_at, is_counted, kept_number, number_at, number_with, one_if, place_of, same_address, shut_out};
+
+use bytes::Bytes;
+use gs_base::{Neighbour, PeerNo, clone_of};
+use indexmap::IndexMap;
+use std::alloc::{AllocError, Global};
+use std::marker::Model;
+
+/// Where a neighbour is, and what the application thinks of it.
+#[derive(Debug, Drop)]
+pub struct Place {
+    /// The score that the application gives it, in millionths (P5).
+    pub app: i128,
+    /// Neighbours at one address count against each other (P6).
+    pub address: Bytes,
+    /// Whether it counts there.
+    pub counted: bool,
+}
+
+/// Where all neighbours are. How many count at each address is kept, and not searched for.
+#[derive(Drop)]
+pub struct Places {
+    places: IndexMap<PeerNo, Place>,
+    numbers: IndexMap<Bytes, u64>,
+}
+
+impl Model for Places {
+    ghost use Rattle.std.specs.Prelude.{◌≡◌, ℕ, List};
+    ghost use Rattle.gs_base.specs.declared.names.PeerNo.{PeerNo};
+    ghost use Rattle.gs_score.specs.declared.places.Place.{Place};
+    ghost use Rattle.gs_score.specs.Places.{kept_number, number_at};
+
+    ghost Value = { List (PeerNo × Place) };
+
+    ghost view = { λ p. p.places.entries };
+
+    ghost invariant = { λ p. (address : List ℕ)
+        → kept_number p.numbers.entries address ≡ number_at p.places.entries address };
+}
+
+impl Places {
+    /// The places of neighbours, each of which counts at its address. The first of a number counts.
+    ///
+    /// # Errors
+    /// `AllocError` where there was no memory.
+    pub fn new(alloc: Global, neighbours: &[Neighbour]) -> Result<Places, AllocError>
+        ensures { IfOk result (λ p. p ≡ insert_all same_peer [] (map place_of neighbours.now)) }
+    {
+        let places = place_all(alloc, neighbours)?;
+        let numbers = number_all(alloc, &places)?;
+        Ok(Places { places, numbers })
+    }
+
+    /// The score that the application gives a neighbour, in millionths: 0 of one that is none.
+    pub fn app(&self, peer: PeerNo) -> i128
+        ensures { result ≡ app_of self.now peer }
+    {
+        match self.places.get(&peer) {
+            Some(place) => place.app,
+            None => 0,
+        }
+    }
+
+    /// How many neighbours count at the address of one.
+    pub fn number_with(&self, peer: PeerNo) -> u64
+        ensures { result ≡ number_with self.now peer }
+    {
+        match self.places.get(&peer) {
+            Some(place) => number_of(&self.numbers, &place.address),
+            None => 0,
+        }
+    }
+
+    /// A neighbour counts no more at its address. It takes no memory.
+    pub fn shut_out(&mut self, peer: PeerNo)
+        ensures { self.new ≡ shut_out peer self.old }
+    {
+        if !is_counted(&self.places, peer) {
+            return;
+        }
+        if let Some(place) = self.places.get_mut(&peer) {
+            place.counted = false;
+            lower(&mut self.numbers, &place.address);
+        }
+    }
+}
+
+/// Whether a neighbour counts at its address.
+fn is_counted(places: &IndexMap<PeerNo, Place>, peer: PeerNo) -> bool
+    ensures { result ≡ is_counted places.now.entries peer }
+{
+    match places.get(&peer) {
+        Some(place) => place.counted,
+        None => false,
+    }
+}
+
+/// The places of neighbours.
+///
+/// # Errors
+/// `AllocError` where there was no memory.
+fn place_all(alloc: Global, neighbours: &[Neighbour]) -> Result<IndexMap<PeerNo, Place>, AllocError>
+    ensures { IfOk result (λ p. p.entries ≡ insert_all same_peer [] (map place_of neighbours.now)) }
+{
+    let mut places = IndexMap::new(alloc);
+    for neighbour in neighbours {
+        let place = Place {
+            app: neighbour.app,
+            address: clone_of(&neighbour.address)?,
+            counted: true,
+        };
+        places.insert(neighbour.peer, place)?;
+    }
+    Ok(places)
+}
+
+/// How many count at each address.
+///
+/// # Errors
+/// `AllocError` where there was no memory.
+fn number_all(
+    alloc: Global,
+    places: &IndexMap<PeerNo, Place>,
+) -> Result<IndexMap<Bytes, u64>, AllocError>
+    ensures { IfOk result (λ n. (address : List ℕ)
+        → kept_number n.entries address ≡ number_at places.now.entries address) }
+{
+    let mut numbers = IndexMap::new(alloc);
+    for at in 0..places.len() {
+        number_one(&mut numbers, places, at)?;
+    }
+    Ok(numbers)
+}
+
+/// Counts the neighbour at an index.
+///
+/// # Errors
+/// `AllocError` where there was no memory.
+fn number_one(
+    numbers: &mut IndexMap<Bytes, u64>,
+    places: &IndexMap<PeerNo, Place>,
+    at: usize,
+) -> Result<(), AllocError>
+    requires within { at < length places.now.entries }
+    requires small { at < 2 ^ 64 - 1 }
+    requires few { (address : List ℕ) → kept_number numbers.old.entries address ≤ at }
+    ensures counts { OnOk result ((address : List ℕ)
+        → kept_number numbers.new.entries address + number_at (drop (at + 1) places.now.entries) address
+        ≡ kept_number numbers.old.entries address + number_at (drop at places.now.entries) address) }
+    ensures few { OnOk result ((address : List ℕ) → kept_number numbers.new.entries address ≤ at + 1) }
+{
+    match places.get_index(at) {
+        Some((_peer, place)) => raise(numbers, place)?,
+        None => {}
+    }
+    Ok(())
+}
+
+/// Counts a neighbour at its place.
+///
+/// # Errors
+/// `AllocError` where there was no memory.
+fn raise(numbers: &mut IndexMap<Bytes, u64>, place: &Place) -> Result<(), AllocError>
+    requires few { (address : List ℕ) → kept_number numbers.old.entries address < 2 ^ 64 - 1 }
+    ensures { OnOk result ((address : List ℕ)
+        → kept_number numbers.new.entries address
+        ≡ kept_number numbers.old.entries address + one_if (counts_at address place.now)) }
+{
+    if !place.counted {
+        return Ok(());
+    }
+    let number = number_of(numbers, &place.address) + 1;
+    numbers.insert(clone_of(&place.address)?, number)?;
+    Ok(())
+}
+
+/// Counts one neighbour less at an address.
+fn lower(numbers: &mut IndexMap<Bytes, u64>, address: &Bytes)
+    ensures { (a : List ℕ)
+        → kept_number numbers.new.entries a
+        ≡ kept_number numbers.old.entries a - one_if (same_address address.now a) }
+{
+    if let Some(number) = numbers.get_mut(address) {
+        *number = number.saturating_sub(1);
+    }
+}
+
+/// How many count at an address, by what is kept.
+fn number_of(numbers: &IndexMap<Bytes, u64>, address: &Bytes) -> u64
+    ensures { result ≡ kept_number numbers.now.entries address.now }
+{
+    match numbers.get(address) {
+        Some(number) => *number,
+        None => 0,
+    }
+}

@@ -1,0 +1,113 @@
+//! How a topic is scored.
+ghost use Rattle.std.specs.Prelude.{◌≡◌, ◌≤◌, ◌^◌};
+ghost use Rattle.gs_params.specs.Params.{AreInRange};
+ghost use Rattle.gs_score.specs.Accounts.{factors_in, rules_of};
+ghost use Rattle.gs_score.specs.Formula.{is_active, p1};
+ghost use Rattle.gs_score.specs.Ranges.{RulesAreInRange};
+ghost use Rattle.gs_score.specs.Standings.{cap_of, decay_of};
+
+use crate::counter::{Decay, MOST_COUNTED};
+use crate::standing::Kind;
+use gs_base::{Millis, Topic};
+use gs_params::{
+    DEFAULT_TOPIC_FACTORS, DEFAULT_TOPIC_WINDOWS, Params, TopicFactors, TopicParams, TopicWindows,
+};
+
+/// How a topic is scored (gossipsub v1.1, Peer Scoring, Topic Parameters).
+#[derive(Clone, Copy, Debug, PartialEq, Eq)]
+pub struct TopicRules {
+    /// Its weights, factors and caps.
+    pub factors: TopicFactors,
+    /// Its times.
+    pub windows: TopicWindows,
+    /// A counter that decays below this becomes 0, in millionths: 0 to 10^12. It is the same for all topics.
+    pub decay_to_zero: i64,
+}
+
+impl TopicRules {
+    /// How a topic is scored by the parameters of a peer: the first parameters of the topic count, and a
+    /// topic without any has the defaults.
+    pub fn of(params: &Params, topic: &Topic) -> TopicRules
+        requires in_range { AreInRange params.now }
+        ensures value { result ≡ rules_of params.now topic.now }
+        ensures in_range { RulesAreInRange result }
+    {
+        let (factors, windows) = factors_of(params.topics.as_slice(), topic);
+        TopicRules {
+            factors,
+            windows,
+            decay_to_zero: params.factors.decay_to_zero,
+        }
+    }
+
+    /// How a counter decays.
+    pub fn decay_of(&self, kind: Kind) -> Decay
+        requires in_range { RulesAreInRange self.now }
+        ensures value { result ≡ decay_of self.now kind }
+        ensures factor { result.factor ≤ 10 ^ 6 }
+    {
+        let factor = match kind {
+            Kind::First => self.factors.p2_decay,
+            Kind::Near => self.factors.p3_decay,
+            Kind::Deficit => self.factors.p3b_decay,
+            Kind::Invalid => self.factors.p4_decay,
+        };
+        Decay {
+            factor: factor.unsigned_abs(),
+            floor: self.decay_to_zero.unsigned_abs(),
+        }
+    }
+
+    /// Up to where a counter is raised.
+    pub fn cap_of(&self, kind: Kind) -> u64
+        requires in_range { RulesAreInRange self.now }
+        ensures value { result ≡ cap_of self.now kind }
+        ensures most { result ≤ 10 ^ 12 }
+    {
+        match kind {
+            Kind::First => self.factors.p2_cap.unsigned_abs(),
+            Kind::Near => self.factors.p3_cap.unsigned_abs(),
+            Kind::Deficit => MOST_COUNTED,
+            Kind::Invalid => MOST_COUNTED,
+        }
+    }
+
+    /// Whether one that is in the mesh since a moment has had the time that a new member has (P3).
+    pub(crate) fn is_active(&self, since: Option<Millis>, now: Millis) -> bool
+        ensures { result ≡ is_active self.now now.0 since }
+    {
+        match since {
+            Some(since) => self.windows.p3_activation_ms <= now.0.saturating_sub(since.0),
+            None => false,
+        }
+    }
+
+    /// What the time in the mesh counts, in millionths (P1): 0 to 10^12.
+    pub(crate) fn presence(&self, since: Option<Millis>, now: Millis) -> u64
+        requires in_range { RulesAreInRange self.now }
+        ensures value { result ≡ p1 self.now now.0 since }
+        ensures most { result ≤ 10 ^ 12 }
+    {
+        match since {
+            Some(since) => {
+                let quanta = now.0.saturating_sub(since.0) / self.windows.p1_quantum_ms;
+                quanta
+                    .saturating_mul(1_000_000)
+                    .min(self.factors.p1_cap.unsigned_abs())
+            }
+            None => 0,
+        }
+    }
+}
+
+/// The factors and the times of a topic.
+fn factors_of(topics: &[(Topic, TopicParams)], topic: &Topic) -> (TopicFactors, TopicWindows)
+    ensures { result ≡ factors_in topics.now topic.now }
+{
+    for (other, found) in topics {
+        if topic == other {
+            return (found.factors, found.windows);
+        }
+    }
+    (DEFAULT_TOPIC_FACTORS, DEFAULT_TOPIC_WINDOWS)
+}

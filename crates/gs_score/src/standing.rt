@@ -1,0 +1,139 @@
+//! What a neighbour has on a topic.
+ghost use Rattle.std.specs.Prelude.{◌≡◌, ◌≤◌, ◌^◌, unsigned_abs};
+ghost use Rattle.gs_score.specs.Formula.{p3, topic_part};
+ghost use Rattle.gs_score.specs.Ranges.{RulesAreInRange};
+ghost use Rattle.gs_score.specs.Standings.{count, fresh, grafted, held, pruned, raised_held, raised_standing, stored, with_stored};
+
+use crate::counter::Counter;
+use crate::millionths::{squared, sum_of_five, weighed, weighed_sum};
+use crate::rules::TopicRules;
+use gs_base::Millis;
+
+/// The counters of a neighbour on a topic (gossipsub v1.1, Peer Scoring).
+#[derive(Clone, Copy, Debug, PartialEq, Eq)]
+pub enum Kind {
+    /// Messages that it was the first to deliver (P2).
+    First,
+    /// Messages that it delivered as a mesh member, first or soon after the first (P3).
+    Near,
+    /// What was missing of those when it left the mesh, squared (P3b).
+    Deficit,
+    /// Invalid messages (P4).
+    Invalid,
+}
+
+/// What a neighbour has on a topic: since when it is in the mesh, and its counters.
+#[derive(Clone, Copy, Debug, PartialEq, Eq)]
+pub struct Standing {
+    /// Since when it is in the mesh, where it is.
+    pub since: Option<Millis>,
+    pub first: Counter,
+    pub near: Counter,
+    pub deficit: Counter,
+    pub invalid: Counter,
+}
+
+impl Standing {
+    /// Nothing yet, and outside the mesh.
+    pub fn new() -> Standing
+        ensures { result ≡ fresh }
+    {
+        Standing {
+            since: None,
+            first: Counter::new(),
+            near: Counter::new(),
+            deficit: Counter::new(),
+            invalid: Counter::new(),
+        }
+    }
+
+    /// A counter.
+    pub fn counter(&self, kind: Kind) -> Counter
+        ensures { result ≡ stored kind self.now }
+    {
+        match kind {
+            Kind::First => self.first,
+            Kind::Near => self.near,
+            Kind::Deficit => self.deficit,
+            Kind::Invalid => self.invalid,
+        }
+    }
+
+    /// A counter's value at a tick, in millionths.
+    pub fn count(&self, kind: Kind, rules: &TopicRules, tick: u64) -> u64
+        requires in_range { RulesAreInRange rules.now }
+        ensures value { result ≡ count kind (held rules.now tick self.now) }
+        ensures most { result ≤ 10 ^ 12 }
+    {
+        self.counter(kind).read(rules.decay_of(kind), tick)
+    }
+
+    /// Raises a counter by an amount, up to its cap.
+    pub fn raise(&mut self, kind: Kind, by: u64, rules: &TopicRules, tick: u64)
+        requires in_range { RulesAreInRange rules.now }
+        ensures raises { held rules.now tick self.new
+            ≡ raised_held rules.now kind by (held rules.now tick self.old) }
+        ensures keeps { self.new ≡ raised_standing rules.now kind by tick self.old }
+    {
+        let mut counter = self.counter(kind);
+        counter.raise(by, rules.cap_of(kind), rules.decay_of(kind), tick);
+        self.put(kind, counter);
+    }
+
+    /// Puts a counter in the place of another.
+    fn put(&mut self, kind: Kind, counter: Counter)
+        ensures { self.new ≡ with_stored kind counter self.old }
+    {
+        match kind {
+            Kind::First => self.first = counter,
+            Kind::Near => self.near = counter,
+            Kind::Deficit => self.deficit = counter,
+            Kind::Invalid => self.invalid = counter,
+        }
+    }
+
+    /// It comes into the mesh.
+    pub fn graft(&mut self, now: Millis)
+        ensures { self.new ≡ grafted now self.old }
+    {
+        self.since = Some(now);
+    }
+
+    /// It leaves the mesh. Its counters stay.
+    pub fn prune(&mut self)
+        ensures { self.new ≡ pruned self.old }
+    {
+        self.since = None;
+    }
+
+    /// The square of what is missing of its deliveries in the mesh, in millionths (P3): 0 to 10^18.
+    pub fn missing(&self, rules: &TopicRules, tick: u64, now: Millis) -> u64
+        requires in_range { RulesAreInRange rules.now }
+        ensures value { result ≡ p3 rules.now now.0 (held rules.now tick self.now) }
+        ensures most { result ≤ 10 ^ 18 }
+    {
+        let threshold = rules.factors.p3_threshold.unsigned_abs();
+        let near = self.count(Kind::Near, rules, tick);
+        if rules.is_active(self.since, now) && near < threshold {
+            return squared(threshold - near);
+        }
+        0
+    }
+
+    /// What the topic gives, in millionths: at most 10^25 either way.
+    #[tactic(auto, unfolding(crate::specs::Formula::topic_part))]
+    pub fn part(&self, rules: &TopicRules, tick: u64, now: Millis) -> i128
+        requires in_range { RulesAreInRange rules.now }
+        ensures value { result ≡ topic_part rules.now now.0 (held rules.now tick self.now) }
+        ensures bound { unsigned_abs result ≤ 10 ^ 25 }
+    {
+        let factors = &rules.factors;
+        let present = weighed(factors.w1, rules.presence(self.since, now));
+        let first = weighed(factors.w2, self.count(Kind::First, rules, tick));
+        let missing = weighed(factors.w3, self.missing(rules, tick, now));
+        let deficit = weighed(factors.w3b, self.count(Kind::Deficit, rules, tick));
+        let invalid = weighed(factors.w4, squared(self.count(Kind::Invalid, rules, tick)));
+        let sum = sum_of_five(present, first, missing, deficit, invalid);
+        weighed_sum(factors.topic_weight, sum)
+    }
+}

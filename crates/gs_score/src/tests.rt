@@ -1,0 +1,7 @@
+//! Counters and scores, by hand.
+mod counters;
+mod places;
+mod products;
+mod scores;
+mod standings;
+mod topics;

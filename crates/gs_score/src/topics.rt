@@ -1,0 +1,192 @@
+//! What a neighbour has on topics.
+ghost use Rattle.std.specs.Prelude.{◌≡◌, ◌+◌, ◌≤◌, ◌<◌, ◌*◌, ◌^◌, ◌+ℤ◌, true, false, if◌then◌else◌, [], List, drop, length, unsigned_abs, IsOk, OnOk, OnErr};
+ghost use Rattle.std.specs.List.{IsDistinct};
+ghost use Rattle.std.specs.Map.{keys_of};
+ghost use Rattle.gs_base.specs.Names.{most_topics, same_topic};
+ghost use Rattle.gs_base.specs.declared.names.Topic.{Topic as TopicValue};
+ghost use Rattle.gs_params.specs.Params.{AreInRange};
+ghost use Rattle.gs_score.specs.Accounts.{Covers, has_topic, held_in, standing_in, topic_sum};
+ghost use Rattle.gs_score.specs.Standings.{fresh, pruned};
+
+use crate::rules::TopicRules;
+use crate::standing::Standing;
+use gs_base::{Millis, Topic, clone_of};
+use gs_params::Params;
+use indexmap::IndexMap;
+use std::alloc::{AllocError, Global};
+use std::marker::Model;
+
+/// What a neighbour has on topics, by topic. On all others it has nothing.
+#[derive(Drop)]
+pub struct Topics {
+    standings: IndexMap<Topic, Standing>,
+}
+
+impl Model for Topics {
+    ghost use Rattle.std.specs.Prelude.{List};
+    ghost use Rattle.gs_base.specs.declared.names.Topic.{Topic};
+    ghost use Rattle.gs_score.specs.declared.standing.Standing.{Standing};
+
+    ghost Value = { List (Topic × Standing) };
+
+    ghost view = { λ t. t.standings.entries };
+}
+
+impl Topics {
+    /// Nothing on any topic. It takes no memory.
+    pub fn new(alloc: Global) -> Topics
+        ensures { result ≡ [] }
+    {
+        Topics {
+            standings: IndexMap::new(alloc),
+        }
+    }
+
+    /// On how many topics it has something.
+    pub fn len(&self) -> usize
+        ensures { result ≡ length self.now }
+    {
+        self.standings.len()
+    }
+
+    /// What it has on a topic.
+    pub fn standing(&self, topic: &Topic) -> Standing
+        ensures { result ≡ standing_in self.now topic.now }
+    {
+        standing_at(&self.standings, topic)
+    }
+
+    /// Puts what it has on a topic. It takes memory only where it had nothing on the topic.
+    ///
+    /// # Errors
+    /// `AllocError` where there was no memory; nothing is changed then.
+    pub fn put(&mut self, topic: &Topic, standing: Standing) -> Result<(), AllocError>
+        ensures puts { OnOk result ((t : TopicValue)
+            → standing_in self.new t
+            ≡ (if same_topic topic.now t then standing else standing_in self.old t)) }
+        ensures number { length self.new
+            ≤ (if has_topic self.old topic.now then length self.old else length self.old + 1) }
+        ensures unchanged { OnErr result (self.new ≡ self.old) }
+        ensures succeeds { has_topic self.old topic.now ≡ true → IsOk result }
+    {
+        put_at(&mut self.standings, topic, standing)?;
+        Ok(())
+    }
+
+    /// It leaves the mesh of a topic. It takes no memory.
+    pub fn prune(&mut self, topic: &Topic)
+        ensures prunes { (t : TopicValue)
+            → standing_in self.new t
+            ≡ (if same_topic topic.now t
+            then pruned (standing_in self.old topic.now)
+            else standing_in self.old t) }
+        ensures number { length self.new ≡ length self.old }
+    {
+        let mut standing = standing_at(&self.standings, topic);
+        standing.prune();
+        replace_at(&mut self.standings, topic, standing);
+    }
+
+    /// The sum over topics of what each gives, in millionths: at most 1,024 * 10^25 either way.
+    pub fn sum(&self, params: &Params, tick: u64, now: Millis) -> i128
+        requires in_range { AreInRange params.now }
+        requires few { length self.now ≤ most_topics }
+        ensures value { (ts : List TopicValue)
+            → Covers (held_in params.now tick self.now) ts
+            → result ≡ topic_sum params.now now.0 (held_in params.now tick self.now) ts }
+        ensures bound { unsigned_abs result ≤ 1_024 * 10 ^ 25 }
+    {
+        sum_of(&self.standings, params, tick, now)
+    }
+}
+
+/// What is kept for a topic.
+fn standing_at(standings: &IndexMap<Topic, Standing>, topic: &Topic) -> Standing
+    ensures { result ≡ standing_in standings.now.entries topic.now }
+{
+    match standings.get(topic) {
+        Some(standing) => *standing,
+        None => Standing::new(),
+    }
+}
+
+/// Puts what is kept for a topic. It takes memory only where nothing was kept.
+///
+/// # Errors
+/// `AllocError` where there was no memory; nothing is changed then.
+fn put_at(
+    standings: &mut IndexMap<Topic, Standing>,
+    topic: &Topic,
+    standing: Standing,
+) -> Result<(), AllocError>
+    ensures puts { OnOk result ((t : TopicValue)
+        → standing_in standings.new.entries t
+        ≡ (if same_topic topic.now t then standing else standing_in standings.old.entries t)) }
+    ensures number { length standings.new.entries
+        ≤ (if has_topic standings.old.entries topic.now
+        then length standings.old.entries
+        else length standings.old.entries + 1) }
+    ensures unchanged { OnErr result (standings.new.entries ≡ standings.old.entries) }
+    ensures succeeds { has_topic standings.old.entries topic.now ≡ true → IsOk result }
+{
+    match standings.get_mut(topic) {
+        Some(place) => *place = standing,
+        None => {
+            standings.insert(clone_of(topic)?, standing)?;
+        }
+    }
+    Ok(())
+}
+
+/// Replaces what is kept for a topic. It takes no memory: where nothing is kept, nothing is to be.
+fn replace_at(standings: &mut IndexMap<Topic, Standing>, topic: &Topic, standing: Standing)
+    requires { has_topic standings.old.entries topic.now ≡ false → standing ≡ fresh }
+    ensures puts { (t : TopicValue)
+        → standing_in standings.new.entries t
+        ≡ (if same_topic topic.now t then standing else standing_in standings.old.entries t) }
+    ensures number { length standings.new.entries ≡ length standings.old.entries }
+{
+    if let Some(place) = standings.get_mut(topic) {
+        *place = standing;
+    }
+}
+
+/// The sum over topics, in their order.
+fn sum_of(standings: &IndexMap<Topic, Standing>, params: &Params, tick: u64, now: Millis) -> i128
+    requires in_range { AreInRange params.now }
+    requires few { length standings.now.entries ≤ most_topics }
+    ensures value { result
+        ≡ topic_sum params.now now.0 (held_in params.now tick standings.now.entries)
+        (keys_of standings.now.entries) }
+    ensures apart { IsDistinct same_topic (keys_of standings.now.entries) }
+    ensures bound { unsigned_abs result ≤ 1_024 * 10 ^ 25 }
+{
+    let mut sum = 0;
+    for place in 0..standings.len() {
+        sum += part_at(standings, params, tick, now, place);
+    }
+    sum
+}
+
+/// What the topic at a place gives.
+fn part_at(
+    standings: &IndexMap<Topic, Standing>,
+    params: &Params,
+    tick: u64,
+    now: Millis,
+    place: usize,
+) -> i128
+    requires in_range { AreInRange params.now }
+    requires within { place < length standings.now.entries }
+    ensures part { topic_sum params.now now.0 (held_in params.now tick standings.now.entries)
+        (keys_of (drop place standings.now.entries))
+        ≡ result
+        +ℤ topic_sum params.now now.0 (held_in params.now tick standings.now.entries)
+        (keys_of (drop (place + 1) standings.now.entries)) }
+    ensures bound { unsigned_abs result ≤ 10 ^ 25 }
+{
+    match standings.get_index(place) {
+        Some((topic, standing)) => standing.part(&TopicRules::of(params, topic), tick, now),
+        None => 0,
+    }
+}
