@@ -17,7 +17,7 @@ use Rattle.gs_wire.specs.declared.frames.End.TheVariants.{Waits}
 use Rattle.gs_wire.specs.Messages.{longest_body}
 use Rattle.gs_wire.proofs.FrameLists.{one_stream}
 use Rattle.gs_rules.specs.declared.trace.Event.{Event}
-use Rattle.gs_rules.specs.declared.trace.Event.TheVariants.{Heard, Late, Sub, Msg, Gone, Fault}
+use Rattle.gs_rules.specs.declared.trace.Event.TheVariants.{Heard, Late, Sub, Msg, Have, Want, Gone, Fault}
 use Rattle.gs_rules.specs.declared.trace.Entry.{Entry}
 use Rattle.gs_rules.specs.declared.refusal.Refusal.{Refusal}
 use Rattle.gs_rules.specs.declared.refusal.RefusedLine.{RefusedLine}
@@ -80,6 +80,8 @@ handled_if q (Some event) = handled_by q event
 part_handles : (q : PeerNo) (event : Event) → IsPart event → handled_by q event ≡ []
 part_handles q (Sub r sub) h = refl
 part_handles q (Msg r m) h = refl
+part_handles q (Have r offer) h = refl
+part_handles q (Want r request) h = refl
 part_handles q other h = absurd h
 
 parts_handle : (q : PeerNo) (L : Entries) (paid : List Entry) → AllByRecursion (λ (e : Entry). IsPart e.event) paid → handled (paid ++ L) q ≡ handled L q

@@ -19,7 +19,7 @@ use Rattle.gs_params.proofs.Picking.{picked_is_choice}
 use Rattle.gs_params.proofs.Cutting.{exact_cut_is_cut, exact_cut_is_one}
 
 pub says_itself : (x : Entry) → SaysTheSame x x
-says_itself x = record { at = refl; event = refl; sends = λ q. refl; delivered = refl; marks = IsPermutation-refl x.marks }
+says_itself x = record { at = refl; event = refl; sends = λ q. refl; delivered = refl; promise = refl; marks = IsPermutation-refl x.marks }
 
 -- ---- more entries
 

@@ -2,38 +2,43 @@
 use Rattle.std.proofs.Common.{◌≡◌, ◌≢◌, ℕ, List, [], ◌∷◌, ◌++◌, map, drop, refl, sym, ap, subst}
 use Rattle.std.specs.List.{AllByRecursion}
 use Rattle.gs_base.specs.declared.names.PeerNo.{PeerNo}
-use Rattle.gs_base.specs.declared.rpc.SubOpt.{SubOpt}
-use Rattle.gs_base.specs.declared.rpc.Message.{Message}
+use Rattle.gs_base.specs.declared.control.IWant.{IWant}
 use Rattle.gs_base.specs.declared.rpc.Rpc.{Rpc}
 use Rattle.gs_base.specs.declared.names.Millis.{Millis}
 use Rattle.gs_rules.specs.declared.trace.Event.{Event}
-use Rattle.gs_rules.specs.declared.trace.Event.TheVariants.{Heard, Sub, Msg}
+use Rattle.gs_rules.specs.declared.trace.Event.TheVariants.{Heard, Sub, Msg, Have, Want}
 use Rattle.gs_rules.specs.declared.trace.Entry.{Entry}
 use Rattle.gs_rules.specs.Peers.{Peer}
 use Rattle.gs_rules.specs.Tables.{Entries}
-use Rattle.gs_rules.specs.Owed.{Group, PartsOf, Debt, events_in, held_or, nothing, owes, owing, owed, paid, parts, reached}
+use Rattle.gs_rules.specs.Owed.{Group, PartsOf, Debt, events_in, held_or, nothing, offers_in, owes, owing, owed, paid, parts, reached, requests_in}
 use Rattle.gs_rules.specs.Legal.{IsNext, MayOpen}
 
 -- a part of an RPC
 abbrev pub IsPart : Event → Type 0
 IsPart (Sub q sub) = Unit {0}
 IsPart (Msg q m) = Unit {0}
+IsPart (Have q offer) = Unit {0}
+IsPart (Want q request) = Unit {0}
 IsPart other = ⊥
 
 -- such parts, and no group behind them
 abbrev pub OwesParts : Debt → Type 0
 OwesParts debt = AllByRecursion IsPart debt.events × (debt.groups ≡ [])
 
-subs_are_parts : (q : PeerNo) (subs : List SubOpt) (rest : List Event) → AllByRecursion IsPart rest → AllByRecursion IsPart (map (Sub q) subs ++ rest)
-subs_are_parts q [] rest h = h
-subs_are_parts q (sub ∷ subs) rest h = (tt, subs_are_parts q subs rest h)
+-- parts of one kind, and those behind them
+kind_of_parts : {X : Type 0} (part : X → Event) (xs : List X) (rest : List Event) → ((x : X) → IsPart (part x)) → AllByRecursion IsPart rest → AllByRecursion IsPart (map part xs ++ rest)
+kind_of_parts part [] rest each h = h
+kind_of_parts part (x ∷ xs) rest each h = (each x, kind_of_parts part xs rest each h)
 
-messages_are_parts : (q : PeerNo) (ms : List Message) → AllByRecursion IsPart (map (Msg q) ms)
-messages_are_parts q [] = tt
-messages_are_parts q (m ∷ ms) = (tt, messages_are_parts q ms)
+requests_are_parts : (q : PeerNo) (requests : List IWant) → AllByRecursion IsPart (map (Want q) requests)
+requests_are_parts q [] = tt
+requests_are_parts q (request ∷ requests) = (tt, requests_are_parts q requests)
 
 parts_are_parts : (q : PeerNo) (rpc : Rpc) → AllByRecursion IsPart (parts q rpc)
-parts_are_parts q rpc = subs_are_parts q rpc.subs (map (Msg q) rpc.publish) (messages_are_parts q rpc.publish)
+parts_are_parts q rpc =
+    kind_of_parts (Sub q) rpc.subs _ (λ sub. tt)
+    (kind_of_parts (Msg q) rpc.publish _ (λ m. tt)
+    (kind_of_parts (Have q) (offers_in rpc.control) _ (λ offer. tt) (requests_are_parts q (requests_in rpc.control))))
 
 rest_are_parts : (events : List Event) → AllByRecursion IsPart events → AllByRecursion IsPart (drop 1 events)
 rest_are_parts [] h = tt

@@ -42,6 +42,7 @@ pub record SaysTheSame (e x : Entry) : Type 0 where
   pub event : e.event ≡ x.event
   pub sends : (q : PeerNo) → sent_to q e.sends ≡ sent_to q x.sends
   pub delivered : e.delivered ≡ x.delivered
+  pub promise : e.promise ≡ x.promise
   pub marks : IsPermutation x.marks e.marks
 
 -- any choice will do, and so does any order that nobody sees

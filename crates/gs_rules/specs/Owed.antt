@@ -1,10 +1,13 @@
 -- What must come next. An event may owe others: after an RPC was heard, its parts follow. What is owed comes in
 -- groups, and a group holds what there is when it is reached.
-use Rattle.std.specs.Prelude.{List, [], ◌∷◌, ◌++◌, drop, map}
+use Rattle.std.specs.Prelude.{List, [], ◌∷◌, ◌++◌, drop, map, Option, Some, None}
 use Rattle.gs_base.specs.declared.names.PeerNo.{PeerNo}
 use Rattle.gs_base.specs.declared.rpc.Rpc.{Rpc}
+use Rattle.gs_base.specs.declared.control.Control.{Control}
+use Rattle.gs_base.specs.declared.control.IHave.{IHave}
+use Rattle.gs_base.specs.declared.control.IWant.{IWant}
 use Rattle.gs_rules.specs.declared.trace.Event.{Event}
-use Rattle.gs_rules.specs.declared.trace.Event.TheVariants.{Heard, Sub, Msg}
+use Rattle.gs_rules.specs.declared.trace.Event.TheVariants.{Heard, Sub, Msg, Have, Want}
 use Rattle.gs_rules.specs.declared.trace.Entry.{Entry}
 use Rattle.gs_rules.specs.Peers.{Peer}
 use Rattle.gs_rules.specs.Tables.{Entries}
@@ -16,9 +19,22 @@ pub data Group : Type 0 where
   -- the parts of an RPC
   PartsOf : PeerNo → Rpc → Group
 
--- the parts of an RPC: its subscriptions and then its messages, each as they stand in it
+-- the offers and the requests of an RPC: where it has no control, there are none
+abbrev pub offers_in : Option Control → List IHave
+offers_in None = []
+offers_in (Some control) = control.ihave
+
+abbrev pub requests_in : Option Control → List IWant
+requests_in None = []
+requests_in (Some control) = control.iwant
+
+-- the parts of an RPC: its subscriptions, its messages, its offers and its requests, each as they stand in it
 abbrev pub parts : PeerNo → Rpc → List Event
-parts q rpc = map (Sub q) rpc.subs ++ map (Msg q) rpc.publish
+parts q rpc =
+    map (Sub q) rpc.subs
+    ++ (map (Msg q) rpc.publish
+    ++ (map (Have q) (offers_in rpc.control)
+    ++ map (Want q) (requests_in rpc.control)))
 
 -- the events of a group that is reached behind this trace
 abbrev pub events_in : Peer → Entries → Group → List Event

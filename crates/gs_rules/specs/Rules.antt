@@ -1,21 +1,27 @@
 -- What a peer does about an event: for each event one rule, which gives the whole entry. Rules look at the trace
 -- before the entry alone.
-use Rattle.std.specs.Prelude.{ℕ, Bool, true, false, not, ◌&&◌, if◌then◌else◌, List, [], ◌∷◌, map, filter, is_some}
+use Rattle.std.specs.Prelude.{ℕ, ◌+◌, ◌-◌, min, Bool, true, false, not, ◌&&◌, nat_eq, nat_le, nat_lt, if◌then◌else◌, List, [], ◌∷◌, ◌++◌, length, take, map, filter, fold, get_or, Option, Some, None, is_some, option_map}
+use Rattle.std.specs.List.{list_any}
+use Rattle.std.specs.Cmp.Lexicographic.{pointwise}
 use Rattle.gs_base.specs.declared.names.PeerNo.{PeerNo}
 use Rattle.gs_base.specs.declared.names.Topic.{Topic}
 use Rattle.gs_base.specs.declared.names.Millis.{Millis}
 use Rattle.gs_base.specs.declared.rpc.Message.{Message}
 use Rattle.gs_base.specs.declared.rpc.Rpc.{Rpc}
-use Rattle.gs_base.specs.Names.{topic_of, payload_of, message_id, is_signed, announcement, publication}
+use Rattle.gs_base.specs.declared.names.MsgId.{MsgId}
+use Rattle.gs_base.specs.declared.control.IHave.{IHave}
+use Rattle.gs_base.specs.declared.control.IWant.{IWant}
+use Rattle.gs_wire.specs.Messages.{most_identifiers, passed_on, requesting}
+use Rattle.gs_base.specs.Names.{same_id, topic_or_empty, topic_of, payload_of, message_id, is_signed, announcement, publication}
 use Rattle.gs_params.specs.declared.params.Degrees.{Degrees}
 use Rattle.gs_params.specs.declared.cuts.Member.{Member}
 use Rattle.gs_base.specs.declared.verdict.Verdict.TheVariants.{Accept}
-use Rattle.gs_base.specs.declared.mark.Mark.TheVariants.{Seen, Invalid}
+use Rattle.gs_base.specs.declared.mark.Mark.TheVariants.{Seen, Invalid, Cached, Answered, HeardHave, Asked}
 use Rattle.gs_rules.specs.declared.trace.Event.{Event}
-use Rattle.gs_rules.specs.declared.trace.Event.TheVariants.{Msg, Subscribe, Unsubscribe, Publish}
+use Rattle.gs_rules.specs.declared.trace.Event.TheVariants.{Msg, Have, Want, Subscribe, Unsubscribe, Publish}
 use Rattle.gs_rules.specs.declared.trace.Entry.{Entry}
 use Rattle.gs_rules.specs.Peers.{Peer, links_of, seen_ttl}
-use Rattle.gs_rules.specs.Tables.{Entries, up, on, joined, seen}
+use Rattle.gs_rules.specs.Tables.{Entries, Keeping, up, on, joined, seen, kept, answered, offers, asked}
 
 -- ---- what rules say
 
@@ -34,7 +40,7 @@ pub data Rule : Type 0 where
 
 -- an entry with no effects
 abbrev pub bare : Millis → Event → Entry
-bare at event = record { at = at; event = event; sends = []; delivered = []; marks = [] }
+bare at event = record { at = at; event = event; sends = []; delivered = []; promise = None; marks = [] }
 
 -- the same RPC to each of these
 abbrev pub to_each : Rpc → List PeerNo → List (PeerNo × Rpc)
@@ -66,11 +72,11 @@ abbrev pub publish_rule : Peer → Entries → Millis → Topic → List ℕ →
 publish_rule p L at t payload = record (bare at (Publish t payload)) {
   sends = to_each (publication t payload) (listeners p L t);
   delivered = if joined L t then (t, payload) ∷ [] else [];
-  marks = Seen (message_id payload) Accept ∷ [];
+  marks = Seen (message_id payload) Accept ∷ Cached (message_id payload) t ∷ [];
 }
 
 -- A message that came is dropped where the peer isn't subscribed. One that is signed is invalid, and not marked as
--- seen. One that was seen lately is dropped. Any other is delivered.
+-- seen. One that was seen lately is dropped. Any other is delivered, and kept.
 abbrev pub message_rule : Peer → Entries → Millis → PeerNo → Message → Entry
 message_rule p L at q m =
     if not (joined L (topic_of m)) then bare at (Msg q m)
@@ -78,12 +84,107 @@ message_rule p L at q m =
     else if is_some (seen (seen_ttl p) L (message_id (payload_of m)) at.0) then bare at (Msg q m)
     else record (bare at (Msg q m)) {
       delivered = (topic_of m, payload_of m) ∷ [];
-      marks = Seen (message_id (payload_of m)) Accept ∷ [];
+      marks = Seen (message_id (payload_of m)) Accept ∷ Cached (message_id (payload_of m)) (topic_of m) ∷ [];
     }
+
+-- ---- offers (gossipsub v1.0, "Control messages", IHAVE)
+
+-- an offer that counts, without more
+abbrev pub counted : Millis → PeerNo → IHave → Entry
+counted at q offer = record (bare at (Have q offer)) { marks = HeardHave q ∷ [] }
+
+-- the bytes of an identifier of a message that was not seen lately
+abbrev pub is_wanted : Peer → Entries → ℕ → List ℕ → Bool
+is_wanted p L at bytes =
+    nat_eq (length bytes) 32 && not (is_some (seen (seen_ttl p) L (record { 0 = bytes }) at))
+
+abbrev pub same_bytes : List ℕ → List ℕ → Bool
+same_bytes xs ys = pointwise nat_eq xs ys
+
+-- each of these once, in the order in which they come first
+abbrev pub each_once : List (List ℕ) → List (List ℕ)
+each_once ids = fold (λ before id. if list_any (same_bytes id) before then before else before ++ id ∷ []) [] ids
+
+-- how many identifiers may be asked of a neighbour beside those that were; a request never has more than an RPC may
+abbrev pub room_to_ask : Peer → Entries → PeerNo → ℕ
+room_to_ask p L q = min p.params.windows.max_ihave_ids most_identifiers - asked L q
+
+-- the identifiers that a neighbour is asked for that offers these
+abbrev pub wanted : Peer → Entries → ℕ → PeerNo → List (List ℕ) → List (List ℕ)
+wanted p L at q ids = take (room_to_ask p L q) (each_once (filter (is_wanted p L at) ids))
+
+-- A neighbour is asked for these, and promises the one at this place.
+abbrev pub asking : Peer → Millis → PeerNo → IHave → List (List ℕ) → ℕ → Entry
+asking p at q offer ids place = record (bare at (Have q offer)) {
+  sends = (q, requesting ids) ∷ [];
+  promise = Some (record {
+    from = q;
+    id = record { 0 = get_or ids place [] };
+    until = record { 0 = at.0 + p.params.windows.iwant_followup_ms };
+  });
+  marks = HeardHave q ∷ Asked q (length ids) ∷ [];
+}
+
+-- a neighbour is asked for what is wanted, if anything is, and promises any one of that
+abbrev pub asked_for : Peer → Millis → PeerNo → IHave → List (List ℕ) → Rule
+asked_for p at q offer [] = Gives (counted at q offer)
+asked_for p at q offer (id ∷ ids) =
+    OneOf (length (id ∷ ids)) (λ place. Gives (asking p at q offer (id ∷ ids) place))
+
+-- An offer counts for as long as the neighbour has not made too many. On a topic that the peer is not subscribed to
+-- nothing is wanted.
+abbrev pub have_rule : Peer → Entries → Millis → PeerNo → IHave → Rule
+have_rule p L at q offer =
+    if nat_le p.params.windows.max_ihave (offers L q) then Gives (bare at (Have q offer))
+    else if not (joined L (topic_or_empty offer.topic)) then Gives (counted at q offer)
+    else asked_for p at q offer (wanted p L at.0 q offer.ids)
+
+-- ---- requests (gossipsub v1.0, "Control messages", IWANT)
+
+-- the identifiers among these bytes: those of 32 bytes
+abbrev pub ids_in : List (List ℕ) → List MsgId
+ids_in all = map (λ bytes. record { 0 = bytes }) (filter (λ bytes. nat_eq (length bytes) 32) all)
+
+-- how often an identifier is among these
+abbrev pub times_in : MsgId → List MsgId → ℕ
+times_in id ids = length (filter (same_id id) ids)
+
+-- the message that a neighbour gets for an identifier, which stands so often ahead in the same request: the one that
+-- is kept, if the neighbour did not get it as often as it may
+abbrev pub answer : Peer → Entries → PeerNo → MsgId → ℕ → Option Message
+answer p L q id ahead =
+    if nat_lt (answered L q id + ahead) p.params.windows.gossip_retransmission
+    then option_map (λ (k : Keeping). k.message) (kept L id)
+    else None
+
+-- an identifier with its message, if there is one
+abbrev pub with_message : MsgId → Option Message → List (MsgId × Message)
+with_message id None = []
+with_message id (Some m) = (id, m) ∷ []
+
+-- the messages that a neighbour gets for these identifiers, behind others of the same request
+abbrev pub answers : Peer → Entries → PeerNo → List MsgId → List MsgId → List (MsgId × Message)
+answers p L q ahead [] = []
+answers p L q ahead (id ∷ ids) =
+    with_message id (answer p L q id (times_in id ahead)) ++ answers p L q (ahead ++ id ∷ []) ids
+
+-- it gets them one by one, and each counts
+abbrev pub answering : Millis → PeerNo → IWant → List (MsgId × Message) → Entry
+answering at q request given = record (bare at (Want q request)) {
+  sends = map (λ (x : MsgId × Message). (q, passed_on x.1)) given;
+  marks = map (λ (x : MsgId × Message). Answered q x.0) given;
+}
+
+abbrev pub want_rule : Peer → Entries → Millis → PeerNo → IWant → Entry
+want_rule p L at q request = answering at q request (answers p L q [] (ids_in request.ids))
+
+-- ---- all events
 
 -- the rule of an event: where none is named, the event alone
 abbrev pub rule_of : Peer → Entries → Millis → Event → Rule
 rule_of p L at (Msg q m) = Gives (message_rule p L at q m)
+rule_of p L at (Have q offer) = have_rule p L at q offer
+rule_of p L at (Want q request) = Gives (want_rule p L at q request)
 rule_of p L at (Subscribe t) = Gives (subscribe_rule p L at t)
 rule_of p L at (Unsubscribe t) = Gives (unsubscribe_rule p L at t)
 rule_of p L at (Publish t payload) = Gives (publish_rule p L at t payload)

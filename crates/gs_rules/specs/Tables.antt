@@ -1,7 +1,7 @@
 -- What a trace says of a peer. Its entries stand with the newest first, so each table is read off the newest entry
 -- and what the table said before it: a step by the entry's event, and where marks change it, a step by each mark. A
 -- new event or mark is one line in the tables that it changes.
-use Rattle.std.specs.Prelude.{ℕ, ◌-◌, Bool, true, false, ◌&&◌, nat_lt, if◌then◌else◌, List, [], ◌∷◌, ◌++◌, Option, Some, None, unwrap_or}
+use Rattle.std.specs.Prelude.{ℕ, ◌+◌, ◌-◌, Bool, true, false, ◌&&◌, nat_lt, if◌then◌else◌, List, [], ◌∷◌, ◌++◌, Option, Some, None, unwrap_or}
 use Rattle.std.specs.List.{list_any}
 use Rattle.gs_base.specs.declared.names.PeerNo.{PeerNo}
 use Rattle.gs_base.specs.declared.names.Topic.{Topic}
@@ -9,9 +9,10 @@ use Rattle.gs_base.specs.declared.names.MsgId.{MsgId}
 use Rattle.gs_base.specs.Names.{same_peer, same_topic, same_id, topic_or_empty}
 use Rattle.gs_base.specs.declared.verdict.Verdict.{Verdict}
 use Rattle.gs_base.specs.declared.mark.Mark.{Mark}
-use Rattle.gs_base.specs.declared.mark.Mark.TheVariants.{Seen}
+use Rattle.gs_base.specs.declared.rpc.Message.{Message}
+use Rattle.gs_base.specs.declared.mark.Mark.TheVariants.{Seen, Cached, Answered, HeardHave, Asked}
 use Rattle.gs_rules.specs.declared.trace.Event.{Event}
-use Rattle.gs_rules.specs.declared.trace.Event.TheVariants.{Sub, Subscribe, Unsubscribe, Gone, Fault, Shut}
+use Rattle.gs_rules.specs.declared.trace.Event.TheVariants.{Sub, Msg, Subscribe, Unsubscribe, Publish, Gone, Fault, Shut}
 use Rattle.gs_rules.specs.declared.trace.Entry.{Entry}
 
 -- what a peer did, the newest entry first
@@ -107,3 +108,71 @@ counting ttl now (Some s) = if nat_lt (now - s.at) ttl then Some s.verdict else 
 -- the verdict on a message that was seen less than the time ago (gossipsub v1.0, "Message Cache", the seen cache)
 abbrev pub seen : ℕ → Entries → MsgId → ℕ → Option Verdict
 seen ttl L id now = counting ttl now (last_seen L id)
+
+-- ---- kept messages
+
+-- A message that is kept for who asks for it, and the topic that it is kept as one of.
+pub record Keeping : Type 0 where
+  pub topic : Topic
+  pub message : Message
+
+-- a message with a payload and a topic alone, as StrictNoSign has it
+abbrev pub unsigned : Topic → List ℕ → Message
+unsigned t payload = record {
+  origin = None;
+  payload = Some payload;
+  seqno = None;
+  topic = Some t;
+  signature = None;
+  key = None;
+}
+
+-- a message without any field
+abbrev pub blank : Message
+blank = record { origin = None; payload = None; seqno = None; topic = None; signature = None; key = None }
+
+-- the message that an event brings; no other event makes one that is kept
+abbrev pub message_in : Event → Message
+message_in (Msg q m) = m
+message_in (Publish t payload) = unsigned t payload
+message_in other = blank
+
+-- the last mark of an identifier says which message is kept under it
+abbrev pub kept_after : MsgId → Event → Mark → Option Keeping → Option Keeping
+kept_after id event (Cached other t) before =
+    if same_id other id then Some (record { topic = t; message = message_in event }) else before
+kept_after id event other before = before
+
+abbrev pub kept : Entries → MsgId → Option Keeping
+kept [] id = None
+kept (e ∷ L) id = after_marks (kept_after id e.event) e.marks (kept L id)
+
+-- how often a neighbour was sent a message since that was kept anew
+abbrev pub answered_after : PeerNo → MsgId → Mark → ℕ → ℕ
+answered_after q id (Cached other t) before = if same_id other id then 0 else before
+answered_after q id (Answered p other) before = if same_peer p q && same_id other id then before + 1 else before
+answered_after q id other before = before
+
+abbrev pub answered : Entries → PeerNo → MsgId → ℕ
+answered [] q id = 0
+answered (e ∷ L) q id = after_marks (answered_after q id) e.marks (answered L q id)
+
+-- ---- budgets
+
+-- how many offers of a neighbour counted
+abbrev pub offers_after : PeerNo → Mark → ℕ → ℕ
+offers_after q (HeardHave p) before = if same_peer p q then before + 1 else before
+offers_after q other before = before
+
+abbrev pub offers : Entries → PeerNo → ℕ
+offers [] q = 0
+offers (e ∷ L) q = after_marks (offers_after q) e.marks (offers L q)
+
+-- how many identifiers were asked of a neighbour
+abbrev pub asked_after : PeerNo → Mark → ℕ → ℕ
+asked_after q (Asked p n) before = if same_peer p q then before + n else before
+asked_after q other before = before
+
+abbrev pub asked : Entries → PeerNo → ℕ
+asked [] q = 0
+asked (e ∷ L) q = after_marks (asked_after q) e.marks (asked L q)

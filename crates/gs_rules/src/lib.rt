@@ -13,7 +13,7 @@ pub use laws::{
     what_words_choose_is_legal, words_fix_the_next_entry, words_fix_what_follows_a_rule,
 };
 pub use refusal::{Refusal, RefusedLine};
-pub use trace::{Entry, Event, Trace};
+pub use trace::{Entry, Event, Promise, Trace};
 
 #[cfg(test)]
 mod tests;

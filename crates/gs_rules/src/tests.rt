@@ -55,6 +55,7 @@ fn delivery(alloc: Global, at: u64, payload: &[u8]) -> Result<Entry, AllocError>
         event: Event::Msg(PeerNo(2), Shared::new(alloc, message(alloc, payload)?)?),
         sends: Seq::new(alloc),
         delivered,
+        promise: None,
         marks,
     })
 }
@@ -70,6 +71,7 @@ fn publishing(alloc: Global, at: u64, payload: &[u8]) -> Result<Entry, AllocErro
         event: Event::Publish(topic(alloc)?, Bytes::copy_from_slice(alloc, payload)?),
         sends,
         delivered: Seq::new(alloc),
+        promise: None,
         marks,
     })
 }

@@ -2,7 +2,9 @@
 ghost use Rattle.std.specs.Prelude.{◌≡◌, [], ◌∷◌, OnOk, OnErr};
 
 use bytes::Bytes;
-use gs_base::{Mark, Message, Millis, PeerNo, Rpc, Seq, Shared, SubOpt, Topic};
+use gs_base::{
+    IHave, IWant, Mark, Message, Millis, MsgId, PeerNo, Rpc, Seq, Shared, SubOpt, Topic,
+};
 use std::alloc::{AllocError, Global};
 use std::marker::Model;
 
@@ -17,6 +19,10 @@ pub enum Event {
     Sub(PeerNo, SubOpt),
     /// A neighbour passed on a message.
     Msg(PeerNo, Shared<Message>),
+    /// A neighbour offered messages.
+    Have(PeerNo, Shared<IHave>),
+    /// A neighbour asked for messages.
+    Want(PeerNo, Shared<IWant>),
     /// The peer subscribed to a topic.
     Subscribe(Topic),
     /// The peer left a topic.
@@ -33,6 +39,17 @@ pub enum Event {
     Shut,
 }
 
+/// What a neighbour promised by its offer: one of the messages that it was asked for.
+#[derive(Clone, Copy, Debug, PartialEq, Eq)]
+pub struct Promise {
+    /// The neighbour.
+    pub from: PeerNo,
+    /// The identifier of the message.
+    pub id: MsgId,
+    /// When the message is overdue.
+    pub until: Millis,
+}
+
 /// One step of a peer: what happened, when, and what the peer did about it.
 #[derive(Debug, Drop, PartialEq, Eq)]
 pub struct Entry {
@@ -44,6 +61,8 @@ pub struct Entry {
     pub sends: Seq<(PeerNo, Shared<Rpc>)>,
     /// The topics and payloads of what was delivered to the peer's own user.
     pub delivered: Seq<(Topic, Bytes)>,
+    /// What a neighbour promised.
+    pub promise: Option<Shared<Promise>>,
     /// What is to be remembered.
     pub marks: Seq<Mark>,
 }
