@@ -1,32 +1,34 @@
 -- What is delivered in a legal trace was not seen lately, and is marked as seen. So nothing is delivered again before its mark
 -- counts no more.
 use Rattle.std.proofs.Common.{◌≡◌, refl, sym, ap, subst, ◌∙◌, ℕ, zero, suc, ◌+◌, ◌-◌, ◌≤◌, arith, Bool, true, false, if◌then◌else◌, List, [], ◌∷◌, ◌++◌, length, Option, Some, None}
-use Rattle.std.specs.List.{All, AllByRecursion, IsAmong}
+use Rattle.std.specs.List.{AllByRecursion, IsAmong, list_any}
 use Rattle.std.specs.Prelude.{IsPermutation}
 use Rattle.std.proofs.lemmas.Cmp.{nat_list_eq_equiv}
 use Rattle.std.proofs.lemmas.Bool.Decides.{nat_tests}
-use Rattle.std.proofs.lemmas.List.Elements.{All-from_recursion}
-use Rattle.std.proofs.lemmas.List.Sorted.{All-permutation, length_permutation}
+use Rattle.std.proofs.lemmas.List.Elements.{All-from_recursion, recursion_from_All}
+use Rattle.std.proofs.lemmas.List.Sorted.{All-permutation, list_any-IsPermutation}
 use Rattle.gs_base.specs.declared.names.PeerNo.{PeerNo}
 use Rattle.gs_base.specs.declared.names.Topic.{Topic}
 use Rattle.gs_base.specs.declared.names.MsgId.{MsgId}
 use Rattle.gs_base.specs.declared.rpc.Message.{Message}
+use Rattle.gs_base.specs.declared.control.IHave.{IHave}
 use Rattle.gs_base.specs.declared.verdict.Verdict.{Verdict}
 use Rattle.gs_base.specs.declared.verdict.Verdict.TheVariants.{Accept}
 use Rattle.gs_base.specs.declared.mark.Mark.{Mark}
-use Rattle.gs_base.specs.declared.mark.Mark.TheVariants.{Seen}
+use Rattle.gs_base.specs.declared.mark.Mark.TheVariants.{Seen, Cached}
 use Rattle.gs_rules.specs.declared.trace.Event.{Event}
-use Rattle.gs_rules.specs.declared.trace.Event.TheVariants.{Msg, Publish}
+use Rattle.gs_rules.specs.declared.trace.Event.TheVariants.{Msg, Have, Publish}
 use Rattle.gs_rules.specs.declared.trace.Entry.{Entry}
 use Rattle.gs_base.specs.Names.{same_id, message_id, topic_of, payload_of, is_signed}
 use Rattle.gs_rules.specs.Tables.{Entries, last_moment, joined, Sighting, after_marks, sighting_after, last_seen, counting, seen}
 use Rattle.gs_rules.specs.Peers.{Peer, seen_ttl}
 use Rattle.gs_rules.specs.Owed.{owed}
-use Rattle.gs_rules.specs.Rules.{rule_of, message_rule, publish_rule}
+use Rattle.gs_rules.specs.Rules.{rule_of, asking, bare, counted, have_rule, message_rule, publish_rule, wanted}
 use Rattle.gs_rules.specs.Modes.{SaysTheSame, Follows, free}
-use Rattle.gs_rules.specs.Legal.{MayPublish, MayOpen, IsNext, IsAllowed, Legal, Delivers, DeliversApart}
+use Rattle.gs_rules.specs.Legal.{MayPublish, IsNext, IsAllowed, Legal, Delivers, DeliversApart}
 use Rattle.gs_rules.proofs.Legality.{legal_newest}
 use Rattle.gs_rules.proofs.Owed.{opens}
+use Rattle.gs_rules.proofs.Offers.{what_is_offered}
 
 -- ---- one entry
 
@@ -43,28 +45,59 @@ only_among : {X : Type 0} (y x : X) → IsAmong (y ∷ []) x → x ≡ y
 only_among y x (zero, (here, is)) = is
 only_among y x (suc i, (far, is)) = absurd (omega arith)
 
--- a list of one element has one order
-single : {X : Type 0} (x : X) (ys : List X) → length ys ≡ 1 → All (λ y. y ≡ x) ys → ys ≡ x ∷ []
-single x [] long same = cc
-single x (y ∷ []) long same = ap (λ z. z ∷ []) (same 0 y (omega arith))
-single x (y ∷ z ∷ ys) long same = absurd (omega arith)
+-- ---- marks in any order
 
-one_order : {X : Type 0} (x : X) (ys : List X) → IsPermutation (x ∷ []) ys → ys ≡ x ∷ []
-one_order x ys same = single x ys (length_permutation (x ∷ []) ys same) (All-permutation (λ y. y ≡ x) (x ∷ []) ys same (All-from_recursion (λ y. y ≡ x) (x ∷ []) (refl, tt)))
+-- a mark that says that this message was seen, or one that says of no message when it was seen
+abbrev SaysSeen : MsgId → Mark → Type 0
+SaysSeen id (Seen other verdict) = (other ≡ id) × (verdict ≡ Accept)
+SaysSeen id (Cached other t) = Unit {0}
+SaysSeen id other = ⊥
+
+-- a mark that says of a message when it was seen
+abbrev is_sight : Mark → Bool
+is_sight (Seen id verdict) = true
+is_sight other = false
+
+-- seen at this moment, and found to be well
+abbrev accepted : ℕ → Option Sighting
+accepted at = Some (record { at = at; verdict = Accept })
 
 -- a message is found by its own identifier
-found_itself : (id : MsgId) (at : ℕ) (before : Option Sighting) → after_marks (sighting_after id at) (Seen id Accept ∷ []) before ≡ Some (record { at = at; verdict = Accept })
-found_itself id at before = rw (nat_list_eq_equiv.refl id.0) refl
+found_itself : (id other : MsgId) (verdict : Verdict) (at : ℕ) (before : Option Sighting) → other ≡ id → verdict ≡ Accept → sighting_after id at (Seen other verdict) before ≡ accepted at
+found_itself id other verdict at before this well = rw (this, well, nat_list_eq_equiv.refl id.0) refl
+
+-- behind one such mark all others leave what it says
+stays_seen : (id : MsgId) (at : ℕ) (marks : List Mark) → AllByRecursion (SaysSeen id) marks → after_marks (sighting_after id at) marks (accepted at) ≡ accepted at
+stays_seen id at [] all = refl
+stays_seen id at (Seen other verdict ∷ marks) all =
+    ap (λ (before : Option Sighting). after_marks (sighting_after id at) marks before) (found_itself id other verdict at (accepted at) all.0.0 all.0.1) ∙ stays_seen id at marks all.1
+stays_seen id at (Cached other t ∷ marks) all = stays_seen id at marks all.1
+stays_seen id at (other ∷ marks) all = absurd all.0
+
+-- and one of them says it
+gets_seen : (id : MsgId) (at : ℕ) (marks : List Mark) (before : Option Sighting) → AllByRecursion (SaysSeen id) marks → list_any is_sight marks ≡ true → after_marks (sighting_after id at) marks before ≡ accepted at
+gets_seen id at [] before all some = absurd cc
+gets_seen id at (Seen other verdict ∷ marks) before all some =
+    ap (λ (seen : Option Sighting). after_marks (sighting_after id at) marks seen) (found_itself id other verdict at before all.0.0 all.0.1) ∙ stays_seen id at marks all.1
+gets_seen id at (Cached other t ∷ marks) before all some = gets_seen id at marks before all.1 some
+gets_seen id at (other ∷ marks) before all some = absurd all.0
+
+-- an accepted message is marked as seen and as kept, in either order
+accepts : (id : MsgId) (t : Topic) (at : ℕ) (marks : List Mark) → IsPermutation (Seen id Accept ∷ Cached id t ∷ []) marks → (before : Option Sighting) → after_marks (sighting_after id at) marks before ≡ accepted at
+accepts id t at marks same before =
+    gets_seen id at marks before
+    (recursion_from_All (SaysSeen id) marks (All-permutation (SaysSeen id) _ marks same (All-from_recursion (SaysSeen id) (Seen id Accept ∷ Cached id t ∷ []) ((refl, refl), (tt, tt)))))
+    (sym (list_any-IsPermutation is_sight (Seen id Accept ∷ Cached id t ∷ []) marks same))
 
 -- an entry is fresh where its rule gives one message that was not seen lately, and marks it
-delivers_one : (p : Peer) (L : Entries) (e x : Entry) (y : Topic × List ℕ) (id : MsgId) → SaysTheSame e x → x.delivered ≡ y ∷ [] → x.marks ≡ Seen (message_id y.1) Accept ∷ [] → seen (seen_ttl p) L (message_id y.1) e.at.0 ≡ None → Delivers e id → IsFresh p L e id
+delivers_one : (p : Peer) (L : Entries) (e x : Entry) (y : Topic × List ℕ) (id : MsgId) → SaysTheSame e x → x.delivered ≡ y ∷ [] → x.marks ≡ Seen (message_id y.1) Accept ∷ Cached (message_id y.1) y.0 ∷ [] → seen (seen_ttl p) L (message_id y.1) e.at.0 ≡ None → Delivers e id → IsFresh p L e id
 delivers_one p L e x y id same delivered marks unseen (z, among, is) =
     let this : z ≡ y = only_among y z (rw (same.delivered, delivered) at among) in
     let known : message_id y.1 ≡ id = ap (λ w. message_id w.1) (sym this) ∙ is in
-    let order : e.marks ≡ Seen (message_id y.1) Accept ∷ [] = one_order _ e.marks (rw marks at same.marks) in
+    let order : IsPermutation (Seen (message_id y.1) Accept ∷ Cached (message_id y.1) y.0 ∷ []) e.marks = rw marks at same.marks in
     record {
       unseen = rw (← known) unseen;
-      marked = λ before. rw (order, ← known) (found_itself (message_id y.1) e.at.0 before);
+      marked = λ before. rw (← known) (accepts (message_id y.1) y.0 e.at.0 e.marks order before);
     }
 
 -- where its rule gives no message, it delivers none
@@ -91,10 +124,20 @@ module _ (p : Peer) (L : Entries) (t : Topic) (payload : List ℕ) (e : Entry) (
   published : IsFresh p L e id
   published = by_subscription (joined L t) refl
 
+-- an offer delivers nothing, whatever is chosen
+offered : (p : Peer) (L : Entries) (q : PeerNo) (offer : IHave) (e : Entry) (id : MsgId) → Follows free (have_rule p L e.at q offer) tt e tt → Delivers e id → IsFresh p L e id
+offered p L q offer e id effects delivers =
+    what_is_offered (λ (e : Entry). IsFresh p L e id) p L e.at q offer e
+    (λ same. delivers_none p L e (bare e.at (Have q offer)) id same refl delivers)
+    (λ same. delivers_none p L e (counted e.at q offer) id same refl delivers)
+    (λ place same. delivers_none p L e (asking p e.at q offer (wanted p L e.at.0 q offer.ids) place) id same refl delivers)
+    effects
+
 -- of all events, these two alone deliver
 by_event : (p : Peer) (L : Entries) (event : Event) (e : Entry) (id : MsgId) → IsNext p L e.at.0 (owed p L).events event → Follows free (rule_of p L e.at event) tt e tt → Delivers e id → IsFresh p L e id
 by_event p L (Msg q m) e id next effects delivers = heard p L q m e id effects.0 delivers
 by_event p L (Publish t payload) e id next effects delivers = published p L t payload e id (opens p L e.at.0 (Publish t payload) (λ h. h) next) effects.0 delivers
+by_event p L (Have q offer) e id next effects delivers = offered p L q offer e id effects delivers
 by_event p L other e id next effects delivers = delivers_none p L e _ id effects.0 refl delivers
 
 delivered_is_fresh : (p : Peer) (L : Entries) (e : Entry) (id : MsgId) → IsAllowed free p L tt e tt → Delivers e id → IsFresh p L e id

@@ -1,21 +1,28 @@
 -- Worked rows of what is said, and of what there is to hear in it.
 use Rattle.std.proofs.Common.{◌≡◌, ℕ, true, false, List, [], ◌∷◌, None, Some, refl}
 use Rattle.gs_base.specs.declared.names.PeerNo.{PeerNo}
-use Rattle.gs_base.specs.declared.names.Millis.{Millis}
-use Rattle.gs_base.specs.declared.rpc.Rpc.{Rpc}
+use Rattle.gs_base.specs.declared.names.MsgId.{MsgId}
+use Rattle.gs_base.specs.declared.names.Topic.{Topic}
+use Rattle.gs_base.specs.declared.control.Control.{Control}
+use Rattle.gs_base.specs.declared.control.IHave.{IHave}
+use Rattle.gs_base.specs.declared.control.IWant.{IWant}
+use Rattle.gs_base.specs.declared.mark.Mark.{Mark}
+use Rattle.gs_base.specs.declared.mark.Mark.TheVariants.{Cached, Answered, HeardHave, Asked}
+use Rattle.gs_params.specs.Params.{default_degrees, default_factors, default_thresholds, default_windows}
 use Rattle.gs_base.specs.declared.rpc.SubOpt.{SubOpt}
 use Rattle.gs_base.specs.declared.rpc.Message.{Message}
 use Rattle.gs_wire.specs.declared.frames.End.TheVariants as ends
 use Rattle.gs_wire.specs.Codec.{codec}
 use Rattle.gs_rules.specs.declared.trace.Event.{Event}
-use Rattle.gs_rules.specs.declared.trace.Event.TheVariants.{Heard, Sub, Msg, RoundEnd, Gone, Fault, Shut}
+use Rattle.gs_rules.specs.declared.trace.Event.TheVariants.{Sub, Msg, Have, Want, Publish, RoundEnd, Gone, Shut}
 use Rattle.gs_rules.specs.declared.trace.Entry.{Entry}
-use Rattle.gs_rules.specs.Tables.{Entries, up}
+use Rattle.gs_rules.specs.Peers.{Peer}
+use Rattle.gs_rules.specs.Tables.{answered, kept, unsigned, up}
 use Rattle.gs_rules.specs.Owed.{parts}
-use Rattle.gs_rules.specs.Rules.{bare}
-use Rattle.gs_rules.specs.Saying.{Byte, EndOf, Close, Said, bytes_of, out}
-use Rattle.gs_rules.specs.Hearing.{Inbound, after, bytes_before, closes, said_in, silence}
-use Rattle.gs_rules.specs.Rounds.{HearFault, HearGone, Todo, ending}
+use Rattle.gs_rules.specs.Rules.{Gives, answers, bare, each_once, have_rule, ids_in, room_to_ask}
+use Rattle.gs_rules.specs.Saying.{Byte, EndOf, Close, out}
+use Rattle.gs_rules.specs.Hearing.{Inbound, after, bytes_before, said_in, silence}
+use Rattle.gs_rules.specs.Rounds.{HearFault, HearGone, ending}
 
 -- ---- rounds of what is said
 
@@ -81,3 +88,108 @@ empty_message = record { origin = None; payload = None; seqno = None; topic = No
 
 subscriptions_come_first : parts q (record { subs = joins ∷ leaves ∷ []; publish = empty_message ∷ []; control = None }) ≡ Sub q joins ∷ Sub q leaves ∷ Msg q empty_message ∷ []
 subscriptions_come_first = refl
+
+abbrev offer : IHave
+offer = record { topic = None; ids = [] }
+
+abbrev request : IWant
+request = record { ids = [] }
+
+abbrev controls : Control
+controls = record { ihave = offer ∷ []; iwant = request ∷ []; graft = []; prune = [] }
+
+offers_and_requests_come_last : parts q (record { subs = joins ∷ []; publish = empty_message ∷ []; control = Some controls }) ≡ Sub q joins ∷ Msg q empty_message ∷ Have q offer ∷ Want q request ∷ []
+offers_and_requests_come_last = refl
+
+-- ---- offers
+
+-- a peer that counts one offer, asks for five identifiers and answers twice
+abbrev peer : Peer
+peer = record {
+  params = record {
+    degrees = default_degrees;
+    thresholds = default_thresholds;
+    factors = default_factors;
+    windows = record default_windows { max_ihave = 1; max_ihave_ids = 5; gossip_retransmission = 2 };
+    flood_publish = true;
+    topics = [];
+  };
+  neighbours = [];
+}
+
+-- an entry with one mark
+abbrev marked : Event → Mark → Entry
+marked event mark = record (entry event) { marks = mark ∷ [] }
+
+abbrev other : PeerNo
+other = record { 0 = 2 }
+
+the_first_of_each_is_asked_for : each_once ((1 ∷ []) ∷ (2 ∷ []) ∷ (1 ∷ []) ∷ (3 ∷ []) ∷ (2 ∷ []) ∷ []) ≡ (1 ∷ []) ∷ (2 ∷ []) ∷ (3 ∷ []) ∷ []
+the_first_of_each_is_asked_for = refl
+
+what_was_asked_leaves_less_room : room_to_ask peer (marked (Have q offer) (Asked q 3) ∷ []) q ≡ 2
+what_was_asked_leaves_less_room = refl
+
+each_request_counts : room_to_ask peer (marked (Have q offer) (Asked q 2) ∷ marked (Have q offer) (Asked q 3) ∷ []) q ≡ 0
+each_request_counts = refl
+
+another_has_its_own_room : room_to_ask peer (marked (Have q offer) (Asked q 3) ∷ []) other ≡ 5
+another_has_its_own_room = refl
+
+one_offer_too_many_counts_no_more : have_rule peer (marked (Have q offer) (HeardHave q) ∷ []) (record { 0 = 0 }) q offer ≡ Gives (entry (Have q offer))
+one_offer_too_many_counts_no_more = refl
+
+-- the peer is subscribed to nothing
+an_offer_on_a_foreign_topic_counts : have_rule peer [] (record { 0 = 0 }) q offer ≡ Gives (marked (Have q offer) (HeardHave q))
+an_offer_on_a_foreign_topic_counts = refl
+
+-- ---- requests
+
+-- an identifier of one byte, as tables take any
+abbrev id : ℕ → MsgId
+id n = record { 0 = n ∷ [] }
+
+abbrev topic : Topic
+topic = record { 0 = 116 ∷ [] }
+
+abbrev long_id : List ℕ
+long_id =
+    0 ∷ 1 ∷ 2 ∷ 3 ∷ 4 ∷ 5 ∷ 6 ∷ 7 ∷ 8 ∷ 9 ∷ 10 ∷ 11 ∷ 12 ∷ 13 ∷ 14 ∷ 15 ∷
+    16 ∷ 17 ∷ 18 ∷ 19 ∷ 20 ∷ 21 ∷ 22 ∷ 23 ∷ 24 ∷ 25 ∷ 26 ∷ 27 ∷ 28 ∷ 29 ∷ 30 ∷ 31 ∷ []
+
+an_identifier_has_32_bytes : ids_in ((7 ∷ []) ∷ long_id ∷ (32 ∷ long_id) ∷ []) ≡ record { 0 = long_id } ∷ []
+an_identifier_has_32_bytes = refl
+
+-- a message that came, and is kept
+abbrev keeping : Entry
+keeping = marked (Msg q empty_message) (Cached (id 1) topic)
+
+abbrev given : Event → Entry
+given event = marked event (Answered q (id 1))
+
+a_message_is_kept_with_its_topic : kept (entry (RoundEnd 0) ∷ keeping ∷ []) (id 1) ≡ Some (record { topic = topic; message = empty_message })
+a_message_is_kept_with_its_topic = refl
+
+the_last_one_is_kept : kept (marked (Publish topic (7 ∷ [])) (Cached (id 1) topic) ∷ keeping ∷ []) (id 1) ≡ Some (record { topic = topic; message = unsigned topic (7 ∷ []) })
+the_last_one_is_kept = refl
+
+a_third_request_gets_none : answers peer (keeping ∷ []) q [] (id 1 ∷ id 1 ∷ id 1 ∷ []) ≡ (id 1, empty_message) ∷ (id 1, empty_message) ∷ []
+a_third_request_gets_none = refl
+
+answers_of_before_count : answers peer (given (Want q request) ∷ keeping ∷ []) q [] (id 1 ∷ id 1 ∷ []) ≡ (id 1, empty_message) ∷ []
+answers_of_before_count = refl
+
+another_gets_its_own : answers peer (given (Want q request) ∷ given (Want q request) ∷ keeping ∷ []) other [] (id 1 ∷ []) ≡ (id 1, empty_message) ∷ []
+another_gets_its_own = refl
+
+what_is_not_kept_is_passed_over : answers peer (keeping ∷ []) q [] (id 2 ∷ id 1 ∷ []) ≡ (id 1, empty_message) ∷ []
+what_is_not_kept_is_passed_over = refl
+
+two_answers_are_counted : answered (given (Want q request) ∷ given (Want q request) ∷ keeping ∷ []) q (id 1) ≡ 2
+two_answers_are_counted = refl
+
+what_is_kept_anew_is_counted_anew : answered (keeping ∷ given (Want q request) ∷ given (Want q request) ∷ keeping ∷ []) q (id 1) ≡ 0
+what_is_kept_anew_is_counted_anew = refl
+
+and_on_from_there : answered (given (Want q request) ∷ keeping ∷ given (Want q request) ∷ keeping ∷ []) q (id 1) ≡ 1
+and_on_from_there = refl

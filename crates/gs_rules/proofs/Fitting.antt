@@ -1,5 +1,5 @@
 -- A legal trace sends only what fits a frame, and its frames spell what it sends.
-use Rattle.std.proofs.Common.{◌≡◌, ℕ, ◌+◌, ◌*◌, ◌≤◌, ◌<◌, ◌^◌, Bool, true, false, if◌then◌else◌, List, [], ◌∷◌, ◌++◌, length, take, drop, take-append-drop, reverse, Some, refl, sym, ap, subst, ◌∙◌, append-nil, length-append, arith}
+use Rattle.std.proofs.Common.{◌≡◌, ℕ, ◌+◌, ◌*◌, ◌≤◌, ◌<◌, ◌^◌, Bool, true, false, if◌then◌else◌, List, [], ◌∷◌, ◌++◌, length, map, take, drop, take-append-drop, reverse, Some, refl, sym, ap, subst, ◌∙◌, append-nil, length-append, arith}
 use Rattle.std.specs.List.{AllByRecursion}
 use Rattle.std.specs.Prelude.{is_some}
 use Rattle.std.proofs.lemmas.Bool.{le-leb}
@@ -10,28 +10,33 @@ use Rattle.std.proofs.lemmas.Slice.Eq.{bytes_eq-Decides}
 use Rattle.gs_base.specs.declared.names.PeerNo.{PeerNo}
 use Rattle.gs_base.specs.declared.names.Topic.{Topic}
 use Rattle.gs_base.specs.declared.names.Millis.{Millis}
+use Rattle.gs_base.specs.declared.names.MsgId.{MsgId}
+use Rattle.gs_base.specs.declared.control.IHave.{IHave}
 use Rattle.gs_base.specs.declared.rpc.Message.{Message}
 use Rattle.gs_base.specs.declared.rpc.Rpc.{Rpc}
 use Rattle.gs_rules.specs.declared.trace.Event.{Event}
-use Rattle.gs_rules.specs.declared.trace.Event.TheVariants.{Msg, Subscribe, Unsubscribe, Publish}
+use Rattle.gs_rules.specs.declared.trace.Event.TheVariants.{Msg, Have, Want, Subscribe, Unsubscribe, Publish}
 use Rattle.gs_rules.specs.declared.trace.Entry.{Entry}
 use Rattle.gs_base.specs.Names.{longest_topic, same_peer, same_topic, topic_of, payload_of, message_id, is_signed, announcement, publication}
 use Rattle.gs_wire.specs.Varint.{varint}
 use Rattle.gs_wire.specs.Records.{record_text, records_text}
 use Rattle.gs_wire.specs.Fields.{bool_number, varint_record, len_record}
-use Rattle.gs_wire.specs.Messages.{IsInMemory, sub_records, body}
+use Rattle.gs_wire.specs.Messages.{HasIdentifierLength, IsInMemory, body, most_identifiers, passed_on, requesting, sub_records}
 use Rattle.gs_wire.specs.Codec.{codec}
 use Rattle.gs_wire.proofs.RoundTrip.{all-append}
 use Rattle.gs_wire.proofs.Written.{varint_ten, records_text-single, len_text-length}
+use Rattle.gs_wire.proofs.SentOn.{request_fits}
 use Rattle.gs_rules.specs.Peers.{Peer, seen_ttl}
 use Rattle.gs_rules.specs.Tables.{Entries, joined, joined_after, seen}
 use Rattle.gs_rules.specs.Owed.{owed}
-use Rattle.gs_rules.specs.Rules.{to_each, up_neighbours, listeners, message_rule, rule_of}
+use Rattle.gs_rules.specs.Rules.{answers, asking, bare, counted, have_rule, ids_in, listeners, message_rule, rule_of, to_each, up_neighbours, want_rule, wanted}
 use Rattle.gs_rules.specs.Modes.{SaysTheSame, sent_to, Follows, free}
 use Rattle.gs_rules.specs.Legal.{MaySubscribe, MayUnsubscribe, MayPublish, IsNext, Legal}
 use Rattle.gs_rules.specs.Saying.{SendsFit, AllFit}
 use Rattle.gs_rules.proofs.Owed.{opens}
 use Rattle.gs_rules.proofs.Legality.{legal_newest}
+use Rattle.gs_rules.proofs.Offers.{wanted_few, wanted_long, what_is_offered}
+use Rattle.gs_rules.proofs.Kept.{AllAlone, FitsAlone, answers_fit}
 
 -- ---- an announcement
 
@@ -82,6 +87,14 @@ announcement_written subscribes t short =
 
 publication_written : (t : Topic) (payload : List ℕ) → codec.fits (publication t payload) ≡ true → IsWritten (publication t payload)
 publication_written t payload fits = (fits, record { body = short_body (publication t payload) fits; control = tt })
+
+passed_on_written : (m : Message) → FitsAlone m → IsWritten (passed_on m)
+passed_on_written m fits = (fits, record { body = short_body (passed_on m) fits; control = tt })
+
+request_written : (ids : List (List ℕ)) → length ids ≤ most_identifiers → AllByRecursion HasIdentifierLength ids → IsWritten (requesting ids)
+request_written ids few long =
+    let fits : codec.fits (requesting ids) ≡ true = le-leb (length (body (requesting ids))) 1048576 (request_fits ids few long) in
+    (fits, record { body = short_body (requesting ids) fits; control = tt })
 
 each_fits : (rpc : Rpc) (qs : List PeerNo) → IsWritten rpc → SendsWritten (to_each rpc qs)
 each_fits rpc [] fits = tt
@@ -146,10 +159,27 @@ message_fits p L at q m = by_tests (joined L (topic_of m)) (is_signed m) (is_som
     by_tests true false true j s k = rw (j, s, k) tt
     by_tests true false false j s k = rw (j, s, k) tt
 
+-- an offer sends one request, or nothing
+offer_fits : (p : Peer) (L : Entries) (q : PeerNo) (offer : IHave) (e : Entry) → Follows free (have_rule p L e.at q offer) tt e tt → SendsWritten e.sends
+offer_fits p L q offer e effects =
+    what_is_offered (λ (e : Entry). SendsWritten e.sends) p L e.at q offer e
+    (λ same. same_fits e (bare e.at (Have q offer)) same tt)
+    (λ same. same_fits e (counted e.at q offer) same tt)
+    (λ place same. same_fits e (asking p e.at q offer (wanted p L e.at.0 q offer.ids) place) same (request_written (wanted p L e.at.0 q offer.ids) (wanted_few p L e.at.0 q offer.ids) (wanted_long p L e.at.0 q offer.ids), tt))
+    effects
+
+-- a request is answered with messages by themselves
+answers_written : (q : PeerNo) (given : List (MsgId × Message)) → AllAlone given → SendsWritten (map (λ (x : MsgId × Message). (q, passed_on x.1)) given)
+answers_written q [] all = tt
+answers_written q (x ∷ given) all = (passed_on_written x.1 all.0, answers_written q given all.1)
+
 -- each event sends what fits, or nothing
 module _ (p : Peer) (L : Entries) (legal : Legal p L) where
   by_event : (event : Event) (e : Entry) → IsNext p L e.at.0 (owed p L).events event → Follows free (rule_of p L e.at event) tt e tt → SendsWritten e.sends
   by_event (Msg q m) e next effects = same_fits e _ effects.0 (message_fits p L e.at q m)
+  by_event (Have q offer) e next effects = offer_fits p L q offer e effects
+  by_event (Want q request) e next effects =
+      same_fits e (want_rule p L e.at q request) effects.0 (answers_written q (answers p L q [] (ids_in request.ids)) (answers_fit p L q [] (ids_in request.ids) legal))
   by_event (Subscribe t) e next effects =
       let may : MaySubscribe L t = opens p L e.at.0 (Subscribe t) (λ h. h) next in
       same_fits e _ effects.0 (each_fits (announcement true t) (up_neighbours p L) (announcement_written true t may.short))

@@ -1,7 +1,9 @@
 pub mod Owed
 pub mod Legality
+pub mod Offers
 pub mod Deliveries
 pub mod Handled
+pub mod Kept
 pub mod Fitting
 pub mod Spelled
 pub mod Examples

@@ -2,15 +2,12 @@
 use Rattle.std.proofs.Common.{◌≡◌, ◌≢◌, ℕ, List, [], ◌∷◌, ◌++◌, map, drop, refl, sym, ap, subst}
 use Rattle.std.specs.List.{AllByRecursion}
 use Rattle.gs_base.specs.declared.names.PeerNo.{PeerNo}
-use Rattle.gs_base.specs.declared.control.IWant.{IWant}
 use Rattle.gs_base.specs.declared.rpc.Rpc.{Rpc}
-use Rattle.gs_base.specs.declared.names.Millis.{Millis}
 use Rattle.gs_rules.specs.declared.trace.Event.{Event}
 use Rattle.gs_rules.specs.declared.trace.Event.TheVariants.{Heard, Sub, Msg, Have, Want}
-use Rattle.gs_rules.specs.declared.trace.Entry.{Entry}
 use Rattle.gs_rules.specs.Peers.{Peer}
 use Rattle.gs_rules.specs.Tables.{Entries}
-use Rattle.gs_rules.specs.Owed.{Group, PartsOf, Debt, events_in, held_or, nothing, offers_in, owes, owing, owed, paid, parts, reached, requests_in}
+use Rattle.gs_rules.specs.Owed.{Group, PartsOf, Debt, held_or, nothing, offers_in, owes, owing, owed, paid, parts, reached, requests_in}
 use Rattle.gs_rules.specs.Legal.{IsNext, MayOpen}
 
 -- a part of an RPC
@@ -21,51 +18,57 @@ IsPart (Have q offer) = Unit {0}
 IsPart (Want q request) = Unit {0}
 IsPart other = ⊥
 
--- such parts, and no group behind them
-abbrev pub OwesParts : Debt → Type 0
-OwesParts debt = AllByRecursion IsPart debt.events × (debt.groups ≡ [])
+-- ---- what holds of all that is owed
 
--- parts of one kind, and those behind them
-kind_of_parts : {X : Type 0} (part : X → Event) (xs : List X) (rest : List Event) → ((x : X) → IsPart (part x)) → AllByRecursion IsPart rest → AllByRecursion IsPart (map part xs ++ rest)
-kind_of_parts part [] rest each h = h
-kind_of_parts part (x ∷ xs) rest each h = (each x, kind_of_parts part xs rest each h)
+module _ (P : Event → Type 0) where
+  -- it holds of each event of the group that was reached, and no group is behind that
+  abbrev pub OwesSuch : Debt → Type 0
+  OwesSuch debt = AllByRecursion P debt.events × (debt.groups ≡ [])
 
-requests_are_parts : (q : PeerNo) (requests : List IWant) → AllByRecursion IsPart (map (Want q) requests)
-requests_are_parts q [] = tt
-requests_are_parts q (request ∷ requests) = (tt, requests_are_parts q requests)
+  -- parts of one kind, and those behind them
+  pub kind_of_parts : {X : Type 0} (part : X → Event) (xs : List X) (rest : List Event) → ((x : X) → P (part x)) → AllByRecursion P rest → AllByRecursion P (map part xs ++ rest)
+  kind_of_parts part [] rest each h = h
+  kind_of_parts part (x ∷ xs) rest each h = (each x, kind_of_parts part xs rest each h)
+
+  pub last_parts : {X : Type 0} (part : X → Event) (xs : List X) → ((x : X) → P (part x)) → AllByRecursion P (map part xs)
+  last_parts part [] each = tt
+  last_parts part (x ∷ xs) each = (each x, last_parts part xs each)
+
+  rest_are_such : (events : List Event) → AllByRecursion P events → AllByRecursion P (drop 1 events)
+  rest_are_such [] h = tt
+  rest_are_such (first ∷ rest) h = h.1
+
+  held_are_such : (events : List Event) (groups : List Group) (otherwise : Debt) → AllByRecursion P events → groups ≡ [] → OwesSuch otherwise → OwesSuch (held_or events groups otherwise)
+  held_are_such [] groups otherwise all none rest = rest
+  held_are_such (event ∷ events) groups otherwise all none rest = (all, none)
+
+  pub nothing_is_such : OwesSuch nothing
+  nothing_is_such = (tt, refl)
+
+  reached_are_such : (p : Peer) (L : Entries) (groups : List Group) → groups ≡ [] → OwesSuch (reached p L groups)
+  reached_are_such p L groups none = subst (λ (gs : List Group). OwesSuch (reached p L gs)) (sym none) nothing_is_such
+
+  paid_are_such : (p : Peer) (L : Entries) (debt : Debt) → OwesSuch debt → OwesSuch (paid p L debt)
+  paid_are_such p L debt h =
+      held_are_such (drop 1 debt.events) debt.groups (reached p L debt.groups) (rest_are_such debt.events h.0) h.1 (reached_are_such p L debt.groups h.1)
+
+  -- what was owed before was such, and so are the parts of an RPC that is heard
+  pub owing_are_such : (p : Peer) (L M : Entries) (event : Event) (before : Debt) → ((q : PeerNo) (rpc : Rpc) → event ≡ Heard q rpc → AllByRecursion P (parts q rpc)) → OwesSuch before → OwesSuch (owing p M (owes p L event) before)
+  owing_are_such p L M (Heard q rpc) before heard h = held_are_such (parts q rpc) [] nothing (heard q rpc refl) refl nothing_is_such
+  owing_are_such p L M other before heard h = paid_are_such p M before h
+
+-- ---- parts alone
 
 parts_are_parts : (q : PeerNo) (rpc : Rpc) → AllByRecursion IsPart (parts q rpc)
 parts_are_parts q rpc =
-    kind_of_parts (Sub q) rpc.subs _ (λ sub. tt)
-    (kind_of_parts (Msg q) rpc.publish _ (λ m. tt)
-    (kind_of_parts (Have q) (offers_in rpc.control) _ (λ offer. tt) (requests_are_parts q (requests_in rpc.control))))
-
-rest_are_parts : (events : List Event) → AllByRecursion IsPart events → AllByRecursion IsPart (drop 1 events)
-rest_are_parts [] h = tt
-rest_are_parts (first ∷ rest) h = h.1
-
-held_are_parts : (events : List Event) (groups : List Group) (otherwise : Debt) → AllByRecursion IsPart events → groups ≡ [] → OwesParts otherwise → OwesParts (held_or events groups otherwise)
-held_are_parts [] groups otherwise all none rest = rest
-held_are_parts (event ∷ events) groups otherwise all none rest = (all, none)
-
-nothing_is_parts : OwesParts nothing
-nothing_is_parts = (tt, refl)
-
-reached_are_parts : (p : Peer) (L : Entries) (groups : List Group) → groups ≡ [] → OwesParts (reached p L groups)
-reached_are_parts p L groups none = subst (λ (gs : List Group). OwesParts (reached p L gs)) (sym none) nothing_is_parts
-
-paid_are_parts : (p : Peer) (L : Entries) (debt : Debt) → OwesParts debt → OwesParts (paid p L debt)
-paid_are_parts p L debt h =
-    held_are_parts (drop 1 debt.events) debt.groups (reached p L debt.groups) (rest_are_parts debt.events h.0) h.1 (reached_are_parts p L debt.groups h.1)
-
-owing_are_parts : (p : Peer) (L M : Entries) (event : Event) (before : Debt) → OwesParts before → OwesParts (owing p M (owes p L event) before)
-owing_are_parts p L M (Heard q rpc) before h = held_are_parts (parts q rpc) [] nothing (parts_are_parts q rpc) refl nothing_is_parts
-owing_are_parts p L M other before h = paid_are_parts p M before h
+    kind_of_parts IsPart (Sub q) rpc.subs _ (λ sub. tt)
+    (kind_of_parts IsPart (Msg q) rpc.publish _ (λ m. tt)
+    (kind_of_parts IsPart (Have q) (offers_in rpc.control) _ (λ offer. tt) (last_parts IsPart (Want q) (requests_in rpc.control) (λ request. tt))))
 
 -- parts of RPCs alone are ever owed
-pub owed_are_parts : (p : Peer) (L : Entries) → OwesParts (owed p L)
-owed_are_parts p [] = nothing_is_parts
-owed_are_parts p (e ∷ L) = owing_are_parts p L (e ∷ L) e.event (owed p L) (owed_are_parts p L)
+pub owed_are_parts : (p : Peer) (L : Entries) → OwesSuch IsPart (owed p L)
+owed_are_parts p [] = nothing_is_such IsPart
+owed_are_parts p (e ∷ L) = owing_are_such IsPart p L (e ∷ L) e.event (owed p L) (λ q rpc is. parts_are_parts q rpc) (owed_are_parts p L)
 
 opens_by : (p : Peer) (L : Entries) (at : ℕ) (owing : List Event) (event : Event) → AllByRecursion IsPart owing → ¬ (IsPart event) → IsNext p L at owing event → MayOpen p L at event
 opens_by p L at [] event parts own next = next

@@ -1,0 +1,120 @@
+-- Each message that a legal trace keeps fits a frame by itself, as it is sent to who asks for it.
+use Rattle.std.proofs.Common.{◌≡◌, refl, ℕ, zero, suc, ◌≤◌, arith, Bool, true, false, List, [], ◌∷◌, ◌++◌, length, map, ap, subst, sym, if◌then◌else◌, Option, Some, None}
+use Rattle.std.specs.List.{AllByRecursion, IsAmong}
+use Rattle.std.specs.Prelude.{option_map}
+use Rattle.std.proofs.lemmas.Bool.{le-leb}
+use Rattle.std.proofs.lemmas.Bool.Decides.{nat_tests}
+use Rattle.gs_base.specs.declared.names.PeerNo.{PeerNo}
+use Rattle.gs_base.specs.declared.names.MsgId.{MsgId}
+use Rattle.gs_base.specs.declared.mark.Mark.{Mark}
+use Rattle.gs_base.specs.declared.mark.Mark.TheVariants.{Cached}
+use Rattle.gs_base.specs.declared.rpc.Message.{Message}
+use Rattle.gs_base.specs.declared.rpc.Rpc.{Rpc}
+use Rattle.gs_base.specs.Names.{same_id}
+use Rattle.gs_wire.specs.Codec.{codec}
+use Rattle.gs_wire.specs.Messages.{body, longest_body, passed_on}
+use Rattle.gs_wire.specs.Fields.{len_record}
+use Rattle.gs_wire.proofs.RoundTrip.{all-append}
+use Rattle.gs_wire.proofs.SentOn.{passed_on_shorter}
+use Rattle.gs_wire.proofs.Written.{len_text-length, records_text-single, varint_ten}
+use Rattle.gs_rules.specs.declared.trace.Event.{Event}
+use Rattle.gs_rules.specs.declared.trace.Event.TheVariants.{Heard, Sub, Msg, Have, Want, Publish}
+use Rattle.gs_rules.specs.Peers.{Peer}
+use Rattle.gs_rules.specs.Tables.{Entries, Keeping, after_marks, blank, kept, kept_after, message_in}
+use Rattle.gs_rules.specs.Owed.{offers_in, owed, parts, requests_in}
+use Rattle.gs_rules.specs.Rules.{answer, answers, times_in, with_message}
+use Rattle.gs_rules.specs.Legal.{IsNext, Legal}
+use Rattle.gs_rules.proofs.Legality.{legal_newest}
+use Rattle.gs_rules.proofs.Owed.{OwesSuch, kind_of_parts, last_parts, nothing_is_such, opens, owing_are_such}
+
+-- by itself it fits a frame
+abbrev pub FitsAlone : Message → Type 0
+FitsAlone m = codec.fits (passed_on m) ≡ true
+
+-- ---- messages that are owed
+
+-- where the event brings a message, this fits
+abbrev BringsFitting : Event → Type 0
+BringsFitting (Msg q m) = FitsAlone m
+BringsFitting other = Unit {0}
+
+-- a message of an RPC that fits does so too
+alone_fits : (rpc : Rpc) (m : Message) → codec.fits rpc ≡ true → IsAmong rpc.publish m → FitsAlone m
+alone_fits rpc m fits among =
+    let whole : length (body rpc) ≤ longest_body = grind (arith, nat_tests) in
+    le-leb (length (body (passed_on m))) longest_body (omega (arith, whole, passed_on_shorter rpc m among))
+
+messages_fit : (q : PeerNo) (ms : List Message) (rest : List Event) → ((m : Message) → IsAmong ms m → FitsAlone m) → AllByRecursion BringsFitting rest → AllByRecursion BringsFitting (map (Msg q) ms ++ rest)
+messages_fit q [] rest each h = h
+messages_fit q (m ∷ ms) rest each h =
+    (each m (zero, (omega arith, refl)), messages_fit q ms rest (λ n among. each n (suc among.0, (omega (arith, among.1.0), among.1.1))) h)
+
+parts_fit : (q : PeerNo) (rpc : Rpc) → codec.fits rpc ≡ true → AllByRecursion BringsFitting (parts q rpc)
+parts_fit q rpc fits =
+    kind_of_parts BringsFitting (Sub q) rpc.subs _ (λ sub. tt)
+    (messages_fit q rpc.publish _ (λ m among. alone_fits rpc m fits among)
+    (kind_of_parts BringsFitting (Have q) (offers_in rpc.control) _ (λ offer. tt) (last_parts BringsFitting (Want q) (requests_in rpc.control) (λ request. tt))))
+
+owed_fit : (p : Peer) (L : Entries) → Legal p L → OwesSuch BringsFitting (owed p L)
+owed_fit p [] legal = nothing_is_such BringsFitting
+owed_fit p (e ∷ L) legal = owing_are_such BringsFitting p L (e ∷ L) e.event (owed p L) heard (owed_fit p L legal.1)
+  where
+    heard : (q : PeerNo) (rpc : Rpc) → e.event ≡ Heard q rpc → AllByRecursion BringsFitting (parts q rpc)
+    heard q rpc is = parts_fit q rpc (opens p L e.at.0 (Heard q rpc) (λ h. h) (subst (IsNext p L e.at.0 (owed p L).events) is (legal_newest p e L legal).next)).fits
+
+-- ---- the message of an event
+
+owed_message_fits : (p : Peer) (L : Entries) (at : ℕ) (events : List Event) (q : PeerNo) (m : Message) → AllByRecursion BringsFitting events → IsNext p L at events (Msg q m) → FitsAlone m
+owed_message_fits p L at [] q m h next = absurd next
+owed_message_fits p L at (first ∷ rest) q m h next = subst BringsFitting (sym next) h.0
+
+-- a message without any field takes few bytes
+blank_fits : FitsAlone blank
+blank_fits = le-leb (length (body (passed_on blank))) longest_body (omega (arith, ap length (records_text-single (len_record 2 [])), len_text-length 2 [] (omega arith), varint_ten 0))
+
+-- what comes next brings a message that fits, or one without any field
+next_fits : (p : Peer) (L : Entries) (at : ℕ) (event : Event) → Legal p L → IsNext p L at (owed p L).events event → FitsAlone (message_in event)
+next_fits p L at (Msg q m) legal next = owed_message_fits p L at (owed p L).events q m (owed_fit p L legal).0 next
+next_fits p L at (Publish t payload) legal next = (opens p L at (Publish t payload) (λ h. h) next).fits
+next_fits p L at other legal next = blank_fits
+
+-- ---- messages that are kept
+
+abbrev KeepsFitting : Option Keeping → Type 0
+KeepsFitting None = Unit {0}
+KeepsFitting (Some k) = FitsAlone k.message
+
+mark_keeps : (id : MsgId) (event : Event) (mark : Mark) (before : Option Keeping) → FitsAlone (message_in event) → KeepsFitting before → KeepsFitting (kept_after id event mark before)
+mark_keeps id event (Cached other t) before fits h = by (same_id other id)
+  where
+    by : (same : Bool) → KeepsFitting (if same then Some (record { topic = t; message = message_in event }) else before)
+    by true = fits
+    by false = h
+mark_keeps id event other before fits h = h
+
+marks_keep : (id : MsgId) (event : Event) (marks : List Mark) (before : Option Keeping) → FitsAlone (message_in event) → KeepsFitting before → KeepsFitting (after_marks (kept_after id event) marks before)
+marks_keep id event [] before fits h = h
+marks_keep id event (mark ∷ marks) before fits h = marks_keep id event marks (kept_after id event mark before) fits (mark_keeps id event mark before fits h)
+
+kept_fits : (p : Peer) (L : Entries) (id : MsgId) → Legal p L → KeepsFitting (kept L id)
+kept_fits p [] id legal = tt
+kept_fits p (e ∷ L) id legal =
+    marks_keep id e.event e.marks (kept L id) (next_fits p L e.at.0 e.event legal.1 (legal_newest p e L legal).next) (kept_fits p L id legal.1)
+
+-- ---- messages that are sent to who asks
+
+-- an identifier with its message, which fits
+abbrev pub AllAlone : List (MsgId × Message) → Type 0
+AllAlone given = AllByRecursion (λ (x : MsgId × Message). FitsAlone x.1) given
+
+one_answer : (id : MsgId) (may : Bool) (k : Option Keeping) → KeepsFitting k → AllAlone (with_message id (if may then option_map (λ (k : Keeping). k.message) k else None))
+one_answer id true None h = tt
+one_answer id true (Some k) h = (h, tt)
+one_answer id false k h = tt
+
+pub answers_fit : (p : Peer) (L : Entries) (q : PeerNo) (ahead ids : List MsgId) → Legal p L → AllAlone (answers p L q ahead ids)
+answers_fit p L q ahead [] legal = tt
+answers_fit p L q ahead (id ∷ ids) legal =
+    all-append (λ (x : MsgId × Message). FitsAlone x.1) (with_message id (answer p L q id (times_in id ahead))) (answers p L q (ahead ++ id ∷ []) ids)
+    (one_answer id _ (kept L id) (kept_fits p L id legal))
+    (answers_fit p L q (ahead ++ id ∷ []) ids legal)
