@@ -3,7 +3,7 @@ mod announcing;
 mod tally;
 mod window;
 
-ghost use Rattle.std.specs.Prelude.{◌≡◌, ◌<◌, if◌then◌else◌, filter, is_some, [], None, OnOk, OnErr, IfOk};
+ghost use Rattle.std.specs.Prelude.{◌≡◌, ◌<◌, if◌then◌else◌, filter, is_some, unwrap_or, [], None, OnOk, OnErr, IfOk};
 ghost use Rattle.gs_base.specs.declared.names.MsgId.{MsgId as MsgIdValue};
 ghost use Rattle.gs_base.specs.declared.names.PeerNo.{PeerNo as PeerNoValue};
 ghost use Rattle.gs_cache.specs.Messages.{IsAnswer, IsSetUpAlike, aged, all_left, announced, cached, left, one_less, put_anew, put_last};
@@ -128,6 +128,16 @@ impl MessageCache {
                 Answer::Given(&kept.message)
             }
             None => Answer::Absent,
+        }
+    }
+
+    /// How many answers are left to a neighbour: none where the message is not held.
+    pub fn left_for(&self, id: &MsgId, peer: PeerNo) -> u64
+        ensures { result ≡ unwrap_or (left self.now id.now peer) 0 }
+    {
+        match find(self.windows.as_slice(), id) {
+            Some(kept) => kept.left.left_to(peer, self.answers),
+            None => 0,
         }
     }
 

@@ -134,7 +134,8 @@ fn router_of(
     ensures { IfOk result (λ router. router ≡ new_router plan.now number) }
 {
     let params = clone_of(&plan.params)?;
-    Ok(Router::new(alloc, params, neighbours))
+    let router = Router::new(alloc, params, neighbours)?;
+    Ok(router)
 }
 
 /// The words by which a peer chooses, as they are at first.

@@ -1,21 +1,22 @@
 -- One more entry of a router's trace.
 use Rattle.std.proofs.Common.{◌≡◌, ◌≢◌, ◌≤◌, arith, ℕ, Bool, true, false, if◌then◌else◌, List, [], ◌∷◌, ◌++◌, Result, Ok, Err, refl, sym, ap, ap₂, subst, subst₂, ◌∙◌, inl, inr}
-use Rattle.std.specs.Prelude.{not, is_some, OnOk, OnErr, IsErr}
+use Rattle.std.specs.Prelude.{not, nat_le, is_some, OnOk, OnErr, IsErr}
 use Rattle.gs_base.specs.declared.names.PeerNo.{PeerNo}
 use Rattle.gs_base.specs.declared.names.Millis.{Millis}
 use Rattle.gs_base.specs.declared.rpc.Message.{Message}
+use Rattle.gs_base.specs.declared.control.IHave.{IHave}
 use Rattle.gs_base.specs.declared.rpc.Rpc.{Rpc}
 use Rattle.gs_base.specs.declared.verdict.Verdict.TheVariants.{Accept}
 use Rattle.gs_base.specs.declared.mark.Mark.TheVariants as marks
 use Rattle.gs_rules.specs.declared.trace.Event.{Event}
-use Rattle.gs_rules.specs.declared.trace.Event.TheVariants.{Heard, Msg, Publish}
+use Rattle.gs_rules.specs.declared.trace.Event.TheVariants.{Heard, Msg, Have, Publish}
 use Rattle.gs_rules.specs.declared.trace.Entry.{Entry}
-use Rattle.gs_base.specs.Names.{topic_of, payload_of, message_id, is_signed}
+use Rattle.gs_base.specs.Names.{topic_or_empty, topic_of, payload_of, message_id, is_signed}
 use Rattle.gs_rules.specs.Peers.{Peer, seen_ttl}
-use Rattle.gs_rules.specs.Tables.{Entries, last_moment, joined, seen}
+use Rattle.gs_rules.specs.Tables.{Entries, last_moment, joined, offers, seen}
 use Rattle.gs_rules.specs.Owed.{Debt, nothing, owed, owes, owing, paid, parts}
 use Rattle.gs_params.specs.Picks.{IsAscending}
-use Rattle.gs_rules.specs.Rules.{Rule, Gives, AnyOf, CutOf, OneOf, bare, message_rule, rule_of}
+use Rattle.gs_rules.specs.Rules.{Rule, Gives, AnyOf, CutOf, OneOf, asked_for, bare, counted, have_rule, message_rule, rule_of, wanted}
 use Rattle.gs_rules.specs.Modes.{Mode, Follows, free}
 use Rattle.gs_rules.specs.Legal.{Legal, LegalOn, IsAllowed, IsNext, MayOpen, Begins}
 use Rattle.gs_base.specs.Names.{peers_of}
@@ -23,7 +24,7 @@ use Rattle.gs_rules.proofs.Owed.{heard_owes, owes_none, paid_last}
 use Rattle.gs_rules.proofs.Legality.{Weakens, follows_weakly, legal_on, legal_one, legal_then, legal_weakly}
 use Rattle.gs_router.specs.declared.setup.Setup.{Setup}
 use Rattle.gs_router.specs.declared.state.State.{State}
-use Rattle.gs_router.specs.Tables.{Agrees}
+use Rattle.gs_router.specs.Tables.{Agrees, AreMadeFor}
 use Rattle.gs_router.specs.State.{Appends, Ends, IsCurrent, IsReady, Knows, Steps, peer_with}
 
 -- ---- rules
@@ -43,7 +44,7 @@ message_tells : (p : Peer) (L : Entries) (at : Millis) (q : PeerNo) (m : Message
 message_tells p L at q m =
     let same : Tells at (Msg q m) (bare at (Msg q m)) = record { moment = refl; tells = refl } in
     one_of (Tells at (Msg q m)) (not (joined L (topic_of m))) (is_signed m) (is_some (seen (seen_ttl p) L (message_id (payload_of m)) at.0))
-    (bare at (Msg q m)) (record (bare at (Msg q m)) { marks = marks.Invalid q (topic_of m) ∷ [] }) (bare at (Msg q m)) (record (bare at (Msg q m)) { delivered = (topic_of m, payload_of m) ∷ []; marks = marks.Seen (message_id (payload_of m)) Accept ∷ [] })
+    (bare at (Msg q m)) (record (bare at (Msg q m)) { marks = marks.Invalid q (topic_of m) ∷ [] }) (bare at (Msg q m)) (record (bare at (Msg q m)) { delivered = (topic_of m, payload_of m) ∷ []; marks = marks.Seen (message_id (payload_of m)) Accept ∷ marks.Cached (message_id (payload_of m)) (topic_of m) ∷ [] })
     same (record { moment = refl; tells = refl }) same (record { moment = refl; tells = refl })
 
 -- and so does each that it may give
@@ -53,8 +54,21 @@ TellsOnly at event (AnyOf k candidates rule) = (chosen : List PeerNo) → TellsO
 TellsOnly at event (CutOf degrees members rule) = (kept : List PeerNo) → TellsOnly at event (rule kept)
 TellsOnly at event (OneOf n rule) = (place : ℕ) → TellsOnly at event (rule place)
 
+asked_tells : (p : Peer) (at : Millis) (q : PeerNo) (offer : IHave) (ids : List (List ℕ)) → TellsOnly at (Have q offer) (asked_for p at q offer ids)
+asked_tells p at q offer [] = record { moment = refl; tells = refl }
+asked_tells p at q offer (id ∷ ids) = λ place. record { moment = refl; tells = refl }
+
+have_tells : (p : Peer) (L : Entries) (at : Millis) (q : PeerNo) (offer : IHave) → TellsOnly at (Have q offer) (have_rule p L at q offer)
+have_tells p L at q offer = by (nat_le p.params.windows.max_ihave (offers L q)) (not (joined L (topic_or_empty offer.topic)))
+  where
+    by : (spent apart : Bool) → TellsOnly at (Have q offer) (if spent then Gives (bare at (Have q offer)) else if apart then Gives (counted at q offer) else asked_for p at q offer (wanted p L at.0 q offer.ids))
+    by true apart = record { moment = refl; tells = refl }
+    by false true = record { moment = refl; tells = refl }
+    by false false = asked_tells p at q offer (wanted p L at.0 q offer.ids)
+
 rule_tells : (p : Peer) (L : Entries) (at : Millis) (event : Event) → TellsOnly at event (rule_of p L at event)
 rule_tells p L at (Msg q m) = message_tells p L at q m
+rule_tells p L at (Have q offer) = have_tells p L at q offer
 rule_tells p L at other = record { moment = refl; tells = refl }
 
 follows_tells : (at : Millis) (event : Event) (r : Rule) (x : Entry) → TellsOnly at event r → Follows free r tt x tt → Tells at event x
@@ -67,7 +81,7 @@ follows_tells at event (OneOf n rule) x tells follows = follows_tells at event (
 
 -- it knows its own trace
 pub knows : (s : State) (now : ℕ) → IsCurrent s → last_moment s.trace ≤ now → Knows s now s.trace
-knows s now current time = record { agrees = current.agrees; forgets = current.forgets; time = time }
+knows s now current time = record { agrees = current.agrees; made = current.made; time = time }
 
 -- ---- steps
 
@@ -94,8 +108,8 @@ module _ (m : Mode) (weakens : Weakens m free (λ u. tt)) where
 
   module _ {A E : Type 0} where
     -- an entry that may follow was appended, or memory was wanting
-    pub followed : (event : Event) (now : Millis) (a b : State) (s t : m.State) (e : Entry) (done : Result A E) → IsCurrent a → last_moment a.trace ≤ now.0 → IsNext (peer_with a.setup) a.trace now.0 (owed (peer_with a.setup) a.trace).events event → Follows m (rule_of (peer_with a.setup) a.trace now event) s e t → OnOk done (b.trace ≡ e ∷ a.trace) → OnOk done ((L : Entries) → Agrees a.tables L → Agrees b.tables (e ∷ L)) → OnOk done (b.tables.sightings.cache.ttl ≡ a.tables.sightings.cache.ttl) → OnErr done (b.trace ≡ a.trace) → b.setup ≡ a.setup → Steps m event now a s done b t
-    followed event now a b s t e (Ok x) current time next follows added agrees forgets kept setup =
+    pub followed : (event : Event) (now : Millis) (a b : State) (s t : m.State) (e : Entry) (done : Result A E) → IsCurrent a → last_moment a.trace ≤ now.0 → IsNext (peer_with a.setup) a.trace now.0 (owed (peer_with a.setup) a.trace).events event → Follows m (rule_of (peer_with a.setup) a.trace now event) s e t → OnOk done (b.trace ≡ e ∷ a.trace) → OnOk done ((L : Entries) → Agrees a.tables L → Agrees b.tables (e ∷ L)) → OnOk done ((p : Peer) → AreMadeFor a.tables p → AreMadeFor b.tables p) → OnErr done (b.trace ≡ a.trace) → b.setup ≡ a.setup → Steps m event now a s done b t
+    followed event now a b s t e (Ok x) current time next follows added agrees made kept setup =
         let p = peer_with a.setup in
         let tells = follows_tells now event (rule_of p a.trace now event) e (rule_tells p a.trace now event) (follows_weakly m free (λ u. tt) weakens (rule_of p a.trace now event) s e t follows) in
         let one = legal_one m p s t a.trace e (allowed p a.trace now event s t e tells time next follows) in
@@ -104,13 +118,13 @@ module _ (m : Mode) (weakens : Weakens m free (λ u. tt)) where
           current = record {
             legal = subst (λ (g : Setup). Legal (peer_with g) b.trace) (sym setup) (appended_legal p a.trace b.trace s t current.legal (record { entries = e ∷ []; are = added; legal = one }));
             agrees = subst (λ (L : Entries). Agrees b.tables L) (sym added) (agrees a.trace current.agrees);
-            forgets = forgets ∙ current.forgets ∙ ap (λ (g : Setup). seen_ttl (peer_with g)) (sym setup);
+            made = subst (λ (g : Setup). AreMadeFor b.tables (peer_with g)) (sym setup) (made (peer_with a.setup) current.made);
             ascending = subst (λ (g : Setup). IsAscending (peers_of g.neighbours.items)) (sym setup) current.ascending;
           };
           kept = tt;
           setup = setup;
         }
-    followed event now a b s t e (Err x) current time next follows added agrees forgets kept setup = record { added = tt; current = tt; kept = kept; setup = setup }
+    followed event now a b s t e (Err x) current time next follows added agrees made kept setup = record { added = tt; current = tt; kept = kept; setup = setup }
 
     -- memory was wanting before anything came
     pub breaks_off : (event : Event) (now : Millis) (a b : State) (s t : m.State) (e : E) → IsCurrent a → b.trace ≡ a.trace → b.setup ≡ a.setup → Ends {A = A} {E = E} m event now a s (Err e) b t

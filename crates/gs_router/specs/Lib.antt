@@ -2,3 +2,5 @@ pub mod PeerSets
 pub mod Tables
 pub mod State
 pub mod Router
+pub mod Offers
+pub mod Requests

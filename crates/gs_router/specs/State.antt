@@ -10,7 +10,7 @@ use Rattle.gs_base.specs.declared.mark.Mark.TheVariants as marks
 use Rattle.gs_rules.specs.declared.trace.Event.{Event}
 use Rattle.gs_rules.specs.declared.trace.Event.TheVariants.{Msg}
 use Rattle.gs_rules.specs.declared.trace.Entry.{Entry}
-use Rattle.gs_rules.specs.Peers.{Peer, seen_ttl}
+use Rattle.gs_rules.specs.Peers.{Peer}
 use Rattle.gs_rules.specs.Tables.{Entries, last_moment}
 use Rattle.gs_rules.specs.Owed.{owed, nothing}
 use Rattle.gs_rules.specs.Rules.{bare}
@@ -20,27 +20,23 @@ use Rattle.gs_router.specs.declared.setup.Setup.{Setup}
 use Rattle.gs_router.specs.declared.state.State.{State}
 use Rattle.gs_router.specs.declared.rules.messages.Fate.{Fate}
 use Rattle.gs_router.specs.declared.rules.messages.Fate.TheVariants.{Dropped, Invalid, Accepted}
-use Rattle.gs_router.specs.Tables.{Agrees}
+use Rattle.gs_router.specs.Tables.{Agrees, AreMadeFor}
 
 -- the peer that a router is, as its trace is read
 abbrev pub peer_with : Setup → Peer
 peer_with setup = record { params = setup.params; neighbours = setup.neighbours.items }
 
--- messages count as seen for the time that is given of the router
-abbrev pub ForgetsInTime : State → Type 0
-ForgetsInTime s = s.tables.sightings.cache.ttl ≡ seen_ttl (peer_with s.setup)
-
 -- the tables say what this trace says at a moment that is no earlier than its last
 pub record Knows (s : State) (now : ℕ) (L : Entries) : Type 0 where
   pub agrees : Agrees s.tables L
-  pub forgets : ForgetsInTime s
+  pub made : AreMadeFor s.tables (peer_with s.setup)
   pub time : last_moment L ≤ now
 
 -- the trace is legal, the tables say what it says, and the neighbours are ascending
 pub record IsCurrent (s : State) : Type 0 where
   pub legal : Legal (peer_with s.setup) s.trace
   pub agrees : Agrees s.tables s.trace
-  pub forgets : ForgetsInTime s
+  pub made : AreMadeFor s.tables (peer_with s.setup)
   pub ascending : IsAscending (peers_of s.setup.neighbours.items)
 
 -- and nothing is owed
@@ -96,5 +92,5 @@ judged q at m Dropped = bare at (Msg q m)
 judged q at m Invalid = record (bare at (Msg q m)) { marks = marks.Invalid q (topic_of m) ∷ [] }
 judged q at m (Accepted id) = record (bare at (Msg q m)) {
   delivered = (topic_of m, payload_of m) ∷ [];
-  marks = marks.Seen id Accept ∷ [];
+  marks = marks.Seen id Accept ∷ marks.Cached id (topic_of m) ∷ [];
 }

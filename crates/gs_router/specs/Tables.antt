@@ -1,5 +1,5 @@
 -- A router's tables say what its trace says.
-use Rattle.std.specs.Prelude.{◌≡◌, ◌≤◌, ℕ, Bool, false, not, ◌||◌, if◌then◌else◌, length, Option, Some, None, is_some, unwrap_or}
+use Rattle.std.specs.Prelude.{◌≡◌, ◌≤◌, ◌-◌, ℕ, min, Bool, false, not, ◌||◌, if◌then◌else◌, length, Option, Some, None, is_some, option_map, unwrap_or}
 use Rattle.std.specs.declared.cmp.Ordering.{Ordering}
 use Rattle.std.specs.Ordering.{is_eq, nat_cmp}
 use Rattle.std.specs.Cmp.Lexicographic.{slice_cmp}
@@ -8,16 +8,22 @@ use Rattle.std.specs.Map.{lookup}
 use Rattle.gs_base.specs.declared.names.PeerNo.{PeerNo}
 use Rattle.gs_base.specs.declared.names.Topic.{Topic}
 use Rattle.gs_base.specs.declared.names.MsgId.{MsgId}
-use Rattle.gs_base.specs.Names.{same_topic, same_id}
+use Rattle.gs_base.specs.Names.{same_peer, same_topic, same_id}
 use Rattle.gs_base.specs.declared.verdict.Verdict.{Verdict}
 use Rattle.gs_base.specs.declared.mark.Mark.{Mark}
-use Rattle.gs_base.specs.declared.mark.Mark.TheVariants.{Seen}
+use Rattle.gs_base.specs.declared.mark.Mark.TheVariants as marks
+use Rattle.gs_wire.specs.Messages.{most_identifiers}
 use Rattle.gs_cache.specs.Sightings.{verdict_in, what_counts}
-use Rattle.gs_rules.specs.Tables.{Entries, counting, is_shut, last_moment, up, on, joined, known, seen}
+use Rattle.gs_cache.specs.Messages.{Cached, all_left, cached, left, one_less}
+use Rattle.gs_rules.specs.Peers.{Peer, seen_ttl}
+use Rattle.gs_rules.specs.Tables.{Entries, Keeping, answered, asked, counting, kept, offers, is_shut, last_moment, up, on, joined, known, seen}
 use Rattle.gs_router.specs.declared.peer_set.PeerSet.{PeerSet}
 use Rattle.gs_router.specs.declared.tables.own_topics.OwnTopics.{OwnTopics}
 use Rattle.gs_router.specs.declared.tables.listeners.Listeners.{Listeners}
 use Rattle.gs_router.specs.declared.tables.sightings.Sightings.{Sightings}
+use Rattle.gs_router.specs.declared.tables.messages.Messages.{Messages}
+use Rattle.gs_router.specs.declared.tables.budgets.Budget.{Budget}
+use Rattle.gs_router.specs.declared.tables.budgets.Budgets.{Budgets}
 use Rattle.gs_router.specs.declared.tables.neighbours.Neighbours.{Neighbours}
 use Rattle.gs_router.specs.declared.tables.Tables.{Tables}
 use Rattle.gs_router.specs.PeerSets.{has}
@@ -57,7 +63,7 @@ verdict_at kept id now = verdict_in (what_counts kept.cache id now)
 
 -- what a mark leaves of the verdict on a message, where a sighting counts for less than a time
 abbrev pub verdict_after : ℕ → ℕ → MsgId → ℕ → Mark → Option Verdict → Option Verdict
-verdict_after ttl now id at (Seen other verdict) before =
+verdict_after ttl now id at (marks.Seen other verdict) before =
     if same_id other id then counting ttl now (Some (record { at = at; verdict = verdict })) else before
 verdict_after ttl now id at other before = before
 
@@ -65,6 +71,60 @@ verdict_after ttl now id at other before = before
 pub record AgreesOnSightings (kept : Sightings) (L : Entries) : Type 0 where
   pub sees : (id : MsgId) (now : ℕ) → kept.cache.moment ≤ now → verdict_at kept id now ≡ seen kept.cache.ttl L id now
   pub past : kept.cache.moment ≤ last_moment L
+
+-- ---- kept messages
+
+-- what is kept under an identifier, as the table has it
+abbrev pub keeping_in : Messages → MsgId → Option Keeping
+keeping_in table id =
+    option_map (λ (c : Cached). record { topic = c.topic; message = c.message }) (cached table.cache id)
+
+-- what a mark leaves of the answers that are left to a neighbour, of so many at first
+abbrev pub left_after : ℕ → PeerNo → MsgId → Mark → Option ℕ → Option ℕ
+left_after most q id (marks.Cached other t) before = all_left other most id before
+left_after most q id (marks.Answered p other) before = one_less other p id q before
+left_after most q id other before = before
+
+-- of so many answers at first these are left to a neighbour, where a message is kept
+abbrev pub left_of : ℕ → Option Keeping → ℕ → Option ℕ
+left_of most keeping given = option_map (λ (k : Keeping). most - given) keeping
+
+-- and none where none is kept
+abbrev pub answers_left : ℕ → Entries → PeerNo → MsgId → ℕ
+answers_left most L q id = unwrap_or (left_of most (kept L id) (answered L q id)) 0
+
+pub record AgreesOnMessages (table : Messages) (L : Entries) : Type 0 where
+  pub keeps : (id : MsgId) → keeping_in table id ≡ kept L id
+  pub leaves : (q : PeerNo) (id : MsgId)
+      → left table.cache id q ≡ left_of table.cache.answers (kept L id) (answered L q id)
+
+-- ---- budgets
+
+-- what is left to a neighbour, as the table has it
+abbrev pub budget_in : Budgets → PeerNo → Budget
+budget_in table q = unwrap_or (lookup (same_peer q) table.left.entries) table.full
+
+-- what a mark leaves of it
+abbrev pub budget_after : PeerNo → Mark → Budget → Budget
+budget_after q (marks.HeardHave p) before =
+    if same_peer p q then record { offers = before.offers - 1; ids = before.ids } else before
+budget_after q (marks.Asked p n) before =
+    if same_peer p q then record { offers = before.offers; ids = before.ids - n } else before
+budget_after q other before = before
+
+-- what a neighbour has at first
+abbrev pub budget_of : Peer → Budget
+budget_of p = record {
+  offers = p.params.windows.max_ihave;
+  ids = min p.params.windows.max_ihave_ids most_identifiers;
+}
+
+-- what is left of a budget
+abbrev pub budget_left : Budget → Entries → PeerNo → Budget
+budget_left full L q = record { offers = full.offers - offers L q; ids = full.ids - asked L q }
+
+pub record AgreesOnBudgets (table : Budgets) (L : Entries) : Type 0 where
+  pub leaves : (q : PeerNo) → budget_in table q ≡ budget_left table.full L q
 
 -- ---- neighbours
 
@@ -78,4 +138,15 @@ pub record Agrees (tables : Tables) (L : Entries) : Type 0 where
   pub topics : AgreesOnTopics tables.topics L
   pub listeners : AgreesOnListeners tables.listeners L
   pub sightings : AgreesOnSightings tables.sightings L
+  pub messages : AgreesOnMessages tables.messages L
+  pub budgets : AgreesOnBudgets tables.budgets L
   pub neighbours : AgreesOnNeighbours tables.neighbours L
+
+-- The tables were made for what is given of this peer.
+pub record AreMadeFor (tables : Tables) (p : Peer) : Type 0 where
+  -- for how long a message counts as seen
+  pub seen_ttl : tables.sightings.cache.ttl ≡ seen_ttl p
+  -- how often a message is sent to a neighbour that asks for it
+  pub answers : tables.messages.cache.answers ≡ p.params.windows.gossip_retransmission
+  -- how many offers of a neighbour count, and how many identifiers it may be asked for
+  pub budget : tables.budgets.full ≡ budget_of p

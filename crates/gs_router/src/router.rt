@@ -1,6 +1,6 @@
 //! A router: what one gossipsub peer does, and its trace. It takes nothing from anywhere and sends
 //! nothing: what comes is handed in, and what is sent stands in the trace.
-ghost use Rattle.std.specs.Prelude.{◌≡◌, ◌≤◌, ◌||◌, [], Some, true, false};
+ghost use Rattle.std.specs.Prelude.{◌≡◌, ◌≤◌, ◌||◌, [], Some, true, false, IfOk};
 ghost use Rattle.gs_base.specs.Names.{peers_of};
 ghost use Rattle.gs_params.specs.Picks.{IsAscending};
 ghost use Rattle.gs_rules.specs.declared.trace.Event.TheVariants as events;
@@ -47,24 +47,31 @@ impl Model for Router {
 
 impl Router {
     /// A router that has done nothing, with these parameters and these neighbours, ascending by number.
-    pub fn new(alloc: Global, params: Params, neighbours: Vec<Neighbour>) -> Router
+    ///
+    /// # Errors
+    /// `AllocError` where there was no memory.
+    pub fn new(
+        alloc: Global,
+        params: Params,
+        neighbours: Vec<Neighbour>,
+    ) -> Result<Router, AllocError>
         requires { IsAscending (peers_of neighbours.items) }
-        ensures { result ≡ record {
+        ensures { IfOk result (λ router. router ≡ record {
           peer = record { params = params; neighbours = neighbours.items };
           trace = [];
           is_stopped = false;
-        } }
+        }) }
     {
-        let seen_ttl = Millis(params.windows.seen_ttl_ms);
-        Router {
+        let tables = Tables::new(alloc, &params.windows)?;
+        Ok(Router {
             state: State {
                 alloc,
                 setup: Setup { params, neighbours },
-                tables: Tables::new(alloc, seen_ttl),
+                tables,
                 trace: Trace::new(alloc),
             },
             is_stopped: false,
-        }
+        })
     }
 
     /// What the router did.

@@ -10,6 +10,8 @@ ghost use Rattle.gs_router.specs.Tables.{Agrees};
 ghost use Rattle.gs_router.specs.State.{IsCurrent, Knows, peer_with};
 
 pub mod messages;
+pub mod offers;
+pub mod requests;
 pub mod subscriptions;
 
 use crate::rules::messages::Publishing;
@@ -28,6 +30,7 @@ pub fn bare(alloc: Global, at: Millis, event: Event) -> Entry
         event,
         sends: Seq::new(alloc),
         delivered: Seq::new(alloc),
+        promise: None,
         marks: Seq::new(alloc),
     }
 }
@@ -70,13 +73,16 @@ pub fn entry_of<W: Words>(
     now: Millis,
     words: &mut W,
 ) -> Result<Entry, AllocError>
-    requires { IsCurrent state.now }
+    requires current { IsCurrent state.now }
+    requires knows { Knows state.now now.0 state.now.trace }
     ensures { IfOk result (λ entry. (L : Entries)
         → Knows state.now now.0 L
         → Follows (exact W.word W.after) (rule_of (peer_with state.now.setup) L now event) words.old entry words.new) }
 {
     match event {
         Event::Msg(from, message) => messages::entry_of(state, from, message, now),
+        Event::Have(from, offer) => offers::entry_of(state, from, offer, now, words),
+        Event::Want(from, request) => requests::entry_of(state, from, request, now),
         Event::Subscribe(topic) => subscriptions::subscribe(state, topic, now),
         Event::Unsubscribe(topic) => subscriptions::unsubscribe(state, topic, now),
         Event::Publish(topic, payload) => {

@@ -4,17 +4,18 @@ ghost use Rattle.gs_base.specs.Names.{message_id};
 ghost use Rattle.gs_wire.specs.Codec.{codec};
 ghost use Rattle.gs_rules.specs.declared.trace.Event.TheVariants as events;
 ghost use Rattle.gs_rules.specs.Tables.{Entries, last_moment, up};
-ghost use Rattle.gs_rules.specs.Owed.{owed, owes};
+ghost use Rattle.gs_rules.specs.Owed.{offers_in, owed, owes, requests_in};
 ghost use Rattle.gs_rules.specs.Modes.{exact};
 ghost use Rattle.gs_rules.specs.Legal.{IsNext, MayHear, MayOpen, hearing};
-ghost use Rattle.gs_router.specs.Tables.{Agrees};
+ghost use Rattle.gs_rules.specs.Peers.{Peer};
+ghost use Rattle.gs_router.specs.Tables.{Agrees, AreMadeFor};
 ghost use Rattle.gs_router.specs.State.{Ends, IsCurrent, IsReady, Steps, peer_with};
 
 use crate::rules;
 use crate::rules::messages::{self, Publishing};
 use crate::setup::Setup;
 use crate::tables::Tables;
-use gs_base::{Message, Millis, PeerNo, Rpc, Shared, SubOpt, clone_of};
+use gs_base::{Control, IHave, IWant, Message, Millis, PeerNo, Rpc, Shared, SubOpt, clone_of};
 use gs_params::Words;
 use gs_rules::{Entry, Event, Trace};
 use std::alloc::{AllocError, Global};
@@ -40,7 +41,7 @@ impl State {
         requires { self.old.tables.sightings.cache.moment ≤ entry.at.0 }
         ensures added { OnOk result (self.new.trace ≡ entry ∷ self.old.trace) }
         ensures agrees { OnOk result ((L : Entries) → Agrees self.old.tables L → Agrees self.new.tables (entry ∷ L)) }
-        ensures forgets { OnOk result (self.new.tables.sightings.cache.ttl ≡ self.old.tables.sightings.cache.ttl) }
+        ensures made { OnOk result ((p : Peer) → AreMadeFor self.old.tables p → AreMadeFor self.new.tables p) }
         ensures kept { OnErr result (self.new.trace ≡ self.old.trace) }
         ensures setup { self.new.setup ≡ self.old.setup }
     {
@@ -140,6 +141,12 @@ impl State {
         for message in parts.publish.as_slice() {
             self.hear_message(from, message, now, words)?;
         }
+        for offer in offers_in(&parts.control) {
+            self.hear_offer(from, offer, now, words)?;
+        }
+        for request in requests_in(&parts.control) {
+            self.hear_request(from, request, now, words)?;
+        }
         Ok(())
     }
 
@@ -177,5 +184,61 @@ impl State {
     {
         let message = Shared::new(self.alloc, clone_of(message)?)?;
         self.step(Event::Msg(from, message), now, words)
+    }
+
+    /// Hears an offer of messages, which comes next.
+    fn hear_offer<W: Words>(
+        &mut self,
+        from: PeerNo,
+        offer: &IHave,
+        now: Millis,
+        words: &mut W,
+    ) -> Result<(), AllocError>
+        requires current { IsCurrent self.old }
+        requires time { last_moment self.old.trace ≤ now.0 }
+        requires next { IsNext (peer_with self.old.setup) self.old.trace now.0
+            (owed (peer_with self.old.setup) self.old.trace).events (events.Have from offer.now) }
+        ensures { Steps (exact W.word W.after) (events.Have from offer.now) now self.old words.old result self.new words.new }
+    {
+        let offer = Shared::new(self.alloc, clone_of(offer)?)?;
+        self.step(Event::Have(from, offer), now, words)
+    }
+
+    /// Hears a request for messages, which comes next.
+    fn hear_request<W: Words>(
+        &mut self,
+        from: PeerNo,
+        request: &IWant,
+        now: Millis,
+        words: &mut W,
+    ) -> Result<(), AllocError>
+        requires current { IsCurrent self.old }
+        requires time { last_moment self.old.trace ≤ now.0 }
+        requires next { IsNext (peer_with self.old.setup) self.old.trace now.0
+            (owed (peer_with self.old.setup) self.old.trace).events (events.Want from request.now) }
+        ensures { Steps (exact W.word W.after) (events.Want from request.now) now self.old words.old result self.new words.new }
+    {
+        let request = Shared::new(self.alloc, clone_of(request)?)?;
+        self.step(Event::Want(from, request), now, words)
+    }
+}
+
+/// The offers among what is said of meshes and messages.
+fn offers_in(control: &Option<Control>) -> &[IHave]
+    ensures { result.now ≡ offers_in control.now }
+{
+    match control {
+        Some(control) => control.ihave.as_slice(),
+        None => &[],
+    }
+}
+
+/// The requests among what is said of meshes and messages.
+fn requests_in(control: &Option<Control>) -> &[IWant]
+    ensures { result.now ≡ requests_in control.now }
+{
+    match control {
+        Some(control) => control.iwant.as_slice(),
+        None => &[],
     }
 }

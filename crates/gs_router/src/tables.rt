@@ -1,21 +1,30 @@
 //! What a router knows beside its trace, so that no call looks through that. Each table is brought
 //! up to date from an entry alone: its event and its marks.
-ghost use Rattle.std.specs.Prelude.{◌≡◌, ◌≤◌, [], ◌∷◌, OnOk};
+ghost use Rattle.std.specs.Prelude.{◌≡◌, ◌≤◌, [], ◌∷◌, OnOk, IfOk};
+ghost use Rattle.gs_rules.specs.Peers.{Peer};
 ghost use Rattle.gs_rules.specs.Tables.{Entries};
-ghost use Rattle.gs_router.specs.Tables.{Agrees};
+ghost use Rattle.gs_router.specs.Tables.{Agrees, AreMadeFor};
 
+pub mod budgets;
 pub mod listeners;
+pub mod messages;
 pub mod neighbours;
 pub mod own_topics;
 pub mod sightings;
 
+use crate::tables::budgets::{Budget, Budgets};
 use crate::tables::listeners::Listeners;
+use crate::tables::messages::Messages;
 use crate::tables::neighbours::Neighbours;
 use crate::tables::own_topics::OwnTopics;
 use crate::tables::sightings::Sightings;
 use gs_base::Millis;
+use gs_params::Windows;
 use gs_rules::Entry;
 use std::alloc::{AllocError, Global};
+
+/// How many identifiers an offer or a request has at most.
+pub const MOST_IDENTIFIERS: u64 = 5_000;
 
 /// What a router knows beside its trace.
 #[derive(Drop)]
@@ -23,22 +32,35 @@ pub struct Tables {
     pub topics: OwnTopics,
     pub listeners: Listeners,
     pub sightings: Sightings,
+    pub messages: Messages,
+    pub budgets: Budgets,
     pub neighbours: Neighbours,
 }
 
 impl Tables {
-    /// The tables of a router that has done nothing, in which a message will count as seen for less than a
-    /// time. They take no memory.
-    pub fn new(alloc: Global, seen_ttl: Millis) -> Tables
-        ensures agrees { Agrees result [] }
-        ensures ttl { result.sightings.cache.ttl ≡ seen_ttl.0 }
+    /// The tables of a router that has done nothing, with these parameters.
+    ///
+    /// # Errors
+    /// `AllocError` where there was no memory.
+    pub fn new(alloc: Global, windows: &Windows) -> Result<Tables, AllocError>
+        ensures agrees { IfOk result (λ tables. Agrees tables []) }
+        ensures made { IfOk result (λ tables. (p : Peer) → p.params.windows ≡ windows.now → AreMadeFor tables p) }
     {
-        Tables {
+        let kept = windows.mcache_len as usize;
+        let announced = windows.mcache_gossip as usize;
+        let messages = Messages::new(alloc, kept, announced, windows.gossip_retransmission)?;
+        let budget = Budget {
+            offers: windows.max_ihave,
+            ids: windows.max_ihave_ids.min(MOST_IDENTIFIERS),
+        };
+        Ok(Tables {
             topics: OwnTopics::new(alloc),
             listeners: Listeners::new(alloc),
-            sightings: Sightings::new(alloc, seen_ttl),
+            sightings: Sightings::new(alloc, Millis(windows.seen_ttl_ms)),
+            messages,
+            budgets: Budgets::new(alloc, budget),
             neighbours: Neighbours::new(alloc),
-        }
+        })
     }
 
     /// Notes an entry, which comes no earlier than those before it.
@@ -48,11 +70,13 @@ impl Tables {
     pub fn note(&mut self, entry: &Entry) -> Result<(), AllocError>
         requires { self.old.sightings.cache.moment ≤ entry.now.at.0 }
         ensures agrees { OnOk result ((L : Entries) → Agrees self.old L → Agrees self.new (entry.now ∷ L)) }
-        ensures ttl { OnOk result (self.new.sightings.cache.ttl ≡ self.old.sightings.cache.ttl) }
+        ensures made { OnOk result ((p : Peer) → AreMadeFor self.old p → AreMadeFor self.new p) }
     {
         self.topics.note(entry)?;
         self.listeners.note(entry)?;
         self.sightings.note(entry)?;
+        self.messages.note(entry)?;
+        self.budgets.note(entry)?;
         self.neighbours.note(entry)?;
         Ok(())
     }

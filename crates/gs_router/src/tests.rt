@@ -4,6 +4,7 @@ ghost use Rattle.gs_rules.specs.Tables.{last_moment};
 ghost use Rattle.gs_wire.specs.Codec.{codec};
 
 mod cases;
+mod gossip;
 mod made;
 
 use crate::fault::RouterFault;
@@ -49,6 +50,7 @@ fn hear(
     from: PeerNo,
     rpc: &Rpc,
     now: Millis,
+    words: &mut SeededWords,
 ) -> Result<Result<(), RouterFault>, AllocError>
     requires { last_moment router.old.trace ≤ now.0 }
 {
@@ -56,7 +58,7 @@ fn hear(
     if !fits(alloc, &rpc)? {
         return Err(AllocError);
     }
-    Ok(router.hear(from, rpc, now, &mut words(alloc)))
+    Ok(router.hear(from, rpc, now, words))
 }
 
 /// Words of which none is drawn.
@@ -73,7 +75,7 @@ fn ask(alloc: Global, router: &mut Router, at: u64, what: What<'_>) -> Result<u8
     let words = &mut words(alloc);
     let result = match event_of(alloc, what)? {
         Event::Heard(from, rpc) | Event::Late(from, rpc) => {
-            hear(alloc, router, from, rpc.get(), now)?
+            hear(alloc, router, from, rpc.get(), now, words)?
         }
         Event::Subscribe(topic) => router.subscribe(topic, now, words),
         Event::Unsubscribe(topic) => router.unsubscribe(topic, now, words),
@@ -82,7 +84,9 @@ fn ask(alloc: Global, router: &mut Router, at: u64, what: What<'_>) -> Result<u8
         Event::Gone(peer) => router.gone(peer, now, words),
         Event::Fault(peer) => router.fault(peer, now, words),
         Event::Shut => router.shut(now, words),
-        Event::Sub(_, _) | Event::Msg(_, _) => return Ok(u8::MAX),
+        Event::Sub(_, _) | Event::Msg(_, _) | Event::Have(_, _) | Event::Want(_, _) => {
+            return Ok(u8::MAX);
+        }
     };
     Ok(match result {
         Ok(()) => 0,
@@ -118,7 +122,7 @@ fn neighbour(number: u16) -> Neighbour
 /// A router with neighbours 1 and 2 and the parameters where nothing is said.
 fn router(alloc: Global) -> Result<Router, AllocError> {
     let neighbours = vec![in alloc; neighbour(1), neighbour(2)]?;
-    Ok(Router::new(alloc, Params::new(alloc), neighbours))
+    Router::new(alloc, Params::new(alloc), neighbours)
 }
 
 /// Whether a new router's calls are answered so, and leave this trace.

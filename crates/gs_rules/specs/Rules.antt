@@ -101,9 +101,13 @@ is_wanted p L at bytes =
 abbrev pub same_bytes : List ℕ → List ℕ → Bool
 same_bytes xs ys = pointwise nat_eq xs ys
 
+-- one more behind others, if it is not among them
+abbrev pub once_behind : List (List ℕ) → List ℕ → List (List ℕ)
+once_behind before id = if list_any (same_bytes id) before then before else before ++ id ∷ []
+
 -- each of these once, in the order in which they come first
 abbrev pub each_once : List (List ℕ) → List (List ℕ)
-each_once ids = fold (λ before id. if list_any (same_bytes id) before then before else before ++ id ∷ []) [] ids
+each_once ids = fold once_behind [] ids
 
 -- how many identifiers may be asked of a neighbour beside those that were; a request never has more than an RPC may
 abbrev pub room_to_ask : Peer → Entries → PeerNo → ℕ
@@ -113,6 +117,10 @@ room_to_ask p L q = min p.params.windows.max_ihave_ids most_identifiers - asked 
 abbrev pub wanted : Peer → Entries → ℕ → PeerNo → List (List ℕ) → List (List ℕ)
 wanted p L at q ids = take (room_to_ask p L q) (each_once (filter (is_wanted p L at) ids))
 
+-- the last moment that there is, in milliseconds
+abbrev pub last_millis : ℕ
+last_millis = 18_446_744_073_709_551_615
+
 -- A neighbour is asked for these, and promises the one at this place.
 abbrev pub asking : Peer → Millis → PeerNo → IHave → List (List ℕ) → ℕ → Entry
 asking p at q offer ids place = record (bare at (Have q offer)) {
@@ -120,7 +128,7 @@ asking p at q offer ids place = record (bare at (Have q offer)) {
   promise = Some (record {
     from = q;
     id = record { 0 = get_or ids place [] };
-    until = record { 0 = at.0 + p.params.windows.iwant_followup_ms };
+    until = record { 0 = min last_millis (at.0 + p.params.windows.iwant_followup_ms) };
   });
   marks = HeardHave q ∷ Asked q (length ids) ∷ [];
 }

@@ -68,6 +68,7 @@ fn entry(alloc: Global, at: u64, payloads: &[(&str, &[u8])]) -> Result<Entry, Al
         event: Event::RoundEnd(0),
         sends: Seq::new(alloc),
         delivered,
+        promise: None,
         marks: Seq::new(alloc),
     })
 }

@@ -42,21 +42,24 @@ fn is_given(
     peer: u16,
 ) -> Result<bool, AllocError> {
     match cache.answer_for(&id(number), PeerNo(peer)) {
-        Answer::Given(found) => Ok(*found == message(alloc, number)?),
+        Answer::Given(found) => {
+            let is_left = cache.left_for(&id(number), PeerNo(peer)) > 0;
+            Ok(is_left && *found == message(alloc, number)?)
+        }
         _ => Ok(false),
     }
 }
 
 fn is_spent(cache: &MessageCache, number: u64, peer: u16) -> bool {
     match cache.answer_for(&id(number), PeerNo(peer)) {
-        Answer::Spent => true,
+        Answer::Spent => cache.left_for(&id(number), PeerNo(peer)) == 0,
         _ => false,
     }
 }
 
 fn is_absent(cache: &MessageCache, number: u64) -> bool {
     match cache.answer_for(&id(number), PeerNo(1)) {
-        Answer::Absent => true,
+        Answer::Absent => cache.left_for(&id(number), PeerNo(1)) == 0,
         _ => false,
     }
 }

@@ -31,6 +31,8 @@ pub enum Step {
     Late,
     Sub,
     Msg,
+    Have,
+    Want,
     Subscribe,
     Unsubscribe,
     Publish,
@@ -46,6 +48,8 @@ fn step_of(event: &Event) -> Step {
         Event::Late(_, _) => Step::Late,
         Event::Sub(_, _) => Step::Sub,
         Event::Msg(_, _) => Step::Msg,
+        Event::Have(_, _) => Step::Have,
+        Event::Want(_, _) => Step::Want,
         Event::Subscribe(_) => Step::Subscribe,
         Event::Unsubscribe(_) => Step::Unsubscribe,
         Event::Publish(_, _) => Step::Publish,
@@ -112,7 +116,7 @@ pub fn task_in<G: Gate, S: Ends>(
     ensures ends { IfOk result (λ task. HasJoints S.joints (S.joints surroundings.ends) task) }
 {
     let neighbours = vec![in alloc; neighbour(pair.other)]?;
-    let router = Router::new(alloc, Params::new(alloc), neighbours);
+    let router = Router::new(alloc, Params::new(alloc), neighbours)?;
     let assignment = Assignment {
         number: pair.me,
         neighbours: vec![in alloc; pair.other]?,

@@ -2,6 +2,8 @@
 ghost use Rattle.std.specs.Prelude.{◌≡◌, ◌&&◌, [], ◌∷◌, IfOk, filter, if◌then◌else◌};
 ghost use Rattle.gs_base.specs.Names.{message_id};
 ghost use Rattle.gs_base.specs.declared.names.PeerNo.{PeerNo as PeerNoValue};
+ghost use Rattle.gs_base.specs.declared.verdict.Verdict.TheVariants.{Accept};
+ghost use Rattle.gs_base.specs.declared.mark.Mark.TheVariants as marks;
 ghost use Rattle.gs_rules.specs.declared.trace.Event.TheVariants as events;
 ghost use Rattle.gs_rules.specs.Peers.{links_of};
 ghost use Rattle.gs_rules.specs.Tables.{Entries, joined, up};
@@ -31,7 +33,7 @@ pub enum Fate {
     Dropped,
     /// It counts against its sender.
     Invalid,
-    /// It is delivered, and its identifier marked as seen.
+    /// It is delivered and kept, and its identifier marked as seen.
     Accepted(MsgId),
 }
 
@@ -52,6 +54,15 @@ fn fate_of(state: &State, message: &Message, now: Millis) -> Fate
         return Fate::Dropped;
     }
     Fate::Accepted(id)
+}
+
+/// What is remembered of a message that is accepted.
+fn accepted(alloc: Global, id: MsgId, topic: Topic) -> Result<Seq<Mark>, AllocError>
+    ensures { IfOk result (λ list. list ≡ marks.Seen id Accept ∷ marks.Cached id topic ∷ []) }
+{
+    let mut marks = Seq::only(alloc, Mark::Seen(id, Verdict::Accept))?;
+    marks.push(Mark::Cached(id, topic))?;
+    Ok(marks)
 }
 
 /// The entry of a message of which this becomes.
@@ -78,7 +89,7 @@ fn judged(
             let delivery = (told.topic_or_empty()?, told.payload_or_empty()?);
             Ok(Entry {
                 delivered: Seq::only(alloc, delivery)?,
-                marks: Seq::only(alloc, Mark::Seen(id, Verdict::Accept))?,
+                marks: accepted(alloc, id, told.topic_or_empty()?)?,
                 ..bare(alloc, now, Event::Msg(from, message))
             })
         }
@@ -166,13 +177,15 @@ pub fn publish(state: &State, publishing: Publishing, now: Millis) -> Result<Ent
     let rpc = Rpc::publication(state.alloc, &publishing.topic, &publishing.payload)?;
     let sends = to_each(state.alloc, rpc, &receivers)?;
     let delivered = delivered(state, &publishing)?;
-    let Publishing { topic, payload, id } = publishing;
+    let marks = accepted(state.alloc, publishing.id, clone_of(&publishing.topic)?)?;
+    let Publishing { topic, payload, .. } = publishing;
     Ok(Entry {
         at: now,
         event: Event::Publish(topic, payload),
         sends,
         delivered,
-        marks: Seq::only(state.alloc, Mark::Seen(id, Verdict::Accept))?,
+        promise: None,
+        marks,
     })
 }
 

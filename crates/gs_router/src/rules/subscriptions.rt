@@ -43,6 +43,7 @@ pub fn subscribe(state: &State, topic: Topic, now: Millis) -> Result<Entry, Allo
         event: Event::Subscribe(topic),
         sends,
         delivered: Seq::new(state.alloc),
+        promise: None,
         marks: Seq::new(state.alloc),
     })
 }
@@ -59,6 +60,7 @@ pub fn unsubscribe(state: &State, topic: Topic, now: Millis) -> Result<Entry, Al
         event: Event::Unsubscribe(topic),
         sends,
         delivered: Seq::new(state.alloc),
+        promise: None,
         marks: Seq::new(state.alloc),
     })
 }

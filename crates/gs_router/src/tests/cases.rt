@@ -20,10 +20,12 @@ const NOTHING: MsgId = MsgId([
     0x27, 0xae, 0x41, 0xe4, 0x64, 0x9b, 0x93, 0x4c, 0xa4, 0x95, 0x99, 0x1b, 0x78, 0x52, 0xb8, 0x55,
 ]);
 
-/// The marks that these were seen.
-const ABC_SEEN: Option<Left<'static>> = Some(Left::Seen(ABC));
+/// The marks that these were seen, and are kept as messages of a topic.
+const ABC_SEEN: Option<Left<'static>> = Some(Left::Accepted(ABC, "a"));
 
-const NOTHING_SEEN: Option<Left<'static>> = Some(Left::Seen(NOTHING));
+const NOTHING_SEEN: Option<Left<'static>> = Some(Left::Accepted(NOTHING, ""));
+
+const NOTHING_SEEN_ON_B: Option<Left<'static>> = Some(Left::Accepted(NOTHING, "b"));
 
 /// What is delivered of `abc` on `a`.
 const GOT_ABC: Option<(&str, &[u8])> = Some(("a", b"abc"));
@@ -104,7 +106,7 @@ pub static LISTENERS_TRACE: [Row<'static>; 9] = [
         GOT_ABC,
         ABC_SEEN,
     ),
-    (4, What::Publish("b", b""), TO_NONE, None, NOTHING_SEEN),
+    (4, What::Publish("b", b""), TO_NONE, None, NOTHING_SEEN_ON_B),
 ];
 
 /// `abc` on `a` with each field that StrictNoSign forbids, and then without.

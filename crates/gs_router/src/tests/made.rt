@@ -33,7 +33,7 @@ pub enum What<'a> {
 
 #[derive(Clone, Copy)]
 pub enum Left<'a> {
-    Seen(MsgId),
+    Accepted(MsgId, &'a str),
     Invalid(u16, &'a str),
 }
 
@@ -161,7 +161,10 @@ fn delivered_of(
 fn marks_of(alloc: Global, mark: Option<Left<'_>>) -> Result<Seq<Mark>, AllocError> {
     let mut marks = Seq::new(alloc);
     match mark {
-        Some(Left::Seen(id)) => marks.push(Mark::Seen(id, Verdict::Accept))?,
+        Some(Left::Accepted(id, name)) => {
+            marks.push(Mark::Seen(id, Verdict::Accept))?;
+            marks.push(Mark::Cached(id, topic_of(alloc, name)?))?;
+        }
         Some(Left::Invalid(from, name)) => {
             marks.push(Mark::Invalid(PeerNo(from), topic_of(alloc, name)?))?;
         }
@@ -181,6 +184,7 @@ fn entry_of(alloc: Global, row: &Row<'_>) -> Result<Entry, AllocError> {
         event,
         sends,
         delivered,
+        promise: None,
         marks,
     })
 }

@@ -104,7 +104,7 @@ fn task<G: Gate>(
         peer: PeerNo(number),
         what: What::Subscribe(Topic::or_empty(&None)?),
     };
-    let router = Router::new(alloc, Params::new(alloc), Vec::new(alloc));
+    let router = Router::new(alloc, Params::new(alloc), Vec::new(alloc))?;
     let assignment = Assignment {
         number: PeerNo(number),
         neighbours: Vec::new(alloc),

@@ -11,4 +11,4 @@ append-requires g c =
 pub returns : goal.returns
 returns g c =
     let a = c.args.self.now in
-    followed (exact g.W.Words.word g.W.Words.after) (exact_is_free g.W.Words.word g.W.Words.after) c.args.event c.args.now a c.append.new.self c.args.words.now c.entry_of.new.words c.in_ok-entry.entry c.append.result c.requires.current c.requires.time c.requires.next (c.in_ok-entry.ensures a.trace (knows a c.args.now.0 c.requires.current c.requires.time)) c.append.ensures.added c.append.ensures.agrees c.append.ensures.forgets c.append.ensures.kept c.append.ensures.setup
+    followed (exact g.W.Words.word g.W.Words.after) (exact_is_free g.W.Words.word g.W.Words.after) c.args.event c.args.now a c.append.new.self c.args.words.now c.entry_of.new.words c.in_ok-entry.entry c.append.result c.requires.current c.requires.time c.requires.next (c.in_ok-entry.ensures a.trace (knows a c.args.now.0 c.requires.current c.requires.time)) c.append.ensures.added c.append.ensures.agrees c.append.ensures.made c.append.ensures.kept c.append.ensures.setup

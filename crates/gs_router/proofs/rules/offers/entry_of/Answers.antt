@@ -1,0 +1,17 @@
+use Rattle.std.proofs.Common.{◌∙◌}
+use Rattle.gs_wire.specs.Messages.{most_identifiers}
+use Rattle.gs_router.specs.State.{peer_with}
+use Rattle.gs_router.proofs.Wanting.{room_few, wanted_few, wanted_long}
+use Rattle.gs_router.proofs.rules.offers.entry_of.Goals as goal
+
+pub ask-requires-clause-few : goal.ask-requires-clause-few
+ask-requires-clause-few g c =
+    let p = peer_with c.args.state.now.setup in
+    let L = c.args.state.now.trace in
+    let tables = c.args.state.now.tables in
+    let room = room_few p L c.args.from tables.budgets.full c.of-budget.result (c.of-budget.ensures ∙ c.requires.agrees.budgets.leaves c.args.from) c.requires.made.budget in
+    wanted_few p L c.args.now.0 c.of-budget.result.ids most_identifiers c.as_slice.result.now c.in_ok-ids.ids (c.in_ok-ids.ensures L c.requires) room
+
+pub ask-requires-clause-each : goal.ask-requires-clause-each
+ask-requires-clause-each g c =
+    wanted_long (peer_with c.args.state.now.setup) c.args.state.now.trace c.args.now.0 c.of-budget.result.ids c.as_slice.result.now c.in_ok-ids.ids (c.in_ok-ids.ensures c.args.state.now.trace c.requires)

@@ -1,0 +1,9 @@
+use Rattle.std.proofs.Common.{arith}
+use Rattle.std.proofs.lemmas.List.{drop_all}
+use Rattle.gs_router.proofs.Spending.{spent_all}
+use Rattle.gs_router.proofs.tables.budgets.Budgets.note.Goals as goal
+
+pub returns-clause-agrees : goal.returns-clause-agrees
+returns-clause-agrees c = λ L.
+    let marks = c.as_slice-mark-items.result.now in
+    spent_all c.args.self.now c.loop-mark.self c.args.entry.now L marks _ c.as_slice-mark-items.ensures (drop_all c.loop-mark.mark-index marks (omega (arith, c.loop-mark-test.false))) c.loop-mark.invariant

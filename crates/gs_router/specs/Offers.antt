@@ -1,0 +1,20 @@
+-- What becomes of what a neighbour offers and asks for, one identifier after the other.
+use Rattle.std.specs.Prelude.{ℕ, nat_eq, if◌then◌else◌, List, length, Option, Some, None, unwrap_or}
+use Rattle.std.specs.Map.{lookup}
+use Rattle.gs_base.specs.declared.names.MsgId.{MsgId}
+use Rattle.gs_base.specs.Names.{same_id}
+use Rattle.gs_rules.specs.Peers.{Peer}
+use Rattle.gs_rules.specs.Tables.{Entries}
+use Rattle.gs_rules.specs.Rules.{is_wanted, once_behind}
+
+-- the identifier that these bytes are, if they are one
+abbrev pub id_of : List ℕ → Option MsgId
+id_of bytes = if nat_eq (length bytes) 32 then Some (record { 0 = bytes }) else None
+
+-- an identifier is put behind those that are wanted, if it is wanted and not among them
+abbrev pub add_wanted : Peer → Entries → ℕ → List (List ℕ) → List ℕ → List (List ℕ)
+add_wanted p L at found bytes = if is_wanted p L at bytes then once_behind found bytes else found
+
+-- how many answers are left for a message in the course of a request, where so many were at its start
+abbrev pub left_now : List (MsgId × ℕ) → MsgId → ℕ → ℕ
+left_now spent id at_first = unwrap_or (lookup (same_id id) spent) at_first

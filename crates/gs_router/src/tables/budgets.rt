@@ -1,0 +1,93 @@
+//! What neighbours may still offer and be asked for.
+ghost use Rattle.std.specs.Prelude.{◌≡◌, [], ◌∷◌, OnOk};
+ghost use Rattle.gs_base.specs.declared.names.PeerNo.{PeerNo as PeerNoValue};
+ghost use Rattle.gs_rules.specs.Tables.{Entries};
+ghost use Rattle.gs_router.specs.Tables.{AgreesOnBudgets, budget_after, budget_in, budget_left};
+
+use gs_base::{Mark, PeerNo};
+use gs_rules::Entry;
+use indexmap::IndexMap;
+use std::alloc::{AllocError, Global};
+
+/// What is left of a neighbour's budget.
+#[derive(Clone, Copy, Debug, PartialEq, Eq)]
+pub struct Budget {
+    /// How many of its offers still count.
+    pub offers: u64,
+    /// How many identifiers it may still be asked for.
+    pub ids: u64,
+}
+
+/// What is left of each neighbour's budget.
+#[derive(Drop)]
+pub struct Budgets {
+    /// What each has at first.
+    full: Budget,
+    /// What is left to those of whom an offer counted.
+    left: IndexMap<PeerNo, Budget>,
+}
+
+impl Budgets {
+    /// No offer counted. It takes no memory.
+    pub fn new(alloc: Global, full: Budget) -> Budgets
+        ensures agrees { AgreesOnBudgets result [] }
+        ensures full { result.full ≡ full }
+    {
+        Budgets {
+            full,
+            left: IndexMap::new(alloc),
+        }
+    }
+
+    /// What is left of a neighbour's budget.
+    pub fn of(&self, peer: PeerNo) -> Budget
+        ensures { result ≡ budget_in self.now peer }
+    {
+        match self.left.get(&peer) {
+            Some(budget) => *budget,
+            None => self.full,
+        }
+    }
+
+    /// Notes a mark.
+    fn note_mark(&mut self, mark: &Mark) -> Result<(), AllocError>
+        ensures leaves { OnOk result ((q : PeerNoValue)
+            → budget_in self.new q ≡ budget_after q mark.now (budget_in self.old q)) }
+        ensures full { OnOk result (self.new.full ≡ self.old.full) }
+    {
+        match mark {
+            Mark::HeardHave(peer) => {
+                let before = self.of(*peer);
+                let budget = Budget {
+                    offers: before.offers.saturating_sub(1),
+                    ids: before.ids,
+                };
+                self.left.insert(*peer, budget)?;
+                Ok(())
+            }
+            Mark::Asked(peer, count) => {
+                let before = self.of(*peer);
+                let budget = Budget {
+                    offers: before.offers,
+                    ids: before.ids.saturating_sub(u64::from(*count)),
+                };
+                self.left.insert(*peer, budget)?;
+                Ok(())
+            }
+            _ => Ok(()),
+        }
+    }
+
+    /// Notes an entry.
+    pub fn note(&mut self, entry: &Entry) -> Result<(), AllocError>
+        ensures agrees { OnOk result ((L : Entries)
+            → AgreesOnBudgets self.old L
+            → AgreesOnBudgets self.new (entry.now ∷ L)) }
+        ensures full { OnOk result (self.new.full ≡ self.old.full) }
+    {
+        for mark in entry.marks.as_slice() {
+            self.note_mark(mark)?;
+        }
+        Ok(())
+    }
+}

@@ -1,0 +1,448 @@
+//! Offers and requests: what a router with neighbours 1 and 2 asks for, promises and sends, act by act.
+ghost use Rattle.std.specs.Prelude.{◌≤◌};
+ghost use Rattle.gs_rules.specs.Tables.{last_moment};
+
+use crate::router::Router;
+use crate::tests::{hear, is_due, neighbour};
+use bytes::Bytes;
+use gs_base::{
+    Control, IHave, IWant, Mark, Message, Millis, MsgId, PeerNo, Rpc, Seq, Shared, Topic,
+};
+use gs_params::{Params, SeededWords};
+use gs_rules::{Entry, Event};
+use std::alloc::{AllocError, Global};
+
+/// An identifier: that of a payload of one byte, or all but the last byte of that.
+#[derive(Clone, Copy, Debug)]
+enum Id {
+    Of(u8),
+    ShortOf(u8),
+}
+
+/// What a router is told: by itself, or by the neighbour with this number.
+#[derive(Clone, Copy, Debug)]
+enum Act<'a> {
+    Join(&'a str),
+    Message(u16, u8),
+    Offer(u16, &'a str, &'a [Id]),
+    Request(u16, &'a [Id]),
+}
+
+/// What the last entry of its trace says then: of which payloads the identifiers are asked for, which of them is
+/// promised and until when, which payloads are sent to who asked, and how many marks there are. All payloads have
+/// one byte.
+#[derive(Clone, Copy, Debug)]
+struct Then<'a> {
+    asks: &'a [u8],
+    promise: Option<(u8, u64)>,
+    gives: &'a [u8],
+    marks: usize,
+}
+
+/// Nothing comes of it.
+const NOTHING: Then<'static> = Then {
+    asks: &[],
+    promise: None,
+    gives: &[],
+    marks: 0,
+};
+
+/// An offer counts, and nothing is asked for.
+const COUNTS: Then<'static> = Then {
+    asks: &[],
+    promise: None,
+    gives: &[],
+    marks: 1,
+};
+
+/// A message is seen and kept.
+const ACCEPTED: Then<'static> = Then {
+    asks: &[],
+    promise: None,
+    gives: &[],
+    marks: 2,
+};
+
+/// A moment, what the router is told, and what comes of it.
+type Step<'a> = (u64, Act<'a>, Then<'a>);
+
+// ---- what is told
+
+fn bytes_of(alloc: Global, id: Id) -> Result<Bytes, AllocError> {
+    match id {
+        Id::Of(payload) => Bytes::copy_from_slice(alloc, &MsgId::of(&[payload]).0),
+        Id::ShortOf(payload) => Bytes::copy_from_slice(alloc, &MsgId::of(&[payload]).0[..31]),
+    }
+}
+
+fn ids_of(alloc: Global, ids: &[Id]) -> Result<Seq<Bytes>, AllocError> {
+    let mut list = Seq::new(alloc);
+    for id in ids {
+        list.push(bytes_of(alloc, *id)?)?;
+    }
+    Ok(list)
+}
+
+fn topic_of(alloc: Global, name: &str) -> Result<Topic, AllocError> {
+    Ok(Topic(Bytes::copy_from_slice(alloc, name.as_bytes())?))
+}
+
+fn offering(alloc: Global, name: &str, ids: &[Id]) -> Result<Control, AllocError> {
+    let offer = IHave {
+        topic: Some(topic_of(alloc, name)?),
+        ids: ids_of(alloc, ids)?,
+    };
+    Ok(Control {
+        ihave: Seq::only(alloc, offer)?,
+        iwant: Seq::new(alloc),
+        graft: Seq::new(alloc),
+        prune: Seq::new(alloc),
+    })
+}
+
+fn asking(alloc: Global, ids: &[Id]) -> Result<Control, AllocError> {
+    let request = IWant {
+        ids: ids_of(alloc, ids)?,
+    };
+    Ok(Control {
+        ihave: Seq::new(alloc),
+        iwant: Seq::only(alloc, request)?,
+        graft: Seq::new(alloc),
+        prune: Seq::new(alloc),
+    })
+}
+
+fn controlling(alloc: Global, control: Control) -> Rpc {
+    Rpc {
+        subs: Seq::new(alloc),
+        publish: Seq::new(alloc),
+        control: Some(control),
+    }
+}
+
+fn publishing(alloc: Global, payload: u8) -> Result<Rpc, AllocError> {
+    Rpc::publication(
+        alloc,
+        &topic_of(alloc, "a")?,
+        &Bytes::copy_from_slice(alloc, &[payload])?,
+    )
+}
+
+/// Tells a router this, which chooses by these words; whether it did as it was told.
+fn tell(
+    alloc: Global,
+    router: &mut Router,
+    at: u64,
+    act: Act<'_>,
+    words: &mut SeededWords,
+) -> Result<bool, AllocError> {
+    let now = Millis(at);
+    if !is_due(router.trace(), now) {
+        return Ok(false);
+    }
+    let answer = match act {
+        Act::Join(name) => router.subscribe(topic_of(alloc, name)?, now, words),
+        Act::Message(from, payload) => {
+            let rpc = publishing(alloc, payload)?;
+            hear(alloc, router, PeerNo(from), &rpc, now, words)?
+        }
+        Act::Offer(from, name, ids) => {
+            let rpc = controlling(alloc, offering(alloc, name, ids)?);
+            hear(alloc, router, PeerNo(from), &rpc, now, words)?
+        }
+        Act::Request(from, ids) => {
+            let rpc = controlling(alloc, asking(alloc, ids)?);
+            hear(alloc, router, PeerNo(from), &rpc, now, words)?
+        }
+    };
+    Ok(answer.is_ok())
+}
+
+// ---- what comes of it
+
+/// The identifiers that an entry asks for.
+fn asked(entry: &Entry) -> &[Bytes] {
+    match entry.sends.as_slice() {
+        [(_, rpc)] => match &rpc.get().control {
+            Some(control) => match control.iwant.as_slice() {
+                [request] => request.ids.as_slice(),
+                _ => &[],
+            },
+            None => &[],
+        },
+        _ => &[],
+    }
+}
+
+fn are_ids(ids: &[Bytes], payloads: &[u8]) -> bool {
+    for (id, payload) in ids.iter().zip(payloads) {
+        if id.as_slice() != MsgId::of(&[*payload]).0.as_slice() {
+            return false;
+        }
+    }
+    ids.len() == payloads.len()
+}
+
+fn is_promised(entry: &Entry, promise: Option<(u8, u64)>) -> bool {
+    match (&entry.promise, promise) {
+        (Some(made), Some((payload, until))) => {
+            let made = made.get();
+            made.id == MsgId::of(&[payload]) && made.until == Millis(until)
+        }
+        (None, None) => true,
+        _ => false,
+    }
+}
+
+/// Whether an RPC has this one message alone.
+fn is_message(rpc: &Rpc, payload: u8) -> bool {
+    match rpc.publish.as_slice() {
+        [message] => message.payload_bytes() == [payload].as_slice(),
+        _ => false,
+    }
+}
+
+/// Whether a request is answered by these messages; an entry of another event sends none by itself.
+fn are_given(entry: &Entry, payloads: &[u8]) -> bool {
+    match entry.event {
+        Event::Want(_, _) => {}
+        _ => return payloads.is_empty(),
+    }
+    for ((_, rpc), payload) in entry.sends.as_slice().iter().zip(payloads) {
+        if !is_message(rpc.get(), *payload) {
+            return false;
+        }
+    }
+    entry.sends.len() == payloads.len()
+}
+
+/// Whether all identifiers that are asked for count against a budget.
+fn are_counted(entry: &Entry) -> bool {
+    let asks = asked(entry).len();
+    match entry.marks.as_slice() {
+        [Mark::HeardHave(_), Mark::Asked(_, count)] => usize::try_from(*count) == Ok(asks),
+        _ => asks == 0,
+    }
+}
+
+fn is_then(entry: &Entry, then: Then<'_>) -> bool {
+    are_ids(asked(entry), then.asks)
+        && is_promised(entry, then.promise)
+        && are_given(entry, then.gives)
+        && are_counted(entry)
+        && entry.marks.len() == then.marks
+}
+
+/// Whether the last entry of a router's trace says this.
+fn ends_with(router: &Router, then: Then<'_>) -> bool {
+    match router.trace().entries() {
+        [.., last] => is_then(last, then),
+        [] => false,
+    }
+}
+
+/// The place of the first step that a router with these parameters takes otherwise; the number of steps where there
+/// is none. Its first word is 7.
+fn first_wrong(alloc: Global, params: Params, steps: &[Step<'_>]) -> Result<usize, AllocError> {
+    let neighbours = vec![in alloc; neighbour(1), neighbour(2)]?;
+    let mut router = Router::new(alloc, params, neighbours)?;
+    let mut words = SeededWords::new(vec![in alloc; 7]?, 1, PeerNo(0));
+    for (place, (at, act, then)) in steps.iter().enumerate() {
+        if !tell(alloc, &mut router, *at, *act, &mut words)? || !ends_with(&router, *then) {
+            return Ok(place);
+        }
+    }
+    Ok(steps.len())
+}
+
+// ---- offers
+
+const ASKS_0: Then<'static> = Then {
+    asks: &[0],
+    promise: Some((0, 3_000)),
+    gives: &[],
+    marks: 2,
+};
+
+/// Ten offers of a neighbour count, and no more; another has a budget of its own.
+static OFFERS: [Step<'static>; 14] = [
+    (0, Act::Join("a"), NOTHING),
+    (0, Act::Offer(1, "a", &[Id::Of(0)]), ASKS_0),
+    (0, Act::Offer(1, "a", &[Id::Of(0)]), ASKS_0),
+    (0, Act::Offer(1, "a", &[Id::Of(0)]), ASKS_0),
+    (0, Act::Offer(1, "a", &[Id::Of(0)]), ASKS_0),
+    (0, Act::Offer(1, "a", &[Id::Of(0)]), ASKS_0),
+    (0, Act::Offer(1, "a", &[Id::Of(0)]), ASKS_0),
+    (0, Act::Offer(1, "a", &[Id::Of(0)]), ASKS_0),
+    (0, Act::Offer(1, "a", &[Id::Of(0)]), ASKS_0),
+    (0, Act::Offer(1, "a", &[Id::Of(0)]), ASKS_0),
+    (0, Act::Offer(1, "a", &[Id::Of(0)]), ASKS_0),
+    (0, Act::Offer(1, "a", &[Id::Of(0)]), NOTHING),
+    (0, Act::Offer(1, "b", &[Id::Of(0)]), NOTHING),
+    (0, Act::Offer(2, "a", &[Id::Of(0)]), ASKS_0),
+];
+
+/// What is not joined, seen lately, too short or offered before in the same offer is not asked for. 120,000
+/// milliseconds after a message was seen it is wanted again.
+static WANTED: [Step<'static>; 6] = [
+    (0, Act::Offer(1, "a", &[Id::Of(0)]), COUNTS),
+    (0, Act::Join("a"), NOTHING),
+    (500, Act::Message(2, 1), ACCEPTED),
+    (
+        600,
+        Act::Offer(1, "a", &[Id::Of(1), Id::ShortOf(2)]),
+        COUNTS,
+    ),
+    (
+        120_499,
+        Act::Offer(
+            1,
+            "a",
+            &[Id::Of(1), Id::Of(2), Id::ShortOf(3), Id::Of(2)],
+        ),
+        Then {
+            asks: &[2],
+            promise: Some((2, 123_499)),
+            gives: &[],
+            marks: 2,
+        },
+    ),
+    (
+        120_500,
+        Act::Offer(1, "a", &[Id::Of(1)]),
+        Then {
+            asks: &[1],
+            promise: Some((1, 123_500)),
+            gives: &[],
+            marks: 2,
+        },
+    ),
+];
+
+/// With a budget of three identifiers.
+static BUDGET: [Step<'static>; 4] = [
+    (0, Act::Join("a"), NOTHING),
+    (
+        0,
+        Act::Offer(1, "a", &[Id::Of(0)]),
+        ASKS_0,
+    ),
+    (
+        7,
+        Act::Offer(1, "a", &[Id::ShortOf(9), Id::Of(4)]),
+        Then {
+            asks: &[4],
+            promise: Some((4, 3_007)),
+            gives: &[],
+            marks: 2,
+        },
+    ),
+    (
+        8,
+        Act::Offer(1, "a", &[Id::Of(5), Id::Of(6)]),
+        Then {
+            asks: &[5],
+            promise: Some((5, 3_008)),
+            gives: &[],
+            marks: 2,
+        },
+    ),
+];
+
+/// Then none is left.
+static SPENT: Step<'static> = (9, Act::Offer(1, "a", &[Id::Of(7)]), COUNTS);
+
+/// Of three identifiers the one at place 7 modulo 3 is promised. No word is drawn where there is one alone.
+static CHOICE: [Step<'static>; 3] = [
+    (0, Act::Join("a"), NOTHING),
+    (0, Act::Offer(1, "a", &[Id::Of(0)]), ASKS_0),
+    (
+        0,
+        Act::Offer(2, "a", &[Id::Of(4), Id::Of(5), Id::Of(6)]),
+        Then {
+            asks: &[4, 5, 6],
+            promise: Some((5, 3_000)),
+            gives: &[],
+            marks: 2,
+        },
+    ),
+];
+
+#[test]
+fn a_word_chooses_the_identifier_that_is_promised(rt: HostRuntime) -> Result<(), AllocError> {
+    let alloc = rt.alloc();
+    assert_eq!(rt; first_wrong(alloc, Params::new(alloc), &CHOICE)?, 3);
+    Ok(())
+}
+
+#[test]
+fn ten_offers_of_a_neighbour_count(rt: HostRuntime) -> Result<(), AllocError> {
+    let alloc = rt.alloc();
+    assert_eq!(rt; first_wrong(alloc, Params::new(alloc), &OFFERS)?, 14);
+    Ok(())
+}
+
+#[test]
+fn what_is_new_and_an_identifier_is_asked_for_once(rt: HostRuntime) -> Result<(), AllocError> {
+    let alloc = rt.alloc();
+    assert_eq!(rt; first_wrong(alloc, Params::new(alloc), &WANTED)?, 6);
+    Ok(())
+}
+
+#[test]
+fn no_more_is_asked_than_the_budget_has(rt: HostRuntime) -> Result<(), AllocError> {
+    let alloc = rt.alloc();
+    let mut params = Params::new(alloc);
+    params.windows.max_ihave_ids = 3;
+    let steps = vec![in alloc; BUDGET[0], BUDGET[1], BUDGET[2], BUDGET[3], SPENT]?;
+    assert_eq!(rt; first_wrong(alloc, params, &steps)?, 5);
+    Ok(())
+}
+
+// ---- requests
+
+const GIVES_1: Then<'static> = Then {
+    asks: &[],
+    promise: None,
+    gives: &[1],
+    marks: 1,
+};
+
+/// A message is sent to a neighbour three times, until it comes anew.
+static REQUESTS: [Step<'static>; 10] = [
+    (0, Act::Join("a"), NOTHING),
+    (500, Act::Message(2, 1), ACCEPTED),
+    (500, Act::Message(2, 2), ACCEPTED),
+    (500, Act::Request(1, &[Id::Of(3), Id::ShortOf(1)]), NOTHING),
+    (
+        500,
+        Act::Request(1, &[Id::Of(1), Id::Of(2), Id::Of(1), Id::Of(1), Id::Of(1)]),
+        Then {
+            asks: &[],
+            promise: None,
+            gives: &[1, 2, 1, 1],
+            marks: 4,
+        },
+    ),
+    (501, Act::Request(1, &[Id::Of(1)]), NOTHING),
+    (501, Act::Request(2, &[Id::Of(1)]), GIVES_1),
+    (
+        502,
+        Act::Request(1, &[Id::Of(2), Id::Of(2), Id::Of(2)]),
+        Then {
+            asks: &[],
+            promise: None,
+            gives: &[2, 2],
+            marks: 2,
+        },
+    ),
+    (120_500, Act::Message(2, 1), ACCEPTED),
+    (120_500, Act::Request(1, &[Id::Of(1)]), GIVES_1),
+];
+
+#[test]
+fn a_message_is_sent_to_who_asks_as_often_as_it_may(rt: HostRuntime) -> Result<(), AllocError> {
+    let alloc = rt.alloc();
+    assert_eq!(rt; first_wrong(alloc, Params::new(alloc), &REQUESTS)?, 10);
+    Ok(())
+}
