@@ -6,7 +6,8 @@ use Rattle.gs_base.specs.declared.names.Millis.{Millis}
 use Rattle.gs_base.specs.declared.rpc.Message.{Message}
 use Rattle.gs_base.specs.declared.control.IHave.{IHave}
 use Rattle.gs_base.specs.declared.rpc.Rpc.{Rpc}
-use Rattle.gs_base.specs.declared.verdict.Verdict.TheVariants.{Accept}
+use Rattle.gs_base.specs.declared.verdict.Verdict.{Verdict}
+use Rattle.gs_base.specs.declared.verdict.Verdict.TheVariants.{Accept, Reject, Ignore}
 use Rattle.gs_base.specs.declared.mark.Mark.TheVariants as marks
 use Rattle.gs_rules.specs.declared.trace.Event.{Event}
 use Rattle.gs_rules.specs.declared.trace.Event.TheVariants.{Heard, Msg, Have, Publish}
@@ -16,10 +17,11 @@ use Rattle.gs_rules.specs.Peers.{Peer, seen_ttl}
 use Rattle.gs_rules.specs.Tables.{Entries, last_moment, joined, offers, seen}
 use Rattle.gs_rules.specs.Owed.{Debt, nothing, owed, owes, owing, paid, parts}
 use Rattle.gs_params.specs.Picks.{IsAscending}
-use Rattle.gs_rules.specs.Rules.{Rule, Gives, AnyOf, CutOf, OneOf, asked_for, bare, counted, have_rule, message_rule, rule_of, wanted}
+use Rattle.gs_rules.specs.Rules.{Rule, Gives, AnyOf, CutOf, OneOf, asked_for, bare, counted, have_rule, message_rule, new_message, rule_of, wanted}
 use Rattle.gs_rules.specs.Modes.{Mode, Follows, free}
 use Rattle.gs_rules.specs.Legal.{Legal, LegalOn, IsAllowed, IsNext, MayOpen, Begins}
 use Rattle.gs_base.specs.Names.{peers_of}
+use Rattle.gs_rules.proofs.Judged.{of_a_message}
 use Rattle.gs_rules.proofs.Owed.{heard_owes, owes_none, paid_last}
 use Rattle.gs_rules.proofs.Legality.{Weakens, follows_weakly, legal_on, legal_one, legal_then, legal_weakly}
 use Rattle.gs_router.specs.declared.setup.Setup.{Setup}
@@ -29,12 +31,6 @@ use Rattle.gs_router.specs.State.{Appends, Ends, IsCurrent, IsReady, Knows, Step
 
 -- ---- rules
 
-one_of : (P : Entry → Type 0) (a b c : Bool) (w x y z : Entry) → P w → P x → P y → P z → P (if a then w else if b then x else if c then y else z)
-one_of P true b c w x y z hw hx hy hz = hw
-one_of P false true c w x y z hw hx hy hz = hx
-one_of P false false true w x y z hw hx hy hz = hy
-one_of P false false false w x y z hw hx hy hz = hz
-
 -- the entry that a rule gives tells the event and the moment
 record Tells (at : Millis) (event : Event) (x : Entry) : Type 0 where
   moment : x.at ≡ at
@@ -42,10 +38,12 @@ record Tells (at : Millis) (event : Event) (x : Entry) : Type 0 where
 
 message_tells : (p : Peer) (L : Entries) (at : Millis) (q : PeerNo) (m : Message) → Tells at (Msg q m) (message_rule p L at q m)
 message_tells p L at q m =
-    let same : Tells at (Msg q m) (bare at (Msg q m)) = record { moment = refl; tells = refl } in
-    one_of (Tells at (Msg q m)) (not (joined L (topic_of m))) (is_signed m) (is_some (seen (seen_ttl p) L (message_id (payload_of m)) at.0))
-    (bare at (Msg q m)) (record (bare at (Msg q m)) { marks = marks.Invalid q (topic_of m) ∷ [] }) (bare at (Msg q m)) (record (bare at (Msg q m)) { delivered = (topic_of m, payload_of m) ∷ []; marks = marks.Seen (message_id (payload_of m)) Accept ∷ marks.Cached (message_id (payload_of m)) (topic_of m) ∷ [] })
-    same (record { moment = refl; tells = refl }) same (record { moment = refl; tells = refl })
+    of_a_message (Tells at (Msg q m)) p L at q m (record { moment = refl; tells = refl }) (record { moment = refl; tells = refl }) (λ unseen. new_tells)
+  where
+    new_tells : (v : Verdict) → Tells at (Msg q m) (new_message at q m v)
+    new_tells Accept = record { moment = refl; tells = refl }
+    new_tells Reject = record { moment = refl; tells = refl }
+    new_tells Ignore = record { moment = refl; tells = refl }
 
 -- and so does each that it may give
 abbrev TellsOnly : Millis → Event → Rule → Type 0

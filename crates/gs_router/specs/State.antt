@@ -5,7 +5,7 @@ use Rattle.gs_base.specs.declared.names.Millis.{Millis}
 use Rattle.gs_base.specs.declared.rpc.Message.{Message}
 use Rattle.gs_base.specs.Names.{peers_of, topic_of, payload_of}
 use Rattle.gs_params.specs.Picks.{IsAscending}
-use Rattle.gs_base.specs.declared.verdict.Verdict.TheVariants.{Accept}
+use Rattle.gs_base.specs.declared.verdict.Verdict.TheVariants.{Accept, Reject, Ignore}
 use Rattle.gs_base.specs.declared.mark.Mark.TheVariants as marks
 use Rattle.gs_rules.specs.declared.trace.Event.{Event}
 use Rattle.gs_rules.specs.declared.trace.Event.TheVariants.{Msg}
@@ -13,13 +13,13 @@ use Rattle.gs_rules.specs.declared.trace.Entry.{Entry}
 use Rattle.gs_rules.specs.Peers.{Peer}
 use Rattle.gs_rules.specs.Tables.{Entries, last_moment}
 use Rattle.gs_rules.specs.Owed.{owed, nothing}
-use Rattle.gs_rules.specs.Rules.{bare}
+use Rattle.gs_rules.specs.Rules.{bare, invalid}
 use Rattle.gs_rules.specs.Modes.{Mode}
 use Rattle.gs_rules.specs.Legal.{Legal, LegalOn, Begins, Opens}
 use Rattle.gs_router.specs.declared.setup.Setup.{Setup}
 use Rattle.gs_router.specs.declared.state.State.{State}
 use Rattle.gs_router.specs.declared.rules.messages.Fate.{Fate}
-use Rattle.gs_router.specs.declared.rules.messages.Fate.TheVariants.{Dropped, Invalid, Accepted}
+use Rattle.gs_router.specs.declared.rules.messages.Fate.TheVariants.{Dropped, Invalid, Rejected, Ignored, Accepted}
 use Rattle.gs_router.specs.Tables.{Agrees, AreMadeFor}
 
 -- the peer that a router is, as its trace is read
@@ -89,8 +89,10 @@ pub record Ends {A E : Type 0} (m : Mode) (event : Event) (now : Millis)
 -- the entry of a message that came from q, of which this becomes
 abbrev pub judged : PeerNo → Millis → Message → Fate → Entry
 judged q at m Dropped = bare at (Msg q m)
-judged q at m Invalid = record (bare at (Msg q m)) { marks = marks.Invalid q (topic_of m) ∷ [] }
+judged q at m Invalid = invalid at q m
+judged q at m (Rejected id) = record (bare at (Msg q m)) { marks = marks.Seen id Reject ∷ marks.Invalid q (topic_of m) ∷ [] }
+judged q at m (Ignored id) = record (bare at (Msg q m)) { marks = marks.Seen id Ignore ∷ [] }
 judged q at m (Accepted id) = record (bare at (Msg q m)) {
   delivered = (topic_of m, payload_of m) ∷ [];
-  marks = marks.Seen id Accept ∷ marks.Cached id (topic_of m) ∷ [];
+  marks = marks.Seen id Accept ∷ marks.First q (topic_of m) id ∷ marks.Cached id (topic_of m) ∷ [];
 }

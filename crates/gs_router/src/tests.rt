@@ -6,6 +6,7 @@ ghost use Rattle.gs_wire.specs.Codec.{codec};
 mod cases;
 mod gossip;
 mod made;
+mod verdicts;
 
 use crate::fault::RouterFault;
 use crate::router::Router;

@@ -13,9 +13,9 @@ use Rattle.gs_base.specs.declared.names.MsgId.{MsgId}
 use Rattle.gs_base.specs.declared.rpc.Message.{Message}
 use Rattle.gs_base.specs.declared.control.IHave.{IHave}
 use Rattle.gs_base.specs.declared.verdict.Verdict.{Verdict}
-use Rattle.gs_base.specs.declared.verdict.Verdict.TheVariants.{Accept}
+use Rattle.gs_base.specs.declared.verdict.Verdict.TheVariants.{Accept, Reject, Ignore}
 use Rattle.gs_base.specs.declared.mark.Mark.{Mark}
-use Rattle.gs_base.specs.declared.mark.Mark.TheVariants.{Seen, Cached}
+use Rattle.gs_base.specs.declared.mark.Mark.TheVariants.{Seen, First, Cached}
 use Rattle.gs_rules.specs.declared.trace.Event.{Event}
 use Rattle.gs_rules.specs.declared.trace.Event.TheVariants.{Msg, Have, Publish}
 use Rattle.gs_rules.specs.declared.trace.Entry.{Entry}
@@ -23,10 +23,11 @@ use Rattle.gs_base.specs.Names.{same_id, message_id, topic_of, payload_of, is_si
 use Rattle.gs_rules.specs.Tables.{Entries, last_moment, joined, Sighting, after_marks, sighting_after, last_seen, counting, seen}
 use Rattle.gs_rules.specs.Peers.{Peer, seen_ttl}
 use Rattle.gs_rules.specs.Owed.{owed}
-use Rattle.gs_rules.specs.Rules.{rule_of, asking, bare, counted, have_rule, message_rule, publish_rule, wanted}
+use Rattle.gs_rules.specs.Rules.{rule_of, asking, bare, counted, have_rule, invalid, message_rule, new_message, publish_rule, wanted}
 use Rattle.gs_rules.specs.Modes.{SaysTheSame, Follows, free}
 use Rattle.gs_rules.specs.Legal.{MayPublish, IsNext, IsAllowed, Legal, Delivers, DeliversApart}
 use Rattle.gs_rules.proofs.Legality.{legal_newest}
+use Rattle.gs_rules.proofs.Judged.{of_a_message}
 use Rattle.gs_rules.proofs.Owed.{opens}
 use Rattle.gs_rules.proofs.Offers.{what_is_offered}
 
@@ -51,6 +52,7 @@ only_among y x (suc i, (far, is)) = absurd (omega arith)
 abbrev SaysSeen : MsgId → Mark → Type 0
 SaysSeen id (Seen other verdict) = (other ≡ id) × (verdict ≡ Accept)
 SaysSeen id (Cached other t) = Unit {0}
+SaysSeen id (First q t other) = Unit {0}
 SaysSeen id other = ⊥
 
 -- a mark that says of a message when it was seen
@@ -72,6 +74,7 @@ stays_seen id at [] all = refl
 stays_seen id at (Seen other verdict ∷ marks) all =
     ap (λ (before : Option Sighting). after_marks (sighting_after id at) marks before) (found_itself id other verdict at (accepted at) all.0.0 all.0.1) ∙ stays_seen id at marks all.1
 stays_seen id at (Cached other t ∷ marks) all = stays_seen id at marks all.1
+stays_seen id at (First q t other ∷ marks) all = stays_seen id at marks all.1
 stays_seen id at (other ∷ marks) all = absurd all.0
 
 -- and one of them says it
@@ -80,46 +83,49 @@ gets_seen id at [] before all some = absurd cc
 gets_seen id at (Seen other verdict ∷ marks) before all some =
     ap (λ (seen : Option Sighting). after_marks (sighting_after id at) marks seen) (found_itself id other verdict at before all.0.0 all.0.1) ∙ stays_seen id at marks all.1
 gets_seen id at (Cached other t ∷ marks) before all some = gets_seen id at marks before all.1 some
+gets_seen id at (First q t other ∷ marks) before all some = gets_seen id at marks before all.1 some
 gets_seen id at (other ∷ marks) before all some = absurd all.0
 
--- an accepted message is marked as seen and as kept, in either order
-accepts : (id : MsgId) (t : Topic) (at : ℕ) (marks : List Mark) → IsPermutation (Seen id Accept ∷ Cached id t ∷ []) marks → (before : Option Sighting) → after_marks (sighting_after id at) marks before ≡ accepted at
-accepts id t at marks same before =
+-- an accepted message is marked as seen, among others and in any order
+accepts : (id : MsgId) (at : ℕ) (list marks : List Mark) → AllByRecursion (SaysSeen id) list → list_any is_sight list ≡ true → IsPermutation list marks → (before : Option Sighting) → after_marks (sighting_after id at) marks before ≡ accepted at
+accepts id at list marks all some same before =
     gets_seen id at marks before
-    (recursion_from_All (SaysSeen id) marks (All-permutation (SaysSeen id) _ marks same (All-from_recursion (SaysSeen id) (Seen id Accept ∷ Cached id t ∷ []) ((refl, refl), (tt, tt)))))
-    (sym (list_any-IsPermutation is_sight (Seen id Accept ∷ Cached id t ∷ []) marks same))
+    (recursion_from_All (SaysSeen id) marks (All-permutation (SaysSeen id) list marks same (All-from_recursion (SaysSeen id) list all)))
+    (sym (list_any-IsPermutation is_sight list marks same) ∙ some)
 
 -- an entry is fresh where its rule gives one message that was not seen lately, and marks it
-delivers_one : (p : Peer) (L : Entries) (e x : Entry) (y : Topic × List ℕ) (id : MsgId) → SaysTheSame e x → x.delivered ≡ y ∷ [] → x.marks ≡ Seen (message_id y.1) Accept ∷ Cached (message_id y.1) y.0 ∷ [] → seen (seen_ttl p) L (message_id y.1) e.at.0 ≡ None → Delivers e id → IsFresh p L e id
-delivers_one p L e x y id same delivered marks unseen (z, among, is) =
+delivers_one : (p : Peer) (L : Entries) (e x : Entry) (y : Topic × List ℕ) (id : MsgId) → SaysTheSame e x → x.delivered ≡ y ∷ [] → AllByRecursion (SaysSeen (message_id y.1)) x.marks → list_any is_sight x.marks ≡ true → seen (seen_ttl p) L (message_id y.1) e.at.0 ≡ None → Delivers e id → IsFresh p L e id
+delivers_one p L e x y id same delivered all some unseen (z, among, is) =
     let this : z ≡ y = only_among y z (rw (same.delivered, delivered) at among) in
     let known : message_id y.1 ≡ id = ap (λ w. message_id w.1) (sym this) ∙ is in
-    let order : IsPermutation (Seen (message_id y.1) Accept ∷ Cached (message_id y.1) y.0 ∷ []) e.marks = rw marks at same.marks in
     record {
       unseen = rw (← known) unseen;
-      marked = λ before. rw (← known) (accepts (message_id y.1) y.0 e.at.0 e.marks order before);
+      marked = λ before. rw (← known) (accepts (message_id y.1) e.at.0 x.marks e.marks all some same.marks before);
     }
 
 -- where its rule gives no message, it delivers none
 delivers_none : (p : Peer) (L : Entries) (e x : Entry) (id : MsgId) → SaysTheSame e x → x.delivered ≡ [] → Delivers e id → IsFresh p L e id
 delivers_none p L e x id same delivered (z, among, is) = absurd (nothing_among e.delivered z (same.delivered ∙ delivered) among)
 
--- a message that came, by what the tests of its rule find
-module _ (p : Peer) (L : Entries) (q : PeerNo) (m : Message) (e : Entry) (id : MsgId) (same : SaysTheSame e (message_rule p L e.at q m)) (delivers : Delivers e id) where
-  by_tests : (is_joined signed : Bool) (found : Option Verdict) → joined L (topic_of m) ≡ is_joined → is_signed m ≡ signed → seen (seen_ttl p) L (message_id (payload_of m)) e.at.0 ≡ found → IsFresh p L e id
-  by_tests false signed found j s f = delivers_none p L e (message_rule p L e.at q m) id same (rw j refl) delivers
-  by_tests true true found j s f = delivers_none p L e (message_rule p L e.at q m) id same (rw (j, s) refl) delivers
-  by_tests true false (Some v) j s f = delivers_none p L e (message_rule p L e.at q m) id same (rw (j, s, f) refl) delivers
-  by_tests true false None j s f = delivers_one p L e (message_rule p L e.at q m) (topic_of m, payload_of m) id same (rw (j, s, f) refl) (rw (j, s, f) refl) f delivers
-
-  heard : IsFresh p L e id
-  heard = by_tests (joined L (topic_of m)) (is_signed m) (seen (seen_ttl p) L (message_id (payload_of m)) e.at.0) refl refl refl
+-- a message that came
+heard : (p : Peer) (L : Entries) (q : PeerNo) (m : Message) (e : Entry) (id : MsgId) → SaysTheSame e (message_rule p L e.at q m) → Delivers e id → IsFresh p L e id
+heard p L q m e id same delivers =
+    of_a_message (λ (x : Entry). SaysTheSame e x → IsFresh p L e id) p L e.at q m
+    (λ says. delivers_none p L e (bare e.at (Msg q m)) id says refl delivers)
+    (λ says. delivers_none p L e (invalid e.at q m) id says refl delivers)
+    new
+    same
+  where
+    new : seen (seen_ttl p) L (message_id (payload_of m)) e.at.0 ≡ None → (v : Verdict) → SaysTheSame e (new_message e.at q m v) → IsFresh p L e id
+    new unseen Accept says = delivers_one p L e (new_message e.at q m Accept) (topic_of m, payload_of m) id says refl ((refl, refl), (tt, (tt, tt))) refl unseen delivers
+    new unseen Reject says = delivers_none p L e (new_message e.at q m Reject) id says refl delivers
+    new unseen Ignore says = delivers_none p L e (new_message e.at q m Ignore) id says refl delivers
 
 -- a message that the peer published, by whether it is subscribed
 module _ (p : Peer) (L : Entries) (t : Topic) (payload : List ℕ) (e : Entry) (id : MsgId) (may : MayPublish p L e.at.0 t payload) (same : SaysTheSame e (publish_rule p L e.at t payload)) (delivers : Delivers e id) where
   by_subscription : (is_joined : Bool) → joined L t ≡ is_joined → IsFresh p L e id
   by_subscription false j = delivers_none p L e (publish_rule p L e.at t payload) id same (rw j refl) delivers
-  by_subscription true j = delivers_one p L e (publish_rule p L e.at t payload) (t, payload) id same (rw j refl) refl may.unseen delivers
+  by_subscription true j = delivers_one p L e (publish_rule p L e.at t payload) (t, payload) id same (rw j refl) ((refl, refl), (tt, tt)) refl may.unseen delivers
 
   published : IsFresh p L e id
   published = by_subscription (joined L t) refl

@@ -29,10 +29,13 @@ use Rattle.gs_wire.proofs.SentOn.{request_fits}
 use Rattle.gs_rules.specs.Peers.{Peer, seen_ttl}
 use Rattle.gs_rules.specs.Tables.{Entries, joined, joined_after, seen}
 use Rattle.gs_rules.specs.Owed.{owed}
-use Rattle.gs_rules.specs.Rules.{answers, asking, bare, counted, have_rule, ids_in, listeners, message_rule, rule_of, to_each, up_neighbours, want_rule, wanted}
+use Rattle.gs_rules.specs.Rules.{answers, asking, bare, counted, have_rule, ids_in, listeners, message_rule, new_message, rule_of, to_each, up_neighbours, want_rule, wanted}
 use Rattle.gs_rules.specs.Modes.{SaysTheSame, sent_to, Follows, free}
 use Rattle.gs_rules.specs.Legal.{MaySubscribe, MayUnsubscribe, MayPublish, IsNext, Legal}
 use Rattle.gs_rules.specs.Saying.{SendsFit, AllFit}
+use Rattle.gs_base.specs.declared.verdict.Verdict.{Verdict}
+use Rattle.gs_base.specs.declared.verdict.Verdict.TheVariants.{Accept, Reject, Ignore}
+use Rattle.gs_rules.proofs.Judged.{of_a_message}
 use Rattle.gs_rules.proofs.Owed.{opens}
 use Rattle.gs_rules.proofs.Legality.{legal_newest}
 use Rattle.gs_rules.proofs.Offers.{wanted_few, wanted_long, what_is_offered}
@@ -151,13 +154,12 @@ joined_short p (e ∷ L) t legal joins = short_after p L e.at.0 e.event t (legal
 
 -- a message sends nothing
 message_fits : (p : Peer) (L : Entries) (at : Millis) (q : PeerNo) (m : Message) → SendsWritten (message_rule p L at q m).sends
-message_fits p L at q m = by_tests (joined L (topic_of m)) (is_signed m) (is_some (seen (seen_ttl p) L (message_id (payload_of m)) at.0)) refl refl refl
+message_fits p L at q m = of_a_message (λ (e : Entry). SendsWritten e.sends) p L at q m tt tt (λ unseen. new_fits)
   where
-    by_tests : (is_joined signed known : Bool) → joined L (topic_of m) ≡ is_joined → is_signed m ≡ signed → is_some (seen (seen_ttl p) L (message_id (payload_of m)) at.0) ≡ known → SendsWritten (message_rule p L at q m).sends
-    by_tests false signed known j s k = rw j tt
-    by_tests true true known j s k = rw (j, s) tt
-    by_tests true false true j s k = rw (j, s, k) tt
-    by_tests true false false j s k = rw (j, s, k) tt
+    new_fits : (v : Verdict) → SendsWritten (new_message at q m v).sends
+    new_fits Accept = tt
+    new_fits Reject = tt
+    new_fits Ignore = tt
 
 -- an offer sends one request, or nothing
 offer_fits : (p : Peer) (L : Entries) (q : PeerNo) (offer : IHave) (e : Entry) → Follows free (have_rule p L e.at q offer) tt e tt → SendsWritten e.sends

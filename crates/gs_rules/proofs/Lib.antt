@@ -1,5 +1,6 @@
 pub mod Owed
 pub mod Legality
+pub mod Judged
 pub mod Offers
 pub mod Deliveries
 pub mod Handled

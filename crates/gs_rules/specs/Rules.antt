@@ -1,7 +1,8 @@
 -- What a peer does about an event: for each event one rule, which gives the whole entry. Rules look at the trace
 -- before the entry alone.
 use Rattle.std.specs.Prelude.{ℕ, ◌+◌, ◌-◌, min, Bool, true, false, not, ◌&&◌, nat_eq, nat_le, nat_lt, if◌then◌else◌, List, [], ◌∷◌, ◌++◌, length, take, map, filter, fold, get_or, Option, Some, None, is_some, option_map}
-use Rattle.std.specs.List.{list_any}
+use Rattle.std.specs.List.{list_any, starts_with}
+use Rattle.std.specs.Map.{lookup}
 use Rattle.std.specs.Cmp.Lexicographic.{pointwise}
 use Rattle.gs_base.specs.declared.names.PeerNo.{PeerNo}
 use Rattle.gs_base.specs.declared.names.Topic.{Topic}
@@ -12,11 +13,13 @@ use Rattle.gs_base.specs.declared.names.MsgId.{MsgId}
 use Rattle.gs_base.specs.declared.control.IHave.{IHave}
 use Rattle.gs_base.specs.declared.control.IWant.{IWant}
 use Rattle.gs_wire.specs.Messages.{most_identifiers, passed_on, requesting}
-use Rattle.gs_base.specs.Names.{same_id, topic_or_empty, topic_of, payload_of, message_id, is_signed, announcement, publication}
+use Rattle.gs_base.specs.Names.{same_id, same_topic, topic_or_empty, topic_of, payload_of, message_id, is_signed, announcement, publication}
 use Rattle.gs_params.specs.declared.params.Degrees.{Degrees}
+use Rattle.gs_params.specs.declared.topic_params.TopicParams.{TopicParams}
 use Rattle.gs_params.specs.declared.cuts.Member.{Member}
-use Rattle.gs_base.specs.declared.verdict.Verdict.TheVariants.{Accept}
-use Rattle.gs_base.specs.declared.mark.Mark.TheVariants.{Seen, Invalid, Cached, Answered, HeardHave, Asked}
+use Rattle.gs_base.specs.declared.verdict.Verdict.{Verdict}
+use Rattle.gs_base.specs.declared.verdict.Verdict.TheVariants.{Accept, Reject, Ignore}
+use Rattle.gs_base.specs.declared.mark.Mark.TheVariants.{Seen, First, Invalid, Cached, Answered, HeardHave, Asked}
 use Rattle.gs_rules.specs.declared.trace.Event.{Event}
 use Rattle.gs_rules.specs.declared.trace.Event.TheVariants.{Msg, Have, Want, Subscribe, Unsubscribe, Publish}
 use Rattle.gs_rules.specs.declared.trace.Entry.{Entry}
@@ -75,17 +78,56 @@ publish_rule p L at t payload = record (bare at (Publish t payload)) {
   marks = Seen (message_id payload) Accept ∷ Cached (message_id payload) t ∷ [];
 }
 
+-- ---- messages that come
+
+-- a payload begins with one of these
+abbrev pub begins_with_one : List (List ℕ) → List ℕ → Bool
+begins_with_one prefixes payload = list_any (λ prefix. starts_with nat_eq payload prefix) prefixes
+
+-- What a payload is found to be by the parameters of its topic (gossipsub v1.1, "Extended Validators"): to reject goes
+-- before to ignore, and where none are given it is accepted.
+abbrev pub verdict_by : Option TopicParams → List ℕ → Verdict
+verdict_by None payload = Accept
+verdict_by (Some params) payload =
+    if begins_with_one params.reject payload then Reject
+    else if begins_with_one params.ignore payload then Ignore
+    else Accept
+
+-- the first parameters of a topic count
+abbrev pub verdict_on : List (Topic × TopicParams) → Message → Verdict
+verdict_on topics m = verdict_by (lookup (same_topic (topic_of m)) topics) (payload_of m)
+
+-- a message that counts against its sender
+abbrev pub invalid : Millis → PeerNo → Message → Entry
+invalid at q m = record (bare at (Msg q m)) { marks = Invalid q (topic_of m) ∷ [] }
+
+-- a message that was not seen lately, by what it is found to be
+abbrev pub new_message : Millis → PeerNo → Message → Verdict → Entry
+new_message at q m Accept = record (bare at (Msg q m)) {
+  delivered = (topic_of m, payload_of m) ∷ [];
+  marks = Seen (message_id (payload_of m)) Accept
+      ∷ First q (topic_of m) (message_id (payload_of m))
+      ∷ Cached (message_id (payload_of m)) (topic_of m)
+      ∷ [];
+}
+new_message at q m Reject = record (bare at (Msg q m)) {
+  marks = Seen (message_id (payload_of m)) Reject ∷ Invalid q (topic_of m) ∷ [];
+}
+new_message at q m Ignore = record (bare at (Msg q m)) { marks = Seen (message_id (payload_of m)) Ignore ∷ [] }
+
+-- a message, by what it was found to be lately: one that was rejected counts against each that passes it on
+abbrev pub known_or_new : Peer → Millis → PeerNo → Message → Option Verdict → Entry
+known_or_new p at q m (Some Reject) = invalid at q m
+known_or_new p at q m (Some other) = bare at (Msg q m)
+known_or_new p at q m None = new_message at q m (verdict_on p.params.topics m)
+
 -- A message that came is dropped where the peer isn't subscribed. One that is signed is invalid, and not marked as
--- seen. One that was seen lately is dropped. Any other is delivered, and kept.
+-- seen. Any other is marked as seen, if it was not lately, and delivered and kept, if it is accepted.
 abbrev pub message_rule : Peer → Entries → Millis → PeerNo → Message → Entry
 message_rule p L at q m =
     if not (joined L (topic_of m)) then bare at (Msg q m)
-    else if is_signed m then record (bare at (Msg q m)) { marks = Invalid q (topic_of m) ∷ [] }
-    else if is_some (seen (seen_ttl p) L (message_id (payload_of m)) at.0) then bare at (Msg q m)
-    else record (bare at (Msg q m)) {
-      delivered = (topic_of m, payload_of m) ∷ [];
-      marks = Seen (message_id (payload_of m)) Accept ∷ Cached (message_id (payload_of m)) (topic_of m) ∷ [];
-    }
+    else if is_signed m then invalid at q m
+    else known_or_new p at q m (seen (seen_ttl p) L (message_id (payload_of m)) at.0)
 
 -- ---- offers (gossipsub v1.0, "Control messages", IHAVE)
 

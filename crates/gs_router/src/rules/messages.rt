@@ -1,13 +1,15 @@
 //! Messages: what becomes of one that a neighbour passed on, and publishing.
-ghost use Rattle.std.specs.Prelude.{◌≡◌, ◌&&◌, [], ◌∷◌, IfOk, filter, if◌then◌else◌};
-ghost use Rattle.gs_base.specs.Names.{message_id};
+ghost use Rattle.std.specs.Prelude.{◌≡◌, ◌&&◌, [], ◌∷◌, Some, IfOk, filter, if◌then◌else◌};
+ghost use Rattle.std.specs.Map.{lookup};
+ghost use Rattle.gs_base.specs.Names.{message_id, payload_of, same_topic, topic_of};
+ghost use Rattle.gs_base.specs.declared.names.Millis.{Millis as MillisValue};
 ghost use Rattle.gs_base.specs.declared.names.PeerNo.{PeerNo as PeerNoValue};
-ghost use Rattle.gs_base.specs.declared.verdict.Verdict.TheVariants.{Accept};
+ghost use Rattle.gs_base.specs.declared.verdict.Verdict.TheVariants.{Accept, Reject, Ignore};
 ghost use Rattle.gs_base.specs.declared.mark.Mark.TheVariants as marks;
 ghost use Rattle.gs_rules.specs.declared.trace.Event.TheVariants as events;
 ghost use Rattle.gs_rules.specs.Peers.{links_of};
 ghost use Rattle.gs_rules.specs.Tables.{Entries, joined, up};
-ghost use Rattle.gs_rules.specs.Rules.{listeners, message_rule, publish_rule};
+ghost use Rattle.gs_rules.specs.Rules.{begins_with_one, listeners, message_rule, new_message, publish_rule, verdict_by, verdict_on};
 ghost use Rattle.gs_rules.specs.Refusals.{refusal};
 ghost use Rattle.gs_router.specs.PeerSets.{has};
 ghost use Rattle.gs_router.specs.Tables.{Agrees};
@@ -20,6 +22,7 @@ use bytes::Bytes;
 use gs_base::{
     LONGEST_TOPIC, Mark, Message, Millis, MsgId, PeerNo, Rpc, Seq, Shared, Topic, Verdict, clone_of,
 };
+use gs_params::TopicParams;
 use gs_rules::{Entry, Event, Refusal};
 use gs_wire::{MAX_BODY, publish_len};
 use std::alloc::{AllocError, Global};
@@ -33,6 +36,10 @@ pub enum Fate {
     Dropped,
     /// It counts against its sender.
     Invalid,
+    /// It counts against its sender, and its identifier is marked as seen and rejected.
+    Rejected(MsgId),
+    /// Its identifier is marked as seen.
+    Ignored(MsgId),
     /// It is delivered and kept, and its identifier marked as seen.
     Accepted(MsgId),
 }
@@ -50,14 +57,105 @@ fn fate_of(state: &State, message: &Message, now: Millis) -> Fate
         return Fate::Invalid;
     }
     let id = MsgId::of(message.payload_bytes());
-    if state.tables.sightings.is_seen(&id, now) {
-        return Fate::Dropped;
+    match state.tables.sightings.verdict(&id, now) {
+        Some(Verdict::Reject) => Fate::Invalid,
+        Some(_) => Fate::Dropped,
+        None => new_fate(state, message, id),
     }
-    Fate::Accepted(id)
 }
 
-/// What is remembered of a message that is accepted.
-fn accepted(alloc: Global, id: MsgId, topic: Topic) -> Result<Seq<Mark>, AllocError>
+/// What becomes of a message with this identifier, which was not seen lately.
+fn new_fate(state: &State, message: &Message, id: MsgId) -> Fate
+    ensures { (q : PeerNoValue) (at : MillisValue)
+        → id ≡ message_id (payload_of message.now)
+        → new_message at q message.now (verdict_on state.now.setup.params.topics message.now) ≡ judged q at message.now result }
+{
+    match verdict_of(state.setup.params.topics.as_slice(), message) {
+        Verdict::Accept => Fate::Accepted(id),
+        Verdict::Reject => Fate::Rejected(id),
+        Verdict::Ignore => Fate::Ignored(id),
+    }
+}
+
+/// What a message is found to be, by the parameters of its topic.
+fn verdict_of(topics: &[(Topic, TopicParams)], message: &Message) -> Verdict
+    ensures { result ≡ verdict_on topics.now message.now }
+{
+    match &message.topic {
+        Some(topic) => verdict_by(topics, topic, message.payload_bytes()),
+        None => verdict_by(topics, &Topic(Bytes::new()), message.payload_bytes()),
+    }
+}
+
+/// What a payload on a topic is found to be: the first parameters of the topic count.
+fn verdict_by(topics: &[(Topic, TopicParams)], topic: &Topic, payload: &[u8]) -> Verdict
+    ensures { result ≡ verdict_by (lookup (same_topic topic.now) topics.now) payload.now }
+{
+    for known in topics {
+        if *topic == known.0 {
+            return verdict_with(&known.1, payload);
+        }
+    }
+    Verdict::Accept
+}
+
+/// What a payload is found to be by these parameters.
+fn verdict_with(params: &TopicParams, payload: &[u8]) -> Verdict
+    ensures { result ≡ verdict_by (Some params.now) payload.now }
+{
+    if begins_with_one(params.reject.as_slice(), payload) {
+        return Verdict::Reject;
+    }
+    if begins_with_one(params.ignore.as_slice(), payload) {
+        return Verdict::Ignore;
+    }
+    Verdict::Accept
+}
+
+/// Whether a payload begins with one of these.
+fn begins_with_one(prefixes: &[Bytes], payload: &[u8]) -> bool
+    ensures { result ≡ begins_with_one prefixes.now payload.now }
+{
+    prefixes
+        .iter()
+        .any(|prefix| payload.starts_with(prefix.as_slice()))
+}
+
+/// What is remembered of a message that a neighbour was the first to pass on, and that is accepted.
+fn accepted(
+    alloc: Global,
+    from: PeerNo,
+    id: MsgId,
+    message: &Message,
+) -> Result<Seq<Mark>, AllocError>
+    ensures { IfOk result (λ list. list
+        ≡ marks.Seen id Accept
+        ∷ marks.First from (topic_of message.now) id
+        ∷ marks.Cached id (topic_of message.now)
+        ∷ []) }
+{
+    let mut marks = Seq::only(alloc, Mark::Seen(id, Verdict::Accept))?;
+    marks.push(Mark::First(from, message.topic_or_empty()?, id))?;
+    marks.push(Mark::Cached(id, message.topic_or_empty()?))?;
+    Ok(marks)
+}
+
+/// What is remembered of a message that is rejected.
+fn rejected(
+    alloc: Global,
+    from: PeerNo,
+    id: MsgId,
+    message: &Message,
+) -> Result<Seq<Mark>, AllocError>
+    ensures { IfOk result (λ list. list ≡ marks.Seen id Reject ∷ marks.Invalid from (topic_of message.now) ∷ []) }
+{
+    let mut marks = Seq::only(alloc, Mark::Seen(id, Verdict::Reject))?;
+    marks.push(Mark::Invalid(from, message.topic_or_empty()?))?;
+    Ok(marks)
+}
+
+/// What is remembered of a payload that is published.
+fn published(alloc: Global, id: MsgId, topic: Topic) -> Result<Seq<Mark>, AllocError>
     ensures { IfOk result (λ list. list ≡ marks.Seen id Accept ∷ marks.Cached id topic ∷ []) }
 {
     let mut marks = Seq::only(alloc, Mark::Seen(id, Verdict::Accept))?;
@@ -84,12 +182,20 @@ fn judged(
                 ..bare(alloc, now, Event::Msg(from, message))
             })
         }
+        Fate::Rejected(id) => Ok(Entry {
+            marks: rejected(alloc, from, id, message.get())?,
+            ..bare(alloc, now, Event::Msg(from, message))
+        }),
+        Fate::Ignored(id) => Ok(Entry {
+            marks: Seq::only(alloc, Mark::Seen(id, Verdict::Ignore))?,
+            ..bare(alloc, now, Event::Msg(from, message))
+        }),
         Fate::Accepted(id) => {
             let told = message.get();
             let delivery = (told.topic_or_empty()?, told.payload_or_empty()?);
             Ok(Entry {
                 delivered: Seq::only(alloc, delivery)?,
-                marks: accepted(alloc, id, told.topic_or_empty()?)?,
+                marks: accepted(alloc, from, id, told)?,
                 ..bare(alloc, now, Event::Msg(from, message))
             })
         }
@@ -177,7 +283,7 @@ pub fn publish(state: &State, publishing: Publishing, now: Millis) -> Result<Ent
     let rpc = Rpc::publication(state.alloc, &publishing.topic, &publishing.payload)?;
     let sends = to_each(state.alloc, rpc, &receivers)?;
     let delivered = delivered(state, &publishing)?;
-    let marks = accepted(state.alloc, publishing.id, clone_of(&publishing.topic)?)?;
+    let marks = published(state.alloc, publishing.id, clone_of(&publishing.topic)?)?;
     let Publishing { topic, payload, .. } = publishing;
     Ok(Entry {
         at: now,

@@ -4,7 +4,7 @@ ghost use Rattle.gs_base.specs.declared.names.MsgId.{MsgId as MsgIdValue};
 ghost use Rattle.gs_rules.specs.Tables.{Entries, last_moment, seen};
 ghost use Rattle.gs_router.specs.Tables.{AgreesOnSightings, verdict_after, verdict_at};
 
-use gs_base::{Mark, Millis, MsgId};
+use gs_base::{Mark, Millis, MsgId, Verdict};
 use gs_cache::SeenCache;
 use gs_rules::Entry;
 use std::alloc::{AllocError, Global};
@@ -34,6 +34,16 @@ impl Sightings {
             → result ≡ is_some (seen self.now.cache.ttl L id.now now.0) }
     {
         self.cache.seen(id, now).is_some()
+    }
+
+    /// What a message was found to be, where it was seen lately.
+    pub fn verdict(&self, id: &MsgId, now: Millis) -> Option<Verdict>
+        ensures { (L : Entries)
+            → AgreesOnSightings self.now L
+            → last_moment L ≤ now.0
+            → result ≡ seen self.now.cache.ttl L id.now now.0 }
+    {
+        self.cache.seen(id, now)
     }
 
     /// Notes a mark that was made at a moment.

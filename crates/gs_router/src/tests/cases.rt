@@ -25,6 +25,11 @@ const ABC_SEEN: Option<Left<'static>> = Some(Left::Accepted(ABC, "a"));
 
 const NOTHING_SEEN: Option<Left<'static>> = Some(Left::Accepted(NOTHING, ""));
 
+/// And that neighbour 1 was the first to pass them on.
+const ABC_FIRST: Option<Left<'static>> = Some(Left::First(1, ABC, "a"));
+
+const NOTHING_FIRST: Option<Left<'static>> = Some(Left::First(1, NOTHING, ""));
+
 const NOTHING_SEEN_ON_B: Option<Left<'static>> = Some(Left::Accepted(NOTHING, "b"));
 
 /// What is delivered of `abc` on `a`.
@@ -191,7 +196,7 @@ pub static SIGNATURES_TRACE: [Row<'static>; 13] = [
         None,
         INVALID,
     ),
-    (0, ABC_COMES, TO_NONE, GOT_ABC, ABC_SEEN),
+    (0, ABC_COMES, TO_NONE, GOT_ABC, ABC_FIRST),
 ];
 
 /// An RPC in which topics, a payload and whether it subscribes are absent.
@@ -230,7 +235,7 @@ pub static PARTS_TRACE: [Row<'static>; 10] = [
         What::Msg(1, (None, None, None)),
         TO_NONE,
         Some(("", b"")),
-        NOTHING_SEEN,
+        NOTHING_FIRST,
     ),
     (3, What::Publish("a", b"abc"), TO_NONE, None, ABC_SEEN),
     (120_003, What::Heard(2, NO_PARTS), TO_NONE, None, None),
@@ -259,13 +264,13 @@ pub static DUPLICATES: [Call<'static>; 9] = [
 pub static DUPLICATES_TRACE: [Row<'static>; 12] = [
     (0, What::Subscribe("a"), (&[1, 2], ON_A), None, None),
     (1_000, What::Heard(1, ABC_ON_A), TO_NONE, None, None),
-    (1_000, ABC_COMES, TO_NONE, GOT_ABC, ABC_SEEN),
+    (1_000, ABC_COMES, TO_NONE, GOT_ABC, ABC_FIRST),
     (1_000, What::Heard(1, ABC_ON_A), TO_NONE, None, None),
     (1_000, ABC_COMES, TO_NONE, None, None),
     (120_999, What::Heard(1, ABC_ON_A), TO_NONE, None, None),
     (120_999, ABC_COMES, TO_NONE, None, None),
     (121_000, What::Heard(1, ABC_ON_A), TO_NONE, None, None),
-    (121_000, ABC_COMES, TO_NONE, GOT_ABC, ABC_SEEN),
+    (121_000, ABC_COMES, TO_NONE, GOT_ABC, ABC_FIRST),
     (240_999, What::Heard(1, ABC_ON_A), TO_NONE, None, None),
     (240_999, ABC_COMES, TO_NONE, None, None),
     (
@@ -292,7 +297,7 @@ pub static JOINED_TRACE: [Row<'static>; 9] = [
     (0, ABC_COMES, TO_NONE, None, None),
     (0, What::Subscribe("a"), (&[1, 2], ON_A), None, None),
     (0, What::Heard(1, ABC_ON_A), TO_NONE, None, None),
-    (0, ABC_COMES, TO_NONE, GOT_ABC, ABC_SEEN),
+    (0, ABC_COMES, TO_NONE, GOT_ABC, ABC_FIRST),
     (0, What::Unsubscribe("a"), (&[1, 2], OFF_A), None, None),
     (120_000, What::Heard(1, ABC_ON_A), TO_NONE, None, None),
     (120_000, ABC_COMES, TO_NONE, None, None),

@@ -55,12 +55,12 @@ const COUNTS: Then<'static> = Then {
     marks: 1,
 };
 
-/// A message is seen and kept.
+/// A message is seen, is the first of its neighbour, and is kept.
 const ACCEPTED: Then<'static> = Then {
     asks: &[],
     promise: None,
     gives: &[],
-    marks: 2,
+    marks: 3,
 };
 
 /// A moment, what the router is told, and what comes of it.

@@ -34,6 +34,7 @@ pub enum What<'a> {
 #[derive(Clone, Copy)]
 pub enum Left<'a> {
     Accepted(MsgId, &'a str),
+    First(u16, MsgId, &'a str),
     Invalid(u16, &'a str),
 }
 
@@ -163,6 +164,11 @@ fn marks_of(alloc: Global, mark: Option<Left<'_>>) -> Result<Seq<Mark>, AllocErr
     match mark {
         Some(Left::Accepted(id, name)) => {
             marks.push(Mark::Seen(id, Verdict::Accept))?;
+            marks.push(Mark::Cached(id, topic_of(alloc, name)?))?;
+        }
+        Some(Left::First(from, id, name)) => {
+            marks.push(Mark::Seen(id, Verdict::Accept))?;
+            marks.push(Mark::First(PeerNo(from), topic_of(alloc, name)?, id))?;
             marks.push(Mark::Cached(id, topic_of(alloc, name)?))?;
         }
         Some(Left::Invalid(from, name)) => {
