@@ -4,7 +4,7 @@ mod params;
 mod values;
 
 use crate::reasons::keys::{missing, unknown};
-use crate::reasons::params::rule_of;
+use crate::reasons::params::Broken;
 use crate::reasons::values::Mismatch;
 use crate::shown::{Quoted, Ticked};
 use gs_scenario::{NameKind, ScenarioFault};
@@ -28,7 +28,7 @@ pub fn reason(alloc: Global, bytes: &[u8], fault: &ScenarioFault) -> Result<Stri
             unknown_name(alloc, place.as_str(), name.as_str(), *kind)
         }
         ScenarioFault::Repeated(place) => repeated(alloc, place.as_str()),
-        ScenarioFault::Params(fault) => format!(in alloc; "{}\n", rule_of(*fault)),
+        ScenarioFault::Params(fault) => format!(in alloc; "{}\n", Broken(*fault)),
         ScenarioFault::NoMemory => String::from_str(alloc, "there is not enough memory\n"),
     }
 }

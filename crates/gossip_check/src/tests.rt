@@ -1,11 +1,13 @@
 //! Whole answers, and whole runs.
 mod cases;
+mod params;
 mod values;
 
 use crate::answer::{NO_MEMORY_ANSWER, Verdict};
 use crate::program::{ExitStatus, run};
 use crate::tests::cases::{Case, FINE, KEYS, NO_TOML, SCENARIO};
-use crate::tests::values::{NAMES, PARAMS, VALUES};
+use crate::tests::params::PARAMS;
+use crate::tests::values::{NAMES, VALUES};
 use gs_streams::fakes::{Broken, Narrow};
 use std::alloc::{AllocError, Global};
 use std::io::Read;
@@ -73,7 +75,7 @@ fn names_are_refused_that_nothing_has_or_two_have(rt: HostRuntime) -> Result<(),
 }
 
 #[test]
-fn parameters_are_refused_with_their_rules(rt: HostRuntime) -> Result<(), AllocError> {
+fn parameters_are_refused_with_their_values_and_rules(rt: HostRuntime) -> Result<(), AllocError> {
     answer_all(&rt, &PARAMS)
 }
 

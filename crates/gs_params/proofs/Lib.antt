@@ -1,4 +1,5 @@
 pub mod InRange
+pub mod Broken
 pub mod Shuffles
 pub mod Picking
 pub mod Seeded

@@ -1,3 +1,4 @@
+pub mod Checks
 pub mod Params
 pub mod Picks
 pub mod Cuts

@@ -1,6 +1,6 @@
--- The ranges of parameters, and which is refused first.
-use Rattle.std.specs.Prelude.{◌≤◌, ◌<◌, ◌+◌, ◌*◌, ◌&&◌, ◌≤ℤ◌, ◌<ℤ◌, ℕ, nat_le, nat_lt, Bool, true, not, [], Result, Ok, Err, if◌then◌else◌, ℤ, pos, neg_ℤ, int_le, int_lt}
-use Rattle.std.specs.List.{All, list_all}
+-- The defaults of parameters, and the ranges that they must be in.
+use Rattle.std.specs.Prelude.{◌≤◌, ◌<◌, ◌+◌, ◌*◌, ◌≤ℤ◌, ◌<ℤ◌, Bool, true, [], ℤ, pos, neg_ℤ}
+use Rattle.std.specs.List.{All}
 use Rattle.gs_base.specs.declared.names.Topic.{Topic}
 use Rattle.gs_params.specs.declared.params.Degrees.{Degrees}
 use Rattle.gs_params.specs.declared.params.Thresholds.{Thresholds}
@@ -10,8 +10,7 @@ use Rattle.gs_params.specs.declared.params.Params.{Params}
 use Rattle.gs_params.specs.declared.topic_params.TopicFactors.{TopicFactors}
 use Rattle.gs_params.specs.declared.topic_params.TopicWindows.{TopicWindows}
 use Rattle.gs_params.specs.declared.topic_params.TopicParams.{TopicParams}
-use Rattle.gs_params.specs.declared.param_fault.ParamFault.{ParamFault}
-use Rattle.gs_params.specs.declared.param_fault.ParamFault.TheVariants as faults
+pub use Rattle.gs_params.specs.Checks.{checked, heaviest, highest_cap, in_range, int_in_range, longest_backoff, longest_time, number_of}
 
 -- ---- where nothing else is said
 
@@ -104,153 +103,6 @@ default_topic_params = record {
   reject = [];
   ignore = [];
 }
-
--- ---- numbers
-
--- the longest time, in milliseconds
-abbrev pub longest_time : ℕ
-longest_time = 1_000_000_000
-
--- the longest backoff, in seconds: a day
-abbrev pub longest_backoff : ℕ
-longest_backoff = 86_400
-
--- the heaviest weight, in millionths: what counts against a neighbour weighs as much below 0
-abbrev pub heaviest : ℤ
-heaviest = pos 1_000_000_000
-
--- the highest cap, in millionths
-abbrev pub highest_cap : ℤ
-highest_cap = pos 1_000_000_000_000
-
-abbrev pub in_range : ℕ → ℕ → ℕ → Bool
-in_range low high n = nat_le low n && nat_le n high
-
-abbrev pub int_in_range : ℤ → ℤ → ℤ → Bool
-int_in_range low high z = int_le low z && int_le z high
-
--- a weight of what is good, of what is bad, a factor, a cap
-abbrev pub is_reward : ℤ → Bool
-is_reward = int_in_range (pos 0) heaviest
-
-abbrev pub is_penalty : ℤ → Bool
-is_penalty = int_in_range (neg_ℤ heaviest) (pos 0)
-
-abbrev pub is_fraction : ℤ → Bool
-is_fraction = int_in_range (pos 0) (pos 1_000_000)
-
-abbrev pub is_cap : ℤ → Bool
-is_cap = int_in_range (pos 0) highest_cap
-
-abbrev pub is_time : ℕ → Bool
-is_time = in_range 1 longest_time
-
-abbrev pub is_backoff : ℕ → Bool
-is_backoff = in_range 1 longest_backoff
-
--- ---- the four checks
-
-abbrev pub degrees_hold : Degrees → Bool
-degrees_hold x =
-    nat_le 1 x.d_low
-    && nat_le x.d_low x.d
-    && nat_le x.d x.d_high
-    && nat_le x.d_high 64
-    && nat_lt x.d_out x.d_low
-    && nat_le (2 * x.d_out) x.d
-    && nat_le (x.d_score + x.d_out) x.d
-    && nat_le x.d_lazy 64
-
-abbrev pub thresholds_hold : Thresholds → Bool
-thresholds_hold x =
-    int_le x.graylist_threshold x.publish_threshold
-    && int_le x.publish_threshold x.gossip_threshold
-    && int_lt x.gossip_threshold (pos 0)
-    && is_cap x.opportunistic_threshold
-
-abbrev pub neighbour_weights_hold : Factors → Bool
-neighbour_weights_hold x = is_reward x.w5 && is_penalty x.w6 && is_penalty x.w7
-
-abbrev pub neighbour_caps_hold : Factors → Bool
-neighbour_caps_hold x = is_cap x.topic_cap && is_cap x.decay_to_zero && in_range 1 65_535 x.p6_threshold
-
-abbrev pub factors_hold : Factors → Bool
-factors_hold x =
-    in_range 0 1_000_000 x.gossip_factor
-    && is_fraction x.p7_decay
-    && neighbour_weights_hold x
-    && neighbour_caps_hold x
-
-abbrev pub rewards_hold : TopicFactors → Bool
-rewards_hold x = is_reward x.topic_weight && is_reward x.w1 && is_reward x.w2
-
-abbrev pub penalties_hold : TopicFactors → Bool
-penalties_hold x = is_penalty x.w3 && is_penalty x.w3b && is_penalty x.w4
-
-abbrev pub decays_hold : TopicFactors → Bool
-decays_hold x = is_fraction x.p2_decay && is_fraction x.p3_decay && is_fraction x.p3b_decay && is_fraction x.p4_decay
-
-abbrev pub caps_hold : TopicFactors → Bool
-caps_hold x = is_cap x.p1_cap && is_cap x.p2_cap && is_cap x.p3_cap && is_cap x.p3_threshold
-
-abbrev pub topic_factors_hold : TopicFactors → Bool
-topic_factors_hold x = rewards_hold x && penalties_hold x && decays_hold x && caps_hold x
-
-abbrev pub times_hold : Windows → Bool
-times_hold x =
-    is_time x.heartbeat_ms
-    && is_time x.decay_ms
-    && is_time x.fanout_ttl_ms
-    && is_time x.seen_ttl_ms
-    && is_time x.iwant_followup_ms
-    && is_backoff x.prune_backoff_s
-    && is_backoff x.unsubscribe_backoff_s
-
-abbrev pub budgets_hold : Windows → Bool
-budgets_hold x =
-    nat_le 1 x.mcache_gossip
-    && nat_le x.mcache_gossip x.mcache_len
-    && nat_le x.mcache_len 64
-    && in_range 1 1_000_000 x.opportunistic_ticks
-    && in_range 0 64 x.opportunistic_peers
-    && in_range 1 1_000 x.max_ihave
-    && in_range 1 5_000 x.max_ihave_ids
-    && in_range 1 1_000 x.gossip_retransmission
-
-abbrev pub windows_hold : Windows → Bool
-windows_hold x = times_hold x && budgets_hold x
-
-abbrev pub topic_windows_hold : TopicWindows → Bool
-topic_windows_hold x =
-    is_time x.p1_quantum_ms
-    && in_range 0 longest_time x.p3_window_ms
-    && in_range 0 longest_time x.p3_activation_ms
-
--- and of all topics
-abbrev pub all_factors_hold : Params → Bool
-all_factors_hold p =
-    factors_hold p.factors
-    && list_all (λ (topic : Topic × TopicParams). topic_factors_hold topic.1.factors) p.topics
-
-abbrev pub all_windows_hold : Params → Bool
-all_windows_hold p =
-    windows_hold p.windows
-    && list_all (λ (topic : Topic × TopicParams). topic_windows_hold topic.1.windows) p.topics
-
--- the parameters, or the first check that fails
-abbrev pub checked : Params → Result Params ParamFault
-checked p =
-    if not (degrees_hold p.degrees) then Err faults.Degrees
-    else if not (thresholds_hold p.thresholds) then Err faults.Thresholds
-    else if not (all_factors_hold p) then Err faults.Factor
-    else if not (all_windows_hold p) then Err faults.Window
-    else Ok p
-
-abbrev pub number_of : ParamFault → ℕ
-number_of faults.Degrees = 1
-number_of faults.Thresholds = 2
-number_of faults.Factor = 3
-number_of faults.Window = 4
 
 -- ---- what parameters that were checked are known to be
 

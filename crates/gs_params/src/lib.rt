@@ -2,8 +2,10 @@
 //! peers.
 #![tactic(auto)]
 
+mod checks;
 mod cuts;
 mod param_fault;
+mod parameter;
 mod params;
 mod picks;
 mod plan;
@@ -12,8 +14,10 @@ mod seeded_words;
 mod topic_params;
 mod words;
 
+pub use checks::{Check, CountRule, ScoreRule};
 pub use cuts::{Member, a_cut_by_words_is_a_cut};
 pub use param_fault::ParamFault;
+pub use parameter::{Parameter, TopicParameter};
 pub use params::{
     DEFAULT_DEGREES, DEFAULT_FACTORS, DEFAULT_FLOOD_PUBLISH, DEFAULT_THRESHOLDS, DEFAULT_WINDOWS,
     Degrees, Factors, Params, Thresholds, Windows, parameters_in_range_pass,

@@ -1,22 +1,24 @@
 //! Why parameters are refused.
 ghost use Rattle.std.specs.Prelude.{◌≡◌};
-ghost use Rattle.gs_params.specs.Params.{number_of};
+ghost use Rattle.gs_params.specs.Checks.{number_of};
 
-/// Why parameters are refused.
+use crate::checks::Check;
+
+/// Why parameters are refused: the first check that fails, in its group.
 #[derive(Clone, Copy, Debug, PartialEq, Eq, thiserror::Error)]
 pub enum ParamFault {
     /// The degrees don't fit together.
     #[error("the degrees don't fit together")]
-    Degrees,
+    Degrees(Check),
     /// A threshold is out of its range or their order.
     #[error("a threshold is out of range")]
-    Thresholds,
+    Thresholds(Check),
     /// A factor, a weight or a cap is out of its range.
     #[error("a factor, a weight or a cap is out of range")]
-    Factor,
+    Factor(Check),
     /// A time or a budget is out of its range.
     #[error("a time or a budget is out of range")]
-    Window,
+    Window(Check),
 }
 
 impl ParamFault {
@@ -25,10 +27,10 @@ impl ParamFault {
         ensures { result ≡ number_of self }
     {
         match self {
-            ParamFault::Degrees => 1,
-            ParamFault::Thresholds => 2,
-            ParamFault::Factor => 3,
-            ParamFault::Window => 4,
+            ParamFault::Degrees(_) => 1,
+            ParamFault::Thresholds(_) => 2,
+            ParamFault::Factor(_) => 3,
+            ParamFault::Window(_) => 4,
         }
     }
 }

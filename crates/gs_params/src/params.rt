@@ -5,11 +5,19 @@
 //! the defaults are this project's own.
 ghost use Rattle.std.specs.Prelude.{◌≡◌, IfOk};
 ghost use Rattle.gs_params.specs.declared.params.Params.{Params as ParamsValue};
-ghost use Rattle.std.specs.List.{list_all};
-ghost use Rattle.gs_params.specs.Params.{AreInRange, all_factors_hold, all_windows_hold, budgets_hold, checked, default_params, degrees_hold, factors_hold, neighbour_caps_hold, neighbour_weights_hold, thresholds_hold, times_hold, topic_factors_hold, topic_windows_hold, windows_hold};
+ghost use Rattle.gs_params.specs.Params.{AreInRange, default_params};
+ghost use Rattle.gs_params.specs.Checks.{all_factor_checks, all_window_checks, checked, degree_checks, each_topic_from, factor_checks, first_broken, threshold_checks, topic_factor_checks, topic_window_checks, window_checks};
 
+use crate::checks::{Check, CountRule, ScoreRule, first_broken};
 use crate::param_fault::ParamFault;
-use crate::ranges::{is_backoff, is_cap, is_fraction, is_in_range, is_penalty, is_reward, is_time};
+use crate::parameter::Parameter::{
+    D, DHigh, DLazy, DLow, DOut, DScore, DecayMs, DecayToZero, FanoutTtlMs, GossipFactor,
+    GossipRetransmission, GossipThreshold, GraylistThreshold, HeartbeatMs, IwantFollowupMs,
+    MaxIhave, MaxIhaveIds, McacheGossip, McacheLen, OpportunisticPeers, OpportunisticThreshold,
+    OpportunisticTicks, P6Threshold, P7Decay, PruneBackoffS, PublishThreshold, SeenTtlMs, TopicCap,
+    UnsubscribeBackoffS, W5, W6, W7,
+};
+use crate::ranges::{BACKOFF, CAP, FRACTION, PENALTY, REWARD, TIME};
 use crate::topic_params::TopicParams;
 use gs_base::{ExactClone, Seq, Topic};
 use std::alloc::{AllocError, Global};
@@ -165,92 +173,113 @@ pub struct Params {
 }
 
 impl Degrees {
-    /// Whether they fit together.
-    fn hold(&self) -> bool
-        ensures { result ≡ degrees_hold self.now }
+    /// The first check that fails: whether they fit together.
+    fn first_broken(&self) -> Option<Check>
+        ensures { result ≡ first_broken (degree_checks self.now) }
     {
-        1 <= self.d_low
-            && self.d_low <= self.d
-            && self.d <= self.d_high
-            && self.d_high <= 64
-            && self.d_out < self.d_low
-            && 2 * self.d_out <= self.d
-            && self.d_score.saturating_add(self.d_out) <= self.d
-            && self.d_lazy <= 64
+        first_broken(&[
+            Check::Count(D, self.d, CountRule::NotAbove(DHigh, self.d_high)),
+            Check::Count(DLow, self.d_low, CountRule::AtLeast(1)),
+            Check::Count(DLow, self.d_low, CountRule::NotAbove(D, self.d)),
+            Check::Count(DHigh, self.d_high, CountRule::AtMost(64)),
+            Check::Count(
+                DScore,
+                self.d_score,
+                CountRule::SumNotAbove(DOut, self.d_out, D, self.d),
+            ),
+            Check::Count(DOut, self.d_out, CountRule::BelowThat(DLow, self.d_low)),
+            Check::Count(DOut, self.d_out, CountRule::TwiceNotAbove(D, self.d)),
+            Check::Count(DLazy, self.d_lazy, CountRule::AtMost(64)),
+        ])
     }
 }
 
 impl Thresholds {
-    /// Whether they are in their ranges and their order.
-    fn hold(&self) -> bool
-        ensures { result ≡ thresholds_hold self.now }
+    /// The first check that fails: whether they are in their ranges and their order.
+    fn first_broken(&self) -> Option<Check>
+        ensures { result ≡ first_broken (threshold_checks self.now) }
     {
-        self.graylist_threshold <= self.publish_threshold
-            && self.publish_threshold <= self.gossip_threshold
-            && self.gossip_threshold < 0
-            && is_cap(self.opportunistic_threshold)
+        let gossip = self.gossip_threshold;
+        let publish = self.publish_threshold;
+        let graylist = self.graylist_threshold;
+        first_broken(&[
+            Check::Score(GossipThreshold, gossip, ScoreRule::Below(0)),
+            Check::Score(
+                PublishThreshold,
+                publish,
+                ScoreRule::NotAbove(GossipThreshold, gossip),
+            ),
+            Check::Score(
+                GraylistThreshold,
+                graylist,
+                ScoreRule::NotAbove(PublishThreshold, publish),
+            ),
+            Check::Score(OpportunisticThreshold, self.opportunistic_threshold, CAP),
+        ])
     }
 }
 
 impl Factors {
-    /// Whether each is in its range.
-    fn hold(&self) -> bool
-        ensures { result ≡ factors_hold self.now }
+    /// The first check that fails: whether each is in its range.
+    fn first_broken(&self) -> Option<Check>
+        ensures { result ≡ first_broken (factor_checks self.now) }
     {
-        is_in_range(0, 1_000_000, self.gossip_factor)
-            && is_fraction(self.p7_decay)
-            && self.weights_hold()
-            && self.caps_hold()
-    }
-
-    fn weights_hold(&self) -> bool
-        ensures { result ≡ neighbour_weights_hold self.now }
-    {
-        is_reward(self.w5) && is_penalty(self.w6) && is_penalty(self.w7)
-    }
-
-    fn caps_hold(&self) -> bool
-        ensures { result ≡ neighbour_caps_hold self.now }
-    {
-        is_cap(self.topic_cap)
-            && is_cap(self.decay_to_zero)
-            && is_in_range(1, 65_535, self.p6_threshold)
+        first_broken(&[
+            Check::Count(
+                GossipFactor,
+                self.gossip_factor,
+                CountRule::AtMost(1_000_000),
+            ),
+            Check::Score(P7Decay, self.p7_decay, FRACTION),
+            Check::Score(W5, self.w5, REWARD),
+            Check::Score(W6, self.w6, PENALTY),
+            Check::Score(W7, self.w7, PENALTY),
+            Check::Score(TopicCap, self.topic_cap, CAP),
+            Check::Score(DecayToZero, self.decay_to_zero, CAP),
+            Check::Count(P6Threshold, self.p6_threshold, CountRule::Range(1, 65_535)),
+        ])
     }
 }
 
 impl Windows {
-    /// Whether each is in its range.
-    fn hold(&self) -> bool
-        ensures { result ≡ windows_hold self.now }
+    /// The first check that fails: whether each is in its range.
+    fn first_broken(&self) -> Option<Check>
+        ensures { result ≡ first_broken (window_checks self.now) }
     {
-        self.times_hold() && self.budgets_hold()
-    }
-
-    /// Whether each time is in its range.
-    fn times_hold(&self) -> bool
-        ensures { result ≡ times_hold self.now }
-    {
-        is_time(self.heartbeat_ms)
-            && is_time(self.decay_ms)
-            && is_time(self.fanout_ttl_ms)
-            && is_time(self.seen_ttl_ms)
-            && is_time(self.iwant_followup_ms)
-            && is_backoff(self.prune_backoff_s)
-            && is_backoff(self.unsubscribe_backoff_s)
-    }
-
-    /// Whether each number of heartbeats, neighbours and messages is in its range.
-    fn budgets_hold(&self) -> bool
-        ensures { result ≡ budgets_hold self.now }
-    {
-        1 <= self.mcache_gossip
-            && self.mcache_gossip <= self.mcache_len
-            && self.mcache_len <= 64
-            && is_in_range(1, 1_000_000, self.opportunistic_ticks)
-            && is_in_range(0, 64, self.opportunistic_peers)
-            && is_in_range(1, 1_000, self.max_ihave)
-            && is_in_range(1, 5_000, self.max_ihave_ids)
-            && is_in_range(1, 1_000, self.gossip_retransmission)
+        let len = self.mcache_len;
+        first_broken(&[
+            Check::Count(HeartbeatMs, self.heartbeat_ms, TIME),
+            Check::Count(DecayMs, self.decay_ms, TIME),
+            Check::Count(FanoutTtlMs, self.fanout_ttl_ms, TIME),
+            Check::Count(SeenTtlMs, self.seen_ttl_ms, TIME),
+            Check::Count(IwantFollowupMs, self.iwant_followup_ms, TIME),
+            Check::Count(PruneBackoffS, self.prune_backoff_s, BACKOFF),
+            Check::Count(UnsubscribeBackoffS, self.unsubscribe_backoff_s, BACKOFF),
+            Check::Count(McacheLen, len, CountRule::Range(1, 64)),
+            Check::Count(McacheGossip, self.mcache_gossip, CountRule::AtLeast(1)),
+            Check::Count(
+                McacheGossip,
+                self.mcache_gossip,
+                CountRule::NotAbove(McacheLen, len),
+            ),
+            Check::Count(
+                OpportunisticTicks,
+                self.opportunistic_ticks,
+                CountRule::Range(1, 1_000_000),
+            ),
+            Check::Count(
+                OpportunisticPeers,
+                self.opportunistic_peers,
+                CountRule::AtMost(64),
+            ),
+            Check::Count(MaxIhave, self.max_ihave, CountRule::Range(1, 1_000)),
+            Check::Count(MaxIhaveIds, self.max_ihave_ids, CountRule::Range(1, 5_000)),
+            Check::Count(
+                GossipRetransmission,
+                self.gossip_retransmission,
+                CountRule::Range(1, 1_000),
+            ),
+        ])
     }
 }
 
@@ -291,38 +320,45 @@ impl Params {
     /// The parameters, which are then known to be in their ranges.
     ///
     /// # Errors
-    /// The first check that fails: `Degrees`, `Thresholds`, `Factor` and `Window`, in this order.
+    /// The first check that fails. First come `Degrees`, then `Thresholds`, `Factor` and `Window`, each of these two
+    /// with those of topics last; within a group the checks have the order of the parameters' names in the structs.
     pub fn check(self) -> Result<Params, ParamFault>
         ensures checked { result ≡ checked self }
         ensures in_range { IfOk result AreInRange }
     {
-        if !self.degrees.hold() {
-            return Err(ParamFault::Degrees);
+        if let Some(check) = self.degrees.first_broken() {
+            return Err(ParamFault::Degrees(check));
         }
-        if !self.thresholds.hold() {
-            return Err(ParamFault::Thresholds);
+        if let Some(check) = self.thresholds.first_broken() {
+            return Err(ParamFault::Thresholds(check));
         }
-        if !self.factors_hold() {
-            return Err(ParamFault::Factor);
+        if let Some(check) = self.first_broken_factor() {
+            return Err(ParamFault::Factor(check));
         }
-        if !self.windows_hold() {
-            return Err(ParamFault::Window);
+        if let Some(check) = self.first_broken_window() {
+            return Err(ParamFault::Window(check));
         }
         Ok(self)
     }
 
-    /// Whether each factor is in its range, those of topics too.
-    fn factors_hold(&self) -> bool
-        ensures { result ≡ all_factors_hold self.now }
+    /// The first check of a factor that fails, those of topics last.
+    fn first_broken_factor(&self) -> Option<Check>
+        ensures { result ≡ first_broken (all_factor_checks self.now) }
     {
-        self.factors.hold() && topic_factors_hold(self.topics.as_slice())
+        if let Some(check) = self.factors.first_broken() {
+            return Some(check);
+        }
+        first_broken_factor(self.topics.as_slice())
     }
 
-    /// Whether each window is in its range, those of topics too.
-    fn windows_hold(&self) -> bool
-        ensures { result ≡ all_windows_hold self.now }
+    /// The first check of a window that fails, those of topics last.
+    fn first_broken_window(&self) -> Option<Check>
+        ensures { result ≡ first_broken (all_window_checks self.now) }
     {
-        self.windows.hold() && topic_windows_hold(self.topics.as_slice())
+        if let Some(check) = self.windows.first_broken() {
+            return Some(check);
+        }
+        first_broken_window(self.topics.as_slice())
     }
 }
 
@@ -331,16 +367,28 @@ pub fn parameters_in_range_pass()
     ensures { (p : ParamsValue) → AreInRange p → checked p ≡ Ok p }
 {}
 
-fn topic_factors_hold(topics: &[(Topic, TopicParams)]) -> bool
-    ensures { result ≡ list_all (λ topic. topic_factors_hold topic.1.factors) topics.now }
+fn first_broken_factor(topics: &[(Topic, TopicParams)]) -> Option<Check>
+    ensures { result ≡ first_broken
+        (each_topic_from (λ place one. topic_factor_checks place one.factors) 0 topics.now) }
 {
-    topics.iter().all(|topic| topic.1.factors.hold())
+    for (place, topic) in topics.iter().enumerate() {
+        if let Some(check) = topic.1.factors.first_broken(place) {
+            return Some(check);
+        }
+    }
+    None
 }
 
-fn topic_windows_hold(topics: &[(Topic, TopicParams)]) -> bool
-    ensures { result ≡ list_all (λ topic. topic_windows_hold topic.1.windows) topics.now }
+fn first_broken_window(topics: &[(Topic, TopicParams)]) -> Option<Check>
+    ensures { result ≡ first_broken
+        (each_topic_from (λ place one. topic_window_checks place one.windows) 0 topics.now) }
 {
-    topics.iter().all(|topic| topic.1.windows.hold())
+    for (place, topic) in topics.iter().enumerate() {
+        if let Some(check) = topic.1.windows.first_broken(place) {
+            return Some(check);
+        }
+    }
+    None
 }
 
 #[cfg(test)]

@@ -1,10 +1,15 @@
 //! The parameters of a topic: gossipsub v1.1, Peer Scoring, Topic Parameter Calculation.
 ghost use Rattle.std.specs.Prelude.{◌≡◌};
-ghost use Rattle.gs_params.specs.Params.{decays_hold, caps_hold, default_topic_params, topic_factors_hold, penalties_hold, rewards_hold, topic_windows_hold};
+ghost use Rattle.gs_params.specs.Params.{default_topic_params};
+ghost use Rattle.gs_params.specs.Checks.{first_broken, topic_factor_checks, topic_window_checks};
 
-use crate::ranges::{
-    LONGEST_TIME, is_cap, is_fraction, is_in_range, is_penalty, is_reward, is_time,
+use crate::checks::{Check, CountRule, first_broken};
+use crate::parameter::Parameter::OfTopic;
+use crate::parameter::TopicParameter::{
+    P1Cap, P1QuantumMs, P2Cap, P2Decay, P3ActivationMs, P3Cap, P3Decay, P3Threshold, P3WindowMs,
+    P3bDecay, P4Decay, TopicWeight, W1, W2, W3, W3b, W4,
 };
+use crate::ranges::{CAP, FRACTION, LONGEST_TIME, PENALTY, REWARD, TIME};
 use bytes::Bytes;
 use gs_base::{ExactClone, Seq};
 use std::alloc::{AllocError, Global};
@@ -121,51 +126,43 @@ impl TopicParams {
 }
 
 impl TopicFactors {
-    /// Whether each is in its range.
-    pub(crate) fn hold(&self) -> bool
-        ensures { result ≡ topic_factors_hold self.now }
+    /// The first check that fails, of the topic at this place: whether each is in its range.
+    pub(crate) fn first_broken(&self, place: usize) -> Option<Check>
+        ensures { result ≡ first_broken (topic_factor_checks place self.now) }
     {
-        self.rewards_hold() && self.penalties_hold() && self.decays_hold() && self.caps_hold()
-    }
-
-    fn rewards_hold(&self) -> bool
-        ensures { result ≡ rewards_hold self.now }
-    {
-        is_reward(self.topic_weight) && is_reward(self.w1) && is_reward(self.w2)
-    }
-
-    fn penalties_hold(&self) -> bool
-        ensures { result ≡ penalties_hold self.now }
-    {
-        is_penalty(self.w3) && is_penalty(self.w3b) && is_penalty(self.w4)
-    }
-
-    fn decays_hold(&self) -> bool
-        ensures { result ≡ decays_hold self.now }
-    {
-        is_fraction(self.p2_decay)
-            && is_fraction(self.p3_decay)
-            && is_fraction(self.p3b_decay)
-            && is_fraction(self.p4_decay)
-    }
-
-    fn caps_hold(&self) -> bool
-        ensures { result ≡ caps_hold self.now }
-    {
-        is_cap(self.p1_cap)
-            && is_cap(self.p2_cap)
-            && is_cap(self.p3_cap)
-            && is_cap(self.p3_threshold)
+        first_broken(&[
+            Check::Score(OfTopic(place, TopicWeight), self.topic_weight, REWARD),
+            Check::Score(OfTopic(place, W1), self.w1, REWARD),
+            Check::Score(OfTopic(place, W2), self.w2, REWARD),
+            Check::Score(OfTopic(place, W3), self.w3, PENALTY),
+            Check::Score(OfTopic(place, W3b), self.w3b, PENALTY),
+            Check::Score(OfTopic(place, W4), self.w4, PENALTY),
+            Check::Score(OfTopic(place, P2Decay), self.p2_decay, FRACTION),
+            Check::Score(OfTopic(place, P3Decay), self.p3_decay, FRACTION),
+            Check::Score(OfTopic(place, P3bDecay), self.p3b_decay, FRACTION),
+            Check::Score(OfTopic(place, P4Decay), self.p4_decay, FRACTION),
+            Check::Score(OfTopic(place, P1Cap), self.p1_cap, CAP),
+            Check::Score(OfTopic(place, P2Cap), self.p2_cap, CAP),
+            Check::Score(OfTopic(place, P3Cap), self.p3_cap, CAP),
+            Check::Score(OfTopic(place, P3Threshold), self.p3_threshold, CAP),
+        ])
     }
 }
 
 impl TopicWindows {
-    /// Whether each is in its range.
-    pub(crate) fn hold(&self) -> bool
-        ensures { result ≡ topic_windows_hold self.now }
+    /// The first check that fails, of the topic at this place: whether each is in its range.
+    pub(crate) fn first_broken(&self, place: usize) -> Option<Check>
+        ensures { result ≡ first_broken (topic_window_checks place self.now) }
     {
-        is_time(self.p1_quantum_ms)
-            && is_in_range(0, LONGEST_TIME, self.p3_window_ms)
-            && is_in_range(0, LONGEST_TIME, self.p3_activation_ms)
+        let any_time = CountRule::AtMost(LONGEST_TIME);
+        first_broken(&[
+            Check::Count(OfTopic(place, P1QuantumMs), self.p1_quantum_ms, TIME),
+            Check::Count(OfTopic(place, P3WindowMs), self.p3_window_ms, any_time),
+            Check::Count(
+                OfTopic(place, P3ActivationMs),
+                self.p3_activation_ms,
+                any_time,
+            ),
+        ])
     }
 }

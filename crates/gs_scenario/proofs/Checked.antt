@@ -1,30 +1,27 @@
 -- Parameters that pass their checks.
-use Rattle.std.proofs.Common.{◌≡◌, Bool, true, false, not, Result, Ok, Err, subst}
+use Rattle.std.proofs.Common.{◌≡◌, Result, Ok, Option, Some, None, subst}
 use Rattle.gs_params.specs.declared.params.Params.{Params}
+use Rattle.gs_params.specs.declared.checks.Check.{Check}
 use Rattle.gs_params.specs.declared.param_fault.ParamFault.{ParamFault}
 use Rattle.gs_params.specs.declared.param_fault.ParamFault.TheVariants as faults
-use Rattle.gs_params.specs.Params.{checked, degrees_hold, thresholds_hold, all_factors_hold, all_windows_hold}
-use Rattle.std.specs.Prelude.{if◌then◌else◌}
+use Rattle.gs_params.specs.Checks.{checked, unless_broken, first_broken, degree_checks, threshold_checks, all_factor_checks, all_window_checks}
 
--- four tests, one behind the other
-abbrev tested : Bool → Bool → Bool → Bool → Params → Result Params ParamFault
-tested a b c d p =
-    if not a then Err faults.Degrees
-    else if not b then Err faults.Thresholds
-    else if not c then Err faults.Factor
-    else if not d then Err faults.Window
-    else Ok p
+-- what passes a group of checks is what follows it
+behind : (fault : Check → ParamFault) (found : Option Check) (rest : Result Params ParamFault) (q : Params) → unless_broken fault found rest ≡ Ok q → rest ≡ Ok q
+behind fault None rest q h = h
+behind fault (Some check) rest q h = search (h)
 
-same_of_tests : (a b c d : Bool) (p q : Params) → tested a b c d p ≡ Ok q → p ≡ q
-same_of_tests true true true true p q h = search (h)
-same_of_tests true true true false p q h = search (h)
-same_of_tests true true false d p q h = search (h)
-same_of_tests true false c d p q h = search (h)
-same_of_tests false b c d p q h = search (h)
+same_of_found : (a b c d : Option Check) (p q : Params) → unless_broken faults.Degrees a (unless_broken faults.Thresholds b (unless_broken faults.Factor c (unless_broken faults.Window d (Ok p)))) ≡ Ok q → p ≡ q
+same_of_found a b c d p q h =
+    let second = behind faults.Degrees a _ q h in
+    let third = behind faults.Thresholds b _ q second in
+    let fourth = behind faults.Factor c _ q third in
+    let last : Ok p ≡ Ok q = behind faults.Window d (Ok p) q fourth in
+    search (last)
 
 -- what a check gives is what was checked
 pub same_of_checked : (p q : Params) → checked p ≡ Ok q → p ≡ q
-same_of_checked p q h = same_of_tests (degrees_hold p.degrees) (thresholds_hold p.thresholds) (all_factors_hold p) (all_windows_hold p) p q h
+same_of_checked p q h = same_of_found (first_broken (degree_checks p.degrees)) (first_broken (threshold_checks p.thresholds)) (first_broken (all_factor_checks p)) (first_broken (all_window_checks p)) p q h
 
 -- and passes it again
 pub checked_again : (p q : Params) → checked p ≡ Ok q → checked q ≡ Ok q

@@ -1,34 +1,150 @@
-//! The rules that parameters must keep together.
-use gs_params::ParamFault;
+//! Parameters that are not what they must be.
+use gs_params::{Check, CountRule, ParamFault, Parameter, ScoreRule, TopicParameter};
+use std::fmt;
 
-/// The rule of the check that parameters do not pass. A key that is left out counts with its
+/// A parameter, its value and the rule that it breaks, in words. A key that is left out has its
 /// default.
-pub fn rule_of(fault: ParamFault) -> &'static str {
-    match fault {
-        ParamFault::Degrees => {
-            "the degrees in `[params]` do not fit together: `d_low` is at least 1, `d` at least \
-             `d_low`, and `d_high` at least `d` and at most 64; `d_out` is below `d_low` and at most \
-             half of `d`; `d_score` and `d_out` together are at most `d`; `d_lazy` is at most 64"
+#[derive(Clone, Copy)]
+pub struct Broken(pub ParamFault);
+
+/// A parameter as its place in the scenario, as `` `params.d` `` or `` `topic[0].w4` ``.
+#[derive(Clone, Copy)]
+struct Placed(Parameter);
+
+impl fmt::Display for Broken {
+    fn fmt<W: fmt::Write>(&self, f: &mut fmt::Formatter<W>) -> fmt::Result {
+        let check = match self.0 {
+            ParamFault::Degrees(check)
+            | ParamFault::Thresholds(check)
+            | ParamFault::Factor(check)
+            | ParamFault::Window(check) => check,
+        };
+        match check {
+            Check::Count(parameter, value, rule) => {
+                write!(f, "{} is {value}: ", Placed(parameter))?;
+                write_count_rule(f, rule)
+            }
+            Check::Score(parameter, value, rule) => {
+                write!(f, "{} is {value}: ", Placed(parameter))?;
+                write_score_rule(f, rule)
+            }
         }
-        ParamFault::Thresholds => {
-            "a threshold in `[params]` is out of range or order: `gossip_threshold` is below 0, \
-             `publish_threshold` at most `gossip_threshold`, and `graylist_threshold` at most \
-             `publish_threshold`; `opportunistic_threshold` is not below 0"
+    }
+}
+
+impl fmt::Display for Placed {
+    fn fmt<W: fmt::Write>(&self, f: &mut fmt::Formatter<W>) -> fmt::Result {
+        match self.0 {
+            Parameter::OfTopic(place, parameter) => {
+                write!(f, "`topic[{place}].{}`", topic_key_of(parameter))
+            }
+            parameter => write!(f, "`params.{}`", key_of(parameter)),
         }
-        ParamFault::Factor => {
-            "a factor, a weight or a cap in `[params]` or in a `[[topic]]` is out of range: \
-             `gossip_factor`, `p7_decay` and a topic's `p2_decay`, `p3_decay`, `p3b_decay` and \
-             `p4_decay` are from 0 to 1000000; `w5`, `topic_weight`, `w1` and `w2` from 0 to \
-             1000000000; `w6`, `w7`, `w3`, `w3b` and `w4` from -1000000000 to 0; `p6_threshold` is \
-             from 1 to 65535"
+    }
+}
+
+fn write_count_rule<W: fmt::Write>(f: &mut fmt::Formatter<W>, rule: CountRule) -> fmt::Result {
+    match rule {
+        CountRule::AtLeast(low) => write!(f, "it must be at least {low}"),
+        CountRule::AtMost(high) => write!(f, "it must be at most {high}"),
+        CountRule::Range(low, high) => write!(f, "it must be from {low} to {high}"),
+        CountRule::NotAbove(other, its) => {
+            write!(
+                f,
+                "it must not be above `{}`, which is {its}",
+                key_of(other)
+            )
         }
-        ParamFault::Window => {
-            "a time or a budget in `[params]` or in a `[[topic]]` is out of range: times in `_ms` \
-             are from 1 to 1000000000 (`p3_window_ms` and `p3_activation_ms` from 0), those in `_s` \
-             from 1 to 86400; `mcache_gossip` is at least 1 and at most `mcache_len`, which is at \
-             most 64; `opportunistic_ticks` is from 1 to 1000000, `opportunistic_peers` at most 64; \
-             `max_ihave` and `gossip_retransmission` are from 1 to 1000, `max_ihave_ids` from 1 to \
-             5000"
+        CountRule::BelowThat(other, its) => {
+            write!(f, "it must be below `{}`, which is {its}", key_of(other))
         }
+        CountRule::TwiceNotAbove(other, its) => {
+            let other = key_of(other);
+            write!(
+                f,
+                "twice as many must not be above `{other}`, which is {its}"
+            )
+        }
+        CountRule::SumNotAbove(second, its, third, highest) => {
+            write!(f, "together with `{}`, which is {its}, ", key_of(second))?;
+            let third = key_of(third);
+            write!(f, "it must not be above `{third}`, which is {highest}")
+        }
+    }
+}
+
+fn write_score_rule<W: fmt::Write>(f: &mut fmt::Formatter<W>, rule: ScoreRule) -> fmt::Result {
+    match rule {
+        ScoreRule::Below(high) => write!(f, "it must be below {high}"),
+        ScoreRule::Range(low, high) => write!(f, "it must be from {low} to {high}"),
+        ScoreRule::NotAbove(other, its) => {
+            write!(
+                f,
+                "it must not be above `{}`, which is {its}",
+                key_of(other)
+            )
+        }
+    }
+}
+
+/// The key of a parameter.
+fn key_of(parameter: Parameter) -> &'static str {
+    match parameter {
+        Parameter::D => "d",
+        Parameter::DLow => "d_low",
+        Parameter::DHigh => "d_high",
+        Parameter::DScore => "d_score",
+        Parameter::DOut => "d_out",
+        Parameter::DLazy => "d_lazy",
+        Parameter::GossipThreshold => "gossip_threshold",
+        Parameter::PublishThreshold => "publish_threshold",
+        Parameter::GraylistThreshold => "graylist_threshold",
+        Parameter::OpportunisticThreshold => "opportunistic_threshold",
+        Parameter::GossipFactor => "gossip_factor",
+        Parameter::P7Decay => "p7_decay",
+        Parameter::W5 => "w5",
+        Parameter::W6 => "w6",
+        Parameter::W7 => "w7",
+        Parameter::TopicCap => "topic_cap",
+        Parameter::DecayToZero => "decay_to_zero",
+        Parameter::P6Threshold => "p6_threshold",
+        Parameter::HeartbeatMs => "heartbeat_ms",
+        Parameter::DecayMs => "decay_ms",
+        Parameter::FanoutTtlMs => "fanout_ttl_ms",
+        Parameter::SeenTtlMs => "seen_ttl_ms",
+        Parameter::IwantFollowupMs => "iwant_followup_ms",
+        Parameter::PruneBackoffS => "prune_backoff_s",
+        Parameter::UnsubscribeBackoffS => "unsubscribe_backoff_s",
+        Parameter::McacheLen => "mcache_len",
+        Parameter::McacheGossip => "mcache_gossip",
+        Parameter::OpportunisticTicks => "opportunistic_ticks",
+        Parameter::OpportunisticPeers => "opportunistic_peers",
+        Parameter::MaxIhave => "max_ihave",
+        Parameter::MaxIhaveIds => "max_ihave_ids",
+        Parameter::GossipRetransmission => "gossip_retransmission",
+        Parameter::OfTopic(_, parameter) => topic_key_of(parameter),
+    }
+}
+
+/// The key of a topic's parameter.
+fn topic_key_of(parameter: TopicParameter) -> &'static str {
+    match parameter {
+        TopicParameter::TopicWeight => "topic_weight",
+        TopicParameter::W1 => "w1",
+        TopicParameter::W2 => "w2",
+        TopicParameter::W3 => "w3",
+        TopicParameter::W3b => "w3b",
+        TopicParameter::W4 => "w4",
+        TopicParameter::P2Decay => "p2_decay",
+        TopicParameter::P3Decay => "p3_decay",
+        TopicParameter::P3bDecay => "p3b_decay",
+        TopicParameter::P4Decay => "p4_decay",
+        TopicParameter::P1Cap => "p1_cap",
+        TopicParameter::P2Cap => "p2_cap",
+        TopicParameter::P3Cap => "p3_cap",
+        TopicParameter::P3Threshold => "p3_threshold",
+        TopicParameter::P1QuantumMs => "p1_quantum_ms",
+        TopicParameter::P3WindowMs => "p3_window_ms",
+        TopicParameter::P3ActivationMs => "p3_activation_ms",
     }
 }

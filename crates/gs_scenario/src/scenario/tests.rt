@@ -17,7 +17,7 @@ use crate::scenario::tests::reasons::{KNOWN_KEYS, REASONS};
 use crate::words::what_word;
 use bytes::Bytes;
 use gs_base::{Text, Topic};
-use gs_params::{ParamFault, What};
+use gs_params::{Check, ParamFault, Parameter, ScoreRule, What};
 use std::alloc::AllocError;
 
 /// A text with another in the place of the first of these.
@@ -318,7 +318,8 @@ fn a_fault_has_its_number_and_place(rt: HostRuntime) -> Result<(), AllocError> {
 
 #[test]
 fn a_fault_without_a_place_has_its_number(rt: HostRuntime) -> Result<(), AllocError> {
-    let fault = ScenarioFault::Params(ParamFault::Factor);
+    let check = Check::Score(Parameter::W6, 1, ScoreRule::Range(-1_000_000_000, 0));
+    let fault = ScenarioFault::Params(ParamFault::Factor(check));
     assert_eq!(rt; fault.number(), 3);
     assert!(rt; fault.place().is_none());
     assert_eq!(rt; ScenarioFault::NoMemory.number(), 32);

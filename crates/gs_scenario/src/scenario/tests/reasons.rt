@@ -2,7 +2,7 @@
 use crate::scenario::tables::TableKind;
 
 /// Edits of the scenario that says something in each table, and the refusals as they are written.
-pub static REASONS: [(&str, &str, &str); 38] = [
+pub static REASONS: [(&str, &str, &str); 40] = [
     // What stands there.
     (
         "workers = 2",
@@ -196,6 +196,17 @@ pub static REASONS: [(&str, &str, &str); 38] = [
         "value = 5\n",
         "value = 5\n[[do]]\nwhat = 'publish'\nraw = ''\n",
         "UnknownKey(Text { text: \"do[0].raw\" }, PublishLine)",
+    ),
+    // Which parameter is what it may not be.
+    (
+        "[params]",
+        "[params]\nd_low = 7",
+        "Params(Degrees(Count(DLow, 7, NotAbove(D, 6))))",
+    ),
+    (
+        "name = \"news\"\n",
+        "name = \"news\"\nw4 = 5\n",
+        "Params(Factor(Score(OfTopic(0, W4), 5, Range(-1000000000, 0))))",
     ),
 ];
 

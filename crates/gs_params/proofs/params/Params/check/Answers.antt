@@ -4,5 +4,5 @@ use Rattle.gs_params.proofs.params.Params.check.Goals as goal
 
 pub returns-clause-in_range : goal.returns-clause-in_range
 returns-clause-in_range c =
-    from_checks _ (sym c.hold.ensures ∙ c.if-not-hold.false) (sym c.hold-2.ensures ∙ c.if-not-hold-2.false)
-    (sym c.factors_hold.ensures ∙ c.if-not-factors_hold.false) (sym c.windows_hold.ensures ∙ c.if-not-windows_hold.false)
+    from_checks _ (sym c.first_broken.ensures ∙ c.in_default.is) (sym c.first_broken-2.ensures ∙ c.in_default-first_broken.is)
+    (sym c.first_broken_factor.ensures ∙ c.in_default-first_broken_factor.is) (sym c.first_broken_window.ensures ∙ c.in_default-first_broken_window.is)

@@ -1,0 +1,205 @@
+-- What is checked of parameters, in which order, and what is then the first fault.
+use Rattle.std.specs.Prelude.{◌+◌, ◌*◌, ◌++◌, ◌&&◌, ℕ, nat_le, nat_lt, Bool, not, List, [], ◌∷◌, Option, Some, None, Result, Ok, Err, ℤ, pos, neg_ℤ, int_le, int_lt}
+use Rattle.std.specs.List.{find}
+use Rattle.gs_base.specs.declared.names.Topic.{Topic}
+use Rattle.gs_params.specs.declared.params.Degrees.{Degrees}
+use Rattle.gs_params.specs.declared.params.Thresholds.{Thresholds}
+use Rattle.gs_params.specs.declared.params.Factors.{Factors}
+use Rattle.gs_params.specs.declared.params.Windows.{Windows}
+use Rattle.gs_params.specs.declared.params.Params.{Params}
+use Rattle.gs_params.specs.declared.topic_params.TopicFactors.{TopicFactors}
+use Rattle.gs_params.specs.declared.topic_params.TopicWindows.{TopicWindows}
+use Rattle.gs_params.specs.declared.topic_params.TopicParams.{TopicParams}
+use Rattle.gs_params.specs.declared.parameter.Parameter.TheVariants as of
+use Rattle.gs_params.specs.declared.parameter.TopicParameter.TheVariants as topic
+use Rattle.gs_params.specs.declared.checks.CountRule.{CountRule}
+use Rattle.gs_params.specs.declared.checks.CountRule.TheVariants as count
+use Rattle.gs_params.specs.declared.checks.ScoreRule.{ScoreRule}
+use Rattle.gs_params.specs.declared.checks.ScoreRule.TheVariants as score
+use Rattle.gs_params.specs.declared.checks.Check.{Check}
+use Rattle.gs_params.specs.declared.checks.Check.TheVariants.{Count, Score}
+use Rattle.gs_params.specs.declared.param_fault.ParamFault.{ParamFault}
+use Rattle.gs_params.specs.declared.param_fault.ParamFault.TheVariants as faults
+
+-- ---- numbers
+
+-- the longest time, in milliseconds
+abbrev pub longest_time : ℕ
+longest_time = 1_000_000_000
+
+-- the longest backoff, in seconds: a day
+abbrev pub longest_backoff : ℕ
+longest_backoff = 86_400
+
+-- the heaviest weight, in millionths: what counts against a neighbour weighs as much below 0
+abbrev pub heaviest : ℤ
+heaviest = pos 1_000_000_000
+
+-- the highest cap, in millionths
+abbrev pub highest_cap : ℤ
+highest_cap = pos 1_000_000_000_000
+
+abbrev pub in_range : ℕ → ℕ → ℕ → Bool
+in_range low high n = nat_le low n && nat_le n high
+
+abbrev pub int_in_range : ℤ → ℤ → ℤ → Bool
+int_in_range low high z = int_le low z && int_le z high
+
+-- ---- rules
+
+-- what is counted keeps a rule
+abbrev pub count_keeps : ℕ → CountRule → Bool
+count_keeps n (count.AtLeast low) = nat_le low n
+count_keeps n (count.AtMost high) = nat_le n high
+count_keeps n (count.Range low high) = in_range low high n
+count_keeps n (count.NotAbove other its) = nat_le n its
+count_keeps n (count.BelowThat other its) = nat_lt n its
+count_keeps n (count.TwiceNotAbove other its) = nat_le (2 * n) its
+count_keeps n (count.SumNotAbove second its third highest) = nat_le (n + its) highest
+
+-- millionths keep a rule
+abbrev pub score_keeps : ℤ → ScoreRule → Bool
+score_keeps z (score.Below high) = int_lt z high
+score_keeps z (score.Range low high) = int_in_range low high z
+score_keeps z (score.NotAbove other its) = int_le z its
+
+-- the value keeps its rule
+abbrev pub holds : Check → Bool
+holds (Count parameter value rule) = count_keeps value rule
+holds (Score parameter value rule) = score_keeps value rule
+
+-- the first check that fails
+abbrev pub first_broken : List Check → Option Check
+first_broken = find (λ check. not (holds check))
+
+-- a weight of what is good, of what is bad, a factor, a cap
+abbrev pub reward : ScoreRule
+reward = score.Range (pos 0) heaviest
+
+abbrev pub penalty : ScoreRule
+penalty = score.Range (neg_ℤ heaviest) (pos 0)
+
+abbrev pub fraction : ScoreRule
+fraction = score.Range (pos 0) (pos 1_000_000)
+
+abbrev pub cap : ScoreRule
+cap = score.Range (pos 0) highest_cap
+
+-- a time that is not empty, a backoff
+abbrev pub some_time : CountRule
+some_time = count.Range 1 longest_time
+
+abbrev pub backoff : CountRule
+backoff = count.Range 1 longest_backoff
+
+-- ---- the four groups, each in the order of its keys
+
+abbrev pub degree_checks : Degrees → List Check
+degree_checks x =
+    Count of.D x.d (count.NotAbove of.DHigh x.d_high)
+    ∷ Count of.DLow x.d_low (count.AtLeast 1)
+    ∷ Count of.DLow x.d_low (count.NotAbove of.D x.d)
+    ∷ Count of.DHigh x.d_high (count.AtMost 64)
+    ∷ Count of.DScore x.d_score (count.SumNotAbove of.DOut x.d_out of.D x.d)
+    ∷ Count of.DOut x.d_out (count.BelowThat of.DLow x.d_low)
+    ∷ Count of.DOut x.d_out (count.TwiceNotAbove of.D x.d)
+    ∷ Count of.DLazy x.d_lazy (count.AtMost 64)
+    ∷ []
+
+abbrev pub threshold_checks : Thresholds → List Check
+threshold_checks x =
+    Score of.GossipThreshold x.gossip_threshold (score.Below (pos 0))
+    ∷ Score of.PublishThreshold x.publish_threshold (score.NotAbove of.GossipThreshold x.gossip_threshold)
+    ∷ Score of.GraylistThreshold x.graylist_threshold (score.NotAbove of.PublishThreshold x.publish_threshold)
+    ∷ Score of.OpportunisticThreshold x.opportunistic_threshold cap
+    ∷ []
+
+abbrev pub factor_checks : Factors → List Check
+factor_checks x =
+    Count of.GossipFactor x.gossip_factor (count.AtMost 1_000_000)
+    ∷ Score of.P7Decay x.p7_decay fraction
+    ∷ Score of.W5 x.w5 reward
+    ∷ Score of.W6 x.w6 penalty
+    ∷ Score of.W7 x.w7 penalty
+    ∷ Score of.TopicCap x.topic_cap cap
+    ∷ Score of.DecayToZero x.decay_to_zero cap
+    ∷ Count of.P6Threshold x.p6_threshold (count.Range 1 65_535)
+    ∷ []
+
+abbrev pub window_checks : Windows → List Check
+window_checks x =
+    Count of.HeartbeatMs x.heartbeat_ms some_time
+    ∷ Count of.DecayMs x.decay_ms some_time
+    ∷ Count of.FanoutTtlMs x.fanout_ttl_ms some_time
+    ∷ Count of.SeenTtlMs x.seen_ttl_ms some_time
+    ∷ Count of.IwantFollowupMs x.iwant_followup_ms some_time
+    ∷ Count of.PruneBackoffS x.prune_backoff_s backoff
+    ∷ Count of.UnsubscribeBackoffS x.unsubscribe_backoff_s backoff
+    ∷ Count of.McacheLen x.mcache_len (count.Range 1 64)
+    ∷ Count of.McacheGossip x.mcache_gossip (count.AtLeast 1)
+    ∷ Count of.McacheGossip x.mcache_gossip (count.NotAbove of.McacheLen x.mcache_len)
+    ∷ Count of.OpportunisticTicks x.opportunistic_ticks (count.Range 1 1_000_000)
+    ∷ Count of.OpportunisticPeers x.opportunistic_peers (count.AtMost 64)
+    ∷ Count of.MaxIhave x.max_ihave (count.Range 1 1_000)
+    ∷ Count of.MaxIhaveIds x.max_ihave_ids (count.Range 1 5_000)
+    ∷ Count of.GossipRetransmission x.gossip_retransmission (count.Range 1 1_000)
+    ∷ []
+
+-- of the topic at a place
+abbrev pub topic_factor_checks : ℕ → TopicFactors → List Check
+topic_factor_checks place x =
+    Score (of.OfTopic place topic.TopicWeight) x.topic_weight reward
+    ∷ Score (of.OfTopic place topic.W1) x.w1 reward
+    ∷ Score (of.OfTopic place topic.W2) x.w2 reward
+    ∷ Score (of.OfTopic place topic.W3) x.w3 penalty
+    ∷ Score (of.OfTopic place topic.W3b) x.w3b penalty
+    ∷ Score (of.OfTopic place topic.W4) x.w4 penalty
+    ∷ Score (of.OfTopic place topic.P2Decay) x.p2_decay fraction
+    ∷ Score (of.OfTopic place topic.P3Decay) x.p3_decay fraction
+    ∷ Score (of.OfTopic place topic.P3bDecay) x.p3b_decay fraction
+    ∷ Score (of.OfTopic place topic.P4Decay) x.p4_decay fraction
+    ∷ Score (of.OfTopic place topic.P1Cap) x.p1_cap cap
+    ∷ Score (of.OfTopic place topic.P2Cap) x.p2_cap cap
+    ∷ Score (of.OfTopic place topic.P3Cap) x.p3_cap cap
+    ∷ Score (of.OfTopic place topic.P3Threshold) x.p3_threshold cap
+    ∷ []
+
+abbrev pub topic_window_checks : ℕ → TopicWindows → List Check
+topic_window_checks place x =
+    Count (of.OfTopic place topic.P1QuantumMs) x.p1_quantum_ms some_time
+    ∷ Count (of.OfTopic place topic.P3WindowMs) x.p3_window_ms (count.AtMost longest_time)
+    ∷ Count (of.OfTopic place topic.P3ActivationMs) x.p3_activation_ms (count.AtMost longest_time)
+    ∷ []
+
+-- of each topic, where the first has this place
+abbrev pub each_topic_from : (ℕ → TopicParams → List Check) → ℕ → List (Topic × TopicParams) → List Check
+each_topic_from checks place [] = []
+each_topic_from checks place (one ∷ topics) = checks place one.1 ++ each_topic_from checks (place + 1) topics
+
+-- and of all topics
+abbrev pub all_factor_checks : Params → List Check
+all_factor_checks p = factor_checks p.factors ++ each_topic_from (λ place one. topic_factor_checks place one.factors) 0 p.topics
+
+abbrev pub all_window_checks : Params → List Check
+all_window_checks p = window_checks p.windows ++ each_topic_from (λ place one. topic_window_checks place one.windows) 0 p.topics
+
+-- ---- which fault is first
+
+-- the fault of the first check that fails, or what follows where all hold
+abbrev pub unless_broken : (Check → ParamFault) → Option Check → Result Params ParamFault → Result Params ParamFault
+unless_broken fault (Some check) otherwise = Err (fault check)
+unless_broken fault None otherwise = otherwise
+
+-- the parameters where all checks hold, or the first that fails, group by group
+abbrev pub checked : Params → Result Params ParamFault
+checked p =
+    unless_broken faults.Degrees (first_broken (degree_checks p.degrees))
+    (unless_broken faults.Thresholds (first_broken (threshold_checks p.thresholds))
+    (unless_broken faults.Factor (first_broken (all_factor_checks p))
+    (unless_broken faults.Window (first_broken (all_window_checks p)) (Ok p))))
+
+abbrev pub number_of : ParamFault → ℕ
+number_of (faults.Degrees check) = 1
+number_of (faults.Thresholds check) = 2
+number_of (faults.Factor check) = 3
+number_of (faults.Window check) = 4

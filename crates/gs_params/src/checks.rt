@@ -1,0 +1,100 @@
+//! What is checked of a parameter: its value, and the rule that it must keep.
+ghost use Rattle.std.specs.Prelude.{◌≡◌};
+ghost use Rattle.gs_params.specs.Checks.{count_keeps, first_broken, holds, score_keeps};
+
+use crate::parameter::Parameter;
+
+/// A rule of what is counted: of neighbours, times, messages, and factors that are never below 0.
+#[derive(Clone, Copy, Debug, PartialEq, Eq)]
+pub enum CountRule {
+    /// At least so many.
+    AtLeast(u64),
+    /// At most so many.
+    AtMost(u64),
+    /// From the first to the second.
+    Range(u64, u64),
+    /// At most another parameter, which has this value.
+    NotAbove(Parameter, u64),
+    /// Less than another parameter, which has this value.
+    BelowThat(Parameter, u64),
+    /// Twice as many are at most another parameter, which has this value.
+    TwiceNotAbove(Parameter, u64),
+    /// Together with a second parameter, which has this value, at most a third, which has that one.
+    SumNotAbove(Parameter, u64, Parameter, u64),
+}
+
+/// A rule of whole millionths.
+#[derive(Clone, Copy, Debug, PartialEq, Eq)]
+pub enum ScoreRule {
+    /// Less than this.
+    Below(i64),
+    /// From the first to the second.
+    Range(i64, i64),
+    /// At most another parameter, which has this value.
+    NotAbove(Parameter, i64),
+}
+
+/// A parameter, the value that it has, and a rule that it must keep.
+#[derive(Clone, Copy, Debug, PartialEq, Eq)]
+pub enum Check {
+    /// Of what is counted.
+    Count(Parameter, u64, CountRule),
+    /// Of whole millionths.
+    Score(Parameter, i64, ScoreRule),
+}
+
+impl CountRule {
+    /// Whether a value keeps the rule.
+    fn is_kept_by(&self, value: u64) -> bool
+        ensures { result ≡ count_keeps value self.now }
+    {
+        match *self {
+            CountRule::AtLeast(low) => low <= value,
+            CountRule::AtMost(high) => value <= high,
+            CountRule::Range(low, high) => low <= value && value <= high,
+            CountRule::NotAbove(_, other) => value <= other,
+            CountRule::BelowThat(_, other) => value < other,
+            CountRule::TwiceNotAbove(_, other) => 2 * (value as u128) <= other as u128,
+            CountRule::SumNotAbove(_, second, _, third) => {
+                value as u128 + second as u128 <= third as u128
+            }
+        }
+    }
+}
+
+impl ScoreRule {
+    /// Whether a value keeps the rule.
+    fn is_kept_by(&self, value: i64) -> bool
+        ensures { result ≡ score_keeps value self.now }
+    {
+        match *self {
+            ScoreRule::Below(high) => value < high,
+            ScoreRule::Range(low, high) => low <= value && value <= high,
+            ScoreRule::NotAbove(_, other) => value <= other,
+        }
+    }
+}
+
+impl Check {
+    /// Whether the value keeps the rule.
+    fn holds(&self) -> bool
+        ensures { result ≡ holds self.now }
+    {
+        match self {
+            Check::Count(_, value, rule) => rule.is_kept_by(*value),
+            Check::Score(_, value, rule) => rule.is_kept_by(*value),
+        }
+    }
+}
+
+/// The first check that fails.
+pub fn first_broken(checks: &[Check]) -> Option<Check>
+    ensures { result ≡ first_broken checks.now }
+{
+    for check in checks {
+        if !check.holds() {
+            return Some(*check);
+        }
+    }
+    None
+}

@@ -1,0 +1,111 @@
+//! The names of the parameters that are checked.
+
+/// A parameter of a peer, or of a topic of its.
+#[derive(Clone, Copy, Debug, PartialEq, Eq)]
+pub enum Parameter {
+    /// `d`
+    D,
+    /// `d_low`
+    DLow,
+    /// `d_high`
+    DHigh,
+    /// `d_score`
+    DScore,
+    /// `d_out`
+    DOut,
+    /// `d_lazy`
+    DLazy,
+    /// `gossip_threshold`
+    GossipThreshold,
+    /// `publish_threshold`
+    PublishThreshold,
+    /// `graylist_threshold`
+    GraylistThreshold,
+    /// `opportunistic_threshold`
+    OpportunisticThreshold,
+    /// `gossip_factor`
+    GossipFactor,
+    /// `p7_decay`
+    P7Decay,
+    /// `w5`
+    W5,
+    /// `w6`
+    W6,
+    /// `w7`
+    W7,
+    /// `topic_cap`
+    TopicCap,
+    /// `decay_to_zero`
+    DecayToZero,
+    /// `p6_threshold`
+    P6Threshold,
+    /// `heartbeat_ms`
+    HeartbeatMs,
+    /// `decay_ms`
+    DecayMs,
+    /// `fanout_ttl_ms`
+    FanoutTtlMs,
+    /// `seen_ttl_ms`
+    SeenTtlMs,
+    /// `iwant_followup_ms`
+    IwantFollowupMs,
+    /// `prune_backoff_s`
+    PruneBackoffS,
+    /// `unsubscribe_backoff_s`
+    UnsubscribeBackoffS,
+    /// `mcache_len`
+    McacheLen,
+    /// `mcache_gossip`
+    McacheGossip,
+    /// `opportunistic_ticks`
+    OpportunisticTicks,
+    /// `opportunistic_peers`
+    OpportunisticPeers,
+    /// `max_ihave`
+    MaxIhave,
+    /// `max_ihave_ids`
+    MaxIhaveIds,
+    /// `gossip_retransmission`
+    GossipRetransmission,
+    /// A parameter of the topic at this place in the list of topics, from 0 on.
+    OfTopic(usize, TopicParameter),
+}
+
+/// A parameter of a topic.
+#[derive(Clone, Copy, Debug, PartialEq, Eq)]
+pub enum TopicParameter {
+    /// `topic_weight`
+    TopicWeight,
+    /// `w1`
+    W1,
+    /// `w2`
+    W2,
+    /// `w3`
+    W3,
+    /// `w3b`
+    W3b,
+    /// `w4`
+    W4,
+    /// `p2_decay`
+    P2Decay,
+    /// `p3_decay`
+    P3Decay,
+    /// `p3b_decay`
+    P3bDecay,
+    /// `p4_decay`
+    P4Decay,
+    /// `p1_cap`
+    P1Cap,
+    /// `p2_cap`
+    P2Cap,
+    /// `p3_cap`
+    P3Cap,
+    /// `p3_threshold`
+    P3Threshold,
+    /// `p1_quantum_ms`
+    P1QuantumMs,
+    /// `p3_window_ms`
+    P3WindowMs,
+    /// `p3_activation_ms`
+    P3ActivationMs,
+}
