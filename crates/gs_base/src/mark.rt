@@ -3,7 +3,7 @@ use crate::names::{MsgId, PeerNo, Topic};
 use crate::verdict::Verdict;
 
 /// What an entry leaves to be remembered. Counters of scores are raised by these marks alone (gossipsub
-/// v1.1, Peer Scoring). The rules make `Seen` and `Invalid` so far.
+/// v1.1, Peer Scoring). The rules make `Seen`, `Invalid` and the last four so far.
 #[derive(Debug, Drop, PartialEq, Eq)]
 pub enum Mark {
     /// A message with this identifier was seen, and found to be so.
@@ -18,4 +18,13 @@ pub enum Mark {
     Deficit(PeerNo, Topic, i128),
     /// A neighbour broke a promise, or came back into a mesh too soon (P7).
     Behaviour(PeerNo),
+    /// The message with this identifier is kept as one of this topic, for who asks for it (gossipsub v1.0,
+    /// Message Cache).
+    Cached(MsgId, Topic),
+    /// A neighbour was sent a kept message that it asked for.
+    Answered(PeerNo, MsgId),
+    /// An offer of a neighbour counted against its budget.
+    HeardHave(PeerNo),
+    /// So many identifiers were asked of a neighbour, which count against its budget.
+    Asked(PeerNo, u32),
 }
