@@ -6,3 +6,6 @@ pub mod Sums
 pub mod Kept
 pub mod RulesInRange
 pub mod Numbering
+pub mod Accounting
+pub mod Keeping
+pub mod Placing

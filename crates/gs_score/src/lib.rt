@@ -2,12 +2,14 @@
 //! weights and scores are whole millionths, so that 1,000,000 is one.
 #![tactic(auto)]
 
+mod accounts;
 mod counter;
 mod laws;
 mod millionths;
 mod places;
 mod rules;
 mod score;
+mod scores;
 mod standing;
 mod topics;
 
@@ -20,6 +22,7 @@ pub use millionths::{scaled, squared, times};
 pub use places::{Place, Places};
 pub use rules::TopicRules;
 pub use score::score_of;
+pub use scores::Scores;
 pub use standing::{Kind, Standing};
 pub use topics::Topics;
 
