@@ -1,10 +1,10 @@
 -- What each neighbour has, after that of one changed.
 use Rattle.std.proofs.Common.{◌≡◌, ℕ, ◌≤◌, ◌<◌, ◌+◌, ◌⊎◌, arith, inl, inr, is_some, Bool, true, false, cond, List, length, Option, Some, refl, sym, ap, subst, ◌∙◌}
-use Rattle.std.specs.Prelude.{◌||◌, [], pos}
+use Rattle.std.specs.Prelude.{◌&&◌, nat_lt, ◌||◌, [], pos}
 use Rattle.std.specs.List.{IsDistinct}
 use Rattle.std.specs.Option.{unwrap_or}
 use Rattle.std.specs.Map.{lookup}
-use Rattle.std.proofs.lemmas.Bool.Decides.{Decides-eqb}
+use Rattle.std.proofs.lemmas.Bool.Decides.{nat_tests, Decides-eqb}
 use Rattle.gs_base.specs.declared.names.PeerNo.{PeerNo}
 use Rattle.gs_base.specs.declared.names.Topic.{Topic}
 use Rattle.gs_base.specs.Names.{same_peer, same_topic, most_topics}
@@ -99,9 +99,13 @@ pub few_of : (old : List (PeerNo × Account)) (p : PeerNo) (b : Account) → loo
 few_of old p b h few = subst (λ (x : Option Account). length (unwrap_or x nothing_counted).topics ≤ most_topics) h (few p)
 
 -- one topic more at most, where there is room for it
-pub grown : (old new : List (Topic × Standing)) (has : Bool) → length new ≤ cond has (length old) (length old + 1) → length old ≤ most_topics → (has ≡ false → length old < most_topics) → length new ≤ most_topics
+pub grown : (old new : List (Topic × Standing)) (has : Bool) → length new ≤ cond has (length old) (length old + 1) → length old ≤ most_topics → (has || nat_lt (length old) most_topics) ≡ true → length new ≤ most_topics
 grown old new true is most room = omega (arith, is, most)
-grown old new false is most room = omega (arith, is, room refl)
+grown old new false is most room = grind (arith, nat_tests, is, room)
+
+pub both_true : (a b : Bool) → (a && b) ≡ true → (a ≡ true) × (b ≡ true)
+both_true true b h = (refl, h)
+both_true false b h = cc
 
 pub is_blamed : (old new : List (PeerNo × Account)) (p : PeerNo) (c : Stored) (b a : Account) → Changed old new p b a
     → a.topics ≡ b.topics

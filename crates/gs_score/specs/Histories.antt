@@ -1,5 +1,5 @@
 -- What happened to a peer's neighbours, and what counters and scores that makes.
-use Rattle.std.specs.Prelude.{◌≡◌, ℕ, suc, ℤ, pos, int_lt, min, unsigned_abs, if◌then◌else◌, List, [], ◌∷◌, map, Option, Some, None}
+use Rattle.std.specs.Prelude.{Bool, true, ◌≡◌, ℕ, suc, ℤ, pos, int_lt, min, unsigned_abs, if◌then◌else◌, List, [], ◌∷◌, map, Option, Some, None}
 use Rattle.std.specs.List.{list_any}
 use Rattle.std.specs.Option.{option_map_or}
 use Rattle.gs_base.specs.declared.names.PeerNo.{PeerNo}
@@ -10,6 +10,7 @@ use Rattle.gs_base.specs.declared.mark.Mark.{Mark}
 use Rattle.gs_base.specs.declared.mark.Mark.TheVariants as marks
 use Rattle.gs_base.specs.Names.{same_peer}
 use Rattle.gs_params.specs.declared.params.Params.{Params}
+use Rattle.gs_score.specs.declared.accounts.Account.{Account}
 use Rattle.gs_score.specs.declared.counter.Decay.{Decay}
 use Rattle.gs_score.specs.declared.places.Place.{Place}
 use Rattle.gs_score.specs.declared.rules.TopicRules.{TopicRules}
@@ -20,7 +21,7 @@ use Rattle.gs_score.specs.Standings.{Held, decayed_held, nothing_held, raised_he
 use Rattle.gs_score.specs.Formula.{score_of}
 use Rattle.gs_score.specs.Accounts.{behaviour_decay, held_in, rules_of, topic_sum}
 use Rattle.gs_score.specs.Places.{app_of, number_with, place_of, shut_out}
-use Rattle.gs_score.specs.Ledgers.{Kept, behaviour_of, has_account, same_pair, topics_of}
+use Rattle.gs_score.specs.Ledgers.{has_room, Kept, behaviour_of, has_account, same_pair, topics_of}
 
 -- ---- what marks raise
 
@@ -50,6 +51,15 @@ raise_of mark = None
 abbrev pub blamed : Mark → Option PeerNo
 blamed (marks.Behaviour p) = Some p
 blamed mark = None
+
+-- whom a mark concerns is a neighbour, with room for the topic
+abbrev pub accepts : List (PeerNo × Account) → Mark → Bool
+accepts accounts (marks.First p t id) = has_room accounts p t
+accepts accounts (marks.Near p t id) = has_room accounts p t
+accepts accounts (marks.Deficit p t z) = has_room accounts p t
+accepts accounts (marks.Invalid p t) = has_room accounts p t
+accepts accounts (marks.Behaviour p) = has_account accounts p
+accepts accounts mark = true
 
 -- ---- what may happen
 

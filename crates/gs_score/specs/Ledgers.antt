@@ -1,5 +1,5 @@
 -- What scores keep.
-use Rattle.std.specs.Prelude.{◌≡◌, ◌≤◌, ◌<◌, ◌^◌, ◌&&◌, ℕ, unsigned_abs, Bool, false, List, [], length, is_some, if◌then◌else◌}
+use Rattle.std.specs.Prelude.{◌||◌, nat_lt, ◌≡◌, ◌≤◌, ◌<◌, ◌^◌, ◌&&◌, ℕ, unsigned_abs, Bool, false, List, [], length, is_some, if◌then◌else◌}
 use Rattle.std.specs.Map.{lookup}
 use Rattle.std.specs.Option.{unwrap_or}
 use Rattle.gs_base.specs.declared.names.PeerNo.{PeerNo}
@@ -44,8 +44,9 @@ abbrev pub behaviour_of : List (PeerNo × Account) → PeerNo → Stored
 behaviour_of accounts q = (account_of accounts q).behaviour
 
 -- a neighbour has something on a topic, or room for one more
-abbrev pub HasRoom : List (PeerNo × Account) → PeerNo → Topic → Type 0
-HasRoom accounts q t = has_topic (topics_of accounts q) t ≡ false → length (topics_of accounts q) < most_topics
+abbrev pub has_room : List (PeerNo × Account) → PeerNo → Topic → Bool
+has_room accounts q t =
+    has_account accounts q && (has_topic (topics_of accounts q) t || nat_lt (length (topics_of accounts q)) most_topics)
 
 -- nobody has too many topics
 abbrev pub AreFew : List (PeerNo × Account) → Type 0

@@ -8,7 +8,7 @@ ghost use Rattle.gs_base.specs.declared.neighbour.Neighbour.{Neighbour as Neighb
 ghost use Rattle.gs_params.specs.Params.{AreInRange};
 ghost use Rattle.gs_score.specs.Accounts.{Covers, has_topic, held_in, topic_sum};
 ghost use Rattle.gs_score.specs.Counters.{most_counted, raised, read_at};
-ghost use Rattle.gs_score.specs.Ledgers.{AreFew, Blames, HasRoom, Puts, account_of, behaviour_of, has_account, nothing_counted, standing_of, topics_of};
+ghost use Rattle.gs_score.specs.Ledgers.{AreFew, Blames, has_room, Puts, account_of, behaviour_of, has_account, nothing_counted, standing_of, topics_of};
 ghost use Rattle.gs_score.specs.Standings.{pruned};
 
 use crate::counter::{Counter, Decay, MOST_COUNTED};
@@ -77,6 +77,23 @@ pub(crate) fn behaviour_of(accounts: &IndexMap<PeerNo, Account>, peer: PeerNo) -
     }
 }
 
+/// Whether this is a neighbour.
+pub(crate) fn has_account(accounts: &IndexMap<PeerNo, Account>, peer: PeerNo) -> bool
+    ensures { result ≡ has_account accounts.now.entries peer }
+{
+    accounts.get(&peer).is_some()
+}
+
+/// Whether a neighbour has something on a topic, or room for one more.
+pub(crate) fn has_room(accounts: &IndexMap<PeerNo, Account>, peer: PeerNo, topic: &Topic) -> bool
+    ensures { result ≡ has_room accounts.now.entries peer topic.now }
+{
+    match accounts.get(&peer) {
+        Some(account) => account.topics.has_room(topic),
+        None => false,
+    }
+}
+
 /// Puts what a neighbour has on a topic. It takes memory only where it had nothing on the topic.
 ///
 /// # Errors
@@ -87,8 +104,7 @@ pub(crate) fn put_standing(
     topic: &Topic,
     standing: Standing,
 ) -> Result<(), AllocError>
-    requires known { has_account accounts.old.entries peer ≡ true }
-    requires room { HasRoom accounts.old.entries peer topic.now }
+    requires room { has_room accounts.old.entries peer topic.now ≡ true }
     requires few { AreFew accounts.old.entries }
     ensures puts { OnOk result (Puts accounts.old.entries accounts.new.entries peer topic.now standing) }
     ensures few { AreFew accounts.new.entries }

@@ -8,13 +8,14 @@ ghost use Rattle.gs_params.specs.Picks.{IsAscending};
 ghost use Rattle.gs_score.specs.Accounts.{Covers, behaviour_decay, has_topic, rules_of};
 ghost use Rattle.gs_score.specs.Counters.{most_counted, raised, read_at};
 ghost use Rattle.gs_score.specs.Formula.{p3};
-ghost use Rattle.gs_score.specs.Histories.{Agrees, Decayed, Grafted, History, Left, Marked, Setting, ShutOut, blamed, charge, held_by, misbehaviour, one, raise_of, score_in};
-ghost use Rattle.gs_score.specs.Ledgers.{BlamesIn, HasRoom, PutsIn, behaviour_of, has_account, standing_of, topics_of};
+ghost use Rattle.gs_score.specs.Histories.{Agrees, Decayed, Grafted, History, Left, Marked, Setting, ShutOut, accepts, charge, held_by, misbehaviour, one, raise_of, score_in};
+ghost use Rattle.gs_score.specs.Ledgers.{BlamesIn, PutsIn, behaviour_of, has_account, has_room, standing_of, topics_of};
 ghost use Rattle.gs_score.specs.Ranges.{IsUpTo};
 ghost use Rattle.gs_score.specs.Standings.{count, pruned, raised_standing, stored};
 
 use crate::accounts::{
-    Account, behaviour_of, blame, open_accounts, prune_standing, put_standing, standing_of, sum_of,
+    Account, behaviour_of, blame, has_account, has_room, open_accounts, prune_standing,
+    put_standing, standing_of, sum_of,
 };
 use crate::counter::{Decay, MOST_COUNTED};
 use crate::places::Places;
@@ -91,16 +92,43 @@ impl Scores {
         })
     }
 
+    /// Whether a neighbour of this number is one of those that `new` took, and has something on a topic, or
+    /// something on fewer than 1,024 topics.
+    pub fn has_room(&self, peer: PeerNo, topic: &Topic) -> bool
+        ensures { result ≡ has_room self.now.accounts peer topic.now }
+    {
+        has_room(&self.accounts, peer, topic)
+    }
+
+    /// Whether a mark may be applied: whom it concerns is a neighbour, with room for the topic.
+    pub fn accepts(&self, mark: &Mark) -> bool
+        ensures { result ≡ accepts self.now.accounts mark.now }
+    {
+        match mark {
+            Mark::First(peer, topic, _id) => has_room(&self.accounts, *peer, topic),
+            Mark::Near(peer, topic, _id) => has_room(&self.accounts, *peer, topic),
+            Mark::Deficit(peer, topic, _amount) => has_room(&self.accounts, *peer, topic),
+            Mark::Invalid(peer, topic) => has_room(&self.accounts, *peer, topic),
+            Mark::Behaviour(peer) => has_account(&self.accounts, *peer),
+            _ => true,
+        }
+    }
+
+    /// How often counters decayed.
+    pub fn decays(&self) -> u64
+        ensures { result ≡ self.now.tick }
+    {
+        self.tick
+    }
+
     /// Raises the counter that a mark raises, if any (gossipsub v1.1, Peer Scoring): by one, or by the amount of a
-    /// deficit, up to its cap. The neighbour is one of those that `new` took, and has something on the topic, or
-    /// something on fewer than 1,024 topics. It takes memory only where the neighbour had nothing on the topic.
+    /// deficit, up to its cap. The mark is one that is accepted. It takes memory only where the neighbour had nothing
+    /// on the topic.
     ///
     /// # Errors
     /// `AllocError` where there was no memory; nothing is changed then.
     pub fn apply(&mut self, mark: &Mark) -> Result<(), AllocError>
-        requires known { IfSome (raise_of mark.now) (λ x. has_account self.old.accounts x.peer ≡ true) }
-        requires blames { IfSome (blamed mark.now) (λ p. has_account self.old.accounts p ≡ true) }
-        requires room { IfSome (raise_of mark.now) (λ x. HasRoom self.old.accounts x.peer x.topic) }
+        requires { accepts self.old.accounts mark.now ≡ true }
         ensures agrees { OnOk result ((s : Setting) (H : History)
             → Agrees s self.old H
             → Agrees s self.new (Marked mark.now ∷ H)) }
@@ -133,15 +161,13 @@ impl Scores {
         }
     }
 
-    /// A neighbour comes into the mesh of a topic. It is one of those that `new` took, and has something on the
-    /// topic, or something on fewer than 1,024 topics. It takes memory only where the neighbour had nothing on the
-    /// topic.
+    /// A neighbour comes into the mesh of a topic, for which it has room. It takes memory only where the neighbour
+    /// had nothing on the topic.
     ///
     /// # Errors
     /// `AllocError` where there was no memory; nothing is changed then.
     pub fn graft(&mut self, peer: PeerNo, topic: &Topic, now: Millis) -> Result<(), AllocError>
-        requires known { has_account self.old.accounts peer ≡ true }
-        requires room { HasRoom self.old.accounts peer topic.now }
+        requires room { has_room self.old.accounts peer topic.now ≡ true }
         ensures agrees { OnOk result ((s : Setting) (H : History)
             → Agrees s self.old H
             → Agrees s self.new (Grafted peer topic.now now ∷ H)) }
@@ -248,8 +274,7 @@ impl Scores {
     /// # Errors
     /// `AllocError` where there was no memory; nothing is changed then.
     fn raise(&mut self, peer: PeerNo, topic: &Topic, kind: Kind, by: u64) -> Result<(), AllocError>
-        requires known { has_account self.old.accounts peer ≡ true }
-        requires room { HasRoom self.old.accounts peer topic.now }
+        requires room { has_room self.old.accounts peer topic.now ≡ true }
         ensures puts { OnOk result (PutsIn self.old self.new peer topic.now
             (raised_standing (rules_of self.old.params topic.now) kind by self.old.tick
             (standing_of self.old.accounts peer topic.now))) }
@@ -268,8 +293,7 @@ impl Scores {
     /// # Errors
     /// `AllocError` where there was no memory; nothing is changed then.
     fn put(&mut self, peer: PeerNo, topic: &Topic, standing: Standing) -> Result<(), AllocError>
-        requires known { has_account self.old.accounts peer ≡ true }
-        requires room { HasRoom self.old.accounts peer topic.now }
+        requires room { has_room self.old.accounts peer topic.now ≡ true }
         requires past { IsUpTo self.old.tick standing }
         ensures puts { OnOk result (PutsIn self.old self.new peer topic.now standing) }
         ensures unchanged { OnErr result (self.new ≡ self.old) }

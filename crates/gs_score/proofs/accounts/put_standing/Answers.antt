@@ -4,7 +4,7 @@ use Rattle.std.proofs.lemmas.Map.Steps.{set_value_same}
 use Rattle.gs_base.specs.Names.{same_peer}
 use Rattle.gs_score.specs.declared.accounts.Account.{Account}
 use Rattle.gs_score.specs.Accounts.{has_topic}
-use Rattle.gs_score.proofs.Accounting.{Changed, is_put, few_stay, few_of, grown, account_was}
+use Rattle.gs_score.proofs.Accounting.{Changed, is_put, few_stay, few_of, grown, account_was, both_true}
 use Rattle.gs_score.proofs.accounts.put_standing.Goals as goal
 
 on_err : {A B : Type 0} (r : Result A B) (P : Type 0) → P → OnErr r P
@@ -48,5 +48,5 @@ returns-in_ok-put-in-Some-clause-few c =
     few_stay old (c.get_mut.follows.lender is).entries c.args.peer was is changed
     (grown was.topics c.put.new.self (has_topic was.topics c.args.topic.now) c.in_ok-put-in-Some.ensures.number
     (few_of old c.args.peer was (sym c.in-Some.ensures.value) c.requires.few)
-    (rw here at c.requires.room))
+    (both_true _ _ (rw here at c.requires.room)).1)
     c.requires.few
