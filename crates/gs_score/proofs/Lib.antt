@@ -9,3 +9,4 @@ pub mod Numbering
 pub mod Accounting
 pub mod Keeping
 pub mod Placing
+pub mod Naming

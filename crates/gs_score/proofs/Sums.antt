@@ -125,7 +125,7 @@ nothing_counts r now =
     (times_nothing r.factors.topic_weight)
 
 -- nothing decays to nothing
-step_of_nothing : (d : Decay) → decay_step d 0 ≡ 0
+pub step_of_nothing : (d : Decay) → decay_step d 0 ≡ 0
 step_of_nothing d =
     let none : scaled d.factor 0 ≡ 0 = let e : d.factor * 0 ≡ 0 = omega arith in rw e refl in
     rw none (either_zero (nat_lt 0 d.floor))

@@ -8,7 +8,7 @@ use Rattle.gs_base.specs.declared.names.Millis.{Millis}
 use Rattle.gs_base.specs.declared.neighbour.Neighbour.{Neighbour}
 use Rattle.gs_base.specs.declared.mark.Mark.{Mark}
 use Rattle.gs_base.specs.declared.mark.Mark.TheVariants as marks
-use Rattle.gs_base.specs.Names.{same_peer}
+use Rattle.gs_base.specs.Names.{same_peer, same_topic}
 use Rattle.gs_params.specs.declared.params.Params.{Params}
 use Rattle.gs_score.specs.declared.accounts.Account.{Account}
 use Rattle.gs_score.specs.declared.counter.Decay.{Decay}
@@ -97,6 +97,20 @@ held_after r q t (ShutOut p) h = h
 abbrev pub held_by : Params → History → PeerNo → Topic → Held
 held_by params [] q t = nothing_held
 held_by params (c ∷ H) q t = held_after (rules_of params t) q t c (held_by params H q t)
+
+-- the topics on which something happened that concerns a neighbour, each once
+abbrev pub with_topic : Topic → List Topic → List Topic
+with_topic t ts = if list_any (same_topic t) ts then ts else t ∷ ts
+
+abbrev pub named_after : PeerNo → Change → List Topic → List Topic
+named_after q (Marked mark) ts =
+    option_map_or (λ (x : Raise). if same_peer x.peer q then with_topic x.topic ts else ts) (raise_of mark) ts
+named_after q (Grafted p u at) ts = if same_peer p q then with_topic u ts else ts
+named_after q c ts = ts
+
+abbrev pub named : History → PeerNo → List Topic
+named [] q = []
+named (c ∷ H) q = named_after q c (named H q)
 
 -- ---- how a neighbour misbehaved
 

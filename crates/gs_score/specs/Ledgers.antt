@@ -1,5 +1,5 @@
 -- What scores keep.
-use Rattle.std.specs.Prelude.{◌||◌, nat_lt, ◌≡◌, ◌≤◌, ◌<◌, ◌^◌, ◌&&◌, ℕ, unsigned_abs, Bool, false, List, [], length, is_some, if◌then◌else◌}
+use Rattle.std.specs.Prelude.{◌||◌, nat_lt, ◌≡◌, ◌≤◌, ◌^◌, ◌&&◌, ℕ, unsigned_abs, Bool, List, [], length, is_some, if◌then◌else◌}
 use Rattle.std.specs.Map.{lookup}
 use Rattle.std.specs.Option.{unwrap_or}
 use Rattle.gs_base.specs.declared.names.PeerNo.{PeerNo}

@@ -16,7 +16,7 @@ mod topics;
 pub use counter::{Counter, Decay, MOST_COUNTED};
 pub use laws::{
     a_later_read_decays_on, a_standing_decays_by_its_counters, limits_of_counters,
-    products_of_amounts_are_scaled,
+    named_topics_leave_none_out, products_of_amounts_are_scaled,
 };
 pub use millionths::{scaled, squared, times};
 pub use places::{Place, Places};
