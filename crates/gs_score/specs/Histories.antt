@@ -19,7 +19,7 @@ use Rattle.gs_score.specs.declared.standing.Kind.TheVariants.{First, Near, Defic
 use Rattle.gs_score.specs.Counters.{decay_step, most_counted, raised, read_at}
 use Rattle.gs_score.specs.Standings.{Held, decayed_held, nothing_held, raised_held}
 use Rattle.gs_score.specs.Formula.{score_of}
-use Rattle.gs_score.specs.Accounts.{behaviour_decay, held_in, rules_of, topic_sum}
+use Rattle.gs_score.specs.Accounts.{behaviour_decay, has_topic, held_in, rules_of, topic_sum}
 use Rattle.gs_score.specs.Places.{app_of, number_with, place_of, shut_out}
 use Rattle.gs_score.specs.Ledgers.{has_room, Kept, behaviour_of, has_account, same_pair, topics_of}
 
@@ -39,6 +39,10 @@ pub record Raise : Type 0 where
   pub topic : Topic
   pub kind : Kind
   pub by : ℕ
+
+-- the neighbour has something on the topic before
+abbrev pub is_known : List (PeerNo × Account) → Raise → Bool
+is_known accounts x = has_topic (topics_of accounts x.peer) x.topic
 
 abbrev pub raise_of : Mark → Option Raise
 raise_of (marks.First p t id) = Some (record { peer = p; topic = t; kind = First; by = one })
@@ -88,7 +92,8 @@ decays (c ∷ H) = decays H
 
 abbrev pub held_after : TopicRules → PeerNo → Topic → Change → Held → Held
 held_after r q t (Marked mark) h =
-    option_map_or (λ (x : Raise). if same_pair x.peer x.topic q t then raised_held r x.kind x.by h else h) (raise_of mark) h
+    option_map_or (λ (x : Raise). if same_pair x.peer x.topic q t then raised_held r x.kind x.by h else h)
+    (raise_of mark) h
 held_after r q t Decayed h = decayed_held r h
 held_after r q t (Grafted p u at) h = if same_pair p u q t then record h { since = Some at } else h
 held_after r q t (Left p u) h = if same_pair p u q t then record h { since = None } else h

@@ -56,7 +56,9 @@ AreFew accounts = (q : PeerNo) → length (topics_of accounts q) ≤ most_topics
 
 -- a neighbour gets this on a topic, and all else stays
 pub record Puts (old new : List (PeerNo × Account)) (p : PeerNo) (t : Topic) (s : Standing) : Type 0 where
-  pub standings : (q : PeerNo) (u : Topic) → standing_of new q u ≡ (if same_pair p t q u then s else standing_of old q u)
+  pub standings
+      : (q : PeerNo) (u : Topic)
+      → standing_of new q u ≡ (if same_pair p t q u then s else standing_of old q u)
   pub behaviours : (q : PeerNo) → behaviour_of new q ≡ behaviour_of old q
   pub accounts : (q : PeerNo) → has_account new q ≡ has_account old q
 

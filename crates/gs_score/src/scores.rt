@@ -8,7 +8,7 @@ ghost use Rattle.gs_params.specs.Picks.{IsAscending};
 ghost use Rattle.gs_score.specs.Accounts.{Covers, behaviour_decay, has_topic, rules_of};
 ghost use Rattle.gs_score.specs.Counters.{most_counted, raised, read_at};
 ghost use Rattle.gs_score.specs.Formula.{p3};
-ghost use Rattle.gs_score.specs.Histories.{Agrees, Decayed, Grafted, History, Left, Marked, Setting, ShutOut, accepts, charge, held_by, misbehaviour, one, raise_of, score_in};
+ghost use Rattle.gs_score.specs.Histories.{Agrees, Decayed, Grafted, History, Left, Marked, Setting, ShutOut, accepts, charge, held_by, is_known, misbehaviour, one, raise_of, score_in};
 ghost use Rattle.gs_score.specs.Ledgers.{BlamesIn, PutsIn, behaviour_of, has_account, has_room, standing_of, topics_of};
 ghost use Rattle.gs_score.specs.Ranges.{IsUpTo};
 ghost use Rattle.gs_score.specs.Standings.{count, pruned, raised_standing, stored};
@@ -133,7 +133,7 @@ impl Scores {
             → Agrees s self.old H
             → Agrees s self.new (Marked mark.now ∷ H)) }
         ensures unchanged { OnErr result (self.new ≡ self.old) }
-        ensures succeeds { IfSome (raise_of mark.now) (λ x. has_topic (topics_of self.old.accounts x.peer) x.topic ≡ true)
+        ensures succeeds { IfSome (raise_of mark.now) (λ x. is_known self.old.accounts x ≡ true)
             → IsOk result }
     {
         match mark {
