@@ -6,3 +6,7 @@ pub mod Sums
 pub mod Kept
 pub mod RulesInRange
 pub mod Numbering
+pub mod Accounting
+pub mod Keeping
+pub mod Placing
+pub mod Naming

@@ -45,7 +45,7 @@ past a b c d h = omega (arith, ints)
 none_added : (a b : ℤ) → a +ℤ (pos 0 +ℤ b) ≡ a +ℤ b
 none_added a b = omega (arith, ints)
 
-either_false : (a b : Bool) → (a || b) ≡ false → (a ≡ false) × (b ≡ false)
+pub either_false : (a b : Bool) → (a || b) ≡ false → (a ≡ false) × (b ≡ false)
 either_false false false h = (refl, refl)
 either_false true b h = cc
 either_false false true h = cc
@@ -125,7 +125,7 @@ nothing_counts r now =
     (times_nothing r.factors.topic_weight)
 
 -- nothing decays to nothing
-step_of_nothing : (d : Decay) → decay_step d 0 ≡ 0
+pub step_of_nothing : (d : Decay) → decay_step d 0 ≡ 0
 step_of_nothing d =
     let none : scaled d.factor 0 ≡ 0 = let e : d.factor * 0 ≡ 0 = omega arith in rw e refl in
     rw none (either_zero (nat_lt 0 d.floor))
@@ -134,11 +134,11 @@ step_of_nothing d =
     either_zero true = refl
     either_zero false = refl
 
-decayed_nothing : (d : Decay) (n : ℕ) → decayed d n 0 ≡ 0
+pub decayed_nothing : (d : Decay) (n : ℕ) → decayed d n 0 ≡ 0
 decayed_nothing d zero = refl
 decayed_nothing d (suc n) = ap (decayed d n) (step_of_nothing d) ∙ decayed_nothing d n
 
-fresh_held : (r : TopicRules) (tick : ℕ) → held r tick fresh ≡ nothing_held
+pub fresh_held : (r : TopicRules) (tick : ℕ) → held r tick fresh ≡ nothing_held
 fresh_held r tick =
     rw (decayed_nothing (decay_of r First) (tick - 0), decayed_nothing (decay_of r Near) (tick - 0), decayed_nothing (decay_of r Deficit) (tick - 0), decayed_nothing (decay_of r Invalid) (tick - 0))
     refl

@@ -5,3 +5,5 @@ pub mod Ranges
 pub mod Formula
 pub mod Accounts
 pub mod Places
+pub mod Ledgers
+pub mod Histories

@@ -1,5 +1,9 @@
 //! Laws of scores. Each holds of its definitions alone, and its function does nothing.
 ghost use Rattle.std.specs.Prelude.{◌≡◌, ℕ, ◌+◌, ◌≤◌, pos};
+ghost use Rattle.gs_base.specs.declared.names.PeerNo.{PeerNo as PeerNoValue};
+ghost use Rattle.gs_params.specs.declared.params.Params.{Params as ParamsValue};
+ghost use Rattle.gs_score.specs.Accounts.{Covers};
+ghost use Rattle.gs_score.specs.Histories.{History, held_by, named};
 ghost use Rattle.gs_score.specs.Counters.{Stored, decayed, most_counted, read_at};
 ghost use Rattle.gs_score.specs.Millionths.{scaled, times};
 ghost use Rattle.gs_score.specs.Ranges.{IsUpTo};
@@ -27,6 +31,12 @@ pub fn a_standing_decays_by_its_counters()
     ensures { (r : TopicRulesValue) (tick : ℕ) (s : StandingValue)
         → IsUpTo tick s
         → held r (tick + 1) s ≡ decayed_held r (held r tick s) }
+{}
+
+/// The topics that a history names leave none out on which a neighbour has something, so that its score is that over
+/// these.
+pub fn named_topics_leave_none_out()
+    ensures { (params : ParamsValue) (H : History) (q : PeerNoValue) → Covers (held_by params H q) (named H q) }
 {}
 
 /// The limit of counters is that of the definitions.

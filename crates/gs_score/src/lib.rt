@@ -2,24 +2,27 @@
 //! weights and scores are whole millionths, so that 1,000,000 is one.
 #![tactic(auto)]
 
+mod accounts;
 mod counter;
 mod laws;
 mod millionths;
 mod places;
 mod rules;
 mod score;
+mod scores;
 mod standing;
 mod topics;
 
 pub use counter::{Counter, Decay, MOST_COUNTED};
 pub use laws::{
     a_later_read_decays_on, a_standing_decays_by_its_counters, limits_of_counters,
-    products_of_amounts_are_scaled,
+    named_topics_leave_none_out, products_of_amounts_are_scaled,
 };
 pub use millionths::{scaled, squared, times};
 pub use places::{Place, Places};
 pub use rules::TopicRules;
 pub use score::score_of;
+pub use scores::Scores;
 pub use standing::{Kind, Standing};
 pub use topics::Topics;
 

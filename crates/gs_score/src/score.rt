@@ -9,7 +9,7 @@ use gs_params::Factors;
 /// The score of a neighbour, in millionths (gossipsub v1.1, Peer Scoring, The Score Function), by the sum of
 /// what its topics give (at most 10^29 either way), the score that the application gives it (P5, at most 10^12
 /// either way), how many neighbours are at its address (P6, at most 10^6) and its misbehaviour (P7, at most
-/// 10^12).
+/// 10^12). It is at most 10^30 either way.
 #[tactic(auto, unfolding(crate::specs::Formula::score_of))]
 pub fn score_of(factors: &Factors, topics: i128, app: i128, number: u64, behaviour: u64) -> i128
     requires in_range { FactorsAreInRange factors.now }
@@ -17,7 +17,8 @@ pub fn score_of(factors: &Factors, topics: i128, app: i128, number: u64, behavio
     requires app { unsigned_abs app ≤ 10 ^ 12 }
     requires number { number ≤ 10 ^ 6 }
     requires behaviour { behaviour ≤ 10 ^ 12 }
-    ensures { result ≡ score_of factors.now topics app number behaviour }
+    ensures value { result ≡ score_of factors.now topics app number behaviour }
+    ensures bound { unsigned_abs result ≤ 10 ^ 30 }
 {
     let held = capped(factors.topic_cap, topics);
     let given = weighed_sum(factors.w5, app);

@@ -1,5 +1,6 @@
 //! Counters and scores, by hand.
 mod counters;
+mod neighbours;
 mod places;
 mod products;
 mod scores;

@@ -1,5 +1,5 @@
 //! What a neighbour has on topics.
-ghost use Rattle.std.specs.Prelude.{◌≡◌, ◌+◌, ◌≤◌, ◌<◌, ◌*◌, ◌^◌, ◌+ℤ◌, true, false, if◌then◌else◌, [], List, drop, length, unsigned_abs, IsOk, OnOk, OnErr};
+ghost use Rattle.std.specs.Prelude.{◌≡◌, ◌+◌, ◌≤◌, ◌<◌, ◌*◌, ◌^◌, ◌+ℤ◌, ◌||◌, nat_lt, true, false, if◌then◌else◌, [], List, drop, length, unsigned_abs, IsOk, OnOk, OnErr};
 ghost use Rattle.std.specs.List.{IsDistinct};
 ghost use Rattle.std.specs.Map.{keys_of};
 ghost use Rattle.gs_base.specs.Names.{most_topics, same_topic};
@@ -10,7 +10,7 @@ ghost use Rattle.gs_score.specs.Standings.{fresh, pruned};
 
 use crate::rules::TopicRules;
 use crate::standing::Standing;
-use gs_base::{Millis, Topic, clone_of};
+use gs_base::{MOST_TOPICS, Millis, Topic, clone_of};
 use gs_params::Params;
 use indexmap::IndexMap;
 use std::alloc::{AllocError, Global};
@@ -54,6 +54,13 @@ impl Topics {
         ensures { result ≡ standing_in self.now topic.now }
     {
         standing_at(&self.standings, topic)
+    }
+
+    /// Whether it has something on a topic, or something on fewer than 1,024 topics.
+    pub fn has_room(&self, topic: &Topic) -> bool
+        ensures { result ≡ (has_topic self.now topic.now || nat_lt (length self.now) most_topics) }
+    {
+        self.standings.get(topic).is_some() || self.standings.len() < MOST_TOPICS
     }
 
     /// Puts what it has on a topic. It takes memory only where it had nothing on the topic.

@@ -4,9 +4,9 @@ use Rattle.gs_score.specs.Formula.{score_of, capped, p5, p6, p7}
 use Rattle.gs_score.proofs.Bounds.{back, reward_back, penalty_back, cap_back}
 use Rattle.gs_score.proofs.score.score_of.Goals as goal
 
-pub returns : goal.returns
+pub returns-clause-value : goal.returns-clause-value
 unfolding score_of
-returns c =
+returns-clause-value c =
     let f = c.args.factors.now in
     let r = c.requires.in_range in
     let e0 : c.capped-held.result ≡ capped f.topic_cap c.args.topics

@@ -1,0 +1,241 @@
+-- What is kept says what happened, after each change.
+use Rattle.std.proofs.Common.{◌≡◌, ℕ, suc, ◌+◌, ◌≤◌, ◌⊎◌, inl, inr, Bool, true, false, cond, List, Option, Some, None, refl, sym, ap, ap₂, subst, ◌∙◌, arith, ℤ, ◌+ℤ◌}
+use Rattle.std.specs.Prelude.{[], ◌∷◌}
+use Rattle.std.specs.Option.{option_map_or}
+use Rattle.gs_base.specs.declared.names.PeerNo.{PeerNo}
+use Rattle.gs_base.specs.declared.names.Topic.{Topic}
+use Rattle.gs_base.specs.declared.names.Millis.{Millis}
+use Rattle.gs_base.specs.declared.mark.Mark.{Mark}
+use Rattle.gs_params.specs.declared.params.Params.{Params}
+use Rattle.gs_base.specs.Names.{same_peer}
+use Rattle.gs_score.specs.declared.accounts.Account.{Account}
+use Rattle.gs_score.specs.declared.counter.Decay.{Decay}
+use Rattle.gs_score.specs.declared.rules.TopicRules.{TopicRules}
+use Rattle.gs_score.specs.declared.standing.Kind.{Kind}
+use Rattle.gs_score.specs.declared.standing.Kind.TheVariants.{First, Near, Deficit, Invalid}
+use Rattle.gs_score.specs.declared.standing.Standing.{Standing}
+use Rattle.gs_score.specs.Counters.{Stored, most_counted, raised, decay_step, read_at}
+use Rattle.gs_score.specs.Standings.{Held, decayed_held, held, raised_held, raised_standing}
+use Rattle.gs_score.specs.Accounts.{Covers, behaviour_decay, held_in, rules_of, topic_sum}
+use Rattle.gs_score.specs.Formula.{score_of, topic_part}
+use Rattle.gs_score.specs.Places.{app_of, number_with}
+use Rattle.gs_score.specs.declared.places.Place.{Place}
+use Rattle.gs_score.specs.Ranges.{IsUpTo}
+use Rattle.gs_score.specs.Ledgers.{AreFew, IsSound, Kept, Puts, PutsIn, behaviour_of, same_pair, standing_of, topics_of}
+use Rattle.gs_score.specs.Histories.{Agrees, Change, Decayed, Grafted, History, Left, Marked, Raise, Setting, blamed, decays, held_after, held_by, misbehaved_after, misbehaviour, one, places_in, raise_of, score_in}
+use Rattle.gs_score.proofs.Accounting.{peers_tell}
+use Rattle.gs_score.proofs.Decaying.{read-later}
+use Rattle.gs_score.proofs.Raising.{held-raised}
+use Rattle.gs_score.proofs.Stepping.{held-later}
+use Rattle.gs_score.proofs.Sums.{topics_tell}
+
+-- ---- pairs of a neighbour and a topic
+
+pub pairs_tell : (p : PeerNo) (t : Topic) (q : PeerNo) (u : Topic) → ((same_pair p t q u ≡ true) × (p ≡ q) × (t ≡ u)) ⊎ (same_pair p t q u ≡ false)
+pairs_tell p t q u =
+    elim (peers_tell p q) [
+      | inl e ↦ elim (topics_tell t u) [
+        | inl f ↦ inl (rw (e.0, f.0) refl, e.1, f.1)
+        | inr f ↦ inr (rw (e.0, f.0) refl)
+      ]
+      | inr e ↦ inr (rw e.0 refl)
+    ]
+
+pub pair_self : (p : PeerNo) (t : Topic) → same_pair p t p t ≡ true
+pair_self p t =
+    elim (pairs_tell p t p t) [
+      | inl e ↦ e.0
+      | inr e ↦ absurd (
+          elim (peers_tell p p) [
+            | inl f ↦ elim (topics_tell t t) [
+              | inl g ↦ cc
+              | inr g ↦ g.1 refl
+            ]
+            | inr f ↦ f.1 refl
+          ])
+    ]
+
+-- ---- bounds
+
+either : {A : Type 0} (P : A → Type 0) (b : Bool) (x y : A) → P x → P y → P (cond b x y)
+either P true x y p q = p
+either P false x y p q = q
+
+pub sound_put : (k : Kept) (es : List (PeerNo × Account)) (p : PeerNo) (t : Topic) (s : Standing)
+    → IsSound k → Puts k.accounts es p t s → AreFew es → IsUpTo k.tick s → IsSound (record k { accounts = es })
+sound_put k es p t s h puts few past = record {
+  in_range = h.in_range;
+  few = few;
+  standings = λ q u.
+      subst (IsUpTo k.tick) (sym (puts.standings q u))
+      (either (IsUpTo k.tick) (same_pair p t q u) s (standing_of k.accounts q u) past (h.standings q u));
+  behaviours = λ q. subst (λ (c : Stored). c.tick ≤ k.tick) (sym (puts.behaviours q)) (h.behaviours q);
+  apps = h.apps;
+  places = h.places;
+}
+
+pub up_to_raised : (r : TopicRules) (kind : Kind) (by tick : ℕ) (s : Standing) → IsUpTo tick s → IsUpTo tick (raised_standing r kind by tick s)
+up_to_raised r First by tick s h First = omega arith
+up_to_raised r First by tick s h Near = h Near
+up_to_raised r First by tick s h Deficit = h Deficit
+up_to_raised r First by tick s h Invalid = h Invalid
+up_to_raised r Near by tick s h First = h First
+up_to_raised r Near by tick s h Near = omega arith
+up_to_raised r Near by tick s h Deficit = h Deficit
+up_to_raised r Near by tick s h Invalid = h Invalid
+up_to_raised r Deficit by tick s h First = h First
+up_to_raised r Deficit by tick s h Near = h Near
+up_to_raised r Deficit by tick s h Deficit = omega arith
+up_to_raised r Deficit by tick s h Invalid = h Invalid
+up_to_raised r Invalid by tick s h First = h First
+up_to_raised r Invalid by tick s h Near = h Near
+up_to_raised r Invalid by tick s h Deficit = h Deficit
+up_to_raised r Invalid by tick s h Invalid = omega arith
+
+-- who comes into a mesh or leaves it keeps its counters
+pub up_to_since : (since : Option Millis) (tick : ℕ) (s : Standing) → IsUpTo tick s → IsUpTo tick (record s { since = since })
+up_to_since since tick s h First = h First
+up_to_since since tick s h Near = h Near
+up_to_since since tick s h Deficit = h Deficit
+up_to_since since tick s h Invalid = h Invalid
+
+-- ---- what happened
+
+-- a change that concerns one neighbour on one topic
+pub record Concerns (c : Change) (p : PeerNo) (t : Topic) (step : TopicRules → Held → Held) : Type 0 where
+  pub here : (r : TopicRules) (h : Held) → held_after r p t c h ≡ step r h
+  pub others : (r : TopicRules) (q : PeerNo) (u : Topic) (h : Held) → same_pair p t q u ≡ false → held_after r q u c h ≡ h
+  pub misbehaves : (d : Decay) (q : PeerNo) (x : ℕ) → misbehaved_after d q c x ≡ x
+  pub places : (s : Setting) (H : History) → places_in s.neighbours (c ∷ H) ≡ places_in s.neighbours H
+  pub decays : (H : History) → decays (c ∷ H) ≡ decays H
+
+agrees_put_here : (setting : Setting) (k : Kept) (es : List (PeerNo × Account)) (H : History) (c : Change) (p : PeerNo) (t : Topic) (s : Standing) (step : TopicRules → Held → Held)
+    → Concerns c p t step → Puts k.accounts es p t s
+    → held (rules_of setting.params t) k.tick s ≡ step (rules_of setting.params t) (held (rules_of setting.params t) k.tick (standing_of k.accounts p t))
+    → Agrees setting k H
+    → Agrees setting (record k { accounts = es }) (c ∷ H)
+agrees_put_here setting k es H c p t s step concerns puts there a = record {
+  params = a.params;
+  neighbours = λ q. puts.accounts q ∙ a.neighbours q;
+  decays = a.decays ∙ sym (concerns.decays H);
+  holds = λ q u. elim (pairs_tell p t q u) [
+    | inl e ↦ (
+        let r = rules_of setting.params t in
+        let at : held r k.tick (standing_of es p t) ≡ held_by setting.params (c ∷ H) p t
+        = ap (held r k.tick) (puts.standings p t ∙ rw (pair_self p t) refl)
+        ∙ there
+        ∙ ap (step r) (a.holds p t)
+        ∙ sym (concerns.here r (held_by setting.params H p t)) in
+        subst (λ x. held_in setting.params k.tick (topics_of es x) u ≡ held_by setting.params (c ∷ H) x u) e.1
+        (subst (λ y. held_in setting.params k.tick (topics_of es p) y ≡ held_by setting.params (c ∷ H) p y) e.2 at)
+        )
+    | inr e ↦ (
+        ap (held (rules_of setting.params u) k.tick) (puts.standings q u ∙ rw e refl)
+        ∙ a.holds q u
+        ∙ sym (concerns.others (rules_of setting.params u) q u (held_by setting.params H q u) e)
+        )
+  ];
+  misbehaves = λ q.
+      ap (read_at (behaviour_decay setting.params) k.tick) (puts.behaviours q)
+      ∙ a.misbehaves q
+      ∙ sym (concerns.misbehaves (behaviour_decay setting.params) q (misbehaviour setting.params H q));
+  places = a.places ∙ sym (concerns.places setting H);
+}
+
+pub agrees_put : (setting : Setting) (k new : Kept) (H : History) (c : Change) (p : PeerNo) (t : Topic) (s : Standing) (step : TopicRules → Held → Held)
+    → Concerns c p t step → PutsIn k new p t s
+    → held (rules_of k.params t) k.tick s ≡ step (rules_of k.params t) (held (rules_of k.params t) k.tick (standing_of k.accounts p t))
+    → Agrees setting k H
+    → Agrees setting new (c ∷ H)
+agrees_put setting k new H c p t s step concerns puts there a =
+    subst (λ x. Agrees setting x (c ∷ H)) (sym puts.rest)
+    (agrees_put_here setting k new.accounts H c p t s step concerns puts.puts
+    (subst (λ (x : Params). held (rules_of x t) k.tick s ≡ step (rules_of x t) (held (rules_of x t) k.tick (standing_of k.accounts p t))) a.params there) a)
+
+pub concerns_graft : (p : PeerNo) (t : Topic) (now : Millis) → Concerns (Grafted p t now) p t (λ r h. record h { since = Some now })
+concerns_graft p t now = record {
+  here = λ r h. rw (pair_self p t) refl;
+  others = λ r q u h e. rw e refl;
+  misbehaves = λ d q x. refl;
+  places = λ s H. refl;
+  decays = λ H. refl;
+}
+
+pub concerns_left : (p : PeerNo) (t : Topic) → Concerns (Left p t) p t (λ r h. record h { since = None })
+concerns_left p t = record {
+  here = λ r h. rw (pair_self p t) refl;
+  others = λ r q u h e. rw e refl;
+  misbehaves = λ d q x. refl;
+  places = λ s H. refl;
+  decays = λ H. refl;
+}
+
+-- one that raises a counter
+pub concerns_raise : (m : Mark) (p : PeerNo) (t : Topic) (kind : Kind) (by : ℕ)
+    → raise_of m ≡ Some (record { peer = p; topic = t; kind = kind; by = by })
+    → blamed m ≡ None
+    → Concerns (Marked m) p t (λ r h. raised_held r kind by h)
+concerns_raise m p t kind by is none = record {
+  here = λ r h.
+      ap (λ (o : Option Raise). option_map_or (λ (x : Raise). cond (same_pair x.peer x.topic p t) (raised_held r x.kind x.by h) h) o h) is
+      ∙ rw (pair_self p t) refl;
+  others = λ r q u h e.
+      ap (λ (o : Option Raise). option_map_or (λ (x : Raise). cond (same_pair x.peer x.topic q u) (raised_held r x.kind x.by h) h) o h) is
+      ∙ rw e refl;
+  misbehaves = λ d q x. ap (λ (o : Option PeerNo). option_map_or (λ y. cond (same_peer y q) (raised most_counted one x) x) o x) none;
+  places = λ s H. refl;
+  decays = λ H. refl;
+}
+
+pub agrees_raise : (setting : Setting) (k new : Kept) (H : History) (m : Mark) (p : PeerNo) (t : Topic) (kind : Kind) (by : ℕ)
+    → PutsIn k new p t (raised_standing (rules_of k.params t) kind by k.tick (standing_of k.accounts p t))
+    → raise_of m ≡ Some (record { peer = p; topic = t; kind = kind; by = by })
+    → blamed m ≡ None
+    → Agrees setting k H
+    → Agrees setting new (Marked m ∷ H)
+agrees_raise setting k new H m p t kind by puts is none a =
+    agrees_put setting k new H (Marked m) p t (raised_standing (rules_of k.params t) kind by k.tick (standing_of k.accounts p t))
+    (λ r h. raised_held r kind by h) (concerns_raise m p t kind by is none) puts
+    (held-raised (rules_of k.params t) kind by k.tick (standing_of k.accounts p t)) a
+
+pub agrees_decay : (setting : Setting) (k : Kept) (H : History) → IsSound k → Agrees setting k H → Agrees setting (record k { tick = k.tick + 1 }) (Decayed ∷ H)
+agrees_decay setting k H sound a = record {
+  params = a.params;
+  neighbours = a.neighbours;
+  decays = let is : k.tick + 1 ≡ suc k.tick = omega arith in is ∙ ap suc a.decays;
+  holds = λ q u.
+      held-later (rules_of setting.params u) k.tick (standing_of k.accounts q u) (sound.standings q u)
+      ∙ ap (decayed_held (rules_of setting.params u)) (a.holds q u);
+  misbehaves = λ q.
+      read-later (behaviour_decay setting.params) (behaviour_of k.accounts q) k.tick 1 (sound.behaviours q)
+      ∙ ap (decay_step (behaviour_decay setting.params)) (a.misbehaves q);
+  places = a.places;
+}
+
+-- ---- scores
+
+covers_same : (f g : Topic → Held) (ts : List Topic) → ((t : Topic) → f t ≡ g t) → Covers g ts → Covers f ts
+covers_same f g ts e c = record { apart = c.apart; all = λ t none. e t ∙ c.all t none }
+
+sums_same : (params : Params) (now : ℕ) (f g : Topic → Held) → ((t : Topic) → f t ≡ g t) → (ts : List Topic) → topic_sum params now f ts ≡ topic_sum params now g ts
+sums_same params now f g e [] = refl
+sums_same params now f g e (t ∷ ts) = ap₂ (λ x y. x +ℤ y) (ap (topic_part (rules_of params t) now) (e t)) (sums_same params now f g e ts)
+
+pub score_says : (s : Setting) (k : Kept) (H : History) (p : PeerNo) (now : ℕ) (ts : List Topic) (sum : ℤ)
+    → Agrees s k H
+    → Covers (held_by s.params H p) ts
+    → ((us : List Topic) → Covers (held_in k.params k.tick (topics_of k.accounts p)) us → sum ≡ topic_sum k.params now (held_in k.params k.tick (topics_of k.accounts p)) us)
+    → score_of k.params.factors sum (app_of k.places p) (number_with k.places p) (read_at (behaviour_decay k.params) k.tick (behaviour_of k.accounts p))
+    ≡ score_in s now H p ts
+score_says s k H p now ts sum a covers h =
+    let T = topics_of k.accounts p in
+    let at : Topic → Held = held_in s.params k.tick T in
+    let by : Topic → Held = held_by s.params H p in
+    let sums : sum ≡ topic_sum s.params now by ts
+    = subst (λ (x : Params). (us : List Topic) → Covers (held_in x k.tick T) us → sum ≡ topic_sum x now (held_in x k.tick T) us) a.params h ts
+    (covers_same at by ts (a.holds p) covers)
+    ∙ sums_same s.params now at by (a.holds p) ts in
+    ap (λ (x : Params). score_of x.factors sum (app_of k.places p) (number_with k.places p) (read_at (behaviour_decay x) k.tick (behaviour_of k.accounts p))) a.params
+    ∙ ap (λ (x : ℤ). score_of s.params.factors x (app_of k.places p) (number_with k.places p) (read_at (behaviour_decay s.params) k.tick (behaviour_of k.accounts p))) sums
+    ∙ ap (λ (x : List (PeerNo × Place)). score_of s.params.factors (topic_sum s.params now by ts) (app_of x p) (number_with x p) (read_at (behaviour_decay s.params) k.tick (behaviour_of k.accounts p))) a.places
+    ∙ ap (λ (x : ℕ). score_of s.params.factors (topic_sum s.params now by ts) (app_of (places_in s.neighbours H) p) (number_with (places_in s.neighbours H) p) x) (a.misbehaves p)

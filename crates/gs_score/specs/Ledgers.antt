@@ -1,0 +1,98 @@
+-- What scores keep.
+use Rattle.std.specs.Prelude.{◌||◌, nat_lt, ◌≡◌, ◌≤◌, ◌^◌, ◌&&◌, ℕ, unsigned_abs, Bool, List, [], length, is_some, if◌then◌else◌}
+use Rattle.std.specs.Map.{lookup}
+use Rattle.std.specs.Option.{unwrap_or}
+use Rattle.gs_base.specs.declared.names.PeerNo.{PeerNo}
+use Rattle.gs_base.specs.declared.names.Topic.{Topic}
+use Rattle.gs_base.specs.Names.{same_peer, same_topic, most_topics}
+use Rattle.gs_params.specs.declared.params.Params.{Params}
+use Rattle.gs_params.specs.Params.{AreInRange}
+use Rattle.gs_score.specs.declared.accounts.Account.{Account}
+use Rattle.gs_score.specs.declared.places.Place.{Place}
+use Rattle.gs_score.specs.declared.standing.Standing.{Standing}
+use Rattle.gs_score.specs.Counters.{Stored}
+use Rattle.gs_score.specs.Standings.{no_count}
+use Rattle.gs_score.specs.Accounts.{has_topic, standing_in}
+use Rattle.gs_score.specs.Places.{app_of}
+use Rattle.gs_score.specs.Ranges.{IsUpTo}
+
+-- ---- by neighbour
+
+-- nothing yet
+abbrev pub nothing_counted : Account
+nothing_counted = record { topics = []; behaviour = no_count }
+
+abbrev pub account_of : List (PeerNo × Account) → PeerNo → Account
+account_of accounts q = unwrap_or (lookup (same_peer q) accounts) nothing_counted
+
+abbrev pub has_account : List (PeerNo × Account) → PeerNo → Bool
+has_account accounts q = is_some (lookup (same_peer q) accounts)
+
+-- of neighbour p on topic t
+abbrev pub same_pair : PeerNo → Topic → PeerNo → Topic → Bool
+same_pair p t q u = same_peer p q && same_topic t u
+
+abbrev pub topics_of : List (PeerNo × Account) → PeerNo → List (Topic × Standing)
+topics_of accounts q = (account_of accounts q).topics
+
+-- what a neighbour has on a topic
+abbrev pub standing_of : List (PeerNo × Account) → PeerNo → Topic → Standing
+standing_of accounts q t = standing_in (topics_of accounts q) t
+
+-- how it misbehaved
+abbrev pub behaviour_of : List (PeerNo × Account) → PeerNo → Stored
+behaviour_of accounts q = (account_of accounts q).behaviour
+
+-- a neighbour has something on a topic, or room for one more
+abbrev pub has_room : List (PeerNo × Account) → PeerNo → Topic → Bool
+has_room accounts q t =
+    has_account accounts q && (has_topic (topics_of accounts q) t || nat_lt (length (topics_of accounts q)) most_topics)
+
+-- nobody has too many topics
+abbrev pub AreFew : List (PeerNo × Account) → Type 0
+AreFew accounts = (q : PeerNo) → length (topics_of accounts q) ≤ most_topics
+
+-- ---- steps
+
+-- a neighbour gets this on a topic, and all else stays
+pub record Puts (old new : List (PeerNo × Account)) (p : PeerNo) (t : Topic) (s : Standing) : Type 0 where
+  pub standings
+      : (q : PeerNo) (u : Topic)
+      → standing_of new q u ≡ (if same_pair p t q u then s else standing_of old q u)
+  pub behaviours : (q : PeerNo) → behaviour_of new q ≡ behaviour_of old q
+  pub accounts : (q : PeerNo) → has_account new q ≡ has_account old q
+
+-- a neighbour gets this as its misbehaviour, and all else stays
+pub record Blames (old new : List (PeerNo × Account)) (p : PeerNo) (c : Stored) : Type 0 where
+  pub topics : (q : PeerNo) → topics_of new q ≡ topics_of old q
+  pub behaviours : (q : PeerNo) → behaviour_of new q ≡ (if same_peer p q then c else behaviour_of old q)
+  pub accounts : (q : PeerNo) → has_account new q ≡ has_account old q
+
+-- ---- all that is kept
+
+-- the parameters, where neighbours are, what each has, and how often it decayed
+pub record Kept : Type 0 where
+  pub params : Params
+  pub places : List (PeerNo × Place)
+  pub accounts : List (PeerNo × Account)
+  pub tick : ℕ
+
+-- what holds of it between calls: no counter was decayed past the tick, and nothing is so large that a score would not
+-- be exact
+pub record IsSound (k : Kept) : Type 0 where
+  pub in_range : AreInRange k.params
+  pub few : AreFew k.accounts
+  pub standings : (q : PeerNo) (t : Topic) → IsUpTo k.tick (standing_of k.accounts q t)
+  pub behaviours : (q : PeerNo) → (behaviour_of k.accounts q).tick ≤ k.tick
+  pub apps : (q : PeerNo) → unsigned_abs (app_of k.places q) ≤ 10 ^ 12
+  pub places : length k.places ≤ 65_536
+
+-- a neighbour gets this on a topic, and all else stays
+pub record PutsIn (old new : Kept) (p : PeerNo) (t : Topic) (s : Standing) : Type 0 where
+  pub rest : new ≡ record old { accounts = new.accounts }
+  pub puts : Puts old.accounts new.accounts p t s
+
+-- a neighbour gets this as its misbehaviour, and all else stays
+pub record BlamesIn (old new : Kept) (p : PeerNo) (c : Stored) : Type 0 where
+  pub rest : new ≡ record old { accounts = new.accounts }
+  pub blames : Blames old.accounts new.accounts p c

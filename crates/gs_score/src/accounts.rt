@@ -1,0 +1,174 @@
+//! What is counted of each neighbour.
+ghost use Rattle.std.specs.Prelude.{◌≡◌, ◌≤◌, ◌*◌, ◌^◌, ℕ, true, [], List, IfOk, IsOk, OnOk, OnErr, unsigned_abs};
+ghost use Rattle.std.specs.List.{list_any};
+ghost use Rattle.gs_base.specs.Names.{same_peer};
+ghost use Rattle.gs_base.specs.declared.names.PeerNo.{PeerNo as PeerNoValue};
+ghost use Rattle.gs_base.specs.declared.names.Topic.{Topic as TopicValue};
+ghost use Rattle.gs_base.specs.declared.neighbour.Neighbour.{Neighbour as NeighbourValue};
+ghost use Rattle.gs_params.specs.Params.{AreInRange};
+ghost use Rattle.gs_score.specs.Accounts.{Covers, has_topic, held_in, topic_sum};
+ghost use Rattle.gs_score.specs.Counters.{most_counted, raised, read_at};
+ghost use Rattle.gs_score.specs.Ledgers.{AreFew, Blames, has_room, Puts, account_of, behaviour_of, has_account, nothing_counted, standing_of, topics_of};
+ghost use Rattle.gs_score.specs.Standings.{pruned};
+
+use crate::counter::{Counter, Decay, MOST_COUNTED};
+use crate::standing::Standing;
+use crate::topics::Topics;
+use gs_base::{Millis, Neighbour, PeerNo, Topic};
+use gs_params::Params;
+use indexmap::IndexMap;
+use std::alloc::{AllocError, Global};
+
+/// What is counted of a neighbour.
+#[derive(Drop)]
+pub struct Account {
+    /// What it has on topics.
+    pub topics: Topics,
+    /// How it misbehaved, whatever the topic (P7).
+    pub behaviour: Counter,
+}
+
+/// Nothing is counted of any neighbour yet.
+///
+/// # Errors
+/// `AllocError` where there was no memory.
+pub(crate) fn open_accounts(
+    alloc: Global,
+    neighbours: &[Neighbour],
+) -> Result<IndexMap<PeerNo, Account>, AllocError>
+    ensures nothing { IfOk result (λ accounts. (q : PeerNoValue)
+        → account_of accounts.entries q ≡ nothing_counted) }
+    ensures all { IfOk result (λ accounts. (q : PeerNoValue)
+        → has_account accounts.entries q
+        ≡ list_any (λ (n : NeighbourValue). same_peer q n.peer) neighbours.now) }
+{
+    let mut accounts = IndexMap::new(alloc);
+    for neighbour in neighbours {
+        let account = Account {
+            topics: Topics::new(alloc),
+            behaviour: Counter::new(),
+        };
+        accounts.insert(neighbour.peer, account)?;
+    }
+    Ok(accounts)
+}
+
+/// What a neighbour has on a topic.
+pub(crate) fn standing_of(
+    accounts: &IndexMap<PeerNo, Account>,
+    peer: PeerNo,
+    topic: &Topic,
+) -> Standing
+    ensures { result ≡ standing_of accounts.now.entries peer topic.now }
+{
+    match accounts.get(&peer) {
+        Some(account) => account.topics.standing(topic),
+        None => Standing::new(),
+    }
+}
+
+/// How a neighbour misbehaved.
+pub(crate) fn behaviour_of(accounts: &IndexMap<PeerNo, Account>, peer: PeerNo) -> Counter
+    ensures { result ≡ behaviour_of accounts.now.entries peer }
+{
+    match accounts.get(&peer) {
+        Some(account) => account.behaviour,
+        None => Counter::new(),
+    }
+}
+
+/// Whether this is a neighbour.
+pub(crate) fn has_account(accounts: &IndexMap<PeerNo, Account>, peer: PeerNo) -> bool
+    ensures { result ≡ has_account accounts.now.entries peer }
+{
+    accounts.get(&peer).is_some()
+}
+
+/// Whether a neighbour has something on a topic, or room for one more.
+pub(crate) fn has_room(accounts: &IndexMap<PeerNo, Account>, peer: PeerNo, topic: &Topic) -> bool
+    ensures { result ≡ has_room accounts.now.entries peer topic.now }
+{
+    match accounts.get(&peer) {
+        Some(account) => account.topics.has_room(topic),
+        None => false,
+    }
+}
+
+/// Puts what a neighbour has on a topic. It takes memory only where it had nothing on the topic.
+///
+/// # Errors
+/// `AllocError` where there was no memory; nothing is changed then.
+pub(crate) fn put_standing(
+    accounts: &mut IndexMap<PeerNo, Account>,
+    peer: PeerNo,
+    topic: &Topic,
+    standing: Standing,
+) -> Result<(), AllocError>
+    requires room { has_room accounts.old.entries peer topic.now ≡ true }
+    requires few { AreFew accounts.old.entries }
+    ensures puts { OnOk result (Puts accounts.old.entries accounts.new.entries peer topic.now standing) }
+    ensures few { AreFew accounts.new.entries }
+    ensures unchanged { OnErr result (accounts.new.entries ≡ accounts.old.entries) }
+    ensures succeeds { has_topic (topics_of accounts.old.entries peer) topic.now ≡ true → IsOk result }
+{
+    match accounts.get_mut(&peer) {
+        Some(account) => {
+            account.topics.put(topic, standing)?;
+            Ok(())
+        }
+        None => Ok(()),
+    }
+}
+
+/// A neighbour leaves the mesh of a topic. It takes no memory.
+pub(crate) fn prune_standing(accounts: &mut IndexMap<PeerNo, Account>, peer: PeerNo, topic: &Topic)
+    requires few { AreFew accounts.old.entries }
+    ensures puts { Puts accounts.old.entries accounts.new.entries peer topic.now
+        (pruned (standing_of accounts.old.entries peer topic.now)) }
+    ensures few { AreFew accounts.new.entries }
+{
+    if let Some(account) = accounts.get_mut(&peer) {
+        account.topics.prune(topic);
+    }
+}
+
+/// Raises how a neighbour misbehaved by an amount, as it is at a tick. It takes no memory.
+pub(crate) fn blame(
+    accounts: &mut IndexMap<PeerNo, Account>,
+    peer: PeerNo,
+    by: u64,
+    decay: Decay,
+    tick: u64,
+)
+    requires known { has_account accounts.old.entries peer ≡ true }
+    requires factor { decay.factor ≤ 10 ^ 6 }
+    ensures { Blames accounts.old.entries accounts.new.entries peer (record {
+      value = raised most_counted by (read_at decay tick (behaviour_of accounts.old.entries peer));
+      tick = tick;
+    }) }
+{
+    if let Some(account) = accounts.get_mut(&peer) {
+        account.behaviour.raise(by, MOST_COUNTED, decay, tick);
+    }
+}
+
+/// The sum over topics of what each gives a neighbour, in millionths: at most 1,024 * 10^25 either way.
+pub(crate) fn sum_of(
+    accounts: &IndexMap<PeerNo, Account>,
+    peer: PeerNo,
+    params: &Params,
+    tick: u64,
+    now: Millis,
+) -> i128
+    requires in_range { AreInRange params.now }
+    requires few { AreFew accounts.now.entries }
+    ensures value { (ts : List TopicValue)
+        → Covers (held_in params.now tick (topics_of accounts.now.entries peer)) ts
+        → result ≡ topic_sum params.now now.0 (held_in params.now tick (topics_of accounts.now.entries peer)) ts }
+    ensures bound { unsigned_abs result ≤ 1_024 * 10 ^ 25 }
+{
+    match accounts.get(&peer) {
+        Some(account) => account.topics.sum(params, tick, now),
+        None => 0,
+    }
+}

@@ -1,0 +1,355 @@
+//! The scores of all neighbours.
+ghost use Rattle.std.specs.Prelude.{◌≡◌, ◌≤◌, ◌<◌, ◌+◌, ◌^◌, ℕ, true, List, [], ◌∷◌, length, unsigned_abs, All, IfOk, IfSome, IsOk, OnErr, OnOk};
+ghost use Rattle.gs_base.specs.Names.{peers_of};
+ghost use Rattle.gs_base.specs.declared.names.Topic.{Topic as TopicValue};
+ghost use Rattle.gs_base.specs.declared.neighbour.Neighbour.{Neighbour as NeighbourValue};
+ghost use Rattle.gs_params.specs.Params.{AreInRange, FactorsAreInRange};
+ghost use Rattle.gs_params.specs.Picks.{IsAscending};
+ghost use Rattle.gs_score.specs.Accounts.{Covers, behaviour_decay, has_topic, rules_of};
+ghost use Rattle.gs_score.specs.Counters.{most_counted, raised, read_at};
+ghost use Rattle.gs_score.specs.Formula.{p3};
+ghost use Rattle.gs_score.specs.Histories.{Agrees, Decayed, Grafted, History, Left, Marked, Setting, ShutOut, accepts, charge, held_by, is_known, misbehaviour, one, raise_of, score_in};
+ghost use Rattle.gs_score.specs.Ledgers.{BlamesIn, PutsIn, behaviour_of, has_account, has_room, standing_of, topics_of};
+ghost use Rattle.gs_score.specs.Ranges.{IsUpTo};
+ghost use Rattle.gs_score.specs.Standings.{count, pruned, raised_standing, stored};
+
+use crate::accounts::{
+    Account, behaviour_of, blame, has_account, has_room, open_accounts, prune_standing,
+    put_standing, standing_of, sum_of,
+};
+use crate::counter::{Decay, MOST_COUNTED};
+use crate::places::Places;
+use crate::rules::TopicRules;
+use crate::score::score_of;
+use crate::standing::{Kind, Standing};
+use gs_base::{Mark, Millis, Neighbour, PeerNo, Topic, clone_of};
+use gs_params::Params;
+use indexmap::IndexMap;
+use std::alloc::{AllocError, Global};
+use std::marker::Model;
+
+/// One, in millionths: what a mark raises a counter by.
+const ONE: u64 = 1_000_000;
+
+/// The counters and the scores of a peer's neighbours.
+///
+/// It keeps no history, and says what one would say: the marks that were applied, when neighbours came into the
+/// mesh of a topic and left it, how often counters decayed, and who was shut out.
+#[derive(Drop)]
+pub struct Scores {
+    params: Params,
+    places: Places,
+    accounts: IndexMap<PeerNo, Account>,
+    tick: u64,
+}
+
+impl Model for Scores {
+    ghost use Rattle.gs_score.specs.Ledgers.{IsSound, Kept};
+
+    ghost Value = { Kept };
+
+    ghost view = { λ s. record {
+      params = s.params;
+      places = s.places;
+      accounts = s.accounts.entries;
+      tick = s.tick;
+    } };
+
+    ghost invariant = { λ s. IsSound (record {
+      params = s.params;
+      places = s.places;
+      accounts = s.accounts.entries;
+      tick = s.tick;
+    }) };
+}
+
+impl Scores {
+    /// The scores of neighbours, whose numbers ascend, before anything happened. What the application gives each
+    /// is at most 10^12 millionths either way.
+    ///
+    /// # Errors
+    /// `AllocError` where there was no memory.
+    pub fn new(
+        alloc: Global,
+        params: &Params,
+        neighbours: &[Neighbour],
+    ) -> Result<Scores, AllocError>
+        requires in_range { AreInRange params.now }
+        requires ascending { IsAscending (peers_of neighbours.now) }
+        requires apps { All (λ (n : NeighbourValue). unsigned_abs n.app ≤ 10 ^ 12) neighbours.now }
+        ensures { IfOk result (λ scores.
+            Agrees (record { params = params.now; neighbours = neighbours.now }) scores []) }
+    {
+        count_numbers(neighbours);
+        let places = Places::new(alloc, neighbours)?;
+        let accounts = open_accounts(alloc, neighbours)?;
+        let params = clone_of(params)?;
+        Ok(Scores {
+            params,
+            places,
+            accounts,
+            tick: 0,
+        })
+    }
+
+    /// Whether a neighbour of this number is one of those that `new` took, and has something on a topic, or
+    /// something on fewer than 1,024 topics.
+    pub fn has_room(&self, peer: PeerNo, topic: &Topic) -> bool
+        ensures { result ≡ has_room self.now.accounts peer topic.now }
+    {
+        has_room(&self.accounts, peer, topic)
+    }
+
+    /// Whether a mark may be applied: whom it concerns is a neighbour, with room for the topic.
+    pub fn accepts(&self, mark: &Mark) -> bool
+        ensures { result ≡ accepts self.now.accounts mark.now }
+    {
+        match mark {
+            Mark::First(peer, topic, _id) => has_room(&self.accounts, *peer, topic),
+            Mark::Near(peer, topic, _id) => has_room(&self.accounts, *peer, topic),
+            Mark::Deficit(peer, topic, _amount) => has_room(&self.accounts, *peer, topic),
+            Mark::Invalid(peer, topic) => has_room(&self.accounts, *peer, topic),
+            Mark::Behaviour(peer) => has_account(&self.accounts, *peer),
+            _ => true,
+        }
+    }
+
+    /// How often counters decayed.
+    pub fn decays(&self) -> u64
+        ensures { result ≡ self.now.tick }
+    {
+        self.tick
+    }
+
+    /// Raises the counter that a mark raises, if any (gossipsub v1.1, Peer Scoring): by one, or by the amount of a
+    /// deficit, up to its cap. The mark is one that is accepted. It takes memory only where the neighbour had nothing
+    /// on the topic.
+    ///
+    /// # Errors
+    /// `AllocError` where there was no memory; nothing is changed then.
+    pub fn apply(&mut self, mark: &Mark) -> Result<(), AllocError>
+        requires { accepts self.old.accounts mark.now ≡ true }
+        ensures agrees { OnOk result ((s : Setting) (H : History)
+            → Agrees s self.old H
+            → Agrees s self.new (Marked mark.now ∷ H)) }
+        ensures unchanged { OnErr result (self.new ≡ self.old) }
+        ensures succeeds { IfSome (raise_of mark.now) (λ x. is_known self.old.accounts x ≡ true)
+            → IsOk result }
+    {
+        match mark {
+            Mark::First(peer, topic, _id) => {
+                self.raise(*peer, topic, Kind::First, ONE)?;
+                Ok(())
+            }
+            Mark::Near(peer, topic, _id) => {
+                self.raise(*peer, topic, Kind::Near, ONE)?;
+                Ok(())
+            }
+            Mark::Deficit(peer, topic, amount) => {
+                self.raise(*peer, topic, Kind::Deficit, charge(amount))?;
+                Ok(())
+            }
+            Mark::Invalid(peer, topic) => {
+                self.raise(*peer, topic, Kind::Invalid, ONE)?;
+                Ok(())
+            }
+            Mark::Behaviour(peer) => {
+                self.blame(*peer);
+                Ok(())
+            }
+            _ => Ok(()),
+        }
+    }
+
+    /// A neighbour comes into the mesh of a topic, for which it has room. It takes memory only where the neighbour
+    /// had nothing on the topic.
+    ///
+    /// # Errors
+    /// `AllocError` where there was no memory; nothing is changed then.
+    pub fn graft(&mut self, peer: PeerNo, topic: &Topic, now: Millis) -> Result<(), AllocError>
+        requires room { has_room self.old.accounts peer topic.now ≡ true }
+        ensures agrees { OnOk result ((s : Setting) (H : History)
+            → Agrees s self.old H
+            → Agrees s self.new (Grafted peer topic.now now ∷ H)) }
+        ensures unchanged { OnErr result (self.new ≡ self.old) }
+        ensures succeeds { has_topic (topics_of self.old.accounts peer) topic.now ≡ true → IsOk result }
+    {
+        let mut standing = standing_of(&self.accounts, peer, topic);
+        standing.graft(now);
+        self.put(peer, topic, standing)?;
+        Ok(())
+    }
+
+    /// The square of what is missing of a neighbour's deliveries in the mesh of a topic, in millionths (P3): 0 to
+    /// 10^18. It is what the neighbour is charged with when it leaves the mesh (P3b), by a mark of its own.
+    pub fn missing(&self, peer: PeerNo, topic: &Topic, now: Millis) -> u64
+        ensures value { (s : Setting) (H : History)
+            → Agrees s self.now H
+            → result ≡ p3 (rules_of s.params topic.now) now.0 (held_by s.params H peer topic.now) }
+        ensures most { result ≤ 10 ^ 18 }
+    {
+        let rules = TopicRules::of(&self.params, topic);
+        standing_of(&self.accounts, peer, topic).missing(&rules, self.tick, now)
+    }
+
+    /// A neighbour leaves the mesh of a topic. Its counters stay, and it is charged with nothing: the mark with what
+    /// is missing is to be applied. It takes no memory.
+    pub fn prune(&mut self, peer: PeerNo, topic: &Topic)
+        ensures agrees { (s : Setting) (H : History)
+            → Agrees s self.old H
+            → Agrees s self.new (Left peer topic.now ∷ H) }
+    {
+        prune_standing(&mut self.accounts, peer, topic);
+    }
+
+    /// All counters decay by a step. Only a tick is counted, so that it costs the same however many counters there
+    /// are. It is called fewer than 2^63 times.
+    pub fn decay(&mut self)
+        requires few { self.old.tick < 2 ^ 63 }
+        ensures agrees { (s : Setting) (H : History) → Agrees s self.old H → Agrees s self.new (Decayed ∷ H) }
+        ensures counts { self.new ≡ record self.old { tick = self.old.tick + 1 } }
+    {
+        self.tick += 1;
+    }
+
+    /// A neighbour went for good: it counts no more at its address. It takes no memory.
+    pub fn shut_out(&mut self, peer: PeerNo)
+        ensures agrees { (s : Setting) (H : History) → Agrees s self.old H → Agrees s self.new (ShutOut peer ∷ H) }
+    {
+        self.places.shut_out(peer);
+    }
+
+    /// A counter of a neighbour on a topic, in millionths: 0 to 10^12.
+    pub fn counter(&self, peer: PeerNo, topic: &Topic, kind: Kind) -> u64
+        ensures value { (s : Setting) (H : History)
+            → Agrees s self.now H
+            → result ≡ count kind (held_by s.params H peer topic.now) }
+        ensures most { result ≤ 10 ^ 12 }
+    {
+        let rules = TopicRules::of(&self.params, topic);
+        standing_of(&self.accounts, peer, topic).count(kind, &rules, self.tick)
+    }
+
+    /// How a neighbour misbehaved, whatever the topic, in millionths: 0 to 10^12.
+    pub fn behaviour(&self, peer: PeerNo) -> u64
+        ensures value { (s : Setting) (H : History) → Agrees s self.now H → result ≡ misbehaviour s.params H peer }
+        ensures most { result ≤ 10 ^ 12 }
+    {
+        behaviour_of(&self.accounts, peer).read(behaviour_decay(&self.params), self.tick)
+    }
+
+    /// What is kept of a counter: a value in millionths, and the number of decays up to which it was decayed. Both
+    /// are 0 where the neighbour has nothing on the topic.
+    pub fn stored(&self, peer: PeerNo, topic: &Topic, kind: Kind) -> (u64, u64)
+        ensures { result
+            ≡ (
+              (stored kind (standing_of self.now.accounts peer topic.now)).value,
+              (stored kind (standing_of self.now.accounts peer topic.now)).tick,
+            ) }
+    {
+        standing_of(&self.accounts, peer, topic)
+            .counter(kind)
+            .stored()
+    }
+
+    /// The score of a neighbour at a moment, in millionths (gossipsub v1.1, Peer Scoring, The Score Function).
+    pub fn score(&self, peer: PeerNo, now: Millis) -> i128
+        ensures { (s : Setting) (H : History) (topics : List TopicValue)
+            → Agrees s self.now H
+            → Covers (held_by s.params H peer) topics
+            → result ≡ score_in s now.0 H peer topics }
+    {
+        let topics = sum_of(&self.accounts, peer, &self.params, self.tick, now);
+        let app = self.places.app(peer);
+        let number = self.places.number_with(peer);
+        let behaviour = behaviour_of(&self.accounts, peer).read(
+            behaviour_decay(&self.params),
+            self.tick,
+        );
+        score_of(&self.params.factors, topics, app, number, behaviour)
+    }
+
+    /// Raises a counter of a neighbour on a topic.
+    ///
+    /// # Errors
+    /// `AllocError` where there was no memory; nothing is changed then.
+    fn raise(&mut self, peer: PeerNo, topic: &Topic, kind: Kind, by: u64) -> Result<(), AllocError>
+        requires room { has_room self.old.accounts peer topic.now ≡ true }
+        ensures puts { OnOk result (PutsIn self.old self.new peer topic.now
+            (raised_standing (rules_of self.old.params topic.now) kind by self.old.tick
+            (standing_of self.old.accounts peer topic.now))) }
+        ensures unchanged { OnErr result (self.new ≡ self.old) }
+        ensures succeeds { has_topic (topics_of self.old.accounts peer) topic.now ≡ true → IsOk result }
+    {
+        let rules = TopicRules::of(&self.params, topic);
+        let mut standing = standing_of(&self.accounts, peer, topic);
+        standing.raise(kind, by, &rules, self.tick);
+        self.put(peer, topic, standing)?;
+        Ok(())
+    }
+
+    /// Puts what a neighbour has on a topic.
+    ///
+    /// # Errors
+    /// `AllocError` where there was no memory; nothing is changed then.
+    fn put(&mut self, peer: PeerNo, topic: &Topic, standing: Standing) -> Result<(), AllocError>
+        requires room { has_room self.old.accounts peer topic.now ≡ true }
+        requires past { IsUpTo self.old.tick standing }
+        ensures puts { OnOk result (PutsIn self.old self.new peer topic.now standing) }
+        ensures unchanged { OnErr result (self.new ≡ self.old) }
+        ensures succeeds { has_topic (topics_of self.old.accounts peer) topic.now ≡ true → IsOk result }
+    {
+        put_standing(&mut self.accounts, peer, topic, standing)?;
+        Ok(())
+    }
+
+    /// A neighbour misbehaved once more.
+    fn blame(&mut self, peer: PeerNo)
+        requires known { has_account self.old.accounts peer ≡ true }
+        ensures { BlamesIn self.old self.new peer (record {
+          value = raised most_counted one
+              (read_at (behaviour_decay self.old.params) self.old.tick (behaviour_of self.old.accounts peer));
+          tick = self.old.tick;
+        }) }
+    {
+        let decay = behaviour_decay(&self.params);
+        blame(&mut self.accounts, peer, ONE, decay, self.tick);
+    }
+}
+
+/// How misbehaviour decays.
+fn behaviour_decay(params: &Params) -> Decay
+    requires in_range { AreInRange params.now }
+    ensures value { result ≡ behaviour_decay params.now }
+    ensures factor { result.factor ≤ 10 ^ 6 }
+{
+    Decay {
+        factor: params.factors.p7_decay.unsigned_abs(),
+        floor: params.factors.decay_to_zero.unsigned_abs(),
+    }
+}
+
+/// What a deficit adds to a counter, which holds no more than 10^12.
+fn charge(amount: &i128) -> u64
+    ensures { result ≡ charge amount.now }
+{
+    if *amount < 0 {
+        return 0;
+    }
+    amount.unsigned_abs().min(MOST_COUNTED as u128) as u64
+}
+
+/// Neighbours with ascending numbers are at most 65,536, as numbers have 16 bits.
+fn count_numbers(neighbours: &[Neighbour])
+    requires { IsAscending (peers_of neighbours.now) }
+    ensures { length neighbours.now ≤ 65_536 }
+{
+    if let Some(last) = neighbours.last() {
+        fits(last.peer.0);
+    }
+}
+
+/// A number has 16 bits.
+fn fits(number: u16)
+    ensures { number < 65_536 }
+{}
