@@ -5,6 +5,7 @@ ghost use Rattle.gs_wire.specs.Codec.{codec};
 
 mod cases;
 mod gossip;
+mod gossip_cases;
 mod made;
 mod verdicts;
 

@@ -68,7 +68,8 @@ fn fate_of(state: &State, message: &Message, now: Millis) -> Fate
 fn new_fate(state: &State, message: &Message, id: MsgId) -> Fate
     ensures { (q : PeerNoValue) (at : MillisValue)
         → id ≡ message_id (payload_of message.now)
-        → new_message at q message.now (verdict_on state.now.setup.params.topics message.now) ≡ judged q at message.now result }
+        → new_message at q message.now (verdict_on state.now.setup.params.topics message.now)
+        ≡ judged q at message.now result }
 {
     match verdict_of(state.setup.params.topics.as_slice(), message) {
         Verdict::Accept => Fate::Accepted(id),

@@ -37,11 +37,7 @@ pub fn entry_of<W: Words>(
     if budget.offers == 0 {
         return Ok(bare(state.alloc, now, Event::Have(from, offer)));
     }
-    if !state
-        .tables
-        .topics
-        .is_joined_or_empty(&offer.get().topic)
-    {
+    if !state.tables.topics.is_joined_or_empty(&offer.get().topic) {
         return counted(state.alloc, from, offer, now);
     }
     let ids = wanted(state, offer.get().ids.as_slice(), budget.ids, now)?;

@@ -117,8 +117,8 @@ fn answer(state: &State, from: PeerNo, id: &MsgId, reply: &mut Reply) -> Result<
         → AreMadeFor state.now.tables (peer_with state.now.setup)
         → Replies (peer_with state.now.setup) L from ahead given reply.old
         → Replies (peer_with state.now.setup) L from (ahead ++ id.now ∷ [])
-            (given ++ with_message id.now (answer (peer_with state.now.setup) L from id.now (times_in id.now ahead)))
-            reply.new) }
+        (given ++ with_message id.now (answer (peer_with state.now.setup) L from id.now (times_in id.now ahead)))
+        reply.new) }
 {
     match state.tables.messages.answer_for(id, from) {
         Some(message) => {

@@ -73,9 +73,14 @@ fn outcome_of(entry: &Entry) -> Outcome {
         ([Mark::Invalid(_, _)], []) => Outcome::Invalid,
         ([Mark::Seen(_, Verdict::Reject), Mark::Invalid(_, _)], []) => Outcome::Rejected,
         ([Mark::Seen(_, Verdict::Ignore)], []) => Outcome::Ignored,
-        ([Mark::Seen(_, Verdict::Accept), Mark::First(_, _, _), Mark::Cached(_, _)], [_]) => {
-            Outcome::Delivered
-        }
+        (
+            [
+                Mark::Seen(_, Verdict::Accept),
+                Mark::First(_, _, _),
+                Mark::Cached(_, _),
+            ],
+            [_],
+        ) => { Outcome::Delivered }
         _ => Outcome::Other,
     }
 }
@@ -87,7 +92,14 @@ fn told(alloc: Global, router: &mut Router, row: Row<'_>) -> Result<Outcome, All
     if !is_due(router.trace(), Millis(at)) {
         return Ok(Outcome::Other);
     }
-    let answer = hear(alloc, router, PeerNo(from), &rpc, Millis(at), &mut words(alloc))?;
+    let answer = hear(
+        alloc,
+        router,
+        PeerNo(from),
+        &rpc,
+        Millis(at),
+        &mut words(alloc),
+    )?;
     match (answer, router.trace().entries()) {
         (Ok(()), [.., last]) => Ok(outcome_of(last)),
         _ => Ok(Outcome::Other),
@@ -131,7 +143,12 @@ fn accepts_its_own(alloc: Global) -> Result<bool, AllocError> {
         return Ok(false);
     }
     let topic = topic_of(alloc, "a")?;
-    let answer = router.publish(topic, bytes_of(alloc, &[0xff])?, Millis(0), &mut words(alloc));
+    let answer = router.publish(
+        topic,
+        bytes_of(alloc, &[0xff])?,
+        Millis(0),
+        &mut words(alloc),
+    );
     let is_told = match router.trace().entries() {
         [.., last] => last.delivered.len() == 1,
         [] => false,

@@ -5,7 +5,6 @@ use Rattle.gs_base.specs.declared.rpc.Rpc.{Rpc}
 use Rattle.gs_base.specs.declared.mark.Mark.{Mark}
 use Rattle.gs_base.specs.declared.control.IWant.{IWant}
 use Rattle.gs_rules.specs.declared.trace.Event.TheVariants.{Want}
-
 use Rattle.gs_rules.specs.declared.trace.Entry.{Entry}
 use Rattle.gs_rules.specs.Rules.{answers, bare, ids_in}
 use Rattle.gs_router.specs.State.{peer_with}
