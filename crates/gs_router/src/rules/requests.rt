@@ -89,7 +89,8 @@ impl Reply {
         ensures sends { OnOk result (self.new.sends ≡ self.old.sends ++ (from, passed_on message.now) ∷ []) }
         ensures marks { OnOk result (self.new.marks ≡ self.old.marks ++ marks.Answered from id ∷ []) }
         ensures left { OnOk result ((other : MsgIdValue) (n : ℕ)
-            → left_now self.new.left.entries other n ≡ (if same_id id other then left else left_now self.old.left.entries other n)) }
+            → left_now self.new.left.entries other n
+            ≡ (if same_id id other then left else left_now self.old.left.entries other n)) }
     {
         let rpc = Shared::new(alloc, passed_on(alloc, message)?)?;
         self.sends.push((from, rpc))?;
