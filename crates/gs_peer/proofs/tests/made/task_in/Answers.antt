@@ -5,10 +5,10 @@ use Rattle.gs_ends.specs.Ends.{has}
 use Rattle.gs_rules.specs.Peers.{links_of}
 use Rattle.gs_peer.proofs.tests.made.task_in.Goals as goal
 
-pub new-requires-3 : goal.new-requires-3
-new-requires-3 g c =
+pub new-requires-4 : goal.new-requires-4
+new-requires-4 g c =
     let low : c.args.rounds ≤ 100000 = c.requires.rounds in
-    let links : links_of c.new-router.result.peer ≡ c.args.pair.other ∷ [] = search rules in
+    let links : links_of c.in_ok-router.router.peer ≡ c.args.pair.other ∷ [] = search rules in
     record {
       small = omega (arith, low);
       neighbours = search rules;

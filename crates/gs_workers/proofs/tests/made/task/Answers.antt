@@ -8,5 +8,5 @@ nobody : (xs : List Source) → xs ≡ [] → IsDistinct same_peer (senders_of x
 unfolding IsDistinct
 nobody xs is = subst (λ l. IsDistinct same_peer (senders_of l)) (sym is) tt
 
-pub new-requires-6-clause-apart : goal.new-requires-6-clause-apart
-new-requires-6-clause-apart g c = nobody _ c.new-5.ensures.items
+pub new-requires-7-clause-apart : goal.new-requires-7-clause-apart
+new-requires-7-clause-apart g c = nobody _ c.new-6.ensures.items
