@@ -118,9 +118,9 @@ abbrev pub factor_checks : Factors → List Check
 factor_checks x =
     Count of.GossipFactor x.gossip_factor (count.AtMost 1_000_000)
     ∷ Score of.P7Decay x.p7_decay fraction
-    ∷ Score of.W5 x.w5 reward
-    ∷ Score of.W6 x.w6 penalty
-    ∷ Score of.W7 x.w7 penalty
+    ∷ Score of.AppSpecificWeight x.w5 reward
+    ∷ Score of.IpColocationFactorWeight x.w6 penalty
+    ∷ Score of.BehaviourPenaltyWeight x.w7 penalty
     ∷ Score of.TopicCap x.topic_cap cap
     ∷ Score of.DecayToZero x.decay_to_zero cap
     ∷ Count of.P6Threshold x.p6_threshold (count.Range 1 65_535)
@@ -149,11 +149,11 @@ window_checks x =
 abbrev pub topic_factor_checks : ℕ → TopicFactors → List Check
 topic_factor_checks place x =
     Score (of.OfTopic place topic.TopicWeight) x.topic_weight reward
-    ∷ Score (of.OfTopic place topic.W1) x.w1 reward
-    ∷ Score (of.OfTopic place topic.W2) x.w2 reward
-    ∷ Score (of.OfTopic place topic.W3) x.w3 penalty
-    ∷ Score (of.OfTopic place topic.W3b) x.w3b penalty
-    ∷ Score (of.OfTopic place topic.W4) x.w4 penalty
+    ∷ Score (of.OfTopic place topic.TimeInMeshWeight) x.w1 reward
+    ∷ Score (of.OfTopic place topic.FirstMessageDeliveriesWeight) x.w2 reward
+    ∷ Score (of.OfTopic place topic.MeshMessageDeliveriesWeight) x.w3 penalty
+    ∷ Score (of.OfTopic place topic.MeshFailurePenaltyWeight) x.w3b penalty
+    ∷ Score (of.OfTopic place topic.InvalidMessageDeliveriesWeight) x.w4 penalty
     ∷ Score (of.OfTopic place topic.P2Decay) x.p2_decay fraction
     ∷ Score (of.OfTopic place topic.P3Decay) x.p3_decay fraction
     ∷ Score (of.OfTopic place topic.P3bDecay) x.p3b_decay fraction

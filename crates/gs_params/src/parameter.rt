@@ -28,11 +28,11 @@ pub enum Parameter {
     /// `p7_decay`
     P7Decay,
     /// `w5`
-    W5,
+    AppSpecificWeight,
     /// `w6`
-    W6,
+    IpColocationFactorWeight,
     /// `w7`
-    W7,
+    BehaviourPenaltyWeight,
     /// `topic_cap`
     TopicCap,
     /// `decay_to_zero`
@@ -77,15 +77,15 @@ pub enum TopicParameter {
     /// `topic_weight`
     TopicWeight,
     /// `w1`
-    W1,
+    TimeInMeshWeight,
     /// `w2`
-    W2,
+    FirstMessageDeliveriesWeight,
     /// `w3`
-    W3,
+    MeshMessageDeliveriesWeight,
     /// `w3b`
-    W3b,
+    MeshFailurePenaltyWeight,
     /// `w4`
-    W4,
+    InvalidMessageDeliveriesWeight,
     /// `p2_decay`
     P2Decay,
     /// `p3_decay`

@@ -11,11 +11,12 @@ ghost use Rattle.gs_params.specs.Checks.{all_factor_checks, all_window_checks, c
 use crate::checks::{Check, CountRule, ScoreRule, first_broken};
 use crate::param_fault::ParamFault;
 use crate::parameter::Parameter::{
-    D, DHigh, DLazy, DLow, DOut, DScore, DecayMs, DecayToZero, FanoutTtlMs, GossipFactor,
-    GossipRetransmission, GossipThreshold, GraylistThreshold, HeartbeatMs, IwantFollowupMs,
-    MaxIhave, MaxIhaveIds, McacheGossip, McacheLen, OpportunisticPeers, OpportunisticThreshold,
+    AppSpecificWeight, BehaviourPenaltyWeight, D, DHigh, DLazy, DLow, DOut, DScore, DecayMs,
+    DecayToZero, FanoutTtlMs, GossipFactor, GossipRetransmission, GossipThreshold,
+    GraylistThreshold, HeartbeatMs, IpColocationFactorWeight, IwantFollowupMs, MaxIhave,
+    MaxIhaveIds, McacheGossip, McacheLen, OpportunisticPeers, OpportunisticThreshold,
     OpportunisticTicks, P6Threshold, P7Decay, PruneBackoffS, PublishThreshold, SeenTtlMs, TopicCap,
-    UnsubscribeBackoffS, W5, W6, W7,
+    UnsubscribeBackoffS,
 };
 use crate::ranges::{BACKOFF, CAP, FRACTION, PENALTY, REWARD, TIME};
 use crate::topic_params::TopicParams;
@@ -231,9 +232,9 @@ impl Factors {
                 CountRule::AtMost(1_000_000),
             ),
             Check::Score(P7Decay, self.p7_decay, FRACTION),
-            Check::Score(W5, self.w5, REWARD),
-            Check::Score(W6, self.w6, PENALTY),
-            Check::Score(W7, self.w7, PENALTY),
+            Check::Score(AppSpecificWeight, self.w5, REWARD),
+            Check::Score(IpColocationFactorWeight, self.w6, PENALTY),
+            Check::Score(BehaviourPenaltyWeight, self.w7, PENALTY),
             Check::Score(TopicCap, self.topic_cap, CAP),
             Check::Score(DecayToZero, self.decay_to_zero, CAP),
             Check::Count(P6Threshold, self.p6_threshold, CountRule::Range(1, 65_535)),

@@ -6,8 +6,9 @@ ghost use Rattle.gs_params.specs.Checks.{first_broken, topic_factor_checks, topi
 use crate::checks::{Check, CountRule, first_broken};
 use crate::parameter::Parameter::OfTopic;
 use crate::parameter::TopicParameter::{
-    P1Cap, P1QuantumMs, P2Cap, P2Decay, P3ActivationMs, P3Cap, P3Decay, P3Threshold, P3WindowMs,
-    P3bDecay, P4Decay, TopicWeight, W1, W2, W3, W3b, W4,
+    FirstMessageDeliveriesWeight, InvalidMessageDeliveriesWeight, MeshFailurePenaltyWeight,
+    MeshMessageDeliveriesWeight, P1Cap, P1QuantumMs, P2Cap, P2Decay, P3ActivationMs, P3Cap,
+    P3Decay, P3Threshold, P3WindowMs, P3bDecay, P4Decay, TimeInMeshWeight, TopicWeight,
 };
 use crate::ranges::{CAP, FRACTION, LONGEST_TIME, PENALTY, REWARD, TIME};
 use bytes::Bytes;
@@ -132,11 +133,23 @@ impl TopicFactors {
     {
         first_broken(&[
             Check::Score(OfTopic(place, TopicWeight), self.topic_weight, REWARD),
-            Check::Score(OfTopic(place, W1), self.w1, REWARD),
-            Check::Score(OfTopic(place, W2), self.w2, REWARD),
-            Check::Score(OfTopic(place, W3), self.w3, PENALTY),
-            Check::Score(OfTopic(place, W3b), self.w3b, PENALTY),
-            Check::Score(OfTopic(place, W4), self.w4, PENALTY),
+            Check::Score(OfTopic(place, TimeInMeshWeight), self.w1, REWARD),
+            Check::Score(
+                OfTopic(place, FirstMessageDeliveriesWeight),
+                self.w2,
+                REWARD,
+            ),
+            Check::Score(
+                OfTopic(place, MeshMessageDeliveriesWeight),
+                self.w3,
+                PENALTY,
+            ),
+            Check::Score(OfTopic(place, MeshFailurePenaltyWeight), self.w3b, PENALTY),
+            Check::Score(
+                OfTopic(place, InvalidMessageDeliveriesWeight),
+                self.w4,
+                PENALTY,
+            ),
             Check::Score(OfTopic(place, P2Decay), self.p2_decay, FRACTION),
             Check::Score(OfTopic(place, P3Decay), self.p3_decay, FRACTION),
             Check::Score(OfTopic(place, P3bDecay), self.p3b_decay, FRACTION),

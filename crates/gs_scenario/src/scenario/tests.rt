@@ -318,7 +318,11 @@ fn a_fault_has_its_number_and_place(rt: HostRuntime) -> Result<(), AllocError> {
 
 #[test]
 fn a_fault_without_a_place_has_its_number(rt: HostRuntime) -> Result<(), AllocError> {
-    let check = Check::Score(Parameter::W6, 1, ScoreRule::Range(-1_000_000_000, 0));
+    let check = Check::Score(
+        Parameter::IpColocationFactorWeight,
+        1,
+        ScoreRule::Range(-1_000_000_000, 0),
+    );
     let fault = ScenarioFault::Params(ParamFault::Factor(check));
     assert_eq!(rt; fault.number(), 3);
     assert!(rt; fault.place().is_none());

@@ -90,7 +90,11 @@ static FAULTS: [(&[(&str, i64)], ParamFault); 28] = [
     ),
     (
         &[("w7", 1)],
-        ParamFault::Factor(Check::Score(Parameter::W7, 1, ScoreRule::Range(-1_000_000_000, 0))),
+        ParamFault::Factor(Check::Score(
+            Parameter::BehaviourPenaltyWeight,
+            1,
+            ScoreRule::Range(-1_000_000_000, 0),
+        )),
     ),
     (
         &[("p6_threshold", 65_536)],
@@ -103,7 +107,7 @@ static FAULTS: [(&[(&str, i64)], ParamFault); 28] = [
     (
         &[("w4", 5)],
         ParamFault::Factor(Check::Score(
-            Parameter::OfTopic(1, TopicParameter::W4),
+            Parameter::OfTopic(1, TopicParameter::InvalidMessageDeliveriesWeight),
             5,
             ScoreRule::Range(-1_000_000_000, 0),
         )),
@@ -167,7 +171,11 @@ static FAULTS: [(&[(&str, i64)], ParamFault); 28] = [
     ),
     (
         &[("w5", -1), ("p6_threshold", 0)],
-        ParamFault::Factor(Check::Score(Parameter::W5, -1, ScoreRule::Range(0, 1_000_000_000))),
+        ParamFault::Factor(Check::Score(
+            Parameter::AppSpecificWeight,
+            -1,
+            ScoreRule::Range(0, 1_000_000_000),
+        )),
     ),
     (
         &[("w1", -1), ("p6_threshold", 0)],
@@ -176,7 +184,7 @@ static FAULTS: [(&[(&str, i64)], ParamFault); 28] = [
     (
         &[("p1_cap", -1), ("w1", -1)],
         ParamFault::Factor(Check::Score(
-            Parameter::OfTopic(1, TopicParameter::W1),
+            Parameter::OfTopic(1, TopicParameter::TimeInMeshWeight),
             -1,
             ScoreRule::Range(0, 1_000_000_000),
         )),

@@ -206,7 +206,7 @@ pub static REASONS: [(&str, &str, &str); 40] = [
     (
         "name = \"news\"\n",
         "name = \"news\"\nw4 = 5\n",
-        "Params(Factor(Score(OfTopic(0, W4), 5, Range(-1000000000, 0))))",
+        "Params(Factor(Score(OfTopic(0, InvalidMessageDeliveriesWeight), 5, Range(-1000000000, 0))))",
     ),
 ];
 
