@@ -23,7 +23,7 @@ use gs_params::Windows;
 use gs_rules::Entry;
 use std::alloc::{AllocError, Global};
 
-/// How many identifiers an offer or a request has at most.
+/// How many identifiers a router offers or asks for at once at most.
 pub const MOST_IDENTIFIERS: u64 = 5_000;
 
 /// What a router knows beside its trace.

@@ -1,22 +1,25 @@
--- What is owed after an entry are parts of RPCs, and nothing else.
+-- What is owed after an entry are parts of RPCs, and what a heartbeat does, and nothing else.
 use Rattle.std.proofs.Common.{◌≡◌, ◌≢◌, ℕ, List, [], ◌∷◌, ◌++◌, map, drop, refl, sym, ap, subst}
 use Rattle.std.specs.List.{AllByRecursion}
 use Rattle.gs_base.specs.declared.names.PeerNo.{PeerNo}
+use Rattle.gs_base.specs.declared.names.Topic.{Topic}
 use Rattle.gs_base.specs.declared.rpc.Rpc.{Rpc}
 use Rattle.gs_rules.specs.declared.trace.Event.{Event}
-use Rattle.gs_rules.specs.declared.trace.Event.TheVariants.{Heard, Sub, Msg, Have, Want}
+use Rattle.gs_rules.specs.declared.trace.Event.TheVariants.{Heard, Sub, Msg, Have, Want, Promises, GossipBeat, BeatEnd}
 use Rattle.gs_rules.specs.Peers.{Peer}
 use Rattle.gs_rules.specs.Tables.{Entries}
-use Rattle.gs_rules.specs.Owed.{Group, PartsOf, Debt, held_or, nothing, offers_in, owes, owing, owed, paid, parts, reached, requests_in}
+use Rattle.gs_rules.specs.Owed.{Group, PartsOf, Gossips, Debt, beats, gossip_topics, held_or, nothing, offers_in, owes, owing, owed, paid, parts, reached, requests_in}
 use Rattle.gs_rules.specs.Legal.{IsNext, MayOpen}
 
--- a part of an RPC
-abbrev pub IsPart : Event → Type 0
-IsPart (Sub q sub) = Unit {0}
-IsPart (Msg q m) = Unit {0}
-IsPart (Have q offer) = Unit {0}
-IsPart (Want q request) = Unit {0}
-IsPart other = ⊥
+-- what comes only where it is owed: a part of an RPC, and what a heartbeat does
+abbrev pub IsOwed : Event → Type 0
+IsOwed (Sub q sub) = Unit {0}
+IsOwed (Msg q m) = Unit {0}
+IsOwed (Have q offer) = Unit {0}
+IsOwed (Want q request) = Unit {0}
+IsOwed (GossipBeat t) = Unit {0}
+IsOwed BeatEnd = Unit {0}
+IsOwed other = ⊥
 
 -- ---- what holds of all that is owed
 
@@ -52,39 +55,51 @@ module _ (P : Event → Type 0) where
   paid_are_such p L debt h =
       held_are_such (drop 1 debt.events) debt.groups (reached p L debt.groups) (rest_are_such debt.events h.0) h.1 (reached_are_such p L debt.groups h.1)
 
-  -- what was owed before was such, and so are the parts of an RPC that is heard
-  pub owing_are_such : (p : Peer) (L M : Entries) (event : Event) (before : Debt) → ((q : PeerNo) (rpc : Rpc) → event ≡ Heard q rpc → AllByRecursion P (parts q rpc)) → OwesSuch before → OwesSuch (owing p M (owes p L event) before)
-  owing_are_such p L M (Heard q rpc) before heard h = held_are_such (parts q rpc) [] nothing (heard q rpc refl) refl nothing_is_such
-  owing_are_such p L M other before heard h = paid_are_such p M before h
+  -- what a heartbeat does, where it does so with each topic and with its end
+  pub beats_are_such : (topics : List Topic) → AllByRecursion (λ t. P (GossipBeat t)) topics → P BeatEnd → AllByRecursion P (beats topics)
+  beats_are_such [] all end = (end, tt)
+  beats_are_such (t ∷ topics) all end = (all.0, beats_are_such topics all.1 end)
 
--- ---- parts alone
+  -- what was owed before was such, and so are the parts of an RPC that is heard, and what a heartbeat does
+  pub owing_are_such : (p : Peer) (L M : Entries) (event : Event) (before : Debt) → ((q : PeerNo) (rpc : Rpc) → event ≡ Heard q rpc → AllByRecursion P (parts q rpc)) → (event ≡ Promises → AllByRecursion P (beats (gossip_topics p M))) → OwesSuch before → OwesSuch (owing p M (owes p L event) before)
+  owing_are_such p L M (Heard q rpc) before heard beat h = held_are_such (parts q rpc) [] nothing (heard q rpc refl) refl nothing_is_such
+  owing_are_such p L M Promises before heard beat h = held_are_such (beats (gossip_topics p M)) [] nothing (beat refl) refl nothing_is_such
+  owing_are_such p L M other before heard beat h = paid_are_such p M before h
 
-parts_are_parts : (q : PeerNo) (rpc : Rpc) → AllByRecursion IsPart (parts q rpc)
-parts_are_parts q rpc =
-    kind_of_parts IsPart (Sub q) rpc.subs _ (λ sub. tt)
-    (kind_of_parts IsPart (Msg q) rpc.publish _ (λ m. tt)
-    (kind_of_parts IsPart (Have q) (offers_in rpc.control) _ (λ offer. tt) (last_parts IsPart (Want q) (requests_in rpc.control) (λ request. tt))))
+-- ---- what is ever owed
 
--- parts of RPCs alone are ever owed
-pub owed_are_parts : (p : Peer) (L : Entries) → OwesSuch IsPart (owed p L)
-owed_are_parts p [] = nothing_is_such IsPart
-owed_are_parts p (e ∷ L) = owing_are_such IsPart p L (e ∷ L) e.event (owed p L) (λ q rpc is. parts_are_parts q rpc) (owed_are_parts p L)
+parts_are_owed : (q : PeerNo) (rpc : Rpc) → AllByRecursion IsOwed (parts q rpc)
+parts_are_owed q rpc =
+    kind_of_parts IsOwed (Sub q) rpc.subs _ (λ sub. tt)
+    (kind_of_parts IsOwed (Msg q) rpc.publish _ (λ m. tt)
+    (kind_of_parts IsOwed (Have q) (offers_in rpc.control) _ (λ offer. tt) (last_parts IsOwed (Want q) (requests_in rpc.control) (λ request. tt))))
 
-opens_by : (p : Peer) (L : Entries) (at : ℕ) (owing : List Event) (event : Event) → AllByRecursion IsPart owing → ¬ (IsPart event) → IsNext p L at owing event → MayOpen p L at event
+-- each topic of a heartbeat
+each_topic : (topics : List Topic) → AllByRecursion (λ (t : Topic). IsOwed (GossipBeat t)) topics
+each_topic [] = tt
+each_topic (t ∷ topics) = (tt, each_topic topics)
+
+-- these alone are ever owed
+pub owed_are_such : (p : Peer) (L : Entries) → OwesSuch IsOwed (owed p L)
+owed_are_such p [] = nothing_is_such IsOwed
+owed_are_such p (e ∷ L) =
+    owing_are_such IsOwed p L (e ∷ L) e.event (owed p L) (λ q rpc is. parts_are_owed q rpc) (λ is. beats_are_such IsOwed (gossip_topics p (e ∷ L)) (each_topic (gossip_topics p (e ∷ L))) tt) (owed_are_such p L)
+
+opens_by : (p : Peer) (L : Entries) (at : ℕ) (owing : List Event) (event : Event) → AllByRecursion IsOwed owing → ¬ (IsOwed event) → IsNext p L at owing event → MayOpen p L at event
 opens_by p L at [] event parts own next = next
-opens_by p L at (first ∷ rest) event parts own next = absurd (own (subst IsPart (sym next) parts.0))
+opens_by p L at (first ∷ rest) event parts own next = absurd (own (subst IsOwed (sym next) parts.0))
 
--- so what is no part comes where it may open
-pub opens : (p : Peer) (L : Entries) (at : ℕ) (event : Event) → ¬ (IsPart event) → IsNext p L at (owed p L).events event → MayOpen p L at event
-opens p L at event own next = opens_by p L at (owed p L).events event (owed_are_parts p L).0 own next
+-- so what is none of these comes where it may open
+pub opens : (p : Peer) (L : Entries) (at : ℕ) (event : Event) → ¬ (IsOwed event) → IsNext p L at (owed p L).events event → MayOpen p L at event
+opens p L at event own next = opens_by p L at (owed p L).events event (owed_are_such p L).0 own next
 
-next_is_part : (p : Peer) (L : Entries) (at : ℕ) (events : List Event) (event : Event) → AllByRecursion IsPart events → events ≢ [] → IsNext p L at events event → IsPart event
-next_is_part p L at [] event h some next = absurd (some refl)
-next_is_part p L at (first ∷ rest) event h some next = subst IsPart (sym next) h.0
+next_is_owed : (p : Peer) (L : Entries) (at : ℕ) (events : List Event) (event : Event) → AllByRecursion IsOwed events → events ≢ [] → IsNext p L at events event → IsOwed event
+next_is_owed p L at [] event h some next = absurd (some refl)
+next_is_owed p L at (first ∷ rest) event h some next = subst IsOwed (sym next) h.0
 
--- and what comes where something is owed is a part
-pub due_is_part : (p : Peer) (L : Entries) (at : ℕ) (event : Event) → (owed p L).events ≢ [] → IsNext p L at (owed p L).events event → IsPart event
-due_is_part p L at event some next = next_is_part p L at (owed p L).events event (owed_are_parts p L).0 some next
+-- and what comes where something is owed is one of these
+pub due_is_owed : (p : Peer) (L : Entries) (at : ℕ) (event : Event) → (owed p L).events ≢ [] → IsNext p L at (owed p L).events event → IsOwed event
+due_is_owed p L at event some next = next_is_owed p L at (owed p L).events event (owed_are_such p L).0 some next
 
 -- ---- paying
 
@@ -105,3 +120,11 @@ heard_owes p L q rpc = by (parts q rpc)
     by : (events : List Event) → held_or events [] nothing ≡ record { events = events; groups = [] }
     by [] = refl
     by (event ∷ events) = refl
+
+-- a heartbeat owes gossip, and its end
+pub beat_owes : (p : Peer) (L : Entries) → reached p L (Gossips ∷ []) ≡ record { events = beats (gossip_topics p L); groups = [] }
+beat_owes p L = by (gossip_topics p L)
+  where
+    by : (topics : List Topic) → held_or (beats topics) [] nothing ≡ record { events = beats topics; groups = [] }
+    by [] = refl
+    by (t ∷ topics) = refl

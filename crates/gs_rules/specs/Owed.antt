@@ -1,16 +1,19 @@
--- What must come next. An event may owe others: after an RPC was heard, its parts follow. What is owed comes in
--- groups, and a group holds what there is when it is reached.
-use Rattle.std.specs.Prelude.{List, [], ◌∷◌, ◌++◌, drop, map, Option, Some, None}
+-- What must come next. An event may owe others: after an RPC was heard, its parts follow, and a heartbeat gossips
+-- and ends. What is owed comes in groups, and a group holds what there is when it is reached.
+use Rattle.std.specs.Prelude.{Bool, true, false, List, [], ◌∷◌, ◌++◌, drop, filter, map, Option, Some, None}
 use Rattle.gs_base.specs.declared.names.PeerNo.{PeerNo}
+use Rattle.gs_base.specs.declared.names.Topic.{Topic}
+use Rattle.gs_base.specs.declared.names.MsgId.{MsgId}
 use Rattle.gs_base.specs.declared.rpc.Rpc.{Rpc}
 use Rattle.gs_base.specs.declared.control.Control.{Control}
 use Rattle.gs_base.specs.declared.control.IHave.{IHave}
 use Rattle.gs_base.specs.declared.control.IWant.{IWant}
 use Rattle.gs_rules.specs.declared.trace.Event.{Event}
-use Rattle.gs_rules.specs.declared.trace.Event.TheVariants.{Heard, Sub, Msg, Have, Want}
+use Rattle.gs_rules.specs.declared.trace.Event.TheVariants.{Heard, Sub, Msg, Have, Want, Promises, GossipBeat, BeatEnd}
 use Rattle.gs_rules.specs.declared.trace.Entry.{Entry}
 use Rattle.gs_rules.specs.Peers.{Peer}
-use Rattle.gs_rules.specs.Tables.{Entries}
+use Rattle.gs_rules.specs.Tables.{Entries, own_topics}
+use Rattle.gs_rules.specs.Gossip.{gossip}
 
 -- ---- groups
 
@@ -18,6 +21,8 @@ use Rattle.gs_rules.specs.Tables.{Entries}
 pub data Group : Type 0 where
   -- the parts of an RPC
   PartsOf : PeerNo → Rpc → Group
+  -- the gossip of a heartbeat, and its end
+  Gossips : Group
 
 -- the offers and the requests of an RPC: where it has no control, there are none
 abbrev pub offers_in : Option Control → List IHave
@@ -36,13 +41,28 @@ parts q rpc =
     ++ (map (Have q) (offers_in rpc.control)
     ++ map (Want q) (requests_in rpc.control)))
 
+-- there is something to gossip on a topic
+abbrev pub is_some_list : List MsgId → Bool
+is_some_list [] = false
+is_some_list (id ∷ ids) = true
+
+-- the topics of which a peer gossips: those that it is subscribed to and has something to gossip on, ascending
+abbrev pub gossip_topics : Peer → Entries → List Topic
+gossip_topics p L = filter (λ t. is_some_list (gossip p L t)) (own_topics L)
+
+-- a heartbeat gossips on these topics, and ends
+abbrev pub beats : List Topic → List Event
+beats topics = map GossipBeat topics ++ BeatEnd ∷ []
+
 -- the events of a group that is reached behind this trace
 abbrev pub events_in : Peer → Entries → Group → List Event
 events_in p L (PartsOf q rpc) = parts q rpc
+events_in p L Gossips = beats (gossip_topics p L)
 
 -- the groups that an event owes which comes behind this trace
 abbrev pub owes : Peer → Entries → Event → List Group
 owes p L (Heard q rpc) = PartsOf q rpc ∷ []
+owes p L Promises = Gossips ∷ []
 owes p L other = []
 
 -- ---- debts

@@ -1,5 +1,5 @@
 -- What is given of a peer.
-use Rattle.std.specs.Prelude.{ℕ, List}
+use Rattle.std.specs.Prelude.{ℕ, max, List}
 use Rattle.gs_base.specs.declared.names.PeerNo.{PeerNo}
 use Rattle.gs_base.specs.declared.neighbour.Neighbour.{Neighbour}
 use Rattle.gs_base.specs.Names.{peers_of}
@@ -18,3 +18,7 @@ links_of p = peers_of p.neighbours
 -- for how many milliseconds a message that was seen is not delivered again
 abbrev pub seen_ttl : Peer → ℕ
 seen_ttl p = p.params.windows.seen_ttl_ms
+
+-- for how many heartbeats a message is kept: one at least, as checked parameters say
+abbrev pub windows : Peer → ℕ
+windows p = max 1 p.params.windows.mcache_len

@@ -1,5 +1,5 @@
 -- What a peer does, round by round, by what it is given and by what its neighbours say to it.
-use Rattle.std.specs.Prelude.{◌≡◌, ◌≤◌, ℕ, zero, suc, ◌*◌, Bool, false, true, not, ◌&&◌, ◌||◌, nat_eq, if◌then◌else◌, List, [], ◌∷◌, ◌++◌, length, map, filter, Option, Some, None}
+use Rattle.std.specs.Prelude.{◌≡◌, ◌≤◌, ℕ, zero, suc, ◌*◌, ◌%◌, Bool, false, true, not, ◌&&◌, ◌||◌, nat_eq, nat_lt, if◌then◌else◌, List, [], ◌∷◌, ◌++◌, length, map, filter, Option, Some, None}
 use Rattle.std.specs.List.{flat_map, zip, AllZip}
 use Rattle.gs_base.specs.declared.names.PeerNo.{PeerNo}
 use Rattle.gs_base.specs.declared.names.Millis.{Millis}
@@ -53,6 +53,8 @@ pub data Todo : Type 0 where
   HearGone : PeerNo → Todo
   -- the line of the script at this place
   Obey : ℕ → What → Todo
+  -- a heartbeat
+  Beat : Todo
   EndRound : ℕ → Todo
   Stop : Todo
 
@@ -86,10 +88,20 @@ obey x = Obey x.0 x.1.what
 abbrev pub lines_at : Seat → ℕ → List Todo
 lines_at seat r = map obey (filter (is_at r) seat.lines)
 
--- In a round a peer hears what came, follows its lines, and ends the round. Behind the last one it shuts down, and
--- then hears what still comes.
+-- whether what comes every so many milliseconds is due in a round: never in the first one
+abbrev pub is_due : ℕ → ℕ → Millis → Bool
+is_due every r at = nat_lt 0 r && nat_eq (at.0 % every) 0
+
+-- a heartbeat, if one is due
+abbrev pub beats_in : Peer → ℕ → Millis → List Todo
+beats_in p r at = if is_due p.params.windows.heartbeat_ms r at then Beat ∷ [] else []
+
+-- In a round a peer hears what came, follows its lines, has a heartbeat if one is due, and ends the round. Behind the
+-- last one it shuts down, and then hears what still comes.
 abbrev pub agenda : Seat → Place → List Inbound → List Todo
-agenda seat (Playing r) xs = hears (links_of seat.peer) xs ++ (lines_at seat r ++ EndRound r ∷ [])
+agenda seat (Playing r) xs =
+    hears (links_of seat.peer) xs
+    ++ (lines_at seat r ++ (beats_in seat.peer r (moment_of seat (Playing r)) ++ EndRound r ∷ []))
 agenda seat Closing xs = Stop ∷ hears (links_of seat.peer) xs
 
 -- ---- how it is done
@@ -109,6 +121,7 @@ opening p L at (Hear q rpc) = Some (hearing L q rpc)
 opening p L at (HearFault q) = losing L q (events.Fault q)
 opening p L at (HearGone q) = losing L q (events.Gone q)
 opening p L at (Obey place what) = unless_refused (event_of what) (refusal p L at.0 (event_of what))
+opening p L at Beat = Some events.Promises
 opening p L at (EndRound r) = Some (events.RoundEnd r)
 opening p L at Stop = Some events.Shut
 

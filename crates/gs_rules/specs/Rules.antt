@@ -12,7 +12,7 @@ use Rattle.gs_base.specs.declared.rpc.Rpc.{Rpc}
 use Rattle.gs_base.specs.declared.names.MsgId.{MsgId}
 use Rattle.gs_base.specs.declared.control.IHave.{IHave}
 use Rattle.gs_base.specs.declared.control.IWant.{IWant}
-use Rattle.gs_wire.specs.Messages.{most_identifiers, passed_on, requesting}
+use Rattle.gs_wire.specs.Messages.{most_identifiers, offering, passed_on, requesting}
 use Rattle.gs_base.specs.Names.{same_id, same_topic, topic_or_empty, topic_of, payload_of, message_id, is_signed, announcement, publication}
 use Rattle.gs_params.specs.declared.params.Degrees.{Degrees}
 use Rattle.gs_params.specs.declared.topic_params.TopicParams.{TopicParams}
@@ -21,10 +21,11 @@ use Rattle.gs_base.specs.declared.verdict.Verdict.{Verdict}
 use Rattle.gs_base.specs.declared.verdict.Verdict.TheVariants.{Accept, Reject, Ignore}
 use Rattle.gs_base.specs.declared.mark.Mark.TheVariants.{Seen, First, Invalid, Cached, Answered, HeardHave, Asked}
 use Rattle.gs_rules.specs.declared.trace.Event.{Event}
-use Rattle.gs_rules.specs.declared.trace.Event.TheVariants.{Msg, Have, Want, Subscribe, Unsubscribe, Publish}
+use Rattle.gs_rules.specs.declared.trace.Event.TheVariants.{Msg, Have, Want, Subscribe, Unsubscribe, Publish, Promises, GossipBeat}
 use Rattle.gs_rules.specs.declared.trace.Entry.{Entry}
-use Rattle.gs_rules.specs.Peers.{Peer, links_of, seen_ttl}
+use Rattle.gs_rules.specs.Peers.{Peer, links_of, seen_ttl, windows}
 use Rattle.gs_rules.specs.Tables.{Entries, Keeping, up, on, joined, seen, kept, answered, offers, asked}
+use Rattle.gs_rules.specs.Gossip.{all_charges, gossip, gossip_size}
 
 -- ---- what rules say
 
@@ -204,7 +205,7 @@ times_in id ids = length (filter (same_id id) ids)
 abbrev pub answer : Peer → Entries → PeerNo → MsgId → ℕ → Option Message
 answer p L q id ahead =
     if nat_lt (answered L q id + ahead) p.params.windows.gossip_retransmission
-    then option_map (λ (k : Keeping). k.message) (kept L id)
+    then option_map (λ (k : Keeping). k.message) (kept (windows p) L id)
     else None
 
 -- an identifier with its message, if there is one
@@ -228,6 +229,23 @@ answering at q request given = record (bare at (Want q request)) {
 abbrev pub want_rule : Peer → Entries → Millis → PeerNo → IWant → Entry
 want_rule p L at q request = answering at q request (answers p L q [] (ids_in request.ids))
 
+-- ---- heartbeats
+
+-- at a heartbeat each broken promise counts against who made it
+abbrev pub promises_rule : Peer → Entries → Millis → Entry
+promises_rule p L at = record (bare at Promises) { marks = all_charges p L at.0 }
+
+-- these neighbours are told what there is on a topic
+abbrev pub telling : Peer → Entries → Millis → Topic → List PeerNo → Entry
+telling p L at t chosen = record (bare at (GossipBeat t)) {
+  sends = to_each (offering t (map (λ (id : MsgId). id.0) (gossip p L t))) chosen;
+}
+
+-- any of the neighbours that are up and on a topic are told what there is on it
+abbrev pub gossip_rule : Peer → Entries → Millis → Topic → Rule
+gossip_rule p L at t =
+    AnyOf (gossip_size p (length (listeners p L t))) (listeners p L t) (λ chosen. Gives (telling p L at t chosen))
+
 -- ---- all events
 
 -- the rule of an event: where none is named, the event alone
@@ -238,4 +256,6 @@ rule_of p L at (Want q request) = Gives (want_rule p L at q request)
 rule_of p L at (Subscribe t) = Gives (subscribe_rule p L at t)
 rule_of p L at (Unsubscribe t) = Gives (unsubscribe_rule p L at t)
 rule_of p L at (Publish t payload) = Gives (publish_rule p L at t payload)
+rule_of p L at Promises = Gives (promises_rule p L at)
+rule_of p L at (GossipBeat t) = gossip_rule p L at t
 rule_of p L at other = Gives (bare at other)

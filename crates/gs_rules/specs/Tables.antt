@@ -1,8 +1,12 @@
 -- What a trace says of a peer. Its entries stand with the newest first, so each table is read off the newest entry
 -- and what the table said before it: a step by the entry's event, and where marks change it, a step by each mark. A
 -- new event or mark is one line in the tables that it changes.
-use Rattle.std.specs.Prelude.{ℕ, ◌+◌, ◌-◌, Bool, true, false, ◌&&◌, nat_lt, if◌then◌else◌, List, [], ◌∷◌, ◌++◌, Option, Some, None, unwrap_or}
+use Rattle.std.specs.Prelude.{ℕ, ◌+◌, ◌-◌, Bool, true, false, not, ◌&&◌, nat_lt, if◌then◌else◌, List, [], ◌∷◌, ◌++◌, filter, Option, Some, None, unwrap_or}
 use Rattle.std.specs.List.{list_any}
+use Rattle.std.specs.declared.cmp.Ordering.{Ordering}
+use Rattle.std.specs.Ordering.{nat_cmp}
+use Rattle.std.specs.Cmp.Lexicographic.{slice_cmp}
+use Rattle.std.specs.FinMap.Entries.{by_order}
 use Rattle.gs_base.specs.declared.names.PeerNo.{PeerNo}
 use Rattle.gs_base.specs.declared.names.Topic.{Topic}
 use Rattle.gs_base.specs.declared.names.MsgId.{MsgId}
@@ -12,7 +16,8 @@ use Rattle.gs_base.specs.declared.mark.Mark.{Mark}
 use Rattle.gs_base.specs.declared.rpc.Message.{Message}
 use Rattle.gs_base.specs.declared.mark.Mark.TheVariants.{Seen, Cached, Answered, HeardHave, Asked}
 use Rattle.gs_rules.specs.declared.trace.Event.{Event}
-use Rattle.gs_rules.specs.declared.trace.Event.TheVariants.{Sub, Msg, Subscribe, Unsubscribe, Publish, Gone, Fault, Shut}
+use Rattle.gs_rules.specs.declared.trace.Event.TheVariants.{Sub, Msg, Subscribe, Unsubscribe, Publish, Promises, BeatEnd, Gone, Fault, Shut}
+use Rattle.gs_rules.specs.declared.trace.Promise.{Promise}
 use Rattle.gs_rules.specs.declared.trace.Entry.{Entry}
 
 -- what a peer did, the newest entry first
@@ -82,6 +87,23 @@ abbrev pub known : Entries → List Topic
 known [] = []
 known (e ∷ L) = known_after e.event (known L)
 
+-- the order of topics is that of their bytes
+abbrev pub topic_order : Topic → Topic → Ordering
+topic_order t u = slice_cmp nat_cmp t.0 u.0
+
+-- a topic at its place among others that ascend; where it stands there, it stays once
+abbrev pub placed : Topic → List Topic → List Topic
+placed t [] = t ∷ []
+placed t (u ∷ us) = by_order (topic_order t u) (t ∷ u ∷ us) (u ∷ us) (u ∷ placed t us)
+
+abbrev pub ascending : List Topic → List Topic
+ascending [] = []
+ascending (t ∷ ts) = placed t (ascending ts)
+
+-- the topics that the peer is subscribed to, ascending
+abbrev pub own_topics : Entries → List Topic
+own_topics L = ascending (filter (joined L) (known L))
+
 -- ---- messages
 
 -- when a message was marked as seen, and what it was found to be
@@ -111,10 +133,11 @@ seen ttl L id now = counting ttl now (last_seen L id)
 
 -- ---- kept messages
 
--- A message that is kept for who asks for it, and the topic that it is kept as one of.
+-- A message that is kept for who asks for it, the topic that it is kept as one of, and how many heartbeats ended since.
 pub record Keeping : Type 0 where
   pub topic : Topic
   pub message : Message
+  pub age : ℕ
 
 -- a message with a payload and a topic alone, as StrictNoSign has it
 abbrev pub unsigned : Topic → List ℕ → Message
@@ -140,12 +163,42 @@ message_in other = blank
 -- the last mark of an identifier says which message is kept under it
 abbrev pub kept_after : MsgId → Event → Mark → Option Keeping → Option Keeping
 kept_after id event (Cached other t) before =
-    if same_id other id then Some (record { topic = t; message = message_in event }) else before
+    if same_id other id then Some (record { topic = t; message = message_in event; age = 0 }) else before
 kept_after id event other before = before
 
-abbrev pub kept : Entries → MsgId → Option Keeping
-kept [] id = None
-kept (e ∷ L) id = after_marks (kept_after id e.event) e.marks (kept L id)
+-- one heartbeat older
+abbrev pub older : Option Keeping → Option Keeping
+older None = None
+older (Some k) = Some (record { topic = k.topic; message = k.message; age = k.age + 1 })
+
+-- the end of a heartbeat makes what is kept older
+abbrev pub aged_after : Event → Option Keeping → Option Keeping
+aged_after BeatEnd before = older before
+aged_after other before = before
+
+-- the message that was kept last under an identifier
+abbrev pub last_kept : Entries → MsgId → Option Keeping
+last_kept [] id = None
+last_kept (e ∷ L) id = after_marks (kept_after id e.event) e.marks (aged_after e.event (last_kept L id))
+
+-- a message is kept until so many heartbeats have ended
+abbrev pub keeping : ℕ → Option Keeping → Option Keeping
+keeping len None = None
+keeping len (Some k) = if nat_lt k.age len then Some k else None
+
+-- the message that is kept under an identifier (gossipsub v1.0, "Message Cache")
+abbrev pub kept : ℕ → Entries → MsgId → Option Keeping
+kept len L id = keeping len (last_kept L id)
+
+-- a message that is kept anew stands last, and no more where it stood
+abbrev pub order_after : Mark → List MsgId → List MsgId
+order_after (Cached id t) before = filter (λ other. not (same_id id other)) before ++ id ∷ []
+order_after other before = before
+
+-- the identifiers of all that was kept, in the order in which each was kept last, the oldest first
+abbrev pub keeping_order : Entries → List MsgId
+keeping_order [] = []
+keeping_order (e ∷ L) = after_marks order_after e.marks (keeping_order L)
 
 -- how often a neighbour was sent a message since that was kept anew
 abbrev pub answered_after : PeerNo → MsgId → Mark → ℕ → ℕ
@@ -159,20 +212,47 @@ answered (e ∷ L) q id = after_marks (answered_after q id) e.marks (answered L 
 
 -- ---- budgets
 
--- how many offers of a neighbour counted
+-- the end of a heartbeat begins a count anew
+abbrev pub anew_after : Event → ℕ → ℕ
+anew_after BeatEnd before = 0
+anew_after other before = before
+
+-- how many offers of a neighbour counted since the last heartbeat
 abbrev pub offers_after : PeerNo → Mark → ℕ → ℕ
 offers_after q (HeardHave p) before = if same_peer p q then before + 1 else before
 offers_after q other before = before
 
 abbrev pub offers : Entries → PeerNo → ℕ
 offers [] q = 0
-offers (e ∷ L) q = after_marks (offers_after q) e.marks (offers L q)
+offers (e ∷ L) q = after_marks (offers_after q) e.marks (anew_after e.event (offers L q))
 
--- how many identifiers were asked of a neighbour
+-- how many identifiers were asked of a neighbour since the last heartbeat
 abbrev pub asked_after : PeerNo → Mark → ℕ → ℕ
 asked_after q (Asked p n) before = if same_peer p q then before + n else before
 asked_after q other before = before
 
 abbrev pub asked : Entries → PeerNo → ℕ
 asked [] q = 0
-asked (e ∷ L) q = after_marks (asked_after q) e.marks (asked L q)
+asked (e ∷ L) q = after_marks (asked_after q) e.marks (anew_after e.event (asked L q))
+
+-- ---- promises
+
+-- a heartbeat ends the promises whose time has come
+abbrev pub ended_after : Event → ℕ → List Promise → List Promise
+ended_after Promises at before = filter (λ promise. nat_lt at promise.until.0) before
+ended_after other at before = before
+
+-- a message that is marked as seen keeps each promise of it, whoever sent it
+abbrev pub fulfilled_after : Mark → List Promise → List Promise
+fulfilled_after (Seen id verdict) before = filter (λ promise. not (same_id id promise.id)) before
+fulfilled_after other before = before
+
+-- the promise that was made, if one was
+abbrev pub made : Option Promise → List Promise
+made None = []
+made (Some promise) = promise ∷ []
+
+-- the promises that were neither kept nor ended, the oldest first
+abbrev pub promises : Entries → List Promise
+promises [] = []
+promises (e ∷ L) = after_marks fulfilled_after e.marks (ended_after e.event e.at.0 (promises L)) ++ made e.promise

@@ -29,6 +29,12 @@ pub enum Event {
     Unsubscribe(Topic),
     /// The peer published a payload on a topic.
     Publish(Topic, Bytes),
+    /// A heartbeat began: promises whose time had come ended. Gossip follows, and the heartbeat's end.
+    Promises,
+    /// What there is on a topic was gossiped.
+    GossipBeat(Topic),
+    /// A heartbeat ended.
+    BeatEnd,
     /// A round ended.
     RoundEnd(u64),
     /// A neighbour closed its link.

@@ -51,7 +51,8 @@ impl Sightings {
         requires { self.old.cache.moment ≤ at.0 }
         ensures marks { OnOk result ((id : MsgIdValue) (now : ℕ)
             → self.new.cache.moment ≤ now
-            → verdict_at self.new id now ≡ verdict_after self.old.cache.ttl now id at.0 mark.now (verdict_at self.old id now)) }
+            → verdict_at self.new id now
+            ≡ verdict_after self.old.cache.ttl now id at.0 mark.now (verdict_at self.old id now)) }
         ensures moment { OnOk result ((self.old.cache.moment ≤ self.new.cache.moment) × (self.new.cache.moment ≤ at.0)) }
         ensures ttl { OnOk result (self.new.cache.ttl ≡ self.old.cache.ttl) }
     {

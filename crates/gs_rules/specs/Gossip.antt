@@ -1,0 +1,48 @@
+-- What a heartbeat does: it charges broken promises, and gossips of the messages that are kept.
+use Rattle.std.specs.Prelude.{ℕ, ◌-◌, ◌*◌, ◌/◌, max, Bool, false, ◌&&◌, nat_le, nat_lt, if◌then◌else◌, List, [], ◌∷◌, length, drop, map, filter, Option, Some, None}
+use Rattle.std.specs.List.{flat_map}
+use Rattle.gs_base.specs.declared.names.PeerNo.{PeerNo}
+use Rattle.gs_base.specs.declared.names.Topic.{Topic}
+use Rattle.gs_base.specs.declared.names.MsgId.{MsgId}
+use Rattle.gs_base.specs.declared.mark.Mark.{Mark}
+use Rattle.gs_base.specs.declared.mark.Mark.TheVariants.{Behaviour}
+use Rattle.gs_base.specs.Names.{same_peer, same_topic}
+use Rattle.gs_wire.specs.Messages.{most_identifiers}
+use Rattle.gs_rules.specs.declared.trace.Promise.{Promise}
+use Rattle.gs_rules.specs.Peers.{Peer, links_of, windows}
+use Rattle.gs_rules.specs.Tables.{Entries, Keeping, kept, keeping_order, promises, up}
+
+-- ---- promises (gossipsub v1.1, "Spam Protection Measures")
+
+-- the promises of a neighbour whose time has come
+abbrev pub overdue : Entries → ℕ → PeerNo → List Promise
+overdue L at q = filter (λ promise. same_peer promise.from q && nat_le promise.until.0 at) (promises L)
+
+-- each counts against the neighbour, if that is up
+abbrev pub charges : Entries → ℕ → PeerNo → List Mark
+charges L at q = if up L q then map (λ promise. Behaviour q) (overdue L at q) else []
+
+abbrev pub all_charges : Peer → Entries → ℕ → List Mark
+all_charges p L at = flat_map (charges L at) (links_of p)
+
+-- ---- what is gossiped (gossipsub v1.0, "Gossip Emission")
+
+-- whether a message is gossiped on a topic: for so many heartbeats since it was kept
+abbrev pub is_gossiped : ℕ → Topic → Option Keeping → Bool
+is_gossiped most t None = false
+is_gossiped most t (Some k) = nat_lt k.age most && same_topic k.topic t
+
+-- the last ones of a list, so many at most
+abbrev pub last_of : {A : Type 0} → ℕ → List A → List A
+last_of n xs = drop (length xs - n) xs
+
+-- the identifiers that are gossiped on a topic, the oldest first: those that were kept last, where there are too many
+abbrev pub gossip : Peer → Entries → Topic → List MsgId
+gossip p L t =
+    last_of most_identifiers
+    (filter (λ id. is_gossiped p.params.windows.mcache_gossip t (kept (windows p) L id)) (keeping_order L))
+
+-- how many of so many neighbours are told: a part of them, and no fewer than a number, where there are so many
+-- (gossipsub v1.1, "Adaptive Gossip Dissemination")
+abbrev pub gossip_size : Peer → ℕ → ℕ
+gossip_size p n = max p.params.degrees.d_lazy (p.params.factors.gossip_factor * n / 1_000_000)
