@@ -17,13 +17,13 @@ use Rattle.gs_base.specs.declared.verdict.Verdict.TheVariants.{Accept, Reject, I
 use Rattle.gs_base.specs.declared.mark.Mark.{Mark}
 use Rattle.gs_base.specs.declared.mark.Mark.TheVariants.{Seen, First, Cached}
 use Rattle.gs_rules.specs.declared.trace.Event.{Event}
-use Rattle.gs_rules.specs.declared.trace.Event.TheVariants.{Msg, Have, Publish}
+use Rattle.gs_rules.specs.declared.trace.Event.TheVariants.{Msg, Have, Publish, GossipBeat}
 use Rattle.gs_rules.specs.declared.trace.Entry.{Entry}
 use Rattle.gs_base.specs.Names.{same_id, message_id, topic_of, payload_of, is_signed}
 use Rattle.gs_rules.specs.Tables.{Entries, last_moment, joined, Sighting, after_marks, sighting_after, last_seen, counting, seen}
 use Rattle.gs_rules.specs.Peers.{Peer, seen_ttl}
 use Rattle.gs_rules.specs.Owed.{owed}
-use Rattle.gs_rules.specs.Rules.{rule_of, asking, bare, counted, have_rule, invalid, message_rule, new_message, publish_rule, wanted}
+use Rattle.gs_rules.specs.Rules.{rule_of, asking, bare, counted, have_rule, invalid, message_rule, new_message, publish_rule, telling, wanted}
 use Rattle.gs_rules.specs.Modes.{SaysTheSame, Follows, free}
 use Rattle.gs_rules.specs.Legal.{MayPublish, IsNext, IsAllowed, Legal, Delivers, DeliversApart}
 use Rattle.gs_rules.proofs.Legality.{legal_newest}
@@ -144,6 +144,7 @@ by_event : (p : Peer) (L : Entries) (event : Event) (e : Entry) (id : MsgId) →
 by_event p L (Msg q m) e id next effects delivers = heard p L q m e id effects.0 delivers
 by_event p L (Publish t payload) e id next effects delivers = published p L t payload e id (opens p L e.at.0 (Publish t payload) (λ h. h) next) effects.0 delivers
 by_event p L (Have q offer) e id next effects delivers = offered p L q offer e id effects delivers
+by_event p L (GossipBeat t) e id next effects delivers = delivers_none p L e (telling p L e.at t effects.0) id effects.3.0 refl delivers
 by_event p L other e id next effects delivers = delivers_none p L e _ id effects.0 refl delivers
 
 delivered_is_fresh : (p : Peer) (L : Entries) (e : Entry) (id : MsgId) → IsAllowed free p L tt e tt → Delivers e id → IsFresh p L e id

@@ -167,10 +167,10 @@ keeping = marked (Msg q empty_message) (Cached (id 1) topic)
 abbrev given : Event → Entry
 given event = marked event (Answered q (id 1))
 
-a_message_is_kept_with_its_topic : kept (entry (RoundEnd 0) ∷ keeping ∷ []) (id 1) ≡ Some (record { topic = topic; message = empty_message })
+a_message_is_kept_with_its_topic : kept 5 (entry (RoundEnd 0) ∷ keeping ∷ []) (id 1) ≡ Some (record { topic = topic; message = empty_message; age = 0 })
 a_message_is_kept_with_its_topic = refl
 
-the_last_one_is_kept : kept (marked (Publish topic (7 ∷ [])) (Cached (id 1) topic) ∷ keeping ∷ []) (id 1) ≡ Some (record { topic = topic; message = unsigned topic (7 ∷ []) })
+the_last_one_is_kept : kept 5 (marked (Publish topic (7 ∷ [])) (Cached (id 1) topic) ∷ keeping ∷ []) (id 1) ≡ Some (record { topic = topic; message = unsigned topic (7 ∷ []); age = 0 })
 the_last_one_is_kept = refl
 
 a_third_request_gets_none : answers peer (keeping ∷ []) q [] (id 1 ∷ id 1 ∷ id 1 ∷ []) ≡ (id 1, empty_message) ∷ (id 1, empty_message) ∷ []

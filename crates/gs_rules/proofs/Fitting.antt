@@ -5,8 +5,7 @@ use Rattle.std.specs.Prelude.{is_some}
 use Rattle.std.proofs.lemmas.Bool.{le-leb}
 use Rattle.std.proofs.lemmas.Bool.Decides.{nat_tests}
 use Rattle.std.proofs.lemmas.Cmp.{nat_eq_equiv}
-use Rattle.std.proofs.lemmas.List.{reverse-append}
-use Rattle.std.proofs.lemmas.Slice.Eq.{bytes_eq-Decides}
+use Rattle.std.proofs.lemmas.List.{length-map, reverse-append}
 use Rattle.gs_base.specs.declared.names.PeerNo.{PeerNo}
 use Rattle.gs_base.specs.declared.names.Topic.{Topic}
 use Rattle.gs_base.specs.declared.names.Millis.{Millis}
@@ -15,21 +14,22 @@ use Rattle.gs_base.specs.declared.control.IHave.{IHave}
 use Rattle.gs_base.specs.declared.rpc.Message.{Message}
 use Rattle.gs_base.specs.declared.rpc.Rpc.{Rpc}
 use Rattle.gs_rules.specs.declared.trace.Event.{Event}
-use Rattle.gs_rules.specs.declared.trace.Event.TheVariants.{Msg, Have, Want, Subscribe, Unsubscribe, Publish}
+use Rattle.gs_rules.specs.declared.trace.Event.TheVariants.{Msg, Have, Want, Subscribe, Unsubscribe, Publish, GossipBeat}
 use Rattle.gs_rules.specs.declared.trace.Entry.{Entry}
 use Rattle.gs_base.specs.Names.{longest_topic, same_peer, same_topic, topic_of, payload_of, message_id, is_signed, announcement, publication}
 use Rattle.gs_wire.specs.Varint.{varint}
 use Rattle.gs_wire.specs.Records.{record_text, records_text}
 use Rattle.gs_wire.specs.Fields.{bool_number, varint_record, len_record}
-use Rattle.gs_wire.specs.Messages.{HasIdentifierLength, IsInMemory, body, most_identifiers, passed_on, requesting, sub_records}
+use Rattle.gs_wire.specs.Messages.{HasIdentifierLength, IsInMemory, body, most_identifiers, offering, passed_on, requesting, sub_records}
 use Rattle.gs_wire.specs.Codec.{codec}
 use Rattle.gs_wire.proofs.RoundTrip.{all-append}
 use Rattle.gs_wire.proofs.Written.{varint_ten, records_text-single, len_text-length}
-use Rattle.gs_wire.proofs.SentOn.{request_fits}
+use Rattle.gs_wire.proofs.SentOn as sent_on
 use Rattle.gs_rules.specs.Peers.{Peer, seen_ttl}
-use Rattle.gs_rules.specs.Tables.{Entries, joined, joined_after, seen}
+use Rattle.gs_rules.specs.Tables.{Entries, seen}
+use Rattle.gs_rules.specs.Gossip.{gossip}
 use Rattle.gs_rules.specs.Owed.{owed}
-use Rattle.gs_rules.specs.Rules.{answers, asking, bare, counted, have_rule, ids_in, listeners, message_rule, new_message, rule_of, to_each, up_neighbours, want_rule, wanted}
+use Rattle.gs_rules.specs.Rules.{answers, asking, bare, counted, have_rule, ids_in, listeners, message_rule, new_message, rule_of, telling, to_each, up_neighbours, want_rule, wanted}
 use Rattle.gs_rules.specs.Modes.{SaysTheSame, sent_to, Follows, free}
 use Rattle.gs_rules.specs.Legal.{MaySubscribe, MayUnsubscribe, MayPublish, IsNext, Legal}
 use Rattle.gs_rules.specs.Saying.{SendsFit, AllFit}
@@ -40,6 +40,8 @@ use Rattle.gs_rules.proofs.Owed.{opens}
 use Rattle.gs_rules.proofs.Legality.{legal_newest}
 use Rattle.gs_rules.proofs.Offers.{wanted_few, wanted_long, what_is_offered}
 use Rattle.gs_rules.proofs.Kept.{AllAlone, FitsAlone, answers_fit}
+use Rattle.gs_rules.proofs.Topics.{joined_short}
+use Rattle.gs_rules.proofs.Gossip.{beat_short, gossip_few, gossip_long}
 
 -- ---- an announcement
 
@@ -96,8 +98,13 @@ passed_on_written m fits = (fits, record { body = short_body (passed_on m) fits;
 
 request_written : (ids : List (List ℕ)) → length ids ≤ most_identifiers → AllByRecursion HasIdentifierLength ids → IsWritten (requesting ids)
 request_written ids few long =
-    let fits : codec.fits (requesting ids) ≡ true = le-leb (length (body (requesting ids))) 1048576 (request_fits ids few long) in
+    let fits : codec.fits (requesting ids) ≡ true = le-leb (length (body (requesting ids))) 1048576 (sent_on.request_fits ids few long) in
     (fits, record { body = short_body (requesting ids) fits; control = tt })
+
+offer_written : (t : Topic) (ids : List (List ℕ)) → length t.0 ≤ longest_topic → length ids ≤ most_identifiers → AllByRecursion HasIdentifierLength ids → IsWritten (offering t ids)
+offer_written t ids short few long =
+    let fits : codec.fits (offering t ids) ≡ true = le-leb (length (body (offering t ids))) 1048576 (sent_on.offer_fits t ids short few long) in
+    (fits, record { body = short_body (offering t ids) fits; control = tt })
 
 each_fits : (rpc : Rpc) (qs : List PeerNo) → IsWritten rpc → SendsWritten (to_each rpc qs)
 each_fits rpc [] fits = tt
@@ -127,28 +134,6 @@ sends_fit (x ∷ sends) all = (first.0, sends_fit sends (λ q. without_first (sa
 -- what says the same fits as well
 same_fits : (e x : Entry) → SaysTheSame e x → SendsWritten x.sends → SendsWritten e.sends
 same_fits e x same fit = sends_fit e.sends (λ q. subst RpcsFit (sym (same.sends q)) (received_fit q x.sends fit))
-
--- ---- a topic that the peer is subscribed to
-
-abbrev IsShort : Topic → Type 0
-IsShort t = length t.0 ≤ longest_topic
-
-subscribed_short : (u t : Topic) (same before : Bool) → same_topic u t ≡ same → IsShort u → (before ≡ true → IsShort t) → (if same then true else before) ≡ true → IsShort t
-subscribed_short u t true before is short earlier joins = subst (λ (bytes : List ℕ). length bytes ≤ longest_topic) ((bytes_eq-Decides u.0 t.0).0 is) short
-subscribed_short u t false before is short earlier joins = earlier joins
-
-still_joined : (left before : Bool) → (if left then false else before) ≡ true → before ≡ true
-still_joined true before joins = absurd cc
-still_joined false before joins = joins
-
-short_after : (p : Peer) (L : Entries) (at : ℕ) (event : Event) (t : Topic) → IsNext p L at (owed p L).events event → (joined L t ≡ true → IsShort t) → joined_after t event (joined L t) ≡ true → IsShort t
-short_after p L at (Subscribe u) t next earlier joins = subscribed_short u t (same_topic u t) (joined L t) refl (opens p L at (Subscribe u) (λ h. h) next).short earlier joins
-short_after p L at (Unsubscribe u) t next earlier joins = earlier (still_joined (same_topic u t) (joined L t) joins)
-short_after p L at other t next earlier joins = earlier joins
-
-joined_short : (p : Peer) (L : Entries) (t : Topic) → Legal p L → joined L t ≡ true → IsShort t
-joined_short p [] t legal joins = absurd cc
-joined_short p (e ∷ L) t legal joins = short_after p L e.at.0 e.event t (legal_newest p e L legal).next (joined_short p L t legal.1) joins
 
 -- ---- one entry
 
@@ -191,6 +176,10 @@ module _ (p : Peer) (L : Entries) (legal : Legal p L) where
   by_event (Publish t payload) e next effects =
       let may : MayPublish p L e.at.0 t payload = opens p L e.at.0 (Publish t payload) (λ h. h) next in
       same_fits e _ effects.0 (each_fits (publication t payload) (listeners p L t) (publication_written t payload may.fits))
+  by_event (GossipBeat t) e next effects =
+      let ids : List (List ℕ) = map (λ (id : MsgId). id.0) (gossip p L t) in
+      same_fits e (telling p L e.at t effects.0) effects.3.0
+      (each_fits (offering t ids) effects.0 (offer_written t ids (beat_short p L e.at.0 t legal next) (omega (arith, length-map (gossip p L t) (λ (id : MsgId). id.0), gossip_few p L t)) (gossip_long p L t legal)))
   by_event other e next effects = same_fits e _ effects.0 tt
 
 -- ---- a legal trace

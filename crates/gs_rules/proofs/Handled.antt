@@ -17,7 +17,7 @@ use Rattle.gs_wire.specs.declared.frames.End.TheVariants.{Waits}
 use Rattle.gs_wire.specs.Messages.{longest_body}
 use Rattle.gs_wire.proofs.FrameLists.{one_stream}
 use Rattle.gs_rules.specs.declared.trace.Event.{Event}
-use Rattle.gs_rules.specs.declared.trace.Event.TheVariants.{Heard, Late, Sub, Msg, Have, Want, Gone, Fault}
+use Rattle.gs_rules.specs.declared.trace.Event.TheVariants.{Heard, Late, Sub, Msg, Have, Want, GossipBeat, BeatEnd, Gone, Fault}
 use Rattle.gs_rules.specs.declared.trace.Entry.{Entry}
 use Rattle.gs_rules.specs.declared.refusal.Refusal.{Refusal}
 use Rattle.gs_rules.specs.declared.refusal.RefusedLine.{RefusedLine}
@@ -28,18 +28,18 @@ use Rattle.gs_rules.specs.Legal.{Legal, ArePayments, Begins, Opens, Comes}
 use Rattle.gs_rules.specs.Refusals.{refusal}
 use Rattle.gs_rules.specs.Saying.{Said, bytes_of, handled_by, handled}
 use Rattle.gs_rules.specs.Hearing.{Spell, Inbound, IsBetween, ComesIn, bytes_before, silence}
-use Rattle.gs_rules.specs.Rounds.{Seat, Place, Playing, Closing, Todo, Hear, HearFault, HearGone, Obey, EndRound, Stop, agenda, ending, hears, hears_of, is_at, is_broken, lines_at, moment_of, event_of, unless_refused, opening, noted, Does, ComesAt, Plays, PlaysInPart, AfterRounds, KeepsRounds}
-use Rattle.gs_rules.proofs.Owed.{IsPart, due_is_part}
+use Rattle.gs_rules.specs.Rounds.{Seat, Place, Playing, Closing, Todo, Hear, HearFault, HearGone, Obey, Beat, EndRound, Stop, agenda, beats_in, is_due, ending, hears, hears_of, is_at, is_broken, lines_at, moment_of, event_of, unless_refused, opening, noted, Does, ComesAt, Plays, PlaysInPart, AfterRounds, KeepsRounds}
+use Rattle.gs_rules.proofs.Owed.{IsOwed, due_is_owed}
 use Rattle.gs_rules.proofs.Legality.{legal_newest}
 use Rattle.gs_rules.proofs.Deliveries.{legal_before}
 
--- ---- what is owed is parts of RPCs
+-- ---- what is owed
 
--- each payment is one
-pub payments_are_parts : (p : Peer) (at : Millis) (L : Entries) (paid : List Entry) → ArePayments p at L paid → Legal p (paid ++ L) → AllByRecursion (λ (e : Entry). IsPart e.event) paid
-payments_are_parts p at L [] payments legal = tt
-payments_are_parts p at L (e ∷ paid) (is, some, earlier) legal =
-    (due_is_part p (paid ++ L) e.at.0 e.event some (legal_newest p e (paid ++ L) legal).next, payments_are_parts p at L paid earlier legal.1)
+-- each payment comes only where it is owed
+pub payments_are_owed : (p : Peer) (at : Millis) (L : Entries) (paid : List Entry) → ArePayments p at L paid → Legal p (paid ++ L) → AllByRecursion (λ (e : Entry). IsOwed e.event) paid
+payments_are_owed p at L [] payments legal = tt
+payments_are_owed p at L (e ∷ paid) (is, some, earlier) legal =
+    (due_is_owed p (paid ++ L) e.at.0 e.event some (legal_newest p e (paid ++ L) legal).next, payments_are_owed p at L paid earlier legal.1)
 
 -- ---- what was done before
 
@@ -77,22 +77,24 @@ abbrev handled_if : PeerNo → Option Event → List Rpc
 handled_if q None = []
 handled_if q (Some event) = handled_by q event
 
-part_handles : (q : PeerNo) (event : Event) → IsPart event → handled_by q event ≡ []
-part_handles q (Sub r sub) h = refl
-part_handles q (Msg r m) h = refl
-part_handles q (Have r offer) h = refl
-part_handles q (Want r request) h = refl
-part_handles q other h = absurd h
+owed_handles : (q : PeerNo) (event : Event) → IsOwed event → handled_by q event ≡ []
+owed_handles q (Sub r sub) h = refl
+owed_handles q (Msg r m) h = refl
+owed_handles q (Have r offer) h = refl
+owed_handles q (Want r request) h = refl
+owed_handles q (GossipBeat t) h = refl
+owed_handles q BeatEnd h = refl
+owed_handles q other h = absurd h
 
-parts_handle : (q : PeerNo) (L : Entries) (paid : List Entry) → AllByRecursion (λ (e : Entry). IsPart e.event) paid → handled (paid ++ L) q ≡ handled L q
-parts_handle q L [] h = refl
-parts_handle q L (e ∷ paid) h = ap₂ (λ (xs ys : List Rpc). xs ++ ys) (parts_handle q L paid h.1) (part_handles q e.event h.0) ∙ append-nil (handled L q)
+paid_handle : (q : PeerNo) (L : Entries) (paid : List Entry) → AllByRecursion (λ (e : Entry). IsOwed e.event) paid → handled (paid ++ L) q ≡ handled L q
+paid_handle q L [] h = refl
+paid_handle q L (e ∷ paid) h = ap₂ (λ (xs ys : List Rpc). xs ++ ys) (paid_handle q L paid h.1) (owed_handles q e.event h.0) ∙ append-nil (handled L q)
 
 opens_handle : (p : Peer) (q : PeerNo) (at : Millis) (event : Event) (K L : Entries) → Opens p at event K L → Legal p L → handled L q ≡ handled K q ++ handled_by q event
 opens_handle p q at event K L h legal =
     let b = h.begun in
     ap (λ (M : Entries). handled M q) b.entries
-    ∙ parts_handle q (b.first ∷ K) b.paid (payments_are_parts p at (b.first ∷ K) b.paid b.payments (subst (Legal p) b.entries legal))
+    ∙ paid_handle q (b.first ∷ K) b.paid (payments_are_owed p at (b.first ∷ K) b.paid b.payments (subst (Legal p) b.entries legal))
     ∙ ap (λ (e : Event). handled K q ++ handled_by q e) b.opened
 
 comes_handle : (p : Peer) (q : PeerNo) (at : Millis) (event : Option Event) (K L : Entries) → Comes p at event K L → Legal p L → handled L q ≡ handled K q ++ handled_if q event
@@ -118,6 +120,7 @@ opening_handles p q K at (Hear r rpc) = either_way q r rpc (up K r)
 opening_handles p q K at (HearFault r) = lost_handles q (Fault r) (up K r) refl
 opening_handles p q K at (HearGone r) = lost_handles q (Gone r) (up K r) refl
 opening_handles p q K at (Obey place what) = line_handles q what (refusal p K at.0 (event_of what))
+opening_handles p q K at Beat = refl
 opening_handles p q K at (EndRound r) = refl
 opening_handles p q K at Stop = refl
 
@@ -217,11 +220,23 @@ lines_quiet q r (x ∷ xs) = either (is_at r x) (lines_quiet q r xs)
     either true h = h
     either false h = h
 
+-- and so is a heartbeat
+beats_quiet : (q : PeerNo) (p : Peer) (r : ℕ) (at : Millis) → flat_map (rpc_of q) (beats_in p r at) ≡ []
+beats_quiet q p r at = by (is_due p.params.windows.heartbeat_ms r at)
+  where
+    by : (due : Bool) → flat_map (rpc_of q) (if due then Beat ∷ [] else []) ≡ []
+    by true = refl
+    by false = refl
+
 place_hears : (seat : Seat) (place : Place) (q : PeerNo) (xs : List Inbound) → flat_map (rpc_of q) (agenda seat place xs) ≡ flat_map (rpc_of q) (hears (links_of seat.peer) xs)
 place_hears seat (Playing r) q xs =
     let all : List Todo = hears (links_of seat.peer) xs in
-    flat_map-append (rpc_of q) all (lines_at seat r ++ EndRound r ∷ [])
-    ∙ ap (λ (ys : List Rpc). flat_map (rpc_of q) all ++ ys) (flat_map-append (rpc_of q) (lines_at seat r) (EndRound r ∷ []) ∙ append-nil (flat_map (rpc_of q) (lines_at seat r)) ∙ lines_quiet q r seat.lines)
+    let beat : List Todo = beats_in seat.peer r (moment_of seat (Playing r)) in
+    let own : flat_map (rpc_of q) (lines_at seat r ++ (beat ++ EndRound r ∷ [])) ≡ [] =
+    flat_map-append (rpc_of q) (lines_at seat r) (beat ++ EndRound r ∷ [])
+    ∙ ap₂ (λ (xs ys : List Rpc). xs ++ ys) (lines_quiet q r seat.lines) (flat_map-append (rpc_of q) beat (EndRound r ∷ []) ∙ ap (λ (xs : List Rpc). xs ++ []) (beats_quiet q seat.peer r (moment_of seat (Playing r)))) in
+    flat_map-append (rpc_of q) all (lines_at seat r ++ (beat ++ EndRound r ∷ []))
+    ∙ ap (λ (ys : List Rpc). flat_map (rpc_of q) all ++ ys) own
     ∙ append-nil (flat_map (rpc_of q) all)
 place_hears seat Closing q xs = refl
 

@@ -1,10 +1,11 @@
 -- Each message that a legal trace keeps fits a frame by itself, as it is sent to who asks for it.
 use Rattle.std.proofs.Common.{◌≡◌, refl, ℕ, zero, suc, ◌≤◌, arith, Bool, true, false, List, [], ◌∷◌, ◌++◌, length, map, ap, subst, sym, if◌then◌else◌, Option, Some, None}
 use Rattle.std.specs.List.{AllByRecursion, IsAmong}
-use Rattle.std.specs.Prelude.{option_map}
+use Rattle.std.specs.Prelude.{nat_lt, option_map}
 use Rattle.std.proofs.lemmas.Bool.{le-leb}
 use Rattle.std.proofs.lemmas.Bool.Decides.{nat_tests}
 use Rattle.gs_base.specs.declared.names.PeerNo.{PeerNo}
+use Rattle.gs_base.specs.declared.names.Topic.{Topic}
 use Rattle.gs_base.specs.declared.names.MsgId.{MsgId}
 use Rattle.gs_base.specs.declared.mark.Mark.{Mark}
 use Rattle.gs_base.specs.declared.mark.Mark.TheVariants.{Cached}
@@ -18,14 +19,14 @@ use Rattle.gs_wire.proofs.RoundTrip.{all-append}
 use Rattle.gs_wire.proofs.SentOn.{passed_on_shorter}
 use Rattle.gs_wire.proofs.Written.{len_text-length, records_text-single, varint_ten}
 use Rattle.gs_rules.specs.declared.trace.Event.{Event}
-use Rattle.gs_rules.specs.declared.trace.Event.TheVariants.{Heard, Sub, Msg, Have, Want, Publish}
-use Rattle.gs_rules.specs.Peers.{Peer}
-use Rattle.gs_rules.specs.Tables.{Entries, Keeping, after_marks, blank, kept, kept_after, message_in}
-use Rattle.gs_rules.specs.Owed.{offers_in, owed, parts, requests_in}
+use Rattle.gs_rules.specs.declared.trace.Event.TheVariants.{Heard, Sub, Msg, Have, Want, Publish, GossipBeat, BeatEnd}
+use Rattle.gs_rules.specs.Peers.{Peer, windows}
+use Rattle.gs_rules.specs.Tables.{Entries, Keeping, after_marks, aged_after, blank, keeping, kept, kept_after, last_kept, message_in, older}
+use Rattle.gs_rules.specs.Owed.{gossip_topics, offers_in, owed, parts, requests_in}
 use Rattle.gs_rules.specs.Rules.{answer, answers, times_in, with_message}
 use Rattle.gs_rules.specs.Legal.{IsNext, Legal}
 use Rattle.gs_rules.proofs.Legality.{legal_newest}
-use Rattle.gs_rules.proofs.Owed.{OwesSuch, kind_of_parts, last_parts, nothing_is_such, opens, owing_are_such}
+use Rattle.gs_rules.proofs.Owed.{OwesSuch, beats_are_such, kind_of_parts, last_parts, nothing_is_such, of_each, opens, owing_are_such}
 
 -- by itself it fits a frame
 abbrev pub FitsAlone : Message → Type 0
@@ -57,7 +58,7 @@ parts_fit q rpc fits =
 
 owed_fit : (p : Peer) (L : Entries) → Legal p L → OwesSuch BringsFitting (owed p L)
 owed_fit p [] legal = nothing_is_such BringsFitting
-owed_fit p (e ∷ L) legal = owing_are_such BringsFitting p L (e ∷ L) e.event (owed p L) heard (owed_fit p L legal.1)
+owed_fit p (e ∷ L) legal = owing_are_such BringsFitting p L (e ∷ L) e.event (owed p L) heard (λ is. beats_are_such BringsFitting (gossip_topics p (e ∷ L)) (of_each (λ (t : Topic). BringsFitting (GossipBeat t)) (λ t. tt) (gossip_topics p (e ∷ L))) tt) (owed_fit p L legal.1)
   where
     heard : (q : PeerNo) (rpc : Rpc) → e.event ≡ Heard q rpc → AllByRecursion BringsFitting (parts q rpc)
     heard q rpc is = parts_fit q rpc (opens p L e.at.0 (Heard q rpc) (λ h. h) (subst (IsNext p L e.at.0 (owed p L).events) is (legal_newest p e L legal).next)).fits
@@ -87,7 +88,7 @@ KeepsFitting (Some k) = FitsAlone k.message
 mark_keeps : (id : MsgId) (event : Event) (mark : Mark) (before : Option Keeping) → FitsAlone (message_in event) → KeepsFitting before → KeepsFitting (kept_after id event mark before)
 mark_keeps id event (Cached other t) before fits h = by (same_id other id)
   where
-    by : (same : Bool) → KeepsFitting (if same then Some (record { topic = t; message = message_in event }) else before)
+    by : (same : Bool) → KeepsFitting (if same then Some (record { topic = t; message = message_in event; age = 0 }) else before)
     by true = fits
     by false = h
 mark_keeps id event other before fits h = h
@@ -96,10 +97,31 @@ marks_keep : (id : MsgId) (event : Event) (marks : List Mark) (before : Option K
 marks_keep id event [] before fits h = h
 marks_keep id event (mark ∷ marks) before fits h = marks_keep id event marks (kept_after id event mark before) fits (mark_keeps id event mark before fits h)
 
-kept_fits : (p : Peer) (L : Entries) (id : MsgId) → Legal p L → KeepsFitting (kept L id)
-kept_fits p [] id legal = tt
-kept_fits p (e ∷ L) id legal =
-    marks_keep id e.event e.marks (kept L id) (next_fits p L e.at.0 e.event legal.1 (legal_newest p e L legal).next) (kept_fits p L id legal.1)
+older_fits : (before : Option Keeping) → KeepsFitting before → KeepsFitting (older before)
+older_fits None h = tt
+older_fits (Some k) h = h
+
+aged_fits : (event : Event) (before : Option Keeping) → KeepsFitting before → KeepsFitting (aged_after event before)
+aged_fits BeatEnd before h = older_fits before h
+aged_fits other before h = h
+
+last_kept_fits : (p : Peer) (L : Entries) (id : MsgId) → Legal p L → KeepsFitting (last_kept L id)
+last_kept_fits p [] id legal = tt
+last_kept_fits p (e ∷ L) id legal =
+    marks_keep id e.event e.marks (aged_after e.event (last_kept L id)) (next_fits p L e.at.0 e.event legal.1 (legal_newest p e L legal).next)
+    (aged_fits e.event (last_kept L id) (last_kept_fits p L id legal.1))
+
+-- what was kept last fits, and so it does while it is kept
+keeping_fits : (len : ℕ) (last : Option Keeping) → KeepsFitting last → KeepsFitting (keeping len last)
+keeping_fits len None h = tt
+keeping_fits len (Some k) h = by (nat_lt k.age len)
+  where
+    by : (young : Bool) → KeepsFitting (if young then Some k else None)
+    by true = h
+    by false = tt
+
+kept_fits : (p : Peer) (L : Entries) (id : MsgId) → Legal p L → KeepsFitting (kept (windows p) L id)
+kept_fits p L id legal = keeping_fits (windows p) (last_kept L id) (last_kept_fits p L id legal)
 
 -- ---- messages that are sent to who asks
 
@@ -116,5 +138,5 @@ pub answers_fit : (p : Peer) (L : Entries) (q : PeerNo) (ahead ids : List MsgId)
 answers_fit p L q ahead [] legal = tt
 answers_fit p L q ahead (id ∷ ids) legal =
     all-append (λ (x : MsgId × Message). FitsAlone x.1) (with_message id (answer p L q id (times_in id ahead))) (answers p L q (ahead ++ id ∷ []) ids)
-    (one_answer id _ (kept L id) (kept_fits p L id legal))
+    (one_answer id _ (kept (windows p) L id) (kept_fits p L id legal))
     (answers_fit p L q (ahead ++ id ∷ []) ids legal)

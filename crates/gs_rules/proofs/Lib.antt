@@ -1,7 +1,9 @@
 pub mod Owed
 pub mod Legality
 pub mod Judged
+pub mod Topics
 pub mod Offers
+pub mod Gossip
 pub mod Deliveries
 pub mod Handled
 pub mod Kept

@@ -23,6 +23,11 @@ IsOwed other = ⊥
 
 -- ---- what holds of all that is owed
 
+-- what holds of anything holds of each of a list
+pub of_each : {X : Type 0} (P : X → Type 0) → ((x : X) → P x) → (xs : List X) → AllByRecursion P xs
+of_each P each [] = tt
+of_each P each (x ∷ xs) = (each x, of_each P each xs)
+
 module _ (P : Event → Type 0) where
   -- it holds of each event of the group that was reached, and no group is behind that
   abbrev pub OwesSuch : Debt → Type 0
@@ -74,16 +79,11 @@ parts_are_owed q rpc =
     (kind_of_parts IsOwed (Msg q) rpc.publish _ (λ m. tt)
     (kind_of_parts IsOwed (Have q) (offers_in rpc.control) _ (λ offer. tt) (last_parts IsOwed (Want q) (requests_in rpc.control) (λ request. tt))))
 
--- each topic of a heartbeat
-each_topic : (topics : List Topic) → AllByRecursion (λ (t : Topic). IsOwed (GossipBeat t)) topics
-each_topic [] = tt
-each_topic (t ∷ topics) = (tt, each_topic topics)
-
 -- these alone are ever owed
 pub owed_are_such : (p : Peer) (L : Entries) → OwesSuch IsOwed (owed p L)
 owed_are_such p [] = nothing_is_such IsOwed
 owed_are_such p (e ∷ L) =
-    owing_are_such IsOwed p L (e ∷ L) e.event (owed p L) (λ q rpc is. parts_are_owed q rpc) (λ is. beats_are_such IsOwed (gossip_topics p (e ∷ L)) (each_topic (gossip_topics p (e ∷ L))) tt) (owed_are_such p L)
+    owing_are_such IsOwed p L (e ∷ L) e.event (owed p L) (λ q rpc is. parts_are_owed q rpc) (λ is. beats_are_such IsOwed (gossip_topics p (e ∷ L)) (of_each (λ (t : Topic). IsOwed (GossipBeat t)) (λ t. tt) (gossip_topics p (e ∷ L))) tt) (owed_are_such p L)
 
 opens_by : (p : Peer) (L : Entries) (at : ℕ) (owing : List Event) (event : Event) → AllByRecursion IsOwed owing → ¬ (IsOwed event) → IsNext p L at owing event → MayOpen p L at event
 opens_by p L at [] event parts own next = next

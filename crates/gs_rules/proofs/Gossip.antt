@@ -1,0 +1,181 @@
+-- What a legal trace gossips: of messages that are kept, on a topic that is short, by identifiers of 32 bytes, and
+-- no more of them than an offer may have.
+use Rattle.std.proofs.Common.{◌≡◌, ◌≤◌, ◌<◌, ℕ, ◌-◌, zero, suc, Bool, true, false, if◌then◌else◌, List, [], ◌∷◌, ◌++◌, length, map, filter, drop, Option, Some, None, refl, sym, ap, subst, ◌∙◌, arith}
+use Rattle.std.specs.Prelude.{not, ◌&&◌, nat_lt, IsPermutation}
+use Rattle.std.specs.List.{AllByRecursion, flat_map}
+use Rattle.std.proofs.lemmas.Bool.Decides.{nat_tests}
+use Rattle.std.proofs.lemmas.List.{length-drop}
+use Rattle.std.proofs.lemmas.List.Elements.{All-from_recursion, recursion_from_All}
+use Rattle.std.proofs.lemmas.List.Sorted.{All-permutation}
+use Rattle.gs_base.specs.declared.names.PeerNo.{PeerNo}
+use Rattle.gs_base.specs.declared.names.Topic.{Topic}
+use Rattle.gs_base.specs.declared.names.Millis.{Millis}
+use Rattle.gs_base.specs.declared.names.MsgId.{MsgId}
+use Rattle.gs_base.specs.declared.rpc.Message.{Message}
+use Rattle.gs_base.specs.declared.rpc.Rpc.{Rpc}
+use Rattle.gs_base.specs.declared.control.IHave.{IHave}
+use Rattle.gs_base.specs.declared.verdict.Verdict.{Verdict}
+use Rattle.gs_base.specs.declared.verdict.Verdict.TheVariants.{Accept, Reject, Ignore}
+use Rattle.gs_base.specs.declared.mark.Mark.{Mark}
+use Rattle.gs_base.specs.declared.mark.Mark.TheVariants.{Answered, Behaviour, Cached}
+use Rattle.gs_base.specs.Names.{message_id, payload_of, same_id, same_topic}
+use Rattle.gs_wire.specs.Messages.{HasIdentifierLength, most_identifiers}
+use Rattle.gs_wire.proofs.RoundTrip.{all-append}
+use Rattle.sha2.proofs.Facts256.{length-sha256}
+use Rattle.gs_rules.specs.declared.trace.Promise.{Promise}
+use Rattle.gs_rules.specs.declared.trace.Event.{Event}
+use Rattle.gs_rules.specs.declared.trace.Event.TheVariants.{Heard, Sub, Msg, Have, Want, Publish, Promises, GossipBeat, BeatEnd}
+use Rattle.gs_rules.specs.declared.trace.Entry.{Entry}
+use Rattle.gs_rules.specs.Peers.{Peer, links_of, windows}
+use Rattle.gs_rules.specs.Tables.{Entries, after_marks, keeping_order, kept, order_after, own_topics, up}
+use Rattle.gs_rules.specs.Gossip.{all_charges, charges, gossip, is_gossiped, overdue}
+use Rattle.gs_rules.specs.Owed.{gossip_topics, is_some_list, offers_in, owed, parts, requests_in}
+use Rattle.gs_rules.specs.Rules.{answers, asking, bare, counted, have_rule, ids_in, message_rule, new_message, rule_of, wanted}
+use Rattle.gs_rules.specs.Modes.{SaysTheSame, Follows, free}
+use Rattle.gs_rules.specs.Legal.{IsNext, Legal}
+use Rattle.gs_rules.proofs.Judged.{of_a_message}
+use Rattle.gs_rules.proofs.Legality.{legal_newest}
+use Rattle.gs_rules.proofs.Offers.{what_is_offered}
+use Rattle.gs_rules.proofs.Owed.{OwesSuch, beats_are_such, kind_of_parts, last_parts, nothing_is_such, owing_are_such}
+use Rattle.gs_rules.proofs.Topics.{IsShort, own_short}
+
+-- ---- lists
+
+-- what holds of each of a list holds of each that passes a test, and of each behind so many
+filtered_are : {X : Type 0} (P : X → Type 0) (test : X → Bool) (xs : List X) → AllByRecursion P xs → AllByRecursion P (filter test xs)
+filtered_are P test [] all = tt
+filtered_are P test (x ∷ xs) all = by (test x) (filtered_are P test xs all.1)
+  where
+    by : (passes : Bool) → AllByRecursion P (filter test xs) → AllByRecursion P (if passes then x ∷ filter test xs else filter test xs)
+    by true rest = (all.0, rest)
+    by false rest = rest
+
+dropped_are : {X : Type 0} (P : X → Type 0) (n : ℕ) (xs : List X) → AllByRecursion P xs → AllByRecursion P (drop n xs)
+dropped_are P zero xs all = all
+dropped_are P (suc n) [] all = tt
+dropped_are P (suc n) (x ∷ xs) all = dropped_are P n xs all.1
+
+mapped_are : {X Y : Type 0} (P : Y → Type 0) (f : X → Y) (xs : List X) → AllByRecursion (λ x. P (f x)) xs → AllByRecursion P (map f xs)
+mapped_are P f [] all = tt
+mapped_are P f (x ∷ xs) all = (all.0, mapped_are P f xs all.1)
+
+-- ---- a heartbeat is of topics that are short
+
+-- where the event gossips on a topic, this is short
+abbrev IsShortBeat : Event → Type 0
+IsShortBeat (GossipBeat t) = IsShort t
+IsShortBeat other = Unit {0}
+
+parts_short : (q : PeerNo) (rpc : Rpc) → AllByRecursion IsShortBeat (parts q rpc)
+parts_short q rpc =
+    kind_of_parts IsShortBeat (Sub q) rpc.subs _ (λ sub. tt)
+    (kind_of_parts IsShortBeat (Msg q) rpc.publish _ (λ m. tt)
+    (kind_of_parts IsShortBeat (Have q) (offers_in rpc.control) _ (λ offer. tt) (last_parts IsShortBeat (Want q) (requests_in rpc.control) (λ request. tt))))
+
+gossip_topics_short : (p : Peer) (L : Entries) → Legal p L → AllByRecursion IsShort (gossip_topics p L)
+gossip_topics_short p L legal = filtered_are IsShort (λ t. is_some_list (gossip p L t)) (own_topics L) (own_short p L legal)
+
+owed_short : (p : Peer) (L : Entries) → Legal p L → OwesSuch IsShortBeat (owed p L)
+owed_short p [] legal = nothing_is_such IsShortBeat
+owed_short p (e ∷ L) legal =
+    owing_are_such IsShortBeat p L (e ∷ L) e.event (owed p L) (λ q rpc is. parts_short q rpc)
+    (λ is. beats_are_such IsShortBeat (gossip_topics p (e ∷ L)) (gossip_topics_short p (e ∷ L) legal) tt)
+    (owed_short p L legal.1)
+
+owed_beat_short : (p : Peer) (L : Entries) (at : ℕ) (events : List Event) (t : Topic) → AllByRecursion IsShortBeat events → IsNext p L at events (GossipBeat t) → IsShort t
+owed_beat_short p L at [] t h next = absurd next
+owed_beat_short p L at (first ∷ rest) t h next = subst IsShortBeat (sym next) h.0
+
+pub beat_short : (p : Peer) (L : Entries) (at : ℕ) (t : Topic) → Legal p L → IsNext p L at (owed p L).events (GossipBeat t) → IsShort t
+beat_short p L at t legal next = owed_beat_short p L at (owed p L).events t (owed_short p L legal).0 next
+
+-- ---- identifiers of 32 bytes
+
+abbrev IsLong : MsgId → Type 0
+IsLong id = HasIdentifierLength id.0
+
+message_id_long : (payload : List ℕ) → IsLong (message_id payload)
+unfolding message_id
+message_id_long payload = length-sha256 payload
+
+-- where a mark keeps a message, its identifier has 32 bytes
+abbrev KeepsLong : Mark → Type 0
+KeepsLong (Cached id t) = IsLong id
+KeepsLong other = Unit {0}
+
+-- marks may stand in any order
+same_marks : (e x : Entry) → SaysTheSame e x → AllByRecursion KeepsLong x.marks → AllByRecursion KeepsLong e.marks
+same_marks e x same all = recursion_from_All KeepsLong e.marks (All-permutation KeepsLong x.marks e.marks same.marks (All-from_recursion KeepsLong x.marks all))
+
+-- a message that came is kept by its own identifier
+message_keeps : (p : Peer) (L : Entries) (at : Millis) (q : PeerNo) (m : Message) → AllByRecursion KeepsLong (message_rule p L at q m).marks
+message_keeps p L at q m = of_a_message (λ (x : Entry). AllByRecursion KeepsLong x.marks) p L at q m tt (tt, tt) (λ unseen. new)
+  where
+    new : (v : Verdict) → AllByRecursion KeepsLong (new_message at q m v).marks
+    new Accept = (tt, (tt, (message_id_long (payload_of m), tt)))
+    new Reject = (tt, (tt, tt))
+    new Ignore = (tt, tt)
+
+-- an offer keeps none, and neither do answers
+offer_keeps : (p : Peer) (L : Entries) (q : PeerNo) (offer : IHave) (e : Entry) → Follows free (have_rule p L e.at q offer) tt e tt → AllByRecursion KeepsLong e.marks
+offer_keeps p L q offer e effects =
+    what_is_offered (λ (e : Entry). AllByRecursion KeepsLong e.marks) p L e.at q offer e
+    (λ same. same_marks e (bare e.at (Have q offer)) same tt)
+    (λ same. same_marks e (counted e.at q offer) same (tt, tt))
+    (λ place same. same_marks e (asking p e.at q offer (wanted p L e.at.0 q offer.ids) place) same (tt, (tt, tt)))
+    effects
+
+answers_keep : (q : PeerNo) (given : List (MsgId × Message)) → AllByRecursion KeepsLong (map (λ (x : MsgId × Message). Answered q x.0) given)
+answers_keep q [] = tt
+answers_keep q (x ∷ given) = (tt, answers_keep q given)
+
+-- nor do charges
+charged : (q : PeerNo) (broken : List Promise) → AllByRecursion KeepsLong (map (λ (promise : Promise). Behaviour q) broken)
+charged q [] = tt
+charged q (promise ∷ broken) = (tt, charged q broken)
+
+charges_keep : (L : Entries) (at : ℕ) (qs : List PeerNo) → AllByRecursion KeepsLong (flat_map (charges L at) qs)
+charges_keep L at [] = tt
+charges_keep L at (q ∷ qs) = all-append KeepsLong (charges L at q) (flat_map (charges L at) qs) (by (up L q)) (charges_keep L at qs)
+  where
+    by : (is_up : Bool) → AllByRecursion KeepsLong (if is_up then map (λ (promise : Promise). Behaviour q) (overdue L at q) else [])
+    by true = charged q (overdue L at q)
+    by false = tt
+
+entry_keeps : (p : Peer) (L : Entries) (event : Event) (e : Entry) → Follows free (rule_of p L e.at event) tt e tt → AllByRecursion KeepsLong e.marks
+entry_keeps p L (Msg q m) e effects = same_marks e _ effects.0 (message_keeps p L e.at q m)
+entry_keeps p L (Have q offer) e effects = offer_keeps p L q offer e effects
+entry_keeps p L (Want q request) e effects = same_marks e _ effects.0 (answers_keep q (answers p L q [] (ids_in request.ids)))
+entry_keeps p L (Publish t payload) e effects = same_marks e _ effects.0 (tt, (message_id_long payload, tt))
+entry_keeps p L Promises e effects = same_marks e _ effects.0 (charges_keep L e.at.0 (links_of p))
+entry_keeps p L (GossipBeat t) e effects = same_marks e _ effects.3.0 tt
+entry_keeps p L other e effects = same_marks e _ effects.0 tt
+
+marks_order : (marks : List Mark) (before : List MsgId) → AllByRecursion KeepsLong marks → AllByRecursion IsLong before → AllByRecursion IsLong (after_marks order_after marks before)
+marks_order [] before all h = h
+marks_order (Cached id t ∷ marks) before all h =
+    let others : List MsgId = filter (λ other. not (same_id id other)) before in
+    marks_order marks (others ++ id ∷ []) all.1 (all-append IsLong others (id ∷ []) (filtered_are IsLong (λ other. not (same_id id other)) before h) (all.0, tt))
+marks_order (other ∷ marks) before all h = marks_order marks before all.1 h
+
+order_long : (p : Peer) (L : Entries) → Legal p L → AllByRecursion IsLong (keeping_order L)
+order_long p [] legal = tt
+order_long p (e ∷ L) legal = marks_order e.marks (keeping_order L) (entry_keeps p L e.event e (legal_newest p e L legal).effects) (order_long p L legal.1)
+
+-- ---- what is gossiped
+
+-- the test of what is gossiped
+abbrev passes : Peer → Entries → Topic → MsgId → Bool
+passes p L t id = is_gossiped p.params.windows.mcache_gossip t (kept (windows p) L id)
+
+pub gossip_long : (p : Peer) (L : Entries) (t : Topic) → Legal p L → AllByRecursion HasIdentifierLength (map (λ (id : MsgId). id.0) (gossip p L t))
+gossip_long p L t legal =
+    let all : List MsgId = filter (passes p L t) (keeping_order L) in
+    mapped_are HasIdentifierLength (λ (id : MsgId). id.0) (gossip p L t)
+    (dropped_are IsLong (length all - most_identifiers) all (filtered_are IsLong (passes p L t) (keeping_order L) (order_long p L legal)))
+
+last_few : {X : Type 0} (n : ℕ) (xs : List X) → length (drop (length xs - n) xs) ≤ n
+last_few n xs = omega (arith, length-drop (length xs - n) xs)
+
+pub gossip_few : (p : Peer) (L : Entries) (t : Topic) → length (gossip p L t) ≤ most_identifiers
+gossip_few p L t = last_few most_identifiers (filter (passes p L t) (keeping_order L))
