@@ -2,8 +2,8 @@
 -- no more of them than an offer may have.
 use Rattle.std.proofs.Common.{◌≡◌, ◌≤◌, ◌<◌, ℕ, ◌-◌, zero, suc, Bool, true, false, if◌then◌else◌, List, [], ◌∷◌, ◌++◌, length, map, filter, drop, Option, Some, None, refl, sym, ap, subst, ◌∙◌, arith}
 use Rattle.std.specs.Prelude.{not, ◌&&◌, nat_lt, IsPermutation}
-use Rattle.std.specs.List.{AllByRecursion, flat_map}
-use Rattle.std.proofs.lemmas.Bool.Decides.{nat_tests}
+use Rattle.std.specs.List.{All, AllByRecursion, flat_map}
+use Rattle.std.proofs.lemmas.Bool.{ltb-true}
 use Rattle.std.proofs.lemmas.List.{length-drop}
 use Rattle.std.proofs.lemmas.List.Elements.{All-from_recursion, recursion_from_All}
 use Rattle.std.proofs.lemmas.List.Sorted.{All-permutation}
@@ -17,7 +17,7 @@ use Rattle.gs_base.specs.declared.control.IHave.{IHave}
 use Rattle.gs_base.specs.declared.verdict.Verdict.{Verdict}
 use Rattle.gs_base.specs.declared.verdict.Verdict.TheVariants.{Accept, Reject, Ignore}
 use Rattle.gs_base.specs.declared.mark.Mark.{Mark}
-use Rattle.gs_base.specs.declared.mark.Mark.TheVariants.{Answered, Behaviour, Cached}
+use Rattle.gs_base.specs.declared.mark.Mark.TheVariants.{Answered, Behaviour, Cached, Seen}
 use Rattle.gs_base.specs.Names.{message_id, payload_of, same_id, same_topic}
 use Rattle.gs_wire.specs.Messages.{HasIdentifierLength, most_identifiers}
 use Rattle.gs_wire.proofs.RoundTrip.{all-append}
@@ -27,8 +27,8 @@ use Rattle.gs_rules.specs.declared.trace.Event.{Event}
 use Rattle.gs_rules.specs.declared.trace.Event.TheVariants.{Heard, Sub, Msg, Have, Want, Publish, Promises, GossipBeat, BeatEnd}
 use Rattle.gs_rules.specs.declared.trace.Entry.{Entry}
 use Rattle.gs_rules.specs.Peers.{Peer, links_of, windows}
-use Rattle.gs_rules.specs.Tables.{Entries, after_marks, keeping_order, kept, order_after, own_topics, up}
-use Rattle.gs_rules.specs.Gossip.{all_charges, charges, gossip, is_gossiped, overdue}
+use Rattle.gs_rules.specs.Tables.{Entries, Keeping, after_marks, ended_after, fulfilled_after, keeping_order, kept, made, order_after, own_topics, promises, up}
+use Rattle.gs_rules.specs.Gossip.{IsKeptOn, all_charges, charges, gossip, is_gossiped, overdue}
 use Rattle.gs_rules.specs.Owed.{gossip_topics, is_some_list, offers_in, owed, parts, requests_in}
 use Rattle.gs_rules.specs.Rules.{answers, asking, bare, counted, have_rule, ids_in, message_rule, new_message, rule_of, wanted}
 use Rattle.gs_rules.specs.Modes.{SaysTheSame, Follows, free}
@@ -37,7 +37,7 @@ use Rattle.gs_rules.proofs.Judged.{of_a_message}
 use Rattle.gs_rules.proofs.Legality.{legal_newest}
 use Rattle.gs_rules.proofs.Offers.{what_is_offered}
 use Rattle.gs_rules.proofs.Owed.{OwesSuch, beats_are_such, kind_of_parts, last_parts, nothing_is_such, owing_are_such}
-use Rattle.gs_rules.proofs.Topics.{IsShort, own_short}
+use Rattle.gs_rules.proofs.Topics.{IsShort, own_short, passing_are}
 
 -- ---- lists
 
@@ -179,3 +179,54 @@ last_few n xs = omega (arith, length-drop (length xs - n) xs)
 
 pub gossip_few : (p : Peer) (L : Entries) (t : Topic) → length (gossip p L t) ≤ most_identifiers
 gossip_few p L t = last_few most_identifiers (filter (passes p L t) (keeping_order L))
+
+-- both tests hold where both do together
+first_of_both : (a b : Bool) → (a && b) ≡ true → a ≡ true
+first_of_both true b both = refl
+first_of_both false b both = both
+
+second_of_both : (a b : Bool) → (a && b) ≡ true → b ≡ true
+second_of_both true b both = both
+second_of_both false b both = absurd cc
+
+found_on : (p : Peer) (L : Entries) (t : Topic) (id : MsgId) (found : Option Keeping) → kept (windows p) L id ≡ found → is_gossiped p.params.windows.mcache_gossip t found ≡ true → IsKeptOn p L t id
+found_on p L t id None is gossiped = absurd cc
+found_on p L t id (Some k) is gossiped = record {
+  found = k;
+  is_kept = is;
+  on_topic = second_of_both (nat_lt k.age p.params.windows.mcache_gossip) (same_topic k.topic t) gossiped;
+  young = ltb-true k.age p.params.windows.mcache_gossip (first_of_both (nat_lt k.age p.params.windows.mcache_gossip) (same_topic k.topic t) gossiped);
+}
+
+pub gossip_is_kept : (p : Peer) (L : Entries) (t : Topic) → All (IsKeptOn p L t) (gossip p L t)
+gossip_is_kept p L t =
+    let all : List MsgId = filter (passes p L t) (keeping_order L) in
+    All-from_recursion (IsKeptOn p L t) (gossip p L t)
+    (dropped_are (IsKeptOn p L t) (length all - most_identifiers) all
+    (passing_are (IsKeptOn p L t) (passes p L t) (keeping_order L) (λ id gossiped. found_on p L t id (kept (windows p) L id) refl gossiped)))
+
+-- ---- broken promises
+
+-- what marks leave of promises
+marks_leave : (P : Promise → Type 0) (marks : List Mark) (before : List Promise) → AllByRecursion P before → AllByRecursion P (after_marks fulfilled_after marks before)
+marks_leave P [] before all = all
+marks_leave P (Seen id verdict ∷ marks) before all =
+    let rest : List Promise = filter (λ promise. not (same_id id promise.id)) before in
+    marks_leave P marks rest (filtered_are P (λ promise. not (same_id id promise.id)) before all)
+marks_leave P (other ∷ marks) before all = marks_leave P marks before all
+
+-- it is to come yet
+abbrev IsToCome : ℕ → Promise → Type 0
+IsToCome at promise = at < promise.until.0
+
+to_come : (at : ℕ) (before : List Promise) → AllByRecursion (IsToCome at) (filter (λ promise. nat_lt at promise.until.0) before)
+to_come at before = passing_are (IsToCome at) (λ promise. nat_lt at promise.until.0) before (λ promise later. ltb-true at promise.until.0 later)
+
+pub none_overdue : (L : Entries) (e : Entry) → e.event ≡ Promises → e.promise ≡ None → All (IsToCome e.at.0) (promises (e ∷ L))
+none_overdue L e beat none =
+    let P = IsToCome e.at.0 in
+    let ended : AllByRecursion P (ended_after e.event e.at.0 (promises L)) =
+    subst (λ (event : Event). AllByRecursion P (ended_after event e.at.0 (promises L))) (sym beat) (to_come e.at.0 (promises L)) in
+    let left : List Promise = after_marks fulfilled_after e.marks (ended_after e.event e.at.0 (promises L)) in
+    All-from_recursion P (promises (e ∷ L))
+    (all-append P left (made e.promise) (marks_leave P e.marks (ended_after e.event e.at.0 (promises L)) ended) (subst (λ (promise : Option Promise). AllByRecursion P (made promise)) (sym none) tt))

@@ -10,3 +10,4 @@ pub mod Kept
 pub mod Fitting
 pub mod Spelled
 pub mod Examples
+pub mod GossipExamples

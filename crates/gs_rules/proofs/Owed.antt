@@ -1,11 +1,12 @@
 -- What is owed after an entry are parts of RPCs, and what a heartbeat does, and nothing else.
-use Rattle.std.proofs.Common.{◌≡◌, ◌≢◌, ℕ, List, [], ◌∷◌, ◌++◌, map, drop, refl, sym, ap, subst}
+use Rattle.std.proofs.Common.{◌≡◌, ◌≢◌, ℕ, List, [], ◌∷◌, ◌++◌, map, drop, refl, sym, ap, subst, ◌∙◌}
 use Rattle.std.specs.List.{AllByRecursion}
 use Rattle.gs_base.specs.declared.names.PeerNo.{PeerNo}
 use Rattle.gs_base.specs.declared.names.Topic.{Topic}
 use Rattle.gs_base.specs.declared.rpc.Rpc.{Rpc}
 use Rattle.gs_rules.specs.declared.trace.Event.{Event}
 use Rattle.gs_rules.specs.declared.trace.Event.TheVariants.{Heard, Sub, Msg, Have, Want, Promises, GossipBeat, BeatEnd}
+use Rattle.gs_rules.specs.declared.trace.Entry.{Entry}
 use Rattle.gs_rules.specs.Peers.{Peer}
 use Rattle.gs_rules.specs.Tables.{Entries}
 use Rattle.gs_rules.specs.Owed.{Group, PartsOf, Gossips, Debt, beats, gossip_topics, held_or, nothing, offers_in, owes, owing, owed, paid, parts, reached, requests_in}
@@ -128,3 +129,7 @@ beat_owes p L = by (gossip_topics p L)
     by : (topics : List Topic) → held_or (beats topics) [] nothing ≡ record { events = beats topics; groups = [] }
     by [] = refl
     by (t ∷ topics) = refl
+
+-- so that behind the charges this alone is owed
+pub owed_at_beat : (p : Peer) (L : Entries) (e : Entry) → e.event ≡ Promises → owed p (e ∷ L) ≡ record { events = beats (gossip_topics p (e ∷ L)); groups = [] }
+owed_at_beat p L e beat = ap (λ (event : Event). owing p (e ∷ L) (owes p L event) (owed p L)) beat ∙ beat_owes p (e ∷ L)

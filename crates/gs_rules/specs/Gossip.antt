@@ -1,5 +1,5 @@
 -- What a heartbeat does: it charges broken promises, and gossips of the messages that are kept.
-use Rattle.std.specs.Prelude.{ℕ, ◌-◌, ◌*◌, ◌/◌, max, Bool, false, ◌&&◌, nat_le, nat_lt, if◌then◌else◌, List, [], ◌∷◌, length, drop, map, filter, Option, Some, None}
+use Rattle.std.specs.Prelude.{◌≡◌, ◌<◌, ℕ, ◌-◌, ◌*◌, ◌/◌, max, Bool, true, false, ◌&&◌, nat_le, nat_lt, if◌then◌else◌, List, [], ◌∷◌, length, drop, map, filter, Option, Some, None}
 use Rattle.std.specs.List.{flat_map}
 use Rattle.gs_base.specs.declared.names.PeerNo.{PeerNo}
 use Rattle.gs_base.specs.declared.names.Topic.{Topic}
@@ -41,6 +41,13 @@ abbrev pub gossip : Peer → Entries → Topic → List MsgId
 gossip p L t =
     last_of most_identifiers
     (filter (λ id. is_gossiped p.params.windows.mcache_gossip t (kept (windows p) L id)) (keeping_order L))
+
+-- A message is kept as one of a topic, and was kept within so many heartbeats as messages are gossiped for.
+pub record IsKeptOn (p : Peer) (L : Entries) (t : Topic) (id : MsgId) : Type 0 where
+  pub found : Keeping
+  pub is_kept : kept (windows p) L id ≡ Some found
+  pub on_topic : same_topic found.topic t ≡ true
+  pub young : found.age < p.params.windows.mcache_gossip
 
 -- how many of so many neighbours are told: a part of them, and no fewer than a number, where there are so many
 -- (gossipsub v1.1, "Adaptive Gossip Dissemination")

@@ -1,14 +1,34 @@
 //! Laws of traces and rounds. Each holds of its definitions alone, and its function does nothing.
-ghost use Rattle.std.specs.Prelude.{true, false, ◌≡◌, ◌≤◌, ◌+◌, ◌∷◌, ◌++◌, [], List, reverse};
-ghost use Rattle.std.specs.List.{AllByRecursion};
+ghost use Rattle.std.specs.Prelude.{
+  true,
+  false,
+  ◌≡◌,
+  ◌<◌,
+  ◌≤◌,
+  ◌+◌,
+  ◌∷◌,
+  ◌++◌,
+  [],
+  List,
+  None,
+  length,
+  reverse,
+};
+ghost use Rattle.std.specs.List.{All, AllByRecursion, list_any};
+ghost use Rattle.std.specs.List.Sorted.{IsStrictlySortedBy};
 ghost use Rattle.gs_base.specs.declared.names.PeerNo.{PeerNo as PeerNoValue};
+ghost use Rattle.gs_base.specs.declared.names.Topic.{Topic};
 ghost use Rattle.gs_base.specs.Codecs.{Codec};
+ghost use Rattle.gs_base.specs.Names.{same_topic};
 ghost use Rattle.gs_params.specs.Picks.{IsAscending};
 ghost use Rattle.gs_wire.specs.Codec.{codec};
 ghost use Rattle.gs_rules.specs.declared.trace.Entry.{Entry};
+ghost use Rattle.gs_rules.specs.declared.trace.Event.TheVariants.{Promises};
 ghost use Rattle.gs_rules.specs.declared.refusal.RefusedLine.{RefusedLine};
 ghost use Rattle.gs_rules.specs.Peers.{Peer, links_of, seen_ttl};
-ghost use Rattle.gs_rules.specs.Tables.{Entries, up};
+ghost use Rattle.gs_rules.specs.Tables.{Entries, joined, own_topics, promises, topic_order, up};
+ghost use Rattle.gs_rules.specs.Gossip.{IsKeptOn, gossip};
+ghost use Rattle.gs_rules.specs.Owed.{beats, gossip_topics, owed};
 ghost use Rattle.gs_rules.specs.Rules.{Gives, Rule, rule_of};
 ghost use Rattle.gs_rules.specs.Modes.{Follows, exact, free, settled};
 ghost use Rattle.gs_rules.specs.Legal.{DeliversApart, Legal, LegalOn};
@@ -133,4 +153,34 @@ pub fn a_part_with_nothing_left_is_whole()
     ensures { (seat : Seat) (said : PeerNoValue → Said) (place : Place) (old new : Entries) (refused : List RefusedLine)
         → PlaysInPart seat said place [] old new refused
         → Plays seat said place old new refused }
+{}
+
+/// A peer's own topics are those that it is subscribed to, each once, ascending by their bytes.
+pub fn own_topics_are_those_that_are_joined()
+    ensures joined { (entries : Entries) (t : Topic)
+        → list_any (same_topic t) (own_topics entries) ≡ joined entries t }
+    ensures ascend { (entries : Entries) → IsStrictlySortedBy topic_order (own_topics entries) }
+{}
+
+/// Once a heartbeat has charged broken promises, it owes gossip on each of the peer's own topics on which there is
+/// some, and its end, and nothing behind that.
+pub fn a_heartbeat_gossips_and_ends()
+    ensures { (p : Peer) (entries : Entries) (e : Entry)
+        → e.event ≡ Promises
+        → owed p (e ∷ entries) ≡ record { events = beats (gossip_topics p (e ∷ entries)); groups = [] } }
+{}
+
+/// What is gossiped on a topic is kept as one of that topic, and was kept lately; and it fits one offer.
+pub fn gossip_is_of_what_is_kept()
+    ensures lately { (p : Peer) (entries : Entries) (t : Topic)
+        → All (IsKeptOn p entries t) (gossip p entries t) }
+    ensures few { (p : Peer) (entries : Entries) (t : Topic) → length (gossip p entries t) ≤ 5_000 }
+{}
+
+/// Behind the charges of a heartbeat no promise is left whose time has come, so that none is charged again.
+pub fn a_promise_is_charged_once()
+    ensures { (entries : Entries) (e : Entry)
+        → e.event ≡ Promises
+        → e.promise ≡ None
+        → All (λ promise. e.at.0 < promise.until.0) (promises (e ∷ entries)) }
 {}

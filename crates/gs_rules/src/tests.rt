@@ -1,10 +1,11 @@
 //! Traces keep their entries, entries compare, and laws can be called.
 use crate::{
-    Entry, Event, Refusal, Trace, a_delivery_is_not_repeated, a_part_with_nothing_left_is_whole,
+    Entry, Event, Refusal, Trace, a_delivery_is_not_repeated, a_heartbeat_gossips_and_ends,
+    a_part_with_nothing_left_is_whole, a_promise_is_charged_once, gossip_is_of_what_is_kept,
     legal_entries_compose, nothing_is_said_behind_a_close, one_more_entry,
-    what_is_given_draws_no_word, what_is_sent_is_spelled, what_was_said_is_handled,
-    what_was_sent_is_handled, what_words_choose_is_legal, words_fix_the_next_entry,
-    words_fix_what_follows_a_rule,
+    own_topics_are_those_that_are_joined, what_is_given_draws_no_word, what_is_sent_is_spelled,
+    what_was_said_is_handled, what_was_sent_is_handled, what_words_choose_is_legal,
+    words_fix_the_next_entry, words_fix_what_follows_a_rule,
 };
 use bytes::Bytes;
 use gs_base::{Mark, Message, Millis, MsgId, PeerNo, Rpc, Seq, Shared, Topic, Verdict};
@@ -122,6 +123,13 @@ fn compares_events() -> bool {
         && Event::Gone(PeerNo(1)) != Event::Fault(PeerNo(1))
 }
 
+/// Gossip on one topic is the same event, and neither the start of a heartbeat nor its end.
+fn compares_heartbeats(alloc: Global) -> Result<bool, AllocError> {
+    let gossip = Event::GossipBeat(topic(alloc)?);
+    let again = Event::GossipBeat(topic(alloc)?);
+    Ok(gossip == again && gossip != Event::Promises && Event::Promises != Event::BeatEnd)
+}
+
 /// Marks are equal where their parts are.
 fn compares_marks(alloc: Global) -> Result<bool, AllocError> {
     let invalid = Mark::Invalid(PeerNo(2), topic(alloc)?);
@@ -141,6 +149,7 @@ fn entries_are_equal_where_their_parts_are(rt: HostRuntime) -> Result<(), AllocE
 #[test]
 fn events_and_marks_are_equal_where_their_parts_are(rt: HostRuntime) -> Result<(), AllocError> {
     assert!(rt; compares_events());
+    assert!(rt; compares_heartbeats(rt.alloc())?);
     assert!(rt; compares_marks(rt.alloc())?);
     Ok(())
 }
@@ -175,4 +184,8 @@ fn laws_can_be_called(_rt: HostRuntime) {
     what_was_said_is_handled();
     what_was_sent_is_handled();
     a_part_with_nothing_left_is_whole();
+    own_topics_are_those_that_are_joined();
+    a_heartbeat_gossips_and_ends();
+    gossip_is_of_what_is_kept();
+    a_promise_is_charged_once();
 }

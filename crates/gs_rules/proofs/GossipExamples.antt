@@ -1,0 +1,273 @@
+-- Worked rows of what is kept and gossiped, of budgets and promises, and of when there is a heartbeat.
+use Rattle.std.proofs.Common.{◌≡◌, ℕ, pos, true, List, [], ◌∷◌, None, Some, refl}
+use Rattle.gs_base.specs.declared.names.PeerNo.{PeerNo}
+use Rattle.gs_base.specs.declared.names.Topic.{Topic}
+use Rattle.gs_base.specs.declared.names.MsgId.{MsgId}
+use Rattle.gs_base.specs.declared.neighbour.Neighbour.{Neighbour}
+use Rattle.gs_base.specs.declared.control.IHave.{IHave}
+use Rattle.gs_base.specs.declared.verdict.Verdict.TheVariants.{Accept, Reject}
+use Rattle.gs_base.specs.declared.mark.Mark.{Mark}
+use Rattle.gs_base.specs.declared.mark.Mark.TheVariants.{Seen, Behaviour, Cached, HeardHave, Asked}
+use Rattle.gs_params.specs.Params.{default_degrees, default_factors, default_thresholds, default_windows}
+use Rattle.gs_wire.specs.Messages.{offering}
+use Rattle.gs_rules.specs.declared.trace.Event.{Event}
+use Rattle.gs_rules.specs.declared.trace.Event.TheVariants.{Msg, Have, Subscribe, Unsubscribe, Promises, GossipBeat, BeatEnd, Gone}
+use Rattle.gs_rules.specs.declared.trace.Promise.{Promise}
+use Rattle.gs_rules.specs.declared.trace.Entry.{Entry}
+use Rattle.gs_rules.specs.Peers.{Peer, windows}
+use Rattle.gs_rules.specs.Tables.{Entries, asked, blank, keeping_order, kept, offers, own_topics, promises}
+use Rattle.gs_rules.specs.Gossip.{all_charges, gossip, gossip_size}
+use Rattle.gs_rules.specs.Owed.{owed}
+use Rattle.gs_rules.specs.Rules.{bare, telling}
+use Rattle.gs_rules.specs.Rounds.{Seat, Beat, EndRound, Playing, agenda}
+
+-- ---- what is given
+
+abbrev q : PeerNo
+q = record { 0 = 1 }
+
+abbrev other : PeerNo
+other = record { 0 = 2 }
+
+abbrev linked : PeerNo → Neighbour
+linked r = record { peer = r; outbound = true; address = []; app = pos 0 }
+
+-- a peer that keeps a message for three heartbeats and gossips of it for two
+abbrev peer : Peer
+peer = record {
+  params = record {
+    degrees = default_degrees;
+    thresholds = default_thresholds;
+    factors = default_factors;
+    windows = record default_windows { mcache_len = 3; mcache_gossip = 2 };
+    flood_publish = true;
+    topics = [];
+  };
+  neighbours = linked q ∷ linked other ∷ [];
+}
+
+-- topics by their bytes
+abbrev a : Topic
+a = record { 0 = 97 ∷ [] }
+
+abbrev ab : Topic
+ab = record { 0 = 97 ∷ 98 ∷ [] }
+
+abbrev b : Topic
+b = record { 0 = 98 ∷ [] }
+
+-- an identifier of one byte, as tables take any
+abbrev id : ℕ → MsgId
+id n = record { 0 = n ∷ [] }
+
+abbrev entry_at : ℕ → Event → Entry
+entry_at at event = bare (record { 0 = at }) event
+
+abbrev entry : Event → Entry
+entry event = entry_at 0 event
+
+abbrev marked : Event → Mark → Entry
+marked event mark = record (entry event) { marks = mark ∷ [] }
+
+-- a message that came, and is kept as one of a topic
+abbrev keeping : ℕ → Topic → Entry
+keeping n t = marked (Msg q blank) (Cached (id n) t)
+
+abbrev beat_end : Entry
+beat_end = entry BeatEnd
+
+-- ---- what is kept
+
+-- two heartbeats ended
+a_message_is_kept_before_its_last_heartbeat : kept (windows peer) (beat_end ∷ beat_end ∷ keeping 1 a ∷ []) (id 1) ≡ Some (record { topic = a; message = blank; age = 2 })
+a_message_is_kept_before_its_last_heartbeat = refl
+
+-- three did
+a_message_is_gone_with_its_last_heartbeat : kept (windows peer) (beat_end ∷ beat_end ∷ beat_end ∷ keeping 1 a ∷ []) (id 1) ≡ None
+a_message_is_gone_with_its_last_heartbeat = refl
+
+-- other events don't count
+a_message_ages_with_heartbeats_alone : kept (windows peer) (beat_end ∷ entry (GossipBeat a) ∷ entry Promises ∷ keeping 1 a ∷ []) (id 1) ≡ Some (record { topic = a; message = blank; age = 1 })
+a_message_ages_with_heartbeats_alone = refl
+
+-- its age begins anew
+a_message_that_is_kept_again_is_young : kept (windows peer) (keeping 1 a ∷ beat_end ∷ beat_end ∷ keeping 1 a ∷ []) (id 1) ≡ Some (record { topic = a; message = blank; age = 0 })
+a_message_that_is_kept_again_is_young = refl
+
+-- message 1 was kept first on the one topic, and then on the other
+abbrev moved : Entries
+moved = keeping 1 b ∷ keeping 2 a ∷ keeping 1 a ∷ []
+
+-- message 2 is now the older one
+a_message_that_is_kept_again_stands_last : keeping_order moved ≡ id 2 ∷ id 1 ∷ []
+a_message_that_is_kept_again_stands_last = refl
+
+-- and message 1 is no more one of the first topic
+a_message_that_is_kept_again_is_of_the_other_topic : kept (windows peer) moved (id 1) ≡ Some (record { topic = b; message = blank; age = 0 })
+a_message_that_is_kept_again_is_of_the_other_topic = refl
+
+-- ---- what is gossiped
+
+-- one heartbeat ended
+a_message_is_gossiped_at_the_second_heartbeat : gossip peer (beat_end ∷ keeping 1 a ∷ []) a ≡ id 1 ∷ []
+a_message_is_gossiped_at_the_second_heartbeat = refl
+
+-- two did: it is kept, and no longer gossiped
+a_message_is_gossiped_no_third_time : gossip peer (beat_end ∷ beat_end ∷ keeping 1 a ∷ []) a ≡ []
+a_message_is_gossiped_no_third_time = refl
+
+-- message 1 was kept one heartbeat earlier
+the_oldest_is_gossiped_first : gossip peer (keeping 2 a ∷ beat_end ∷ keeping 1 a ∷ []) a ≡ id 1 ∷ id 2 ∷ []
+the_oldest_is_gossiped_first = refl
+
+-- what was moved to the other topic is gossiped there alone
+gossip_on_the_one_topic : gossip peer moved a ≡ id 2 ∷ []
+gossip_on_the_one_topic = refl
+
+-- message 1 is left there
+gossip_on_the_other_topic : gossip peer moved b ≡ id 1 ∷ []
+gossip_on_the_other_topic = refl
+
+-- of two topics one has messages, and on a third, which has one, the peer is not subscribed
+a_heartbeat_gossips_where_there_is_something : owed peer (entry Promises ∷ keeping 2 ab ∷ keeping 1 b ∷ entry (Subscribe b) ∷ entry (Subscribe a) ∷ []) ≡ record { events = GossipBeat b ∷ BeatEnd ∷ []; groups = [] }
+a_heartbeat_gossips_where_there_is_something = refl
+
+-- with nothing to say it ends at once
+a_quiet_heartbeat_ends : owed peer (entry Promises ∷ entry (Subscribe a) ∷ []) ≡ record { events = BeatEnd ∷ []; groups = [] }
+a_quiet_heartbeat_ends = refl
+
+-- both are told the same
+each_that_is_chosen_is_told : (telling peer moved (record { 0 = 0 }) a (q ∷ other ∷ [])).sends ≡ (q, offering a ((2 ∷ []) ∷ [])) ∷ (other, offering a ((2 ∷ []) ∷ [])) ∷ []
+each_that_is_chosen_is_told = refl
+
+-- a quarter
+a_quarter_of_forty_is_told : gossip_size peer 40 ≡ 10
+a_quarter_of_forty_is_told = refl
+
+-- six at least, if there are so many
+six_of_eight_are_told : gossip_size peer 8 ≡ 6
+six_of_eight_are_told = refl
+
+-- ---- budgets
+
+abbrev nothing_offered : IHave
+nothing_offered = record { topic = None; ids = [] }
+
+-- an offer that counted, and one for which three were asked
+abbrev offered : Entry
+offered = marked (Have q nothing_offered) (HeardHave q)
+
+abbrev asked_three : Entry
+asked_three = marked (Have q nothing_offered) (Asked q 3)
+
+-- without a heartbeat between them
+offers_count : offers (offered ∷ offered ∷ []) q ≡ 2
+offers_count = refl
+
+-- one came since the heartbeat
+offers_count_anew_behind_a_heartbeat : offers (offered ∷ beat_end ∷ offered ∷ offered ∷ []) q ≡ 1
+offers_count_anew_behind_a_heartbeat = refl
+
+-- the start of a heartbeat changes nothing
+offers_count_until_the_heartbeat_ends : offers (entry Promises ∷ offered ∷ offered ∷ []) q ≡ 2
+offers_count_until_the_heartbeat_ends = refl
+
+-- six were asked before it, and three since
+what_is_asked_counts_anew_behind_a_heartbeat : asked (asked_three ∷ beat_end ∷ asked_three ∷ asked_three ∷ []) q ≡ 3
+what_is_asked_counts_anew_behind_a_heartbeat = refl
+
+-- ---- promises
+
+-- a neighbour promises a message until millisecond 1,000
+abbrev promise : PeerNo → ℕ → Promise
+promise r n = record { from = r; id = id n; until = record { 0 = 1_000 } }
+
+abbrev promising : PeerNo → ℕ → Entry
+promising r n = record (entry (Have r nothing_offered)) { promise = Some (promise r n) }
+
+-- one millisecond before
+a_promise_is_there_before_its_time : promises (entry_at 999 Promises ∷ promising q 1 ∷ []) ≡ promise q 1 ∷ []
+a_promise_is_there_before_its_time = refl
+
+-- at that very millisecond
+a_promise_ends_at_its_time : promises (entry_at 1_000 Promises ∷ promising q 1 ∷ []) ≡ []
+a_promise_ends_at_its_time = refl
+
+-- the end of the heartbeat ends none
+a_promise_ends_at_the_start_of_a_heartbeat : promises (entry_at 2_000 BeatEnd ∷ promising q 1 ∷ []) ≡ promise q 1 ∷ []
+a_promise_ends_at_the_start_of_a_heartbeat = refl
+
+-- another neighbour sent the message
+whoever_sends_a_message_keeps_the_promise : promises (marked (Msg other blank) (Seen (id 1) Accept) ∷ promising q 1 ∷ []) ≡ []
+whoever_sends_a_message_keeps_the_promise = refl
+
+-- it was found to be one that nobody may send
+a_message_that_is_rejected_keeps_the_promise : promises (marked (Msg other blank) (Seen (id 1) Reject) ∷ promising q 1 ∷ []) ≡ []
+a_message_that_is_rejected_keeps_the_promise = refl
+
+-- message 2 came, of the neighbour that promised message 1
+another_message_keeps_no_promise : promises (marked (Msg q blank) (Seen (id 2) Accept) ∷ promising q 1 ∷ []) ≡ promise q 1 ∷ []
+another_message_keeps_no_promise = refl
+
+-- what was seen before the promise was made
+an_earlier_message_keeps_no_promise : promises (promising q 1 ∷ marked (Msg q blank) (Seen (id 1) Accept) ∷ []) ≡ promise q 1 ∷ []
+an_earlier_message_keeps_no_promise = refl
+
+-- one millisecond before
+a_promise_is_not_charged_before_its_time : all_charges peer (promising q 1 ∷ []) 999 ≡ []
+a_promise_is_not_charged_before_its_time = refl
+
+-- at that very millisecond
+a_broken_promise_is_charged : all_charges peer (promising q 1 ∷ []) 1_000 ≡ Behaviour q ∷ []
+a_broken_promise_is_charged = refl
+
+-- it promised before it closed its link
+a_neighbour_that_is_gone_is_not_charged : all_charges peer (entry (Gone q) ∷ promising q 1 ∷ []) 1_000 ≡ []
+a_neighbour_that_is_gone_is_not_charged = refl
+
+-- neighbour 2 promised first, and neighbour 1 twice
+each_broken_promise_is_charged : all_charges peer (promising q 3 ∷ promising q 2 ∷ promising other 1 ∷ []) 1_000 ≡ Behaviour q ∷ Behaviour q ∷ Behaviour other ∷ []
+each_broken_promise_is_charged = refl
+
+-- ---- when there is a heartbeat
+
+-- rounds of 100 milliseconds, and a heartbeat each second
+abbrev seat : Seat
+seat = record { number = record { 0 = 0 }; peer = peer; lines = []; round_ms = 100; rounds = 30 }
+
+-- at millisecond 0
+no_heartbeat_in_the_first_round : agenda seat (Playing 0) [] ≡ EndRound 0 ∷ []
+no_heartbeat_in_the_first_round = refl
+
+-- at millisecond 1,000
+a_heartbeat_in_the_tenth_round : agenda seat (Playing 10) [] ≡ Beat ∷ EndRound 10 ∷ []
+a_heartbeat_in_the_tenth_round = refl
+
+-- at millisecond 1,100
+no_heartbeat_in_the_eleventh_round : agenda seat (Playing 11) [] ≡ EndRound 11 ∷ []
+no_heartbeat_in_the_eleventh_round = refl
+
+-- at millisecond 2,000
+a_heartbeat_in_the_twentieth_round : agenda seat (Playing 20) [] ≡ Beat ∷ EndRound 20 ∷ []
+a_heartbeat_in_the_twentieth_round = refl
+
+-- ---- the peer's own topics
+
+abbrev joining : Topic → Entry
+joining t = entry (Subscribe t)
+
+-- they were subscribed to in descending order
+own_topics_ascend : own_topics (joining a ∷ joining ab ∷ joining b ∷ []) ≡ a ∷ ab ∷ b ∷ []
+own_topics_ascend = refl
+
+-- and in ascending order
+own_topics_ascend_in_any_order : own_topics (joining b ∷ joining ab ∷ joining a ∷ []) ≡ a ∷ ab ∷ b ∷ []
+own_topics_ascend_in_any_order = refl
+
+-- the middle one was left
+own_topics_are_not_those_that_were_left : own_topics (entry (Unsubscribe ab) ∷ joining b ∷ joining ab ∷ joining a ∷ []) ≡ a ∷ b ∷ []
+own_topics_are_not_those_that_were_left = refl
+
+-- it was left, and subscribed to again
+own_topics_stand_once : own_topics (joining b ∷ entry (Unsubscribe b) ∷ joining a ∷ joining b ∷ []) ≡ a ∷ b ∷ []
+own_topics_stand_once = refl
