@@ -19,7 +19,7 @@ use Rattle.gs_base.specs.declared.mark.Mark.TheVariants.{Seen, First, Cached}
 use Rattle.gs_rules.specs.declared.trace.Event.{Event}
 use Rattle.gs_rules.specs.declared.trace.Event.TheVariants.{Msg, Have, Publish, GossipBeat}
 use Rattle.gs_rules.specs.declared.trace.Entry.{Entry}
-use Rattle.gs_base.specs.Names.{same_id, message_id, topic_of, payload_of, is_signed}
+use Rattle.gs_base.specs.Names.{same_id, message_id, topic_of, payload_of}
 use Rattle.gs_rules.specs.Tables.{Entries, last_moment, joined, Sighting, after_marks, sighting_after, last_seen, counting, seen}
 use Rattle.gs_rules.specs.Peers.{Peer, seen_ttl}
 use Rattle.gs_rules.specs.Owed.{owed}

@@ -1,7 +1,7 @@
 -- What a legal trace gossips: of messages that are kept, on a topic that is short, by identifiers of 32 bytes, and
 -- no more of them than an offer may have.
-use Rattle.std.proofs.Common.{◌≡◌, ◌≤◌, ◌<◌, ℕ, ◌-◌, zero, suc, Bool, true, false, if◌then◌else◌, List, [], ◌∷◌, ◌++◌, length, map, filter, drop, Option, Some, None, refl, sym, ap, subst, ◌∙◌, arith}
-use Rattle.std.specs.Prelude.{not, ◌&&◌, nat_lt, IsPermutation}
+use Rattle.std.proofs.Common.{◌≡◌, ◌≤◌, ◌<◌, ℕ, ◌-◌, zero, suc, Bool, true, false, if◌then◌else◌, List, [], ◌∷◌, ◌++◌, length, map, filter, drop, Option, Some, None, refl, sym, subst, arith}
+use Rattle.std.specs.Prelude.{not, ◌&&◌, nat_lt}
 use Rattle.std.specs.List.{All, AllByRecursion, flat_map}
 use Rattle.std.proofs.lemmas.Bool.{ltb-true}
 use Rattle.std.proofs.lemmas.List.{length-drop}
@@ -24,11 +24,11 @@ use Rattle.gs_wire.proofs.RoundTrip.{all-append}
 use Rattle.sha2.proofs.Facts256.{length-sha256}
 use Rattle.gs_rules.specs.declared.trace.Promise.{Promise}
 use Rattle.gs_rules.specs.declared.trace.Event.{Event}
-use Rattle.gs_rules.specs.declared.trace.Event.TheVariants.{Heard, Sub, Msg, Have, Want, Publish, Promises, GossipBeat, BeatEnd}
+use Rattle.gs_rules.specs.declared.trace.Event.TheVariants.{Sub, Msg, Have, Want, Publish, Promises, GossipBeat}
 use Rattle.gs_rules.specs.declared.trace.Entry.{Entry}
 use Rattle.gs_rules.specs.Peers.{Peer, links_of, windows}
 use Rattle.gs_rules.specs.Tables.{Entries, Keeping, after_marks, ended_after, fulfilled_after, keeping_order, kept, made, order_after, own_topics, promises, up}
-use Rattle.gs_rules.specs.Gossip.{IsKeptOn, all_charges, charges, gossip, is_gossiped, overdue}
+use Rattle.gs_rules.specs.Gossip.{IsKeptOn, charges, gossip, is_gossiped, overdue}
 use Rattle.gs_rules.specs.Owed.{gossip_topics, is_some_list, offers_in, owed, parts, requests_in}
 use Rattle.gs_rules.specs.Rules.{answers, asking, bare, counted, have_rule, ids_in, message_rule, new_message, rule_of, wanted}
 use Rattle.gs_rules.specs.Modes.{SaysTheSame, Follows, free}

@@ -1,5 +1,5 @@
 -- Worked rows of what is kept and gossiped, of budgets and promises, and of when there is a heartbeat.
-use Rattle.std.proofs.Common.{◌≡◌, ℕ, pos, true, List, [], ◌∷◌, None, Some, refl}
+use Rattle.std.proofs.Common.{◌≡◌, ℕ, pos, true, [], ◌∷◌, None, Some, refl}
 use Rattle.gs_base.specs.declared.names.PeerNo.{PeerNo}
 use Rattle.gs_base.specs.declared.names.Topic.{Topic}
 use Rattle.gs_base.specs.declared.names.MsgId.{MsgId}

@@ -1,5 +1,5 @@
 -- A peer that keeps the rounds has handled what its neighbours said.
-use Rattle.std.proofs.Common.{◌≡◌, ◌≢◌, ℕ, zero, suc, Bool, true, false, cond, if◌then◌else◌, List, [], ◌∷◌, ◌++◌, length, map, filter, Option, Some, None, ◌⊎◌, inl, inr, refl, sym, ap, ap₂, subst, ◌∙◌, append_assoc, append-nil, arith, eq-eqb}
+use Rattle.std.proofs.Common.{◌≡◌, ℕ, zero, suc, Bool, true, false, cond, if◌then◌else◌, List, [], ◌∷◌, ◌++◌, map, filter, Option, Some, None, ◌⊎◌, inl, inr, refl, sym, ap, ap₂, subst, ◌∙◌, append_assoc, append-nil, arith, eq-eqb}
 use Rattle.std.specs.List.{flat_map, AllZip, AllByRecursion, IsDistinct}
 use Rattle.std.proofs.lemmas.Cmp.{nat_eq_equiv}
 use Rattle.std.proofs.lemmas.Grind.{flat_map-append}
@@ -23,12 +23,11 @@ use Rattle.gs_rules.specs.declared.refusal.Refusal.{Refusal}
 use Rattle.gs_rules.specs.declared.refusal.RefusedLine.{RefusedLine}
 use Rattle.gs_rules.specs.Peers.{Peer, links_of}
 use Rattle.gs_rules.specs.Tables.{Entries, up}
-use Rattle.gs_rules.specs.Owed.{owed}
 use Rattle.gs_rules.specs.Legal.{Legal, ArePayments, Begins, Opens, Comes}
 use Rattle.gs_rules.specs.Refusals.{refusal}
 use Rattle.gs_rules.specs.Saying.{Said, bytes_of, handled_by, handled}
-use Rattle.gs_rules.specs.Hearing.{Spell, Inbound, IsBetween, ComesIn, bytes_before, silence}
-use Rattle.gs_rules.specs.Rounds.{Seat, Place, Playing, Closing, Todo, Hear, HearFault, HearGone, Obey, Beat, EndRound, Stop, agenda, beats_in, is_due, ending, hears, hears_of, is_at, is_broken, lines_at, moment_of, event_of, unless_refused, opening, noted, Does, ComesAt, Plays, PlaysInPart, AfterRounds, KeepsRounds}
+use Rattle.gs_rules.specs.Hearing.{Spell, Inbound, IsBetween, ComesIn, bytes_before}
+use Rattle.gs_rules.specs.Rounds.{Seat, Place, Playing, Closing, Todo, Hear, HearFault, HearGone, Obey, Beat, EndRound, Stop, agenda, beats_in, is_due, ending, hears, hears_of, is_at, is_broken, lines_at, moment_of, event_of, unless_refused, opening, Does, ComesAt, Plays, PlaysInPart, AfterRounds, KeepsRounds}
 use Rattle.gs_rules.proofs.Owed.{IsOwed, due_is_owed}
 use Rattle.gs_rules.proofs.Legality.{legal_newest}
 use Rattle.gs_rules.proofs.Deliveries.{legal_before}

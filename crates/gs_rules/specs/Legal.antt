@@ -13,7 +13,7 @@ use Rattle.gs_rules.specs.declared.trace.Event.TheVariants.{Heard, Late, Subscri
 use Rattle.gs_rules.specs.declared.trace.Entry.{Entry}
 use Rattle.gs_rules.specs.Peers.{Peer, seen_ttl}
 use Rattle.gs_rules.specs.Tables.{Entries, last_moment, is_shut, up, joined, known, seen}
-use Rattle.gs_rules.specs.Owed.{Debt, owed, nothing}
+use Rattle.gs_rules.specs.Owed.{owed, nothing}
 use Rattle.gs_rules.specs.Rules.{rule_of}
 use Rattle.gs_rules.specs.Modes.{Mode, Follows, free}
 

@@ -1,19 +1,6 @@
 //! Laws of traces and rounds. Each holds of its definitions alone, and its function does nothing.
-ghost use Rattle.std.specs.Prelude.{
-  true,
-  false,
-  ◌≡◌,
-  ◌<◌,
-  ◌≤◌,
-  ◌+◌,
-  ◌∷◌,
-  ◌++◌,
-  [],
-  List,
-  None,
-  length,
-  reverse,
-};
+ghost use Rattle.std.specs.Prelude.{true, false, ◌≡◌, ◌<◌, ◌≤◌, ◌+◌, ◌∷◌, ◌++◌, []};
+ghost use Rattle.std.specs.Prelude.{List, None, length, reverse};
 ghost use Rattle.std.specs.List.{All, AllByRecursion, list_any};
 ghost use Rattle.std.specs.List.Sorted.{IsStrictlySortedBy};
 ghost use Rattle.gs_base.specs.declared.names.PeerNo.{PeerNo as PeerNoValue};

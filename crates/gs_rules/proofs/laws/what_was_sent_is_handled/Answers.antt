@@ -1,10 +1,9 @@
-use Rattle.std.proofs.Common.{List, [], ◌∷◌, sym, ap, subst}
+use Rattle.std.proofs.Common.{List, [], ◌∷◌, sym, subst}
 use Rattle.std.specs.List.{AllByRecursion}
 use Rattle.gs_base.specs.declared.names.PeerNo.{PeerNo}
-use Rattle.gs_wire.specs.Codec.{codec}
 use Rattle.gs_rules.specs.Peers.{links_of}
 use Rattle.gs_rules.specs.Tables.{Entries}
-use Rattle.gs_rules.specs.Saying.{Said, bytes_of, handled, out, sent}
+use Rattle.gs_rules.specs.Saying.{Said, bytes_of, handled, sent}
 use Rattle.gs_rules.specs.Hearing.{Spell}
 use Rattle.gs_rules.specs.Rounds.{HandlesWhatIsSent, Seat}
 use Rattle.gs_rules.proofs.Handled.{said_is_handled, spelled_once}
