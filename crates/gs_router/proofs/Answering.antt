@@ -15,7 +15,7 @@ use Rattle.gs_base.specs.declared.mark.Mark.{Mark}
 use Rattle.gs_base.specs.declared.mark.Mark.TheVariants as marks
 use Rattle.gs_base.specs.Names.{same_id}
 use Rattle.gs_wire.specs.Messages.{passed_on}
-use Rattle.gs_rules.specs.Peers.{Peer}
+use Rattle.gs_rules.specs.Peers.{Peer, windows}
 use Rattle.gs_rules.specs.Tables.{Entries, Keeping, answered, kept}
 use Rattle.gs_rules.specs.Rules.{answer, answers, times_in, with_message}
 use Rattle.gs_router.specs.declared.rules.requests.Reply.{Reply}
@@ -67,14 +67,14 @@ same_identifier x id is = ap (λ (bytes : List ℕ). record { 0 = bytes }) ((byt
 
 module _ (p : Peer) (L : Entries) (q : PeerNo) (ahead : List MsgId) (given : List (MsgId × Message)) where
   abbrev pub at_first : MsgId → ℕ
-  at_first id = answers_left p.params.windows.gossip_retransmission L q id
+  at_first id = answers_left p.params.windows.gossip_retransmission (windows p) L q id
 
   -- nothing is given for it
   pub gives_none : (x : MsgId) (reply : Reply) → at_first x - times_in x ahead ≡ 0
       → Replies p L q ahead given reply
       → Replies p L q (ahead ++ x ∷ []) (given ++ with_message x (answer p L q x (times_in x ahead))) reply
   gives_none x reply spent so_far =
-      let none : answer p L q x (times_in x ahead) ≡ None = no_answer p.params.windows.gossip_retransmission (kept L x) (answered L q x) (times_in x ahead) spent in
+      let none : answer p L q x (times_in x ahead) ≡ None = no_answer p.params.windows.gossip_retransmission (kept (windows p) L x) (answered L q x) (times_in x ahead) spent in
       let nothing : given ++ with_message x (answer p L q x (times_in x ahead)) ≡ given = ap (λ (o : Option Message). given ++ with_message x o) none ∙ append-nil given in
       record {
         gives = subst (λ (list : List (MsgId × Message)). Gives q list reply) (sym nothing) so_far.gives;
@@ -90,7 +90,7 @@ module _ (p : Peer) (L : Entries) (q : PeerNo) (ahead : List MsgId) (given : Lis
 
   -- its message is given
   pub gives_one : (x : MsgId) (m : Message) (left : ℕ) (old new : Reply)
-      → option_map (λ (k : Keeping). k.message) (kept L x) ≡ Some m
+      → option_map (λ (k : Keeping). k.message) (kept (windows p) L x) ≡ Some m
       → left ≡ at_first x - times_in x ahead
       → 0 < left
       → new.sends ≡ old.sends ++ (q, passed_on m) ∷ []
@@ -99,7 +99,7 @@ module _ (p : Peer) (L : Entries) (q : PeerNo) (ahead : List MsgId) (given : Lis
       → Replies p L q ahead given old
       → Replies p L q (ahead ++ x ∷ []) (given ++ with_message x (answer p L q x (times_in x ahead))) new
   gives_one x m left old new message is some sends marks_are leaves so_far =
-      let found : answer p L q x (times_in x ahead) ≡ Some m = some_answer p.params.windows.gossip_retransmission (kept L x) (answered L q x) (times_in x ahead) m message (omega (arith, some, is)) in
+      let found : answer p L q x (times_in x ahead) ≡ Some m = some_answer p.params.windows.gossip_retransmission (kept (windows p) L x) (answered L q x) (times_in x ahead) m message (omega (arith, some, is)) in
       let longer : given ++ with_message x (answer p L q x (times_in x ahead)) ≡ given ++ (x, m) ∷ [] = ap (λ (o : Option Message). given ++ with_message x o) found in
       record {
         gives = subst (λ (list : List (MsgId × Message)). Gives q list new) (sym longer) (record {

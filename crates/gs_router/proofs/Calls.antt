@@ -9,7 +9,7 @@ use Rattle.gs_base.specs.declared.rpc.Rpc.{Rpc}
 use Rattle.gs_base.specs.Names.{longest_topic, message_id, publication}
 use Rattle.gs_wire.specs.Codec.{codec}
 use Rattle.gs_rules.specs.declared.trace.Event.{Event}
-use Rattle.gs_rules.specs.declared.trace.Event.TheVariants.{Heard, Late, Subscribe, Unsubscribe, Publish, RoundEnd, Gone, Fault, Shut}
+use Rattle.gs_rules.specs.declared.trace.Event.TheVariants.{Heard, Late, Subscribe, Unsubscribe, Publish, Promises, RoundEnd, Gone, Fault, Shut}
 use Rattle.gs_rules.specs.declared.refusal.Refusal.{Refusal}
 use Rattle.gs_rules.specs.declared.refusal.Refusal.TheVariants.{Stopped}
 use Rattle.gs_rules.specs.Peers.{Peer, seen_ttl}
@@ -139,9 +139,14 @@ may_open p L at (RoundEnd r) own free = (none_holds (reasons p L at (RoundEnd r)
 may_open p L at Shut own free = (none_holds (reasons p L at Shut) free).0
 may_open p L at other own free = absurd own
 
--- and owes nothing
+-- a heartbeat may come where it is not refused
+pub may_beat : (p : Peer) (L : Entries) (at : ℕ) → refusal p L at Promises ≡ None → MayOpen p L at Promises
+may_beat p L at free = (none_holds (reasons p L at Promises) free).0
+
+-- what its user wishes owes nothing
 pub owes_nothing : (p : Peer) (L : Entries) (event : Event) → IsUsers event → owes p L event ≡ []
 owes_nothing p L (Heard q rpc) own = absurd own
+owes_nothing p L Promises own = absurd own
 owes_nothing p L other own = refl
 
 -- what comes of a neighbour is not refused

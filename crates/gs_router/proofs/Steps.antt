@@ -1,5 +1,6 @@
 -- One more entry of a router's trace.
-use Rattle.std.proofs.Common.{◌≡◌, ◌≢◌, ◌≤◌, arith, ℕ, Bool, true, false, if◌then◌else◌, List, [], ◌∷◌, ◌++◌, Result, Ok, Err, refl, sym, ap, ap₂, subst, subst₂, ◌∙◌, inl, inr}
+use Rattle.std.proofs.Common.{◌≡◌, ◌≢◌, ◌≤◌, ◌<◌, ◌+◌, arith, ℕ, drop, get_or, length, Bool, true, false, if◌then◌else◌, List, [], ◌∷◌, ◌++◌, Result, Ok, Err, refl, sym, ap, ap₂, subst, subst₂, ◌∙◌, inl, inr}
+use Rattle.std.proofs.lemmas.List.{drop_more}
 use Rattle.std.specs.Prelude.{not, nat_le, is_some, OnOk, OnErr, IsErr}
 use Rattle.gs_base.specs.declared.names.PeerNo.{PeerNo}
 use Rattle.gs_base.specs.declared.names.Millis.{Millis}
@@ -10,19 +11,19 @@ use Rattle.gs_base.specs.declared.verdict.Verdict.{Verdict}
 use Rattle.gs_base.specs.declared.verdict.Verdict.TheVariants.{Accept, Reject, Ignore}
 use Rattle.gs_base.specs.declared.mark.Mark.TheVariants as marks
 use Rattle.gs_rules.specs.declared.trace.Event.{Event}
-use Rattle.gs_rules.specs.declared.trace.Event.TheVariants.{Heard, Msg, Have, Publish}
+use Rattle.gs_rules.specs.declared.trace.Event.TheVariants.{Heard, Msg, Have, Publish, Promises, GossipBeat}
 use Rattle.gs_rules.specs.declared.trace.Entry.{Entry}
 use Rattle.gs_base.specs.Names.{topic_or_empty, topic_of, payload_of, message_id, is_signed}
 use Rattle.gs_rules.specs.Peers.{Peer, seen_ttl}
 use Rattle.gs_rules.specs.Tables.{Entries, last_moment, joined, offers, seen}
-use Rattle.gs_rules.specs.Owed.{Debt, nothing, owed, owes, owing, paid, parts}
+use Rattle.gs_rules.specs.Owed.{Debt, beats, gossip_topics, nothing, owed, owes, owing, paid, parts}
 use Rattle.gs_params.specs.Picks.{IsAscending}
 use Rattle.gs_rules.specs.Rules.{Rule, Gives, AnyOf, CutOf, OneOf, asked_for, bare, counted, have_rule, message_rule, new_message, rule_of, wanted}
 use Rattle.gs_rules.specs.Modes.{Mode, Follows, free}
 use Rattle.gs_rules.specs.Legal.{Legal, LegalOn, IsAllowed, IsNext, MayOpen, Begins}
 use Rattle.gs_base.specs.Names.{peers_of}
 use Rattle.gs_rules.proofs.Judged.{of_a_message}
-use Rattle.gs_rules.proofs.Owed.{heard_owes, owes_none, paid_last}
+use Rattle.gs_rules.proofs.Owed.{beat_owes, heard_owes, owes_none, paid_last}
 use Rattle.gs_rules.proofs.Legality.{Weakens, follows_weakly, legal_on, legal_one, legal_then, legal_weakly}
 use Rattle.gs_router.specs.declared.setup.Setup.{Setup}
 use Rattle.gs_router.specs.declared.state.State.{State}
@@ -67,6 +68,7 @@ have_tells p L at q offer = by (nat_le p.params.windows.max_ihave (offers L q)) 
 rule_tells : (p : Peer) (L : Entries) (at : Millis) (event : Event) → TellsOnly at event (rule_of p L at event)
 rule_tells p L at (Msg q m) = message_tells p L at q m
 rule_tells p L at (Have q offer) = have_tells p L at q offer
+rule_tells p L at (GossipBeat t) = λ chosen. record { moment = refl; tells = refl }
 rule_tells p L at other = record { moment = refl; tells = refl }
 
 follows_tells : (at : Millis) (event : Event) (r : Rule) (x : Entry) → TellsOnly at event r → Follows free r tt x tt → Tells at event x
@@ -169,6 +171,10 @@ next_opens p L at event settled may = subst (λ (debt : Debt). IsNext p L at deb
 
 -- ---- what is owed is paid
 
+-- what is left of a list, with the next in front
+pub next_left : {X : Type 0} (xs : List X) (place : ℕ) (x : X) → place < length xs → x ≡ get_or xs place x → drop place xs ≡ x ∷ drop (place + 1) xs
+next_left xs place x below there = drop_more xs place x below ∙ ap (λ y. y ∷ drop (place + 1) xs) (sym there)
+
 -- these events are left of the last group that is owed
 abbrev pub last_group : List Event → Debt
 last_group events = record { events = events; groups = [] }
@@ -206,6 +212,23 @@ module _ (m : Mode) {A E : Type 0} where
         owes = ap (owed p) one.added
             ∙ ap (λ (ev : Event). owing p (one.entry ∷ a.trace) (owes p a.trace ev) (owed p a.trace)) one.opened
             ∙ heard_owes p (one.entry ∷ a.trace) q rpc;
+        begun = record { first = one.entry; paid = []; entries = one.added; opened = one.opened; moment = one.moment; payments = tt };
+        appended = record { entries = one.entry ∷ []; are = one.added; legal = one.legal };
+      }
+
+  -- a heartbeat owes gossip, and its end
+  pub beats_first : (now : Millis) (a b : State) (s t : m.State) (x : A) → Steps {A = A} {E = E} m Promises now a s (Ok x) b t → Paying m now Promises a s b t (beats (gossip_topics (peer_with a.setup) b.trace))
+  beats_first now a b s t x steps =
+      let one = steps.added in
+      let p = peer_with a.setup in
+      record {
+        current = steps.current;
+        setup = steps.setup;
+        moment = ap last_moment one.added ∙ ap (λ (at : Millis). at.0) one.moment;
+        owes = ap (owed p) one.added
+            ∙ ap (λ (ev : Event). owing p (one.entry ∷ a.trace) (owes p a.trace ev) (owed p a.trace)) one.opened
+            ∙ beat_owes p (one.entry ∷ a.trace)
+            ∙ ap (λ (L : Entries). last_group (beats (gossip_topics p L))) (sym one.added);
         begun = record { first = one.entry; paid = []; entries = one.added; opened = one.opened; moment = one.moment; payments = tt };
         appended = record { entries = one.entry ∷ []; are = one.added; legal = one.legal };
       }

@@ -5,7 +5,7 @@ use Rattle.gs_base.specs.declared.names.MsgId.{MsgId}
 use Rattle.gs_base.specs.declared.rpc.Message.{Message}
 use Rattle.gs_base.specs.declared.mark.Mark.TheVariants as marks
 use Rattle.gs_wire.specs.Messages.{passed_on}
-use Rattle.gs_rules.specs.Peers.{Peer}
+use Rattle.gs_rules.specs.Peers.{Peer, windows}
 use Rattle.gs_rules.specs.Tables.{Entries}
 use Rattle.gs_rules.specs.Rules.{times_in}
 use Rattle.gs_router.specs.declared.rules.requests.Reply.{Reply}
@@ -22,5 +22,5 @@ pub record Replies (p : Peer) (L : Entries) (q : PeerNo) (ahead : List MsgId) (g
     (reply : Reply) : Type 0 where
   pub gives : Gives q given reply
   pub leaves : (id : MsgId) (n : ℕ)
-      → n ≡ answers_left p.params.windows.gossip_retransmission L q id
+      → n ≡ answers_left p.params.windows.gossip_retransmission (windows p) L q id
       → left_now reply.left.entries id n ≡ n - times_in id ahead

@@ -1,8 +1,6 @@
 -- A router's tables say what its trace says.
-use Rattle.std.specs.Prelude.{◌≡◌, ◌≤◌, ◌-◌, ℕ, min, Bool, false, not, ◌||◌, if◌then◌else◌, length, Option, Some, None, is_some, option_map, unwrap_or}
-use Rattle.std.specs.declared.cmp.Ordering.{Ordering}
-use Rattle.std.specs.Ordering.{is_eq, nat_cmp}
-use Rattle.std.specs.Cmp.Lexicographic.{slice_cmp}
+use Rattle.std.specs.Prelude.{◌≡◌, ◌≤◌, ◌<◌, ◌-◌, ℕ, min, Bool, false, not, ◌||◌, if◌then◌else◌, List, [], ◌∷◌, length, filter, Option, Some, None, is_some, option_map, unwrap_or}
+use Rattle.std.specs.Ordering.{is_eq}
 use Rattle.std.specs.List.{list_any}
 use Rattle.std.specs.Map.{lookup}
 use Rattle.gs_base.specs.declared.names.PeerNo.{PeerNo}
@@ -15,8 +13,9 @@ use Rattle.gs_base.specs.declared.mark.Mark.TheVariants as marks
 use Rattle.gs_wire.specs.Messages.{most_identifiers}
 use Rattle.gs_cache.specs.Sightings.{verdict_in, what_counts}
 use Rattle.gs_cache.specs.Messages.{Cached, all_left, cached, left, one_less}
-use Rattle.gs_rules.specs.Peers.{Peer, seen_ttl}
-use Rattle.gs_rules.specs.Tables.{Entries, Keeping, answered, asked, counting, kept, offers, is_shut, last_moment, up, on, joined, known, seen}
+use Rattle.gs_rules.specs.declared.trace.Entry.{Entry}
+use Rattle.gs_rules.specs.Peers.{Peer, seen_ttl, windows}
+use Rattle.gs_rules.specs.Tables.{Entries, Keeping, answered, asked, counting, is_shut, joined, keeping, keeping_order, kept, known, last_kept, last_moment, offers, on, promises, seen, topic_order, up}
 use Rattle.gs_router.specs.declared.peer_set.PeerSet.{PeerSet}
 use Rattle.gs_router.specs.declared.tables.own_topics.OwnTopics.{OwnTopics}
 use Rattle.gs_router.specs.declared.tables.listeners.Listeners.{Listeners}
@@ -24,15 +23,16 @@ use Rattle.gs_router.specs.declared.tables.sightings.Sightings.{Sightings}
 use Rattle.gs_router.specs.declared.tables.messages.Messages.{Messages}
 use Rattle.gs_router.specs.declared.tables.budgets.Budget.{Budget}
 use Rattle.gs_router.specs.declared.tables.budgets.Budgets.{Budgets}
+use Rattle.gs_router.specs.declared.tables.promises.Promises.{Promises}
 use Rattle.gs_router.specs.declared.tables.neighbours.Neighbours.{Neighbours}
 use Rattle.gs_router.specs.declared.tables.Tables.{Tables}
 use Rattle.gs_router.specs.PeerSets.{has}
 
--- ---- the router's own topics
+-- an entry without its marks
+abbrev pub unmarked : Entry → Entry
+unmarked e = record e { marks = [] }
 
--- the topics stand in the order of their bytes
-abbrev pub topic_order : Topic → Topic → Ordering
-topic_order t u = slice_cmp nat_cmp t.0 u.0
+-- ---- the router's own topics
 
 -- whether a topic that it was ever subscribed to is joined
 abbrev pub kept_topic : OwnTopics → Topic → Option Bool
@@ -77,7 +77,7 @@ pub record AgreesOnSightings (kept : Sightings) (L : Entries) : Type 0 where
 -- what is kept under an identifier, as the table has it
 abbrev pub keeping_in : Messages → MsgId → Option Keeping
 keeping_in table id =
-    option_map (λ (c : Cached). record { topic = c.topic; message = c.message }) (cached table.cache id)
+    option_map (λ (c : Cached). record { topic = c.topic; message = c.message; age = c.age }) (cached table.cache id)
 
 -- what a mark leaves of the answers that are left to a neighbour, of so many at first
 abbrev pub left_after : ℕ → PeerNo → MsgId → Mark → Option ℕ → Option ℕ
@@ -90,13 +90,28 @@ abbrev pub left_of : ℕ → Option Keeping → ℕ → Option ℕ
 left_of most keeping given = option_map (λ (k : Keeping). most - given) keeping
 
 -- and none where none is kept
-abbrev pub answers_left : ℕ → Entries → PeerNo → MsgId → ℕ
-answers_left most L q id = unwrap_or (left_of most (kept L id) (answered L q id)) 0
+abbrev pub answers_left : ℕ → ℕ → Entries → PeerNo → MsgId → ℕ
+answers_left most len L q id = unwrap_or (left_of most (kept len L id) (answered L q id)) 0
 
-pub record AgreesOnMessages (table : Messages) (L : Entries) : Type 0 where
-  pub keeps : (id : MsgId) → keeping_in table id ≡ kept L id
-  pub leaves : (q : PeerNo) (id : MsgId)
-      → left table.cache id q ≡ left_of table.cache.answers (kept L id) (answered L q id)
+-- The table has of what was kept last what is kept still, by how often each neighbour got it since, and in the order
+-- in which it was kept.
+pub record HasKept (table : Messages) (last : MsgId → Option Keeping) (given : PeerNo → MsgId → ℕ) (order : List MsgId)
+    : Type 0 where
+  pub some : 0 < table.cache.len
+  pub keeps : (id : MsgId) → keeping_in table id ≡ keeping table.cache.len (last id)
+  pub leaves
+      : (q : PeerNo) (id : MsgId)
+      → left table.cache id q ≡ left_of table.cache.answers (keeping table.cache.len (last id)) (given q id)
+  pub orders : table.cache.order ≡ filter (λ id. is_some (keeping table.cache.len (last id))) order
+
+abbrev pub AgreesOnMessages : Messages → Entries → Type 0
+AgreesOnMessages table L = HasKept table (last_kept L) (answered L) (keeping_order L)
+
+-- the numbers with which the table was made stay
+pub record IsMadeAlike (old new : Messages) : Type 0 where
+  pub len : new.cache.len ≡ old.cache.len
+  pub gossip : new.cache.gossip ≡ old.cache.gossip
+  pub answers : new.cache.answers ≡ old.cache.answers
 
 -- ---- budgets
 
@@ -126,6 +141,11 @@ budget_left full L q = record { offers = full.offers - offers L q; ids = full.id
 pub record AgreesOnBudgets (table : Budgets) (L : Entries) : Type 0 where
   pub leaves : (q : PeerNo) → budget_in table q ≡ budget_left table.full L q
 
+-- ---- promises
+
+pub record AgreesOnPromises (table : Promises) (L : Entries) : Type 0 where
+  pub waits : table.waiting.items ≡ promises L
+
 -- ---- neighbours
 
 pub record AgreesOnNeighbours (kept : Neighbours) (L : Entries) : Type 0 where
@@ -140,12 +160,16 @@ pub record Agrees (tables : Tables) (L : Entries) : Type 0 where
   pub sightings : AgreesOnSightings tables.sightings L
   pub messages : AgreesOnMessages tables.messages L
   pub budgets : AgreesOnBudgets tables.budgets L
+  pub promises : AgreesOnPromises tables.promises L
   pub neighbours : AgreesOnNeighbours tables.neighbours L
 
 -- The tables were made for what is given of this peer.
 pub record AreMadeFor (tables : Tables) (p : Peer) : Type 0 where
   -- for how long a message counts as seen
   pub seen_ttl : tables.sightings.cache.ttl ≡ seen_ttl p
+  -- for how many heartbeats a message is kept, and for how many it is gossiped
+  pub windows : tables.messages.cache.len ≡ windows p
+  pub gossip : tables.messages.cache.gossip ≡ p.params.windows.mcache_gossip
   -- how often a message is sent to a neighbour that asks for it
   pub answers : tables.messages.cache.answers ≡ p.params.windows.gossip_retransmission
   -- how many offers of a neighbour count, and how many identifiers it may be asked for

@@ -90,6 +90,27 @@ impl Router {
         trace
     }
 
+    /// The moment of the last entry, and 0 where there is none.
+    pub fn last_moment(&self) -> Millis
+        ensures { result.0 ≡ last_moment self.now.trace }
+    {
+        self.state.trace.last_moment()
+    }
+
+    /// Whether a neighbour is heard and sent to. After want of memory nothing is known of the answer.
+    pub fn is_up(&self, peer: PeerNo) -> bool
+        ensures { self.now.is_stopped ≡ false → result ≡ up self.now.trace peer }
+    {
+        self.state.tables.neighbours.is_up(peer)
+    }
+
+    /// The time from heartbeat to heartbeat, in milliseconds.
+    pub fn heartbeat_ms(&self) -> u64
+        ensures { result ≡ self.now.peer.params.windows.heartbeat_ms }
+    {
+        self.state.setup.params.windows.heartbeat_ms
+    }
+
     /// Hears an RPC that came from a neighbour and fits a frame, as all do that a reader gives. Where the
     /// neighbour is not up, it is late, and has no effect.
     ///
@@ -208,6 +229,26 @@ impl Router {
         }
         let publishing = Publishing { topic, payload, id };
         let done = self.state.publish(publishing, now, words);
+        ended(&mut self.is_stopped, done)
+    }
+
+    /// Has a heartbeat (gossipsub v1.0, Heartbeat): charges promises that were broken, gossips on each topic on
+    /// which there is something, and begins a new window of what is kept.
+    ///
+    /// # Errors
+    /// `Stopped`, and `NoMemory`.
+    pub fn heartbeat<W: Words>(&mut self, now: Millis, words: &mut W) -> Result<(), RouterFault>
+        requires { last_moment self.old.trace ≤ now.0 }
+        ensures { Calls (exact W.word W.after) (Some events.Promises) now
+            self.old words.old result self.new words.new }
+    {
+        if self.is_stopped {
+            return Err(RouterFault::Refused(Refusal::Stopped));
+        }
+        if let Some(why) = rules::refusal_of(&self.state, &Event::Promises, now) {
+            return Err(RouterFault::Refused(why));
+        }
+        let done = self.state.heartbeat(now, words);
         ended(&mut self.is_stopped, done)
     }
 

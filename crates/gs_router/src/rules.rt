@@ -9,6 +9,7 @@ ghost use Rattle.gs_rules.specs.declared.refusal.Refusal.TheVariants as refusals
 ghost use Rattle.gs_router.specs.Tables.{Agrees};
 ghost use Rattle.gs_router.specs.State.{IsCurrent, Knows, peer_with};
 
+pub mod heartbeats;
 pub mod messages;
 pub mod offers;
 pub mod requests;
@@ -89,6 +90,8 @@ pub fn entry_of<W: Words>(
             let id = MsgId::of(&payload);
             messages::publish(state, Publishing { topic, payload, id }, now)
         }
+        Event::Promises => heartbeats::promises(state, now),
+        Event::GossipBeat(topic) => heartbeats::gossip(state, topic, now, words),
         other => Ok(bare(state.alloc, now, other)),
     }
 }
@@ -115,6 +118,7 @@ pub fn refusal_of(state: &State, event: &Event, now: Millis) -> Option<Refusal>
         Event::Publish(topic, payload) => {
             messages::refusal_of_publish(state, topic, payload, MsgId::of(payload), now)
         }
+        Event::Promises => refusal_of_anything(state),
         Event::RoundEnd(_) => refusal_of_anything(state),
         Event::Shut => refusal_of_anything(state),
         _ => None,

@@ -11,6 +11,8 @@ ghost use Rattle.gs_rules.specs.Peers.{Peer};
 ghost use Rattle.gs_router.specs.Tables.{Agrees, AreMadeFor};
 ghost use Rattle.gs_router.specs.State.{Ends, IsCurrent, IsReady, Steps, peer_with};
 
+mod heartbeat;
+
 use crate::rules;
 use crate::rules::messages::{self, Publishing};
 use crate::setup::Setup;

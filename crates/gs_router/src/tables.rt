@@ -10,6 +10,7 @@ pub mod listeners;
 pub mod messages;
 pub mod neighbours;
 pub mod own_topics;
+pub mod promises;
 pub mod sightings;
 
 use crate::tables::budgets::{Budget, Budgets};
@@ -17,6 +18,7 @@ use crate::tables::listeners::Listeners;
 use crate::tables::messages::Messages;
 use crate::tables::neighbours::Neighbours;
 use crate::tables::own_topics::OwnTopics;
+use crate::tables::promises::Promises;
 use crate::tables::sightings::Sightings;
 use gs_base::Millis;
 use gs_params::Windows;
@@ -34,6 +36,7 @@ pub struct Tables {
     pub sightings: Sightings,
     pub messages: Messages,
     pub budgets: Budgets,
+    pub promises: Promises,
     pub neighbours: Neighbours,
 }
 
@@ -59,6 +62,7 @@ impl Tables {
             sightings: Sightings::new(alloc, Millis(windows.seen_ttl_ms)),
             messages,
             budgets: Budgets::new(alloc, budget),
+            promises: Promises::new(alloc),
             neighbours: Neighbours::new(alloc),
         })
     }
@@ -77,6 +81,7 @@ impl Tables {
         self.sightings.note(entry)?;
         self.messages.note(entry)?;
         self.budgets.note(entry)?;
+        self.promises.note(entry)?;
         self.neighbours.note(entry)?;
         Ok(())
     }

@@ -1,5 +1,5 @@
 -- What a heartbeat does: it charges broken promises, and gossips of the messages that are kept.
-use Rattle.std.specs.Prelude.{◌≡◌, ◌<◌, ℕ, ◌-◌, ◌*◌, ◌/◌, max, Bool, true, false, ◌&&◌, nat_le, nat_lt, if◌then◌else◌, List, [], length, drop, map, filter, Option, Some, None}
+use Rattle.std.specs.Prelude.{◌≡◌, ◌<◌, ℕ, ◌-◌, ◌*◌, ◌/◌, min, max, Bool, true, false, ◌&&◌, nat_le, nat_lt, if◌then◌else◌, List, [], length, drop, map, filter, Option, Some, None}
 use Rattle.std.specs.List.{flat_map}
 use Rattle.gs_base.specs.declared.names.PeerNo.{PeerNo}
 use Rattle.gs_base.specs.declared.names.Topic.{Topic}
@@ -52,4 +52,4 @@ pub record IsKeptOn (p : Peer) (L : Entries) (t : Topic) (id : MsgId) : Type 0 w
 -- how many of so many neighbours are told: a part of them, and no fewer than a number, where there are so many
 -- (gossipsub v1.1, "Adaptive Gossip Dissemination")
 abbrev pub gossip_size : Peer → ℕ → ℕ
-gossip_size p n = max p.params.degrees.d_lazy (p.params.factors.gossip_factor * n / 1_000_000)
+gossip_size p n = min n (max p.params.degrees.d_lazy (p.params.factors.gossip_factor * n / 1_000_000))

@@ -90,6 +90,7 @@ impl Model for Trace {
 
 impl Trace {
     ghost use Rattle.std.specs.Prelude.{reverse};
+    ghost use Rattle.gs_rules.specs.Tables.{last_moment};
 
     /// The trace of a peer that has done nothing. It takes no memory.
     pub fn new(alloc: Global) -> Trace
@@ -105,6 +106,16 @@ impl Trace {
         ensures { reverse result.now ≡ self.now }
     {
         self.entries.as_slice()
+    }
+
+    /// The moment of the newest entry, and 0 where there is none.
+    pub fn last_moment(&self) -> Millis
+        ensures { result.0 ≡ last_moment self.now }
+    {
+        match self.entries.last() {
+            Some(entry) => entry.at,
+            None => Millis(0),
+        }
     }
 
     /// Adds an entry as the newest.

@@ -230,7 +230,7 @@ pub struct Publishing {
 }
 
 /// The neighbours that are up and on a topic.
-fn listeners(state: &State, topic: &Topic) -> Result<Vec<PeerNo>, AllocError>
+pub fn listeners(state: &State, topic: &Topic) -> Result<Vec<PeerNo>, AllocError>
     ensures { IfOk result (λ receivers. (L : Entries)
         → Agrees state.now.tables L
         → receivers.items ≡ listeners (peer_with state.now.setup) L topic.now) }

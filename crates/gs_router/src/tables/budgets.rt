@@ -1,11 +1,12 @@
 //! What neighbours may still offer and be asked for.
 ghost use Rattle.std.specs.Prelude.{◌≡◌, [], ◌∷◌, OnOk};
 ghost use Rattle.gs_base.specs.declared.names.PeerNo.{PeerNo as PeerNoValue};
+ghost use Rattle.gs_rules.specs.declared.trace.Entry.{Entry as EntryValue};
 ghost use Rattle.gs_rules.specs.Tables.{Entries};
-ghost use Rattle.gs_router.specs.Tables.{AgreesOnBudgets, budget_after, budget_in, budget_left};
+ghost use Rattle.gs_router.specs.Tables.{AgreesOnBudgets, budget_after, budget_in, budget_left, unmarked};
 
 use gs_base::{Mark, PeerNo};
-use gs_rules::Entry;
+use gs_rules::{Entry, Event};
 use indexmap::IndexMap;
 use std::alloc::{AllocError, Global};
 
@@ -82,6 +83,33 @@ impl Budgets {
     pub fn note(&mut self, entry: &Entry) -> Result<(), AllocError>
         ensures agrees { OnOk result ((L : Entries)
             → AgreesOnBudgets self.old L
+            → AgreesOnBudgets self.new (entry.now ∷ L)) }
+        ensures full { OnOk result (self.new.full ≡ self.old.full) }
+    {
+        self.note_event(&entry.event);
+        self.note_marks(entry)?;
+        Ok(())
+    }
+
+    /// Notes that an event came: with the end of a heartbeat each neighbour has its whole budget again. It takes no
+    /// memory.
+    fn note_event(&mut self, event: &Event)
+        ensures agrees { (e : EntryValue) (L : Entries)
+            → e.event ≡ event.now
+            → AgreesOnBudgets self.old L
+            → AgreesOnBudgets self.new (unmarked e ∷ L) }
+        ensures full { self.new.full ≡ self.old.full }
+    {
+        match event {
+            Event::BeatEnd => self.left.clear(),
+            _ => {}
+        }
+    }
+
+    /// Notes the marks of an entry whose event was noted.
+    fn note_marks(&mut self, entry: &Entry) -> Result<(), AllocError>
+        ensures agrees { OnOk result ((L : Entries)
+            → AgreesOnBudgets self.old (unmarked entry.now ∷ L)
             → AgreesOnBudgets self.new (entry.now ∷ L)) }
         ensures full { OnOk result (self.new.full ≡ self.old.full) }
     {

@@ -1,12 +1,14 @@
 //! Which messages are kept for who asks for them.
-ghost use Rattle.std.specs.Prelude.{◌≡◌, [], ◌∷◌, OnOk, IfOk, IfSome, IfNone, Some, option_map};
+ghost use Rattle.std.specs.Prelude.{◌≡◌, ℕ, max, List, [], ◌∷◌, OnOk, IfOk, IfSome, IfNone, Option, Some, option_map};
 ghost use Rattle.gs_base.specs.declared.names.MsgId.{MsgId as MsgIdValue};
 ghost use Rattle.gs_base.specs.declared.names.PeerNo.{PeerNo as PeerNoValue};
-ghost use Rattle.gs_cache.specs.Messages.{left};
-ghost use Rattle.gs_rules.specs.Tables.{Entries, Keeping, kept, kept_after, message_in};
-ghost use Rattle.gs_router.specs.Tables.{AgreesOnMessages, answers_left, keeping_in, left_after};
+ghost use Rattle.gs_rules.specs.declared.trace.Entry.{Entry as EntryValue};
+ghost use Rattle.gs_rules.specs.Peers.{Peer, windows};
+ghost use Rattle.gs_rules.specs.Tables.{Entries, Keeping, answered_after, kept, kept_after, message_in, order_after};
+ghost use Rattle.gs_rules.specs.Gossip.{gossip};
+ghost use Rattle.gs_router.specs.Tables.{AgreesOnMessages, HasKept, IsMadeAlike, answers_left, unmarked};
 
-use gs_base::{Mark, Message, MsgId, PeerNo, Shared, clone_of};
+use gs_base::{Mark, Message, MsgId, PeerNo, Seq, Shared, Topic, clone_of};
 use gs_cache::{Answer, MessageCache};
 use gs_rules::{Entry, Event};
 use std::alloc::{AllocError, Global};
@@ -19,8 +21,8 @@ pub struct Messages {
 }
 
 impl Messages {
-    /// No message is kept. One will be for so many heartbeats, be announced at so many, and be sent so many times
-    /// to each neighbour that asks for it.
+    /// No message is kept. One will be for so many heartbeats, be gossiped for so many, and be sent so many times
+    /// to each neighbour that asks for it. For 0 heartbeats means for one, as checked parameters say.
     ///
     /// # Errors
     /// `AllocError` where there was no memory.
@@ -31,22 +33,23 @@ impl Messages {
         answers: u64,
     ) -> Result<Messages, AllocError>
         ensures agrees { IfOk result (λ messages. AgreesOnMessages messages []) }
+        ensures len { IfOk result (λ messages. messages.cache.len ≡ max 1 len) }
+        ensures gossip { IfOk result (λ messages. messages.cache.gossip ≡ gossip) }
         ensures answers { IfOk result (λ messages. messages.cache.answers ≡ answers) }
     {
-        // A cache has a window at least, as checked parameters say.
         let cache = MessageCache::new(alloc, len.max(1), gossip, answers)?;
         Ok(Messages { alloc, cache })
     }
 
-    /// The message that a neighbour may get for an identifier: none where none is kept, or the neighbour got it as
-    /// often as it may.
+    /// The message that is kept under an identifier and may go to a neighbour: none where none is kept, or the
+    /// neighbour got it as often as it may.
     pub fn answer_for(&self, id: &MsgId, peer: PeerNo) -> Option<&Shared<Message>>
         ensures some { IfSome result (λ message. (L : Entries)
             → AgreesOnMessages self.now L
-            → option_map (λ (k : Keeping). k.message) (kept L id.now) ≡ Some message.now) }
+            → option_map (λ (k : Keeping). k.message) (kept self.now.cache.len L id.now) ≡ Some message.now) }
         ensures none { IfNone result ((L : Entries)
             → AgreesOnMessages self.now L
-            → answers_left self.now.cache.answers L peer id.now ≡ 0) }
+            → answers_left self.now.cache.answers self.now.cache.len L peer id.now ≡ 0) }
     {
         match self.cache.answer_for(id, peer) {
             Answer::Given(message) => Some(message),
@@ -59,18 +62,51 @@ impl Messages {
     pub fn left_for(&self, id: &MsgId, peer: PeerNo) -> u64
         ensures { (L : Entries)
             → AgreesOnMessages self.now L
-            → result ≡ answers_left self.now.cache.answers L peer id.now }
+            → result ≡ answers_left self.now.cache.answers self.now.cache.len L peer id.now }
     {
         self.cache.left_for(id, peer)
     }
 
+    /// The identifiers of what is gossiped on a topic, the oldest first.
+    ///
+    /// # Errors
+    /// `AllocError` where there was no memory.
+    pub fn gossip_ids(&self, topic: &Topic) -> Result<Seq<MsgId>, AllocError>
+        ensures { IfOk result (λ ids. (p : Peer) (L : Entries)
+            → AgreesOnMessages self.now L
+            → self.now.cache.len ≡ windows p
+            → self.now.cache.gossip ≡ p.params.windows.mcache_gossip
+            → ids ≡ gossip p L topic.now) }
+    {
+        let ids = self.cache.gossip_ids(topic)?;
+        Ok(ids)
+    }
+
+    /// Notes that an event came: the end of a heartbeat makes all that is kept older. It takes no memory.
+    fn note_event(&mut self, event: &Event)
+        ensures agrees { (e : EntryValue) (L : Entries)
+            → e.event ≡ event.now
+            → AgreesOnMessages self.old L
+            → AgreesOnMessages self.new (unmarked e ∷ L) }
+        ensures alike { IsMadeAlike self.old self.new }
+    {
+        match event {
+            Event::BeatEnd => self.cache.shift(),
+            _ => {}
+        }
+    }
+
     /// Notes a mark that came with an event.
     fn note_mark(&mut self, mark: &Mark, event: &Event) -> Result<(), AllocError>
-        ensures keeps { OnOk result ((id : MsgIdValue)
-            → keeping_in self.new id ≡ kept_after id event.now mark.now (keeping_in self.old id)) }
-        ensures leaves { OnOk result ((q : PeerNoValue) (id : MsgIdValue)
-            → left self.new.cache id q ≡ left_after self.old.cache.answers q id mark.now (left self.old.cache id q)) }
-        ensures answers { OnOk result (self.new.cache.answers ≡ self.old.cache.answers) }
+        ensures has { OnOk result ((last : MsgIdValue → Option Keeping)
+            (given : PeerNoValue → MsgIdValue → ℕ)
+            (order : List MsgIdValue)
+            → HasKept self.old last given order
+            → HasKept self.new
+            (λ id. kept_after id event.now mark.now (last id))
+            (λ q id. answered_after q id mark.now (given q id))
+            (order_after mark.now order)) }
+        ensures alike { OnOk result (IsMadeAlike self.old self.new) }
     {
         match mark {
             Mark::Cached(id, topic) => {
@@ -91,7 +127,19 @@ impl Messages {
         ensures agrees { OnOk result ((L : Entries)
             → AgreesOnMessages self.old L
             → AgreesOnMessages self.new (entry.now ∷ L)) }
-        ensures answers { OnOk result (self.new.cache.answers ≡ self.old.cache.answers) }
+        ensures alike { OnOk result (IsMadeAlike self.old self.new) }
+    {
+        self.note_event(&entry.event);
+        self.note_marks(entry)?;
+        Ok(())
+    }
+
+    /// Notes the marks of an entry whose event was noted.
+    fn note_marks(&mut self, entry: &Entry) -> Result<(), AllocError>
+        ensures agrees { OnOk result ((L : Entries)
+            → AgreesOnMessages self.old (unmarked entry.now ∷ L)
+            → AgreesOnMessages self.new (entry.now ∷ L)) }
+        ensures alike { OnOk result (IsMadeAlike self.old self.new) }
     {
         for mark in entry.marks.as_slice() {
             self.note_mark(mark, &entry.event)?;

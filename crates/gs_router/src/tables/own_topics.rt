@@ -1,7 +1,7 @@
 //! The topics that a router is or was subscribed to.
-ghost use Rattle.std.specs.Prelude.{◌≡◌, [], ◌∷◌, OnOk};
+ghost use Rattle.std.specs.Prelude.{◌≡◌, [], ◌∷◌, OnOk, IfOk};
 ghost use Rattle.gs_base.specs.Names.{topic_or_empty};
-ghost use Rattle.gs_rules.specs.Tables.{Entries, joined};
+ghost use Rattle.gs_rules.specs.Tables.{Entries, joined, own_topics};
 ghost use Rattle.gs_rules.specs.Legal.{has_room_for};
 ghost use Rattle.gs_router.specs.Tables.{AgreesOnTopics};
 
@@ -53,6 +53,22 @@ impl OwnTopics {
         ensures { (L : Entries) → AgreesOnTopics self.now L → result ≡ has_room_for L topic.now }
     {
         self.topics.get(topic).is_some() || self.topics.len() < MOST_TOPICS
+    }
+
+    /// The topics that the router is subscribed to, in the order of their bytes.
+    ///
+    /// # Errors
+    /// `AllocError` where there was no memory.
+    pub fn joined(&self, alloc: Global) -> Result<Vec<Topic>, AllocError>
+        ensures { IfOk result (λ list. (L : Entries) → AgreesOnTopics self.now L → list.items ≡ own_topics L) }
+    {
+        let mut list = Vec::new(alloc);
+        for (topic, joined) in &self.topics {
+            if *joined {
+                list.push(clone_of(topic)?)?;
+            }
+        }
+        Ok(list)
     }
 
     /// Notes an entry.

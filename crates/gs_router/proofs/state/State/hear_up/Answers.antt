@@ -1,5 +1,5 @@
-use Rattle.std.proofs.Common.{arith, ◌≡◌, ℕ, ◌+◌, ◌<◌, ◌∙◌, ◌∷◌, ◌++◌, List, Ok, map, drop, get_or, length, refl, sym, ap, subst}
-use Rattle.std.proofs.lemmas.List.{drop_all, drop_more}
+use Rattle.std.proofs.Common.{arith, ◌+◌, ◌∙◌, ◌++◌, List, Ok, map, drop, refl, sym, ap, subst}
+use Rattle.std.proofs.lemmas.List.{drop_all}
 use Rattle.std.specs.declared.alloc.AllocError.{AllocError}
 use Rattle.gs_base.specs.declared.names.PeerNo.{PeerNo}
 use Rattle.gs_base.specs.declared.control.IHave.{IHave}
@@ -13,12 +13,8 @@ use Rattle.gs_rules.specs.Owed.{offers_in, requests_in}
 use Rattle.gs_rules.specs.Modes.{exact}
 use Rattle.gs_rules.proofs.Legality.{exact_is_free}
 use Rattle.gs_router.specs.State.{Steps}
-use Rattle.gs_router.proofs.Steps.{Paying, hears_first, pays_next, stops}
+use Rattle.gs_router.proofs.Steps.{Paying, hears_first, next_left, pays_next, stops}
 use Rattle.gs_router.proofs.state.State.hear_up.Goals as goal
-
--- what is left, with the next in front
-next_left : {X : Type 0} (xs : List X) (place : ℕ) (x : X) → place < length xs → x ≡ get_or xs place x → drop place xs ≡ x ∷ drop (place + 1) xs
-next_left xs place x below there = drop_more xs place x below ∙ ap (λ y. y ∷ drop (place + 1) xs) (sym there)
 
 pub returns-in_err-heard : goal.returns-in_err-heard
 returns-in_err-heard g c = stops (exact g.W.Words.word g.W.Words.after) (exact_is_free g.W.Words.word g.W.Words.after) (Heard c.args.from c.args.rpc) c.args.now c.args.self.now c.args.self.now c.args.words.now c.args.words.now c.from_residual.result c.from_residual.ensures.0 c.requires.ready.current refl refl

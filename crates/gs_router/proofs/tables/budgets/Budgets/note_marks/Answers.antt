@@ -1,7 +1,7 @@
 use Rattle.std.proofs.Common.{arith}
 use Rattle.std.proofs.lemmas.List.{drop_all}
 use Rattle.gs_router.proofs.Spending.{spent_all}
-use Rattle.gs_router.proofs.tables.budgets.Budgets.note.Goals as goal
+use Rattle.gs_router.proofs.tables.budgets.Budgets.note_marks.Goals as goal
 
 pub returns-clause-agrees : goal.returns-clause-agrees
 returns-clause-agrees c = λ L.

@@ -1,0 +1,166 @@
+-- The topics of a table in order are those that the trace says, ascending.
+use Rattle.std.proofs.Common.{◌≡◌, ℕ, Bool, true, false, cond, List, [], ◌∷◌, map, filter, Option, Some, None, is_some, unwrap_or, refl, sym, ap, ap₂, subst, ◌∙◌, if◌then◌else◌}
+use Rattle.std.specs.Prelude.{◌||◌, ◌&&◌, T}
+use Rattle.std.specs.List.{list_any, AllByRecursion}
+use Rattle.std.specs.Map.{lookup, keys_of}
+use Rattle.std.specs.Cmp.{IsTotalOrder}
+use Rattle.std.specs.Cmp.Lexicographic.{nat_list_cmp_total}
+use Rattle.std.specs.List.Sorted.{IsStrictlySortedBy}
+use Rattle.std.specs.declared.cmp.Ordering.{Ordering}
+use Rattle.std.specs.declared.cmp.Ordering.TheVariants.{Less, Equal, Greater}
+use Rattle.std.specs.Ordering.{is_eq, is_lt}
+use Rattle.std.specs.FinMap.Entries.{below_all, by_order, find, find-put, is_sorted, is_sorted-put, put, same_entries}
+use Rattle.std.proofs.lemmas.Map.Text.{is_eq-slice_cmp}
+use Rattle.std.proofs.lemmas.Slice.Eq.{bytes_eq-Decides}
+use Rattle.std.proofs.lemmas.Cmp.{nat_list_eq_equiv}
+use Rattle.gs_base.specs.declared.names.Topic.{Topic}
+use Rattle.gs_base.specs.Names.{same_topic}
+use Rattle.gs_rules.specs.Tables.{Entries, ascending, joined, known, own_topics, placed, topic_order}
+use Rattle.gs_router.specs.declared.tables.own_topics.OwnTopics.{OwnTopics}
+use Rattle.gs_router.specs.Tables.{AgreesOnTopics, kept_topic}
+
+-- ---- the order of topics
+
+total : IsTotalOrder topic_order
+total = record {
+  antisymm = λ t u. nat_list_cmp_total.antisymm t.0 u.0;
+  trans = λ t u v. nat_list_cmp_total.trans t.0 u.0 v.0;
+  congr = λ t u v. nat_list_cmp_total.congr t.0 u.0 v.0;
+}
+
+same_order : (t u : Topic) → is_eq (topic_order t u) ≡ same_topic t u
+same_order t u = is_eq-slice_cmp t.0 u.0
+
+-- topics with the same bytes are one
+one_topic : (t u : Topic) → same_topic t u ≡ true → t ≡ u
+one_topic t u is = ap (λ (bytes : List ℕ). record { 0 = bytes }) ((bytes_eq-Decides t.0 u.0).0 is)
+
+tied : (t u : Topic) → topic_order t u ≡ Equal → t ≡ u
+tied t u is = one_topic t u (sym (same_order t u) ∙ ap is_eq is)
+
+-- ---- lists of topics as maps
+
+abbrev unit : Topic → Topic × Unit {0}
+unit t = (t, tt)
+
+abbrev units : List Topic → List (Topic × Unit {0})
+units ts = map unit ts
+
+placed_put : (t : Topic) (ts : List Topic) → units (placed t ts) ≡ put topic_order t tt (units ts)
+placed_put t [] = refl
+placed_put t (u ∷ us) = by (topic_order t u) (placed_put t us)
+  where
+    by : (o : Ordering) → units (placed t us) ≡ put topic_order t tt (units us) → units (by_order o (t ∷ u ∷ us) (u ∷ us) (u ∷ placed t us)) ≡ by_order o (unit t ∷ unit u ∷ units us) (unit u ∷ units us) (unit u ∷ put topic_order t tt (units us))
+    by Less rest = refl
+    by Equal rest = refl
+    by Greater rest = ap (λ (es : List (Topic × Unit {0})). unit u ∷ es) rest
+
+ascending_sorted : (ts : List Topic) → T (is_sorted topic_order (units (ascending ts)))
+ascending_sorted [] = tt
+ascending_sorted (t ∷ ts) = subst (λ (es : List (Topic × Unit {0})). T (is_sorted topic_order es)) (sym (placed_put t (ascending ts))) (is_sorted-put topic_order total t tt (units (ascending ts)) (ascending_sorted ts))
+
+-- whether a topic is found
+abbrev found_if : Bool → Option (Unit {0})
+found_if b = if b then Some tt else None
+
+found_first : (b c : Bool) → cond b (Some tt) (found_if c) ≡ found_if (b || c)
+found_first true c = refl
+found_first false c = refl
+
+ascending_finds : (q : Topic) (ts : List Topic) → find topic_order q (units (ascending ts)) ≡ found_if (list_any (same_topic q) ts)
+ascending_finds q [] = refl
+ascending_finds q (t ∷ ts) =
+    ap (find topic_order q) (placed_put t (ascending ts))
+    ∙ find-put topic_order total q t tt (units (ascending ts))
+    ∙ ap₂ (λ (b : Bool) (o : Option (Unit {0})). cond b (Some tt) o) (same_order q t) (ascending_finds q ts)
+    ∙ found_first (same_topic q t) (list_any (same_topic q) ts)
+
+list_finds : (q : Topic) (ts : List Topic) → find topic_order q (units ts) ≡ found_if (list_any (same_topic q) ts)
+list_finds q [] = refl
+list_finds q (t ∷ ts) =
+    ap₂ (λ (b : Bool) (o : Option (Unit {0})). cond b (Some tt) o) (same_order q t) (list_finds q ts) ∙ found_first (same_topic q t) (list_any (same_topic q) ts)
+
+-- a list that ascends is the ascending list of its members
+units_back : (ts : List Topic) → map (λ (e : Topic × Unit {0}). e.0) (units ts) ≡ ts
+units_back [] = refl
+units_back (t ∷ ts) = ap (λ (us : List Topic). t ∷ us) (units_back ts)
+
+ascending_alone : (ts us : List Topic) → T (is_sorted topic_order (units ts)) → ((q : Topic) → list_any (same_topic q) ts ≡ list_any (same_topic q) us) → ts ≡ ascending us
+ascending_alone ts us sorted same =
+    sym (units_back ts)
+    ∙ ap (map (λ (e : Topic × Unit {0}). e.0)) (same_entries topic_order total tied (units ts) (units (ascending us)) sorted (ascending_sorted us) (λ q. list_finds q ts ∙ ap found_if (same q) ∙ sym (ascending_finds q us)))
+    ∙ units_back (ascending us)
+
+-- ---- the topics of a table
+
+-- those with a true value
+abbrev pub joined_in : List (Topic × Bool) → List Topic
+joined_in es = map (λ (e : Topic × Bool). e.0) (filter (λ (e : Topic × Bool). e.1) es)
+
+both_true : (a b : Bool) → T a → T b → T (a && b)
+both_true true b p q = q
+both_true false b p q = absurd p
+
+below_joined : (t : Topic) (es : List (Topic × Bool)) → AllByRecursion (λ u. topic_order t u ≡ Less) (keys_of es) → T (below_all topic_order t (units (joined_in es)))
+below_joined t [] h = tt
+below_joined t ((u, true) ∷ es) h = both_true (is_lt (topic_order t u)) (below_all topic_order t (units (joined_in es))) (subst (λ (o : Ordering). T (is_lt o)) (sym h.0) tt) (below_joined t es h.1)
+below_joined t ((u, false) ∷ es) h = below_joined t es h.1
+
+joined_sorted : (es : List (Topic × Bool)) → IsStrictlySortedBy topic_order (keys_of es) → T (is_sorted topic_order (units (joined_in es)))
+unfolding IsStrictlySortedBy
+joined_sorted [] h = tt
+joined_sorted ((u, true) ∷ es) h = both_true (below_all topic_order u (units (joined_in es))) (is_sorted topic_order (units (joined_in es))) (below_joined u es h.0) (joined_sorted es h.1)
+joined_sorted ((u, false) ∷ es) h = joined_sorted es h.1
+
+-- a topic that stands first is none of those that come later
+none_later : (q t : Topic) (es : List (Topic × Bool)) → same_topic q t ≡ true → AllByRecursion (λ u. topic_order t u ≡ Less) (keys_of es) → list_any (same_topic q) (joined_in es) ≡ false
+none_later q t [] is h = refl
+none_later q t ((u, true) ∷ es) is h =
+    let apart : same_topic q u ≡ false = sym (same_order q u) ∙ ap (λ (v : Topic). is_eq (topic_order v u)) (one_topic q t is) ∙ ap is_eq h.0 in
+    ap₂ (λ (a b : Bool). a || b) apart (none_later q t es is h.1)
+none_later q t ((u, false) ∷ es) is h = none_later q t es is h.1
+
+joined_finds : (q : Topic) (es : List (Topic × Bool)) → IsStrictlySortedBy topic_order (keys_of es) → list_any (same_topic q) (joined_in es) ≡ unwrap_or (lookup (λ u. is_eq (topic_order q u)) es) false
+unfolding IsStrictlySortedBy
+joined_finds q [] h = refl
+joined_finds q ((t, b) ∷ es) h = by (same_topic q t) refl b (joined_finds q es h.1) ∙ ap (λ (c : Bool). unwrap_or (cond c (Some b) (lookup (λ u. is_eq (topic_order q u)) es)) false) (sym (same_order q t))
+  where
+    by : (same : Bool) → same_topic q t ≡ same → (b : Bool) → list_any (same_topic q) (joined_in es) ≡ unwrap_or (lookup (λ u. is_eq (topic_order q u)) es) false
+        → list_any (same_topic q) (joined_in ((t, b) ∷ es)) ≡ unwrap_or (cond same (Some b) (lookup (λ u. is_eq (topic_order q u)) es)) false
+    by true is true rest = ap (λ (c : Bool). c || list_any (same_topic q) (joined_in es)) is
+    by true is false rest = none_later q t es is h.0
+    by false is true rest = ap (λ (c : Bool). c || list_any (same_topic q) (joined_in es)) is ∙ rest
+    by false is false rest = rest
+
+-- ---- the topics of a trace
+
+-- what passes a test, where that asks for a topic's bytes alone
+filter_finds : (test : Topic → Bool) (q : Topic) (ts : List Topic) → list_any (same_topic q) (filter test ts) ≡ (list_any (same_topic q) ts && test q)
+filter_finds test q [] = refl
+filter_finds test q (t ∷ ts) = by (same_topic q t) refl (test t) refl (filter_finds test q ts)
+  where
+    by : (same : Bool) → same_topic q t ≡ same → (passes : Bool) → test t ≡ passes → list_any (same_topic q) (filter test ts) ≡ (list_any (same_topic q) ts && test q)
+        → list_any (same_topic q) (cond passes (t ∷ filter test ts) (filter test ts)) ≡ ((same || list_any (same_topic q) ts) && test q)
+    by true is true passes rest = ap (λ (c : Bool). c || list_any (same_topic q) (filter test ts)) is ∙ sym (ap test (one_topic q t is) ∙ passes)
+    by true is false passes rest = rest ∙ ap (λ (c : Bool). list_any (same_topic q) ts && c) (ap test (one_topic q t is) ∙ passes) ∙ never (list_any (same_topic q) ts) ∙ sym (ap test (one_topic q t is) ∙ passes)
+      where
+        never : (b : Bool) → (b && false) ≡ false
+        never true = refl
+        never false = refl
+    by false is true passes rest = ap (λ (c : Bool). c || list_any (same_topic q) (filter test ts)) is ∙ rest
+    by false is false passes rest = rest
+
+-- a topic that is joined is known
+joined_known : (known_one is_joined : Bool) (o : Option Bool) → is_some o ≡ known_one → unwrap_or o false ≡ is_joined → is_joined ≡ (known_one && is_joined)
+joined_known true b o some is = refl
+joined_known false true None some is = absurd cc
+joined_known false true (Some b) some is = absurd cc
+joined_known false false o some is = refl
+
+pub listed_so : (own : OwnTopics) (L : Entries) → IsStrictlySortedBy topic_order (keys_of own.topics.entries) → AgreesOnTopics own L → joined_in own.topics.entries ≡ own_topics L
+listed_so own L sorted agrees =
+    ascending_alone (joined_in own.topics.entries) (filter (joined L) (known L)) (joined_sorted own.topics.entries sorted) (λ q.
+    joined_finds q own.topics.entries sorted
+    ∙ agrees.joins q
+    ∙ joined_known (list_any (same_topic q) (known L)) (joined L q) (kept_topic own q) (agrees.knows q) (agrees.joins q)
+    ∙ sym (filter_finds (joined L) q (known L)))

@@ -1,9 +1,0 @@
-use Rattle.std.proofs.Common.{arith}
-use Rattle.std.proofs.lemmas.List.{drop_all}
-use Rattle.gs_router.proofs.Spending.{kept_all}
-use Rattle.gs_router.proofs.tables.messages.Messages.note.Goals as goal
-
-pub returns-clause-agrees : goal.returns-clause-agrees
-returns-clause-agrees c = λ L.
-    let marks = c.as_slice-mark-items.result.now in
-    kept_all c.args.self.now c.loop-mark.self c.args.entry.now L marks _ c.as_slice-mark-items.ensures (drop_all c.loop-mark.mark-index marks (omega (arith, c.loop-mark-test.false))) c.loop-mark.invariant

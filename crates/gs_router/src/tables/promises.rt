@@ -1,0 +1,96 @@
+//! What neighbours promised by their offers, and have not sent yet.
+ghost use Rattle.std.specs.Prelude.{◌≡◌, ◌++◌, [], ◌∷◌, OnOk, filter, nat_lt, not};
+ghost use Rattle.gs_base.specs.Names.{same_id};
+ghost use Rattle.gs_rules.specs.Tables.{Entries, ended_after, fulfilled_after, made, promises};
+ghost use Rattle.gs_router.specs.Tables.{AgreesOnPromises};
+
+use gs_base::{Mark, Millis, MsgId, Shared};
+use gs_rules::{Entry, Event, Promise};
+use std::alloc::{AllocError, Global};
+
+/// The promises of which nothing came yet, the oldest first. There are few: no more than a neighbour's offers may
+/// count, for each heartbeat until a promise is overdue.
+#[derive(Drop)]
+pub struct Promises {
+    waiting: Vec<Promise>,
+}
+
+impl Promises {
+    /// Nothing was promised. It takes no memory.
+    pub fn new(alloc: Global) -> Promises
+        ensures { AgreesOnPromises result [] }
+    {
+        Promises {
+            waiting: Vec::new(alloc),
+        }
+    }
+
+    /// What was promised and did not come yet.
+    pub fn waiting(&self) -> &[Promise]
+        ensures { (L : Entries) → AgreesOnPromises self.now L → result.now ≡ promises L }
+    {
+        self.waiting.as_slice()
+    }
+
+    /// Notes an entry.
+    pub fn note(&mut self, entry: &Entry) -> Result<(), AllocError>
+        ensures { OnOk result ((L : Entries)
+            → AgreesOnPromises self.old L
+            → AgreesOnPromises self.new (entry.now ∷ L)) }
+    {
+        self.end(&entry.event, entry.at);
+        for mark in entry.marks.as_slice() {
+            self.fulfil(mark);
+        }
+        self.make(&entry.promise)?;
+        Ok(())
+    }
+
+    /// Ends what an event ends at this moment.
+    fn end(&mut self, event: &Event, at: Millis)
+        ensures { self.new.waiting.items ≡ ended_after event.now at.0 self.old.waiting.items }
+    {
+        match event {
+            Event::Promises => self.keep_until_after(at),
+            _ => {}
+        }
+    }
+
+    /// Notes that a mark keeps promises.
+    fn fulfil(&mut self, mark: &Mark)
+        ensures { self.new.waiting.items ≡ fulfilled_after mark.now self.old.waiting.items }
+    {
+        match mark {
+            Mark::Seen(id, _) => self.keep_others(id),
+            _ => {}
+        }
+    }
+
+    /// Keeps the promises whose time comes after a moment.
+    fn keep_until_after(&mut self, at: Millis)
+        ensures { self.new.waiting.items ≡ filter (λ promise. nat_lt at.0 promise.until.0) self.old.waiting.items }
+    {
+        self.waiting.retain(|promise| at.0 < promise.until.0);
+    }
+
+    /// Keeps the promises of other messages.
+    fn keep_others(&mut self, id: &MsgId)
+        ensures { self.new.waiting.items
+            ≡ filter (λ promise. not (same_id id.now promise.id)) self.old.waiting.items }
+    {
+        self.waiting.retain(|promise| *id != promise.id);
+    }
+
+    /// Notes the promise that was made, if one was.
+    fn make(&mut self, promise: &Option<Shared<Promise>>) -> Result<(), AllocError>
+        ensures { OnOk result (self.new.waiting.items ≡ self.old.waiting.items ++ made promise.now) }
+    {
+        match promise {
+            Some(promise) => {
+                self.waiting.push(*promise.get())?;
+                Ok(())
+            }
+            None => Ok(()),
+        }
+    }
+}
