@@ -12,7 +12,7 @@ use Rattle.gs_score.specs.declared.standing.Kind.TheVariants.{First, Near, Defic
 use Rattle.gs_score.specs.Standings.{Held, decay_of, decayed_held, nothing_held, raised_held}
 use Rattle.gs_score.specs.Accounts.{Covers, rules_of}
 use Rattle.gs_score.specs.Ledgers.{same_pair}
-use Rattle.gs_score.specs.Histories.{Change, Decayed, Grafted, History, Left, Marked, Raise, ShutOut, held_by, named, named_after, raise_of, with_topic}
+use Rattle.gs_score.specs.Histories.{Decayed, Grafted, History, Left, Marked, Raise, ShutOut, held_by, named, named_after, raise_of, with_topic}
 use Rattle.gs_score.proofs.Sums.{either_false, step_of_nothing, topics_tell}
 
 -- ---- each once

@@ -1,4 +1,4 @@
-use Rattle.std.proofs.Common.{sym, ◌∙◌}
+use Rattle.std.proofs.Common.{sym}
 use Rattle.gs_score.proofs.Kept.{kept_adds, kept_put}
 use Rattle.gs_score.proofs.topics.put_at.Goals as goal
 
