@@ -11,9 +11,9 @@ use Rattle.gs_base.specs.Names.{same_peer, same_topic, most_topics}
 use Rattle.gs_params.specs.declared.params.Params.{Params}
 use Rattle.gs_score.specs.declared.accounts.Account.{Account}
 use Rattle.gs_score.specs.declared.standing.Standing.{Standing}
-use Rattle.gs_score.specs.Accounts.{Covers, held_in, standing_in, topic_sum}
+use Rattle.gs_score.specs.Accounts.{AddsTopic, Covers, KeepsTopics, has_topic, held_in, standing_in, topic_sum}
 use Rattle.gs_score.specs.Counters.{Stored}
-use Rattle.gs_score.specs.Ledgers.{AreFew, Blames, Puts, account_of, has_account, nothing_counted}
+use Rattle.gs_score.specs.Ledgers.{Adds, AreFew, Blames, Keeps, Puts, account_of, has_account, nothing_counted}
 use Rattle.gs_score.proofs.Kept.{cond_unwrap}
 use Rattle.gs_score.proofs.Sums.{from_decides, same_sum}
 
@@ -80,6 +80,46 @@ is_put old new p t s b a h same puts = record {
   ];
   accounts = account_stays old new p b a h;
 }
+
+peer_self : (p : PeerNo) → same_peer p p ≡ true
+peer_self p =
+    elim (peers_tell p p) [
+      | inl e ↦ e.0
+      | inr e ↦ absurd (e.1 refl)
+    ]
+
+-- the topics of those whose account stays are the same
+stay : (old new : List (PeerNo × Account)) (q : PeerNo) → account_of new q ≡ account_of old q → KeepsTopics (account_of old q).topics (account_of new q).topics
+stay old new q is = record {
+  topics = λ u. ap (λ (x : Account). has_topic x.topics u) is;
+  number = ap (λ (x : Account). length x.topics) is;
+}
+
+pub is_added : (old new : List (PeerNo × Account)) (p : PeerNo) (t : Topic) (b a : Account) → Changed old new p b a
+    → AddsTopic b.topics a.topics t
+    → Adds old new p t
+is_added old new p t b a h adds = record {
+  here =
+      let is : account_of new p ≡ a = account_is old new p b a h p ∙ rw (peer_self p) refl in
+      let was : account_of old p ≡ b = account_was old p b h.0 in
+      subst (λ (x : Account). AddsTopic (account_of old p).topics x.topics t) (sym is)
+      (subst (λ (x : Account). AddsTopic x.topics a.topics t) (sym was) adds);
+  others = λ q other. stay old new q (account_is old new p b a h q ∙ rw other refl);
+}
+
+pub is_kept : (old new : List (PeerNo × Account)) (p : PeerNo) (b a : Account) → Changed old new p b a
+    → KeepsTopics b.topics a.topics
+    → Keeps old new
+is_kept old new p b a h keeps q =
+    elim (peers_tell p q) [
+      | inl e ↦ (
+          let is : account_of new q ≡ a = account_is old new p b a h q ∙ rw e.0 refl in
+          let was : account_of old q ≡ b = subst (λ r. account_of old r ≡ b) e.1 (account_was old p b h.0) in
+          subst (λ (x : Account). KeepsTopics (account_of old q).topics x.topics) (sym is)
+          (subst (λ (x : Account). KeepsTopics x.topics a.topics) (sym was) keeps)
+          )
+      | inr e ↦ stay old new q (account_is old new p b a h q ∙ rw e.0 refl)
+    ]
 
 pub few_stay : (old new : List (PeerNo × Account)) (p : PeerNo) (b a : Account) → Changed old new p b a
     → length a.topics ≤ most_topics → AreFew old → AreFew new

@@ -1,13 +1,14 @@
 -- What is kept says what happened, after each change.
-use Rattle.std.proofs.Common.{◌≡◌, ℕ, suc, ◌+◌, ◌≤◌, ◌⊎◌, inl, inr, Bool, true, false, cond, List, Option, Some, None, refl, sym, ap, ap₂, subst, ◌∙◌, arith, ℤ, ◌+ℤ◌}
-use Rattle.std.specs.Prelude.{[], ◌∷◌}
+use Rattle.std.proofs.Common.{◌≡◌, ℕ, suc, ◌+◌, ◌≤◌, ◌⊎◌, inl, inr, Bool, true, false, cond, List, length, Option, Some, None, refl, sym, ap, ap₂, subst, ◌∙◌, arith, ℤ, ◌+ℤ◌}
+use Rattle.std.specs.Prelude.{[], ◌∷◌, ◌||◌}
+use Rattle.std.specs.List.{list_any}
 use Rattle.std.specs.Option.{option_map_or}
 use Rattle.gs_base.specs.declared.names.PeerNo.{PeerNo}
 use Rattle.gs_base.specs.declared.names.Topic.{Topic}
 use Rattle.gs_base.specs.declared.names.Millis.{Millis}
 use Rattle.gs_base.specs.declared.mark.Mark.{Mark}
 use Rattle.gs_params.specs.declared.params.Params.{Params}
-use Rattle.gs_base.specs.Names.{same_peer}
+use Rattle.gs_base.specs.Names.{same_peer, same_topic}
 use Rattle.gs_score.specs.declared.accounts.Account.{Account}
 use Rattle.gs_score.specs.declared.counter.Decay.{Decay}
 use Rattle.gs_score.specs.declared.rules.TopicRules.{TopicRules}
@@ -15,19 +16,19 @@ use Rattle.gs_score.specs.declared.standing.Kind.{Kind}
 use Rattle.gs_score.specs.declared.standing.Kind.TheVariants.{First, Near, Deficit, Invalid}
 use Rattle.gs_score.specs.declared.standing.Standing.{Standing}
 use Rattle.gs_score.specs.Counters.{Stored, most_counted, raised, decay_step, read_at}
-use Rattle.gs_score.specs.Standings.{Held, decayed_held, held, raised_held, raised_standing}
-use Rattle.gs_score.specs.Accounts.{Covers, behaviour_decay, held_in, rules_of, topic_sum}
+use Rattle.gs_score.specs.Standings.{Held, decayed_held, held, pruned, raised_held, raised_standing}
+use Rattle.gs_score.specs.Accounts.{AddsTopic, Covers, KeepsTopics, behaviour_decay, has_topic, held_in, rules_of, topic_sum}
 use Rattle.gs_score.specs.Formula.{score_of, topic_part}
 use Rattle.gs_score.specs.Places.{app_of, number_with}
 use Rattle.gs_score.specs.declared.places.Place.{Place}
 use Rattle.gs_score.specs.Ranges.{IsUpTo}
-use Rattle.gs_score.specs.Ledgers.{AreFew, IsSound, Kept, Puts, PutsIn, behaviour_of, same_pair, standing_of, topics_of}
-use Rattle.gs_score.specs.Histories.{Agrees, Change, Decayed, Grafted, History, Left, Marked, Raise, Setting, blamed, decays, held_after, held_by, misbehaved_after, misbehaviour, one, places_in, raise_of, score_in}
+use Rattle.gs_score.specs.Ledgers.{Adds, AreFew, IsSound, Keeps, Kept, Puts, PutsIn, behaviour_of, same_pair, standing_of, topics_of}
+use Rattle.gs_score.specs.Histories.{Agrees, Change, Decayed, Grafted, History, Left, Marked, Raise, Setting, blamed, decays, held_after, held_by, misbehaved_after, misbehaviour, named, named_after, one, places_in, raise_of, score_in, with_topic}
 use Rattle.gs_score.proofs.Accounting.{peers_tell}
 use Rattle.gs_score.proofs.Decaying.{read-later}
 use Rattle.gs_score.proofs.Raising.{held-raised}
 use Rattle.gs_score.proofs.Stepping.{held-later}
-use Rattle.gs_score.proofs.Sums.{topics_tell}
+use Rattle.gs_score.proofs.Sums.{symm, topics_tell}
 
 -- ---- pairs of a neighbour and a topic
 
@@ -99,7 +100,64 @@ up_to_since since tick s h Near = h Near
 up_to_since since tick s h Deficit = h Deficit
 up_to_since since tick s h Invalid = h Invalid
 
+-- ---- topics
+
+-- a neighbour has something on these topics, and on no other
+abbrev pub IsOn : List (Topic × Standing) → List Topic → Type 0
+IsOn topics ts = ((u : Topic) → has_topic topics u ≡ list_any (same_topic u) ts) × (length topics ≡ length ts)
+
+pub topic_back : (t u : Topic) → same_topic u t ≡ same_topic t u
+topic_back t u = symm same_topic u t (topics_tell u t) (topics_tell t u)
+
+any_with : (t u : Topic) (ts : List Topic) → list_any (same_topic u) (with_topic t ts) ≡ (same_topic t u || list_any (same_topic u) ts)
+any_with t u ts = by (list_any (same_topic t) ts) refl
+  where
+    by : (b : Bool) → list_any (same_topic t) ts ≡ b → list_any (same_topic u) (cond b ts (t ∷ ts)) ≡ (same_topic t u || list_any (same_topic u) ts)
+    by true e =
+        elim (topics_tell t u) [
+          | inl f ↦ (
+              let here : list_any (same_topic u) ts ≡ true = ap (λ y. list_any (same_topic y) ts) (sym f.1) ∙ e in
+              rw (f.0, here) refl
+              )
+          | inr f ↦ rw f.0 refl
+        ]
+    by false e = ap (λ b. b || list_any (same_topic u) ts) (topic_back t u)
+
+length_with : (b : Bool) (t : Topic) (ts : List Topic) → length (cond b ts (t ∷ ts)) ≡ cond b (length ts) (suc (length ts))
+length_with true t ts = refl
+length_with false t ts = refl
+
+on_more : (old new : List (Topic × Standing)) (t : Topic) (ts : List Topic) → AddsTopic old new t → IsOn old ts → IsOn new (with_topic t ts)
+on_more old new t ts adds on = (
+  λ u. adds.topics u ∙ ap (λ b. same_topic t u || b) (on.0 u) ∙ sym (any_with t u ts),
+  adds.number ∙ ap₂ (λ b n. cond b n (suc n)) (on.0 t) on.1 ∙ sym (length_with (list_any (same_topic t) ts) t ts),
+)
+
+on_same : (old new : List (Topic × Standing)) (ts : List Topic) → KeepsTopics old new → IsOn old ts → IsOn new ts
+on_same old new ts keeps on = (λ u. keeps.topics u ∙ on.0 u, keeps.number ∙ on.1)
+
 -- ---- what happened
+
+-- a change that names a topic of a neighbour
+abbrev pub NamesTopic : Change → PeerNo → Topic → Type 0
+NamesTopic c p t = (q : PeerNo) (ts : List Topic) → named_after q c ts ≡ cond (same_peer p q) (with_topic t ts) ts
+
+on_named : (old new : List (PeerNo × Account)) (H : History) (c : Change) (p : PeerNo) (t : Topic)
+    → NamesTopic c p t → Adds old new p t
+    → ((q : PeerNo) → IsOn (topics_of old q) (named H q))
+    → (q : PeerNo) → IsOn (topics_of new q) (named (c ∷ H) q)
+on_named old new H c p t names adds on q =
+    elim (peers_tell p q) [
+      | inl e ↦ (
+          let more : AddsTopic (topics_of old q) (topics_of new q) t = subst (λ x. AddsTopic (topics_of old x) (topics_of new x) t) e.1 adds.here in
+          let is : named (c ∷ H) q ≡ with_topic t (named H q) = names q (named H q) ∙ rw e.0 refl in
+          subst (IsOn (topics_of new q)) (sym is) (on_more (topics_of old q) (topics_of new q) t (named H q) more (on q))
+          )
+      | inr e ↦ (
+          let is : named (c ∷ H) q ≡ named H q = names q (named H q) ∙ rw e.0 refl in
+          subst (IsOn (topics_of new q)) (sym is) (on_same (topics_of old q) (topics_of new q) (named H q) (adds.others q e.0) (on q))
+          )
+    ]
 
 -- a change that concerns one neighbour on one topic
 pub record Concerns (c : Change) (p : PeerNo) (t : Topic) (step : TopicRules → Held → Held) : Type 0 where
@@ -112,9 +170,10 @@ pub record Concerns (c : Change) (p : PeerNo) (t : Topic) (step : TopicRules →
 agrees_put_here : (setting : Setting) (k : Kept) (es : List (PeerNo × Account)) (H : History) (c : Change) (p : PeerNo) (t : Topic) (s : Standing) (step : TopicRules → Held → Held)
     → Concerns c p t step → Puts k.accounts es p t s
     → held (rules_of setting.params t) k.tick s ≡ step (rules_of setting.params t) (held (rules_of setting.params t) k.tick (standing_of k.accounts p t))
+    → ((q : PeerNo) → IsOn (topics_of es q) (named (c ∷ H) q))
     → Agrees setting k H
     → Agrees setting (record k { accounts = es }) (c ∷ H)
-agrees_put_here setting k es H c p t s step concerns puts there a = record {
+agrees_put_here setting k es H c p t s step concerns puts there on a = record {
   params = a.params;
   neighbours = λ q. puts.accounts q ∙ a.neighbours q;
   decays = a.decays ∙ sym (concerns.decays H);
@@ -139,18 +198,21 @@ agrees_put_here setting k es H c p t s step concerns puts there a = record {
       ap (read_at (behaviour_decay setting.params) k.tick) (puts.behaviours q)
       ∙ a.misbehaves q
       ∙ sym (concerns.misbehaves (behaviour_decay setting.params) q (misbehaviour setting.params H q));
+  knows = λ q. (on q).0;
+  counts = λ q. (on q).1;
   places = a.places ∙ sym (concerns.places setting H);
 }
 
 pub agrees_put : (setting : Setting) (k new : Kept) (H : History) (c : Change) (p : PeerNo) (t : Topic) (s : Standing) (step : TopicRules → Held → Held)
-    → Concerns c p t step → PutsIn k new p t s
+    → Concerns c p t step → NamesTopic c p t → PutsIn k new p t s
     → held (rules_of k.params t) k.tick s ≡ step (rules_of k.params t) (held (rules_of k.params t) k.tick (standing_of k.accounts p t))
     → Agrees setting k H
     → Agrees setting new (c ∷ H)
-agrees_put setting k new H c p t s step concerns puts there a =
+agrees_put setting k new H c p t s step concerns names puts there a =
     subst (λ x. Agrees setting x (c ∷ H)) (sym puts.rest)
     (agrees_put_here setting k new.accounts H c p t s step concerns puts.puts
-    (subst (λ (x : Params). held (rules_of x t) k.tick s ≡ step (rules_of x t) (held (rules_of x t) k.tick (standing_of k.accounts p t))) a.params there) a)
+    (subst (λ (x : Params). held (rules_of x t) k.tick s ≡ step (rules_of x t) (held (rules_of x t) k.tick (standing_of k.accounts p t))) a.params there)
+    (on_named k.accounts new.accounts H c p t names puts.adds (λ q. (a.knows q, a.counts q))) a)
 
 pub concerns_graft : (p : PeerNo) (t : Topic) (now : Millis) → Concerns (Grafted p t now) p t (λ r h. record h { since = Some now })
 concerns_graft p t now = record {
@@ -161,6 +223,9 @@ concerns_graft p t now = record {
   decays = λ H. refl;
 }
 
+pub graft_names : (p : PeerNo) (t : Topic) (now : Millis) → NamesTopic (Grafted p t now) p t
+graft_names p t now q ts = refl
+
 pub concerns_left : (p : PeerNo) (t : Topic) → Concerns (Left p t) p t (λ r h. record h { since = None })
 concerns_left p t = record {
   here = λ r h. rw (pair_self p t) refl;
@@ -169,6 +234,16 @@ concerns_left p t = record {
   places = λ s H. refl;
   decays = λ H. refl;
 }
+
+pub agrees_left : (setting : Setting) (k : Kept) (es : List (PeerNo × Account)) (H : History) (p : PeerNo) (t : Topic)
+    → Puts k.accounts es p t (pruned (standing_of k.accounts p t))
+    → Keeps k.accounts es
+    → Agrees setting k H
+    → Agrees setting (record k { accounts = es }) (Left p t ∷ H)
+agrees_left setting k es H p t puts keeps a =
+    agrees_put_here setting k es H (Left p t) p t (pruned (standing_of k.accounts p t)) (λ r h. record h { since = None })
+    (concerns_left p t) puts refl
+    (λ q. on_same (topics_of k.accounts q) (topics_of es q) (named H q) (keeps q) (a.knows q, a.counts q)) a
 
 -- one that raises a counter
 pub concerns_raise : (m : Mark) (p : PeerNo) (t : Topic) (kind : Kind) (by : ℕ)
@@ -187,6 +262,12 @@ concerns_raise m p t kind by is none = record {
   decays = λ H. refl;
 }
 
+raise_names : (m : Mark) (p : PeerNo) (t : Topic) (kind : Kind) (by : ℕ)
+    → raise_of m ≡ Some (record { peer = p; topic = t; kind = kind; by = by })
+    → NamesTopic (Marked m) p t
+raise_names m p t kind by is q ts =
+    ap (λ (o : Option Raise). option_map_or (λ (x : Raise). cond (same_peer x.peer q) (with_topic x.topic ts) ts) o ts) is
+
 pub agrees_raise : (setting : Setting) (k new : Kept) (H : History) (m : Mark) (p : PeerNo) (t : Topic) (kind : Kind) (by : ℕ)
     → PutsIn k new p t (raised_standing (rules_of k.params t) kind by k.tick (standing_of k.accounts p t))
     → raise_of m ≡ Some (record { peer = p; topic = t; kind = kind; by = by })
@@ -195,7 +276,7 @@ pub agrees_raise : (setting : Setting) (k new : Kept) (H : History) (m : Mark) (
     → Agrees setting new (Marked m ∷ H)
 agrees_raise setting k new H m p t kind by puts is none a =
     agrees_put setting k new H (Marked m) p t (raised_standing (rules_of k.params t) kind by k.tick (standing_of k.accounts p t))
-    (λ r h. raised_held r kind by h) (concerns_raise m p t kind by is none) puts
+    (λ r h. raised_held r kind by h) (concerns_raise m p t kind by is none) (raise_names m p t kind by is) puts
     (held-raised (rules_of k.params t) kind by k.tick (standing_of k.accounts p t)) a
 
 pub agrees_decay : (setting : Setting) (k : Kept) (H : History) → IsSound k → Agrees setting k H → Agrees setting (record k { tick = k.tick + 1 }) (Decayed ∷ H)
@@ -209,6 +290,8 @@ agrees_decay setting k H sound a = record {
   misbehaves = λ q.
       read-later (behaviour_decay setting.params) (behaviour_of k.accounts q) k.tick 1 (sound.behaviours q)
       ∙ ap (decay_step (behaviour_decay setting.params)) (a.misbehaves q);
+  knows = a.knows;
+  counts = a.counts;
   places = a.places;
 }
 

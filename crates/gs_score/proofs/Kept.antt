@@ -1,11 +1,12 @@
 -- What is kept for topics, after one is put or changed.
-use Rattle.std.proofs.Common.{◌≡◌, inl, inr, is_some, Bool, true, false, cond, List, Option, Some, None, refl, sym, ap, ◌∙◌}
+use Rattle.std.proofs.Common.{◌≡◌, ◌+◌, inl, inr, is_some, Bool, true, false, cond, List, length, Option, Some, None, refl, sym, ap, ◌∙◌, arith}
+use Rattle.std.specs.Prelude.{◌||◌}
 use Rattle.std.specs.Option.{unwrap_or}
 use Rattle.std.specs.Map.{lookup}
 use Rattle.gs_base.specs.Names.{same_topic}
 use Rattle.gs_base.specs.declared.names.Topic.{Topic}
 use Rattle.gs_score.specs.declared.standing.Standing.{Standing}
-use Rattle.gs_score.specs.Accounts.{has_topic, standing_in}
+use Rattle.gs_score.specs.Accounts.{AddsTopic, KeepsTopics, has_topic, standing_in}
 use Rattle.gs_score.specs.Standings.{fresh, pruned}
 use Rattle.gs_score.proofs.Sums.{topics_tell}
 
@@ -18,6 +19,41 @@ pub kept_put : (old new : List (Topic × Standing)) (topic : Topic) (s : Standin
     → (t : Topic) → standing_in new t ≡ cond (same_topic topic t) s (standing_in old t)
 kept_put old new topic s h t =
     ap (λ (o : Option Standing). unwrap_or o fresh) (h t) ∙ cond_unwrap (same_topic topic t) s fresh (lookup (same_topic t) old)
+
+is_some_cond : (b : Bool) (s : Standing) (o : Option Standing) → is_some (cond b (Some s) o) ≡ (b || is_some o)
+is_some_cond true s o = refl
+is_some_cond false s o = refl
+
+-- a topic on which there was nothing
+pub kept_adds : (old new : List (Topic × Standing)) (topic : Topic) (s : Standing) (was : Option Standing)
+    → ((q : Topic) → lookup (same_topic q) new ≡ cond (same_topic topic q) (Some s) (lookup (same_topic q) old))
+    → lookup (same_topic topic) old ≡ None
+    → was ≡ None
+    → length new ≡ length old + cond (is_some was) 0 1
+    → AddsTopic old new topic
+kept_adds old new topic s was h none is len =
+    let more : length new ≡ length old + 1 = len ∙ ap (λ (o : Option Standing). length old + cond (is_some o) 0 1) is in
+    record {
+      topics = λ u. ap is_some (h u) ∙ is_some_cond (same_topic topic u) s (lookup (same_topic u) old);
+      number = rw none (omega (arith, more));
+    }
+
+-- a topic on which there was something
+pub kept_keeps : (old new : List (Topic × Standing)) (topic : Topic) (s was : Standing)
+    → ((q : Topic) → lookup (same_topic q) new ≡ cond (same_topic topic q) (Some s) (lookup (same_topic q) old))
+    → lookup (same_topic topic) old ≡ Some was
+    → length new ≡ length old
+    → KeepsTopics old new
+kept_keeps old new topic s was h found len = record {
+  topics = λ u. elim (topics_tell topic u) [
+    | inl p ↦ (
+        let here : has_topic old u ≡ true = ap (has_topic old) (sym p.1) ∙ ap is_some found in
+        ap is_some (h u) ∙ is_some_cond (same_topic topic u) s (lookup (same_topic u) old) ∙ rw p.0 (sym here)
+        )
+    | inr p ↦ ap is_some (h u) ∙ rw p.0 refl
+  ];
+  number = len;
+}
 
 -- to put nothing where nothing is kept changes nothing
 pub absent_put : (es : List (Topic × Standing)) (topic : Topic) (s : Standing) → lookup (same_topic topic) es ≡ None → s ≡ fresh

@@ -10,3 +10,4 @@ pub mod Accounting
 pub mod Keeping
 pub mod Placing
 pub mod Naming
+pub mod Fitting

@@ -12,12 +12,12 @@ use Rattle.gs_score.specs.declared.standing.Kind.TheVariants.{First, Near, Defic
 use Rattle.gs_score.specs.Standings.{Held, decay_of, decayed_held, nothing_held, raised_held}
 use Rattle.gs_score.specs.Accounts.{Covers, rules_of}
 use Rattle.gs_score.specs.Ledgers.{same_pair}
-use Rattle.gs_score.specs.Histories.{Decayed, Grafted, History, Left, Marked, Raise, ShutOut, held_by, named, raise_of, with_topic}
+use Rattle.gs_score.specs.Histories.{Decayed, Grafted, History, Left, Marked, Raise, ShutOut, held_by, named, named_after, raise_of, with_topic}
 use Rattle.gs_score.proofs.Sums.{either_false, step_of_nothing, topics_tell}
 
 -- ---- each once
 
-all_other : (t : Topic) (ts : List Topic) → list_any (same_topic t) ts ≡ false → AllByRecursion (λ u. same_topic t u ≡ false) ts
+pub all_other : (t : Topic) (ts : List Topic) → list_any (same_topic t) ts ≡ false → AllByRecursion (λ u. same_topic t u ≡ false) ts
 all_other t [] h = tt
 all_other t (u ∷ ts) h =
     let two = either_false (same_topic t u) (list_any (same_topic t) ts) h in
@@ -43,7 +43,7 @@ distinct_none : IsDistinct same_topic []
 unfolding IsDistinct
 distinct_none = tt
 
-named_apart : (H : History) (q : PeerNo) → IsDistinct same_topic (named H q)
+pub named_apart : (H : History) (q : PeerNo) → IsDistinct same_topic (named H q)
 named_apart [] q = distinct_none
 named_apart (Marked m ∷ H) q = distinct_raise q (raise_of m) (named H q) (named_apart H q)
 named_apart (Decayed ∷ H) q = named_apart H q
@@ -115,3 +115,31 @@ named_all params (ShutOut p ∷ H) q t n = named_all params H q t n
 
 pub named_covers : (params : Params) (H : History) (q : PeerNo) → Covers (held_by params H q) (named H q)
 named_covers params H q = record { apart = named_apart H q; all = named_all params H q }
+
+-- ---- what changes name
+
+all_with : (P : Topic → Type 0) (t : Topic) (ts : List Topic) → P t → AllByRecursion P ts → AllByRecursion P (with_topic t ts)
+all_with P t ts here all = by (list_any (same_topic t) ts)
+  where
+    by : (b : Bool) → AllByRecursion P (cond b ts (t ∷ ts))
+    by true = all
+    by false = (here, all)
+
+all_if : (P : Topic → Type 0) (b : Bool) (t : Topic) (ts : List Topic) → AllByRecursion P (cond b (with_topic t []) []) → AllByRecursion P ts → AllByRecursion P (cond b (with_topic t ts) ts)
+all_if P true t ts h all = all_with P t ts h.0 all
+all_if P false t ts h all = all
+
+all_raise : (P : Topic → Type 0) (q : PeerNo) (o : Option Raise) (ts : List Topic)
+    → AllByRecursion P (option_map_or (λ (x : Raise). cond (same_peer x.peer q) (with_topic x.topic []) []) o [])
+    → AllByRecursion P ts
+    → AllByRecursion P (option_map_or (λ (x : Raise). cond (same_peer x.peer q) (with_topic x.topic ts) ts) o ts)
+all_raise P q None ts h all = all
+all_raise P q (Some x) ts h all = all_if P (same_peer x.peer q) x.topic ts h all
+
+pub named_by_changes : (P : Topic → Type 0) (H : History) (q : PeerNo) → AllByRecursion (λ c. AllByRecursion P (named_after q c [])) H → AllByRecursion P (named H q)
+named_by_changes P [] q h = tt
+named_by_changes P (Marked m ∷ H) q h = all_raise P q (raise_of m) (named H q) h.0 (named_by_changes P H q h.1)
+named_by_changes P (Decayed ∷ H) q h = named_by_changes P H q h.1
+named_by_changes P (Grafted p u at ∷ H) q h = all_if P (same_peer p q) u (named H q) h.0 (named_by_changes P H q h.1)
+named_by_changes P (Left p u ∷ H) q h = named_by_changes P H q h.1
+named_by_changes P (ShutOut p ∷ H) q h = named_by_changes P H q h.1

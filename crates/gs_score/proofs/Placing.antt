@@ -23,7 +23,7 @@ use Rattle.gs_score.specs.declared.accounts.Account.{Account}
 use Rattle.gs_score.specs.declared.standing.Kind.TheVariants.{First, Near, Deficit, Invalid}
 use Rattle.gs_score.specs.Counters.{read_at}
 use Rattle.gs_score.specs.Standings.{fresh}
-use Rattle.gs_score.specs.Accounts.{behaviour_decay, held_in, rules_of, standing_in}
+use Rattle.gs_score.specs.Accounts.{behaviour_decay, has_topic, held_in, rules_of, standing_in}
 use Rattle.gs_score.specs.Ranges.{IsUpTo}
 use Rattle.gs_score.specs.Histories.{Agrees}
 use Rattle.gs_score.specs.Places.{app_of, counts_at, number_at, number_with, one_if, place_at, place_of, shut, shut_out}
@@ -223,5 +223,7 @@ agrees_first params ns accounts up nothing all = record {
   decays = refl;
   holds = λ q t. ap (λ (x : Account). held_in params 0 x.topics t) (nothing q) ∙ fresh_held (rules_of params t) 0;
   misbehaves = λ q. ap (λ (x : Account). read_at (behaviour_decay params) 0 x.behaviour) (nothing q) ∙ decayed_nothing (behaviour_decay params) (0 - 0);
+  knows = λ q t. ap (λ (x : Account). has_topic x.topics t) (nothing q);
+  counts = λ q. ap (λ (x : Account). length x.topics) (nothing q);
   places = all_placed ns up;
 }

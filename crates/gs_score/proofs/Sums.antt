@@ -68,7 +68,7 @@ apart eq x f (y ∷ ys) h =
 abbrev pub Tells : {A : Type 0} → (A → A → Bool) → Type 0
 Tells {A = A} eq = (x y : A) → ((eq x y ≡ true) × (x ≡ y)) ⊎ ((eq x y ≡ false) × (x ≢ y))
 
-symm : {A : Type 0} (eq : A → A → Bool) (x y : A) → ((eq x y ≡ true) × (x ≡ y)) ⊎ ((eq x y ≡ false) × (x ≢ y)) → ((eq y x ≡ true) × (y ≡ x)) ⊎ ((eq y x ≡ false) × (y ≢ x)) → eq x y ≡ eq y x
+pub symm : {A : Type 0} (eq : A → A → Bool) (x y : A) → ((eq x y ≡ true) × (x ≡ y)) ⊎ ((eq x y ≡ false) × (x ≢ y)) → ((eq y x ≡ true) × (y ≡ x)) ⊎ ((eq y x ≡ false) × (y ≢ x)) → eq x y ≡ eq y x
 symm eq x y (inl p) (inl q) = p.0 ∙ sym q.0
 symm eq x y (inl p) (inr q) = absurd (q.1 (sym p.1))
 symm eq x y (inr p) (inl q) = absurd (p.1 (sym q.1))

@@ -1,5 +1,5 @@
 -- What is known of a neighbour, on all topics.
-use Rattle.std.specs.Prelude.{◌≡◌, ℕ, ℤ, pos, ◌+ℤ◌, Bool, false, List, [], ◌∷◌, map, is_some}
+use Rattle.std.specs.Prelude.{◌≡◌, ℕ, suc, ℤ, pos, ◌+ℤ◌, Bool, false, ◌||◌, if◌then◌else◌, List, [], ◌∷◌, length, map, is_some}
 use Rattle.std.specs.List.{list_any, IsDistinct}
 use Rattle.std.specs.Map.{lookup}
 use Rattle.std.specs.Option.{unwrap_or}
@@ -46,6 +46,16 @@ standing_in topics t = unwrap_or (lookup (same_topic t) topics) fresh
 -- a topic that has a standing
 abbrev pub has_topic : List (Topic × Standing) → Topic → Bool
 has_topic topics t = is_some (lookup (same_topic t) topics)
+
+-- it has something on this topic now, and else on those of before
+pub record AddsTopic (old new : List (Topic × Standing)) (t : Topic) : Type 0 where
+  pub topics : (u : Topic) → has_topic new u ≡ (same_topic t u || has_topic old u)
+  pub number : length new ≡ (if has_topic old t then length old else suc (length old))
+
+-- it has something on those topics on which it had
+pub record KeepsTopics (old new : List (Topic × Standing)) : Type 0 where
+  pub topics : (u : Topic) → has_topic new u ≡ has_topic old u
+  pub number : length new ≡ length old
 
 -- ---- sums over topics
 

@@ -1,5 +1,5 @@
 -- What happened to a peer's neighbours, and what counters and scores that makes.
-use Rattle.std.specs.Prelude.{Bool, true, ◌≡◌, ℕ, suc, ℤ, pos, int_lt, min, unsigned_abs, if◌then◌else◌, List, [], ◌∷◌, map, Option, Some, None}
+use Rattle.std.specs.Prelude.{Bool, true, ◌≡◌, ℕ, suc, ℤ, pos, int_lt, min, unsigned_abs, if◌then◌else◌, List, [], ◌∷◌, length, map, Option, Some, None}
 use Rattle.std.specs.List.{list_any}
 use Rattle.std.specs.Option.{option_map_or}
 use Rattle.gs_base.specs.declared.names.PeerNo.{PeerNo}
@@ -164,4 +164,7 @@ pub record Agrees (setting : Setting) (k : Kept) (H : History) : Type 0 where
   pub misbehaves
       : (q : PeerNo)
       → read_at (behaviour_decay setting.params) k.tick (behaviour_of k.accounts q) ≡ misbehaviour setting.params H q
+  -- it has something on the topics that are named, each once, and on no other
+  pub knows : (q : PeerNo) (t : Topic) → has_topic (topics_of k.accounts q) t ≡ list_any (same_topic t) (named H q)
+  pub counts : (q : PeerNo) → length (topics_of k.accounts q) ≡ length (named H q)
   pub places : k.places ≡ places_in setting.neighbours H

@@ -1,5 +1,5 @@
 -- What scores keep.
-use Rattle.std.specs.Prelude.{◌||◌, nat_lt, ◌≡◌, ◌≤◌, ◌^◌, ◌&&◌, ℕ, unsigned_abs, Bool, List, [], length, is_some, if◌then◌else◌}
+use Rattle.std.specs.Prelude.{◌||◌, nat_lt, ◌≡◌, ◌≤◌, ◌^◌, ◌&&◌, ℕ, unsigned_abs, Bool, false, List, [], length, is_some, if◌then◌else◌}
 use Rattle.std.specs.Map.{lookup}
 use Rattle.std.specs.Option.{unwrap_or}
 use Rattle.gs_base.specs.declared.names.PeerNo.{PeerNo}
@@ -12,7 +12,7 @@ use Rattle.gs_score.specs.declared.places.Place.{Place}
 use Rattle.gs_score.specs.declared.standing.Standing.{Standing}
 use Rattle.gs_score.specs.Counters.{Stored}
 use Rattle.gs_score.specs.Standings.{no_count}
-use Rattle.gs_score.specs.Accounts.{has_topic, standing_in}
+use Rattle.gs_score.specs.Accounts.{AddsTopic, KeepsTopics, has_topic, standing_in}
 use Rattle.gs_score.specs.Places.{app_of}
 use Rattle.gs_score.specs.Ranges.{IsUpTo}
 
@@ -62,6 +62,15 @@ pub record Puts (old new : List (PeerNo × Account)) (p : PeerNo) (t : Topic) (s
   pub behaviours : (q : PeerNo) → behaviour_of new q ≡ behaviour_of old q
   pub accounts : (q : PeerNo) → has_account new q ≡ has_account old q
 
+-- a neighbour has something on this topic now, and else each on those of before
+pub record Adds (old new : List (PeerNo × Account)) (p : PeerNo) (t : Topic) : Type 0 where
+  pub here : AddsTopic (topics_of old p) (topics_of new p) t
+  pub others : (q : PeerNo) → same_peer p q ≡ false → KeepsTopics (topics_of old q) (topics_of new q)
+
+-- each has something on those topics on which it had
+abbrev pub Keeps : List (PeerNo × Account) → List (PeerNo × Account) → Type 0
+Keeps old new = (q : PeerNo) → KeepsTopics (topics_of old q) (topics_of new q)
+
 -- a neighbour gets this as its misbehaviour, and all else stays
 pub record Blames (old new : List (PeerNo × Account)) (p : PeerNo) (c : Stored) : Type 0 where
   pub topics : (q : PeerNo) → topics_of new q ≡ topics_of old q
@@ -91,6 +100,7 @@ pub record IsSound (k : Kept) : Type 0 where
 pub record PutsIn (old new : Kept) (p : PeerNo) (t : Topic) (s : Standing) : Type 0 where
   pub rest : new ≡ record old { accounts = new.accounts }
   pub puts : Puts old.accounts new.accounts p t s
+  pub adds : Adds old.accounts new.accounts p t
 
 -- a neighbour gets this as its misbehaviour, and all else stays
 pub record BlamesIn (old new : Kept) (p : PeerNo) (c : Stored) : Type 0 where

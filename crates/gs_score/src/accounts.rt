@@ -8,7 +8,7 @@ ghost use Rattle.gs_base.specs.declared.neighbour.Neighbour.{Neighbour as Neighb
 ghost use Rattle.gs_params.specs.Params.{AreInRange};
 ghost use Rattle.gs_score.specs.Accounts.{Covers, has_topic, held_in, topic_sum};
 ghost use Rattle.gs_score.specs.Counters.{most_counted, raised, read_at};
-ghost use Rattle.gs_score.specs.Ledgers.{AreFew, Blames, has_room, Puts, account_of, behaviour_of, has_account, nothing_counted, standing_of, topics_of};
+ghost use Rattle.gs_score.specs.Ledgers.{Adds, AreFew, Blames, Keeps, has_room, Puts, account_of, behaviour_of, has_account, nothing_counted, standing_of, topics_of};
 ghost use Rattle.gs_score.specs.Standings.{pruned};
 
 use crate::counter::{Counter, Decay, MOST_COUNTED};
@@ -107,6 +107,7 @@ pub(crate) fn put_standing(
     requires room { has_room accounts.old.entries peer topic.now ≡ true }
     requires few { AreFew accounts.old.entries }
     ensures puts { OnOk result (Puts accounts.old.entries accounts.new.entries peer topic.now standing) }
+    ensures adds { OnOk result (Adds accounts.old.entries accounts.new.entries peer topic.now) }
     ensures few { AreFew accounts.new.entries }
     ensures unchanged { OnErr result (accounts.new.entries ≡ accounts.old.entries) }
     ensures succeeds { has_topic (topics_of accounts.old.entries peer) topic.now ≡ true → IsOk result }
@@ -125,6 +126,7 @@ pub(crate) fn prune_standing(accounts: &mut IndexMap<PeerNo, Account>, peer: Pee
     requires few { AreFew accounts.old.entries }
     ensures puts { Puts accounts.old.entries accounts.new.entries peer topic.now
         (pruned (standing_of accounts.old.entries peer topic.now)) }
+    ensures keeps { Keeps accounts.old.entries accounts.new.entries }
     ensures few { AreFew accounts.new.entries }
 {
     if let Some(account) = accounts.get_mut(&peer) {

@@ -1,10 +1,15 @@
 //! Laws of scores. Each holds of its definitions alone, and its function does nothing.
-ghost use Rattle.std.specs.Prelude.{◌≡◌, ℕ, ◌+◌, ◌≤◌, pos};
+ghost use Rattle.std.specs.Prelude.{◌≡◌, ℕ, ◌+◌, ◌≤◌, pos, Bool, true, [], List, length};
+ghost use Rattle.std.specs.List.{AllByRecursion, list_any};
+ghost use Rattle.gs_base.specs.Names.{most_topics, same_peer, same_topic};
 ghost use Rattle.gs_base.specs.declared.names.PeerNo.{PeerNo as PeerNoValue};
+ghost use Rattle.gs_base.specs.declared.names.Topic.{Topic as TopicValue};
+ghost use Rattle.gs_base.specs.declared.neighbour.Neighbour.{Neighbour as NeighbourValue};
 ghost use Rattle.gs_params.specs.declared.params.Params.{Params as ParamsValue};
 ghost use Rattle.gs_score.specs.Accounts.{Covers};
-ghost use Rattle.gs_score.specs.Histories.{History, held_by, named};
+ghost use Rattle.gs_score.specs.Histories.{Agrees, History, Setting, held_by, named, named_after};
 ghost use Rattle.gs_score.specs.Counters.{Stored, decayed, most_counted, read_at};
+ghost use Rattle.gs_score.specs.Ledgers.{Kept, has_room};
 ghost use Rattle.gs_score.specs.Millionths.{scaled, times};
 ghost use Rattle.gs_score.specs.Ranges.{IsUpTo};
 ghost use Rattle.gs_score.specs.Standings.{decayed_held, held};
@@ -37,6 +42,25 @@ pub fn a_standing_decays_by_its_counters()
 /// these.
 pub fn named_topics_leave_none_out()
     ensures { (params : ParamsValue) (H : History) (q : PeerNoValue) → Covers (held_by params H q) (named H q) }
+{}
+
+/// A test that each topic passes which a change of a history names, all pass that the history names.
+pub fn changes_name_all_that_is_named()
+    ensures { (test : TopicValue → Bool) (H : History) (q : PeerNoValue)
+        → AllByRecursion (λ change. AllByRecursion (λ t. test t ≡ true) (named_after q change [])) H
+        → AllByRecursion (λ t. test t ≡ true) (named H q) }
+{}
+
+/// There is room for a neighbour's topic where it is on a list of at most 1,024 topics together with all that the
+/// history names of the neighbour.
+pub fn there_is_room_for_what_fits_a_list()
+    ensures { (s : Setting) (k : Kept) (H : History) (q : PeerNoValue) (t : TopicValue) (ts : List TopicValue)
+        → list_any (λ (n : NeighbourValue). same_peer q n.peer) s.neighbours ≡ true
+        → length ts ≤ most_topics
+        → AllByRecursion (λ u. list_any (same_topic u) ts ≡ true) (named H q)
+        → list_any (same_topic t) ts ≡ true
+        → Agrees s k H
+        → has_room k.accounts q t ≡ true }
 {}
 
 /// The limit of counters is that of the definitions.

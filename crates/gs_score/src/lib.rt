@@ -15,8 +15,9 @@ mod topics;
 
 pub use counter::{Counter, Decay, MOST_COUNTED};
 pub use laws::{
-    a_later_read_decays_on, a_standing_decays_by_its_counters, limits_of_counters,
-    named_topics_leave_none_out, products_of_amounts_are_scaled,
+    a_later_read_decays_on, a_standing_decays_by_its_counters, changes_name_all_that_is_named,
+    limits_of_counters, named_topics_leave_none_out, products_of_amounts_are_scaled,
+    there_is_room_for_what_fits_a_list,
 };
 pub use millionths::{scaled, squared, times};
 pub use places::{Place, Places};

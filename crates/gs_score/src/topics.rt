@@ -5,7 +5,7 @@ ghost use Rattle.std.specs.Map.{keys_of};
 ghost use Rattle.gs_base.specs.Names.{most_topics, same_topic};
 ghost use Rattle.gs_base.specs.declared.names.Topic.{Topic as TopicValue};
 ghost use Rattle.gs_params.specs.Params.{AreInRange};
-ghost use Rattle.gs_score.specs.Accounts.{Covers, has_topic, held_in, standing_in, topic_sum};
+ghost use Rattle.gs_score.specs.Accounts.{AddsTopic, Covers, KeepsTopics, has_topic, held_in, standing_in, topic_sum};
 ghost use Rattle.gs_score.specs.Standings.{fresh, pruned};
 
 use crate::rules::TopicRules;
@@ -73,6 +73,7 @@ impl Topics {
             ≡ (if same_topic topic.now t then standing else standing_in self.old t)) }
         ensures number { length self.new
             ≤ (if has_topic self.old topic.now then length self.old else length self.old + 1) }
+        ensures adds { OnOk result (AddsTopic self.old self.new topic.now) }
         ensures unchanged { OnErr result (self.new ≡ self.old) }
         ensures succeeds { has_topic self.old topic.now ≡ true → IsOk result }
     {
@@ -88,6 +89,7 @@ impl Topics {
             then pruned (standing_in self.old topic.now)
             else standing_in self.old t) }
         ensures number { length self.new ≡ length self.old }
+        ensures keeps { KeepsTopics self.old self.new }
     {
         let mut standing = standing_at(&self.standings, topic);
         standing.prune();
@@ -133,6 +135,7 @@ fn put_at(
         ≤ (if has_topic standings.old.entries topic.now
         then length standings.old.entries
         else length standings.old.entries + 1) }
+    ensures adds { OnOk result (AddsTopic standings.old.entries standings.new.entries topic.now) }
     ensures unchanged { OnErr result (standings.new.entries ≡ standings.old.entries) }
     ensures succeeds { has_topic standings.old.entries topic.now ≡ true → IsOk result }
 {
@@ -152,6 +155,7 @@ fn replace_at(standings: &mut IndexMap<Topic, Standing>, topic: &Topic, standing
         → standing_in standings.new.entries t
         ≡ (if same_topic topic.now t then standing else standing_in standings.old.entries t) }
     ensures number { length standings.new.entries ≡ length standings.old.entries }
+    ensures keeps { KeepsTopics standings.old.entries standings.new.entries }
 {
     if let Some(place) = standings.get_mut(topic) {
         *place = standing;

@@ -4,7 +4,7 @@ use Rattle.std.proofs.lemmas.Map.Steps.{set_value_same}
 use Rattle.gs_base.specs.Names.{same_peer}
 use Rattle.gs_score.specs.declared.accounts.Account.{Account}
 use Rattle.gs_score.specs.Accounts.{has_topic}
-use Rattle.gs_score.proofs.Accounting.{Changed, is_put, few_stay, few_of, grown, account_was, both_true}
+use Rattle.gs_score.proofs.Accounting.{Changed, is_added, is_put, few_stay, few_of, grown, account_was, both_true}
 use Rattle.gs_score.proofs.accounts.put_standing.Goals as goal
 
 on_err : {A B : Type 0} (r : Result A B) (P : Type 0) → P → OnErr r P
@@ -37,6 +37,14 @@ returns-in_ok-put-in-Some-clause-puts c =
     let is : Account = record { topics = c.put.new.self; behaviour = was.behaviour } in
     let changed : Changed old (c.get_mut.follows.lender is).entries c.args.peer was is = (sym c.in-Some.ensures.value, ((c.get_mut.follows.holds is).3 (subst IsSome c.in-Some.ensures.value refl)).0) in
     is_put old (c.get_mut.follows.lender is).entries c.args.peer c.args.topic.now c.args.standing was is changed refl c.in_ok-put-in-Some.ensures.puts
+
+pub returns-in_ok-put-in-Some-clause-adds : goal.returns-in_ok-put-in-Some-clause-adds
+returns-in_ok-put-in-Some-clause-adds c =
+    let old = c.args.accounts.now.entries in
+    let was : Account = c.in-Some.account.now in
+    let is : Account = record { topics = c.put.new.self; behaviour = was.behaviour } in
+    let changed : Changed old (c.get_mut.follows.lender is).entries c.args.peer was is = (sym c.in-Some.ensures.value, ((c.get_mut.follows.holds is).3 (subst IsSome c.in-Some.ensures.value refl)).0) in
+    is_added old (c.get_mut.follows.lender is).entries c.args.peer c.args.topic.now was is changed c.in_ok-put-in-Some.ensures.adds
 
 pub returns-in_ok-put-in-Some-clause-few : goal.returns-in_ok-put-in-Some-clause-few
 returns-in_ok-put-in-Some-clause-few c =

@@ -3,7 +3,7 @@ use Rattle.gs_score.specs.Accounts.{rules_of}
 use Rattle.gs_score.specs.Standings.{grafted, held}
 use Rattle.gs_score.specs.Ledgers.{Kept, standing_of}
 use Rattle.gs_score.specs.Histories.{Grafted}
-use Rattle.gs_score.proofs.Keeping.{agrees_put, concerns_graft, up_to_since}
+use Rattle.gs_score.proofs.Keeping.{agrees_put, concerns_graft, graft_names, up_to_since}
 use Rattle.gs_score.proofs.scores.Scores.graft.Goals as goal
 
 pub put-requires-clause-past : goal.put-requires-clause-past
@@ -20,5 +20,5 @@ returns-clause-agrees c = λ s H a.
     let is : c.graft.new.self ≡ grafted now (standing_of k.accounts p t)
     = c.graft.ensures ∙ ap (grafted now) (c.standing_of-standing.ensures ∙ ap (λ (x : Kept). standing_of x.accounts p t) c.self.view_is) in
     agrees_put s k c.put.new.self H (Grafted p t now) p t c.graft.new.self (λ r h. record h { since = Some now })
-    (concerns_graft p t now) c.in_ok-put.ensures.puts
+    (concerns_graft p t now) (graft_names p t now) c.in_ok-put.ensures.puts
     (ap (held (rules_of k.params t) k.tick) is) a

@@ -1,8 +1,7 @@
-use Rattle.std.proofs.Common.{None, refl}
+use Rattle.std.proofs.Common.{None}
 use Rattle.gs_score.specs.Standings.{pruned}
 use Rattle.gs_score.specs.Ledgers.{Kept, standing_of}
-use Rattle.gs_score.specs.Histories.{Left}
-use Rattle.gs_score.proofs.Keeping.{agrees_put, concerns_left, sound_put, up_to_since}
+use Rattle.gs_score.proofs.Keeping.{agrees_left, sound_put, up_to_since}
 use Rattle.gs_score.proofs.scores.Scores.prune.Goals as goal
 
 pub invariant_of-self : goal.invariant_of-self
@@ -18,11 +17,8 @@ pub returns : goal.returns
 returns c =
     let old = c.self.inside in
     let k : Kept = record { params = old.params; places = old.places; accounts = old.accounts.entries; tick = old.tick } in
-    let new : Kept = record k { accounts = c.prune_standing.new.accounts.entries } in
-    let p = c.args.peer in
-    let t = c.args.topic.now in
     rw (← c.self.view_is) (record {
       agrees = λ s H a.
-          agrees_put s k new H (Left p t) p t (pruned (standing_of k.accounts p t)) (λ r h. record h { since = None })
-          (concerns_left p t) (record { rest = refl; puts = c.prune_standing.ensures.puts }) refl a;
+          agrees_left s k c.prune_standing.new.accounts.entries H c.args.peer c.args.topic.now
+          c.prune_standing.ensures.puts c.prune_standing.ensures.keeps a;
     })
