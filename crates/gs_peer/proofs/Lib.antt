@@ -7,6 +7,7 @@ pub mod Growing
 pub mod Listening
 pub mod Lines
 pub mod Agendas
+pub mod Beating
 pub mod Inbound
 pub mod Turning
 pub mod Telling

@@ -18,7 +18,7 @@ use Rattle.gs_rules.specs.Modes.{exact, free}
 use Rattle.gs_rules.specs.Legal.{Comes, Legal, LegalOn}
 use Rattle.gs_rules.specs.Saying.{handled, out}
 use Rattle.gs_rules.specs.Hearing.{Spell, closes}
-use Rattle.gs_rules.specs.Rounds.{Seat, Place, Playing, Closing, AfterRounds, ComesAt, Does, EndRound, KeepsRounds, Stop, Todo, agenda, hears, moment_of}
+use Rattle.gs_rules.specs.Rounds.{Seat, Place, Playing, Closing, AfterRounds, ComesAt, Does, KeepsRounds, Stop, Todo, agenda, hears, moment_of}
 use Rattle.gs_rules.proofs.Handled.{does_handle, said_is_handled}
 use Rattle.gs_rules.proofs.Legality.{exact_is_free, legal_then, legal_weakly}
 use Rattle.gs_router.specs.Router.{RouterView}
@@ -27,7 +27,7 @@ use Rattle.gs_peer.specs.declared.outboxes.Outboxes.{Outboxes}
 use Rattle.gs_peer.specs.Inboxes.{InboxView, all_heard, peers_of, turned}
 use Rattle.gs_peer.specs.Kept.{BoxKept, InboxKept, Kept}
 use Rattle.gs_peer.specs.Outboxes.{waiting}
-use Rattle.gs_peer.specs.Playing.{IsRunning, Runs, own_lines}
+use Rattle.gs_peer.specs.Playing.{IsRunning, Runs, behind_heard}
 use Rattle.gs_peer.specs.Running.{AllFull, AllSilent}
 use Rattle.gs_peer.proofs.Inbound.{all_come}
 use Rattle.gs_peer.proofs.Turning.{inboxes_close, inboxes_turn, peers_turned}
@@ -43,25 +43,25 @@ legal_more p q first s t K L same legal more =
     (legal_then m p first s t [] K more.entries legal
     (subst (λ (M : Entries). LegalOn m p s M more.entries t) (sym (append-nil K)) (subst (λ (r : Peer). LegalOn m r s K more.entries t) same more.legal)))
 
--- the lines of a round behind what was heard
-abbrev behind_heard : Seat → ℕ → List Todo
-behind_heard seat r = own_lines r seat.lines ++ EndRound r ∷ []
+-- what a seat has to do in a round behind what was heard
+abbrev pub own_rest : Seat → ℕ → List Todo
+own_rest seat r = behind_heard seat.peer r (moment_of seat (Playing r)) seat.lines
 
 module _ (seat : Seat) (said sent : PeerNo → Said) (boxes : Outboxes) (first : SeededState) (r : ℕ) (xs : List InboxView)
     (v w : RouterView) (s t : SeededState) (refused more : List RefusedLine)
     (k : Kept seat said sent (Playing r) xs boxes v refused first s)
     (full : AllFull xs)
-    (runs : Runs (exact seeded_word seeded_after) (moment_of seat (Playing r)) (all_heard xs ++ behind_heard seat r) v s w t more) where
+    (runs : Runs (exact seeded_word seeded_after) (moment_of seat (Playing r)) (all_heard xs ++ own_rest seat r) v s w t more) where
   -- the round is played
   pub round_played : AfterRounds seat said (suc r) w.trace (refused ++ more)
   round_played =
       let now = moment_of seat (Playing r) in
       let come = all_come seat (Playing r) v.trace said xs k.hears in
       let was_said : AllZip (λ q x. ComesAt seat (Playing r) (said q) x) (links_of seat.peer) come.inbound = subst (λ (qs : List PeerNo). AllZip (λ q x. ComesAt seat (Playing r) (said q) x) qs come.inbound) k.names come.was_said in
-      let todos : all_heard xs ++ behind_heard seat r ≡ agenda seat (Playing r) come.inbound =
-      ap (λ (ts : List Todo). ts ++ behind_heard seat r) (come.heard ∙ ap (λ (qs : List PeerNo). hears qs come.inbound) k.names) in
+      let todos : all_heard xs ++ own_rest seat r ≡ agenda seat (Playing r) come.inbound =
+      ap (λ (ts : List Todo). ts ++ own_rest seat r) (come.heard ∙ ap (λ (qs : List PeerNo). hears qs come.inbound) k.names) in
       let does : Does seat.peer now (agenda seat (Playing r) come.inbound) v.trace w.trace more =
-      subst (λ (ts : List Todo). Does seat.peer now ts v.trace w.trace more) todos (subst (λ (p : Peer). Does p now (all_heard xs ++ behind_heard seat r) v.trace w.trace more) k.peer runs.does) in
+      subst (λ (ts : List Todo). Does seat.peer now ts v.trace w.trace more) todos (subst (λ (p : Peer). Does p now (all_heard xs ++ own_rest seat r) v.trace w.trace more) k.peer runs.does) in
       (v.trace, refused, more, k.begun.1, record { inbound = come.inbound; was_said = was_said; does = does }, refl)
 
   pub peer_stays : w.peer ≡ seat.peer
@@ -99,7 +99,7 @@ stopped seat now p K L same (M, later, comes, (is, none), rest) =
 pub kept_closed : (seat : Seat) (said sent : PeerNo → Said) (boxes boxes' : Outboxes) (first : SeededState) (xs : List InboxView) (v w y : RouterView) (s t u : SeededState) (refused more : List RefusedLine)
     (k : Kept seat said sent (Playing seat.rounds) xs boxes v refused first s)
     → AllFull xs
-    → Runs (exact seeded_word seeded_after) (moment_of seat (Playing seat.rounds)) (all_heard xs ++ behind_heard seat seat.rounds) v s w t more
+    → Runs (exact seeded_word seeded_after) (moment_of seat (Playing seat.rounds)) (all_heard xs ++ own_rest seat seat.rounds) v s w t more
     → Runs (exact seeded_word seeded_after) (moment_of seat (Playing seat.rounds)) (Stop ∷ []) w t y u []
     → AllByRecursion (λ q. BoxKept y.trace (sent q) boxes' q) (links_of seat.peer)
     → Kept seat said sent Closing (map turned xs) boxes' y (refused ++ more) first u

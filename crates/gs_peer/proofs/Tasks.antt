@@ -11,7 +11,7 @@ use Rattle.gs_rules.specs.declared.refusal.RefusedLine.{RefusedLine}
 use Rattle.gs_rules.specs.Peers.{Peer, links_of}
 use Rattle.gs_rules.specs.Tables.{Entries}
 use Rattle.gs_rules.specs.Modes.{exact}
-use Rattle.gs_rules.specs.Rounds.{Seat, EndRound, Stop, moment_of}
+use Rattle.gs_rules.specs.Rounds.{Seat, Stop, moment_of}
 use Rattle.gs_rules.specs.Rounds as rounds
 use Rattle.gs_router.specs.Router.{RouterView}
 use Rattle.gs_ends.specs.Ends.{Joint, has}
@@ -26,9 +26,9 @@ use Rattle.gs_peer.specs.Kept.{Kept}
 use Rattle.gs_peer.specs.Life.{words_of}
 use Rattle.gs_peer.specs.Places.{place_of}
 use Rattle.gs_peer.specs.Players.{PlaysRound}
-use Rattle.gs_peer.specs.Playing.{Runs, own_lines}
+use Rattle.gs_peer.specs.Playing.{Runs, behind_heard}
 use Rattle.gs_peer.specs.Running.{AllFull, Goes, IsKept, TellsSince, seat_of, seat_with}
-use Rattle.gs_peer.proofs.Played.{kept_closed, kept_turned}
+use Rattle.gs_peer.proofs.Played.{kept_closed, kept_turned, own_rest}
 
 -- ---- at a place
 
@@ -72,12 +72,16 @@ module _ (seat : Seat) (said sent : PeerNo → Said) (place : Place) (r told : �
   mine : PlaysRound r (moment_of seat (rounds.Playing r)) seat.lines a b
   mine = subst (λ (ls : List (ℕ × Line)). PlaysRound r (moment_of seat (rounds.Playing r)) ls a b) own plays
 
+  -- by the seat's parameters
+  runs : Runs (exact seeded_word seeded_after) (moment_of seat (rounds.Playing r)) (all_heard a.inboxes.items ++ own_rest seat r) a.router a.words b.router b.words mine.more
+  runs = subst (λ (p : Peer). Runs (exact seeded_word seeded_after) (moment_of seat (rounds.Playing r)) (all_heard a.inboxes.items ++ behind_heard p r (moment_of seat (rounds.Playing r)) seat.lines) a.router a.words b.router b.words mine.more) here.peer mine.runs
+
   -- the next round begins
   pub plays_on : r < seat.rounds
       → TellsSince told b.router.trace old new
       → Kept seat said sent (rounds.Playing (r + 1)) b.inboxes.items new b.router b.refused.items first b.words
   plays_on low tells =
-      let more = mine.runs in
+      let more = runs in
       let next : suc r ≡ r + 1 = omega arith in
       let one = kept_turned seat said sent old first r a.inboxes.items a.router b.router a.words b.words a.refused.items mine.more here full more new (omega (arith, low))
       (tells a.router.trace sent (links_of seat.peer) (sym count) (more.appended.entries, more.appended.are) k.says) in
@@ -96,11 +100,11 @@ module _ (seat : Seat) (said sent : PeerNo → Said) (place : Place) (r told : �
   plays_last c high stops same_refused same_inboxes tells =
       let low : r ≤ seat.rounds = here.begun.0 in
       let last : r ≡ seat.rounds = omega (arith, low, high) in
-      let more = mine.runs in
+      let more = runs in
       let both : c.router.trace ≡ (stops.appended.entries ++ more.appended.entries) ++ a.router.trace = added a.router.trace b.router.trace c.router.trace more.appended.entries stops.appended.entries more.appended.are stops.appended.are in
       let one = kept_closed seat said sent old new first a.inboxes.items a.router b.router c.router a.words b.words c.words a.refused.items mine.more
       (subst (λ (n : ℕ). Kept seat said sent (rounds.Playing n) a.inboxes.items old a.router a.refused.items first a.words) last here) full
-      (subst (λ (n : ℕ). Runs (exact seeded_word seeded_after) (moment_of seat (rounds.Playing n)) (all_heard a.inboxes.items ++ (own_lines n seat.lines ++ EndRound n ∷ [])) a.router a.words b.router b.words mine.more) last more)
+      (subst (λ (n : ℕ). Runs (exact seeded_word seeded_after) (moment_of seat (rounds.Playing n)) (all_heard a.inboxes.items ++ own_rest seat n) a.router a.words b.router b.words mine.more) last more)
       (subst (λ (n : ℕ). Runs (exact seeded_word seeded_after) (moment_of seat (rounds.Playing n)) (Stop ∷ []) b.router b.words c.router c.words []) last stops)
       (tells a.router.trace sent (links_of seat.peer) (sym count) (stops.appended.entries ++ more.appended.entries, both) k.says) in
       subst (λ (ys : List InboxView). Kept seat said sent rounds.Closing ys new c.router c.refused.items first c.words) (sym (ap (λ (x : _). x.items) same_inboxes ∙ mine.turns))

@@ -1,20 +1,20 @@
 -- How a round is played.
-use Rattle.std.specs.Prelude.{◌≡◌, ℕ, List, [], ◌∷◌, ◌++◌, map}
+use Rattle.std.specs.Prelude.{◌≡◌, ℕ, List, ◌++◌, map}
 use Rattle.gs_base.specs.declared.names.Millis.{Millis}
 use Rattle.gs_params.specs.declared.plan.Line.{Line}
 use Rattle.gs_params.specs.Seeding.{seeded_after, seeded_word}
 use Rattle.gs_rules.specs.declared.refusal.RefusedLine.{RefusedLine}
 use Rattle.gs_rules.specs.Modes.{exact}
-use Rattle.gs_rules.specs.Rounds.{EndRound}
 use Rattle.gs_peer.specs.declared.player.Player.{Player}
 use Rattle.gs_peer.specs.Inboxes.{all_heard, turned}
-use Rattle.gs_peer.specs.Playing.{Runs, own_lines}
+use Rattle.gs_peer.specs.Playing.{Runs, behind_heard}
 
--- What came was heard, these lines were followed where they are for the round, and it was ended; these were refused.
+-- What came was heard, these lines were followed where they are for the round, a heartbeat came where one was due, and
+-- the round was ended; these lines were refused.
 pub record PlaysRound (r : ℕ) (now : Millis) (lines : List (ℕ × Line)) (old new : Player) : Type 0 where
   pub more : List RefusedLine
   pub refused : new.refused.items ≡ old.refused.items ++ more
   pub runs : Runs (exact seeded_word seeded_after) now
-      (all_heard old.inboxes.items ++ (own_lines r lines ++ EndRound r ∷ []))
+      (all_heard old.inboxes.items ++ behind_heard old.router.peer r now lines)
       old.router old.words new.router new.words more
   pub turns : new.inboxes.items ≡ map turned old.inboxes.items

@@ -1,15 +1,16 @@
 -- What a router that is called one thing after the other has done.
-use Rattle.std.specs.Prelude.{◌≡◌, ◌≤◌, false, true, ℕ, List, map, filter}
+use Rattle.std.specs.Prelude.{◌≡◌, ◌≤◌, false, true, ℕ, List, [], ◌∷◌, ◌++◌, map, filter}
 use Rattle.std.specs.List.{AllByRecursion}
 use Rattle.gs_base.specs.declared.names.Millis.{Millis}
 use Rattle.gs_base.specs.declared.rpc.Rpc.{Rpc}
 use Rattle.gs_params.specs.declared.plan.Line.{Line}
 use Rattle.gs_wire.specs.Codec.{codec}
 use Rattle.gs_rules.specs.declared.refusal.RefusedLine.{RefusedLine}
+use Rattle.gs_rules.specs.Peers.{Peer}
 use Rattle.gs_rules.specs.Tables.{last_moment}
 use Rattle.gs_rules.specs.Modes.{Mode}
 use Rattle.gs_rules.specs.Legal.{Legal}
-use Rattle.gs_rules.specs.Rounds.{Todo, Does, is_at, obey}
+use Rattle.gs_rules.specs.Rounds.{Todo, Does, EndRound, beats_in, is_at, obey}
 use Rattle.gs_router.specs.Router.{RouterView}
 use Rattle.gs_router.specs.State.{Appends}
 
@@ -34,3 +35,7 @@ RpcsFit rpcs = AllByRecursion (λ rpc. codec.fits rpc ≡ true) rpcs
 -- what there is to do of these lines in a round
 abbrev pub own_lines : ℕ → List (ℕ × Line) → List Todo
 own_lines r lines = map obey (filter (is_at r) lines)
+
+-- what there is to do in a round behind what is heard
+abbrev pub behind_heard : Peer → ℕ → Millis → List (ℕ × Line) → List Todo
+behind_heard p r now lines = own_lines r lines ++ (beats_in p r now ++ EndRound r ∷ [])

@@ -5,7 +5,7 @@ ghost use Rattle.std.specs.Result.{IsOk};
 ghost use Rattle.gs_params.specs.Seeding.{seeded_after, seeded_word};
 ghost use Rattle.gs_rules.specs.declared.refusal.RefusedLine.{RefusedLine as RefusedValue};
 ghost use Rattle.gs_rules.specs.Modes.{exact};
-ghost use Rattle.gs_rules.specs.Rounds.{Hear, Obey, event_of, obey};
+ghost use Rattle.gs_rules.specs.Rounds.{Hear, Obey, beats_in, event_of, obey};
 ghost use Rattle.gs_router.specs.Router.{Calls};
 ghost use Rattle.gs_peer.specs.Inboxes.{all_heard, heard_of, turned};
 ghost use Rattle.gs_peer.specs.Playing.{IsRunning, Runs, RpcsFit};
@@ -155,6 +155,27 @@ fn tell(
             router.publish(clone_of(topic)?, clone_of(payload)?, now, words)
         }
     })
+}
+
+/// Has a heartbeat, if one is due in a round: never in the first one.
+pub fn beat(
+    router: &mut Router,
+    words: &mut SeededWords,
+    round: u64,
+    now: Millis,
+) -> Result<(), AllocError>
+    requires { IsRunning now router.old }
+    ensures { OnOk result (Runs (exact seeded_word seeded_after) now (beats_in router.old.peer round now)
+        router.old words.old router.new words.new []) }
+{
+    if round == 0 {
+        return Ok(());
+    }
+    if !now.0.is_multiple_of(router.heartbeat_ms()) {
+        return Ok(());
+    }
+    done(router.heartbeat(now, words))?;
+    Ok(())
 }
 
 /// A call that only want of memory can keep from being done.

@@ -1,13 +1,13 @@
 //! Lives of a peer with one neighbour, over lists in memory and over links.
-ghost use Rattle.std.specs.Prelude.{◌≡◌, true};
+ghost use Rattle.std.specs.Prelude.{◌≡◌, ◌≤◌, IfOk, IfSome, true};
 ghost use Rattle.gs_ends.specs.Ends.{has};
 ghost use Rattle.gs_ends.specs.Pairs.{joints_of};
 
 mod made;
 
 use crate::tests::made::{
-    AtMost, ONE, Pair, SUBSCRIBES, Step, cut, links, lists, long_frame, made, said, says, script,
-    task, task_in,
+    AtMost, ONE, Pair, SUBSCRIBES, Step, cut, links, lists, long_frame, made, said, says,
+    says_with_heartbeats, script, script_with_heartbeats, task, task_in,
 };
 use crate::{Finished, Gate, NoGate, PeerFault, StopFlag, Surroundings};
 use futures::executor::block_on;
@@ -15,6 +15,7 @@ use futures::future::join;
 use gs_base::{Millis, PeerNo};
 use gs_ends::ListEnds;
 use gs_link::open_link;
+use gs_params::Line;
 use gs_rules::{Refusal, RefusedLine};
 use std::alloc::{AllocError, AllocGlobal, Global};
 use std::io;
@@ -132,20 +133,39 @@ fn is_scripted(alloc: Global, life: &Finished<ListEnds>) -> Result<bool, AllocEr
     )
 }
 
-/// Whether the script's life over lists ends within 10,000 polls, where every so many puts are refused.
-fn ends_scripted<R>(rt: &R, every: u64) -> io::Result<bool>
+/// The life over lists, in rounds up to this one, of a peer with such a script, where every so many puts
+/// are refused. None where it doesn't end within 10,000 polls.
+fn lives<R>(
+    rt: &R,
+    lines: Vec<(usize, Line)>,
+    rounds: u64,
+    every: u64,
+) -> io::Result<Option<Finished<ListEnds>>>
 where
     R: Wait + RandomSource + AllocGlobal,
+    requires { rounds ≤ 100_000 }
+    ensures { IfOk result (λ ended. IfSome ended (λ life. has (joints_of life.ends) (record { 0 = 2 }) ≡ true)) }
 {
-    let ends = lists(rt.alloc(), said(rt.alloc())?, 10, every)?;
-    let task = task(rt.alloc(), ONE, script(rt.alloc())?, 2, ends)?;
+    let ends = lists(rt.alloc(), said(rt.alloc(), rounds)?, 100, every)?;
+    let task = task(rt.alloc(), ONE, lines, rounds, ends)?;
     let polled = AtMost {
         inner: task,
         left: 10_000,
     };
     match block_on(rt, polled)? {
-        Some(Ok(life)) => Ok(is_scripted(rt.alloc(), &life)?),
-        _ => Ok(false),
+        Some(Ok(life)) => Ok(Some(life)),
+        _ => Ok(None),
+    }
+}
+
+/// Whether the script's life over lists ends, where every so many puts are refused.
+fn ends_scripted<R>(rt: &R, every: u64) -> io::Result<bool>
+where
+    R: Wait + RandomSource + AllocGlobal,
+{
+    match lives(rt, script(rt.alloc())?, 2, every)? {
+        Some(life) => Ok(is_scripted(rt.alloc(), &life)?),
+        None => Ok(false),
     }
 }
 
@@ -160,12 +180,71 @@ fn a_script_over_lists_ends_however_often_a_put_is_refused(rt: HostRuntime) -> R
 /// Where a neighbour takes one item alone, the life never ends.
 #[test]
 fn what_is_never_accepted_keeps_a_task_pending(rt: HostRuntime) -> Result<(), Fail> {
-    let ends = lists(rt.alloc(), said(rt.alloc())?, 1, 0)?;
+    let ends = lists(rt.alloc(), said(rt.alloc(), 2)?, 1, 0)?;
     let task = AtMost {
         inner: task(rt.alloc(), ONE, script(rt.alloc())?, 2, ends)?,
         left: 10_000,
     };
     assert!(rt; block_on(&rt, task)?.is_none());
+    Ok(())
+}
+
+// ---- heartbeats
+
+/// A heartbeat comes each second but the first, behind the lines of its round. It gossips of what is kept.
+static WITH_HEARTBEATS: [Step; 32] = [
+    Step::Subscribe,
+    Step::RoundEnd(0),
+    Step::Heard,
+    Step::Sub,
+    Step::RoundEnd(1),
+    Step::RoundEnd(2),
+    Step::RoundEnd(3),
+    Step::RoundEnd(4),
+    Step::RoundEnd(5),
+    Step::RoundEnd(6),
+    Step::RoundEnd(7),
+    Step::RoundEnd(8),
+    Step::RoundEnd(9),
+    Step::Publish,
+    Step::Promises,
+    Step::Gossip,
+    Step::BeatEnd,
+    Step::RoundEnd(10),
+    Step::RoundEnd(11),
+    Step::RoundEnd(12),
+    Step::RoundEnd(13),
+    Step::RoundEnd(14),
+    Step::RoundEnd(15),
+    Step::RoundEnd(16),
+    Step::RoundEnd(17),
+    Step::RoundEnd(18),
+    Step::RoundEnd(19),
+    Step::Promises,
+    Step::Gossip,
+    Step::BeatEnd,
+    Step::RoundEnd(20),
+    Step::Shut,
+];
+
+/// Whether a life has those steps, and offered what it published at each heartbeat.
+fn is_gossiping(alloc: Global, life: &Finished<ListEnds>) -> Result<bool, AllocError>
+    requires { has (joints_of life.now.ends) (record { 0 = 2 }) ≡ true }
+{
+    let says = says_with_heartbeats(alloc)?;
+    Ok(made(&life.trace, &WITH_HEARTBEATS) && life.ends.sent(PeerNo(2)) == says.as_slice())
+}
+
+/// In rounds of 100 milliseconds heartbeats come in rounds 10 and 20, and none in round 0.
+#[test]
+fn a_message_is_offered_at_each_heartbeat(rt: HostRuntime) -> Result<(), Fail> {
+    for every in [0, 3] {
+        let lines = script_with_heartbeats(rt.alloc())?;
+        let Some(life) = lives(&rt, lines, 20, every)? else {
+            panic!(rt; "the life doesn't end");
+        };
+        assert!(rt; is_gossiping(rt.alloc(), &life)?);
+    }
     Ok(())
 }
 
@@ -178,7 +257,7 @@ fn a_flag_stops_a_task(rt: HostRuntime) -> Result<(), Fail> {
     assert!(rt; !stop.is_set());
     stop.set();
     assert!(rt; stop.is_set());
-    let ends = lists(rt.alloc(), said(rt.alloc())?, 10, 0)?;
+    let ends = lists(rt.alloc(), said(rt.alloc(), 2)?, 10, 0)?;
     let surroundings = Surroundings {
         ends,
         gate: NoGate,
@@ -223,7 +302,7 @@ impl Gate for Turns {
 fn a_gate_is_told_of_each_round(rt: HostRuntime) -> Result<(), Fail> {
     let seen = Arc::new(rt.alloc(), AtomicU64::new(0))?;
     let surroundings = Surroundings {
-        ends: lists(rt.alloc(), said(rt.alloc())?, 10, 0)?,
+        ends: lists(rt.alloc(), said(rt.alloc(), 2)?, 10, 0)?,
         gate: Turns {
             seen: seen.clone()?,
         },

@@ -24,6 +24,14 @@ use std::sync::{Arc, Wait};
 /// The frame that subscribes to `a`.
 pub const SUBSCRIBES: [u8; 8] = [0x07, 0x0a, 0x05, 0x08, 0x01, 0x12, 0x01, 0x61];
 
+/// The frame of the message `abc` on `a`.
+const PUBLISHES: &[u8] = b"\x0a\x12\x08\x12\x03abc\x22\x01a";
+
+/// The frame that offers it: an IHAVE of the topic and of one identifier, the SHA-256 of `abc`.
+const OFFERS: &[u8] = b"\x29\x1a\x27\x0a\x25\x0a\x01a\x12\x20\
+    \xba\x78\x16\xbf\x8f\x01\xcf\xea\x41\x41\x40\xde\x5d\xae\x22\x23\
+    \xb0\x03\x61\xa3\x96\x17\x7a\x9c\xb4\x10\xff\x61\xf2\x00\x15\xad";
+
 /// What happened at a peer, without what it was about.
 #[derive(Clone, Copy, Debug, PartialEq, Eq)]
 pub enum Step {
@@ -36,6 +44,9 @@ pub enum Step {
     Subscribe,
     Unsubscribe,
     Publish,
+    Promises,
+    Gossip,
+    BeatEnd,
     RoundEnd(u64),
     Gone,
     Fault,
@@ -53,6 +64,9 @@ fn step_of(event: &Event) -> Step {
         Event::Subscribe(_) => Step::Subscribe,
         Event::Unsubscribe(_) => Step::Unsubscribe,
         Event::Publish(_, _) => Step::Publish,
+        Event::Promises => Step::Promises,
+        Event::GossipBeat(_) => Step::Gossip,
+        Event::BeatEnd => Step::BeatEnd,
         Event::RoundEnd(round) => Step::RoundEnd(*round),
         Event::Gone(_) => Step::Gone,
         Event::Fault(_) => Step::Fault,
@@ -227,14 +241,31 @@ pub fn script(alloc: Global) -> Result<Vec<(usize, Line)>, AllocError> {
     Ok(lines)
 }
 
-/// What a neighbour says that subscribes to `a` in the first of three rounds.
-pub fn said(alloc: Global) -> Result<Vec<Item>, AllocError> {
+/// Peer 1 subscribes to `a` in round 0, and publishes `abc` in round 10, in which it has a heartbeat.
+pub fn script_with_heartbeats(alloc: Global) -> Result<Vec<(usize, Line)>, AllocError> {
+    let abc = Bytes::copy_from_slice(alloc, b"abc")?;
+    let mut lines = Vec::new(alloc);
+    lines.push((0, line(0, What::Subscribe(topic(alloc)?))))?;
+    lines.push((1, line(10, What::Publish(topic(alloc)?, abc))))?;
+    Ok(lines)
+}
+
+/// What a neighbour says that subscribes to `a` in the first round, up to this one.
+pub fn said(alloc: Global, last: u64) -> Result<Vec<Item>, AllocError> {
     let mut items = Vec::new(alloc);
     items.push(piece(alloc, &SUBSCRIBES)?)?;
     items.push(Item::Round(0))?;
-    items.push(Item::Round(1))?;
-    items.push(Item::Round(2))?;
+    push_rounds(&mut items, 1, last)?;
     Ok(items)
+}
+
+/// The ends of the rounds from one to another.
+fn push_rounds(items: &mut Vec<Item>, first: u64, last: u64) -> Result<(), AllocError> {
+    for before in first..last {
+        items.push(Item::Round(before))?;
+    }
+    items.push(Item::Round(last))?;
+    Ok(())
 }
 
 /// What the peer says to it: it subscribes, and publishes once the neighbour has subscribed.
@@ -242,9 +273,22 @@ pub fn says(alloc: Global) -> Result<Vec<Item>, AllocError> {
     let mut items = Vec::new(alloc);
     items.push(piece(alloc, &SUBSCRIBES)?)?;
     items.push(Item::Round(0))?;
-    items.push(piece(alloc, b"\x0a\x12\x08\x12\x03abc\x22\x01a")?)?;
+    items.push(piece(alloc, PUBLISHES)?)?;
     items.push(Item::Round(1))?;
     items.push(Item::Round(2))?;
+    Ok(items)
+}
+
+/// What the peer says to it where it has heartbeats in rounds 10 and 20: in each it offers what it published.
+pub fn says_with_heartbeats(alloc: Global) -> Result<Vec<Item>, AllocError> {
+    let mut items = Vec::new(alloc);
+    items.push(piece(alloc, &SUBSCRIBES)?)?;
+    push_rounds(&mut items, 0, 9)?;
+    items.push(piece(alloc, PUBLISHES)?)?;
+    items.push(piece(alloc, OFFERS)?)?;
+    push_rounds(&mut items, 10, 19)?;
+    items.push(piece(alloc, OFFERS)?)?;
+    items.push(Item::Round(20))?;
     Ok(items)
 }
 

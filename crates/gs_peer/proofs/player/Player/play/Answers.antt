@@ -5,9 +5,10 @@ use Rattle.gs_params.specs.Seeding.{seeded_after, seeded_word}
 use Rattle.gs_rules.specs.declared.refusal.RefusedLine.{RefusedLine}
 use Rattle.gs_rules.specs.declared.trace.Event.TheVariants.{RoundEnd}
 use Rattle.gs_rules.specs.Modes.{exact}
-use Rattle.gs_rules.specs.Rounds.{EndRound, obey}
+use Rattle.gs_rules.specs.Peers.{Peer}
+use Rattle.gs_rules.specs.Rounds.{EndRound, beats_in, obey}
 use Rattle.gs_peer.specs.Inboxes.{all_heard, turned}
-use Rattle.gs_peer.specs.Playing.{Runs, own_lines}
+use Rattle.gs_peer.specs.Playing.{Runs, behind_heard, own_lines}
 use Rattle.gs_peer.proofs.Runs.{runs_then, told_runs}
 use Rattle.gs_peer.proofs.player.Player.play.Goals as goal
 
@@ -21,13 +22,19 @@ returns c =
     let (more, noted, followed) = c.in_ok-follow_all.ensures in
     let follows : Runs m now (own_lines r c.args.agenda.now) c.hear.new.router c.hear.new.words c.follow_all.new.router c.follow_all.new.words more =
     subst (λ (xs : List (ℕ × Line)). Runs m now (map obey xs) c.hear.new.router c.hear.new.words c.follow_all.new.router c.follow_all.new.words more) c.at.ensures followed in
-    let ends = told_runs m now (EndRound r) (Some (RoundEnd r)) c.follow_all.new.router c.end_round.new.self c.follow_all.new.words c.end_round.new.words c.end_round.result c.in_ok-done.ensures refl refl follows.runs_on c.end_round.ensures in
-    let rest = runs_then m now (own_lines r c.args.agenda.now) (EndRound r ∷ []) c.hear.new.router c.follow_all.new.router c.end_round.new.self c.hear.new.words c.follow_all.new.words c.end_round.new.words more [] follows ends in
-    let all = runs_then m now (all_heard p.inboxes.items) (own_lines r c.args.agenda.now ++ EndRound r ∷ []) p.router c.hear.new.router c.end_round.new.self p.words c.hear.new.words c.end_round.new.words [] (more ++ []) heard rest in
+    let lines = own_lines r c.args.agenda.now in
+    let beats = beats_in p.router.peer r now in
+    let same : c.follow_all.new.router.peer ≡ p.router.peer = follows.peer ∙ heard.peer in
+    let beaten : Runs m now beats c.follow_all.new.router c.follow_all.new.words c.beat.new.router c.beat.new.words [] =
+    subst (λ (q : Peer). Runs m now (beats_in q r now) c.follow_all.new.router c.follow_all.new.words c.beat.new.router c.beat.new.words []) same c.in_ok-beat.ensures in
+    let ends = told_runs m now (EndRound r) (Some (RoundEnd r)) c.beat.new.router c.end_round.new.self c.beat.new.words c.end_round.new.words c.end_round.result c.in_ok-done.ensures refl refl beaten.runs_on c.end_round.ensures in
+    let last = runs_then m now beats (EndRound r ∷ []) c.follow_all.new.router c.beat.new.router c.end_round.new.self c.follow_all.new.words c.beat.new.words c.end_round.new.words [] [] beaten ends in
+    let rest = runs_then m now lines (beats ++ EndRound r ∷ []) c.hear.new.router c.follow_all.new.router c.end_round.new.self c.hear.new.words c.follow_all.new.words c.end_round.new.words more [] follows last in
+    let all = runs_then m now (all_heard p.inboxes.items) (behind_heard p.router.peer r now c.args.agenda.now) p.router c.hear.new.router c.end_round.new.self p.words c.hear.new.words c.end_round.new.words [] (more ++ []) heard rest in
     let len : length c.hear.new.inboxes ≡ vec_len p.inboxes = search rules in
     record {
       more = more;
       refused = noted;
-      runs = subst (λ (xs : List RefusedLine). Runs m now (all_heard p.inboxes.items ++ (own_lines r c.args.agenda.now ++ EndRound r ∷ [])) p.router p.words c.end_round.new.self c.end_round.new.words xs) (append-nil more) all;
+      runs = subst (λ (xs : List RefusedLine). Runs m now (all_heard p.inboxes.items ++ behind_heard p.router.peer r now c.args.agenda.now) p.router p.words c.end_round.new.self c.end_round.new.words xs) (append-nil more) all;
       turns = with_items_is p.inboxes c.hear.new.inboxes len ∙ c.in_ok-hear.ensures.turned ∙ ap (map turned) c.deref_mut.ensures.value;
     }
