@@ -1,6 +1,8 @@
 -- The code's places, tables and values, as the definitions see them.
+use denote.Ref.{Bor}
 use Rattle.std.specs.Prelude.{ℕ, ◌++◌, codes, List, [], Result, option_map, unwrap_or}
-use Rattle.toml.specs.Data.{no_members}
+use Rattle.toml.specs.Data.{Data, no_members}
+use Rattle.toml.specs.declared.value.Value.{Value}
 use Rattle.toml.specs.View.{view, table_view, items_view}
 use Rattle.gs_scenario.specs.declared.fault.ScenarioFault.{ScenarioFault}
 use Rattle.gs_scenario.specs.declared.scenario.field.Field.{Field}
@@ -14,6 +16,7 @@ use Rattle.gs_scenario.specs.declared.scenario.top.Top as code_top
 use Rattle.gs_scenario.specs.Keys.{Kind, Key, Section, read_key}
 use Rattle.gs_scenario.specs.Kinds.{element}
 use Rattle.gs_scenario.specs.PlanOf.{Top}
+use Rattle.gs_scenario.specs.Refusal.{Gives}
 
 -- the text of a place
 abbrev pub element_text : Element → List ℕ
@@ -55,3 +58,10 @@ top_view top = record {
   apps = items_view top.apps.now;
   script = items_view top.script.now;
 }
+
+-- whatever a function may say of a value, behind those that were read before it, is what a definition
+-- says
+abbrev pub ReadsAs : {A : Type 0} → (Bor (List A) → Bor Value → Result A ScenarioFault → Type 0)
+    → (List A → Data → Result A ScenarioFault) → Type 0
+ReadsAs {A} may_say reads = (earlier : Bor (List A)) (value : Bor Value) (said : Result A ScenarioFault)
+    → may_say earlier value said → Gives (λ x. x) said (reads earlier.now (view value.now))

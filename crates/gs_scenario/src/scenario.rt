@@ -7,6 +7,7 @@ ghost use Rattle.gs_params.specs.Plans.{IsInRange};
 
 mod apps;
 mod dials;
+mod elements;
 mod field;
 mod params;
 mod peers;
@@ -74,7 +75,7 @@ fn plan_in(alloc: Global, table: &Table) -> Result<Plan, ScenarioFault>
         peers: peers.as_slice(),
         rounds: top.rounds,
     };
-    let script = lines_in(alloc, &known, top.script)?;
+    let script = lines_in(alloc, known, top.script)?;
     let params = params_of(shared, topics)?;
     Ok(Plan {
         round_ms: top.round_ms,

@@ -10,6 +10,7 @@ ghost use Rattle.gs_scenario.specs.Views.{read_as};
 
 use crate::fault::ScenarioFault;
 use crate::reason::NameKind;
+use crate::scenario::elements::read_each;
 use crate::scenario::field::{Field, table_of};
 use crate::scenario::peers::peer_of;
 use crate::scenario::place::{Element, Place};
@@ -33,7 +34,6 @@ pub fn keys() -> &'static [&'static str]
 }
 
 /// The scores of a list, in its order.
-#[tactic(auto, unfolding(crate::specs::Keys::read_each))]
 pub fn apps_in(
     alloc: Global,
     peers: &[PlannedPeer],
@@ -44,12 +44,11 @@ pub fn apps_in(
     ensures { Gives (λ apps. apps) result
         (read_each (app_in peers.now dials.now) [] (items_view list.now)) }
 {
-    let mut apps = Seq::new(alloc);
-    for value in list {
-        let app = app_in(alloc, peers, dials, apps.as_slice(), value)?;
-        apps.push(app)?;
-    }
-    Ok(apps)
+    read_each(
+        alloc,
+        list,
+        move |earlier, value| app_in(alloc, peers, dials, earlier, value),
+    )
 }
 
 /// The score that stands in the list after the earlier ones.

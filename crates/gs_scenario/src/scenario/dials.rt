@@ -8,6 +8,7 @@ ghost use Rattle.gs_params.specs.Plans.{are_joined};
 
 use crate::fault::ScenarioFault;
 use crate::reason::Wanted;
+use crate::scenario::elements::read_each;
 use crate::scenario::field::table_of;
 use crate::scenario::peers::peer_of;
 use crate::scenario::place::{Element, Place};
@@ -29,7 +30,6 @@ pub fn keys() -> &'static [&'static str]
 }
 
 /// The dials of a list, in its order.
-#[tactic(auto, unfolding(crate::specs::Keys::read_each))]
 pub fn dials_in(
     alloc: Global,
     peers: &[PlannedPeer],
@@ -39,12 +39,11 @@ pub fn dials_in(
     ensures { Gives (λ dials. dials) result
         (read_each (dial_in peers.now) [] (items_view list.now)) }
 {
-    let mut dials = Seq::new(alloc);
-    for value in list {
-        let dial = dial_in(alloc, peers, dials.as_slice(), value)?;
-        dials.push(dial)?;
-    }
-    Ok(dials)
+    read_each(
+        alloc,
+        list,
+        |earlier, value| dial_in(alloc, peers, earlier, value),
+    )
 }
 
 /// The dial that stands in the list after the earlier ones.

@@ -11,6 +11,7 @@ ghost use Rattle.gs_scenario.specs.PlanOf.{peer_in, peer_keys, peer_named};
 
 use crate::fault::ScenarioFault;
 use crate::reason::NameKind;
+use crate::scenario::elements::read_each;
 use crate::scenario::field::{Field, table_of};
 use crate::scenario::place::Element;
 use crate::scenario::tables::TableKind;
@@ -33,18 +34,11 @@ pub fn keys() -> &'static [&'static str]
 }
 
 /// The peers of a list, in its order.
-#[tactic(auto, unfolding(crate::specs::Keys::read_each))]
 pub fn peers_in(alloc: Global, list: &[Value]) -> Result<Seq<PlannedPeer>, ScenarioFault>
-    requires { length list.now ≤ MOST_PEERS }
     ensures read { Gives (λ peers. peers) result (read_each peer_in [] (items_view list.now)) }
     ensures count { IfOk result (λ peers. length peers ≡ length list.now) }
 {
-    let mut peers = Seq::new(alloc);
-    for value in list {
-        let peer = peer_in(alloc, peers.as_slice(), value)?;
-        peers.push(peer)?;
-    }
-    Ok(peers)
+    read_each(alloc, list, |earlier, value| peer_in(alloc, earlier, value))
 }
 
 /// The peer that stands in the list after the earlier ones.
@@ -54,7 +48,6 @@ fn peer_in(
     earlier: &[PlannedPeer],
     value: &Value,
 ) -> Result<PlannedPeer, ScenarioFault>
-    requires { length earlier.now ≤ MOST_PEERS }
     ensures { Gives (λ peer. peer) result (peer_in earlier.now (view value.now)) }
 {
     let element = Element {
@@ -65,7 +58,7 @@ fn peer_in(
     section.only(TableKind::Peer)?;
     let field = section.required(NAME)?;
     let name = field.name()?;
-    if peer_named(earlier, name).is_some() {
+    if index_of(earlier, name).is_some() {
         return Err(field.repeated()?);
     }
     let address = section.text(ADDRESS, name)?;

@@ -10,6 +10,7 @@ ghost use Rattle.gs_scenario.specs.PlanOf.{line_in, what_in, verb_in, verb_of, l
 
 use crate::fault::ScenarioFault;
 use crate::reason::Wanted;
+use crate::scenario::elements::read_each;
 use crate::scenario::field::{Field, table_of};
 use crate::scenario::peers::peer_of;
 use crate::scenario::place::Element;
@@ -76,34 +77,28 @@ pub fn publish_keys() -> &'static [&'static str]
 }
 
 /// The lines of a list, in its order.
-#[tactic(auto, unfolding(crate::specs::Keys::read_each))]
-pub fn lines_in(
-    alloc: Global,
-    known: &Known<'_>,
-    list: &[Value],
-) -> Result<Seq<Line>, ScenarioFault>
-    requires { length known.now.peers.now ≤ MOST_PEERS }
-    ensures { let known = known.now in Gives (λ lines. lines) result
+pub fn lines_in(alloc: Global, known: Known<'_>, list: &[Value]) -> Result<Seq<Line>, ScenarioFault>
+    requires { length known.peers.now ≤ MOST_PEERS }
+    ensures { let known = known.entry in Gives (λ lines. lines) result
         (read_each (line_in known.topics.now known.peers.now known.rounds) [] (items_view list.now)) }
 {
-    let mut lines = Seq::new(alloc);
-    for value in list {
-        let line = line_in(alloc, known, lines.as_slice(), value)?;
-        lines.push(line)?;
-    }
-    Ok(lines)
+    read_each(
+        alloc,
+        list,
+        move |earlier, value| line_in(alloc, known, earlier, value),
+    )
 }
 
 /// The line that stands in the list after the earlier ones.
 #[tactic(auto, unfolding(crate::specs::PlanOf::line_in))]
 fn line_in(
     alloc: Global,
-    known: &Known<'_>,
+    known: Known<'_>,
     earlier: &[Line],
     value: &Value,
 ) -> Result<Line, ScenarioFault>
-    requires { length known.now.peers.now ≤ MOST_PEERS }
-    ensures { let known = known.now in Gives (λ line. line) result
+    requires { length known.peers.now ≤ MOST_PEERS }
+    ensures { let known = known.entry in Gives (λ line. line) result
         (line_in known.topics.now known.peers.now known.rounds earlier.now (view value.now)) }
 {
     let element = Element {

@@ -212,14 +212,6 @@ impl<'a> Section<'a> {
         self.optional(key).map_or(Ok(&[]), |field| field.any_list())
     }
 
-    /// The name at a key that is required.
-    pub fn name(&self, key: &'a str) -> Result<&'a str, ScenarioFault>
-        ensures { Gives (λ text. text.now) result
-            (held_at (required key.now kinds.name_text) self.now) }
-    {
-        self.required(key)?.name()
-    }
-
     /// The bytes of the hex text at a key that is required.
     pub fn hex(&self, key: &'a str) -> Result<Bytes, ScenarioFault>
         ensures { Gives (λ bytes. bytes) result

@@ -11,6 +11,7 @@ ghost use Rattle.gs_scenario.specs.PlanOf.{topic_in, topic_keys, topic_named};
 
 use crate::fault::ScenarioFault;
 use crate::reason::NameKind;
+use crate::scenario::elements::read_each;
 use crate::scenario::field::{Field, table_of};
 use crate::scenario::place::Element;
 use crate::scenario::tables::TableKind;
@@ -53,16 +54,14 @@ pub fn keys() -> &'static [&'static str]
 }
 
 /// The topics of a list, in its order.
-#[tactic(auto, unfolding(crate::specs::Keys::read_each))]
 pub fn topics_in(alloc: Global, list: &[Value]) -> Result<Seq<TopicEntry>, ScenarioFault>
     ensures { Gives (λ topics. topics) result (read_each topic_in [] (items_view list.now)) }
 {
-    let mut topics = Seq::new(alloc);
-    for value in list {
-        let topic = topic_in(alloc, topics.as_slice(), value)?;
-        topics.push(topic)?;
-    }
-    Ok(topics)
+    read_each(
+        alloc,
+        list,
+        |earlier, value| topic_in(alloc, earlier, value),
+    )
 }
 
 /// The topic that stands in the list after the earlier ones.
