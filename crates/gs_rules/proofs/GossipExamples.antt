@@ -1,5 +1,6 @@
 -- Worked rows of what is kept and gossiped, of budgets and promises, and of when there is a heartbeat.
 use Rattle.std.proofs.Common.{◌≡◌, ℕ, pos, true, [], ◌∷◌, None, Some, refl}
+use Rattle.std.specs.List.{AllByRecursion, list_any}
 use Rattle.gs_base.specs.declared.names.PeerNo.{PeerNo}
 use Rattle.gs_base.specs.declared.names.Topic.{Topic}
 use Rattle.gs_base.specs.declared.names.MsgId.{MsgId}
@@ -16,7 +17,7 @@ use Rattle.gs_rules.specs.declared.trace.Promise.{Promise}
 use Rattle.gs_rules.specs.declared.trace.Entry.{Entry}
 use Rattle.gs_rules.specs.Peers.{Peer, windows}
 use Rattle.gs_rules.specs.Tables.{Entries, asked, blank, keeping_order, kept, offers, own_topics, promises}
-use Rattle.gs_rules.specs.Gossip.{all_charges, gossip, gossip_size}
+use Rattle.gs_rules.specs.Gossip.{IsOpen, all_charges, ends_promise, gossip, gossip_size, gossipable, keeps_promise}
 use Rattle.gs_rules.specs.Owed.{owed}
 use Rattle.gs_rules.specs.Rules.{bare, telling}
 use Rattle.gs_rules.specs.Rounds.{Seat, Beat, EndRound, Playing, agenda}
@@ -119,6 +120,10 @@ a_message_is_gossiped_no_third_time = refl
 -- message 1 was kept one heartbeat earlier
 the_oldest_is_gossiped_first : gossip peer (keeping 2 a ∷ beat_end ∷ keeping 1 a ∷ []) a ≡ id 1 ∷ id 2 ∷ []
 the_oldest_is_gossiped_first = refl
+
+-- where few are, none is left out
+what_may_be_gossiped_is : gossipable peer (keeping 2 a ∷ beat_end ∷ keeping 1 a ∷ []) a ≡ id 1 ∷ id 2 ∷ []
+what_may_be_gossiped_is = refl
 
 -- what was moved to the other topic is gossiped there alone
 gossip_on_the_one_topic : gossip peer moved a ≡ id 2 ∷ []
@@ -228,6 +233,18 @@ a_neighbour_that_is_gone_is_not_charged = refl
 -- neighbour 2 promised first, and neighbour 1 twice
 each_broken_promise_is_charged : all_charges peer (promising q 3 ∷ promising q 2 ∷ promising other 1 ∷ []) 1_000 ≡ Behaviour q ∷ Behaviour q ∷ Behaviour other ∷ []
 each_broken_promise_is_charged = refl
+
+-- another message came, a heartbeat ended none a millisecond before, and another ended late
+a_promise_stays_open : AllByRecursion (IsOpen (promise q 1)) (entry_at 2_000 BeatEnd ∷ entry_at 999 Promises ∷ marked (Msg q blank) (Seen (id 2) Accept) ∷ [])
+a_promise_stays_open = (record { unkept = refl; unended = refl }, (record { unkept = refl; unended = refl }, (record { unkept = refl; unended = refl }, tt)))
+
+-- at that very millisecond
+a_heartbeat_ends_a_promise_at_its_time : ends_promise (promise q 1) Promises 1_000 ≡ true
+a_heartbeat_ends_a_promise_at_its_time = refl
+
+-- it is marked behind another one
+a_message_keeps_its_promise : list_any (keeps_promise (promise q 1)) (Seen (id 2) Accept ∷ Seen (id 1) Reject ∷ []) ≡ true
+a_message_keeps_its_promise = refl
 
 -- ---- when there is a heartbeat
 

@@ -4,6 +4,8 @@ pub mod Judged
 pub mod Topics
 pub mod Offers
 pub mod Gossip
+pub mod Charged
+pub mod Gossiped
 pub mod Deliveries
 pub mod Handled
 pub mod Kept

@@ -1,14 +1,17 @@
 -- What a heartbeat does: it charges broken promises, and gossips of the messages that are kept.
-use Rattle.std.specs.Prelude.{◌≡◌, ◌<◌, ℕ, ◌-◌, ◌*◌, ◌/◌, min, max, Bool, true, false, ◌&&◌, nat_le, nat_lt, if◌then◌else◌, List, [], length, drop, map, filter, Option, Some, None}
-use Rattle.std.specs.List.{flat_map}
+use Rattle.std.specs.Prelude.{◌≡◌, ◌<◌, ℕ, ◌-◌, ◌*◌, ◌/◌, min, max, Bool, true, false, ◌&&◌, nat_le, nat_lt, if◌then◌else◌, List, [], ◌∷◌, ◌++◌, length, drop, map, filter, Option, Some, None}
+use Rattle.std.specs.List.{AllByRecursion, flat_map, list_any}
 use Rattle.gs_base.specs.declared.names.PeerNo.{PeerNo}
 use Rattle.gs_base.specs.declared.names.Topic.{Topic}
 use Rattle.gs_base.specs.declared.names.MsgId.{MsgId}
 use Rattle.gs_base.specs.declared.mark.Mark.{Mark}
-use Rattle.gs_base.specs.declared.mark.Mark.TheVariants.{Behaviour}
-use Rattle.gs_base.specs.Names.{same_peer, same_topic}
+use Rattle.gs_base.specs.declared.mark.Mark.TheVariants.{Behaviour, Seen}
+use Rattle.gs_base.specs.Names.{same_id, same_peer, same_topic}
 use Rattle.gs_wire.specs.Messages.{most_identifiers}
+use Rattle.gs_rules.specs.declared.trace.Event.{Event}
+use Rattle.gs_rules.specs.declared.trace.Event.TheVariants.{Promises}
 use Rattle.gs_rules.specs.declared.trace.Promise.{Promise}
+use Rattle.gs_rules.specs.declared.trace.Entry.{Entry}
 use Rattle.gs_rules.specs.Peers.{Peer, links_of, windows}
 use Rattle.gs_rules.specs.Tables.{Entries, Keeping, kept, keeping_order, promises, up}
 
@@ -24,6 +27,30 @@ charges L at q = if up L q then map (λ promise. Behaviour q) (overdue L at q) e
 
 abbrev pub all_charges : Peer → Entries → ℕ → List Mark
 all_charges p L at = flat_map (charges L at) (links_of p)
+
+-- whether a mark keeps a promise: the message that was promised is seen, whoever sent it
+abbrev pub keeps_promise : Promise → Mark → Bool
+keeps_promise promise (Seen id verdict) = same_id id promise.id
+keeps_promise promise other = false
+
+-- whether an event at this moment ends a promise: a heartbeat does, once its time has come
+abbrev pub ends_promise : Promise → Event → ℕ → Bool
+ends_promise promise Promises at = nat_le promise.until.0 at
+ends_promise promise other at = false
+
+-- An entry neither keeps a promise nor ends it.
+pub record IsOpen (promise : Promise) (e : Entry) : Type 0 where
+  pub unkept : list_any (keeps_promise promise) e.marks ≡ false
+  pub unended : ends_promise promise e.event e.at.0 ≡ false
+
+-- A promise was made by an entry of a trace, and each entry since left it open.
+pub record WasLeftOpen (L : Entries) (promise : Promise) : Type 0 where
+  pub later : Entries
+  pub maker : Entry
+  pub earlier : Entries
+  pub whole : L ≡ later ++ maker ∷ earlier
+  pub makes : maker.promise ≡ Some promise
+  pub leaves : AllByRecursion (IsOpen promise) later
 
 -- ---- what is gossiped (gossipsub v1.0, "Gossip Emission")
 
@@ -41,6 +68,11 @@ abbrev pub gossip : Peer → Entries → Topic → List MsgId
 gossip p L t =
     last_of most_identifiers
     (filter (λ id. is_gossiped p.params.windows.mcache_gossip t (kept (windows p) L id)) (keeping_order L))
+
+-- all identifiers that may be gossiped on a topic, however many, the oldest first
+abbrev pub gossipable : Peer → Entries → Topic → List MsgId
+gossipable p L t =
+    filter (λ id. is_gossiped p.params.windows.mcache_gossip t (kept (windows p) L id)) (keeping_order L)
 
 -- A message is kept as one of a topic, and was kept within so many heartbeats as messages are gossiped for.
 pub record IsKeptOn (p : Peer) (L : Entries) (t : Topic) (id : MsgId) : Type 0 where

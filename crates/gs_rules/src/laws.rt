@@ -1,20 +1,23 @@
 //! Laws of traces and rounds. Each holds of its definitions alone, and its function does nothing.
-ghost use Rattle.std.specs.Prelude.{true, false, ◌≡◌, ◌<◌, ◌≤◌, ◌+◌, ◌∷◌, ◌++◌, []};
-ghost use Rattle.std.specs.Prelude.{List, None, length, reverse};
-ghost use Rattle.std.specs.List.{All, AllByRecursion, list_any};
+ghost use Rattle.std.specs.Prelude.{ℕ, true, false, ◌≡◌, ◌<◌, ◌≤◌, ◌+◌, ◌∷◌, ◌++◌, []};
+ghost use Rattle.std.specs.Prelude.{List, None, Some, length, reverse};
+ghost use Rattle.std.specs.List.{All, AllByRecursion, IsAmong, list_any};
 ghost use Rattle.std.specs.List.Sorted.{IsStrictlySortedBy};
 ghost use Rattle.gs_base.specs.declared.names.PeerNo.{PeerNo as PeerNoValue};
 ghost use Rattle.gs_base.specs.declared.names.Topic.{Topic};
+ghost use Rattle.gs_base.specs.declared.names.MsgId.{MsgId};
+ghost use Rattle.gs_base.specs.declared.mark.Mark.TheVariants.{Behaviour};
 ghost use Rattle.gs_base.specs.Codecs.{Codec};
-ghost use Rattle.gs_base.specs.Names.{same_topic};
+ghost use Rattle.gs_base.specs.Names.{same_id, same_topic};
 ghost use Rattle.gs_params.specs.Picks.{IsAscending};
 ghost use Rattle.gs_wire.specs.Codec.{codec};
 ghost use Rattle.gs_rules.specs.declared.trace.Entry.{Entry};
+ghost use Rattle.gs_rules.specs.declared.trace.Promise.{Promise};
 ghost use Rattle.gs_rules.specs.declared.trace.Event.TheVariants.{Promises};
 ghost use Rattle.gs_rules.specs.declared.refusal.RefusedLine.{RefusedLine};
 ghost use Rattle.gs_rules.specs.Peers.{Peer, links_of, seen_ttl};
-ghost use Rattle.gs_rules.specs.Tables.{Entries, joined, own_topics, promises, topic_order, up};
-ghost use Rattle.gs_rules.specs.Gossip.{IsKeptOn, gossip};
+ghost use Rattle.gs_rules.specs.Tables.{Entries, Keeping, joined, kept, keeping_order, own_topics, promises, topic_order, up};
+ghost use Rattle.gs_rules.specs.Gossip.{IsKeptOn, IsOpen, WasLeftOpen, charges, gossip, gossipable, overdue};
 ghost use Rattle.gs_rules.specs.Owed.{beats, gossip_topics, owed};
 ghost use Rattle.gs_rules.specs.Rules.{Gives, Rule, rule_of};
 ghost use Rattle.gs_rules.specs.Modes.{Follows, exact, free, settled};
@@ -170,4 +173,46 @@ pub fn a_promise_is_charged_once()
         → e.event ≡ Promises
         → e.promise ≡ None
         → All (λ promise. e.at.0 < promise.until.0) (promises (e ∷ entries)) }
+{}
+
+/// A promise that no entry since has kept or ended is held. Once its time has come it is overdue, and while its
+/// neighbour is up, it is charged to it. And no other promise is held.
+pub fn a_broken_promise_is_charged()
+    ensures held { (later earlier : Entries) (e : Entry) (promise : Promise)
+        → e.promise ≡ Some promise
+        → AllByRecursion (IsOpen promise) later
+        → IsAmong (promises (later ++ e ∷ earlier)) promise }
+    ensures due { (later earlier : Entries) (e : Entry) (promise : Promise) (at : ℕ)
+        → e.promise ≡ Some promise
+        → AllByRecursion (IsOpen promise) later
+        → promise.until.0 ≤ at
+        → IsAmong (overdue (later ++ e ∷ earlier) at promise.from) promise }
+    ensures charged { (later earlier : Entries) (e : Entry) (promise : Promise) (at : ℕ)
+        → e.promise ≡ Some promise
+        → AllByRecursion (IsOpen promise) later
+        → promise.until.0 ≤ at
+        → up (later ++ e ∷ earlier) promise.from ≡ true
+        → IsAmong (charges (later ++ e ∷ earlier) at promise.from) (Behaviour promise.from) }
+    ensures only { (entries : Entries) (promise : Promise)
+        → IsAmong (promises entries) promise
+        → WasLeftOpen entries promise }
+{}
+
+/// What is kept as one of a topic, and was kept lately, is gossiped on it, where no more than fit one offer are;
+/// and where more are, it is gossiped unless as many as fit one offer were kept later.
+pub fn what_is_kept_is_gossiped()
+    ensures stands { (len : ℕ) (entries : Entries) (id : MsgId) (found : Keeping)
+        → kept len entries id ≡ Some found
+        → list_any (same_id id) (keeping_order entries) ≡ true }
+    ensures whole { (p : Peer) (entries : Entries) (t : Topic)
+        → length (gossipable p entries t) ≤ 5_000
+        → gossip p entries t ≡ gossipable p entries t }
+    ensures each { (p : Peer) (entries : Entries) (t : Topic) (id : MsgId)
+        → IsKeptOn p entries t id
+        → length (gossipable p entries t) ≤ 5_000
+        → IsAmong (gossip p entries t) id }
+    ensures last { (p : Peer) (entries : Entries) (t : Topic) (id : MsgId) (before behind : List MsgId)
+        → gossipable p entries t ≡ before ++ id ∷ behind
+        → length behind < 5_000
+        → IsAmong (gossip p entries t) id }
 {}
