@@ -179,6 +179,36 @@ fn what_is_heard_comes_first_and_by_neighbour(rt: HostRuntime) -> Result<(), All
     Ok(())
 }
 
+/// Three peers in a line, with a heartbeat every 500 milliseconds.
+const LINE: &str = "round_ms = 100\nrounds = 10\nworkers = 3\ncapacity = 8\nseed = 1\n\
+    [params]\nheartbeat_ms = 500\n[[topic]]\nname = \"news\"\n\
+    [[peer]]\nname = \"a\"\n[[peer]]\nname = \"b\"\n[[peer]]\nname = \"c\"\n\
+    [[dial]]\nfrom = \"a\"\nto = \"b\"\n[[dial]]\nfrom = \"b\"\nto = \"c\"\n";
+
+/// What `a` published reaches `c`, too.
+const HEALED: &str = "delivered a 200 news 616263\ndelivered b 300 news 616263\n\
+    delivered c 800 news 616263\nlinks 4 settled\n";
+
+/// It reaches `b` alone.
+const BROKEN: &str =
+    "delivered a 200 news 616263\ndelivered b 300 news 616263\nlinks 4 settled\n";
+
+/// `b` offers in round 5 what it heard. `c` asks for it in round 6 and gets it in round 8, where it
+/// subscribed by round 4: that is heard in round 5 ahead of the heartbeat.
+#[test]
+fn gossip_heals_a_line(rt: HostRuntime) -> Result<(), AllocError> {
+    for (joins, report) in [(0, HEALED), (4, HEALED), (5, BROKEN)] {
+        let script: [Told<'_>; 4] = [
+            (0, "a", "subscribe", "news", None),
+            (0, "b", "subscribe", "news", None),
+            (joins, "c", "subscribe", "news", None),
+            (2, "a", "publish", "news", Some("616263")),
+        ];
+        assert!(rt; reports(&rt, &[LINE], &script, report)?);
+    }
+    Ok(())
+}
+
 /// What a scenario with the topic `news` and peers `p0`, `p1` and so on begins with.
 fn news(
     alloc: Global,
@@ -196,7 +226,7 @@ fn news(
     Ok(text)
 }
 
-/// Sixteen peers in a ring, who all subscribe in round 0. `p0` publishes in round 12.
+/// Sixteen peers in a ring, who all subscribe in round 0. `p0` publishes in round 2.
 fn ring(alloc: Global, workers: u64, capacity: u64) -> Result<String, AllocError> {
     let mut text = news(alloc, 20, workers, capacity, 16)?;
     for number in 0..16u64 {
@@ -206,14 +236,16 @@ fn ring(alloc: Global, workers: u64, capacity: u64) -> Result<String, AllocError
         text.push_str(&format!(in alloc; "[[do]]\nat = 0\npeer = \"p{number}\"\n")?)?;
         text.push_str("what = \"subscribe\"\ntopic = \"news\"\n")?;
     }
-    text.push_str("[[do]]\nat = 12\npeer = \"p0\"\nwhat = \"publish\"\n")?;
+    text.push_str("[[do]]\nat = 2\npeer = \"p0\"\nwhat = \"publish\"\n")?;
     text.push_str("topic = \"news\"\nhex = \"616263\"\n")?;
     Ok(text)
 }
 
-/// What is published reaches the neighbours, who don't pass it on.
-const RING_REPORT: &str = "delivered p0 1200 news 616263\ndelivered p1 1300 news 616263\n\
-    delivered p15 1300 news 616263\nlinks 32 settled\n";
+/// What is published reaches the neighbours, who offer it to theirs in round 10. Those ask for it in round
+/// 11, and get it in round 13. What they offer in round 20, the last one, comes too late.
+const RING_REPORT: &str = "delivered p0 200 news 616263\ndelivered p1 300 news 616263\n\
+    delivered p2 1300 news 616263\ndelivered p14 1300 news 616263\n\
+    delivered p15 300 news 616263\nlinks 32 settled\n";
 
 #[test]
 fn a_ring_of_sixteen_threads_has_one_report(rt: HostRuntime) -> Result<(), AllocError> {
