@@ -5,8 +5,8 @@ mod values;
 
 use crate::answer::{NO_MEMORY_ANSWER, Verdict};
 use crate::program::{ExitStatus, run};
-use crate::tests::cases::{Case, FINE, KEYS, NO_TOML, SCENARIO};
-use crate::tests::params::PARAMS;
+use crate::tests::cases::{Case, FINE, KEYS, MISSING, NO_TOML, SCENARIO};
+use crate::tests::params::{OF_TOPIC, OutOfRange, PARAMS, SHARED};
 use crate::tests::values::{NAMES, VALUES};
 use gs_streams::fakes::{Broken, Narrow};
 use std::alloc::{AllocError, Global};
@@ -60,8 +60,13 @@ fn what_is_no_toml_is_refused_with_line_and_column(rt: HostRuntime) -> Result<()
 }
 
 #[test]
-fn keys_that_are_unknown_or_missing_are_refused(rt: HostRuntime) -> Result<(), AllocError> {
+fn unknown_keys_are_refused_with_the_nearest_known_one(rt: HostRuntime) -> Result<(), AllocError> {
     answer_all(&rt, &KEYS)
+}
+
+#[test]
+fn missing_keys_are_refused_with_what_they_must_hold(rt: HostRuntime) -> Result<(), AllocError> {
+    answer_all(&rt, &MISSING)
 }
 
 #[test]
@@ -77,6 +82,31 @@ fn names_are_refused_that_nothing_has_or_two_have(rt: HostRuntime) -> Result<(),
 #[test]
 fn parameters_are_refused_with_their_values_and_rules(rt: HostRuntime) -> Result<(), AllocError> {
     answer_all(&rt, &PARAMS)
+}
+
+/// Checks that each of these keys of a table, which stand behind a line, is refused with its value and
+/// with what that must be.
+fn refuse_all<T: AllocGlobal + Abort>(
+    rt: &T,
+    line: &str,
+    table: &str,
+    cases: &[OutOfRange],
+) -> Result<(), AllocError> {
+    for (key, value, number, must) in cases {
+        let with_key = format!(in rt.alloc(); "{line}{key} = {value}\n")?;
+        let scenario = changed(rt.alloc(), line, with_key.as_str())?;
+        let said = said(rt.alloc(), scenario.as_bytes());
+        let place = format!(in rt.alloc(); "`{table}.{key}`")?;
+        let answer = format!(in rt.alloc(); "{number}\n{place} is {value}: it must be {must}\n")?;
+        assert_eq!(rt; str::from_utf8(&said), Ok(answer.as_str()), "{key}");
+    }
+    Ok(())
+}
+
+#[test]
+fn each_parameter_is_refused_by_its_own_name(rt: HostRuntime) -> Result<(), AllocError> {
+    refuse_all(&rt, "d = 6\n", "params", &SHARED)?;
+    refuse_all(&rt, "name = \"news\"\n", "topic[0]", &OF_TOPIC)
 }
 
 #[test]
@@ -106,7 +136,9 @@ fn each_answer_has_its_status(rt: HostRuntime) {
     assert!(rt; ends(alloc, &mut SCENARIO.as_bytes(), 0, answer, ""));
     let no_memory = ExitStatus::Answered(Verdict::NoMemory);
     assert!(rt; ExitCode::from(no_memory) == ExitCode::from(2u8));
-    assert!(rt; NO_MEMORY_ANSWER.starts_with("32\n"));
+    let answer =
+        "32\nthere is not enough memory to read the scenario, or to say what is wrong with it\n";
+    assert_eq!(rt; NO_MEMORY_ANSWER, answer);
 }
 
 #[test]

@@ -139,8 +139,8 @@ pub static NO_TOML: [Case; 9] = [
     ),
 ];
 
-/// Keys that are not known, or missing.
-pub static KEYS: [Case; 14] = [
+/// Keys that are not known.
+pub static KEYS: [Case; 11] = [
     (
         "an unknown key that is near a known one",
         "seed = 1\n",
@@ -206,11 +206,70 @@ pub static KEYS: [Case; 14] = [
          top table\n",
     ),
     (
+        "an unknown key of a score",
+        "value = 5\n",
+        "valeu = 5\n",
+        "27 app[0].valeu\n`app[0].valeu` is no key of an `[[app]]`; did you mean `value`?\n",
+    ),
+];
+
+/// Keys that are missing, and what each must hold.
+pub static MISSING: [Case; 18] = [
+    (
+        "no round length",
+        "round_ms = 100\n",
+        "",
+        "28 round_ms\n`round_ms` is missing: it must be the milliseconds of a round, \
+         a whole number from 1 to 60000\n",
+    ),
+    (
+        "no last round",
+        "rounds = 10\n",
+        "",
+        "28 rounds\n`rounds` is missing: it must be the number of the last round, \
+         a whole number from 1 to 100000\n",
+    ),
+    (
+        "no threads",
+        "workers = 2\n",
+        "",
+        "28 workers\n`workers` is missing: it must be how many threads run the peers, \
+         a whole number from 1 to 16\n",
+    ),
+    (
+        "no room in a link",
+        "capacity = 8\n",
+        "",
+        "28 capacity\n`capacity` is missing: it must be how many items a link holds, \
+         a whole number from 1 to 1024\n",
+    ),
+    (
         "no seed",
         "seed = 1\n",
         "",
         "28 seed\n\
          `seed` is missing: it must be a whole number from 0 to 9223372036854775807\n",
+    ),
+    (
+        "no topics",
+        "[[topic]]\nname = \"news\"\n",
+        "",
+        "28 topic\n`topic` is missing: it must be a list of 1 to 32 tables, \
+         each written under `[[topic]]`\n",
+    ),
+    (
+        "no peers",
+        "[[peer]]\nname = \"a\"\n\n[[peer]]\nname = \"b\"\n",
+        "",
+        "28 peer\n`peer` is missing: it must be a list of 1 to 64 tables, \
+         each written under `[[peer]]`\n",
+    ),
+    (
+        "a topic without a name",
+        "name = \"news\"\n",
+        "",
+        "28 topic[0].name\n\
+         `topic[0].name` is missing: it must be a name that no other topic has\n",
     ),
     (
         "a peer without a name",
@@ -219,10 +278,56 @@ pub static KEYS: [Case; 14] = [
         "28 peer[1].name\n`peer[1].name` is missing: it must be a name that no other peer has\n",
     ),
     (
+        "a dial from nobody",
+        "from = \"a\"\n",
+        "",
+        "28 dial[0].from\n`dial[0].from` is missing: it must be the name of a peer\n",
+    ),
+    (
         "a dial to nobody",
         "to = \"b\"\n",
         "",
         "28 dial[0].to\n`dial[0].to` is missing: it must be the name of another peer\n",
+    ),
+    (
+        "a score that nobody gives",
+        "peer = \"a\"\nabout",
+        "about",
+        "28 app[0].peer\n`app[0].peer` is missing: it must be the name of a peer\n",
+    ),
+    (
+        "a score of nobody",
+        "about = \"b\"\n",
+        "",
+        "28 app[0].about\n\
+         `app[0].about` is missing: it must be the name of a neighbour of that peer\n",
+    ),
+    (
+        "a score without a value",
+        "value = 5\n",
+        "",
+        "28 app[0].value\n`app[0].value` is missing: it must be millionths, \
+         a whole number from -1000000000 to 1000000000\n",
+    ),
+    (
+        "a line that says nothing",
+        "what = \"subscribe\"\n",
+        "",
+        "28 do[0].what\n\
+         `do[0].what` is missing: it must be `subscribe`, `unsubscribe` or `publish`\n",
+    ),
+    (
+        "a line at no round",
+        "at = 0\n",
+        "",
+        "28 do[0].at\n\
+         `do[0].at` is missing: it must be the number of a round, from 0 to `rounds`\n",
+    ),
+    (
+        "a line for no topic",
+        "topic = \"news\"\n",
+        "",
+        "28 do[0].topic\n`do[0].topic` is missing: it must be the name of a topic\n",
     ),
     (
         "a payload is missing",

@@ -154,3 +154,38 @@ pub static PARAMS: [Case; 25] = [
         "4\n`topic[1].p3_window_ms` is 1000000001: it must be at most 1000000000\n",
     ),
 ];
+
+/// A key of parameters, a value that is out of its range, the number of the refusal, and what the value
+/// must be.
+pub type OutOfRange = (&'static str, &'static str, u8, &'static str);
+
+/// Keys of `[params]`.
+pub static SHARED: [OutOfRange; 14] = [
+    ("w7", "1", 3, "from -1000000000 to 0"),
+    ("p6_threshold", "0", 3, "from 1 to 65535"),
+    ("decay_ms", "0", 4, "from 1 to 1000000000"),
+    ("fanout_ttl_ms", "0", 4, "from 1 to 1000000000"),
+    ("seen_ttl_ms", "0", 4, "from 1 to 1000000000"),
+    ("iwant_followup_ms", "0", 4, "from 1 to 1000000000"),
+    ("prune_backoff_s", "0", 4, "from 1 to 86400"),
+    ("mcache_len", "65", 4, "from 1 to 64"),
+    ("mcache_gossip", "0", 4, "at least 1"),
+    ("opportunistic_ticks", "1000001", 4, "from 1 to 1000000"),
+    ("opportunistic_peers", "65", 4, "at most 64"),
+    ("max_ihave", "1001", 4, "from 1 to 1000"),
+    ("max_ihave_ids", "5001", 4, "from 1 to 5000"),
+    ("gossip_retransmission", "0", 4, "from 1 to 1000"),
+];
+
+/// Keys of a topic.
+pub static OF_TOPIC: [OutOfRange; 9] = [
+    ("topic_weight", "1000000001", 3, "from 0 to 1000000000"),
+    ("w1", "1000000001", 3, "from 0 to 1000000000"),
+    ("w2", "1000000001", 3, "from 0 to 1000000000"),
+    ("w3", "1", 3, "from -1000000000 to 0"),
+    ("w3b", "-1000000001", 3, "from -1000000000 to 0"),
+    ("p2_decay", "1000001", 3, "from 0 to 1000000"),
+    ("p3_decay", "1000001", 3, "from 0 to 1000000"),
+    ("p4_decay", "1000001", 3, "from 0 to 1000000"),
+    ("p3_activation_ms", "1000000001", 4, "at most 1000000000"),
+];

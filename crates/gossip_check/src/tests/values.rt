@@ -2,7 +2,7 @@
 use crate::tests::cases::Case;
 
 /// Values that are not what they must be.
-pub static VALUES: [Case; 26] = [
+pub static VALUES: [Case; 32] = [
     (
         "a text in the place of a number",
         "rounds = 10",
@@ -174,6 +174,47 @@ pub static VALUES: [Case; 26] = [
         "hex = \"616263\"",
         "hex = \"6\"",
         "29 do[1].hex\n`do[1].hex` is \"6\": a payload is written in pairs of hex digits\n",
+    ),
+    (
+        "a list of two numbers",
+        "seed = 1",
+        "seed = [1, 2]",
+        "29 seed\n`seed` is a list of 2 elements: \
+         it must be a whole number from 0 to 9223372036854775807\n",
+    ),
+    (
+        "an address that is a number",
+        "name = \"a\"",
+        "name = \"a\"\naddress = 5",
+        "29 peer[0].address\n`peer[0].address` is 5: it must be a text, between quotes\n",
+    ),
+    (
+        "random words between quotes",
+        "name = \"a\"",
+        "name = \"a\"\nwords = [\"1\"]",
+        "29 peer[0].words\nan element of `peer[0].words` is \"1\": \
+         it must be a whole number from 0 to 4294967295, without quotes\n",
+    ),
+    (
+        "a score between quotes",
+        "value = 5",
+        "value = \"5\"",
+        "29 app[0].value\n`app[0].value` is \"5\": \
+         it must be a whole number from -1000000000 to 1000000000, without quotes\n",
+    ),
+    (
+        "a word that is a number",
+        "what = \"publish\"",
+        "what = 5",
+        "29 do[1].what\n`do[1].what` is 5: \
+         it must be `subscribe`, `unsubscribe` or `publish`, between quotes\n",
+    ),
+    (
+        "a payload that is a number",
+        "hex = \"616263\"",
+        "hex = 616263",
+        "29 do[1].hex\n`do[1].hex` is 616263: \
+         a payload is written in pairs of hex digits, between quotes\n",
     ),
 ];
 

@@ -19,6 +19,7 @@ use bytes::Bytes;
 use gs_base::{Text, Topic};
 use gs_params::{Check, ParamFault, Parameter, ScoreRule, What};
 use std::alloc::AllocError;
+use std::process::Abort;
 
 /// A text with another in the place of the first of these.
 fn edited(alloc: Global, text: &str, old: &str, new: &str) -> Result<String, AllocError> {
@@ -97,50 +98,49 @@ fn outcome_with(alloc: Global, key: &str, value: &str) -> Result<String, AllocEr
     outcome(alloc, text.as_str())
 }
 
-/// The first edit of a scenario that does not give what it must.
-fn first_wrong(alloc: Global, scenario: &str, cases: &[Case]) -> Result<Option<usize>, AllocError> {
-    for (index, (old, new, want)) in cases.iter().enumerate() {
-        let text = edited(alloc, scenario, old, new)?;
-        if outcome(alloc, text.as_str())?.as_str() != *want {
-            return Ok(Some(index));
-        }
+/// Checks that each edit of a scenario gives what it must.
+fn check_edits<T: AllocGlobal + Abort>(
+    rt: &T,
+    scenario: &str,
+    cases: &[Case],
+) -> Result<(), AllocError> {
+    for (old, new, want) in cases {
+        let text = edited(rt.alloc(), scenario, old, new)?;
+        let given = outcome(rt.alloc(), text.as_str())?;
+        assert_eq!(rt; given.as_str(), *want, "{new} for {old}");
     }
-    Ok(None)
+    Ok(())
 }
 
-/// The first line behind another line that does not give what it must.
-fn first_wrong_line(alloc: Global, cases: &[Case]) -> Result<Option<usize>, AllocError> {
-    for (index, (behind, line, want)) in cases.iter().enumerate() {
-        if outcome_behind(alloc, behind, line)?.as_str() != *want {
-            return Ok(Some(index));
-        }
+/// Checks that each line behind another line gives what it must.
+fn check_lines<T: AllocGlobal + Abort>(rt: &T, cases: &[Case]) -> Result<(), AllocError> {
+    for (behind, line, want) in cases {
+        let given = outcome_behind(rt.alloc(), behind, line)?;
+        assert_eq!(rt; given.as_str(), *want, "{line}");
     }
-    Ok(None)
+    Ok(())
 }
 
-/// The first value of a key of the top table that does not give what it must.
-fn first_wrong_value(alloc: Global, cases: &[Case]) -> Result<Option<usize>, AllocError> {
-    for (index, (key, value, want)) in cases.iter().enumerate() {
-        if outcome_with(alloc, key, value)?.as_str() != *want {
-            return Ok(Some(index));
-        }
+/// Checks that each value of a key of the top table gives what it must.
+fn check_values<T: AllocGlobal + Abort>(rt: &T, cases: &[Case]) -> Result<(), AllocError> {
+    for (key, value, want) in cases {
+        let given = outcome_with(rt.alloc(), key, value)?;
+        assert_eq!(rt; given.as_str(), *want, "{key} = {value}");
     }
-    Ok(None)
+    Ok(())
 }
 
 #[test]
 fn the_first_refusal_is_named(rt: HostRuntime) -> Result<(), AllocError> {
-    assert_eq!(rt; first_wrong(rt.alloc(), TWO_PEERS, &EDITS)?, None);
-    assert_eq!(rt; first_wrong(rt.alloc(), TWO_PEERS, &OTHER_LISTS)?, None);
-    Ok(())
+    check_edits(&rt, TWO_PEERS, &EDITS)?;
+    check_edits(&rt, TWO_PEERS, &OTHER_LISTS)
 }
 
 #[test]
 fn keys_of_tables_have_their_types(rt: HostRuntime) -> Result<(), AllocError> {
-    assert_eq!(rt; first_wrong_value(rt.alloc(), &BOUNDS)?, None);
-    assert_eq!(rt; first_wrong_line(rt.alloc(), &LINES)?, None);
-    assert_eq!(rt; first_wrong(rt.alloc(), TABLES, &APPS)?, None);
-    Ok(())
+    check_values(&rt, &BOUNDS)?;
+    check_lines(&rt, &LINES)?;
+    check_edits(&rt, TABLES, &APPS)
 }
 
 #[test]
@@ -224,11 +224,19 @@ fn lists_have_their_lengths_and_depths(rt: HostRuntime) -> Result<(), AllocError
     let alloc = rt.alloc();
     for (key, count, want) in &LENGTHS {
         let list = numbers(alloc, *count)?;
-        assert_eq!(rt; outcome_with(alloc, key, list.as_str())?.as_str(), *want);
+        assert_eq!(rt;
+            outcome_with(alloc, key, list.as_str())?.as_str(),
+            *want,
+            "{count}"
+        );
     }
     for (depth, want) in &DEPTHS {
         let list = nested(alloc, *depth)?;
-        assert_eq!(rt; outcome_with(alloc, "seed", list.as_str())?.as_str(), *want);
+        assert_eq!(rt;
+            outcome_with(alloc, "seed", list.as_str())?.as_str(),
+            *want,
+            "{depth}"
+        );
     }
     Ok(())
 }
@@ -264,7 +272,7 @@ fn a_refusal_has_its_reason(rt: HostRuntime) -> Result<(), AllocError> {
     let alloc = rt.alloc();
     for (old, new, want) in &REASONS {
         let text = edited(alloc, TABLES, old, new)?;
-        assert_eq!(rt; written(alloc, text.as_str())?.as_str(), *want);
+        assert_eq!(rt; written(alloc, text.as_str())?.as_str(), *want, "{new}");
     }
     Ok(())
 }
@@ -272,7 +280,11 @@ fn a_refusal_has_its_reason(rt: HostRuntime) -> Result<(), AllocError> {
 #[test]
 fn a_table_has_its_keys(rt: HostRuntime) -> Result<(), AllocError> {
     for (kind, want) in &KNOWN_KEYS {
-        assert_eq!(rt; keys_in_order(rt.alloc(), *kind)?.as_str(), *want);
+        assert_eq!(rt;
+            keys_in_order(rt.alloc(), *kind)?.as_str(),
+            *want,
+            "{kind:?}"
+        );
     }
     Ok(())
 }

@@ -33,8 +33,7 @@ fn changes_of_a_scenario_are_refused_with_number_and_place(
         ("seed = 1\n", "seed = 1\n[params]\nmcache_len = 2\n", "4"),
         ("hex = \"616263\"", "hex = \"6\"", "29 do[2].hex"),
     ];
-    assert_eq!(rt; first_wrong(rt.alloc(), TWO_PEERS, &EDITS)?, None);
-    Ok(())
+    check_edits(&rt, TWO_PEERS, &EDITS)
 }
 
 #[test]
@@ -84,8 +83,7 @@ fn a_key_goes_through_all_its_checks_before_the_next(rt: HostRuntime) -> Result<
             "29 topic[0].reject",
         ),
     ];
-    assert_eq!(rt; first_wrong(rt.alloc(), TABLES, &EDITS)?, None);
-    Ok(())
+    check_edits(&rt, TABLES, &EDITS)
 }
 
 #[test]
@@ -139,8 +137,7 @@ fn tables_and_lists_are_walked_in_the_order_of_the_top_keys(
             "29 do",
         ),
     ];
-    assert_eq!(rt; first_wrong(rt.alloc(), TABLES, &EDITS)?, None);
-    Ok(())
+    check_edits(&rt, TABLES, &EDITS)
 }
 
 #[test]
@@ -160,8 +157,7 @@ fn an_element_that_is_no_table_is_refused_where_the_walk_reaches_it(
         ("app", "[]", "a plan"),
         ("do", "[{}, 1]", "28 do[0].what"),
     ];
-    assert_eq!(rt; first_wrong_value(rt.alloc(), &VALUES)?, None);
-    Ok(())
+    check_values(&rt, &VALUES)
 }
 
 #[test]
@@ -203,8 +199,7 @@ fn a_repeat_is_noticed_after_all_keys_of_its_element(rt: HostRuntime) -> Result<
             "31 dial[1]",
         ),
     ];
-    assert_eq!(rt; first_wrong(rt.alloc(), TABLES, &EDITS)?, None);
-    Ok(())
+    check_edits(&rt, TABLES, &EDITS)
 }
 
 #[test]
@@ -259,8 +254,7 @@ fn the_heartbeat_and_the_decay_take_whole_rounds(rt: HostRuntime) -> Result<(), 
             "29 params.decay_ms",
         ),
     ];
-    assert_eq!(rt; first_wrong(rt.alloc(), TWO_PEERS, &EDITS)?, None);
-    Ok(())
+    check_edits(&rt, TWO_PEERS, &EDITS)
 }
 
 #[test]
@@ -293,8 +287,7 @@ fn what_a_line_says_comes_before_its_unknown_keys(rt: HostRuntime) -> Result<(),
             "28 do[0].at",
         ),
     ];
-    assert_eq!(rt; first_wrong(rt.alloc(), TWO_PEERS, &EDITS)?, None);
-    Ok(())
+    check_edits(&rt, TWO_PEERS, &EDITS)
 }
 
 #[test]
@@ -333,6 +326,5 @@ fn the_checks_run_over_all_topics_in_the_order_of_their_numbers(
             "4",
         ),
     ];
-    assert_eq!(rt; first_wrong(rt.alloc(), TABLES, &EDITS)?, None);
-    Ok(())
+    check_edits(&rt, TABLES, &EDITS)
 }

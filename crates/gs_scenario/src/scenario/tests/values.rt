@@ -30,8 +30,7 @@ fn a_badly_formed_name_is_out_of_range_and_an_unknown_one_unknown(
             "30 do[0].topic",
         ),
     ];
-    assert_eq!(rt; first_wrong(rt.alloc(), TABLES, &EDITS)?, None);
-    Ok(())
+    check_edits(&rt, TABLES, &EDITS)
 }
 
 #[test]
@@ -61,8 +60,7 @@ fn negative_numbers_are_for_eight_keys_alone(rt: HostRuntime) -> Result<(), Allo
         (IN_PARAMS, "heartbeat_ms = 0", "4"),
         (IN_PARAMS, "heartbeat_ms = 2000000000", "4"),
     ];
-    assert_eq!(rt; first_wrong_line(rt.alloc(), &LINES)?, None);
-    Ok(())
+    check_lines(&rt, &LINES)
 }
 
 #[test]
@@ -73,8 +71,7 @@ fn a_bad_item_is_refused_at_the_key_of_its_list(rt: HostRuntime) -> Result<(), A
         (IN_TOPIC, "reject = ['00', 0]", "29 topic[0].reject"),
         (IN_TOPIC, "ignore = ['00', '000']", "29 topic[0].ignore"),
     ];
-    assert_eq!(rt; first_wrong_line(rt.alloc(), &LINES)?, None);
-    Ok(())
+    check_lines(&rt, &LINES)
 }
 
 #[test]
@@ -102,8 +99,7 @@ fn what_no_toml_reader_takes_is_refused_wherever_it_stands(
         ("name = \"b\"\n", "name = \"b\"\nname = \"b\"\n", "26"),
         ("[params]\n", "[params]\n[params]\n", "26"),
     ];
-    assert_eq!(rt; first_wrong(rt.alloc(), TABLES, &EDITS)?, None);
-    Ok(())
+    check_edits(&rt, TABLES, &EDITS)
 }
 
 #[test]
@@ -129,8 +125,7 @@ fn unknown_keys_are_named_as_they_were_read(rt: HostRuntime) -> Result<(), Alloc
         ),
         ("value = 5\n", "value = 5\nValue = 5\n", "27 app[0].Value"),
     ];
-    assert_eq!(rt; first_wrong(rt.alloc(), TABLES, &EDITS)?, None);
-    Ok(())
+    check_edits(&rt, TABLES, &EDITS)
 }
 
 #[test]
@@ -141,8 +136,7 @@ fn hex_may_be_of_either_case(rt: HostRuntime) -> Result<(), AllocError> {
         (IN_TOPIC, "reject = ['ag']", "29 topic[0].reject"),
         (IN_TOPIC, "reject = ['0 ']", "29 topic[0].reject"),
     ];
-    assert_eq!(rt; first_wrong_line(rt.alloc(), &LINES)?, None);
-    Ok(())
+    check_lines(&rt, &LINES)
 }
 
 #[test]
@@ -199,6 +193,5 @@ fn a_truth_value_is_no_number_and_one_is_no_truth_value(rt: HostRuntime) -> Resu
             "29 app[1].value",
         ),
     ];
-    assert_eq!(rt; first_wrong_line(rt.alloc(), &LINES)?, None);
-    Ok(())
+    check_lines(&rt, &LINES)
 }
