@@ -190,8 +190,7 @@ const HEALED: &str = "delivered a 200 news 616263\ndelivered b 300 news 616263\n
     delivered c 800 news 616263\nlinks 4 settled\n";
 
 /// It reaches `b` alone.
-const BROKEN: &str =
-    "delivered a 200 news 616263\ndelivered b 300 news 616263\nlinks 4 settled\n";
+const BROKEN: &str = "delivered a 200 news 616263\ndelivered b 300 news 616263\nlinks 4 settled\n";
 
 /// `b` offers in round 5 what it heard. `c` asks for it in round 6 and gets it in round 8, where it
 /// subscribed by round 4: that is heard in round 5 ahead of the heartbeat.
