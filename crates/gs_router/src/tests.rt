@@ -3,10 +3,13 @@ ghost use Rattle.std.specs.Prelude.{true, ◌≡◌, ◌≤◌, IfOk};
 ghost use Rattle.gs_rules.specs.Tables.{last_moment};
 ghost use Rattle.gs_wire.specs.Codec.{codec};
 
+mod beat_cases;
+mod beats;
 mod cases;
 mod gossip;
 mod gossip_cases;
 mod made;
+mod sights;
 mod verdicts;
 
 use crate::fault::RouterFault;
@@ -82,13 +85,17 @@ fn ask(alloc: Global, router: &mut Router, at: u64, what: What<'_>) -> Result<u8
         Event::Subscribe(topic) => router.subscribe(topic, now, words),
         Event::Unsubscribe(topic) => router.unsubscribe(topic, now, words),
         Event::Publish(topic, payload) => router.publish(topic, payload, now, words),
+        Event::Promises => router.heartbeat(now, words),
         Event::RoundEnd(round) => router.end_round(round, now, words),
         Event::Gone(peer) => router.gone(peer, now, words),
         Event::Fault(peer) => router.fault(peer, now, words),
         Event::Shut => router.shut(now, words),
-        Event::Sub(_, _) | Event::Msg(_, _) | Event::Have(_, _) | Event::Want(_, _) => {
-            return Ok(u8::MAX);
-        }
+        Event::Sub(_, _)
+        | Event::Msg(_, _)
+        | Event::Have(_, _)
+        | Event::Want(_, _)
+        | Event::GossipBeat(_)
+        | Event::BeatEnd => return Ok(u8::MAX),
     };
     Ok(match result {
         Ok(()) => 0,
@@ -293,10 +300,17 @@ fn joins_1024(alloc: Global, router: &mut Router) -> Result<bool, AllocError> {
     Ok(true)
 }
 
-/// Whether a router with 1,024 topics refuses a topic that is too long for its length.
+/// Whether a router with 1,024 topics refuses a topic that is too long for its length, and what is published on it.
 fn refuses_length_first(alloc: Global, router: &mut Router) -> Result<bool, AllocError> {
     let too_long = "t".repeat(alloc, 1_025)?;
-    Ok(ask(alloc, router, 2_000, What::Subscribe(too_long.as_str()))? == 17)
+    let joins = ask(alloc, router, 2_000, What::Subscribe(too_long.as_str()))?;
+    let publishes = ask(
+        alloc,
+        router,
+        2_000,
+        What::Publish(too_long.as_str(), b"abc"),
+    )?;
+    Ok(joins == 17 && publishes == 17)
 }
 
 #[test]

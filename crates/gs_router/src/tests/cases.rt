@@ -323,7 +323,7 @@ pub static REFUSED_TRACE: [Row<'static>; 4] = [
     (120_002, What::Publish("a", b"abc"), TO_NONE, None, ABC_SEEN),
 ];
 
-pub static SHUT: [Call<'static>; 14] = [
+pub static SHUT: [Call<'static>; 15] = [
     (0, What::Subscribe("a"), 0),
     (0, What::Heard(2, ON_A), 0),
     (100, What::RoundEnd(0), 0),
@@ -334,6 +334,7 @@ pub static SHUT: [Call<'static>; 14] = [
     (200, What::Unsubscribe("a"), 21),
     (200, What::Unsubscribe("b"), 21),
     (200, What::Publish("a", b"abc"), 21),
+    (200, What::Beat, 21),
     (200, What::RoundEnd(2), 21),
     (200, What::Shut, 21),
     (300, What::Heard(1, ABSENT), 0),

@@ -30,7 +30,7 @@ fn ids_of(alloc: Global, ids: &[Id]) -> Result<Seq<Bytes>, AllocError> {
     Ok(list)
 }
 
-fn topic_of(alloc: Global, name: &str) -> Result<Topic, AllocError> {
+pub fn topic_of(alloc: Global, name: &str) -> Result<Topic, AllocError> {
     Ok(Topic(Bytes::copy_from_slice(alloc, name.as_bytes())?))
 }
 
@@ -76,7 +76,7 @@ fn publishing(alloc: Global, payload: u8) -> Result<Rpc, AllocError> {
 }
 
 /// Tells a router this, which chooses by these words; whether it did as it was told.
-fn tell(
+pub fn tell(
     alloc: Global,
     router: &mut Router,
     at: u64,
@@ -121,7 +121,7 @@ fn asked(entry: &Entry) -> &[Bytes] {
     }
 }
 
-fn are_ids(ids: &[Bytes], payloads: &[u8]) -> bool {
+pub fn are_ids(ids: &[Bytes], payloads: &[u8]) -> bool {
     for (id, payload) in ids.iter().zip(payloads) {
         if id.as_slice() != MsgId::of(&[*payload]).0.as_slice() {
             return false;
@@ -181,7 +181,7 @@ fn is_then(entry: &Entry, then: Then<'_>) -> bool {
 }
 
 /// Whether the last entry of a router's trace says this.
-fn ends_with(router: &Router, then: Then<'_>) -> bool {
+pub fn ends_with(router: &Router, then: Then<'_>) -> bool {
     match router.trace().entries() {
         [.., last] => is_then(last, then),
         [] => false,

@@ -28,7 +28,7 @@ pub struct Then<'a> {
 }
 
 /// Nothing comes of it.
-const NOTHING: Then<'static> = Then {
+pub const NOTHING: Then<'static> = Then {
     asks: &[],
     promise: None,
     gives: &[],
@@ -36,7 +36,7 @@ const NOTHING: Then<'static> = Then {
 };
 
 /// An offer counts, and nothing is asked for.
-const COUNTS: Then<'static> = Then {
+pub const COUNTS: Then<'static> = Then {
     asks: &[],
     promise: None,
     gives: &[],
@@ -44,7 +44,7 @@ const COUNTS: Then<'static> = Then {
 };
 
 /// A message is seen, is the first of its neighbour, and is kept.
-const ACCEPTED: Then<'static> = Then {
+pub const ACCEPTED: Then<'static> = Then {
     asks: &[],
     promise: None,
     gives: &[],

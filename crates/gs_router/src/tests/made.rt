@@ -25,6 +25,7 @@ pub enum What<'a> {
     Subscribe(&'a str),
     Unsubscribe(&'a str),
     Publish(&'a str, &'a [u8]),
+    Beat,
     RoundEnd(u64),
     Gone(u16),
     Fault(u16),
@@ -126,6 +127,7 @@ pub fn event_of(alloc: Global, what: What<'_>) -> Result<Event, AllocError> {
                 Bytes::copy_from_slice(alloc, payload)?,
             )
         }
+        What::Beat => Event::Promises,
         What::RoundEnd(round) => Event::RoundEnd(round),
         What::Gone(peer) => Event::Gone(PeerNo(peer)),
         What::Fault(peer) => Event::Fault(PeerNo(peer)),

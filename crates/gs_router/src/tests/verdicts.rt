@@ -5,6 +5,7 @@ use bytes::Bytes;
 use gs_base::{Mark, Millis, PeerNo, Rpc, Seq, Topic, Verdict};
 use gs_params::{Params, TopicParams};
 use gs_rules::Entry;
+use gs_wire::decode;
 use std::alloc::{AllocError, Global};
 
 /// What becomes of a message.
@@ -128,6 +129,48 @@ fn first_wrong(alloc: Global, rows: &[Row<'_>]) -> Result<usize, AllocError> {
         }
     }
     Ok(rows.len())
+}
+
+/// Bodies of RPCs from neighbour 1, and what becomes of the message in each: `abc` on `a`, with an origin that is there
+/// and empty, and without.
+static BODIES: [(&[u8], Outcome); 3] = [
+    (b"\x12\x0a\x0a\x00\x12\x03abc\x22\x01a", Outcome::Invalid),
+    (b"\x12\x08\x12\x03abc\x22\x01a", Outcome::Delivered),
+    (b"\x12\x0a\x0a\x00\x12\x03abc\x22\x01a", Outcome::Invalid),
+];
+
+/// What becomes of the message in a body.
+fn read(alloc: Global, router: &mut Router, body: &[u8]) -> Result<Outcome, AllocError> {
+    let Ok(rpc) = decode(alloc, body) else {
+        return Ok(Outcome::Other);
+    };
+    if !is_due(router.trace(), Millis(0)) {
+        return Ok(Outcome::Other);
+    }
+    let answer = hear(alloc, router, PeerNo(1), &rpc, Millis(0), &mut words(alloc))?;
+    match (answer, router.trace().entries()) {
+        (Ok(()), [.., last]) => Ok(outcome_of(last)),
+        _ => Ok(Outcome::Other),
+    }
+}
+
+/// The place of the first body of whose message something else becomes; the number of bodies where there is none.
+fn first_misread(alloc: Global, bodies: &[(&[u8], Outcome)]) -> Result<usize, AllocError> {
+    let mut router = router(alloc)?;
+    for (place, (body, outcome)) in bodies.iter().enumerate() {
+        if read(alloc, &mut router, body)? != *outcome {
+            return Ok(place);
+        }
+    }
+    Ok(bodies.len())
+}
+
+#[test]
+fn a_message_with_an_empty_origin_is_invalid_as_it_is_read(
+    rt: HostRuntime,
+) -> Result<(), AllocError> {
+    assert_eq!(rt; first_misread(rt.alloc(), &BODIES)?, 3);
+    Ok(())
 }
 
 #[test]
