@@ -1,0 +1,3 @@
+pub mod Peers
+pub mod Backoffs
+pub mod Meshes

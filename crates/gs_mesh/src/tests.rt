@@ -1,0 +1,3 @@
+//! Topics, their meshes and their fanouts.
+mod lists;
+mod topics;

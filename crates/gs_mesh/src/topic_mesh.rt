@@ -1,0 +1,38 @@
+//! What is kept of one topic.
+ghost use Rattle.std.specs.Prelude.{◌≡◌};
+ghost use Rattle.gs_mesh.specs.Meshes.{nothing};
+
+use crate::backoffs::Backoffs;
+use crate::peer_list::PeerList;
+use gs_base::Millis;
+use std::alloc::Global;
+
+/// What is kept of one topic.
+#[derive(Drop)]
+pub struct TopicMesh {
+    /// Whether the peer is subscribed to it.
+    pub is_joined: bool,
+    /// To whom messages on it are passed on.
+    pub members: PeerList,
+    /// To whom messages go that the peer publishes without being subscribed.
+    pub fanout: PeerList,
+    /// When the peer last published on it without being subscribed, for as long as that keeps a fanout.
+    pub last_published: Option<Millis>,
+    /// Until when neighbours are not to be grafted.
+    pub backoffs: Backoffs,
+}
+
+impl TopicMesh {
+    /// Nothing. It takes no memory.
+    pub(crate) fn new(alloc: Global) -> TopicMesh
+        ensures { result ≡ nothing }
+    {
+        TopicMesh {
+            is_joined: false,
+            members: PeerList::new(alloc),
+            fanout: PeerList::new(alloc),
+            last_published: None,
+            backoffs: Backoffs::new(alloc),
+        }
+    }
+}
