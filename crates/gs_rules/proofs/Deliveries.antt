@@ -12,22 +12,23 @@ use Rattle.gs_base.specs.declared.names.Topic.{Topic}
 use Rattle.gs_base.specs.declared.names.MsgId.{MsgId}
 use Rattle.gs_base.specs.declared.rpc.Message.{Message}
 use Rattle.gs_base.specs.declared.control.IHave.{IHave}
+use Rattle.gs_base.specs.declared.control.IWant.{IWant}
 use Rattle.gs_base.specs.declared.verdict.Verdict.{Verdict}
 use Rattle.gs_base.specs.declared.verdict.Verdict.TheVariants.{Accept, Reject, Ignore}
 use Rattle.gs_base.specs.declared.mark.Mark.{Mark}
 use Rattle.gs_base.specs.declared.mark.Mark.TheVariants.{Seen, First, Cached}
 use Rattle.gs_rules.specs.declared.trace.Event.{Event}
-use Rattle.gs_rules.specs.declared.trace.Event.TheVariants.{Msg, Have, Publish, GossipBeat}
+use Rattle.gs_rules.specs.declared.trace.Event.TheVariants.{Msg, Have, Want, Publish, GossipBeat}
 use Rattle.gs_rules.specs.declared.trace.Entry.{Entry}
 use Rattle.gs_base.specs.Names.{same_id, message_id, topic_of, payload_of}
 use Rattle.gs_rules.specs.Tables.{Entries, last_moment, joined, Sighting, after_marks, sighting_after, last_seen, counting, seen}
 use Rattle.gs_rules.specs.Peers.{Peer, seen_ttl}
 use Rattle.gs_rules.specs.Owed.{owed}
-use Rattle.gs_rules.specs.Rules.{rule_of, asking, bare, counted, have_rule, invalid, message_rule, new_message, publish_rule, telling, wanted}
+use Rattle.gs_rules.specs.Rules.{rule_of, asking, bare, counted, have_rule, invalid, message_rule, new_message, publish_rule, telling, want_rule, wanted}
 use Rattle.gs_rules.specs.Modes.{SaysTheSame, Follows, free}
 use Rattle.gs_rules.specs.Legal.{MayPublish, IsNext, IsAllowed, Legal, Delivers, DeliversApart}
 use Rattle.gs_rules.proofs.Legality.{legal_newest}
-use Rattle.gs_rules.proofs.Judged.{of_a_message}
+use Rattle.gs_rules.proofs.Judged.{of_a_message, of_a_request}
 use Rattle.gs_rules.proofs.Owed.{opens}
 use Rattle.gs_rules.proofs.Offers.{what_is_offered}
 
@@ -139,11 +140,17 @@ offered p L q offer e id effects delivers =
     (λ place same. delivers_none p L e (asking p e.at q offer (wanted p L e.at.0 q offer.ids) place) id same refl delivers)
     effects
 
+-- and neither does a request
+requested : (p : Peer) (L : Entries) (q : PeerNo) (request : IWant) (e : Entry) (id : MsgId) → SaysTheSame e (want_rule p L e.at q request) → Delivers e id → IsFresh p L e id
+requested p L q request e id same delivers =
+    delivers_none p L e (want_rule p L e.at q request) id same (of_a_request (λ (x : Entry). x.delivered ≡ []) p L e.at q request refl refl) delivers
+
 -- of all events, these two alone deliver
 by_event : (p : Peer) (L : Entries) (event : Event) (e : Entry) (id : MsgId) → IsNext p L e.at.0 (owed p L).events event → Follows free (rule_of p L e.at event) tt e tt → Delivers e id → IsFresh p L e id
 by_event p L (Msg q m) e id next effects delivers = heard p L q m e id effects.0 delivers
 by_event p L (Publish t payload) e id next effects delivers = published p L t payload e id (opens p L e.at.0 (Publish t payload) (λ h. h) next) effects.0 delivers
 by_event p L (Have q offer) e id next effects delivers = offered p L q offer e id effects delivers
+by_event p L (Want q request) e id next effects delivers = requested p L q request e id effects.0 delivers
 by_event p L (GossipBeat t) e id next effects delivers = delivers_none p L e (telling p L e.at t effects.0) id effects.3.0 refl delivers
 by_event p L other e id next effects delivers = delivers_none p L e _ id effects.0 refl delivers
 

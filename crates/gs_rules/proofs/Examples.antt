@@ -11,6 +11,8 @@ use Rattle.gs_base.specs.declared.mark.Mark.TheVariants.{Cached, Answered, Heard
 use Rattle.gs_params.specs.Params.{default_degrees, default_factors, default_thresholds, default_windows}
 use Rattle.gs_base.specs.declared.rpc.SubOpt.{SubOpt}
 use Rattle.gs_base.specs.declared.rpc.Message.{Message}
+use Rattle.gs_score.specs.Formula.{score_of}
+use Rattle.gs_score.specs.Millionths.{times}
 use Rattle.gs_wire.specs.declared.frames.End.TheVariants as ends
 use Rattle.gs_wire.specs.Codec.{codec}
 use Rattle.gs_rules.specs.declared.trace.Event.{Event}
@@ -18,6 +20,7 @@ use Rattle.gs_rules.specs.declared.trace.Event.TheVariants.{Sub, Msg, Have, Want
 use Rattle.gs_rules.specs.declared.trace.Entry.{Entry}
 use Rattle.gs_rules.specs.Peers.{Peer}
 use Rattle.gs_rules.specs.Tables.{answered, kept, unsigned, up}
+use Rattle.gs_rules.specs.Scoring.{score}
 use Rattle.gs_rules.specs.Owed.{parts}
 use Rattle.gs_rules.specs.Rules.{Gives, answers, bare, each_once, have_rule, ids_in, room_to_ask}
 use Rattle.gs_rules.specs.Saying.{Byte, EndOf, Close, out}
@@ -137,10 +140,12 @@ another_has_its_own_room : room_to_ask peer (marked (Have q offer) (Asked q 3) �
 another_has_its_own_room = refl
 
 one_offer_too_many_counts_no_more : have_rule peer (marked (Have q offer) (HeardHave q) ∷ []) (record { 0 = 0 }) q offer ≡ Gives (entry (Have q offer))
+unfolding score score_of times
 one_offer_too_many_counts_no_more = refl
 
 -- the peer is subscribed to nothing
 an_offer_on_a_foreign_topic_counts : have_rule peer [] (record { 0 = 0 }) q offer ≡ Gives (marked (Have q offer) (HeardHave q))
+unfolding score score_of times
 an_offer_on_a_foreign_topic_counts = refl
 
 -- ---- requests

@@ -10,6 +10,7 @@ use Rattle.gs_base.specs.declared.names.Topic.{Topic}
 use Rattle.gs_base.specs.declared.names.Millis.{Millis}
 use Rattle.gs_base.specs.declared.names.MsgId.{MsgId}
 use Rattle.gs_base.specs.declared.control.IHave.{IHave}
+use Rattle.gs_base.specs.declared.control.IWant.{IWant}
 use Rattle.gs_base.specs.declared.rpc.Message.{Message}
 use Rattle.gs_base.specs.declared.rpc.Rpc.{Rpc}
 use Rattle.gs_rules.specs.declared.trace.Event.{Event}
@@ -26,15 +27,16 @@ use Rattle.gs_wire.proofs.Written.{varint_ten, records_text-single, len_text-len
 use Rattle.gs_wire.proofs.SentOn as sent_on
 use Rattle.gs_rules.specs.Peers.{Peer}
 use Rattle.gs_rules.specs.Tables.{Entries}
+use Rattle.gs_rules.specs.Scoring.{is_passed_over}
 use Rattle.gs_rules.specs.Gossip.{gossip}
 use Rattle.gs_rules.specs.Owed.{owed}
-use Rattle.gs_rules.specs.Rules.{answers, asking, bare, counted, have_rule, ids_in, listeners, message_rule, new_message, rule_of, telling, to_each, up_neighbours, want_rule, wanted}
+use Rattle.gs_rules.specs.Rules.{answers, asking, bare, counted, have_rule, ids_in, listeners, message_rule, new_message, rule_of, telling, to_each, up_neighbours, want_rule, wanted, without}
 use Rattle.gs_rules.specs.Modes.{SaysTheSame, sent_to, Follows, free}
 use Rattle.gs_rules.specs.Legal.{MaySubscribe, MayUnsubscribe, MayPublish, IsNext, Legal}
 use Rattle.gs_rules.specs.Saying.{SendsFit, AllFit}
 use Rattle.gs_base.specs.declared.verdict.Verdict.{Verdict}
 use Rattle.gs_base.specs.declared.verdict.Verdict.TheVariants.{Accept, Reject, Ignore}
-use Rattle.gs_rules.proofs.Judged.{of_a_message}
+use Rattle.gs_rules.proofs.Judged.{of_a_message, of_a_request}
 use Rattle.gs_rules.proofs.Owed.{opens}
 use Rattle.gs_rules.proofs.Legality.{legal_newest}
 use Rattle.gs_rules.proofs.Offers.{wanted_few, wanted_long, what_is_offered}
@@ -159,13 +161,17 @@ answers_written : (q : PeerNo) (given : List (MsgId × Message)) → AllAlone gi
 answers_written q [] all = tt
 answers_written q (x ∷ given) all = (passed_on_written x.1 all.0, answers_written q given all.1)
 
+request_fits : (p : Peer) (L : Entries) (at : Millis) (q : PeerNo) (request : IWant) → Legal p L → SendsWritten (want_rule p L at q request).sends
+request_fits p L at q request legal =
+    of_a_request (λ (e : Entry). SendsWritten e.sends) p L at q request tt
+    (answers_written q (answers p L q [] (ids_in request.ids)) (answers_fit p L q [] (ids_in request.ids) legal))
+
 -- each event sends what fits, or nothing
 module _ (p : Peer) (L : Entries) (legal : Legal p L) where
   by_event : (event : Event) (e : Entry) → IsNext p L e.at.0 (owed p L).events event → Follows free (rule_of p L e.at event) tt e tt → SendsWritten e.sends
   by_event (Msg q m) e next effects = same_fits e _ effects.0 (message_fits p L e.at q m)
   by_event (Have q offer) e next effects = offer_fits p L q offer e effects
-  by_event (Want q request) e next effects =
-      same_fits e (want_rule p L e.at q request) effects.0 (answers_written q (answers p L q [] (ids_in request.ids)) (answers_fit p L q [] (ids_in request.ids) legal))
+  by_event (Want q request) e next effects = same_fits e (want_rule p L e.at q request) effects.0 (request_fits p L e.at q request legal)
   by_event (Subscribe t) e next effects =
       let may : MaySubscribe L t = opens p L e.at.0 (Subscribe t) (λ h. h) next in
       same_fits e _ effects.0 (each_fits (announcement true t) (up_neighbours p L) (announcement_written true t may.short))
@@ -174,7 +180,7 @@ module _ (p : Peer) (L : Entries) (legal : Legal p L) where
       same_fits e _ effects.0 (each_fits (announcement false t) (up_neighbours p L) (announcement_written false t (joined_short p L t legal may.joined)))
   by_event (Publish t payload) e next effects =
       let may : MayPublish p L e.at.0 t payload = opens p L e.at.0 (Publish t payload) (λ h. h) next in
-      same_fits e _ effects.0 (each_fits (publication t payload) (listeners p L t) (publication_written t payload may.fits))
+      same_fits e _ effects.0 (each_fits (publication t payload) (without (is_passed_over p L e.at.0) (listeners p L t)) (publication_written t payload may.fits))
   by_event (GossipBeat t) e next effects =
       let ids : List (List ℕ) = map (λ (id : MsgId). id.0) (gossip p L t) in
       same_fits e (telling p L e.at t effects.0) effects.3.0

@@ -30,10 +30,10 @@ use Rattle.gs_rules.specs.Peers.{Peer, links_of, windows}
 use Rattle.gs_rules.specs.Tables.{Entries, Keeping, after_marks, ended_after, fulfilled_after, keeping_order, kept, made, order_after, own_topics, promises, up}
 use Rattle.gs_rules.specs.Gossip.{IsKeptOn, charges, gossip, is_gossiped, overdue}
 use Rattle.gs_rules.specs.Owed.{gossip_topics, is_some_list, offers_in, owed, parts, requests_in}
-use Rattle.gs_rules.specs.Rules.{answers, asking, bare, counted, have_rule, ids_in, message_rule, new_message, rule_of, wanted}
+use Rattle.gs_rules.specs.Rules.{answers, asking, bare, counted, have_rule, ids_in, message_rule, new_message, rule_of, want_rule, wanted}
 use Rattle.gs_rules.specs.Modes.{SaysTheSame, Follows, free}
 use Rattle.gs_rules.specs.Legal.{IsNext, Legal}
-use Rattle.gs_rules.proofs.Judged.{of_a_message}
+use Rattle.gs_rules.proofs.Judged.{of_a_message, of_a_request}
 use Rattle.gs_rules.proofs.Legality.{legal_newest}
 use Rattle.gs_rules.proofs.Offers.{what_is_offered}
 use Rattle.gs_rules.proofs.Owed.{OwesSuch, beats_are_such, kind_of_parts, last_parts, nothing_is_such, owing_are_such}
@@ -78,7 +78,7 @@ gossip_topics_short p L legal = filtered_are IsShort (λ t. is_some_list (gossip
 owed_short : (p : Peer) (L : Entries) → Legal p L → OwesSuch IsShortBeat (owed p L)
 owed_short p [] legal = nothing_is_such IsShortBeat
 owed_short p (e ∷ L) legal =
-    owing_are_such IsShortBeat p L (e ∷ L) e.event (owed p L) (λ q rpc is. parts_short q rpc)
+    owing_are_such IsShortBeat p L (e ∷ L) e.at.0 e.event (owed p L) (λ q rpc is. parts_short q rpc)
     (λ is. beats_are_such IsShortBeat (gossip_topics p (e ∷ L)) (gossip_topics_short p (e ∷ L) legal) tt)
     (owed_short p L legal.1)
 
@@ -104,8 +104,8 @@ KeepsLong (Cached id t) = IsLong id
 KeepsLong other = Unit {0}
 
 -- marks may stand in any order
-same_marks : (e x : Entry) → SaysTheSame e x → AllByRecursion KeepsLong x.marks → AllByRecursion KeepsLong e.marks
-same_marks e x same all = recursion_from_All KeepsLong e.marks (All-permutation KeepsLong x.marks e.marks same.marks (All-from_recursion KeepsLong x.marks all))
+pub same_marks : (P : Mark → Type 0) (e x : Entry) → SaysTheSame e x → AllByRecursion P x.marks → AllByRecursion P e.marks
+same_marks P e x same all = recursion_from_All P e.marks (All-permutation P x.marks e.marks same.marks (All-from_recursion P x.marks all))
 
 -- a message that came is kept by its own identifier
 message_keeps : (p : Peer) (L : Entries) (at : Millis) (q : PeerNo) (m : Message) → AllByRecursion KeepsLong (message_rule p L at q m).marks
@@ -120,9 +120,9 @@ message_keeps p L at q m = of_a_message (λ (x : Entry). AllByRecursion KeepsLon
 offer_keeps : (p : Peer) (L : Entries) (q : PeerNo) (offer : IHave) (e : Entry) → Follows free (have_rule p L e.at q offer) tt e tt → AllByRecursion KeepsLong e.marks
 offer_keeps p L q offer e effects =
     what_is_offered (λ (e : Entry). AllByRecursion KeepsLong e.marks) p L e.at q offer e
-    (λ same. same_marks e (bare e.at (Have q offer)) same tt)
-    (λ same. same_marks e (counted e.at q offer) same (tt, tt))
-    (λ place same. same_marks e (asking p e.at q offer (wanted p L e.at.0 q offer.ids) place) same (tt, (tt, tt)))
+    (λ same. same_marks KeepsLong e (bare e.at (Have q offer)) same tt)
+    (λ same. same_marks KeepsLong e (counted e.at q offer) same (tt, tt))
+    (λ place same. same_marks KeepsLong e (asking p e.at q offer (wanted p L e.at.0 q offer.ids) place) same (tt, (tt, tt)))
     effects
 
 answers_keep : (q : PeerNo) (given : List (MsgId × Message)) → AllByRecursion KeepsLong (map (λ (x : MsgId × Message). Answered q x.0) given)
@@ -143,13 +143,15 @@ charges_keep L at (q ∷ qs) = all-append KeepsLong (charges L at q) (flat_map (
     by false = tt
 
 entry_keeps : (p : Peer) (L : Entries) (event : Event) (e : Entry) → Follows free (rule_of p L e.at event) tt e tt → AllByRecursion KeepsLong e.marks
-entry_keeps p L (Msg q m) e effects = same_marks e _ effects.0 (message_keeps p L e.at q m)
+entry_keeps p L (Msg q m) e effects = same_marks KeepsLong e _ effects.0 (message_keeps p L e.at q m)
 entry_keeps p L (Have q offer) e effects = offer_keeps p L q offer e effects
-entry_keeps p L (Want q request) e effects = same_marks e _ effects.0 (answers_keep q (answers p L q [] (ids_in request.ids)))
-entry_keeps p L (Publish t payload) e effects = same_marks e _ effects.0 (tt, (message_id_long payload, tt))
-entry_keeps p L Promises e effects = same_marks e _ effects.0 (charges_keep L e.at.0 (links_of p))
-entry_keeps p L (GossipBeat t) e effects = same_marks e _ effects.3.0 tt
-entry_keeps p L other e effects = same_marks e _ effects.0 tt
+entry_keeps p L (Want q request) e effects =
+    same_marks KeepsLong e (want_rule p L e.at q request) effects.0
+    (of_a_request (λ (x : Entry). AllByRecursion KeepsLong x.marks) p L e.at q request tt (answers_keep q (answers p L q [] (ids_in request.ids))))
+entry_keeps p L (Publish t payload) e effects = same_marks KeepsLong e _ effects.0 (tt, (message_id_long payload, tt))
+entry_keeps p L Promises e effects = same_marks KeepsLong e _ effects.0 (charges_keep L e.at.0 (links_of p))
+entry_keeps p L (GossipBeat t) e effects = same_marks KeepsLong e _ effects.3.0 tt
+entry_keeps p L other e effects = same_marks KeepsLong e _ effects.0 tt
 
 marks_order : (marks : List Mark) (before : List MsgId) → AllByRecursion KeepsLong marks → AllByRecursion IsLong before → AllByRecursion IsLong (after_marks order_after marks before)
 marks_order [] before all h = h

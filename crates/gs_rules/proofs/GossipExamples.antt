@@ -20,7 +20,7 @@ use Rattle.gs_rules.specs.Tables.{Entries, asked, blank, keeping_order, kept, of
 use Rattle.gs_rules.specs.Gossip.{IsOpen, all_charges, ends_promise, gossip, gossip_size, gossipable, keeps_promise}
 use Rattle.gs_rules.specs.Owed.{owed}
 use Rattle.gs_rules.specs.Rules.{bare, telling}
-use Rattle.gs_rules.specs.Rounds.{Seat, Beat, EndRound, Playing, agenda}
+use Rattle.gs_rules.specs.Rounds.{Seat, LowerCounters, Beat, EndRound, Playing, agenda}
 
 -- ---- what is given
 
@@ -257,7 +257,7 @@ no_heartbeat_in_the_first_round : agenda seat (Playing 0) [] ≡ EndRound 0 ∷ 
 no_heartbeat_in_the_first_round = refl
 
 -- at millisecond 1,000
-a_heartbeat_in_the_tenth_round : agenda seat (Playing 10) [] ≡ Beat ∷ EndRound 10 ∷ []
+a_heartbeat_in_the_tenth_round : agenda seat (Playing 10) [] ≡ LowerCounters ∷ Beat ∷ EndRound 10 ∷ []
 a_heartbeat_in_the_tenth_round = refl
 
 -- at millisecond 1,100
@@ -265,8 +265,28 @@ no_heartbeat_in_the_eleventh_round : agenda seat (Playing 11) [] ≡ EndRound 11
 no_heartbeat_in_the_eleventh_round = refl
 
 -- at millisecond 2,000
-a_heartbeat_in_the_twentieth_round : agenda seat (Playing 20) [] ≡ Beat ∷ EndRound 20 ∷ []
+a_heartbeat_in_the_twentieth_round : agenda seat (Playing 20) [] ≡ LowerCounters ∷ Beat ∷ EndRound 20 ∷ []
 a_heartbeat_in_the_twentieth_round = refl
+
+-- the same, where counters decay every 300 milliseconds
+abbrev decaying : Seat
+decaying = record seat { peer = record peer { params = record peer.params { windows = record default_windows { decay_ms = 300 } } } }
+
+-- at millisecond 0
+no_step_of_decay_in_the_first_round : agenda decaying (Playing 0) [] ≡ EndRound 0 ∷ []
+no_step_of_decay_in_the_first_round = refl
+
+-- at millisecond 300
+a_step_of_decay_in_the_third_round : agenda decaying (Playing 3) [] ≡ LowerCounters ∷ EndRound 3 ∷ []
+a_step_of_decay_in_the_third_round = refl
+
+-- at millisecond 1,000
+a_heartbeat_without_a_step_of_decay : agenda decaying (Playing 10) [] ≡ Beat ∷ EndRound 10 ∷ []
+a_heartbeat_without_a_step_of_decay = refl
+
+-- at millisecond 3,000
+a_step_of_decay_comes_before_a_heartbeat : agenda decaying (Playing 30) [] ≡ LowerCounters ∷ Beat ∷ EndRound 30 ∷ []
+a_step_of_decay_comes_before_a_heartbeat = refl
 
 -- ---- the peer's own topics
 

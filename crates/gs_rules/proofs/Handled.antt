@@ -27,7 +27,7 @@ use Rattle.gs_rules.specs.Legal.{Legal, ArePayments, Begins, Opens, Comes}
 use Rattle.gs_rules.specs.Refusals.{refusal}
 use Rattle.gs_rules.specs.Saying.{Said, bytes_of, handled_by, handled}
 use Rattle.gs_rules.specs.Hearing.{Spell, Inbound, IsBetween, ComesIn, bytes_before}
-use Rattle.gs_rules.specs.Rounds.{Seat, Place, Playing, Closing, Todo, Hear, HearFault, HearGone, Obey, Beat, EndRound, Stop, agenda, beats_in, is_due, ending, hears, hears_of, is_at, is_broken, lines_at, moment_of, event_of, unless_refused, opening, Does, ComesAt, Plays, PlaysInPart, AfterRounds, KeepsRounds}
+use Rattle.gs_rules.specs.Rounds.{Seat, Place, Playing, Closing, Todo, Hear, HearFault, HearGone, Obey, LowerCounters, Beat, EndRound, Stop, agenda, beats_in, decays_in, is_due, ending, hears, hears_of, is_at, is_broken, lines_at, moment_of, event_of, unless_refused, opening, Does, ComesAt, Plays, PlaysInPart, AfterRounds, KeepsRounds}
 use Rattle.gs_rules.proofs.Owed.{IsOwed, due_is_owed}
 use Rattle.gs_rules.proofs.Legality.{legal_newest}
 use Rattle.gs_rules.proofs.Deliveries.{legal_before}
@@ -119,6 +119,7 @@ opening_handles p q K at (Hear r rpc) = either_way q r rpc (up K r)
 opening_handles p q K at (HearFault r) = lost_handles q (Fault r) (up K r) refl
 opening_handles p q K at (HearGone r) = lost_handles q (Gone r) (up K r) refl
 opening_handles p q K at (Obey place what) = line_handles q what (refusal p K at.0 (event_of what))
+opening_handles p q K at LowerCounters = refl
 opening_handles p q K at Beat = refl
 opening_handles p q K at (EndRound r) = refl
 opening_handles p q K at Stop = refl
@@ -219,7 +220,15 @@ lines_quiet q r (x ∷ xs) = either (is_at r x) (lines_quiet q r xs)
     either true h = h
     either false h = h
 
--- and so is a heartbeat
+-- and so is a step of decay
+decays_quiet : (q : PeerNo) (p : Peer) (r : ℕ) (at : Millis) → flat_map (rpc_of q) (decays_in p r at) ≡ []
+decays_quiet q p r at = by (is_due p.params.windows.decay_ms r at)
+  where
+    by : (due : Bool) → flat_map (rpc_of q) (if due then LowerCounters ∷ [] else []) ≡ []
+    by true = refl
+    by false = refl
+
+-- and a heartbeat
 beats_quiet : (q : PeerNo) (p : Peer) (r : ℕ) (at : Millis) → flat_map (rpc_of q) (beats_in p r at) ≡ []
 beats_quiet q p r at = by (is_due p.params.windows.heartbeat_ms r at)
   where
@@ -230,11 +239,17 @@ beats_quiet q p r at = by (is_due p.params.windows.heartbeat_ms r at)
 place_hears : (seat : Seat) (place : Place) (q : PeerNo) (xs : List Inbound) → flat_map (rpc_of q) (agenda seat place xs) ≡ flat_map (rpc_of q) (hears (links_of seat.peer) xs)
 place_hears seat (Playing r) q xs =
     let all : List Todo = hears (links_of seat.peer) xs in
+    let decay : List Todo = decays_in seat.peer r (moment_of seat (Playing r)) in
     let beat : List Todo = beats_in seat.peer r (moment_of seat (Playing r)) in
-    let own : flat_map (rpc_of q) (lines_at seat r ++ (beat ++ EndRound r ∷ [])) ≡ [] =
-    flat_map-append (rpc_of q) (lines_at seat r) (beat ++ EndRound r ∷ [])
-    ∙ ap₂ (λ (xs ys : List Rpc). xs ++ ys) (lines_quiet q r seat.lines) (flat_map-append (rpc_of q) beat (EndRound r ∷ []) ∙ ap (λ (xs : List Rpc). xs ++ []) (beats_quiet q seat.peer r (moment_of seat (Playing r)))) in
-    flat_map-append (rpc_of q) all (lines_at seat r ++ (beat ++ EndRound r ∷ []))
+    let last : flat_map (rpc_of q) (beat ++ EndRound r ∷ []) ≡ [] =
+    flat_map-append (rpc_of q) beat (EndRound r ∷ []) ∙ ap (λ (xs : List Rpc). xs ++ []) (beats_quiet q seat.peer r (moment_of seat (Playing r))) in
+    let timed : flat_map (rpc_of q) (decay ++ (beat ++ EndRound r ∷ [])) ≡ [] =
+    flat_map-append (rpc_of q) decay (beat ++ EndRound r ∷ [])
+    ∙ ap₂ (λ (xs ys : List Rpc). xs ++ ys) (decays_quiet q seat.peer r (moment_of seat (Playing r))) last in
+    let own : flat_map (rpc_of q) (lines_at seat r ++ (decay ++ (beat ++ EndRound r ∷ []))) ≡ [] =
+    flat_map-append (rpc_of q) (lines_at seat r) (decay ++ (beat ++ EndRound r ∷ []))
+    ∙ ap₂ (λ (xs ys : List Rpc). xs ++ ys) (lines_quiet q r seat.lines) timed in
+    flat_map-append (rpc_of q) all (lines_at seat r ++ (decay ++ (beat ++ EndRound r ∷ [])))
     ∙ ap (λ (ys : List Rpc). flat_map (rpc_of q) all ++ ys) own
     ∙ append-nil (flat_map (rpc_of q) all)
 place_hears seat Closing q xs = refl

@@ -26,7 +26,8 @@ use Rattle.gs_rules.specs.Owed.{gossip_topics, offers_in, owed, parts, requests_
 use Rattle.gs_rules.specs.Rules.{answer, answers, times_in, with_message}
 use Rattle.gs_rules.specs.Legal.{IsNext, Legal}
 use Rattle.gs_rules.proofs.Legality.{legal_newest}
-use Rattle.gs_rules.proofs.Owed.{OwesSuch, beats_are_such, kind_of_parts, last_parts, nothing_is_such, of_each, opens, owing_are_such}
+use Rattle.gs_rules.proofs.Each.{of_each}
+use Rattle.gs_rules.proofs.Owed.{OwesSuch, beats_are_such, kind_of_parts, last_parts, nothing_is_such, opens, owing_are_such}
 
 -- by itself it fits a frame
 abbrev pub FitsAlone : Message → Type 0
@@ -58,7 +59,7 @@ parts_fit q rpc fits =
 
 owed_fit : (p : Peer) (L : Entries) → Legal p L → OwesSuch BringsFitting (owed p L)
 owed_fit p [] legal = nothing_is_such BringsFitting
-owed_fit p (e ∷ L) legal = owing_are_such BringsFitting p L (e ∷ L) e.event (owed p L) heard (λ is. beats_are_such BringsFitting (gossip_topics p (e ∷ L)) (of_each (λ (t : Topic). BringsFitting (GossipBeat t)) (λ t. tt) (gossip_topics p (e ∷ L))) tt) (owed_fit p L legal.1)
+owed_fit p (e ∷ L) legal = owing_are_such BringsFitting p L (e ∷ L) e.at.0 e.event (owed p L) heard (λ is. beats_are_such BringsFitting (gossip_topics p (e ∷ L)) (of_each (λ (t : Topic). BringsFitting (GossipBeat t)) (λ t. tt) (gossip_topics p (e ∷ L))) tt) (owed_fit p L legal.1)
   where
     heard : (q : PeerNo) (rpc : Rpc) → e.event ≡ Heard q rpc → AllByRecursion BringsFitting (parts q rpc)
     heard q rpc is = parts_fit q rpc (opens p L e.at.0 (Heard q rpc) (λ h. h) (subst (IsNext p L e.at.0 (owed p L).events) is (legal_newest p e L legal).next)).fits

@@ -1,3 +1,4 @@
+pub mod Each
 pub mod Owed
 pub mod Legality
 pub mod Judged
@@ -11,5 +12,9 @@ pub mod Handled
 pub mod Kept
 pub mod Fitting
 pub mod Spelled
+pub mod Marks
+pub mod Counted
+pub mod AfterShut
 pub mod Examples
 pub mod GossipExamples
+pub mod ScoreExamples

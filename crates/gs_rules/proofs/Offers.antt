@@ -13,7 +13,8 @@ use Rattle.gs_rules.specs.declared.trace.Event.TheVariants.{Have}
 use Rattle.gs_rules.specs.declared.trace.Entry.{Entry}
 use Rattle.gs_rules.specs.Peers.{Peer, seen_ttl}
 use Rattle.gs_rules.specs.Tables.{Entries, asked, joined, offers, seen}
-use Rattle.gs_rules.specs.Rules.{asked_for, asking, bare, counted, each_once, have_rule, is_wanted, room_to_ask, same_bytes, wanted}
+use Rattle.gs_rules.specs.Scoring.{is_ignored}
+use Rattle.gs_rules.specs.Rules.{Gives, asked_for, asking, bare, counted, each_once, have_rule, is_wanted, room_to_ask, same_bytes, wanted}
 use Rattle.gs_rules.specs.Modes.{SaysTheSame, Follows, free}
 
 -- ---- what the rule gives
@@ -25,13 +26,20 @@ module _ (Q : Entry → Type 0) (p : Peer) (L : Entries) (at : Millis) (q : Peer
   when_asked [] these effects = alone effects.0
   when_asked (id ∷ ids) these effects = these effects.0 effects.3.0
 
-  by_tests : (full is_joined : Bool) → nat_le p.params.windows.max_ihave (offers L q) ≡ full → joined L (topic_or_empty offer.topic) ≡ is_joined → Follows free (have_rule p L at q offer) tt e tt → Q e
-  by_tests true is_joined f j effects = none (rw f at effects).0
-  by_tests false false f j effects = alone (rw (f, j) at effects).0
-  by_tests false true f j effects = when_asked (wanted p L at.0 q offer.ids) asks (rw (f, j) at effects)
+  by_tests : (ignored full is_joined : Bool)
+      → Follows free
+      (if ignored then Gives (bare at (Have q offer))
+      else if full then Gives (bare at (Have q offer))
+      else if not is_joined then Gives (counted at q offer)
+      else asked_for p at q offer (wanted p L at.0 q offer.ids)) tt e tt
+      → Q e
+  by_tests true full is_joined effects = none effects.0
+  by_tests false true is_joined effects = none effects.0
+  by_tests false false false effects = alone effects.0
+  by_tests false false true effects = when_asked (wanted p L at.0 q offer.ids) asks effects
 
   pub what_is_offered : Follows free (have_rule p L at q offer) tt e tt → Q e
-  what_is_offered effects = by_tests (nat_le p.params.windows.max_ihave (offers L q)) (joined L (topic_or_empty offer.topic)) refl refl effects
+  what_is_offered effects = by_tests (is_ignored p L at.0 q) (nat_le p.params.windows.max_ihave (offers L q)) (joined L (topic_or_empty offer.topic)) effects
 
 -- ---- what is wanted
 

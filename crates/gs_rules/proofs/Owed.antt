@@ -1,5 +1,5 @@
 -- What is owed after an entry are parts of RPCs, and what a heartbeat does, and nothing else.
-use Rattle.std.proofs.Common.{◌≡◌, ◌≢◌, ℕ, List, [], ◌∷◌, ◌++◌, map, drop, refl, sym, ap, subst, ◌∙◌}
+use Rattle.std.proofs.Common.{◌≡◌, ◌≢◌, ℕ, Bool, true, false, if◌then◌else◌, List, [], ◌∷◌, ◌++◌, map, drop, refl, sym, ap, subst, ◌∙◌}
 use Rattle.std.specs.List.{AllByRecursion}
 use Rattle.gs_base.specs.declared.names.PeerNo.{PeerNo}
 use Rattle.gs_base.specs.declared.names.Topic.{Topic}
@@ -9,8 +9,10 @@ use Rattle.gs_rules.specs.declared.trace.Event.TheVariants.{Heard, Sub, Msg, Hav
 use Rattle.gs_rules.specs.declared.trace.Entry.{Entry}
 use Rattle.gs_rules.specs.Peers.{Peer}
 use Rattle.gs_rules.specs.Tables.{Entries}
+use Rattle.gs_rules.specs.Scoring.{is_graylisted}
 use Rattle.gs_rules.specs.Owed.{Group, PartsOf, Gossips, Debt, beats, gossip_topics, held_or, nothing, offers_in, owes, owing, owed, paid, parts, reached, requests_in}
 use Rattle.gs_rules.specs.Legal.{IsNext, MayOpen}
+use Rattle.gs_rules.proofs.Each.{of_each}
 
 -- what comes only where it is owed: a part of an RPC, and what a heartbeat does
 abbrev pub IsOwed : Event → Type 0
@@ -23,11 +25,6 @@ IsOwed BeatEnd = Unit {0}
 IsOwed other = ⊥
 
 -- ---- what holds of all that is owed
-
--- what holds of anything holds of each of a list
-pub of_each : {X : Type 0} (P : X → Type 0) → ((x : X) → P x) → (xs : List X) → AllByRecursion P xs
-of_each P each [] = tt
-of_each P each (x ∷ xs) = (each x, of_each P each xs)
 
 module _ (P : Event → Type 0) where
   -- it holds of each event of the group that was reached, and no group is behind that
@@ -66,11 +63,16 @@ module _ (P : Event → Type 0) where
   beats_are_such [] all end = (end, tt)
   beats_are_such (t ∷ topics) all end = (all.0, beats_are_such topics all.1 end)
 
+  -- what was owed before was such, and so are the parts of an RPC, which is heard in vain or not
+  heard_are_such : (p : Peer) (M : Entries) (q : PeerNo) (rpc : Rpc) (before : Debt) (in_vain : Bool) → AllByRecursion P (parts q rpc) → OwesSuch before → OwesSuch (owing p M (if in_vain then [] else PartsOf q rpc ∷ []) before)
+  heard_are_such p M q rpc before true heard h = paid_are_such p M before h
+  heard_are_such p M q rpc before false heard h = held_are_such (parts q rpc) [] nothing heard refl nothing_is_such
+
   -- what was owed before was such, and so are the parts of an RPC that is heard, and what a heartbeat does
-  pub owing_are_such : (p : Peer) (L M : Entries) (event : Event) (before : Debt) → ((q : PeerNo) (rpc : Rpc) → event ≡ Heard q rpc → AllByRecursion P (parts q rpc)) → (event ≡ Promises → AllByRecursion P (beats (gossip_topics p M))) → OwesSuch before → OwesSuch (owing p M (owes p L event) before)
-  owing_are_such p L M (Heard q rpc) before heard beat h = held_are_such (parts q rpc) [] nothing (heard q rpc refl) refl nothing_is_such
-  owing_are_such p L M Promises before heard beat h = held_are_such (beats (gossip_topics p M)) [] nothing (beat refl) refl nothing_is_such
-  owing_are_such p L M other before heard beat h = paid_are_such p M before h
+  pub owing_are_such : (p : Peer) (L M : Entries) (at : ℕ) (event : Event) (before : Debt) → ((q : PeerNo) (rpc : Rpc) → event ≡ Heard q rpc → AllByRecursion P (parts q rpc)) → (event ≡ Promises → AllByRecursion P (beats (gossip_topics p M))) → OwesSuch before → OwesSuch (owing p M (owes p L at event) before)
+  owing_are_such p L M at (Heard q rpc) before heard beat h = heard_are_such p M q rpc before (is_graylisted p L at q) (heard q rpc refl) h
+  owing_are_such p L M at Promises before heard beat h = held_are_such (beats (gossip_topics p M)) [] nothing (beat refl) refl nothing_is_such
+  owing_are_such p L M at other before heard beat h = paid_are_such p M before h
 
 -- ---- what is ever owed
 
@@ -84,7 +86,7 @@ parts_are_owed q rpc =
 pub owed_are_such : (p : Peer) (L : Entries) → OwesSuch IsOwed (owed p L)
 owed_are_such p [] = nothing_is_such IsOwed
 owed_are_such p (e ∷ L) =
-    owing_are_such IsOwed p L (e ∷ L) e.event (owed p L) (λ q rpc is. parts_are_owed q rpc) (λ is. beats_are_such IsOwed (gossip_topics p (e ∷ L)) (of_each (λ (t : Topic). IsOwed (GossipBeat t)) (λ t. tt) (gossip_topics p (e ∷ L))) tt) (owed_are_such p L)
+    owing_are_such IsOwed p L (e ∷ L) e.at.0 e.event (owed p L) (λ q rpc is. parts_are_owed q rpc) (λ is. beats_are_such IsOwed (gossip_topics p (e ∷ L)) (of_each (λ (t : Topic). IsOwed (GossipBeat t)) (λ t. tt) (gossip_topics p (e ∷ L))) tt) (owed_are_such p L)
 
 opens_by : (p : Peer) (L : Entries) (at : ℕ) (owing : List Event) (event : Event) → AllByRecursion IsOwed owing → ¬ (IsOwed event) → IsNext p L at owing event → MayOpen p L at event
 opens_by p L at [] event parts own next = next
@@ -105,8 +107,8 @@ due_is_owed p L at event some next = next_is_owed p L at (owed p L).events event
 -- ---- paying
 
 -- what an event leaves that owes nothing
-pub owes_none : (p : Peer) (L M : Entries) (event : Event) (before : Debt) → owes p L event ≡ [] → owing p M (owes p L event) before ≡ paid p M before
-owes_none p L M event before none = ap (λ (groups : List Group). owing p M groups before) none
+pub owes_none : (p : Peer) (L M : Entries) (at : ℕ) (event : Event) (before : Debt) → owes p L at event ≡ [] → owing p M (owes p L at event) before ≡ paid p M before
+owes_none p L M at event before none = ap (λ (groups : List Group). owing p M groups before) none
 
 -- one of the last group
 pub paid_last : (p : Peer) (L : Entries) (events : List Event) → paid p L (record { events = events; groups = [] }) ≡ record { events = drop 1 events; groups = [] }
@@ -132,4 +134,4 @@ beat_owes p L = by (gossip_topics p L)
 
 -- so that behind the charges this alone is owed
 pub owed_at_beat : (p : Peer) (L : Entries) (e : Entry) → e.event ≡ Promises → owed p (e ∷ L) ≡ record { events = beats (gossip_topics p (e ∷ L)); groups = [] }
-owed_at_beat p L e beat = ap (λ (event : Event). owing p (e ∷ L) (owes p L event) (owed p L)) beat ∙ beat_owes p (e ∷ L)
+owed_at_beat p L e beat = ap (λ (event : Event). owing p (e ∷ L) (owes p L e.at.0 event) (owed p L)) beat ∙ beat_owes p (e ∷ L)

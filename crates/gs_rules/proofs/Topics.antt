@@ -30,7 +30,7 @@ abbrev pub IsShort : Topic → Type 0
 IsShort t = length t.0 ≤ longest_topic
 
 -- topics of the same bytes are one
-same_are_one : (t u : Topic) → same_topic t u ≡ true → t ≡ u
+pub same_are_one : (t u : Topic) → same_topic t u ≡ true → t ≡ u
 same_are_one t u is = ap (λ bytes. record { 0 = bytes }) ((bytes_eq-Decides t.0 u.0).0 is)
 
 subscribed_short : (u t : Topic) (same before : Bool) → same_topic u t ≡ same → IsShort u → (before ≡ true → IsShort t) → (if same then true else before) ≡ true → IsShort t
@@ -53,7 +53,7 @@ joined_short p (e ∷ L) t legal joins = short_after p L e.at.0 e.event t (legal
 -- ---- it was subscribed to once
 
 -- what was known is known
-still_known : (t u : Topic) (knows : Bool) (before : List Topic) → list_any (same_topic t) before ≡ true → list_any (same_topic t) (if knows then before else before ++ u ∷ []) ≡ true
+pub still_known : (t u : Topic) (knows : Bool) (before : List Topic) → list_any (same_topic t) before ≡ true → list_any (same_topic t) (if knows then before else before ++ u ∷ []) ≡ true
 still_known t u true before is = is
 still_known t u false before is = rw (list_any-append (same_topic t) before (u ∷ []), is) refl
 
@@ -72,7 +72,7 @@ known_next t (Subscribe u) joins before earlier now = known_by t u (same_topic u
 known_next t (Unsubscribe u) joins before earlier now = earlier (still_joined (same_topic u t) joins now)
 known_next t other joins before earlier now = earlier now
 
-joined_known : (L : Entries) (t : Topic) → joined L t ≡ true → list_any (same_topic t) (known L) ≡ true
+pub joined_known : (L : Entries) (t : Topic) → joined L t ≡ true → list_any (same_topic t) (known L) ≡ true
 joined_known [] t joins = absurd cc
 joined_known (e ∷ L) t joins = known_next t e.event (joined L t) (known L) (joined_known L t) joins
 

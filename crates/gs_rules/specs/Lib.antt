@@ -1,5 +1,6 @@
 pub mod Peers
 pub mod Tables
+pub mod Scoring
 pub mod Gossip
 pub mod Owed
 pub mod Rules

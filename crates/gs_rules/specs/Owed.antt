@@ -1,6 +1,6 @@
 -- What must come next. An event may owe others: after an RPC was heard, its parts follow, and a heartbeat gossips
 -- and ends. What is owed comes in groups, and a group holds what there is when it is reached.
-use Rattle.std.specs.Prelude.{Bool, true, false, List, [], ◌∷◌, ◌++◌, drop, filter, map, Option, Some, None}
+use Rattle.std.specs.Prelude.{ℕ, Bool, true, false, if◌then◌else◌, List, [], ◌∷◌, ◌++◌, drop, filter, map, Option, Some, None}
 use Rattle.gs_base.specs.declared.names.PeerNo.{PeerNo}
 use Rattle.gs_base.specs.declared.names.Topic.{Topic}
 use Rattle.gs_base.specs.declared.names.MsgId.{MsgId}
@@ -13,6 +13,7 @@ use Rattle.gs_rules.specs.declared.trace.Event.TheVariants.{Heard, Sub, Msg, Hav
 use Rattle.gs_rules.specs.declared.trace.Entry.{Entry}
 use Rattle.gs_rules.specs.Peers.{Peer}
 use Rattle.gs_rules.specs.Tables.{Entries, own_topics}
+use Rattle.gs_rules.specs.Scoring.{is_graylisted}
 use Rattle.gs_rules.specs.Gossip.{gossip}
 
 -- ---- groups
@@ -59,11 +60,12 @@ abbrev pub events_in : Peer → Entries → Group → List Event
 events_in p L (PartsOf q rpc) = parts q rpc
 events_in p L Gossips = beats (gossip_topics p L)
 
--- the groups that an event owes which comes behind this trace
-abbrev pub owes : Peer → Entries → Event → List Group
-owes p L (Heard q rpc) = PartsOf q rpc ∷ []
-owes p L Promises = Gossips ∷ []
-owes p L other = []
+-- The groups that an event owes which comes behind this trace at a moment. Whoever is on the graylist is heard in vain
+-- (gossipsub v1.1, Peer Scoring, "Score Thresholds").
+abbrev pub owes : Peer → Entries → ℕ → Event → List Group
+owes p L at (Heard q rpc) = if is_graylisted p L at q then [] else PartsOf q rpc ∷ []
+owes p L at Promises = Gossips ∷ []
+owes p L at other = []
 
 -- ---- debts
 
@@ -96,7 +98,7 @@ owing p L (group ∷ groups) before = reached p L (group ∷ groups)
 
 -- what must come after an entry behind this trace, where this had to come before it
 abbrev pub owed_after : Peer → Entries → Entry → Debt → Debt
-owed_after p L e before = owing p (e ∷ L) (owes p L e.event) before
+owed_after p L e before = owing p (e ∷ L) (owes p L e.at.0 e.event) before
 
 -- what must come next
 abbrev pub owed : Peer → Entries → Debt

@@ -53,6 +53,8 @@ pub data Todo : Type 0 where
   HearGone : PeerNo → Todo
   -- the line of the script at this place
   Obey : ℕ → What → Todo
+  -- a step of the decay of scores
+  LowerCounters : Todo
   -- a heartbeat
   Beat : Todo
   EndRound : ℕ → Todo
@@ -92,16 +94,22 @@ lines_at seat r = map obey (filter (is_at r) seat.lines)
 abbrev pub is_due : ℕ → ℕ → Millis → Bool
 is_due every r at = nat_lt 0 r && nat_eq (at.0 % every) 0
 
+-- a step of decay, if one is due
+abbrev pub decays_in : Peer → ℕ → Millis → List Todo
+decays_in p r at = if is_due p.params.windows.decay_ms r at then LowerCounters ∷ [] else []
+
 -- a heartbeat, if one is due
 abbrev pub beats_in : Peer → ℕ → Millis → List Todo
 beats_in p r at = if is_due p.params.windows.heartbeat_ms r at then Beat ∷ [] else []
 
--- In a round a peer hears what came, follows its lines, has a heartbeat if one is due, and ends the round. Behind the
--- last one it shuts down, and then hears what still comes.
+-- In a round a peer hears what came, follows its lines, lowers its counters and has a heartbeat, each if it is due, and
+-- ends the round. Behind the last one it shuts down, and then hears what still comes.
 abbrev pub agenda : Seat → Place → List Inbound → List Todo
 agenda seat (Playing r) xs =
     hears (links_of seat.peer) xs
-    ++ (lines_at seat r ++ (beats_in seat.peer r (moment_of seat (Playing r)) ++ EndRound r ∷ []))
+    ++ (lines_at seat r
+    ++ (decays_in seat.peer r (moment_of seat (Playing r))
+    ++ (beats_in seat.peer r (moment_of seat (Playing r)) ++ EndRound r ∷ [])))
 agenda seat Closing xs = Stop ∷ hears (links_of seat.peer) xs
 
 -- ---- how it is done
@@ -121,6 +129,7 @@ opening p L at (Hear q rpc) = Some (hearing L q rpc)
 opening p L at (HearFault q) = losing L q (events.Fault q)
 opening p L at (HearGone q) = losing L q (events.Gone q)
 opening p L at (Obey place what) = unless_refused (event_of what) (refusal p L at.0 (event_of what))
+opening p L at LowerCounters = Some events.Decay
 opening p L at Beat = Some events.Promises
 opening p L at (EndRound r) = Some (events.RoundEnd r)
 opening p L at Stop = Some events.Shut

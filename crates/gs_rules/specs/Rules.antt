@@ -25,6 +25,7 @@ use Rattle.gs_rules.specs.declared.trace.Event.TheVariants.{Msg, Have, Want, Sub
 use Rattle.gs_rules.specs.declared.trace.Entry.{Entry}
 use Rattle.gs_rules.specs.Peers.{Peer, links_of, seen_ttl, windows}
 use Rattle.gs_rules.specs.Tables.{Entries, Keeping, up, on, joined, seen, kept, answered, offers, asked}
+use Rattle.gs_rules.specs.Scoring.{is_ignored, is_passed_over}
 use Rattle.gs_rules.specs.Gossip.{all_charges, gossip, gossip_size}
 
 -- ---- what rules say
@@ -58,6 +59,10 @@ up_neighbours p L = filter (up L) (links_of p)
 abbrev pub listeners : Peer → Entries → Topic → List PeerNo
 listeners p L t = filter (λ q. up L q && on L q t) (links_of p)
 
+-- those of these whom a test does not leave out
+abbrev pub without : (PeerNo → Bool) → List PeerNo → List PeerNo
+without is_out qs = filter (λ q. not (is_out q)) qs
+
 -- ---- each event
 
 -- a subscription is announced to every neighbour that is up
@@ -70,11 +75,11 @@ abbrev pub unsubscribe_rule : Peer → Entries → Millis → Topic → Entry
 unsubscribe_rule p L at t =
     record (bare at (Unsubscribe t)) { sends = to_each (announcement false t) (up_neighbours p L) }
 
--- what a peer publishes goes to every neighbour that is up and on the topic (gossipsub v1.1, "Flood Publishing"),
--- and to itself where it is subscribed
+-- What a peer publishes goes to every neighbour that is up, on the topic and not below the threshold (gossipsub v1.1,
+-- "Flood Publishing"), and to itself where it is subscribed.
 abbrev pub publish_rule : Peer → Entries → Millis → Topic → List ℕ → Entry
 publish_rule p L at t payload = record (bare at (Publish t payload)) {
-  sends = to_each (publication t payload) (listeners p L t);
+  sends = to_each (publication t payload) (without (is_passed_over p L at.0) (listeners p L t));
   delivered = if joined L t then (t, payload) ∷ [] else [];
   marks = Seen (message_id payload) Accept ∷ Cached (message_id payload) t ∷ [];
 }
@@ -182,11 +187,12 @@ asked_for p at q offer [] = Gives (counted at q offer)
 asked_for p at q offer (id ∷ ids) =
     OneOf (length (id ∷ ids)) (λ place. Gives (asking p at q offer (id ∷ ids) place))
 
--- An offer counts for as long as the neighbour has not made too many. On a topic that the peer is not subscribed to
--- nothing is wanted.
+-- An offer counts where its sender is not ignored, for as long as that has not made too many. On a topic that the peer
+-- is not subscribed to nothing is wanted.
 abbrev pub have_rule : Peer → Entries → Millis → PeerNo → IHave → Rule
 have_rule p L at q offer =
-    if nat_le p.params.windows.max_ihave (offers L q) then Gives (bare at (Have q offer))
+    if is_ignored p L at.0 q then Gives (bare at (Have q offer))
+    else if nat_le p.params.windows.max_ihave (offers L q) then Gives (bare at (Have q offer))
     else if not (joined L (topic_or_empty offer.topic)) then Gives (counted at q offer)
     else asked_for p at q offer (wanted p L at.0 q offer.ids)
 
@@ -227,7 +233,9 @@ answering at q request given = record (bare at (Want q request)) {
 }
 
 abbrev pub want_rule : Peer → Entries → Millis → PeerNo → IWant → Entry
-want_rule p L at q request = answering at q request (answers p L q [] (ids_in request.ids))
+want_rule p L at q request =
+    if is_ignored p L at.0 q then bare at (Want q request)
+    else answering at q request (answers p L q [] (ids_in request.ids))
 
 -- ---- heartbeats
 
@@ -241,10 +249,14 @@ telling p L at t chosen = record (bare at (GossipBeat t)) {
   sends = to_each (offering t (map (λ (id : MsgId). id.0) (gossip p L t))) chosen;
 }
 
--- any of the neighbours that are up and on a topic are told what there is on it
+-- the neighbours that may be told what there is on a topic: those that are up, on it and not ignored
+abbrev pub told : Peer → Entries → ℕ → Topic → List PeerNo
+told p L at t = without (is_ignored p L at) (listeners p L t)
+
+-- any of these are told
 abbrev pub gossip_rule : Peer → Entries → Millis → Topic → Rule
 gossip_rule p L at t =
-    AnyOf (gossip_size p (length (listeners p L t))) (listeners p L t) (λ chosen. Gives (telling p L at t chosen))
+    AnyOf (gossip_size p (length (told p L at.0 t))) (told p L at.0 t) (λ chosen. Gives (telling p L at t chosen))
 
 -- ---- all events
 

@@ -1,22 +1,25 @@
 //! Laws of traces and rounds. Each holds of its definitions alone, and its function does nothing.
 ghost use Rattle.std.specs.Prelude.{ℕ, true, false, ◌≡◌, ◌<◌, ◌≤◌, ◌+◌, ◌∷◌, ◌++◌, []};
-ghost use Rattle.std.specs.Prelude.{List, None, Some, length, reverse};
+ghost use Rattle.std.specs.Prelude.{List, None, Some, length, map, reverse};
 ghost use Rattle.std.specs.List.{All, AllByRecursion, IsAmong, list_any};
 ghost use Rattle.std.specs.List.Sorted.{IsStrictlySortedBy};
 ghost use Rattle.gs_base.specs.declared.names.PeerNo.{PeerNo as PeerNoValue};
 ghost use Rattle.gs_base.specs.declared.names.Topic.{Topic};
 ghost use Rattle.gs_base.specs.declared.names.MsgId.{MsgId};
 ghost use Rattle.gs_base.specs.declared.mark.Mark.TheVariants.{Behaviour};
+ghost use Rattle.gs_base.specs.declared.rpc.Message.{Message};
 ghost use Rattle.gs_base.specs.Codecs.{Codec};
 ghost use Rattle.gs_base.specs.Names.{same_id, same_topic};
 ghost use Rattle.gs_params.specs.Picks.{IsAscending};
+ghost use Rattle.gs_score.specs.Histories.{Marked};
 ghost use Rattle.gs_wire.specs.Codec.{codec};
 ghost use Rattle.gs_rules.specs.declared.trace.Entry.{Entry};
 ghost use Rattle.gs_rules.specs.declared.trace.Promise.{Promise};
-ghost use Rattle.gs_rules.specs.declared.trace.Event.TheVariants.{Promises};
+ghost use Rattle.gs_rules.specs.declared.trace.Event.TheVariants.{Msg, Promises, Shut};
 ghost use Rattle.gs_rules.specs.declared.refusal.RefusedLine.{RefusedLine};
 ghost use Rattle.gs_rules.specs.Peers.{Peer, links_of, seen_ttl};
 ghost use Rattle.gs_rules.specs.Tables.{Entries, Keeping, joined, kept, keeping_order, own_topics, promises, topic_order, up};
+ghost use Rattle.gs_rules.specs.Scoring.{changed_after, has_counters, history, is_neighbour, score};
 ghost use Rattle.gs_rules.specs.Gossip.{IsKeptOn, IsOpen, WasLeftOpen, charges, gossip, gossipable, overdue};
 ghost use Rattle.gs_rules.specs.Owed.{beats, gossip_topics, owed};
 ghost use Rattle.gs_rules.specs.Rules.{Gives, Rule, rule_of};
@@ -215,4 +218,26 @@ pub fn what_is_kept_is_gossiped()
         → gossipable p entries t ≡ before ++ id ∷ behind
         → length behind < 5_000
         → IsAmong (gossip p entries t) id }
+{}
+
+/// No mark of a legal trace is left out of the history that scores are made of, where messages come of neighbours; and
+/// on each topic that the peer is subscribed to there is room for the counters of each neighbour.
+pub fn each_mark_of_a_legal_trace_counts()
+    ensures all { (p : Peer) (entries : Entries) (e : Entry)
+        → Legal p (e ∷ entries)
+        → ((q : PeerNoValue) (m : Message) → e.event ≡ Msg q m → is_neighbour p q ≡ true)
+        → history p (e ∷ entries) ≡ reverse (map Marked e.marks) ++ changed_after e.event (history p entries) }
+    ensures room { (p : Peer) (entries : Entries) (q : PeerNoValue) (t : Topic)
+        → Legal p entries
+        → is_neighbour p q ≡ true
+        → joined entries t ≡ true
+        → has_counters p (history p entries) q t ≡ true }
+{}
+
+/// Once a peer has shut down, the scores of its neighbours stay what they were before.
+pub fn nothing_changes_a_score_behind_a_shut()
+    ensures { (p : Peer) (later earlier : Entries) (e : Entry) (at : ℕ) (q : PeerNoValue)
+        → Legal p (later ++ e ∷ earlier)
+        → e.event ≡ Shut
+        → score p (later ++ e ∷ earlier) at q ≡ score p earlier at q }
 {}

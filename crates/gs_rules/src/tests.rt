@@ -2,11 +2,11 @@
 use crate::{
     Entry, Event, Refusal, Trace, a_broken_promise_is_charged, a_delivery_is_not_repeated,
     a_heartbeat_gossips_and_ends, a_part_with_nothing_left_is_whole, a_promise_is_charged_once,
-    gossip_is_of_what_is_kept, legal_entries_compose, nothing_is_said_behind_a_close,
-    one_more_entry, own_topics_are_those_that_are_joined, what_is_given_draws_no_word,
-    what_is_kept_is_gossiped, what_is_sent_is_spelled, what_was_said_is_handled,
-    what_was_sent_is_handled, what_words_choose_is_legal, words_fix_the_next_entry,
-    words_fix_what_follows_a_rule,
+    each_mark_of_a_legal_trace_counts, gossip_is_of_what_is_kept, legal_entries_compose,
+    nothing_changes_a_score_behind_a_shut, nothing_is_said_behind_a_close, one_more_entry,
+    own_topics_are_those_that_are_joined, what_is_given_draws_no_word, what_is_kept_is_gossiped,
+    what_is_sent_is_spelled, what_was_said_is_handled, what_was_sent_is_handled,
+    what_words_choose_is_legal, words_fix_the_next_entry, words_fix_what_follows_a_rule,
 };
 use bytes::Bytes;
 use gs_base::{Mark, Message, Millis, MsgId, PeerNo, Rpc, Seq, Shared, Topic, Verdict};
@@ -191,4 +191,26 @@ fn laws_can_be_called(_rt: HostRuntime) {
     a_promise_is_charged_once();
     a_broken_promise_is_charged();
     what_is_kept_is_gossiped();
+    each_mark_of_a_legal_trace_counts();
+    nothing_changes_a_score_behind_a_shut();
+}
+
+/// The numbers and the texts of refusals.
+static REFUSALS: [(Refusal, u8, &str); 6] = [
+    (Refusal::AlreadySeen, 16, "the message was seen lately"),
+    (Refusal::TooLong, 17, "the topic or the message is too long"),
+    (Refusal::Joined, 18, "the topic is joined"),
+    (Refusal::NotJoined, 19, "the topic is not joined"),
+    (Refusal::Stopped, 21, "the peer has stopped"),
+    (Refusal::TooMany, 34, "too many topics were joined"),
+];
+
+#[test]
+fn each_refusal_has_its_number_and_text(rt: HostRuntime) -> Result<(), AllocError> {
+    for (why, number, text) in &REFUSALS {
+        let shown = format!(in rt.alloc(); "{why}")?;
+        assert_eq!(rt; shown.as_str(), *text);
+        assert_eq!(rt; why.number(), *number);
+    }
+    Ok(())
 }

@@ -1,5 +1,5 @@
 //! What a peer did, entry by entry. docs/PROTOCOL.md says which entries may follow each other.
-ghost use Rattle.std.specs.Prelude.{◌≡◌, [], ◌∷◌, OnOk, OnErr};
+ghost use Rattle.std.specs.Prelude.{◌≡◌, ◌<◌, ◌^◌, [], ◌∷◌, length, OnOk, OnErr};
 
 use bytes::Bytes;
 use gs_base::{
@@ -35,6 +35,8 @@ pub enum Event {
     GossipBeat(Topic),
     /// A heartbeat ended.
     BeatEnd,
+    /// The counters that scores are made of decayed by a step.
+    Decay,
     /// A round ended.
     RoundEnd(u64),
     /// A neighbour closed its link.
@@ -116,6 +118,13 @@ impl Trace {
             Some(entry) => entry.at,
             None => Millis(0),
         }
+    }
+
+    /// A trace lies in memory, so that it has fewer than 2^63 entries.
+    pub fn is_in_memory(&self)
+        ensures { length self.now < 2 ^ 63 }
+    {
+        let _count = self.entries.len();
     }
 
     /// Adds an entry as the newest.

@@ -52,12 +52,12 @@ some_keyed : (ts : List Topic) (t : Topic) → list_any (same_topic t) ts ≡ tr
 some_keyed ts t h = is_some-lookup (same_topic t) (keyed ts) ∙ ap (list_any (same_topic t)) (keys_keyed ts) ∙ h
 
 -- a list without the same topic twice is no longer than one that has all of it
-no_longer : (us ts : List Topic) → IsDistinct same_topic us → AllByRecursion (λ u. list_any (same_topic u) ts ≡ true) us → length us ≤ length ts
+pub no_longer : (us ts : List Topic) → IsDistinct same_topic us → AllByRecursion (λ u. list_any (same_topic u) ts ≡ true) us → length us ≤ length ts
 no_longer us ts apart all =
     subst (λ n. length us ≤ n) (length-map ts (λ t. (t, tt)))
     (length-le_from_keys same_topic_equiv us (keyed ts) apart (λ t h. some_keyed ts t (in_both ts us t all h)))
 
-apart_more : (t : Topic) (us : List Topic) → list_any (same_topic t) us ≡ false → IsDistinct same_topic us → IsDistinct same_topic (t ∷ us)
+pub apart_more : (t : Topic) (us : List Topic) → list_any (same_topic t) us ≡ false → IsDistinct same_topic us → IsDistinct same_topic (t ∷ us)
 unfolding IsDistinct
 apart_more t us none apart = (all_other t us none, apart)
 

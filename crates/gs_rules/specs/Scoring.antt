@@ -1,0 +1,76 @@
+-- The scores of a peer's neighbours (gossipsub v1.1, "Peer Scoring"): what a trace says of each, and what a neighbour of
+-- low standing loses.
+use Rattle.std.specs.Prelude.{ℕ, ℤ, int_lt, Bool, true, ◌&&◌, ◌||◌, nat_lt, if◌then◌else◌, [], ◌∷◌, length}
+use Rattle.std.specs.List.{list_any}
+use Rattle.gs_base.specs.declared.names.PeerNo.{PeerNo}
+use Rattle.gs_base.specs.declared.names.Topic.{Topic}
+use Rattle.gs_base.specs.declared.neighbour.Neighbour.{Neighbour}
+use Rattle.gs_base.specs.declared.mark.Mark.{Mark}
+use Rattle.gs_base.specs.declared.mark.Mark.TheVariants.{First, Near, Deficit, Invalid, Behaviour}
+use Rattle.gs_base.specs.Names.{most_topics, same_peer, same_topic}
+use Rattle.gs_score.specs.Histories.{History, Marked, Decayed, ShutOut, Setting, named, score_in}
+use Rattle.gs_rules.specs.declared.trace.Event.{Event}
+use Rattle.gs_rules.specs.declared.trace.Event.TheVariants.{Decay, Gone, Fault}
+use Rattle.gs_rules.specs.Peers.{Peer}
+use Rattle.gs_rules.specs.Tables.{Entries, after_marks}
+
+-- ---- what happened to the neighbours
+
+-- whether a peer of this number is a neighbour
+abbrev pub is_neighbour : Peer → PeerNo → Bool
+is_neighbour p q = list_any (λ (n : Neighbour). same_peer q n.peer) p.neighbours
+
+-- a neighbour has counters on a topic, or on so few topics that it may have them on one more
+abbrev pub has_counters : Peer → History → PeerNo → Topic → Bool
+has_counters p H q t =
+    is_neighbour p q && (list_any (same_topic t) (named H q) || nat_lt (length (named H q)) most_topics)
+
+-- whether a mark counts: whom it concerns is a neighbour, with counters on the topic. In a legal trace each mark of a
+-- neighbour does.
+abbrev pub is_counted : Peer → History → Mark → Bool
+is_counted p H (First q t id) = has_counters p H q t
+is_counted p H (Near q t id) = has_counters p H q t
+is_counted p H (Deficit q t z) = has_counters p H q t
+is_counted p H (Invalid q t) = has_counters p H q t
+is_counted p H (Behaviour q) = is_neighbour p q
+is_counted p H other = true
+
+abbrev pub marked_after : Peer → Mark → History → History
+marked_after p mark H = if is_counted p H mark then Marked mark ∷ H else H
+
+-- all counters decay by a step, and whoever is lost counts no more at its address
+abbrev pub changed_after : Event → History → History
+changed_after Decay H = Decayed ∷ H
+changed_after (Gone q) H = ShutOut q ∷ H
+changed_after (Fault q) H = ShutOut q ∷ H
+changed_after other H = H
+
+-- what happened to the neighbours, the newest first
+abbrev pub history : Peer → Entries → History
+history p [] = []
+history p (e ∷ L) = after_marks (marked_after p) e.marks (changed_after e.event (history p L))
+
+-- ---- scores
+
+abbrev pub setting_of : Peer → Setting
+setting_of p = record { params = p.params; neighbours = p.neighbours }
+
+-- the score of a neighbour at a moment, over the topics on which anything is known of it, in millionths
+unfoldable pub score : Peer → Entries → ℕ → PeerNo → ℤ
+score p L at q = score_in (setting_of p) at (history p L) q (named (history p L) q)
+
+-- a neighbour of this score has lost something: who is just at the threshold has not
+abbrev pub is_below : ℤ → ℤ → Bool
+is_below threshold x = int_lt x threshold
+
+-- its offers and its requests count for nothing, and it is told of no messages
+abbrev pub is_ignored : Peer → Entries → ℕ → PeerNo → Bool
+is_ignored p L at q = is_below p.params.thresholds.gossip_threshold (score p L at q)
+
+-- it gets nothing of what the peer publishes
+abbrev pub is_passed_over : Peer → Entries → ℕ → PeerNo → Bool
+is_passed_over p L at q = is_below p.params.thresholds.publish_threshold (score p L at q)
+
+-- nothing that it sends counts
+abbrev pub is_graylisted : Peer → Entries → ℕ → PeerNo → Bool
+is_graylisted p L at q = is_below p.params.thresholds.graylist_threshold (score p L at q)
