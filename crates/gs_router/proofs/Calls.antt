@@ -9,7 +9,7 @@ use Rattle.gs_base.specs.declared.rpc.Rpc.{Rpc}
 use Rattle.gs_base.specs.Names.{longest_topic, message_id, publication}
 use Rattle.gs_wire.specs.Codec.{codec}
 use Rattle.gs_rules.specs.declared.trace.Event.{Event}
-use Rattle.gs_rules.specs.declared.trace.Event.TheVariants.{Heard, Late, Subscribe, Unsubscribe, Publish, Promises, RoundEnd, Gone, Fault, Shut}
+use Rattle.gs_rules.specs.declared.trace.Event.TheVariants.{Heard, Late, Subscribe, Unsubscribe, Publish, Promises, Decay, RoundEnd, Gone, Fault, Shut}
 use Rattle.gs_rules.specs.declared.refusal.Refusal.{Refusal}
 use Rattle.gs_rules.specs.declared.refusal.Refusal.TheVariants.{Stopped}
 use Rattle.gs_rules.specs.Peers.{Peer, seen_ttl}
@@ -135,6 +135,7 @@ may_publish p L at t payload free =
 pub may_open : (p : Peer) (L : Entries) (at : ℕ) (event : Event) → IsUsers event → refusal p L at event ≡ None → MayOpen p L at event
 may_open p L at (Subscribe t) own free = may_subscribe p L at t free
 may_open p L at (Unsubscribe t) own free = may_unsubscribe p L at t free
+may_open p L at Decay own free = (none_holds (reasons p L at Decay) free).0
 may_open p L at (RoundEnd r) own free = (none_holds (reasons p L at (RoundEnd r)) free).0
 may_open p L at Shut own free = (none_holds (reasons p L at Shut) free).0
 may_open p L at other own free = absurd own
@@ -144,10 +145,10 @@ pub may_beat : (p : Peer) (L : Entries) (at : ℕ) → refusal p L at Promises �
 may_beat p L at free = (none_holds (reasons p L at Promises) free).0
 
 -- what its user wishes owes nothing
-pub owes_nothing : (p : Peer) (L : Entries) (event : Event) → IsUsers event → owes p L event ≡ []
-owes_nothing p L (Heard q rpc) own = absurd own
-owes_nothing p L Promises own = absurd own
-owes_nothing p L other own = refl
+pub owes_nothing : (p : Peer) (L : Entries) (at : ℕ) (event : Event) → IsUsers event → owes p L at event ≡ []
+owes_nothing p L at (Heard q rpc) own = absurd own
+owes_nothing p L at Promises own = absurd own
+owes_nothing p L at other own = refl
 
 -- what comes of a neighbour is not refused
 pub hearing_free : (p : Peer) (L : Entries) (at : ℕ) (q : PeerNo) (rpc : Rpc) → refusal p L at (hearing L q rpc) ≡ None
@@ -172,7 +173,7 @@ loss_free p L at q (Gone r) same = refl
 loss_free p L at q (Fault r) same = refl
 loss_free p L at q other same = absurd same
 
-pub loss_owes : (p : Peer) (L : Entries) (q : PeerNo) (event : Event) → IsLoss q event → owes p L event ≡ []
-loss_owes p L q (Gone r) same = refl
-loss_owes p L q (Fault r) same = refl
-loss_owes p L q other same = absurd same
+pub loss_owes : (p : Peer) (L : Entries) (at : ℕ) (q : PeerNo) (event : Event) → IsLoss q event → owes p L at event ≡ []
+loss_owes p L at q (Gone r) same = refl
+loss_owes p L at q (Fault r) same = refl
+loss_owes p L at q other same = absurd same

@@ -6,19 +6,21 @@ use Rattle.gs_base.specs.declared.names.PeerNo.{PeerNo}
 use Rattle.gs_base.specs.declared.names.Millis.{Millis}
 use Rattle.gs_base.specs.declared.rpc.Message.{Message}
 use Rattle.gs_base.specs.declared.control.IHave.{IHave}
+use Rattle.gs_base.specs.declared.control.IWant.{IWant}
 use Rattle.gs_base.specs.declared.rpc.Rpc.{Rpc}
 use Rattle.gs_base.specs.declared.verdict.Verdict.{Verdict}
 use Rattle.gs_base.specs.declared.verdict.Verdict.TheVariants.{Accept, Reject, Ignore}
 use Rattle.gs_base.specs.declared.mark.Mark.TheVariants as marks
 use Rattle.gs_rules.specs.declared.trace.Event.{Event}
-use Rattle.gs_rules.specs.declared.trace.Event.TheVariants.{Heard, Msg, Have, Publish, Promises, GossipBeat}
+use Rattle.gs_rules.specs.declared.trace.Event.TheVariants.{Heard, Msg, Have, Want, Publish, Promises, GossipBeat}
 use Rattle.gs_rules.specs.declared.trace.Entry.{Entry}
 use Rattle.gs_base.specs.Names.{topic_or_empty, topic_of, payload_of, message_id, is_signed}
 use Rattle.gs_rules.specs.Peers.{Peer, seen_ttl}
 use Rattle.gs_rules.specs.Tables.{Entries, last_moment, joined, offers, seen}
-use Rattle.gs_rules.specs.Owed.{Debt, beats, gossip_topics, nothing, owed, owes, owing, paid, parts}
+use Rattle.gs_rules.specs.Scoring.{is_graylisted, is_ignored}
+use Rattle.gs_rules.specs.Owed.{Debt, Group, PartsOf, beats, gossip_topics, nothing, owed, owes, owing, paid, parts}
 use Rattle.gs_params.specs.Picks.{IsAscending}
-use Rattle.gs_rules.specs.Rules.{Rule, Gives, AnyOf, CutOf, OneOf, asked_for, bare, counted, have_rule, message_rule, new_message, rule_of, wanted}
+use Rattle.gs_rules.specs.Rules.{Rule, Gives, AnyOf, CutOf, OneOf, answering, answers, asked_for, bare, counted, have_rule, ids_in, message_rule, new_message, rule_of, want_rule, wanted}
 use Rattle.gs_rules.specs.Modes.{Mode, Follows, free}
 use Rattle.gs_rules.specs.Legal.{Legal, LegalOn, IsAllowed, IsNext, MayOpen, Begins}
 use Rattle.gs_base.specs.Names.{peers_of}
@@ -27,7 +29,8 @@ use Rattle.gs_rules.proofs.Owed.{beat_owes, heard_owes, owes_none, paid_last}
 use Rattle.gs_rules.proofs.Legality.{Weakens, follows_weakly, legal_on, legal_one, legal_then, legal_weakly}
 use Rattle.gs_router.specs.declared.setup.Setup.{Setup}
 use Rattle.gs_router.specs.declared.state.State.{State}
-use Rattle.gs_router.specs.Tables.{Agrees, AreMadeFor}
+use Rattle.gs_router.specs.declared.tables.standings.Standings.{Standings}
+use Rattle.gs_router.specs.Tables.{Agrees, AgreesOnScores, AreMadeFor}
 use Rattle.gs_router.specs.State.{Appends, Ends, IsCurrent, IsReady, Knows, Steps, peer_with}
 
 -- ---- rules
@@ -58,16 +61,25 @@ asked_tells p at q offer [] = record { moment = refl; tells = refl }
 asked_tells p at q offer (id ∷ ids) = λ place. record { moment = refl; tells = refl }
 
 have_tells : (p : Peer) (L : Entries) (at : Millis) (q : PeerNo) (offer : IHave) → TellsOnly at (Have q offer) (have_rule p L at q offer)
-have_tells p L at q offer = by (nat_le p.params.windows.max_ihave (offers L q)) (not (joined L (topic_or_empty offer.topic)))
+have_tells p L at q offer = by (is_ignored p L at.0 q) (nat_le p.params.windows.max_ihave (offers L q)) (not (joined L (topic_or_empty offer.topic)))
   where
-    by : (spent apart : Bool) → TellsOnly at (Have q offer) (if spent then Gives (bare at (Have q offer)) else if apart then Gives (counted at q offer) else asked_for p at q offer (wanted p L at.0 q offer.ids))
-    by true apart = record { moment = refl; tells = refl }
-    by false true = record { moment = refl; tells = refl }
-    by false false = asked_tells p at q offer (wanted p L at.0 q offer.ids)
+    by : (ignored spent apart : Bool) → TellsOnly at (Have q offer) (if ignored then Gives (bare at (Have q offer)) else if spent then Gives (bare at (Have q offer)) else if apart then Gives (counted at q offer) else asked_for p at q offer (wanted p L at.0 q offer.ids))
+    by true spent apart = record { moment = refl; tells = refl }
+    by false true apart = record { moment = refl; tells = refl }
+    by false false true = record { moment = refl; tells = refl }
+    by false false false = asked_tells p at q offer (wanted p L at.0 q offer.ids)
+
+want_tells : (p : Peer) (L : Entries) (at : Millis) (q : PeerNo) (request : IWant) → Tells at (Want q request) (want_rule p L at q request)
+want_tells p L at q request = by (is_ignored p L at.0 q)
+  where
+    by : (ignored : Bool) → Tells at (Want q request) (if ignored then bare at (Want q request) else answering at q request (answers p L q [] (ids_in request.ids)))
+    by true = record { moment = refl; tells = refl }
+    by false = record { moment = refl; tells = refl }
 
 rule_tells : (p : Peer) (L : Entries) (at : Millis) (event : Event) → TellsOnly at event (rule_of p L at event)
 rule_tells p L at (Msg q m) = message_tells p L at q m
 rule_tells p L at (Have q offer) = have_tells p L at q offer
+rule_tells p L at (Want q request) = want_tells p L at q request
 rule_tells p L at (GossipBeat t) = λ chosen. record { moment = refl; tells = refl }
 rule_tells p L at other = record { moment = refl; tells = refl }
 
@@ -81,7 +93,7 @@ follows_tells at event (OneOf n rule) x tells follows = follows_tells at event (
 
 -- it knows its own trace
 pub knows : (s : State) (now : ℕ) → IsCurrent s → last_moment s.trace ≤ now → Knows s now s.trace
-knows s now current time = record { agrees = current.agrees; made = current.made; time = time }
+knows s now current time = record { agrees = current.agrees; scores = current.scores; made = current.made; time = time }
 
 -- ---- steps
 
@@ -108,8 +120,8 @@ module _ (m : Mode) (weakens : Weakens m free (λ u. tt)) where
 
   module _ {A E : Type 0} where
     -- an entry that may follow was appended, or memory was wanting
-    pub followed : (event : Event) (now : Millis) (a b : State) (s t : m.State) (e : Entry) (done : Result A E) → IsCurrent a → last_moment a.trace ≤ now.0 → IsNext (peer_with a.setup) a.trace now.0 (owed (peer_with a.setup) a.trace).events event → Follows m (rule_of (peer_with a.setup) a.trace now event) s e t → OnOk done (b.trace ≡ e ∷ a.trace) → OnOk done ((L : Entries) → Agrees a.tables L → Agrees b.tables (e ∷ L)) → OnOk done ((p : Peer) → AreMadeFor a.tables p → AreMadeFor b.tables p) → OnErr done (b.trace ≡ a.trace) → b.setup ≡ a.setup → Steps m event now a s done b t
-    followed event now a b s t e (Ok x) current time next follows added agrees made kept setup =
+    pub followed : (event : Event) (now : Millis) (a b : State) (s t : m.State) (e : Entry) (done : Result A E) → IsCurrent a → last_moment a.trace ≤ now.0 → IsNext (peer_with a.setup) a.trace now.0 (owed (peer_with a.setup) a.trace).events event → Follows m (rule_of (peer_with a.setup) a.trace now event) s e t → OnOk done (b.trace ≡ e ∷ a.trace) → OnOk done ((L : Entries) → Agrees a.tables L → Agrees b.tables (e ∷ L)) → OnOk done ((p : Peer) (L : Entries) → AgreesOnScores p a.tables.standings L → AgreesOnScores p b.tables.standings (e ∷ L)) → OnOk done ((p : Peer) → AreMadeFor a.tables p → AreMadeFor b.tables p) → OnErr done (b.trace ≡ a.trace) → b.setup ≡ a.setup → Steps m event now a s done b t
+    followed event now a b s t e (Ok x) current time next follows added agrees scores made kept setup =
         let p = peer_with a.setup in
         let tells = follows_tells now event (rule_of p a.trace now event) e (rule_tells p a.trace now event) (follows_weakly m free (λ u. tt) weakens (rule_of p a.trace now event) s e t follows) in
         let one = legal_one m p s t a.trace e (allowed p a.trace now event s t e tells time next follows) in
@@ -118,13 +130,14 @@ module _ (m : Mode) (weakens : Weakens m free (λ u. tt)) where
           current = record {
             legal = subst (λ (g : Setup). Legal (peer_with g) b.trace) (sym setup) (appended_legal p a.trace b.trace s t current.legal (record { entries = e ∷ []; are = added; legal = one }));
             agrees = subst (λ (L : Entries). Agrees b.tables L) (sym added) (agrees a.trace current.agrees);
+            scores = subst₂ (λ (g : Setup) (L : Entries). AgreesOnScores (peer_with g) b.tables.standings L) (sym setup) (sym added) (scores (peer_with a.setup) a.trace current.scores);
             made = subst (λ (g : Setup). AreMadeFor b.tables (peer_with g)) (sym setup) (made (peer_with a.setup) current.made);
             ascending = subst (λ (g : Setup). IsAscending (peers_of g.neighbours.items)) (sym setup) current.ascending;
           };
           kept = tt;
           setup = setup;
         }
-    followed event now a b s t e (Err x) current time next follows added agrees made kept setup = record { added = tt; current = tt; kept = kept; setup = setup }
+    followed event now a b s t e (Err x) current time next follows added agrees scores made kept setup = record { added = tt; current = tt; kept = kept; setup = setup }
 
     -- memory was wanting before anything came
     pub breaks_off : (event : Event) (now : Millis) (a b : State) (s t : m.State) (e : E) → IsCurrent a → b.trace ≡ a.trace → b.setup ≡ a.setup → Ends {A = A} {E = E} m event now a s (Err e) b t
@@ -143,13 +156,13 @@ module _ (m : Mode) (weakens : Weakens m free (λ u. tt)) where
     stops event now a b s t (Err e) fails current kept setup = breaks_off event now a b s t e current kept setup
 
     -- an event that owes nothing comes with its step
-    pub opens_alone : (event : Event) (now : Millis) (a b : State) (s t : m.State) (done : Result A E) → IsReady a → owes (peer_with a.setup) a.trace event ≡ [] → Steps m event now a s done b t → Ends m event now a s done b t
+    pub opens_alone : (event : Event) (now : Millis) (a b : State) (s t : m.State) (done : Result A E) → IsReady a → owes (peer_with a.setup) a.trace now.0 event ≡ [] → Steps m event now a s done b t → Ends m event now a s done b t
     opens_alone event now a b s t (Ok x) ready none steps =
         let one = steps.added in
         let p = peer_with a.setup in
         let after : owed p b.trace ≡ nothing = ap (owed p) one.added
-        ∙ ap (λ (ev : Event). owing p (one.entry ∷ a.trace) (owes p a.trace ev) (owed p a.trace)) one.opened
-        ∙ owes_none p a.trace (one.entry ∷ a.trace) event (owed p a.trace) none
+        ∙ ap₂ (λ (at : Millis) (ev : Event). owing p (one.entry ∷ a.trace) (owes p a.trace at.0 ev) (owed p a.trace)) one.moment one.opened
+        ∙ owes_none p a.trace (one.entry ∷ a.trace) now.0 event (owed p a.trace) none
         ∙ ap (paid p (one.entry ∷ a.trace)) ready.settled in
         record {
           opened = record {
@@ -200,9 +213,9 @@ next_due m now event first rest a b s t h =
     subst (λ (debt : Debt). IsNext (peer_with b.setup) b.trace now.0 debt.events first) (sym owed_first) refl
 
 module _ (m : Mode) {A E : Type 0} where
-  -- an RPC that is heard owes its parts
-  pub hears_first : (now : Millis) (q : PeerNo) (rpc : Rpc) (a b : State) (s t : m.State) (x : A) → Steps {A = A} {E = E} m (Heard q rpc) now a s (Ok x) b t → Paying m now (Heard q rpc) a s b t (parts q rpc)
-  hears_first now q rpc a b s t x steps =
+  -- an RPC that is not heard in vain owes its parts
+  pub hears_first : (now : Millis) (q : PeerNo) (rpc : Rpc) (a b : State) (s t : m.State) (x : A) → is_graylisted (peer_with a.setup) a.trace now.0 q ≡ false → Steps {A = A} {E = E} m (Heard q rpc) now a s (Ok x) b t → Paying m now (Heard q rpc) a s b t (parts q rpc)
+  hears_first now q rpc a b s t x listened steps =
       let one = steps.added in
       let p = peer_with a.setup in
       record {
@@ -210,7 +223,8 @@ module _ (m : Mode) {A E : Type 0} where
         setup = steps.setup;
         moment = ap last_moment one.added ∙ ap (λ (at : Millis). at.0) one.moment;
         owes = ap (owed p) one.added
-            ∙ ap (λ (ev : Event). owing p (one.entry ∷ a.trace) (owes p a.trace ev) (owed p a.trace)) one.opened
+            ∙ ap₂ (λ (at : Millis) (ev : Event). owing p (one.entry ∷ a.trace) (owes p a.trace at.0 ev) (owed p a.trace)) one.moment one.opened
+            ∙ ap (λ (in_vain : Bool). owing p (one.entry ∷ a.trace) (if in_vain then [] else PartsOf q rpc ∷ []) (owed p a.trace)) listened
             ∙ heard_owes p (one.entry ∷ a.trace) q rpc;
         begun = record { first = one.entry; paid = []; entries = one.added; opened = one.opened; moment = one.moment; payments = tt };
         appended = record { entries = one.entry ∷ []; are = one.added; legal = one.legal };
@@ -226,7 +240,7 @@ module _ (m : Mode) {A E : Type 0} where
         setup = steps.setup;
         moment = ap last_moment one.added ∙ ap (λ (at : Millis). at.0) one.moment;
         owes = ap (owed p) one.added
-            ∙ ap (λ (ev : Event). owing p (one.entry ∷ a.trace) (owes p a.trace ev) (owed p a.trace)) one.opened
+            ∙ ap₂ (λ (at : Millis) (ev : Event). owing p (one.entry ∷ a.trace) (owes p a.trace at.0 ev) (owed p a.trace)) one.moment one.opened
             ∙ beat_owes p (one.entry ∷ a.trace)
             ∙ ap (λ (L : Entries). last_group (beats (gossip_topics p L))) (sym one.added);
         begun = record { first = one.entry; paid = []; entries = one.added; opened = one.opened; moment = one.moment; payments = tt };
@@ -234,7 +248,7 @@ module _ (m : Mode) {A E : Type 0} where
       }
 
   -- one more event of the group is paid, which owes nothing itself
-  pub pays_next : (now : Millis) (event first : Event) (rest : List Event) (a b c : State) (s t u : m.State) (x : A) → Paying m now event a s b t (first ∷ rest) → owes (peer_with a.setup) b.trace first ≡ [] → Steps {A = A} {E = E} m first now b t (Ok x) c u → Paying m now event a s c u rest
+  pub pays_next : (now : Millis) (event first : Event) (rest : List Event) (a b c : State) (s t u : m.State) (x : A) → Paying m now event a s b t (first ∷ rest) → owes (peer_with a.setup) b.trace now.0 first ≡ [] → Steps {A = A} {E = E} m first now b t (Ok x) c u → Paying m now event a s c u rest
   pays_next now event first rest a b c s t u x h alone steps =
       let one = steps.added in
       let p = peer_with a.setup in
@@ -244,8 +258,8 @@ module _ (m : Mode) {A E : Type 0} where
         setup = steps.setup ∙ h.setup;
         moment = ap last_moment one.added ∙ ap (λ (at : Millis). at.0) one.moment;
         owes = ap (owed p) one.added
-            ∙ ap (λ (ev : Event). owing p (one.entry ∷ b.trace) (owes p b.trace ev) (owed p b.trace)) one.opened
-            ∙ owes_none p b.trace (one.entry ∷ b.trace) first (owed p b.trace) alone
+            ∙ ap₂ (λ (at : Millis) (ev : Event). owing p (one.entry ∷ b.trace) (owes p b.trace at.0 ev) (owed p b.trace)) one.moment one.opened
+            ∙ owes_none p b.trace (one.entry ∷ b.trace) now.0 first (owed p b.trace) alone
             ∙ ap (paid p (one.entry ∷ b.trace)) h.owes
             ∙ paid_last p (one.entry ∷ b.trace) (first ∷ rest);
         begun = record {

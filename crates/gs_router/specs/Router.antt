@@ -1,13 +1,14 @@
 -- What contracts see of a router, and how a call of it ends.
-use Rattle.std.specs.Prelude.{◌≡◌, ◌⊎◌, ℕ, Bool, true, false, if◌then◌else◌, Option, Some, None, Result, Ok, Err}
+use Rattle.std.specs.Prelude.{◌≡◌, ℕ, Bool, true, false, if◌then◌else◌, Option, Some, None, Result, Ok, Err, List, map, ℤ}
 use Rattle.gs_base.specs.declared.names.PeerNo.{PeerNo}
 use Rattle.gs_base.specs.declared.names.Millis.{Millis}
 use Rattle.gs_rules.specs.declared.trace.Event.{Event}
-use Rattle.gs_rules.specs.declared.trace.Event.TheVariants.{Subscribe, Unsubscribe, RoundEnd, Gone, Fault, Shut}
+use Rattle.gs_rules.specs.declared.trace.Event.TheVariants.{Subscribe, Unsubscribe, Decay, RoundEnd, Gone, Fault, Shut}
 use Rattle.gs_rules.specs.declared.refusal.Refusal.{Refusal}
 use Rattle.gs_rules.specs.declared.refusal.Refusal.TheVariants.{Stopped}
-use Rattle.gs_rules.specs.Peers.{Peer}
+use Rattle.gs_rules.specs.Peers.{Peer, links_of}
 use Rattle.gs_rules.specs.Tables.{Entries}
+use Rattle.gs_rules.specs.Scoring.{score}
 use Rattle.gs_rules.specs.Modes.{Mode}
 use Rattle.gs_rules.specs.Legal.{Legal, Comes}
 use Rattle.gs_rules.specs.Refusals.{refusal}
@@ -44,12 +45,17 @@ refusal_if p L at (Some event) = refusal p L at event
 abbrev pub refusal_of : RouterView → ℕ → Option Event → Option Refusal
 refusal_of v at event = if v.is_stopped then Some Stopped else refusal_if v.peer v.trace at event
 
+-- the scores of all neighbours at a moment, by number
+abbrev pub scores_of : Peer → Entries → ℕ → List (PeerNo × ℤ)
+scores_of p L at = map (λ q. (q, score p L at q)) (links_of p)
+
 -- ---- events
 
 -- what a router's own user may wish, beside publishing
 abbrev pub IsUsers : Event → Type 0
 IsUsers (Subscribe t) = Unit {0}
 IsUsers (Unsubscribe t) = Unit {0}
+IsUsers Decay = Unit {0}
 IsUsers (RoundEnd r) = Unit {0}
 IsUsers Shut = Unit {0}
 IsUsers other = ⊥

@@ -20,7 +20,7 @@ use Rattle.gs_router.specs.declared.setup.Setup.{Setup}
 use Rattle.gs_router.specs.declared.state.State.{State}
 use Rattle.gs_router.specs.declared.rules.messages.Fate.{Fate}
 use Rattle.gs_router.specs.declared.rules.messages.Fate.TheVariants.{Dropped, Invalid, Rejected, Ignored, Accepted}
-use Rattle.gs_router.specs.Tables.{Agrees, AreMadeFor}
+use Rattle.gs_router.specs.Tables.{Agrees, AgreesOnScores, AreMadeFor}
 
 -- the peer that a router is, as its trace is read
 abbrev pub peer_with : Setup → Peer
@@ -29,6 +29,7 @@ peer_with setup = record { params = setup.params; neighbours = setup.neighbours.
 -- the tables say what this trace says at a moment that is no earlier than its last
 pub record Knows (s : State) (now : ℕ) (L : Entries) : Type 0 where
   pub agrees : Agrees s.tables L
+  pub scores : AgreesOnScores (peer_with s.setup) s.tables.standings L
   pub made : AreMadeFor s.tables (peer_with s.setup)
   pub time : last_moment L ≤ now
 
@@ -36,6 +37,7 @@ pub record Knows (s : State) (now : ℕ) (L : Entries) : Type 0 where
 pub record IsCurrent (s : State) : Type 0 where
   pub legal : Legal (peer_with s.setup) s.trace
   pub agrees : Agrees s.tables s.trace
+  pub scores : AgreesOnScores (peer_with s.setup) s.tables.standings s.trace
   pub made : AreMadeFor s.tables (peer_with s.setup)
   pub ascending : IsAscending (peers_of s.setup.neighbours.items)
 

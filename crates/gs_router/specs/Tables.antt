@@ -1,5 +1,5 @@
 -- A router's tables say what its trace says.
-use Rattle.std.specs.Prelude.{◌≡◌, ◌≤◌, ◌<◌, ◌-◌, ℕ, min, Bool, false, not, ◌||◌, if◌then◌else◌, List, [], ◌∷◌, length, filter, Option, Some, None, is_some, option_map, unwrap_or}
+use Rattle.std.specs.Prelude.{◌≡◌, ◌≤◌, ◌<◌, ◌-◌, ℕ, min, Bool, false, not, ◌||◌, if◌then◌else◌, List, [], length, filter, Option, Some, None, is_some, option_map, unwrap_or}
 use Rattle.std.specs.Ordering.{is_eq}
 use Rattle.std.specs.List.{list_any}
 use Rattle.std.specs.Map.{lookup}
@@ -13,9 +13,11 @@ use Rattle.gs_base.specs.declared.mark.Mark.TheVariants as marks
 use Rattle.gs_wire.specs.Messages.{most_identifiers}
 use Rattle.gs_cache.specs.Sightings.{verdict_in, what_counts}
 use Rattle.gs_cache.specs.Messages.{Cached, all_left, cached, left, one_less}
+use Rattle.gs_score.specs.Histories as histories
 use Rattle.gs_rules.specs.declared.trace.Entry.{Entry}
 use Rattle.gs_rules.specs.Peers.{Peer, seen_ttl, windows}
 use Rattle.gs_rules.specs.Tables.{Entries, Keeping, answered, asked, counting, is_shut, joined, keeping, keeping_order, kept, known, last_kept, last_moment, offers, on, promises, seen, topic_order, up}
+use Rattle.gs_rules.specs.Scoring.{history, setting_of}
 use Rattle.gs_router.specs.declared.peer_set.PeerSet.{PeerSet}
 use Rattle.gs_router.specs.declared.tables.own_topics.OwnTopics.{OwnTopics}
 use Rattle.gs_router.specs.declared.tables.listeners.Listeners.{Listeners}
@@ -24,6 +26,7 @@ use Rattle.gs_router.specs.declared.tables.messages.Messages.{Messages}
 use Rattle.gs_router.specs.declared.tables.budgets.Budget.{Budget}
 use Rattle.gs_router.specs.declared.tables.budgets.Budgets.{Budgets}
 use Rattle.gs_router.specs.declared.tables.promises.Promises.{Promises}
+use Rattle.gs_router.specs.declared.tables.standings.Standings.{Standings}
 use Rattle.gs_router.specs.declared.tables.neighbours.Neighbours.{Neighbours}
 use Rattle.gs_router.specs.declared.tables.Tables.{Tables}
 use Rattle.gs_router.specs.PeerSets.{has}
@@ -145,6 +148,12 @@ pub record AgreesOnBudgets (table : Budgets) (L : Entries) : Type 0 where
 
 pub record AgreesOnPromises (table : Promises) (L : Entries) : Type 0 where
   pub waits : table.waiting.items ≡ promises L
+
+-- ---- scores
+
+-- what counts of a peer's neighbours is what happened to them
+abbrev pub AgreesOnScores : Peer → Standings → Entries → Type 0
+AgreesOnScores p table L = histories.Agrees (setting_of p) table.scores (history p L)
 
 -- ---- neighbours
 

@@ -1,14 +1,17 @@
 //! A router: what one gossipsub peer does, and its trace. It takes nothing from anywhere and sends
 //! nothing: what comes is handed in, and what is sent stands in the trace.
-ghost use Rattle.std.specs.Prelude.{◌≡◌, ◌≤◌, ◌||◌, [], Some, true, false, IfOk};
+ghost use Rattle.std.specs.Prelude.{◌≡◌, ◌≤◌, ◌^◌, ◌||◌, [], Some, true, false, unsigned_abs, All, IfOk};
 ghost use Rattle.gs_base.specs.Names.{peers_of};
+ghost use Rattle.gs_base.specs.declared.neighbour.Neighbour.{Neighbour as NeighbourValue};
+ghost use Rattle.gs_params.specs.Params.{AreInRange};
 ghost use Rattle.gs_params.specs.Picks.{IsAscending};
 ghost use Rattle.gs_rules.specs.declared.trace.Event.TheVariants as events;
 ghost use Rattle.gs_rules.specs.Tables.{last_moment, up};
+ghost use Rattle.gs_rules.specs.Scoring.{score};
 ghost use Rattle.gs_rules.specs.Modes.{exact};
 ghost use Rattle.gs_rules.specs.Legal.{hearing, losing};
 ghost use Rattle.gs_wire.specs.Codec.{codec};
-ghost use Rattle.gs_router.specs.Router.{Calls, IsLoss, IsUsers, answer_of, fails};
+ghost use Rattle.gs_router.specs.Router.{Calls, IsLoss, IsUsers, answer_of, fails, scores_of};
 
 use crate::fault::RouterFault;
 use crate::rules;
@@ -17,7 +20,7 @@ use crate::setup::Setup;
 use crate::state::State;
 use crate::tables::Tables;
 use bytes::Bytes;
-use gs_base::{Millis, MsgId, Neighbour, PeerNo, Rpc, Topic};
+use gs_base::{Millis, MsgId, Neighbour, PeerNo, Rpc, Seq, Topic};
 use gs_params::{Params, Words};
 use gs_rules::{Event, Refusal, Trace};
 use std::alloc::{AllocError, Global};
@@ -46,7 +49,8 @@ impl Model for Router {
 }
 
 impl Router {
-    /// A router that has done nothing, with these parameters and these neighbours, ascending by number.
+    /// A router that has done nothing, with these parameters, which are in range, and these neighbours, ascending by
+    /// number. What the application gives each is at most 10^12 millionths either way.
     ///
     /// # Errors
     /// `AllocError` where there was no memory.
@@ -55,14 +59,16 @@ impl Router {
         params: Params,
         neighbours: Vec<Neighbour>,
     ) -> Result<Router, AllocError>
-        requires { IsAscending (peers_of neighbours.items) }
+        requires in_range { AreInRange params }
+        requires ascending { IsAscending (peers_of neighbours.items) }
+        requires apps { All (λ (n : NeighbourValue). unsigned_abs n.app ≤ 10 ^ 12) neighbours.items }
         ensures { IfOk result (λ router. router ≡ record {
           peer = record { params = params; neighbours = neighbours.items };
           trace = [];
           is_stopped = false;
         }) }
     {
-        let tables = Tables::new(alloc, &params.windows)?;
+        let tables = Tables::new(alloc, &params, neighbours.as_slice())?;
         Ok(Router {
             state: State {
                 alloc,
@@ -111,8 +117,34 @@ impl Router {
         self.state.setup.params.windows.heartbeat_ms
     }
 
+    /// The time from step to step of the decay of scores, in milliseconds.
+    pub fn decay_ms(&self) -> u64
+        ensures { result ≡ self.now.peer.params.windows.decay_ms }
+    {
+        self.state.setup.params.windows.decay_ms
+    }
+
+    /// The score of a neighbour at a moment, in millionths (gossipsub v1.1, Peer Scoring, The Score Function). After
+    /// want of memory nothing is known of the answer.
+    pub fn score(&self, peer: PeerNo, now: Millis) -> i128
+        ensures { self.now.is_stopped ≡ false → result ≡ score self.now.peer self.now.trace now.0 peer }
+    {
+        self.state.tables.standings.score(peer, now)
+    }
+
+    /// The scores of all neighbours at a moment, by number. After want of memory nothing is known of them.
+    ///
+    /// # Errors
+    /// `AllocError` where there was no memory.
+    pub fn scores(&self, now: Millis) -> Result<Seq<(PeerNo, i128)>, AllocError>
+        ensures { IfOk result (λ scores. self.now.is_stopped ≡ false
+            → scores ≡ scores_of self.now.peer self.now.trace now.0) }
+    {
+        self.state.scores(now)
+    }
+
     /// Hears an RPC that came from a neighbour and fits a frame, as all do that a reader gives. Where the
-    /// neighbour is not up, it is late, and has no effect.
+    /// neighbour is not up, it is late, and has no effect; of one that is on the graylist, no part has any.
     ///
     /// # Errors
     /// `Stopped` after want of memory, and `NoMemory`.
@@ -204,8 +236,8 @@ impl Router {
         self.obey(Event::Unsubscribe(topic), now, words)
     }
 
-    /// Publishes a payload: it goes to every neighbour that is on the topic, and is delivered to the
-    /// router's own user where that is subscribed to the topic.
+    /// Publishes a payload: it goes to every neighbour that is on the topic and not below the threshold, and is
+    /// delivered to the router's own user where that is subscribed to the topic.
     ///
     /// # Errors
     /// `Stopped`, `TooLong` and `AlreadySeen`, in this order, and `NoMemory`.
@@ -250,6 +282,18 @@ impl Router {
         }
         let done = self.state.heartbeat(now, words);
         ended(&mut self.is_stopped, done)
+    }
+
+    /// Lowers the counters that scores are made of by a step (gossipsub v1.1, Peer Scoring, Parameter Decay).
+    ///
+    /// # Errors
+    /// `Stopped`, and `NoMemory`.
+    pub fn decay<W: Words>(&mut self, now: Millis, words: &mut W) -> Result<(), RouterFault>
+        requires { last_moment self.old.trace ≤ now.0 }
+        ensures { Calls (exact W.word W.after) (Some events.Decay) now
+            self.old words.old result self.new words.new }
+    {
+        self.obey(Event::Decay, now, words)
     }
 
     /// Ends a round.

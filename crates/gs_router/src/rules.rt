@@ -14,6 +14,7 @@ pub mod messages;
 pub mod offers;
 pub mod requests;
 pub mod subscriptions;
+pub mod thresholds;
 
 use crate::rules::messages::Publishing;
 use crate::state::State;
@@ -119,6 +120,7 @@ pub fn refusal_of(state: &State, event: &Event, now: Millis) -> Option<Refusal>
             messages::refusal_of_publish(state, topic, payload, MsgId::of(payload), now)
         }
         Event::Promises => refusal_of_anything(state),
+        Event::Decay => refusal_of_anything(state),
         Event::RoundEnd(_) => refusal_of_anything(state),
         Event::Shut => refusal_of_anything(state),
         _ => None,

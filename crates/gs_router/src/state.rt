@@ -1,5 +1,5 @@
 //! What a router knows, and how it takes a step.
-ghost use Rattle.std.specs.Prelude.{◌≡◌, ◌≤◌, [], ◌∷◌, OnOk, OnErr, true};
+ghost use Rattle.std.specs.Prelude.{◌≡◌, ◌≤◌, [], ◌∷◌, length, OnOk, OnErr, true, false};
 ghost use Rattle.gs_base.specs.Names.{message_id};
 ghost use Rattle.gs_wire.specs.Codec.{codec};
 ghost use Rattle.gs_rules.specs.declared.trace.Event.TheVariants as events;
@@ -8,10 +8,12 @@ ghost use Rattle.gs_rules.specs.Owed.{offers_in, owed, owes, requests_in};
 ghost use Rattle.gs_rules.specs.Modes.{exact};
 ghost use Rattle.gs_rules.specs.Legal.{IsNext, MayHear, MayOpen, hearing};
 ghost use Rattle.gs_rules.specs.Peers.{Peer};
-ghost use Rattle.gs_router.specs.Tables.{Agrees, AreMadeFor};
+ghost use Rattle.gs_rules.specs.Scoring.{is_graylisted};
+ghost use Rattle.gs_router.specs.Tables.{Agrees, AgreesOnScores, AreMadeFor};
 ghost use Rattle.gs_router.specs.State.{Ends, IsCurrent, IsReady, Steps, peer_with};
 
 mod heartbeat;
+mod scores;
 
 use crate::rules;
 use crate::rules::messages::{self, Publishing};
@@ -40,13 +42,18 @@ impl State {
     /// # Errors
     /// `AllocError` where there was no memory; the trace is then as it was.
     fn append(&mut self, entry: Entry) -> Result<(), AllocError>
-        requires { self.old.tables.sightings.cache.moment ≤ entry.at.0 }
+        requires time { self.old.tables.sightings.cache.moment ≤ entry.at.0 }
+        requires few { self.old.tables.standings.scores.tick ≤ length self.old.trace }
         ensures added { OnOk result (self.new.trace ≡ entry ∷ self.old.trace) }
         ensures agrees { OnOk result ((L : Entries) → Agrees self.old.tables L → Agrees self.new.tables (entry ∷ L)) }
+        ensures scores { OnOk result ((p : Peer) (L : Entries)
+            → AgreesOnScores p self.old.tables.standings L
+            → AgreesOnScores p self.new.tables.standings (entry ∷ L)) }
         ensures made { OnOk result ((p : Peer) → AreMadeFor self.old.tables p → AreMadeFor self.new.tables p) }
         ensures kept { OnErr result (self.new.trace ≡ self.old.trace) }
         ensures setup { self.new.setup ≡ self.old.setup }
     {
+        self.trace.is_in_memory();
         self.tables.note(&entry)?;
         self.trace.push(entry)?;
         Ok(())
@@ -74,7 +81,7 @@ impl State {
         requires ready { IsReady self.old }
         requires time { last_moment self.old.trace ≤ now.0 }
         requires may { MayOpen (peer_with self.old.setup) self.old.trace now.0 event }
-        requires alone { owes (peer_with self.old.setup) self.old.trace event ≡ [] }
+        requires alone { owes (peer_with self.old.setup) self.old.trace now.0 event ≡ [] }
         ensures { Ends (exact W.word W.after) event now self.old words.old result self.new words.new }
     {
         self.step(event, now, words)
@@ -99,7 +106,7 @@ impl State {
         self.append(entry)
     }
 
-    /// Hears an RPC, and all its parts where its sender is up.
+    /// Hears an RPC, and all its parts where its sender is up and not on the graylist.
     pub fn hear<W: Words>(
         &mut self,
         from: PeerNo,
@@ -114,14 +121,21 @@ impl State {
             self.old words.old result self.new words.new }
     {
         let rpc = Shared::new(self.alloc, rpc)?;
-        if self.tables.neighbours.is_up(from) {
-            self.hear_up(from, rpc, now, words)
-        } else {
-            self.open(Event::Late(from, rpc), now, words)
+        if !self.tables.neighbours.is_up(from) {
+            return self.open(Event::Late(from, rpc), now, words);
         }
+        if rules::thresholds::is_below(
+            self,
+            self.setup.params.thresholds.graylist_threshold,
+            from,
+            now,
+        ) {
+            return self.open(Event::Heard(from, rpc), now, words);
+        }
+        self.hear_up(from, rpc, now, words)
     }
 
-    /// Hears an RPC of a neighbour that is up, and all its parts.
+    /// Hears an RPC of a neighbour that is up and not on the graylist, and all its parts.
     fn hear_up<W: Words>(
         &mut self,
         from: PeerNo,
@@ -132,6 +146,7 @@ impl State {
         requires ready { IsReady self.old }
         requires time { last_moment self.old.trace ≤ now.0 }
         requires may { MayHear self.old.trace from rpc }
+        requires listened { is_graylisted (peer_with self.old.setup) self.old.trace now.0 from ≡ false }
         ensures { Ends (exact W.word W.after) (events.Heard from rpc) now self.old words.old result self.new words.new }
     {
         let heard = clone_of(&rpc)?;

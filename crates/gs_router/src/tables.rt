@@ -1,9 +1,13 @@
 //! What a router knows beside its trace, so that no call looks through that. Each table is brought
 //! up to date from an entry alone: its event and its marks.
-ghost use Rattle.std.specs.Prelude.{◌≡◌, ◌≤◌, [], ◌∷◌, OnOk, IfOk};
+ghost use Rattle.std.specs.Prelude.{◌≡◌, ◌≤◌, ◌<◌, ◌^◌, [], ◌∷◌, unsigned_abs, All, OnOk, IfOk};
+ghost use Rattle.gs_base.specs.Names.{peers_of};
+ghost use Rattle.gs_base.specs.declared.neighbour.Neighbour.{Neighbour as NeighbourValue};
+ghost use Rattle.gs_params.specs.Params.{AreInRange};
+ghost use Rattle.gs_params.specs.Picks.{IsAscending};
 ghost use Rattle.gs_rules.specs.Peers.{Peer};
 ghost use Rattle.gs_rules.specs.Tables.{Entries};
-ghost use Rattle.gs_router.specs.Tables.{Agrees, AreMadeFor};
+ghost use Rattle.gs_router.specs.Tables.{Agrees, AgreesOnScores, AreMadeFor};
 
 pub mod budgets;
 pub mod listeners;
@@ -12,6 +16,7 @@ pub mod neighbours;
 pub mod own_topics;
 pub mod promises;
 pub mod sightings;
+pub mod standings;
 
 use crate::tables::budgets::{Budget, Budgets};
 use crate::tables::listeners::Listeners;
@@ -20,8 +25,9 @@ use crate::tables::neighbours::Neighbours;
 use crate::tables::own_topics::OwnTopics;
 use crate::tables::promises::Promises;
 use crate::tables::sightings::Sightings;
-use gs_base::Millis;
-use gs_params::Windows;
+use crate::tables::standings::Standings;
+use gs_base::{Millis, Neighbour};
+use gs_params::{Params, Windows};
 use gs_rules::Entry;
 use std::alloc::{AllocError, Global};
 
@@ -37,18 +43,31 @@ pub struct Tables {
     pub messages: Messages,
     pub budgets: Budgets,
     pub promises: Promises,
+    pub standings: Standings,
     pub neighbours: Neighbours,
 }
 
 impl Tables {
-    /// The tables of a router that has done nothing, with these parameters.
+    /// The tables of a router that has done nothing, with these parameters and these neighbours.
     ///
     /// # Errors
     /// `AllocError` where there was no memory.
-    pub fn new(alloc: Global, windows: &Windows) -> Result<Tables, AllocError>
+    pub fn new(
+        alloc: Global,
+        params: &Params,
+        neighbours: &[Neighbour],
+    ) -> Result<Tables, AllocError>
+        requires in_range { AreInRange params.now }
+        requires ascending { IsAscending (peers_of neighbours.now) }
+        requires apps { All (λ (n : NeighbourValue). unsigned_abs n.app ≤ 10 ^ 12) neighbours.now }
         ensures agrees { IfOk result (λ tables. Agrees tables []) }
-        ensures made { IfOk result (λ tables. (p : Peer) → p.params.windows ≡ windows.now → AreMadeFor tables p) }
+        ensures scores { IfOk result (λ tables. (p : Peer)
+            → p.params ≡ params.now
+            → p.neighbours ≡ neighbours.now
+            → AgreesOnScores p tables.standings []) }
+        ensures made { IfOk result (λ tables. (p : Peer) → p.params ≡ params.now → AreMadeFor tables p) }
     {
+        let windows = &params.windows;
         let kept = windows.mcache_len as usize;
         let announced = windows.mcache_gossip as usize;
         let messages = Messages::new(alloc, kept, announced, windows.gossip_retransmission)?;
@@ -56,6 +75,7 @@ impl Tables {
             offers: windows.max_ihave,
             ids: windows.max_ihave_ids.min(MOST_IDENTIFIERS),
         };
+        let standings = Standings::new(alloc, params, neighbours)?;
         Ok(Tables {
             topics: OwnTopics::new(alloc),
             listeners: Listeners::new(alloc),
@@ -63,6 +83,7 @@ impl Tables {
             messages,
             budgets: Budgets::new(alloc, budget),
             promises: Promises::new(alloc),
+            standings,
             neighbours: Neighbours::new(alloc),
         })
     }
@@ -72,8 +93,12 @@ impl Tables {
     /// # Errors
     /// `AllocError` where there was no memory; some of the tables may then have noted it.
     pub fn note(&mut self, entry: &Entry) -> Result<(), AllocError>
-        requires { self.old.sightings.cache.moment ≤ entry.now.at.0 }
+        requires time { self.old.sightings.cache.moment ≤ entry.now.at.0 }
+        requires few { self.old.standings.scores.tick < 2 ^ 63 }
         ensures agrees { OnOk result ((L : Entries) → Agrees self.old L → Agrees self.new (entry.now ∷ L)) }
+        ensures scores { OnOk result ((p : Peer) (L : Entries)
+            → AgreesOnScores p self.old.standings L
+            → AgreesOnScores p self.new.standings (entry.now ∷ L)) }
         ensures made { OnOk result ((p : Peer) → AreMadeFor self.old p → AreMadeFor self.new p) }
     {
         self.topics.note(entry)?;
@@ -82,6 +107,7 @@ impl Tables {
         self.messages.note(entry)?;
         self.budgets.note(entry)?;
         self.promises.note(entry)?;
+        self.standings.note(entry)?;
         self.neighbours.note(entry)?;
         Ok(())
     }

@@ -1,5 +1,6 @@
 //! Routers with neighbours 1 and 2: what their calls answer, and the trace that is left.
-ghost use Rattle.std.specs.Prelude.{true, ◌≡◌, ◌≤◌, IfOk};
+ghost use Rattle.std.specs.Prelude.{true, ◌≡◌, ◌≤◌, pos, IfOk};
+ghost use Rattle.gs_params.specs.Params.{AreInRange};
 ghost use Rattle.gs_rules.specs.Tables.{last_moment};
 ghost use Rattle.gs_wire.specs.Codec.{codec};
 
@@ -9,6 +10,7 @@ mod cases;
 mod gossip;
 mod gossip_cases;
 mod made;
+mod scores;
 mod sights;
 mod verdicts;
 
@@ -86,6 +88,7 @@ fn ask(alloc: Global, router: &mut Router, at: u64, what: What<'_>) -> Result<u8
         Event::Unsubscribe(topic) => router.unsubscribe(topic, now, words),
         Event::Publish(topic, payload) => router.publish(topic, payload, now, words),
         Event::Promises => router.heartbeat(now, words),
+        Event::Decay => router.decay(now, words),
         Event::RoundEnd(round) => router.end_round(round, now, words),
         Event::Gone(peer) => router.gone(peer, now, words),
         Event::Fault(peer) => router.fault(peer, now, words),
@@ -116,22 +119,38 @@ fn answers(alloc: Global, router: &mut Router, calls: &[Call<'_>]) -> Result<boo
     Ok(true)
 }
 
-/// A neighbour that dialled, at no address.
-fn neighbour(number: u16) -> Neighbour
-    ensures { result.peer.0 ≡ number }
+/// A neighbour that dialled, at an address of its own.
+fn neighbour(alloc: Global, number: u16) -> Result<Neighbour, AllocError>
+    ensures number { IfOk result (λ neighbour. neighbour.peer.0 ≡ number) }
+    ensures app { IfOk result (λ neighbour. neighbour.app ≡ pos 0) }
 {
-    Neighbour {
+    Ok(Neighbour {
         peer: PeerNo(number),
         outbound: false,
-        address: Bytes::new(),
+        address: Bytes::copy_from_slice(alloc, &[(number % 256) as u8])?,
         app: 0,
+    })
+}
+
+/// Parameters that pass their checks; with any others the test fails.
+fn checked(params: Params) -> Result<Params, AllocError>
+    ensures { IfOk result AreInRange }
+{
+    match params.check() {
+        Ok(params) => Ok(params),
+        Err(_) => Err(AllocError),
     }
+}
+
+/// A router with neighbours 1 and 2 and these parameters.
+fn router_with(alloc: Global, params: Params) -> Result<Router, AllocError> {
+    let neighbours = vec![in alloc; neighbour(alloc, 1)?, neighbour(alloc, 2)?]?;
+    Router::new(alloc, checked(params)?, neighbours)
 }
 
 /// A router with neighbours 1 and 2 and the parameters where nothing is said.
 fn router(alloc: Global) -> Result<Router, AllocError> {
-    let neighbours = vec![in alloc; neighbour(1), neighbour(2)]?;
-    Router::new(alloc, Params::new(alloc), neighbours)
+    router_with(alloc, Params::new(alloc))
 }
 
 /// Whether a new router's calls are answered so, and leave this trace.
@@ -323,13 +342,27 @@ fn a_topic_counts_among_1024_even_after_it_was_left(rt: HostRuntime) -> Result<(
     Ok(())
 }
 
+/// The numbers and the texts of faults.
+static FAULTS: [(RouterFault, u8, &str); 3] = [
+    (
+        RouterFault::Refused(Refusal::AlreadySeen),
+        16,
+        "the message was seen lately",
+    ),
+    (
+        RouterFault::Refused(Refusal::Stopped),
+        21,
+        "the peer has stopped",
+    ),
+    (RouterFault::NoMemory, 20, "there was no memory"),
+];
+
 #[test]
-fn each_fault_has_its_number(rt: HostRuntime) {
-    for (fault, number) in [
-        (RouterFault::Refused(Refusal::AlreadySeen), 16),
-        (RouterFault::Refused(Refusal::Stopped), 21),
-        (RouterFault::NoMemory, 20),
-    ] {
-        assert_eq!(rt; fault.number(), number, "{fault}");
+fn each_fault_has_its_number_and_text(rt: HostRuntime) -> Result<(), AllocError> {
+    for (fault, number, text) in &FAULTS {
+        let shown = format!(in rt.alloc(); "{fault}")?;
+        assert_eq!(rt; shown.as_str(), *text);
+        assert_eq!(rt; fault.number(), *number);
     }
+    Ok(())
 }

@@ -6,13 +6,13 @@ ghost use Rattle.gs_base.specs.declared.names.MsgId.{MsgId as MsgIdValue};
 ghost use Rattle.gs_wire.specs.Messages.{offering};
 ghost use Rattle.gs_rules.specs.Tables.{Entries};
 ghost use Rattle.gs_rules.specs.Gossip.{all_charges, charges, gossip_size};
-ghost use Rattle.gs_rules.specs.Rules.{gossip_rule, promises_rule, telling};
+ghost use Rattle.gs_rules.specs.Rules.{gossip_rule, promises_rule, telling, told};
 ghost use Rattle.gs_rules.specs.Modes.{Follows, exact};
 ghost use Rattle.gs_router.specs.Tables.{Agrees};
 ghost use Rattle.gs_router.specs.State.{IsCurrent, Knows, peer_with};
 
 use crate::rules::messages::listeners;
-use crate::rules::{bare, to_each};
+use crate::rules::{bare, thresholds, to_each};
 use crate::setup::Setup;
 use crate::state::State;
 use bytes::Bytes;
@@ -93,25 +93,38 @@ pub fn gossip<W: Words>(
     now: Millis,
     words: &mut W,
 ) -> Result<Entry, AllocError>
-    requires { IsCurrent state.now }
+    requires current { IsCurrent state.now }
+    requires knows { Knows state.now now.0 state.now.trace }
     ensures { IfOk result (λ entry. (L : Entries)
         → Knows state.now now.0 L
         → Follows (exact W.word W.after) (gossip_rule (peer_with state.now.setup) L now topic) words.old entry words.new) }
 {
-    let receivers = listeners(state, &topic)?;
-    let size = gossip_size(&state.setup, receivers.len());
-    let chosen = pick(state.alloc, &receivers, size, words)?;
+    let told = told(state, &topic, now)?;
+    let size = gossip_size(&state.setup, told.len());
+    let chosen = pick(state.alloc, &told, size, words)?;
     let entry = telling(state, topic, &chosen, now)?;
     Ok(entry)
 }
 
-/// How many of so many neighbours are told.
-fn gossip_size(setup: &Setup, receivers: usize) -> usize
-    ensures { result ≡ gossip_size (peer_with setup.now) receivers }
+/// The neighbours that may be told what there is on a topic.
+fn told(state: &State, topic: &Topic, now: Millis) -> Result<Vec<PeerNo>, AllocError>
+    ensures { IfOk result (λ found. (L : Entries)
+        → Knows state.now now.0 L
+        → found.items ≡ told (peer_with state.now.setup) L now.0 topic.now) }
 {
-    let part = u128::from(setup.params.factors.gossip_factor) * (receivers as u128) / 1_000_000;
+    let listeners = listeners(state, topic)?;
+    let threshold = state.setup.params.thresholds.gossip_threshold;
+    let told = thresholds::not_below(state, threshold, &listeners, now)?;
+    Ok(told)
+}
+
+/// How many of so many neighbours are told.
+fn gossip_size(setup: &Setup, count: usize) -> usize
+    ensures { result ≡ gossip_size (peer_with setup.now) count }
+{
+    let part = u128::from(setup.params.factors.gossip_factor) * (count as u128) / 1_000_000;
     let size = part.max(u128::from(setup.params.degrees.d_lazy));
-    size.min(receivers as u128) as usize
+    size.min(count as u128) as usize
 }
 
 /// The entry in which these neighbours are told what there is on a topic.

@@ -9,14 +9,15 @@ ghost use Rattle.gs_base.specs.declared.mark.Mark.TheVariants as marks;
 ghost use Rattle.gs_rules.specs.declared.trace.Event.TheVariants as events;
 ghost use Rattle.gs_rules.specs.Peers.{links_of};
 ghost use Rattle.gs_rules.specs.Tables.{Entries, joined, up};
-ghost use Rattle.gs_rules.specs.Rules.{begins_with_one, listeners, message_rule, new_message, publish_rule, verdict_by, verdict_on};
+ghost use Rattle.gs_rules.specs.Scoring.{is_passed_over};
+ghost use Rattle.gs_rules.specs.Rules.{begins_with_one, listeners, message_rule, new_message, publish_rule, verdict_by, verdict_on, without};
 ghost use Rattle.gs_rules.specs.Refusals.{refusal};
 ghost use Rattle.gs_router.specs.PeerSets.{has};
 ghost use Rattle.gs_router.specs.Tables.{Agrees};
 ghost use Rattle.gs_router.specs.State.{Knows, judged, peer_with};
 
 use crate::peer_set::PeerSet;
-use crate::rules::{bare, to_each};
+use crate::rules::{bare, thresholds, to_each};
 use crate::state::State;
 use bytes::Bytes;
 use gs_base::{
@@ -273,14 +274,28 @@ fn delivered(state: &State, publishing: &Publishing) -> Result<Seq<(Topic, Bytes
     }
 }
 
+/// The neighbours that get what is published on a topic.
+fn receivers_of(state: &State, topic: &Topic, now: Millis) -> Result<Vec<PeerNo>, AllocError>
+    ensures { IfOk result (λ receivers. (L : Entries)
+        → Knows state.now now.0 L
+        → receivers.items
+        ≡ without (is_passed_over (peer_with state.now.setup) L now.0)
+        (listeners (peer_with state.now.setup) L topic.now)) }
+{
+    let listeners = listeners(state, topic)?;
+    let threshold = state.setup.params.thresholds.publish_threshold;
+    let receivers = thresholds::not_below(state, threshold, &listeners, now)?;
+    Ok(receivers)
+}
+
 /// The entry of a payload that the router's own user publishes.
 pub fn publish(state: &State, publishing: Publishing, now: Millis) -> Result<Entry, AllocError>
     requires { publishing.id ≡ message_id publishing.payload }
     ensures { IfOk result (λ entry. (L : Entries)
-        → Agrees state.now.tables L
+        → Knows state.now now.0 L
         → entry ≡ publish_rule (peer_with state.now.setup) L now publishing.topic publishing.payload) }
 {
-    let receivers = listeners(state, &publishing.topic)?;
+    let receivers = receivers_of(state, &publishing.topic, now)?;
     let rpc = Rpc::publication(state.alloc, &publishing.topic, &publishing.payload)?;
     let sends = to_each(state.alloc, rpc, &receivers)?;
     let delivered = delivered(state, &publishing)?;

@@ -8,7 +8,7 @@ ghost use Rattle.gs_rules.specs.Modes.{Follows, exact};
 ghost use Rattle.gs_router.specs.State.{Knows, peer_with};
 ghost use Rattle.gs_router.specs.Offers.{add_wanted, id_of};
 
-use crate::rules::bare;
+use crate::rules::{bare, thresholds};
 use crate::state::State;
 use bytes::Bytes;
 use gs_base::{Control, IHave, IWant, Mark, Millis, MsgId, PeerNo, Rpc, Seq, Shared, clone_of};
@@ -33,6 +33,9 @@ pub fn entry_of<W: Words>(
         → Knows state.now now.0 L
         → Follows (exact W.word W.after) (have_rule (peer_with state.now.setup) L now from offer) words.old entry words.new) }
 {
+    if thresholds::is_ignored(state, from, now) {
+        return Ok(bare(state.alloc, now, Event::Have(from, offer)));
+    }
     let budget = state.tables.budgets.of(from);
     if budget.offers == 0 {
         return Ok(bare(state.alloc, now, Event::Have(from, offer)));

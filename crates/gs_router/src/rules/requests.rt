@@ -6,14 +6,14 @@ ghost use Rattle.gs_base.specs.declared.mark.Mark.TheVariants as marks;
 ghost use Rattle.gs_base.specs.declared.rpc.Message.{Message as MessageValue};
 ghost use Rattle.gs_wire.specs.Messages.{passed_on};
 ghost use Rattle.gs_rules.specs.Tables.{Entries};
-ghost use Rattle.gs_rules.specs.Rules.{answer, answers, ids_in, times_in, want_rule, with_message};
+ghost use Rattle.gs_rules.specs.Rules.{answer, answering, answers, ids_in, times_in, want_rule, with_message};
 ghost use Rattle.gs_router.specs.Tables.{Agrees, AreMadeFor};
 ghost use Rattle.gs_router.specs.Offers.{left_now};
 ghost use Rattle.gs_router.specs.Requests.{Gives, Replies};
 ghost use Rattle.gs_router.specs.State.{Knows, peer_with};
 
-use crate::rules::bare;
 use crate::rules::offers::id_of;
+use crate::rules::{bare, thresholds};
 use crate::state::State;
 use bytes::Bytes;
 use gs_base::{IWant, Mark, Message, Millis, MsgId, PeerNo, Rpc, Seq, Shared, clone_of};
@@ -31,6 +31,24 @@ pub fn entry_of(
     ensures { IfOk result (λ entry. (L : Entries)
         → Knows state.now now.0 L
         → entry ≡ want_rule (peer_with state.now.setup) L now from request) }
+{
+    if thresholds::is_ignored(state, from, now) {
+        return Ok(bare(state.alloc, now, Event::Want(from, request)));
+    }
+    let entry = answering(state, from, request, now)?;
+    Ok(entry)
+}
+
+/// The entry of a request that is answered.
+fn answering(
+    state: &State,
+    from: PeerNo,
+    request: Shared<IWant>,
+    now: Millis,
+) -> Result<Entry, AllocError>
+    ensures { IfOk result (λ entry. (L : Entries)
+        → Knows state.now now.0 L
+        → entry ≡ answering now from request (answers (peer_with state.now.setup) L from [] (ids_in request.ids))) }
 {
     let ids = ids_in(state.alloc, request.get().ids.as_slice())?;
     let reply = reply_to(state, from, &ids)?;

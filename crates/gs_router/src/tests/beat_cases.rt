@@ -20,6 +20,7 @@ pub enum Deed<'a> {
     Leave(&'a str),
     Gone(u16),
     Beat,
+    Decay,
     Shut,
 }
 

@@ -1,7 +1,8 @@
 //! Heartbeats: which promises are broken, what is kept, and who is told what, moment by moment.
 
-ghost use Rattle.std.specs.Prelude.{IfOk};
+ghost use Rattle.std.specs.Prelude.{◌≤◌, ◌^◌, unsigned_abs, All, IfOk};
 ghost use Rattle.gs_base.specs.Names.{peers_of};
+ghost use Rattle.gs_base.specs.declared.neighbour.Neighbour.{Neighbour as NeighbourValue};
 ghost use Rattle.gs_params.specs.Picks.{IsAscending};
 
 use crate::fault::RouterFault;
@@ -14,7 +15,7 @@ use crate::tests::beat_cases::{
 use crate::tests::gossip::{tell, topic_of};
 use crate::tests::gossip_cases::{Act, Id};
 use crate::tests::sights::is_seen;
-use crate::tests::{hear, is_due, neighbour, words};
+use crate::tests::{checked, hear, is_due, neighbour, router_with, words};
 use bytes::Bytes;
 use gs_base::{Millis, Neighbour, PeerNo, Rpc, Seq};
 use gs_params::{Params, SeededWords, TopicParams};
@@ -105,7 +106,7 @@ fn say(
 }
 
 /// Has a router do this, by these words; the number with which it is refused, 0 where it isn't.
-fn live(
+pub fn live(
     alloc: Global,
     router: &mut Router,
     at: u64,
@@ -125,6 +126,7 @@ fn live(
         }
         Deed::Gone(peer) => router.gone(PeerNo(peer), now, words),
         Deed::Beat => router.heartbeat(now, words),
+        Deed::Decay => router.decay(now, words),
         Deed::Shut => router.shut(now, words),
         said => return say(alloc, router, at, said, words),
     };
@@ -171,17 +173,19 @@ fn first_wrong_of(
     moments: &[Moment<'_>],
 ) -> Result<usize, AllocError> {
     let mut words = SeededWords::new(list.to_vec(alloc)?, 1, PeerNo(0));
-    let mut router = Router::new(alloc, params, neighbours(alloc, count)?)?;
+    let mut router = Router::new(alloc, checked(params)?, neighbours(alloc, count)?)?;
     first_wrong(alloc, &mut router, moments, &mut words)
 }
 
 /// Neighbours 1 to this number.
 fn neighbours(alloc: Global, count: u16) -> Result<Vec<Neighbour>, AllocError>
-    ensures { IfOk result (λ list. IsAscending (peers_of list.items)) }
+    ensures ascending { IfOk result (λ list. IsAscending (peers_of list.items)) }
+    ensures apps { IfOk result (λ list. All (λ (n : NeighbourValue). unsigned_abs n.app ≤ 10 ^ 12) list.items) }
 {
     let mut list = Vec::new(alloc);
     for below in 0..count {
-        list.push(neighbour(below + 1))?;
+        let one = neighbour(alloc, below + 1)?;
+        list.push(one)?;
     }
     Ok(list)
 }
@@ -309,7 +313,7 @@ fn a_router_says_when_its_last_entry_was_and_who_is_up(rt: HostRuntime) -> Resul
     let alloc = rt.alloc();
     let mut params = Params::new(alloc);
     params.windows.heartbeat_ms = 700;
-    let mut router = Router::new(alloc, params, neighbours(alloc, 2)?)?;
+    let mut router = router_with(alloc, params)?;
     assert_eq!(rt; router.heartbeat_ms(), 700);
     assert_eq!(rt; first_misread(alloc, &mut router, &READINGS)?, 7);
     Ok(())

@@ -4,7 +4,7 @@ use crate::router::Router;
 use crate::tests::gossip_cases::{
     Act, BUDGET, CHOICE, Id, OFFERS, REQUESTS, SPENT, Step, Then, WANTED,
 };
-use crate::tests::{hear, is_due, neighbour};
+use crate::tests::{hear, is_due, router_with};
 use bytes::Bytes;
 use gs_base::{
     Control, IHave, IWant, Mark, Message, Millis, MsgId, PeerNo, Rpc, Seq, Shared, Topic,
@@ -191,8 +191,7 @@ pub fn ends_with(router: &Router, then: Then<'_>) -> bool {
 /// The place of the first step that a router with these parameters takes otherwise; the number of steps where there
 /// is none. Its first word is 7.
 fn first_wrong(alloc: Global, params: Params, steps: &[Step<'_>]) -> Result<usize, AllocError> {
-    let neighbours = vec![in alloc; neighbour(1), neighbour(2)]?;
-    let mut router = Router::new(alloc, params, neighbours)?;
+    let mut router = router_with(alloc, params)?;
     let mut words = SeededWords::new(vec![in alloc; 7]?, 1, PeerNo(0));
     for (place, (at, act, then)) in steps.iter().enumerate() {
         if !tell(alloc, &mut router, *at, *act, &mut words)? || !ends_with(&router, *then) {

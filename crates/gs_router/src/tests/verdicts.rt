@@ -1,6 +1,6 @@
 //! What messages are found to be, and what is remembered of them.
 use crate::router::Router;
-use crate::tests::{hear, is_due, neighbour, words};
+use crate::tests::{hear, is_due, router_with, words};
 use bytes::Bytes;
 use gs_base::{Mark, Millis, PeerNo, Rpc, Seq, Topic, Verdict};
 use gs_params::{Params, TopicParams};
@@ -109,8 +109,7 @@ fn told(alloc: Global, router: &mut Router, row: Row<'_>) -> Result<Outcome, All
 
 /// A router that has joined `a` and `b`.
 fn router(alloc: Global) -> Result<Router, AllocError> {
-    let neighbours = vec![in alloc; neighbour(1), neighbour(2)]?;
-    let mut router = Router::new(alloc, params(alloc)?, neighbours)?;
+    let mut router = router_with(alloc, params(alloc)?)?;
     for name in ["a", "b"] {
         let topic = topic_of(alloc, name)?;
         if is_due(router.trace(), Millis(0)) {

@@ -19,7 +19,7 @@ open-done-requires-clause-may g c =
     may_lose (peer_with s.setup) s.trace c.args.now.0 c.args.peer c.args.event c.requires.loss (sym (c.is_up.ensures s.trace ready.current.agrees.neighbours) ∙ c.if-not-is_up.false)
 
 pub open-done-requires-clause-alone : goal.open-done-requires-clause-alone
-open-done-requires-clause-alone g c = let s = c.self.inside.state in loss_owes (peer_with s.setup) s.trace c.args.peer c.args.event c.requires.loss
+open-done-requires-clause-alone g c = let s = c.self.inside.state in loss_owes (peer_with s.setup) s.trace c.args.now.0 c.args.peer c.args.event c.requires.loss
 
 pub returns : goal.returns
 returns g c =

@@ -1,10 +1,20 @@
-use Rattle.std.proofs.Common.{[], refl, sym, ap, subst}
+use Rattle.std.proofs.Common.{◌≤◌, ◌^◌, unsigned_abs, List, [], refl, sym, ap, subst}
+use Rattle.std.specs.Prelude.{All}
+use Rattle.gs_base.specs.declared.neighbour.Neighbour.{Neighbour}
+use Rattle.gs_base.specs.Names.{peers_of}
+use Rattle.gs_params.specs.Picks.{IsAscending}
 use Rattle.gs_rules.specs.Peers.{Peer}
 use Rattle.gs_rules.specs.Tables.{Entries}
 use Rattle.gs_rules.specs.Owed.{owed}
 use Rattle.gs_rules.specs.Legal.{Legal}
-use Rattle.gs_router.specs.Tables.{Agrees}
+use Rattle.gs_router.specs.Tables.{Agrees, AgreesOnScores}
 use Rattle.gs_router.proofs.router.Router.new.Goals as goal
+
+pub new-requires-clause-ascending : goal.new-requires-clause-ascending
+new-requires-clause-ascending c = subst (λ (ns : List Neighbour). IsAscending (peers_of ns)) (sym c.as_slice.ensures.value) c.requires.ascending
+
+pub new-requires-clause-apps : goal.new-requires-clause-apps
+new-requires-clause-apps c = subst (λ (ns : List Neighbour). All (λ (n : Neighbour). unsigned_abs n.app ≤ 10 ^ 12) ns) (sym c.as_slice.ensures.value) c.requires.apps
 
 pub invariant_of-result : goal.invariant_of-result
 invariant_of-result c =
@@ -16,8 +26,9 @@ invariant_of-result c =
         current = record {
           legal = legal;
           agrees = subst (λ (L : Entries). Agrees c.in_ok-tables.tables L) (sym c.new-2.ensures) c.in_ok-tables.ensures.agrees;
+          scores = subst (λ (L : Entries). AgreesOnScores p c.in_ok-tables.tables.standings L) (sym c.new-2.ensures) (c.in_ok-tables.ensures.scores p refl (sym c.as_slice.ensures.value));
           made = c.in_ok-tables.ensures.made p refl;
-          ascending = c.requires;
+          ascending = c.requires.ascending;
         };
         settled = ap (owed p) c.new-2.ensures;
       };

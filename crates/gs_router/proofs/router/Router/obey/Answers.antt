@@ -21,7 +21,7 @@ open-done-requires-clause-may g c =
     may_open (peer_with s.setup) s.trace c.args.now.0 c.args.event c.requires.own (sym (c.refusal_of.ensures s.trace (knows s c.args.now.0 ready.current time)) ∙ c.in_default.is)
 
 pub open-done-requires-clause-alone : goal.open-done-requires-clause-alone
-open-done-requires-clause-alone g c = let s = c.self.inside.state in owes_nothing (peer_with s.setup) s.trace c.args.event c.requires.own
+open-done-requires-clause-alone g c = let s = c.self.inside.state in owes_nothing (peer_with s.setup) s.trace c.args.now.0 c.args.event c.requires.own
 
 pub returns : goal.returns
 returns g c =

@@ -1,5 +1,5 @@
 use Rattle.std.proofs.Common.{◌≡◌, ◌<◌, ◌∙◌, ℕ, List, refl, sym, ap, subst, subst₂}
-use Rattle.std.specs.Prelude.{◌&&◌, length}
+use Rattle.std.specs.Prelude.{◌&&◌, length, not}
 use Rattle.std.proofs.lemmas.List.Kept.{AllPairs-filter}
 use Rattle.gs_base.specs.declared.names.PeerNo.{PeerNo}
 use Rattle.gs_base.specs.declared.names.Topic.{Topic}
@@ -8,7 +8,8 @@ use Rattle.gs_params.specs.Picks.{IsAscending}
 use Rattle.gs_rules.specs.Peers.{Peer, links_of}
 use Rattle.gs_rules.specs.Tables.{Entries, on, up}
 use Rattle.gs_rules.specs.Gossip.{gossip_size}
-use Rattle.gs_rules.specs.Rules.{listeners, telling}
+use Rattle.gs_rules.specs.Scoring.{is_ignored}
+use Rattle.gs_rules.specs.Rules.{listeners, telling, told}
 use Rattle.gs_rules.specs.Modes.{IsPick}
 use Rattle.gs_router.specs.State.{peer_with}
 use Rattle.gs_router.proofs.rules.heartbeats.gossip.Goals as goal
@@ -16,18 +17,21 @@ use Rattle.gs_router.proofs.rules.heartbeats.gossip.Goals as goal
 listeners_ascend : (p : Peer) (L : Entries) (t : Topic) → IsAscending (links_of p) → IsAscending (listeners p L t)
 listeners_ascend p L t ascending = AllPairs-filter (λ (a b : PeerNo). a.0 < b.0) (λ q. up L q && on L q t) (links_of p) ascending
 
+told_ascend : (p : Peer) (L : Entries) (at : ℕ) (t : Topic) → IsAscending (links_of p) → IsAscending (told p L at t)
+told_ascend p L at t ascending = AllPairs-filter (λ (a b : PeerNo). a.0 < b.0) (λ q. not (is_ignored p L at q)) (listeners p L t) (listeners_ascend p L t ascending)
+
 pub pick-requires : goal.pick-requires
 pick-requires g c =
     let s = c.args.state.now in
-    subst IsAscending (sym (c.deref.ensures.value ∙ c.in_ok-receivers.ensures s.trace c.requires.agrees)) (listeners_ascend (peer_with s.setup) s.trace c.args.topic c.requires.ascending)
+    subst IsAscending (sym (c.deref.ensures.value ∙ c.in_ok-told.ensures s.trace c.requires.knows)) (told_ascend (peer_with s.setup) s.trace c.args.now.0 c.args.topic c.requires.current.ascending)
 
 pub returns : goal.returns
 returns g c = λ L knows.
     let p = peer_with c.args.state.now.setup in
-    let found = c.in_ok-receivers.ensures L knows.agrees in
+    let found = c.in_ok-told.ensures L knows in
     let are = c.deref.ensures.value ∙ found in
     let size = c.gossip_size-size.ensures ∙ ap (gossip_size p) (c.len.ensures ∙ sym c.deref.ensures.len ∙ ap length are) in
-    let ascend = subst IsAscending (sym are) (listeners_ascend p L c.args.topic c.requires.ascending) in
+    let ascend = subst IsAscending (sym are) (told_ascend p L c.args.now.0 c.args.topic c.requires.current.ascending) in
     let chosen = c.in_ok-chosen.ensures in
     let picks = subst₂ (λ (k : ℕ) (qs : List PeerNo). IsPick g.W.Words.word g.W.Words.after k qs c.args.words.now c.in_ok-chosen.chosen.items c.pick.new.words) size are (record { ascending = ascend; chosen_are = chosen.picked; words = chosen.words }) in
     (c.in_ok-chosen.chosen.items, c.pick.new.words, picks, (c.in_ok-entry.ensures L knows ∙ ap (telling p L c.args.now c.args.topic) c.deref-2.ensures.value, refl))

@@ -37,7 +37,7 @@ loop-sub-init g c =
     let m = exact g.W.Words.word g.W.Words.after in
     let steps = subst (λ (rpc : Rpc). Steps {A = Unit {0}} {E = AllocError} m (Heard c.args.from rpc) c.args.now c.args.self.now c.args.words.now (Ok c.in_ok-step.field-0) c.step.new.self c.step.new.words) c.in_ok-heard.ensures c.in_ok-step.ensures in
     let items = c.as_slice-sub-items.ensures ∙ ap (λ (rpc : Rpc). rpc.subs) c.get-parts.ensures in
-    subst (λ (subs : List SubOpt). Paying m c.args.now (Heard c.args.from c.args.rpc) c.args.self.now c.args.words.now c.step.new.self c.step.new.words (map (Sub c.args.from) subs ++ behind_subs c.args.from c.args.rpc)) (sym items) (hears_first m c.args.now c.args.from c.args.rpc c.args.self.now c.step.new.self c.args.words.now c.step.new.words c.in_ok-step.field-0 steps)
+    subst (λ (subs : List SubOpt). Paying m c.args.now (Heard c.args.from c.args.rpc) c.args.self.now c.args.words.now c.step.new.self c.step.new.words (map (Sub c.args.from) subs ++ behind_subs c.args.from c.args.rpc)) (sym items) (hears_first m c.args.now c.args.from c.args.rpc c.args.self.now c.step.new.self c.args.words.now c.step.new.words c.in_ok-step.field-0 c.requires.listened steps)
 
 pub loop-sub-preserved : goal.loop-sub-preserved
 loop-sub-preserved g c =

@@ -9,7 +9,7 @@ use Rattle.gs_rules.specs.declared.trace.Entry.{Entry}
 use Rattle.gs_rules.specs.Rules.{answers, bare, ids_in}
 use Rattle.gs_router.specs.State.{peer_with}
 use Rattle.gs_router.specs.Requests.{Gives}
-use Rattle.gs_router.proofs.rules.requests.entry_of.Goals as goal
+use Rattle.gs_router.proofs.rules.requests.answering.Goals as goal
 
 pub returns : goal.returns
 returns c = λ L knows.

@@ -1,0 +1,55 @@
+//! Which neighbours have lost some of their standing (gossipsub v1.1, Peer Scoring, "Score Thresholds").
+ghost use Rattle.std.specs.Prelude.{◌≡◌, IfOk};
+ghost use Rattle.gs_base.specs.declared.names.PeerNo.{PeerNo as PeerNoValue};
+ghost use Rattle.gs_rules.specs.Tables.{Entries};
+ghost use Rattle.gs_rules.specs.Scoring.{is_below, is_ignored, score};
+ghost use Rattle.gs_rules.specs.Rules.{without};
+ghost use Rattle.gs_router.specs.State.{Knows, peer_with};
+
+use crate::state::State;
+use gs_base::{Millis, PeerNo};
+use std::alloc::AllocError;
+
+/// Whether the score of a neighbour is below a threshold, in millionths.
+pub fn is_below(state: &State, threshold: i64, peer: PeerNo, now: Millis) -> bool
+    ensures { (L : Entries)
+        → Knows state.now now.0 L
+        → result ≡ is_below threshold (score (peer_with state.now.setup) L now.0 peer) }
+{
+    state.tables.standings.score(peer, now) < i128::from(threshold)
+}
+
+/// Whether the offers and the requests of a neighbour count for nothing.
+pub fn is_ignored(state: &State, peer: PeerNo, now: Millis) -> bool
+    ensures { (L : Entries)
+        → Knows state.now now.0 L
+        → result ≡ is_ignored (peer_with state.now.setup) L now.0 peer }
+{
+    is_below(
+        state,
+        state.setup.params.thresholds.gossip_threshold,
+        peer,
+        now,
+    )
+}
+
+/// Those of these neighbours whose scores are not below a threshold, in millionths.
+pub fn not_below(
+    state: &State,
+    threshold: i64,
+    peers: &[PeerNo],
+    now: Millis,
+) -> Result<Vec<PeerNo>, AllocError>
+    ensures { IfOk result (λ found. (L : Entries)
+        → Knows state.now now.0 L
+        → found.items
+        ≡ without (λ (q : PeerNoValue). is_below threshold (score (peer_with state.now.setup) L now.0 q)) peers.now) }
+{
+    let mut found = Vec::new(state.alloc);
+    for peer in peers {
+        if !is_below(state, threshold, *peer, now) {
+            found.push(*peer)?;
+        }
+    }
+    Ok(found)
+}

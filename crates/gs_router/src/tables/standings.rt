@@ -1,0 +1,108 @@
+//! How neighbours stand.
+ghost use Rattle.std.specs.Prelude.{◌≡◌, ◌≤◌, ◌<◌, ◌+◌, ◌^◌, [], ◌∷◌, unsigned_abs, All, IfOk, OnOk};
+ghost use Rattle.gs_base.specs.Names.{peers_of};
+ghost use Rattle.gs_base.specs.declared.neighbour.Neighbour.{Neighbour as NeighbourValue};
+ghost use Rattle.gs_params.specs.Params.{AreInRange};
+ghost use Rattle.gs_params.specs.Picks.{IsAscending};
+ghost use Rattle.gs_score.specs.Histories.{Agrees, History};
+ghost use Rattle.gs_rules.specs.Peers.{Peer};
+ghost use Rattle.gs_rules.specs.Tables.{Entries, after_marks};
+ghost use Rattle.gs_rules.specs.Scoring.{changed_after, marked_after, score, setting_of};
+ghost use Rattle.gs_router.specs.Tables.{AgreesOnScores};
+
+use gs_base::{Mark, Millis, Neighbour, PeerNo};
+use gs_params::Params;
+use gs_rules::{Entry, Event};
+use gs_score::Scores;
+use std::alloc::{AllocError, Global};
+
+/// What counts of each neighbour, from which its score is made.
+#[derive(Drop)]
+pub struct Standings {
+    scores: Scores,
+}
+
+impl Standings {
+    /// Nothing happened yet.
+    ///
+    /// # Errors
+    /// `AllocError` where there was no memory.
+    pub fn new(
+        alloc: Global,
+        params: &Params,
+        neighbours: &[Neighbour],
+    ) -> Result<Standings, AllocError>
+        requires in_range { AreInRange params.now }
+        requires ascending { IsAscending (peers_of neighbours.now) }
+        requires apps { All (λ (n : NeighbourValue). unsigned_abs n.app ≤ 10 ^ 12) neighbours.now }
+        ensures { IfOk result (λ standings. (p : Peer)
+            → p.params ≡ params.now
+            → p.neighbours ≡ neighbours.now
+            → AgreesOnScores p standings []) }
+    {
+        let scores = Scores::new(alloc, params, neighbours)?;
+        Ok(Standings { scores })
+    }
+
+    /// The score of a neighbour at a moment, in millionths.
+    pub fn score(&self, peer: PeerNo, now: Millis) -> i128
+        ensures { (p : Peer) (L : Entries) → AgreesOnScores p self.now L → result ≡ score p L now.0 peer }
+    {
+        self.scores.score(peer, now)
+    }
+
+    /// Notes an entry.
+    ///
+    /// # Errors
+    /// `AllocError` where there was no memory; some of its marks may then have been noted.
+    pub fn note(&mut self, entry: &Entry) -> Result<(), AllocError>
+        requires few { self.old.scores.tick < 2 ^ 63 }
+        ensures { OnOk result ((p : Peer) (L : Entries)
+            → AgreesOnScores p self.old L
+            → AgreesOnScores p self.new (entry.now ∷ L)) }
+    {
+        self.note_event(&entry.event);
+        self.note_marks(entry.marks.as_slice())?;
+        Ok(())
+    }
+
+    /// Notes that an event came. It takes no memory.
+    fn note_event(&mut self, event: &Event)
+        requires few { self.old.scores.tick < 2 ^ 63 }
+        ensures { (p : Peer) (H : History)
+            → Agrees (setting_of p) self.old.scores H
+            → Agrees (setting_of p) self.new.scores (changed_after event.now H) }
+    {
+        match event {
+            Event::Decay => self.scores.decay(),
+            Event::Gone(peer) => self.scores.shut_out(*peer),
+            Event::Fault(peer) => self.scores.shut_out(*peer),
+            _ => {}
+        }
+    }
+
+    /// Notes marks, one after the other.
+    fn note_marks(&mut self, marks: &[Mark]) -> Result<(), AllocError>
+        ensures { OnOk result ((p : Peer) (H : History)
+            → Agrees (setting_of p) self.old.scores H
+            → Agrees (setting_of p) self.new.scores (after_marks (marked_after p) marks.now H)) }
+    {
+        for mark in marks {
+            self.note_mark(mark)?;
+        }
+        Ok(())
+    }
+
+    /// Notes a mark, if it counts.
+    fn note_mark(&mut self, mark: &Mark) -> Result<(), AllocError>
+        ensures { OnOk result ((p : Peer) (H : History)
+            → Agrees (setting_of p) self.old.scores H
+            → Agrees (setting_of p) self.new.scores (marked_after p mark.now H)) }
+    {
+        if !self.scores.accepts(mark) {
+            return Ok(());
+        }
+        self.scores.apply(mark)?;
+        Ok(())
+    }
+}
