@@ -1,10 +1,6 @@
--- What follows for each element of a list.
+-- What follows from two facts for each element of a list.
 use Rattle.std.proofs.Common.{List, [], ◌∷◌}
 use Rattle.std.specs.List.{AllByRecursion}
-
-pub each_so : {A : Type 0} (P Q : A → Type 0) → ((x : A) → P x → Q x) → (xs : List A) → AllByRecursion P xs → AllByRecursion Q xs
-each_so P Q f [] h = tt
-each_so P Q f (x ∷ xs) h = (f x h.0, each_so P Q f xs h.1)
 
 pub each_of_both : {A : Type 0} (P Q R : A → Type 0) → ((x : A) → P x → Q x → R x) → (xs : List A) → AllByRecursion P xs → AllByRecursion Q xs → AllByRecursion R xs
 each_of_both P Q R f [] h k = tt

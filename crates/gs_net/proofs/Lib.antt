@@ -14,4 +14,5 @@ pub mod Seats
 pub mod TakenApart
 pub mod Together
 pub mod Truths
+pub mod Within
 pub mod Wired

@@ -11,7 +11,8 @@ use Rattle.gs_params.specs.declared.plan.Dial.{Dial}
 use Rattle.gs_params.specs.declared.plan.Plan.{Plan}
 use Rattle.gs_params.specs.Plans.{IsInRange, are_joined, join_the_same, joins}
 use Rattle.gs_net.specs.Rounds.{neighbours}
-use Rattle.gs_net.proofs.Each.{each_of_both, each_so}
+use Rattle.gs_rules.proofs.Each.{each_weaker}
+use Rattle.gs_net.proofs.Each.{each_of_both}
 use Rattle.gs_net.proofs.Joined.{IsJoined, joins_both, neighbours_joined}
 use Rattle.gs_net.proofs.Truths.{both_of, is_same, one_of, same_self, unless}
 
@@ -43,7 +44,7 @@ joins_from p dial is = or_right (same_peer dial.from p && same_peer dial.to dial
 partners_are_joined : (dials : List Dial) (p : PeerNo) → AllByRecursion (λ q. are_joined dials p q ≡ true) (partners dials p)
 partners_are_joined [] p = tt
 partners_are_joined (dial ∷ dials) p =
-    let later : AllByRecursion (λ q. are_joined (dial ∷ dials) p q ≡ true) (partners dials p) = each_so (λ q. are_joined dials p q ≡ true) (λ q. are_joined (dial ∷ dials) p q ≡ true) (λ q is. or_right (joins p q dial) (are_joined dials p q) is) (partners dials p) (partners_are_joined dials p) in
+    let later : AllByRecursion (λ q. are_joined (dial ∷ dials) p q ≡ true) (partners dials p) = each_weaker (λ q. are_joined dials p q ≡ true) (λ q. are_joined (dial ∷ dials) p q ≡ true) (λ q is. or_right (joins p q dial) (are_joined dials p q) is) (partners dials p) (partners_are_joined dials p) in
     cases p dial (partners dials p) (AllByRecursion (λ q. are_joined (dial ∷ dials) p q ≡ true))
     (λ is. (or_left (joins p dial.to dial) (are_joined dials p dial.to) (joins_to p dial is), later))
     (λ is. (or_left (joins p dial.from dial) (are_joined dials p dial.from) (joins_from p dial is), later))
@@ -92,7 +93,7 @@ joined_is_partner (dial ∷ dials) p q joined =
 
 pub neighbours_are_partners : (plan : Plan) (p : PeerNo) → AllByRecursion (λ q. list_any (λ (r : PeerNo). same_peer r q) (partners plan.dials p) ≡ true) (neighbours plan p)
 neighbours_are_partners plan p =
-    each_so (IsJoined plan p) (λ q. list_any (λ (r : PeerNo). same_peer r q) (partners plan.dials p) ≡ true) (λ q joined. joined_is_partner plan.dials p q joined.1) (neighbours plan p) (neighbours_joined plan p)
+    each_weaker (IsJoined plan p) (λ q. list_any (λ (r : PeerNo). same_peer r q) (partners plan.dials p) ≡ true) (λ q joined. joined_is_partner plan.dials p q joined.1) (neighbours plan p) (neighbours_joined plan p)
 
 -- ---- none stands twice
 

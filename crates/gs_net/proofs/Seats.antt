@@ -14,7 +14,7 @@ use Rattle.gs_rules.specs.Hearing.{closes}
 use Rattle.gs_peer.proofs.Words.{closes_flat}
 use Rattle.gs_net.specs.Rounds.{neighbours, peer_in}
 use Rattle.gs_net.specs.Given.{Given, GivenLife}
-use Rattle.gs_net.proofs.Each.{each_so}
+use Rattle.gs_rules.proofs.Each.{each_weaker}
 use Rattle.gs_net.proofs.NeighbourLists.{links_in}
 
 -- all rounds together take less than 2^64 milliseconds
@@ -26,4 +26,4 @@ time_fits plan range =
 pub each_closed : (plan : Plan) (p : PeerNo) (f : Given) → GivenLife plan p f → AllByRecursion (λ q. slots_close (taken_from f.ends q) ≡ true) (neighbours plan p)
 each_closed plan p f life =
     subst (AllByRecursion (λ (q : PeerNo). slots_close (taken_from f.ends q) ≡ true)) (links_in plan p)
-    (each_so (λ (q : PeerNo). closes (flat (taken_from f.ends q)) ≡ true) (λ (q : PeerNo). slots_close (taken_from f.ends q) ≡ true) (λ q closed. sym (closes_flat (taken_from f.ends q)) ∙ closed) (links_of (peer_in plan p)) life.closed)
+    (each_weaker (λ (q : PeerNo). closes (flat (taken_from f.ends q)) ≡ true) (λ (q : PeerNo). slots_close (taken_from f.ends q) ≡ true) (λ q closed. sym (closes_flat (taken_from f.ends q)) ∙ closed) (links_of (peer_in plan p)) life.closed)

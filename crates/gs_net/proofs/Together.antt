@@ -25,7 +25,8 @@ use Rattle.gs_net.specs.declared.finished.Finished.{Finished}
 use Rattle.gs_net.specs.Rounds.{IsLife, IsRun, first_words, neighbours, numbers, peer_in, said_to, seat_in, trace_of}
 use Rattle.gs_net.specs.Given.{Given, GivenLife, Exchanged, Reaches, bare, ends_at}
 use Rattle.gs_net.proofs.ByNumber.{at_number, each_by_number}
-use Rattle.gs_net.proofs.Each.{each_of_both, each_so}
+use Rattle.gs_rules.proofs.Each.{each_weaker}
+use Rattle.gs_net.proofs.Each.{each_of_both}
 use Rattle.gs_net.proofs.Exchanges.{joined_reach}
 use Rattle.gs_net.proofs.Joined.{IsJoined, joined_back, neighbours_joined, of_joined}
 use Rattle.gs_net.proofs.NeighbourLists.{links_in}
@@ -83,13 +84,14 @@ one_life plan givens p f all exchanged below mine =
     let lives : List Finished = map bare givens in
     let took : PeerNo → Said = words_of (taken_from f.ends) in
     let legal : Legal (peer_in plan p) f.trace = legal_of plan p f mine.life in
-    let same : SayTheSame took (said_to lives p) (neighbours plan p) = each_so (IsJoined plan p) (λ (q : PeerNo). took q ≡ said_to lives p q) (λ q joined. taken_is_said plan givens p q f (all q joined.0).0 mine (all q joined.0).1 (joined_back plan p q below joined) (joined_reach givens p q plan.dials joined.1 exchanged)) (neighbours plan p) (neighbours_joined plan p) in
+    let same : SayTheSame took (said_to lives p) (neighbours plan p) = each_weaker (IsJoined plan p) (λ (q : PeerNo). took q ≡ said_to lives p q) (λ q joined. taken_is_said plan givens p q f (all q joined.0).0 mine (all q joined.0).1 (joined_back plan p q below joined) (joined_reach givens p q plan.dials joined.1 exchanged)) (neighbours plan p) (neighbours_joined plan p) in
     let handles : AllByRecursion (λ (q : PeerNo). Spell (bytes_of (took q)) (handled f.trace q)) (neighbours plan p) = subst (AllByRecursion (λ (q : PeerNo). Spell (bytes_of (took q)) (handled f.trace q))) (links_in plan p) mine.life.handles in
     let spelled : AllByRecursion (λ (q : PeerNo). Spell (bytes_of (said_to lives p q)) (handled f.trace q)) (neighbours plan p) = handles_same took (said_to lives p) f.trace (neighbours plan p) same handles in
     record {
       legal = legal;
       chosen = mine.life.legal;
       keeps = keeps_same seat took (said_to lives p) f.trace f.refused (subst (SayTheSame took (said_to lives p)) (sym (links_in plan p)) same) mine.life.keeps;
+      scores = mine.life.scores;
       exchanged = spelled;
       handled_is_sent = each_of_both (IsJoined plan p) (λ (q : PeerNo). Spell (bytes_of (said_to lives p q)) (handled f.trace q)) (λ (q : PeerNo). handled f.trace q ≡ sent (trace_of lives q) p) (λ q joined. handled_was_sent plan givens p q f.trace (all q joined.0).0 (all q joined.0).1) (neighbours plan p) (neighbours_joined plan p) spelled;
       apart = deliveries_apart (peer_in plan p) f.trace legal;

@@ -23,7 +23,8 @@ use Rattle.gs_net.specs.Given.{Exchanged, Given, GivenLife, Reaches, ends_at}
 use Rattle.gs_net.specs.Rounds.{neighbours, numbers, peer_no}
 use Rattle.gs_net.specs.Tasks.{AreUsable}
 use Rattle.gs_net.proofs.ByNumber.{at_number}
-use Rattle.gs_net.proofs.Each.{each_of_both, each_so}
+use Rattle.gs_rules.proofs.Each.{each_weaker}
+use Rattle.gs_net.proofs.Each.{each_of_both}
 use Rattle.gs_net.proofs.Joined.{IsJoined, of_joined}
 use Rattle.gs_net.proofs.Partners.{neighbours_are_partners, partners, partners_apart, partners_joined, partners_of}
 use Rattle.gs_net.proofs.Seats.{each_closed}
@@ -74,7 +75,7 @@ pub usable : (plan : Plan) (lists : List (Vec Pair Global)) (p : PeerNo) → IsI
 usable plan lists p range wired sized fresh =
     let joints : List Joint = joints_of (list_at lists p.0) in
     record {
-      known = each_so (λ q. list_any (λ (r : PeerNo). same_peer r q) (partners plan.dials p) ≡ true) (λ q. has joints q ≡ true) (λ q is. has_as_any joints q ∙ ap (list_any (λ (r : PeerNo). same_peer r q)) (joints_partners plan.dials lists p wired) ∙ is) (neighbours plan p) (neighbours_are_partners plan p);
+      known = each_weaker (λ q. list_any (λ (r : PeerNo). same_peer r q) (partners plan.dials p) ≡ true) (λ q. has joints q ≡ true) (λ q is. has_as_any joints q ∙ ap (list_any (λ (r : PeerNo). same_peer r q)) (joints_partners plan.dials lists p wired) ∙ is) (neighbours plan p) (neighbours_are_partners plan p);
       apart = ends_apart plan lists p range wired;
       sized = sized p;
       fresh = fresh p;
@@ -90,10 +91,10 @@ none_listed list (pair ∷ pairs) q none = by (same_peer pair.0 q) (none_listed 
     by false others = others
 
 pub none_accepted : (pairs : List Pair) (q : PeerNo) → AllByRecursion IsFresh pairs → accepted_for pairs q ≡ []
-none_accepted pairs q fresh = none_listed (λ pair. pair.1.accepted) pairs q (each_so IsFresh (λ pair. pair.1.accepted ≡ []) (λ pair h. h.0) pairs fresh)
+none_accepted pairs q fresh = none_listed (λ pair. pair.1.accepted) pairs q (each_weaker IsFresh (λ pair. pair.1.accepted ≡ []) (λ pair h. h.0) pairs fresh)
 
 pub none_taken : (pairs : List Pair) (q : PeerNo) → AllByRecursion IsFresh pairs → taken_from pairs q ≡ []
-none_taken pairs q fresh = none_listed (λ pair. pair.2.taken) pairs q (each_so IsFresh (λ pair. pair.2.taken ≡ []) (λ pair h. h.1) pairs fresh)
+none_taken pairs q fresh = none_listed (λ pair. pair.2.taken) pairs q (each_weaker IsFresh (λ pair. pair.2.taken ≡ []) (λ pair h. h.1) pairs fresh)
 
 -- ---- behind a run
 
@@ -111,7 +112,7 @@ closed_pairs (pair ∷ pairs) apart closed =
 
 closed_at : (plan : Plan) (p : PeerNo) (f : Given) → IsInRange plan → GivenLife plan p f → peers_in f.ends ≡ partners plan.dials p → AllByRecursion IsClosed f.ends
 closed_at plan p f range life are =
-    let by_neighbour : AllByRecursion (λ q. closes (taken_from f.ends q) ≡ true) (partners plan.dials p) = each_so (IsJoined plan p) (λ q. closes (taken_from f.ends q) ≡ true) (λ q joined. of_joined (λ (r : PeerNo). closes (taken_from f.ends r) ≡ true) plan p q joined (each_closed plan p f life)) (partners plan.dials p) (partners_joined plan p range) in
+    let by_neighbour : AllByRecursion (λ q. closes (taken_from f.ends q) ≡ true) (partners plan.dials p) = each_weaker (IsJoined plan p) (λ q. closes (taken_from f.ends q) ≡ true) (λ q joined. of_joined (λ (r : PeerNo). closes (taken_from f.ends r) ≡ true) plan p q joined (each_closed plan p f life)) (partners plan.dials p) (partners_joined plan p range) in
     closed_pairs f.ends (subst (IsDistinct same_peer) (sym are) (partners_apart plan.dials p range.dials_differ)) (subst (AllByRecursion (λ q. closes (taken_from f.ends q) ≡ true)) (sym are) by_neighbour)
 
 abbrev held : Option Given → List Pair
@@ -131,7 +132,7 @@ ends_closed plan givens lists range lives are wired p = by (slice_get givens p.0
 
 -- what the settled links say, said of the lives
 pub ends_exchanged : (givens : List Given) (lists : List (Vec Pair Global)) (dials : List Dial) → ((n : ℕ) → list_at lists n ≡ ends_at givens n) → AllByRecursion (IsExchanged lists) dials → AllByRecursion (Exchanged givens) dials
-ends_exchanged givens lists dials are exchanged = each_so (IsExchanged lists) (Exchanged givens) (λ dial h. (reached dial.from dial.to h.0, reached dial.to dial.from h.1)) dials exchanged
+ends_exchanged givens lists dials are exchanged = each_weaker (IsExchanged lists) (Exchanged givens) (λ dial h. (reached dial.from dial.to h.0, reached dial.to dial.from h.1)) dials exchanged
   where
     reached : (p q : PeerNo) → HasReached lists p q → Reaches givens p q
     reached p q h = subst₂ (λ (a b : List Pair). accepted_for a q ≡ taken_from b p) (are p.0) (are q.0) h

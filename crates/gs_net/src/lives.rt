@@ -48,9 +48,15 @@ pub fn lives_of<R: Wait + Drop>(
         let gs_peer::Finished {
             trace,
             refused,
+            scores,
             ends: own,
         } = life;
-        let Ok(()) = peers.push((number, Finished { trace, refused })) else {
+        let left = Finished {
+            trace,
+            refused,
+            scores,
+        };
+        let Ok(()) = peers.push((number, left)) else {
             return Err(NetFault::NoMemory(None));
         };
         let Ok(()) = ends.push(own.into_list()) else {

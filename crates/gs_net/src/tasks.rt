@@ -81,7 +81,8 @@ impl<'p, G: Gate + Copy, R: Wait + Drop + Copy> Builder<'p, G, R> {
         requires range { IsInRange self.now.plan.now }
         requires own { lines.items ≡ lines_in self.now.plan.now number }
         requires usable { AreUsable self.now.plan.now number ends.items }
-        ensures { IfOk result (IsTask ⟦<LinkEnds<R> as Ends>⟧.joints ⟦<LinkEnds<R> as Ends>⟧.accepted ⟦<LinkEnds<R> as Ends>⟧.taken
+        ensures { IfOk result (IsTask
+            ⟦<LinkEnds<R> as Ends>⟧.joints ⟦<LinkEnds<R> as Ends>⟧.accepted ⟦<LinkEnds<R> as Ends>⟧.taken
             self.now.plan.now number (joints_of ends.items)) }
     {
         let neighbours = neighbours_of(self.alloc, self.plan, number)?;
@@ -130,6 +131,7 @@ fn router_of(
     number: PeerNo,
     neighbours: Vec<Neighbour>,
 ) -> Result<Router, AllocError>
+    requires range { IsInRange plan.now }
     requires neighbours { neighbours.items ≡ neighbours_in plan.now number }
     ensures { IfOk result (λ router. router ≡ new_router plan.now number) }
 {

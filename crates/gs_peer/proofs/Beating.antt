@@ -1,11 +1,15 @@
--- When a heartbeat is due.
-use Rattle.std.proofs.Common.{◌≡◌, ◌%◌, ◌&&◌, ℕ, Bool, true, List, [], ◌∷◌, nat_eq, nat_lt, if◌then◌else◌, ap, ap₂}
+-- When a step of decay and a heartbeat are due.
+use Rattle.std.proofs.Common.{◌≡◌, ℕ, Bool, true, [], ◌∷◌, if◌then◌else◌, ap}
 use Rattle.gs_base.specs.declared.names.Millis.{Millis}
 use Rattle.gs_rules.specs.Peers.{Peer}
-use Rattle.gs_rules.specs.Rounds.{Todo, Beat, beats_in}
+use Rattle.gs_rules.specs.Rounds.{Todo, Beat, LowerCounters, beats_in, decays_in, is_due}
+
+pub one_decay : (p : Peer) (r : ℕ) (at : Millis)
+    → is_due p.params.windows.decay_ms r at ≡ true
+    → decays_in p r at ≡ LowerCounters ∷ []
+one_decay p r at due = ap (λ (b : Bool). if b then LowerCounters ∷ [] else []) due
 
 pub one_beat : (p : Peer) (r : ℕ) (at : Millis)
-    → nat_lt 0 r ≡ true
-    → nat_eq (at.0 % p.params.windows.heartbeat_ms) 0 ≡ true
+    → is_due p.params.windows.heartbeat_ms r at ≡ true
     → beats_in p r at ≡ Beat ∷ []
-one_beat p r at later due = ap₂ (λ (a b : Bool). if a && b then Beat ∷ [] else []) later due
+one_beat p r at due = ap (λ (b : Bool). if b then Beat ∷ [] else []) due

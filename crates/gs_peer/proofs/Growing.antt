@@ -8,14 +8,11 @@ use Rattle.gs_rules.specs.Peers.{links_of}
 use Rattle.gs_rules.specs.Tables.{Entries}
 use Rattle.gs_rules.specs.Hearing.{Inbound}
 use Rattle.gs_rules.specs.Rounds.{Seat, Place, Playing, Closing, AfterRounds, ComesAt}
+use Rattle.gs_rules.proofs.Each.{each_weaker}
 use Rattle.gs_peer.specs.Ended.{whole}
 use Rattle.gs_peer.specs.Places.{settled}
 use Rattle.gs_peer.specs.Kept.{Begun}
 use Rattle.gs_peer.proofs.Words.{comes_stays, whole_before}
-
-pub each_weaker : {A : Type 0} (P Q : A → Type 0) → ((x : A) → P x → Q x) → (xs : List A) → AllByRecursion P xs → AllByRecursion Q xs
-each_weaker P Q f [] h = tt
-each_weaker P Q f (x ∷ xs) h = (f x h.0, each_weaker P Q f xs h.1)
 
 -- a neighbour of which so many rounds have ended has said more
 abbrev pub GoesOn : ℕ → (PeerNo → Said) → (PeerNo → Said) → PeerNo → Type 0

@@ -15,6 +15,7 @@ use Rattle.gs_rules.specs.Legal.{Legal}
 use Rattle.gs_rules.specs.Saying.{handled}
 use Rattle.gs_rules.specs.Hearing.{Spell, after, behind, bytes_before, closes, front}
 use Rattle.gs_rules.specs.Rounds.{Seat, Playing, Closing, AfterRounds}
+use Rattle.gs_rules.proofs.Each.{each_weaker}
 use Rattle.gs_rules.proofs.Handled.{StandsOnce, distinct_once, rounds_handle, spelled_once}
 use Rattle.gs_peer.specs.Ended.{ends, whole}
 use Rattle.gs_peer.specs.Inboxes.{InboxView, is_full, peers_of, turned}
@@ -104,10 +105,6 @@ rounds_spell seat said r L refused ascending played legal =
     each_weaker (λ q. StandsOnce q (links_of seat.peer)) (λ q. Spell (bytes_before r (said q)) (handled L q))
     (λ q once. rounds_handle seat said q (suc r) L refused once played legal) (links_of seat.peer)
     (distinct_once (links_of seat.peer) (distinct_from_ascending (links_of seat.peer) ascending))
-  where
-    each_weaker : (P Q : PeerNo → Type 0) → ((x : PeerNo) → P x → Q x) → (xs : List PeerNo) → AllByRecursion P xs → AllByRecursion Q xs
-    each_weaker P Q f [] h = tt
-    each_weaker P Q f (x ∷ xs) h = (f x h.0, each_weaker P Q f xs h.1)
 
 all_turn_round : (seat : Seat) (r : ℕ) (K L : Entries) (said : PeerNo → Said) (xs : List InboxView)
     → AllByRecursion (λ (x : InboxView). InboxKept seat (Playing r) K (said x.peer) x) xs

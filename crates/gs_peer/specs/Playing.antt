@@ -10,7 +10,7 @@ use Rattle.gs_rules.specs.Peers.{Peer}
 use Rattle.gs_rules.specs.Tables.{last_moment}
 use Rattle.gs_rules.specs.Modes.{Mode}
 use Rattle.gs_rules.specs.Legal.{Legal}
-use Rattle.gs_rules.specs.Rounds.{Todo, Does, EndRound, beats_in, is_at, obey}
+use Rattle.gs_rules.specs.Rounds.{Todo, Does, EndRound, beats_in, decays_in, is_at, obey}
 use Rattle.gs_router.specs.Router.{RouterView}
 use Rattle.gs_router.specs.State.{Appends}
 
@@ -38,4 +38,4 @@ own_lines r lines = map obey (filter (is_at r) lines)
 
 -- what there is to do in a round behind what is heard
 abbrev pub behind_heard : Peer → ℕ → Millis → List (ℕ × Line) → List Todo
-behind_heard p r now lines = own_lines r lines ++ (beats_in p r now ++ EndRound r ∷ [])
+behind_heard p r now lines = own_lines r lines ++ (decays_in p r now ++ (beats_in p r now ++ EndRound r ∷ []))

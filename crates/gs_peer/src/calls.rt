@@ -5,7 +5,7 @@ ghost use Rattle.std.specs.Result.{IsOk};
 ghost use Rattle.gs_params.specs.Seeding.{seeded_after, seeded_word};
 ghost use Rattle.gs_rules.specs.declared.refusal.RefusedLine.{RefusedLine as RefusedValue};
 ghost use Rattle.gs_rules.specs.Modes.{exact};
-ghost use Rattle.gs_rules.specs.Rounds.{Hear, Obey, beats_in, event_of, obey};
+ghost use Rattle.gs_rules.specs.Rounds.{Hear, Obey, beats_in, decays_in, event_of, is_due, obey};
 ghost use Rattle.gs_router.specs.Router.{Calls};
 ghost use Rattle.gs_peer.specs.Inboxes.{all_heard, heard_of, turned};
 ghost use Rattle.gs_peer.specs.Playing.{IsRunning, Runs, RpcsFit};
@@ -157,8 +157,43 @@ fn tell(
     })
 }
 
-/// Has a heartbeat, if one is due in a round: never in the first one.
-pub fn beat(
+/// Lowers the counters of scores and has a heartbeat, each if it is due in a round.
+pub fn keep_time(
+    router: &mut Router,
+    words: &mut SeededWords,
+    round: u64,
+    now: Millis,
+) -> Result<(), AllocError>
+    requires { IsRunning now router.old }
+    ensures { OnOk result (Runs (exact seeded_word seeded_after) now
+        (decays_in router.old.peer round now ++ beats_in router.old.peer round now)
+        router.old words.old router.new words.new []) }
+{
+    lower(router, words, round, now)?;
+    beat(router, words, round, now)?;
+    Ok(())
+}
+
+/// Lowers the counters of scores by a step, if that is due in a round.
+fn lower(
+    router: &mut Router,
+    words: &mut SeededWords,
+    round: u64,
+    now: Millis,
+) -> Result<(), AllocError>
+    requires { IsRunning now router.old }
+    ensures { OnOk result (Runs (exact seeded_word seeded_after) now (decays_in router.old.peer round now)
+        router.old words.old router.new words.new []) }
+{
+    if !is_due(router.decay_ms(), round, now) {
+        return Ok(());
+    }
+    done(router.decay(now, words))?;
+    Ok(())
+}
+
+/// Has a heartbeat, if one is due in a round.
+fn beat(
     router: &mut Router,
     words: &mut SeededWords,
     round: u64,
@@ -168,14 +203,21 @@ pub fn beat(
     ensures { OnOk result (Runs (exact seeded_word seeded_after) now (beats_in router.old.peer round now)
         router.old words.old router.new words.new []) }
 {
-    if round == 0 {
-        return Ok(());
-    }
-    if !now.0.is_multiple_of(router.heartbeat_ms()) {
+    if !is_due(router.heartbeat_ms(), round, now) {
         return Ok(());
     }
     done(router.heartbeat(now, words))?;
     Ok(())
+}
+
+/// Whether what comes every so many milliseconds is due in a round at this moment: never in the first one.
+fn is_due(every: u64, round: u64, now: Millis) -> bool
+    ensures { result ≡ is_due every round now }
+{
+    if round == 0 {
+        return false;
+    }
+    now.0.is_multiple_of(every)
 }
 
 /// A call that only want of memory can keep from being done.

@@ -30,8 +30,8 @@ pub struct Player {
 }
 
 impl Player {
-    /// Plays a round: hears what came, follows those of the lines that are for it, has a heartbeat if one is
-    /// due, and ends it.
+    /// Plays a round: hears what came, follows those of the lines that are for it, lowers the counters of scores and
+    /// has a heartbeat, each if it is due, and ends it.
     ///
     /// # Errors
     /// `AllocError` where there was no memory.
@@ -60,7 +60,7 @@ impl Player {
             agenda.at(round),
             now,
         )?;
-        calls::beat(&mut self.router, &mut self.words, round, now)?;
+        calls::keep_time(&mut self.router, &mut self.words, round, now)?;
         done(self.router.end_round(round, now, &mut self.words))?;
         Ok(())
     }

@@ -241,9 +241,11 @@ impl<G: Gate, S: Ends> Running<G, S> {
             refused,
             ..
         } = player;
+        let scores = router.scores(now)?;
         Ok(Finished {
             trace: router.into_trace(),
             refused: Seq::from(refused),
+            scores,
             ends,
         })
     }

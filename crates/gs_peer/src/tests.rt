@@ -191,8 +191,9 @@ fn what_is_never_accepted_keeps_a_task_pending(rt: HostRuntime) -> Result<(), Fa
 
 // ---- heartbeats
 
-/// A heartbeat comes each second but the first, behind the lines of its round. It gossips of what is kept.
-static WITH_HEARTBEATS: [Step; 32] = [
+/// A step of decay and a heartbeat come each second but the first, behind the lines of their round. The heartbeat gossips
+/// of what is kept.
+static WITH_HEARTBEATS: [Step; 34] = [
     Step::Subscribe,
     Step::RoundEnd(0),
     Step::Heard,
@@ -207,6 +208,7 @@ static WITH_HEARTBEATS: [Step; 32] = [
     Step::RoundEnd(8),
     Step::RoundEnd(9),
     Step::Publish,
+    Step::Decay,
     Step::Promises,
     Step::Gossip,
     Step::BeatEnd,
@@ -220,6 +222,7 @@ static WITH_HEARTBEATS: [Step; 32] = [
     Step::RoundEnd(17),
     Step::RoundEnd(18),
     Step::RoundEnd(19),
+    Step::Decay,
     Step::Promises,
     Step::Gossip,
     Step::BeatEnd,
@@ -271,11 +274,21 @@ fn a_flag_stops_a_task(rt: HostRuntime) -> Result<(), Fail> {
     Ok(())
 }
 
+/// The numbers and the texts of faults.
+static FAULTS: [(PeerFault, u8, &str); 2] = [
+    (PeerFault::NoMemory, 22, "there was no memory"),
+    (PeerFault::Stopped, 23, "the task was stopped"),
+];
+
 #[test]
-fn each_fault_has_its_number(rt: HostRuntime) {
-    assert_eq!(rt; PeerFault::NoMemory.number(), 22);
-    assert_eq!(rt; PeerFault::Stopped.number(), 23);
+fn each_fault_has_its_number_and_text(rt: HostRuntime) -> Result<(), AllocError> {
+    for (fault, number, text) in &FAULTS {
+        let shown = format!(in rt.alloc(); "{fault}")?;
+        assert_eq!(rt; shown.as_str(), *text);
+        assert_eq!(rt; fault.number(), *number);
+    }
     NoGate.turn(3, 7);
+    Ok(())
 }
 
 // ---- a gate

@@ -9,7 +9,7 @@ use crate::tests::made::{LIVES, Meeting, Numbered, made, run, tasks};
 use futures::future::MaybeDone;
 use gs_base::PeerNo;
 use gs_peer::{NoGate, PeerFault, StopFlag};
-use std::alloc::AllocGlobal;
+use std::alloc::{AllocError, AllocGlobal};
 use std::io;
 use std::random::RandomSource;
 use std::sync::{Arc, Wait};
@@ -92,11 +92,25 @@ fn too_many_workers_are_want_of_memory(rt: HostRuntime) -> Result<(), Fail> {
     Ok(())
 }
 
+/// The numbers and the texts of faults.
+static FAULTS: [(NetFault, u8, &str); 3] = [
+    (NetFault::NoMemory(None), 24, "there was no memory"),
+    (
+        NetFault::NoMemory(Some(PeerNo(7))),
+        24,
+        "there was no memory",
+    ),
+    (NetFault::NoThread, 25, "a worker thread was wanting"),
+];
+
 #[test]
-fn each_fault_has_its_number(rt: HostRuntime) {
-    assert_eq!(rt; NetFault::NoMemory(None).number(), 24);
-    assert_eq!(rt; NetFault::NoMemory(Some(PeerNo(7))).number(), 24);
-    assert_eq!(rt; NetFault::NoThread.number(), 25);
+fn each_fault_has_its_number_and_text(rt: HostRuntime) -> Result<(), AllocError> {
+    for (fault, number, text) in &FAULTS {
+        let shown = format!(in rt.alloc(); "{fault}")?;
+        assert_eq!(rt; shown.as_str(), *text);
+        assert_eq!(rt; fault.number(), *number);
+    }
+    Ok(())
 }
 
 /// Four tasks on four workers meet in the middle of a round: each is in it while the others are.

@@ -1,10 +1,12 @@
 //! Peers with one neighbour, and what it says to them.
-ghost use Rattle.std.specs.Prelude.{◌≡◌, ◌≤◌, [], IfOk, IfSome, true};
+ghost use Rattle.std.specs.Prelude.{◌≡◌, ◌≤◌, pos, [], ◌∷◌, IfOk, IfSome, true, false};
 ghost use Rattle.std.specs.List.{All};
 ghost use Rattle.gs_base.specs.declared.names.PeerNo.{PeerNo as PeerNoValue};
+ghost use Rattle.gs_params.specs.Params.{AreInRange};
 ghost use Rattle.gs_link.specs.Items.{IsSendable};
 ghost use Rattle.gs_ends.specs.Ends.{has};
 ghost use Rattle.gs_ends.specs.Pairs.{accepted_for, joints_of, taken_from};
+ghost use Rattle.gs_rules.specs.Peers.{links_of};
 ghost use Rattle.gs_peer.specs.Task.{CanPoll, HasJoints};
 
 use crate::{Agenda, Assignment, Gate, NoGate, PeerTask, StopFlag, Surroundings};
@@ -47,6 +49,7 @@ pub enum Step {
     Promises,
     Gossip,
     BeatEnd,
+    Decay,
     RoundEnd(u64),
     Gone,
     Fault,
@@ -67,6 +70,7 @@ fn step_of(event: &Event) -> Step {
         Event::Promises => Step::Promises,
         Event::GossipBeat(_) => Step::Gossip,
         Event::BeatEnd => Step::BeatEnd,
+        Event::Decay => Step::Decay,
         Event::RoundEnd(round) => Step::RoundEnd(*round),
         Event::Gone(_) => Step::Gone,
         Event::Fault(_) => Step::Fault,
@@ -104,7 +108,8 @@ pub const ONE: Pair = Pair {
 
 /// A neighbour that dialled, at no address.
 fn neighbour(peer: PeerNo) -> Neighbour
-    ensures { result.peer ≡ peer }
+    ensures peer { result.peer ≡ peer }
+    ensures app { result.app ≡ pos 0 }
 {
     Neighbour {
         peer,
@@ -112,6 +117,26 @@ fn neighbour(peer: PeerNo) -> Neighbour
         address: Bytes::new(),
         app: 0,
     }
+}
+
+/// Parameters that pass their checks; with any others the test fails.
+fn checked(params: Params) -> Result<Params, AllocError>
+    ensures { IfOk result AreInRange }
+{
+    match params.check() {
+        Ok(params) => Ok(params),
+        Err(_) => Err(AllocError),
+    }
+}
+
+/// A router with this neighbour alone that has done nothing.
+fn router(alloc: Global, other: PeerNo) -> Result<Router, AllocError>
+    ensures links { IfOk result (λ router. links_of router.peer ≡ other ∷ []) }
+    ensures trace { IfOk result (λ router. router.trace ≡ []) }
+    ensures runs { IfOk result (λ router. router.is_stopped ≡ false) }
+{
+    let neighbours = vec![in alloc; neighbour(other)]?;
+    Router::new(alloc, checked(Params::new(alloc))?, neighbours)
 }
 
 /// A peer on worker 4 with one neighbour and these lines, in rounds of 100 milliseconds up to this one.
@@ -129,8 +154,7 @@ pub fn task_in<G: Gate, S: Ends>(
     ensures can { IfOk result (λ task. CanPoll S.joints S.accepted S.taken task) }
     ensures ends { IfOk result (λ task. HasJoints S.joints (S.joints surroundings.ends) task) }
 {
-    let neighbours = vec![in alloc; neighbour(pair.other)]?;
-    let router = Router::new(alloc, Params::new(alloc), neighbours)?;
+    let router = router(alloc, pair.other)?;
     let assignment = Assignment {
         number: pair.me,
         neighbours: vec![in alloc; pair.other]?,

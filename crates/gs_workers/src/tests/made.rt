@@ -1,6 +1,7 @@
 //! Peers without neighbours, and a gate at which they meet.
-ghost use Rattle.std.specs.Prelude.{◌≤◌, IfOk};
+ghost use Rattle.std.specs.Prelude.{◌≡◌, ◌≤◌, [], false, IfOk};
 ghost use Rattle.std.specs.List.{All};
+ghost use Rattle.gs_params.specs.Params.{AreInRange};
 ghost use Rattle.gs_ends.specs.Pairs.{accepted_for, joints_of, taken_from};
 ghost use Rattle.gs_peer.specs.Task.{CanPoll};
 
@@ -89,6 +90,25 @@ pub fn made(trace: &Trace, steps: &[Step]) -> bool {
     left.is_empty()
 }
 
+/// Parameters that pass their checks; with any others the test fails.
+fn checked(params: Params) -> Result<Params, AllocError>
+    ensures { IfOk result AreInRange }
+{
+    match params.check() {
+        Ok(params) => Ok(params),
+        Err(_) => Err(AllocError),
+    }
+}
+
+/// A router without neighbours that has done nothing.
+fn router(alloc: Global) -> Result<Router, AllocError>
+    ensures neighbours { IfOk result (λ router. router.peer.neighbours ≡ []) }
+    ensures trace { IfOk result (λ router. router.trace ≡ []) }
+    ensures runs { IfOk result (λ router. router.is_stopped ≡ false) }
+{
+    Router::new(alloc, checked(Params::new(alloc))?, Vec::new(alloc))
+}
+
 /// The peer of a number, on the worker of that number, in rounds 0 to 3. It subscribes in the round
 /// of its number.
 fn task<G: Gate>(
@@ -104,7 +124,7 @@ fn task<G: Gate>(
         peer: PeerNo(number),
         what: What::Subscribe(Topic::or_empty(&None)?),
     };
-    let router = Router::new(alloc, Params::new(alloc), Vec::new(alloc))?;
+    let router = router(alloc)?;
     let assignment = Assignment {
         number: PeerNo(number),
         neighbours: Vec::new(alloc),

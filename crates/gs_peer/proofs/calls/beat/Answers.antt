@@ -1,8 +1,8 @@
-use Rattle.std.proofs.Common.{◌≡◌, ◌%◌, true, List, [], ◌∷◌, Some, nat_eq, nat_lt, refl, rules, subst, sym}
+use Rattle.std.proofs.Common.{◌≡◌, true, List, [], Some, refl, rules, subst, sym}
 use Rattle.gs_params.specs.Seeding.{seeded_after, seeded_word}
 use Rattle.gs_rules.specs.declared.trace.Event.TheVariants.{Promises}
 use Rattle.gs_rules.specs.Modes.{exact}
-use Rattle.gs_rules.specs.Rounds.{Todo, Beat}
+use Rattle.gs_rules.specs.Rounds.{Todo, Beat, is_due}
 use Rattle.gs_peer.specs.Playing.{Runs}
 use Rattle.gs_peer.proofs.Beating.{one_beat}
 use Rattle.gs_peer.proofs.Runs.{told_runs}
@@ -13,7 +13,6 @@ returns c =
     let m = exact seeded_word seeded_after in
     let v = c.args.router.now in
     let now = c.args.now in
-    let later : nat_lt 0 c.args.round ≡ true = search rules in
-    let due : nat_eq (now.0 % v.peer.params.windows.heartbeat_ms) 0 ≡ true = search rules in
-    subst (λ (todos : List Todo). Runs m now todos v c.args.words.now c.heartbeat.new.self c.heartbeat.new.words []) (sym (one_beat v.peer c.args.round now later due))
+    let due : is_due v.peer.params.windows.heartbeat_ms c.args.round now ≡ true = search rules in
+    subst (λ (todos : List Todo). Runs m now todos v c.args.words.now c.heartbeat.new.self c.heartbeat.new.words []) (sym (one_beat v.peer c.args.round now due))
     (told_runs m now Beat (Some Promises) v c.heartbeat.new.self c.args.words.now c.heartbeat.new.words c.heartbeat.result c.in_ok-done.ensures refl refl c.requires c.heartbeat.ensures)

@@ -1,12 +1,12 @@
 use Rattle.std.proofs.Common.{◌≡◌, ℕ, ◌++◌, [], ◌∷◌, List, Some, length, map, refl, rules, vec_len, ap, subst, append-nil, ◌∙◌}
-use Rattle.std.proofs.lemmas.List.{with_items_is}
+use Rattle.std.proofs.lemmas.List.{append_assoc, with_items_is}
 use Rattle.gs_params.specs.declared.plan.Line.{Line}
 use Rattle.gs_params.specs.Seeding.{seeded_after, seeded_word}
 use Rattle.gs_rules.specs.declared.refusal.RefusedLine.{RefusedLine}
 use Rattle.gs_rules.specs.declared.trace.Event.TheVariants.{RoundEnd}
 use Rattle.gs_rules.specs.Modes.{exact}
 use Rattle.gs_rules.specs.Peers.{Peer}
-use Rattle.gs_rules.specs.Rounds.{EndRound, beats_in, obey}
+use Rattle.gs_rules.specs.Rounds.{EndRound, Todo, beats_in, decays_in, obey}
 use Rattle.gs_peer.specs.Inboxes.{all_heard, turned}
 use Rattle.gs_peer.specs.Playing.{Runs, behind_heard, own_lines}
 use Rattle.gs_peer.proofs.Runs.{runs_then, told_runs}
@@ -23,13 +23,14 @@ returns c =
     let follows : Runs m now (own_lines r c.args.agenda.now) c.hear.new.router c.hear.new.words c.follow_all.new.router c.follow_all.new.words more =
     subst (λ (xs : List (ℕ × Line)). Runs m now (map obey xs) c.hear.new.router c.hear.new.words c.follow_all.new.router c.follow_all.new.words more) c.at.ensures followed in
     let lines = own_lines r c.args.agenda.now in
-    let beats = beats_in p.router.peer r now in
+    let due = decays_in p.router.peer r now ++ beats_in p.router.peer r now in
     let same : c.follow_all.new.router.peer ≡ p.router.peer = follows.peer ∙ heard.peer in
-    let beaten : Runs m now beats c.follow_all.new.router c.follow_all.new.words c.beat.new.router c.beat.new.words [] =
-    subst (λ (q : Peer). Runs m now (beats_in q r now) c.follow_all.new.router c.follow_all.new.words c.beat.new.router c.beat.new.words []) same c.in_ok-beat.ensures in
-    let ends = told_runs m now (EndRound r) (Some (RoundEnd r)) c.beat.new.router c.end_round.new.self c.beat.new.words c.end_round.new.words c.end_round.result c.in_ok-done.ensures refl refl beaten.runs_on c.end_round.ensures in
-    let last = runs_then m now beats (EndRound r ∷ []) c.follow_all.new.router c.beat.new.router c.end_round.new.self c.follow_all.new.words c.beat.new.words c.end_round.new.words [] [] beaten ends in
-    let rest = runs_then m now lines (beats ++ EndRound r ∷ []) c.hear.new.router c.follow_all.new.router c.end_round.new.self c.hear.new.words c.follow_all.new.words c.end_round.new.words more [] follows last in
+    let kept : Runs m now due c.follow_all.new.router c.follow_all.new.words c.keep_time.new.router c.keep_time.new.words [] =
+    subst (λ (q : Peer). Runs m now (decays_in q r now ++ beats_in q r now) c.follow_all.new.router c.follow_all.new.words c.keep_time.new.router c.keep_time.new.words []) same c.in_ok-keep_time.ensures in
+    let ends = told_runs m now (EndRound r) (Some (RoundEnd r)) c.keep_time.new.router c.end_round.new.self c.keep_time.new.words c.end_round.new.words c.end_round.result c.in_ok-done.ensures refl refl kept.runs_on c.end_round.ensures in
+    let timed = runs_then m now due (EndRound r ∷ []) c.follow_all.new.router c.keep_time.new.router c.end_round.new.self c.follow_all.new.words c.keep_time.new.words c.end_round.new.words [] [] kept ends in
+    let last = subst (λ (todos : List Todo). Runs m now todos c.follow_all.new.router c.follow_all.new.words c.end_round.new.self c.end_round.new.words []) (append_assoc (decays_in p.router.peer r now) (beats_in p.router.peer r now) (EndRound r ∷ [])) timed in
+    let rest = runs_then m now lines (decays_in p.router.peer r now ++ (beats_in p.router.peer r now ++ EndRound r ∷ [])) c.hear.new.router c.follow_all.new.router c.end_round.new.self c.hear.new.words c.follow_all.new.words c.end_round.new.words more [] follows last in
     let all = runs_then m now (all_heard p.inboxes.items) (behind_heard p.router.peer r now c.args.agenda.now) p.router c.hear.new.router c.end_round.new.self p.words c.hear.new.words c.end_round.new.words [] (more ++ []) heard rest in
     let len : length c.hear.new.inboxes ≡ vec_len p.inboxes = search rules in
     record {

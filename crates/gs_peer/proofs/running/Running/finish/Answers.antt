@@ -1,6 +1,8 @@
-use Rattle.std.proofs.Common.{List, rules, subst₂}
+use Rattle.std.proofs.Common.{◌≡◌, ◌*◌, ◌∙◌, List, rules, sym, ap₂, subst₂}
 use Rattle.gs_rules.specs.declared.refusal.RefusedLine.{RefusedLine}
+use Rattle.gs_rules.specs.Peers.{Peer}
 use Rattle.gs_rules.specs.Tables.{Entries}
+use Rattle.gs_router.specs.Router.{scores_of}
 use Rattle.gs_peer.specs.Life.{words_of}
 use Rattle.gs_peer.specs.Places.{place_of}
 use Rattle.gs_peer.specs.Running.{seat_of}
@@ -24,4 +26,7 @@ returns-clause-life g c =
     life (seat_of t) said sent t.outboxes t.first.value t.player.inboxes.items t.player.router c.hear.new.self.router t.player.words c.hear.new.self.words t.player.refused.items k c.requires.over.full c.requires.over.silent c.in_ok-hear.ensures.runs in
     let all : WholeLife (seat_of t) said sent t.first.value c.into_trace.result c.from.result =
     subst₂ (λ (L : Entries) (rs : List RefusedLine). WholeLife (seat_of t) said sent t.first.value L rs) (search rules) (search rules) w in
-    record { legal = all.legal; keeps = all.keeps; handles = all.handles; says = all.says; closed = all.closed }
+    let same : c.hear.new.self.router.peer ≡ t.player.router.peer = c.in_ok-hear.ensures.runs.peer in
+    let scored = c.in_ok-scores.ensures c.in_ok-hear.ensures.runs.runs_on.running in
+    let traced : c.into_trace.result ≡ c.hear.new.self.router.trace = c.into_trace.ensures in
+    record { legal = all.legal; keeps = all.keeps; scores = scored ∙ ap₂ (λ (p : Peer) (L : Entries). scores_of p L (t.assignment.rounds * t.assignment.round_ms)) same (sym traced); handles = all.handles; says = all.says; closed = all.closed }

@@ -1,7 +1,13 @@
 use Rattle.std.proofs.Common.{◌≡◌, None, Some, refl, rules}
-use Rattle.gs_peer.proofs.Polls.{bounded_pending, ended, on_pending}
+use Rattle.gs_peer.proofs.Polls.{bounded_pending, ended, gives_life, on_pending}
 use Rattle.gs_peer.proofs.Suspending.{suspended}
 use Rattle.gs_peer.proofs.task.PeerTaskFuture.poll.Goals as goal
+
+pub returns-in-Ok-true-clause-value : goal.returns-in-Ok-true-clause-value
+returns-in-Ok-true-clause-value g c =
+    let was : c.args.self.now.running ≡ Some c.in-Some.running = search rules in
+    let goes = c.in-Ok-true.ensures.goes in
+    gives_life g.S.Ends.joints g.S.Ends.accepted g.S.Ends.taken c.args.self.now c.in-Some.running c.run.new.self c.finish.result was goes.seat goes.first goes.same_ends c.finish.ensures.life c.finish.ensures.ends
 
 pub returns-in-Ok-true-clause-bounded : goal.returns-in-Ok-true-clause-bounded
 returns-in-Ok-true-clause-bounded g c =
