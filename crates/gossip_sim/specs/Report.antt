@@ -1,5 +1,5 @@
 -- What a run's report says.
-use Rattle.std.specs.Prelude.{ℕ, List, [], ◌∷◌, ◌++◌, codes, decimal, option_map, unwrap_or, slice_get, reverse}
+use Rattle.std.specs.Prelude.{ℕ, ℤ, pos, ◌+◌, ◌/◌, ◌%◌, int_lt, unsigned_abs, if◌then◌else◌, List, [], ◌∷◌, ◌++◌, codes, decimal, map, option_map, unwrap_or, slice_get, reverse}
 use Rattle.std.specs.List.{flat_map}
 use Rattle.hex.specs.Hex.{encode_lower}
 use Rattle.gs_base.specs.declared.names.Millis.{Millis}
@@ -30,6 +30,20 @@ abbrev pub payload_text : List ℕ → List ℕ
 payload_text [] = codes "-"
 payload_text (byte ∷ bytes) = encode_lower (byte ∷ bytes)
 
+-- the digit of a number at the place of a power of ten
+abbrev pub digit : ℕ → ℕ → ℕ
+digit n power = 48 + n / power % 10
+
+-- its last six digits
+abbrev pub six_digits : ℕ → List ℕ
+six_digits n = map (digit n) (100_000 ∷ 10_000 ∷ 1_000 ∷ 100 ∷ 10 ∷ 1 ∷ [])
+
+-- whole millionths as a number with six digits behind the point
+abbrev pub score_text : ℤ → List ℕ
+score_text z =
+    (if int_lt z (pos 0) then codes "-" else [])
+    ++ decimal (unsigned_abs z / 1_000_000) ++ codes "." ++ six_digits (unsigned_abs z)
+
 -- ---- lines
 
 -- `delivered PEER MOMENT TOPIC PAYLOAD`
@@ -48,6 +62,11 @@ refused_line plan name r =
     codes "refused " ++ name ++ codes " " ++ decimal r.at.0 ++ codes " " ++ word_of plan r.line
     ++ codes " " ++ decimal (number_of r.why) ++ codes "\n"
 
+-- `score PEER NEIGHBOUR SCORE`
+abbrev pub score_line : Plan → List ℕ → PeerNo × ℤ → List ℕ
+score_line plan name x =
+    codes "score " ++ name ++ codes " " ++ name_of plan x.0 ++ codes " " ++ score_text x.1 ++ codes "\n"
+
 -- `links NUMBER settled`
 abbrev pub links_line : ℕ → List ℕ
 links_line settled = codes "links " ++ decimal settled ++ codes " settled\n"
@@ -62,10 +81,15 @@ delivered_lines plan x = flat_map (entry_lines (name_of plan x.0)) (reverse x.1.
 abbrev pub refused_lines : Plan → PeerNo × Finished → List ℕ
 refused_lines plan x = flat_map (refused_line plan (name_of plan x.0)) x.1.refused
 
+-- what its neighbours scored
+abbrev pub score_lines : Plan → PeerNo × Finished → List ℕ
+score_lines plan x = flat_map (score_line plan (name_of plan x.0)) x.1.scores
+
 -- ---- the report
 
--- what was delivered, peer by peer, then what was refused, and last how many links were settled
+-- what was delivered, peer by peer, then what was refused, what neighbours scored, and last how many links were settled
 abbrev pub report_text : Plan → Report → List ℕ
 report_text plan report =
     flat_map (delivered_lines plan) report.peers.items ++ flat_map (refused_lines plan) report.peers.items
+    ++ flat_map (score_lines plan) report.peers.items
     ++ links_line report.settled

@@ -1,7 +1,7 @@
 //! What a run reports.
-ghost use Rattle.std.specs.Prelude.{◌≡◌, ◌++◌, IfOk, OnOk, string_bytes};
+ghost use Rattle.std.specs.Prelude.{◌≡◌, ◌++◌, ◌<◌, IfOk, OnOk, string_bytes};
 ghost use Rattle.std.specs.List.{flat_map};
-ghost use Rattle.gossip_sim.specs.Report.{delivered_line, delivered_lines, entry_lines, links_line, name_of, payload_text, refused_line, refused_lines, report_text, word_of};
+ghost use Rattle.gossip_sim.specs.Report.{delivered_line, delivered_lines, digit, entry_lines, links_line, name_of, payload_text, refused_line, refused_lines, report_text, score_line, score_lines, score_text, word_of};
 
 use bytes::Bytes;
 use gs_base::{Millis, PeerNo, Topic};
@@ -12,8 +12,8 @@ use gs_scenario::what_word;
 use std::alloc::{AllocError, Global};
 
 /// The text of a run's report: first a line for each message that was delivered, peer by peer in the
-/// order of its trace, then a line for each refusal, peer by peer in the order of its list, and last
-/// the line of the links. A peer has the name that the plan gives its number.
+/// order of its trace, then a line for each refusal, peer by peer in the order of its list, then a line for
+/// each score of a neighbour, and last the line of the links. A peer has the name that the plan gives its number.
 ///
 /// # Errors
 /// `AllocError` where there was no memory for it.
@@ -23,6 +23,7 @@ pub fn report_text(alloc: Global, plan: &Plan, report: &Report) -> Result<Vec<u8
     let mut text = Vec::new(alloc);
     push_delivered(alloc, &mut text, plan, &report.peers)?;
     push_refused(alloc, &mut text, plan, &report.peers)?;
+    push_scores(alloc, &mut text, plan, &report.peers)?;
     push_links(alloc, &mut text, report.settled)?;
     Ok(text)
 }
@@ -150,6 +151,91 @@ fn push_refusal(
     let back = format!(in alloc; "{word} {number}\n")?;
     text.extend_from_slice(front.as_bytes())?;
     text.extend_from_slice(back.as_bytes())
+}
+
+/// Adds the lines of what the neighbours of all peers scored.
+fn push_scores(
+    alloc: Global,
+    text: &mut Vec<u8>,
+    plan: &Plan,
+    peers: &[(PeerNo, Finished)],
+) -> Result<(), AllocError>
+    ensures { OnOk result (text.new.items
+        ≡ text.old.items ++ flat_map (score_lines plan.now) peers.now) }
+{
+    for (number, life) in peers {
+        push_each_score(
+            alloc,
+            text,
+            plan,
+            name_of(plan, *number),
+            life.scores.as_slice(),
+        )?;
+    }
+    Ok(())
+}
+
+/// Adds the lines of what a peer's neighbours scored.
+fn push_each_score(
+    alloc: Global,
+    text: &mut Vec<u8>,
+    plan: &Plan,
+    name: &str,
+    scores: &[(PeerNo, i128)],
+) -> Result<(), AllocError>
+    ensures { OnOk result (text.new.items ≡ text.old.items ++ flat_map (score_line plan.now name.now) scores.now) }
+{
+    for score in scores {
+        push_score(alloc, text, plan, name, *score)?;
+    }
+    Ok(())
+}
+
+/// Adds the line of what a neighbour scored.
+fn push_score(
+    alloc: Global,
+    text: &mut Vec<u8>,
+    plan: &Plan,
+    name: &str,
+    scored: (PeerNo, i128),
+) -> Result<(), AllocError>
+    ensures { OnOk result (text.new.items ≡ text.old.items ++ score_line plan.now name.now scored) }
+{
+    let neighbour = name_of(plan, scored.0);
+    let front = format!(in alloc; "score {name} {neighbour} ")?;
+    text.extend_from_slice(front.as_bytes())?;
+    push_millionths(alloc, text, scored.1)?;
+    text.extend_from_slice(b"\n")
+}
+
+/// Adds whole millionths as a number with six digits behind the point.
+fn push_millionths(alloc: Global, text: &mut Vec<u8>, score: i128) -> Result<(), AllocError>
+    ensures { OnOk result (text.new.items ≡ text.old.items ++ score_text score) }
+{
+    let size = score.unsigned_abs();
+    let whole = size / 1_000_000;
+    let front = if score < 0 {
+        format!(in alloc; "-{whole}.")?
+    } else {
+        format!(in alloc; "{whole}.")?
+    };
+    text.extend_from_slice(front.as_bytes())?;
+    text.extend_from_slice(&[
+        digit(size, 100_000),
+        digit(size, 10_000),
+        digit(size, 1_000),
+        digit(size, 100),
+        digit(size, 10),
+        digit(size, 1),
+    ])
+}
+
+/// The digit of a number at the place of a power of ten.
+fn digit(number: u128, power: u128) -> u8
+    requires { 0 < power }
+    ensures { result ≡ digit number power }
+{
+    (number / power % 10) as u8 + b'0'
 }
 
 /// Adds the line of the links that were settled.

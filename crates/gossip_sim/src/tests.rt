@@ -1,4 +1,6 @@
 //! Whole runs, from a scenario to its report.
+mod standings;
+
 use crate::program::tests::Host;
 use crate::program::{ExitStatus, run};
 use gs_peer::{Gate, NoGate};
@@ -67,7 +69,8 @@ fn two_subscribers_get_one_message(rt: HostRuntime) -> Result<(), AllocError> {
         (0, "b", "subscribe", "news", None),
         (2, "a", "publish", "news", Some("616263")),
     ];
-    let report = "delivered a 200 news 616263\ndelivered b 300 news 616263\nlinks 2 settled\n";
+    let report = "delivered a 200 news 616263\ndelivered b 300 news 616263\n\
+        score a b 0.000000\nscore b a 0.000000\nlinks 2 settled\n";
     assert!(rt; reports(&rt, &[TWO, A_DIALS_B], &script, report)?);
     assert!(rt; reports(&rt, &[TWO, B_DIALS_A], &script, report)?);
     let report = "delivered a 200 news 616263\nlinks 0 settled\n";
@@ -85,7 +88,8 @@ fn leaving_a_topic_twice_is_refused(rt: HostRuntime) -> Result<(), AllocError> {
         (5, "b", "unsubscribe", "news", None),
     ];
     let report = "delivered a 200 news 616263\ndelivered b 300 news 616263\n\
-        refused b 500 unsubscribe 19\nlinks 2 settled\n";
+        refused b 500 unsubscribe 19\n\
+        score a b 0.000000\nscore b a 0.000000\nlinks 2 settled\n";
     assert!(rt; reports(&rt, &[TWO, A_DIALS_B], &script, report)?);
     Ok(())
 }
@@ -113,7 +117,8 @@ fn a_neighbour_that_left_gets_nothing_more(rt: HostRuntime) -> Result<(), AllocE
         (4, "a", "publish", "news", Some("02")),
         (5, "b", "subscribe", "news", None),
     ];
-    let report = "delivered b 300 news 01\nlinks 2 settled\n";
+    let report = "delivered b 300 news 01\n\
+        score a b 0.000000\nscore b a 0.000000\nlinks 2 settled\n";
     assert!(rt; reports(&rt, &[TWO, A_DIALS_B], &script, report)?);
     Ok(())
 }
@@ -126,7 +131,8 @@ fn what_is_said_in_a_round_is_heard_in_the_next(rt: HostRuntime) -> Result<(), A
         (4, "a", "publish", "news", Some("04")),
         (4, "a", "publish", "blog", Some("05")),
     ];
-    let report = "delivered b 500 news 04\nlinks 2 settled\n";
+    let report = "delivered b 500 news 04\n\
+        score a b 0.000000\nscore b a 0.000000\nlinks 2 settled\n";
     assert!(rt; reports(&rt, &[TWO, A_DIALS_B], &script, report)?);
     Ok(())
 }
@@ -140,7 +146,8 @@ fn what_is_said_in_the_last_round_is_late(rt: HostRuntime) -> Result<(), AllocEr
         (10, "a", "publish", "news", Some("10")),
     ];
     let report = "delivered a 900 news 09\ndelivered a 1000 news 10\n\
-        delivered b 1000 news 09\nlinks 2 settled\n";
+        delivered b 1000 news 09\n\
+        score a b 0.000000\nscore b a 0.000000\nlinks 2 settled\n";
     assert!(rt; reports(&rt, &[TWO, A_DIALS_B], &script, report)?);
     Ok(())
 }
@@ -157,7 +164,7 @@ fn refusals_stand_by_moment_and_then_in_file_order(rt: HostRuntime) -> Result<()
     ];
     let report = "delivered b 400 news 616263\nrefused b 0 subscribe 18\n\
         refused b 0 unsubscribe 19\nrefused b 100 subscribe 18\nrefused b 400 publish 16\n\
-        links 2 settled\n";
+        score a b 0.000000\nscore b a 0.000000\nlinks 2 settled\n";
     assert!(rt; reports(&rt, &[TWO, A_DIALS_B], &script, report)?);
     Ok(())
 }
@@ -174,6 +181,7 @@ fn what_is_heard_comes_first_and_by_neighbour(rt: HostRuntime) -> Result<(), All
     ];
     let report = "delivered c 500 news a1\ndelivered c 500 news a2\n\
         delivered c 500 news b1\ndelivered c 500 news b2\ndelivered c 500 news c1\n\
+        score a c 0.000000\nscore b c 0.000000\nscore c a 0.000000\nscore c b 0.000000\n\
         links 4 settled\n";
     assert!(rt; reports(&rt, &[TWO, C, C_DIALS_BOTH], &script, report)?);
     Ok(())
@@ -187,10 +195,14 @@ const LINE: &str = "round_ms = 100\nrounds = 10\nworkers = 3\ncapacity = 8\nseed
 
 /// What `a` published reaches `c`, too.
 const HEALED: &str = "delivered a 200 news 616263\ndelivered b 300 news 616263\n\
-    delivered c 800 news 616263\nlinks 4 settled\n";
+    delivered c 800 news 616263\n\
+    score a b 0.000000\nscore b a 0.000000\n\
+    score b c 0.000000\nscore c b 0.000000\nlinks 4 settled\n";
 
 /// It reaches `b` alone.
-const BROKEN: &str = "delivered a 200 news 616263\ndelivered b 300 news 616263\nlinks 4 settled\n";
+const BROKEN: &str = "delivered a 200 news 616263\ndelivered b 300 news 616263\n\
+    score a b 0.000000\nscore b a 0.000000\n\
+    score b c 0.000000\nscore c b 0.000000\nlinks 4 settled\n";
 
 /// `b` offers in round 5 what it heard. `c` asks for it in round 6 and gets it in round 8, where it
 /// subscribed by round 4: that is heard in round 5 ahead of the heartbeat.
@@ -244,7 +256,24 @@ fn ring(alloc: Global, workers: u64, capacity: u64) -> Result<String, AllocError
 /// 11, and get it in round 13. What they offer in round 20, the last one, comes too late.
 const RING_REPORT: &str = "delivered p0 200 news 616263\ndelivered p1 300 news 616263\n\
     delivered p2 1300 news 616263\ndelivered p14 1300 news 616263\n\
-    delivered p15 300 news 616263\nlinks 32 settled\n";
+    delivered p15 300 news 616263\n\
+    score p0 p1 0.000000\nscore p0 p15 0.000000\n\
+    score p1 p0 0.000000\nscore p1 p2 0.000000\n\
+    score p2 p1 0.000000\nscore p2 p3 0.000000\n\
+    score p3 p2 0.000000\nscore p3 p4 0.000000\n\
+    score p4 p3 0.000000\nscore p4 p5 0.000000\n\
+    score p5 p4 0.000000\nscore p5 p6 0.000000\n\
+    score p6 p5 0.000000\nscore p6 p7 0.000000\n\
+    score p7 p6 0.000000\nscore p7 p8 0.000000\n\
+    score p8 p7 0.000000\nscore p8 p9 0.000000\n\
+    score p9 p8 0.000000\nscore p9 p10 0.000000\n\
+    score p10 p9 0.000000\nscore p10 p11 0.000000\n\
+    score p11 p10 0.000000\nscore p11 p12 0.000000\n\
+    score p12 p11 0.000000\nscore p12 p13 0.000000\n\
+    score p13 p12 0.000000\nscore p13 p14 0.000000\n\
+    score p14 p13 0.000000\nscore p14 p15 0.000000\n\
+    score p15 p0 0.000000\nscore p15 p14 0.000000\n\
+    links 32 settled\n";
 
 #[test]
 fn a_ring_of_sixteen_threads_has_one_report(rt: HostRuntime) -> Result<(), AllocError> {
@@ -282,7 +311,8 @@ fn zeros_report(alloc: Global, zeros: &str) -> Result<String, AllocError> {
         let line = format!(in alloc; "delivered {peer_and_moment} news {zeros}{last}\n")?;
         report.push_str(&line)?;
     }
-    report.push_str("refused p1 500 publish 16\nlinks 2 settled\n")?;
+    report.push_str("refused p1 500 publish 16\n")?;
+    report.push_str("score p0 p1 0.000000\nscore p1 p0 0.000000\nlinks 2 settled\n")?;
     Ok(report)
 }
 

@@ -171,3 +171,20 @@ fn what_is_written_goes_to_the_end(rt: HostRuntime) -> Result<(), AllocError> {
     );
     Ok(())
 }
+
+/// The texts of faults.
+static TEXTS: [(WireFault, &str); 4] = [
+    (WireFault::Malformed, "the bytes spell no RPC"),
+    (WireFault::TooLong, "the body is too long"),
+    (WireFault::Failed, "the stream has failed before"),
+    (WireFault::NoMemory, "there was no memory"),
+];
+
+#[test]
+fn each_fault_has_its_text(rt: HostRuntime) -> Result<(), AllocError> {
+    for (fault, text) in &TEXTS {
+        let shown = format!(in rt.alloc(); "{fault}")?;
+        assert_eq!(rt; shown.as_str(), *text);
+    }
+    Ok(())
+}

@@ -214,7 +214,7 @@ pub static KEYS: [Case; 11] = [
 ];
 
 /// Keys that are missing, and what each must hold.
-pub static MISSING: [Case; 18] = [
+pub static MISSING: [Case; 20] = [
     (
         "no round length",
         "round_ms = 100\n",
@@ -272,6 +272,12 @@ pub static MISSING: [Case; 18] = [
          `topic[0].name` is missing: it must be a name that no other topic has\n",
     ),
     (
+        "a first peer without a name",
+        "[[peer]]\nname = \"a\"\n",
+        "[[peer]]\n",
+        "28 peer[0].name\n`peer[0].name` is missing: it must be a name that no other peer has\n",
+    ),
+    (
         "a peer without a name",
         "name = \"b\"\n",
         "",
@@ -322,6 +328,12 @@ pub static MISSING: [Case; 18] = [
         "",
         "28 do[0].at\n\
          `do[0].at` is missing: it must be the number of a round, from 0 to `rounds`\n",
+    ),
+    (
+        "a line for nobody",
+        "at = 0\npeer = \"a\"\n",
+        "at = 0\n",
+        "28 do[0].peer\n`do[0].peer` is missing: it must be the name of a peer\n",
     ),
     (
         "a line for no topic",

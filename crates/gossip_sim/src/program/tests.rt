@@ -45,7 +45,8 @@ topic = "news"
 hex = "616263"
 "#;
 
-const REPORT: &str = "delivered a 200 news 616263\ndelivered b 300 news 616263\nlinks 2 settled\n";
+const REPORT: &str = "delivered a 200 news 616263\ndelivered b 300 news 616263\n\
+    score a b 0.000000\nscore b a 0.000000\nlinks 2 settled\n";
 
 /// What a run asks of a runtime.
 pub trait Host: Threads + Wait + RandomSource + AllocGlobal + Sync + Send + Copy {}

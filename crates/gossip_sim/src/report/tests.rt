@@ -73,7 +73,7 @@ fn entry(alloc: Global, at: u64, payloads: &[(&str, &[u8])]) -> Result<Entry, Al
     })
 }
 
-/// A peer that refused these lines, each with its moment, its place and its reason.
+/// A peer that refused these lines, each with its moment, its place and its reason, and has no neighbours.
 fn refusing(
     alloc: Global,
     trace: Trace,
@@ -87,7 +87,11 @@ fn refusing(
             why: *why,
         })?;
     }
-    Ok(Finished { trace, refused })
+    Ok(Finished {
+        trace,
+        refused,
+        scores: Seq::new(alloc),
+    })
 }
 
 /// Whether the text of a run's report is this.
@@ -174,5 +178,46 @@ fn a_run_without_events_reports_its_links(rt: HostRuntime) -> Result<(), AllocEr
     let mut peers = Vec::new(alloc);
     peers.push((PeerNo(0), refusing(alloc, Trace::new(alloc), &[])?))?;
     assert!(rt; is_told(alloc, peers, 10, "links 10 settled\n")?);
+    Ok(())
+}
+
+/// A peer that did nothing, and scores its neighbours so.
+fn scoring(alloc: Global, scored: &[(u16, i128)]) -> Result<Finished, AllocError> {
+    let mut scores = Seq::new(alloc);
+    for (peer, score) in scored {
+        scores.push((PeerNo(*peer), *score))?;
+    }
+    Ok(Finished {
+        trace: Trace::new(alloc),
+        refused: Seq::new(alloc),
+        scores,
+    })
+}
+
+/// A score has a whole part and six digits, and a minus sign where it is below 0.
+#[test]
+fn scores_are_told_in_millionths(rt: HostRuntime) -> Result<(), AllocError> {
+    let alloc = rt.alloc();
+    let first = scoring(alloc, &[(1, -1), (0, 1_500_000), (2, 0)])?;
+    let second = scoring(alloc, &[(0, -12_345_678), (1, 1_000_000_999_999)])?;
+    let mut peers = Vec::new(alloc);
+    peers.push((PeerNo(0), first))?;
+    peers.push((PeerNo(1), second))?;
+    let report = "score a b -0.000001\nscore a a 1.500000\nscore a  0.000000\n\
+        score b a -12.345678\nscore b b 1000000.999999\nlinks 4 settled\n";
+    assert!(rt; is_told(alloc, peers, 4, report)?);
+    Ok(())
+}
+
+/// The least score and the greatest that an `i128` holds.
+#[test]
+fn scores_are_told_whatever_they_are(rt: HostRuntime) -> Result<(), AllocError> {
+    let alloc = rt.alloc();
+    let life = scoring(alloc, &[(1, i128::MIN), (1, i128::MAX)])?;
+    let mut peers = Vec::new(alloc);
+    peers.push((PeerNo(0), life))?;
+    let report = "score a b -170141183460469231731687303715884.105728\n\
+        score a b 170141183460469231731687303715884.105727\nlinks 2 settled\n";
+    assert!(rt; is_told(alloc, peers, 2, report)?);
     Ok(())
 }
