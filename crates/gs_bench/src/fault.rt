@@ -15,6 +15,9 @@ pub(crate) enum BenchFault {
     /// A link or a queue was full where it should have room.
     #[error("a link was full")]
     Full,
+    /// The parameters or a mark were refused.
+    #[error("scores refused a sample")]
+    Scores,
     /// There was no memory.
     #[error("there was no memory")]
     NoMemory,

@@ -24,6 +24,10 @@ pub(crate) enum Kind {
     Link,
     /// The same over a plain queue.
     Queue,
+    /// A mark of a neighbour that has counters on so many topics.
+    Apply(u8),
+    /// The score of such a neighbour.
+    Score(u8),
 }
 
 impl Kind {
@@ -41,6 +45,10 @@ impl Kind {
             "feed-65536" => Some(Kind::Feed(65_536)),
             "link" => Some(Kind::Link),
             "queue" => Some(Kind::Queue),
+            "apply-1" => Some(Kind::Apply(1)),
+            "apply-32" => Some(Kind::Apply(32)),
+            "score-1" => Some(Kind::Score(1)),
+            "score-32" => Some(Kind::Score(32)),
             _ => None,
         }
     }

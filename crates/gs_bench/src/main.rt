@@ -1,4 +1,4 @@
-//! Measures the codec and links: for each line `KIND COUNT` it prints `KIND COUNT CHECKSUM`. It holds no
+//! Measures the codec, links and scores: for each line `KIND COUNT` it prints `KIND COUNT CHECKSUM`. It holds no
 //! work but theirs, so that the instructions between two counts are those of the operations.
 #![tactic(auto)]
 
@@ -7,6 +7,7 @@ mod fault;
 mod kind;
 mod measure;
 mod samples;
+mod scoring;
 
 use fault::BenchFault;
 use kind::Kind;

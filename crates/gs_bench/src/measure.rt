@@ -4,6 +4,7 @@ use crate::carry::{link_all, queue_all};
 use crate::fault::BenchFault;
 use crate::kind::{Kind, Sample};
 use crate::samples::rpc_of;
+use crate::scoring::{apply_all, score_all};
 use gs_base::Rpc;
 use gs_wire::{FrameReader, MAX_BODY, decode, encode, encode_frame};
 use std::alloc::Global;
@@ -11,7 +12,7 @@ use std::sync::Wait;
 
 /// Does what the kind says so many times, and answers the sum of what was found, modulo 2^32: the
 /// repeated elements of what was read, or the lengths of the bodies that were written, or of the
-/// pieces that were taken.
+/// pieces that were taken, or the deliveries that were counted, or the scores in millionths.
 pub(crate) fn checksum<R: Wait>(
     rt: &R,
     alloc: Global,
@@ -24,6 +25,8 @@ pub(crate) fn checksum<R: Wait>(
         Kind::Feed(piece) => feed_all(alloc, piece, count),
         Kind::Link => link_all(rt, alloc, count),
         Kind::Queue => queue_all(rt, alloc, count),
+        Kind::Apply(topics) => apply_all(alloc, topics, count),
+        Kind::Score(topics) => score_all(alloc, topics, count),
     }
 }
 
