@@ -3,7 +3,7 @@ use crate::names::{MsgId, PeerNo, Topic};
 use crate::verdict::Verdict;
 
 /// What an entry leaves to be remembered. Counters of scores are raised by these marks alone (gossipsub
-/// v1.1, Peer Scoring). The rules make `Seen`, `First`, `Invalid` and the last four so far.
+/// v1.1, Peer Scoring). The rules make all but `Near` and `Deficit` so far.
 #[derive(Debug, Drop, PartialEq, Eq)]
 pub enum Mark {
     /// A message with this identifier was seen, and found to be so.

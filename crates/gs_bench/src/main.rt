@@ -39,3 +39,6 @@ fn main(rt: HostRuntime) -> Result<(), BenchFault> {
     }
     Ok(())
 }
+
+#[cfg(test)]
+mod tests;

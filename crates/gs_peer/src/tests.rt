@@ -1,20 +1,22 @@
 //! Lives of a peer with one neighbour, over lists in memory and over links.
-ghost use Rattle.std.specs.Prelude.{◌≡◌, ◌≤◌, IfOk, IfSome, true};
+ghost use Rattle.std.specs.Prelude.{◌≡◌, ◌≤◌, [], IfOk, IfSome, true};
+ghost use Rattle.gs_link.specs.Items.{IsCapacity};
 ghost use Rattle.gs_ends.specs.Ends.{has};
-ghost use Rattle.gs_ends.specs.Pairs.{joints_of};
+ghost use Rattle.gs_ends.specs.Pairs.{accepted_for, joints_of, taken_from};
+ghost use Rattle.gs_peer.specs.Task.{CanPoll};
 
 mod made;
 
 use crate::tests::made::{
-    AtMost, ONE, Pair, SUBSCRIBES, Step, cut, links, lists, long_frame, made, said, says,
+    AtMost, ONE, Pair, SUBSCRIBES, Step, TWO, cut, links, lists, long_frame, made, said, says,
     says_with_heartbeats, script, script_with_heartbeats, task, task_in,
 };
-use crate::{Finished, Gate, NoGate, PeerFault, StopFlag, Surroundings};
+use crate::{Finished, Gate, NoGate, PeerFault, PeerTask, StopFlag, Surroundings};
 use futures::executor::block_on;
 use futures::future::join;
 use gs_base::{Millis, PeerNo};
-use gs_ends::ListEnds;
-use gs_link::open_link;
+use gs_ends::{LinkEnds, ListEnds};
+use gs_link::{LinkRx, LinkTx, open_link};
 use gs_params::Line;
 use gs_rules::{Refusal, RefusedLine};
 use std::alloc::{AllocError, AllocGlobal, Global};
@@ -344,30 +346,63 @@ const BOTH_PUBLISH: [Step; 10] = [
     Step::Shut,
 ];
 
+/// A task with the script, which says to its neighbour what goes into the one link and hears what comes of the other.
+fn side<R: Wait + AllocGlobal + Copy + Drop>(
+    rt: R,
+    pair: Pair,
+    tx: LinkTx,
+    rx: LinkRx,
+) -> Result<PeerTask<NoGate, LinkEnds<R>>, AllocError>
+    requires accepted { tx.accepted ≡ [] }
+    requires taken { rx.taken ≡ [] }
+    ensures { IfOk result (λ task. CanPoll joints_of accepted_for taken_from task) }
+{
+    let ends = links(rt, rt.alloc(), pair.other, tx, rx)?;
+    let lines = script(rt.alloc())?;
+    task(rt.alloc(), pair, lines, 2, ends)
+}
+
+/// Whether a side heard the other, and still has its ends.
+fn heard_all<R: Wait + Drop>(given: Result<Finished<LinkEnds<R>>, PeerFault>) -> bool {
+    match given {
+        Ok(life) => made(&life.trace, &BOTH_PUBLISH) && life.ends.into_list().len() == 1,
+        Err(_) => false,
+    }
+}
+
+/// Whether two sides hear each other.
+fn hear_each_other<R>(
+    rt: R,
+    first: PeerTask<NoGate, LinkEnds<R>>,
+    second: PeerTask<NoGate, LinkEnds<R>>,
+) -> io::Result<bool>
+where
+    R: Wait + RandomSource + AllocGlobal + Copy + Drop,
+    requires first { CanPoll joints_of accepted_for taken_from first }
+    requires second { CanPoll joints_of accepted_for taken_from second }
+{
+    let (first, second) = block_on(&rt, join(first, second))?;
+    Ok(heard_all(first) && heard_all(second))
+}
+
+/// Whether two sides hear each other over links of so many places.
+fn hear_over<R>(rt: R, capacity: usize) -> Result<bool, Fail>
+where
+    R: Wait + RandomSource + AllocGlobal + Copy + Drop,
+    requires { IsCapacity capacity }
+{
+    let (to_two, from_one) = open_link(rt.alloc(), capacity)?;
+    let (to_one, from_two) = open_link(rt.alloc(), capacity)?;
+    let first = side(rt, ONE, to_two, from_two)?;
+    let second = side(rt, TWO, to_one, from_one)?;
+    Ok(hear_each_other(rt, first, second)?)
+}
+
 /// The same script on both sides, over links of one place and of eight.
 #[test]
 fn two_tasks_hear_each_other_over_links(rt: HostRuntime) -> Result<(), Fail> {
     for capacity in [1, 8] {
-        let (to_two, from_one) = open_link(rt.alloc(), capacity)?;
-        let (to_one, from_two) = open_link(rt.alloc(), capacity)?;
-        let two = Pair {
-            me: PeerNo(2),
-            other: PeerNo(1),
-        };
-        let first = links(rt, rt.alloc(), PeerNo(2), to_two, from_two)?;
-        let second = links(rt, rt.alloc(), PeerNo(1), to_one, from_one)?;
-        let first = task(rt.alloc(), ONE, script(rt.alloc())?, 2, first)?;
-        let second = task(rt.alloc(), two, script(rt.alloc())?, 2, second)?;
-        let (first, second) = block_on(&rt, join(first, second))?;
-        let Ok(first) = first else {
-            panic!(rt; "a fault of the first");
-        };
-        let Ok(second) = second else {
-            panic!(rt; "a fault of the second");
-        };
-        assert!(rt; made(&first.trace, &BOTH_PUBLISH));
-        assert!(rt; made(&second.trace, &BOTH_PUBLISH));
-        assert!(rt; first.ends.into_list().len() == 1);
+        assert!(rt; hear_over(rt, capacity)?);
     }
     Ok(())
 }

@@ -236,7 +236,7 @@ impl Router {
         self.obey(Event::Unsubscribe(topic), now, words)
     }
 
-    /// Publishes a payload: it goes to every neighbour that is on the topic and not below the threshold, and is
+    /// Publishes a payload: it goes to every neighbour that is up, on the topic and not below the threshold, and is
     /// delivered to the router's own user where that is subscribed to the topic.
     ///
     /// # Errors

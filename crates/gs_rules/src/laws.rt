@@ -234,7 +234,7 @@ pub fn each_mark_of_a_legal_trace_counts()
         → has_counters p (history p entries) q t ≡ true }
 {}
 
-/// Once a peer has shut down, the scores of its neighbours stay what they were before.
+/// Once a peer has shut down, the scores of its neighbours at any one moment stay what they were before.
 pub fn nothing_changes_a_score_behind_a_shut()
     ensures { (p : Peer) (later earlier : Entries) (e : Entry) (at : ℕ) (q : PeerNoValue)
         → Legal p (later ++ e ∷ earlier)

@@ -43,7 +43,7 @@ impl Model for Places {
 }
 
 impl Places {
-    /// The places of neighbours, each of which counts at its address. The first of a number counts.
+    /// The places of neighbours, each of which counts at its address. The last of a number counts.
     ///
     /// # Errors
     /// `AllocError` where there was no memory.

@@ -106,6 +106,12 @@ pub const ONE: Pair = Pair {
     other: PeerNo(2),
 };
 
+/// Peer 2 with neighbour 1.
+pub const TWO: Pair = Pair {
+    me: PeerNo(2),
+    other: PeerNo(1),
+};
+
 /// A neighbour that dialled, at no address.
 fn neighbour(peer: PeerNo) -> Neighbour
     ensures peer { result.peer ≡ peer }
@@ -155,9 +161,10 @@ pub fn task_in<G: Gate, S: Ends>(
     ensures ends { IfOk result (λ task. HasJoints S.joints (S.joints surroundings.ends) task) }
 {
     let router = router(alloc, pair.other)?;
+    let neighbours = vec![in alloc; pair.other]?;
     let assignment = Assignment {
         number: pair.me,
-        neighbours: vec![in alloc; pair.other]?,
+        neighbours,
         lines: Agenda::of(alloc, lines)?,
         round_ms: 100,
         rounds,
