@@ -15,7 +15,7 @@ ghost use Rattle.gs_router.specs.Router.{Calls, IsLoss, IsUsers, answer_of, fail
 
 use crate::fault::RouterFault;
 use crate::rules;
-use crate::rules::messages::{self, Publishing};
+use crate::rules::publishing::{self, Publishing};
 use crate::setup::Setup;
 use crate::state::State;
 use crate::tables::Tables;
@@ -256,7 +256,7 @@ impl Router {
             return Err(RouterFault::Refused(Refusal::Stopped));
         }
         let id = MsgId::of(&payload);
-        if let Some(why) = messages::refusal_of_publish(&self.state, &topic, &payload, id, now) {
+        if let Some(why) = publishing::refusal_of_publish(&self.state, &topic, &payload, id, now) {
             return Err(RouterFault::Refused(why));
         }
         let publishing = Publishing { topic, payload, id };

@@ -54,14 +54,18 @@ asked_backoff otherwise None = otherwise
 asked_backoff otherwise (Some seconds) = if nat_eq seconds 0 then otherwise else min seconds longest_backoff
 
 -- a PRUNE takes its sender out of the mesh, and keeps it out for a while
+abbrev pub pruned_by : Peer → Entries → Millis → PeerNo → Prune → Entry
+pruned_by p L at q prune = record (bare at (PruneIn q prune)) {
+  marks = leaving p L at.0 (meshes_with L q (topic_or_empty prune.topic ∷ []))
+      ++ barring at.0
+          (asked_backoff p.params.windows.prune_backoff_s prune.backoff)
+          (each_on (topic_or_empty prune.topic) (q ∷ []));
+}
+
+-- on a topic that the peer is subscribed to
 abbrev pub prune_rule : Peer → Entries → Millis → PeerNo → Prune → Entry
 prune_rule p L at q prune =
-    if not (joined L (topic_or_empty prune.topic)) then bare at (PruneIn q prune)
-    else record (bare at (PruneIn q prune)) {
-      marks = leaving p L at.0 (meshes_with L q (topic_or_empty prune.topic ∷ []))
-          ++ barring at.0 (asked_backoff p.params.windows.prune_backoff_s prune.backoff)
-              (each_on (topic_or_empty prune.topic) (q ∷ []));
-    }
+    if not (joined L (topic_or_empty prune.topic)) then bare at (PruneIn q prune) else pruned_by p L at q prune
 
 -- ---- who leaves
 
@@ -70,13 +74,15 @@ abbrev pub fanned_of : Entries → Topic → PeerNo → List PeerNo
 fanned_of L t q = if is_among (fanout L t) q then q ∷ [] else []
 
 -- whoever leaves a topic leaves its mesh and its fanout
+abbrev pub left_by : Peer → Entries → Millis → PeerNo → SubOpt → Entry
+left_by p L at q sub = record (bare at (Sub q sub)) {
+  marks = leaving p L at.0 (meshes_with L q (topic_or_empty sub.topic ∷ []))
+      ++ unfanning (topic_or_empty sub.topic) (fanned_of L (topic_or_empty sub.topic) q);
+}
+
+-- to come onto a topic changes nothing else
 abbrev pub sub_rule : Peer → Entries → Millis → PeerNo → SubOpt → Entry
-sub_rule p L at q sub =
-    if unwrap_or sub.subscribe false then bare at (Sub q sub)
-    else record (bare at (Sub q sub)) {
-      marks = leaving p L at.0 (meshes_with L q (topic_or_empty sub.topic ∷ []))
-          ++ unfanning (topic_or_empty sub.topic) (fanned_of L (topic_or_empty sub.topic) q);
-    }
+sub_rule p L at q sub = if unwrap_or sub.subscribe false then bare at (Sub q sub) else left_by p L at q sub
 
 -- a neighbour is lost, by this event
 abbrev pub lost_rule : Peer → Entries → Millis → PeerNo → Event → Entry

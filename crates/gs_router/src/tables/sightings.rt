@@ -1,10 +1,12 @@
 //! Which messages were seen lately.
-ghost use Rattle.std.specs.Prelude.{◌≡◌, ◌≤◌, ℕ, [], ◌∷◌, OnOk, is_some};
+ghost use Rattle.std.specs.Prelude.{◌≡◌, ◌≤◌, ℕ, true, not, ◌&&◌, [], ◌∷◌, OnOk, is_some};
 ghost use Rattle.gs_base.specs.declared.names.MsgId.{MsgId as MsgIdValue};
-ghost use Rattle.gs_rules.specs.Tables.{Entries, last_moment, seen};
+ghost use Rattle.gs_rules.specs.Tables.{Entries, last_moment, last_seen, seen};
+ghost use Rattle.gs_rules.specs.Meshes.{noted};
+ghost use Rattle.gs_rules.specs.Rules.{is_soon};
 ghost use Rattle.gs_router.specs.Tables.{AgreesOnSightings, verdict_after, verdict_at};
 
-use gs_base::{Mark, Millis, MsgId, Verdict};
+use gs_base::{Mark, Millis, MsgId, PeerNo, Verdict};
 use gs_cache::SeenCache;
 use gs_rules::Entry;
 use std::alloc::{AllocError, Global};
@@ -44,6 +46,18 @@ impl Sightings {
             → result ≡ seen self.now.cache.ttl L id.now now.0 }
     {
         self.cache.seen(id, now)
+    }
+
+    /// Whether a message that was seen lately was first seen at most so many milliseconds ago, and a neighbour was not
+    /// noted for it since.
+    pub fn is_near(&self, id: &MsgId, peer: PeerNo, now: Millis, window: Millis) -> bool
+        ensures { (L : Entries)
+            → AgreesOnSightings self.now L
+            → last_moment L ≤ now.0
+            → is_some (seen self.now.cache.ttl L id.now now.0) ≡ true
+            → result ≡ (is_soon window.0 now.0 (last_seen L id.now) && not (noted L id.now peer)) }
+    {
+        self.cache.is_near(id, peer, now, window)
     }
 
     /// Notes a mark that was made at a moment.
