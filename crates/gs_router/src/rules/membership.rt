@@ -1,10 +1,10 @@
 //! What it leaves to be remembered that neighbours come into meshes and leave them.
-ghost use Rattle.std.specs.Prelude.{◌≡◌, ◌++◌, ◌∷◌, [], IfOk, OnOk, map};
+ghost use Rattle.std.specs.Prelude.{◌≡◌, ◌+◌, ◌*◌, ◌++◌, min, IfOk, OnOk, map};
 ghost use Rattle.std.specs.List.{flat_map};
 ghost use Rattle.gs_base.specs.declared.names.PeerNo.{PeerNo as PeerNoValue};
 ghost use Rattle.gs_base.specs.declared.names.Topic.{Topic as TopicValue};
 ghost use Rattle.gs_base.specs.declared.mark.Mark.TheVariants.{Pruned};
-ghost use Rattle.gs_rules.specs.Tables.{Entries};
+ghost use Rattle.gs_rules.specs.Tables.{Entries, last_millis};
 ghost use Rattle.gs_rules.specs.Membership.{barring, charge_of, each_on, entering, fanning, leaving, meshes_with, unfanning};
 ghost use Rattle.gs_router.specs.Tables.{Agrees};
 ghost use Rattle.gs_router.specs.State.{Knows, peer_with};
@@ -133,11 +133,18 @@ pub fn bar(
 ) -> Result<(), AllocError>
     ensures { OnOk result (marks.new ≡ marks.old ++ barring now.0 seconds pairs.now) }
 {
-    let end = Millis(now.0.saturating_add(seconds.saturating_mul(1_000)));
+    let end = end_of(now, seconds);
     for pair in pairs {
         marks.push(Mark::Backoff(pair.0, clone_of(&pair.1)?, end))?;
     }
     Ok(())
+}
+
+/// The moment so many seconds later, or the last one that there is.
+fn end_of(now: Millis, seconds: u64) -> Millis
+    ensures { result.0 ≡ min last_millis (now.0 + 1_000 * seconds) }
+{
+    Millis(now.0.saturating_add(seconds.saturating_mul(1_000)))
 }
 
 /// These come into the fanout of a topic.

@@ -241,10 +241,22 @@ fn passed_on(
         publish: Seq::only(alloc, clone_of(message)?)?,
         control: None,
     };
-    let mut receivers = members.to_vec(alloc)?;
-    receivers.retain(|member| from != *member);
+    let receivers = others(alloc, from, members)?;
     let sends = to_each(alloc, rpc, &receivers)?;
     Ok(sends)
+}
+
+/// All of these but one.
+fn others(alloc: Global, from: PeerNo, members: &[PeerNo]) -> Result<Vec<PeerNo>, AllocError>
+    ensures { IfOk result (λ found. found.items ≡ all_but from members.now) }
+{
+    let mut others = Vec::new(alloc);
+    for member in members {
+        if from != *member {
+            others.push(*member)?;
+        }
+    }
+    Ok(others)
 }
 
 /// The entry of a message that is accepted.

@@ -8,7 +8,8 @@ ghost use Rattle.gs_rules.specs.Peers.{links_of};
 ghost use Rattle.gs_rules.specs.Tables.{Entries, joined, up};
 ghost use Rattle.gs_rules.specs.Meshes.{fanout};
 ghost use Rattle.gs_rules.specs.Membership.{fanning};
-ghost use Rattle.gs_rules.specs.MeshRules.{fanout_publish, publish_rule, publishing};
+ghost use Rattle.gs_rules.specs.MeshRules.{fanout_publish, publish_rule};
+ghost use Rattle.gs_rules.specs.MeshRules.{publishing as going_to};
 ghost use Rattle.gs_rules.specs.Scoring.{is_passed_over};
 ghost use Rattle.gs_rules.specs.Rules.{listeners, without};
 ghost use Rattle.gs_rules.specs.Modes.{Follows, exact};
@@ -138,7 +139,7 @@ fn sending(
     requires { publishing.id ≡ message_id publishing.payload }
     ensures { IfOk result (λ entry. (L : Entries)
         → Knows state.now now.0 L
-        → entry ≡ publishing L now publishing.topic publishing.payload receivers.now fanned.now
+        → entry ≡ going_to L now publishing.topic publishing.payload receivers.now fanned.now
         (kept_fanout keeps_fanout publishing.topic)) }
 {
     let rpc = Rpc::publication(state.alloc, &publishing.topic, &publishing.payload)?;
@@ -161,7 +162,7 @@ fn to_fanout(state: &State, publishing: Publishing, now: Millis) -> Result<Entry
     requires { publishing.id ≡ message_id publishing.payload }
     ensures { IfOk result (λ entry. (L : Entries)
         → Knows state.now now.0 L
-        → entry ≡ publishing L now publishing.topic publishing.payload
+        → entry ≡ going_to L now publishing.topic publishing.payload
         (without (is_passed_over (peer_with state.now.setup) L now.0) (fanout L publishing.topic))
         []
         (kept_fanout true publishing.topic)) }
@@ -205,7 +206,7 @@ fn without_fanout(
     requires { publishing.id ≡ message_id publishing.payload }
     ensures { IfOk result (λ entry. (L : Entries)
         → Knows state.now now.0 L
-        → entry ≡ publishing L now publishing.topic publishing.payload receivers.now [] []) }
+        → entry ≡ going_to L now publishing.topic publishing.payload receivers.now [] []) }
 {
     let entry = sending(state, publishing, receivers, &[], false, now)?;
     Ok(entry)

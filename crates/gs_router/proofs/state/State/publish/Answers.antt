@@ -20,7 +20,7 @@ returns g c =
     let a = c.args.self.now in
     let event : Event = Publish c.args.publishing.topic c.args.publishing.payload in
     let next = next_opens (peer_with a.setup) a.trace c.args.now.0 event c.requires.ready.settled c.requires.may in
-    opens_alone m weakens event c.args.now a c.append.new.self c.args.words.now c.args.words.now c.append.result c.requires.ready refl (followed m weakens event c.args.now a c.append.new.self c.args.words.now c.args.words.now c.in_ok-entry.entry c.append.result c.requires.ready.current c.requires.time next (c.in_ok-entry.ensures a.trace (knows a c.args.now.0 c.requires.ready.current c.requires.time), refl) c.append.ensures.added c.append.ensures.agrees c.append.ensures.scores c.append.ensures.made c.append.ensures.kept c.append.ensures.setup)
+    opens_alone m weakens event c.args.now a c.append.new.self c.args.words.now c.publish.new.words c.append.result c.requires.ready refl (followed m weakens event c.args.now a c.append.new.self c.args.words.now c.publish.new.words c.in_ok-entry.entry c.append.result c.requires.ready.current c.requires.time next (c.in_ok-entry.ensures a.trace (knows a c.args.now.0 c.requires.ready.current c.requires.time)) c.append.ensures.added c.append.ensures.agrees c.append.ensures.scores c.append.ensures.made c.append.ensures.kept c.append.ensures.setup)
 
 pub returns-in_err-entry : goal.returns-in_err-entry
-returns-in_err-entry g c = stops (exact g.W.Words.word g.W.Words.after) (exact_is_free g.W.Words.word g.W.Words.after) (Publish c.args.publishing.topic c.args.publishing.payload) c.args.now c.args.self.now c.args.self.now c.args.words.now c.args.words.now c.from_residual.result c.from_residual.ensures.0 c.requires.ready.current refl refl
+returns-in_err-entry g c = stops (exact g.W.Words.word g.W.Words.after) (exact_is_free g.W.Words.word g.W.Words.after) (Publish c.args.publishing.topic c.args.publishing.payload) c.args.now c.args.self.now c.args.self.now c.args.words.now c.publish.new.words c.from_residual.result c.from_residual.ensures.0 c.requires.ready.current refl refl

@@ -5,7 +5,7 @@ use Rattle.gs_rules.specs.Tables.{on, up}
 use Rattle.gs_rules.specs.Peers.{links_of}
 use Rattle.gs_router.specs.PeerSets.{has}
 use Rattle.gs_router.specs.State.{peer_with}
-use Rattle.gs_router.proofs.rules.messages.listeners.Goals as goal
+use Rattle.gs_router.proofs.rules.publishing.listeners.Goals as goal
 
 none_pass : (test : PeerNo → Bool) (qs : List PeerNo) → ((q : PeerNo) → test q ≡ false) → filter test qs ≡ []
 none_pass test [] none = refl

@@ -4,7 +4,7 @@ use Rattle.gs_base.specs.Names.{peers_of}
 use Rattle.gs_rules.specs.Tables.{Entries, up}
 use Rattle.gs_router.specs.PeerSets.{has}
 use Rattle.gs_router.specs.Tables.{Agrees}
-use Rattle.gs_router.proofs.rules.messages.up_among.Given as goal
+use Rattle.gs_router.proofs.rules.publishing.up_among.Given as goal
 
 abbrev pub invariant-loop-neighbour : goal.invariant-loop-neighbour
 invariant-loop-neighbour l =
