@@ -7,11 +7,12 @@ ghost use Rattle.gs_params.specs.Params.{AreInRange};
 ghost use Rattle.gs_params.specs.Picks.{IsAscending};
 ghost use Rattle.gs_rules.specs.declared.trace.Event.TheVariants as events;
 ghost use Rattle.gs_rules.specs.Tables.{last_moment, up};
+ghost use Rattle.gs_rules.specs.Meshes.{mesh};
 ghost use Rattle.gs_rules.specs.Scoring.{score};
 ghost use Rattle.gs_rules.specs.Modes.{exact};
 ghost use Rattle.gs_rules.specs.Legal.{hearing, losing};
 ghost use Rattle.gs_wire.specs.Codec.{codec};
-ghost use Rattle.gs_router.specs.Router.{Calls, IsLoss, IsUsers, answer_of, fails, scores_of};
+ghost use Rattle.gs_router.specs.Router.{Calls, IsLoss, IsUsers, answer_of, fails, meshes_of, scores_of};
 
 use crate::fault::RouterFault;
 use crate::rules;
@@ -141,6 +142,24 @@ impl Router {
             → scores ≡ scores_of self.now.peer self.now.trace now.0) }
     {
         self.state.scores(now)
+    }
+
+    /// Who is in the mesh of a topic, ascending by number. After want of memory nothing is known of the answer.
+    pub fn members(&self, topic: &Topic) -> &[PeerNo]
+        ensures { self.now.is_stopped ≡ false → result.now ≡ mesh self.now.trace topic.now }
+    {
+        self.state.tables.memberships.members(topic)
+    }
+
+    /// The members of the meshes of the router's own topics, topics by their bytes, members by number. After want of
+    /// memory nothing is known of them.
+    ///
+    /// # Errors
+    /// `AllocError` where there was no memory.
+    pub fn meshes(&self) -> Result<Seq<(Topic, PeerNo)>, AllocError>
+        ensures { IfOk result (λ meshes. self.now.is_stopped ≡ false → meshes ≡ meshes_of self.now.trace) }
+    {
+        self.state.meshes()
     }
 
     /// Hears an RPC that came from a neighbour and fits a frame, as all do that a reader gives. Where the

@@ -13,6 +13,7 @@ ghost use Rattle.gs_router.specs.Tables.{Agrees, AgreesOnScores, AreMadeFor};
 ghost use Rattle.gs_router.specs.State.{Ends, IsCurrent, IsReady, Steps, peer_with};
 
 mod heartbeat;
+mod meshes;
 mod scores;
 
 use crate::rules;

@@ -90,6 +90,7 @@ fn refusing(
     Ok(Finished {
         trace,
         refused,
+        meshes: Seq::new(alloc),
         scores: Seq::new(alloc),
     })
 }
@@ -190,6 +191,7 @@ fn scoring(alloc: Global, scored: &[(u16, i128)]) -> Result<Finished, AllocError
     Ok(Finished {
         trace: Trace::new(alloc),
         refused: Seq::new(alloc),
+        meshes: Seq::new(alloc),
         scores,
     })
 }
