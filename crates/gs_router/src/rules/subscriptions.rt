@@ -1,7 +1,8 @@
 //! Subscribing to a topic, and leaving it (gossipsub v1.0, "Topic Membership").
-ghost use Rattle.std.specs.Prelude.{◌≡◌, ℕ, IfOk};
+ghost use Rattle.std.specs.Prelude.{◌≡◌, ◌-◌, ℕ, IfOk, length};
 ghost use Rattle.gs_base.specs.Names.{announcement};
 ghost use Rattle.gs_rules.specs.declared.trace.Event.TheVariants as events;
+ghost use Rattle.gs_mesh.specs.Peers.{is_among};
 ghost use Rattle.gs_rules.specs.Peers.{Peer};
 ghost use Rattle.gs_rules.specs.Tables.{Entries};
 ghost use Rattle.gs_rules.specs.MeshRules.{joining, subscribe_rule, those_among, those_outside, unsubscribe_rule};
@@ -35,6 +36,13 @@ fn announced(
     Ok(sends)
 }
 
+/// Whether a peer is one of these.
+fn is_among(peers: &[PeerNo], peer: PeerNo) -> bool
+    ensures { result ≡ is_among peers.now peer }
+{
+    peers.contains(&peer)
+}
+
 /// Those of these peers that are among others.
 fn those_among(
     alloc: Global,
@@ -45,7 +53,7 @@ fn those_among(
 {
     let mut found = Vec::new(alloc);
     for peer in peers {
-        if others.contains(peer) {
+        if is_among(others, *peer) {
             found.push(*peer)?;
         }
     }
@@ -62,11 +70,18 @@ fn those_outside(
 {
     let mut found = Vec::new(alloc);
     for peer in peers {
-        if !others.contains(peer) {
+        if !is_among(others, *peer) {
             found.push(*peer)?;
         }
     }
     Ok(found)
+}
+
+/// How many of so many places these leave.
+fn left_of(size: usize, peers: &[PeerNo]) -> usize
+    ensures { result ≡ size - length peers.now }
+{
+    size.saturating_sub(peers.len())
 }
 
 /// A subscription to a topic: its mesh is made of those of its fanout that may be grafted, and of others.
@@ -88,8 +103,9 @@ pub fn subscribe<W: Words>(
     let fanout = state.tables.memberships.fanout(&topic);
     let near = those_among(state.alloc, fanout, &candidates)?;
     let first = pick(state.alloc, &near, size, words)?;
+    let left = left_of(size, &first);
     let far = those_outside(state.alloc, fanout, &candidates)?;
-    let mut others = pick(state.alloc, &far, size.saturating_sub(first.len()), words)?;
+    let mut others = pick(state.alloc, &far, left, words)?;
     let mut chosen = first;
     chosen.append(&mut others)?;
     let grafted = those_among(state.alloc, &chosen, &candidates)?;
