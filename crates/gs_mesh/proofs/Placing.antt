@@ -87,7 +87,7 @@ ascending_with qs p i le up parted =
 
 -- a list whose rest is in order as well
 tail_ascends : (q : PeerNo) (qs : List PeerNo) → IsAscending (q ∷ qs) → IsAscending qs
-tail_ascends q qs up a b d lt within = up (a + 1) (b + 1) d (omega (arith, lt)) (omega (arith, within))
+tail_ascends q qs up a b d lt within = up (suc a) (suc b) d (omega (arith, lt)) (omega (arith, within))
 
 -- what comes of a peer, by how the first of others stands to it
 abbrev by_first : PeerNo → PeerNo → List PeerNo → Ordering → List PeerNo
@@ -102,7 +102,7 @@ put_at_place (q ∷ qs) p (suc i) le parted =
     ap (λ (rs : List PeerNo). q ∷ rs) (put_at_place qs p i (omega (arith, le)) rest) ∙ ap (by_first p q qs) (sym (parted.0 0 q (omega arith) (omega arith)))
   where
     rest : IsPlace qs p i
-    rest = ((λ k d below past. parted.0 (k + 1) d (omega (arith, below)) (omega (arith, past))), (λ k d past below. parted.1 (k + 1) d (omega (arith, past)) (omega (arith, below))))
+    rest = ((λ k d below past. parted.0 (suc k) d (omega (arith, below)) (omega (arith, past))), (λ k d past below. parted.1 (suc k) d (omega (arith, past)) (omega (arith, below))))
 
 -- who is found was there
 pub found_is_there : (qs : List PeerNo) (p : PeerNo) (i : ℕ) → IsAscending qs → i < length qs → ((d : PeerNo) → nat_cmp (get_or qs i d).0 p.0 ≡ Equal) → qs ≡ put_in p qs
@@ -115,7 +115,7 @@ found_is_there (q ∷ qs) p (suc i) up within found =
     same = subst (λ o. MatchOrdering o ((get_or qs i q).0 < p.0) ((get_or qs i q).0 ≡ p.0) (p.0 < (get_or qs i q).0)) (found q) (ranks (get_or qs i q).0 p.0)
 
     less : q.0 < (get_or qs i q).0
-    less = up 0 (i + 1) q (omega arith) (omega (arith, within))
+    less = up 0 (suc i) q (omega arith) (omega (arith, within))
 
     below : nat_cmp q.0 p.0 ≡ Less
     below = grind (arith, nat_tests, same, less)
