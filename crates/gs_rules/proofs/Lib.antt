@@ -2,8 +2,12 @@ pub mod Each
 pub mod Owed
 pub mod Legality
 pub mod Judged
+pub mod Ruled
 pub mod Topics
 pub mod Offers
+pub mod Marks
+pub mod MeshTopics
+pub mod Members
 pub mod Gossip
 pub mod Charged
 pub mod Gossiped
@@ -12,7 +16,6 @@ pub mod Handled
 pub mod Kept
 pub mod Fitting
 pub mod Spelled
-pub mod Marks
 pub mod Counted
 pub mod AfterShut
 pub mod Examples

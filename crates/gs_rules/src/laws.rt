@@ -7,19 +7,17 @@ ghost use Rattle.gs_base.specs.declared.names.PeerNo.{PeerNo as PeerNoValue};
 ghost use Rattle.gs_base.specs.declared.names.Topic.{Topic};
 ghost use Rattle.gs_base.specs.declared.names.MsgId.{MsgId};
 ghost use Rattle.gs_base.specs.declared.mark.Mark.TheVariants.{Behaviour};
-ghost use Rattle.gs_base.specs.declared.rpc.Message.{Message};
 ghost use Rattle.gs_base.specs.Codecs.{Codec};
 ghost use Rattle.gs_base.specs.Names.{same_id, same_topic};
 ghost use Rattle.gs_params.specs.Picks.{IsAscending};
-ghost use Rattle.gs_score.specs.Histories.{Marked};
 ghost use Rattle.gs_wire.specs.Codec.{codec};
 ghost use Rattle.gs_rules.specs.declared.trace.Entry.{Entry};
 ghost use Rattle.gs_rules.specs.declared.trace.Promise.{Promise};
-ghost use Rattle.gs_rules.specs.declared.trace.Event.TheVariants.{Msg, Promises, Shut};
+ghost use Rattle.gs_rules.specs.declared.trace.Event.TheVariants.{Promises, Shut};
 ghost use Rattle.gs_rules.specs.declared.refusal.RefusedLine.{RefusedLine};
 ghost use Rattle.gs_rules.specs.Peers.{Peer, links_of, seen_ttl};
 ghost use Rattle.gs_rules.specs.Tables.{Entries, Keeping, joined, kept, keeping_order, own_topics, promises, topic_order, up};
-ghost use Rattle.gs_rules.specs.Scoring.{changed_after, has_counters, history, is_neighbour, score};
+ghost use Rattle.gs_rules.specs.Scoring.{IsFromNeighbour, change_of, changed_after, has_counters, history, is_neighbour, score};
 ghost use Rattle.gs_rules.specs.Gossip.{IsKeptOn, IsOpen, WasLeftOpen, charges, gossip, gossipable, overdue};
 ghost use Rattle.gs_rules.specs.Owed.{beats, gossip_topics, owed};
 ghost use Rattle.gs_rules.specs.Rules.{Gives, Rule, rule_of};
@@ -155,8 +153,8 @@ pub fn own_topics_are_those_that_are_joined()
     ensures ascend { (entries : Entries) → IsStrictlySortedBy topic_order (own_topics entries) }
 {}
 
-/// Once a heartbeat has charged broken promises, it owes gossip on each of the peer's own topics on which there is
-/// some, and its end, and nothing behind that.
+/// Once a heartbeat has charged broken promises, it owes gossip on each topic that has a mesh or a fanout and on which
+/// there is some, and its end, and nothing behind that.
 pub fn a_heartbeat_gossips_and_ends()
     ensures { (p : Peer) (entries : Entries) (e : Entry)
         → e.event ≡ Promises
@@ -220,13 +218,13 @@ pub fn what_is_kept_is_gossiped()
         → IsAmong (gossip p entries t) id }
 {}
 
-/// No mark of a legal trace is left out of the history that scores are made of, where messages come of neighbours; and
-/// on each topic that the peer is subscribed to there is room for the counters of each neighbour.
+/// No mark of a legal trace is left out of the history that scores are made of, where messages and GRAFTs come of
+/// neighbours; and on each topic that the peer is subscribed to there is room for the counters of each neighbour.
 pub fn each_mark_of_a_legal_trace_counts()
     ensures all { (p : Peer) (entries : Entries) (e : Entry)
         → Legal p (e ∷ entries)
-        → ((q : PeerNoValue) (m : Message) → e.event ≡ Msg q m → is_neighbour p q ≡ true)
-        → history p (e ∷ entries) ≡ reverse (map Marked e.marks) ++ changed_after e.event (history p entries) }
+        → IsFromNeighbour p e.event
+        → history p (e ∷ entries) ≡ reverse (map (change_of e.at) e.marks) ++ changed_after e.event (history p entries) }
     ensures room { (p : Peer) (entries : Entries) (q : PeerNoValue) (t : Topic)
         → Legal p entries
         → is_neighbour p q ≡ true
