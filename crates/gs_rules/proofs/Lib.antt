@@ -17,7 +17,9 @@ pub mod Kept
 pub mod Fitting
 pub mod Spelled
 pub mod Counted
+pub mod UpMembers
 pub mod AfterShut
 pub mod Examples
 pub mod GossipExamples
 pub mod ScoreExamples
+pub mod MeshExamples

@@ -1,5 +1,5 @@
 -- Which marks an entry that follows its rule may have.
-use Rattle.std.proofs.Common.{◌≡◌, ◌⊎◌, inl, inr, ℕ, Bool, true, false, if◌then◌else◌, List, [], ◌∷◌, ◌++◌, length, map, pos, None, refl, sym, ap, ◌∙◌}
+use Rattle.std.proofs.Common.{◌≡◌, ◌⊎◌, inl, inr, ℕ, Bool, true, false, if◌then◌else◌, List, [], ◌∷◌, ◌++◌, map, pos, None, refl, ap}
 use Rattle.std.specs.Prelude.{◌&&◌, filter, nat_eq, nat_le, not}
 use Rattle.std.specs.List.{AllByRecursion, flat_map, list_any}
 use Rattle.std.proofs.lemmas.Bool.{and_parts, le-leb, ltb-false, or_left, or_right}
@@ -17,13 +17,12 @@ use Rattle.gs_base.specs.declared.rpc.Message.{Message}
 use Rattle.gs_base.specs.declared.rpc.SubOpt.{SubOpt}
 use Rattle.gs_base.specs.declared.control.Graft.{Graft}
 use Rattle.gs_base.specs.declared.control.IHave.{IHave}
-use Rattle.gs_base.specs.declared.control.IWant.{IWant}
 use Rattle.gs_base.specs.declared.control.Prune.{Prune}
 use Rattle.gs_base.specs.declared.verdict.Verdict.{Verdict}
 use Rattle.gs_base.specs.declared.verdict.Verdict.TheVariants.{Accept, Reject, Ignore}
 use Rattle.gs_base.specs.declared.mark.Mark.{Mark}
-use Rattle.gs_base.specs.declared.mark.Mark.TheVariants.{Answered, Asked, Backoff, Behaviour, Cached, Deficit, Fanned, First, Grafted, HeardHave, Invalid, Near, Pruned, Published, Seen, Unfanned}
-use Rattle.gs_base.specs.Names.{message_id, payload_of, peers_of, same_peer, same_topic, topic_of, topic_or_empty}
+use Rattle.gs_base.specs.declared.mark.Mark.TheVariants.{Answered, Behaviour, Cached, Deficit, First, Grafted, Invalid, Near, Pruned, Published, Unfanned}
+use Rattle.gs_base.specs.Names.{message_id, payload_of, peers_of, same_peer, topic_of, topic_or_empty}
 use Rattle.gs_mesh.specs.Peers.{is_among}
 use Rattle.gs_wire.specs.Messages.{HasIdentifierLength}
 use Rattle.gs_wire.proofs.RoundTrip.{all-append}
@@ -35,10 +34,10 @@ use Rattle.gs_rules.specs.Peers.{Peer, links_of, seen_ttl}
 use Rattle.gs_rules.specs.Tables.{Entries, joined, joined_after, on, seen, up}
 use Rattle.gs_rules.specs.Meshes.{backoff, fanout, mesh, mesh_topics}
 use Rattle.gs_rules.specs.Membership.{barring, candidates, charge_of, each_on, entering, fanning, is_candidate, is_negative, leaving, meshes_with, missing, unfanning}
-use Rattle.gs_rules.specs.MeshRules.{asked_backoff, fanned_of, graft_rule, joining, left_by, prune_rule, publish_rule, publishing, sub_rule, subscribe_rule, those_among, unsubscribe_rule}
+use Rattle.gs_rules.specs.MeshRules.{asked_backoff, fanned_of, graft_rule, joining, prune_rule, publish_rule, publishing, sub_rule, subscribe_rule, those_among, unsubscribe_rule}
 use Rattle.gs_rules.specs.Scoring.{is_neighbour}
 use Rattle.gs_rules.specs.Gossip.{charges, overdue}
-use Rattle.gs_rules.specs.Rules.{again, answers, asking, bare, counted, have_rule, ids_in, message_rule, near_of, new_message, rule_of, want_rule, wanted}
+use Rattle.gs_rules.specs.Rules.{answers, asking, bare, counted, have_rule, ids_in, message_rule, near_of, new_message, rule_of, want_rule, wanted}
 use Rattle.gs_rules.specs.Modes.{SaysTheSame, Follows, free}
 use Rattle.gs_rules.proofs.Each.{each_mapped, each_passing, each_weaker, of_each}
 use Rattle.gs_rules.proofs.Judged.{of_a_joined_message, of_a_request}

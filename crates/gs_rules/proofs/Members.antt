@@ -1,7 +1,7 @@
 -- Who is in a mesh: whoever was and was not pruned, and whoever was grafted; on joined topics alone.
-use Rattle.std.proofs.Common.{◌≡◌, ◌<◌, ℕ, Bool, true, false, not, if◌then◌else◌, List, [], ◌∷◌, ◌++◌, map, filter, refl, sym, ap, subst, ◌∙◌, arith}
+use Rattle.std.proofs.Common.{◌≡◌, ℕ, Bool, true, false, not, if◌then◌else◌, List, [], ◌∷◌, ◌++◌, map, filter, refl, sym, ap, subst, ◌∙◌, arith}
 use Rattle.std.specs.Prelude.{◌&&◌, ◌||◌}
-use Rattle.std.specs.List.{AllByRecursion, AllPairs, flat_map, list_any}
+use Rattle.std.specs.List.{AllByRecursion, flat_map, list_any}
 use Rattle.std.specs.declared.cmp.Ordering.{Ordering}
 use Rattle.std.specs.declared.cmp.Ordering.TheVariants.{Less, Equal, Greater}
 use Rattle.std.specs.Ordering.{nat_cmp}
@@ -9,9 +9,7 @@ use Rattle.std.specs.FinMap.Entries.{by_order}
 use Rattle.std.proofs.lemmas.Bool.{and_from, or_from, or_left, or_right}
 use Rattle.std.proofs.lemmas.Bool.Decides.{nat_tests}
 use Rattle.std.proofs.lemmas.Cmp.{nat_eq_equiv}
-use Rattle.std.proofs.lemmas.List.Elements.{All-from_recursion}
 use Rattle.std.proofs.lemmas.List.Folds.{list_any-append}
-use Rattle.std.proofs.lemmas.List.Kept.{AllPairs-cons}
 use Rattle.std.proofs.lemmas.List.Sorted.{list_any-IsPermutation}
 use Rattle.std.proofs.lemmas.Slice.Eq.{bytes_eq-Decides}
 use Rattle.gs_base.specs.declared.names.PeerNo.{PeerNo}
@@ -59,7 +57,7 @@ of_member P (r ∷ qs) q all is = by (same_peer q r) refl is (of_member P qs q a
     by false e is later = later is
 
 -- what holds of one and of each of others holds of each, where the one is put in
-put_are : (P : PeerNo → Type 0) (q : PeerNo) (qs : List PeerNo) → P q → AllByRecursion P qs → AllByRecursion P (put_in q qs)
+pub put_are : (P : PeerNo → Type 0) (q : PeerNo) (qs : List PeerNo) → P q → AllByRecursion P qs → AllByRecursion P (put_in q qs)
 put_are P q [] one all = (one, tt)
 put_are P q (r ∷ qs) one all = by (nat_cmp r.0 q.0) (put_are P q qs one all.1)
   where

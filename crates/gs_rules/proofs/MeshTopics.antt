@@ -11,7 +11,6 @@ use Rattle.gs_base.specs.declared.mark.Mark.TheVariants.{Published}
 use Rattle.gs_base.specs.Names.{same_topic}
 use Rattle.gs_rules.specs.declared.trace.Event.{Event}
 use Rattle.gs_rules.specs.declared.trace.Event.TheVariants.{Publish, Subscribe}
-use Rattle.gs_rules.specs.declared.trace.Entry.{Entry}
 use Rattle.gs_rules.specs.Peers.{Peer}
 use Rattle.gs_rules.specs.Tables.{Entries, after_marks, joined, known}
 use Rattle.gs_rules.specs.Meshes.{dropped_after, ever_fanned, has_mesh, last_published, mesh_topics, published_after}
