@@ -11,18 +11,17 @@ ghost use Rattle.gs_score.specs.Formula.{p3};
 ghost use Rattle.gs_score.specs.Histories.{Agrees, Applies, Decayed, Grafted, History, Left, Marked, Setting, ShutOut, accepts, charge, held_by, is_known, misbehaviour, one, raise_of, score_in};
 ghost use Rattle.gs_score.specs.Ledgers.{BlamesIn, PutsIn, ReplacesIn, behaviour_of, has_account, has_room, standing_of, topics_of};
 ghost use Rattle.gs_score.specs.Places.{shut_out};
-ghost use Rattle.gs_score.specs.Ranges.{IsUpTo};
 ghost use Rattle.gs_score.specs.Standings.{count, grafted, pruned, raised_standing, stored};
 
 use crate::accounts::{
-    Account, behaviour_of, blame, has_account, has_room, open_accounts, prune_standing,
-    put_standing, standing_of, sum_of,
+    Account, behaviour_of, blame, graft_standing, has_account, has_room, open_accounts,
+    prune_standing, raise_standing, standing_of, sum_of,
 };
 use crate::counter::{Decay, MOST_COUNTED};
 use crate::places::Places;
 use crate::rules::TopicRules;
 use crate::score::score_of;
-use crate::standing::{Kind, Standing};
+use crate::standing::Kind;
 use gs_base::{Mark, Millis, Neighbour, PeerNo, Topic, clone_of};
 use gs_params::Params;
 use indexmap::IndexMap;
@@ -178,9 +177,7 @@ impl Scores {
         ensures unchanged { OnErr result (self.new ≡ self.old) }
         ensures succeeds { has_topic (topics_of self.old.accounts peer) topic.now ≡ true → IsOk result }
     {
-        let mut standing = standing_of(&self.accounts, peer, topic);
-        standing.graft(now);
-        self.put(peer, topic, standing)?;
+        graft_standing(&mut self.accounts, peer, topic, now)?;
         Ok(())
     }
 
@@ -289,24 +286,7 @@ impl Scores {
         ensures succeeds { has_topic (topics_of self.old.accounts peer) topic.now ≡ true → IsOk result }
     {
         let rules = TopicRules::of(&self.params, topic);
-        let mut standing = standing_of(&self.accounts, peer, topic);
-        standing.raise(kind, by, &rules, self.tick);
-        self.put(peer, topic, standing)?;
-        Ok(())
-    }
-
-    /// Puts what a neighbour has on a topic.
-    ///
-    /// # Errors
-    /// `AllocError` where there was no memory; nothing is changed then.
-    fn put(&mut self, peer: PeerNo, topic: &Topic, standing: Standing) -> Result<(), AllocError>
-        requires room { has_room self.old.accounts peer topic.now ≡ true }
-        requires past { IsUpTo self.old.tick standing }
-        ensures puts { OnOk result (PutsIn self.old self.new peer topic.now standing) }
-        ensures unchanged { OnErr result (self.new ≡ self.old) }
-        ensures succeeds { has_topic (topics_of self.old.accounts peer) topic.now ≡ true → IsOk result }
-    {
-        put_standing(&mut self.accounts, peer, topic, standing)?;
+        raise_standing(&mut self.accounts, peer, topic, kind, by, &rules, self.tick)?;
         Ok(())
     }
 
