@@ -1,21 +1,17 @@
-use Rattle.std.proofs.Common.{rules, ◌≡◌, ◌≤◌, ◌<◌, ◌+◌, ◌^◌, [], ◌∷◌, unsigned_abs, All, IfOk, OnOk, if◌then◌else◌, ℕ, ◌-◌, ◌*◌, length, ◌/◌, ◌%◌, Bool, true, false, nat_eq, nat_lt, List, ◌++◌, slice_index_or, slice_set, bit_and, bit_or, Fits, w8, w32, w64, Bor, MutBor}
-use Rattle.gs_base.specs.Names.{peers_of}
-use Rattle.gs_base.specs.declared.neighbour.Neighbour.{Neighbour as NeighbourValue}
-use Rattle.gs_params.specs.Params.{AreInRange}
-use Rattle.gs_params.specs.Picks.{IsAscending}
-use Rattle.gs_score.specs.Accounts.{rules_of}
-use Rattle.gs_score.specs.Formula.{p3}
-use Rattle.gs_score.specs.Histories.{Agrees, History, Marked, held_by}
-use Rattle.gs_rules.specs.Peers.{Peer}
-use Rattle.gs_rules.specs.Tables.{Entries, after_marks}
-use Rattle.gs_rules.specs.Scoring.{changed_after, history, is_counted, marked_after, score, setting_of}
-use Rattle.gs_router.specs.Tables.{AgreesOnScores}
+use Rattle.std.proofs.Common.{◌∙◌, sym, subst}
+use Rattle.gs_base.specs.declared.mark.Mark.{Mark}
+use Rattle.gs_score.specs.Histories.{Agrees}
+use Rattle.gs_rules.specs.Scoring.{marked_after, setting_of}
+use Rattle.gs_router.proofs.Standing.{grafts}
 use Rattle.gs_router.proofs.tables.standings.Standings.note_mark.Goals as goal
 
--- src/tables/standings.rt:108:5
 pub returns-in_ok-graft-in-Grafted : goal.returns-in_ok-graft-in-Grafted
-returns-in_ok-graft-in-Grafted c = ?
+returns-in_ok-graft-in-Grafted c = λ p H agrees.
+    let room = sym c.has_room.ensures ∙ c.if-not-has_room.false in
+    subst (λ (mark : Mark). Agrees (setting_of p) c.graft.new.self (marked_after p c.args.at mark H)) (sym c.in-Grafted.is)
+    (grafts p c.args.self.now.scores c.graft.new.self H c.in-Grafted.peer c.in-Grafted.topic c.args.at room c.in_ok-graft-in-Grafted.ensures.agrees agrees)
 
--- src/tables/standings.rt:108:5
 pub returns-in-Pruned : goal.returns-in-Pruned
-returns-in-Pruned c = ?
+returns-in-Pruned c = λ p H agrees.
+    subst (λ (mark : Mark). Agrees (setting_of p) c.prune.new.self (marked_after p c.args.at mark H)) (sym c.in-Pruned.is)
+    (c.prune.ensures.agrees (setting_of p) H agrees)
