@@ -72,7 +72,7 @@ no_change other H is = absurd is
 
 still_history : (p : Peer) (L : Entries) (e : Entry) → Legal p (e ∷ L) → IsStill e.event → history p (e ∷ L) ≡ history p L
 still_history p L e legal is =
-    ap (λ (marks : List Mark). after_marks (marked_after p) marks (changed_after e.event (history p L))) (no_marks_of p L e.event e is (legal_newest p e L legal).effects)
+    ap (λ (marks : List Mark). after_marks (marked_after p e.at) marks (changed_after e.event (history p L))) (no_marks_of p L e.event e is (legal_newest p e L legal).effects)
     ∙ no_change e.event (history p L) is
 
 -- what comes too late leaves all as it is

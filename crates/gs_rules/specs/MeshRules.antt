@@ -58,8 +58,8 @@ abbrev pub pruned_by : Peer → Entries → Millis → PeerNo → Prune → Entr
 pruned_by p L at q prune = record (bare at (PruneIn q prune)) {
   marks = leaving p L at.0 (meshes_with L q (topic_or_empty prune.topic ∷ []))
       ++ barring at.0
-          (asked_backoff p.params.windows.prune_backoff_s prune.backoff)
-          (each_on (topic_or_empty prune.topic) (q ∷ []));
+      (asked_backoff p.params.windows.prune_backoff_s prune.backoff)
+      (each_on (topic_or_empty prune.topic) (q ∷ []));
 }
 
 -- on a topic that the peer is subscribed to

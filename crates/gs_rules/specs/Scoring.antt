@@ -1,6 +1,6 @@
 -- The scores of a peer's neighbours (gossipsub v1.1, "Peer Scoring"): what a trace says of each, and what a neighbour of
 -- low standing loses.
-use Rattle.std.specs.Prelude.{ℕ, ℤ, int_lt, Bool, true, ◌&&◌, ◌||◌, nat_lt, if◌then◌else◌, [], ◌∷◌, length}
+use Rattle.std.specs.Prelude.{◌≡◌, ℕ, ℤ, int_lt, Bool, true, ◌&&◌, ◌||◌, nat_lt, if◌then◌else◌, [], ◌∷◌, length}
 use Rattle.std.specs.List.{list_any}
 use Rattle.gs_base.specs.declared.names.PeerNo.{PeerNo}
 use Rattle.gs_base.specs.declared.names.Topic.{Topic}
@@ -12,7 +12,7 @@ use Rattle.gs_base.specs.Names.{most_topics, same_peer, same_topic}
 use Rattle.gs_score.specs.Histories.{Change, History, Marked, Decayed, Left, ShutOut, Setting, named, score_in}
 use Rattle.gs_score.specs.Histories as histories
 use Rattle.gs_rules.specs.declared.trace.Event.{Event}
-use Rattle.gs_rules.specs.declared.trace.Event.TheVariants.{Decay, Gone, Fault}
+use Rattle.gs_rules.specs.declared.trace.Event.TheVariants.{Decay, Gone, Fault, GraftIn, Msg}
 use Rattle.gs_rules.specs.Peers.{Peer}
 use Rattle.gs_rules.specs.Tables.{Entries, after_marks}
 
@@ -21,6 +21,13 @@ use Rattle.gs_rules.specs.Tables.{Entries, after_marks}
 -- whether a peer of this number is a neighbour
 abbrev pub is_neighbour : Peer → PeerNo → Bool
 is_neighbour p q = list_any (λ (n : Neighbour). same_peer q n.peer) p.neighbours
+
+-- whom a message or a GRAFT came of is a neighbour: of what neighbours say these alone leave marks that count, whoever
+-- says it
+abbrev pub IsFromNeighbour : Peer → Event → Type 0
+IsFromNeighbour p (Msg q m) = is_neighbour p q ≡ true
+IsFromNeighbour p (GraftIn q graft) = is_neighbour p q ≡ true
+IsFromNeighbour p other = Unit {0}
 
 -- a neighbour has counters on a topic, or on so few topics that it may have them on one more
 abbrev pub has_counters : Peer → History → PeerNo → Topic → Bool

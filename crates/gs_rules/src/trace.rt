@@ -3,7 +3,8 @@ ghost use Rattle.std.specs.Prelude.{◌≡◌, ◌<◌, ◌^◌, [], ◌∷◌, 
 
 use bytes::Bytes;
 use gs_base::{
-    Graft, IHave, IWant, Mark, Message, Millis, MsgId, PeerNo, Prune, Rpc, Seq, Shared, SubOpt, Topic,
+    Graft, IHave, IWant, Mark, Message, Millis, MsgId, PeerNo, Prune, Rpc, Seq, Shared, SubOpt,
+    Topic,
 };
 use std::alloc::{AllocError, Global};
 use std::marker::Model;
