@@ -6,7 +6,7 @@ mod values;
 use crate::answer::{NO_MEMORY_ANSWER, Verdict};
 use crate::program::{ExitStatus, run};
 use crate::tests::cases::{Case, FINE, KEYS, MISSING, NO_TOML, SCENARIO};
-use crate::tests::params::{OF_TOPIC, OutOfRange, PARAMS, SHARED};
+use crate::tests::params::{BOUNDS, BOUNDS_OF_TOPIC, Bounds, OF_TOPIC, OutOfRange, PARAMS, SHARED};
 use crate::tests::values::{NAMES, VALUES};
 use gs_streams::fakes::{Broken, Narrow};
 use std::alloc::{AllocError, Global};
@@ -107,6 +107,34 @@ fn refuse_all<T: AllocGlobal + Abort>(
 fn each_parameter_is_refused_by_its_own_name(rt: HostRuntime) -> Result<(), AllocError> {
     refuse_all(&rt, "d = 6\n", "params", &SHARED)?;
     refuse_all(&rt, "name = \"news\"\n", "topic[0]", &OF_TOPIC)
+}
+
+/// Checks that a number which no parameter may have is refused at each of these keys of a table, which
+/// stand behind a line, with the key's own range.
+fn bound_all<T: AllocGlobal + Abort>(
+    rt: &T,
+    line: &str,
+    table: &str,
+    cases: &[Bounds],
+) -> Result<(), AllocError> {
+    for (key, bounds) in cases {
+        let with_key = format!(in rt.alloc(); "{line}{key} = 5000000000000\n")?;
+        let scenario = changed(rt.alloc(), line, with_key.as_str())?;
+        let said = said(rt.alloc(), scenario.as_bytes());
+        let place = format!(in rt.alloc(); "{table}.{key}")?;
+        let must = format!(in rt.alloc(); "must be a whole number from {bounds}")?;
+        let answer = format!(in rt.alloc(); "29 {place}\n`{place}` is 5000000000000: it {must}\n")?;
+        assert_eq!(rt; str::from_utf8(&said), Ok(answer.as_str()), "{key}");
+    }
+    Ok(())
+}
+
+#[test]
+fn a_number_that_no_parameter_may_have_is_refused_with_the_range(
+    rt: HostRuntime,
+) -> Result<(), AllocError> {
+    bound_all(&rt, "[params]\n", "params", &BOUNDS)?;
+    bound_all(&rt, "name = \"news\"\n", "topic[0]", &BOUNDS_OF_TOPIC)
 }
 
 #[test]

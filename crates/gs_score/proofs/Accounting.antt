@@ -13,7 +13,7 @@ use Rattle.gs_score.specs.declared.accounts.Account.{Account}
 use Rattle.gs_score.specs.declared.standing.Standing.{Standing}
 use Rattle.gs_score.specs.Accounts.{AddsTopic, Covers, KeepsTopics, has_topic, held_in, standing_in, topic_sum}
 use Rattle.gs_score.specs.Counters.{Stored}
-use Rattle.gs_score.specs.Ledgers.{Adds, AreFew, Blames, Keeps, Puts, account_of, has_account, nothing_counted}
+use Rattle.gs_score.specs.Ledgers.{Adds, AreFew, Blames, Keeps, Puts, account_of, has_account, nothing_counted, standing_of}
 use Rattle.gs_score.proofs.Kept.{cond_unwrap}
 use Rattle.gs_score.proofs.Sums.{from_decides, same_sum}
 
@@ -80,6 +80,16 @@ is_put old new p t s b a h same puts = record {
   ];
   accounts = account_stays old new p b a h;
 }
+
+-- what a neighbour has on a topic makes a step
+pub is_stepped : (old new : List (PeerNo × Account)) (p : PeerNo) (t : Topic) (f : Standing → Standing) (b a : Account) → Changed old new p b a
+    → a.behaviour ≡ b.behaviour
+    → ((u : Topic) → standing_in a.topics u ≡ cond (same_topic t u) (f (standing_in b.topics t)) (standing_in b.topics u))
+    → Puts old new p t (f (standing_of old p t))
+is_stepped old new p t f b a h same puts =
+    let here : standing_in b.topics t ≡ standing_of old p t = ap (λ (x : Account). standing_in x.topics t) (sym (account_was old p b h.0)) in
+    is_put old new p t (f (standing_of old p t)) b a h same
+    (λ u. puts u ∙ ap (λ (s : Standing). cond (same_topic t u) (f s) (standing_in b.topics u)) here)
 
 peer_self : (p : PeerNo) → same_peer p p ≡ true
 peer_self p =

@@ -1,5 +1,5 @@
 -- What is kept for topics, after one is put or changed.
-use Rattle.std.proofs.Common.{◌≡◌, ◌+◌, inl, inr, is_some, Bool, true, false, cond, List, length, Option, Some, None, refl, sym, ap, ◌∙◌, arith}
+use Rattle.std.proofs.Common.{◌≡◌, suc, ◌+◌, ◌≤◌, inl, inr, is_some, Bool, true, false, cond, List, length, Option, Some, None, refl, sym, ap, ◌∙◌, arith}
 use Rattle.std.specs.Prelude.{◌||◌}
 use Rattle.std.specs.Option.{unwrap_or}
 use Rattle.std.specs.Map.{lookup}
@@ -20,6 +20,15 @@ pub kept_put : (old new : List (Topic × Standing)) (topic : Topic) (s : Standin
 kept_put old new topic s h t =
     ap (λ (o : Option Standing). unwrap_or o fresh) (h t) ∙ cond_unwrap (same_topic topic t) s fresh (lookup (same_topic t) old)
 
+-- what is kept for a topic makes a step
+pub kept_step : (old new : List (Topic × Standing)) (topic : Topic) (f : Standing → Standing) (was s : Standing)
+    → standing_in old topic ≡ was → s ≡ f was
+    → ((q : Topic) → lookup (same_topic q) new ≡ cond (same_topic topic q) (Some s) (lookup (same_topic q) old))
+    → (t : Topic) → standing_in new t ≡ cond (same_topic topic t) (f (standing_in old topic)) (standing_in old t)
+kept_step old new topic f was s here is h t =
+    kept_put old new topic s h t
+    ∙ ap (λ (x : Standing). cond (same_topic topic t) x (standing_in old t)) (is ∙ ap f (sym here))
+
 is_some_cond : (b : Bool) (s : Standing) (o : Option Standing) → is_some (cond b (Some s) o) ≡ (b || is_some o)
 is_some_cond true s o = refl
 is_some_cond false s o = refl
@@ -37,6 +46,15 @@ kept_adds old new topic s was h none is len =
       topics = λ u. ap is_some (h u) ∙ is_some_cond (same_topic topic u) s (lookup (same_topic u) old);
       number = rw none (omega (arith, more));
     }
+
+-- so there is one topic more at most
+pub most_added : (old new : List (Topic × Standing)) (topic : Topic) → AddsTopic old new topic
+    → length new ≤ cond (has_topic old topic) (length old) (length old + 1)
+most_added old new topic adds = by (has_topic old topic) adds.number
+  where
+    by : (has : Bool) → length new ≡ cond has (length old) (suc (length old)) → length new ≤ cond has (length old) (length old + 1)
+    by true is = omega (arith, is)
+    by false is = omega (arith, is)
 
 -- a topic on which there was something
 pub kept_keeps : (old new : List (Topic × Standing)) (topic : Topic) (s was : Standing)

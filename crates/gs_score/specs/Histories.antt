@@ -17,11 +17,11 @@ use Rattle.gs_score.specs.declared.rules.TopicRules.{TopicRules}
 use Rattle.gs_score.specs.declared.standing.Kind.{Kind}
 use Rattle.gs_score.specs.declared.standing.Kind.TheVariants.{First, Near, Deficit, Invalid}
 use Rattle.gs_score.specs.Counters.{decay_step, most_counted, raised, read_at}
-use Rattle.gs_score.specs.Standings.{Held, decayed_held, nothing_held, raised_held}
+use Rattle.gs_score.specs.Standings.{Held, decayed_held, nothing_held, raised_held, raised_standing}
 use Rattle.gs_score.specs.Formula.{score_of}
 use Rattle.gs_score.specs.Accounts.{behaviour_decay, has_topic, held_in, rules_of, topic_sum}
 use Rattle.gs_score.specs.Places.{app_of, number_with, place_of, shut_out}
-use Rattle.gs_score.specs.Ledgers.{has_room, Kept, behaviour_of, has_account, same_pair, topics_of}
+use Rattle.gs_score.specs.Ledgers.{BlamesIn, has_room, Kept, PutsIn, behaviour_of, has_account, same_pair, standing_of, topics_of}
 
 -- ---- what marks raise
 
@@ -64,6 +64,24 @@ accepts accounts (marks.Deficit p t z) = has_room accounts p t
 accepts accounts (marks.Invalid p t) = has_room accounts p t
 accepts accounts (marks.Behaviour p) = has_account accounts p
 accepts accounts mark = true
+
+-- a counter of a neighbour on a topic is raised, as it is at the tick
+abbrev pub RaisesIn : Kept → Kept → PeerNo → Topic → Kind → ℕ → Type 0
+RaisesIn old new p t kind by =
+    PutsIn old new p t (raised_standing (rules_of old.params t) kind by old.tick (standing_of old.accounts p t))
+
+-- what a mark makes of what is kept: what raises and blames nobody leaves it as it is
+abbrev pub Applies : Kept → Kept → Mark → Type 0
+Applies old new (marks.First p t id) = RaisesIn old new p t First one
+Applies old new (marks.Near p t id) = RaisesIn old new p t Near one
+Applies old new (marks.Deficit p t z) = RaisesIn old new p t Deficit (charge z)
+Applies old new (marks.Invalid p t) = RaisesIn old new p t Invalid one
+Applies old new (marks.Behaviour p) =
+    BlamesIn old new p (record {
+      value = raised most_counted one (read_at (behaviour_decay old.params) old.tick (behaviour_of old.accounts p));
+      tick = old.tick;
+    })
+Applies old new mark = new ≡ old
 
 -- ---- what may happen
 

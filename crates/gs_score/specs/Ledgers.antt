@@ -106,3 +106,9 @@ pub record PutsIn (old new : Kept) (p : PeerNo) (t : Topic) (s : Standing) : Typ
 pub record BlamesIn (old new : Kept) (p : PeerNo) (c : Stored) : Type 0 where
   pub rest : new ≡ record old { accounts = new.accounts }
   pub blames : Blames old.accounts new.accounts p c
+
+-- a neighbour gets this on a topic, each has something on those topics on which it had, and all else stays
+pub record ReplacesIn (old new : Kept) (p : PeerNo) (t : Topic) (s : Standing) : Type 0 where
+  pub rest : new ≡ record old { accounts = new.accounts }
+  pub puts : Puts old.accounts new.accounts p t s
+  pub keeps : Keeps old.accounts new.accounts

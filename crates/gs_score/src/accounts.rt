@@ -9,10 +9,12 @@ ghost use Rattle.gs_params.specs.Params.{AreInRange};
 ghost use Rattle.gs_score.specs.Accounts.{Covers, has_topic, held_in, topic_sum};
 ghost use Rattle.gs_score.specs.Counters.{most_counted, raised, read_at};
 ghost use Rattle.gs_score.specs.Ledgers.{Adds, AreFew, Blames, Keeps, has_room, Puts, account_of, behaviour_of, has_account, nothing_counted, standing_of, topics_of};
-ghost use Rattle.gs_score.specs.Standings.{pruned};
+ghost use Rattle.gs_score.specs.Ranges.{RulesAreInRange};
+ghost use Rattle.gs_score.specs.Standings.{grafted, pruned, raised_standing};
 
 use crate::counter::{Counter, Decay, MOST_COUNTED};
-use crate::standing::Standing;
+use crate::rules::TopicRules;
+use crate::standing::{Kind, Standing};
 use crate::topics::Topics;
 use gs_base::{Millis, Neighbour, PeerNo, Topic};
 use gs_params::Params;
@@ -94,19 +96,25 @@ pub(crate) fn has_room(accounts: &IndexMap<PeerNo, Account>, peer: PeerNo, topic
     }
 }
 
-/// Puts what a neighbour has on a topic. It takes memory only where it had nothing on the topic.
+/// Raises a counter of a neighbour on a topic, as it is at a tick. It takes memory only where the neighbour had nothing
+/// on the topic.
 ///
 /// # Errors
 /// `AllocError` where there was no memory; nothing is changed then.
-pub(crate) fn put_standing(
+pub(crate) fn raise_standing(
     accounts: &mut IndexMap<PeerNo, Account>,
     peer: PeerNo,
     topic: &Topic,
-    standing: Standing,
+    kind: Kind,
+    by: u64,
+    rules: &TopicRules,
+    tick: u64,
 ) -> Result<(), AllocError>
     requires room { has_room accounts.old.entries peer topic.now ≡ true }
     requires few { AreFew accounts.old.entries }
-    ensures puts { OnOk result (Puts accounts.old.entries accounts.new.entries peer topic.now standing) }
+    requires in_range { RulesAreInRange rules.now }
+    ensures puts { OnOk result (Puts accounts.old.entries accounts.new.entries peer topic.now
+        (raised_standing rules.now kind by tick (standing_of accounts.old.entries peer topic.now))) }
     ensures adds { OnOk result (Adds accounts.old.entries accounts.new.entries peer topic.now) }
     ensures few { AreFew accounts.new.entries }
     ensures unchanged { OnErr result (accounts.new.entries ≡ accounts.old.entries) }
@@ -114,7 +122,35 @@ pub(crate) fn put_standing(
 {
     match accounts.get_mut(&peer) {
         Some(account) => {
-            account.topics.put(topic, standing)?;
+            account.topics.raise(topic, kind, by, rules, tick)?;
+            Ok(())
+        }
+        None => Ok(()),
+    }
+}
+
+/// A neighbour comes into the mesh of a topic. It takes memory only where the neighbour had nothing on the topic.
+///
+/// # Errors
+/// `AllocError` where there was no memory; nothing is changed then.
+pub(crate) fn graft_standing(
+    accounts: &mut IndexMap<PeerNo, Account>,
+    peer: PeerNo,
+    topic: &Topic,
+    now: Millis,
+) -> Result<(), AllocError>
+    requires room { has_room accounts.old.entries peer topic.now ≡ true }
+    requires few { AreFew accounts.old.entries }
+    ensures puts { OnOk result (Puts accounts.old.entries accounts.new.entries peer topic.now
+        (grafted now (standing_of accounts.old.entries peer topic.now))) }
+    ensures adds { OnOk result (Adds accounts.old.entries accounts.new.entries peer topic.now) }
+    ensures few { AreFew accounts.new.entries }
+    ensures unchanged { OnErr result (accounts.new.entries ≡ accounts.old.entries) }
+    ensures succeeds { has_topic (topics_of accounts.old.entries peer) topic.now ≡ true → IsOk result }
+{
+    match accounts.get_mut(&peer) {
+        Some(account) => {
+            account.topics.graft(topic, now)?;
             Ok(())
         }
         None => Ok(()),

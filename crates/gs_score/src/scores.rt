@@ -8,20 +8,20 @@ ghost use Rattle.gs_params.specs.Picks.{IsAscending};
 ghost use Rattle.gs_score.specs.Accounts.{Covers, behaviour_decay, has_topic, rules_of};
 ghost use Rattle.gs_score.specs.Counters.{most_counted, raised, read_at};
 ghost use Rattle.gs_score.specs.Formula.{p3};
-ghost use Rattle.gs_score.specs.Histories.{Agrees, Decayed, Grafted, History, Left, Marked, Setting, ShutOut, accepts, charge, held_by, is_known, misbehaviour, one, raise_of, score_in};
-ghost use Rattle.gs_score.specs.Ledgers.{BlamesIn, PutsIn, behaviour_of, has_account, has_room, standing_of, topics_of};
-ghost use Rattle.gs_score.specs.Ranges.{IsUpTo};
-ghost use Rattle.gs_score.specs.Standings.{count, pruned, raised_standing, stored};
+ghost use Rattle.gs_score.specs.Histories.{Agrees, Applies, Decayed, Grafted, History, Left, Marked, Setting, ShutOut, accepts, charge, held_by, is_known, misbehaviour, one, raise_of, score_in};
+ghost use Rattle.gs_score.specs.Ledgers.{BlamesIn, PutsIn, ReplacesIn, behaviour_of, has_account, has_room, standing_of, topics_of};
+ghost use Rattle.gs_score.specs.Places.{shut_out};
+ghost use Rattle.gs_score.specs.Standings.{count, grafted, pruned, raised_standing, stored};
 
 use crate::accounts::{
-    Account, behaviour_of, blame, has_account, has_room, open_accounts, prune_standing,
-    put_standing, standing_of, sum_of,
+    Account, behaviour_of, blame, graft_standing, has_account, has_room, open_accounts,
+    prune_standing, raise_standing, standing_of, sum_of,
 };
 use crate::counter::{Decay, MOST_COUNTED};
 use crate::places::Places;
 use crate::rules::TopicRules;
 use crate::score::score_of;
-use crate::standing::{Kind, Standing};
+use crate::standing::Kind;
 use gs_base::{Mark, Millis, Neighbour, PeerNo, Topic, clone_of};
 use gs_params::Params;
 use indexmap::IndexMap;
@@ -132,6 +132,7 @@ impl Scores {
         ensures agrees { OnOk result ((s : Setting) (H : History)
             → Agrees s self.old H
             → Agrees s self.new (Marked mark.now ∷ H)) }
+        ensures keeps { OnOk result (Applies self.old self.new mark.now) }
         ensures unchanged { OnErr result (self.new ≡ self.old) }
         ensures succeeds { IfSome (raise_of mark.now) (λ x. is_known self.old.accounts x ≡ true)
             → IsOk result }
@@ -171,12 +172,12 @@ impl Scores {
         ensures agrees { OnOk result ((s : Setting) (H : History)
             → Agrees s self.old H
             → Agrees s self.new (Grafted peer topic.now now ∷ H)) }
+        ensures keeps { OnOk result (PutsIn self.old self.new peer topic.now
+            (grafted now (standing_of self.old.accounts peer topic.now))) }
         ensures unchanged { OnErr result (self.new ≡ self.old) }
         ensures succeeds { has_topic (topics_of self.old.accounts peer) topic.now ≡ true → IsOk result }
     {
-        let mut standing = standing_of(&self.accounts, peer, topic);
-        standing.graft(now);
-        self.put(peer, topic, standing)?;
+        graft_standing(&mut self.accounts, peer, topic, now)?;
         Ok(())
     }
 
@@ -198,6 +199,8 @@ impl Scores {
         ensures agrees { (s : Setting) (H : History)
             → Agrees s self.old H
             → Agrees s self.new (Left peer topic.now ∷ H) }
+        ensures keeps { ReplacesIn self.old self.new peer topic.now
+            (pruned (standing_of self.old.accounts peer topic.now)) }
     {
         prune_standing(&mut self.accounts, peer, topic);
     }
@@ -215,6 +218,7 @@ impl Scores {
     /// A neighbour went for good: it counts no more at its address. It takes no memory.
     pub fn shut_out(&mut self, peer: PeerNo)
         ensures agrees { (s : Setting) (H : History) → Agrees s self.old H → Agrees s self.new (ShutOut peer ∷ H) }
+        ensures keeps { self.new ≡ record self.old { places = shut_out peer self.old.places } }
     {
         self.places.shut_out(peer);
     }
@@ -282,24 +286,7 @@ impl Scores {
         ensures succeeds { has_topic (topics_of self.old.accounts peer) topic.now ≡ true → IsOk result }
     {
         let rules = TopicRules::of(&self.params, topic);
-        let mut standing = standing_of(&self.accounts, peer, topic);
-        standing.raise(kind, by, &rules, self.tick);
-        self.put(peer, topic, standing)?;
-        Ok(())
-    }
-
-    /// Puts what a neighbour has on a topic.
-    ///
-    /// # Errors
-    /// `AllocError` where there was no memory; nothing is changed then.
-    fn put(&mut self, peer: PeerNo, topic: &Topic, standing: Standing) -> Result<(), AllocError>
-        requires room { has_room self.old.accounts peer topic.now ≡ true }
-        requires past { IsUpTo self.old.tick standing }
-        ensures puts { OnOk result (PutsIn self.old self.new peer topic.now standing) }
-        ensures unchanged { OnErr result (self.new ≡ self.old) }
-        ensures succeeds { has_topic (topics_of self.old.accounts peer) topic.now ≡ true → IsOk result }
-    {
-        put_standing(&mut self.accounts, peer, topic, standing)?;
+        raise_standing(&mut self.accounts, peer, topic, kind, by, &rules, self.tick)?;
         Ok(())
     }
 

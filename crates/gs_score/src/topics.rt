@@ -1,15 +1,16 @@
 //! What a neighbour has on topics.
-ghost use Rattle.std.specs.Prelude.{◌≡◌, ◌+◌, ◌≤◌, ◌<◌, ◌*◌, ◌^◌, ◌+ℤ◌, ◌||◌, nat_lt, true, false, if◌then◌else◌, [], List, drop, length, unsigned_abs, IsOk, OnOk, OnErr};
+ghost use Rattle.std.specs.Prelude.{◌≡◌, ◌+◌, ◌≤◌, ◌<◌, ◌*◌, ◌^◌, ◌+ℤ◌, ◌||◌, nat_lt, true, if◌then◌else◌, [], List, drop, length, unsigned_abs, IsOk, OnOk, OnErr};
 ghost use Rattle.std.specs.List.{IsDistinct};
 ghost use Rattle.std.specs.Map.{keys_of};
 ghost use Rattle.gs_base.specs.Names.{most_topics, same_topic};
 ghost use Rattle.gs_base.specs.declared.names.Topic.{Topic as TopicValue};
 ghost use Rattle.gs_params.specs.Params.{AreInRange};
 ghost use Rattle.gs_score.specs.Accounts.{AddsTopic, Covers, KeepsTopics, has_topic, held_in, standing_in, topic_sum};
-ghost use Rattle.gs_score.specs.Standings.{fresh, pruned};
+ghost use Rattle.gs_score.specs.Ranges.{RulesAreInRange};
+ghost use Rattle.gs_score.specs.Standings.{grafted, pruned, raised_standing};
 
 use crate::rules::TopicRules;
-use crate::standing::Standing;
+use crate::standing::{Kind, Standing};
 use gs_base::{MOST_TOPICS, Millis, Topic, clone_of};
 use gs_params::Params;
 use indexmap::IndexMap;
@@ -63,21 +64,52 @@ impl Topics {
         self.standings.get(topic).is_some() || self.standings.len() < MOST_TOPICS
     }
 
-    /// Puts what it has on a topic. It takes memory only where it had nothing on the topic.
+    /// Raises a counter on a topic, as it is at a tick, up to its cap. It takes memory only where it had nothing on the
+    /// topic.
     ///
     /// # Errors
     /// `AllocError` where there was no memory; nothing is changed then.
-    pub fn put(&mut self, topic: &Topic, standing: Standing) -> Result<(), AllocError>
+    pub fn raise(
+        &mut self,
+        topic: &Topic,
+        kind: Kind,
+        by: u64,
+        rules: &TopicRules,
+        tick: u64,
+    ) -> Result<(), AllocError>
+        requires in_range { RulesAreInRange rules.now }
         ensures puts { OnOk result ((t : TopicValue)
             → standing_in self.new t
-            ≡ (if same_topic topic.now t then standing else standing_in self.old t)) }
+            ≡ (if same_topic topic.now t
+            then raised_standing rules.now kind by tick (standing_in self.old topic.now)
+            else standing_in self.old t)) }
         ensures number { length self.new
             ≤ (if has_topic self.old topic.now then length self.old else length self.old + 1) }
         ensures adds { OnOk result (AddsTopic self.old self.new topic.now) }
         ensures unchanged { OnErr result (self.new ≡ self.old) }
         ensures succeeds { has_topic self.old topic.now ≡ true → IsOk result }
     {
-        put_at(&mut self.standings, topic, standing)?;
+        raise_at(&mut self.standings, topic, kind, by, rules, tick)?;
+        Ok(())
+    }
+
+    /// It comes into the mesh of a topic. It takes memory only where it had nothing on the topic.
+    ///
+    /// # Errors
+    /// `AllocError` where there was no memory; nothing is changed then.
+    pub fn graft(&mut self, topic: &Topic, now: Millis) -> Result<(), AllocError>
+        ensures puts { OnOk result ((t : TopicValue)
+            → standing_in self.new t
+            ≡ (if same_topic topic.now t
+            then grafted now (standing_in self.old topic.now)
+            else standing_in self.old t)) }
+        ensures number { length self.new
+            ≤ (if has_topic self.old topic.now then length self.old else length self.old + 1) }
+        ensures adds { OnOk result (AddsTopic self.old self.new topic.now) }
+        ensures unchanged { OnErr result (self.new ≡ self.old) }
+        ensures succeeds { has_topic self.old topic.now ≡ true → IsOk result }
+    {
+        graft_at(&mut self.standings, topic, now)?;
         Ok(())
     }
 
@@ -91,9 +123,7 @@ impl Topics {
         ensures number { length self.new ≡ length self.old }
         ensures keeps { KeepsTopics self.old self.new }
     {
-        let mut standing = standing_at(&self.standings, topic);
-        standing.prune();
-        replace_at(&mut self.standings, topic, standing);
+        prune_at(&mut self.standings, topic);
     }
 
     /// The sum over topics of what each gives, in millionths: at most 1,024 * 10^25 either way.
@@ -119,46 +149,85 @@ fn standing_at(standings: &IndexMap<Topic, Standing>, topic: &Topic) -> Standing
     }
 }
 
-/// Puts what is kept for a topic. It takes memory only where nothing was kept.
+/// Raises a counter in what is kept for a topic, where it lies. It takes memory only where nothing was kept.
 ///
 /// # Errors
 /// `AllocError` where there was no memory; nothing is changed then.
-fn put_at(
+fn raise_at(
     standings: &mut IndexMap<Topic, Standing>,
     topic: &Topic,
-    standing: Standing,
+    kind: Kind,
+    by: u64,
+    rules: &TopicRules,
+    tick: u64,
 ) -> Result<(), AllocError>
+    requires in_range { RulesAreInRange rules.now }
     ensures puts { OnOk result ((t : TopicValue)
         → standing_in standings.new.entries t
-        ≡ (if same_topic topic.now t then standing else standing_in standings.old.entries t)) }
+        ≡ (if same_topic topic.now t
+        then raised_standing rules.now kind by tick (standing_in standings.old.entries topic.now)
+        else standing_in standings.old.entries t)) }
     ensures number { length standings.new.entries
-        ≤ (if has_topic standings.old.entries topic.now
-        then length standings.old.entries
-        else length standings.old.entries + 1) }
+        ≤ (if has_topic standings.old.entries topic.now then length standings.old.entries else length standings.old.entries + 1) }
     ensures adds { OnOk result (AddsTopic standings.old.entries standings.new.entries topic.now) }
     ensures unchanged { OnErr result (standings.new.entries ≡ standings.old.entries) }
     ensures succeeds { has_topic standings.old.entries topic.now ≡ true → IsOk result }
 {
     match standings.get_mut(topic) {
-        Some(place) => *place = standing,
+        Some(place) => place.raise(kind, by, rules, tick),
         None => {
-            standings.insert(clone_of(topic)?, standing)?;
+            let mut raised = Standing::new();
+            raised.raise(kind, by, rules, tick);
+            standings.insert(clone_of(topic)?, raised)?;
         }
     }
     Ok(())
 }
 
-/// Replaces what is kept for a topic. It takes no memory: where nothing is kept, nothing is to be.
-fn replace_at(standings: &mut IndexMap<Topic, Standing>, topic: &Topic, standing: Standing)
-    requires { has_topic standings.old.entries topic.now ≡ false → standing ≡ fresh }
-    ensures puts { (t : TopicValue)
+/// Puts what is kept for a topic into its mesh, where it lies. It takes memory only where nothing was kept.
+///
+/// # Errors
+/// `AllocError` where there was no memory; nothing is changed then.
+fn graft_at(
+    standings: &mut IndexMap<Topic, Standing>,
+    topic: &Topic,
+    now: Millis,
+) -> Result<(), AllocError>
+    ensures puts { OnOk result ((t : TopicValue)
         → standing_in standings.new.entries t
-        ≡ (if same_topic topic.now t then standing else standing_in standings.old.entries t) }
+        ≡ (if same_topic topic.now t
+        then grafted now (standing_in standings.old.entries topic.now)
+        else standing_in standings.old.entries t)) }
+    ensures number { length standings.new.entries
+        ≤ (if has_topic standings.old.entries topic.now then length standings.old.entries else length standings.old.entries + 1) }
+    ensures adds { OnOk result (AddsTopic standings.old.entries standings.new.entries topic.now) }
+    ensures unchanged { OnErr result (standings.new.entries ≡ standings.old.entries) }
+    ensures succeeds { has_topic standings.old.entries topic.now ≡ true → IsOk result }
+{
+    match standings.get_mut(topic) {
+        Some(place) => place.graft(now),
+        None => {
+            let mut member = Standing::new();
+            member.graft(now);
+            standings.insert(clone_of(topic)?, member)?;
+        }
+    }
+    Ok(())
+}
+
+/// Takes what is kept for a topic out of its mesh, where it lies. Where nothing is kept, nothing is to be.
+fn prune_at(standings: &mut IndexMap<Topic, Standing>, topic: &Topic)
+    ensures prunes { (t : TopicValue)
+        → standing_in standings.new.entries t
+        ≡ (if same_topic topic.now t
+        then pruned (standing_in standings.old.entries topic.now)
+        else standing_in standings.old.entries t) }
     ensures number { length standings.new.entries ≡ length standings.old.entries }
     ensures keeps { KeepsTopics standings.old.entries standings.new.entries }
 {
-    if let Some(place) = standings.get_mut(topic) {
-        *place = standing;
+    match standings.get_mut(topic) {
+        Some(place) => place.prune(),
+        None => (),
     }
 }
 

@@ -1,5 +1,6 @@
 //! A value of a scenario that is not what it must be.
 use crate::reasons::keys::key_of;
+use crate::reasons::ranges::range_of;
 use crate::shown::{Quoted, Ticked};
 use gs_scenario::{Found, Wanted};
 use std::fmt;
@@ -51,7 +52,18 @@ impl<'a> Mismatch<'a> {
         }
     }
 
+    /// The range of a parameter. What is wanted of it is no more than the range of all numbers.
+    fn range_of_parameter(&self) -> Option<(i64, i64)> {
+        match self.wanted {
+            Wanted::Number(_, _) | Wanted::SignedNumber(_, _) => range_of(key_of(self.place)),
+            _ => None,
+        }
+    }
+
     fn write_rule<W: fmt::Write>(&self, f: &mut fmt::Formatter<W>) -> fmt::Result {
+        if let Some((low, high)) = self.range_of_parameter() {
+            return write!(f, "it must be a whole number from {low} to {high}");
+        }
         match self.wanted {
             Wanted::Number(low, high) => {
                 write!(f, "it must be a whole number from {low} to {high}")

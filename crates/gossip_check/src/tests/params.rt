@@ -189,3 +189,62 @@ pub static OF_TOPIC: [OutOfRange; 9] = [
     ("p4_decay", "1000001", 3, "from 0 to 1000000"),
     ("p3_activation_ms", "1000000001", 4, "at most 1000000000"),
 ];
+
+/// A key of parameters, and the bounds of its range, whatever other keys say.
+pub type Bounds = (&'static str, &'static str);
+
+/// The numbers of `[params]` but `d`, which stands in the scenario.
+pub static BOUNDS: [Bounds; 31] = [
+    ("d_low", "1 to 64"),
+    ("d_high", "1 to 64"),
+    ("d_score", "0 to 64"),
+    ("d_out", "0 to 32"),
+    ("d_lazy", "0 to 64"),
+    ("gossip_threshold", "-1000000000000 to -1"),
+    ("publish_threshold", "-1000000000000 to -1"),
+    ("graylist_threshold", "-1000000000000 to -1"),
+    ("opportunistic_threshold", "0 to 1000000000000"),
+    ("gossip_factor", "0 to 1000000"),
+    ("p7_decay", "0 to 1000000"),
+    ("w5", "0 to 1000000000"),
+    ("w6", "-1000000000 to 0"),
+    ("w7", "-1000000000 to 0"),
+    ("topic_cap", "0 to 1000000000000"),
+    ("decay_to_zero", "0 to 1000000000000"),
+    ("p6_threshold", "1 to 65535"),
+    ("heartbeat_ms", "1 to 1000000000"),
+    ("decay_ms", "1 to 1000000000"),
+    ("fanout_ttl_ms", "1 to 1000000000"),
+    ("seen_ttl_ms", "1 to 1000000000"),
+    ("iwant_followup_ms", "1 to 1000000000"),
+    ("prune_backoff_s", "1 to 86400"),
+    ("unsubscribe_backoff_s", "1 to 86400"),
+    ("mcache_len", "1 to 64"),
+    ("mcache_gossip", "1 to 64"),
+    ("opportunistic_ticks", "1 to 1000000"),
+    ("opportunistic_peers", "0 to 64"),
+    ("max_ihave", "1 to 1000"),
+    ("max_ihave_ids", "1 to 5000"),
+    ("gossip_retransmission", "1 to 1000"),
+];
+
+/// The numbers of a topic.
+pub static BOUNDS_OF_TOPIC: [Bounds; 17] = [
+    ("topic_weight", "0 to 1000000000"),
+    ("w1", "0 to 1000000000"),
+    ("w2", "0 to 1000000000"),
+    ("w3", "-1000000000 to 0"),
+    ("w3b", "-1000000000 to 0"),
+    ("w4", "-1000000000 to 0"),
+    ("p2_decay", "0 to 1000000"),
+    ("p3_decay", "0 to 1000000"),
+    ("p3b_decay", "0 to 1000000"),
+    ("p4_decay", "0 to 1000000"),
+    ("p1_cap", "0 to 1000000000000"),
+    ("p2_cap", "0 to 1000000000000"),
+    ("p3_cap", "0 to 1000000000000"),
+    ("p3_threshold", "0 to 1000000000000"),
+    ("p1_quantum_ms", "1 to 1000000000"),
+    ("p3_window_ms", "0 to 1000000000"),
+    ("p3_activation_ms", "0 to 1000000000"),
+];

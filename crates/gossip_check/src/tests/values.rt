@@ -2,7 +2,7 @@
 use crate::tests::cases::Case;
 
 /// Values that are not what they must be.
-pub static VALUES: [Case; 32] = [
+pub static VALUES: [Case; 39] = [
     (
         "a text in the place of a number",
         "rounds = 10",
@@ -71,7 +71,53 @@ pub static VALUES: [Case; 32] = [
         "d = 6",
         "d = [6]",
         "29 params.d\n\
-         `params.d` is a list of 1 element: it must be a whole number from 0 to 1000000000000\n",
+         `params.d` is a list of 1 element: it must be a whole number from 1 to 64\n",
+    ),
+    (
+        "a mesh of less than nobody",
+        "d = 6",
+        "d = -1",
+        "29 params.d\n`params.d` is -1: it must be a whole number from 1 to 64\n",
+    ),
+    (
+        "a mesh of more than any number",
+        "d = 6",
+        "d = 5000000000000",
+        "29 params.d\n`params.d` is 5000000000000: it must be a whole number from 1 to 64\n",
+    ),
+    (
+        "a parameter between quotes",
+        "d = 6",
+        "gossip_factor = \"0.25\"",
+        "29 params.gossip_factor\n`params.gossip_factor` is \"0.25\": \
+         it must be a whole number from 0 to 1000000, without quotes\n",
+    ),
+    (
+        "a parameter with a fraction",
+        "d = 6",
+        "w6 = -0.5",
+        "29 params.w6\n`params.w6` is a number that is not whole: \
+         it must be a whole number from -1000000000 to 0\n",
+    ),
+    (
+        "kept for less than no heartbeat",
+        "d = 6",
+        "mcache_len = -1",
+        "29 params.mcache_len\n\
+         `params.mcache_len` is -1: it must be a whole number from 1 to 64\n",
+    ),
+    (
+        "a mesh that is filled from below zero",
+        "d = 6",
+        "d_low = -1",
+        "29 params.d_low\n`params.d_low` is -1: it must be a whole number from 1 to 64\n",
+    ),
+    (
+        "a decay of the second topic below zero",
+        "name = \"news\"\n",
+        "name = \"news\"\n[[topic]]\nname = \"blog\"\np4_decay = -1\n",
+        "29 topic[1].p4_decay\n\
+         `topic[1].p4_decay` is -1: it must be a whole number from 0 to 1000000\n",
     ),
     (
         "a truth value between quotes",
@@ -219,7 +265,7 @@ pub static VALUES: [Case; 32] = [
 ];
 
 /// Names that nothing has, and what stands twice.
-pub static NAMES: [Case; 8] = [
+pub static NAMES: [Case; 10] = [
     (
         "a dial to a peer that is not there",
         "to = \"b\"",
@@ -244,6 +290,18 @@ pub static NAMES: [Case; 8] = [
         "",
         "30 app[0].about\n\
          `app[0].about` is \"b\": that peer is no neighbour, since no dial joins the two\n",
+    ),
+    (
+        "a score of the peer itself",
+        "about = \"b\"",
+        "about = \"a\"",
+        "30 app[0].about\n`app[0].about` is \"a\": a peer does not score itself\n",
+    ),
+    (
+        "a second score, of the peer itself",
+        "[[do]]\n",
+        "[[app]]\npeer = \"b\"\nabout = \"b\"\nvalue = 5\n[[do]]\n",
+        "30 app[1].about\n`app[1].about` is \"b\": a peer does not score itself\n",
     ),
     (
         "two topics of one name",

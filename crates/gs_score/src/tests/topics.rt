@@ -106,16 +106,10 @@ fn perform(
     match act {
         Act::Raise(name, kind) => {
             let topic = topic(alloc, *name)?;
-            let mut standing = topics.standing(&topic);
-            standing.raise(*kind, 1_000_000, &TopicRules::of(params, &topic), tick);
-            topics.put(&topic, standing)?;
+            let rules = TopicRules::of(params, &topic);
+            topics.raise(&topic, *kind, 1_000_000, &rules, tick)?;
         }
-        Act::Graft(name) => {
-            let topic = topic(alloc, *name)?;
-            let mut standing = topics.standing(&topic);
-            standing.graft(Millis(0));
-            topics.put(&topic, standing)?;
-        }
+        Act::Graft(name) => topics.graft(&topic(alloc, *name)?, Millis(0))?,
         Act::Prune(name) => topics.prune(&topic(alloc, *name)?),
         Act::Step => return Ok(tick.saturating_add(1)),
     }

@@ -1,12 +1,9 @@
-use Rattle.std.proofs.Common.{◌≡◌, ◌≤◌, cond, refl, sym, ap, subst, ◌∙◌}
+use Rattle.std.proofs.Common.{◌≤◌, refl, sym, ap, subst, ◌∙◌}
 use Rattle.std.specs.Option.{IsSome}
-use Rattle.gs_base.specs.Names.{same_topic, most_topics}
+use Rattle.gs_base.specs.Names.{most_topics}
 use Rattle.gs_score.specs.declared.accounts.Account.{Account}
-use Rattle.gs_score.specs.declared.standing.Standing.{Standing}
-use Rattle.gs_score.specs.Accounts.{standing_in}
-use Rattle.gs_score.specs.Ledgers.{standing_of}
 use Rattle.gs_score.specs.Standings.{pruned}
-use Rattle.gs_score.proofs.Accounting.{Changed, is_kept, is_put, few_stay, few_of, account_was}
+use Rattle.gs_score.proofs.Accounting.{Changed, is_kept, is_stepped, few_stay, few_of, account_was}
 use Rattle.gs_score.proofs.accounts.prune_standing.Goals as goal
 
 pub returns-in-Some-clause-puts : goal.returns-in-Some-clause-puts
@@ -16,9 +13,7 @@ returns-in-Some-clause-puts c =
     let was : Account = c.in-Some.account.now in
     let is : Account = record { topics = c.prune.new.self; behaviour = was.behaviour } in
     let changed : Changed old (c.get_mut.follows.lender is).entries c.args.peer was is = (sym c.in-Some.ensures.value, ((c.get_mut.follows.holds is).3 (subst IsSome c.in-Some.ensures.value refl)).0) in
-    let here : standing_in was.topics topic ≡ standing_of old c.args.peer topic = ap (λ (a : Account). standing_in a.topics topic) (sym (account_was old c.args.peer was (sym c.in-Some.ensures.value))) in
-    is_put old (c.get_mut.follows.lender is).entries c.args.peer topic (pruned (standing_of old c.args.peer topic)) was is changed refl
-    (λ u. c.prune.ensures.prunes u ∙ ap (λ (s : Standing). cond (same_topic topic u) (pruned s) (standing_in was.topics u)) here)
+    is_stepped old (c.get_mut.follows.lender is).entries c.args.peer topic pruned was is changed refl c.prune.ensures.prunes
 
 pub returns-in-Some-clause-keeps : goal.returns-in-Some-clause-keeps
 returns-in-Some-clause-keeps c =

@@ -1,9 +1,9 @@
-use Rattle.std.proofs.Common.{◌≡◌, ℕ, ℤ, Option, Some, sym, ap, ◌∙◌}
+use Rattle.std.proofs.Common.{◌≡◌, ℕ, ℤ, Option, Some, sym, ap, subst, ◌∙◌}
 use Rattle.gs_base.specs.declared.names.PeerNo.{PeerNo}
 use Rattle.gs_base.specs.declared.names.Topic.{Topic}
 use Rattle.gs_base.specs.declared.mark.Mark.TheVariants as marks
 use Rattle.gs_score.specs.declared.standing.Kind.TheVariants.{First, Near, Deficit, Invalid}
-use Rattle.gs_score.specs.Histories.{Raise, blamed, charge, one, raise_of}
+use Rattle.gs_score.specs.Histories.{Applies, Raise, RaisesIn, blamed, charge, one, raise_of}
 use Rattle.gs_score.proofs.Keeping.{agrees_raise}
 use Rattle.gs_score.proofs.scores.Scores.apply.Goals as goal
 
@@ -32,3 +32,22 @@ pub returns-in_ok-raise-in-Invalid-clause-agrees : goal.returns-in_ok-raise-in-I
 returns-in_ok-raise-in-Invalid-clause-agrees c = λ s H a.
     agrees_raise s c.args.self.now c.raise-in-Invalid.new.self H c.args.mark.now c.in-Invalid.peer c.in-Invalid.topic Invalid one
     c.in_ok-raise-in-Invalid.ensures.puts (ap raise_of c.in-Invalid.is) (ap blamed c.in-Invalid.is) a
+
+pub returns-in_ok-raise-in-First-clause-keeps : goal.returns-in_ok-raise-in-First-clause-keeps
+returns-in_ok-raise-in-First-clause-keeps c =
+    subst (Applies c.args.self.now c.raise.new.self) (sym c.in-First.is) c.in_ok-raise-in-First.ensures.puts
+
+pub returns-in_ok-raise-in-Near-clause-keeps : goal.returns-in_ok-raise-in-Near-clause-keeps
+returns-in_ok-raise-in-Near-clause-keeps c =
+    subst (Applies c.args.self.now c.raise-in-Near.new.self) (sym c.in-Near.is) c.in_ok-raise-in-Near.ensures.puts
+
+pub returns-in_ok-raise-in-Invalid-clause-keeps : goal.returns-in_ok-raise-in-Invalid-clause-keeps
+returns-in_ok-raise-in-Invalid-clause-keeps c =
+    subst (Applies c.args.self.now c.raise-in-Invalid.new.self) (sym c.in-Invalid.is) c.in_ok-raise-in-Invalid.ensures.puts
+
+pub returns-in_ok-raise-in-Deficit-clause-keeps : goal.returns-in_ok-raise-in-Deficit-clause-keeps
+returns-in_ok-raise-in-Deficit-clause-keeps c =
+    let k = c.args.self.now in
+    let new = c.raise-in-Deficit.new.self in
+    subst (Applies k new) (sym c.in-Deficit.is)
+    (subst (RaisesIn k new c.in-Deficit.peer c.in-Deficit.topic Deficit) c.charge.ensures c.in_ok-raise-in-Deficit.ensures.puts)

@@ -1,4 +1,4 @@
-use Rattle.std.proofs.Common.{None}
+use Rattle.std.proofs.Common.{None, refl}
 use Rattle.gs_score.specs.Standings.{pruned}
 use Rattle.gs_score.specs.Ledgers.{Kept, standing_of}
 use Rattle.gs_score.proofs.Keeping.{agrees_left, sound_put, up_to_since}
@@ -13,12 +13,18 @@ invariant_of-self c =
     c.self.invariant c.prune_standing.ensures.puts c.prune_standing.ensures.few
     (up_to_since None k.tick standing (c.self.invariant.standings c.args.peer c.args.topic.now))
 
-pub returns : goal.returns
-returns c =
+pub returns-clause-agrees : goal.returns-clause-agrees
+returns-clause-agrees c =
     let old = c.self.inside in
     let k : Kept = record { params = old.params; places = old.places; accounts = old.accounts.entries; tick = old.tick } in
+    rw (← c.self.view_is) (λ s H a.
+    agrees_left s k c.prune_standing.new.accounts.entries H c.args.peer c.args.topic.now
+    c.prune_standing.ensures.puts c.prune_standing.ensures.keeps a)
+
+pub returns-clause-keeps : goal.returns-clause-keeps
+returns-clause-keeps c =
     rw (← c.self.view_is) (record {
-      agrees = λ s H a.
-          agrees_left s k c.prune_standing.new.accounts.entries H c.args.peer c.args.topic.now
-          c.prune_standing.ensures.puts c.prune_standing.ensures.keeps a;
+      rest = refl;
+      puts = c.prune_standing.ensures.puts;
+      keeps = c.prune_standing.ensures.keeps;
     })

@@ -1,10 +1,17 @@
-use Rattle.gs_score.specs.Ledgers.{standing_of}
-use Rattle.gs_score.proofs.Keeping.{up_to_raised}
+use Rattle.gs_score.specs.Ledgers.{Kept, standing_of}
+use Rattle.gs_score.specs.Standings.{raised_standing}
+use Rattle.gs_score.proofs.Keeping.{sound_put, up_to_raised}
 use Rattle.gs_score.proofs.scores.Scores.raise.Goals as goal
 
-pub put-requires-clause-past : goal.put-requires-clause-past
-put-requires-clause-past c =
-    rw (← c.self.view_is, c.raise.ensures.keeps, c.standing_of-standing.ensures)
-    (up_to_raised c.of-rules.result c.args.kind c.args.by c.self.inside.tick
-    (standing_of c.self.inside.accounts.entries c.args.peer c.args.topic.now)
-    (c.self.invariant.standings c.args.peer c.args.topic.now))
+pub invariant_of-self : goal.invariant_of-self
+invariant_of-self c = rw c.in_err-raise_standing.ensures.unchanged c.self.invariant
+
+pub invariant_of-self-2 : goal.invariant_of-self-2
+invariant_of-self-2 c =
+    let old = c.self.inside in
+    let k : Kept = record { params = old.params; places = old.places; accounts = old.accounts.entries; tick = old.tick } in
+    let standing = standing_of k.accounts c.args.peer c.args.topic.now in
+    let rules = c.of-rules.result in
+    sound_put k c.raise_standing.new.accounts.entries c.args.peer c.args.topic.now (raised_standing rules c.args.kind c.args.by k.tick standing)
+    c.self.invariant c.in_ok-raise_standing.ensures.puts c.raise_standing.ensures.few
+    (up_to_raised rules c.args.kind c.args.by k.tick standing (c.self.invariant.standings c.args.peer c.args.topic.now))
