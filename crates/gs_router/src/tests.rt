@@ -10,6 +10,10 @@ mod cases;
 mod gossip;
 mod gossip_cases;
 mod made;
+mod mesh_cases;
+mod mesh_sights;
+mod mesh_traffic;
+mod meshes;
 mod scores;
 mod sights;
 mod verdicts;
@@ -97,6 +101,8 @@ fn ask(alloc: Global, router: &mut Router, at: u64, what: What<'_>) -> Result<u8
         | Event::Msg(_, _)
         | Event::Have(_, _)
         | Event::Want(_, _)
+        | Event::GraftIn(_, _)
+        | Event::PruneIn(_, _)
         | Event::GossipBeat(_)
         | Event::BeatEnd => return Ok(u8::MAX),
     };
