@@ -20,7 +20,7 @@ use Rattle.gs_router.proofs.Ascending.{one_topic}
 use Rattle.gs_router.proofs.Keeping.{marks_more}
 
 -- peers with the same number are one
-one_peer : (p q : PeerNo) → same_peer p q ≡ true → p ≡ q
+pub one_peer : (p q : PeerNo) → same_peer p q ≡ true → p ≡ q
 one_peer p q is =
     let number : p.0 ≡ q.0 = grind (arith, nat_tests, is) in
     ap (λ (n : ℕ). record { 0 = n }) number

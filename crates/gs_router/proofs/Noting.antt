@@ -28,7 +28,7 @@ pub or_true : (b : Bool) → (b || (true || false)) ≡ true
 or_true true = refl
 or_true false = refl
 
-or_false : (b : Bool) → (b || (false || false)) ≡ b
+pub or_false : (b : Bool) → (b || (false || false)) ≡ b
 or_false true = refl
 or_false false = refl
 
