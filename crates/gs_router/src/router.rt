@@ -221,7 +221,8 @@ impl Router {
         self.lose(peer, Event::Fault(peer), now, words)
     }
 
-    /// Subscribes to a topic, and announces it to every neighbour.
+    /// Subscribes to a topic, announces it to every neighbour, and grafts up to `d` of those that may come into its
+    /// mesh, members of its fanout first (gossipsub v1.0, "Topic Membership").
     ///
     /// # Errors
     /// `Stopped`, `TooLong`, `Joined`, `TooMany`, in this order, and `NoMemory`.
@@ -238,7 +239,8 @@ impl Router {
         self.obey(Event::Subscribe(topic), now, words)
     }
 
-    /// Leaves a topic, and tells every neighbour.
+    /// Leaves a topic, tells every neighbour, and prunes each member of its mesh, which is not to come back for
+    /// `unsubscribe_backoff_s` (gossipsub v1.1, "Prune Backoff").
     ///
     /// # Errors
     /// `Stopped` and `NotJoined`, in this order, and `NoMemory`.
@@ -255,8 +257,10 @@ impl Router {
         self.obey(Event::Unsubscribe(topic), now, words)
     }
 
-    /// Publishes a payload: it goes to every neighbour that is up, on the topic and not below the threshold, and is
-    /// delivered to the router's own user where that is subscribed to the topic.
+    /// Publishes a payload, which is delivered to the router's own user where that is subscribed to the topic. With
+    /// `flood_publish` it goes to every neighbour that is up and on the topic; without, to the topic's mesh, or, where
+    /// the router isn't subscribed, to its fanout, which is filled where it is empty. Who scores below
+    /// `publish_threshold` gets nothing (gossipsub v1.1, "Flood Publishing").
     ///
     /// # Errors
     /// `Stopped`, `TooLong` and `AlreadySeen`, in this order, and `NoMemory`.
@@ -284,7 +288,7 @@ impl Router {
     }
 
     /// Has a heartbeat (gossipsub v1.0, Heartbeat): charges promises that were broken, gossips on each topic on
-    /// which there is something, and begins a new window of what is kept.
+    /// which there is something, and begins a new window of what is kept. Meshes and fanouts stay as they are.
     ///
     /// # Errors
     /// `Stopped`, and `NoMemory`.

@@ -4,7 +4,7 @@ use Rattle.gs_rules.specs.declared.trace.Event.TheVariants.{Publish}
 use Rattle.gs_rules.specs.Modes.{exact}
 use Rattle.gs_rules.proofs.Legality.{exact_is_free}
 use Rattle.gs_router.specs.State.{peer_with}
-use Rattle.gs_router.proofs.Steps.{followed, knows, next_opens, opens_alone, stops}
+use Rattle.gs_router.proofs.Steps.{followed, knows, next_opens, no_earlier, opens_alone, stops}
 use Rattle.gs_router.proofs.Standing.{ticks_are_few}
 use Rattle.gs_router.proofs.state.State.publish.Goals as goal
 
@@ -12,6 +12,13 @@ pub append-requires-clause-few : goal.append-requires-clause-few
 append-requires-clause-few g c =
     let a = c.args.self.now in
     ticks_are_few (peer_with a.setup) a.tables.standings a.trace c.requires.ready.current.scores
+
+pub append-requires-clause-time : goal.append-requires-clause-time
+append-requires-clause-time g c =
+    let m = exact g.W.Words.word g.W.Words.after in
+    let a = c.args.self.now in
+    let event : Event = Publish c.args.publishing.topic c.args.publishing.payload in
+    no_earlier m (exact_is_free g.W.Words.word g.W.Words.after) event c.args.now a c.args.words.now c.publish.new.words c.in_ok-entry.entry c.requires.ready.current c.requires.time (c.in_ok-entry.ensures a.trace (knows a c.args.now.0 c.requires.ready.current c.requires.time))
 
 pub returns : goal.returns
 returns g c =
