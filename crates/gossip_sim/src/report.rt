@@ -13,7 +13,8 @@ use std::alloc::{AllocError, Global};
 
 /// The text of a run's report: first a line for each message that was delivered, peer by peer in the
 /// order of its trace, then a line for each refusal, peer by peer in the order of its list, then a line for
-/// each member of a mesh, one for each score of a neighbour, and last the line of the links. A peer has the name that the plan gives its number.
+/// each member of a mesh, one for each score of a neighbour, and last the line of the links. A peer has the
+/// name that the plan gives its number.
 ///
 /// # Errors
 /// `AllocError` where there was no memory for it.
