@@ -1,5 +1,5 @@
 //! What is seen of a router's mesh of `a` after each deed.
-use crate::router::Router;
+use gs_router::Router;
 use crate::tests::mesh_cases::{Left, Said};
 use gs_base::{Control, Mark, Millis, MsgId, PeerNo, Rpc, Shared, Topic, Verdict};
 

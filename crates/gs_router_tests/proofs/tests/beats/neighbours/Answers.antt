@@ -7,7 +7,7 @@ use Rattle.gs_base.specs.declared.names.PeerNo.{PeerNo}
 use Rattle.gs_base.specs.declared.neighbour.Neighbour.{Neighbour}
 use Rattle.gs_base.specs.Names.{peers_of}
 use Rattle.gs_params.specs.Picks.{IsAscending}
-use Rattle.gs_router.proofs.tests.beats.neighbours.Goals as goal
+use Rattle.gs_router_tests.proofs.tests.beats.neighbours.Goals as goal
 
 -- one more, with a greater number
 ascending_more : (before after : List Neighbour) (n : Neighbour) (k : ℕ) → IsAscending (peers_of before) → All (λ (q : PeerNo). q.0 ≤ k) (peers_of before) → after ≡ before ++ n ∷ [] → n.peer.0 ≡ k + 1 → IsAscending (peers_of after)

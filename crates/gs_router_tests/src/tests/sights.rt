@@ -1,5 +1,5 @@
 //! What is seen of a router after each deed.
-use crate::router::Router;
+use gs_router::Router;
 use crate::tests::beat_cases::{Gossip, Seen};
 use crate::tests::gossip::{are_ids, ends_with};
 use crate::tests::gossip_cases::Then;

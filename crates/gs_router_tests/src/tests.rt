@@ -18,8 +18,7 @@ mod scores;
 mod sights;
 mod verdicts;
 
-use crate::fault::RouterFault;
-use crate::router::Router;
+use gs_router::{Router, RouterFault};
 use crate::tests::cases::{
     Call, DUPLICATES, DUPLICATES_TRACE, FULL, JOINED, JOINED_TRACE, LISTENERS, LISTENERS_TRACE,
     LOST, LOST_TRACE, PARTS, PARTS_TRACE, REFUSED, REFUSED_TRACE, SHUT, SHUT_TRACE, SIGNATURES,

@@ -1,7 +1,7 @@
 //! Scores: what neighbours do, what they score then, and what those lose that score low.
 ghost use Rattle.std.specs.Prelude.{pos, ◌≡◌, IfOk};
 
-use crate::router::Router;
+use gs_router::Router;
 use crate::tests::beat_cases::Deed;
 use crate::tests::beats::live;
 use crate::tests::gossip::topic_of;

@@ -1,8 +1,7 @@
 //! Meshes, fanouts and backoffs, moment by moment.
 ghost use Rattle.std.specs.Prelude.{◌≡◌, ◌≤◌, ◌^◌, pos, unsigned_abs, IfOk};
 
-use crate::fault::RouterFault;
-use crate::router::Router;
+use gs_router::{Router, RouterFault};
 use crate::tests::beat_cases::Deed as LiveDeed;
 use crate::tests::beats::live;
 use crate::tests::gossip::topic_of;

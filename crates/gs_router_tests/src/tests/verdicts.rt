@@ -1,5 +1,5 @@
 //! What messages are found to be, and what is remembered of them.
-use crate::router::Router;
+use gs_router::Router;
 use crate::tests::{hear, is_due, router_with, words};
 use bytes::Bytes;
 use gs_base::{Mark, Millis, PeerNo, Rpc, Seq, Topic, Verdict};

@@ -1,6 +1,6 @@
 //! Offers and requests: what a router with neighbours 1 and 2 asks for, promises and sends, act by act.
 
-use crate::router::Router;
+use gs_router::Router;
 use crate::tests::gossip_cases::{
     Act, BUDGET, CHOICE, Id, OFFERS, REQUESTS, SPENT, Step, Then, WANTED,
 };

@@ -5,8 +5,7 @@ ghost use Rattle.gs_base.specs.Names.{peers_of};
 ghost use Rattle.gs_base.specs.declared.neighbour.Neighbour.{Neighbour as NeighbourValue};
 ghost use Rattle.gs_params.specs.Picks.{IsAscending};
 
-use crate::fault::RouterFault;
-use crate::router::Router;
+use gs_router::{Router, RouterFault};
 use crate::tests::beat_cases::{
     BROKEN_PROMISES, Deed, EIGHT_LISTENERS, EIGHT_WORDS, FORTY_LISTENERS, FORTY_WORDS,
     IDENTIFIERS_ANEW, KEEPING, KEPT_PROMISES, Moment, OFFERS_ANEW, READINGS, Reading, SHUT_DOWN,

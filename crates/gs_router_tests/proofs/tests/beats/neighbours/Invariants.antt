@@ -4,7 +4,7 @@ use Rattle.gs_base.specs.declared.names.PeerNo.{PeerNo}
 use Rattle.gs_base.specs.declared.neighbour.Neighbour.{Neighbour}
 use Rattle.gs_base.specs.Names.{peers_of}
 use Rattle.gs_params.specs.Picks.{IsAscending}
-use Rattle.gs_router.proofs.tests.beats.neighbours.Given as goal
+use Rattle.gs_router_tests.proofs.tests.beats.neighbours.Given as goal
 
 abbrev pub invariant-loop-below : goal.invariant-loop-below
 invariant-loop-below l = record {
