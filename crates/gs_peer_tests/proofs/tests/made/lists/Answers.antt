@@ -3,7 +3,7 @@ use Rattle.std.specs.List.{IsDistinct}
 use Rattle.std.proofs.lemmas.Map.Keys.{IsDistinct-cons}
 use Rattle.gs_base.specs.Names.{same_peer}
 use Rattle.gs_ends.specs.Lists.{Source, senders_of}
-use Rattle.gs_peer.proofs.tests.made.lists.Goals as goal
+use Rattle.gs_peer_tests.proofs.tests.made.lists.Goals as goal
 
 one_source : (xs : List Source) (x : Source) → xs ≡ x ∷ [] → IsDistinct same_peer (senders_of xs)
 unfolding IsDistinct

@@ -4,7 +4,7 @@ use Rattle.gs_base.specs.declared.names.PeerNo.{PeerNo}
 use Rattle.gs_params.specs.Picks.{IsAscending}
 use Rattle.gs_ends.specs.Ends.{has}
 use Rattle.gs_rules.specs.Peers.{links_of}
-use Rattle.gs_peer.proofs.tests.made.task_in.Goals as goal
+use Rattle.gs_peer_tests.proofs.tests.made.task_in.Goals as goal
 
 pub new-requires-2 : goal.new-requires-2
 new-requires-2 g c =

@@ -11,7 +11,7 @@ use crate::tests::made::{
     AtMost, ONE, Pair, SUBSCRIBES, Step, TWO, cut, links, lists, long_frame, made, said, says,
     says_with_heartbeats, script, script_with_heartbeats, task, task_in,
 };
-use crate::{Finished, Gate, NoGate, PeerFault, PeerTask, StopFlag, Surroundings};
+use gs_peer::{Finished, Gate, NoGate, PeerFault, PeerTask, StopFlag, Surroundings};
 use futures::executor::block_on;
 use futures::future::join;
 use gs_base::{Millis, PeerNo};

@@ -3,7 +3,7 @@ use Rattle.gs_ends.specs.Ends.{Joint, has}
 use Rattle.gs_ends.specs.Pairs.{accepted_for, joints_of, taken_from}
 use Rattle.gs_peer.specs.Task.{Gives, HasJoints, given_of}
 use Rattle.gs_peer.proofs.Polls.{joints_kept}
-use Rattle.gs_peer.proofs.tests.lives.Goals as goal
+use Rattle.gs_peer_tests.proofs.tests.lives.Goals as goal
 
 pub returns-in-Some-Ok : goal.returns-in-Some-Ok
 returns-in-Some-Ok g c =

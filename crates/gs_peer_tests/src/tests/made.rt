@@ -9,7 +9,7 @@ ghost use Rattle.gs_ends.specs.Pairs.{accepted_for, joints_of, taken_from};
 ghost use Rattle.gs_rules.specs.Peers.{links_of};
 ghost use Rattle.gs_peer.specs.Task.{CanPoll, HasJoints};
 
-use crate::{Agenda, Assignment, Gate, NoGate, PeerTask, StopFlag, Surroundings};
+use gs_peer::{Agenda, Assignment, Gate, NoGate, PeerTask, StopFlag, Surroundings};
 use bytes::Bytes;
 use futures::Future;
 use futures::task::{Context, Poll};
