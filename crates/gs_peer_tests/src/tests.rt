@@ -11,13 +11,13 @@ use crate::tests::made::{
     AtMost, ONE, Pair, SUBSCRIBES, Step, TWO, cut, links, lists, long_frame, made, said, says,
     says_with_heartbeats, script, script_with_heartbeats, task, task_in,
 };
-use gs_peer::{Finished, Gate, NoGate, PeerFault, PeerTask, StopFlag, Surroundings};
 use futures::executor::block_on;
 use futures::future::join;
 use gs_base::{Millis, PeerNo};
 use gs_ends::{LinkEnds, ListEnds};
 use gs_link::{LinkRx, LinkTx, open_link};
 use gs_params::Line;
+use gs_peer::{Finished, Gate, NoGate, PeerFault, PeerTask, StopFlag, Surroundings};
 use gs_rules::{Refusal, RefusedLine};
 use std::alloc::{AllocError, AllocGlobal, Global};
 use std::io;

@@ -190,7 +190,7 @@ fanned_all new e L marks are agrees = record {
   uses = λ t.
       agrees.uses t
       ∙ ap (has (joined (e ∷ L) t)) (
-          ap (λ (ms : List Mark). after_marks (fanned_by t) ms (dropped_by t e.event (is_some (last_published L t)))) are
-          ∙ ap (after_marks (fanned_by t) e.marks) (dropped_so t e.event (last_published L t))
-          ∙ fanned_so t e.at.0 e.marks (dropped_after t None e.event (last_published L t)));
+      ap (λ (ms : List Mark). after_marks (fanned_by t) ms (dropped_by t e.event (is_some (last_published L t)))) are
+      ∙ ap (after_marks (fanned_by t) e.marks) (dropped_so t e.event (last_published L t))
+      ∙ fanned_so t e.at.0 e.marks (dropped_after t None e.event (last_published L t)));
 }

@@ -234,9 +234,9 @@ noted_all old now new e L marks are seeing passing agrees = record {
     tells id q t from =
         passing.tells id q t from
         ∙ ap (told_of (list_any (notes id q) marks)) (
-            seeing.tells id q t (omega (arith, passing.moment, from))
-            ∙ ap (after_marks (told_after old.cache.ttl t id e.at.0) marks) (agrees.tells id q t (omega (arith, passing.moment, seeing.later, from)))
-            ∙ seen_so old.cache.ttl t id e.at.0 marks (noted L id q) (last_seen L id))
+        seeing.tells id q t (omega (arith, passing.moment, from))
+        ∙ ap (after_marks (told_after old.cache.ttl t id e.at.0) marks) (agrees.tells id q t (omega (arith, passing.moment, seeing.later, from)))
+        ∙ seen_so old.cache.ttl t id e.at.0 marks (noted L id q) (last_seen L id))
         ∙ passed_so old.cache.ttl t (list_any (notes id q) marks) (not (list_any (sees id) marks) && noted L id q) (after_marks (sighting_after id e.at.0) marks (last_seen L id))
         ∙ ap (λ (ms : List Mark). still old.cache.ttl t (option_map (telling (list_any (notes id q) ms || (not (list_any (sees id) ms) && noted L id q))) (after_marks (sighting_after id e.at.0) ms (last_seen L id)))) are
         ∙ ap (λ (ttl : ℕ). told_in ttl (e ∷ L) id q t) (sym (passing.ttl ∙ seeing.ttl))

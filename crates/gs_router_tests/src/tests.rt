@@ -18,7 +18,6 @@ mod scores;
 mod sights;
 mod verdicts;
 
-use gs_router::{Router, RouterFault};
 use crate::tests::cases::{
     Call, DUPLICATES, DUPLICATES_TRACE, FULL, JOINED, JOINED_TRACE, LISTENERS, LISTENERS_TRACE,
     LOST, LOST_TRACE, PARTS, PARTS_TRACE, REFUSED, REFUSED_TRACE, SHUT, SHUT_TRACE, SIGNATURES,
@@ -28,6 +27,7 @@ use crate::tests::made::{Row, What, event_of, is_trace};
 use bytes::Bytes;
 use gs_base::{Millis, Neighbour, PeerNo, Rpc, Topic, clone_of};
 use gs_params::{Params, SeededWords, Words};
+use gs_router::{Router, RouterFault};
 use gs_rules::{Event, Refusal, Trace};
 use gs_wire::{MAX_BODY, encode};
 use std::alloc::{AllocError, Global};

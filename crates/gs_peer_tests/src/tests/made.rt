@@ -9,7 +9,6 @@ ghost use Rattle.gs_ends.specs.Pairs.{accepted_for, joints_of, taken_from};
 ghost use Rattle.gs_rules.specs.Peers.{links_of};
 ghost use Rattle.gs_peer.specs.Task.{CanPoll, HasJoints};
 
-use gs_peer::{Agenda, Assignment, Gate, NoGate, PeerTask, StopFlag, Surroundings};
 use bytes::Bytes;
 use futures::Future;
 use futures::task::{Context, Poll};
@@ -17,6 +16,7 @@ use gs_base::{Neighbour, PeerNo, Rpc, Topic};
 use gs_ends::{Ends, LinkEnds, ListEnds};
 use gs_link::{Item, LinkRx, LinkTx};
 use gs_params::{Line, Params, SeededWords, What};
+use gs_peer::{Agenda, Assignment, Gate, NoGate, PeerTask, StopFlag, Surroundings};
 use gs_router::Router;
 use gs_rules::{Event, Trace};
 use gs_wire::encode_frame;

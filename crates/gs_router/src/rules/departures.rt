@@ -17,12 +17,7 @@ use gs_rules::{Entry, Event};
 use std::alloc::AllocError;
 
 /// The entry of a neighbour that subscribes to a topic, or leaves it.
-pub fn entry_of(
-    state: &State,
-    from: PeerNo,
-    sub: SubOpt,
-    now: Millis,
-) -> Result<Entry, AllocError>
+pub fn entry_of(state: &State, from: PeerNo, sub: SubOpt, now: Millis) -> Result<Entry, AllocError>
     ensures { IfOk result (λ entry. (L : Entries)
         → Knows state.now now.0 L
         → entry ≡ sub_rule (peer_with state.now.setup) L now from sub) }
@@ -67,12 +62,7 @@ fn fanned_of(state: &State, topic: &Topic, peer: PeerNo) -> Result<Vec<PeerNo>, 
 }
 
 /// The entry of an event by which a neighbour is lost: it leaves every mesh and every fanout.
-pub fn lost(
-    state: &State,
-    peer: PeerNo,
-    event: Event,
-    now: Millis,
-) -> Result<Entry, AllocError>
+pub fn lost(state: &State, peer: PeerNo, event: Event, now: Millis) -> Result<Entry, AllocError>
     ensures { IfOk result (λ entry. (L : Entries)
         → Knows state.now now.0 L
         → entry ≡ lost_rule (peer_with state.now.setup) L now peer event) }

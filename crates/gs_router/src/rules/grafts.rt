@@ -188,12 +188,7 @@ fn refusing(
 }
 
 /// The entry of a GRAFT whose sender comes into the mesh.
-fn accepting(
-    alloc: Global,
-    from: PeerNo,
-    graft: Graft,
-    now: Millis,
-) -> Result<Entry, AllocError>
+fn accepting(alloc: Global, from: PeerNo, graft: Graft, now: Millis) -> Result<Entry, AllocError>
     ensures { IfOk result (λ entry. entry ≡ accepting now from graft) }
 {
     let topic = Topic::or_empty(&graft.topic)?;
@@ -235,12 +230,7 @@ fn answered(
 }
 
 /// The entry of a GRAFT.
-pub fn graft(
-    state: &State,
-    from: PeerNo,
-    graft: Graft,
-    now: Millis,
-) -> Result<Entry, AllocError>
+pub fn graft(state: &State, from: PeerNo, graft: Graft, now: Millis) -> Result<Entry, AllocError>
     ensures { IfOk result (λ entry. (L : Entries)
         → Knows state.now now.0 L
         → entry ≡ graft_rule (peer_with state.now.setup) L now from graft) }
@@ -265,12 +255,7 @@ fn asked_backoff(otherwise: u64, asked: Option<u64>) -> u64
 }
 
 /// The entry of a PRUNE.
-pub fn prune(
-    state: &State,
-    from: PeerNo,
-    prune: Prune,
-    now: Millis,
-) -> Result<Entry, AllocError>
+pub fn prune(state: &State, from: PeerNo, prune: Prune, now: Millis) -> Result<Entry, AllocError>
     ensures { IfOk result (λ entry. (L : Entries)
         → Knows state.now now.0 L
         → entry ≡ prune_rule (peer_with state.now.setup) L now from prune) }

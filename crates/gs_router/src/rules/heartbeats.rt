@@ -123,11 +123,7 @@ fn told(state: &State, topic: &Topic, now: Millis) -> Result<Vec<PeerNo>, AllocE
 }
 
 /// Those of these neighbours that are neither in the mesh of a topic nor in its fanout.
-fn those_outside(
-    state: &State,
-    topic: &Topic,
-    peers: &[PeerNo],
-) -> Result<Vec<PeerNo>, AllocError>
+fn those_outside(state: &State, topic: &Topic, peers: &[PeerNo]) -> Result<Vec<PeerNo>, AllocError>
     ensures { IfOk result (λ found. (L : Entries)
         → Agrees state.now.tables L
         → found.items

@@ -116,11 +116,7 @@ fn charge_one(
     if missing == 0 {
         return Ok(());
     }
-    marks.push(Mark::Deficit(
-        pair.0,
-        clone_of(&pair.1)?,
-        i128::from(missing),
-    ))?;
+    marks.push(Mark::Deficit(pair.0, clone_of(&pair.1)?, i128::from(missing)))?;
     Ok(())
 }
 

@@ -20,9 +20,7 @@ ghost use Rattle.gs_router.specs.State.{Knows, judged, peer_with};
 use crate::rules::{bare, to_each};
 use crate::state::State;
 use bytes::Bytes;
-use gs_base::{
-    Mark, Message, Millis, MsgId, PeerNo, Rpc, Seq, Shared, Topic, Verdict, clone_of,
-};
+use gs_base::{Mark, Message, Millis, MsgId, PeerNo, Rpc, Seq, Shared, Topic, Verdict, clone_of};
 use gs_params::{DEFAULT_TOPIC_WINDOWS, TopicParams};
 use gs_rules::{Entry, Event};
 use std::alloc::{AllocError, Global};

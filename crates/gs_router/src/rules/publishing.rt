@@ -239,7 +239,12 @@ pub fn publish<W: Words>(
         let entry = without_fanout(state, publishing, &receivers, now)?;
         return Ok(entry);
     }
-    if state.tables.memberships.fanout(&publishing.topic).is_empty() {
+    if state
+        .tables
+        .memberships
+        .fanout(&publishing.topic)
+        .is_empty()
+    {
         let entry = to_new_fanout(state, publishing, now, words)?;
         return Ok(entry);
     }

@@ -114,18 +114,18 @@ pub fn subscribe<W: Words>(
 }
 
 /// The entry of a subscription by which these come into the mesh of its topic.
-fn joining(
-    state: &State,
-    topic: Topic,
-    chosen: &[PeerNo],
-    now: Millis,
-) -> Result<Entry, AllocError>
+fn joining(state: &State, topic: Topic, chosen: &[PeerNo], now: Millis) -> Result<Entry, AllocError>
     ensures { IfOk result (λ entry. (L : Entries)
         → Knows state.now now.0 L
         → entry ≡ joining (peer_with state.now.setup) L now topic chosen.now) }
 {
     let mut sends = announced(state, true, &topic)?;
-    send_to_each(state.alloc, &mut sends, grafting(state.alloc, &topic)?, chosen)?;
+    send_to_each(
+        state.alloc,
+        &mut sends,
+        grafting(state.alloc, &topic)?,
+        chosen,
+    )?;
     let mut marks = Seq::new(state.alloc);
     let pairs = membership::each_on(state.alloc, &topic, chosen)?;
     membership::enter(&mut marks, pairs.as_slice())?;
@@ -149,7 +149,12 @@ pub fn unsubscribe(state: &State, topic: Topic, now: Millis) -> Result<Entry, Al
     let seconds = state.setup.params.windows.unsubscribe_backoff_s;
     let members = state.tables.memberships.members(&topic);
     let mut sends = announced(state, false, &topic)?;
-    send_to_each(state.alloc, &mut sends, pruning(state.alloc, &topic, seconds)?, members)?;
+    send_to_each(
+        state.alloc,
+        &mut sends,
+        pruning(state.alloc, &topic, seconds)?,
+        members,
+    )?;
     let mut marks = Seq::new(state.alloc);
     let pairs = membership::each_on(state.alloc, &topic, members)?;
     membership::leave(state, &mut marks, pairs.as_slice(), now)?;

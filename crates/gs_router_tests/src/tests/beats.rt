@@ -5,7 +5,6 @@ ghost use Rattle.gs_base.specs.Names.{peers_of};
 ghost use Rattle.gs_base.specs.declared.neighbour.Neighbour.{Neighbour as NeighbourValue};
 ghost use Rattle.gs_params.specs.Picks.{IsAscending};
 
-use gs_router::{Router, RouterFault};
 use crate::tests::beat_cases::{
     BROKEN_PROMISES, Deed, EIGHT_LISTENERS, EIGHT_WORDS, FORTY_LISTENERS, FORTY_WORDS,
     IDENTIFIERS_ANEW, KEEPING, KEPT_PROMISES, Moment, OFFERS_ANEW, READINGS, Reading, SHUT_DOWN,
@@ -18,6 +17,7 @@ use crate::tests::{checked, hear, is_due, neighbour, router_with, words};
 use bytes::Bytes;
 use gs_base::{Millis, Neighbour, PeerNo, Rpc, Seq};
 use gs_params::{Params, SeededWords, TopicParams};
+use gs_router::{Router, RouterFault};
 use std::alloc::{AllocError, Global};
 use std::ops::Range;
 

@@ -1,6 +1,5 @@
 //! Offers and requests: what a router with neighbours 1 and 2 asks for, promises and sends, act by act.
 
-use gs_router::Router;
 use crate::tests::gossip_cases::{
     Act, BUDGET, CHOICE, Id, OFFERS, REQUESTS, SPENT, Step, Then, WANTED,
 };
@@ -10,6 +9,7 @@ use gs_base::{
     Control, IHave, IWant, Mark, Message, Millis, MsgId, PeerNo, Rpc, Seq, Shared, Topic,
 };
 use gs_params::{Params, SeededWords};
+use gs_router::Router;
 use gs_rules::{Entry, Event};
 use std::alloc::{AllocError, Global};
 

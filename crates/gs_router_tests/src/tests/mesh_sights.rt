@@ -1,7 +1,7 @@
 //! What is seen of a router's mesh of `a` after each deed.
-use gs_router::Router;
 use crate::tests::mesh_cases::{Left, Said};
 use gs_base::{Control, Mark, Millis, MsgId, PeerNo, Rpc, Shared, Topic, Verdict};
+use gs_router::Router;
 
 fn is_a(topic: &Topic) -> bool {
     topic.0.as_slice() == b"a".as_slice()

@@ -1,7 +1,6 @@
 //! Meshes, fanouts and backoffs, moment by moment.
 ghost use Rattle.std.specs.Prelude.{◌≡◌, ◌≤◌, ◌^◌, pos, unsigned_abs, IfOk};
 
-use gs_router::{Router, RouterFault};
 use crate::tests::beat_cases::Deed as LiveDeed;
 use crate::tests::beats::live;
 use crate::tests::gossip::topic_of;
@@ -15,6 +14,7 @@ use crate::tests::{checked, hear, is_due, neighbour, router_with, words};
 use bytes::Bytes;
 use gs_base::{Control, Graft, Millis, Neighbour, PeerNo, Prune, Rpc, Seq, Topic};
 use gs_params::{Degrees, Params, SeededWords, TopicParams};
+use gs_router::{Router, RouterFault};
 use std::alloc::{AllocError, Global};
 
 // ---- what is done

@@ -1,7 +1,6 @@
 //! Scores: what neighbours do, what they score then, and what those lose that score low.
 ghost use Rattle.std.specs.Prelude.{pos, ◌≡◌, IfOk};
 
-use gs_router::Router;
 use crate::tests::beat_cases::Deed;
 use crate::tests::beats::live;
 use crate::tests::gossip::topic_of;
@@ -10,6 +9,7 @@ use crate::tests::{checked, router_with, words};
 use bytes::Bytes;
 use gs_base::{Millis, Neighbour, PeerNo, Seq};
 use gs_params::{Params, TopicParams};
+use gs_router::Router;
 use gs_rules::Entry;
 use std::alloc::{AllocError, Global};
 

@@ -1,9 +1,9 @@
 //! What is seen of a router after each deed.
-use gs_router::Router;
 use crate::tests::beat_cases::{Gossip, Seen};
 use crate::tests::gossip::{are_ids, ends_with};
 use crate::tests::gossip_cases::Then;
 use gs_base::{Mark, PeerNo, Rpc, Shared, Topic};
+use gs_router::Router;
 use gs_rules::{Entry, Event};
 
 /// How many promises were broken: each left a mark.

@@ -1,9 +1,9 @@
 //! What messages are found to be, and what is remembered of them.
-use gs_router::Router;
 use crate::tests::{hear, is_due, router_with, words};
 use bytes::Bytes;
 use gs_base::{Mark, Millis, PeerNo, Rpc, Seq, Topic, Verdict};
 use gs_params::{Params, TopicParams};
+use gs_router::Router;
 use gs_rules::Entry;
 use gs_wire::decode;
 use std::alloc::{AllocError, Global};

@@ -19,6 +19,6 @@ returns c = λ L knows.
     let fanned = c.as_slice-3.ensures.value ∙ topics in
     let gone = c.in_ok-leave.ensures L knows ∙ ap₂ (λ (start : List Mark) (pairs : List (PeerNo × Topic)). start ++ leaving p L c.args.now.0 pairs) c.new-marks.ensures left in
     let marks : c.unfan_everywhere.new.marks ≡ losing_marks p L c.args.now.0 q =
-      c.in_ok-unfan_everywhere.ensures L knows.agrees
-      ∙ ap₂ (λ (ms : List Mark) (ts : List Topic). ms ++ map (Unfanned q) (filter (λ (t : Topic). is_among (fanout L t) q) ts)) gone fanned in
+    c.in_ok-unfan_everywhere.ensures L knows.agrees
+    ∙ ap₂ (λ (ms : List Mark) (ts : List Topic). ms ++ map (Unfanned q) (filter (λ (t : Topic). is_among (fanout L t) q) ts)) gone fanned in
     ap₂ (λ (e : Entry) (ms : List Mark). record e { marks = ms }) c.bare.ensures marks
