@@ -18,6 +18,7 @@ pub mod Fitting
 pub mod Spelled
 pub mod Counted
 pub mod UpMembers
+pub mod CameIn
 pub mod AfterShut
 pub mod Examples
 pub mod GossipExamples

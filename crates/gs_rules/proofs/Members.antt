@@ -67,7 +67,7 @@ put_are P q (r ∷ qs) one all = by (nat_cmp r.0 q.0) (put_are P q qs one all.1)
     by Greater rest = (one, all)
 
 -- who is among all but one
-among_without : (q : PeerNo) (qs : List PeerNo) → AllByRecursion (λ (r : PeerNo). (is_among qs r ≡ true) × (same_peer q r ≡ false)) (without q qs)
+pub among_without : (q : PeerNo) (qs : List PeerNo) → AllByRecursion (λ (r : PeerNo). (is_among qs r ≡ true) × (same_peer q r ≡ false)) (without q qs)
 among_without q qs = each_passing (λ (r : PeerNo). is_among qs r ≡ true) (λ (r : PeerNo). (is_among qs r ≡ true) × (same_peer q r ≡ false)) (λ (r : PeerNo). not (same_peer q r)) (λ r out is. (is, apart (same_peer q r) out)) qs (each_among qs)
   where
     apart : (b : Bool) → not b ≡ true → b ≡ false
@@ -112,11 +112,11 @@ GraftsNone other = Unit {0}
 abbrev pub Stays : Topic → List PeerNo → List Mark → PeerNo → Type 0
 Stays t before marks r = (is_among before r ≡ true) × (list_any (prunes t r) marks ≡ false)
 
-neither : (a b : Bool) → a ≡ false → (a && b) ≡ false
+pub neither : (a b : Bool) → a ≡ false → (a && b) ≡ false
 neither true b is = absurd cc
 neither false b is = refl
 
-nor : (a b : Bool) → b ≡ false → (a && b) ≡ false
+pub nor : (a b : Bool) → b ≡ false → (a && b) ≡ false
 nor true b is = is
 nor false b is = refl
 

@@ -18,7 +18,7 @@ ghost use Rattle.gs_rules.specs.declared.trace.Event.TheVariants.{Promises, Shut
 ghost use Rattle.gs_rules.specs.declared.refusal.RefusedLine.{RefusedLine};
 ghost use Rattle.gs_rules.specs.Peers.{Peer, links_of, seen_ttl};
 ghost use Rattle.gs_rules.specs.Tables.{Entries, Keeping, is_shut, joined, kept, keeping_order, own_topics, promises, topic_order, up};
-ghost use Rattle.gs_rules.specs.Meshes.{backoff, mesh};
+ghost use Rattle.gs_rules.specs.Meshes.{CameIn, backoff, mesh};
 ghost use Rattle.gs_rules.specs.Scoring.{IsFromNeighbour, change_of, changed_after, has_counters, history, is_neighbour, score};
 ghost use Rattle.gs_rules.specs.Gossip.{IsKeptOn, IsOpen, WasLeftOpen, charges, gossip, gossipable, overdue};
 ghost use Rattle.gs_rules.specs.Owed.{beats, gossip_topics, owed};
@@ -242,6 +242,18 @@ pub fn nothing_changes_a_score_behind_a_shut()
         → score p (later ++ e ∷ earlier) at q ≡ score p earlier at q }
 {}
 
+/// Once a peer has shut down, its meshes stay what they were before, and so do the topics that it is subscribed to.
+pub fn nothing_changes_a_mesh_behind_a_shut()
+    ensures members { (p : Peer) (later earlier : Entries) (e : Entry) (t : Topic)
+        → Legal p (later ++ e ∷ earlier)
+        → e.event ≡ Shut
+        → mesh (later ++ e ∷ earlier) t ≡ mesh earlier t }
+    ensures topics { (p : Peer) (later earlier : Entries) (e : Entry)
+        → Legal p (later ++ e ∷ earlier)
+        → e.event ≡ Shut
+        → own_topics (later ++ e ∷ earlier) ≡ own_topics earlier }
+{}
+
 /// Each member of a mesh of a legal trace is up, until the peer shuts down; and it is a neighbour, where all GRAFTs that
 /// came, came of neighbours.
 pub fn mesh_members_are_up()
@@ -257,9 +269,14 @@ pub fn mesh_members_are_up()
         → is_neighbour p q ≡ true }
 {}
 
-/// Where an entry of a legal trace says that a neighbour came into a mesh, this was not in backoff at that moment.
+/// Each member of a mesh of a legal trace came into it by an entry, when it was not in backoff there, and no later entry
+/// says that it left. Nor was anybody else that an entry says came into a mesh.
 pub fn a_member_was_not_in_backoff()
-    ensures { (p : Peer) (later earlier : Entries) (e : Entry) (q : PeerNoValue) (t : Topic)
+    ensures member { (p : Peer) (entries : Entries) (q : PeerNoValue) (t : Topic)
+        → Legal p entries
+        → is_among (mesh entries t) q ≡ true
+        → CameIn q t entries }
+    ensures anybody { (p : Peer) (later earlier : Entries) (e : Entry) (q : PeerNoValue) (t : Topic)
         → Legal p (later ++ e ∷ earlier)
         → IsAmong e.marks (Grafted q t)
         → nat_le (backoff earlier q t) e.at.0 ≡ true }

@@ -194,6 +194,7 @@ fn laws_can_be_called(_rt: HostRuntime) {
     what_is_kept_is_gossiped();
     each_mark_of_a_legal_trace_counts();
     nothing_changes_a_score_behind_a_shut();
+    nothing_changes_a_mesh_behind_a_shut();
     mesh_members_are_up();
     a_member_was_not_in_backoff();
     meshes_are_of_own_topics();
