@@ -14,7 +14,8 @@ use Rattle.gs_mesh.specs.Peers.{is_among, put_in, without}
 use Rattle.gs_rules.specs.declared.trace.Entry.{Entry}
 use Rattle.gs_rules.specs.Peers.{Peer}
 use Rattle.gs_rules.specs.Tables.{Entries, after_marks}
-use Rattle.gs_rules.specs.Meshes.{CameIn, mesh, mesh_after}
+use Rattle.gs_rules.specs.Arrivals.{CameIn}
+use Rattle.gs_rules.specs.Meshes.{mesh, mesh_after}
 use Rattle.gs_rules.specs.Legal.{Legal}
 use Rattle.gs_rules.proofs.Each.{each_weaker}
 use Rattle.gs_rules.proofs.Marks.{each_among}

@@ -1,6 +1,7 @@
 pub mod Peers
 pub mod Tables
 pub mod Meshes
+pub mod Arrivals
 pub mod Scoring
 pub mod Membership
 pub mod Gossip

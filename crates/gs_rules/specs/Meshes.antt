@@ -1,7 +1,7 @@
 -- The meshes and fanouts of topics, and who is not to be grafted yet, as a trace has them (gossipsub v1.0, "Router
 -- State"; v1.1, "Prune Backoff").
-use Rattle.std.specs.Prelude.{◌≡◌, ℕ, max, Bool, true, false, not, ◌&&◌, ◌||◌, if◌then◌else◌, nat_le, List, [], ◌∷◌, ◌++◌, filter, Option, Some, None, is_some}
-use Rattle.std.specs.List.{AllByRecursion, IsAmong, list_any}
+use Rattle.std.specs.Prelude.{ℕ, max, Bool, true, false, not, ◌&&◌, ◌||◌, if◌then◌else◌, List, [], ◌∷◌, ◌++◌, filter, Option, Some, None, is_some}
+use Rattle.std.specs.List.{list_any}
 use Rattle.gs_base.specs.declared.names.PeerNo.{PeerNo}
 use Rattle.gs_base.specs.declared.names.Topic.{Topic}
 use Rattle.gs_base.specs.declared.names.MsgId.{MsgId}
@@ -80,19 +80,6 @@ backoff_after q t other before = before
 abbrev pub backoff : Entries → PeerNo → Topic → ℕ
 backoff [] q t = 0
 backoff (e ∷ L) q t = after_marks (backoff_after q t) e.marks (backoff L q t)
-
--- ---- how a member came
-
--- A neighbour came into the mesh of a topic by an entry, when it was not in backoff there, and no later entry says that
--- it left.
-pub record CameIn (q : PeerNo) (t : Topic) (L : Entries) : Type 0 where
-  pub later : Entries
-  pub entry : Entry
-  pub earlier : Entries
-  pub are : L ≡ later ++ entry ∷ earlier
-  pub came : IsAmong entry.marks (Grafted q t)
-  pub rested : nat_le (backoff earlier q t) entry.at.0 ≡ true
-  pub stayed : AllByRecursion (λ (e : Entry). ¬ (IsAmong e.marks (Pruned q t))) later
 
 -- ---- who passed a message on
 

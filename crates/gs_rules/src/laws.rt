@@ -18,7 +18,8 @@ ghost use Rattle.gs_rules.specs.declared.trace.Event.TheVariants.{Promises, Shut
 ghost use Rattle.gs_rules.specs.declared.refusal.RefusedLine.{RefusedLine};
 ghost use Rattle.gs_rules.specs.Peers.{Peer, links_of, seen_ttl};
 ghost use Rattle.gs_rules.specs.Tables.{Entries, Keeping, is_shut, joined, kept, keeping_order, own_topics, promises, topic_order, up};
-ghost use Rattle.gs_rules.specs.Meshes.{CameIn, backoff, mesh};
+ghost use Rattle.gs_rules.specs.Meshes.{backoff, mesh};
+ghost use Rattle.gs_rules.specs.Arrivals.{CameIn};
 ghost use Rattle.gs_rules.specs.Scoring.{IsFromNeighbour, change_of, changed_after, has_counters, history, is_neighbour, score};
 ghost use Rattle.gs_rules.specs.Gossip.{IsKeptOn, IsOpen, WasLeftOpen, charges, gossip, gossipable, overdue};
 ghost use Rattle.gs_rules.specs.Owed.{beats, gossip_topics, owed};
