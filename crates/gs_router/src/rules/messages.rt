@@ -282,17 +282,19 @@ fn accepting(
     })
 }
 
-/// The entry of a message of which this becomes, where these are in the mesh of its topic.
+/// The entry of a message of which this becomes. The members of its topic's mesh are looked up where it is accepted.
 fn judged(
-    alloc: Global,
+    state: &State,
     from: PeerNo,
     message: Shared<Message>,
     fate: Fate,
-    members: &[PeerNo],
     now: Millis,
 ) -> Result<Entry, AllocError>
-    ensures { IfOk result (λ entry. entry ≡ judged members.now from now message fate) }
+    ensures { IfOk result (λ entry. (L : Entries)
+        → Agrees state.now.tables L
+        → entry ≡ judged (mesh L (topic_of message)) from now message fate) }
 {
+    let alloc = state.alloc;
     match fate {
         Fate::Dropped => Ok(bare(alloc, now, Event::Msg(from, message))),
         Fate::Invalid => {
@@ -318,6 +320,7 @@ fn judged(
             })
         }
         Fate::Accepted(id) => {
+            let members = members_of(state, &message.get().topic);
             let entry = accepting(alloc, from, message, id, members, now)?;
             Ok(entry)
         }
@@ -346,7 +349,6 @@ pub fn entry_of(
         → entry ≡ message_rule (peer_with state.now.setup) L now from message) }
 {
     let fate = fate_of(state, from, message.get(), now);
-    let members = members_of(state, &message.get().topic);
-    let entry = judged(state.alloc, from, message, fate, members, now)?;
+    let entry = judged(state, from, message, fate, now)?;
     Ok(entry)
 }
