@@ -62,6 +62,11 @@ refused_line plan name r =
     codes "refused " ++ name ++ codes " " ++ decimal r.at.0 ++ codes " " ++ word_of plan r.line
     ++ codes " " ++ decimal (number_of r.why) ++ codes "\n"
 
+-- `mesh PEER TOPIC MEMBER`
+abbrev pub mesh_line : Plan → List ℕ → Topic × PeerNo → List ℕ
+mesh_line plan name x =
+    codes "mesh " ++ name ++ codes " " ++ x.0.0 ++ codes " " ++ name_of plan x.1 ++ codes "\n"
+
 -- `score PEER NEIGHBOUR SCORE`
 abbrev pub score_line : Plan → List ℕ → PeerNo × ℤ → List ℕ
 score_line plan name x =
@@ -81,15 +86,21 @@ delivered_lines plan x = flat_map (entry_lines (name_of plan x.0)) (reverse x.1.
 abbrev pub refused_lines : Plan → PeerNo × Finished → List ℕ
 refused_lines plan x = flat_map (refused_line plan (name_of plan x.0)) x.1.refused
 
+-- who was in its meshes
+abbrev pub mesh_lines : Plan → PeerNo × Finished → List ℕ
+mesh_lines plan x = flat_map (mesh_line plan (name_of plan x.0)) x.1.meshes
+
 -- what its neighbours scored
 abbrev pub score_lines : Plan → PeerNo × Finished → List ℕ
 score_lines plan x = flat_map (score_line plan (name_of plan x.0)) x.1.scores
 
 -- ---- the report
 
--- what was delivered, peer by peer, then what was refused, what neighbours scored, and last how many links were settled
+-- what was delivered, peer by peer, then what was refused, who was in meshes, what neighbours scored, and last how many
+-- links were settled
 abbrev pub report_text : Plan → Report → List ℕ
 report_text plan report =
     flat_map (delivered_lines plan) report.peers.items ++ flat_map (refused_lines plan) report.peers.items
+    ++ flat_map (mesh_lines plan) report.peers.items
     ++ flat_map (score_lines plan) report.peers.items
     ++ links_line report.settled

@@ -1,7 +1,7 @@
 //! What a run reports.
 ghost use Rattle.std.specs.Prelude.{◌≡◌, ◌++◌, ◌<◌, IfOk, OnOk, string_bytes};
 ghost use Rattle.std.specs.List.{flat_map};
-ghost use Rattle.gossip_sim.specs.Report.{delivered_line, delivered_lines, digit, entry_lines, links_line, name_of, payload_text, refused_line, refused_lines, report_text, score_line, score_lines, score_text, word_of};
+ghost use Rattle.gossip_sim.specs.Report.{delivered_line, delivered_lines, digit, entry_lines, links_line, mesh_line, mesh_lines, name_of, payload_text, refused_line, refused_lines, report_text, score_line, score_lines, score_text, word_of};
 
 use bytes::Bytes;
 use gs_base::{Millis, PeerNo, Topic};
@@ -13,7 +13,8 @@ use std::alloc::{AllocError, Global};
 
 /// The text of a run's report: first a line for each message that was delivered, peer by peer in the
 /// order of its trace, then a line for each refusal, peer by peer in the order of its list, then a line for
-/// each score of a neighbour, and last the line of the links. A peer has the name that the plan gives its number.
+/// each member of a mesh, one for each score of a neighbour, and last the line of the links. A peer has the
+/// name that the plan gives its number.
 ///
 /// # Errors
 /// `AllocError` where there was no memory for it.
@@ -23,6 +24,7 @@ pub fn report_text(alloc: Global, plan: &Plan, report: &Report) -> Result<Vec<u8
     let mut text = Vec::new(alloc);
     push_delivered(alloc, &mut text, plan, &report.peers)?;
     push_refused(alloc, &mut text, plan, &report.peers)?;
+    push_meshes(alloc, &mut text, plan, &report.peers)?;
     push_scores(alloc, &mut text, plan, &report.peers)?;
     push_links(alloc, &mut text, report.settled)?;
     Ok(text)
@@ -150,6 +152,62 @@ fn push_refusal(
     let front = format!(in alloc; "refused {name} {moment} ")?;
     let back = format!(in alloc; "{word} {number}\n")?;
     text.extend_from_slice(front.as_bytes())?;
+    text.extend_from_slice(back.as_bytes())
+}
+
+/// Adds the lines of who was in the meshes of all peers.
+fn push_meshes(
+    alloc: Global,
+    text: &mut Vec<u8>,
+    plan: &Plan,
+    peers: &[(PeerNo, Finished)],
+) -> Result<(), AllocError>
+    ensures { OnOk result (text.new.items
+        ≡ text.old.items ++ flat_map (mesh_lines plan.now) peers.now) }
+{
+    for (number, life) in peers {
+        push_members(
+            alloc,
+            text,
+            plan,
+            name_of(plan, *number),
+            life.meshes.as_slice(),
+        )?;
+    }
+    Ok(())
+}
+
+/// Adds the lines of who was in a peer's meshes.
+fn push_members(
+    alloc: Global,
+    text: &mut Vec<u8>,
+    plan: &Plan,
+    name: &str,
+    members: &[(Topic, PeerNo)],
+) -> Result<(), AllocError>
+    ensures { OnOk result (text.new.items ≡ text.old.items ++ flat_map (mesh_line plan.now name.now) members.now) }
+{
+    for member in members {
+        push_member(alloc, text, plan, name, member)?;
+    }
+    Ok(())
+}
+
+/// Adds the line of who was in a mesh.
+fn push_member(
+    alloc: Global,
+    text: &mut Vec<u8>,
+    plan: &Plan,
+    name: &str,
+    member: &(Topic, PeerNo),
+) -> Result<(), AllocError>
+    ensures { OnOk result (text.new.items ≡ text.old.items ++ mesh_line plan.now name.now member.now) }
+{
+    let (topic, peer) = member;
+    let front = format!(in alloc; "mesh {name} ")?;
+    let back = format!(in alloc; " {}\n", name_of(plan, *peer))?;
+    text.extend_from_slice(front.as_bytes())?;
+    text.extend_from_slice(&topic.0)?;
     text.extend_from_slice(back.as_bytes())
 }
 

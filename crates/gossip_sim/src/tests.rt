@@ -1,4 +1,5 @@
 //! Whole runs, from a scenario to its report.
+mod meshes;
 mod standings;
 
 use crate::program::tests::Host;
@@ -184,39 +185,6 @@ fn what_is_heard_comes_first_and_by_neighbour(rt: HostRuntime) -> Result<(), All
         score a c 0.000000\nscore b c 0.000000\nscore c a 0.000000\nscore c b 0.000000\n\
         links 4 settled\n";
     assert!(rt; reports(&rt, &[TWO, C, C_DIALS_BOTH], &script, report)?);
-    Ok(())
-}
-
-/// Three peers in a line, with a heartbeat every 500 milliseconds.
-const LINE: &str = "round_ms = 100\nrounds = 10\nworkers = 3\ncapacity = 8\nseed = 1\n\
-    [params]\nheartbeat_ms = 500\n[[topic]]\nname = \"news\"\n\
-    [[peer]]\nname = \"a\"\n[[peer]]\nname = \"b\"\n[[peer]]\nname = \"c\"\n\
-    [[dial]]\nfrom = \"a\"\nto = \"b\"\n[[dial]]\nfrom = \"b\"\nto = \"c\"\n";
-
-/// What `a` published reaches `c`, too.
-const HEALED: &str = "delivered a 200 news 616263\ndelivered b 300 news 616263\n\
-    delivered c 800 news 616263\n\
-    score a b 0.000000\nscore b a 0.000000\n\
-    score b c 0.000000\nscore c b 0.000000\nlinks 4 settled\n";
-
-/// It reaches `b` alone.
-const BROKEN: &str = "delivered a 200 news 616263\ndelivered b 300 news 616263\n\
-    score a b 0.000000\nscore b a 0.000000\n\
-    score b c 0.000000\nscore c b 0.000000\nlinks 4 settled\n";
-
-/// `b` offers in round 5 what it heard. `c` asks for it in round 6 and gets it in round 8, where it
-/// subscribed by round 4: that is heard in round 5 ahead of the heartbeat.
-#[test]
-fn gossip_heals_a_line(rt: HostRuntime) -> Result<(), AllocError> {
-    for (joins, report) in [(0, HEALED), (4, HEALED), (5, BROKEN)] {
-        let script: [Told<'_>; 4] = [
-            (0, "a", "subscribe", "news", None),
-            (0, "b", "subscribe", "news", None),
-            (joins, "c", "subscribe", "news", None),
-            (2, "a", "publish", "news", Some("616263")),
-        ];
-        assert!(rt; reports(&rt, &[LINE], &script, report)?);
-    }
     Ok(())
 }
 

@@ -1,9 +1,9 @@
 //! What an entry of a trace leaves to be remembered.
-use crate::names::{MsgId, PeerNo, Topic};
+use crate::names::{Millis, MsgId, PeerNo, Topic};
 use crate::verdict::Verdict;
 
 /// What an entry leaves to be remembered. Counters of scores are raised by these marks alone (gossipsub
-/// v1.1, Peer Scoring). The rules make all but `Near` and `Deficit` so far.
+/// v1.1, Peer Scoring), and meshes, fanouts and backoffs are made of them (v1.0, Router State).
 #[derive(Debug, Drop, PartialEq, Eq)]
 pub enum Mark {
     /// A message with this identifier was seen, and found to be so.
@@ -27,4 +27,16 @@ pub enum Mark {
     HeardHave(PeerNo),
     /// So many identifiers were asked of a neighbour, which count against its budget.
     Asked(PeerNo, u32),
+    /// A neighbour came into the mesh of this topic.
+    Grafted(PeerNo, Topic),
+    /// A neighbour left the mesh of this topic.
+    Pruned(PeerNo, Topic),
+    /// A neighbour came into the fanout of this topic.
+    Fanned(PeerNo, Topic),
+    /// A neighbour left the fanout of this topic.
+    Unfanned(PeerNo, Topic),
+    /// A neighbour is not to be grafted to the mesh of this topic before a moment (gossipsub v1.1, Prune Backoff).
+    Backoff(PeerNo, Topic, Millis),
+    /// The peer published on this topic without being subscribed, which keeps a fanout.
+    Published(Topic),
 }

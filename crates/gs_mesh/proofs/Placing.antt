@@ -1,6 +1,8 @@
 -- A peer is put in its place among ascending ones.
-use Rattle.std.proofs.Common.{◌≡◌, ◌⊎◌, ◌≤◌, ◌<◌, ◌+◌, ◌-◌, ℕ, ⊎_elim, Bool, true, false, ◌||◌, List, ◌∷◌, length, Less, Equal, Greater, refl, sym, ap, subst, ◌∙◌, arith}
-use Rattle.std.specs.Prelude.{insert, get_or, nat_eq}
+use Rattle.std.proofs.Common.{◌≡◌, ◌⊎◌, ◌≤◌, ◌<◌, ◌+◌, ◌-◌, ℕ, zero, suc, ⊎_elim, List, [], ◌∷◌, length, Less, Equal, Greater, refl, sym, ap, subst, ◌∙◌, arith}
+use Rattle.std.specs.declared.cmp.Ordering.{Ordering}
+use Rattle.std.specs.FinMap.Entries.{by_order}
+use Rattle.std.specs.Prelude.{insert, get_or}
 use Rattle.std.specs.List.{AllPairs}
 use Rattle.std.specs.List.Sorted.{IsNonDecreasingBy, IsPartitionPoint}
 use Rattle.std.specs.Ordering.{MatchOrdering, nat_cmp, ordering_index}
@@ -8,12 +10,9 @@ use Rattle.std.specs.Cmp.{ranks}
 use Rattle.std.proofs.lemmas.Bool.{cases_lt}
 use Rattle.std.proofs.lemmas.Bool.Decides.{nat_tests}
 use Rattle.std.proofs.lemmas.List.Edits.{get_or-insert_above, get_or-insert_at, get_or-insert_below, length-insert}
-use Rattle.std.proofs.lemmas.List.Folds.{list_any_at}
-use Rattle.std.proofs.lemmas.List.Sorted.{IsPermutation-insert, list_any-IsPermutation}
 use Rattle.gs_base.specs.declared.names.PeerNo.{PeerNo}
-use Rattle.gs_base.specs.Names.{same_peer}
 use Rattle.gs_params.specs.Picks.{IsAscending}
-use Rattle.gs_mesh.specs.Peers.{IsJoinedBy, is_among}
+use Rattle.gs_mesh.specs.Peers.{put_in}
 
 -- an insert between those that stand before it and those that stand behind it
 all_pairs_insert : {X : Type 0} (R : X → X → Type 0) (xs : List X) (i : ℕ) (y : X)
@@ -86,16 +85,37 @@ ascending_with qs p i le up parted =
     (λ k d below. subst (λ o. MatchOrdering o ((get_or qs k d).0 < p.0) ((get_or qs k d).0 ≡ p.0) (p.0 < (get_or qs k d).0)) (parted.0 k d (omega arith) below) (ranks (get_or qs k d).0 p.0))
     (λ k d from below. subst (λ o. MatchOrdering o ((get_or qs k d).0 < p.0) ((get_or qs k d).0 ≡ p.0) (p.0 < (get_or qs k d).0)) (parted.1 k d from below) (ranks (get_or qs k d).0 p.0))
 
-pub joined_by : (qs : List PeerNo) (p : PeerNo) (i : ℕ) → IsJoinedBy p qs (insert qs i p)
-joined_by qs p i = λ q. sym (list_any-IsPermutation (same_peer q) (p ∷ qs) (insert qs i p) (IsPermutation-insert qs i p))
+-- a list whose rest is in order as well
+tail_ascends : (q : PeerNo) (qs : List PeerNo) → IsAscending (q ∷ qs) → IsAscending qs
+tail_ascends q qs up a b d lt within = up (suc a) (suc b) d (omega (arith, lt)) (omega (arith, within))
+
+-- what comes of a peer, by how the first of others stands to it
+abbrev by_first : PeerNo → PeerNo → List PeerNo → Ordering → List PeerNo
+by_first p q qs o = by_order o (q ∷ put_in p qs) (q ∷ qs) (p ∷ q ∷ qs)
+
+-- an insert at its place
+pub put_at_place : (qs : List PeerNo) (p : PeerNo) (i : ℕ) → i ≤ length qs → IsPlace qs p i → insert qs i p ≡ put_in p qs
+put_at_place [] p zero le parted = refl
+put_at_place [] p (suc i) le parted = absurd (omega (arith, le))
+put_at_place (q ∷ qs) p zero le parted = ap (by_first p q qs) (sym (parted.1 0 q (omega arith) (omega arith)))
+put_at_place (q ∷ qs) p (suc i) le parted =
+    ap (λ (rs : List PeerNo). q ∷ rs) (put_at_place qs p i (omega (arith, le)) rest) ∙ ap (by_first p q qs) (sym (parted.0 0 q (omega arith) (omega arith)))
+  where
+    rest : IsPlace qs p i
+    rest = ((λ k d below past. parted.0 (suc k) d (omega (arith, below)) (omega (arith, past))), (λ k d past below. parted.1 (suc k) d (omega (arith, past)) (omega (arith, below))))
 
 -- who is found was there
-pub found_is_there : (qs : List PeerNo) (p : PeerNo) (i : ℕ) → i < length qs → ((d : PeerNo) → nat_cmp (get_or qs i d).0 p.0 ≡ Equal) → IsJoinedBy p qs qs
-found_is_there qs p i within found q = by (same_peer q p) refl
+pub found_is_there : (qs : List PeerNo) (p : PeerNo) (i : ℕ) → IsAscending qs → i < length qs → ((d : PeerNo) → nat_cmp (get_or qs i d).0 p.0 ≡ Equal) → qs ≡ put_in p qs
+found_is_there [] p i up within found = absurd (omega (arith, within))
+found_is_there (q ∷ qs) p zero up within found = ap (by_first p q qs) (sym (found q))
+found_is_there (q ∷ qs) p (suc i) up within found =
+    ap (λ (rs : List PeerNo). q ∷ rs) (found_is_there qs p i (tail_ascends q qs up) (omega (arith, within)) found) ∙ ap (by_first p q qs) (sym below)
   where
-    same : (get_or qs i p).0 ≡ p.0
-    same = subst (λ o. MatchOrdering o ((get_or qs i p).0 < p.0) ((get_or qs i p).0 ≡ p.0) (p.0 < (get_or qs i p).0)) (found p) (ranks (get_or qs i p).0 p.0)
+    same : (get_or qs i q).0 ≡ p.0
+    same = subst (λ o. MatchOrdering o ((get_or qs i q).0 < p.0) ((get_or qs i q).0 ≡ p.0) (p.0 < (get_or qs i q).0)) (found q) (ranks (get_or qs i q).0 p.0)
 
-    by : (is : Bool) → same_peer q p ≡ is → is_among qs q ≡ (is || is_among qs q)
-    by true e = list_any_at (same_peer q) qs i p within (ap (nat_eq q.0) same ∙ e)
-    by false e = refl
+    less : q.0 < (get_or qs i q).0
+    less = up 0 (suc i) q (omega arith) (omega (arith, within))
+
+    below : nat_cmp q.0 p.0 ≡ Less
+    below = grind (arith, nat_tests, same, less)

@@ -44,14 +44,6 @@ SayTheSame old new = (t : Topic) → kept new t ≡ kept old t
 abbrev pub Puts : List (Topic × TopicMesh) → List (Topic × TopicMesh) → Topic → TopicMesh → Type 0
 Puts old new t mesh = (u : Topic) → kept new u ≡ (if same_topic t u then mesh else kept old u)
 
--- of a topic nothing changes but who is in its mesh, and of all others nothing
-abbrev pub ChangesMesh : List (Topic × TopicMesh) → List (Topic × TopicMesh) → Topic → Type 0
-ChangesMesh old new t = Puts old new t (record (kept old t) { members = members new t })
-
--- the same of its fanout
-abbrev pub ChangesFanout : List (Topic × TopicMesh) → List (Topic × TopicMesh) → Topic → Type 0
-ChangesFanout old new t = Puts old new t (record (kept old t) { fanout = fanout new t })
-
--- and the same of who is not to be grafted
+-- of a topic nothing changes but who is not to be grafted, and of all others nothing
 abbrev pub ChangesBackoffs : List (Topic × TopicMesh) → List (Topic × TopicMesh) → Topic → Type 0
 ChangesBackoffs old new t = Puts old new t (record (kept old t) { backoffs = (kept new t).backoffs })

@@ -6,8 +6,8 @@ ghost use Rattle.gs_base.specs.declared.names.PeerNo.{PeerNo as PeerNoValue};
 ghost use Rattle.gs_base.specs.Names.{same_peer};
 ghost use Rattle.gs_params.specs.Picks.{IsAscending};
 ghost use Rattle.gs_mesh.specs.Backoffs.{later};
-ghost use Rattle.gs_mesh.specs.Meshes.{ChangesBackoffs, ChangesFanout, ChangesMesh, Puts, SayTheSame, backoff_until, fanout, kept, members};
-ghost use Rattle.gs_mesh.specs.Peers.{IsJoinedBy, is_among, without};
+ghost use Rattle.gs_mesh.specs.Meshes.{ChangesBackoffs, Puts, SayTheSame, backoff_until, fanout, kept, members};
+ghost use Rattle.gs_mesh.specs.Peers.{is_among, put_in, without};
 
 use crate::topic_mesh::TopicMesh;
 use gs_base::{Millis, PeerNo, Topic};
@@ -133,8 +133,8 @@ impl Meshes {
     /// # Errors
     /// `AllocError` where there was no memory; each look-up answers as before.
     pub fn graft(&mut self, peer: PeerNo, topic: &Topic) -> Result<(), AllocError>
-        ensures grafts { OnOk result (IsJoinedBy peer (members self.old topic.now) (members self.new topic.now)) }
-        ensures rest { OnOk result (ChangesMesh self.old self.new topic.now) }
+        ensures grafts { OnOk result (Puts self.old self.new topic.now
+            (record (kept self.old topic.now) { members = put_in peer (members self.old topic.now) })) }
         ensures unchanged { OnErr result (SayTheSame self.old self.new) }
     {
         changes::keep(self.alloc, &mut self.topics, topic)?;
@@ -180,8 +180,8 @@ impl Meshes {
     /// # Errors
     /// `AllocError` where there was no memory; each look-up answers as before.
     pub fn fan(&mut self, peer: PeerNo, topic: &Topic) -> Result<(), AllocError>
-        ensures fans { OnOk result (IsJoinedBy peer (fanout self.old topic.now) (fanout self.new topic.now)) }
-        ensures rest { OnOk result (ChangesFanout self.old self.new topic.now) }
+        ensures fans { OnOk result (Puts self.old self.new topic.now
+            (record (kept self.old topic.now) { fanout = put_in peer (fanout self.old topic.now) })) }
         ensures unchanged { OnErr result (SayTheSame self.old self.new) }
     {
         changes::keep(self.alloc, &mut self.topics, topic)?;

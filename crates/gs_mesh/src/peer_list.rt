@@ -1,7 +1,7 @@
 //! Peers in the order of their numbers.
 ghost use Rattle.std.specs.Prelude.{◌≡◌, [], OnErr, OnOk};
 ghost use Rattle.gs_params.specs.Picks.{IsAscending};
-ghost use Rattle.gs_mesh.specs.Peers.{IsJoinedBy, is_among, without};
+ghost use Rattle.gs_mesh.specs.Peers.{is_among, put_in, without};
 
 use gs_base::PeerNo;
 use std::alloc::{AllocError, Global};
@@ -58,7 +58,7 @@ impl PeerList {
     /// # Errors
     /// `AllocError` where there was no memory; nothing is changed then.
     pub fn insert(&mut self, peer: PeerNo) -> Result<(), AllocError>
-        ensures joins { OnOk result (IsJoinedBy peer self.old self.new) }
+        ensures joins { OnOk result (self.new ≡ put_in peer self.old) }
         ensures unchanged { OnErr result (self.new ≡ self.old) }
     {
         put(&mut self.peers, peer)
@@ -97,7 +97,7 @@ impl PeerList {
 /// `AllocError` where there was no memory; nothing is changed then.
 fn put(peers: &mut Vec<PeerNo>, peer: PeerNo) -> Result<(), AllocError>
     requires { IsAscending peers.old.items }
-    ensures joins { OnOk result (IsJoinedBy peer peers.old.items peers.new.items) }
+    ensures joins { OnOk result (peers.new.items ≡ put_in peer peers.old.items) }
     ensures ascending { IsAscending peers.new.items }
     ensures unchanged { OnErr result (peers.new.items ≡ peers.old.items) }
 {

@@ -91,6 +91,7 @@ one_life plan givens p f all exchanged below mine =
       legal = legal;
       chosen = mine.life.legal;
       keeps = keeps_same seat took (said_to lives p) f.trace f.refused (subst (SayTheSame took (said_to lives p)) (sym (links_in plan p)) same) mine.life.keeps;
+      meshes = mine.life.meshes;
       scores = mine.life.scores;
       exchanged = spelled;
       handled_is_sent = each_of_both (IsJoined plan p) (λ (q : PeerNo). Spell (bytes_of (said_to lives p q)) (handled f.trace q)) (λ (q : PeerNo). handled f.trace q ≡ sent (trace_of lives q) p) (λ q joined. handled_was_sent plan givens p q f.trace (all q joined.0).0 (all q joined.0).1) (neighbours plan p) (neighbours_joined plan p) spelled;

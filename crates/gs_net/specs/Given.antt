@@ -21,7 +21,7 @@ GivenLife plan p f = IsLifeAt accepted_for taken_from (seat_in plan p) (first_wo
 
 -- the life without the ends
 abbrev pub bare : Given → Finished
-bare f = record { trace = f.trace; refused = f.refused; scores = f.scores }
+bare f = record { trace = f.trace; refused = f.refused; meshes = f.meshes; scores = f.scores }
 
 -- ---- all peers
 

@@ -20,7 +20,7 @@ use Rattle.gs_rules.specs.Legal.{Legal, LegalOn, DeliversApart}
 use Rattle.gs_rules.specs.Saying.{Said, bytes_of, out, handled, sent}
 use Rattle.gs_rules.specs.Hearing.{Spell}
 use Rattle.gs_rules.specs.Rounds.{Seat, KeepsRounds}
-use Rattle.gs_router.specs.Router.{scores_of}
+use Rattle.gs_router.specs.Router.{meshes_of, scores_of}
 use Rattle.gs_net.specs.declared.finished.Finished.{Finished}
 
 -- ---- the peers
@@ -118,6 +118,8 @@ pub record IsLife (plan : Plan) (lives : List Finished) (p : PeerNo) (life : Fin
       × LegalOn (exact seeded_word seeded_after) (peer_in plan p) (first_words plan p) [] life.trace last
   -- it did what there was to do, round by round
   pub keeps : KeepsRounds (seat_in plan p) (said_to lives p) life.trace life.refused
+  -- these were in the meshes of its topics when it shut down, which nothing behind that changes
+  pub meshes : life.meshes ≡ meshes_of life.trace
   -- its neighbours scored this when it shut down, which nothing behind that changes
   pub scores : life.scores ≡ scores_of (peer_in plan p) life.trace (plan.rounds * plan.round_ms)
   -- what it handled of a neighbour is what the bytes spell that the neighbour's trace says to it

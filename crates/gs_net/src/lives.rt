@@ -48,12 +48,14 @@ pub fn lives_of<R: Wait + Drop>(
         let gs_peer::Finished {
             trace,
             refused,
+            meshes,
             scores,
             ends: own,
         } = life;
         let left = Finished {
             trace,
             refused,
+            meshes,
             scores,
         };
         let Ok(()) = peers.push((number, left)) else {

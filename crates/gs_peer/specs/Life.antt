@@ -13,7 +13,7 @@ use Rattle.gs_rules.specs.Legal.{LegalOn}
 use Rattle.gs_rules.specs.Saying.{handled, out}
 use Rattle.gs_rules.specs.Hearing.{Spell, closes}
 use Rattle.gs_rules.specs.Rounds.{Seat, KeepsRounds}
-use Rattle.gs_router.specs.Router.{scores_of}
+use Rattle.gs_router.specs.Router.{meshes_of, scores_of}
 use Rattle.gs_peer.specs.declared.finished.Finished.{Finished}
 
 -- what lists of slots say, by neighbour
@@ -27,6 +27,8 @@ pub record IsLife {S : Type 0} (accepted taken : S → PeerNo → List Slot) (se
   pub legal : (last : SeededState) × LegalOn (exact seeded_word seeded_after) seat.peer first [] f.trace last
   -- it did what there was to do, round by round, and exactly this was refused
   pub keeps : KeepsRounds seat (words_of (taken f.ends)) f.trace f.refused
+  -- these were in the meshes of its topics when it shut down, which nothing behind that changes
+  pub meshes : f.meshes ≡ meshes_of f.trace
   -- its neighbours scored this when it shut down, which nothing behind that changes
   pub scores : f.scores ≡ scores_of seat.peer f.trace (seat.rounds * seat.round_ms)
   -- of each neighbour, all RPCs were handled that the bytes spell that were taken

@@ -2,7 +2,7 @@
 ghost use Rattle.std.specs.Prelude.{◌≡◌};
 ghost use Rattle.gs_peer.specs.Faults.{number_of};
 
-use gs_base::{PeerNo, Seq};
+use gs_base::{PeerNo, Seq, Topic};
 use gs_rules::{RefusedLine, Trace};
 
 /// What is left of a peer's life that has ended.
@@ -12,6 +12,8 @@ pub struct Finished<S: Drop> {
     pub trace: Trace,
     /// What it could not follow, by moment and then by place in the script.
     pub refused: Seq<RefusedLine>,
+    /// Who was in the meshes of its topics when it shut down, by topic and number.
+    pub meshes: Seq<(Topic, PeerNo)>,
     /// What each neighbour scored when it shut down, by number, in millionths.
     pub scores: Seq<(PeerNo, i128)>,
     /// The ends of its links.

@@ -20,6 +20,3 @@ pub use assignment::Assignment;
 pub use finished::{Finished, PeerFault};
 pub use gate::{Gate, NoGate, StopFlag};
 pub use task::{PeerTask, Surroundings};
-
-#[cfg(test)]
-mod tests;

@@ -241,10 +241,12 @@ impl<G: Gate, S: Ends> Running<G, S> {
             refused,
             ..
         } = player;
+        let meshes = router.meshes()?;
         let scores = router.scores(now)?;
         Ok(Finished {
             trace: router.into_trace(),
             refused: Seq::from(refused),
+            meshes,
             scores,
             ends,
         })

@@ -1,5 +1,5 @@
 -- The topics of a table in order are those that the trace says, ascending.
-use Rattle.std.proofs.Common.{◌≡◌, ℕ, Bool, true, false, cond, List, [], ◌∷◌, map, filter, Option, Some, None, is_some, unwrap_or, refl, sym, ap, ap₂, subst, ◌∙◌, if◌then◌else◌}
+use Rattle.std.proofs.Common.{◌≡◌, ℕ, Bool, true, false, cond, List, [], ◌∷◌, ◌++◌, map, filter, Option, Some, None, is_some, unwrap_or, refl, sym, ap, ap₂, subst, ◌∙◌, if◌then◌else◌}
 use Rattle.std.specs.Prelude.{◌||◌, ◌&&◌, T}
 use Rattle.std.specs.List.{list_any, AllByRecursion}
 use Rattle.std.specs.Map.{lookup, keys_of}
@@ -16,8 +16,12 @@ use Rattle.std.proofs.lemmas.Cmp.{nat_list_eq_equiv}
 use Rattle.gs_base.specs.declared.names.Topic.{Topic}
 use Rattle.gs_base.specs.Names.{same_topic}
 use Rattle.gs_rules.specs.Tables.{Entries, ascending, joined, known, own_topics, placed, topic_order}
+use Rattle.gs_rules.specs.Meshes.{ever_fanned, has_mesh, mesh_topics}
 use Rattle.gs_router.specs.declared.tables.own_topics.OwnTopics.{OwnTopics}
-use Rattle.gs_router.specs.Tables.{AgreesOnTopics, kept_topic}
+use Rattle.gs_router.specs.declared.tables.mesh_topics.Uses.{Uses}
+use Rattle.gs_router.specs.declared.tables.mesh_topics.MeshTopics.{MeshTopics}
+use Rattle.gs_router.specs.Tables.{AgreesOnMeshTopics, AgreesOnTopics, kept_topic, no_uses}
+use Rattle.gs_router.proofs.Fanning.{used_is_listed}
 
 -- ---- the order of topics
 
@@ -32,7 +36,7 @@ same_order : (t u : Topic) → is_eq (topic_order t u) ≡ same_topic t u
 same_order t u = is_eq-slice_cmp t.0 u.0
 
 -- topics with the same bytes are one
-one_topic : (t u : Topic) → same_topic t u ≡ true → t ≡ u
+pub one_topic : (t u : Topic) → same_topic t u ≡ true → t ≡ u
 one_topic t u is = ap (λ (bytes : List ℕ). record { 0 = bytes }) ((bytes_eq-Decides t.0 u.0).0 is)
 
 tied : (t u : Topic) → topic_order t u ≡ Equal → t ≡ u
@@ -93,6 +97,10 @@ ascending_alone ts us sorted same =
 
 -- ---- the topics of a table
 
+-- those whose value passes a test
+abbrev pub passing_in : {V : Type 0} → (V → Bool) → List (Topic × V) → List Topic
+passing_in {V} test es = map (λ (e : Topic × V). e.0) (filter (λ (e : Topic × V). test e.1) es)
+
 -- those with a true value
 abbrev pub joined_in : List (Topic × Bool) → List Topic
 joined_in es = map (λ (e : Topic × Bool). e.0) (filter (λ (e : Topic × Bool). e.1) es)
@@ -101,36 +109,52 @@ both_true : (a b : Bool) → T a → T b → T (a && b)
 both_true true b p q = q
 both_true false b p q = absurd p
 
-below_joined : (t : Topic) (es : List (Topic × Bool)) → AllByRecursion (λ u. topic_order t u ≡ Less) (keys_of es) → T (below_all topic_order t (units (joined_in es)))
-below_joined t [] h = tt
-below_joined t ((u, true) ∷ es) h = both_true (is_lt (topic_order t u)) (below_all topic_order t (units (joined_in es))) (subst (λ (o : Ordering). T (is_lt o)) (sym h.0) tt) (below_joined t es h.1)
-below_joined t ((u, false) ∷ es) h = below_joined t es h.1
+-- a value that was found passes, or none was
+abbrev passes : {V : Type 0} → (V → Bool) → Option V → Bool
+passes test None = false
+passes test (Some v) = test v
 
-joined_sorted : (es : List (Topic × Bool)) → IsStrictlySortedBy topic_order (keys_of es) → T (is_sorted topic_order (units (joined_in es)))
-unfolding IsStrictlySortedBy
-joined_sorted [] h = tt
-joined_sorted ((u, true) ∷ es) h = both_true (below_all topic_order u (units (joined_in es))) (is_sorted topic_order (units (joined_in es))) (below_joined u es h.0) (joined_sorted es h.1)
-joined_sorted ((u, false) ∷ es) h = joined_sorted es h.1
+module _ {V : Type 0} (test : V → Bool) where
+  below_passing : (t : Topic) (es : List (Topic × V)) → AllByRecursion (λ u. topic_order t u ≡ Less) (keys_of es) → T (below_all topic_order t (units (passing_in test es)))
+  below_passing t [] h = tt
+  below_passing t ((u, v) ∷ es) h = by (test v) (below_passing t es h.1)
+    where
+      by : (b : Bool) → T (below_all topic_order t (units (passing_in test es))) → T (below_all topic_order t (units (map (λ (e : Topic × V). e.0) (cond b ((u, v) ∷ filter (λ (e : Topic × V). test e.1) es) (filter (λ (e : Topic × V). test e.1) es)))))
+      by true rest = both_true (is_lt (topic_order t u)) (below_all topic_order t (units (passing_in test es))) (subst (λ (o : Ordering). T (is_lt o)) (sym h.0) tt) rest
+      by false rest = rest
 
--- a topic that stands first is none of those that come later
-none_later : (q t : Topic) (es : List (Topic × Bool)) → same_topic q t ≡ true → AllByRecursion (λ u. topic_order t u ≡ Less) (keys_of es) → list_any (same_topic q) (joined_in es) ≡ false
-none_later q t [] is h = refl
-none_later q t ((u, true) ∷ es) is h =
-    let apart : same_topic q u ≡ false = sym (same_order q u) ∙ ap (λ (v : Topic). is_eq (topic_order v u)) (one_topic q t is) ∙ ap is_eq h.0 in
-    ap₂ (λ (a b : Bool). a || b) apart (none_later q t es is h.1)
-none_later q t ((u, false) ∷ es) is h = none_later q t es is h.1
+  passing_sorted : (es : List (Topic × V)) → IsStrictlySortedBy topic_order (keys_of es) → T (is_sorted topic_order (units (passing_in test es)))
+  unfolding IsStrictlySortedBy
+  passing_sorted [] h = tt
+  passing_sorted ((u, v) ∷ es) h = by (test v) (below_passing u es h.0) (passing_sorted es h.1)
+    where
+      by : (b : Bool) → T (below_all topic_order u (units (passing_in test es))) → T (is_sorted topic_order (units (passing_in test es))) → T (is_sorted topic_order (units (map (λ (e : Topic × V). e.0) (cond b ((u, v) ∷ filter (λ (e : Topic × V). test e.1) es) (filter (λ (e : Topic × V). test e.1) es)))))
+      by true below rest = both_true (below_all topic_order u (units (passing_in test es))) (is_sorted topic_order (units (passing_in test es))) below rest
+      by false below rest = rest
 
-joined_finds : (q : Topic) (es : List (Topic × Bool)) → IsStrictlySortedBy topic_order (keys_of es) → list_any (same_topic q) (joined_in es) ≡ unwrap_or (lookup (λ u. is_eq (topic_order q u)) es) false
-unfolding IsStrictlySortedBy
-joined_finds q [] h = refl
-joined_finds q ((t, b) ∷ es) h = by (same_topic q t) refl b (joined_finds q es h.1) ∙ ap (λ (c : Bool). unwrap_or (cond c (Some b) (lookup (λ u. is_eq (topic_order q u)) es)) false) (sym (same_order q t))
-  where
-    by : (same : Bool) → same_topic q t ≡ same → (b : Bool) → list_any (same_topic q) (joined_in es) ≡ unwrap_or (lookup (λ u. is_eq (topic_order q u)) es) false
-        → list_any (same_topic q) (joined_in ((t, b) ∷ es)) ≡ unwrap_or (cond same (Some b) (lookup (λ u. is_eq (topic_order q u)) es)) false
-    by true is true rest = ap (λ (c : Bool). c || list_any (same_topic q) (joined_in es)) is
-    by true is false rest = none_later q t es is h.0
-    by false is true rest = ap (λ (c : Bool). c || list_any (same_topic q) (joined_in es)) is ∙ rest
-    by false is false rest = rest
+  -- a topic that stands first is none of those that come later
+  none_later : (q t : Topic) (es : List (Topic × V)) → same_topic q t ≡ true → AllByRecursion (λ u. topic_order t u ≡ Less) (keys_of es) → list_any (same_topic q) (passing_in test es) ≡ false
+  none_later q t [] is h = refl
+  none_later q t ((u, v) ∷ es) is h = by (test v) (none_later q t es is h.1)
+    where
+      apart : same_topic q u ≡ false
+      apart = sym (same_order q u) ∙ ap (λ (w : Topic). is_eq (topic_order w u)) (one_topic q t is) ∙ ap is_eq h.0
+
+      by : (b : Bool) → list_any (same_topic q) (passing_in test es) ≡ false → list_any (same_topic q) (map (λ (e : Topic × V). e.0) (cond b ((u, v) ∷ filter (λ (e : Topic × V). test e.1) es) (filter (λ (e : Topic × V). test e.1) es))) ≡ false
+      by true rest = ap₂ (λ (a b : Bool). a || b) apart rest
+      by false rest = rest
+
+  passing_finds : (q : Topic) (es : List (Topic × V)) → IsStrictlySortedBy topic_order (keys_of es) → list_any (same_topic q) (passing_in test es) ≡ passes test (lookup (λ u. is_eq (topic_order q u)) es)
+  unfolding IsStrictlySortedBy
+  passing_finds q [] h = refl
+  passing_finds q ((t, v) ∷ es) h = by (same_topic q t) refl (test v) refl (passing_finds q es h.1) ∙ ap (λ (c : Bool). passes test (cond c (Some v) (lookup (λ u. is_eq (topic_order q u)) es))) (sym (same_order q t))
+    where
+      by : (same : Bool) → same_topic q t ≡ same → (b : Bool) → test v ≡ b → list_any (same_topic q) (passing_in test es) ≡ passes test (lookup (λ u. is_eq (topic_order q u)) es)
+          → list_any (same_topic q) (map (λ (e : Topic × V). e.0) (cond b ((t, v) ∷ filter (λ (e : Topic × V). test e.1) es) (filter (λ (e : Topic × V). test e.1) es))) ≡ passes test (cond same (Some v) (lookup (λ u. is_eq (topic_order q u)) es))
+      by true is true passing rest = ap (λ (c : Bool). c || list_any (same_topic q) (passing_in test es)) is ∙ sym passing
+      by true is false passing rest = none_later q t es is h.0 ∙ sym passing
+      by false is true passing rest = ap (λ (c : Bool). c || list_any (same_topic q) (passing_in test es)) is ∙ rest
+      by false is false passing rest = rest
 
 -- ---- the topics of a trace
 
@@ -157,10 +181,36 @@ joined_known false true None some is = absurd cc
 joined_known false true (Some b) some is = absurd cc
 joined_known false false o some is = refl
 
+true_passes : (o : Option Bool) → passes (λ (b : Bool). b) o ≡ unwrap_or o false
+true_passes None = refl
+true_passes (Some b) = refl
+
 pub listed_so : (own : OwnTopics) (L : Entries) → IsStrictlySortedBy topic_order (keys_of own.topics.entries) → AgreesOnTopics own L → joined_in own.topics.entries ≡ own_topics L
 listed_so own L sorted agrees =
-    ascending_alone (joined_in own.topics.entries) (filter (joined L) (known L)) (joined_sorted own.topics.entries sorted) (λ q.
-    joined_finds q own.topics.entries sorted
+    ascending_alone (joined_in own.topics.entries) (filter (joined L) (known L)) (passing_sorted (λ (b : Bool). b) own.topics.entries sorted) (λ q.
+    passing_finds (λ (b : Bool). b) q own.topics.entries sorted
+    ∙ true_passes (kept_topic own q)
     ∙ agrees.joins q
     ∙ joined_known (list_any (same_topic q) (known L)) (joined L q) (kept_topic own q) (agrees.knows q) (agrees.joins q)
     ∙ sym (filter_finds (joined L) q (known L)))
+
+-- ---- the topics that have a mesh or a fanout
+
+abbrev pub is_used : Uses → Bool
+is_used uses = uses.has_mesh || uses.has_fanout
+
+abbrev pub used_in : List (Topic × Uses) → List Topic
+used_in es = passing_in is_used es
+
+used_passes : (o : Option Uses) → passes is_used o ≡ is_used (unwrap_or o no_uses)
+used_passes None = refl
+used_passes (Some uses) = refl
+
+pub used_so : (table : MeshTopics) (L : Entries) → IsStrictlySortedBy topic_order (keys_of table.topics.entries) → AgreesOnMeshTopics table L → used_in table.topics.entries ≡ mesh_topics L
+used_so table L sorted agrees =
+    ascending_alone (used_in table.topics.entries) (filter (has_mesh L) (known L ++ ever_fanned L)) (passing_sorted is_used table.topics.entries sorted) (λ q.
+    passing_finds is_used q table.topics.entries sorted
+    ∙ used_passes (lookup (λ u. is_eq (topic_order q u)) table.topics.entries)
+    ∙ ap is_used (agrees.uses q)
+    ∙ used_is_listed L q
+    ∙ sym (filter_finds (has_mesh L) q (known L ++ ever_fanned L)))

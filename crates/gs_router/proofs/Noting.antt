@@ -24,11 +24,11 @@ use Rattle.gs_router.specs.Tables.{AgreesOnTopics, AgreesOnListeners, kept_topic
 
 -- ---- topics
 
-or_true : (b : Bool) → (b || (true || false)) ≡ true
+pub or_true : (b : Bool) → (b || (true || false)) ≡ true
 or_true true = refl
 or_true false = refl
 
-or_false : (b : Bool) → (b || (false || false)) ≡ b
+pub or_false : (b : Bool) → (b || (false || false)) ≡ b
 or_false true = refl
 or_false false = refl
 
@@ -66,7 +66,7 @@ pub record Takes (old new : OwnTopics) (topic : Topic) (b : Bool) : Type 0 where
   pub len : length new.topics.entries ≡ length old.topics.entries + (if is_some before then 0 else 1)
 
 -- topics are equal in their order where their bytes are
-same_order : (t u : Topic) → is_eq (topic_order t u) ≡ same_topic t u
+pub same_order : (t u : Topic) → is_eq (topic_order t u) ≡ same_topic t u
 same_order t u = is_eq-slice_cmp t.0 u.0
 
 takes_so : (old new : OwnTopics) (topic : Topic) (b : Bool) → Takes old new topic b → (t : Topic) → kept_topic new t ≡ cond (same_topic topic t) (Some b) (kept_topic old t)

@@ -1,47 +1,268 @@
 -- The table of messages that were seen, after the marks of one entry.
-use Rattle.std.proofs.Common.{◌≡◌, ◌≤◌, arith, ℕ, Bool, true, false, if◌then◌else◌, List, [], ◌∷◌, Option, Some, None, refl, sym, ap, ◌∙◌}
+use Rattle.std.proofs.Common.{◌≡◌, ◌≤◌, ◌<◌, ◌+◌, arith, ℕ, Bool, true, false, if◌then◌else◌, List, [], ◌∷◌, ◌++◌, Option, Some, None, is_some, option_map, length, take, get_or, refl, sym, ap, ap₂, subst, ◌∙◌}
+use Rattle.std.specs.Prelude.{◌-◌, ◌||◌, ◌&&◌, not, nat_lt, nat_le}
+use Rattle.std.specs.List.{list_any}
+use Rattle.std.specs.Map.{lookup}
+use Rattle.std.proofs.lemmas.List.{take_more}
+use Rattle.std.proofs.lemmas.List.Folds.{list_any-append}
+use Rattle.gs_base.specs.declared.names.PeerNo.{PeerNo}
 use Rattle.gs_base.specs.declared.names.MsgId.{MsgId}
+use Rattle.gs_base.specs.declared.names.Millis.{Millis}
 use Rattle.gs_base.specs.declared.mark.Mark.{Mark}
-use Rattle.gs_base.specs.declared.mark.Mark.TheVariants.{Seen}
-use Rattle.gs_base.specs.Names.{same_id}
+use Rattle.gs_base.specs.declared.mark.Mark.TheVariants.{Seen, First, Near}
+use Rattle.gs_base.specs.declared.verdict.Verdict.{Verdict}
+use Rattle.gs_base.specs.Names.{same_id, same_peer}
+use Rattle.gs_cache.specs.declared.seen.sighting.Sighting.{Sighting as Found}
+use Rattle.gs_cache.specs.Sightings.{ChangesBy, is_near_in, is_noted, sighted, verdict_in, what_counts, with_noted}
+use Rattle.gs_cache.specs.Sightings as cache
 use Rattle.gs_rules.specs.declared.trace.Entry.{Entry}
-use Rattle.gs_rules.specs.Tables.{Entries, Sighting, after_marks, counting, last_seen, sighting_after}
+use Rattle.gs_rules.specs.Tables.{Entries, Sighting, after_marks, counting, last_moment, last_seen, seen, sighting_after}
+use Rattle.gs_rules.specs.Meshes.{noted, notes, sees}
+use Rattle.gs_rules.specs.Rules.{is_soon}
 use Rattle.gs_router.specs.declared.tables.sightings.Sightings.{Sightings}
-use Rattle.gs_router.specs.Tables.{AgreesOnSightings, verdict_after, verdict_at}
+use Rattle.gs_router.specs.Tables.{AgreesOnSightings, PassesOn, Sees, Told, still, telling, told, told_after, told_in, told_of, verdict_at}
+use Rattle.gs_router.proofs.Keeping.{marks_more}
+use Rattle.gs_router.proofs.Meshing.{one_peer}
+use Rattle.gs_router.proofs.Noting.{or_false, or_true}
 
--- Where these marks of an entry are left: noted, they lead to what all of them lead to from the table before.
-pub record Marking (at : ℕ) (all left : List Mark) (old new : Sightings) : Type 0 where
-  pub folds : (id : MsgId) (now : ℕ) → new.cache.moment ≤ now
-      → after_marks (verdict_after old.cache.ttl now id at) left (verdict_at new id now)
-      ≡ after_marks (verdict_after old.cache.ttl now id at) all (verdict_at old id now)
-  pub later : old.cache.moment ≤ new.cache.moment
-  pub moment : new.cache.moment ≤ at
-  pub ttl : new.cache.ttl ≡ old.cache.ttl
+-- ---- what counts of a message, told of a neighbour
 
--- what marks leave of a sighting counts as what they leave of what counted
-counted_so : (ttl now : ℕ) (id : MsgId) (at : ℕ) (marks : List Mark) (before : Option Sighting)
-    → after_marks (verdict_after ttl now id at) marks (counting ttl now before)
-    ≡ counting ttl now (after_marks (sighting_after id at) marks before)
-counted_so ttl now id at [] before = refl
-counted_so ttl now id at (Seen other verdict ∷ marks) before = by (same_id other id) (counted_so ttl now id at marks)
+abbrev told_from : PeerNo → Option Found → Option Told
+told_from q o = option_map (λ (s : Found). record { at = s.at.0; verdict = s.verdict; noted = is_noted q s }) o
+
+-- what counts at a moment counts then
+counts_still : (ttl now : ℕ) (o : Option Found) → cache.counting ttl now (cache.counting ttl now o) ≡ cache.counting ttl now o
+counts_still ttl now None = refl
+counts_still ttl now (Some s) = by (nat_lt (now - s.at.0) ttl) refl
   where
-    by : (same : Bool)
-        → ((was : Option Sighting) → after_marks (verdict_after ttl now id at) marks (counting ttl now was) ≡ counting ttl now (after_marks (sighting_after id at) marks was))
-        → after_marks (verdict_after ttl now id at) marks (if same then counting ttl now (Some (record { at = at; verdict = verdict })) else counting ttl now before)
-        ≡ counting ttl now (after_marks (sighting_after id at) marks (if same then Some (record { at = at; verdict = verdict }) else before))
-    by true so = so (Some (record { at = at; verdict = verdict }))
-    by false so = so before
-counted_so ttl now id at (other ∷ marks) before = counted_so ttl now id at marks before
+    by : (b : Bool) → nat_lt (now - s.at.0) ttl ≡ b → cache.counting ttl now (if b then Some s else None) ≡ (if b then Some s else None)
+    by true is = ap (λ (b : Bool). if b then Some s else None) is
+    by false is = refl
 
--- all marks are noted
-pub noted_all : (old new : Sightings) (e : Entry) (L : Entries) (all left : List Mark) → all ≡ e.marks → left ≡ [] → Marking e.at.0 all left old new → AgreesOnSightings old L → AgreesOnSightings new (e ∷ L)
-noted_all old new e L all left are none marking agrees = record {
-  sees = λ id now below.
-      ap (λ (marks : List Mark). after_marks (verdict_after old.cache.ttl now id e.at.0) marks (verdict_at new id now)) (sym none)
-      ∙ marking.folds id now below
-      ∙ ap (λ (marks : List Mark). after_marks (verdict_after old.cache.ttl now id e.at.0) marks (verdict_at old id now)) are
-      ∙ ap (after_marks (verdict_after old.cache.ttl now id e.at.0) e.marks) (agrees.sees id now (omega (arith, marking.later, below)))
-      ∙ counted_so old.cache.ttl now id e.at.0 e.marks (last_seen L id)
-      ∙ ap (λ (ttl : ℕ). counting ttl now (last_seen (e ∷ L) id)) (sym marking.ttl);
-  past = marking.moment;
+-- where no mark says that a neighbour passed it on, nothing changes
+pub told_nothing : (o : Option Told) → told_of false o ≡ o
+told_nothing None = refl
+told_nothing (Some s) = refl
+
+-- ---- one mark
+
+abbrev fresh : Millis → Verdict → Found
+fresh at verdict = record { at = at; verdict = verdict; noted = [] }
+
+-- a message is marked as seen
+pub marked : (old new : Sightings) (at : Millis) (id : MsgId) (verdict : Verdict) → ChangesBy (sighted id at verdict) at.0 old.cache new.cache → new.cache.moment ≡ at.0
+    → (other : MsgId) (q : PeerNo) (now : ℕ) → new.cache.moment ≤ now → told new other q now ≡ told_after old.cache.ttl now other at.0 (Seen id verdict) (told old other q now)
+marked old new at id verdict changes moment other q now below = ap (told_from q) (changes other now (omega (arith, moment, below))) ∙ by (same_id id other)
+  where
+    anew : (b : Bool) → told_from q (if b then Some (fresh at verdict) else None) ≡ (if b then Some (record { at = at.0; verdict = verdict; noted = false }) else None)
+    anew true = refl
+    anew false = refl
+
+    by : (same : Bool) → told_from q (cache.counting old.cache.ttl now (if same then Some (fresh at verdict) else what_counts old.cache other now))
+        ≡ (if same then still old.cache.ttl now (Some (record { at = at.0; verdict = verdict; noted = false })) else told old other q now)
+    by true = anew (nat_lt (now - at.0) old.cache.ttl)
+    by false = ap (told_from q) (counts_still old.cache.ttl now (lookup (same_id other) old.cache.sightings))
+
+-- of several neighbours that are noted, one is this one
+is_noted_then : (p q : PeerNo) (noted : List PeerNo) → list_any (λ other. same_peer other q) (if list_any (λ other. same_peer other p) noted then noted else noted ++ p ∷ []) ≡ (same_peer p q || list_any (λ other. same_peer other q) noted)
+is_noted_then p q noted = by (list_any (λ other. same_peer other p) noted) refl (same_peer p q) refl
+  where
+    by : (b : Bool) → list_any (λ other. same_peer other p) noted ≡ b → (c : Bool) → same_peer p q ≡ c
+        → list_any (λ other. same_peer other q) (if b then noted else noted ++ p ∷ []) ≡ (c || list_any (λ other. same_peer other q) noted)
+    by true is true same = ap (λ (r : PeerNo). list_any (λ other. same_peer other r) noted) (sym (one_peer p q same)) ∙ is
+    by true is false same = refl
+    by false is true same = list_any-append (λ other. same_peer other q) noted (p ∷ []) ∙ ap (λ (b : Bool). list_any (λ other. same_peer other q) noted || (b || false)) same ∙ or_true (list_any (λ other. same_peer other q) noted)
+    by false is false same = list_any-append (λ other. same_peer other q) noted (p ∷ []) ∙ ap (λ (b : Bool). list_any (λ other. same_peer other q) noted || (b || false)) same ∙ or_false (list_any (λ other. same_peer other q) noted)
+
+and_true : (b : Bool) → (b && true) ≡ b
+and_true true = refl
+and_true false = refl
+
+and_false : (b : Bool) → (b && false) ≡ false
+and_false true = refl
+and_false false = refl
+
+-- a neighbour is noted for a message
+passed_on : (ttl now : ℕ) (p q : PeerNo) (o : Option Found)
+    → told_from q (cache.counting ttl now (option_map (with_noted p) (cache.counting ttl now o))) ≡ told_of (same_peer p q && true) (told_from q (cache.counting ttl now o))
+passed_on ttl now p q None = refl
+passed_on ttl now p q (Some s) = by (nat_lt (now - s.at.0) ttl) refl
+  where
+    by : (b : Bool) → nat_lt (now - s.at.0) ttl ≡ b
+        → told_from q (cache.counting ttl now (option_map (with_noted p) (if b then Some s else None))) ≡ told_of (same_peer p q && true) (told_from q (if b then Some s else None))
+    by true is =
+        ap (λ (b : Bool). told_from q (if b then Some (with_noted p s) else None)) is
+        ∙ ap (λ (b : Bool). Some (record { at = s.at.0; verdict = s.verdict; noted = b })) (is_noted_then p q s.noted ∙ ap (λ (b : Bool). b || is_noted q s) (sym (and_true (same_peer p q))))
+    by false is = refl
+
+pub passes : (old new : Sightings) (id : MsgId) (p : PeerNo) → ChangesBy (cache.noted id p) old.cache.moment old.cache new.cache → new.cache.moment ≡ old.cache.moment
+    → (other : MsgId) (q : PeerNo) (now : ℕ) → new.cache.moment ≤ now → told new other q now ≡ told_of (same_peer p q && same_id id other) (told old other q now)
+passes old new id p changes moment other q now below = ap (told_from q) (changes other now (omega (arith, moment, below))) ∙ by (same_id id other)
+  where
+    by : (same : Bool) → told_from q (cache.counting old.cache.ttl now (if same then option_map (with_noted p) (what_counts old.cache other now) else what_counts old.cache other now))
+        ≡ told_of (same_peer p q && same) (told old other q now)
+    by true = passed_on old.cache.ttl now p q (lookup (same_id other) old.cache.sightings)
+    by false =
+        ap (told_from q) (counts_still old.cache.ttl now (lookup (same_id other) old.cache.sightings))
+        ∙ sym (ap (λ (b : Bool). told_of b (told old other q now)) (and_false (same_peer p q)) ∙ told_nothing (told old other q now))
+
+-- ---- marks one by one
+
+pub sees_nothing : (at : ℕ) (now : Sightings) → now.cache.moment ≤ at → Sees at [] now now
+sees_nothing at now below = record {
+  tells = λ id q t is. refl;
+  later = omega arith;
+  moment = below;
+  ttl = refl;
 }
+
+pub sees_more : (at : ℕ) (marks : List Mark) (i : ℕ) (mark : Mark) (old now new : Sightings) → i < length marks → mark ≡ get_or marks i mark
+    → ((id : MsgId) (q : PeerNo) (t : ℕ) → new.cache.moment ≤ t → told new id q t ≡ told_after now.cache.ttl t id at mark (told now id q t))
+    → now.cache.moment ≤ new.cache.moment → new.cache.moment ≤ at → new.cache.ttl ≡ now.cache.ttl
+    → Sees at (take i marks) old now → Sees at (take (i + 1) marks) old new
+sees_more at marks i mark old now new below is one later moment ttl seeing =
+    subst (λ (ms : List Mark). Sees at ms old new) (sym (take_more marks i mark below ∙ ap (λ (x : Mark). take i marks ++ x ∷ []) (sym is)))
+    (record {
+      tells = λ id q t from.
+          one id q t from
+          ∙ ap (λ (n : ℕ). told_after n t id at mark (told now id q t)) seeing.ttl
+          ∙ ap (told_after old.cache.ttl t id at mark) (seeing.tells id q t (omega (arith, later, from)))
+          ∙ sym (marks_more (told_after old.cache.ttl t id at) (take i marks) mark (told old id q t));
+      later = omega (arith, later, seeing.later);
+      moment = moment;
+      ttl = ttl ∙ seeing.ttl;
+    })
+
+pub passes_nothing : (now : Sightings) → PassesOn [] now now
+passes_nothing now = record {
+  tells = λ id q t is. sym (told_nothing (told now id q t));
+  moment = refl;
+  ttl = refl;
+}
+
+told_twice : (b c : Bool) (o : Option Told) → told_of c (told_of b o) ≡ told_of (b || (c || false)) o
+told_twice b c None = refl
+told_twice b c (Some s) = ap (λ (n : Bool). Some (record { at = s.at; verdict = s.verdict; noted = n })) (by b c s.noted)
+  where
+    by : (b c n : Bool) → (c || (b || n)) ≡ ((b || (c || false)) || n)
+    by true true n = refl
+    by true false n = refl
+    by false true n = refl
+    by false false n = refl
+
+pub passes_more : (marks : List Mark) (i : ℕ) (mark : Mark) (old now new : Sightings) → i < length marks → mark ≡ get_or marks i mark
+    → ((id : MsgId) (q : PeerNo) (t : ℕ) → new.cache.moment ≤ t → told new id q t ≡ told_of (notes id q mark) (told now id q t))
+    → new.cache.moment ≡ now.cache.moment → new.cache.ttl ≡ now.cache.ttl
+    → PassesOn (take i marks) old now → PassesOn (take (i + 1) marks) old new
+passes_more marks i mark old now new below is one moment ttl passing =
+    subst (λ (ms : List Mark). PassesOn ms old new) (sym (take_more marks i mark below ∙ ap (λ (x : Mark). take i marks ++ x ∷ []) (sym is)))
+    (record {
+      tells = λ id q t from.
+          one id q t from
+          ∙ ap (told_of (notes id q mark)) (passing.tells id q t (omega (arith, moment, from)))
+          ∙ told_twice (list_any (notes id q) (take i marks)) (notes id q mark) (told old id q t)
+          ∙ ap (λ (b : Bool). told_of b (told old id q t)) (sym (list_any-append (notes id q) (take i marks) (mark ∷ [])));
+      moment = moment ∙ passing.moment;
+      ttl = ttl ∙ passing.ttl;
+    })
+
+-- ---- an entry
+
+-- what marks leave of what counts is what counts of what they leave
+seen_so : (ttl now : ℕ) (id : MsgId) (at : ℕ) (marks : List Mark) (noted : Bool) (before : Option Sighting)
+    → after_marks (told_after ttl now id at) marks (still ttl now (option_map (telling noted) before))
+    ≡ still ttl now (option_map (telling (not (list_any (sees id) marks) && noted)) (after_marks (sighting_after id at) marks before))
+seen_so ttl now id at [] noted before = refl
+seen_so ttl now id at (Seen other verdict ∷ marks) noted before = by (same_id other id) (seen_so ttl now id at marks)
+  where
+    nobody : (b : Bool) → (not b && false) ≡ false
+    nobody true = refl
+    nobody false = refl
+
+    by : (same : Bool)
+        → ((noted : Bool) (was : Option Sighting) → after_marks (told_after ttl now id at) marks (still ttl now (option_map (telling noted) was)) ≡ still ttl now (option_map (telling (not (list_any (sees id) marks) && noted)) (after_marks (sighting_after id at) marks was)))
+        → after_marks (told_after ttl now id at) marks (if same then still ttl now (Some (record { at = at; verdict = verdict; noted = false })) else still ttl now (option_map (telling noted) before))
+        ≡ still ttl now (option_map (telling (not (same || list_any (sees id) marks) && noted)) (after_marks (sighting_after id at) marks (if same then Some (record { at = at; verdict = verdict }) else before)))
+    by true so =
+        so false (Some (record { at = at; verdict = verdict }))
+        ∙ ap (λ (b : Bool). still ttl now (option_map (telling b) (after_marks (sighting_after id at) marks (Some (record { at = at; verdict = verdict }))))) (nobody (list_any (sees id) marks))
+    by false so = so noted before
+seen_so ttl now id at (other ∷ marks) noted before = seen_so ttl now id at marks noted before
+
+-- who passed it on is noted for what counts
+passed_so : (ttl now : ℕ) (b c : Bool) (o : Option Sighting) → told_of b (still ttl now (option_map (telling c) o)) ≡ still ttl now (option_map (telling (b || c)) o)
+passed_so ttl now b c None = refl
+passed_so ttl now b c (Some s) = by (nat_lt (now - s.at) ttl)
+  where
+    by : (n : Bool) → told_of b (if n then Some (telling c s) else None) ≡ (if n then Some (telling (b || c) s) else None)
+    by true = refl
+    by false = refl
+
+-- the verdict of what is told
+abbrev verdict_of : Option Told → Option Verdict
+verdict_of o = option_map (λ (s : Told). s.verdict) o
+
+verdict_from : (q : PeerNo) (o : Option Found) → verdict_in o ≡ verdict_of (told_from q o)
+verdict_from q None = refl
+verdict_from q (Some s) = refl
+
+verdict_so : (ttl now : ℕ) (noted : Bool) (o : Option Sighting) → verdict_of (still ttl now (option_map (telling noted) o)) ≡ counting ttl now o
+verdict_so ttl now noted None = refl
+verdict_so ttl now noted (Some s) = by (nat_lt (now - s.at) ttl)
+  where
+    by : (n : Bool) → verdict_of (if n then Some (telling noted s) else None) ≡ (if n then Some s.verdict else None)
+    by true = refl
+    by false = refl
+
+-- any neighbour
+abbrev somebody : PeerNo
+somebody = record { 0 = 0 }
+
+-- all marks of an entry are noted
+pub noted_all : (old now new : Sightings) (e : Entry) (L : Entries) (marks : List Mark) → marks ≡ e.marks → Sees e.at.0 marks old now → PassesOn marks now new
+    → AgreesOnSightings old L → AgreesOnSightings new (e ∷ L)
+noted_all old now new e L marks are seeing passing agrees = record {
+  sees = λ id t from.
+      verdict_from somebody (what_counts new.cache id t)
+      ∙ ap verdict_of (tells id somebody t from)
+      ∙ verdict_so new.cache.ttl t (noted (e ∷ L) id somebody) (last_seen (e ∷ L) id);
+  tells = tells;
+  past = omega (arith, passing.moment, seeing.moment);
+}
+  where
+    tells : (id : MsgId) (q : PeerNo) (t : ℕ) → new.cache.moment ≤ t → told new id q t ≡ told_in new.cache.ttl (e ∷ L) id q t
+    tells id q t from =
+        passing.tells id q t from
+        ∙ ap (told_of (list_any (notes id q) marks)) (
+        seeing.tells id q t (omega (arith, passing.moment, from))
+        ∙ ap (after_marks (told_after old.cache.ttl t id e.at.0) marks) (agrees.tells id q t (omega (arith, passing.moment, seeing.later, from)))
+        ∙ seen_so old.cache.ttl t id e.at.0 marks (noted L id q) (last_seen L id))
+        ∙ passed_so old.cache.ttl t (list_any (notes id q) marks) (not (list_any (sees id) marks) && noted L id q) (after_marks (sighting_after id e.at.0) marks (last_seen L id))
+        ∙ ap (λ (ms : List Mark). still old.cache.ttl t (option_map (telling (list_any (notes id q) ms || (not (list_any (sees id) ms) && noted L id q))) (after_marks (sighting_after id e.at.0) ms (last_seen L id)))) are
+        ∙ ap (λ (ttl : ℕ). told_in ttl (e ∷ L) id q t) (sym (passing.ttl ∙ seeing.ttl))
+
+-- ---- whether a neighbour's delivery comes soon after the first, and is its first
+
+abbrev near_told : ℕ → ℕ → Option Told → Bool
+near_told now window None = false
+near_told now window (Some s) = nat_le (now - s.at) window && not s.noted
+
+near_from : (q : PeerNo) (now window : ℕ) (o : Option Found) → is_near_in q now window o ≡ near_told now window (told_from q o)
+near_from q now window None = refl
+near_from q now window (Some s) = refl
+
+near_so : (ttl now window : ℕ) (noted : Bool) (o : Option Sighting) → is_some (counting ttl now o) ≡ true
+    → near_told now window (still ttl now (option_map (telling noted) o)) ≡ (is_soon window now o && not noted)
+near_so ttl now window noted None is = absurd cc
+near_so ttl now window noted (Some s) is = by (nat_lt (now - s.at) ttl) is
+  where
+    by : (n : Bool) → is_some (if n then Some s.verdict else None) ≡ true → near_told now window (if n then Some (telling noted s) else None) ≡ (nat_le (now - s.at) window && not noted)
+    by true is = refl
+    by false is = absurd cc
+
+pub nears : (kept : Sightings) (L : Entries) (id : MsgId) (q : PeerNo) (now window : ℕ) → AgreesOnSightings kept L → last_moment L ≤ now → is_some (seen kept.cache.ttl L id now) ≡ true
+    → is_near_in q now window (what_counts kept.cache id now) ≡ (is_soon window now (last_seen L id) && not (noted L id q))
+nears kept L id q now window agrees below is =
+    near_from q now window (what_counts kept.cache id now)
+    ∙ ap (near_told now window) (agrees.tells id q now (omega (arith, agrees.past, below)))
+    ∙ near_so kept.cache.ttl now window (noted L id q) (last_seen L id) is

@@ -1,26 +1,34 @@
 -- One more entry of a router's trace.
 use Rattle.std.proofs.Common.{◌≡◌, ◌≢◌, ◌≤◌, ◌<◌, ◌+◌, arith, ℕ, drop, get_or, length, Bool, true, false, if◌then◌else◌, List, [], ◌∷◌, ◌++◌, Result, Ok, Err, refl, sym, ap, ap₂, subst, subst₂, ◌∙◌, inl, inr}
 use Rattle.std.proofs.lemmas.List.{drop_more}
-use Rattle.std.specs.Prelude.{not, nat_le, is_some, OnOk, OnErr, IsErr}
+use Rattle.std.specs.Prelude.{not, nat_le, nat_lt, is_some, unwrap_or, OnOk, OnErr, IsErr}
 use Rattle.gs_base.specs.declared.names.PeerNo.{PeerNo}
 use Rattle.gs_base.specs.declared.names.Millis.{Millis}
 use Rattle.gs_base.specs.declared.rpc.Message.{Message}
 use Rattle.gs_base.specs.declared.control.IHave.{IHave}
 use Rattle.gs_base.specs.declared.control.IWant.{IWant}
+use Rattle.gs_base.specs.declared.control.Graft.{Graft}
+use Rattle.gs_base.specs.declared.control.Prune.{Prune}
+use Rattle.gs_base.specs.declared.names.Topic.{Topic}
+use Rattle.gs_base.specs.declared.rpc.SubOpt.{SubOpt}
 use Rattle.gs_base.specs.declared.rpc.Rpc.{Rpc}
 use Rattle.gs_base.specs.declared.verdict.Verdict.{Verdict}
 use Rattle.gs_base.specs.declared.verdict.Verdict.TheVariants.{Accept, Reject, Ignore}
 use Rattle.gs_base.specs.declared.mark.Mark.TheVariants as marks
 use Rattle.gs_rules.specs.declared.trace.Event.{Event}
-use Rattle.gs_rules.specs.declared.trace.Event.TheVariants.{Heard, Msg, Have, Want, Publish, Promises, GossipBeat}
+use Rattle.gs_rules.specs.declared.trace.Event.TheVariants.{Heard, Sub, Msg, Have, Want, GraftIn, PruneIn, Subscribe, Publish, Promises, GossipBeat}
 use Rattle.gs_rules.specs.declared.trace.Entry.{Entry}
 use Rattle.gs_base.specs.Names.{topic_or_empty, topic_of, payload_of, message_id, is_signed}
 use Rattle.gs_rules.specs.Peers.{Peer, seen_ttl}
 use Rattle.gs_rules.specs.Tables.{Entries, last_moment, joined, offers, seen}
-use Rattle.gs_rules.specs.Scoring.{is_graylisted, is_ignored}
+use Rattle.gs_mesh.specs.Peers.{is_among}
+use Rattle.gs_rules.specs.Meshes.{backoff, fanout, mesh}
+use Rattle.gs_rules.specs.Membership.{each_on, entering, is_negative}
+use Rattle.gs_rules.specs.MeshRules.{fanout_publish, graft_rule, is_full_for, left_by, prune_rule, pruned_by, publish_rule, publishing, refusing, sub_rule}
+use Rattle.gs_rules.specs.Scoring.{is_graylisted, is_ignored, is_passed_over}
 use Rattle.gs_rules.specs.Owed.{Debt, Group, PartsOf, beats, gossip_topics, nothing, owed, owes, owing, paid, parts}
 use Rattle.gs_params.specs.Picks.{IsAscending}
-use Rattle.gs_rules.specs.Rules.{Rule, Gives, AnyOf, CutOf, OneOf, answering, answers, asked_for, bare, counted, have_rule, ids_in, message_rule, new_message, rule_of, want_rule, wanted}
+use Rattle.gs_rules.specs.Rules.{Rule, Gives, AnyOf, CutOf, OneOf, answering, answers, asked_for, bare, counted, have_rule, ids_in, listeners, message_rule, new_message, rule_of, want_rule, wanted, without}
 use Rattle.gs_rules.specs.Modes.{Mode, Follows, free}
 use Rattle.gs_rules.specs.Legal.{Legal, LegalOn, IsAllowed, IsNext, MayOpen, Begins}
 use Rattle.gs_base.specs.Names.{peers_of}
@@ -42,9 +50,9 @@ record Tells (at : Millis) (event : Event) (x : Entry) : Type 0 where
 
 message_tells : (p : Peer) (L : Entries) (at : Millis) (q : PeerNo) (m : Message) → Tells at (Msg q m) (message_rule p L at q m)
 message_tells p L at q m =
-    of_a_message (Tells at (Msg q m)) p L at q m (record { moment = refl; tells = refl }) (record { moment = refl; tells = refl }) (λ unseen. new_tells)
+    of_a_message (Tells at (Msg q m)) p L at q m (record { moment = refl; tells = refl }) (record { moment = refl; tells = refl }) (λ near. record { moment = refl; tells = refl }) (λ unseen. new_tells)
   where
-    new_tells : (v : Verdict) → Tells at (Msg q m) (new_message at q m v)
+    new_tells : (v : Verdict) → Tells at (Msg q m) (new_message L at q m v)
     new_tells Accept = record { moment = refl; tells = refl }
     new_tells Reject = record { moment = refl; tells = refl }
     new_tells Ignore = record { moment = refl; tells = refl }
@@ -76,10 +84,60 @@ want_tells p L at q request = by (is_ignored p L at.0 q)
     by true = record { moment = refl; tells = refl }
     by false = record { moment = refl; tells = refl }
 
+sub_tells : (p : Peer) (L : Entries) (at : Millis) (q : PeerNo) (sub : SubOpt) → Tells at (Sub q sub) (sub_rule p L at q sub)
+sub_tells p L at q sub = by (unwrap_or sub.subscribe false)
+  where
+    by : (comes : Bool) → Tells at (Sub q sub) (if comes then bare at (Sub q sub) else left_by p L at q sub)
+    by true = record { moment = refl; tells = refl }
+    by false = record { moment = refl; tells = refl }
+
+graft_tells : (p : Peer) (L : Entries) (at : Millis) (q : PeerNo) (graft : Graft) → Tells at (GraftIn q graft) (graft_rule p L at q graft)
+graft_tells p L at q graft =
+    by (not (joined L t)) (is_among (mesh L t) q) (nat_lt at.0 (backoff L q t)) (is_negative p L at.0 q) (is_full_for p L q t)
+  where
+    t : Topic
+    t = topic_or_empty graft.topic
+
+    by : (apart is_member soon negative full : Bool) → Tells at (GraftIn q graft)
+        (if apart then bare at (GraftIn q graft) else if is_member then bare at (GraftIn q graft) else if soon then refusing p at q graft (marks.Behaviour q ∷ []) else if negative then refusing p at q graft [] else if full then refusing p at q graft [] else record (bare at (GraftIn q graft)) { marks = entering (each_on t (q ∷ [])) })
+    by true is_member soon negative full = record { moment = refl; tells = refl }
+    by false true soon negative full = record { moment = refl; tells = refl }
+    by false false true negative full = record { moment = refl; tells = refl }
+    by false false false true full = record { moment = refl; tells = refl }
+    by false false false false true = record { moment = refl; tells = refl }
+    by false false false false false = record { moment = refl; tells = refl }
+
+prune_tells : (p : Peer) (L : Entries) (at : Millis) (q : PeerNo) (prune : Prune) → Tells at (PruneIn q prune) (prune_rule p L at q prune)
+prune_tells p L at q prune = by (not (joined L (topic_or_empty prune.topic)))
+  where
+    by : (apart : Bool) → Tells at (PruneIn q prune) (if apart then bare at (PruneIn q prune) else pruned_by p L at q prune)
+    by true = record { moment = refl; tells = refl }
+    by false = record { moment = refl; tells = refl }
+
+fanout_tells : (p : Peer) (L : Entries) (at : Millis) (t : Topic) (payload : List ℕ) (fanned : List PeerNo) → TellsOnly at (Publish t payload) (fanout_publish p L at t payload fanned)
+fanout_tells p L at t payload [] = λ chosen. record { moment = refl; tells = refl }
+fanout_tells p L at t payload (q ∷ qs) = record { moment = refl; tells = refl }
+
+publish_tells : (p : Peer) (L : Entries) (at : Millis) (t : Topic) (payload : List ℕ) → TellsOnly at (Publish t payload) (publish_rule p L at t payload)
+publish_tells p L at t payload = by p.params.flood_publish (joined L t)
+  where
+    by : (floods joins : Bool) → TellsOnly at (Publish t payload)
+        (if floods then Gives (publishing L at t payload (without (is_passed_over p L at.0) (listeners p L t)) [] [])
+        else if joins then Gives (publishing L at t payload (without (is_passed_over p L at.0) (mesh L t)) [] [])
+        else fanout_publish p L at t payload (fanout L t))
+    by true joins = record { moment = refl; tells = refl }
+    by false true = record { moment = refl; tells = refl }
+    by false false = fanout_tells p L at t payload (fanout L t)
+
 rule_tells : (p : Peer) (L : Entries) (at : Millis) (event : Event) → TellsOnly at event (rule_of p L at event)
 rule_tells p L at (Msg q m) = message_tells p L at q m
 rule_tells p L at (Have q offer) = have_tells p L at q offer
 rule_tells p L at (Want q request) = want_tells p L at q request
+rule_tells p L at (Sub q sub) = sub_tells p L at q sub
+rule_tells p L at (GraftIn q graft) = graft_tells p L at q graft
+rule_tells p L at (PruneIn q prune) = prune_tells p L at q prune
+rule_tells p L at (Subscribe t) = λ first others. record { moment = refl; tells = refl }
+rule_tells p L at (Publish t payload) = publish_tells p L at t payload
 rule_tells p L at (GossipBeat t) = λ chosen. record { moment = refl; tells = refl }
 rule_tells p L at other = record { moment = refl; tells = refl }
 

@@ -4,3 +4,4 @@ pub mod State
 pub mod Router
 pub mod Offers
 pub mod Requests
+pub mod Meshes

@@ -7,7 +7,10 @@ use Rattle.gs_rules.specs.declared.trace.Event.TheVariants.{Subscribe, Unsubscri
 use Rattle.gs_rules.specs.declared.refusal.Refusal.{Refusal}
 use Rattle.gs_rules.specs.declared.refusal.Refusal.TheVariants.{Stopped}
 use Rattle.gs_rules.specs.Peers.{Peer, links_of}
-use Rattle.gs_rules.specs.Tables.{Entries}
+use Rattle.std.specs.List.{flat_map}
+use Rattle.gs_base.specs.declared.names.Topic.{Topic}
+use Rattle.gs_rules.specs.Meshes.{mesh}
+use Rattle.gs_rules.specs.Tables.{Entries, own_topics}
 use Rattle.gs_rules.specs.Scoring.{score}
 use Rattle.gs_rules.specs.Modes.{Mode}
 use Rattle.gs_rules.specs.Legal.{Legal, Comes}
@@ -48,6 +51,10 @@ refusal_of v at event = if v.is_stopped then Some Stopped else refusal_if v.peer
 -- the scores of all neighbours at a moment, by number
 abbrev pub scores_of : Peer → Entries → ℕ → List (PeerNo × ℤ)
 scores_of p L at = map (λ q. (q, score p L at q)) (links_of p)
+
+-- the members of the meshes of the router's own topics, topics by their bytes, members by number
+abbrev pub meshes_of : Entries → List (Topic × PeerNo)
+meshes_of L = flat_map (λ t. map (λ q. (t, q)) (mesh L t)) (own_topics L)
 
 -- ---- events
 

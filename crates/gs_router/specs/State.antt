@@ -1,5 +1,5 @@
 -- What a router knows, and how its steps and its work on an event end.
-use Rattle.std.specs.Prelude.{◌≡◌, ◌⊎◌, ◌≤◌, ℕ, List, [], ◌∷◌, ◌++◌, Result, OnOk, OnErr}
+use Rattle.std.specs.Prelude.{◌≡◌, ◌⊎◌, ◌≤◌, ℕ, if◌then◌else◌, List, [], ◌∷◌, ◌++◌, Result, OnOk, OnErr}
 use Rattle.gs_base.specs.declared.names.PeerNo.{PeerNo}
 use Rattle.gs_base.specs.declared.names.Millis.{Millis}
 use Rattle.gs_base.specs.declared.rpc.Message.{Message}
@@ -13,13 +13,16 @@ use Rattle.gs_rules.specs.declared.trace.Entry.{Entry}
 use Rattle.gs_rules.specs.Peers.{Peer}
 use Rattle.gs_rules.specs.Tables.{Entries, last_moment}
 use Rattle.gs_rules.specs.Owed.{owed, nothing}
-use Rattle.gs_rules.specs.Rules.{bare, invalid}
+use Rattle.gs_mesh.specs.Peers.{is_among}
+use Rattle.gs_mesh.specs.Peers.{without as all_but}
+use Rattle.gs_wire.specs.Messages.{passed_on}
+use Rattle.gs_rules.specs.Rules.{bare, invalid, to_each}
 use Rattle.gs_rules.specs.Modes.{Mode}
 use Rattle.gs_rules.specs.Legal.{Legal, LegalOn, Begins, Opens}
 use Rattle.gs_router.specs.declared.setup.Setup.{Setup}
 use Rattle.gs_router.specs.declared.state.State.{State}
 use Rattle.gs_router.specs.declared.rules.messages.Fate.{Fate}
-use Rattle.gs_router.specs.declared.rules.messages.Fate.TheVariants.{Dropped, Invalid, Rejected, Ignored, Accepted}
+use Rattle.gs_router.specs.declared.rules.messages.Fate.TheVariants.{Dropped, Invalid, Rejected, Ignored, Near, Accepted}
 use Rattle.gs_router.specs.Tables.{Agrees, AgreesOnScores, AreMadeFor}
 
 -- the peer that a router is, as its trace is read
@@ -88,13 +91,17 @@ pub record Ends {A E : Type 0} (m : Mode) (event : Event) (now : Millis)
 
 -- ---- messages
 
--- the entry of a message that came from q, of which this becomes
-abbrev pub judged : PeerNo → Millis → Message → Fate → Entry
-judged q at m Dropped = bare at (Msg q m)
-judged q at m Invalid = invalid at q m
-judged q at m (Rejected id) = record (bare at (Msg q m)) { marks = marks.Seen id Reject ∷ marks.Invalid q (topic_of m) ∷ [] }
-judged q at m (Ignored id) = record (bare at (Msg q m)) { marks = marks.Seen id Ignore ∷ [] }
-judged q at m (Accepted id) = record (bare at (Msg q m)) {
+-- the entry of a message that came from q, of which this becomes, where these are in the mesh of its topic
+abbrev pub judged : List PeerNo → PeerNo → Millis → Message → Fate → Entry
+judged members q at m Dropped = bare at (Msg q m)
+judged members q at m Invalid = invalid at q m
+judged members q at m (Rejected id) = record (bare at (Msg q m)) { marks = marks.Seen id Reject ∷ marks.Invalid q (topic_of m) ∷ [] }
+judged members q at m (Ignored id) = record (bare at (Msg q m)) { marks = marks.Seen id Ignore ∷ [] }
+judged members q at m (Near id) = record (bare at (Msg q m)) { marks = marks.Near q (topic_of m) id ∷ [] }
+judged members q at m (Accepted id) = record (bare at (Msg q m)) {
+  sends = to_each (passed_on m) (all_but q members);
   delivered = (topic_of m, payload_of m) ∷ [];
-  marks = marks.Seen id Accept ∷ marks.First q (topic_of m) id ∷ marks.Cached id (topic_of m) ∷ [];
+  marks = marks.Seen id Accept
+      ∷ marks.First q (topic_of m) id
+      ∷ ((if is_among members q then marks.Near q (topic_of m) id ∷ [] else []) ++ marks.Cached id (topic_of m) ∷ []);
 }

@@ -1,22 +1,27 @@
 -- A router's tables say what its trace says.
-use Rattle.std.specs.Prelude.{◌≡◌, ◌≤◌, ◌<◌, ◌-◌, ℕ, min, Bool, false, not, ◌||◌, if◌then◌else◌, List, [], length, filter, Option, Some, None, is_some, option_map, unwrap_or}
+use Rattle.std.specs.Prelude.{◌≡◌, ◌≤◌, ◌<◌, ◌-◌, ℕ, min, Bool, true, false, not, ◌||◌, if◌then◌else◌, List, [], length, filter, Option, Some, None, is_some, option_map, unwrap_or, nat_lt}
 use Rattle.std.specs.Ordering.{is_eq}
 use Rattle.std.specs.List.{list_any}
 use Rattle.std.specs.Map.{lookup}
 use Rattle.gs_base.specs.declared.names.PeerNo.{PeerNo}
 use Rattle.gs_base.specs.declared.names.Topic.{Topic}
 use Rattle.gs_base.specs.declared.names.MsgId.{MsgId}
+use Rattle.gs_base.specs.declared.names.Millis.{Millis}
 use Rattle.gs_base.specs.Names.{same_peer, same_topic, same_id}
 use Rattle.gs_base.specs.declared.verdict.Verdict.{Verdict}
 use Rattle.gs_base.specs.declared.mark.Mark.{Mark}
 use Rattle.gs_base.specs.declared.mark.Mark.TheVariants as marks
 use Rattle.gs_wire.specs.Messages.{most_identifiers}
-use Rattle.gs_cache.specs.Sightings.{verdict_in, what_counts}
+use Rattle.gs_cache.specs.declared.seen.sighting.Sighting.{Sighting as Found}
+use Rattle.gs_cache.specs.Sightings.{is_noted, verdict_in, what_counts}
 use Rattle.gs_cache.specs.Messages.{Cached, all_left, cached, left, one_less}
+use Rattle.gs_mesh.specs.Meshes as meshes
 use Rattle.gs_score.specs.Histories as histories
+use Rattle.gs_rules.specs.declared.trace.Event.{Event}
 use Rattle.gs_rules.specs.declared.trace.Entry.{Entry}
 use Rattle.gs_rules.specs.Peers.{Peer, seen_ttl, windows}
-use Rattle.gs_rules.specs.Tables.{Entries, Keeping, answered, asked, counting, is_shut, joined, keeping, keeping_order, kept, known, last_kept, last_moment, offers, on, promises, seen, topic_order, up}
+use Rattle.gs_rules.specs.Tables.{Entries, Keeping, Sighting, after_marks, answered, asked, is_shut, joined, keeping, keeping_order, kept, known, last_kept, last_moment, last_seen, offers, on, promises, seen, topic_order, up}
+use Rattle.gs_rules.specs.Meshes.{backoff, dropped_after, fanout, last_published, mesh, noted, notes}
 use Rattle.gs_rules.specs.Scoring.{history, setting_of}
 use Rattle.gs_router.specs.declared.peer_set.PeerSet.{PeerSet}
 use Rattle.gs_router.specs.declared.tables.own_topics.OwnTopics.{OwnTopics}
@@ -27,6 +32,9 @@ use Rattle.gs_router.specs.declared.tables.budgets.Budget.{Budget}
 use Rattle.gs_router.specs.declared.tables.budgets.Budgets.{Budgets}
 use Rattle.gs_router.specs.declared.tables.promises.Promises.{Promises}
 use Rattle.gs_router.specs.declared.tables.standings.Standings.{Standings}
+use Rattle.gs_router.specs.declared.tables.memberships.Memberships.{Memberships}
+use Rattle.gs_router.specs.declared.tables.mesh_topics.Uses.{Uses}
+use Rattle.gs_router.specs.declared.tables.mesh_topics.MeshTopics.{MeshTopics}
 use Rattle.gs_router.specs.declared.tables.neighbours.Neighbours.{Neighbours}
 use Rattle.gs_router.specs.declared.tables.Tables.{Tables}
 use Rattle.gs_router.specs.PeerSets.{has}
@@ -64,15 +72,63 @@ pub record AgreesOnListeners (kept : Listeners) (L : Entries) : Type 0 where
 abbrev pub verdict_at : Sightings → MsgId → ℕ → Option Verdict
 verdict_at kept id now = verdict_in (what_counts kept.cache id now)
 
--- what a mark leaves of the verdict on a message, where a sighting counts for less than a time
-abbrev pub verdict_after : ℕ → ℕ → MsgId → ℕ → Mark → Option Verdict → Option Verdict
-verdict_after ttl now id at (marks.Seen other verdict) before =
-    if same_id other id then counting ttl now (Some (record { at = at; verdict = verdict })) else before
-verdict_after ttl now id at other before = before
+-- what a table has of a message, as it concerns one neighbour: when it was seen last, what it was found to be, and
+-- whether the neighbour was noted for it since
+pub record Told : Type 0 where
+  pub at : ℕ
+  pub verdict : Verdict
+  pub noted : Bool
+
+abbrev pub told : Sightings → MsgId → PeerNo → ℕ → Option Told
+told kept id q now =
+    option_map (λ (s : Found). record { at = s.at.0; verdict = s.verdict; noted = is_noted q s }) (what_counts kept.cache id now)
+
+-- it counts for less than a time
+abbrev pub still : ℕ → ℕ → Option Told → Option Told
+still ttl now None = None
+still ttl now (Some s) = if nat_lt (now - s.at) ttl then Some s else None
+
+abbrev pub telling : Bool → Sighting → Told
+telling noted s = record { at = s.at; verdict = s.verdict; noted = noted }
+
+-- as a trace has it
+abbrev pub told_in : ℕ → Entries → MsgId → PeerNo → ℕ → Option Told
+told_in ttl L id q now = still ttl now (option_map (telling (noted L id q)) (last_seen L id))
+
+-- what a mark that a message was seen leaves of it
+abbrev pub told_after : ℕ → ℕ → MsgId → ℕ → Mark → Option Told → Option Told
+told_after ttl now id at (marks.Seen other verdict) before =
+    if same_id other id then still ttl now (Some (record { at = at; verdict = verdict; noted = false })) else before
+told_after ttl now id at other before = before
+
+-- and what is left of it where marks say, or do not, that the neighbour passed the message on
+abbrev pub told_of : Bool → Option Told → Option Told
+told_of noted None = None
+told_of noted (Some s) = Some (record { at = s.at; verdict = s.verdict; noted = noted || s.noted })
+
+-- which messages marks say were seen at a moment was noted
+pub record Sees (at : ℕ) (marks : List Mark) (old new : Sightings) : Type 0 where
+  pub tells
+      : (id : MsgId) (q : PeerNo) (now : ℕ) → new.cache.moment ≤ now
+      → told new id q now ≡ after_marks (told_after old.cache.ttl now id at) marks (told old id q now)
+  pub later : old.cache.moment ≤ new.cache.moment
+  pub moment : new.cache.moment ≤ at
+  pub ttl : new.cache.ttl ≡ old.cache.ttl
+
+-- and who passed on which message, as they say
+pub record PassesOn (marks : List Mark) (old new : Sightings) : Type 0 where
+  pub tells
+      : (id : MsgId) (q : PeerNo) (now : ℕ) → new.cache.moment ≤ now
+      → told new id q now ≡ told_of (list_any (notes id q) marks) (told old id q now)
+  pub moment : new.cache.moment ≡ old.cache.moment
+  pub ttl : new.cache.ttl ≡ old.cache.ttl
 
 -- the table may have forgotten what counts no more
 pub record AgreesOnSightings (kept : Sightings) (L : Entries) : Type 0 where
   pub sees : (id : MsgId) (now : ℕ) → kept.cache.moment ≤ now → verdict_at kept id now ≡ seen kept.cache.ttl L id now
+  pub tells
+      : (id : MsgId) (q : PeerNo) (now : ℕ) → kept.cache.moment ≤ now
+      → told kept id q now ≡ told_in kept.cache.ttl L id q now
   pub past : kept.cache.moment ≤ last_moment L
 
 -- ---- kept messages
@@ -155,6 +211,45 @@ pub record AgreesOnPromises (table : Promises) (L : Entries) : Type 0 where
 abbrev pub AgreesOnScores : Peer → Standings → Entries → Type 0
 AgreesOnScores p table L = histories.Agrees (setting_of p) table.scores (history p L)
 
+-- ---- meshes
+
+-- The table has who is in each mesh and in each fanout, when the router last published on a topic without being
+-- subscribed, and until when neighbours are not to be grafted.
+pub record HasMeshes (table : Memberships) (mesh fanout : Topic → List PeerNo) (published : Topic → Option ℕ)
+    (backoff : PeerNo → Topic → ℕ) : Type 0 where
+  pub members : (t : Topic) → meshes.members table.meshes t ≡ mesh t
+  pub fans : (t : Topic) → meshes.fanout table.meshes t ≡ fanout t
+  pub publishes
+      : (t : Topic)
+      → option_map (λ (at : Millis). at.0) (meshes.kept table.meshes t).last_published ≡ published t
+  pub bars : (q : PeerNo) (t : Topic) → (meshes.backoff_until table.meshes q t).0 ≡ backoff q t
+
+abbrev pub AgreesOnMeshes : Memberships → Entries → Type 0
+AgreesOnMeshes table L = HasMeshes table (mesh L) (fanout L) (last_published L) (backoff L)
+
+-- a topic without a mesh and without a fanout
+abbrev pub no_uses : Uses
+no_uses = record { has_mesh = false; has_fanout = false }
+
+-- what a topic has, as the table has it
+abbrev pub uses_in : MeshTopics → Topic → Uses
+uses_in table t = unwrap_or (lookup (λ u. is_eq (topic_order t u)) table.topics.entries) no_uses
+
+-- what an event leaves of whether a topic has a fanout, and what a mark does
+abbrev pub dropped_by : Topic → Event → Bool → Bool
+dropped_by t event before = dropped_after t false event before
+
+abbrev pub fanned_by : Topic → Mark → Bool → Bool
+fanned_by t (marks.Published u) before = if same_topic u t then true else before
+fanned_by t other before = before
+
+-- the table has which topics have a mesh, and which a fanout
+pub record HasTopics (table : MeshTopics) (meshes fanouts : Topic → Bool) : Type 0 where
+  pub uses : (t : Topic) → uses_in table t ≡ record { has_mesh = meshes t; has_fanout = fanouts t }
+
+abbrev pub AgreesOnMeshTopics : MeshTopics → Entries → Type 0
+AgreesOnMeshTopics table L = HasTopics table (joined L) (λ t. is_some (last_published L t))
+
 -- ---- neighbours
 
 pub record AgreesOnNeighbours (kept : Neighbours) (L : Entries) : Type 0 where
@@ -170,6 +265,8 @@ pub record Agrees (tables : Tables) (L : Entries) : Type 0 where
   pub messages : AgreesOnMessages tables.messages L
   pub budgets : AgreesOnBudgets tables.budgets L
   pub promises : AgreesOnPromises tables.promises L
+  pub memberships : AgreesOnMeshes tables.memberships L
+  pub mesh_topics : AgreesOnMeshTopics tables.mesh_topics L
   pub neighbours : AgreesOnNeighbours tables.neighbours L
 
 -- The tables were made for what is given of this peer.

@@ -11,6 +11,3 @@ mod tables;
 
 pub use fault::RouterFault;
 pub use router::Router;
-
-#[cfg(test)]
-mod tests;

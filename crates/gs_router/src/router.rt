@@ -7,15 +7,16 @@ ghost use Rattle.gs_params.specs.Params.{AreInRange};
 ghost use Rattle.gs_params.specs.Picks.{IsAscending};
 ghost use Rattle.gs_rules.specs.declared.trace.Event.TheVariants as events;
 ghost use Rattle.gs_rules.specs.Tables.{last_moment, up};
+ghost use Rattle.gs_rules.specs.Meshes.{mesh};
 ghost use Rattle.gs_rules.specs.Scoring.{score};
 ghost use Rattle.gs_rules.specs.Modes.{exact};
 ghost use Rattle.gs_rules.specs.Legal.{hearing, losing};
 ghost use Rattle.gs_wire.specs.Codec.{codec};
-ghost use Rattle.gs_router.specs.Router.{Calls, IsLoss, IsUsers, answer_of, fails, scores_of};
+ghost use Rattle.gs_router.specs.Router.{Calls, IsLoss, IsUsers, answer_of, fails, meshes_of, scores_of};
 
 use crate::fault::RouterFault;
 use crate::rules;
-use crate::rules::messages::{self, Publishing};
+use crate::rules::publishing::{self, Publishing};
 use crate::setup::Setup;
 use crate::state::State;
 use crate::tables::Tables;
@@ -143,6 +144,24 @@ impl Router {
         self.state.scores(now)
     }
 
+    /// Who is in the mesh of a topic, ascending by number. After want of memory nothing is known of the answer.
+    pub fn members(&self, topic: &Topic) -> &[PeerNo]
+        ensures { self.now.is_stopped ≡ false → result.now ≡ mesh self.now.trace topic.now }
+    {
+        self.state.tables.memberships.members(topic)
+    }
+
+    /// The members of the meshes of the router's own topics, topics by their bytes, members by number. After want of
+    /// memory nothing is known of them.
+    ///
+    /// # Errors
+    /// `AllocError` where there was no memory.
+    pub fn meshes(&self) -> Result<Seq<(Topic, PeerNo)>, AllocError>
+        ensures { IfOk result (λ meshes. self.now.is_stopped ≡ false → meshes ≡ meshes_of self.now.trace) }
+    {
+        self.state.meshes()
+    }
+
     /// Hears an RPC that came from a neighbour and fits a frame, as all do that a reader gives. Where the
     /// neighbour is not up, it is late, and has no effect; of one that is on the graylist, no part has any.
     ///
@@ -202,7 +221,8 @@ impl Router {
         self.lose(peer, Event::Fault(peer), now, words)
     }
 
-    /// Subscribes to a topic, and announces it to every neighbour.
+    /// Subscribes to a topic, announces it to every neighbour, and grafts up to `d` of those that may come into its
+    /// mesh, members of its fanout first (gossipsub v1.0, "Topic Membership").
     ///
     /// # Errors
     /// `Stopped`, `TooLong`, `Joined`, `TooMany`, in this order, and `NoMemory`.
@@ -219,7 +239,8 @@ impl Router {
         self.obey(Event::Subscribe(topic), now, words)
     }
 
-    /// Leaves a topic, and tells every neighbour.
+    /// Leaves a topic, tells every neighbour, and prunes each member of its mesh, which is not to come back for
+    /// `unsubscribe_backoff_s` (gossipsub v1.1, "Prune Backoff").
     ///
     /// # Errors
     /// `Stopped` and `NotJoined`, in this order, and `NoMemory`.
@@ -236,8 +257,10 @@ impl Router {
         self.obey(Event::Unsubscribe(topic), now, words)
     }
 
-    /// Publishes a payload: it goes to every neighbour that is up, on the topic and not below the threshold, and is
-    /// delivered to the router's own user where that is subscribed to the topic.
+    /// Publishes a payload, which is delivered to the router's own user where that is subscribed to the topic. With
+    /// `flood_publish` it goes to every neighbour that is up and on the topic; without, to the topic's mesh, or, where
+    /// the router isn't subscribed, to its fanout, which is filled where it is empty. Who scores below
+    /// `publish_threshold` gets nothing (gossipsub v1.1, "Flood Publishing").
     ///
     /// # Errors
     /// `Stopped`, `TooLong` and `AlreadySeen`, in this order, and `NoMemory`.
@@ -256,7 +279,7 @@ impl Router {
             return Err(RouterFault::Refused(Refusal::Stopped));
         }
         let id = MsgId::of(&payload);
-        if let Some(why) = messages::refusal_of_publish(&self.state, &topic, &payload, id, now) {
+        if let Some(why) = publishing::refusal_of_publish(&self.state, &topic, &payload, id, now) {
             return Err(RouterFault::Refused(why));
         }
         let publishing = Publishing { topic, payload, id };
@@ -265,7 +288,7 @@ impl Router {
     }
 
     /// Has a heartbeat (gossipsub v1.0, Heartbeat): charges promises that were broken, gossips on each topic on
-    /// which there is something, and begins a new window of what is kept.
+    /// which there is something, and begins a new window of what is kept. Meshes and fanouts stay as they are.
     ///
     /// # Errors
     /// `Stopped`, and `NoMemory`.

@@ -1,6 +1,6 @@
 //! What a router does about an event, as the rules say, and what it refuses. Each subject has a file with
 //! what it does and what it refuses.
-ghost use Rattle.std.specs.Prelude.{◌≡◌, [], ◌∷◌, ◌++◌, IfOk, filter};
+ghost use Rattle.std.specs.Prelude.{◌≡◌, [], ◌∷◌, ◌++◌, IfOk, OnOk, filter};
 ghost use Rattle.gs_rules.specs.Tables.{Entries, is_shut, up};
 ghost use Rattle.gs_rules.specs.Rules.{bare, rule_of, to_each, up_neighbours};
 ghost use Rattle.gs_rules.specs.Modes.{Follows, exact};
@@ -9,14 +9,18 @@ ghost use Rattle.gs_rules.specs.declared.refusal.Refusal.TheVariants as refusals
 ghost use Rattle.gs_router.specs.Tables.{Agrees};
 ghost use Rattle.gs_router.specs.State.{IsCurrent, Knows, peer_with};
 
+pub mod departures;
+pub mod grafts;
 pub mod heartbeats;
+pub mod membership;
 pub mod messages;
 pub mod offers;
+pub mod publishing;
 pub mod requests;
 pub mod subscriptions;
 pub mod thresholds;
 
-use crate::rules::messages::Publishing;
+use crate::rules::publishing::Publishing;
 use crate::state::State;
 use gs_base::{Millis, MsgId, PeerNo, Rpc, Seq, Shared, clone_of};
 use gs_params::Words;
@@ -53,6 +57,22 @@ fn to_each(
     Ok(sends)
 }
 
+/// The same RPC to each of these, behind what is sent already.
+fn send_to_each(
+    alloc: Global,
+    sends: &mut Seq<(PeerNo, Shared<Rpc>)>,
+    rpc: Rpc,
+    receivers: &[PeerNo],
+) -> Result<(), AllocError>
+    ensures { OnOk result (sends.new ≡ sends.old ++ to_each rpc receivers.now) }
+{
+    let shared = Shared::new(alloc, rpc)?;
+    for receiver in receivers {
+        sends.push((*receiver, clone_of(&shared)?))?;
+    }
+    Ok(())
+}
+
 /// The neighbours that are up.
 fn up_neighbours(state: &State) -> Result<Vec<PeerNo>, AllocError>
     ensures { IfOk result (λ receivers. (L : Entries)
@@ -85,11 +105,16 @@ pub fn entry_of<W: Words>(
         Event::Msg(from, message) => messages::entry_of(state, from, message, now),
         Event::Have(from, offer) => offers::entry_of(state, from, offer, now, words),
         Event::Want(from, request) => requests::entry_of(state, from, request, now),
-        Event::Subscribe(topic) => subscriptions::subscribe(state, topic, now),
+        Event::Sub(from, sub) => departures::entry_of(state, from, sub, now),
+        Event::GraftIn(from, graft) => grafts::graft(state, from, graft, now),
+        Event::PruneIn(from, prune) => grafts::prune(state, from, prune, now),
+        Event::Gone(peer) => departures::lost(state, peer, Event::Gone(peer), now),
+        Event::Fault(peer) => departures::lost(state, peer, Event::Fault(peer), now),
+        Event::Subscribe(topic) => subscriptions::subscribe(state, topic, now, words),
         Event::Unsubscribe(topic) => subscriptions::unsubscribe(state, topic, now),
         Event::Publish(topic, payload) => {
             let id = MsgId::of(&payload);
-            messages::publish(state, Publishing { topic, payload, id }, now)
+            publishing::publish(state, Publishing { topic, payload, id }, now, words)
         }
         Event::Promises => heartbeats::promises(state, now),
         Event::GossipBeat(topic) => heartbeats::gossip(state, topic, now, words),
@@ -117,7 +142,7 @@ pub fn refusal_of(state: &State, event: &Event, now: Millis) -> Option<Refusal>
         Event::Subscribe(topic) => subscriptions::refusal_of_subscribe(state, topic),
         Event::Unsubscribe(topic) => subscriptions::refusal_of_unsubscribe(state, topic),
         Event::Publish(topic, payload) => {
-            messages::refusal_of_publish(state, topic, payload, MsgId::of(payload), now)
+            publishing::refusal_of_publish(state, topic, payload, MsgId::of(payload), now)
         }
         Event::Promises => refusal_of_anything(state),
         Event::Decay => refusal_of_anything(state),

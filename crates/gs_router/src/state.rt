@@ -4,7 +4,7 @@ ghost use Rattle.gs_base.specs.Names.{message_id};
 ghost use Rattle.gs_wire.specs.Codec.{codec};
 ghost use Rattle.gs_rules.specs.declared.trace.Event.TheVariants as events;
 ghost use Rattle.gs_rules.specs.Tables.{Entries, last_moment, up};
-ghost use Rattle.gs_rules.specs.Owed.{offers_in, owed, owes, requests_in};
+ghost use Rattle.gs_rules.specs.Owed.{grafts_in, offers_in, owed, owes, prunes_in, requests_in};
 ghost use Rattle.gs_rules.specs.Modes.{exact};
 ghost use Rattle.gs_rules.specs.Legal.{IsNext, MayHear, MayOpen, hearing};
 ghost use Rattle.gs_rules.specs.Peers.{Peer};
@@ -13,13 +13,16 @@ ghost use Rattle.gs_router.specs.Tables.{Agrees, AgreesOnScores, AreMadeFor};
 ghost use Rattle.gs_router.specs.State.{Ends, IsCurrent, IsReady, Steps, peer_with};
 
 mod heartbeat;
+mod meshes;
 mod scores;
 
 use crate::rules;
-use crate::rules::messages::{self, Publishing};
+use crate::rules::publishing::{self, Publishing};
 use crate::setup::Setup;
 use crate::tables::Tables;
-use gs_base::{Control, IHave, IWant, Message, Millis, PeerNo, Rpc, Shared, SubOpt, clone_of};
+use gs_base::{
+    Control, Graft, IHave, IWant, Message, Millis, PeerNo, Prune, Rpc, Shared, SubOpt, clone_of,
+};
 use gs_params::Words;
 use gs_rules::{Entry, Event, Trace};
 use std::alloc::{AllocError, Global};
@@ -102,7 +105,7 @@ impl State {
         ensures { Ends (exact W.word W.after) (events.Publish publishing.topic publishing.payload) now
             self.old words.old result self.new words.new }
     {
-        let entry = messages::publish(self, publishing, now)?;
+        let entry = publishing::publish(self, publishing, now, words)?;
         self.append(entry)
     }
 
@@ -163,6 +166,12 @@ impl State {
         }
         for request in requests_in(&parts.control) {
             self.hear_request(from, request, now, words)?;
+        }
+        for graft in grafts_in(&parts.control) {
+            self.hear_graft(from, graft, now, words)?;
+        }
+        for prune in prunes_in(&parts.control) {
+            self.hear_prune(from, prune, now, words)?;
         }
         Ok(())
     }
@@ -237,6 +246,64 @@ impl State {
     {
         let request = Shared::new(self.alloc, clone_of(request)?)?;
         self.step(Event::Want(from, request), now, words)
+    }
+
+    /// Hears a GRAFT, which comes next.
+    fn hear_graft<W: Words>(
+        &mut self,
+        from: PeerNo,
+        graft: &Graft,
+        now: Millis,
+        words: &mut W,
+    ) -> Result<(), AllocError>
+        requires current { IsCurrent self.old }
+        requires time { last_moment self.old.trace ≤ now.0 }
+        requires next { IsNext (peer_with self.old.setup) self.old.trace now.0
+            (owed (peer_with self.old.setup) self.old.trace).events (events.GraftIn from graft.now) }
+        ensures { Steps (exact W.word W.after) (events.GraftIn from graft.now) now
+            self.old words.old result self.new words.new }
+    {
+        let graft = clone_of(graft)?;
+        self.step(Event::GraftIn(from, graft), now, words)
+    }
+
+    /// Hears a PRUNE, which comes next.
+    fn hear_prune<W: Words>(
+        &mut self,
+        from: PeerNo,
+        prune: &Prune,
+        now: Millis,
+        words: &mut W,
+    ) -> Result<(), AllocError>
+        requires current { IsCurrent self.old }
+        requires time { last_moment self.old.trace ≤ now.0 }
+        requires next { IsNext (peer_with self.old.setup) self.old.trace now.0
+            (owed (peer_with self.old.setup) self.old.trace).events (events.PruneIn from prune.now) }
+        ensures { Steps (exact W.word W.after) (events.PruneIn from prune.now) now
+            self.old words.old result self.new words.new }
+    {
+        let prune = clone_of(prune)?;
+        self.step(Event::PruneIn(from, prune), now, words)
+    }
+}
+
+/// The grafts among what is said of meshes and messages.
+fn grafts_in(control: &Option<Control>) -> &[Graft]
+    ensures { result.now ≡ grafts_in control.now }
+{
+    match control {
+        Some(control) => control.graft.as_slice(),
+        None => &[],
+    }
+}
+
+/// The prunes among what is said of meshes and messages.
+fn prunes_in(control: &Option<Control>) -> &[Prune]
+    ensures { result.now ≡ prunes_in control.now }
+{
+    match control {
+        Some(control) => control.prune.as_slice(),
+        None => &[],
     }
 }
 

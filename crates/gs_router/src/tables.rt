@@ -11,6 +11,8 @@ ghost use Rattle.gs_router.specs.Tables.{Agrees, AgreesOnScores, AreMadeFor};
 
 pub mod budgets;
 pub mod listeners;
+pub mod memberships;
+pub mod mesh_topics;
 pub mod messages;
 pub mod neighbours;
 pub mod own_topics;
@@ -20,6 +22,8 @@ pub mod standings;
 
 use crate::tables::budgets::{Budget, Budgets};
 use crate::tables::listeners::Listeners;
+use crate::tables::memberships::Memberships;
+use crate::tables::mesh_topics::MeshTopics;
 use crate::tables::messages::Messages;
 use crate::tables::neighbours::Neighbours;
 use crate::tables::own_topics::OwnTopics;
@@ -43,6 +47,8 @@ pub struct Tables {
     pub messages: Messages,
     pub budgets: Budgets,
     pub promises: Promises,
+    pub memberships: Memberships,
+    pub mesh_topics: MeshTopics,
     pub standings: Standings,
     pub neighbours: Neighbours,
 }
@@ -83,6 +89,8 @@ impl Tables {
             messages,
             budgets: Budgets::new(alloc, budget),
             promises: Promises::new(alloc),
+            memberships: Memberships::new(alloc),
+            mesh_topics: MeshTopics::new(alloc),
             standings,
             neighbours: Neighbours::new(alloc),
         })
@@ -107,6 +115,8 @@ impl Tables {
         self.messages.note(entry)?;
         self.budgets.note(entry)?;
         self.promises.note(entry)?;
+        self.memberships.note(entry)?;
+        self.mesh_topics.note(entry)?;
         self.standings.note(entry)?;
         self.neighbours.note(entry)?;
         Ok(())

@@ -1,16 +1,18 @@
--- Nothing changes what scores are made of behind a shut.
-use Rattle.std.proofs.Common.{◌≡◌, ℕ, Bool, true, false, List, [], ◌∷◌, ◌++◌, length, refl, sym, ap, ap₂, subst, ◌∙◌}
+-- Nothing changes what scores are made of behind a shut, nor meshes, nor the peer's own topics.
+use Rattle.std.proofs.Common.{◌≡◌, ℕ, Bool, true, false, List, [], ◌∷◌, ◌++◌, filter, length, refl, sym, ap, ap₂, subst, ◌∙◌}
 use Rattle.std.specs.List.{AllByRecursion}
 use Rattle.std.proofs.lemmas.List.{nil_from_length}
 use Rattle.std.proofs.lemmas.List.Sorted.{length_permutation}
 use Rattle.gs_base.specs.declared.names.PeerNo.{PeerNo}
+use Rattle.gs_base.specs.declared.names.Topic.{Topic}
 use Rattle.gs_base.specs.declared.mark.Mark.{Mark}
 use Rattle.gs_score.specs.Histories.{History, named, score_in}
 use Rattle.gs_rules.specs.declared.trace.Event.{Event}
 use Rattle.gs_rules.specs.declared.trace.Event.TheVariants.{Heard, Late, Subscribe, Unsubscribe, Publish, Promises, Decay, RoundEnd, Gone, Fault, Shut}
 use Rattle.gs_rules.specs.declared.trace.Entry.{Entry}
 use Rattle.gs_rules.specs.Peers.{Peer}
-use Rattle.gs_rules.specs.Tables.{Entries, after_marks, is_shut, is_shut_after, up, up_after}
+use Rattle.gs_rules.specs.Tables.{Entries, after_marks, ascending, is_shut, is_shut_after, joined, joined_after, known, known_after, own_topics, up, up_after}
+use Rattle.gs_rules.specs.Meshes.{mesh, mesh_after}
 use Rattle.gs_rules.specs.Scoring.{changed_after, history, marked_after, score, setting_of}
 use Rattle.gs_rules.specs.Owed.{Debt, Group, nothing, owed, owes, owing, paid}
 use Rattle.gs_rules.specs.Rules.{bare, rule_of}
@@ -72,7 +74,7 @@ no_change other H is = absurd is
 
 still_history : (p : Peer) (L : Entries) (e : Entry) → Legal p (e ∷ L) → IsStill e.event → history p (e ∷ L) ≡ history p L
 still_history p L e legal is =
-    ap (λ (marks : List Mark). after_marks (marked_after p) marks (changed_after e.event (history p L))) (no_marks_of p L e.event e is (legal_newest p e L legal).effects)
+    ap (λ (marks : List Mark). after_marks (marked_after p e.at) marks (changed_after e.event (history p L))) (no_marks_of p L e.event e is (legal_newest p e L legal).effects)
     ∙ no_change e.event (history p L) is
 
 -- what comes too late leaves all as it is
@@ -140,3 +142,26 @@ history_stays p (e ∷ M) K s legal is =
 pub score_stays : (p : Peer) (M K : Entries) (s : Entry) (at : ℕ) (q : PeerNo) → Legal p (M ++ s ∷ K) → s.event ≡ Shut → score p (M ++ s ∷ K) at q ≡ score p K at q
 unfolding score
 score_stays p M K s at q legal is = ap (λ (H : History). score_in (setting_of p) at H q (named H q)) (history_stays p M K s legal is)
+
+-- ---- meshes and topics
+
+still_mesh : (p : Peer) (L : Entries) (e : Entry) (t : Topic) → Legal p (e ∷ L) → IsStill e.event → mesh (e ∷ L) t ≡ mesh L t
+still_mesh p L e t legal is =
+    ap (λ (marks : List Mark). after_marks (mesh_after t) marks (mesh L t)) (no_marks_of p L e.event e is (legal_newest p e L legal).effects)
+
+pub mesh_stays : (p : Peer) (M K : Entries) (s : Entry) (t : Topic) → Legal p (M ++ s ∷ K) → s.event ≡ Shut → mesh (M ++ s ∷ K) t ≡ mesh K t
+mesh_stays p [] K s t legal is = still_mesh p K s t legal (subst IsStill (sym is) tt)
+mesh_stays p (e ∷ M) K s t legal is =
+    let late : IsLate e.event = next_is_late p (M ++ s ∷ K) e.at.0 e.event (over_behind p M K s legal.1 is) (legal_newest p e (M ++ s ∷ K) legal).next in
+    still_mesh p (M ++ s ∷ K) e t legal (late_is_still e.event late) ∙ mesh_stays p M K s t legal.1 is
+
+still_own : (L : Entries) (event : Event) → IsStill event → ascending (filter (λ (t : Topic). joined_after t event (joined L t)) (known_after event (known L))) ≡ own_topics L
+still_own L (Late q rpc) is = refl
+still_own L Shut is = refl
+still_own L other is = absurd is
+
+pub own_stay : (p : Peer) (M K : Entries) (s : Entry) → Legal p (M ++ s ∷ K) → s.event ≡ Shut → own_topics (M ++ s ∷ K) ≡ own_topics K
+own_stay p [] K s legal is = still_own K s.event (subst IsStill (sym is) tt)
+own_stay p (e ∷ M) K s legal is =
+    let late : IsLate e.event = next_is_late p (M ++ s ∷ K) e.at.0 e.event (over_behind p M K s legal.1 is) (legal_newest p e (M ++ s ∷ K) legal).next in
+    still_own (M ++ s ∷ K) e.event (late_is_still e.event late) ∙ own_stay p M K s legal.1 is

@@ -16,21 +16,26 @@ use Rattle.gs_base.specs.declared.control.IWant.{IWant}
 use Rattle.gs_base.specs.declared.verdict.Verdict.{Verdict}
 use Rattle.gs_base.specs.declared.verdict.Verdict.TheVariants.{Accept, Reject, Ignore}
 use Rattle.gs_base.specs.declared.mark.Mark.{Mark}
-use Rattle.gs_base.specs.declared.mark.Mark.TheVariants.{Seen, First, Cached}
+use Rattle.gs_base.specs.declared.mark.Mark.TheVariants.{Seen, Cached, Published}
 use Rattle.gs_rules.specs.declared.trace.Event.{Event}
-use Rattle.gs_rules.specs.declared.trace.Event.TheVariants.{Msg, Have, Want, Publish, GossipBeat}
+use Rattle.gs_rules.specs.declared.trace.Event.TheVariants.{Msg, Have, Want, Sub, GraftIn, PruneIn, Subscribe, Publish, GossipBeat}
 use Rattle.gs_rules.specs.declared.trace.Entry.{Entry}
 use Rattle.gs_base.specs.Names.{same_id, message_id, topic_of, payload_of}
 use Rattle.gs_rules.specs.Tables.{Entries, last_moment, joined, Sighting, after_marks, sighting_after, last_seen, counting, seen}
 use Rattle.gs_rules.specs.Peers.{Peer, seen_ttl}
 use Rattle.gs_rules.specs.Owed.{owed}
-use Rattle.gs_rules.specs.Rules.{rule_of, asking, bare, counted, have_rule, invalid, message_rule, new_message, publish_rule, telling, want_rule, wanted}
+use Rattle.gs_mesh.specs.Peers.{is_among}
+use Rattle.gs_rules.specs.Meshes.{mesh}
+use Rattle.gs_rules.specs.Membership.{candidates, fanning}
+use Rattle.gs_rules.specs.MeshRules.{graft_rule, joining, prune_rule, publish_rule, publishing, sub_rule, those_among}
+use Rattle.gs_rules.specs.Rules.{rule_of, again, asking, bare, counted, have_rule, invalid, message_rule, near_of, new_message, telling, want_rule, wanted}
 use Rattle.gs_rules.specs.Modes.{SaysTheSame, Follows, free}
 use Rattle.gs_rules.specs.Legal.{MayPublish, IsNext, IsAllowed, Legal, Delivers, DeliversApart}
 use Rattle.gs_rules.proofs.Legality.{legal_newest}
 use Rattle.gs_rules.proofs.Judged.{of_a_message, of_a_request}
 use Rattle.gs_rules.proofs.Owed.{opens}
 use Rattle.gs_rules.proofs.Offers.{what_is_offered}
+use Rattle.gs_rules.proofs.Ruled.{of_a_graft, of_a_prune, of_a_sub, what_is_published}
 
 -- ---- one entry
 
@@ -52,9 +57,7 @@ only_among y x (suc i, (far, is)) = absurd (omega arith)
 -- a mark that says that this message was seen, or one that says of no message when it was seen
 abbrev SaysSeen : MsgId → Mark → Type 0
 SaysSeen id (Seen other verdict) = (other ≡ id) × (verdict ≡ Accept)
-SaysSeen id (Cached other t) = Unit {0}
-SaysSeen id (First q t other) = Unit {0}
-SaysSeen id other = ⊥
+SaysSeen id other = Unit {0}
 
 -- a mark that says of a message when it was seen
 abbrev is_sight : Mark → Bool
@@ -74,18 +77,14 @@ stays_seen : (id : MsgId) (at : ℕ) (marks : List Mark) → AllByRecursion (Say
 stays_seen id at [] all = refl
 stays_seen id at (Seen other verdict ∷ marks) all =
     ap (λ (before : Option Sighting). after_marks (sighting_after id at) marks before) (found_itself id other verdict at (accepted at) all.0.0 all.0.1) ∙ stays_seen id at marks all.1
-stays_seen id at (Cached other t ∷ marks) all = stays_seen id at marks all.1
-stays_seen id at (First q t other ∷ marks) all = stays_seen id at marks all.1
-stays_seen id at (other ∷ marks) all = absurd all.0
+stays_seen id at (other ∷ marks) all = stays_seen id at marks all.1
 
 -- and one of them says it
 gets_seen : (id : MsgId) (at : ℕ) (marks : List Mark) (before : Option Sighting) → AllByRecursion (SaysSeen id) marks → list_any is_sight marks ≡ true → after_marks (sighting_after id at) marks before ≡ accepted at
 gets_seen id at [] before all some = absurd cc
 gets_seen id at (Seen other verdict ∷ marks) before all some =
     ap (λ (seen : Option Sighting). after_marks (sighting_after id at) marks seen) (found_itself id other verdict at before all.0.0 all.0.1) ∙ stays_seen id at marks all.1
-gets_seen id at (Cached other t ∷ marks) before all some = gets_seen id at marks before all.1 some
-gets_seen id at (First q t other ∷ marks) before all some = gets_seen id at marks before all.1 some
-gets_seen id at (other ∷ marks) before all some = absurd all.0
+gets_seen id at (other ∷ marks) before all some = gets_seen id at marks before all.1 some
 
 -- an accepted message is marked as seen, among others and in any order
 accepts : (id : MsgId) (at : ℕ) (list marks : List Mark) → AllByRecursion (SaysSeen id) list → list_any is_sight list ≡ true → IsPermutation list marks → (before : Option Sighting) → after_marks (sighting_after id at) marks before ≡ accepted at
@@ -114,22 +113,40 @@ heard p L q m e id same delivers =
     of_a_message (λ (x : Entry). SaysTheSame e x → IsFresh p L e id) p L e.at q m
     (λ says. delivers_none p L e (bare e.at (Msg q m)) id says refl delivers)
     (λ says. delivers_none p L e (invalid e.at q m) id says refl delivers)
+    (λ near says. delivers_none p L e (again e.at q m near) id says refl delivers)
     new
     same
   where
-    new : seen (seen_ttl p) L (message_id (payload_of m)) e.at.0 ≡ None → (v : Verdict) → SaysTheSame e (new_message e.at q m v) → IsFresh p L e id
-    new unseen Accept says = delivers_one p L e (new_message e.at q m Accept) (topic_of m, payload_of m) id says refl ((refl, refl), (tt, (tt, tt))) refl unseen delivers
-    new unseen Reject says = delivers_none p L e (new_message e.at q m Reject) id says refl delivers
-    new unseen Ignore says = delivers_none p L e (new_message e.at q m Ignore) id says refl delivers
+    near_says : (near : Bool) (rest : List Mark) → AllByRecursion (SaysSeen (message_id (payload_of m))) rest → AllByRecursion (SaysSeen (message_id (payload_of m))) (near_of near q m ++ rest)
+    near_says true rest all = (tt, all)
+    near_says false rest all = all
+
+    new : seen (seen_ttl p) L (message_id (payload_of m)) e.at.0 ≡ None → (v : Verdict) → SaysTheSame e (new_message L e.at q m v) → IsFresh p L e id
+    new unseen Accept says =
+        delivers_one p L e (new_message L e.at q m Accept) (topic_of m, payload_of m) id says refl
+        ((refl, refl), (tt, near_says (is_among (mesh L (topic_of m)) q) (Cached (message_id (payload_of m)) (topic_of m) ∷ []) (tt, tt))) refl unseen delivers
+    new unseen Reject says = delivers_none p L e (new_message L e.at q m Reject) id says refl delivers
+    new unseen Ignore says = delivers_none p L e (new_message L e.at q m Ignore) id says refl delivers
+
+-- who comes into a fanout says nothing of a message
+fanning_says : (id : MsgId) (t : Topic) (fanned : List PeerNo) (marks : List Mark) → AllByRecursion (SaysSeen id) marks → AllByRecursion (SaysSeen id) (fanning t fanned ++ marks)
+fanning_says id t [] marks all = all
+fanning_says id t (q ∷ fanned) marks all = (tt, fanning_says id t fanned marks all)
 
 -- a message that the peer published, by whether it is subscribed
-module _ (p : Peer) (L : Entries) (t : Topic) (payload : List ℕ) (e : Entry) (id : MsgId) (may : MayPublish p L e.at.0 t payload) (same : SaysTheSame e (publish_rule p L e.at t payload)) (delivers : Delivers e id) where
-  by_subscription : (is_joined : Bool) → joined L t ≡ is_joined → IsFresh p L e id
-  by_subscription false j = delivers_none p L e (publish_rule p L e.at t payload) id same (rw j refl) delivers
-  by_subscription true j = delivers_one p L e (publish_rule p L e.at t payload) (t, payload) id same (rw j refl) ((refl, refl), (tt, tt)) refl may.unseen delivers
+module _ (p : Peer) (L : Entries) (t : Topic) (payload : List ℕ) (e : Entry) (id : MsgId) (may : MayPublish p L e.at.0 t payload) (delivers : Delivers e id) where
+  by_subscription : (receivers fanned : List PeerNo) (marks : List Mark) → AllByRecursion (SaysSeen (message_id payload)) marks → SaysTheSame e (publishing L e.at t payload receivers fanned marks) → (is_joined : Bool) → joined L t ≡ is_joined → IsFresh p L e id
+  by_subscription receivers fanned marks all same false j = delivers_none p L e (publishing L e.at t payload receivers fanned marks) id same (rw j refl) delivers
+  by_subscription receivers fanned marks all same true j =
+      delivers_one p L e (publishing L e.at t payload receivers fanned marks) (t, payload) id same (rw j refl)
+      ((refl, refl), (tt, fanning_says (message_id payload) t fanned marks all)) refl may.unseen delivers
 
-  published : IsFresh p L e id
-  published = by_subscription (joined L t) refl
+  published : Follows free (publish_rule p L e.at t payload) tt e tt → IsFresh p L e id
+  published effects =
+      what_is_published (IsFresh p L e id) p L t payload e
+      (λ receivers same. by_subscription receivers [] [] tt same (joined L t) refl)
+      (λ receivers new same. by_subscription receivers new (Published t ∷ []) (tt, tt) same (joined L t) refl)
+      effects
 
 -- an offer delivers nothing, whatever is chosen
 offered : (p : Peer) (L : Entries) (q : PeerNo) (offer : IHave) (e : Entry) (id : MsgId) → Follows free (have_rule p L e.at q offer) tt e tt → Delivers e id → IsFresh p L e id
@@ -148,9 +165,17 @@ requested p L q request e id same delivers =
 -- of all events, these two alone deliver
 by_event : (p : Peer) (L : Entries) (event : Event) (e : Entry) (id : MsgId) → IsNext p L e.at.0 (owed p L).events event → Follows free (rule_of p L e.at event) tt e tt → Delivers e id → IsFresh p L e id
 by_event p L (Msg q m) e id next effects delivers = heard p L q m e id effects.0 delivers
-by_event p L (Publish t payload) e id next effects delivers = published p L t payload e id (opens p L e.at.0 (Publish t payload) (λ h. h) next) effects.0 delivers
+by_event p L (Publish t payload) e id next effects delivers = published p L t payload e id (opens p L e.at.0 (Publish t payload) (λ h. h) next) delivers effects
 by_event p L (Have q offer) e id next effects delivers = offered p L q offer e id effects delivers
 by_event p L (Want q request) e id next effects delivers = requested p L q request e id effects.0 delivers
+by_event p L (Sub q sub) e id next effects delivers =
+    delivers_none p L e (sub_rule p L e.at q sub) id effects.0 (of_a_sub (λ (x : Entry). x.delivered ≡ []) p L e.at q sub refl refl) delivers
+by_event p L (GraftIn q graft) e id next effects delivers =
+    delivers_none p L e (graft_rule p L e.at q graft) id effects.0 (of_a_graft (λ (x : Entry). x.delivered ≡ []) p L e.at q graft refl (λ on. refl) (λ on. refl) (λ on late. refl)) delivers
+by_event p L (PruneIn q prune) e id next effects delivers =
+    delivers_none p L e (prune_rule p L e.at q prune) id effects.0 (of_a_prune (λ (x : Entry). x.delivered ≡ []) p L e.at q prune refl refl) delivers
+by_event p L (Subscribe t) e id next effects delivers =
+    delivers_none p L e (joining p L e.at t (those_among (effects.0 ++ effects.3.0) (candidates p L e.at.0 t))) id effects.3.3.0 refl delivers
 by_event p L (GossipBeat t) e id next effects delivers = delivers_none p L e (telling p L e.at t effects.0) id effects.3.0 refl delivers
 by_event p L other e id next effects delivers = delivers_none p L e _ id effects.0 refl delivers
 

@@ -1,5 +1,5 @@
 -- A legal trace sends only what fits a frame, and its frames spell what it sends.
-use Rattle.std.proofs.Common.{◌≡◌, ℕ, ◌+◌, ◌*◌, ◌≤◌, ◌<◌, ◌^◌, Bool, true, false, if◌then◌else◌, List, [], ◌∷◌, ◌++◌, length, map, take, drop, take-append-drop, reverse, Some, sym, ap, subst, ◌∙◌, append-nil, length-append, arith}
+use Rattle.std.proofs.Common.{◌≡◌, ℕ, ◌+◌, ◌*◌, ◌≤◌, ◌<◌, ◌^◌, min, Bool, true, false, if◌then◌else◌, List, [], ◌∷◌, ◌++◌, length, map, take, drop, take-append-drop, reverse, Some, sym, ap, subst, ◌∙◌, append-nil, length-append, arith}
 use Rattle.std.specs.List.{AllByRecursion}
 use Rattle.std.proofs.lemmas.Bool.{le-leb}
 use Rattle.std.proofs.lemmas.Bool.Decides.{nat_tests}
@@ -9,28 +9,33 @@ use Rattle.gs_base.specs.declared.names.PeerNo.{PeerNo}
 use Rattle.gs_base.specs.declared.names.Topic.{Topic}
 use Rattle.gs_base.specs.declared.names.Millis.{Millis}
 use Rattle.gs_base.specs.declared.names.MsgId.{MsgId}
+use Rattle.gs_base.specs.declared.control.Graft.{Graft}
 use Rattle.gs_base.specs.declared.control.IHave.{IHave}
 use Rattle.gs_base.specs.declared.control.IWant.{IWant}
 use Rattle.gs_base.specs.declared.rpc.Message.{Message}
 use Rattle.gs_base.specs.declared.rpc.Rpc.{Rpc}
 use Rattle.gs_rules.specs.declared.trace.Event.{Event}
-use Rattle.gs_rules.specs.declared.trace.Event.TheVariants.{Msg, Have, Want, Subscribe, Unsubscribe, Publish, GossipBeat}
+use Rattle.gs_rules.specs.declared.trace.Event.TheVariants.{Msg, Have, Want, Sub, GraftIn, PruneIn, Subscribe, Unsubscribe, Publish, GossipBeat}
 use Rattle.gs_rules.specs.declared.trace.Entry.{Entry}
-use Rattle.gs_base.specs.Names.{longest_topic, same_peer, announcement, publication}
+use Rattle.gs_base.specs.Names.{longest_topic, same_peer, announcement, publication, topic_of, topic_or_empty}
+use Rattle.gs_base.specs.declared.mark.Mark.TheVariants.{Published}
+use Rattle.gs_mesh.specs.Peers.{without as all_but}
 use Rattle.gs_wire.specs.Varint.{varint}
 use Rattle.gs_wire.specs.Records.{record_text, records_text}
 use Rattle.gs_wire.specs.Fields.{bool_number, varint_record, len_record}
-use Rattle.gs_wire.specs.Messages.{HasIdentifierLength, IsInMemory, body, most_identifiers, offering, passed_on, requesting, sub_records}
+use Rattle.gs_wire.specs.Messages.{HasIdentifierLength, IsInMemory, body, grafting, longest_backoff, most_identifiers, offering, passed_on, pruning, requesting, sub_records}
 use Rattle.gs_wire.specs.Codec.{codec}
 use Rattle.gs_wire.proofs.RoundTrip.{all-append}
 use Rattle.gs_wire.proofs.Written.{varint_ten, records_text-single, len_text-length}
 use Rattle.gs_wire.proofs.SentOn as sent_on
 use Rattle.gs_rules.specs.Peers.{Peer}
-use Rattle.gs_rules.specs.Tables.{Entries}
-use Rattle.gs_rules.specs.Scoring.{is_passed_over}
+use Rattle.gs_rules.specs.Tables.{Entries, joined}
+use Rattle.gs_rules.specs.Meshes.{mesh}
+use Rattle.gs_rules.specs.Membership.{candidates}
+use Rattle.gs_rules.specs.MeshRules.{graft_rule, joining, prune_rule, publishing, sub_rule, those_among, unsubscribe_rule}
 use Rattle.gs_rules.specs.Gossip.{gossip}
 use Rattle.gs_rules.specs.Owed.{owed}
-use Rattle.gs_rules.specs.Rules.{answers, asking, bare, counted, have_rule, ids_in, listeners, message_rule, new_message, rule_of, telling, to_each, up_neighbours, want_rule, wanted, without}
+use Rattle.gs_rules.specs.Rules.{answers, asking, bare, counted, have_rule, ids_in, message_rule, new_message, rule_of, telling, to_each, up_neighbours, want_rule, wanted}
 use Rattle.gs_rules.specs.Modes.{SaysTheSame, sent_to, Follows, free}
 use Rattle.gs_rules.specs.Legal.{MaySubscribe, MayUnsubscribe, MayPublish, IsNext, Legal}
 use Rattle.gs_rules.specs.Saying.{SendsFit, AllFit}
@@ -40,7 +45,8 @@ use Rattle.gs_rules.proofs.Judged.{of_a_message, of_a_request}
 use Rattle.gs_rules.proofs.Owed.{opens}
 use Rattle.gs_rules.proofs.Legality.{legal_newest}
 use Rattle.gs_rules.proofs.Offers.{wanted_few, wanted_long, what_is_offered}
-use Rattle.gs_rules.proofs.Kept.{AllAlone, FitsAlone, answers_fit}
+use Rattle.gs_rules.proofs.Kept.{AllAlone, FitsAlone, answers_fit, next_fits}
+use Rattle.gs_rules.proofs.Ruled.{of_a_graft, of_a_prune, of_a_sub, what_is_published}
 use Rattle.gs_rules.proofs.Topics.{joined_short}
 use Rattle.gs_rules.proofs.Gossip.{beat_short, gossip_few, gossip_long}
 
@@ -107,6 +113,20 @@ offer_written t ids short few long =
     let fits : codec.fits (offering t ids) ≡ true = le-leb (length (body (offering t ids))) 1048576 (sent_on.offer_fits t ids short few long) in
     (fits, record { body = short_body (offering t ids) fits; control = tt })
 
+graft_written : (t : Topic) → length t.0 ≤ longest_topic → IsWritten (grafting t)
+graft_written t short =
+    let fits : codec.fits (grafting t) ≡ true = le-leb (length (body (grafting t))) 1048576 (sent_on.graft_fits t short) in
+    (fits, record { body = short_body (grafting t) fits; control = tt })
+
+-- a backoff is cut to what a number of 64 bits holds
+backoff_short : (seconds : ℕ) → min seconds longest_backoff < 2 ^ 64
+backoff_short seconds = omega arith
+
+prune_written : (t : Topic) (seconds : ℕ) → length t.0 ≤ longest_topic → IsWritten (pruning t seconds)
+prune_written t seconds short =
+    let fits : codec.fits (pruning t seconds) ≡ true = le-leb (length (body (pruning t seconds))) 1048576 (sent_on.prune_fits t seconds short) in
+    (fits, record { body = short_body (pruning t seconds) fits; control = (backoff_short seconds, tt) })
+
 each_fits : (rpc : Rpc) (qs : List PeerNo) → IsWritten rpc → SendsWritten (to_each rpc qs)
 each_fits rpc [] fits = tt
 each_fits rpc (q ∷ qs) fits = (fits, each_fits rpc qs fits)
@@ -138,14 +158,22 @@ same_fits e x same fit = sends_fit e.sends (λ q. subst RpcsFit (sym (same.sends
 
 -- ---- one entry
 
--- a message sends nothing
-message_fits : (p : Peer) (L : Entries) (at : Millis) (q : PeerNo) (m : Message) → SendsWritten (message_rule p L at q m).sends
-message_fits p L at q m = of_a_message (λ (e : Entry). SendsWritten e.sends) p L at q m tt tt (λ unseen. new_fits)
+-- a message is passed on as it came
+message_fits : (p : Peer) (L : Entries) (at : Millis) (q : PeerNo) (m : Message) → FitsAlone m → SendsWritten (message_rule p L at q m).sends
+message_fits p L at q m fits = of_a_message (λ (e : Entry). SendsWritten e.sends) p L at q m tt tt (λ near. tt) (λ unseen. new_fits)
   where
-    new_fits : (v : Verdict) → SendsWritten (new_message at q m v).sends
-    new_fits Accept = tt
+    new_fits : (v : Verdict) → SendsWritten (new_message L at q m v).sends
+    new_fits Accept = each_fits (passed_on m) (all_but q (mesh L (topic_of m))) (passed_on_written m fits)
     new_fits Reject = tt
     new_fits Ignore = tt
+
+-- a GRAFT is refused on a topic that is joined
+refusal_fits : (p : Peer) (L : Entries) (at : Millis) (q : PeerNo) (graft : Graft) → Legal p L → SendsWritten (graft_rule p L at q graft).sends
+refusal_fits p L at q graft legal =
+    of_a_graft (λ (e : Entry). SendsWritten e.sends) p L at q graft tt (λ on. (told on, tt)) (λ on. (told on, tt)) (λ on late. tt)
+  where
+    told : joined L (topic_or_empty graft.topic) ≡ true → IsWritten (pruning (topic_or_empty graft.topic) p.params.windows.prune_backoff_s)
+    told on = prune_written (topic_or_empty graft.topic) p.params.windows.prune_backoff_s (joined_short p L (topic_or_empty graft.topic) legal on)
 
 -- an offer sends one request, or nothing
 offer_fits : (p : Peer) (L : Entries) (q : PeerNo) (offer : IHave) (e : Entry) → Follows free (have_rule p L e.at q offer) tt e tt → SendsWritten e.sends
@@ -169,18 +197,34 @@ request_fits p L at q request legal =
 -- each event sends what fits, or nothing
 module _ (p : Peer) (L : Entries) (legal : Legal p L) where
   by_event : (event : Event) (e : Entry) → IsNext p L e.at.0 (owed p L).events event → Follows free (rule_of p L e.at event) tt e tt → SendsWritten e.sends
-  by_event (Msg q m) e next effects = same_fits e _ effects.0 (message_fits p L e.at q m)
+  by_event (Msg q m) e next effects = same_fits e _ effects.0 (message_fits p L e.at q m (next_fits p L e.at.0 (Msg q m) legal next))
   by_event (Have q offer) e next effects = offer_fits p L q offer e effects
   by_event (Want q request) e next effects = same_fits e (want_rule p L e.at q request) effects.0 (request_fits p L e.at q request legal)
+  by_event (Sub q sub) e next effects =
+      same_fits e (sub_rule p L e.at q sub) effects.0 (of_a_sub (λ (x : Entry). SendsWritten x.sends) p L e.at q sub tt tt)
+  by_event (GraftIn q graft) e next effects = same_fits e (graft_rule p L e.at q graft) effects.0 (refusal_fits p L e.at q graft legal)
+  by_event (PruneIn q prune) e next effects =
+      same_fits e (prune_rule p L e.at q prune) effects.0 (of_a_prune (λ (x : Entry). SendsWritten x.sends) p L e.at q prune tt tt)
   by_event (Subscribe t) e next effects =
       let may : MaySubscribe L t = opens p L e.at.0 (Subscribe t) (λ h. h) next in
-      same_fits e _ effects.0 (each_fits (announcement true t) (up_neighbours p L) (announcement_written true t may.short))
+      let chosen : List PeerNo = those_among (effects.0 ++ effects.3.0) (candidates p L e.at.0 t) in
+      same_fits e (joining p L e.at t chosen) effects.3.3.0
+      (all-append (λ (x : PeerNo × Rpc). IsWritten x.1) (to_each (announcement true t) (up_neighbours p L)) (to_each (grafting t) chosen)
+      (each_fits (announcement true t) (up_neighbours p L) (announcement_written true t may.short)) (each_fits (grafting t) chosen (graft_written t may.short)))
   by_event (Unsubscribe t) e next effects =
       let may : MayUnsubscribe L t = opens p L e.at.0 (Unsubscribe t) (λ h. h) next in
-      same_fits e _ effects.0 (each_fits (announcement false t) (up_neighbours p L) (announcement_written false t (joined_short p L t legal may.joined)))
+      let short : length t.0 ≤ longest_topic = joined_short p L t legal may.joined in
+      let seconds : ℕ = p.params.windows.unsubscribe_backoff_s in
+      same_fits e (unsubscribe_rule p L e.at t) effects.0
+      (all-append (λ (x : PeerNo × Rpc). IsWritten x.1) (to_each (announcement false t) (up_neighbours p L)) (to_each (pruning t seconds) (mesh L t))
+      (each_fits (announcement false t) (up_neighbours p L) (announcement_written false t short)) (each_fits (pruning t seconds) (mesh L t) (prune_written t seconds short)))
   by_event (Publish t payload) e next effects =
       let may : MayPublish p L e.at.0 t payload = opens p L e.at.0 (Publish t payload) (λ h. h) next in
-      same_fits e _ effects.0 (each_fits (publication t payload) (without (is_passed_over p L e.at.0) (listeners p L t)) (publication_written t payload may.fits))
+      let each = λ (receivers : List PeerNo). each_fits (publication t payload) receivers (publication_written t payload may.fits) in
+      what_is_published (SendsWritten e.sends) p L t payload e
+      (λ receivers same. same_fits e (publishing L e.at t payload receivers [] []) same (each receivers))
+      (λ receivers new same. same_fits e (publishing L e.at t payload receivers new (Published t ∷ [])) same (each receivers))
+      effects
   by_event (GossipBeat t) e next effects =
       let ids : List (List ℕ) = map (λ (id : MsgId). id.0) (gossip p L t) in
       same_fits e (telling p L e.at t effects.0) effects.3.0

@@ -2,42 +2,37 @@
 -- no more of them than an offer may have.
 use Rattle.std.proofs.Common.{◌≡◌, ◌≤◌, ◌<◌, ℕ, ◌-◌, zero, suc, Bool, true, false, if◌then◌else◌, List, [], ◌∷◌, ◌++◌, length, map, filter, drop, Option, Some, None, refl, sym, subst, arith}
 use Rattle.std.specs.Prelude.{not, ◌&&◌, nat_lt}
-use Rattle.std.specs.List.{All, AllByRecursion, flat_map}
+use Rattle.std.specs.List.{All, AllByRecursion}
 use Rattle.std.proofs.lemmas.Bool.{ltb-true}
 use Rattle.std.proofs.lemmas.List.{length-drop}
-use Rattle.std.proofs.lemmas.List.Elements.{All-from_recursion, recursion_from_All}
-use Rattle.std.proofs.lemmas.List.Sorted.{All-permutation}
+use Rattle.std.proofs.lemmas.List.Elements.{All-from_recursion}
 use Rattle.gs_base.specs.declared.names.PeerNo.{PeerNo}
 use Rattle.gs_base.specs.declared.names.Topic.{Topic}
-use Rattle.gs_base.specs.declared.names.Millis.{Millis}
 use Rattle.gs_base.specs.declared.names.MsgId.{MsgId}
-use Rattle.gs_base.specs.declared.rpc.Message.{Message}
 use Rattle.gs_base.specs.declared.rpc.Rpc.{Rpc}
-use Rattle.gs_base.specs.declared.control.IHave.{IHave}
-use Rattle.gs_base.specs.declared.verdict.Verdict.{Verdict}
-use Rattle.gs_base.specs.declared.verdict.Verdict.TheVariants.{Accept, Reject, Ignore}
 use Rattle.gs_base.specs.declared.mark.Mark.{Mark}
-use Rattle.gs_base.specs.declared.mark.Mark.TheVariants.{Answered, Behaviour, Cached, Seen}
-use Rattle.gs_base.specs.Names.{message_id, payload_of, same_id, same_topic}
+use Rattle.gs_base.specs.declared.mark.Mark.TheVariants.{Cached, Seen}
+use Rattle.gs_base.specs.Names.{same_id, same_topic}
 use Rattle.gs_wire.specs.Messages.{HasIdentifierLength, most_identifiers}
 use Rattle.gs_wire.proofs.RoundTrip.{all-append}
-use Rattle.sha2.proofs.Facts256.{length-sha256}
 use Rattle.gs_rules.specs.declared.trace.Promise.{Promise}
 use Rattle.gs_rules.specs.declared.trace.Event.{Event}
-use Rattle.gs_rules.specs.declared.trace.Event.TheVariants.{Sub, Msg, Have, Want, Publish, Promises, GossipBeat}
+use Rattle.gs_rules.specs.declared.trace.Event.TheVariants.{Promises, GossipBeat}
 use Rattle.gs_rules.specs.declared.trace.Entry.{Entry}
-use Rattle.gs_rules.specs.Peers.{Peer, links_of, windows}
-use Rattle.gs_rules.specs.Tables.{Entries, Keeping, after_marks, ended_after, fulfilled_after, keeping_order, kept, made, order_after, own_topics, promises, up}
-use Rattle.gs_rules.specs.Gossip.{IsKeptOn, charges, gossip, is_gossiped, overdue}
-use Rattle.gs_rules.specs.Owed.{gossip_topics, is_some_list, offers_in, owed, parts, requests_in}
-use Rattle.gs_rules.specs.Rules.{answers, asking, bare, counted, have_rule, ids_in, message_rule, new_message, rule_of, want_rule, wanted}
-use Rattle.gs_rules.specs.Modes.{SaysTheSame, Follows, free}
+use Rattle.gs_rules.specs.Peers.{Peer, windows}
+use Rattle.gs_rules.specs.Tables.{Entries, Keeping, after_marks, ended_after, fulfilled_after, keeping_order, kept, made, order_after, promises}
+use Rattle.gs_rules.specs.Gossip.{IsKeptOn, gossip, is_gossiped}
+use Rattle.gs_rules.specs.Owed.{gossip_topics, is_some_list, owed, parts}
+use Rattle.gs_rules.specs.Meshes.{mesh_topics}
+use Rattle.gs_rules.specs.Rules.{rule_of}
+use Rattle.gs_rules.specs.Modes.{Follows, free}
 use Rattle.gs_rules.specs.Legal.{IsNext, Legal}
-use Rattle.gs_rules.proofs.Judged.{of_a_message, of_a_request}
+use Rattle.gs_rules.proofs.Each.{each_weaker}
 use Rattle.gs_rules.proofs.Legality.{legal_newest}
-use Rattle.gs_rules.proofs.Offers.{what_is_offered}
-use Rattle.gs_rules.proofs.Owed.{OwesSuch, beats_are_such, kind_of_parts, last_parts, nothing_is_such, owing_are_such}
-use Rattle.gs_rules.proofs.Topics.{IsShort, own_short, passing_are}
+use Rattle.gs_rules.proofs.Marks.{MayMark, entry_marks}
+use Rattle.gs_rules.proofs.MeshTopics.{mesh_topics_short}
+use Rattle.gs_rules.proofs.Owed.{OwesSuch, beats_are_such, nothing_is_such, owing_are_such, parts_are_such}
+use Rattle.gs_rules.proofs.Topics.{IsShort, passing_are}
 
 -- ---- lists
 
@@ -67,13 +62,10 @@ IsShortBeat (GossipBeat t) = IsShort t
 IsShortBeat other = Unit {0}
 
 parts_short : (q : PeerNo) (rpc : Rpc) → AllByRecursion IsShortBeat (parts q rpc)
-parts_short q rpc =
-    kind_of_parts IsShortBeat (Sub q) rpc.subs _ (λ sub. tt)
-    (kind_of_parts IsShortBeat (Msg q) rpc.publish _ (λ m. tt)
-    (kind_of_parts IsShortBeat (Have q) (offers_in rpc.control) _ (λ offer. tt) (last_parts IsShortBeat (Want q) (requests_in rpc.control) (λ request. tt))))
+parts_short q rpc = parts_are_such IsShortBeat q rpc (λ sub. tt) (λ m. tt) (λ offer. tt) (λ request. tt) (λ graft. tt) (λ prune. tt)
 
 gossip_topics_short : (p : Peer) (L : Entries) → Legal p L → AllByRecursion IsShort (gossip_topics p L)
-gossip_topics_short p L legal = filtered_are IsShort (λ t. is_some_list (gossip p L t)) (own_topics L) (own_short p L legal)
+gossip_topics_short p L legal = filtered_are IsShort (λ t. is_some_list (gossip p L t)) (mesh_topics L) (mesh_topics_short p L legal)
 
 owed_short : (p : Peer) (L : Entries) → Legal p L → OwesSuch IsShortBeat (owed p L)
 owed_short p [] legal = nothing_is_such IsShortBeat
@@ -94,64 +86,17 @@ beat_short p L at t legal next = owed_beat_short p L at (owed p L).events t (owe
 abbrev IsLong : MsgId → Type 0
 IsLong id = HasIdentifierLength id.0
 
-message_id_long : (payload : List ℕ) → IsLong (message_id payload)
-unfolding message_id
-message_id_long payload = length-sha256 payload
-
 -- where a mark keeps a message, its identifier has 32 bytes
 abbrev KeepsLong : Mark → Type 0
 KeepsLong (Cached id t) = IsLong id
 KeepsLong other = Unit {0}
 
--- marks may stand in any order
-pub same_marks : (P : Mark → Type 0) (e x : Entry) → SaysTheSame e x → AllByRecursion P x.marks → AllByRecursion P e.marks
-same_marks P e x same all = recursion_from_All P e.marks (All-permutation P x.marks e.marks same.marks (All-from_recursion P x.marks all))
-
--- a message that came is kept by its own identifier
-message_keeps : (p : Peer) (L : Entries) (at : Millis) (q : PeerNo) (m : Message) → AllByRecursion KeepsLong (message_rule p L at q m).marks
-message_keeps p L at q m = of_a_message (λ (x : Entry). AllByRecursion KeepsLong x.marks) p L at q m tt (tt, tt) (λ unseen. new)
-  where
-    new : (v : Verdict) → AllByRecursion KeepsLong (new_message at q m v).marks
-    new Accept = (tt, (tt, (message_id_long (payload_of m), tt)))
-    new Reject = (tt, (tt, tt))
-    new Ignore = (tt, tt)
-
--- an offer keeps none, and neither do answers
-offer_keeps : (p : Peer) (L : Entries) (q : PeerNo) (offer : IHave) (e : Entry) → Follows free (have_rule p L e.at q offer) tt e tt → AllByRecursion KeepsLong e.marks
-offer_keeps p L q offer e effects =
-    what_is_offered (λ (e : Entry). AllByRecursion KeepsLong e.marks) p L e.at q offer e
-    (λ same. same_marks KeepsLong e (bare e.at (Have q offer)) same tt)
-    (λ same. same_marks KeepsLong e (counted e.at q offer) same (tt, tt))
-    (λ place same. same_marks KeepsLong e (asking p e.at q offer (wanted p L e.at.0 q offer.ids) place) same (tt, (tt, tt)))
-    effects
-
-answers_keep : (q : PeerNo) (given : List (MsgId × Message)) → AllByRecursion KeepsLong (map (λ (x : MsgId × Message). Answered q x.0) given)
-answers_keep q [] = tt
-answers_keep q (x ∷ given) = (tt, answers_keep q given)
-
--- nor do charges
-charged : (q : PeerNo) (broken : List Promise) → AllByRecursion KeepsLong (map (λ (promise : Promise). Behaviour q) broken)
-charged q [] = tt
-charged q (promise ∷ broken) = (tt, charged q broken)
-
-charges_keep : (L : Entries) (at : ℕ) (qs : List PeerNo) → AllByRecursion KeepsLong (flat_map (charges L at) qs)
-charges_keep L at [] = tt
-charges_keep L at (q ∷ qs) = all-append KeepsLong (charges L at q) (flat_map (charges L at) qs) (by (up L q)) (charges_keep L at qs)
-  where
-    by : (is_up : Bool) → AllByRecursion KeepsLong (if is_up then map (λ (promise : Promise). Behaviour q) (overdue L at q) else [])
-    by true = charged q (overdue L at q)
-    by false = tt
+mark_keeps : (p : Peer) (L : Entries) (at : ℕ) (event : Event) (mark : Mark) → MayMark p L at event mark → KeepsLong mark
+mark_keeps p L at event (Cached id t) may = may
+mark_keeps p L at event other may = tt
 
 entry_keeps : (p : Peer) (L : Entries) (event : Event) (e : Entry) → Follows free (rule_of p L e.at event) tt e tt → AllByRecursion KeepsLong e.marks
-entry_keeps p L (Msg q m) e effects = same_marks KeepsLong e _ effects.0 (message_keeps p L e.at q m)
-entry_keeps p L (Have q offer) e effects = offer_keeps p L q offer e effects
-entry_keeps p L (Want q request) e effects =
-    same_marks KeepsLong e (want_rule p L e.at q request) effects.0
-    (of_a_request (λ (x : Entry). AllByRecursion KeepsLong x.marks) p L e.at q request tt (answers_keep q (answers p L q [] (ids_in request.ids))))
-entry_keeps p L (Publish t payload) e effects = same_marks KeepsLong e _ effects.0 (tt, (message_id_long payload, tt))
-entry_keeps p L Promises e effects = same_marks KeepsLong e _ effects.0 (charges_keep L e.at.0 (links_of p))
-entry_keeps p L (GossipBeat t) e effects = same_marks KeepsLong e _ effects.3.0 tt
-entry_keeps p L other e effects = same_marks KeepsLong e _ effects.0 tt
+entry_keeps p L event e effects = each_weaker (MayMark p L e.at.0 event) KeepsLong (mark_keeps p L e.at.0 event) e.marks (entry_marks p L event e effects)
 
 marks_order : (marks : List Mark) (before : List MsgId) → AllByRecursion KeepsLong marks → AllByRecursion IsLong before → AllByRecursion IsLong (after_marks order_after marks before)
 marks_order [] before all h = h

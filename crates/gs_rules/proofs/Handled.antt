@@ -17,7 +17,7 @@ use Rattle.gs_wire.specs.declared.frames.End.TheVariants.{Waits}
 use Rattle.gs_wire.specs.Messages.{longest_body}
 use Rattle.gs_wire.proofs.FrameLists.{one_stream}
 use Rattle.gs_rules.specs.declared.trace.Event.{Event}
-use Rattle.gs_rules.specs.declared.trace.Event.TheVariants.{Heard, Late, Sub, Msg, Have, Want, GossipBeat, BeatEnd, Gone, Fault}
+use Rattle.gs_rules.specs.declared.trace.Event.TheVariants.{Heard, Late, Sub, Msg, Have, Want, GraftIn, PruneIn, GossipBeat, BeatEnd, Gone, Fault}
 use Rattle.gs_rules.specs.declared.trace.Entry.{Entry}
 use Rattle.gs_rules.specs.declared.refusal.Refusal.{Refusal}
 use Rattle.gs_rules.specs.declared.refusal.RefusedLine.{RefusedLine}
@@ -81,6 +81,8 @@ owed_handles q (Sub r sub) h = refl
 owed_handles q (Msg r m) h = refl
 owed_handles q (Have r offer) h = refl
 owed_handles q (Want r request) h = refl
+owed_handles q (GraftIn r graft) h = refl
+owed_handles q (PruneIn r prune) h = refl
 owed_handles q (GossipBeat t) h = refl
 owed_handles q BeatEnd h = refl
 owed_handles q other h = absurd h

@@ -13,23 +13,24 @@ use Rattle.gs_rules.specs.declared.trace.Entry.{Entry}
 use Rattle.gs_rules.specs.Peers.{Peer, seen_ttl}
 use Rattle.gs_rules.specs.Tables.{Entries, joined, seen}
 use Rattle.gs_rules.specs.Scoring.{is_ignored}
-use Rattle.gs_rules.specs.Rules.{answering, answers, bare, ids_in, invalid, known_or_new, message_rule, new_message, verdict_on, want_rule}
+use Rattle.gs_rules.specs.Rules.{again, answering, answers, bare, ids_in, invalid, is_near, known_or_new, message_rule, new_message, verdict_on, want_rule}
 
--- what holds of the bare entry, and on a topic that is joined of the invalid message and of a new one, whatever it is
--- found to be, holds of its rule
+-- what holds of the bare entry, and on a topic that is joined of the invalid message, of one that comes again and of a
+-- new one, whatever it is found to be, holds of its rule
 pub of_a_joined_message : (P : Entry → Type 0) (p : Peer) (L : Entries) (at : Millis) (q : PeerNo) (m : Message)
     → P (bare at (Msg q m))
     → (joined L (topic_of m) ≡ true → P (invalid at q m))
-    → (joined L (topic_of m) ≡ true → seen (seen_ttl p) L (message_id (payload_of m)) at.0 ≡ None → (v : Verdict) → P (new_message at q m v))
+    → (joined L (topic_of m) ≡ true → (near : Bool) → P (again at q m near))
+    → (joined L (topic_of m) ≡ true → seen (seen_ttl p) L (message_id (payload_of m)) at.0 ≡ None → (v : Verdict) → P (new_message L at q m v))
     → P (message_rule p L at q m)
-of_a_joined_message P p L at q m dropped against new = by (joined L (topic_of m)) (is_signed m) (seen (seen_ttl p) L (message_id (payload_of m)) at.0) refl refl
+of_a_joined_message P p L at q m dropped against repeated new = by (joined L (topic_of m)) (is_signed m) (seen (seen_ttl p) L (message_id (payload_of m)) at.0) refl refl
   where
     by : (joins signed : Bool) (found : Option Verdict) → joined L (topic_of m) ≡ joins → seen (seen_ttl p) L (message_id (payload_of m)) at.0 ≡ found
-        → P (if not joins then bare at (Msg q m) else if signed then invalid at q m else known_or_new p at q m found)
+        → P (if not joins then bare at (Msg q m) else if signed then invalid at q m else known_or_new p L at q m found)
     by false signed found on is = dropped
     by true true found on is = against on
     by true false (Some Reject) on is = against on
-    by true false (Some Accept) on is = dropped
+    by true false (Some Accept) on is = repeated on (is_near p L at.0 q (topic_of m) (message_id (payload_of m)))
     by true false (Some Ignore) on is = dropped
     by true false None on is = new on is (verdict_on p.params.topics m)
 
@@ -37,9 +38,11 @@ of_a_joined_message P p L at q m dropped against new = by (joined L (topic_of m)
 pub of_a_message : (P : Entry → Type 0) (p : Peer) (L : Entries) (at : Millis) (q : PeerNo) (m : Message)
     → P (bare at (Msg q m))
     → P (invalid at q m)
-    → (seen (seen_ttl p) L (message_id (payload_of m)) at.0 ≡ None → (v : Verdict) → P (new_message at q m v))
+    → ((near : Bool) → P (again at q m near))
+    → (seen (seen_ttl p) L (message_id (payload_of m)) at.0 ≡ None → (v : Verdict) → P (new_message L at q m v))
     → P (message_rule p L at q m)
-of_a_message P p L at q m dropped against new = of_a_joined_message P p L at q m dropped (λ on. against) (λ on. new)
+of_a_message P p L at q m dropped against repeated new =
+    of_a_joined_message P p L at q m dropped (λ on. against) (λ on. repeated) (λ on. new)
 
 -- what holds of the bare entry and of the answers holds of the rule of a request
 pub of_a_request : (P : Entry → Type 0) (p : Peer) (L : Entries) (at : Millis) (q : PeerNo) (request : IWant)

@@ -19,10 +19,10 @@ use Rattle.gs_wire.proofs.RoundTrip.{all-append}
 use Rattle.gs_wire.proofs.SentOn.{passed_on_shorter}
 use Rattle.gs_wire.proofs.Written.{len_text-length, records_text-single, varint_ten}
 use Rattle.gs_rules.specs.declared.trace.Event.{Event}
-use Rattle.gs_rules.specs.declared.trace.Event.TheVariants.{Heard, Sub, Msg, Have, Want, Publish, GossipBeat, BeatEnd}
+use Rattle.gs_rules.specs.declared.trace.Event.TheVariants.{Heard, Sub, Msg, Have, Want, GraftIn, PruneIn, Publish, GossipBeat, BeatEnd}
 use Rattle.gs_rules.specs.Peers.{Peer, windows}
 use Rattle.gs_rules.specs.Tables.{Entries, Keeping, after_marks, aged_after, blank, keeping, kept, kept_after, last_kept, message_in, older}
-use Rattle.gs_rules.specs.Owed.{gossip_topics, offers_in, owed, parts, requests_in}
+use Rattle.gs_rules.specs.Owed.{gossip_topics, grafts_in, offers_in, owed, parts, prunes_in, requests_in}
 use Rattle.gs_rules.specs.Rules.{answer, answers, times_in, with_message}
 use Rattle.gs_rules.specs.Legal.{IsNext, Legal}
 use Rattle.gs_rules.proofs.Legality.{legal_newest}
@@ -55,7 +55,9 @@ parts_fit : (q : PeerNo) (rpc : Rpc) → codec.fits rpc ≡ true → AllByRecurs
 parts_fit q rpc fits =
     kind_of_parts BringsFitting (Sub q) rpc.subs _ (λ sub. tt)
     (messages_fit q rpc.publish _ (λ m among. alone_fits rpc m fits among)
-    (kind_of_parts BringsFitting (Have q) (offers_in rpc.control) _ (λ offer. tt) (last_parts BringsFitting (Want q) (requests_in rpc.control) (λ request. tt))))
+    (kind_of_parts BringsFitting (Have q) (offers_in rpc.control) _ (λ offer. tt)
+    (kind_of_parts BringsFitting (Want q) (requests_in rpc.control) _ (λ request. tt)
+    (kind_of_parts BringsFitting (GraftIn q) (grafts_in rpc.control) _ (λ graft. tt) (last_parts BringsFitting (PruneIn q) (prunes_in rpc.control) (λ prune. tt))))))
 
 owed_fit : (p : Peer) (L : Entries) → Legal p L → OwesSuch BringsFitting (owed p L)
 owed_fit p [] legal = nothing_is_such BringsFitting
@@ -75,7 +77,7 @@ blank_fits : FitsAlone blank
 blank_fits = le-leb (length (body (passed_on blank))) longest_body (omega (arith, ap length (records_text-single (len_record 2 [])), len_text-length 2 [] (omega arith), varint_ten 0))
 
 -- what comes next brings a message that fits, or one without any field
-next_fits : (p : Peer) (L : Entries) (at : ℕ) (event : Event) → Legal p L → IsNext p L at (owed p L).events event → FitsAlone (message_in event)
+pub next_fits : (p : Peer) (L : Entries) (at : ℕ) (event : Event) → Legal p L → IsNext p L at (owed p L).events event → FitsAlone (message_in event)
 next_fits p L at (Msg q m) legal next = owed_message_fits p L at (owed p L).events q m (owed_fit p L legal).0 next
 next_fits p L at (Publish t payload) legal next = (opens p L at (Publish t payload) (λ h. h) next).fits
 next_fits p L at other legal next = blank_fits

@@ -2,8 +2,12 @@ pub mod Each
 pub mod Owed
 pub mod Legality
 pub mod Judged
+pub mod Ruled
 pub mod Topics
 pub mod Offers
+pub mod Marks
+pub mod MeshTopics
+pub mod Members
 pub mod Gossip
 pub mod Charged
 pub mod Gossiped
@@ -12,9 +16,11 @@ pub mod Handled
 pub mod Kept
 pub mod Fitting
 pub mod Spelled
-pub mod Marks
 pub mod Counted
+pub mod UpMembers
+pub mod CameIn
 pub mod AfterShut
 pub mod Examples
 pub mod GossipExamples
 pub mod ScoreExamples
+pub mod MeshExamples

@@ -1,86 +1,315 @@
 -- Which marks an entry that follows its rule may have.
-use Rattle.std.proofs.Common.{◌≡◌, ℕ, Bool, true, false, if◌then◌else◌, List, [], ◌∷◌, length, map, None, refl}
-use Rattle.std.specs.List.{AllByRecursion, flat_map}
+use Rattle.std.proofs.Common.{◌≡◌, ◌⊎◌, inl, inr, ℕ, Bool, true, false, if◌then◌else◌, List, [], ◌∷◌, ◌++◌, map, pos, None, refl, ap}
+use Rattle.std.specs.Prelude.{◌&&◌, filter, nat_eq, nat_le, not}
+use Rattle.std.specs.List.{AllByRecursion, flat_map, list_any}
+use Rattle.std.proofs.lemmas.Bool.{and_parts, le-leb, ltb-false, or_left, or_right}
+use Rattle.std.proofs.lemmas.Cmp.{nat_eq_equiv}
+use Rattle.std.proofs.lemmas.List.Elements.{All-from_recursion, recursion_from_All}
+use Rattle.std.proofs.lemmas.List.Sorted.{All-permutation}
+use Rattle.std.proofs.lemmas.Slice.Eq.{bytes_eq-Decides}
+use Rattle.sha2.proofs.Facts256.{length-sha256}
 use Rattle.gs_base.specs.declared.names.PeerNo.{PeerNo}
 use Rattle.gs_base.specs.declared.names.Topic.{Topic}
 use Rattle.gs_base.specs.declared.names.MsgId.{MsgId}
 use Rattle.gs_base.specs.declared.names.Millis.{Millis}
+use Rattle.gs_base.specs.declared.neighbour.Neighbour.{Neighbour}
 use Rattle.gs_base.specs.declared.rpc.Message.{Message}
+use Rattle.gs_base.specs.declared.rpc.SubOpt.{SubOpt}
+use Rattle.gs_base.specs.declared.control.Graft.{Graft}
 use Rattle.gs_base.specs.declared.control.IHave.{IHave}
+use Rattle.gs_base.specs.declared.control.Prune.{Prune}
 use Rattle.gs_base.specs.declared.verdict.Verdict.{Verdict}
 use Rattle.gs_base.specs.declared.verdict.Verdict.TheVariants.{Accept, Reject, Ignore}
 use Rattle.gs_base.specs.declared.mark.Mark.{Mark}
-use Rattle.gs_base.specs.declared.mark.Mark.TheVariants.{Seen, First, Near, Deficit, Invalid, Behaviour, Cached, Answered, HeardHave, Asked}
-use Rattle.gs_base.specs.Names.{message_id, payload_of, topic_of}
+use Rattle.gs_base.specs.declared.mark.Mark.TheVariants.{Answered, Behaviour, Cached, Deficit, First, Grafted, Invalid, Near, Pruned, Published, Unfanned}
+use Rattle.gs_base.specs.Names.{message_id, payload_of, peers_of, same_peer, topic_of, topic_or_empty}
+use Rattle.gs_mesh.specs.Peers.{is_among}
+use Rattle.gs_wire.specs.Messages.{HasIdentifierLength}
 use Rattle.gs_wire.proofs.RoundTrip.{all-append}
 use Rattle.gs_rules.specs.declared.trace.Promise.{Promise}
 use Rattle.gs_rules.specs.declared.trace.Event.{Event}
-use Rattle.gs_rules.specs.declared.trace.Event.TheVariants.{Msg, Have, Want, Publish, Promises, GossipBeat}
+use Rattle.gs_rules.specs.declared.trace.Event.TheVariants.{Fault, Gone, GossipBeat, GraftIn, Have, Msg, Promises, PruneIn, Publish, Sub, Subscribe, Unsubscribe, Want}
 use Rattle.gs_rules.specs.declared.trace.Entry.{Entry}
 use Rattle.gs_rules.specs.Peers.{Peer, links_of, seen_ttl}
-use Rattle.gs_rules.specs.Tables.{Entries, joined, seen, up}
+use Rattle.gs_rules.specs.Tables.{Entries, joined, joined_after, on, seen, up}
+use Rattle.gs_rules.specs.Meshes.{backoff, fanout, mesh, mesh_topics}
+use Rattle.gs_rules.specs.Membership.{barring, candidates, charge_of, each_on, entering, fanning, is_candidate, is_negative, leaving, meshes_with, missing, unfanning}
+use Rattle.gs_rules.specs.MeshRules.{asked_backoff, fanned_of, graft_rule, joining, prune_rule, publish_rule, publishing, sub_rule, subscribe_rule, those_among, unsubscribe_rule}
+use Rattle.gs_rules.specs.Scoring.{is_neighbour}
 use Rattle.gs_rules.specs.Gossip.{charges, overdue}
-use Rattle.gs_rules.specs.Rules.{answers, asking, bare, counted, have_rule, ids_in, message_rule, new_message, rule_of, want_rule, wanted}
-use Rattle.gs_rules.specs.Modes.{Follows, free}
+use Rattle.gs_rules.specs.Rules.{answers, asking, bare, counted, have_rule, ids_in, message_rule, near_of, new_message, rule_of, want_rule, wanted}
+use Rattle.gs_rules.specs.Modes.{SaysTheSame, Follows, free}
+use Rattle.gs_rules.proofs.Each.{each_mapped, each_passing, each_weaker, of_each}
 use Rattle.gs_rules.proofs.Judged.{of_a_joined_message, of_a_request}
 use Rattle.gs_rules.proofs.Offers.{what_is_offered}
-use Rattle.gs_rules.proofs.Gossip.{same_marks}
+use Rattle.gs_rules.proofs.Ruled.{of_a_graft, of_a_prune, of_a_sub, what_is_published}
 
--- a mark that counts neither for nor against anybody
-abbrev pub IsQuiet : Mark → Type 0
-IsQuiet (First q t id) = ⊥
-IsQuiet (Near q t id) = ⊥
-IsQuiet (Deficit q t z) = ⊥
-IsQuiet (Invalid q t) = ⊥
-IsQuiet (Behaviour q) = ⊥
-IsQuiet other = Unit {0}
+-- ---- what a mark says of the entry that makes it
 
--- What holds of each quiet mark, of each that blames a neighbour, and of each that may come of a message on a topic that
--- is joined, holds of all marks of an entry that follows its rule.
-module _ (P : Mark → Type 0) (p : Peer) (L : Entries) (quiet : (mark : Mark) → IsQuiet mark → P mark) (blames : AllByRecursion (λ (q : PeerNo). P (Behaviour q)) (links_of p)) where
-  -- where a topic is joined, a message on it may be the first or invalid
-  abbrev pub Raises : PeerNo → Topic → Type 0
-  Raises q t = joined L t ≡ true → P (Invalid q t) × ((id : MsgId) → P (First q t id))
+-- the event is a message or a GRAFT of this peer
+abbrev pub ComesOf : Event → PeerNo → Type 0
+ComesOf (Msg r m) q = q ≡ r
+ComesOf (GraftIn r graft) q = q ≡ r
+ComesOf other q = ⊥
 
-  message_marks : (at : Millis) (q : PeerNo) (m : Message) → Raises q (topic_of m) → AllByRecursion P (message_rule p L at q m).marks
-  message_marks at q m raises = of_a_joined_message (λ (x : Entry). AllByRecursion P x.marks) p L at q m tt (λ on. ((raises on).0, tt)) new
+-- the event publishes on this topic
+abbrev pub Publishes : Event → Topic → Type 0
+Publishes (Publish u payload) t = t ≡ u
+Publishes other t = ⊥
+
+-- who comes into a mesh said so, or is a neighbour that is up, as the peer subscribes
+abbrev pub GraftedBy : Peer → Entries → Event → PeerNo → Type 0
+GraftedBy p L (GraftIn r graft) q = q ≡ r
+GraftedBy p L (Subscribe u) q = (is_neighbour p q ≡ true) × (up L q ≡ true)
+GraftedBy p L other q = ⊥
+
+-- A neighbour may come into a mesh.
+pub record MayGraft (p : Peer) (L : Entries) (at : ℕ) (event : Event) (q : PeerNo) (t : Topic) : Type 0 where
+  pub joins : joined_after t event (joined L t) ≡ true
+  pub rested : nat_le (backoff L q t) at ≡ true
+  pub who : GraftedBy p L event q
+
+-- what holds where an entry of this event behind a trace has this mark
+abbrev pub MayMark : Peer → Entries → ℕ → Event → Mark → Type 0
+MayMark p L at event (First q t id) = ComesOf event q × (joined L t ≡ true)
+MayMark p L at event (Near q t id) = ComesOf event q × (joined L t ≡ true)
+MayMark p L at event (Invalid q t) = ComesOf event q × (joined L t ≡ true)
+MayMark p L at event (Deficit q t z) = (is_among (mesh L t) q ≡ true) × (nat_eq (missing p L at (q, t)) 0 ≡ false)
+MayMark p L at event (Behaviour q) = ComesOf event q ⊎ (is_neighbour p q ≡ true)
+MayMark p L at event (Cached id t) = HasIdentifierLength id.0
+MayMark p L at event (Grafted q t) = MayGraft p L at event q t
+MayMark p L at event (Published t) = Publishes event t
+MayMark p L at event other = Unit {0}
+
+-- ---- lists
+
+-- marks may stand in any order
+pub same_marks : (P : Mark → Type 0) (e x : Entry) → SaysTheSame e x → AllByRecursion P x.marks → AllByRecursion P e.marks
+same_marks P e x same all = recursion_from_All P e.marks (All-permutation P x.marks e.marks same.marks (All-from_recursion P x.marks all))
+
+-- who is linked is a neighbour
+linked_are : (neighbours : List Neighbour) → AllByRecursion (λ (q : PeerNo). list_any (λ (n : Neighbour). same_peer q n.peer) neighbours ≡ true) (peers_of neighbours)
+linked_are [] = tt
+linked_are (first ∷ neighbours) = (
+  or_left (same_peer first.peer first.peer) (list_any (λ (n : Neighbour). same_peer first.peer n.peer) neighbours) (nat_eq_equiv.refl first.peer.0),
+  each_weaker
+      (λ (q : PeerNo). list_any (λ (n : Neighbour). same_peer q n.peer) neighbours ≡ true)
+      (λ (q : PeerNo). list_any (λ (n : Neighbour). same_peer q n.peer) (first ∷ neighbours) ≡ true)
+      (λ q is. or_right (same_peer q first.peer) (list_any (λ (n : Neighbour). same_peer q n.peer) neighbours) is)
+      (peers_of neighbours) (linked_are neighbours),
+)
+
+-- each of some is among them
+pub each_among : (qs : List PeerNo) → AllByRecursion (λ (q : PeerNo). is_among qs q ≡ true) qs
+each_among [] = tt
+each_among (first ∷ qs) = (
+  or_left (same_peer first first) (is_among qs first) (nat_eq_equiv.refl first.0),
+  each_weaker (λ (q : PeerNo). is_among qs q ≡ true) (λ (q : PeerNo). is_among (first ∷ qs) q ≡ true) (λ q is. or_right (same_peer q first) (is_among qs q) is) qs (each_among qs),
+)
+
+message_id_long : (payload : List ℕ) → HasIdentifierLength (message_id payload).0
+unfolding message_id
+message_id_long payload = length-sha256 payload
+
+-- ---- marks of meshes
+
+module _ (p : Peer) (L : Entries) (at : ℕ) (event : Event) where
+  abbrev Marks : List Mark → Type 0
+  Marks marks = AllByRecursion (MayMark p L at event) marks
+
+  -- whoever leaves was a member
+  abbrev WasMember : PeerNo × Topic → Type 0
+  WasMember x = is_among (mesh L x.1) x.0 ≡ true
+
+  charge_marks : (x : PeerNo × Topic) → WasMember x → Marks (charge_of p L at x)
+  charge_marks x member = by (nat_eq (missing p L at x) 0) refl
     where
-      new : joined L (topic_of m) ≡ true → seen (seen_ttl p) L (message_id (payload_of m)) at.0 ≡ None → (v : Verdict) → AllByRecursion P (new_message at q m v).marks
-      new on unseen Accept = (quiet (Seen (message_id (payload_of m)) Accept) tt, ((raises on).1 (message_id (payload_of m)), (quiet (Cached (message_id (payload_of m)) (topic_of m)) tt, tt)))
-      new on unseen Reject = (quiet (Seen (message_id (payload_of m)) Reject) tt, ((raises on).0, tt))
-      new on unseen Ignore = (quiet (Seen (message_id (payload_of m)) Ignore) tt, tt)
+      by : (none : Bool) → nat_eq (missing p L at x) 0 ≡ none → Marks (if none then [] else Deficit x.0 x.1 (pos (missing p L at x)) ∷ [])
+      by true is = tt
+      by false is = ((member, is), tt)
 
-  offer_marks : (q : PeerNo) (offer : IHave) (e : Entry) → Follows free (have_rule p L e.at q offer) tt e tt → AllByRecursion P e.marks
-  offer_marks q offer e effects =
-      what_is_offered (λ (e : Entry). AllByRecursion P e.marks) p L e.at q offer e
-      (λ same. same_marks P e (bare e.at (Have q offer)) same tt)
-      (λ same. same_marks P e (counted e.at q offer) same (quiet (HeardHave q) tt, tt))
-      (λ place same. same_marks P e (asking p e.at q offer (wanted p L e.at.0 q offer.ids) place) same (quiet (HeardHave q) tt, (quiet (Asked q (length (wanted p L e.at.0 q offer.ids))) tt, tt)))
+  charges_marks : (pairs : List (PeerNo × Topic)) → AllByRecursion WasMember pairs → Marks (flat_map (charge_of p L at) pairs)
+  charges_marks [] all = tt
+  charges_marks (x ∷ pairs) all =
+      all-append (MayMark p L at event) (charge_of p L at x) (flat_map (charge_of p L at) pairs) (charge_marks x all.0) (charges_marks pairs all.1)
+
+  leaving_marks : (pairs : List (PeerNo × Topic)) → AllByRecursion WasMember pairs → Marks (leaving p L at pairs)
+  leaving_marks pairs all =
+      all-append (MayMark p L at event) (map (λ (x : PeerNo × Topic). Pruned x.0 x.1) pairs) (flat_map (charge_of p L at) pairs)
+      (each_mapped (MayMark p L at event) (λ (x : PeerNo × Topic). Pruned x.0 x.1) pairs (of_each (λ (x : PeerNo × Topic). Unit {0}) (λ x. tt) pairs))
+      (charges_marks pairs all)
+
+  -- where one is a member of these topics' meshes
+  with_members : (q : PeerNo) (ts : List Topic) → AllByRecursion WasMember (meshes_with L q ts)
+  with_members q ts =
+      each_mapped WasMember (λ (t : Topic). (q, t)) (filter (λ (t : Topic). is_among (mesh L t) q) ts)
+      (each_passing (λ (t : Topic). Unit {0}) (λ (t : Topic). WasMember (q, t)) (λ (t : Topic). is_among (mesh L t) q) (λ t is any. is) ts (of_each (λ (t : Topic). Unit {0}) (λ t. tt) ts))
+
+  barring_marks : (seconds : ℕ) (pairs : List (PeerNo × Topic)) → Marks (barring at seconds pairs)
+  barring_marks seconds [] = tt
+  barring_marks seconds (x ∷ pairs) = (tt, barring_marks seconds pairs)
+
+  unfanning_marks : (t : Topic) (qs : List PeerNo) → Marks (unfanning t qs)
+  unfanning_marks t [] = tt
+  unfanning_marks t (q ∷ qs) = (tt, unfanning_marks t qs)
+
+  unfanned_marks : (q : PeerNo) (ts : List Topic) → Marks (map (Unfanned q) ts)
+  unfanned_marks q [] = tt
+  unfanned_marks q (t ∷ ts) = (tt, unfanned_marks q ts)
+
+  fanning_marks : (t : Topic) (qs : List PeerNo) → Marks (fanning t qs)
+  fanning_marks t [] = tt
+  fanning_marks t (q ∷ qs) = (tt, fanning_marks t qs)
+
+  lost_marks : (q : PeerNo) → Marks (leaving p L at (meshes_with L q (mesh_topics L)) ++ map (Unfanned q) (filter (λ (t : Topic). is_among (fanout L t) q) (mesh_topics L)))
+  lost_marks q =
+      all-append (MayMark p L at event) (leaving p L at (meshes_with L q (mesh_topics L))) (map (Unfanned q) (filter (λ (t : Topic). is_among (fanout L t) q) (mesh_topics L)))
+      (leaving_marks (meshes_with L q (mesh_topics L)) (with_members q (mesh_topics L)))
+      (unfanned_marks q (filter (λ (t : Topic). is_among (fanout L t) q) (mesh_topics L)))
+
+  left_marks : (q : PeerNo) (t : Topic) → Marks (leaving p L at (meshes_with L q (t ∷ [])) ++ unfanning t (fanned_of L t q))
+  left_marks q t =
+      all-append (MayMark p L at event) (leaving p L at (meshes_with L q (t ∷ []))) (unfanning t (fanned_of L t q))
+      (leaving_marks (meshes_with L q (t ∷ [])) (with_members q (t ∷ []))) (unfanning_marks t (fanned_of L t q))
+
+  out_marks : (seconds : ℕ) (pairs others : List (PeerNo × Topic)) → AllByRecursion WasMember pairs → Marks (leaving p L at pairs ++ barring at seconds others)
+  out_marks seconds pairs others all =
+      all-append (MayMark p L at event) (leaving p L at pairs) (barring at seconds others) (leaving_marks pairs all) (barring_marks seconds others)
+
+-- ---- marks of each event
+
+module _ (p : Peer) (L : Entries) where
+  graft_marks : (at : Millis) (q : PeerNo) (graft : Graft) → Marks p L at.0 (GraftIn q graft) (graft_rule p L at q graft).marks
+  graft_marks at q graft =
+      of_a_graft (λ (x : Entry). Marks p L at.0 (GraftIn q graft) x.marks) p L at q graft
+      tt
+      (λ on. (inl refl, (tt, tt)))
+      (λ on. (tt, tt))
+      (λ on late. (record { joins = on; rested = le-leb (backoff L q (topic_or_empty graft.topic)) at.0 (ltb-false at.0 (backoff L q (topic_or_empty graft.topic)) late); who = refl }, tt))
+
+  prune_marks : (at : Millis) (q : PeerNo) (prune : Prune) → Marks p L at.0 (PruneIn q prune) (prune_rule p L at q prune).marks
+  prune_marks at q prune =
+      let t : Topic = topic_or_empty prune.topic in
+      of_a_prune (λ (x : Entry). Marks p L at.0 (PruneIn q prune) x.marks) p L at q prune tt
+      (out_marks p L at.0 (PruneIn q prune) (asked_backoff p.params.windows.prune_backoff_s prune.backoff) (meshes_with L q (t ∷ [])) (each_on t (q ∷ [])) (with_members p L at.0 (PruneIn q prune) q (t ∷ [])))
+
+  sub_marks : (at : Millis) (q : PeerNo) (sub : SubOpt) → Marks p L at.0 (Sub q sub) (sub_rule p L at q sub).marks
+  sub_marks at q sub =
+      of_a_sub (λ (x : Entry). Marks p L at.0 (Sub q sub) x.marks) p L at q sub tt (left_marks p L at.0 (Sub q sub) q (topic_or_empty sub.topic))
+
+  -- who is chosen was a candidate
+  abbrev Chosen : ℕ → Topic → PeerNo → Type 0
+  Chosen at t q = (is_candidate p L at t q ≡ true) × (is_neighbour p q ≡ true)
+
+  chosen_are : (at : ℕ) (t : Topic) (chosen : List PeerNo) → AllByRecursion (Chosen at t) (those_among chosen (candidates p L at t))
+  chosen_are at t chosen =
+      each_passing (Chosen at t) (Chosen at t) (is_among chosen) (λ q is may. may) (candidates p L at t)
+      (each_passing (λ (q : PeerNo). is_neighbour p q ≡ true) (Chosen at t) (is_candidate p L at t) (λ q is near. (is, near)) (links_of p) (linked_are p.neighbours))
+
+  enters : (at : ℕ) (t : Topic) (q : PeerNo) → Chosen at t q → MayGraft p L at (Subscribe t) q t
+  enters at t q (may, near) =
+      let first = and_parts (up L q) (on L q t && (not (is_among (mesh L t) q) && (nat_le (backoff L q t) at && not (is_negative p L at q)))) may in
+      let second = and_parts (on L q t) (not (is_among (mesh L t) q) && (nat_le (backoff L q t) at && not (is_negative p L at q))) first.1 in
+      let third = and_parts (not (is_among (mesh L t) q)) (nat_le (backoff L q t) at && not (is_negative p L at q)) second.1 in
+      let fourth = and_parts (nat_le (backoff L q t) at) (not (is_negative p L at q)) third.1 in
+      record {
+        joins = ap (λ (same : Bool). if same then true else joined L t) ((bytes_eq-Decides t.0 t.0).1 refl);
+        rested = fourth.0;
+        who = (near, first.0);
+      }
+
+  entering_marks : (at : ℕ) (t : Topic) (chosen : List PeerNo) → AllByRecursion (Chosen at t) chosen → Marks p L at (Subscribe t) (entering (each_on t chosen))
+  entering_marks at t [] all = tt
+  entering_marks at t (q ∷ chosen) all = (enters at t q all.0, entering_marks at t chosen all.1)
+
+  joining_marks : (at : Millis) (t : Topic) (chosen : List PeerNo) → AllByRecursion (Chosen at.0 t) chosen → Marks p L at.0 (Subscribe t) (joining p L at t chosen).marks
+  joining_marks at t chosen all =
+      all-append (MayMark p L at.0 (Subscribe t)) (entering (each_on t chosen)) (unfanning t (fanout L t))
+      (entering_marks at.0 t chosen all) (unfanning_marks p L at.0 (Subscribe t) t (fanout L t))
+
+  subscribe_marks : (t : Topic) (e : Entry) → Follows free (subscribe_rule p L e.at t) tt e tt → Marks p L e.at.0 (Subscribe t) e.marks
+  subscribe_marks t e effects =
+      let chosen : List PeerNo = those_among (effects.0 ++ effects.3.0) (candidates p L e.at.0 t) in
+      same_marks (MayMark p L e.at.0 (Subscribe t)) e (joining p L e.at t chosen) effects.3.3.0
+      (joining_marks e.at t chosen (chosen_are e.at.0 t (effects.0 ++ effects.3.0)))
+
+  unsubscribe_marks : (at : Millis) (t : Topic) → Marks p L at.0 (Unsubscribe t) (unsubscribe_rule p L at t).marks
+  unsubscribe_marks at t =
+      out_marks p L at.0 (Unsubscribe t) p.params.windows.unsubscribe_backoff_s (each_on t (mesh L t)) (each_on t (mesh L t))
+      (each_mapped (λ (x : PeerNo × Topic). is_among (mesh L x.1) x.0 ≡ true) (λ (q : PeerNo). (q, t)) (mesh L t) (each_among (mesh L t)))
+
+  publishing_marks : (at : Millis) (t : Topic) (payload : List ℕ) (receivers fanned : List PeerNo) (marks : List Mark) → Marks p L at.0 (Publish t payload) marks → Marks p L at.0 (Publish t payload) (publishing L at t payload receivers fanned marks).marks
+  publishing_marks at t payload receivers fanned marks all =
+      (tt, (message_id_long payload, all-append (MayMark p L at.0 (Publish t payload)) (fanning t fanned) marks (fanning_marks p L at.0 (Publish t payload) t fanned) all))
+
+  publish_marks : (t : Topic) (payload : List ℕ) (e : Entry) → Follows free (publish_rule p L e.at t payload) tt e tt → Marks p L e.at.0 (Publish t payload) e.marks
+  publish_marks t payload e effects =
+      what_is_published (Marks p L e.at.0 (Publish t payload) e.marks) p L t payload e
+      (λ receivers same. same_marks (MayMark p L e.at.0 (Publish t payload)) e _ same (publishing_marks e.at t payload receivers [] [] tt))
+      (λ receivers new same. same_marks (MayMark p L e.at.0 (Publish t payload)) e _ same (publishing_marks e.at t payload receivers new (Published t ∷ []) (refl, tt)))
       effects
 
-  answer_marks : (q : PeerNo) (given : List (MsgId × Message)) → AllByRecursion P (map (λ (x : MsgId × Message). Answered q x.0) given)
-  answer_marks q [] = tt
-  answer_marks q (x ∷ given) = (quiet (Answered q x.0) tt, answer_marks q given)
+  -- a message counts on a topic that is joined
+  near_marks : (at : ℕ) (q : PeerNo) (m : Message) (near : Bool) (rest : List Mark) → joined L (topic_of m) ≡ true → Marks p L at (Msg q m) rest → Marks p L at (Msg q m) (near_of near q m ++ rest)
+  near_marks at q m true rest on all = ((refl, on), all)
+  near_marks at q m false rest on all = all
 
-  broken_marks : (q : PeerNo) (broken : List Promise) → P (Behaviour q) → AllByRecursion P (map (λ (promise : Promise). Behaviour q) broken)
-  broken_marks q [] blame = tt
-  broken_marks q (promise ∷ broken) blame = (blame, broken_marks q broken blame)
+  again_marks : (at : ℕ) (q : PeerNo) (m : Message) (near : Bool) → joined L (topic_of m) ≡ true → Marks p L at (Msg q m) (near_of near q m)
+  again_marks at q m true on = ((refl, on), tt)
+  again_marks at q m false on = tt
 
-  charge_marks : (at : ℕ) (qs : List PeerNo) → AllByRecursion (λ (q : PeerNo). P (Behaviour q)) qs → AllByRecursion P (flat_map (charges L at) qs)
-  charge_marks at [] all = tt
-  charge_marks at (q ∷ qs) all = all-append P (charges L at q) (flat_map (charges L at) qs) (by (up L q)) (charge_marks at qs all.1)
+  message_marks : (at : Millis) (q : PeerNo) (m : Message) → Marks p L at.0 (Msg q m) (message_rule p L at q m).marks
+  message_marks at q m =
+      of_a_joined_message (λ (x : Entry). Marks p L at.0 (Msg q m) x.marks) p L at q m tt
+      (λ on. ((refl, on), tt))
+      (λ on near. again_marks at.0 q m near on)
+      new
     where
-      by : (is_up : Bool) → AllByRecursion P (if is_up then map (λ (promise : Promise). Behaviour q) (overdue L at q) else [])
-      by true = broken_marks q (overdue L at q) all.0
+      new : joined L (topic_of m) ≡ true → seen (seen_ttl p) L (message_id (payload_of m)) at.0 ≡ None → (v : Verdict) → Marks p L at.0 (Msg q m) (new_message L at q m v).marks
+      new on unseen Accept =
+          (tt, ((refl, on), near_marks at.0 q m (is_among (mesh L (topic_of m)) q) (Cached (message_id (payload_of m)) (topic_of m) ∷ []) on (message_id_long (payload_of m), tt)))
+      new on unseen Reject = (tt, ((refl, on), tt))
+      new on unseen Ignore = (tt, tt)
+
+  offer_marks : (q : PeerNo) (offer : IHave) (e : Entry) → Follows free (have_rule p L e.at q offer) tt e tt → Marks p L e.at.0 (Have q offer) e.marks
+  offer_marks q offer e effects =
+      let P = MayMark p L e.at.0 (Have q offer) in
+      what_is_offered (λ (e : Entry). AllByRecursion P e.marks) p L e.at q offer e
+      (λ same. same_marks P e (bare e.at (Have q offer)) same tt)
+      (λ same. same_marks P e (counted e.at q offer) same (tt, tt))
+      (λ place same. same_marks P e (asking p e.at q offer (wanted p L e.at.0 q offer.ids) place) same (tt, (tt, tt)))
+      effects
+
+  answer_marks : (at : ℕ) (event : Event) (q : PeerNo) (given : List (MsgId × Message)) → Marks p L at event (map (λ (x : MsgId × Message). Answered q x.0) given)
+  answer_marks at event q [] = tt
+  answer_marks at event q (x ∷ given) = (tt, answer_marks at event q given)
+
+  broken_marks : (at : ℕ) (event : Event) (q : PeerNo) (broken : List Promise) → is_neighbour p q ≡ true → Marks p L at event (map (λ (promise : Promise). Behaviour q) broken)
+  broken_marks at event q [] near = tt
+  broken_marks at event q (promise ∷ broken) near = (inr near, broken_marks at event q broken near)
+
+  blaming_marks : (at : ℕ) (event : Event) (qs : List PeerNo) → AllByRecursion (λ (q : PeerNo). is_neighbour p q ≡ true) qs → Marks p L at event (flat_map (charges L at) qs)
+  blaming_marks at event [] all = tt
+  blaming_marks at event (q ∷ qs) all = all-append (MayMark p L at event) (charges L at q) (flat_map (charges L at) qs) (by (up L q)) (blaming_marks at event qs all.1)
+    where
+      by : (is_up : Bool) → Marks p L at event (if is_up then map (λ (promise : Promise). Behaviour q) (overdue L at q) else [])
+      by true = broken_marks at event q (overdue L at q) all.0
       by false = tt
 
-  pub entry_marks : (event : Event) (e : Entry) → ((q : PeerNo) (m : Message) → event ≡ Msg q m → Raises q (topic_of m)) → Follows free (rule_of p L e.at event) tt e tt → AllByRecursion P e.marks
-  entry_marks (Msg q m) e raises effects = same_marks P e _ effects.0 (message_marks e.at q m (raises q m refl))
-  entry_marks (Have q offer) e raises effects = offer_marks q offer e effects
-  entry_marks (Want q request) e raises effects =
-      same_marks P e (want_rule p L e.at q request) effects.0
-      (of_a_request (λ (x : Entry). AllByRecursion P x.marks) p L e.at q request tt (answer_marks q (answers p L q [] (ids_in request.ids))))
-  entry_marks (Publish t payload) e raises effects = same_marks P e _ effects.0 (quiet (Seen (message_id payload) Accept) tt, (quiet (Cached (message_id payload) t) tt, tt))
-  entry_marks Promises e raises effects = same_marks P e _ effects.0 (charge_marks e.at.0 (links_of p) blames)
-  entry_marks (GossipBeat t) e raises effects = same_marks P e _ effects.3.0 tt
-  entry_marks other e raises effects = same_marks P e _ effects.0 tt
+  pub entry_marks : (event : Event) (e : Entry) → Follows free (rule_of p L e.at event) tt e tt → AllByRecursion (MayMark p L e.at.0 event) e.marks
+  entry_marks (Msg q m) e effects = same_marks _ e _ effects.0 (message_marks e.at q m)
+  entry_marks (Have q offer) e effects = offer_marks q offer e effects
+  entry_marks (Want q request) e effects =
+      same_marks _ e (want_rule p L e.at q request) effects.0
+      (of_a_request (λ (x : Entry). Marks p L e.at.0 (Want q request) x.marks) p L e.at q request tt (answer_marks e.at.0 (Want q request) q (answers p L q [] (ids_in request.ids))))
+  entry_marks (Sub q sub) e effects = same_marks _ e _ effects.0 (sub_marks e.at q sub)
+  entry_marks (GraftIn q graft) e effects = same_marks _ e _ effects.0 (graft_marks e.at q graft)
+  entry_marks (PruneIn q prune) e effects = same_marks _ e _ effects.0 (prune_marks e.at q prune)
+  entry_marks (Gone q) e effects = same_marks _ e _ effects.0 (lost_marks p L e.at.0 (Gone q) q)
+  entry_marks (Fault q) e effects = same_marks _ e _ effects.0 (lost_marks p L e.at.0 (Fault q) q)
+  entry_marks (Subscribe t) e effects = subscribe_marks t e effects
+  entry_marks (Unsubscribe t) e effects = same_marks _ e _ effects.0 (unsubscribe_marks e.at t)
+  entry_marks (Publish t payload) e effects = publish_marks t payload e effects
+  entry_marks Promises e effects = same_marks _ e _ effects.0 (blaming_marks e.at.0 Promises (links_of p) (linked_are p.neighbours))
+  entry_marks (GossipBeat t) e effects = same_marks _ e _ effects.3.0 tt
+  entry_marks other e effects = same_marks _ e _ effects.0 tt

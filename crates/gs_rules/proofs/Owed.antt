@@ -4,13 +4,19 @@ use Rattle.std.specs.List.{AllByRecursion}
 use Rattle.gs_base.specs.declared.names.PeerNo.{PeerNo}
 use Rattle.gs_base.specs.declared.names.Topic.{Topic}
 use Rattle.gs_base.specs.declared.rpc.Rpc.{Rpc}
+use Rattle.gs_base.specs.declared.rpc.Message.{Message}
+use Rattle.gs_base.specs.declared.rpc.SubOpt.{SubOpt}
+use Rattle.gs_base.specs.declared.control.IHave.{IHave}
+use Rattle.gs_base.specs.declared.control.IWant.{IWant}
+use Rattle.gs_base.specs.declared.control.Graft.{Graft}
+use Rattle.gs_base.specs.declared.control.Prune.{Prune}
 use Rattle.gs_rules.specs.declared.trace.Event.{Event}
-use Rattle.gs_rules.specs.declared.trace.Event.TheVariants.{Heard, Sub, Msg, Have, Want, Promises, GossipBeat, BeatEnd}
+use Rattle.gs_rules.specs.declared.trace.Event.TheVariants.{Heard, Sub, Msg, Have, Want, GraftIn, PruneIn, Promises, GossipBeat, BeatEnd}
 use Rattle.gs_rules.specs.declared.trace.Entry.{Entry}
 use Rattle.gs_rules.specs.Peers.{Peer}
 use Rattle.gs_rules.specs.Tables.{Entries}
 use Rattle.gs_rules.specs.Scoring.{is_graylisted}
-use Rattle.gs_rules.specs.Owed.{Group, PartsOf, Gossips, Debt, beats, gossip_topics, held_or, nothing, offers_in, owes, owing, owed, paid, parts, reached, requests_in}
+use Rattle.gs_rules.specs.Owed.{Group, PartsOf, Gossips, Debt, beats, gossip_topics, grafts_in, held_or, nothing, offers_in, owes, owing, owed, paid, parts, prunes_in, reached, requests_in}
 use Rattle.gs_rules.specs.Legal.{IsNext, MayOpen}
 use Rattle.gs_rules.proofs.Each.{of_each}
 
@@ -20,6 +26,8 @@ IsOwed (Sub q sub) = Unit {0}
 IsOwed (Msg q m) = Unit {0}
 IsOwed (Have q offer) = Unit {0}
 IsOwed (Want q request) = Unit {0}
+IsOwed (GraftIn q graft) = Unit {0}
+IsOwed (PruneIn q prune) = Unit {0}
 IsOwed (GossipBeat t) = Unit {0}
 IsOwed BeatEnd = Unit {0}
 IsOwed other = ⊥
@@ -39,6 +47,16 @@ module _ (P : Event → Type 0) where
   pub last_parts : {X : Type 0} (part : X → Event) (xs : List X) → ((x : X) → P (part x)) → AllByRecursion P (map part xs)
   last_parts part [] each = tt
   last_parts part (x ∷ xs) each = (each x, last_parts part xs each)
+
+  -- the parts of an RPC, of each kind
+  pub parts_are_such : (q : PeerNo) (rpc : Rpc) → ((sub : SubOpt) → P (Sub q sub)) → ((m : Message) → P (Msg q m)) → ((offer : IHave) → P (Have q offer)) → ((request : IWant) → P (Want q request)) → ((graft : Graft) → P (GraftIn q graft)) → ((prune : Prune) → P (PruneIn q prune)) → AllByRecursion P (parts q rpc)
+  parts_are_such q rpc subs messages offers requests grafts prunes =
+      kind_of_parts (Sub q) rpc.subs _ subs
+      (kind_of_parts (Msg q) rpc.publish _ messages
+      (kind_of_parts (Have q) (offers_in rpc.control) _ offers
+      (kind_of_parts (Want q) (requests_in rpc.control) _ requests
+      (kind_of_parts (GraftIn q) (grafts_in rpc.control) _ grafts
+      (last_parts (PruneIn q) (prunes_in rpc.control) prunes)))))
 
   rest_are_such : (events : List Event) → AllByRecursion P events → AllByRecursion P (drop 1 events)
   rest_are_such [] h = tt
@@ -77,10 +95,7 @@ module _ (P : Event → Type 0) where
 -- ---- what is ever owed
 
 parts_are_owed : (q : PeerNo) (rpc : Rpc) → AllByRecursion IsOwed (parts q rpc)
-parts_are_owed q rpc =
-    kind_of_parts IsOwed (Sub q) rpc.subs _ (λ sub. tt)
-    (kind_of_parts IsOwed (Msg q) rpc.publish _ (λ m. tt)
-    (kind_of_parts IsOwed (Have q) (offers_in rpc.control) _ (λ offer. tt) (last_parts IsOwed (Want q) (requests_in rpc.control) (λ request. tt))))
+parts_are_owed q rpc = parts_are_such IsOwed q rpc (λ sub. tt) (λ m. tt) (λ offer. tt) (λ request. tt) (λ graft. tt) (λ prune. tt)
 
 -- these alone are ever owed
 pub owed_are_such : (p : Peer) (L : Entries) → OwesSuch IsOwed (owed p L)

@@ -12,7 +12,6 @@ use Rattle.gs_base.specs.declared.rpc.SubOpt.{SubOpt}
 use Rattle.gs_base.specs.declared.verdict.Verdict.TheVariants.{Accept}
 use Rattle.gs_base.specs.declared.mark.Mark.{Mark}
 use Rattle.gs_base.specs.declared.mark.Mark.TheVariants.{Seen, First, Invalid, Behaviour, Cached, Answered, HeardHave}
-use Rattle.gs_base.specs.Names.{publication}
 use Rattle.gs_params.specs.Params.{default_degrees, default_factors, default_thresholds, default_topic_factors, default_topic_params, default_windows}
 use Rattle.gs_score.specs.Histories.{Marked, Decayed, ShutOut}
 use Rattle.gs_score.specs.Formula.{score_of, topic_part}
@@ -25,7 +24,8 @@ use Rattle.gs_rules.specs.Peers.{Peer}
 use Rattle.gs_rules.specs.Tables.{Entries, blank}
 use Rattle.gs_rules.specs.Scoring.{history, is_graylisted, is_ignored, is_passed_over, score}
 use Rattle.gs_rules.specs.Owed.{nothing, owed}
-use Rattle.gs_rules.specs.Rules.{Gives, bare, have_rule, publish_rule, told, want_rule}
+use Rattle.gs_rules.specs.MeshRules.{publish_rule, publishing}
+use Rattle.gs_rules.specs.Rules.{Gives, bare, have_rule, told, want_rule}
 
 -- ---- what is given
 
@@ -285,11 +285,11 @@ unfolding score score_of topic_part times
 and_not_to_who_is_ignored = refl
 
 -- who is ignored still gets what is published
-what_is_published_goes_to_who_is_ignored : (publish_rule (scored 50_000_000) listening (record { 0 = 0 }) news (5 ∷ [])).sends ≡ (q, publication news (5 ∷ [])) ∷ (other, publication news (5 ∷ [])) ∷ []
+what_is_published_goes_to_who_is_ignored : publish_rule (scored 50_000_000) listening (record { 0 = 0 }) news (5 ∷ []) ≡ Gives (publishing listening (record { 0 = 0 }) news (5 ∷ []) (q ∷ other ∷ []) [] [])
 unfolding score score_of topic_part times
 what_is_published_goes_to_who_is_ignored = refl
 
-and_not_to_who_is_passed_over : (publish_rule (scored 50_000_001) listening (record { 0 = 0 }) news (5 ∷ [])).sends ≡ (other, publication news (5 ∷ [])) ∷ []
+and_not_to_who_is_passed_over : publish_rule (scored 50_000_001) listening (record { 0 = 0 }) news (5 ∷ []) ≡ Gives (publishing listening (record { 0 = 0 }) news (5 ∷ []) (other ∷ []) [] [])
 unfolding score score_of topic_part times
 and_not_to_who_is_passed_over = refl
 

@@ -88,7 +88,7 @@ placed_are P t (u ∷ us) one all = by (topic_order t u) (placed_are P t us one 
     by Equal rest = all
     by Greater rest = (all.0, rest)
 
-ascending_are : (P : Topic → Type 0) (ts : List Topic) → AllByRecursion P ts → AllByRecursion P (ascending ts)
+pub ascending_are : (P : Topic → Type 0) (ts : List Topic) → AllByRecursion P ts → AllByRecursion P (ascending ts)
 ascending_are P [] all = tt
 ascending_are P (t ∷ ts) all = placed_are P t (ascending ts) all.0 (ascending_are P ts all.1)
 
@@ -140,7 +140,7 @@ placed_any t u (v ∷ us) = by (topic_order u v) refl (placed_any t u us)
     by Equal is rest = again (same_topic t v) (list_any (same_topic t) us) ∙ ap (λ (w : Topic). same_topic t w || list_any (same_topic t) (v ∷ us)) (sym (equal_are_one u v is))
     by Greater is rest = ap (λ b. same_topic t v || b) rest ∙ changed (same_topic t v) (same_topic t u) (list_any (same_topic t) us)
 
-ascending_any : (t : Topic) (ts : List Topic) → list_any (same_topic t) (ascending ts) ≡ list_any (same_topic t) ts
+pub ascending_any : (t : Topic) (ts : List Topic) → list_any (same_topic t) (ascending ts) ≡ list_any (same_topic t) ts
 ascending_any t [] = refl
 ascending_any t (u ∷ ts) = placed_any t u (ascending ts) ∙ ap (λ b. same_topic t u || b) (ascending_any t ts)
 

@@ -1,8 +1,13 @@
 pub mod Peers
 pub mod Tables
+pub mod Meshes
+pub mod Arrivals
 pub mod Scoring
+pub mod Membership
 pub mod Gossip
 pub mod Owed
+pub mod Rule
+pub mod MeshRules
 pub mod Rules
 pub mod Modes
 pub mod Legal

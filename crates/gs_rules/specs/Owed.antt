@@ -8,11 +8,14 @@ use Rattle.gs_base.specs.declared.rpc.Rpc.{Rpc}
 use Rattle.gs_base.specs.declared.control.Control.{Control}
 use Rattle.gs_base.specs.declared.control.IHave.{IHave}
 use Rattle.gs_base.specs.declared.control.IWant.{IWant}
+use Rattle.gs_base.specs.declared.control.Graft.{Graft}
+use Rattle.gs_base.specs.declared.control.Prune.{Prune}
 use Rattle.gs_rules.specs.declared.trace.Event.{Event}
-use Rattle.gs_rules.specs.declared.trace.Event.TheVariants.{Heard, Sub, Msg, Have, Want, Promises, GossipBeat, BeatEnd}
+use Rattle.gs_rules.specs.declared.trace.Event.TheVariants.{Heard, Sub, Msg, Have, Want, GraftIn, PruneIn, Promises, GossipBeat, BeatEnd}
 use Rattle.gs_rules.specs.declared.trace.Entry.{Entry}
 use Rattle.gs_rules.specs.Peers.{Peer}
-use Rattle.gs_rules.specs.Tables.{Entries, own_topics}
+use Rattle.gs_rules.specs.Tables.{Entries}
+use Rattle.gs_rules.specs.Meshes.{mesh_topics}
 use Rattle.gs_rules.specs.Scoring.{is_graylisted}
 use Rattle.gs_rules.specs.Gossip.{gossip}
 
@@ -25,7 +28,7 @@ pub data Group : Type 0 where
   -- the gossip of a heartbeat, and its end
   Gossips : Group
 
--- the offers and the requests of an RPC: where it has no control, there are none
+-- the offers, the requests, the grafts and the prunes of an RPC: where it has no control, there are none
 abbrev pub offers_in : Option Control → List IHave
 offers_in None = []
 offers_in (Some control) = control.ihave
@@ -34,22 +37,32 @@ abbrev pub requests_in : Option Control → List IWant
 requests_in None = []
 requests_in (Some control) = control.iwant
 
--- the parts of an RPC: its subscriptions, its messages, its offers and its requests, each as they stand in it
+abbrev pub grafts_in : Option Control → List Graft
+grafts_in None = []
+grafts_in (Some control) = control.graft
+
+abbrev pub prunes_in : Option Control → List Prune
+prunes_in None = []
+prunes_in (Some control) = control.prune
+
+-- the parts of an RPC: its subscriptions, messages, offers, requests, grafts and prunes, each as they stand in it
 abbrev pub parts : PeerNo → Rpc → List Event
 parts q rpc =
     map (Sub q) rpc.subs
     ++ (map (Msg q) rpc.publish
     ++ (map (Have q) (offers_in rpc.control)
-    ++ map (Want q) (requests_in rpc.control)))
+    ++ (map (Want q) (requests_in rpc.control)
+    ++ (map (GraftIn q) (grafts_in rpc.control)
+    ++ map (PruneIn q) (prunes_in rpc.control)))))
 
 -- there is something to gossip on a topic
 abbrev pub is_some_list : List MsgId → Bool
 is_some_list [] = false
 is_some_list (id ∷ ids) = true
 
--- the topics of which a peer gossips: those that it is subscribed to and has something to gossip on, ascending
+-- the topics of which a peer gossips: those that have a mesh or a fanout, and on which there is something, ascending
 abbrev pub gossip_topics : Peer → Entries → List Topic
-gossip_topics p L = filter (λ t. is_some_list (gossip p L t)) (own_topics L)
+gossip_topics p L = filter (λ t. is_some_list (gossip p L t)) (mesh_topics L)
 
 -- a heartbeat gossips on these topics, and ends
 abbrev pub beats : List Topic → List Event

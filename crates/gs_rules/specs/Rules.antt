@@ -1,6 +1,6 @@
 -- What a peer does about an event: for each event one rule, which gives the whole entry. Rules look at the trace
 -- before the entry alone.
-use Rattle.std.specs.Prelude.{ℕ, ◌+◌, ◌-◌, min, Bool, true, false, not, ◌&&◌, nat_eq, nat_le, nat_lt, if◌then◌else◌, List, [], ◌∷◌, ◌++◌, length, take, map, filter, fold, get_or, Option, Some, None, is_some, option_map}
+use Rattle.std.specs.Prelude.{ℕ, ◌+◌, ◌-◌, min, Bool, true, false, not, ◌&&◌, ◌||◌, nat_eq, nat_le, nat_lt, if◌then◌else◌, List, [], ◌∷◌, ◌++◌, length, take, map, filter, fold, get_or, Option, Some, None, is_some, option_map}
 use Rattle.std.specs.List.{list_any, starts_with}
 use Rattle.std.specs.Map.{lookup}
 use Rattle.std.specs.Cmp.Lexicographic.{pointwise}
@@ -8,81 +8,29 @@ use Rattle.gs_base.specs.declared.names.PeerNo.{PeerNo}
 use Rattle.gs_base.specs.declared.names.Topic.{Topic}
 use Rattle.gs_base.specs.declared.names.Millis.{Millis}
 use Rattle.gs_base.specs.declared.rpc.Message.{Message}
-use Rattle.gs_base.specs.declared.rpc.Rpc.{Rpc}
 use Rattle.gs_base.specs.declared.names.MsgId.{MsgId}
 use Rattle.gs_base.specs.declared.control.IHave.{IHave}
 use Rattle.gs_base.specs.declared.control.IWant.{IWant}
-use Rattle.gs_wire.specs.Messages.{most_identifiers, offering, passed_on, requesting}
-use Rattle.gs_base.specs.Names.{same_id, same_topic, topic_or_empty, topic_of, payload_of, message_id, is_signed, announcement, publication}
-use Rattle.gs_params.specs.declared.params.Degrees.{Degrees}
-use Rattle.gs_params.specs.declared.topic_params.TopicParams.{TopicParams}
-use Rattle.gs_params.specs.declared.cuts.Member.{Member}
+use Rattle.gs_base.specs.Names.{same_id, same_topic, topic_or_empty, topic_of, payload_of, message_id, is_signed}
 use Rattle.gs_base.specs.declared.verdict.Verdict.{Verdict}
 use Rattle.gs_base.specs.declared.verdict.Verdict.TheVariants.{Accept, Reject, Ignore}
-use Rattle.gs_base.specs.declared.mark.Mark.TheVariants.{Seen, First, Invalid, Cached, Answered, HeardHave, Asked}
+use Rattle.gs_base.specs.declared.mark.Mark.{Mark}
+use Rattle.gs_base.specs.declared.mark.Mark.TheVariants.{Seen, First, Near, Invalid, Cached, Answered, HeardHave, Asked}
+use Rattle.gs_params.specs.declared.topic_params.TopicParams.{TopicParams}
+use Rattle.gs_mesh.specs.Peers.{is_among}
+use Rattle.gs_mesh.specs.Peers.{without as all_but}
+use Rattle.gs_score.specs.Accounts.{rules_of}
+use Rattle.gs_wire.specs.Messages.{most_identifiers, offering, passed_on, requesting}
 use Rattle.gs_rules.specs.declared.trace.Event.{Event}
-use Rattle.gs_rules.specs.declared.trace.Event.TheVariants.{Msg, Have, Want, Subscribe, Unsubscribe, Publish, Promises, GossipBeat}
+use Rattle.gs_rules.specs.declared.trace.Event.TheVariants.{Fault, Gone, GossipBeat, GraftIn, Have, Msg, Promises, PruneIn, Publish, Sub, Subscribe, Unsubscribe, Want}
 use Rattle.gs_rules.specs.declared.trace.Entry.{Entry}
-use Rattle.gs_rules.specs.Peers.{Peer, links_of, seen_ttl, windows}
-use Rattle.gs_rules.specs.Tables.{Entries, Keeping, up, on, joined, seen, kept, answered, offers, asked}
-use Rattle.gs_rules.specs.Scoring.{is_ignored, is_passed_over}
+use Rattle.gs_rules.specs.Peers.{Peer, seen_ttl, windows}
+use Rattle.gs_rules.specs.Tables.{Entries, Keeping, Sighting, answered, asked, joined, kept, last_millis, last_seen, offers, seen}
+use Rattle.gs_rules.specs.Meshes.{fanout, mesh, noted}
+use Rattle.gs_rules.specs.Scoring.{is_ignored}
 use Rattle.gs_rules.specs.Gossip.{all_charges, gossip, gossip_size}
-
--- ---- what rules say
-
--- What a rule says: an entry, or what is chosen before it.
-pub data Rule : Type 0 where
-  -- this entry
-  Gives : Entry → Rule
-  -- any so many of these peers, or all where there are fewer
-  AnyOf : ℕ → List PeerNo → (List PeerNo → Rule) → Rule
-  -- who is kept of a mesh that has too many members: so many, the best by score among them, equal scores as it likes
-  CutOf : Degrees → List Member → (List PeerNo → Rule) → Rule
-  -- one of so many places
-  OneOf : ℕ → (ℕ → Rule) → Rule
-
--- ---- what is done
-
--- an entry with no effects
-abbrev pub bare : Millis → Event → Entry
-bare at event = record { at = at; event = event; sends = []; delivered = []; promise = None; marks = [] }
-
--- the same RPC to each of these
-abbrev pub to_each : Rpc → List PeerNo → List (PeerNo × Rpc)
-to_each rpc qs = map (λ q. (q, rpc)) qs
-
--- the neighbours that are up
-abbrev pub up_neighbours : Peer → Entries → List PeerNo
-up_neighbours p L = filter (up L) (links_of p)
-
--- the neighbours that are up and on the topic
-abbrev pub listeners : Peer → Entries → Topic → List PeerNo
-listeners p L t = filter (λ q. up L q && on L q t) (links_of p)
-
--- those of these whom a test does not leave out
-abbrev pub without : (PeerNo → Bool) → List PeerNo → List PeerNo
-without is_out qs = filter (λ q. not (is_out q)) qs
-
--- ---- each event
-
--- a subscription is announced to every neighbour that is up
-abbrev pub subscribe_rule : Peer → Entries → Millis → Topic → Entry
-subscribe_rule p L at t =
-    record (bare at (Subscribe t)) { sends = to_each (announcement true t) (up_neighbours p L) }
-
--- and so is its end
-abbrev pub unsubscribe_rule : Peer → Entries → Millis → Topic → Entry
-unsubscribe_rule p L at t =
-    record (bare at (Unsubscribe t)) { sends = to_each (announcement false t) (up_neighbours p L) }
-
--- What a peer publishes goes to every neighbour that is up, on the topic and not below the threshold (gossipsub v1.1,
--- "Flood Publishing"), and to itself where it is subscribed.
-abbrev pub publish_rule : Peer → Entries → Millis → Topic → List ℕ → Entry
-publish_rule p L at t payload = record (bare at (Publish t payload)) {
-  sends = to_each (publication t payload) (without (is_passed_over p L at.0) (listeners p L t));
-  delivered = if joined L t then (t, payload) ∷ [] else [];
-  marks = Seen (message_id payload) Accept ∷ Cached (message_id payload) t ∷ [];
-}
+pub use Rattle.gs_rules.specs.Rule.{AnyOf, CutOf, Gives, OneOf, Rule, bare, listeners, to_each, up_neighbours, without}
+use Rattle.gs_rules.specs.MeshRules.{graft_rule, lost_rule, prune_rule, publish_rule, sub_rule, subscribe_rule, unsubscribe_rule}
 
 -- ---- messages that come
 
@@ -107,33 +55,58 @@ verdict_on topics m = verdict_by (lookup (same_topic (topic_of m)) topics) (payl
 abbrev pub invalid : Millis → PeerNo → Message → Entry
 invalid at q m = record (bare at (Msg q m)) { marks = Invalid q (topic_of m) ∷ [] }
 
--- a message that was not seen lately, by what it is found to be
-abbrev pub new_message : Millis → PeerNo → Message → Verdict → Entry
-new_message at q m Accept = record (bare at (Msg q m)) {
+-- the first delivery of a mesh member, and any that comes soon behind the first, counts for it (gossipsub v1.1, Peer
+-- Scoring, P3)
+abbrev pub near_of : Bool → PeerNo → Message → List Mark
+near_of is_near q m = if is_near then Near q (topic_of m) (message_id (payload_of m)) ∷ [] else []
+
+-- A message that was not seen lately, by what it is found to be. What is accepted goes to the topic's mesh, but for
+-- whom it came from (gossipsub v1.0, "Message Processing").
+abbrev pub new_message : Entries → Millis → PeerNo → Message → Verdict → Entry
+new_message L at q m Accept = record (bare at (Msg q m)) {
+  sends = to_each (passed_on m) (all_but q (mesh L (topic_of m)));
   delivered = (topic_of m, payload_of m) ∷ [];
   marks = Seen (message_id (payload_of m)) Accept
       ∷ First q (topic_of m) (message_id (payload_of m))
-      ∷ Cached (message_id (payload_of m)) (topic_of m)
-      ∷ [];
+      ∷ (near_of (is_among (mesh L (topic_of m)) q) q m ++ Cached (message_id (payload_of m)) (topic_of m) ∷ []);
 }
-new_message at q m Reject = record (bare at (Msg q m)) {
+new_message L at q m Reject = record (bare at (Msg q m)) {
   marks = Seen (message_id (payload_of m)) Reject ∷ Invalid q (topic_of m) ∷ [];
 }
-new_message at q m Ignore = record (bare at (Msg q m)) { marks = Seen (message_id (payload_of m)) Ignore ∷ [] }
+new_message L at q m Ignore = record (bare at (Msg q m)) { marks = Seen (message_id (payload_of m)) Ignore ∷ [] }
+
+-- a sighting is at most so many milliseconds old
+abbrev pub is_soon : ℕ → ℕ → Option Sighting → Bool
+is_soon window at None = false
+is_soon window at (Some s) = nat_le (at - s.at) window
+
+-- for how long after the first delivery of a message another one counts
+abbrev pub near_window : Peer → Topic → ℕ
+near_window p t = (rules_of p.params t).windows.p3_window_ms
+
+-- a member of the topic's mesh passes on what was seen a moment ago, and did not do so before
+abbrev pub is_near : Peer → Entries → ℕ → PeerNo → Topic → MsgId → Bool
+is_near p L at q t id =
+    is_among (mesh L t) q && (is_soon (near_window p t) at (last_seen L id) && not (noted L id q))
+
+-- a message that was accepted lately comes again
+abbrev pub again : Millis → PeerNo → Message → Bool → Entry
+again at q m is_near = record (bare at (Msg q m)) { marks = near_of is_near q m }
 
 -- a message, by what it was found to be lately: one that was rejected counts against each that passes it on
-abbrev pub known_or_new : Peer → Millis → PeerNo → Message → Option Verdict → Entry
-known_or_new p at q m (Some Reject) = invalid at q m
-known_or_new p at q m (Some other) = bare at (Msg q m)
-known_or_new p at q m None = new_message at q m (verdict_on p.params.topics m)
+abbrev pub known_or_new : Peer → Entries → Millis → PeerNo → Message → Option Verdict → Entry
+known_or_new p L at q m (Some Accept) = again at q m (is_near p L at.0 q (topic_of m) (message_id (payload_of m)))
+known_or_new p L at q m (Some Reject) = invalid at q m
+known_or_new p L at q m (Some Ignore) = bare at (Msg q m)
+known_or_new p L at q m None = new_message L at q m (verdict_on p.params.topics m)
 
 -- A message that came is dropped where the peer isn't subscribed. One that is signed is invalid, and not marked as
--- seen. Any other is marked as seen, if it was not lately, and delivered and kept, if it is accepted.
+-- seen. Any other is marked as seen, if it was not lately, and delivered, kept and passed on, if it is accepted.
 abbrev pub message_rule : Peer → Entries → Millis → PeerNo → Message → Entry
 message_rule p L at q m =
     if not (joined L (topic_of m)) then bare at (Msg q m)
     else if is_signed m then invalid at q m
-    else known_or_new p at q m (seen (seen_ttl p) L (message_id (payload_of m)) at.0)
+    else known_or_new p L at q m (seen (seen_ttl p) L (message_id (payload_of m)) at.0)
 
 -- ---- offers (gossipsub v1.0, "Control messages", IHAVE)
 
@@ -164,10 +137,6 @@ room_to_ask p L q = min p.params.windows.max_ihave_ids most_identifiers - asked 
 -- the identifiers that a neighbour is asked for that offers these
 abbrev pub wanted : Peer → Entries → ℕ → PeerNo → List (List ℕ) → List (List ℕ)
 wanted p L at q ids = take (room_to_ask p L q) (each_once (filter (is_wanted p L at) ids))
-
--- the last moment that there is, in milliseconds
-abbrev pub last_millis : ℕ
-last_millis = 18_446_744_073_709_551_615
 
 -- A neighbour is asked for these, and promises the one at this place.
 abbrev pub asking : Peer → Millis → PeerNo → IHave → List (List ℕ) → ℕ → Entry
@@ -249,9 +218,11 @@ telling p L at t chosen = record (bare at (GossipBeat t)) {
   sends = to_each (offering t (map (λ (id : MsgId). id.0) (gossip p L t))) chosen;
 }
 
--- the neighbours that may be told what there is on a topic: those that are up, on it and not ignored
+-- the neighbours that may be told what there is on a topic: those that are up, on it, outside its mesh and its fanout,
+-- and not ignored
 abbrev pub told : Peer → Entries → ℕ → Topic → List PeerNo
-told p L at t = without (is_ignored p L at) (listeners p L t)
+told p L at t =
+    without (is_ignored p L at) (without (λ q. is_among (mesh L t) q || is_among (fanout L t) q) (listeners p L t))
 
 -- any of these are told
 abbrev pub gossip_rule : Peer → Entries → Millis → Topic → Rule
@@ -265,9 +236,14 @@ abbrev pub rule_of : Peer → Entries → Millis → Event → Rule
 rule_of p L at (Msg q m) = Gives (message_rule p L at q m)
 rule_of p L at (Have q offer) = have_rule p L at q offer
 rule_of p L at (Want q request) = Gives (want_rule p L at q request)
-rule_of p L at (Subscribe t) = Gives (subscribe_rule p L at t)
+rule_of p L at (Sub q sub) = Gives (sub_rule p L at q sub)
+rule_of p L at (GraftIn q graft) = Gives (graft_rule p L at q graft)
+rule_of p L at (PruneIn q prune) = Gives (prune_rule p L at q prune)
+rule_of p L at (Gone q) = Gives (lost_rule p L at q (Gone q))
+rule_of p L at (Fault q) = Gives (lost_rule p L at q (Fault q))
+rule_of p L at (Subscribe t) = subscribe_rule p L at t
 rule_of p L at (Unsubscribe t) = Gives (unsubscribe_rule p L at t)
-rule_of p L at (Publish t payload) = Gives (publish_rule p L at t payload)
+rule_of p L at (Publish t payload) = publish_rule p L at t payload
 rule_of p L at Promises = Gives (promises_rule p L at)
 rule_of p L at (GossipBeat t) = gossip_rule p L at t
 rule_of p L at other = Gives (bare at other)

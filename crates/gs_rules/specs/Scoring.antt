@@ -1,16 +1,18 @@
 -- The scores of a peer's neighbours (gossipsub v1.1, "Peer Scoring"): what a trace says of each, and what a neighbour of
 -- low standing loses.
-use Rattle.std.specs.Prelude.{ℕ, ℤ, int_lt, Bool, true, ◌&&◌, ◌||◌, nat_lt, if◌then◌else◌, [], ◌∷◌, length}
+use Rattle.std.specs.Prelude.{◌≡◌, ℕ, ℤ, int_lt, Bool, true, ◌&&◌, ◌||◌, nat_lt, if◌then◌else◌, [], ◌∷◌, length}
 use Rattle.std.specs.List.{list_any}
 use Rattle.gs_base.specs.declared.names.PeerNo.{PeerNo}
 use Rattle.gs_base.specs.declared.names.Topic.{Topic}
 use Rattle.gs_base.specs.declared.neighbour.Neighbour.{Neighbour}
 use Rattle.gs_base.specs.declared.mark.Mark.{Mark}
-use Rattle.gs_base.specs.declared.mark.Mark.TheVariants.{First, Near, Deficit, Invalid, Behaviour}
+use Rattle.gs_base.specs.declared.names.Millis.{Millis}
+use Rattle.gs_base.specs.declared.mark.Mark.TheVariants.{First, Near, Deficit, Invalid, Behaviour, Grafted, Pruned}
 use Rattle.gs_base.specs.Names.{most_topics, same_peer, same_topic}
-use Rattle.gs_score.specs.Histories.{History, Marked, Decayed, ShutOut, Setting, named, score_in}
+use Rattle.gs_score.specs.Histories.{Change, History, Marked, Decayed, Left, ShutOut, Setting, named, score_in}
+use Rattle.gs_score.specs.Histories as histories
 use Rattle.gs_rules.specs.declared.trace.Event.{Event}
-use Rattle.gs_rules.specs.declared.trace.Event.TheVariants.{Decay, Gone, Fault}
+use Rattle.gs_rules.specs.declared.trace.Event.TheVariants.{Decay, Gone, Fault, GraftIn, Msg}
 use Rattle.gs_rules.specs.Peers.{Peer}
 use Rattle.gs_rules.specs.Tables.{Entries, after_marks}
 
@@ -19,6 +21,13 @@ use Rattle.gs_rules.specs.Tables.{Entries, after_marks}
 -- whether a peer of this number is a neighbour
 abbrev pub is_neighbour : Peer → PeerNo → Bool
 is_neighbour p q = list_any (λ (n : Neighbour). same_peer q n.peer) p.neighbours
+
+-- whom a message or a GRAFT came of is a neighbour: of what neighbours say these alone leave marks that count, whoever
+-- says it
+abbrev pub IsFromNeighbour : Peer → Event → Type 0
+IsFromNeighbour p (Msg q m) = is_neighbour p q ≡ true
+IsFromNeighbour p (GraftIn q graft) = is_neighbour p q ≡ true
+IsFromNeighbour p other = Unit {0}
 
 -- a neighbour has counters on a topic, or on so few topics that it may have them on one more
 abbrev pub has_counters : Peer → History → PeerNo → Topic → Bool
@@ -33,10 +42,17 @@ is_counted p H (Near q t id) = has_counters p H q t
 is_counted p H (Deficit q t z) = has_counters p H q t
 is_counted p H (Invalid q t) = has_counters p H q t
 is_counted p H (Behaviour q) = is_neighbour p q
+is_counted p H (Grafted q t) = has_counters p H q t
 is_counted p H other = true
 
-abbrev pub marked_after : Peer → Mark → History → History
-marked_after p mark H = if is_counted p H mark then Marked mark ∷ H else H
+-- what a mark that was made at a moment says: a neighbour came into a mesh or left one, or a counter is raised
+abbrev pub change_of : Millis → Mark → Change
+change_of at (Grafted q t) = histories.Grafted q t at
+change_of at (Pruned q t) = Left q t
+change_of at mark = Marked mark
+
+abbrev pub marked_after : Peer → Millis → Mark → History → History
+marked_after p at mark H = if is_counted p H mark then change_of at mark ∷ H else H
 
 -- all counters decay by a step, and whoever is lost counts no more at its address
 abbrev pub changed_after : Event → History → History
@@ -48,7 +64,7 @@ changed_after other H = H
 -- what happened to the neighbours, the newest first
 abbrev pub history : Peer → Entries → History
 history p [] = []
-history p (e ∷ L) = after_marks (marked_after p) e.marks (changed_after e.event (history p L))
+history p (e ∷ L) = after_marks (marked_after p e.at) e.marks (changed_after e.event (history p L))
 
 -- ---- scores
 

@@ -29,6 +29,10 @@ abbrev pub last_moment : Entries → ℕ
 last_moment [] = 0
 last_moment (e ∷ L) = e.at.0
 
+-- the last moment that there is, in milliseconds
+abbrev pub last_millis : ℕ
+last_millis = 18_446_744_073_709_551_615
+
 -- what marks make of a table, one after the other
 abbrev pub after_marks : {A : Type 0} → (Mark → A → A) → List Mark → A → A
 after_marks step [] before = before

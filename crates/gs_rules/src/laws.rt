@@ -1,25 +1,26 @@
 //! Laws of traces and rounds. Each holds of its definitions alone, and its function does nothing.
 ghost use Rattle.std.specs.Prelude.{ℕ, true, false, ◌≡◌, ◌<◌, ◌≤◌, ◌+◌, ◌∷◌, ◌++◌, []};
-ghost use Rattle.std.specs.Prelude.{List, None, Some, length, map, reverse};
+ghost use Rattle.std.specs.Prelude.{List, None, Some, length, map, nat_le, reverse};
 ghost use Rattle.std.specs.List.{All, AllByRecursion, IsAmong, list_any};
 ghost use Rattle.std.specs.List.Sorted.{IsStrictlySortedBy};
 ghost use Rattle.gs_base.specs.declared.names.PeerNo.{PeerNo as PeerNoValue};
 ghost use Rattle.gs_base.specs.declared.names.Topic.{Topic};
 ghost use Rattle.gs_base.specs.declared.names.MsgId.{MsgId};
-ghost use Rattle.gs_base.specs.declared.mark.Mark.TheVariants.{Behaviour};
-ghost use Rattle.gs_base.specs.declared.rpc.Message.{Message};
+ghost use Rattle.gs_base.specs.declared.mark.Mark.TheVariants.{Behaviour, Grafted};
 ghost use Rattle.gs_base.specs.Codecs.{Codec};
 ghost use Rattle.gs_base.specs.Names.{same_id, same_topic};
 ghost use Rattle.gs_params.specs.Picks.{IsAscending};
-ghost use Rattle.gs_score.specs.Histories.{Marked};
+ghost use Rattle.gs_mesh.specs.Peers.{is_among};
 ghost use Rattle.gs_wire.specs.Codec.{codec};
 ghost use Rattle.gs_rules.specs.declared.trace.Entry.{Entry};
 ghost use Rattle.gs_rules.specs.declared.trace.Promise.{Promise};
-ghost use Rattle.gs_rules.specs.declared.trace.Event.TheVariants.{Msg, Promises, Shut};
+ghost use Rattle.gs_rules.specs.declared.trace.Event.TheVariants.{Promises, Shut};
 ghost use Rattle.gs_rules.specs.declared.refusal.RefusedLine.{RefusedLine};
 ghost use Rattle.gs_rules.specs.Peers.{Peer, links_of, seen_ttl};
-ghost use Rattle.gs_rules.specs.Tables.{Entries, Keeping, joined, kept, keeping_order, own_topics, promises, topic_order, up};
-ghost use Rattle.gs_rules.specs.Scoring.{changed_after, has_counters, history, is_neighbour, score};
+ghost use Rattle.gs_rules.specs.Tables.{Entries, Keeping, is_shut, joined, kept, keeping_order, own_topics, promises, topic_order, up};
+ghost use Rattle.gs_rules.specs.Meshes.{backoff, mesh};
+ghost use Rattle.gs_rules.specs.Arrivals.{CameIn};
+ghost use Rattle.gs_rules.specs.Scoring.{IsFromNeighbour, change_of, changed_after, has_counters, history, is_neighbour, score};
 ghost use Rattle.gs_rules.specs.Gossip.{IsKeptOn, IsOpen, WasLeftOpen, charges, gossip, gossipable, overdue};
 ghost use Rattle.gs_rules.specs.Owed.{beats, gossip_topics, owed};
 ghost use Rattle.gs_rules.specs.Rules.{Gives, Rule, rule_of};
@@ -155,8 +156,8 @@ pub fn own_topics_are_those_that_are_joined()
     ensures ascend { (entries : Entries) → IsStrictlySortedBy topic_order (own_topics entries) }
 {}
 
-/// Once a heartbeat has charged broken promises, it owes gossip on each of the peer's own topics on which there is
-/// some, and its end, and nothing behind that.
+/// Once a heartbeat has charged broken promises, it owes gossip on each topic that has a mesh or a fanout and on which
+/// there is some, and its end, and nothing behind that.
 pub fn a_heartbeat_gossips_and_ends()
     ensures { (p : Peer) (entries : Entries) (e : Entry)
         → e.event ≡ Promises
@@ -220,13 +221,13 @@ pub fn what_is_kept_is_gossiped()
         → IsAmong (gossip p entries t) id }
 {}
 
-/// No mark of a legal trace is left out of the history that scores are made of, where messages come of neighbours; and
-/// on each topic that the peer is subscribed to there is room for the counters of each neighbour.
+/// No mark of a legal trace is left out of the history that scores are made of, where messages and GRAFTs come of
+/// neighbours; and on each topic that the peer is subscribed to there is room for the counters of each neighbour.
 pub fn each_mark_of_a_legal_trace_counts()
     ensures all { (p : Peer) (entries : Entries) (e : Entry)
         → Legal p (e ∷ entries)
-        → ((q : PeerNoValue) (m : Message) → e.event ≡ Msg q m → is_neighbour p q ≡ true)
-        → history p (e ∷ entries) ≡ reverse (map Marked e.marks) ++ changed_after e.event (history p entries) }
+        → IsFromNeighbour p e.event
+        → history p (e ∷ entries) ≡ reverse (map (change_of e.at) e.marks) ++ changed_after e.event (history p entries) }
     ensures room { (p : Peer) (entries : Entries) (q : PeerNoValue) (t : Topic)
         → Legal p entries
         → is_neighbour p q ≡ true
@@ -240,4 +241,54 @@ pub fn nothing_changes_a_score_behind_a_shut()
         → Legal p (later ++ e ∷ earlier)
         → e.event ≡ Shut
         → score p (later ++ e ∷ earlier) at q ≡ score p earlier at q }
+{}
+
+/// Once a peer has shut down, its meshes stay what they were before, and so do the topics that it is subscribed to.
+pub fn nothing_changes_a_mesh_behind_a_shut()
+    ensures members { (p : Peer) (later earlier : Entries) (e : Entry) (t : Topic)
+        → Legal p (later ++ e ∷ earlier)
+        → e.event ≡ Shut
+        → mesh (later ++ e ∷ earlier) t ≡ mesh earlier t }
+    ensures topics { (p : Peer) (later earlier : Entries) (e : Entry)
+        → Legal p (later ++ e ∷ earlier)
+        → e.event ≡ Shut
+        → own_topics (later ++ e ∷ earlier) ≡ own_topics earlier }
+{}
+
+/// Each member of a mesh of a legal trace is up, until the peer shuts down; and it is a neighbour, where all GRAFTs that
+/// came, came of neighbours.
+pub fn mesh_members_are_up()
+    ensures up { (p : Peer) (entries : Entries) (q : PeerNoValue) (t : Topic)
+        → Legal p entries
+        → is_shut entries ≡ false
+        → is_among (mesh entries t) q ≡ true
+        → up entries q ≡ true }
+    ensures neighbour { (p : Peer) (entries : Entries) (q : PeerNoValue) (t : Topic)
+        → Legal p entries
+        → AllByRecursion (λ (e : Entry). IsFromNeighbour p e.event) entries
+        → is_among (mesh entries t) q ≡ true
+        → is_neighbour p q ≡ true }
+{}
+
+/// Each member of a mesh of a legal trace came into it by an entry, when it was not in backoff there, and no later entry
+/// says that it left. Nor was anybody else that an entry says came into a mesh.
+pub fn a_member_was_not_in_backoff()
+    ensures member { (p : Peer) (entries : Entries) (q : PeerNoValue) (t : Topic)
+        → Legal p entries
+        → is_among (mesh entries t) q ≡ true
+        → CameIn q t entries }
+    ensures anybody { (p : Peer) (later earlier : Entries) (e : Entry) (q : PeerNoValue) (t : Topic)
+        → Legal p (later ++ e ∷ earlier)
+        → IsAmong e.marks (Grafted q t)
+        → nat_le (backoff earlier q t) e.at.0 ≡ true }
+{}
+
+/// A topic that the peer is not subscribed to has no mesh members in a legal trace; and members stand once, ascending by
+/// number.
+pub fn meshes_are_of_own_topics()
+    ensures joined { (p : Peer) (entries : Entries) (t : Topic)
+        → Legal p entries
+        → joined entries t ≡ false
+        → mesh entries t ≡ [] }
+    ensures ascend { (entries : Entries) (t : Topic) → IsAscending (mesh entries t) }
 {}

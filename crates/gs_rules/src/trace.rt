@@ -3,7 +3,8 @@ ghost use Rattle.std.specs.Prelude.{◌≡◌, ◌<◌, ◌^◌, [], ◌∷◌, 
 
 use bytes::Bytes;
 use gs_base::{
-    IHave, IWant, Mark, Message, Millis, MsgId, PeerNo, Rpc, Seq, Shared, SubOpt, Topic,
+    Graft, IHave, IWant, Mark, Message, Millis, MsgId, PeerNo, Prune, Rpc, Seq, Shared, SubOpt,
+    Topic,
 };
 use std::alloc::{AllocError, Global};
 use std::marker::Model;
@@ -23,6 +24,10 @@ pub enum Event {
     Have(PeerNo, Shared<IHave>),
     /// A neighbour asked for messages.
     Want(PeerNo, Shared<IWant>),
+    /// A neighbour said that it put the peer into a mesh.
+    GraftIn(PeerNo, Graft),
+    /// A neighbour said that it took the peer out of a mesh.
+    PruneIn(PeerNo, Prune),
     /// The peer subscribed to a topic.
     Subscribe(Topic),
     /// The peer left a topic.

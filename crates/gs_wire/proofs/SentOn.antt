@@ -1,5 +1,5 @@
 -- How long what peers send on is: a message by itself, offers and requests.
-use Rattle.std.proofs.Common.{◌≡◌, ℕ, zero, suc, ◌+◌, ◌*◌, ◌<◌, ◌≤◌, List, [], ◌∷◌, ◌++◌, length, map, get_or, refl, sym, ap, ◌∙◌, length-append, arith, Option, Some, None}
+use Rattle.std.proofs.Common.{◌≡◌, ℕ, zero, suc, ◌+◌, ◌*◌, ◌<◌, ◌≤◌, List, [], ◌∷◌, ◌++◌, length, map, get_or, min, refl, sym, ap, ◌∙◌, length-append, arith, Option, Some, None}
 use Rattle.std.specs.Prelude.{option_to_list}
 use Rattle.std.specs.List.{AllByRecursion, IsAmong}
 use Rattle.gs_base.specs.declared.names.Topic.{Topic}
@@ -8,9 +8,9 @@ use Rattle.gs_base.specs.declared.rpc.Rpc.{Rpc}
 use Rattle.gs_base.specs.Names.{longest_topic}
 use Rattle.gs_wire.specs.Varint.{varint}
 use Rattle.gs_wire.specs.Records.{Record, records_text}
-use Rattle.gs_wire.specs.Fields.{len_record, part_records, repeated_records}
+use Rattle.gs_wire.specs.Fields.{len_record, part_records, repeated_records, varint_record}
 use Rattle.gs_wire.specs.Controls.{control_records, ihave_records, iwant_records}
-use Rattle.gs_wire.specs.Messages.{HasIdentifierLength, body, longest_body, message_records, most_identifiers, offering, passed_on, requesting, sub_records}
+use Rattle.gs_wire.specs.Messages.{HasIdentifierLength, body, grafting, longest_backoff, longest_body, message_records, most_identifiers, offering, passed_on, pruning, requesting, sub_records}
 use Rattle.gs_wire.proofs.Written.{len_text-length, records_text-append, records_text-single, varint_ten}
 
 -- ---- a message by itself
@@ -60,3 +60,20 @@ offer_fits topic ids short few all =
     let named = len_record 1 topic.0 ∷ [] in
     let listed = repeated_records 2 ids in
     omega (arith, control_room 1 (records_text (named ++ listed)) (omega arith), sum_text named listed, len_room 1 topic.0 (omega arith), short, ids_room 2 ids (omega arith) all, few)
+
+-- ---- what is said of meshes
+
+pub graft_fits : (topic : Topic) → length topic.0 ≤ longest_topic → length (body (grafting topic)) ≤ longest_body
+graft_fits topic short =
+    omega (arith, control_room 3 (records_text (len_record 1 topic.0 ∷ [])) (omega arith), len_room 1 topic.0 (omega arith), short)
+
+-- a record of a number takes ten bytes at most, and so does its tag
+number_room : (field n : ℕ) → length (records_text (varint_record field n ∷ [])) ≤ 20
+number_room field n =
+    omega (arith, ap length (records_text-single (varint_record field n)), length-append (varint (8 * field + 0)) (varint n), varint_ten (8 * field + 0), varint_ten n)
+
+pub prune_fits : (topic : Topic) (seconds : ℕ) → length topic.0 ≤ longest_topic → length (body (pruning topic seconds)) ≤ longest_body
+prune_fits topic seconds short =
+    let named = len_record 1 topic.0 ∷ [] in
+    let counted = varint_record 3 (min seconds longest_backoff) ∷ [] in
+    omega (arith, control_room 4 (records_text (named ++ counted)) (omega arith), sum_text named counted, len_room 1 topic.0 (omega arith), number_room 3 (min seconds longest_backoff), short)

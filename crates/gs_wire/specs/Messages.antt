@@ -1,6 +1,6 @@
 -- RPCs and their parts as lists of records (libp2p pubsub, "The RPC": `rpc.proto`).
 -- The numbers are those of the fields there.
-use Rattle.std.specs.Prelude.{◌≡◌, ℕ, ◌<◌, ◌^◌, List, [], ◌∷◌, ◌++◌, length, Some, None, IfSome, option_to_list}
+use Rattle.std.specs.Prelude.{◌≡◌, ℕ, ◌<◌, ◌^◌, min, List, [], ◌∷◌, ◌++◌, length, Some, None, IfSome, option_to_list}
 use Rattle.std.specs.List.{AllZip, AllByRecursion}
 use Rattle.gs_base.specs.declared.names.Topic.{Topic}
 use Rattle.gs_base.specs.declared.control.Prune.{Prune}
@@ -91,6 +91,33 @@ requesting ids = record {
   subs = [];
   publish = [];
   control = Some (record { ihave = []; iwant = record { ids = ids } ∷ []; graft = []; prune = [] });
+}
+
+-- a neighbour is told that it was grafted (gossipsub v1.0, "Control messages", GRAFT)
+abbrev pub grafting : Topic → Rpc
+grafting topic = record {
+  subs = [];
+  publish = [];
+  control = Some (record { ihave = []; iwant = []; graft = record { topic = Some topic } ∷ []; prune = [] });
+}
+
+-- the longest backoff that is asked for, or heeded, in seconds
+abbrev pub longest_backoff : ℕ
+longest_backoff = 86_400
+
+-- a neighbour is told that it was pruned, and for how many seconds it is not to come back (gossipsub v1.1, "Prune
+-- Backoff")
+abbrev pub pruning : Topic → ℕ → Rpc
+pruning topic seconds = record {
+  subs = [];
+  publish = [];
+  control
+      = Some (record {
+        ihave = [];
+        iwant = [];
+        graft = [];
+        prune = record { topic = Some topic; backoff = Some (min seconds longest_backoff) } ∷ [];
+      });
 }
 
 -- the most identifiers in an offer or a request

@@ -9,7 +9,7 @@ ghost use Rattle.gs_wire.specs.Records.{Record, SpellRecords};
 ghost use Rattle.std.specs.List.{concat, AllByRecursion, IsAmong};
 ghost use Rattle.gs_wire.specs.declared.frames.End.{End};
 ghost use Rattle.gs_wire.specs.Stream.{IsStream, FindsIn, Holding, FeedsAll, HasRead};
-ghost use Rattle.gs_wire.specs.Messages.{HasIdentifierLength, SpellsRpc, IsInMemory, body, frame, longest_body, most_identifiers, offering, passed_on, requesting};
+ghost use Rattle.gs_wire.specs.Messages.{HasIdentifierLength, SpellsRpc, IsInMemory, body, frame, grafting, longest_body, most_identifiers, offering, passed_on, pruning, requesting};
 
 /// Bytes spell at most one list of records.
 pub fn bytes_spell_one_list_of_records()
@@ -115,4 +115,16 @@ pub fn a_request_fits_a_frame()
         → length ids ≤ most_identifiers
         → AllByRecursion HasIdentifierLength ids
         → length (body (requesting ids)) ≤ longest_body }
+{}
+
+/// A GRAFT on a topic within its limit fits a frame.
+pub fn a_graft_fits_a_frame()
+    ensures { (topic : Topic) → length topic.0 ≤ longest_topic → length (body (grafting topic)) ≤ longest_body }
+{}
+
+/// A PRUNE on a topic within its limit fits a frame.
+pub fn a_prune_fits_a_frame()
+    ensures { (topic : Topic) (seconds : ℕ)
+        → length topic.0 ≤ longest_topic
+        → length (body (pruning topic seconds)) ≤ longest_body }
 {}

@@ -188,3 +188,25 @@ fn each_fault_has_its_text(rt: HostRuntime) -> Result<(), AllocError> {
     }
     Ok(())
 }
+
+/// The laws take nothing and give nothing: that they can be called is all there is to test.
+#[test]
+fn laws_can_be_called(_rt: HostRuntime) {
+    bytes_spell_one_list_of_records();
+    bytes_spell_one_rpc();
+    a_body_spells_its_rpc();
+    no_frame_begins_another();
+    the_written_varint_is_shortest();
+    a_stream_is_one();
+    a_stream_may_be_cut_anywhere();
+    a_reader_holds_the_unread_end();
+    every_list_of_bytes_is_a_stream();
+    a_written_frame_is_read_back();
+    what_was_read_is_no_longer_when_written();
+    what_was_read_fits_a_frame();
+    a_message_by_itself_is_no_longer();
+    an_offer_fits_a_frame();
+    a_request_fits_a_frame();
+    a_graft_fits_a_frame();
+    a_prune_fits_a_frame();
+}

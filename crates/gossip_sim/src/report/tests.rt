@@ -90,6 +90,7 @@ fn refusing(
     Ok(Finished {
         trace,
         refused,
+        meshes: Seq::new(alloc),
         scores: Seq::new(alloc),
     })
 }
@@ -190,6 +191,7 @@ fn scoring(alloc: Global, scored: &[(u16, i128)]) -> Result<Finished, AllocError
     Ok(Finished {
         trace: Trace::new(alloc),
         refused: Seq::new(alloc),
+        meshes: Seq::new(alloc),
         scores,
     })
 }
@@ -218,6 +220,34 @@ fn scores_are_told_whatever_they_are(rt: HostRuntime) -> Result<(), AllocError> 
     peers.push((PeerNo(0), life))?;
     let report = "score a b -170141183460469231731687303715884.105728\n\
         score a b 170141183460469231731687303715884.105727\nlinks 2 settled\n";
+    assert!(rt; is_told(alloc, peers, 2, report)?);
+    Ok(())
+}
+
+/// A peer that did nothing, scores neighbour 1, and has these members in the meshes of these topics.
+fn meshing(alloc: Global, members: &[(&str, u16)]) -> Result<Finished, AllocError> {
+    let mut meshes = Seq::new(alloc);
+    for (name, member) in members {
+        meshes.push((topic(alloc, name)?, PeerNo(*member)))?;
+    }
+    Ok(Finished {
+        trace: Trace::new(alloc),
+        refused: Seq::new(alloc),
+        meshes,
+        scores: Seq::only(alloc, (PeerNo(1), 0))?,
+    })
+}
+
+/// All members are told ahead of the first score.
+#[test]
+fn members_are_told_by_peer_in_the_order_that_is_given(rt: HostRuntime) -> Result<(), AllocError> {
+    let alloc = rt.alloc();
+    let first = meshing(alloc, &[("blog", 1), ("news", 0), ("news", 2)])?;
+    let mut peers = Vec::new(alloc);
+    peers.push((PeerNo(0), first))?;
+    peers.push((PeerNo(1), meshing(alloc, &[("news", 0)])?))?;
+    let report = "mesh a blog b\nmesh a news a\nmesh a news \nmesh b news a\n\
+        score a b 0.000000\nscore b b 0.000000\nlinks 2 settled\n";
     assert!(rt; is_told(alloc, peers, 2, report)?);
     Ok(())
 }

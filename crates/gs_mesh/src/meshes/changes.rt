@@ -4,8 +4,8 @@ ghost use Rattle.gs_base.specs.declared.names.PeerNo.{PeerNo as PeerNoValue};
 ghost use Rattle.gs_base.specs.Names.{same_peer};
 ghost use Rattle.gs_params.specs.Picks.{IsAscending};
 ghost use Rattle.gs_mesh.specs.Backoffs.{later};
-ghost use Rattle.gs_mesh.specs.Meshes.{ChangesBackoffs, ChangesFanout, ChangesMesh, Puts, SayTheSame, backoff_until, fanout, is_kept, kept, members};
-ghost use Rattle.gs_mesh.specs.Peers.{IsJoinedBy, is_among, without};
+ghost use Rattle.gs_mesh.specs.Meshes.{ChangesBackoffs, Puts, SayTheSame, backoff_until, fanout, is_kept, kept, members};
+ghost use Rattle.gs_mesh.specs.Peers.{is_among, put_in, without};
 
 use crate::topic_mesh::TopicMesh;
 use gs_base::{Millis, PeerNo, Topic, clone_of};
@@ -71,9 +71,10 @@ pub(crate) fn graft(
     topic: &Topic,
 ) -> Result<(), AllocError>
     requires kept { is_kept topics.old.entries topic.now ≡ true }
-    ensures grafts { OnOk result (IsJoinedBy peer
-        (members topics.old.entries topic.now) (members topics.new.entries topic.now)) }
-    ensures rest { OnOk result (ChangesMesh topics.old.entries topics.new.entries topic.now) }
+    ensures grafts { OnOk result (Puts topics.old.entries topics.new.entries topic.now
+        (record (kept topics.old.entries topic.now) {
+          members = put_in peer (members topics.old.entries topic.now);
+        })) }
     ensures unchanged { OnErr result (SayTheSame topics.old.entries topics.new.entries) }
 {
     match topics.get_mut(topic) {
@@ -131,9 +132,10 @@ pub(crate) fn fan(
     topic: &Topic,
 ) -> Result<(), AllocError>
     requires kept { is_kept topics.old.entries topic.now ≡ true }
-    ensures fans { OnOk result (IsJoinedBy peer
-        (fanout topics.old.entries topic.now) (fanout topics.new.entries topic.now)) }
-    ensures rest { OnOk result (ChangesFanout topics.old.entries topics.new.entries topic.now) }
+    ensures fans { OnOk result (Puts topics.old.entries topics.new.entries topic.now
+        (record (kept topics.old.entries topic.now) {
+          fanout = put_in peer (fanout topics.old.entries topic.now);
+        })) }
     ensures unchanged { OnErr result (SayTheSame topics.old.entries topics.new.entries) }
 {
     match topics.get_mut(topic) {

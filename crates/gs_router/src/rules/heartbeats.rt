@@ -1,17 +1,20 @@
 //! Heartbeats: broken promises count against who made them, and neighbours are told what there is.
-ghost use Rattle.std.specs.Prelude.{◌≡◌, ◌++◌, ◌&&◌, [], ◌∷◌, IfOk, OnOk, if◌then◌else◌, map, nat_le};
+ghost use Rattle.std.specs.Prelude.{◌≡◌, ◌++◌, ◌&&◌, ◌||◌, [], ◌∷◌, IfOk, OnOk, if◌then◌else◌, map, nat_le};
 ghost use Rattle.gs_base.specs.Names.{same_peer};
 ghost use Rattle.gs_base.specs.declared.mark.Mark.TheVariants.{Behaviour};
 ghost use Rattle.gs_base.specs.declared.names.MsgId.{MsgId as MsgIdValue};
 ghost use Rattle.gs_wire.specs.Messages.{offering};
 ghost use Rattle.gs_rules.specs.Tables.{Entries};
 ghost use Rattle.gs_rules.specs.Gossip.{all_charges, charges, gossip_size};
-ghost use Rattle.gs_rules.specs.Rules.{gossip_rule, promises_rule, telling, told};
+ghost use Rattle.gs_base.specs.declared.names.PeerNo.{PeerNo as PeerNoValue};
+ghost use Rattle.gs_mesh.specs.Peers.{is_among};
+ghost use Rattle.gs_rules.specs.Meshes.{fanout, mesh};
+ghost use Rattle.gs_rules.specs.Rules.{gossip_rule, promises_rule, telling, told, without};
 ghost use Rattle.gs_rules.specs.Modes.{Follows, exact};
 ghost use Rattle.gs_router.specs.Tables.{Agrees};
 ghost use Rattle.gs_router.specs.State.{IsCurrent, Knows, peer_with};
 
-use crate::rules::messages::listeners;
+use crate::rules::publishing::listeners;
 use crate::rules::{bare, thresholds, to_each};
 use crate::setup::Setup;
 use crate::state::State;
@@ -113,9 +116,36 @@ fn told(state: &State, topic: &Topic, now: Millis) -> Result<Vec<PeerNo>, AllocE
         → found.items ≡ told (peer_with state.now.setup) L now.0 topic.now) }
 {
     let listeners = listeners(state, topic)?;
+    let outside = those_outside(state, topic, &listeners)?;
     let threshold = state.setup.params.thresholds.gossip_threshold;
-    let told = thresholds::not_below(state, threshold, &listeners, now)?;
+    let told = thresholds::not_below(state, threshold, &outside, now)?;
     Ok(told)
+}
+
+/// Those of these neighbours that are neither in the mesh of a topic nor in its fanout.
+fn those_outside(state: &State, topic: &Topic, peers: &[PeerNo]) -> Result<Vec<PeerNo>, AllocError>
+    ensures { IfOk result (λ found. (L : Entries)
+        → Agrees state.now.tables L
+        → found.items
+        ≡ without (λ (q : PeerNoValue). is_among (mesh L topic.now) q || is_among (fanout L topic.now) q) peers.now) }
+{
+    let mut found = Vec::new(state.alloc);
+    for peer in peers {
+        if !is_inside(state, topic, *peer) {
+            found.push(*peer)?;
+        }
+    }
+    Ok(found)
+}
+
+/// Whether a neighbour is in the mesh of a topic, or in its fanout.
+fn is_inside(state: &State, topic: &Topic, peer: PeerNo) -> bool
+    ensures { (L : Entries)
+        → Agrees state.now.tables L
+        → result ≡ (is_among (mesh L topic.now) peer || is_among (fanout L topic.now) peer) }
+{
+    state.tables.memberships.is_member(peer, topic)
+        || state.tables.memberships.is_fanned(peer, topic)
 }
 
 /// How many of so many neighbours are told.

@@ -1,34 +1,29 @@
-//! Messages: what becomes of one that a neighbour passed on, and publishing.
-ghost use Rattle.std.specs.Prelude.{◌≡◌, ◌&&◌, [], ◌∷◌, Some, IfOk, filter, if◌then◌else◌};
+//! What becomes of a message that a neighbour passed on (gossipsub v1.0, "Message Processing").
+ghost use Rattle.std.specs.Prelude.{◌≡◌, ◌++◌, [], ◌∷◌, Some, IfOk, if◌then◌else◌, is_some, true};
 ghost use Rattle.std.specs.Map.{lookup};
-ghost use Rattle.gs_base.specs.Names.{message_id, payload_of, same_topic, topic_of};
+ghost use Rattle.gs_base.specs.Names.{message_id, payload_of, same_topic, topic_of, topic_or_empty};
 ghost use Rattle.gs_base.specs.declared.names.Millis.{Millis as MillisValue};
 ghost use Rattle.gs_base.specs.declared.names.PeerNo.{PeerNo as PeerNoValue};
-ghost use Rattle.gs_base.specs.declared.verdict.Verdict.TheVariants.{Accept, Reject, Ignore};
+ghost use Rattle.gs_base.specs.declared.verdict.Verdict.TheVariants.{Accept, Reject};
 ghost use Rattle.gs_base.specs.declared.mark.Mark.TheVariants as marks;
-ghost use Rattle.gs_rules.specs.declared.trace.Event.TheVariants as events;
-ghost use Rattle.gs_rules.specs.Peers.{links_of};
-ghost use Rattle.gs_rules.specs.Tables.{Entries, joined, up};
-ghost use Rattle.gs_rules.specs.Scoring.{is_passed_over};
-ghost use Rattle.gs_rules.specs.Rules.{begins_with_one, listeners, message_rule, new_message, publish_rule, verdict_by, verdict_on, without};
-ghost use Rattle.gs_rules.specs.Refusals.{refusal};
-ghost use Rattle.gs_router.specs.PeerSets.{has};
+ghost use Rattle.gs_mesh.specs.Peers.{without as all_but};
+ghost use Rattle.gs_score.specs.Accounts.{params_in};
+ghost use Rattle.gs_wire.specs.Messages.{passed_on};
+ghost use Rattle.gs_rules.specs.Peers.{seen_ttl};
+ghost use Rattle.gs_rules.specs.Tables.{Entries, seen};
+ghost use Rattle.gs_rules.specs.Meshes.{mesh};
+ghost use Rattle.gs_rules.specs.Rules.{again, begins_with_one, is_near, message_rule, near_window, new_message, to_each, verdict_by, verdict_on};
+ghost use Rattle.gs_router.specs.declared.rules.messages.Fate.TheVariants.{Accepted};
 ghost use Rattle.gs_router.specs.Tables.{Agrees};
 ghost use Rattle.gs_router.specs.State.{Knows, judged, peer_with};
 
-use crate::peer_set::PeerSet;
-use crate::rules::{bare, thresholds, to_each};
+use crate::rules::{bare, to_each};
 use crate::state::State;
 use bytes::Bytes;
-use gs_base::{
-    LONGEST_TOPIC, Mark, Message, Millis, MsgId, PeerNo, Rpc, Seq, Shared, Topic, Verdict, clone_of,
-};
-use gs_params::TopicParams;
-use gs_rules::{Entry, Event, Refusal};
-use gs_wire::{MAX_BODY, publish_len};
+use gs_base::{Mark, Message, Millis, MsgId, PeerNo, Rpc, Seq, Shared, Topic, Verdict, clone_of};
+use gs_params::{DEFAULT_TOPIC_WINDOWS, TopicParams};
+use gs_rules::{Entry, Event};
 use std::alloc::{AllocError, Global};
-
-// ---- a message that came
 
 /// What becomes of a message that came.
 #[derive(Clone, Copy, Debug, PartialEq, Eq)]
@@ -41,15 +36,18 @@ pub enum Fate {
     Rejected(MsgId),
     /// Its identifier is marked as seen.
     Ignored(MsgId),
-    /// It is delivered and kept, and its identifier marked as seen.
+    /// It was accepted a moment ago, and counts for its sender.
+    Near(MsgId),
+    /// It is delivered, kept and passed on, and its identifier marked as seen.
     Accepted(MsgId),
 }
 
 /// What becomes of a message.
-fn fate_of(state: &State, message: &Message, now: Millis) -> Fate
-    ensures { (L : Entries) (q : PeerNoValue)
+fn fate_of(state: &State, from: PeerNo, message: &Message, now: Millis) -> Fate
+    ensures { (L : Entries)
         → Knows state.now now.0 L
-        → message_rule (peer_with state.now.setup) L now q message.now ≡ judged q now message.now result }
+        → message_rule (peer_with state.now.setup) L now from message.now
+        ≡ judged (mesh L (topic_of message.now)) from now message.now result }
 {
     if !state.tables.topics.is_joined_or_empty(&message.topic) {
         return Fate::Dropped;
@@ -59,18 +57,82 @@ fn fate_of(state: &State, message: &Message, now: Millis) -> Fate
     }
     let id = MsgId::of(message.payload_bytes());
     match state.tables.sightings.verdict(&id, now) {
+        Some(Verdict::Accept) => fate_again(state, from, message, id, now),
         Some(Verdict::Reject) => Fate::Invalid,
-        Some(_) => Fate::Dropped,
+        Some(Verdict::Ignore) => Fate::Dropped,
         None => new_fate(state, message, id),
     }
 }
 
+/// What becomes of a message with this identifier, which was accepted lately.
+fn fate_again(state: &State, from: PeerNo, message: &Message, id: MsgId, now: Millis) -> Fate
+    ensures { (L : Entries)
+        → Knows state.now now.0 L
+        → id ≡ message_id (payload_of message.now)
+        → is_some (seen (seen_ttl (peer_with state.now.setup)) L id now.0) ≡ true
+        → again now from message.now
+        (is_near (peer_with state.now.setup) L now.0 from (topic_of message.now) (message_id (payload_of message.now)))
+        ≡ judged (mesh L (topic_of message.now)) from now message.now result }
+{
+    if is_near(state, from, &message.topic, &id, now) {
+        return Fate::Near(id);
+    }
+    Fate::Dropped
+}
+
+/// Whether a neighbour is in the mesh of a topic that is named, passes on what was seen a moment ago, and did not do so
+/// before.
+fn is_near(state: &State, from: PeerNo, topic: &Option<Topic>, id: &MsgId, now: Millis) -> bool
+    ensures { (L : Entries)
+        → Knows state.now now.0 L
+        → is_some (seen (seen_ttl (peer_with state.now.setup)) L id.now now.0) ≡ true
+        → result ≡ is_near (peer_with state.now.setup) L now.0 from (topic_or_empty topic.now) id.now }
+{
+    match topic {
+        Some(topic) => is_near_on(state, from, topic, id, now),
+        None => is_near_on(state, from, &Topic(Bytes::new()), id, now),
+    }
+}
+
+/// The same of a topic.
+fn is_near_on(state: &State, from: PeerNo, topic: &Topic, id: &MsgId, now: Millis) -> bool
+    ensures { (L : Entries)
+        → Knows state.now now.0 L
+        → is_some (seen (seen_ttl (peer_with state.now.setup)) L id.now now.0) ≡ true
+        → result ≡ is_near (peer_with state.now.setup) L now.0 from topic.now id.now }
+{
+    state.tables.memberships.is_member(from, topic)
+        && state
+            .tables
+            .sightings
+            .is_near(id, from, now, near_window(state, topic))
+}
+
+/// For how long after the first delivery of a message on a topic another one counts.
+fn near_window(state: &State, topic: &Topic) -> Millis
+    ensures { result.0 ≡ near_window (peer_with state.now.setup) topic.now }
+{
+    Millis(window_in(state.setup.params.topics.as_slice(), topic))
+}
+
+/// The same by the parameters of topics: the first ones of the topic count, and a topic without any has the default.
+fn window_in(topics: &[(Topic, TopicParams)], topic: &Topic) -> u64
+    ensures { result ≡ (params_in topics.now topic.now).windows.p3_window_ms }
+{
+    for known in topics {
+        if *topic == known.0 {
+            return known.1.windows.p3_window_ms;
+        }
+    }
+    DEFAULT_TOPIC_WINDOWS.p3_window_ms
+}
+
 /// What becomes of a message with this identifier, which was not seen lately.
 fn new_fate(state: &State, message: &Message, id: MsgId) -> Fate
-    ensures { (q : PeerNoValue) (at : MillisValue)
+    ensures { (L : Entries) (q : PeerNoValue) (at : MillisValue)
         → id ≡ message_id (payload_of message.now)
-        → new_message at q message.now (verdict_on state.now.setup.params.topics message.now)
-        ≡ judged q at message.now result }
+        → new_message L at q message.now (verdict_on state.now.setup.params.topics message.now)
+        ≡ judged (mesh L (topic_of message.now)) q at message.now result }
 {
     match verdict_of(state.setup.params.topics.as_slice(), message) {
         Verdict::Accept => Fate::Accepted(id),
@@ -129,15 +191,22 @@ fn accepted(
     from: PeerNo,
     id: MsgId,
     message: &Message,
+    is_member: bool,
 ) -> Result<Seq<Mark>, AllocError>
     ensures { IfOk result (λ list. list
         ≡ marks.Seen id Accept
         ∷ marks.First from (topic_of message.now) id
-        ∷ marks.Cached id (topic_of message.now)
-        ∷ []) }
+        ∷ ((if is_member then marks.Near from (topic_of message.now) id ∷ [] else [])
+        ++ marks.Cached id (topic_of message.now)
+        ∷ [])) }
 {
     let mut marks = Seq::only(alloc, Mark::Seen(id, Verdict::Accept))?;
     marks.push(Mark::First(from, message.topic_or_empty()?, id))?;
+    if is_member {
+        marks.push(Mark::Near(from, message.topic_or_empty()?, id))?;
+        marks.push(Mark::Cached(id, message.topic_or_empty()?))?;
+        return Ok(marks);
+    }
     marks.push(Mark::Cached(id, message.topic_or_empty()?))?;
     Ok(marks)
 }
@@ -156,25 +225,76 @@ fn rejected(
     Ok(marks)
 }
 
-/// What is remembered of a payload that is published.
-fn published(alloc: Global, id: MsgId, topic: Topic) -> Result<Seq<Mark>, AllocError>
-    ensures { IfOk result (λ list. list ≡ marks.Seen id Accept ∷ marks.Cached id topic ∷ []) }
+/// A message by itself goes to each of these, but for whom it came from.
+fn passed_on(
+    alloc: Global,
+    from: PeerNo,
+    message: &Message,
+    members: &[PeerNo],
+) -> Result<Seq<(PeerNo, Shared<Rpc>)>, AllocError>
+    ensures { IfOk result (λ sends. sends ≡ to_each (passed_on message.now) (all_but from members.now)) }
 {
-    let mut marks = Seq::only(alloc, Mark::Seen(id, Verdict::Accept))?;
-    marks.push(Mark::Cached(id, topic))?;
-    Ok(marks)
+    let rpc = Rpc {
+        subs: Seq::new(alloc),
+        publish: Seq::only(alloc, clone_of(message)?)?,
+        control: None,
+    };
+    let receivers = others(alloc, from, members)?;
+    let sends = to_each(alloc, rpc, &receivers)?;
+    Ok(sends)
 }
 
-/// The entry of a message of which this becomes.
-fn judged(
+/// All of these but one.
+fn others(alloc: Global, from: PeerNo, members: &[PeerNo]) -> Result<Vec<PeerNo>, AllocError>
+    ensures { IfOk result (λ found. found.items ≡ all_but from members.now) }
+{
+    let mut others = Vec::new(alloc);
+    for member in members {
+        if from != *member {
+            others.push(*member)?;
+        }
+    }
+    Ok(others)
+}
+
+/// The entry of a message that is accepted.
+fn accepting(
     alloc: Global,
+    from: PeerNo,
+    message: Shared<Message>,
+    id: MsgId,
+    members: &[PeerNo],
+    now: Millis,
+) -> Result<Entry, AllocError>
+    ensures { IfOk result (λ entry. entry ≡ judged members.now from now message (Accepted id)) }
+{
+    let told = message.get();
+    let delivery = (told.topic_or_empty()?, told.payload_or_empty()?);
+    let sends = passed_on(alloc, from, told, members)?;
+    let marks = accepted(alloc, from, id, told, members.contains(&from))?;
+    Ok(Entry {
+        at: now,
+        sends,
+        delivered: Seq::only(alloc, delivery)?,
+        promise: None,
+        marks,
+        event: Event::Msg(from, message),
+    })
+}
+
+/// The entry of a message of which this becomes. The members of its topic's mesh are looked up where it is accepted.
+fn judged(
+    state: &State,
     from: PeerNo,
     message: Shared<Message>,
     fate: Fate,
     now: Millis,
 ) -> Result<Entry, AllocError>
-    ensures { IfOk result (λ entry. entry ≡ judged from now message fate) }
+    ensures { IfOk result (λ entry. (L : Entries)
+        → Agrees state.now.tables L
+        → entry ≡ judged (mesh L (topic_of message)) from now message fate) }
 {
+    let alloc = state.alloc;
     match fate {
         Fate::Dropped => Ok(bare(alloc, now, Event::Msg(from, message))),
         Fate::Invalid => {
@@ -192,15 +312,28 @@ fn judged(
             marks: Seq::only(alloc, Mark::Seen(id, Verdict::Ignore))?,
             ..bare(alloc, now, Event::Msg(from, message))
         }),
-        Fate::Accepted(id) => {
-            let told = message.get();
-            let delivery = (told.topic_or_empty()?, told.payload_or_empty()?);
+        Fate::Near(id) => {
+            let mark = Mark::Near(from, message.get().topic_or_empty()?, id);
             Ok(Entry {
-                delivered: Seq::only(alloc, delivery)?,
-                marks: accepted(alloc, from, id, told)?,
+                marks: Seq::only(alloc, mark)?,
                 ..bare(alloc, now, Event::Msg(from, message))
             })
         }
+        Fate::Accepted(id) => {
+            let members = members_of(state, &message.get().topic);
+            let entry = accepting(alloc, from, message, id, members, now)?;
+            Ok(entry)
+        }
+    }
+}
+
+/// Who is in the mesh of the topic that is named; an absent one is the empty one.
+fn members_of<'a>(state: &'a State, topic: &Option<Topic>) -> &'a [PeerNo]
+    ensures { (L : Entries) → Agrees state.now.tables L → result.now ≡ mesh L (topic_or_empty topic.now) }
+{
+    match topic {
+        Some(topic) => state.tables.memberships.members(topic),
+        None => state.tables.memberships.members(&Topic(Bytes::new())),
     }
 }
 
@@ -215,123 +348,7 @@ pub fn entry_of(
         → Knows state.now now.0 L
         → entry ≡ message_rule (peer_with state.now.setup) L now from message) }
 {
-    let fate = fate_of(state, message.get(), now);
-    let entry = judged(state.alloc, from, message, fate, now)?;
+    let fate = fate_of(state, from, message.get(), now);
+    let entry = judged(state, from, message, fate, now)?;
     Ok(entry)
-}
-
-// ---- a message that is published
-
-/// A payload that the router's own user publishes, with the identifier of its message.
-#[derive(Drop)]
-pub struct Publishing {
-    pub topic: Topic,
-    pub payload: Bytes,
-    pub id: MsgId,
-}
-
-/// The neighbours that are up and on a topic.
-pub fn listeners(state: &State, topic: &Topic) -> Result<Vec<PeerNo>, AllocError>
-    ensures { IfOk result (λ receivers. (L : Entries)
-        → Agrees state.now.tables L
-        → receivers.items ≡ listeners (peer_with state.now.setup) L topic.now) }
-{
-    match state.tables.listeners.of(topic) {
-        Some(set) => {
-            let receivers = up_among(state, set)?;
-            Ok(receivers)
-        }
-        None => Ok(Vec::new(state.alloc)),
-    }
-}
-
-/// The neighbours that are up and in a set.
-fn up_among(state: &State, set: &PeerSet) -> Result<Vec<PeerNo>, AllocError>
-    ensures { IfOk result (λ receivers. (L : Entries)
-        → Agrees state.now.tables L
-        → receivers.items ≡ filter (λ q. up L q && has set.now q) (links_of (peer_with state.now.setup))) }
-{
-    let mut receivers = Vec::new(state.alloc);
-    for neighbour in &state.setup.neighbours {
-        if state.tables.neighbours.is_up(neighbour.peer) && set.contains(neighbour.peer) {
-            receivers.push(neighbour.peer)?;
-        }
-    }
-    Ok(receivers)
-}
-
-/// What is delivered to the router's own user of a payload that it publishes.
-fn delivered(state: &State, publishing: &Publishing) -> Result<Seq<(Topic, Bytes)>, AllocError>
-    ensures { IfOk result (λ list. (L : Entries)
-        → Agrees state.now.tables L
-        → list ≡ (if joined L publishing.now.topic then (publishing.now.topic, publishing.now.payload) ∷ [] else [])) }
-{
-    if state.tables.topics.is_joined(&publishing.topic) {
-        let message = (clone_of(&publishing.topic)?, clone_of(&publishing.payload)?);
-        Seq::only(state.alloc, message)
-    } else {
-        Ok(Seq::new(state.alloc))
-    }
-}
-
-/// The neighbours that get what is published on a topic.
-fn receivers_of(state: &State, topic: &Topic, now: Millis) -> Result<Vec<PeerNo>, AllocError>
-    ensures { IfOk result (λ receivers. (L : Entries)
-        → Knows state.now now.0 L
-        → receivers.items
-        ≡ without (is_passed_over (peer_with state.now.setup) L now.0)
-        (listeners (peer_with state.now.setup) L topic.now)) }
-{
-    let listeners = listeners(state, topic)?;
-    let threshold = state.setup.params.thresholds.publish_threshold;
-    let receivers = thresholds::not_below(state, threshold, &listeners, now)?;
-    Ok(receivers)
-}
-
-/// The entry of a payload that the router's own user publishes.
-pub fn publish(state: &State, publishing: Publishing, now: Millis) -> Result<Entry, AllocError>
-    requires { publishing.id ≡ message_id publishing.payload }
-    ensures { IfOk result (λ entry. (L : Entries)
-        → Knows state.now now.0 L
-        → entry ≡ publish_rule (peer_with state.now.setup) L now publishing.topic publishing.payload) }
-{
-    let receivers = receivers_of(state, &publishing.topic, now)?;
-    let rpc = Rpc::publication(state.alloc, &publishing.topic, &publishing.payload)?;
-    let sends = to_each(state.alloc, rpc, &receivers)?;
-    let delivered = delivered(state, &publishing)?;
-    let marks = published(state.alloc, publishing.id, clone_of(&publishing.topic)?)?;
-    let Publishing { topic, payload, .. } = publishing;
-    Ok(Entry {
-        at: now,
-        event: Event::Publish(topic, payload),
-        sends,
-        delivered,
-        promise: None,
-        marks,
-    })
-}
-
-/// Why the router may not publish a payload with this identifier on a topic.
-pub fn refusal_of_publish(
-    state: &State,
-    topic: &Topic,
-    payload: &Bytes,
-    id: MsgId,
-    now: Millis,
-) -> Option<Refusal>
-    requires { id ≡ message_id payload.now }
-    ensures { (L : Entries)
-        → Knows state.now now.0 L
-        → result ≡ refusal (peer_with state.now.setup) L now.0 (events.Publish topic.now payload.now) }
-{
-    if state.tables.neighbours.is_shut() {
-        return Some(Refusal::Stopped);
-    }
-    if topic.0.len() > LONGEST_TOPIC || publish_len(topic, payload) > MAX_BODY {
-        return Some(Refusal::TooLong);
-    }
-    if state.tables.sightings.is_seen(&id, now) {
-        return Some(Refusal::AlreadySeen);
-    }
-    None
 }

@@ -54,9 +54,9 @@ impl State {
         requires { IsCurrent self.now }
         ensures { IfOk result (λ topics. topics.items ≡ gossip_topics (peer_with self.now.setup) self.now.trace) }
     {
-        let joined = self.tables.topics.joined(self.alloc)?;
+        let all = self.tables.mesh_topics.list(self.alloc)?;
         let mut topics = Vec::new(self.alloc);
-        for topic in joined.as_slice() {
+        for topic in all.as_slice() {
             if self.has_gossip(topic)? {
                 topics.push(clone_of(topic)?)?;
             }

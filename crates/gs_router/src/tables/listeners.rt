@@ -44,6 +44,16 @@ impl Listeners {
         self.topics.get(topic)
     }
 
+    /// Whether a neighbour is on a topic.
+    pub fn is_on(&self, peer: PeerNo, topic: &Topic) -> bool
+        ensures { (L : Entries) → AgreesOnListeners self.now L → result ≡ on L peer topic.now }
+    {
+        match self.topics.get(topic) {
+            Some(set) => set.contains(peer),
+            None => false,
+        }
+    }
+
     /// Notes an entry.
     pub fn note(&mut self, entry: &Entry) -> Result<(), AllocError>
         ensures { OnOk result ((L : Entries)

@@ -1,10 +1,13 @@
 //! Which messages were seen lately.
-ghost use Rattle.std.specs.Prelude.{◌≡◌, ◌≤◌, ℕ, [], ◌∷◌, OnOk, is_some};
+ghost use Rattle.std.specs.Prelude.{◌≡◌, ◌≤◌, ℕ, true, not, ◌&&◌, [], ◌∷◌, OnOk, is_some};
 ghost use Rattle.gs_base.specs.declared.names.MsgId.{MsgId as MsgIdValue};
-ghost use Rattle.gs_rules.specs.Tables.{Entries, last_moment, seen};
-ghost use Rattle.gs_router.specs.Tables.{AgreesOnSightings, verdict_after, verdict_at};
+ghost use Rattle.gs_base.specs.declared.names.PeerNo.{PeerNo as PeerNoValue};
+ghost use Rattle.gs_rules.specs.Tables.{Entries, last_moment, last_seen, seen};
+ghost use Rattle.gs_rules.specs.Meshes.{noted, notes};
+ghost use Rattle.gs_rules.specs.Rules.{is_soon};
+ghost use Rattle.gs_router.specs.Tables.{AgreesOnSightings, PassesOn, Sees, told, told_after, told_of};
 
-use gs_base::{Mark, Millis, MsgId, Verdict};
+use gs_base::{Mark, Millis, MsgId, PeerNo, Verdict};
 use gs_cache::SeenCache;
 use gs_rules::Entry;
 use std::alloc::{AllocError, Global};
@@ -46,13 +49,50 @@ impl Sightings {
         self.cache.seen(id, now)
     }
 
-    /// Notes a mark that was made at a moment.
-    fn note_mark(&mut self, mark: &Mark, at: Millis) -> Result<(), AllocError>
+    /// Whether a message that was seen lately was first seen at most so many milliseconds ago, and a neighbour was not
+    /// noted for it since.
+    pub fn is_near(&self, id: &MsgId, peer: PeerNo, now: Millis, window: Millis) -> bool
+        ensures { (L : Entries)
+            → AgreesOnSightings self.now L
+            → last_moment L ≤ now.0
+            → is_some (seen self.now.cache.ttl L id.now now.0) ≡ true
+            → result ≡ (is_soon window.0 now.0 (last_seen L id.now) && not (noted L id.now peer)) }
+    {
+        self.cache.is_near(id, peer, now, window)
+    }
+
+    /// Notes an entry, which comes no earlier than those before it. Whichever order its marks have, neighbours are noted
+    /// for messages as they were seen with it.
+    pub fn note(&mut self, entry: &Entry) -> Result<(), AllocError>
+        requires { self.old.cache.moment ≤ entry.now.at.0 }
+        ensures agrees { OnOk result ((L : Entries)
+            → AgreesOnSightings self.old L
+            → AgreesOnSightings self.new (entry.now ∷ L)) }
+        ensures ttl { OnOk result (self.new.cache.ttl ≡ self.old.cache.ttl) }
+    {
+        self.note_sightings(entry.marks.as_slice(), entry.at)?;
+        self.note_neighbours(entry.marks.as_slice())?;
+        Ok(())
+    }
+
+    /// Notes which messages marks say were seen at a moment.
+    fn note_sightings(&mut self, marks: &[Mark], at: Millis) -> Result<(), AllocError>
         requires { self.old.cache.moment ≤ at.0 }
-        ensures marks { OnOk result ((id : MsgIdValue) (now : ℕ)
+        ensures { OnOk result (Sees at.0 marks.now self.old self.new) }
+    {
+        for mark in marks {
+            self.note_sighting(mark, at)?;
+        }
+        Ok(())
+    }
+
+    /// Notes which message a mark says was seen at a moment, if any.
+    fn note_sighting(&mut self, mark: &Mark, at: Millis) -> Result<(), AllocError>
+        requires { self.old.cache.moment ≤ at.0 }
+        ensures marks { OnOk result ((id : MsgIdValue) (q : PeerNoValue) (now : ℕ)
             → self.new.cache.moment ≤ now
-            → verdict_at self.new id now
-            ≡ verdict_after self.old.cache.ttl now id at.0 mark.now (verdict_at self.old id now)) }
+            → told self.new id q now
+            ≡ told_after self.old.cache.ttl now id at.0 mark.now (told self.old id q now)) }
         ensures moment { OnOk result ((self.old.cache.moment ≤ self.new.cache.moment) × (self.new.cache.moment ≤ at.0)) }
         ensures ttl { OnOk result (self.new.cache.ttl ≡ self.old.cache.ttl) }
     {
@@ -65,17 +105,34 @@ impl Sightings {
         }
     }
 
-    /// Notes an entry, which comes no earlier than those before it.
-    pub fn note(&mut self, entry: &Entry) -> Result<(), AllocError>
-        requires { self.old.cache.moment ≤ entry.now.at.0 }
-        ensures agrees { OnOk result ((L : Entries)
-            → AgreesOnSightings self.old L
-            → AgreesOnSightings self.new (entry.now ∷ L)) }
-        ensures ttl { OnOk result (self.new.cache.ttl ≡ self.old.cache.ttl) }
+    /// Notes who passed on which message, as marks say.
+    fn note_neighbours(&mut self, marks: &[Mark]) -> Result<(), AllocError>
+        ensures { OnOk result (PassesOn marks.now self.old self.new) }
     {
-        for mark in entry.marks.as_slice() {
-            self.note_mark(mark, entry.at)?;
+        for mark in marks {
+            self.note_neighbour(mark)?;
         }
         Ok(())
+    }
+
+    /// Notes who passed on which message, if a mark says so.
+    fn note_neighbour(&mut self, mark: &Mark) -> Result<(), AllocError>
+        ensures marks { OnOk result ((id : MsgIdValue) (q : PeerNoValue) (now : ℕ)
+            → self.new.cache.moment ≤ now
+            → told self.new id q now ≡ told_of (notes id q mark.now) (told self.old id q now)) }
+        ensures moment { OnOk result (self.new.cache.moment ≡ self.old.cache.moment) }
+        ensures ttl { OnOk result (self.new.cache.ttl ≡ self.old.cache.ttl) }
+    {
+        match mark {
+            Mark::First(peer, _topic, id) => {
+                self.cache.note(id, *peer)?;
+                Ok(())
+            }
+            Mark::Near(peer, _topic, id) => {
+                self.cache.note(id, *peer)?;
+                Ok(())
+            }
+            _ => Ok(()),
+        }
     }
 }

@@ -1,16 +1,18 @@
 //! How neighbours stand.
-ghost use Rattle.std.specs.Prelude.{◌≡◌, ◌≤◌, ◌<◌, ◌+◌, ◌^◌, [], ◌∷◌, unsigned_abs, All, IfOk, OnOk};
+ghost use Rattle.std.specs.Prelude.{◌≡◌, ◌≤◌, ◌<◌, ◌+◌, ◌^◌, [], ◌∷◌, unsigned_abs, All, IfOk, OnOk, if◌then◌else◌};
 ghost use Rattle.gs_base.specs.Names.{peers_of};
 ghost use Rattle.gs_base.specs.declared.neighbour.Neighbour.{Neighbour as NeighbourValue};
 ghost use Rattle.gs_params.specs.Params.{AreInRange};
 ghost use Rattle.gs_params.specs.Picks.{IsAscending};
-ghost use Rattle.gs_score.specs.Histories.{Agrees, History};
+ghost use Rattle.gs_score.specs.Accounts.{rules_of};
+ghost use Rattle.gs_score.specs.Formula.{p3};
+ghost use Rattle.gs_score.specs.Histories.{Agrees, History, Marked, held_by};
 ghost use Rattle.gs_rules.specs.Peers.{Peer};
 ghost use Rattle.gs_rules.specs.Tables.{Entries, after_marks};
-ghost use Rattle.gs_rules.specs.Scoring.{changed_after, marked_after, score, setting_of};
+ghost use Rattle.gs_rules.specs.Scoring.{changed_after, history, is_counted, marked_after, score, setting_of};
 ghost use Rattle.gs_router.specs.Tables.{AgreesOnScores};
 
-use gs_base::{Mark, Millis, Neighbour, PeerNo};
+use gs_base::{Mark, Millis, Neighbour, PeerNo, Topic};
 use gs_params::Params;
 use gs_rules::{Entry, Event};
 use gs_score::Scores;
@@ -51,6 +53,15 @@ impl Standings {
         self.scores.score(peer, now)
     }
 
+    /// The square of what is missing of a neighbour's deliveries in the mesh of a topic, in millionths (P3).
+    pub fn missing(&self, peer: PeerNo, topic: &Topic, now: Millis) -> u64
+        ensures { (p : Peer) (L : Entries)
+            → AgreesOnScores p self.now L
+            → result ≡ p3 (rules_of p.params topic.now) now.0 (held_by p.params (history p L) peer topic.now) }
+    {
+        self.scores.missing(peer, topic, now)
+    }
+
     /// Notes an entry.
     ///
     /// # Errors
@@ -62,7 +73,7 @@ impl Standings {
             → AgreesOnScores p self.new (entry.now ∷ L)) }
     {
         self.note_event(&entry.event);
-        self.note_marks(entry.marks.as_slice())?;
+        self.note_marks(entry.marks.as_slice(), entry.at)?;
         Ok(())
     }
 
@@ -81,23 +92,45 @@ impl Standings {
         }
     }
 
-    /// Notes marks, one after the other.
-    fn note_marks(&mut self, marks: &[Mark]) -> Result<(), AllocError>
+    /// Notes marks that were made at a moment, one after the other.
+    fn note_marks(&mut self, marks: &[Mark], at: Millis) -> Result<(), AllocError>
         ensures { OnOk result ((p : Peer) (H : History)
             → Agrees (setting_of p) self.old.scores H
-            → Agrees (setting_of p) self.new.scores (after_marks (marked_after p) marks.now H)) }
+            → Agrees (setting_of p) self.new.scores (after_marks (marked_after p at) marks.now H)) }
     {
         for mark in marks {
-            self.note_mark(mark)?;
+            self.note_mark(mark, at)?;
         }
         Ok(())
     }
 
-    /// Notes a mark, if it counts.
-    fn note_mark(&mut self, mark: &Mark) -> Result<(), AllocError>
+    /// Notes a mark that was made at a moment, if it counts.
+    fn note_mark(&mut self, mark: &Mark, at: Millis) -> Result<(), AllocError>
         ensures { OnOk result ((p : Peer) (H : History)
             → Agrees (setting_of p) self.old.scores H
-            → Agrees (setting_of p) self.new.scores (marked_after p mark.now H)) }
+            → Agrees (setting_of p) self.new.scores (marked_after p at mark.now H)) }
+    {
+        match mark {
+            Mark::Grafted(peer, topic) => {
+                if !self.scores.has_room(*peer, topic) {
+                    return Ok(());
+                }
+                self.scores.graft(*peer, topic, at)?;
+                Ok(())
+            }
+            Mark::Pruned(peer, topic) => {
+                self.scores.prune(*peer, topic);
+                Ok(())
+            }
+            _ => self.apply(mark),
+        }
+    }
+
+    /// Applies a mark that says nothing of meshes, if it counts.
+    fn apply(&mut self, mark: &Mark) -> Result<(), AllocError>
+        ensures { OnOk result ((p : Peer) (H : History)
+            → Agrees (setting_of p) self.old.scores H
+            → Agrees (setting_of p) self.new.scores (if is_counted p H mark.now then Marked mark.now ∷ H else H)) }
     {
         if !self.scores.accepts(mark) {
             return Ok(());

@@ -146,77 +146,79 @@ fn keys_of_tables_have_their_types(rt: HostRuntime) -> Result<(), AllocError> {
 #[test]
 fn no_key_of_the_top_table_takes_a_wrong_type(rt: HostRuntime) -> Result<(), AllocError> {
     for (key, _usual) in &TOP {
-        assert!(rt; refuses_wrong_types(rt.alloc(), key)?, "{key}");
+        check_wrong_types(&rt, key)?;
     }
     Ok(())
 }
 
-fn refuses_wrong_types(alloc: Global, key: &str) -> Result<bool, AllocError> {
-    let refused = format!(in alloc; "29 {key}")?;
+/// Checks that a key of the top table is refused with each value of a type that no key there takes.
+fn check_wrong_types<T: AllocGlobal + Abort>(rt: &T, key: &str) -> Result<(), AllocError> {
+    let want = format!(in rt.alloc(); "29 {key}")?;
     for value in &WRONG {
-        if outcome_with(alloc, key, value)? != refused {
-            return Ok(false);
-        }
+        let given = outcome_with(rt.alloc(), key, value)?;
+        assert_eq!(rt; given.as_str(), want.as_str(), "{key} = {value}");
     }
-    Ok(true)
+    Ok(())
 }
 
 #[test]
 fn four_keys_of_the_top_table_may_be_missing(rt: HostRuntime) -> Result<(), AllocError> {
+    let alloc = rt.alloc();
     for (key, _usual) in &TOP {
-        assert!(rt; is_missed_where_required(rt.alloc(), key)?, "{key}");
+        let given = outcome_with(alloc, key, "")?;
+        let want = wanted_without(alloc, key)?;
+        assert_eq!(rt; given.as_str(), want.as_str(), "{key}");
     }
     Ok(())
 }
 
-fn is_missed_where_required(alloc: Global, key: &str) -> Result<bool, AllocError> {
-    let given = outcome_with(alloc, key, "")?;
+/// What the top table must give without a key.
+fn wanted_without(alloc: Global, key: &str) -> Result<String, AllocError> {
     if matches!(key, "params" | "dial" | "app" | "do") {
-        return Ok(given.as_str() == "a plan");
+        return String::from_str(alloc, "a plan");
     }
-    Ok(given == format!(in alloc; "28 {key}")?)
+    format!(in alloc; "28 {key}")
 }
 
 #[test]
 fn numbers_of_parameters_have_their_ranges(rt: HostRuntime) -> Result<(), AllocError> {
     for range in &RANGES {
-        assert!(rt; has_range(rt.alloc(), range)?, "{}", range.1);
+        check_range(&rt, range)?;
     }
     Ok(())
 }
 
-/// Whether a key takes its lowest and its highest number, which give what they must, and neither
+/// Checks that a key takes its lowest and its highest number, which give what they must, and neither
 /// one below, nor one above, nor another type.
-fn has_range(alloc: Global, range: &Range) -> Result<bool, AllocError> {
-    let (sort, key, at_lowest, at_highest) = range;
-    Ok(
-        gives(alloc, range, sort.low, at_lowest)?
-            && gives(alloc, range, "1000000000000", at_highest)?
-            && refuses(alloc, range, sort.below)?
-            && takes_numbers_only(alloc, range)?,
-    )
-}
-
-fn takes_numbers_only(alloc: Global, range: &Range) -> Result<bool, AllocError> {
+fn check_range<T: AllocGlobal + Abort>(rt: &T, range: &Range) -> Result<(), AllocError> {
+    let (sort, _, at_lowest, at_highest) = range;
+    check_number(rt, range, sort.low, at_lowest)?;
+    check_number(rt, range, "1000000000000", at_highest)?;
+    let refused = format!(in rt.alloc(); "29 {}.{}", sort.path, range.1)?;
+    check_number(rt, range, sort.below, refused.as_str())?;
     for value in &NO_NUMBERS {
-        if !refuses(alloc, range, value)? {
-            return Ok(false);
-        }
+        check_number(rt, range, value, refused.as_str())?;
     }
-    Ok(true)
+    Ok(())
 }
 
-/// Whether a value is refused at its place.
-fn refuses(alloc: Global, range: &Range, value: &str) -> Result<bool, AllocError> {
-    let want = format!(in alloc; "29 {}.{}", range.0.path, range.1)?;
-    gives(alloc, range, value, want.as_str())
-}
-
-/// Whether a value gives what it must.
-fn gives(alloc: Global, range: &Range, value: &str, want: &str) -> Result<bool, AllocError> {
-    let line = format!(in alloc; "{} = {value}", range.1)?;
-    let given = outcome_behind(alloc, range.0.behind, line.as_str())?;
-    Ok(given.as_str() == want)
+/// Checks that a value gives what it must.
+fn check_number<T: AllocGlobal + Abort>(
+    rt: &T,
+    range: &Range,
+    value: &str,
+    want: &str,
+) -> Result<(), AllocError> {
+    let line = format!(in rt.alloc(); "{} = {value}", range.1)?;
+    let given = outcome_behind(rt.alloc(), range.0.behind, line.as_str())?;
+    assert_eq!(rt;
+        given.as_str(),
+        want,
+        "{} of {}",
+        line.as_str(),
+        range.0.path
+    );
+    Ok(())
 }
 
 #[test]
@@ -244,7 +246,7 @@ fn lists_have_their_lengths_and_depths(rt: HostRuntime) -> Result<(), AllocError
 #[test]
 fn a_scenario_gives_its_plan(rt: HostRuntime) -> Result<(), AllocError> {
     for (scenario, plan) in &PLANS {
-        assert!(rt; has_plan(rt.alloc(), scenario, plan)?, "{scenario}");
+        check_plan(&rt, scenario, plan)?;
     }
     Ok(())
 }
@@ -255,16 +257,23 @@ fn an_edit_of_a_scenario_changes_its_plan(rt: HostRuntime) -> Result<(), AllocEr
     for (old, new, old_part, new_part) in &EDITED_PLANS {
         let scenario = edited(alloc, PLANS[0].0, old, new)?;
         let plan = edited(alloc, PLANS[0].1, old_part, new_part)?;
-        assert!(rt; has_plan(alloc, scenario.as_str(), plan.as_str())?, "{new}");
+        check_plan(&rt, scenario.as_str(), plan.as_str())?;
     }
     Ok(())
 }
 
-/// Whether a scenario has a plan, in which defaults are named.
-fn has_plan(alloc: Global, scenario: &str, plan: &str) -> Result<bool, AllocError> {
+/// Checks that a scenario has a plan, in which defaults are named.
+fn check_plan<T: AllocGlobal + Abort>(
+    rt: &T,
+    scenario: &str,
+    plan: &str,
+) -> Result<(), AllocError> {
+    let alloc = rt.alloc();
     let plan = edited(alloc, plan, "DEFAULT_PARAMS", DEFAULT_PARAMS)?;
     let plan = edited(alloc, plan.as_str(), "DEFAULT_TOPIC", DEFAULT_TOPIC)?;
-    Ok(written(alloc, scenario)? == plan)
+    let given = written(alloc, scenario)?;
+    assert_eq!(rt; given.as_str(), plan.as_str(), "{scenario}");
+    Ok(())
 }
 
 #[test]

@@ -149,24 +149,24 @@ fn an_address_is_any_text(rt: HostRuntime) -> Result<(), AllocError> {
     ];
     let alloc = rt.alloc();
     for (line, want) in &ADDRESSES {
-        assert!(rt; has_address(alloc, line, want)?, "{line}");
+        assert_eq!(rt; second_address(alloc, line)?.as_str(), *want, "{line}");
     }
     Ok(())
 }
 
-/// Whether a line more in the table of the second peer has that peer at this address.
-fn has_address(alloc: Global, line: &str, address: &str) -> Result<bool, AllocError> {
+/// The address of the second peer with a line more in its table, or the refusal.
+fn second_address(alloc: Global, line: &str) -> Result<String, AllocError> {
     let text = with_line(alloc, IN_PEER, line)?;
     match read_plan(alloc, text.as_str()) {
-        Ok(plan) => Ok(is_second_at(plan.peers.as_slice(), address)),
-        Err(_) => Ok(false),
+        Ok(plan) => String::from_str(alloc, address_of_second(plan.peers.as_slice())),
+        Err(fault) => format!(in alloc; "{fault}"),
     }
 }
 
-fn is_second_at(peers: &[PlannedPeer], address: &str) -> bool {
+fn address_of_second(peers: &[PlannedPeer]) -> &str {
     match peers {
-        [_, peer, _] => peer.address.as_str() == address,
-        _ => false,
+        [_, peer, _] => peer.address.as_str(),
+        _ => "not one of three peers",
     }
 }
 

@@ -1,8 +1,8 @@
-use Rattle.std.proofs.Common.{◌≡◌, ◌*◌, ◌∙◌, List, rules, sym, ap₂, subst₂}
+use Rattle.std.proofs.Common.{◌≡◌, ◌*◌, ◌∙◌, List, rules, sym, ap, ap₂, subst₂}
 use Rattle.gs_rules.specs.declared.refusal.RefusedLine.{RefusedLine}
 use Rattle.gs_rules.specs.Peers.{Peer}
 use Rattle.gs_rules.specs.Tables.{Entries}
-use Rattle.gs_router.specs.Router.{scores_of}
+use Rattle.gs_router.specs.Router.{meshes_of, scores_of}
 use Rattle.gs_peer.specs.Life.{words_of}
 use Rattle.gs_peer.specs.Places.{place_of}
 use Rattle.gs_peer.specs.Running.{seat_of}
@@ -28,5 +28,6 @@ returns-clause-life g c =
     subst₂ (λ (L : Entries) (rs : List RefusedLine). WholeLife (seat_of t) said sent t.first.value L rs) (search rules) (search rules) w in
     let same : c.hear.new.self.router.peer ≡ t.player.router.peer = c.in_ok-hear.ensures.runs.peer in
     let scored = c.in_ok-scores.ensures c.in_ok-hear.ensures.runs.runs_on.running in
+    let meshed = c.in_ok-meshes.ensures c.in_ok-hear.ensures.runs.runs_on.running in
     let traced : c.into_trace.result ≡ c.hear.new.self.router.trace = c.into_trace.ensures in
-    record { legal = all.legal; keeps = all.keeps; scores = scored ∙ ap₂ (λ (p : Peer) (L : Entries). scores_of p L (t.assignment.rounds * t.assignment.round_ms)) same (sym traced); handles = all.handles; says = all.says; closed = all.closed }
+    record { legal = all.legal; keeps = all.keeps; meshes = meshed ∙ ap meshes_of (sym traced); scores = scored ∙ ap₂ (λ (p : Peer) (L : Entries). scores_of p L (t.assignment.rounds * t.assignment.round_ms)) same (sym traced); handles = all.handles; says = all.says; closed = all.closed }

@@ -1,6 +1,5 @@
 use Rattle.std.proofs.Common.{◌≡◌, ◌<◌, ◌∙◌, ℕ, List, refl, sym, ap, subst, subst₂}
-use Rattle.std.specs.Prelude.{◌&&◌, length, not}
-use Rattle.std.proofs.lemmas.List.Kept.{AllPairs-filter}
+use Rattle.std.specs.Prelude.{◌&&◌, ◌||◌, length, not}
 use Rattle.gs_base.specs.declared.names.PeerNo.{PeerNo}
 use Rattle.gs_base.specs.declared.names.Topic.{Topic}
 use Rattle.gs_base.specs.Names.{peers_of}
@@ -9,16 +8,18 @@ use Rattle.gs_rules.specs.Peers.{Peer, links_of}
 use Rattle.gs_rules.specs.Tables.{Entries, on, up}
 use Rattle.gs_rules.specs.Gossip.{gossip_size}
 use Rattle.gs_rules.specs.Scoring.{is_ignored}
-use Rattle.gs_rules.specs.Rules.{listeners, telling, told}
+use Rattle.gs_mesh.specs.Peers.{is_among}
+use Rattle.gs_rules.specs.Meshes.{fanout, mesh}
+use Rattle.gs_rules.specs.Rules.{listeners, telling, told, without}
 use Rattle.gs_rules.specs.Modes.{IsPick}
 use Rattle.gs_router.specs.State.{peer_with}
+use Rattle.gs_router.proofs.Choosing.{listeners_ascend, without_ascend}
 use Rattle.gs_router.proofs.rules.heartbeats.gossip.Goals as goal
 
-listeners_ascend : (p : Peer) (L : Entries) (t : Topic) → IsAscending (links_of p) → IsAscending (listeners p L t)
-listeners_ascend p L t ascending = AllPairs-filter (λ (a b : PeerNo). a.0 < b.0) (λ q. up L q && on L q t) (links_of p) ascending
-
 told_ascend : (p : Peer) (L : Entries) (at : ℕ) (t : Topic) → IsAscending (links_of p) → IsAscending (told p L at t)
-told_ascend p L at t ascending = AllPairs-filter (λ (a b : PeerNo). a.0 < b.0) (λ q. not (is_ignored p L at q)) (listeners p L t) (listeners_ascend p L t ascending)
+told_ascend p L at t ascending =
+    without_ascend (is_ignored p L at) (without (λ q. is_among (mesh L t) q || is_among (fanout L t) q) (listeners p L t))
+    (without_ascend (λ q. is_among (mesh L t) q || is_among (fanout L t) q) (listeners p L t) (listeners_ascend p L t ascending))
 
 pub pick-requires : goal.pick-requires
 pick-requires g c =

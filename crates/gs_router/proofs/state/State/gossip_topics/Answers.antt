@@ -14,4 +14,4 @@ returns c =
     sym (append-nil c.loop-topic.topics.items)
     ∙ ap (λ (rest : List Topic). c.loop-topic.topics.items ++ filter (λ t. is_some_list (gossip (peer_with s.setup) s.trace t)) rest) (sym none)
     ∙ c.loop-topic.invariant
-    ∙ ap (filter (λ t. is_some_list (gossip (peer_with s.setup) s.trace t))) (c.as_slice-topic-items.ensures.value ∙ c.in_ok-joined.ensures s.trace c.requires.agrees.topics)
+    ∙ ap (filter (λ t. is_some_list (gossip (peer_with s.setup) s.trace t))) (c.as_slice-topic-items.ensures.value ∙ c.in_ok-all.ensures s.trace c.requires.agrees.mesh_topics)

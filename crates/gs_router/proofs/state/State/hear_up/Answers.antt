@@ -4,15 +4,18 @@ use Rattle.std.specs.declared.alloc.AllocError.{AllocError}
 use Rattle.gs_base.specs.declared.names.PeerNo.{PeerNo}
 use Rattle.gs_base.specs.declared.control.IHave.{IHave}
 use Rattle.gs_base.specs.declared.control.IWant.{IWant}
+use Rattle.gs_base.specs.declared.control.Graft.{Graft}
+use Rattle.gs_base.specs.declared.control.Prune.{Prune}
 use Rattle.gs_base.specs.declared.rpc.SubOpt.{SubOpt}
 use Rattle.gs_base.specs.declared.rpc.Message.{Message}
 use Rattle.gs_base.specs.declared.rpc.Rpc.{Rpc}
 use Rattle.gs_rules.specs.declared.trace.Event.{Event}
-use Rattle.gs_rules.specs.declared.trace.Event.TheVariants.{Heard, Sub, Msg, Have, Want}
-use Rattle.gs_rules.specs.Owed.{offers_in, requests_in}
+use Rattle.gs_rules.specs.declared.trace.Event.TheVariants.{Heard, Sub, Msg, Have, Want, GraftIn, PruneIn}
+use Rattle.gs_rules.specs.Owed.{grafts_in, offers_in, prunes_in, requests_in}
 use Rattle.gs_rules.specs.Modes.{exact}
 use Rattle.gs_rules.proofs.Legality.{exact_is_free}
 use Rattle.gs_router.specs.State.{Steps}
+use Rattle.gs_router.proofs.Parts.{behind_grafts, behind_messages, behind_offers, behind_requests, behind_subs}
 use Rattle.gs_router.proofs.Steps.{Paying, hears_first, next_left, pays_next, stops}
 use Rattle.gs_router.proofs.state.State.hear_up.Goals as goal
 
@@ -21,16 +24,6 @@ returns-in_err-heard g c = stops (exact g.W.Words.word g.W.Words.after) (exact_i
 
 pub returns-in_err-step : goal.returns-in_err-step
 returns-in_err-step g c = stops (exact g.W.Words.word g.W.Words.after) (exact_is_free g.W.Words.word g.W.Words.after) (Heard c.args.from c.args.rpc) c.args.now c.args.self.now c.step.new.self c.args.words.now c.step.new.words c.from_residual-in_err-step.result c.from_residual-in_err-step.ensures.0 c.requires.ready.current c.in_err-step.ensures.kept c.in_err-step.ensures.setup
-
--- the parts behind the subscriptions, behind the messages and behind the offers
-abbrev behind_subs : PeerNo → Rpc → List Event
-behind_subs q rpc = map (Msg q) rpc.publish ++ (map (Have q) (offers_in rpc.control) ++ map (Want q) (requests_in rpc.control))
-
-abbrev behind_messages : PeerNo → Rpc → List Event
-behind_messages q rpc = map (Have q) (offers_in rpc.control) ++ map (Want q) (requests_in rpc.control)
-
-abbrev behind_offers : PeerNo → Rpc → List Event
-behind_offers q rpc = map (Want q) (requests_in rpc.control)
 
 pub loop-sub-init : goal.loop-sub-init
 loop-sub-init g c =
@@ -72,8 +65,26 @@ loop-request-preserved g c =
     let event : Event = Heard c.args.from c.args.rpc in
     let requests : List IWant = c.requests_in-request-items.result.now in
     let here = next_left requests c.loop-request.request-index c.request-item.result c.loop-request-test.true c.request-item.is in
-    let due = subst (λ (left : List IWant). Paying m c.args.now event c.args.self.now c.args.words.now c.loop-request.self c.loop-request.words (map (Want c.args.from) left)) here c.loop-request.invariant in
-    pays_next m c.args.now event (Want c.args.from c.request-item.result) (map (Want c.args.from) (drop (c.loop-request.request-index + 1) requests)) c.args.self.now c.loop-request.self c.hear_request.new.self c.args.words.now c.loop-request.words c.hear_request.new.words c.in_ok-hear_request.field-0 due refl c.in_ok-hear_request.ensures
+    let due = subst (λ (left : List IWant). Paying m c.args.now event c.args.self.now c.args.words.now c.loop-request.self c.loop-request.words (map (Want c.args.from) left ++ behind_requests c.args.from c.args.rpc)) here c.loop-request.invariant in
+    pays_next m c.args.now event (Want c.args.from c.request-item.result) (map (Want c.args.from) (drop (c.loop-request.request-index + 1) requests) ++ behind_requests c.args.from c.args.rpc) c.args.self.now c.loop-request.self c.hear_request.new.self c.args.words.now c.loop-request.words c.hear_request.new.words c.in_ok-hear_request.field-0 due refl c.in_ok-hear_request.ensures
+
+pub loop-graft-preserved : goal.loop-graft-preserved
+loop-graft-preserved g c =
+    let m = exact g.W.Words.word g.W.Words.after in
+    let event : Event = Heard c.args.from c.args.rpc in
+    let grafts : List Graft = c.grafts_in-graft-items.result.now in
+    let here = next_left grafts c.loop-graft.graft-index c.graft-item.result c.loop-graft-test.true c.graft-item.is in
+    let due = subst (λ (left : List Graft). Paying m c.args.now event c.args.self.now c.args.words.now c.loop-graft.self c.loop-graft.words (map (GraftIn c.args.from) left ++ behind_grafts c.args.from c.args.rpc)) here c.loop-graft.invariant in
+    pays_next m c.args.now event (GraftIn c.args.from c.graft-item.result) (map (GraftIn c.args.from) (drop (c.loop-graft.graft-index + 1) grafts) ++ behind_grafts c.args.from c.args.rpc) c.args.self.now c.loop-graft.self c.hear_graft.new.self c.args.words.now c.loop-graft.words c.hear_graft.new.words c.in_ok-hear_graft.field-0 due refl c.in_ok-hear_graft.ensures
+
+pub loop-prune-preserved : goal.loop-prune-preserved
+loop-prune-preserved g c =
+    let m = exact g.W.Words.word g.W.Words.after in
+    let event : Event = Heard c.args.from c.args.rpc in
+    let prunes : List Prune = c.prunes_in-prune-items.result.now in
+    let here = next_left prunes c.loop-prune.prune-index c.prune-item.result c.loop-prune-test.true c.prune-item.is in
+    let due = subst (λ (left : List Prune). Paying m c.args.now event c.args.self.now c.args.words.now c.loop-prune.self c.loop-prune.words (map (PruneIn c.args.from) left)) here c.loop-prune.invariant in
+    pays_next m c.args.now event (PruneIn c.args.from c.prune-item.result) (map (PruneIn c.args.from) (drop (c.loop-prune.prune-index + 1) prunes)) c.args.self.now c.loop-prune.self c.hear_prune.new.self c.args.words.now c.loop-prune.words c.hear_prune.new.words c.in_ok-hear_prune.field-0 due refl c.in_ok-hear_prune.ensures
 
 pub loop-offer-init : goal.loop-offer-init
 loop-offer-init g c =
@@ -93,4 +104,24 @@ loop-request-init g c =
     let none = drop_all c.loop-offer.offer-index offers (omega (arith, c.loop-offer-test.false)) in
     let items = c.requests_in-request-items.ensures ∙ ap (λ (rpc : Rpc). requests_in rpc.control) c.get-parts.ensures in
     let due = subst (λ (left : List IHave). Paying m c.args.now event c.args.self.now c.args.words.now c.loop-offer.self c.loop-offer.words (map (Have c.args.from) left ++ behind_offers c.args.from c.args.rpc)) none c.loop-offer.invariant in
-    subst (λ (requests : List IWant). Paying m c.args.now event c.args.self.now c.args.words.now c.loop-offer.self c.loop-offer.words (map (Want c.args.from) requests)) (sym items) due
+    subst (λ (requests : List IWant). Paying m c.args.now event c.args.self.now c.args.words.now c.loop-offer.self c.loop-offer.words (map (Want c.args.from) requests ++ behind_requests c.args.from c.args.rpc)) (sym items) due
+
+pub loop-graft-init : goal.loop-graft-init
+loop-graft-init g c =
+    let m = exact g.W.Words.word g.W.Words.after in
+    let event : Event = Heard c.args.from c.args.rpc in
+    let requests : List IWant = c.requests_in-request-items.result.now in
+    let none = drop_all c.loop-request.request-index requests (omega (arith, c.loop-request-test.false)) in
+    let items = c.grafts_in-graft-items.ensures ∙ ap (λ (rpc : Rpc). grafts_in rpc.control) c.get-parts.ensures in
+    let due = subst (λ (left : List IWant). Paying m c.args.now event c.args.self.now c.args.words.now c.loop-request.self c.loop-request.words (map (Want c.args.from) left ++ behind_requests c.args.from c.args.rpc)) none c.loop-request.invariant in
+    subst (λ (grafts : List Graft). Paying m c.args.now event c.args.self.now c.args.words.now c.loop-request.self c.loop-request.words (map (GraftIn c.args.from) grafts ++ behind_grafts c.args.from c.args.rpc)) (sym items) due
+
+pub loop-prune-init : goal.loop-prune-init
+loop-prune-init g c =
+    let m = exact g.W.Words.word g.W.Words.after in
+    let event : Event = Heard c.args.from c.args.rpc in
+    let grafts : List Graft = c.grafts_in-graft-items.result.now in
+    let none = drop_all c.loop-graft.graft-index grafts (omega (arith, c.loop-graft-test.false)) in
+    let items = c.prunes_in-prune-items.ensures ∙ ap (λ (rpc : Rpc). prunes_in rpc.control) c.get-parts.ensures in
+    let due = subst (λ (left : List Graft). Paying m c.args.now event c.args.self.now c.args.words.now c.loop-graft.self c.loop-graft.words (map (GraftIn c.args.from) left ++ behind_grafts c.args.from c.args.rpc)) none c.loop-graft.invariant in
+    subst (λ (prunes : List Prune). Paying m c.args.now event c.args.self.now c.args.words.now c.loop-graft.self c.loop-graft.words (map (PruneIn c.args.from) prunes)) (sym items) due

@@ -1,9 +1,9 @@
-use Rattle.std.proofs.Common.{arith}
-use Rattle.std.proofs.lemmas.List.{drop_all}
+use Rattle.std.proofs.Common.{◌∙◌, List, subst, sym}
+use Rattle.gs_base.specs.declared.mark.Mark.{Mark}
+use Rattle.gs_router.specs.Tables.{PassesOn}
 use Rattle.gs_router.proofs.Sighting.{noted_all}
 use Rattle.gs_router.proofs.tables.sightings.Sightings.note.Goals as goal
 
 pub returns-clause-agrees : goal.returns-clause-agrees
 returns-clause-agrees c = λ L.
-    let marks = c.as_slice-mark-items.result.now in
-    noted_all c.args.self.now c.loop-mark.self c.args.entry.now L marks _ c.as_slice-mark-items.ensures (drop_all c.loop-mark.mark-index marks (omega (arith, c.loop-mark-test.false))) c.loop-mark.invariant
+    noted_all c.args.self.now c.note_sightings.new.self c.note_neighbours.new.self c.args.entry.now L c.as_slice.result.now c.as_slice.ensures c.in_ok-note_sightings.ensures (subst (λ (marks : List Mark). PassesOn marks c.note_sightings.new.self c.note_neighbours.new.self) (c.as_slice-2.ensures ∙ sym c.as_slice.ensures) c.in_ok-note_neighbours.ensures)

@@ -5,7 +5,7 @@ use Rattle.gs_router.proofs.Standing.{Counting, counts_more}
 use Rattle.gs_router.proofs.tables.standings.Standings.note_marks.Goals as goal
 
 pub loop-mark-preserved : goal.loop-mark-preserved
-loop-mark-preserved c = counts_more c.args.marks.now c.loop-mark.mark-index c.mark-item.result c.args.self.now c.loop-mark.self c.note_mark.new.self c.loop-mark-test.true c.mark-item.is c.in_ok-note_mark.ensures c.loop-mark.invariant
+loop-mark-preserved c = counts_more c.args.at c.args.marks.now c.loop-mark.mark-index c.mark-item.result c.args.self.now c.loop-mark.self c.note_mark.new.self c.loop-mark-test.true c.mark-item.is c.in_ok-note_mark.ensures c.loop-mark.invariant
 
 pub returns : goal.returns
-returns c = subst (λ (marks : List Mark). Counting marks c.args.self.now c.loop-mark.self) (take_all c.loop-mark.mark-index c.args.marks.now (omega (arith, c.loop-mark-test.false))) c.loop-mark.invariant
+returns c = subst (λ (marks : List Mark). Counting c.args.at marks c.args.self.now c.loop-mark.self) (take_all c.loop-mark.mark-index c.args.marks.now (omega (arith, c.loop-mark-test.false))) c.loop-mark.invariant

@@ -3,4 +3,4 @@ use Rattle.gs_router.proofs.Standing.{Counting}
 use Rattle.gs_router.proofs.tables.standings.Standings.note_marks.Given as goal
 
 abbrev pub invariant-loop-mark : goal.invariant-loop-mark
-invariant-loop-mark l = Counting (take l.mark-index l.marks) l.fn.self l.self
+invariant-loop-mark l = Counting l.fn.at (take l.mark-index l.marks) l.fn.self l.self

@@ -1,0 +1,34 @@
+-- What a router does about what neighbours say of their meshes.
+use Rattle.std.specs.Prelude.{Bool, if◌then◌else◌, List, [], ◌∷◌}
+use Rattle.gs_base.specs.declared.names.PeerNo.{PeerNo}
+use Rattle.gs_base.specs.declared.names.Topic.{Topic}
+use Rattle.gs_base.specs.declared.names.Millis.{Millis}
+use Rattle.gs_base.specs.declared.mark.Mark.{Mark}
+use Rattle.gs_base.specs.declared.control.Graft.{Graft}
+use Rattle.gs_base.specs.declared.mark.Mark.TheVariants.{Behaviour, Published}
+use Rattle.gs_base.specs.Names.{topic_or_empty}
+use Rattle.gs_rules.specs.declared.trace.Event.TheVariants.{GraftIn}
+use Rattle.gs_rules.specs.declared.trace.Entry.{Entry}
+use Rattle.gs_rules.specs.Peers.{Peer}
+use Rattle.gs_rules.specs.Membership.{each_on, entering}
+use Rattle.gs_rules.specs.MeshRules.{refusing}
+use Rattle.gs_rules.specs.Rules.{bare}
+use Rattle.gs_router.specs.declared.rules.grafts.GraftAnswer.{GraftAnswer}
+use Rattle.gs_router.specs.declared.rules.grafts.GraftAnswer.TheVariants.{PassedOver, TooSoon, Refused, Accepted}
+
+-- the entry of a GRAFT whose sender comes into the mesh
+abbrev pub accepting : Millis → PeerNo → Graft → Entry
+accepting at q graft = record (bare at (GraftIn q graft)) {
+  marks = entering (each_on (topic_or_empty graft.topic) (q ∷ []));
+}
+
+-- the entry of a GRAFT of which this becomes
+abbrev pub answered : Peer → Millis → PeerNo → Graft → GraftAnswer → Entry
+answered p at q graft PassedOver = bare at (GraftIn q graft)
+answered p at q graft TooSoon = refusing p at q graft (Behaviour q ∷ [])
+answered p at q graft Refused = refusing p at q graft []
+answered p at q graft Accepted = accepting at q graft
+
+-- whether what is published keeps a fanout of its topic
+abbrev pub kept_fanout : Bool → Topic → List Mark
+kept_fanout keeps t = if keeps then Published t ∷ [] else []

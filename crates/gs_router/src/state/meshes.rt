@@ -1,0 +1,41 @@
+//! Who is in a router's meshes.
+ghost use Rattle.std.specs.Prelude.{◌≡◌, ◌++◌, IfOk, OnOk, map};
+ghost use Rattle.gs_base.specs.declared.names.PeerNo.{PeerNo as PeerNoValue};
+ghost use Rattle.gs_rules.specs.Tables.{Entries};
+ghost use Rattle.gs_rules.specs.Meshes.{mesh};
+ghost use Rattle.gs_router.specs.Tables.{Agrees};
+ghost use Rattle.gs_router.specs.Router.{meshes_of};
+
+use crate::state::State;
+use gs_base::{PeerNo, Seq, Topic, clone_of};
+use std::alloc::AllocError;
+
+impl State {
+    /// The members of the meshes of the router's own topics, topics by their bytes, members by number.
+    pub fn meshes(&self) -> Result<Seq<(Topic, PeerNo)>, AllocError>
+        ensures { IfOk result (λ meshes. (L : Entries) → Agrees self.now.tables L → meshes ≡ meshes_of L) }
+    {
+        let topics = self.tables.topics.joined(self.alloc)?;
+        let mut meshes = Seq::new(self.alloc);
+        for topic in topics.as_slice() {
+            self.list_members(&mut meshes, topic)?;
+        }
+        Ok(meshes)
+    }
+
+    /// Adds the members of the mesh of a topic.
+    fn list_members(
+        &self,
+        meshes: &mut Seq<(Topic, PeerNo)>,
+        topic: &Topic,
+    ) -> Result<(), AllocError>
+        ensures { OnOk result ((L : Entries)
+            → Agrees self.now.tables L
+            → meshes.new ≡ meshes.old ++ map (λ (q : PeerNoValue). (topic.now, q)) (mesh L topic.now)) }
+    {
+        for member in self.tables.memberships.members(topic) {
+            meshes.push((clone_of(topic)?, *member))?;
+        }
+        Ok(())
+    }
+}

@@ -1,0 +1,154 @@
+//! Who is in which mesh and fanout, and who is not to be grafted yet.
+ghost use Rattle.std.specs.Prelude.{◌≡◌, ℕ, List, [], ◌∷◌, None, OnOk, Option};
+ghost use Rattle.gs_base.specs.declared.names.PeerNo.{PeerNo as PeerNoValue};
+ghost use Rattle.gs_base.specs.declared.names.Topic.{Topic as TopicValue};
+ghost use Rattle.gs_mesh.specs.Peers.{is_among};
+ghost use Rattle.gs_rules.specs.Tables.{Entries, after_marks};
+ghost use Rattle.gs_rules.specs.Meshes.{backoff, backoff_after, dropped_after, fanout, fanout_after, mesh, mesh_after, published_after};
+ghost use Rattle.gs_router.specs.Tables.{AgreesOnMeshes, HasMeshes};
+
+use gs_base::{Mark, Millis, PeerNo, Topic};
+use gs_mesh::Meshes;
+use gs_rules::{Entry, Event};
+use std::alloc::{AllocError, Global};
+
+/// Who is in the mesh and in the fanout of each topic, when the router last published on it without being subscribed,
+/// and who is not to be grafted yet.
+#[derive(Drop)]
+pub struct Memberships {
+    meshes: Meshes,
+}
+
+impl Memberships {
+    /// Nobody is in any mesh or fanout.
+    pub fn new(alloc: Global) -> Memberships
+        ensures { AgreesOnMeshes result [] }
+    {
+        Memberships {
+            meshes: Meshes::new(alloc),
+        }
+    }
+
+    /// Who is in the mesh of a topic, ascending by number.
+    pub fn members(&self, topic: &Topic) -> &[PeerNo]
+        ensures { (L : Entries) → AgreesOnMeshes self.now L → result.now ≡ mesh L topic.now }
+    {
+        self.meshes.members(topic)
+    }
+
+    /// Who is in the fanout of a topic, ascending by number.
+    pub fn fanout(&self, topic: &Topic) -> &[PeerNo]
+        ensures { (L : Entries) → AgreesOnMeshes self.now L → result.now ≡ fanout L topic.now }
+    {
+        self.meshes.fanout(topic)
+    }
+
+    /// Whether a neighbour is in the mesh of a topic.
+    pub fn is_member(&self, peer: PeerNo, topic: &Topic) -> bool
+        ensures { (L : Entries) → AgreesOnMeshes self.now L → result ≡ is_among (mesh L topic.now) peer }
+    {
+        self.members(topic).contains(&peer)
+    }
+
+    /// Whether a neighbour is in the fanout of a topic.
+    pub fn is_fanned(&self, peer: PeerNo, topic: &Topic) -> bool
+        ensures { (L : Entries) → AgreesOnMeshes self.now L → result ≡ is_among (fanout L topic.now) peer }
+    {
+        self.fanout(topic).contains(&peer)
+    }
+
+    /// Before which moment a neighbour is not to be in the mesh of a topic: 0 where it always may.
+    pub fn backoff_until(&self, peer: PeerNo, topic: &Topic) -> Millis
+        ensures { (L : Entries) → AgreesOnMeshes self.now L → result.0 ≡ backoff L peer topic.now }
+    {
+        self.meshes.backoff_until(peer, topic)
+    }
+
+    /// Notes an entry.
+    ///
+    /// # Errors
+    /// `AllocError` where there was no memory; some of its marks may then have been noted.
+    pub fn note(&mut self, entry: &Entry) -> Result<(), AllocError>
+        ensures { OnOk result ((L : Entries) → AgreesOnMeshes self.old L → AgreesOnMeshes self.new (entry.now ∷ L)) }
+    {
+        self.note_event(&entry.event);
+        self.note_marks(entry.marks.as_slice(), entry.at)?;
+        Ok(())
+    }
+
+    /// Notes that an event came: a subscription ends the fanout of its topic. It takes no memory.
+    fn note_event(&mut self, event: &Event)
+        ensures { (members fans : TopicValue → List PeerNoValue)
+            (publishes : TopicValue → Option ℕ)
+            (bars : PeerNoValue → TopicValue → ℕ)
+            → HasMeshes self.old members fans publishes bars
+            → HasMeshes self.new members
+            (λ t. dropped_after t [] event.now (fans t))
+            (λ t. dropped_after t None event.now (publishes t))
+            bars }
+    {
+        match event {
+            Event::Subscribe(topic) => self.meshes.drop_fanout(topic),
+            _ => {}
+        }
+    }
+
+    /// Notes marks that were made at a moment, one after the other.
+    fn note_marks(&mut self, marks: &[Mark], at: Millis) -> Result<(), AllocError>
+        ensures { OnOk result ((members fans : TopicValue → List PeerNoValue)
+            (publishes : TopicValue → Option ℕ)
+            (bars : PeerNoValue → TopicValue → ℕ)
+            → HasMeshes self.old members fans publishes bars
+            → HasMeshes self.new
+            (λ t. after_marks (mesh_after t) marks.now (members t))
+            (λ t. after_marks (fanout_after t) marks.now (fans t))
+            (λ t. after_marks (published_after t at.0) marks.now (publishes t))
+            (λ q t. after_marks (backoff_after q t) marks.now (bars q t))) }
+    {
+        for mark in marks {
+            self.note_mark(mark, at)?;
+        }
+        Ok(())
+    }
+
+    /// Notes a mark that was made at a moment.
+    fn note_mark(&mut self, mark: &Mark, at: Millis) -> Result<(), AllocError>
+        ensures { OnOk result ((members fans : TopicValue → List PeerNoValue)
+            (publishes : TopicValue → Option ℕ)
+            (bars : PeerNoValue → TopicValue → ℕ)
+            → HasMeshes self.old members fans publishes bars
+            → HasMeshes self.new
+            (λ t. mesh_after t mark.now (members t))
+            (λ t. fanout_after t mark.now (fans t))
+            (λ t. published_after t at.0 mark.now (publishes t))
+            (λ q t. backoff_after q t mark.now (bars q t))) }
+    {
+        match mark {
+            Mark::Grafted(peer, topic) => {
+                self.meshes.graft(*peer, topic)?;
+                Ok(())
+            }
+            Mark::Pruned(peer, topic) => {
+                let _was_in = self.meshes.prune(*peer, topic);
+                Ok(())
+            }
+            Mark::Fanned(peer, topic) => {
+                self.meshes.fan(*peer, topic)?;
+                Ok(())
+            }
+            Mark::Unfanned(peer, topic) => {
+                let _was_in = self.meshes.unfan(*peer, topic);
+                Ok(())
+            }
+            Mark::Backoff(peer, topic, end) => {
+                self.meshes.note_backoff(*peer, topic, *end)?;
+                Ok(())
+            }
+            Mark::Published(topic) => {
+                self.meshes.publish_at(topic, at)?;
+                Ok(())
+            }
+            _ => Ok(()),
+        }
+    }
+}

@@ -1,0 +1,156 @@
+//! The topics that have a mesh or a fanout.
+ghost use Rattle.std.specs.Prelude.{◌≡◌, Bool, [], ◌∷◌, IfOk, OnOk, if◌then◌else◌};
+ghost use Rattle.gs_base.specs.Names.{same_topic};
+ghost use Rattle.gs_base.specs.declared.names.Topic.{Topic as TopicValue};
+ghost use Rattle.gs_rules.specs.Tables.{Entries, after_marks, joined_after};
+ghost use Rattle.gs_rules.specs.Meshes.{mesh_topics};
+ghost use Rattle.gs_router.specs.Tables.{AgreesOnMeshTopics, HasTopics, dropped_by, fanned_by, uses_in};
+
+use gs_base::{Mark, Topic, clone_of};
+use gs_rules::{Entry, Event};
+use std::alloc::{AllocError, Global};
+use std::collections::BTreeMap;
+
+/// What a topic has.
+#[derive(Clone, Copy, Debug, PartialEq, Eq)]
+pub struct Uses {
+    /// A mesh: the router is subscribed to it.
+    pub has_mesh: bool,
+    /// A fanout: the router published on it without being subscribed.
+    pub has_fanout: bool,
+}
+
+/// The topics that have or had a mesh or a fanout, in the order of their bytes.
+#[derive(Drop)]
+pub struct MeshTopics {
+    topics: BTreeMap<Topic, Uses>,
+}
+
+impl MeshTopics {
+    /// No topics.
+    pub fn new(alloc: Global) -> MeshTopics
+        ensures { AgreesOnMeshTopics result [] }
+    {
+        MeshTopics {
+            topics: BTreeMap::new(alloc),
+        }
+    }
+
+    /// The topics that have a mesh or a fanout, in the order of their bytes.
+    ///
+    /// # Errors
+    /// `AllocError` where there was no memory.
+    pub fn list(&self, alloc: Global) -> Result<Vec<Topic>, AllocError>
+        ensures { IfOk result (λ list. (L : Entries) → AgreesOnMeshTopics self.now L → list.items ≡ mesh_topics L) }
+    {
+        let mut list = Vec::new(alloc);
+        for (topic, uses) in &self.topics {
+            if uses.has_mesh || uses.has_fanout {
+                list.push(clone_of(topic)?)?;
+            }
+        }
+        Ok(list)
+    }
+
+    /// Notes an entry.
+    ///
+    /// # Errors
+    /// `AllocError` where there was no memory; some of it may then have been noted.
+    pub fn note(&mut self, entry: &Entry) -> Result<(), AllocError>
+        ensures { OnOk result ((L : Entries)
+            → AgreesOnMeshTopics self.old L
+            → AgreesOnMeshTopics self.new (entry.now ∷ L)) }
+    {
+        self.note_event(&entry.event)?;
+        self.note_marks(entry.marks.as_slice())?;
+        Ok(())
+    }
+
+    /// Notes that an event came.
+    fn note_event(&mut self, event: &Event) -> Result<(), AllocError>
+        ensures { OnOk result ((meshes fanouts : TopicValue → Bool)
+            → HasTopics self.old meshes fanouts
+            → HasTopics self.new (λ t. joined_after t event.now (meshes t)) (λ t. dropped_by t event.now (fanouts t))) }
+    {
+        match event {
+            Event::Subscribe(topic) => {
+                self.put(
+                    topic,
+                    Uses {
+                        has_mesh: true,
+                        has_fanout: false,
+                    },
+                )?;
+                Ok(())
+            }
+            Event::Unsubscribe(topic) => {
+                let has_fanout = self.uses(topic).has_fanout;
+                self.put(
+                    topic,
+                    Uses {
+                        has_mesh: false,
+                        has_fanout,
+                    },
+                )?;
+                Ok(())
+            }
+            _ => Ok(()),
+        }
+    }
+
+    /// Notes marks, one after the other.
+    fn note_marks(&mut self, marks: &[Mark]) -> Result<(), AllocError>
+        ensures { OnOk result ((meshes fanouts : TopicValue → Bool)
+            → HasTopics self.old meshes fanouts
+            → HasTopics self.new meshes (λ t. after_marks (fanned_by t) marks.now (fanouts t))) }
+    {
+        for mark in marks {
+            self.note_mark(mark)?;
+        }
+        Ok(())
+    }
+
+    /// Notes a mark.
+    fn note_mark(&mut self, mark: &Mark) -> Result<(), AllocError>
+        ensures { OnOk result ((meshes fanouts : TopicValue → Bool)
+            → HasTopics self.old meshes fanouts
+            → HasTopics self.new meshes (λ t. fanned_by t mark.now (fanouts t))) }
+    {
+        match mark {
+            Mark::Published(topic) => {
+                let has_mesh = self.uses(topic).has_mesh;
+                self.put(
+                    topic,
+                    Uses {
+                        has_mesh,
+                        has_fanout: true,
+                    },
+                )?;
+                Ok(())
+            }
+            _ => Ok(()),
+        }
+    }
+
+    /// What a topic has.
+    fn uses(&self, topic: &Topic) -> Uses
+        ensures { result ≡ uses_in self.now topic.now }
+    {
+        match self.topics.get(topic) {
+            Some(uses) => *uses,
+            None => Uses {
+                has_mesh: false,
+                has_fanout: false,
+            },
+        }
+    }
+
+    /// Puts what a topic has.
+    fn put(&mut self, topic: &Topic, uses: Uses) -> Result<(), AllocError>
+        ensures { OnOk result ((t : TopicValue)
+            → uses_in self.new t ≡ (if same_topic topic.now t then uses else uses_in self.old t)) }
+    {
+        self.topics.insert(clone_of(topic)?, uses)?;
+        Ok(())
+    }
+}

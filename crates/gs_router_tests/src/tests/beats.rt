@@ -1,0 +1,319 @@
+//! Heartbeats: which promises are broken, what is kept, and who is told what, moment by moment.
+
+ghost use Rattle.std.specs.Prelude.{◌≤◌, ◌^◌, unsigned_abs, All, IfOk};
+ghost use Rattle.gs_base.specs.Names.{peers_of};
+ghost use Rattle.gs_base.specs.declared.neighbour.Neighbour.{Neighbour as NeighbourValue};
+ghost use Rattle.gs_params.specs.Picks.{IsAscending};
+
+use crate::tests::beat_cases::{
+    BROKEN_PROMISES, Deed, EIGHT_LISTENERS, EIGHT_WORDS, FORTY_LISTENERS, FORTY_WORDS,
+    IDENTIFIERS_ANEW, KEEPING, KEPT_PROMISES, Moment, OFFERS_ANEW, READINGS, Reading, SHUT_DOWN,
+    Seen, TEN_PROMISES, TOPICS_IN_ORDER,
+};
+use crate::tests::gossip::{tell, topic_of};
+use crate::tests::gossip_cases::{Act, Id};
+use crate::tests::sights::is_seen;
+use crate::tests::{checked, hear, is_due, neighbour, router_with, words};
+use bytes::Bytes;
+use gs_base::{Millis, Neighbour, PeerNo, Rpc, Seq};
+use gs_params::{Params, SeededWords, TopicParams};
+use gs_router::{Router, RouterFault};
+use std::alloc::{AllocError, Global};
+use std::ops::Range;
+
+// ---- what is done
+
+/// The number of an answer; 0 where nothing was refused.
+fn number_of(answer: Result<(), RouterFault>) -> u8 {
+    match answer {
+        Ok(()) => 0,
+        Err(fault) => fault.number(),
+    }
+}
+
+/// Has a neighbour subscribe to a topic or leave it.
+fn turn(
+    alloc: Global,
+    router: &mut Router,
+    at: u64,
+    from: u16,
+    rpc: &Rpc,
+) -> Result<u8, AllocError> {
+    if !is_due(router.trace(), Millis(at)) {
+        return Ok(u8::MAX);
+    }
+    let words = &mut words(alloc);
+    let answer = hear(alloc, router, PeerNo(from), rpc, Millis(at), words)?;
+    Ok(number_of(answer))
+}
+
+/// Has some neighbours subscribe to a topic or leave it.
+fn turn_each(
+    alloc: Global,
+    router: &mut Router,
+    at: u64,
+    from: Range<u16>,
+    rpc: &Rpc,
+) -> Result<u8, AllocError> {
+    for number in from {
+        if turn(alloc, router, at, number, rpc)? != 0 {
+            return Ok(u8::MAX);
+        }
+    }
+    Ok(0)
+}
+
+/// Has a neighbour tell a router this; whether it was heard.
+fn hears(
+    alloc: Global,
+    router: &mut Router,
+    at: u64,
+    act: Act<'_>,
+    words: &mut SeededWords,
+) -> Result<u8, AllocError> {
+    let is_heard = tell(alloc, router, at, act, words)?;
+    Ok(if is_heard { 0 } else { u8::MAX })
+}
+
+/// Has neighbours say this to a router.
+fn say(
+    alloc: Global,
+    router: &mut Router,
+    at: u64,
+    deed: Deed<'_>,
+    words: &mut SeededWords,
+) -> Result<u8, AllocError> {
+    match deed {
+        Deed::Message(from, payload) => {
+            hears(alloc, router, at, Act::Message(from, payload), words)
+        }
+        Deed::Offer(from, payload) => {
+            let ids = &[Id::Of(payload)];
+            hears(alloc, router, at, Act::Offer(from, "a", ids), words)
+        }
+        Deed::Request(from, ids) => hears(alloc, router, at, Act::Request(from, ids), words),
+        Deed::On(first, end, name) => {
+            let rpc = Rpc::announcement(alloc, true, &topic_of(alloc, name)?)?;
+            turn_each(alloc, router, at, first..end, &rpc)
+        }
+        Deed::Off(first, end, name) => {
+            let rpc = Rpc::announcement(alloc, false, &topic_of(alloc, name)?)?;
+            turn_each(alloc, router, at, first..end, &rpc)
+        }
+        _ => Ok(u8::MAX),
+    }
+}
+
+/// Has a router do this, by these words; the number with which it is refused, 0 where it isn't.
+pub fn live(
+    alloc: Global,
+    router: &mut Router,
+    at: u64,
+    deed: Deed<'_>,
+    words: &mut SeededWords,
+) -> Result<u8, AllocError> {
+    let now = Millis(at);
+    if !is_due(router.trace(), now) {
+        return Ok(u8::MAX);
+    }
+    let answer = match deed {
+        Deed::Join(name) => router.subscribe(topic_of(alloc, name)?, now, words),
+        Deed::Leave(name) => router.unsubscribe(topic_of(alloc, name)?, now, words),
+        Deed::Publish(name, payload) => {
+            let payload = Bytes::copy_from_slice(alloc, &[payload])?;
+            router.publish(topic_of(alloc, name)?, payload, now, words)
+        }
+        Deed::Gone(peer) => router.gone(PeerNo(peer), now, words),
+        Deed::Beat => router.heartbeat(now, words),
+        Deed::Decay => router.decay(now, words),
+        Deed::Shut => router.shut(now, words),
+        said => return say(alloc, router, at, said, words),
+    };
+    Ok(number_of(answer))
+}
+
+// ---- moment by moment
+
+/// Whether this is seen of a router at this moment.
+fn is_right(
+    alloc: Global,
+    router: &mut Router,
+    moment: Moment<'_>,
+    words: &mut SeededWords,
+) -> Result<bool, AllocError> {
+    let (at, deed, seen) = moment;
+    let before = router.trace().entries().len();
+    let number = live(alloc, router, at, deed, words)?;
+    Ok(is_seen(router, before, number, seen))
+}
+
+/// The place of the first moment at which something else is seen of a router; the number of moments where there is none.
+fn first_wrong(
+    alloc: Global,
+    router: &mut Router,
+    moments: &[Moment<'_>],
+    words: &mut SeededWords,
+) -> Result<usize, AllocError> {
+    for (place, moment) in moments.iter().enumerate() {
+        if !is_right(alloc, router, *moment, words)? {
+            return Ok(place);
+        }
+    }
+    Ok(moments.len())
+}
+
+/// The place of the first moment at which something else is seen of a router with these parameters and neighbours 1 to
+/// this number, which chooses by these words.
+fn first_wrong_of(
+    alloc: Global,
+    params: Params,
+    count: u16,
+    list: &[u32],
+    moments: &[Moment<'_>],
+) -> Result<usize, AllocError> {
+    let mut words = SeededWords::new(list.to_vec(alloc)?, 1, PeerNo(0));
+    let mut router = Router::new(alloc, checked(params)?, neighbours(alloc, count)?)?;
+    first_wrong(alloc, &mut router, moments, &mut words)
+}
+
+/// Neighbours 1 to this number.
+fn neighbours(alloc: Global, count: u16) -> Result<Vec<Neighbour>, AllocError>
+    ensures ascending { IfOk result (λ list. IsAscending (peers_of list.items)) }
+    ensures apps { IfOk result (λ list. All (λ (n : NeighbourValue). unsigned_abs n.app ≤ 10 ^ 12) list.items) }
+{
+    let mut list = Vec::new(alloc);
+    for below in 0..count {
+        let one = neighbour(alloc, below + 1)?;
+        list.push(one)?;
+    }
+    Ok(list)
+}
+
+/// The same of a router with neighbours 1 and 2 and the parameters where nothing is said.
+fn first_wrong_of_two(alloc: Global, moments: &[Moment<'_>]) -> Result<usize, AllocError> {
+    first_wrong_of(alloc, Params::new(alloc), 2, &[], moments)
+}
+
+// ---- promises and budgets
+
+#[test]
+fn a_promise_of_which_nothing_comes_is_broken_once(rt: HostRuntime) -> Result<(), AllocError> {
+    assert_eq!(rt; first_wrong_of_two(rt.alloc(), &TEN_PROMISES)?, 28);
+    Ok(())
+}
+
+/// On `a` what begins with `ff` is to reject, and with `fe` to ignore.
+fn judging(alloc: Global) -> Result<Params, AllocError> {
+    let mut judges = TopicParams::new(alloc);
+    judges.reject = Seq::only(alloc, Bytes::copy_from_slice(alloc, &[0xff])?)?;
+    judges.ignore = Seq::only(alloc, Bytes::copy_from_slice(alloc, &[0xfe])?)?;
+    let mut params = Params::new(alloc);
+    params.topics.push((topic_of(alloc, "a")?, judges))?;
+    Ok(params)
+}
+
+#[test]
+fn a_promise_is_kept_by_whatever_is_seen(rt: HostRuntime) -> Result<(), AllocError> {
+    let alloc = rt.alloc();
+    let params = judging(alloc)?;
+    assert_eq!(rt; first_wrong_of(alloc, params, 2, &[], &KEPT_PROMISES)?, 16);
+    Ok(())
+}
+
+#[test]
+fn each_broken_promise_counts(rt: HostRuntime) -> Result<(), AllocError> {
+    assert_eq!(rt; first_wrong_of_two(rt.alloc(), &BROKEN_PROMISES)?, 8);
+    Ok(())
+}
+
+#[test]
+fn offers_count_anew_behind_a_heartbeat(rt: HostRuntime) -> Result<(), AllocError> {
+    assert_eq!(rt; first_wrong_of_two(rt.alloc(), &OFFERS_ANEW)?, 14);
+    Ok(())
+}
+
+#[test]
+fn identifiers_count_anew_behind_a_heartbeat(rt: HostRuntime) -> Result<(), AllocError> {
+    let alloc = rt.alloc();
+    let mut params = Params::new(alloc);
+    params.windows.max_ihave_ids = 3;
+    assert_eq!(rt;
+        first_wrong_of(alloc, params, 2, &[], &IDENTIFIERS_ANEW)?,
+        7
+    );
+    Ok(())
+}
+
+// ---- what is kept, and who is told
+
+#[test]
+fn what_is_kept_is_gossiped_thrice_and_sent_until_the_fifth_heartbeat(
+    rt: HostRuntime,
+) -> Result<(), AllocError> {
+    assert_eq!(rt; first_wrong_of_two(rt.alloc(), &KEEPING)?, 15);
+    Ok(())
+}
+
+#[test]
+fn words_choose_who_of_the_listeners_is_told(rt: HostRuntime) -> Result<(), AllocError> {
+    let alloc = rt.alloc();
+    let params = Params::new(alloc);
+    assert_eq!(rt;
+        first_wrong_of(alloc, params, 10, &EIGHT_WORDS, &EIGHT_LISTENERS)?,
+        10
+    );
+    let params = Params::new(alloc);
+    assert_eq!(rt;
+        first_wrong_of(alloc, params, 40, &FORTY_WORDS, &FORTY_LISTENERS)?,
+        7
+    );
+    Ok(())
+}
+
+#[test]
+fn topics_on_which_there_is_something_gossip_in_order(rt: HostRuntime) -> Result<(), AllocError> {
+    assert_eq!(rt; first_wrong_of_two(rt.alloc(), &TOPICS_IN_ORDER)?, 16);
+    Ok(())
+}
+
+// ---- what can be asked
+
+#[test]
+fn a_router_that_shut_down_has_no_heartbeat(rt: HostRuntime) -> Result<(), AllocError> {
+    assert_eq!(rt; first_wrong_of_two(rt.alloc(), &SHUT_DOWN)?, 5);
+    Ok(())
+}
+
+/// Whether this is read of a router at this moment.
+fn is_read(alloc: Global, router: &mut Router, reading: Reading<'_>) -> Result<bool, AllocError> {
+    let (at, deed, moment, first, second) = reading;
+    live(alloc, router, at, deed, &mut words(alloc))?;
+    let are_up = (router.is_up(PeerNo(1)), router.is_up(PeerNo(2)));
+    let is_last = router.last_moment() == Millis(moment);
+    Ok(is_last && are_up == (first, second))
+}
+
+/// The place of the first deed behind which something else is read of a router; the number of deeds where there is none.
+fn first_misread(
+    alloc: Global,
+    router: &mut Router,
+    readings: &[Reading<'_>],
+) -> Result<usize, AllocError> {
+    for (place, reading) in readings.iter().enumerate() {
+        if !is_read(alloc, router, *reading)? {
+            return Ok(place);
+        }
+    }
+    Ok(readings.len())
+}
+
+#[test]
+fn a_router_says_when_its_last_entry_was_and_who_is_up(rt: HostRuntime) -> Result<(), AllocError> {
+    let alloc = rt.alloc();
+    let mut params = Params::new(alloc);
+    params.windows.heartbeat_ms = 700;
+    let mut router = router_with(alloc, params)?;
+    assert_eq!(rt; router.heartbeat_ms(), 700);
+    assert_eq!(rt; first_misread(alloc, &mut router, &READINGS)?, 7);
+    Ok(())
+}

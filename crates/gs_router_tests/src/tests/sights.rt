@@ -1,0 +1,143 @@
+//! What is seen of a router after each deed.
+use crate::tests::beat_cases::{Gossip, Seen};
+use crate::tests::gossip::{are_ids, ends_with};
+use crate::tests::gossip_cases::Then;
+use gs_base::{Mark, PeerNo, Rpc, Shared, Topic};
+use gs_router::Router;
+use gs_rules::{Entry, Event};
+
+/// How many promises were broken: each left a mark.
+fn broken_in(entries: &[Entry]) -> usize {
+    let mut count = 0usize;
+    for entry in entries {
+        count = count.saturating_add(charges_in(entry.marks.as_slice()));
+    }
+    count
+}
+
+/// How many of these marks charge a neighbour.
+fn charges_in(marks: &[Mark]) -> usize {
+    let mut count = 0usize;
+    for mark in marks {
+        count = count.saturating_add(charge_in(mark));
+    }
+    count
+}
+
+fn charge_in(mark: &Mark) -> usize {
+    match mark {
+        Mark::Behaviour(_) => 1,
+        _ => 0,
+    }
+}
+
+/// Whether a topic is named so.
+fn is_named(topic: &Topic, name: &str) -> bool {
+    topic.0.as_slice() == name.as_bytes()
+}
+
+/// Whether an RPC offers this, and says nothing else.
+fn is_offer(rpc: &Rpc, gossip: Gossip<'_>) -> bool {
+    match (&rpc.control, rpc.subs.as_slice(), rpc.publish.as_slice()) {
+        (Some(control), [], []) => match control.ihave.as_slice() {
+            [offer] => match &offer.topic {
+                Some(topic) => {
+                    is_named(topic, gossip.topic) && are_ids(offer.ids.as_slice(), gossip.ids)
+                }
+                None => false,
+            },
+            _ => false,
+        },
+        _ => false,
+    }
+}
+
+/// Whether these RPCs tell this.
+fn are_told(sends: &[(PeerNo, Shared<Rpc>)], gossip: Gossip<'_>) -> bool {
+    for ((peer, rpc), receiver) in sends.iter().zip(gossip.to) {
+        if peer.0 != *receiver || !is_offer(rpc.get(), gossip) {
+            return false;
+        }
+    }
+    sends.len() == gossip.to.len()
+}
+
+/// Whether an entry tells this.
+fn is_told(entry: &Entry, gossip: Gossip<'_>) -> bool {
+    match &entry.event {
+        Event::GossipBeat(topic) => {
+            is_named(topic, gossip.topic) && are_told(entry.sends.as_slice(), gossip)
+        }
+        _ => false,
+    }
+}
+
+/// Whether these entries tell this, one after the other.
+fn tell_all(entries: &[Entry], gossip: &[Gossip<'_>]) -> bool {
+    for (entry, told) in entries.iter().zip(gossip) {
+        if !is_told(entry, *told) {
+            return false;
+        }
+    }
+    entries.len() == gossip.len()
+}
+
+/// Whether these entries are a heartbeat with this gossip.
+fn is_beat(entries: &[Entry], gossip: &[Gossip<'_>]) -> bool {
+    match entries {
+        [first, told @ .., last] => match (&first.event, &last.event) {
+            (Event::Promises, Event::BeatEnd) => tell_all(told, gossip),
+            _ => false,
+        },
+        _ => false,
+    }
+}
+
+/// Whether a router asked for one identifier at last, which is promised until a moment.
+fn asks(router: &Router, payload: u8, until: u64) -> bool {
+    let then = Then {
+        asks: &[payload],
+        promise: Some((payload, until)),
+        gives: &[],
+        marks: 2,
+    };
+    ends_with(router, then)
+}
+
+/// Whether a router sent these payloads at last.
+fn gives(router: &Router, payloads: &[u8]) -> bool {
+    let then = Then {
+        asks: &[],
+        promise: None,
+        gives: payloads,
+        marks: payloads.len(),
+    };
+    ends_with(router, then)
+}
+
+/// Whether a router that had so many entries had a heartbeat with this gossip.
+fn beats(router: &Router, before: usize, gossip: &[Gossip<'_>]) -> bool {
+    let beat = router.trace().entries().get(before..).unwrap_or_default();
+    is_beat(beat, gossip)
+}
+
+/// Whether this is seen of a router that had so many entries, and refused nothing.
+fn is_done(router: &Router, before: usize, seen: Seen<'_>) -> bool {
+    match seen {
+        Seen::Last(then) => ends_with(router, then),
+        Seen::Asks(payload, until) => asks(router, payload, until),
+        Seen::Gives(payloads) => gives(router, payloads),
+        Seen::Beat(broken, gossip) => {
+            broken_in(router.trace().entries()) == broken && beats(router, before, gossip)
+        }
+        Seen::Refused(_) => false,
+    }
+}
+
+/// Whether this is seen of a router that had so many entries, and whose answer has this number.
+pub fn is_seen(router: &Router, before: usize, number: u8, seen: Seen<'_>) -> bool {
+    match seen {
+        Seen::Refused(wanted) => number == wanted && router.trace().entries().len() == before,
+        done => number == 0 && is_done(router, before, done),
+    }
+}

@@ -1,0 +1,206 @@
+//! What messages are found to be, and what is remembered of them.
+use crate::tests::{hear, is_due, router_with, words};
+use bytes::Bytes;
+use gs_base::{Mark, Millis, PeerNo, Rpc, Seq, Topic, Verdict};
+use gs_params::{Params, TopicParams};
+use gs_router::Router;
+use gs_rules::Entry;
+use gs_wire::decode;
+use std::alloc::{AllocError, Global};
+
+/// What becomes of a message.
+#[derive(Clone, Copy, Debug, PartialEq, Eq)]
+enum Outcome {
+    Dropped,
+    Invalid,
+    Rejected,
+    Ignored,
+    Delivered,
+    Other,
+}
+
+/// A moment, a neighbour, a topic, a payload, and what becomes of it.
+type Row<'a> = (u64, u16, &'a str, &'a [u8], Outcome);
+
+/// On `a`, what begins with `ff` or with `0102` is rejected, and what begins with `01` or with `ff01` is ignored. On
+/// `b` all is accepted.
+static MESSAGES: [Row<'static>; 13] = [
+    (0, 1, "a", &[0xff], Outcome::Rejected),
+    (0, 2, "a", &[0xff], Outcome::Invalid),
+    (0, 1, "a", &[0x01, 0x02], Outcome::Rejected),
+    (0, 1, "a", &[0xff, 0x01], Outcome::Rejected),
+    (0, 1, "a", &[0x01], Outcome::Ignored),
+    (0, 2, "a", &[0x01], Outcome::Dropped),
+    (0, 1, "a", &[], Outcome::Delivered),
+    (0, 1, "a", &[0xaa, 0xff], Outcome::Delivered),
+    (0, 2, "a", &[0xaa, 0xff], Outcome::Dropped),
+    (0, 1, "b", &[0xff, 0x02], Outcome::Delivered),
+    (0, 1, "a", &[0xff, 0x02], Outcome::Dropped),
+    (0, 1, "c", &[0xff, 0x03], Outcome::Dropped),
+    (120_000, 1, "a", &[0xff], Outcome::Rejected),
+];
+
+fn bytes_of(alloc: Global, bytes: &[u8]) -> Result<Bytes, AllocError> {
+    Bytes::copy_from_slice(alloc, bytes)
+}
+
+fn topic_of(alloc: Global, name: &str) -> Result<Topic, AllocError> {
+    Ok(Topic(bytes_of(alloc, name.as_bytes())?))
+}
+
+fn prefixes(alloc: Global, first: &[u8], second: &[u8]) -> Result<Seq<Bytes>, AllocError> {
+    let mut list = Seq::only(alloc, bytes_of(alloc, first)?)?;
+    list.push(bytes_of(alloc, second)?)?;
+    Ok(list)
+}
+
+/// The parameters of a topic given twice: the second ones don't count.
+fn params(alloc: Global) -> Result<Params, AllocError> {
+    let mut first = TopicParams::new(alloc);
+    first.reject = prefixes(alloc, &[0xff], &[0x01, 0x02])?;
+    first.ignore = prefixes(alloc, &[0x01], &[0xff, 0x01])?;
+    let mut second = TopicParams::new(alloc);
+    second.reject = prefixes(alloc, &[0xaa], &[])?;
+    let mut params = Params::new(alloc);
+    params.topics.push((topic_of(alloc, "a")?, first))?;
+    params.topics.push((topic_of(alloc, "a")?, second))?;
+    Ok(params)
+}
+
+/// What became of a message, as its entry says: only one that is delivered is told to the user.
+fn outcome_of(entry: &Entry) -> Outcome {
+    match (entry.marks.as_slice(), entry.delivered.as_slice()) {
+        ([], []) => Outcome::Dropped,
+        ([Mark::Invalid(_, _)], []) => Outcome::Invalid,
+        ([Mark::Seen(_, Verdict::Reject), Mark::Invalid(_, _)], []) => Outcome::Rejected,
+        ([Mark::Seen(_, Verdict::Ignore)], []) => Outcome::Ignored,
+        (
+            [
+                Mark::Seen(_, Verdict::Accept),
+                Mark::First(_, _, _),
+                Mark::Cached(_, _),
+            ],
+            [_],
+        ) => { Outcome::Delivered }
+        _ => Outcome::Other,
+    }
+}
+
+/// What becomes of a message that a neighbour passes on.
+fn told(alloc: Global, router: &mut Router, row: Row<'_>) -> Result<Outcome, AllocError> {
+    let (at, from, name, payload, _) = row;
+    let rpc = Rpc::publication(alloc, &topic_of(alloc, name)?, &bytes_of(alloc, payload)?)?;
+    if !is_due(router.trace(), Millis(at)) {
+        return Ok(Outcome::Other);
+    }
+    let answer = hear(
+        alloc,
+        router,
+        PeerNo(from),
+        &rpc,
+        Millis(at),
+        &mut words(alloc),
+    )?;
+    match (answer, router.trace().entries()) {
+        (Ok(()), [.., last]) => Ok(outcome_of(last)),
+        _ => Ok(Outcome::Other),
+    }
+}
+
+/// A router that has joined `a` and `b`.
+fn router(alloc: Global) -> Result<Router, AllocError> {
+    let mut router = router_with(alloc, params(alloc)?)?;
+    for name in ["a", "b"] {
+        let topic = topic_of(alloc, name)?;
+        if is_due(router.trace(), Millis(0)) {
+            drop(router.subscribe(topic, Millis(0), &mut words(alloc)));
+        }
+    }
+    Ok(router)
+}
+
+/// The place of the first message of which something else becomes; the number of messages where there is none.
+fn first_wrong(alloc: Global, rows: &[Row<'_>]) -> Result<usize, AllocError> {
+    let mut router = router(alloc)?;
+    for (place, row) in rows.iter().enumerate() {
+        if told(alloc, &mut router, *row)? != row.4 {
+            return Ok(place);
+        }
+    }
+    Ok(rows.len())
+}
+
+/// Bodies of RPCs from neighbour 1, and what becomes of the message in each: `abc` on `a`, with an origin that is there
+/// and empty, and without.
+static BODIES: [(&[u8], Outcome); 3] = [
+    (b"\x12\x0a\x0a\x00\x12\x03abc\x22\x01a", Outcome::Invalid),
+    (b"\x12\x08\x12\x03abc\x22\x01a", Outcome::Delivered),
+    (b"\x12\x0a\x0a\x00\x12\x03abc\x22\x01a", Outcome::Invalid),
+];
+
+/// What becomes of the message in a body.
+fn read(alloc: Global, router: &mut Router, body: &[u8]) -> Result<Outcome, AllocError> {
+    let Ok(rpc) = decode(alloc, body) else {
+        return Ok(Outcome::Other);
+    };
+    if !is_due(router.trace(), Millis(0)) {
+        return Ok(Outcome::Other);
+    }
+    let answer = hear(alloc, router, PeerNo(1), &rpc, Millis(0), &mut words(alloc))?;
+    match (answer, router.trace().entries()) {
+        (Ok(()), [.., last]) => Ok(outcome_of(last)),
+        _ => Ok(Outcome::Other),
+    }
+}
+
+/// The place of the first body of whose message something else becomes; the number of bodies where there is none.
+fn first_misread(alloc: Global, bodies: &[(&[u8], Outcome)]) -> Result<usize, AllocError> {
+    let mut router = router(alloc)?;
+    for (place, (body, outcome)) in bodies.iter().enumerate() {
+        if read(alloc, &mut router, body)? != *outcome {
+            return Ok(place);
+        }
+    }
+    Ok(bodies.len())
+}
+
+#[test]
+fn a_message_with_an_empty_origin_is_invalid_as_it_is_read(
+    rt: HostRuntime,
+) -> Result<(), AllocError> {
+    assert_eq!(rt; first_misread(rt.alloc(), &BODIES)?, 3);
+    Ok(())
+}
+
+#[test]
+fn a_payload_is_judged_by_the_prefixes_of_its_topic(rt: HostRuntime) -> Result<(), AllocError> {
+    assert_eq!(rt; first_wrong(rt.alloc(), &MESSAGES)?, 13);
+    Ok(())
+}
+
+/// What a router publishes is accepted, whatever it begins with: it is delivered, and not judged when it comes back.
+fn accepts_its_own(alloc: Global) -> Result<bool, AllocError> {
+    let mut router = router(alloc)?;
+    if !is_due(router.trace(), Millis(0)) {
+        return Ok(false);
+    }
+    let topic = topic_of(alloc, "a")?;
+    let answer = router.publish(
+        topic,
+        bytes_of(alloc, &[0xff])?,
+        Millis(0),
+        &mut words(alloc),
+    );
+    let is_told = match router.trace().entries() {
+        [.., last] => last.delivered.len() == 1,
+        [] => false,
+    };
+    let back = (0, 1, "a", [0xff].as_slice(), Outcome::Dropped);
+    Ok(answer.is_ok() && is_told && told(alloc, &mut router, back)? == Outcome::Dropped)
+}
+
+#[test]
+fn what_a_router_publishes_is_not_judged(rt: HostRuntime) -> Result<(), AllocError> {
+    assert!(rt; accepts_its_own(rt.alloc())?);
+    Ok(())
+}

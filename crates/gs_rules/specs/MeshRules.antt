@@ -1,0 +1,149 @@
+-- What a peer does about its meshes and fanouts. Each of these gives a whole entry, or what is chosen before it.
+use Rattle.std.specs.Prelude.{ℕ, ◌-◌, min, Bool, true, false, not, nat_eq, nat_le, nat_lt, if◌then◌else◌, List, [], ◌∷◌, ◌++◌, length, filter, Option, Some, None, unwrap_or}
+use Rattle.gs_base.specs.declared.names.PeerNo.{PeerNo}
+use Rattle.gs_base.specs.declared.names.Topic.{Topic}
+use Rattle.gs_base.specs.declared.names.Millis.{Millis}
+use Rattle.gs_base.specs.declared.control.Graft.{Graft}
+use Rattle.gs_base.specs.declared.control.Prune.{Prune}
+use Rattle.gs_base.specs.declared.rpc.SubOpt.{SubOpt}
+use Rattle.gs_base.specs.declared.mark.Mark.{Mark}
+use Rattle.gs_base.specs.declared.mark.Mark.TheVariants.{Behaviour, Cached, Published, Seen}
+use Rattle.gs_base.specs.declared.verdict.Verdict.TheVariants.{Accept}
+use Rattle.gs_base.specs.Names.{announcement, message_id, publication, topic_or_empty}
+use Rattle.gs_mesh.specs.Peers.{is_among}
+use Rattle.gs_wire.specs.Messages.{grafting, longest_backoff, pruning}
+use Rattle.gs_rules.specs.declared.trace.Event.{Event}
+use Rattle.gs_rules.specs.declared.trace.Event.TheVariants.{GraftIn, PruneIn, Publish, Sub, Subscribe, Unsubscribe}
+use Rattle.gs_rules.specs.declared.trace.Entry.{Entry}
+use Rattle.gs_rules.specs.Peers.{Peer}
+use Rattle.gs_rules.specs.Tables.{Entries, joined}
+use Rattle.gs_rules.specs.Meshes.{backoff, fanout, mesh}
+use Rattle.gs_rules.specs.Membership.{barring, candidates, each_on, entering, fanning, is_negative, is_outbound, leaving, losing_marks, meshes_with, unfanning}
+use Rattle.gs_rules.specs.Scoring.{is_passed_over}
+use Rattle.gs_rules.specs.Rule.{AnyOf, Gives, Rule, bare, listeners, to_each, up_neighbours, without}
+
+-- ---- what neighbours say of their meshes (gossipsub v1.0, "Control messages", GRAFT and PRUNE)
+
+-- a GRAFT is refused: its sender is told so, and is not to come back for a while
+abbrev pub refusing : Peer → Millis → PeerNo → Graft → List Mark → Entry
+refusing p at q graft marks = record (bare at (GraftIn q graft)) {
+  sends = (q, pruning (topic_or_empty graft.topic) p.params.windows.prune_backoff_s) ∷ [];
+  marks = marks ++ barring at.0 p.params.windows.prune_backoff_s (each_on (topic_or_empty graft.topic) (q ∷ []));
+}
+
+-- there is no room in the mesh for one that was not dialled
+abbrev pub is_full_for : Peer → Entries → PeerNo → Topic → Bool
+is_full_for p L q t =
+    if nat_le p.params.degrees.d_high (length (mesh L t)) then not (is_outbound p q) else false
+
+-- A GRAFT on a topic that the peer isn't subscribed to, or of a member, is passed over. One that comes too soon is
+-- refused, and counts against its sender; one of a neighbour that scores below 0, or for whom there is no room, is
+-- refused.
+abbrev pub graft_rule : Peer → Entries → Millis → PeerNo → Graft → Entry
+graft_rule p L at q graft =
+    if not (joined L (topic_or_empty graft.topic)) then bare at (GraftIn q graft)
+    else if is_among (mesh L (topic_or_empty graft.topic)) q then bare at (GraftIn q graft)
+    else if nat_lt at.0 (backoff L q (topic_or_empty graft.topic)) then refusing p at q graft (Behaviour q ∷ [])
+    else if is_negative p L at.0 q then refusing p at q graft []
+    else if is_full_for p L q (topic_or_empty graft.topic) then refusing p at q graft []
+    else record (bare at (GraftIn q graft)) { marks = entering (each_on (topic_or_empty graft.topic) (q ∷ [])) }
+
+-- for how many seconds a neighbour is not to be grafted that says so, or says nothing or 0
+abbrev pub asked_backoff : ℕ → Option ℕ → ℕ
+asked_backoff otherwise None = otherwise
+asked_backoff otherwise (Some seconds) = if nat_eq seconds 0 then otherwise else min seconds longest_backoff
+
+-- a PRUNE takes its sender out of the mesh, and keeps it out for a while
+abbrev pub pruned_by : Peer → Entries → Millis → PeerNo → Prune → Entry
+pruned_by p L at q prune = record (bare at (PruneIn q prune)) {
+  marks = leaving p L at.0 (meshes_with L q (topic_or_empty prune.topic ∷ []))
+      ++ barring at.0
+      (asked_backoff p.params.windows.prune_backoff_s prune.backoff)
+      (each_on (topic_or_empty prune.topic) (q ∷ []));
+}
+
+-- on a topic that the peer is subscribed to
+abbrev pub prune_rule : Peer → Entries → Millis → PeerNo → Prune → Entry
+prune_rule p L at q prune =
+    if not (joined L (topic_or_empty prune.topic)) then bare at (PruneIn q prune) else pruned_by p L at q prune
+
+-- ---- who leaves
+
+-- who is in the fanout, of these
+abbrev pub fanned_of : Entries → Topic → PeerNo → List PeerNo
+fanned_of L t q = if is_among (fanout L t) q then q ∷ [] else []
+
+-- whoever leaves a topic leaves its mesh and its fanout
+abbrev pub left_by : Peer → Entries → Millis → PeerNo → SubOpt → Entry
+left_by p L at q sub = record (bare at (Sub q sub)) {
+  marks = leaving p L at.0 (meshes_with L q (topic_or_empty sub.topic ∷ []))
+      ++ unfanning (topic_or_empty sub.topic) (fanned_of L (topic_or_empty sub.topic) q);
+}
+
+-- to come onto a topic changes nothing else
+abbrev pub sub_rule : Peer → Entries → Millis → PeerNo → SubOpt → Entry
+sub_rule p L at q sub = if unwrap_or sub.subscribe false then bare at (Sub q sub) else left_by p L at q sub
+
+-- a neighbour is lost, by this event
+abbrev pub lost_rule : Peer → Entries → Millis → PeerNo → Event → Entry
+lost_rule p L at q event = record (bare at event) { marks = losing_marks p L at.0 q }
+
+-- ---- the peer's own topics (gossipsub v1.0, "Topic Membership")
+
+-- those of these peers that are among others
+abbrev pub those_among : List PeerNo → List PeerNo → List PeerNo
+those_among others qs = filter (is_among others) qs
+
+abbrev pub those_outside : List PeerNo → List PeerNo → List PeerNo
+those_outside others qs = filter (λ q. not (is_among others q)) qs
+
+-- these are grafted, as a subscription is announced; the topic's fanout ends
+abbrev pub joining : Peer → Entries → Millis → Topic → List PeerNo → Entry
+joining p L at t chosen = record (bare at (Subscribe t)) {
+  sends = to_each (announcement true t) (up_neighbours p L) ++ to_each (grafting t) chosen;
+  marks = entering (each_on t chosen) ++ unfanning t (fanout L t);
+}
+
+-- Any d of the fanout's members that may be grafted, or all of them; then any others that may, up to d.
+abbrev pub subscribe_rule : Peer → Entries → Millis → Topic → Rule
+subscribe_rule p L at t =
+    AnyOf p.params.degrees.d (those_among (fanout L t) (candidates p L at.0 t)) (λ first.
+    AnyOf (p.params.degrees.d - length first) (those_outside (fanout L t) (candidates p L at.0 t)) (λ others.
+    Gives (joining p L at t (those_among (first ++ others) (candidates p L at.0 t)))))
+
+-- Each member is pruned, and is not to come back for a while.
+abbrev pub unsubscribe_rule : Peer → Entries → Millis → Topic → Entry
+unsubscribe_rule p L at t = record (bare at (Unsubscribe t)) {
+  sends = to_each (announcement false t) (up_neighbours p L)
+      ++ to_each (pruning t p.params.windows.unsubscribe_backoff_s) (mesh L t);
+  marks = leaving p L at.0 (each_on t (mesh L t))
+      ++ barring at.0 p.params.windows.unsubscribe_backoff_s (each_on t (mesh L t));
+}
+
+-- ---- publishing
+
+-- a payload is published to these, and these come into the fanout
+abbrev pub publishing : Entries → Millis → Topic → List ℕ → List PeerNo → List PeerNo → List Mark → Entry
+publishing L at t payload receivers fanned marks = record (bare at (Publish t payload)) {
+  sends = to_each (publication t payload) receivers;
+  delivered = if joined L t then (t, payload) ∷ [] else [];
+  marks = Seen (message_id payload) Accept ∷ Cached (message_id payload) t ∷ (fanning t fanned ++ marks);
+}
+
+-- Of a topic that the peer isn't subscribed to the fanout gets it; where that is empty, any d of the listeners become it.
+abbrev pub fanout_publish : Peer → Entries → Millis → Topic → List ℕ → List PeerNo → Rule
+fanout_publish p L at t payload [] =
+    AnyOf p.params.degrees.d (without (is_passed_over p L at.0) (listeners p L t)) (λ chosen.
+    Gives (publishing L at t payload chosen chosen (Published t ∷ [])))
+fanout_publish p L at t payload (q ∷ qs) =
+    Gives (publishing L at t payload (without (is_passed_over p L at.0) (q ∷ qs)) [] (Published t ∷ []))
+
+-- Who is below the threshold gets nothing. By flood publishing (gossipsub v1.1) every other neighbour on the topic gets
+-- it; else the topic's mesh, or its fanout, where the peer isn't subscribed.
+abbrev pub publish_rule : Peer → Entries → Millis → Topic → List ℕ → Rule
+publish_rule p L at t payload =
+    if p.params.flood_publish
+    then Gives (publishing L at t payload (without (is_passed_over p L at.0) (listeners p L t)) [] [])
+    else if joined L t
+    then Gives (publishing L at t payload (without (is_passed_over p L at.0) (mesh L t)) [] [])
+    else fanout_publish p L at t payload (fanout L t)

@@ -1,0 +1,47 @@
+-- What a rule says, and the entries that rules are made of.
+use Rattle.std.specs.Prelude.{ℕ, Bool, not, ◌&&◌, List, [], map, filter, None}
+use Rattle.gs_base.specs.declared.names.PeerNo.{PeerNo}
+use Rattle.gs_base.specs.declared.names.Topic.{Topic}
+use Rattle.gs_base.specs.declared.names.Millis.{Millis}
+use Rattle.gs_base.specs.declared.rpc.Rpc.{Rpc}
+use Rattle.gs_params.specs.declared.params.Degrees.{Degrees}
+use Rattle.gs_params.specs.declared.cuts.Member.{Member}
+use Rattle.gs_rules.specs.declared.trace.Event.{Event}
+use Rattle.gs_rules.specs.declared.trace.Entry.{Entry}
+use Rattle.gs_rules.specs.Peers.{Peer, links_of}
+use Rattle.gs_rules.specs.Tables.{Entries, on, up}
+
+-- ---- what rules say
+
+-- What a rule says: an entry, or what is chosen before it.
+pub data Rule : Type 0 where
+  -- this entry
+  Gives : Entry → Rule
+  -- any so many of these peers, or all where there are fewer
+  AnyOf : ℕ → List PeerNo → (List PeerNo → Rule) → Rule
+  -- who is kept of a mesh that has too many members: so many, the best by score among them, equal scores as it likes
+  CutOf : Degrees → List Member → (List PeerNo → Rule) → Rule
+  -- one of so many places
+  OneOf : ℕ → (ℕ → Rule) → Rule
+
+-- ---- what is done
+
+-- an entry with no effects
+abbrev pub bare : Millis → Event → Entry
+bare at event = record { at = at; event = event; sends = []; delivered = []; promise = None; marks = [] }
+
+-- the same RPC to each of these
+abbrev pub to_each : Rpc → List PeerNo → List (PeerNo × Rpc)
+to_each rpc qs = map (λ q. (q, rpc)) qs
+
+-- the neighbours that are up
+abbrev pub up_neighbours : Peer → Entries → List PeerNo
+up_neighbours p L = filter (up L) (links_of p)
+
+-- the neighbours that are up and on the topic
+abbrev pub listeners : Peer → Entries → Topic → List PeerNo
+listeners p L t = filter (λ q. up L q && on L q t) (links_of p)
+
+-- those of these whom a test does not leave out
+abbrev pub without : (PeerNo → Bool) → List PeerNo → List PeerNo
+without is_out qs = filter (λ q. not (is_out q)) qs
