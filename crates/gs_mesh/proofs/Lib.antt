@@ -1,3 +1,5 @@
 pub mod Placing
 pub mod Noting
 pub mod Keeping
+pub mod MemberLists
+pub mod Stepping

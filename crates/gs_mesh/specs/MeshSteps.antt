@@ -60,10 +60,24 @@ abbrev pub choice_of : List Member → List Member → List PeerNo → List Peer
 choice_of mesh candidates kept grafted =
     record { pruned = peers_of (outside kept mesh); grafted = peers_of (among grafted candidates) }
 
--- The step by what is chosen in it, and what comes of that: any so many of some peers, or whom a cut keeps.
+-- What follows is the step by what is chosen in it, and what comes of each choice: of any so many of some peers, and of
+-- whom a cut keeps.
+
+module _ {R : Type 0} (any_of : ℕ → List PeerNo → (List PeerNo → R) → R) where
+  -- where a mesh is poor, any so many come in of those that score above its median
+  abbrev pub bettered : Bool → ℕ → List Member → List Member → (List PeerNo → R) → R
+  bettered true most members candidates next = any_of most (peers_of (above_median members candidates)) next
+  bettered false most members candidates next = next []
+
+  -- so it is with the mesh as its number of members left it; whom that grafted does not come in twice
+  abbrev pub bettered_then : Params → ℕ → List Member → List Member → List PeerNo → (List PeerNo → R) → R
+  bettered_then params tick members candidates grafted next =
+      bettered (is_poor params tick members) params.windows.opportunistic_peers members (outside grafted candidates) next
+
 module _ {R : Type 0} (any_of : ℕ → List PeerNo → (List PeerNo → R) → R) (cut_of : Degrees → List Member → (List PeerNo → R) → R) where
-  -- Where members are few, any candidates come in, up to D members. Where they are many, they are cut to D. Where few are
-  -- outbound, any outbound candidates come in, up to D_out outbound members. Else nobody comes or goes.
+  -- Who is kept and who is grafted. Where members are few, any candidates come in, up to D members. Where they are many,
+  -- they are cut to D. Where few are outbound, any outbound candidates come in, up to D_out outbound members. Else nobody
+  -- comes or goes.
   abbrev pub mended : Condition → Degrees → List Member → List Member → (List PeerNo → List PeerNo → R) → R
   mended Few degrees members candidates next =
       any_of (degrees.d - length members) (peers_of candidates) (next (peers_of members))
@@ -72,21 +86,12 @@ module _ {R : Type 0} (any_of : ℕ → List PeerNo → (List PeerNo → R) → 
       any_of (degrees.d_out - length (outbound_of members)) (peers_of (outbound_of candidates)) (next (peers_of members))
   mended Well degrees members candidates next = next (peers_of members) []
 
-  -- where a mesh is poor, any so many come in of those that score above its median
-  abbrev pub bettered : Bool → ℕ → List Member → List Member → (List PeerNo → R) → R
-  bettered true most members candidates next = any_of most (peers_of (above_median members candidates)) next
-  bettered false most members candidates next = next []
-
-  -- The mesh as it is mended is the one that is then poor or not, and who came in by that does not come in twice.
-  abbrev pub bettered_then : Params → ℕ → List Member → List Member → List PeerNo → (List PeerNo → R) → R
-  bettered_then params tick members candidates grafted next =
-      bettered (is_poor params tick members) params.windows.opportunistic_peers members (outside grafted candidates) next
-
+  -- the whole step
   abbrev pub stepped : Params → ℕ → List Member → List Member → (Choice → R) → R
   stepped params tick mesh candidates next =
-      mended (condition_of params.degrees (not_negative mesh)) params.degrees (not_negative mesh) candidates
-      (λ kept grafted. bettered_then params tick (made_of (not_negative mesh) candidates kept grafted) candidates grafted
-      (λ more. next (choice_of mesh candidates kept (grafted ++ more))))
+      mended (condition_of params.degrees (not_negative mesh)) params.degrees (not_negative mesh) candidates (λ kept grafted.
+      bettered_then any_of params tick (made_of (not_negative mesh) candidates kept grafted) candidates grafted (λ more.
+      next (choice_of mesh candidates kept (grafted ++ more))))
 
 -- ---- the step by random words
 
@@ -98,6 +103,17 @@ module _ {S : Type 0} (word : S → ℕ) (after : S → S) where
   -- what comes of the cut by the next words
   abbrev pub cut_by_words : {A : Type 0} → Degrees → List Member → (List PeerNo → S → A) → S → A
   cut_by_words degrees members next s = next (cut word after degrees members s) (cut_words word after degrees members s)
+
+  -- whom a mesh keeps by its number of members, who is grafted for that, and the state behind it
+  abbrev pub mended_by_words : Degrees → List Member → List Member → S → List PeerNo × List PeerNo × S
+  mended_by_words degrees members candidates s =
+      mended any_by_words cut_by_words (condition_of degrees members) degrees members candidates
+      (λ kept grafted t. (kept, grafted, t)) s
+
+  -- who is grafted where it is poor, beside those that were, and the state behind that
+  abbrev pub bettered_by_words : Params → ℕ → List Member → List Member → List PeerNo → S → List PeerNo × S
+  bettered_by_words params tick members candidates grafted s =
+      bettered_then any_by_words params tick members candidates grafted (λ more t. (more, t)) s
 
   -- who goes and who comes in by the next words, and the state behind them
   unfoldable pub step_by_words : Params → ℕ → List Member → List Member → S → Choice × S

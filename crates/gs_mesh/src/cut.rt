@@ -53,11 +53,13 @@ fn better_ones(members: &[Member], member: &Member) -> u64
 fn best_by_score(alloc: Global, count: u64, members: &[Member]) -> Result<Vec<PeerNo>, AllocError>
     ensures { IfOk result (λ best. best.items ≡ best_by_score count members.now) }
 {
-    members
+    let best: Vec<Member> = members
         .iter()
+        .copied()
         .filter(|member| better_ones(members, member) < count)
-        .map(|member| member.peer)
-        .collect(alloc)
+        .collect(alloc)?;
+    let peers = peers_of(alloc, &best)?;
+    Ok(peers)
 }
 
 /// How many outbound ones these lack, of so many as the mesh should have.

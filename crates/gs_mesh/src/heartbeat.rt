@@ -1,10 +1,9 @@
 //! What a heartbeat does to a mesh.
-ghost use Rattle.std.specs.Prelude.{◌≡◌, List, IfOk, OnOk};
-ghost use Rattle.gs_base.specs.declared.names.PeerNo.{PeerNo as PeerNoValue};
+ghost use Rattle.std.specs.Prelude.{◌≡◌, IfOk, OnOk};
 ghost use Rattle.gs_params.specs.Picks.{IsAscending, picked, picked_words};
 ghost use Rattle.gs_params.specs.Cuts.{peers_of};
 ghost use Rattle.gs_params.specs.Params.{AreInRange};
-ghost use Rattle.gs_mesh.specs.MeshSteps.{EachIsAMeshStep, above_median, any_by_words, bettered_then, choice_of, condition_of, cut_by_words, is_poor, made_of, median_is_below, mended, step_by_words};
+ghost use Rattle.gs_mesh.specs.MeshSteps.{EachIsAMeshStep, above_median, bettered_by_words, choice_of, is_poor, made_of, median_is_below, mended_by_words, step_by_words};
 
 use crate::condition::{Condition, outbound_count};
 use crate::cut::{cut, pick_of};
@@ -105,9 +104,7 @@ fn mend<W: Words>(
 ) -> Result<Mended, AllocError>
     requires members { IsAscending (peers_of members.now) }
     requires candidates { IsAscending (peers_of candidates.now) }
-    ensures { IfOk result (λ made. mended (any_by_words W.word W.after) (cut_by_words W.word W.after)
-        (condition_of degrees.now members.now) degrees.now members.now candidates.now
-        (λ (kept grafted : List PeerNoValue) (t : W). (kept, grafted, t)) words.old
+    ensures { IfOk result (λ made. mended_by_words W.word W.after degrees.now members.now candidates.now words.old
         ≡ (made.kept.items, made.grafted.items, words.new)) }
 {
     match Condition::of(degrees, members) {
@@ -205,9 +202,8 @@ fn bettered<W: Words>(
 ) -> Result<Vec<PeerNo>, AllocError>
     requires in_range { AreInRange params.now }
     requires candidates { IsAscending (peers_of candidates.now) }
-    ensures { IfOk result (λ more. bettered_then (any_by_words W.word W.after)
-        params.now tick members.now candidates.now grafted.now
-        (λ (peers : List PeerNoValue) (t : W). (peers, t)) words.old
+    ensures { IfOk result (λ more. bettered_by_words W.word W.after params.now tick members.now candidates.now
+        grafted.now words.old
         ≡ (more.items, words.new)) }
 {
     if !is_poor(params, tick, members) {
