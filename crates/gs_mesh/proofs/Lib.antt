@@ -3,3 +3,4 @@ pub mod Noting
 pub mod Keeping
 pub mod MemberLists
 pub mod Stepping
+pub mod StepLaws

@@ -50,7 +50,8 @@ pub fn choose_heartbeat<W: Words>(
         ≡ (choice, words.new)) }
 {
     let members = not_negative(alloc, mesh)?;
-    let Mended { kept, mut grafted } = mend(alloc, &params.degrees, &members, candidates, words)?;
+    let mended = mend(alloc, &params.degrees, &members, candidates, words)?;
+    let Mended { kept, mut grafted } = mended;
     let made = made_of(alloc, &members, candidates, &kept, &grafted)?;
     let mut more = bettered(alloc, params, tick, &made, candidates, &grafted, words)?;
     grafted.append(&mut more)?;
