@@ -1,5 +1,5 @@
 -- A step by words is a mesh step: so many as are called for, of those who are.
-use Rattle.std.proofs.Common.{◌≡◌, ◌+◌, ◌++◌, ◌-◌, ◌≤◌, ℕ, Bool, true, false, List, length, refl, ap}
+use Rattle.std.proofs.Common.{◌+◌, ◌-◌, ◌≤◌, ℕ, Bool, true, false, List, length, refl, ap}
 use Rattle.gs_base.specs.declared.names.PeerNo.{PeerNo}
 use Rattle.gs_params.specs.declared.cuts.Member.{Member}
 use Rattle.gs_params.specs.declared.params.Degrees.{Degrees}
@@ -11,20 +11,16 @@ use Rattle.gs_params.proofs.Cutting.{exact_cut_is_cut}
 use Rattle.gs_mesh.specs.declared.heartbeat.Choice.{Choice}
 use Rattle.gs_mesh.specs.declared.condition.Condition.{Condition}
 use Rattle.gs_mesh.specs.declared.condition.Condition.TheVariants.{Few, Many, FewOutbound, Well}
-use Rattle.gs_mesh.specs.MeshSteps.{EachIsAMeshStep, IsBettered, IsMended, above_median, any_by_words, bettered, bettered_by_words, choice_of, condition_of, cut_by_words, is_poor, made_of, mended, mended_by_words, not_negative, step_by_words}
+use Rattle.gs_mesh.specs.MeshSteps.{EachIsAMeshStep, IsBettered, IsMended, above_median, bettered_by_words, condition_of, is_poor, made_of, mended_by_words, not_negative}
 use Rattle.gs_mesh.proofs.MemberLists.{above_median_ascend, not_negative_ascend, outbound_ascend, outside_ascend}
-use Rattle.gs_mesh.proofs.Stepping.{put_together}
+use Rattle.gs_mesh.proofs.Stepping.{bettered_as, mended_as, put_together}
 
 module _ {S : Type 0} (word : S → ℕ) (after : S → S) where
-  abbrev mended_as : Condition → Degrees → List Member → List Member → S → List PeerNo × List PeerNo × S
-  mended_as condition degrees members candidates s =
-      mended (any_by_words word after) (cut_by_words word after) condition degrees members candidates (λ (k g : List PeerNo) (t : S). (k, g, t)) s
-
   is_mended : (condition : Condition) (degrees : Degrees) (members candidates : List Member) (s : S)
       → IsAscending (peers_of members)
       → IsAscending (peers_of candidates)
       → degrees.d_score + degrees.d_out ≤ degrees.d
-      → IsMended condition degrees members candidates (mended_as condition degrees members candidates s).0 (mended_as condition degrees members candidates s).1
+      → IsMended condition degrees members candidates (mended_as word after condition degrees members candidates s).0 (mended_as word after condition degrees members candidates s).1
   is_mended Few degrees members candidates s up ups room = (refl, picked_is_choice word after (degrees.d - length members) (peers_of candidates) s ups)
   is_mended Many degrees members candidates s up ups room =
       (exact_cut_is_cut word after degrees members s (cut word after degrees members s) (cut_words word after degrees members s) (record { ascending = up; room = room; kept_are = refl; words = refl }), refl)
@@ -34,7 +30,7 @@ module _ {S : Type 0} (word : S → ℕ) (after : S → S) where
 
   is_bettered : (poor : Bool) (most : ℕ) (members candidates : List Member) (s : S)
       → IsAscending (peers_of candidates)
-      → IsBettered poor most members candidates (bettered (any_by_words word after) poor most members candidates (λ (m : List PeerNo) (t : S). (m, t)) s).0
+      → IsBettered poor most members candidates (bettered_as word after poor most members candidates s).0
   is_bettered true most members candidates s ups = picked_is_choice word after most (peers_of (above_median members candidates)) s (above_median_ascend members candidates ups)
   is_bettered false most members candidates s ups = refl
 

@@ -10,9 +10,17 @@ use Rattle.gs_mesh.specs.declared.condition.Condition.TheVariants.{Few, Many, Fe
 use Rattle.gs_mesh.specs.MeshSteps.{any_by_words, bettered, bettered_by_words, choice_of, condition_of, cut_by_words, is_poor, made_of, mended, mended_by_words, not_negative, step_by_words}
 
 module _ {S : Type 0} (word : S → ℕ) (after : S → S) where
-  -- whatever follows, it goes on with whom the mesh keeps, who is grafted, and the state behind that
+  -- what it chooses, and the state behind that
+  abbrev pub mended_as : Condition → Degrees → List Member → List Member → S → List PeerNo × List PeerNo × S
+  mended_as condition degrees members candidates s =
+      mended (any_by_words word after) (cut_by_words word after) condition degrees members candidates (λ kept grafted t. (kept, grafted, t)) s
+
+  abbrev pub bettered_as : Bool → ℕ → List Member → List Member → S → List PeerNo × S
+  bettered_as poor most members candidates s = bettered (any_by_words word after) poor most members candidates (λ more t. (more, t)) s
+
+  -- whatever follows, it goes on with that
   mended_goes_on : {A : Type 0} (condition : Condition) (degrees : Degrees) (members candidates : List Member) (next : List PeerNo → List PeerNo → S → A) (s t : S) (kept grafted : List PeerNo)
-      → mended (any_by_words word after) (cut_by_words word after) condition degrees members candidates (λ (k g : List PeerNo) (u : S). (k, g, u)) s ≡ (kept, grafted, t)
+      → mended_as condition degrees members candidates s ≡ (kept, grafted, t)
       → mended (any_by_words word after) (cut_by_words word after) condition degrees members candidates next s ≡ next kept grafted t
   mended_goes_on Few degrees members candidates next s t kept grafted is = ap (λ (x : List PeerNo × List PeerNo × S). next x.0 x.1 x.2) is
   mended_goes_on Many degrees members candidates next s t kept grafted is = ap (λ (x : List PeerNo × List PeerNo × S). next x.0 x.1 x.2) is
@@ -20,7 +28,7 @@ module _ {S : Type 0} (word : S → ℕ) (after : S → S) where
   mended_goes_on Well degrees members candidates next s t kept grafted is = ap (λ (x : List PeerNo × List PeerNo × S). next x.0 x.1 x.2) is
 
   bettered_goes_on : {A : Type 0} (poor : Bool) (most : ℕ) (members candidates : List Member) (next : List PeerNo → S → A) (s t : S) (more : List PeerNo)
-      → bettered (any_by_words word after) poor most members candidates (λ (m : List PeerNo) (u : S). (m, u)) s ≡ (more, t)
+      → bettered_as poor most members candidates s ≡ (more, t)
       → bettered (any_by_words word after) poor most members candidates next s ≡ next more t
   bettered_goes_on true most members candidates next s t more is = ap (λ (x : List PeerNo × S). next x.0 x.1) is
   bettered_goes_on false most members candidates next s t more is = ap (λ (x : List PeerNo × S). next x.0 x.1) is
