@@ -4,3 +4,4 @@ pub mod Keeping
 pub mod MemberLists
 pub mod Stepping
 pub mod StepLaws
+pub mod StepExamples
