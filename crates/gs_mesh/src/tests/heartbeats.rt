@@ -287,15 +287,21 @@ fn members_of(alloc: Global, rows: &[Row]) -> Result<Vec<Member>, AllocError> {
     Ok(members)
 }
 
+/// The peers by number, ascending, each once.
+fn in_order(alloc: Global, peers: &[PeerNo]) -> Result<PeerList, AllocError> {
+    let mut list = PeerList::new(alloc);
+    for peer in peers {
+        list.insert(*peer)?;
+    }
+    Ok(list)
+}
+
 /// Whether these are listed by number, ascending.
 fn ascend(alloc: Global, members: &[Member]) -> Result<bool, AllocError>
     ensures { IfOk result (λ holds. holds ≡ true → IsAscending (peers_of members.now)) }
 {
     let peers = peers_of(alloc, members)?;
-    let mut list = PeerList::new(alloc);
-    for peer in &peers {
-        list.insert(*peer)?;
-    }
+    let list = in_order(alloc, &peers)?;
     let ascends = list.as_slice() == peers.as_slice();
     Ok(ascends)
 }
