@@ -10,26 +10,20 @@ use crate::tests::beat_cases::{
     IDENTIFIERS_ANEW, KEEPING, KEPT_PROMISES, Moment, OFFERS_ANEW, READINGS, Reading, SHUT_DOWN,
     Seen, TEN_PROMISES, TOPICS_IN_ORDER,
 };
+use crate::tests::calls::{call, hear, is_due, number_of};
 use crate::tests::gossip::{tell, topic_of};
 use crate::tests::gossip_cases::{Act, Id};
 use crate::tests::sights::is_seen;
-use crate::tests::{checked, hear, is_due, neighbour, router_with, words};
+use crate::tests::{checked, neighbour, router_with, words};
 use bytes::Bytes;
 use gs_base::{Millis, Neighbour, PeerNo, Rpc, Seq};
 use gs_params::{Params, SeededWords, TopicParams};
-use gs_router::{Router, RouterFault};
+use gs_router::Router;
+use gs_rules::Event;
 use std::alloc::{AllocError, Global};
 use std::ops::Range;
 
 // ---- what is done
-
-/// The number of an answer; 0 where nothing was refused.
-fn number_of(answer: Result<(), RouterFault>) -> u8 {
-    match answer {
-        Ok(()) => 0,
-        Err(fault) => fault.number(),
-    }
-}
 
 /// Has a neighbour subscribe to a topic or leave it.
 fn turn(
@@ -112,23 +106,20 @@ pub fn live(
     deed: Deed<'_>,
     words: &mut SeededWords,
 ) -> Result<u8, AllocError> {
-    let now = Millis(at);
-    if !is_due(router.trace(), now) {
-        return Ok(u8::MAX);
-    }
-    let answer = match deed {
-        Deed::Join(name) => router.subscribe(topic_of(alloc, name)?, now, words),
-        Deed::Leave(name) => router.unsubscribe(topic_of(alloc, name)?, now, words),
+    let event = match deed {
+        Deed::Join(name) => Event::Subscribe(topic_of(alloc, name)?),
+        Deed::Leave(name) => Event::Unsubscribe(topic_of(alloc, name)?),
         Deed::Publish(name, payload) => {
             let payload = Bytes::copy_from_slice(alloc, &[payload])?;
-            router.publish(topic_of(alloc, name)?, payload, now, words)
+            Event::Publish(topic_of(alloc, name)?, payload)
         }
-        Deed::Gone(peer) => router.gone(PeerNo(peer), now, words),
-        Deed::Beat => router.heartbeat(now, words),
-        Deed::Decay => router.decay(now, words),
-        Deed::Shut => router.shut(now, words),
+        Deed::Gone(peer) => Event::Gone(PeerNo(peer)),
+        Deed::Beat => Event::Promises,
+        Deed::Decay => Event::Decay,
+        Deed::Shut => Event::Shut,
         said => return say(alloc, router, at, said, words),
     };
+    let answer = call(alloc, router, at, event, words)?;
     Ok(number_of(answer))
 }
 

@@ -3,18 +3,20 @@ ghost use Rattle.std.specs.Prelude.{◌≡◌, ◌≤◌, ◌^◌, pos, unsigned
 
 use crate::tests::beat_cases::Deed as LiveDeed;
 use crate::tests::beats::live;
-use crate::tests::gossip::topic_of;
+use crate::tests::calls::call;
+use crate::tests::gossip::{heard, topic_of};
 use crate::tests::mesh_cases::{
     ANSWERS, BACKOFF, BARRED, CHOICES, CHOSEN, Deed, FANNED, FANNED_AND_GONE, LEAVING, PRUNES,
     Said, Step,
 };
 use crate::tests::mesh_sights::{ends_with, has_members};
 use crate::tests::mesh_traffic::{CHARGED, FORWARDED, LOST, MISSING, PUBLISHED, Standing};
-use crate::tests::{checked, hear, is_due, neighbour, router_with, words};
+use crate::tests::{checked, neighbour, router_with, words};
 use bytes::Bytes;
 use gs_base::{Control, Graft, Millis, Neighbour, PeerNo, Prune, Rpc, Seq, Topic};
 use gs_params::{Degrees, Params, SeededWords, TopicParams};
 use gs_router::{Router, RouterFault};
+use gs_rules::Event;
 use std::alloc::{AllocError, Global};
 
 // ---- what is done
@@ -77,25 +79,19 @@ fn act(
     deed: Deed,
     words: &mut SeededWords,
 ) -> Result<Result<(), RouterFault>, AllocError> {
-    let now = Millis(at);
-    if !is_due(router.trace(), now) {
-        return Err(AllocError);
-    }
-    Ok(match deed {
-        Deed::Join => router.subscribe(topic_of(alloc, "a")?, now, words),
-        Deed::Leave => router.unsubscribe(topic_of(alloc, "a")?, now, words),
+    let event = match deed {
+        Deed::Join => Event::Subscribe(topic_of(alloc, "a")?),
+        Deed::Leave => Event::Unsubscribe(topic_of(alloc, "a")?),
         Deed::Publish(payload) => {
             let payload = Bytes::copy_from_slice(alloc, &[payload])?;
-            router.publish(topic_of(alloc, "a")?, payload, now, words)
+            Event::Publish(topic_of(alloc, "a")?, payload)
         }
-        Deed::Hear(from, said) => {
-            let rpc = rpc_of(alloc, said)?;
-            hear(alloc, router, PeerNo(from), &rpc, now, words)?
-        }
-        Deed::Gone(peer) => router.gone(PeerNo(peer), now, words),
-        Deed::Fault(peer) => router.fault(PeerNo(peer), now, words),
-        Deed::Decay => router.decay(now, words),
-    })
+        Deed::Hear(from, said) => heard(alloc, from, rpc_of(alloc, said)?)?,
+        Deed::Gone(peer) => Event::Gone(PeerNo(peer)),
+        Deed::Fault(peer) => Event::Fault(PeerNo(peer)),
+        Deed::Decay => Event::Decay,
+    };
+    call(alloc, router, at, event, words)
 }
 
 // ---- routers
