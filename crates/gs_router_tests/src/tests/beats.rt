@@ -1,6 +1,6 @@
 //! Heartbeats: which promises are broken, what is kept, and who is told what, moment by moment.
 
-ghost use Rattle.std.specs.Prelude.{◌≤◌, ◌^◌, unsigned_abs, All, IfOk};
+ghost use Rattle.std.specs.Prelude.{◌≡◌, ◌≤◌, ◌^◌, unsigned_abs, All, IfOk};
 ghost use Rattle.gs_base.specs.Names.{peers_of};
 ghost use Rattle.gs_base.specs.declared.neighbour.Neighbour.{Neighbour as NeighbourValue};
 ghost use Rattle.gs_params.specs.Picks.{IsAscending};
@@ -163,18 +163,52 @@ fn first_wrong_of(
     moments: &[Moment<'_>],
 ) -> Result<usize, AllocError> {
     let mut words = SeededWords::new(list.to_vec(alloc)?, 1, PeerNo(0));
-    let mut router = Router::new(alloc, checked(params)?, neighbours(alloc, count)?)?;
+    let mut router = Router::new(alloc, checked(params)?, neighbours(alloc, count, &[])?)?;
     first_wrong(alloc, &mut router, moments, &mut words)
 }
 
-/// Neighbours 1 to this number.
-fn neighbours(alloc: Global, count: u16) -> Result<Vec<Neighbour>, AllocError>
+/// What a neighbour is beside its number.
+#[derive(Clone, Copy)]
+pub enum Kind {
+    /// It dialled, and the application says nothing of it.
+    Plain,
+    /// It was dialled.
+    Dialled,
+    /// It scores -50.000001 by the application.
+    Distrusted,
+}
+
+/// A neighbour of this kind.
+fn neighbour_of(alloc: Global, number: u16, kind: Kind) -> Result<Neighbour, AllocError>
+    ensures number { IfOk result (λ neighbour. neighbour.peer.0 ≡ number) }
+    ensures app { IfOk result (λ neighbour. unsigned_abs neighbour.app ≤ 10 ^ 12) }
+{
+    let mut one = neighbour(alloc, number)?;
+    match kind {
+        Kind::Plain => Ok(one),
+        Kind::Dialled => {
+            one.outbound = true;
+            Ok(one)
+        }
+        Kind::Distrusted => {
+            one.app = -50_000_001;
+            Ok(one)
+        }
+    }
+}
+
+/// Neighbours 1 to this number, the first ones of these kinds.
+pub fn neighbours(alloc: Global, count: u16, kinds: &[Kind]) -> Result<Vec<Neighbour>, AllocError>
     ensures ascending { IfOk result (λ list. IsAscending (peers_of list.items)) }
     ensures apps { IfOk result (λ list. All (λ (n : NeighbourValue). unsigned_abs n.app ≤ 10 ^ 12) list.items) }
 {
     let mut list = Vec::new(alloc);
     for below in 0..count {
-        let one = neighbour(alloc, below + 1)?;
+        let kind = kinds
+            .get(usize::from(below))
+            .copied()
+            .unwrap_or(Kind::Plain);
+        let one = neighbour_of(alloc, below + 1, kind)?;
         list.push(one)?;
     }
     Ok(list)

@@ -107,13 +107,16 @@ pub fn call(
     if !is_due(router.trace(), now) {
         return Err(AllocError);
     }
-    match event {
-        Event::Heard(from, rpc) | Event::Late(from, rpc) => {
-            hear(alloc, router, from, rpc.get(), now, words)
-        }
-        event if is_wish(&event) => wish(router, event, now, words),
-        event => turn(router, &event, now, words).ok_or(AllocError),
+    if let Event::Heard(from, rpc) = &event {
+        return hear(alloc, router, *from, rpc.get(), now, words);
     }
+    if let Event::Late(from, rpc) = &event {
+        return hear(alloc, router, *from, rpc.get(), now, words);
+    }
+    if is_wish(&event) {
+        return wish(router, event, now, words);
+    }
+    turn(router, &event, now, words).ok_or(AllocError)
 }
 
 /// The number of a refusal; 0 where there is none.

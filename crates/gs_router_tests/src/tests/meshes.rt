@@ -1,8 +1,7 @@
 //! Meshes, fanouts and backoffs, moment by moment.
-ghost use Rattle.std.specs.Prelude.{◌≡◌, ◌≤◌, ◌^◌, pos, unsigned_abs, IfOk};
 
 use crate::tests::beat_cases::Deed as LiveDeed;
-use crate::tests::beats::live;
+use crate::tests::beats::{Kind, live, neighbours};
 use crate::tests::calls::call;
 use crate::tests::gossip::{heard, topic_of};
 use crate::tests::mesh_cases::{
@@ -11,9 +10,9 @@ use crate::tests::mesh_cases::{
 };
 use crate::tests::mesh_sights::{ends_with, has_members};
 use crate::tests::mesh_traffic::{CHARGED, FORWARDED, LOST, MISSING, PUBLISHED, Standing};
-use crate::tests::{checked, neighbour, router_with, words};
+use crate::tests::{checked, router_with, words};
 use bytes::Bytes;
-use gs_base::{Control, Graft, Millis, Neighbour, PeerNo, Prune, Rpc, Seq, Topic};
+use gs_base::{Control, Graft, Millis, PeerNo, Prune, Rpc, Seq, Topic};
 use gs_params::{Degrees, Params, SeededWords, TopicParams};
 use gs_router::{Router, RouterFault};
 use gs_rules::Event;
@@ -96,41 +95,11 @@ fn act(
 
 // ---- routers
 
-/// Neighbour 3, which was dialled.
-fn dialled(alloc: Global) -> Result<Neighbour, AllocError>
-    ensures number { IfOk result (λ neighbour. neighbour.peer.0 ≡ 3) }
-    ensures app { IfOk result (λ neighbour. neighbour.app ≡ pos 0) }
-{
-    Ok(Neighbour {
-        peer: PeerNo(3),
-        outbound: true,
-        address: Bytes::copy_from_slice(alloc, &[3])?,
-        app: 0,
-    })
-}
-
-/// Neighbour 4, of which the application thinks little.
-fn distrusted(alloc: Global) -> Result<Neighbour, AllocError>
-    ensures number { IfOk result (λ neighbour. neighbour.peer.0 ≡ 4) }
-    ensures app { IfOk result (λ neighbour. unsigned_abs neighbour.app ≤ 10 ^ 12) }
-{
-    Ok(Neighbour {
-        peer: PeerNo(4),
-        outbound: false,
-        address: Bytes::copy_from_slice(alloc, &[4])?,
-        app: -50_000_001,
-    })
-}
-
-/// A router with neighbours 1 to 4 and these parameters.
+/// A router with neighbours 1 to 4, of which 3 was dialled and 4 is distrusted, and these parameters.
 fn router_of_four(alloc: Global, params: Params) -> Result<Router, AllocError> {
-    let neighbours = vec![in alloc;
-        neighbour(alloc, 1)?,
-        neighbour(alloc, 2)?,
-        dialled(alloc)?,
-        distrusted(alloc)?,
-    ]?;
-    Router::new(alloc, checked(params)?, neighbours)
+    let kinds = &[Kind::Plain, Kind::Plain, Kind::Dialled, Kind::Distrusted];
+    let four = neighbours(alloc, 4, kinds)?;
+    Router::new(alloc, checked(params)?, four)
 }
 
 /// Parameters with meshes of so many members, and of at most so many.
