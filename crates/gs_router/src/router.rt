@@ -6,13 +6,13 @@ ghost use Rattle.gs_base.specs.declared.neighbour.Neighbour.{Neighbour as Neighb
 ghost use Rattle.gs_params.specs.Params.{AreInRange};
 ghost use Rattle.gs_params.specs.Picks.{IsAscending};
 ghost use Rattle.gs_rules.specs.declared.trace.Event.TheVariants as events;
-ghost use Rattle.gs_rules.specs.Tables.{last_moment, up};
-ghost use Rattle.gs_rules.specs.Meshes.{mesh};
-ghost use Rattle.gs_rules.specs.Scoring.{score};
+ghost use Rattle.gs_rules.specs.Tables.{last_moment};
 ghost use Rattle.gs_rules.specs.Modes.{exact};
 ghost use Rattle.gs_rules.specs.Legal.{hearing, losing};
 ghost use Rattle.gs_wire.specs.Codec.{codec};
-ghost use Rattle.gs_router.specs.Router.{Calls, IsLoss, IsUsers, answer_of, fails, meshes_of, scores_of};
+ghost use Rattle.gs_router.specs.Router.{Calls, IsLoss, IsUsers, answer_of, fails};
+
+mod reading;
 
 use crate::fault::RouterFault;
 use crate::rules;
@@ -21,7 +21,7 @@ use crate::setup::Setup;
 use crate::state::State;
 use crate::tables::Tables;
 use bytes::Bytes;
-use gs_base::{Millis, MsgId, Neighbour, PeerNo, Rpc, Seq, Topic};
+use gs_base::{Millis, MsgId, Neighbour, PeerNo, Rpc, Topic};
 use gs_params::{Params, Words};
 use gs_rules::{Event, Refusal, Trace};
 use std::alloc::{AllocError, Global};
@@ -79,87 +79,6 @@ impl Router {
             },
             is_stopped: false,
         })
-    }
-
-    /// What the router did.
-    pub fn trace(&self) -> &Trace
-        ensures { result.now ≡ self.now.trace }
-    {
-        &self.state.trace
-    }
-
-    /// What the router did.
-    pub fn into_trace(self) -> Trace
-        ensures { result ≡ self.trace }
-    {
-        let Router { state, .. } = self;
-        let State { trace, .. } = state;
-        trace
-    }
-
-    /// The moment of the last entry, and 0 where there is none.
-    pub fn last_moment(&self) -> Millis
-        ensures { result.0 ≡ last_moment self.now.trace }
-    {
-        self.state.trace.last_moment()
-    }
-
-    /// Whether a neighbour is heard and sent to. After want of memory nothing is known of the answer.
-    pub fn is_up(&self, peer: PeerNo) -> bool
-        ensures { self.now.is_stopped ≡ false → result ≡ up self.now.trace peer }
-    {
-        self.state.tables.neighbours.is_up(peer)
-    }
-
-    /// The time from heartbeat to heartbeat, in milliseconds.
-    pub fn heartbeat_ms(&self) -> u64
-        ensures { result ≡ self.now.peer.params.windows.heartbeat_ms }
-    {
-        self.state.setup.params.windows.heartbeat_ms
-    }
-
-    /// The time from step to step of the decay of scores, in milliseconds.
-    pub fn decay_ms(&self) -> u64
-        ensures { result ≡ self.now.peer.params.windows.decay_ms }
-    {
-        self.state.setup.params.windows.decay_ms
-    }
-
-    /// The score of a neighbour at a moment, in millionths (gossipsub v1.1, Peer Scoring, The Score Function). After
-    /// want of memory nothing is known of the answer.
-    pub fn score(&self, peer: PeerNo, now: Millis) -> i128
-        ensures { self.now.is_stopped ≡ false → result ≡ score self.now.peer self.now.trace now.0 peer }
-    {
-        self.state.tables.standings.score(peer, now)
-    }
-
-    /// The scores of all neighbours at a moment, by number. After want of memory nothing is known of them.
-    ///
-    /// # Errors
-    /// `AllocError` where there was no memory.
-    pub fn scores(&self, now: Millis) -> Result<Seq<(PeerNo, i128)>, AllocError>
-        ensures { IfOk result (λ scores. self.now.is_stopped ≡ false
-            → scores ≡ scores_of self.now.peer self.now.trace now.0) }
-    {
-        self.state.scores(now)
-    }
-
-    /// Who is in the mesh of a topic, ascending by number. After want of memory nothing is known of the answer.
-    pub fn members(&self, topic: &Topic) -> &[PeerNo]
-        ensures { self.now.is_stopped ≡ false → result.now ≡ mesh self.now.trace topic.now }
-    {
-        self.state.tables.memberships.members(topic)
-    }
-
-    /// The members of the meshes of the router's own topics, topics by their bytes, members by number. After want of
-    /// memory nothing is known of them.
-    ///
-    /// # Errors
-    /// `AllocError` where there was no memory.
-    pub fn meshes(&self) -> Result<Seq<(Topic, PeerNo)>, AllocError>
-        ensures { IfOk result (λ meshes. self.now.is_stopped ≡ false → meshes ≡ meshes_of self.now.trace) }
-    {
-        self.state.meshes()
     }
 
     /// Hears an RPC that came from a neighbour and fits a frame, as all do that a reader gives. Where the

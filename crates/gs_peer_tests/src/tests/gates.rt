@@ -1,0 +1,41 @@
+//! A gate that a task passes at each round.
+use crate::tests::made::{ONE, lists, said, script, task_in};
+use futures::executor::block_on;
+use gs_peer::{Gate, StopFlag, Surroundings};
+use std::sync::Arc;
+use std::sync::atomic::{AtomicU64, Ordering};
+use std::test::*;
+
+/// The workers and rounds of all turns so far, two digits each.
+#[derive(Drop)]
+struct Turns {
+    seen: Arc<AtomicU64>,
+}
+
+impl Gate for Turns {
+    fn turn(&self, worker: usize, round: u64) {
+        let turn = round.wrapping_add((worker as u64).wrapping_mul(10));
+        let before = self.seen.load(Ordering::SeqCst);
+        self.seen.store(
+            before.wrapping_mul(100).wrapping_add(turn),
+            Ordering::SeqCst,
+        );
+    }
+}
+
+/// A gate is told of each round, once, in order, with the worker.
+#[test]
+fn a_gate_is_told_of_each_round(rt: HostRuntime) -> Result<(), Fail> {
+    let seen = Arc::new(rt.alloc(), AtomicU64::new(0))?;
+    let surroundings = Surroundings {
+        ends: lists(rt.alloc(), said(rt.alloc(), 2)?, 10, 0)?,
+        gate: Turns {
+            seen: seen.clone()?,
+        },
+        stop: Arc::new(rt.alloc(), StopFlag::new())?,
+    };
+    let task = task_in(rt.alloc(), ONE, script(rt.alloc())?, 2, surroundings)?;
+    assert!(rt; block_on(&rt, task)?.is_ok());
+    assert_eq!(rt; seen.load(Ordering::SeqCst), 404142);
+    Ok(())
+}
