@@ -71,6 +71,7 @@ fn two_subscribers_get_one_message(rt: HostRuntime) -> Result<(), AllocError> {
         (2, "a", "publish", "news", Some("616263")),
     ];
     let report = "delivered a 200 news 616263\ndelivered b 300 news 616263\n\
+        mesh a news b\nmesh b news a\n\
         score a b 0.000000\nscore b a 0.000000\nlinks 2 settled\n";
     assert!(rt; reports(&rt, &[TWO, A_DIALS_B], &script, report)?);
     assert!(rt; reports(&rt, &[TWO, B_DIALS_A], &script, report)?);
@@ -148,6 +149,7 @@ fn what_is_said_in_the_last_round_is_late(rt: HostRuntime) -> Result<(), AllocEr
     ];
     let report = "delivered a 900 news 09\ndelivered a 1000 news 10\n\
         delivered b 1000 news 09\n\
+        mesh a news b\nmesh b news a\n\
         score a b 0.000000\nscore b a 0.000000\nlinks 2 settled\n";
     assert!(rt; reports(&rt, &[TWO, A_DIALS_B], &script, report)?);
     Ok(())
@@ -205,7 +207,7 @@ fn news(
     Ok(text)
 }
 
-/// Sixteen peers in a ring, who all subscribe in round 0. `p0` publishes in round 2.
+/// Sixteen peers in a ring, who all subscribe in round 0. `p0` publishes in round 12.
 fn ring(alloc: Global, workers: u64, capacity: u64) -> Result<String, AllocError> {
     let mut text = news(alloc, 20, workers, capacity, 16)?;
     for number in 0..16u64 {
@@ -215,49 +217,57 @@ fn ring(alloc: Global, workers: u64, capacity: u64) -> Result<String, AllocError
         text.push_str(&format!(in alloc; "[[do]]\nat = 0\npeer = \"p{number}\"\n")?)?;
         text.push_str("what = \"subscribe\"\ntopic = \"news\"\n")?;
     }
-    text.push_str("[[do]]\nat = 2\npeer = \"p0\"\nwhat = \"publish\"\n")?;
+    text.push_str("[[do]]\nat = 12\npeer = \"p0\"\nwhat = \"publish\"\n")?;
     text.push_str("topic = \"news\"\nhex = \"616263\"\n")?;
     Ok(text)
 }
 
-/// What is published reaches the neighbours, who offer it to theirs in round 10. Those ask for it in round
-/// 11, and get it in round 13. What they offer in round 20, the last one, comes too late.
-const RING_REPORT: &str = "delivered p0 200 news 616263\ndelivered p1 300 news 616263\n\
-    delivered p2 1300 news 616263\ndelivered p14 1300 news 616263\n\
-    delivered p15 300 news 616263\n\
-    score p0 p1 0.000000\nscore p0 p15 0.000000\n\
-    score p1 p0 0.000000\nscore p1 p2 0.000000\n\
-    score p2 p1 0.000000\nscore p2 p3 0.000000\n\
-    score p3 p2 0.000000\nscore p3 p4 0.000000\n\
-    score p4 p3 0.000000\nscore p4 p5 0.000000\n\
-    score p5 p4 0.000000\nscore p5 p6 0.000000\n\
-    score p6 p5 0.000000\nscore p6 p7 0.000000\n\
-    score p7 p6 0.000000\nscore p7 p8 0.000000\n\
-    score p8 p7 0.000000\nscore p8 p9 0.000000\n\
-    score p9 p8 0.000000\nscore p9 p10 0.000000\n\
-    score p10 p9 0.000000\nscore p10 p11 0.000000\n\
-    score p11 p10 0.000000\nscore p11 p12 0.000000\n\
-    score p12 p11 0.000000\nscore p12 p13 0.000000\n\
-    score p13 p12 0.000000\nscore p13 p14 0.000000\n\
-    score p14 p13 0.000000\nscore p14 p15 0.000000\n\
-    score p15 p0 0.000000\nscore p15 p14 0.000000\n\
-    links 32 settled\n";
+/// The two neighbours of a peer of the ring, by number.
+fn beside(number: u64) -> (u64, u64) {
+    let next = (number % 16 + 1) % 16;
+    let last = (number % 16 + 15) % 16;
+    (next.min(last), next.max(last))
+}
+
+/// In round 10 each grafts its neighbours. What is published in round 12 passes the ring both ways, a peer each round, and
+/// meets in round 20, the last one.
+fn ring_report(alloc: Global) -> Result<String, AllocError> {
+    let mut report = String::new(alloc);
+    for number in 0..16u64 {
+        let moment = 1_200 + 100 * number.min(16 - number);
+        report.push_str(&format!(in alloc; "delivered p{number} {moment} news 616263\n")?)?;
+    }
+    for number in 0..16u64 {
+        let (first, second) = beside(number);
+        report.push_str(&format!(in alloc; "mesh p{number} news p{first}\n")?)?;
+        report.push_str(&format!(in alloc; "mesh p{number} news p{second}\n")?)?;
+    }
+    for number in 0..16u64 {
+        let (first, second) = beside(number);
+        report.push_str(&format!(in alloc; "score p{number} p{first} 0.000000\n")?)?;
+        report.push_str(&format!(in alloc; "score p{number} p{second} 0.000000\n")?)?;
+    }
+    report.push_str("links 32 settled\n")?;
+    Ok(report)
+}
 
 #[test]
 fn a_ring_of_sixteen_threads_has_one_report(rt: HostRuntime) -> Result<(), AllocError> {
     let text = ring(rt.alloc(), 16, 1)?;
+    let report = ring_report(rt.alloc())?;
     for _ in 0..100u32 {
-        assert!(rt; is_reported(&rt, &NoGate, &text, RING_REPORT));
+        assert!(rt; is_reported(&rt, &NoGate, &text, &report));
     }
     Ok(())
 }
 
 #[test]
 fn workers_and_capacity_change_no_report(rt: HostRuntime) -> Result<(), AllocError> {
+    let report = ring_report(rt.alloc())?;
     for workers in [1, 2, 3, 8] {
         for capacity in [1, 8] {
             let text = ring(rt.alloc(), workers, capacity)?;
-            assert!(rt; is_reported(&rt, &NoGate, &text, RING_REPORT));
+            assert!(rt; is_reported(&rt, &NoGate, &text, &report));
         }
     }
     Ok(())

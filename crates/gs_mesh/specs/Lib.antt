@@ -1,3 +1,4 @@
 pub mod Peers
 pub mod Backoffs
 pub mod Meshes
+pub mod MeshSteps

@@ -3,11 +3,17 @@
 #![tactic(auto)]
 
 mod backoffs;
+mod condition;
+mod cut;
+mod heartbeat;
+mod members;
 mod meshes;
 mod peer_list;
 mod topic_mesh;
 
 pub use backoffs::Backoffs;
+pub use condition::Condition;
+pub use heartbeat::{Choice, a_choice_by_words_is_a_mesh_step, choose_heartbeat};
 pub use meshes::Meshes;
 pub use peer_list::PeerList;
 pub use topic_mesh::TopicMesh;

@@ -1,3 +1,4 @@
 //! Topics, their meshes and their fanouts.
+mod heartbeats;
 mod lists;
 mod topics;

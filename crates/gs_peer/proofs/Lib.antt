@@ -15,6 +15,7 @@ pub mod Grows
 pub mod Steps
 pub mod Played
 pub mod Tasks
+pub mod SameRpc
 pub mod Queues
 pub mod BoxPlaces
 pub mod Beginning

@@ -16,8 +16,8 @@ told_if may old new slot w may_be says is =
     ∙ ap (λ v. flat old ++ v) (says ∙ sym (ap (λ b. said_if b w) may_be))
 
 -- and so is a frame
-pub told_frame : (may : Bool) (old new : List Slot) (frame text : List ℕ) → may ≡ true → frame ≡ text → new ≡ old ++ Piece frame ∷ [] → flat new ≡ flat old ++ said_if may (map Byte text)
-told_frame may old new frame text may_be is puts = told_if may old new (Piece frame) (map Byte text) may_be (append-nil (map Byte frame) ∙ ap (map Byte) is) puts
+pub told_frame : (may : Bool) (old new : List Slot) (frame : List ℕ) → may ≡ true → new ≡ old ++ Piece frame ∷ [] → flat new ≡ flat old ++ said_if may (map Byte frame)
+told_frame may old new frame may_be puts = told_if may old new (Piece frame) (map Byte frame) may_be (append-nil (map Byte frame)) puts
 
 -- what is moved from the front of one list to the back of another is said by both together as before
 pub moved : (before after behind : List Slot) (slot : Slot) → after ≡ before ++ slot ∷ [] → flat after ++ flat behind ≡ flat before ++ flat (slot ∷ behind)

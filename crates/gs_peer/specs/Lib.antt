@@ -2,6 +2,7 @@ pub mod Ended
 pub mod Places
 pub mod Inboxes
 pub mod Outboxes
+pub mod Framed
 pub mod Playing
 pub mod Agendas
 pub mod Players

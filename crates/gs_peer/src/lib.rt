@@ -5,6 +5,7 @@ mod agenda;
 mod assignment;
 mod calls;
 mod finished;
+mod frames;
 mod gate;
 mod inbox;
 mod outbox;

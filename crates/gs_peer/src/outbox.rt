@@ -2,7 +2,6 @@
 ghost use Rattle.std.specs.Prelude.{◌≡◌, ◌≤◌, ◌++◌, ◌∷◌, [], true, false, length, map, OnOk, IfOk};
 ghost use Rattle.gs_base.specs.declared.names.PeerNo.{PeerNo as PeerNoValue};
 ghost use Rattle.gs_base.specs.Tokens.{Byte, Close, EndOf};
-ghost use Rattle.gs_wire.specs.Codec.{codec};
 ghost use Rattle.gs_link.specs.Flat.{flat};
 ghost use Rattle.gs_link.specs.declared.item.Slot.TheVariants.{Piece, Close as Closing};
 ghost use Rattle.gs_link.specs.Items.{IsPiece, IsSendable, slot_of};
@@ -11,10 +10,9 @@ ghost use Rattle.gs_peer.specs.Outboxes.{AcceptsOne, said_if};
 
 use crate::queue::Queue;
 use bytes::Bytes;
-use gs_base::{PeerNo, Rpc};
+use gs_base::PeerNo;
 use gs_ends::Ends;
 use gs_link::{Item, LONGEST_PIECE, SendRefused, Slot};
-use gs_wire::{WireFault, encode_frame};
 use std::alloc::{AllocError, Global};
 
 /// What waits to go to a neighbour, and whether more may be said to it.
@@ -36,17 +34,15 @@ impl Outbox {
         }
     }
 
-    /// Puts the frame of an RPC at the back, if more may be said.
-    pub(crate) fn send(&mut self, alloc: Global, rpc: &Rpc) -> Result<(), AllocError>
-        requires { codec.fits rpc.now ≡ true }
+    /// Puts a frame at the back, if more may be said.
+    pub(crate) fn send(&mut self, frame: Bytes) -> Result<(), AllocError>
         ensures told { OnOk result (flat self.new.slots
-            ≡ flat self.old.slots ++ said_if self.old.is_open (map Byte (codec.frame rpc.now))) }
+            ≡ flat self.old.slots ++ said_if self.old.is_open (map Byte frame)) }
         ensures open { OnOk result (self.new.is_open ≡ self.old.is_open) }
     {
         if !self.is_open {
             return Ok(());
         }
-        let frame = frame_of(alloc, rpc)?;
         self.slots.push_back(Slot::Piece(frame))?;
         Ok(())
     }
@@ -198,19 +194,4 @@ impl Outbox {
             Item::Round(round) => self.slots.push_front(Slot::Round(round)),
         }
     }
-}
-
-/// The frame of an RPC.
-fn frame_of(alloc: Global, rpc: &Rpc) -> Result<Bytes, AllocError>
-    requires { codec.fits rpc.now ≡ true }
-    ensures { IfOk result (λ frame. frame ≡ codec.frame rpc.now) }
-{
-    let mut frame = Vec::new(alloc);
-    match encode_frame(rpc, &mut frame) {
-        Ok(()) => {}
-        Err(WireFault::NoMemory) => return Err(AllocError),
-        Err(_) => unreachable!(),
-    }
-    let shared = Bytes::from_vec(frame)?;
-    Ok(shared)
 }

@@ -10,7 +10,9 @@ ghost use Rattle.gs_link.specs.Flat.{flat};
 ghost use Rattle.gs_ends.specs.Ends.{OthersStay, has};
 ghost use Rattle.gs_peer.specs.Outboxes.{AcceptsOne, is_open, opens_behind, said_by_all, said_if, told_sends, waiting};
 
+use crate::frames::frame_for;
 use crate::outbox::Outbox;
+use bytes::Bytes;
 use gs_base::{PeerNo, Rpc, Shared};
 use gs_ends::Ends;
 use gs_rules::{Entry, Event};
@@ -114,7 +116,8 @@ impl Outboxes {
         }
     }
 
-    /// Puts the frames of what an entry sends at the back of what waits.
+    /// Puts the frames of what an entry sends at the back of what waits. An RPC that goes to several
+    /// neighbours, one behind the other, is written once.
     fn send_all(&mut self, alloc: Global, sends: &[(PeerNo, Shared<Rpc>)]) -> Result<(), AllocError>
         requires { SendsFit codec sends.now }
         ensures told { OnOk result ((q : PeerNoValue)
@@ -122,23 +125,24 @@ impl Outboxes {
             ≡ flat (waiting self.old q) ++ told_sends codec q (is_open self.old q) sends.now) }
         ensures open { OnOk result ((q : PeerNoValue) → is_open self.new q ≡ is_open self.old q) }
     {
+        let mut last = None;
         for (to, rpc) in sends {
-            self.send(alloc, usize::from(to.0), rpc.get())?;
+            let frame = frame_for(alloc, &mut last, rpc)?;
+            self.send(usize::from(to.0), frame)?;
         }
         Ok(())
     }
 
-    /// Puts the frame of an RPC at the back of what waits for the neighbour of this number.
-    fn send(&mut self, alloc: Global, place: usize, rpc: &Rpc) -> Result<(), AllocError>
-        requires { codec.fits rpc.now ≡ true }
+    /// Puts a frame at the back of what waits for the neighbour of this number.
+    fn send(&mut self, place: usize, frame: Bytes) -> Result<(), AllocError>
         ensures told { OnOk result ((q : PeerNoValue)
             → flat (waiting self.new q) ≡ flat (waiting self.old q)
-            ++ said_if (is_open self.old q) (if nat_eq place q.0 then map Byte (codec.frame rpc.now) else [])) }
+            ++ said_if (is_open self.old q) (if nat_eq place q.0 then map Byte frame else [])) }
         ensures open { OnOk result ((q : PeerNoValue) → is_open self.new q ≡ is_open self.old q) }
     {
         match self.boxes.get_mut(place) {
             Some(outbox) => {
-                outbox.send(alloc, rpc)?;
+                outbox.send(frame)?;
                 Ok(())
             }
             None => Ok(()),

@@ -13,7 +13,7 @@ use Rattle.gs_base.specs.declared.mark.Mark.{Mark}
 use Rattle.gs_base.specs.declared.mark.Mark.TheVariants.{Published}
 use Rattle.gs_base.specs.Names.{same_topic}
 use Rattle.gs_rules.specs.declared.trace.Event.{Event}
-use Rattle.gs_rules.specs.declared.trace.Event.TheVariants.{Subscribe, Unsubscribe}
+use Rattle.gs_rules.specs.declared.trace.Event.TheVariants.{FanEnd, Subscribe, Unsubscribe}
 use Rattle.gs_rules.specs.declared.trace.Entry.{Entry}
 use Rattle.gs_rules.specs.Tables.{Entries, after_marks, joined, joined_after, known, known_after, topic_order}
 use Rattle.gs_rules.specs.Meshes.{dropped_after, ever_fanned, fanned_topics_after, has_mesh, last_published, published_after}
@@ -79,12 +79,13 @@ marks_list q at (Published u ∷ marks) o ts listed is = marks_list q at marks (
     by false same some = still_listed q u ts (listed some)
 marks_list q at (other ∷ marks) o ts listed is = marks_list q at marks o ts listed is
 
+still_some : (ends : Bool) (o : Option ℕ) → is_some (if ends then None else o) ≡ true → is_some o ≡ true
+still_some true o is = absurd cc
+still_some false o is = is
+
 was_some : (q : Topic) (event : Event) (o : Option ℕ) → is_some (dropped_after q None event o) ≡ true → is_some o ≡ true
-was_some q (Subscribe u) o is = by (same_topic u q) is
-  where
-    by : (b : Bool) → is_some (if b then None else o) ≡ true → is_some o ≡ true
-    by true is = absurd cc
-    by false is = is
+was_some q (Subscribe u) o is = still_some (same_topic u q) o is
+was_some q (FanEnd u) o is = still_some (same_topic u q) o is
 was_some q other o is = is
 
 published_is_listed : (L : Entries) (q : Topic) → is_some (last_published L q) ≡ true → list_any (same_topic q) (ever_fanned L) ≡ true
@@ -175,12 +176,13 @@ fanned_so t at (Published u ∷ marks) o = ap (after_marks (fanned_by t) marks) 
     by false = refl
 fanned_so t at (other ∷ marks) o = fanned_so t at marks o
 
+ended_so : (ends : Bool) (o : Option ℕ) → (if ends then false else is_some o) ≡ is_some (if ends then None else o)
+ended_so true o = refl
+ended_so false o = refl
+
 dropped_so : (t : Topic) (event : Event) (o : Option ℕ) → dropped_by t event (is_some o) ≡ is_some (dropped_after t None event o)
-dropped_so t (Subscribe u) o = by (same_topic u t)
-  where
-    by : (b : Bool) → (if b then false else is_some o) ≡ is_some (if b then None else o)
-    by true = refl
-    by false = refl
+dropped_so t (Subscribe u) o = ended_so (same_topic u t) o
+dropped_so t (FanEnd u) o = ended_so (same_topic u t) o
 dropped_so t other o = refl
 
 pub fanned_all : (new : MeshTopics) (e : Entry) (L : Entries) (marks : List Mark) → marks ≡ e.marks

@@ -16,29 +16,31 @@ use Rattle.gs_base.specs.declared.verdict.Verdict.{Verdict}
 use Rattle.gs_base.specs.declared.verdict.Verdict.TheVariants.{Accept, Reject, Ignore}
 use Rattle.gs_base.specs.declared.mark.Mark.TheVariants as marks
 use Rattle.gs_rules.specs.declared.trace.Event.{Event}
-use Rattle.gs_rules.specs.declared.trace.Event.TheVariants.{Heard, Sub, Msg, Have, Want, GraftIn, PruneIn, Subscribe, Publish, Promises, GossipBeat}
+use Rattle.gs_rules.specs.declared.trace.Event.TheVariants.{Heard, Sub, Msg, Have, Want, GraftIn, PruneIn, Subscribe, Publish, Promises, MeshBeat, FanBeat, GossipBeat}
 use Rattle.gs_rules.specs.declared.trace.Entry.{Entry}
 use Rattle.gs_base.specs.Names.{topic_or_empty, topic_of, payload_of, message_id, is_signed}
 use Rattle.gs_rules.specs.Peers.{Peer, seen_ttl}
-use Rattle.gs_rules.specs.Tables.{Entries, last_moment, joined, offers, seen}
+use Rattle.gs_rules.specs.Tables.{Entries, heartbeats, last_moment, joined, offers, seen}
 use Rattle.gs_mesh.specs.Peers.{is_among}
 use Rattle.gs_rules.specs.Meshes.{backoff, fanout, mesh}
-use Rattle.gs_rules.specs.Membership.{each_on, entering, is_negative}
+use Rattle.gs_rules.specs.BeatRules.{members_of, mending, mesh_beat_rule}
+use Rattle.gs_rules.specs.Membership.{candidates, each_on, entering, is_negative}
 use Rattle.gs_rules.specs.MeshRules.{fanout_publish, graft_rule, is_full_for, left_by, prune_rule, pruned_by, publish_rule, publishing, refusing, sub_rule}
 use Rattle.gs_rules.specs.Scoring.{is_graylisted, is_ignored, is_passed_over}
-use Rattle.gs_rules.specs.Owed.{Debt, Group, PartsOf, beats, gossip_topics, nothing, owed, owes, owing, paid, parts}
+use Rattle.gs_rules.specs.Owed.{Debt, Group, PartsOf, events_in, heartbeat_groups, held_or, nothing, owed, owes, owing, paid, parts, reached}
 use Rattle.gs_params.specs.Picks.{IsAscending}
 use Rattle.gs_rules.specs.Rules.{Rule, Gives, AnyOf, CutOf, OneOf, answering, answers, asked_for, bare, counted, have_rule, ids_in, listeners, message_rule, new_message, rule_of, want_rule, wanted, without}
 use Rattle.gs_rules.specs.Modes.{Mode, Follows, free}
 use Rattle.gs_rules.specs.Legal.{Legal, LegalOn, IsAllowed, IsNext, MayOpen, Begins}
 use Rattle.gs_base.specs.Names.{peers_of}
 use Rattle.gs_rules.proofs.Judged.{of_a_message}
-use Rattle.gs_rules.proofs.Owed.{beat_owes, heard_owes, owes_none, paid_last}
+use Rattle.gs_rules.proofs.Owed.{owes_none}
 use Rattle.gs_rules.proofs.Legality.{Weakens, follows_weakly, legal_on, legal_one, legal_then, legal_weakly}
 use Rattle.gs_router.specs.declared.setup.Setup.{Setup}
 use Rattle.gs_router.specs.declared.state.State.{State}
 use Rattle.gs_router.specs.declared.tables.standings.Standings.{Standings}
 use Rattle.gs_router.specs.Tables.{Agrees, AgreesOnScores, AreMadeFor}
+use Rattle.gs_router.proofs.Maintaining.{of_stepped}
 use Rattle.gs_router.specs.State.{Appends, Ends, IsCurrent, IsReady, Knows, Steps, peer_with}
 
 -- ---- rules
@@ -129,6 +131,14 @@ publish_tells p L at t payload = by p.params.flood_publish (joined L t)
     by false true = record { moment = refl; tells = refl }
     by false false = fanout_tells p L at t payload (fanout L t)
 
+mesh_beat_tells : (p : Peer) (L : Entries) (at : Millis) (t : Topic) → TellsOnly at (MeshBeat t) (mesh_beat_rule p L at t)
+mesh_beat_tells p L at t =
+    of_stepped (TellsOnly at (MeshBeat t)) (λ k qs rule each. each) (λ degrees members rule each. each) p.params (heartbeats L)
+    (members_of p L at.0 (mesh L t))
+    (members_of p L at.0 (candidates p L at.0 t))
+    (λ choice. Gives (mending p L at t choice))
+    (λ choice. record { moment = refl; tells = refl })
+
 rule_tells : (p : Peer) (L : Entries) (at : Millis) (event : Event) → TellsOnly at event (rule_of p L at event)
 rule_tells p L at (Msg q m) = message_tells p L at q m
 rule_tells p L at (Have q offer) = have_tells p L at q offer
@@ -138,6 +148,8 @@ rule_tells p L at (GraftIn q graft) = graft_tells p L at q graft
 rule_tells p L at (PruneIn q prune) = prune_tells p L at q prune
 rule_tells p L at (Subscribe t) = λ first others. record { moment = refl; tells = refl }
 rule_tells p L at (Publish t payload) = publish_tells p L at t payload
+rule_tells p L at (MeshBeat t) = mesh_beat_tells p L at t
+rule_tells p L at (FanBeat t) = λ chosen. record { moment = refl; tells = refl }
 rule_tells p L at (GossipBeat t) = λ chosen. record { moment = refl; tells = refl }
 rule_tells p L at other = record { moment = refl; tells = refl }
 
@@ -191,6 +203,8 @@ module _ (m : Mode) (weakens : Weakens m free (λ u. tt)) where
             scores = subst₂ (λ (g : Setup) (L : Entries). AgreesOnScores (peer_with g) b.tables.standings L) (sym setup) (sym added) (scores (peer_with a.setup) a.trace current.scores);
             made = subst (λ (g : Setup). AreMadeFor b.tables (peer_with g)) (sym setup) (made (peer_with a.setup) current.made);
             ascending = subst (λ (g : Setup). IsAscending (peers_of g.neighbours.items)) (sym setup) current.ascending;
+            ticks = subst (λ (g : Setup). 1 ≤ g.params.windows.opportunistic_ticks) (sym setup) current.ticks;
+            room = subst (λ (g : Setup). g.params.degrees.d_score + g.params.degrees.d_out ≤ g.params.degrees.d) (sym setup) current.room;
           };
           kept = tt;
           setup = setup;
@@ -246,17 +260,17 @@ next_opens p L at event settled may = subst (λ (debt : Debt). IsNext p L at deb
 pub next_left : {X : Type 0} (xs : List X) (place : ℕ) (x : X) → place < length xs → x ≡ get_or xs place x → drop place xs ≡ x ∷ drop (place + 1) xs
 next_left xs place x below there = drop_more xs place x below ∙ ap (λ y. y ∷ drop (place + 1) xs) (sym there)
 
--- these events are left of the last group that is owed
-abbrev pub last_group : List Event → Debt
-last_group events = record { events = events; groups = [] }
+-- these events are left of the group that was reached, and these groups are behind it
+abbrev pub left_with : Peer → Entries → List Event → List Group → Debt
+left_with p L events groups = held_or events groups (reached p L groups)
 
 -- Where an event has begun: its entry and those of some of what it owes stand behind the trace of a, by choices from s to t, and
--- these events are left.
-pub record Paying (m : Mode) (now : Millis) (event : Event) (a : State) (s : m.State) (b : State) (t : m.State) (left : List Event) : Type 0 where
+-- these events are left, and then these groups.
+pub record Paying (m : Mode) (now : Millis) (event : Event) (a : State) (s : m.State) (b : State) (t : m.State) (left : List Event) (groups : List Group) : Type 0 where
   pub current : IsCurrent b
   pub setup : b.setup ≡ a.setup
   pub moment : last_moment b.trace ≡ now.0
-  pub owes : owed (peer_with a.setup) b.trace ≡ last_group left
+  pub owes : owed (peer_with a.setup) b.trace ≡ left_with (peer_with a.setup) b.trace left groups
   pub begun : Begins (peer_with a.setup) now event a.trace b.trace
   pub appended : Appends m (peer_with a.setup) a.trace s b.trace t
 
@@ -265,14 +279,25 @@ not_nil x xs [] is = absurd cc
 not_nil x xs (y ∷ ys) is = λ none. absurd cc
 
 -- what is owed first may come
-pub next_due : (m : Mode) (now : Millis) (event first : Event) (rest : List Event) (a b : State) (s t : m.State) → Paying m now event a s b t (first ∷ rest) → IsNext (peer_with b.setup) b.trace now.0 (owed (peer_with b.setup) b.trace).events first
-next_due m now event first rest a b s t h =
-    let owed_first : owed (peer_with b.setup) b.trace ≡ last_group (first ∷ rest) = ap (λ (g : Setup). owed (peer_with g) b.trace) h.setup ∙ h.owes in
+pub next_due : (m : Mode) (now : Millis) (event first : Event) (rest : List Event) (groups : List Group) (a b : State) (s t : m.State) → Paying m now event a s b t (first ∷ rest) groups → IsNext (peer_with b.setup) b.trace now.0 (owed (peer_with b.setup) b.trace).events first
+next_due m now event first rest groups a b s t h =
+    let owed_first : owed (peer_with b.setup) b.trace ≡ record { events = first ∷ rest; groups = groups } = ap (λ (g : Setup). owed (peer_with g) b.trace) h.setup ∙ h.owes in
     subst (λ (debt : Debt). IsNext (peer_with b.setup) b.trace now.0 debt.events first) (sym owed_first) refl
+
+-- where nothing is left of a group, the next one is reached
+pub pays_group : (m : Mode) (now : Millis) (event : Event) (group : Group) (groups : List Group) (a b : State) (s t : m.State) → Paying m now event a s b t [] (group ∷ groups) → Paying m now event a s b t (events_in (peer_with a.setup) b.trace group) groups
+pays_group m now event group groups a b s t h = record {
+  current = h.current;
+  setup = h.setup;
+  moment = h.moment;
+  owes = h.owes;
+  begun = h.begun;
+  appended = h.appended;
+}
 
 module _ (m : Mode) {A E : Type 0} where
   -- an RPC that is not heard in vain owes its parts
-  pub hears_first : (now : Millis) (q : PeerNo) (rpc : Rpc) (a b : State) (s t : m.State) (x : A) → is_graylisted (peer_with a.setup) a.trace now.0 q ≡ false → Steps {A = A} {E = E} m (Heard q rpc) now a s (Ok x) b t → Paying m now (Heard q rpc) a s b t (parts q rpc)
+  pub hears_first : (now : Millis) (q : PeerNo) (rpc : Rpc) (a b : State) (s t : m.State) (x : A) → is_graylisted (peer_with a.setup) a.trace now.0 q ≡ false → Steps {A = A} {E = E} m (Heard q rpc) now a s (Ok x) b t → Paying m now (Heard q rpc) a s b t (parts q rpc) []
   hears_first now q rpc a b s t x listened steps =
       let one = steps.added in
       let p = peer_with a.setup in
@@ -282,14 +307,13 @@ module _ (m : Mode) {A E : Type 0} where
         moment = ap last_moment one.added ∙ ap (λ (at : Millis). at.0) one.moment;
         owes = ap (owed p) one.added
             ∙ ap₂ (λ (at : Millis) (ev : Event). owing p (one.entry ∷ a.trace) (owes p a.trace at.0 ev) (owed p a.trace)) one.moment one.opened
-            ∙ ap (λ (in_vain : Bool). owing p (one.entry ∷ a.trace) (if in_vain then [] else PartsOf q rpc ∷ []) (owed p a.trace)) listened
-            ∙ heard_owes p (one.entry ∷ a.trace) q rpc;
+            ∙ ap (λ (in_vain : Bool). owing p (one.entry ∷ a.trace) (if in_vain then [] else PartsOf q rpc ∷ []) (owed p a.trace)) listened;
         begun = record { first = one.entry; paid = []; entries = one.added; opened = one.opened; moment = one.moment; payments = tt };
         appended = record { entries = one.entry ∷ []; are = one.added; legal = one.legal };
       }
 
-  -- a heartbeat owes gossip, and its end
-  pub beats_first : (now : Millis) (a b : State) (s t : m.State) (x : A) → Steps {A = A} {E = E} m Promises now a s (Ok x) b t → Paying m now Promises a s b t (beats (gossip_topics (peer_with a.setup) b.trace))
+  -- a heartbeat owes what it does to meshes, to fanouts and by gossip
+  pub beats_first : (now : Millis) (a b : State) (s t : m.State) (x : A) → Steps {A = A} {E = E} m Promises now a s (Ok x) b t → Paying m now Promises a s b t [] (heartbeat_groups now.0)
   beats_first now a b s t x steps =
       let one = steps.added in
       let p = peer_with a.setup in
@@ -299,15 +323,14 @@ module _ (m : Mode) {A E : Type 0} where
         moment = ap last_moment one.added ∙ ap (λ (at : Millis). at.0) one.moment;
         owes = ap (owed p) one.added
             ∙ ap₂ (λ (at : Millis) (ev : Event). owing p (one.entry ∷ a.trace) (owes p a.trace at.0 ev) (owed p a.trace)) one.moment one.opened
-            ∙ beat_owes p (one.entry ∷ a.trace)
-            ∙ ap (λ (L : Entries). last_group (beats (gossip_topics p L))) (sym one.added);
+            ∙ ap (λ (L : Entries). reached p L (heartbeat_groups now.0)) (sym one.added);
         begun = record { first = one.entry; paid = []; entries = one.added; opened = one.opened; moment = one.moment; payments = tt };
         appended = record { entries = one.entry ∷ []; are = one.added; legal = one.legal };
       }
 
   -- one more event of the group is paid, which owes nothing itself
-  pub pays_next : (now : Millis) (event first : Event) (rest : List Event) (a b c : State) (s t u : m.State) (x : A) → Paying m now event a s b t (first ∷ rest) → owes (peer_with a.setup) b.trace now.0 first ≡ [] → Steps {A = A} {E = E} m first now b t (Ok x) c u → Paying m now event a s c u rest
-  pays_next now event first rest a b c s t u x h alone steps =
+  pub pays_next : (now : Millis) (event first : Event) (rest : List Event) (groups : List Group) (a b c : State) (s t u : m.State) (x : A) → Paying m now event a s b t (first ∷ rest) groups → owes (peer_with a.setup) b.trace now.0 first ≡ [] → Steps {A = A} {E = E} m first now b t (Ok x) c u → Paying m now event a s c u rest groups
+  pays_next now event first rest groups a b c s t u x h alone steps =
       let one = steps.added in
       let p = peer_with a.setup in
       let behind : LegalOn m p t (h.appended.entries ++ a.trace) (one.entry ∷ []) u = subst₂ (λ (g : Setup) (L : Entries). LegalOn m (peer_with g) t L (one.entry ∷ []) u) h.setup h.appended.are one.legal in
@@ -319,7 +342,7 @@ module _ (m : Mode) {A E : Type 0} where
             ∙ ap₂ (λ (at : Millis) (ev : Event). owing p (one.entry ∷ b.trace) (owes p b.trace at.0 ev) (owed p b.trace)) one.moment one.opened
             ∙ owes_none p b.trace (one.entry ∷ b.trace) now.0 first (owed p b.trace) alone
             ∙ ap (paid p (one.entry ∷ b.trace)) h.owes
-            ∙ paid_last p (one.entry ∷ b.trace) (first ∷ rest);
+            ∙ ap (λ (L : Entries). left_with p L rest groups) (sym one.added);
         begun = record {
           first = h.begun.first;
           paid = one.entry ∷ h.begun.paid;
@@ -336,7 +359,7 @@ module _ (m : Mode) {A E : Type 0} where
       }
 
   -- nothing is left to pay
-  pub pays_all : (now : Millis) (event : Event) (a b : State) (s t : m.State) (x : A) → Paying m now event a s b t [] → Ends {A = A} {E = E} m event now a s (Ok x) b t
+  pub pays_all : (now : Millis) (event : Event) (a b : State) (s t : m.State) (x : A) → Paying m now event a s b t [] [] → Ends {A = A} {E = E} m event now a s (Ok x) b t
   pays_all now event a b s t x h = record {
     opened = record { begun = h.begun; settled = h.owes };
     appended = h.appended;
@@ -348,9 +371,9 @@ module _ (m : Mode) {A E : Type 0} where
   }
 
   -- memory was wanting for what is owed
-  pub pays_some : (now : Millis) (event : Event) (left : List Event) (a b c : State) (s t u : m.State) (done : Result A E) → IsErr done → Paying m now event a s b t left → c.trace ≡ b.trace → c.setup ≡ b.setup → Ends m event now a s done c u
-  pays_some now event left a b c s t u (Ok x) fails h kept setup = absurd cc
-  pays_some now event left a b c s t u (Err e) fails h kept setup = record {
+  pub pays_some : (now : Millis) (event : Event) (left : List Event) (groups : List Group) (a b c : State) (s t u : m.State) (done : Result A E) → IsErr done → Paying m now event a s b t left groups → c.trace ≡ b.trace → c.setup ≡ b.setup → Ends m event now a s done c u
+  pays_some now event left groups a b c s t u (Ok x) fails h kept setup = absurd cc
+  pays_some now event left groups a b c s t u (Err e) fails h kept setup = record {
     opened = tt;
     appended = tt;
     ready = tt;

@@ -5,3 +5,4 @@ pub mod Router
 pub mod Offers
 pub mod Requests
 pub mod Meshes
+pub mod Beats

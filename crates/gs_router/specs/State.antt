@@ -1,5 +1,5 @@
 -- What a router knows, and how its steps and its work on an event end.
-use Rattle.std.specs.Prelude.{◌≡◌, ◌⊎◌, ◌≤◌, ℕ, if◌then◌else◌, List, [], ◌∷◌, ◌++◌, Result, OnOk, OnErr}
+use Rattle.std.specs.Prelude.{◌≡◌, ◌⊎◌, ◌≤◌, ◌+◌, ℕ, if◌then◌else◌, List, [], ◌∷◌, ◌++◌, Result, OnOk, OnErr}
 use Rattle.gs_base.specs.declared.names.PeerNo.{PeerNo}
 use Rattle.gs_base.specs.declared.names.Millis.{Millis}
 use Rattle.gs_base.specs.declared.rpc.Message.{Message}
@@ -36,13 +36,16 @@ pub record Knows (s : State) (now : ℕ) (L : Entries) : Type 0 where
   pub made : AreMadeFor s.tables (peer_with s.setup)
   pub time : last_moment L ≤ now
 
--- the trace is legal, the tables say what it says, and the neighbours are ascending
+-- The trace is legal, the tables say what it says, and the neighbours are ascending. Heartbeats are counted by some
+-- number, and a mesh that is cut has room for its best and its outbound members.
 pub record IsCurrent (s : State) : Type 0 where
   pub legal : Legal (peer_with s.setup) s.trace
   pub agrees : Agrees s.tables s.trace
   pub scores : AgreesOnScores (peer_with s.setup) s.tables.standings s.trace
   pub made : AreMadeFor s.tables (peer_with s.setup)
   pub ascending : IsAscending (peers_of s.setup.neighbours.items)
+  pub ticks : 1 ≤ s.setup.params.windows.opportunistic_ticks
+  pub room : s.setup.params.degrees.d_score + s.setup.params.degrees.d_out ≤ s.setup.params.degrees.d
 
 -- and nothing is owed
 pub record IsReady (s : State) : Type 0 where
@@ -95,7 +98,9 @@ pub record Ends {A E : Type 0} (m : Mode) (event : Event) (now : Millis)
 abbrev pub judged : List PeerNo → PeerNo → Millis → Message → Fate → Entry
 judged members q at m Dropped = bare at (Msg q m)
 judged members q at m Invalid = invalid at q m
-judged members q at m (Rejected id) = record (bare at (Msg q m)) { marks = marks.Seen id Reject ∷ marks.Invalid q (topic_of m) ∷ [] }
+judged members q at m (Rejected id) = record (bare at (Msg q m)) {
+  marks = marks.Seen id Reject ∷ marks.Invalid q (topic_of m) ∷ [];
+}
 judged members q at m (Ignored id) = record (bare at (Msg q m)) { marks = marks.Seen id Ignore ∷ [] }
 judged members q at m (Near id) = record (bare at (Msg q m)) { marks = marks.Near q (topic_of m) id ∷ [] }
 judged members q at m (Accepted id) = record (bare at (Msg q m)) {

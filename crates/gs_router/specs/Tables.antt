@@ -20,7 +20,7 @@ use Rattle.gs_score.specs.Histories as histories
 use Rattle.gs_rules.specs.declared.trace.Event.{Event}
 use Rattle.gs_rules.specs.declared.trace.Entry.{Entry}
 use Rattle.gs_rules.specs.Peers.{Peer, seen_ttl, windows}
-use Rattle.gs_rules.specs.Tables.{Entries, Keeping, Sighting, after_marks, answered, asked, is_shut, joined, keeping, keeping_order, kept, known, last_kept, last_moment, last_seen, offers, on, promises, seen, topic_order, up}
+use Rattle.gs_rules.specs.Tables.{Entries, Keeping, Sighting, after_marks, answered, asked, heartbeats, is_shut, joined, keeping, keeping_order, kept, known, last_kept, last_moment, last_seen, offers, on, promises, seen, topic_order, up}
 use Rattle.gs_rules.specs.Meshes.{backoff, dropped_after, fanout, last_published, mesh, noted, notes}
 use Rattle.gs_rules.specs.Scoring.{history, setting_of}
 use Rattle.gs_router.specs.declared.peer_set.PeerSet.{PeerSet}
@@ -35,6 +35,7 @@ use Rattle.gs_router.specs.declared.tables.standings.Standings.{Standings}
 use Rattle.gs_router.specs.declared.tables.memberships.Memberships.{Memberships}
 use Rattle.gs_router.specs.declared.tables.mesh_topics.Uses.{Uses}
 use Rattle.gs_router.specs.declared.tables.mesh_topics.MeshTopics.{MeshTopics}
+use Rattle.gs_router.specs.declared.tables.beats.Beats.{Beats}
 use Rattle.gs_router.specs.declared.tables.neighbours.Neighbours.{Neighbours}
 use Rattle.gs_router.specs.declared.tables.Tables.{Tables}
 use Rattle.gs_router.specs.PeerSets.{has}
@@ -250,6 +251,11 @@ pub record HasTopics (table : MeshTopics) (meshes fanouts : Topic → Bool) : Ty
 abbrev pub AgreesOnMeshTopics : MeshTopics → Entries → Type 0
 AgreesOnMeshTopics table L = HasTopics table (joined L) (λ t. is_some (last_published L t))
 
+-- ---- heartbeats
+
+pub record AgreesOnBeats (table : Beats) (L : Entries) : Type 0 where
+  pub counts : table.count ≡ heartbeats L
+
 -- ---- neighbours
 
 pub record AgreesOnNeighbours (kept : Neighbours) (L : Entries) : Type 0 where
@@ -267,6 +273,7 @@ pub record Agrees (tables : Tables) (L : Entries) : Type 0 where
   pub promises : AgreesOnPromises tables.promises L
   pub memberships : AgreesOnMeshes tables.memberships L
   pub mesh_topics : AgreesOnMeshTopics tables.mesh_topics L
+  pub beats : AgreesOnBeats tables.beats L
   pub neighbours : AgreesOnNeighbours tables.neighbours L
 
 -- The tables were made for what is given of this peer.

@@ -12,6 +12,7 @@ ghost use Rattle.gs_router.specs.State.{IsCurrent, Knows, peer_with};
 pub mod departures;
 pub mod grafts;
 pub mod heartbeats;
+pub mod maintenance;
 pub mod membership;
 pub mod messages;
 pub mod offers;
@@ -49,11 +50,8 @@ fn to_each(
 ) -> Result<Seq<(PeerNo, Shared<Rpc>)>, AllocError>
     ensures { IfOk result (λ sends. sends ≡ to_each rpc receivers.now) }
 {
-    let shared = Shared::new(alloc, rpc)?;
     let mut sends = Seq::new(alloc);
-    for receiver in receivers {
-        sends.push((*receiver, clone_of(&shared)?))?;
-    }
+    send_to_each(alloc, &mut sends, rpc, receivers)?;
     Ok(sends)
 }
 
@@ -117,6 +115,9 @@ pub fn entry_of<W: Words>(
             publishing::publish(state, Publishing { topic, payload, id }, now, words)
         }
         Event::Promises => heartbeats::promises(state, now),
+        Event::MeshBeat(topic) => maintenance::mesh_beat(state, topic, now, words),
+        Event::FanBeat(topic) => maintenance::fan_beat(state, topic, now, words),
+        Event::FanEnd(topic) => maintenance::fan_end(state, topic, now),
         Event::GossipBeat(topic) => heartbeats::gossip(state, topic, now, words),
         other => Ok(bare(state.alloc, now, other)),
     }

@@ -47,6 +47,7 @@ impl State {
     fn append(&mut self, entry: Entry) -> Result<(), AllocError>
         requires time { self.old.tables.sightings.cache.moment ≤ entry.at.0 }
         requires few { self.old.tables.standings.scores.tick ≤ length self.old.trace }
+        requires beats { self.old.tables.beats.count ≤ length self.old.trace }
         ensures added { OnOk result (self.new.trace ≡ entry ∷ self.old.trace) }
         ensures agrees { OnOk result ((L : Entries) → Agrees self.old.tables L → Agrees self.new.tables (entry ∷ L)) }
         ensures scores { OnOk result ((p : Peer) (L : Entries)

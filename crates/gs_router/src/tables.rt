@@ -9,6 +9,7 @@ ghost use Rattle.gs_rules.specs.Peers.{Peer};
 ghost use Rattle.gs_rules.specs.Tables.{Entries};
 ghost use Rattle.gs_router.specs.Tables.{Agrees, AgreesOnScores, AreMadeFor};
 
+pub mod beats;
 pub mod budgets;
 pub mod listeners;
 pub mod memberships;
@@ -20,6 +21,7 @@ pub mod promises;
 pub mod sightings;
 pub mod standings;
 
+use crate::tables::beats::Beats;
 use crate::tables::budgets::{Budget, Budgets};
 use crate::tables::listeners::Listeners;
 use crate::tables::memberships::Memberships;
@@ -49,6 +51,7 @@ pub struct Tables {
     pub promises: Promises,
     pub memberships: Memberships,
     pub mesh_topics: MeshTopics,
+    pub beats: Beats,
     pub standings: Standings,
     pub neighbours: Neighbours,
 }
@@ -91,6 +94,7 @@ impl Tables {
             promises: Promises::new(alloc),
             memberships: Memberships::new(alloc),
             mesh_topics: MeshTopics::new(alloc),
+            beats: Beats::new(),
             standings,
             neighbours: Neighbours::new(alloc),
         })
@@ -103,6 +107,7 @@ impl Tables {
     pub fn note(&mut self, entry: &Entry) -> Result<(), AllocError>
         requires time { self.old.sightings.cache.moment ≤ entry.now.at.0 }
         requires few { self.old.standings.scores.tick < 2 ^ 63 }
+        requires beats { self.old.beats.count < 2 ^ 63 }
         ensures agrees { OnOk result ((L : Entries) → Agrees self.old L → Agrees self.new (entry.now ∷ L)) }
         ensures scores { OnOk result ((p : Peer) (L : Entries)
             → AgreesOnScores p self.old.standings L
@@ -117,6 +122,7 @@ impl Tables {
         self.promises.note(entry)?;
         self.memberships.note(entry)?;
         self.mesh_topics.note(entry)?;
+        self.beats.note(entry);
         self.standings.note(entry)?;
         self.neighbours.note(entry)?;
         Ok(())

@@ -1,19 +1,25 @@
 //! Routers with neighbours 1 and 2: what their calls answer, and the trace that is left.
-ghost use Rattle.std.specs.Prelude.{true, ◌≡◌, ◌≤◌, pos, IfOk};
+ghost use Rattle.std.specs.Prelude.{◌≡◌, pos, IfOk};
 ghost use Rattle.gs_params.specs.Params.{AreInRange};
-ghost use Rattle.gs_rules.specs.Tables.{last_moment};
-ghost use Rattle.gs_wire.specs.Codec.{codec};
 
 mod beat_cases;
 mod beats;
+mod calls;
 mod cases;
 mod gossip;
 mod gossip_cases;
 mod made;
+mod mend_cases;
+mod mends;
+mod mesh_cases;
+mod mesh_sights;
+mod mesh_traffic;
+mod meshes;
 mod scores;
 mod sights;
 mod verdicts;
 
+use crate::tests::calls::{call, is_due, number_of};
 use crate::tests::cases::{
     Call, DUPLICATES, DUPLICATES_TRACE, FULL, JOINED, JOINED_TRACE, LISTENERS, LISTENERS_TRACE,
     LOST, LOST_TRACE, PARTS, PARTS_TRACE, REFUSED, REFUSED_TRACE, SHUT, SHUT_TRACE, SIGNATURES,
@@ -21,51 +27,11 @@ use crate::tests::cases::{
 };
 use crate::tests::made::{Row, What, event_of, is_trace};
 use bytes::Bytes;
-use gs_base::{Millis, Neighbour, PeerNo, Rpc, Topic, clone_of};
+use gs_base::{Millis, Neighbour, PeerNo, Topic};
 use gs_params::{Params, SeededWords, Words};
 use gs_router::{Router, RouterFault};
-use gs_rules::{Event, Refusal, Trace};
-use gs_wire::{MAX_BODY, encode};
+use gs_rules::Refusal;
 use std::alloc::{AllocError, Global};
-
-/// Whether no entry is later than the moment.
-fn is_due(trace: &Trace, now: Millis) -> bool
-    ensures { result ≡ true → last_moment trace.now ≤ now.0 }
-{
-    match trace.entries() {
-        [] => true,
-        [.., last] => last.at.0 <= now.0,
-    }
-}
-
-/// Whether an RPC fits a frame.
-fn fits(alloc: Global, rpc: &Rpc) -> Result<bool, AllocError>
-    ensures { IfOk result (λ is_short. is_short ≡ true → codec.fits rpc.now ≡ true) }
-{
-    let mut body = Vec::new(alloc);
-    match encode(rpc, &mut body) {
-        Ok(()) => Ok(body.len() <= MAX_BODY),
-        Err(_) => Ok(false),
-    }
-}
-
-/// Has a router hear an RPC that fits a frame.
-fn hear(
-    alloc: Global,
-    router: &mut Router,
-    from: PeerNo,
-    rpc: &Rpc,
-    now: Millis,
-    words: &mut SeededWords,
-) -> Result<Result<(), RouterFault>, AllocError>
-    requires { last_moment router.old.trace ≤ now.0 }
-{
-    let rpc = clone_of(rpc)?;
-    if !fits(alloc, &rpc)? {
-        return Err(AllocError);
-    }
-    Ok(router.hear(from, rpc, now, words))
-}
 
 /// Words of which none is drawn.
 fn words(alloc: Global) -> SeededWords {
@@ -74,37 +40,9 @@ fn words(alloc: Global) -> SeededWords {
 
 /// The number with which a call is refused; 0 where it isn't.
 fn ask(alloc: Global, router: &mut Router, at: u64, what: What<'_>) -> Result<u8, AllocError> {
-    let now = Millis(at);
-    if !is_due(router.trace(), now) {
-        return Ok(u8::MAX);
-    }
-    let words = &mut words(alloc);
-    let result = match event_of(alloc, what)? {
-        Event::Heard(from, rpc) | Event::Late(from, rpc) => {
-            hear(alloc, router, from, rpc.get(), now, words)?
-        }
-        Event::Subscribe(topic) => router.subscribe(topic, now, words),
-        Event::Unsubscribe(topic) => router.unsubscribe(topic, now, words),
-        Event::Publish(topic, payload) => router.publish(topic, payload, now, words),
-        Event::Promises => router.heartbeat(now, words),
-        Event::Decay => router.decay(now, words),
-        Event::RoundEnd(round) => router.end_round(round, now, words),
-        Event::Gone(peer) => router.gone(peer, now, words),
-        Event::Fault(peer) => router.fault(peer, now, words),
-        Event::Shut => router.shut(now, words),
-        Event::Sub(_, _)
-        | Event::Msg(_, _)
-        | Event::Have(_, _)
-        | Event::Want(_, _)
-        | Event::GraftIn(_, _)
-        | Event::PruneIn(_, _)
-        | Event::GossipBeat(_)
-        | Event::BeatEnd => return Ok(u8::MAX),
-    };
-    Ok(match result {
-        Ok(()) => 0,
-        Err(fault) => fault.number(),
-    })
+    let event = event_of(alloc, what)?;
+    let answer = call(alloc, router, at, event, &mut words(alloc))?;
+    Ok(number_of(answer))
 }
 
 /// Whether each call at its moment is answered by its number. A refused one adds no entry.

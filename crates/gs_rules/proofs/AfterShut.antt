@@ -1,5 +1,5 @@
 -- Nothing changes what scores are made of behind a shut, nor meshes, nor the peer's own topics.
-use Rattle.std.proofs.Common.{◌≡◌, ℕ, Bool, true, false, List, [], ◌∷◌, ◌++◌, filter, length, refl, sym, ap, ap₂, subst, ◌∙◌}
+use Rattle.std.proofs.Common.{◌≡◌, ℕ, Bool, true, false, List, [], ◌∷◌, ◌++◌, filter, length, refl, sym, ap, subst, ◌∙◌}
 use Rattle.std.specs.List.{AllByRecursion}
 use Rattle.std.proofs.lemmas.List.{nil_from_length}
 use Rattle.std.proofs.lemmas.List.Sorted.{length_permutation}
@@ -14,11 +14,11 @@ use Rattle.gs_rules.specs.Peers.{Peer}
 use Rattle.gs_rules.specs.Tables.{Entries, after_marks, ascending, is_shut, is_shut_after, joined, joined_after, known, known_after, own_topics, up, up_after}
 use Rattle.gs_rules.specs.Meshes.{mesh, mesh_after}
 use Rattle.gs_rules.specs.Scoring.{changed_after, history, marked_after, score, setting_of}
-use Rattle.gs_rules.specs.Owed.{Debt, Group, nothing, owed, owes, owing, paid}
+use Rattle.gs_rules.specs.Owed.{Debt, nothing, owed, owes, owing, paid}
 use Rattle.gs_rules.specs.Rules.{bare, rule_of}
 use Rattle.gs_rules.specs.Modes.{SaysTheSame, Follows, free}
 use Rattle.gs_rules.specs.Legal.{IsNext, Legal, MayOpen}
-use Rattle.gs_rules.proofs.Owed.{IsOwed, owed_are_such}
+use Rattle.gs_rules.proofs.Owed.{IsOwed, no_event_is_nothing, owed_are_such}
 use Rattle.gs_rules.proofs.Legality.{legal_newest}
 
 -- the peer has shut down, owes nothing, and nobody is up
@@ -108,9 +108,7 @@ none_owed p L at [] own next = refl
 none_owed p L at (first ∷ rest) own next = absurd (subst IsOwed (sym next) own.0)
 
 settled_before : (p : Peer) (L : Entries) (at : ℕ) → IsNext p L at (owed p L).events Shut → owed p L ≡ nothing
-settled_before p L at next =
-    let own = owed_are_such p L in
-    ap₂ (λ (events : List Event) (groups : List Group). record { events = events; groups = groups }) (none_owed p L at (owed p L).events own.0 next) own.1
+settled_before p L at next = no_event_is_nothing p L (none_owed p L at (owed p L).events (owed_are_such p L).0 next)
 
 shut_is : (event : Event) (before : Bool) → event ≡ Shut → is_shut_after event before ≡ true
 shut_is event before is = ap (λ (x : Event). is_shut_after x before) is

@@ -18,7 +18,7 @@ use Rattle.gs_score.specs.Standings.{Held}
 use Rattle.gs_score.proofs.Fitting.{apart_more, no_longer}
 use Rattle.gs_score.proofs.Naming.{named_apart, named_by_changes, named_covers}
 use Rattle.gs_rules.specs.declared.trace.Event.{Event}
-use Rattle.gs_rules.specs.declared.trace.Event.TheVariants.{Msg, GraftIn, Subscribe, Decay, Gone, Fault}
+use Rattle.gs_rules.specs.declared.trace.Event.TheVariants.{Msg, GraftIn, Subscribe, MeshBeat, Decay, Gone, Fault}
 use Rattle.gs_rules.specs.declared.trace.Entry.{Entry}
 use Rattle.gs_rules.specs.Peers.{Peer}
 use Rattle.gs_rules.specs.Tables.{Entries, after_marks, joined, known, known_after}
@@ -28,10 +28,11 @@ use Rattle.gs_rules.specs.Owed.{owed}
 use Rattle.gs_rules.specs.Legal.{IsNext, Legal}
 use Rattle.gs_rules.proofs.Each.{each_weaker}
 use Rattle.gs_rules.proofs.Owed.{opens}
+use Rattle.gs_rules.proofs.OwnBeats.{IsOfOwn, next_of_own}
 use Rattle.gs_rules.proofs.Topics.{joined_known, still_known}
 use Rattle.gs_rules.proofs.Legality.{legal_newest}
 use Rattle.gs_rules.proofs.Marks.{ComesOf, GraftedBy, MayMark, entry_marks}
-use Rattle.gs_rules.proofs.Members.{member_joined, never, one_peer}
+use Rattle.gs_rules.proofs.Members.{joins_then, member_joined, never, one_peer}
 
 -- the topic is one of these
 abbrev IsOf : List Topic → Topic → Type 0
@@ -89,17 +90,17 @@ is_on_more ts us more (Grafted q t) is = more t is
 is_on_more ts us more other is = tt
 
 -- what is raised, and where somebody is in a mesh, is on topics that the peer is or was subscribed to
-mark_on : (p : Peer) (L : Entries) (e : Entry) → Legal p L → (mark : Mark) → MayMark p L e.at.0 e.event mark → IsOn (known (e ∷ L)) mark
-mark_on p L e legal (First q t id) may = stays_known e.event (known L) t (joined_known L t may.1)
-mark_on p L e legal (Near q t id) may = stays_known e.event (known L) t (joined_known L t may.1)
-mark_on p L e legal (Invalid q t) may = stays_known e.event (known L) t (joined_known L t may.1)
-mark_on p L e legal (Deficit q t z) may = stays_known e.event (known L) t (joined_known L t (member_joined p L q t legal may.0))
-mark_on p L e legal (Grafted q t) may = joined_known (e ∷ L) t may.joins
-mark_on p L e legal other may = tt
+mark_on : (p : Peer) (L : Entries) (e : Entry) → Legal p L → IsOfOwn L e.event → (mark : Mark) → MayMark p L e.at.0 e.event mark → IsOn (known (e ∷ L)) mark
+mark_on p L e legal own (First q t id) may = stays_known e.event (known L) t (joined_known L t may.1)
+mark_on p L e legal own (Near q t id) may = stays_known e.event (known L) t (joined_known L t may.1)
+mark_on p L e legal own (Invalid q t) may = stays_known e.event (known L) t (joined_known L t may.1)
+mark_on p L e legal own (Deficit q t z) may = stays_known e.event (known L) t (joined_known L t (member_joined p L q t legal may.0))
+mark_on p L e legal own (Grafted q t) may = joined_known (e ∷ L) t (joins_then L e.event t own may.joins)
+mark_on p L e legal own other may = tt
 
 marks_on : (p : Peer) (L : Entries) (e : Entry) → Legal p (e ∷ L) → AllByRecursion (IsOn (known (e ∷ L))) e.marks
 marks_on p L e legal =
-    each_weaker (MayMark p L e.at.0 e.event) (IsOn (known (e ∷ L))) (mark_on p L e legal.1) e.marks
+    each_weaker (MayMark p L e.at.0 e.event) (IsOn (known (e ∷ L))) (mark_on p L e legal.1 (next_of_own p L e.at.0 e.event legal.1 (legal_newest p e L legal).next)) e.marks
     (entry_marks p L e.event e (legal_newest p e L legal).effects)
 
 -- ---- who is no neighbour
@@ -165,6 +166,7 @@ come_near p other q near is = absurd is
 pub grafted_near : (p : Peer) (L : Entries) (event : Event) (q : PeerNo) → IsFromNeighbour p event → GraftedBy p L event q → is_neighbour p q ≡ true
 grafted_near p L (GraftIn r graft) q near is = subst (λ (s : PeerNo). is_neighbour p s ≡ true) (sym is) near
 grafted_near p L (Subscribe t) q near is = is.0
+grafted_near p L (MeshBeat t) q near is = is.0
 grafted_near p L other q near is = absurd is
 
 blamed_near : (p : Peer) (event : Event) (q : PeerNo) → IsFromNeighbour p event → ComesOf event q ⊎ (is_neighbour p q ≡ true) → is_neighbour p q ≡ true

@@ -18,7 +18,7 @@ use Rattle.gs_base.specs.declared.verdict.Verdict.TheVariants.{Accept, Reject, I
 use Rattle.gs_base.specs.declared.mark.Mark.{Mark}
 use Rattle.gs_base.specs.declared.mark.Mark.TheVariants.{Seen, Cached, Published}
 use Rattle.gs_rules.specs.declared.trace.Event.{Event}
-use Rattle.gs_rules.specs.declared.trace.Event.TheVariants.{Msg, Have, Want, Sub, GraftIn, PruneIn, Subscribe, Publish, GossipBeat}
+use Rattle.gs_rules.specs.declared.trace.Event.TheVariants.{Msg, Have, Want, Sub, GraftIn, PruneIn, Subscribe, Publish, MeshBeat, FanBeat, GossipBeat}
 use Rattle.gs_rules.specs.declared.trace.Entry.{Entry}
 use Rattle.gs_base.specs.Names.{same_id, message_id, topic_of, payload_of}
 use Rattle.gs_rules.specs.Tables.{Entries, last_moment, joined, Sighting, after_marks, sighting_after, last_seen, counting, seen}
@@ -28,6 +28,7 @@ use Rattle.gs_mesh.specs.Peers.{is_among}
 use Rattle.gs_rules.specs.Meshes.{mesh}
 use Rattle.gs_rules.specs.Membership.{candidates, fanning}
 use Rattle.gs_rules.specs.MeshRules.{graft_rule, joining, prune_rule, publish_rule, publishing, sub_rule, those_among}
+use Rattle.gs_rules.specs.BeatRules.{mending, refanning}
 use Rattle.gs_rules.specs.Rules.{rule_of, again, asking, bare, counted, have_rule, invalid, message_rule, near_of, new_message, telling, want_rule, wanted}
 use Rattle.gs_rules.specs.Modes.{SaysTheSame, Follows, free}
 use Rattle.gs_rules.specs.Legal.{MayPublish, IsNext, IsAllowed, Legal, Delivers, DeliversApart}
@@ -35,7 +36,7 @@ use Rattle.gs_rules.proofs.Legality.{legal_newest}
 use Rattle.gs_rules.proofs.Judged.{of_a_message, of_a_request}
 use Rattle.gs_rules.proofs.Owed.{opens}
 use Rattle.gs_rules.proofs.Offers.{what_is_offered}
-use Rattle.gs_rules.proofs.Ruled.{of_a_graft, of_a_prune, of_a_sub, what_is_published}
+use Rattle.gs_rules.proofs.Ruled.{choice_at, of_a_graft, of_a_prune, of_a_sub, what_is_mended, what_is_published}
 
 -- ---- one entry
 
@@ -176,6 +177,10 @@ by_event p L (PruneIn q prune) e id next effects delivers =
     delivers_none p L e (prune_rule p L e.at q prune) id effects.0 (of_a_prune (λ (x : Entry). x.delivered ≡ []) p L e.at q prune refl refl) delivers
 by_event p L (Subscribe t) e id next effects delivers =
     delivers_none p L e (joining p L e.at t (those_among (effects.0 ++ effects.3.0) (candidates p L e.at.0 t))) id effects.3.3.0 refl delivers
+by_event p L (MeshBeat t) e id next effects delivers =
+    what_is_mended (IsFresh p L e id) p L t e
+    (λ kept come same. delivers_none p L e (mending p L e.at t (choice_at p L e.at.0 t kept come)) id same refl delivers) effects
+by_event p L (FanBeat t) e id next effects delivers = delivers_none p L e (refanning p L e.at t effects.0) id effects.3.0 refl delivers
 by_event p L (GossipBeat t) e id next effects delivers = delivers_none p L e (telling p L e.at t effects.0) id effects.3.0 refl delivers
 by_event p L other e id next effects delivers = delivers_none p L e _ id effects.0 refl delivers
 

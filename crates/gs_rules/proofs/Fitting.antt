@@ -15,11 +15,12 @@ use Rattle.gs_base.specs.declared.control.IWant.{IWant}
 use Rattle.gs_base.specs.declared.rpc.Message.{Message}
 use Rattle.gs_base.specs.declared.rpc.Rpc.{Rpc}
 use Rattle.gs_rules.specs.declared.trace.Event.{Event}
-use Rattle.gs_rules.specs.declared.trace.Event.TheVariants.{Msg, Have, Want, Sub, GraftIn, PruneIn, Subscribe, Unsubscribe, Publish, GossipBeat}
+use Rattle.gs_rules.specs.declared.trace.Event.TheVariants.{Msg, Have, Want, Sub, GraftIn, PruneIn, Subscribe, Unsubscribe, Publish, MeshBeat, FanBeat, GossipBeat}
 use Rattle.gs_rules.specs.declared.trace.Entry.{Entry}
 use Rattle.gs_base.specs.Names.{longest_topic, same_peer, announcement, publication, topic_of, topic_or_empty}
 use Rattle.gs_base.specs.declared.mark.Mark.TheVariants.{Published}
 use Rattle.gs_mesh.specs.Peers.{without as all_but}
+use Rattle.gs_mesh.specs.declared.heartbeat.Choice.{Choice}
 use Rattle.gs_wire.specs.Varint.{varint}
 use Rattle.gs_wire.specs.Records.{record_text, records_text}
 use Rattle.gs_wire.specs.Fields.{bool_number, varint_record, len_record}
@@ -33,6 +34,7 @@ use Rattle.gs_rules.specs.Tables.{Entries, joined}
 use Rattle.gs_rules.specs.Meshes.{mesh}
 use Rattle.gs_rules.specs.Membership.{candidates}
 use Rattle.gs_rules.specs.MeshRules.{graft_rule, joining, prune_rule, publishing, sub_rule, those_among, unsubscribe_rule}
+use Rattle.gs_rules.specs.BeatRules.{mending, refanning}
 use Rattle.gs_rules.specs.Gossip.{gossip}
 use Rattle.gs_rules.specs.Owed.{owed}
 use Rattle.gs_rules.specs.Rules.{answers, asking, bare, counted, have_rule, ids_in, message_rule, new_message, rule_of, telling, to_each, up_neighbours, want_rule, wanted}
@@ -46,7 +48,8 @@ use Rattle.gs_rules.proofs.Owed.{opens}
 use Rattle.gs_rules.proofs.Legality.{legal_newest}
 use Rattle.gs_rules.proofs.Offers.{wanted_few, wanted_long, what_is_offered}
 use Rattle.gs_rules.proofs.Kept.{AllAlone, FitsAlone, answers_fit, next_fits}
-use Rattle.gs_rules.proofs.Ruled.{of_a_graft, of_a_prune, of_a_sub, what_is_published}
+use Rattle.gs_rules.proofs.Ruled.{choice_at, of_a_graft, of_a_prune, of_a_sub, what_is_mended, what_is_published}
+use Rattle.gs_rules.proofs.OwnBeats.{next_of_own}
 use Rattle.gs_rules.proofs.Topics.{joined_short}
 use Rattle.gs_rules.proofs.Gossip.{beat_short, gossip_few, gossip_long}
 
@@ -194,6 +197,13 @@ request_fits p L at q request legal =
     of_a_request (λ (e : Entry). SendsWritten e.sends) p L at q request tt
     (answers_written q (answers p L q [] (ids_in request.ids)) (answers_fit p L q [] (ids_in request.ids) legal))
 
+-- whoever goes and whoever comes in are told so
+mending_fits : (p : Peer) (L : Entries) (at : Millis) (t : Topic) (choice : Choice) → length t.0 ≤ longest_topic → SendsWritten (mending p L at t choice).sends
+mending_fits p L at t choice short =
+    let seconds : ℕ = p.params.windows.prune_backoff_s in
+    all-append (λ (x : PeerNo × Rpc). IsWritten x.1) (to_each (pruning t seconds) choice.pruned) (to_each (grafting t) choice.grafted)
+    (each_fits (pruning t seconds) choice.pruned (prune_written t seconds short)) (each_fits (grafting t) choice.grafted (graft_written t short))
+
 -- each event sends what fits, or nothing
 module _ (p : Peer) (L : Entries) (legal : Legal p L) where
   by_event : (event : Event) (e : Entry) → IsNext p L e.at.0 (owed p L).events event → Follows free (rule_of p L e.at event) tt e tt → SendsWritten e.sends
@@ -225,6 +235,11 @@ module _ (p : Peer) (L : Entries) (legal : Legal p L) where
       (λ receivers same. same_fits e (publishing L e.at t payload receivers [] []) same (each receivers))
       (λ receivers new same. same_fits e (publishing L e.at t payload receivers new (Published t ∷ [])) same (each receivers))
       effects
+  by_event (MeshBeat t) e next effects =
+      let short : length t.0 ≤ longest_topic = joined_short p L t legal (next_of_own p L e.at.0 (MeshBeat t) legal next) in
+      what_is_mended (SendsWritten e.sends) p L t e
+      (λ kept come same. same_fits e (mending p L e.at t (choice_at p L e.at.0 t kept come)) same (mending_fits p L e.at t (choice_at p L e.at.0 t kept come) short)) effects
+  by_event (FanBeat t) e next effects = same_fits e (refanning p L e.at t effects.0) effects.3.0 tt
   by_event (GossipBeat t) e next effects =
       let ids : List (List ℕ) = map (λ (id : MsgId). id.0) (gossip p L t) in
       same_fits e (telling p L e.at t effects.0) effects.3.0

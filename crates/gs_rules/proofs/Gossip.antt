@@ -17,21 +17,21 @@ use Rattle.gs_wire.specs.Messages.{HasIdentifierLength, most_identifiers}
 use Rattle.gs_wire.proofs.RoundTrip.{all-append}
 use Rattle.gs_rules.specs.declared.trace.Promise.{Promise}
 use Rattle.gs_rules.specs.declared.trace.Event.{Event}
-use Rattle.gs_rules.specs.declared.trace.Event.TheVariants.{Promises, GossipBeat}
+use Rattle.gs_rules.specs.declared.trace.Event.TheVariants.{Promises, MeshBeat, GossipBeat}
 use Rattle.gs_rules.specs.declared.trace.Entry.{Entry}
 use Rattle.gs_rules.specs.Peers.{Peer, windows}
-use Rattle.gs_rules.specs.Tables.{Entries, Keeping, after_marks, ended_after, fulfilled_after, keeping_order, kept, made, order_after, promises}
+use Rattle.gs_rules.specs.Tables.{Entries, Keeping, after_marks, ended_after, fulfilled_after, keeping_order, kept, made, order_after, own_topics, promises}
 use Rattle.gs_rules.specs.Gossip.{IsKeptOn, gossip, is_gossiped}
-use Rattle.gs_rules.specs.Owed.{gossip_topics, is_some_list, owed, parts}
+use Rattle.gs_rules.specs.Owed.{gossip_topics, heartbeat_groups, is_some_list, owed, parts}
 use Rattle.gs_rules.specs.Meshes.{mesh_topics}
 use Rattle.gs_rules.specs.Rules.{rule_of}
 use Rattle.gs_rules.specs.Modes.{Follows, free}
 use Rattle.gs_rules.specs.Legal.{IsNext, Legal}
-use Rattle.gs_rules.proofs.Each.{each_weaker}
+use Rattle.gs_rules.proofs.Each.{each_weaker, of_each}
 use Rattle.gs_rules.proofs.Legality.{legal_newest}
 use Rattle.gs_rules.proofs.Marks.{MayMark, entry_marks}
 use Rattle.gs_rules.proofs.MeshTopics.{mesh_topics_short}
-use Rattle.gs_rules.proofs.Owed.{OwesSuch, beats_are_such, nothing_is_such, owing_are_such, parts_are_such}
+use Rattle.gs_rules.proofs.Owed.{OwesSuch, ReachesSuch, always_such, heartbeat_is_such, next_is_such, parts_are_such}
 use Rattle.gs_rules.proofs.Topics.{IsShort, passing_are}
 
 -- ---- lists
@@ -67,19 +67,21 @@ parts_short q rpc = parts_are_such IsShortBeat q rpc (λ sub. tt) (λ m. tt) (λ
 gossip_topics_short : (p : Peer) (L : Entries) → Legal p L → AllByRecursion IsShort (gossip_topics p L)
 gossip_topics_short p L legal = filtered_are IsShort (λ t. is_some_list (gossip p L t)) (mesh_topics L) (mesh_topics_short p L legal)
 
-owed_short : (p : Peer) (L : Entries) → Legal p L → OwesSuch IsShortBeat (owed p L)
-owed_short p [] legal = nothing_is_such IsShortBeat
-owed_short p (e ∷ L) legal =
-    owing_are_such IsShortBeat p L (e ∷ L) e.at.0 e.event (owed p L) (λ q rpc is. parts_short q rpc)
-    (λ is. beats_are_such IsShortBeat (gossip_topics p (e ∷ L)) (gossip_topics_short p (e ∷ L) legal) tt)
-    (owed_short p L legal.1)
+-- behind whatever trace
+abbrev ShortAnywhere : Entries → Event → Type 0
+ShortAnywhere = λ M. IsShortBeat
 
-owed_beat_short : (p : Peer) (L : Entries) (at : ℕ) (events : List Event) (t : Topic) → AllByRecursion IsShortBeat events → IsNext p L at events (GossipBeat t) → IsShort t
-owed_beat_short p L at [] t h next = absurd next
-owed_beat_short p L at (first ∷ rest) t h next = subst IsShortBeat (sym next) h.0
+heartbeat_short : (p : Peer) (at : ℕ) → ReachesSuch p (Legal p) ShortAnywhere (heartbeat_groups at)
+heartbeat_short p at =
+    heartbeat_is_such p (Legal p) ShortAnywhere at
+    (λ M legal. of_each (λ (t : Topic). IsShortBeat (MeshBeat t)) (λ t. tt) (own_topics M)) (λ M t. tt) (λ M t. tt)
+    (λ M legal. gossip_topics_short p M legal) (λ M. tt)
+
+owed_short : (p : Peer) (L : Entries) → Legal p L → OwesSuch p (Legal p) ShortAnywhere L (owed p L)
+owed_short p L legal = always_such p ShortAnywhere (λ M e own event is. is) (λ M e q rpc goes_on is. parts_short q rpc) (heartbeat_short p) L legal
 
 pub beat_short : (p : Peer) (L : Entries) (at : ℕ) (t : Topic) → Legal p L → IsNext p L at (owed p L).events (GossipBeat t) → IsShort t
-beat_short p L at t legal next = owed_beat_short p L at (owed p L).events t (owed_short p L legal).0 next
+beat_short p L at t legal next = next_is_such IsShortBeat p L at (owed p L).events (GossipBeat t) (owed_short p L legal).0 (λ h. h) next
 
 -- ---- identifiers of 32 bytes
 

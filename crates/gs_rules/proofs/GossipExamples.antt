@@ -8,17 +8,17 @@ use Rattle.gs_base.specs.declared.neighbour.Neighbour.{Neighbour}
 use Rattle.gs_base.specs.declared.control.IHave.{IHave}
 use Rattle.gs_base.specs.declared.verdict.Verdict.TheVariants.{Accept, Reject}
 use Rattle.gs_base.specs.declared.mark.Mark.{Mark}
-use Rattle.gs_base.specs.declared.mark.Mark.TheVariants.{Seen, Behaviour, Cached, HeardHave, Asked}
+use Rattle.gs_base.specs.declared.mark.Mark.TheVariants.{Seen, Behaviour, Cached, HeardHave, Asked, Published}
 use Rattle.gs_params.specs.Params.{default_degrees, default_factors, default_thresholds, default_windows}
 use Rattle.gs_wire.specs.Messages.{offering}
 use Rattle.gs_rules.specs.declared.trace.Event.{Event}
-use Rattle.gs_rules.specs.declared.trace.Event.TheVariants.{Msg, Have, Subscribe, Unsubscribe, Promises, GossipBeat, BeatEnd, Gone}
+use Rattle.gs_rules.specs.declared.trace.Event.TheVariants.{Msg, Have, Subscribe, Unsubscribe, Publish, Promises, MeshBeat, FanBeat, FanEnd, GossipBeat, BeatEnd, Gone}
 use Rattle.gs_rules.specs.declared.trace.Promise.{Promise}
 use Rattle.gs_rules.specs.declared.trace.Entry.{Entry}
 use Rattle.gs_rules.specs.Peers.{Peer, windows}
 use Rattle.gs_rules.specs.Tables.{Entries, asked, blank, keeping_order, kept, offers, own_topics, promises}
 use Rattle.gs_rules.specs.Gossip.{IsOpen, all_charges, ends_promise, gossip, gossip_size, gossipable, keeps_promise}
-use Rattle.gs_rules.specs.Owed.{owed}
+use Rattle.gs_rules.specs.Owed.{FanBeats, Gossips, owed}
 use Rattle.gs_rules.specs.Rules.{bare, telling}
 use Rattle.gs_rules.specs.Rounds.{Seat, LowerCounters, Beat, EndRound, Playing, agenda}
 
@@ -133,13 +133,43 @@ gossip_on_the_one_topic = refl
 gossip_on_the_other_topic : gossip peer moved b ≡ id 1 ∷ []
 gossip_on_the_other_topic = refl
 
--- of two topics one has messages, and on a third, which has one, the peer is not subscribed
-a_heartbeat_gossips_where_there_is_something : owed peer (entry Promises ∷ keeping 2 ab ∷ keeping 1 b ∷ entry (Subscribe b) ∷ entry (Subscribe a) ∷ []) ≡ record { events = GossipBeat b ∷ BeatEnd ∷ []; groups = [] }
+-- behind the charges the mesh of each topic is mended to which the peer is subscribed
+abbrev charged : Entries
+charged = entry Promises ∷ keeping 2 ab ∷ keeping 1 b ∷ entry (Subscribe b) ∷ entry (Subscribe a) ∷ []
+
+a_heartbeat_mends_meshes_first : owed peer charged ≡ record { events = MeshBeat a ∷ MeshBeat b ∷ []; groups = FanBeats 0 ∷ Gossips ∷ [] }
+a_heartbeat_mends_meshes_first = refl
+
+one_after_the_other : owed peer (entry (MeshBeat a) ∷ charged) ≡ record { events = MeshBeat b ∷ []; groups = FanBeats 0 ∷ Gossips ∷ [] }
+one_after_the_other = refl
+
+-- of two topics one has messages, and on a third, which has one, the peer is not subscribed; no topic has a fanout
+a_heartbeat_gossips_where_there_is_something : owed peer (entry (MeshBeat b) ∷ entry (MeshBeat a) ∷ charged) ≡ record { events = GossipBeat b ∷ BeatEnd ∷ []; groups = [] }
 a_heartbeat_gossips_where_there_is_something = refl
 
 -- with nothing to say it ends at once
-a_quiet_heartbeat_ends : owed peer (entry Promises ∷ entry (Subscribe a) ∷ []) ≡ record { events = BeatEnd ∷ []; groups = [] }
+a_quiet_heartbeat_ends : owed peer (entry (MeshBeat a) ∷ entry Promises ∷ entry (Subscribe a) ∷ []) ≡ record { events = BeatEnd ∷ []; groups = [] }
 a_quiet_heartbeat_ends = refl
+
+-- and without a topic
+a_heartbeat_of_no_topic_ends : owed peer (entry Promises ∷ []) ≡ record { events = BeatEnd ∷ []; groups = [] }
+a_heartbeat_of_no_topic_ends = refl
+
+-- the peer published on a topic at millisecond 0, without being subscribed, and is subscribed to another
+abbrev with_fanout : Entries
+with_fanout = entry (Subscribe a) ∷ marked (Publish b []) (Published b) ∷ []
+
+-- a millisecond before its time has come
+a_fanout_is_mended_behind_the_meshes : owed peer (entry_at 59_999 (MeshBeat a) ∷ entry_at 59_999 Promises ∷ with_fanout) ≡ record { events = FanBeat b ∷ []; groups = Gossips ∷ [] }
+a_fanout_is_mended_behind_the_meshes = refl
+
+-- at that very millisecond
+a_fanout_ends_at_its_time : owed peer (entry_at 60_000 (MeshBeat a) ∷ entry_at 60_000 Promises ∷ with_fanout) ≡ record { events = FanEnd b ∷ []; groups = Gossips ∷ [] }
+a_fanout_ends_at_its_time = refl
+
+-- the messages of a topic whose fanout ended are not gossiped any more
+gossip_is_reached_behind_that : owed peer (entry_at 60_000 (FanEnd b) ∷ entry_at 60_000 (MeshBeat a) ∷ entry_at 60_000 Promises ∷ keeping 1 b ∷ with_fanout) ≡ record { events = BeatEnd ∷ []; groups = [] }
+gossip_is_reached_behind_that = refl
 
 -- both are told the same
 each_that_is_chosen_is_told : (telling peer moved (record { 0 = 0 }) a (q ∷ other ∷ [])).sends ≡ (q, offering a ((2 ∷ []) ∷ [])) ∷ (other, offering a ((2 ∷ []) ∷ [])) ∷ []

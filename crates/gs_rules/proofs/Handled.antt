@@ -17,7 +17,7 @@ use Rattle.gs_wire.specs.declared.frames.End.TheVariants.{Waits}
 use Rattle.gs_wire.specs.Messages.{longest_body}
 use Rattle.gs_wire.proofs.FrameLists.{one_stream}
 use Rattle.gs_rules.specs.declared.trace.Event.{Event}
-use Rattle.gs_rules.specs.declared.trace.Event.TheVariants.{Heard, Late, Sub, Msg, Have, Want, GraftIn, PruneIn, GossipBeat, BeatEnd, Gone, Fault}
+use Rattle.gs_rules.specs.declared.trace.Event.TheVariants.{Heard, Late, Sub, Msg, Have, Want, GraftIn, PruneIn, MeshBeat, FanBeat, FanEnd, GossipBeat, BeatEnd, Gone, Fault}
 use Rattle.gs_rules.specs.declared.trace.Entry.{Entry}
 use Rattle.gs_rules.specs.declared.refusal.Refusal.{Refusal}
 use Rattle.gs_rules.specs.declared.refusal.RefusedLine.{RefusedLine}
@@ -83,6 +83,9 @@ owed_handles q (Have r offer) h = refl
 owed_handles q (Want r request) h = refl
 owed_handles q (GraftIn r graft) h = refl
 owed_handles q (PruneIn r prune) h = refl
+owed_handles q (MeshBeat t) h = refl
+owed_handles q (FanBeat t) h = refl
+owed_handles q (FanEnd t) h = refl
 owed_handles q (GossipBeat t) h = refl
 owed_handles q BeatEnd h = refl
 owed_handles q other h = absurd h

@@ -1,5 +1,5 @@
 -- Each message that a legal trace keeps fits a frame by itself, as it is sent to who asks for it.
-use Rattle.std.proofs.Common.{◌≡◌, refl, ℕ, zero, suc, ◌≤◌, arith, Bool, true, false, List, [], ◌∷◌, ◌++◌, length, map, ap, subst, sym, if◌then◌else◌, Option, Some, None}
+use Rattle.std.proofs.Common.{◌≡◌, refl, ℕ, zero, suc, ◌≤◌, arith, Bool, true, false, List, [], ◌∷◌, ◌++◌, length, map, ap, subst, if◌then◌else◌, Option, Some, None}
 use Rattle.std.specs.List.{AllByRecursion, IsAmong}
 use Rattle.std.specs.Prelude.{nat_lt, option_map}
 use Rattle.std.proofs.lemmas.Bool.{le-leb}
@@ -19,15 +19,16 @@ use Rattle.gs_wire.proofs.RoundTrip.{all-append}
 use Rattle.gs_wire.proofs.SentOn.{passed_on_shorter}
 use Rattle.gs_wire.proofs.Written.{len_text-length, records_text-single, varint_ten}
 use Rattle.gs_rules.specs.declared.trace.Event.{Event}
-use Rattle.gs_rules.specs.declared.trace.Event.TheVariants.{Heard, Sub, Msg, Have, Want, GraftIn, PruneIn, Publish, GossipBeat, BeatEnd}
+use Rattle.gs_rules.specs.declared.trace.Event.TheVariants.{Heard, Sub, Msg, Have, Want, GraftIn, PruneIn, Publish, MeshBeat, GossipBeat, BeatEnd}
+use Rattle.gs_rules.specs.declared.trace.Entry.{Entry}
 use Rattle.gs_rules.specs.Peers.{Peer, windows}
-use Rattle.gs_rules.specs.Tables.{Entries, Keeping, after_marks, aged_after, blank, keeping, kept, kept_after, last_kept, message_in, older}
-use Rattle.gs_rules.specs.Owed.{gossip_topics, grafts_in, offers_in, owed, parts, prunes_in, requests_in}
+use Rattle.gs_rules.specs.Tables.{Entries, Keeping, after_marks, aged_after, blank, keeping, kept, kept_after, last_kept, message_in, older, own_topics}
+use Rattle.gs_rules.specs.Owed.{gossip_topics, grafts_in, heartbeat_groups, offers_in, owed, parts, prunes_in, requests_in}
 use Rattle.gs_rules.specs.Rules.{answer, answers, times_in, with_message}
 use Rattle.gs_rules.specs.Legal.{IsNext, Legal}
 use Rattle.gs_rules.proofs.Legality.{legal_newest}
 use Rattle.gs_rules.proofs.Each.{of_each}
-use Rattle.gs_rules.proofs.Owed.{OwesSuch, beats_are_such, kind_of_parts, last_parts, nothing_is_such, opens, owing_are_such}
+use Rattle.gs_rules.proofs.Owed.{OwesSuch, ReachesSuch, always_such, heartbeat_is_such, kind_of_parts, last_parts, next_is_such, opens}
 
 -- by itself it fits a frame
 abbrev pub FitsAlone : Message → Type 0
@@ -59,18 +60,24 @@ parts_fit q rpc fits =
     (kind_of_parts BringsFitting (Want q) (requests_in rpc.control) _ (λ request. tt)
     (kind_of_parts BringsFitting (GraftIn q) (grafts_in rpc.control) _ (λ graft. tt) (last_parts BringsFitting (PruneIn q) (prunes_in rpc.control) (λ prune. tt))))))
 
-owed_fit : (p : Peer) (L : Entries) → Legal p L → OwesSuch BringsFitting (owed p L)
-owed_fit p [] legal = nothing_is_such BringsFitting
-owed_fit p (e ∷ L) legal = owing_are_such BringsFitting p L (e ∷ L) e.at.0 e.event (owed p L) heard (λ is. beats_are_such BringsFitting (gossip_topics p (e ∷ L)) (of_each (λ (t : Topic). BringsFitting (GossipBeat t)) (λ t. tt) (gossip_topics p (e ∷ L))) tt) (owed_fit p L legal.1)
-  where
-    heard : (q : PeerNo) (rpc : Rpc) → e.event ≡ Heard q rpc → AllByRecursion BringsFitting (parts q rpc)
-    heard q rpc is = parts_fit q rpc (opens p L e.at.0 (Heard q rpc) (λ h. h) (subst (IsNext p L e.at.0 (owed p L).events) is (legal_newest p e L legal).next)).fits
+-- behind whatever trace
+abbrev FittingAnywhere : Entries → Event → Type 0
+FittingAnywhere = λ M. BringsFitting
+
+heartbeat_fits : (p : Peer) (at : ℕ) → ReachesSuch p (Legal p) FittingAnywhere (heartbeat_groups at)
+heartbeat_fits p at =
+    heartbeat_is_such p (Legal p) FittingAnywhere at
+    (λ M legal. of_each (λ (t : Topic). BringsFitting (MeshBeat t)) (λ t. tt) (own_topics M)) (λ M t. tt) (λ M t. tt)
+    (λ M legal. of_each (λ (t : Topic). BringsFitting (GossipBeat t)) (λ t. tt) (gossip_topics p M)) (λ M. tt)
+
+heard_fits : (p : Peer) (L : Entries) (e : Entry) (q : PeerNo) (rpc : Rpc) → Legal p (e ∷ L) → e.event ≡ Heard q rpc → AllByRecursion BringsFitting (parts q rpc)
+heard_fits p L e q rpc legal is =
+    parts_fit q rpc (opens p L e.at.0 (Heard q rpc) (λ h. h) (subst (IsNext p L e.at.0 (owed p L).events) is (legal_newest p e L legal).next)).fits
+
+owed_fit : (p : Peer) (L : Entries) → Legal p L → OwesSuch p (Legal p) FittingAnywhere L (owed p L)
+owed_fit p L legal = always_such p FittingAnywhere (λ M e own event is. is) (heard_fits p) (heartbeat_fits p) L legal
 
 -- ---- the message of an event
-
-owed_message_fits : (p : Peer) (L : Entries) (at : ℕ) (events : List Event) (q : PeerNo) (m : Message) → AllByRecursion BringsFitting events → IsNext p L at events (Msg q m) → FitsAlone m
-owed_message_fits p L at [] q m h next = absurd next
-owed_message_fits p L at (first ∷ rest) q m h next = subst BringsFitting (sym next) h.0
 
 -- a message without any field takes few bytes
 blank_fits : FitsAlone blank
@@ -78,7 +85,7 @@ blank_fits = le-leb (length (body (passed_on blank))) longest_body (omega (arith
 
 -- what comes next brings a message that fits, or one without any field
 pub next_fits : (p : Peer) (L : Entries) (at : ℕ) (event : Event) → Legal p L → IsNext p L at (owed p L).events event → FitsAlone (message_in event)
-next_fits p L at (Msg q m) legal next = owed_message_fits p L at (owed p L).events q m (owed_fit p L legal).0 next
+next_fits p L at (Msg q m) legal next = next_is_such BringsFitting p L at (owed p L).events (Msg q m) (owed_fit p L legal).0 (λ h. h) next
 next_fits p L at (Publish t payload) legal next = (opens p L at (Publish t payload) (λ h. h) next).fits
 next_fits p L at other legal next = blank_fits
 

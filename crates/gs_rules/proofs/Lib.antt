@@ -4,6 +4,7 @@ pub mod Legality
 pub mod Judged
 pub mod Ruled
 pub mod Topics
+pub mod OwnBeats
 pub mod Offers
 pub mod Marks
 pub mod MeshTopics
@@ -24,3 +25,4 @@ pub mod Examples
 pub mod GossipExamples
 pub mod ScoreExamples
 pub mod MeshExamples
+pub mod BeatExamples

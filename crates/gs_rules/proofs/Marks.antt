@@ -2,6 +2,7 @@
 use Rattle.std.proofs.Common.{◌≡◌, ◌⊎◌, inl, inr, ℕ, Bool, true, false, if◌then◌else◌, List, [], ◌∷◌, ◌++◌, map, pos, None, refl, ap}
 use Rattle.std.specs.Prelude.{◌&&◌, filter, nat_eq, nat_le, not}
 use Rattle.std.specs.List.{AllByRecursion, flat_map, list_any}
+use Rattle.std.specs.Set.{is_member}
 use Rattle.std.proofs.lemmas.Bool.{and_parts, le-leb, ltb-false, or_left, or_right}
 use Rattle.std.proofs.lemmas.Cmp.{nat_eq_equiv}
 use Rattle.std.proofs.lemmas.List.Elements.{All-from_recursion, recursion_from_All}
@@ -23,18 +24,20 @@ use Rattle.gs_base.specs.declared.verdict.Verdict.TheVariants.{Accept, Reject, I
 use Rattle.gs_base.specs.declared.mark.Mark.{Mark}
 use Rattle.gs_base.specs.declared.mark.Mark.TheVariants.{Answered, Behaviour, Cached, Deficit, First, Grafted, Invalid, Near, Pruned, Published, Unfanned}
 use Rattle.gs_base.specs.Names.{message_id, payload_of, peers_of, same_peer, topic_of, topic_or_empty}
+use Rattle.gs_params.specs.declared.cuts.Member.{Member}
 use Rattle.gs_mesh.specs.Peers.{is_among}
 use Rattle.gs_wire.specs.Messages.{HasIdentifierLength}
 use Rattle.gs_wire.proofs.RoundTrip.{all-append}
 use Rattle.gs_rules.specs.declared.trace.Promise.{Promise}
 use Rattle.gs_rules.specs.declared.trace.Event.{Event}
-use Rattle.gs_rules.specs.declared.trace.Event.TheVariants.{Fault, Gone, GossipBeat, GraftIn, Have, Msg, Promises, PruneIn, Publish, Sub, Subscribe, Unsubscribe, Want}
+use Rattle.gs_rules.specs.declared.trace.Event.TheVariants.{FanBeat, FanEnd, Fault, Gone, GossipBeat, GraftIn, Have, MeshBeat, Msg, Promises, PruneIn, Publish, Sub, Subscribe, Unsubscribe, Want}
 use Rattle.gs_rules.specs.declared.trace.Entry.{Entry}
 use Rattle.gs_rules.specs.Peers.{Peer, links_of, seen_ttl}
 use Rattle.gs_rules.specs.Tables.{Entries, joined, joined_after, on, seen, up}
 use Rattle.gs_rules.specs.Meshes.{backoff, fanout, mesh, mesh_topics}
 use Rattle.gs_rules.specs.Membership.{barring, candidates, charge_of, each_on, entering, fanning, is_candidate, is_negative, leaving, meshes_with, missing, unfanning}
-use Rattle.gs_rules.specs.MeshRules.{asked_backoff, fanned_of, graft_rule, joining, prune_rule, publish_rule, publishing, sub_rule, subscribe_rule, those_among, unsubscribe_rule}
+use Rattle.gs_rules.specs.MeshRules.{asked_backoff, fanned_of, graft_rule, joining, prune_rule, publish_rule, publishing, sub_rule, subscribe_rule, those_among, those_outside, unsubscribe_rule}
+use Rattle.gs_rules.specs.BeatRules.{fan_end, member_of, members_of, mending, receivers, refanning}
 use Rattle.gs_rules.specs.Scoring.{is_neighbour}
 use Rattle.gs_rules.specs.Gossip.{charges, overdue}
 use Rattle.gs_rules.specs.Rules.{answers, asking, bare, counted, have_rule, ids_in, message_rule, near_of, new_message, rule_of, want_rule, wanted}
@@ -42,7 +45,7 @@ use Rattle.gs_rules.specs.Modes.{SaysTheSame, Follows, free}
 use Rattle.gs_rules.proofs.Each.{each_mapped, each_passing, each_weaker, of_each}
 use Rattle.gs_rules.proofs.Judged.{of_a_joined_message, of_a_request}
 use Rattle.gs_rules.proofs.Offers.{what_is_offered}
-use Rattle.gs_rules.proofs.Ruled.{of_a_graft, of_a_prune, of_a_sub, what_is_published}
+use Rattle.gs_rules.proofs.Ruled.{choice_at, of_a_graft, of_a_prune, of_a_sub, what_is_mended, what_is_published}
 
 -- ---- what a mark says of the entry that makes it
 
@@ -57,15 +60,21 @@ abbrev pub Publishes : Event → Topic → Type 0
 Publishes (Publish u payload) t = t ≡ u
 Publishes other t = ⊥
 
--- who comes into a mesh said so, or is a neighbour that is up, as the peer subscribes
+-- who comes into a mesh said so, or is a neighbour that is up, as the peer subscribes or a heartbeat mends the mesh
 abbrev pub GraftedBy : Peer → Entries → Event → PeerNo → Type 0
 GraftedBy p L (GraftIn r graft) q = q ≡ r
 GraftedBy p L (Subscribe u) q = (is_neighbour p q ≡ true) × (up L q ≡ true)
+GraftedBy p L (MeshBeat u) q = (is_neighbour p q ≡ true) × (up L q ≡ true)
 GraftedBy p L other q = ⊥
+
+-- a mesh that somebody comes into is the one that a heartbeat mends, or the peer is then subscribed to its topic
+abbrev pub ComesOnto : Entries → Event → Topic → Type 0
+ComesOnto L (MeshBeat u) t = t ≡ u
+ComesOnto L other t = joined_after t other (joined L t) ≡ true
 
 -- A neighbour may come into a mesh.
 pub record MayGraft (p : Peer) (L : Entries) (at : ℕ) (event : Event) (q : PeerNo) (t : Topic) : Type 0 where
-  pub joins : joined_after t event (joined L t) ≡ true
+  pub joins : ComesOnto L event t
   pub rested : nat_le (backoff L q t) at ≡ true
   pub who : GraftedBy p L event q
 
@@ -201,31 +210,34 @@ module _ (p : Peer) (L : Entries) where
   abbrev Chosen : ℕ → Topic → PeerNo → Type 0
   Chosen at t q = (is_candidate p L at t q ≡ true) × (is_neighbour p q ≡ true)
 
-  chosen_are : (at : ℕ) (t : Topic) (chosen : List PeerNo) → AllByRecursion (Chosen at t) (those_among chosen (candidates p L at t))
-  chosen_are at t chosen =
-      each_passing (Chosen at t) (Chosen at t) (is_among chosen) (λ q is may. may) (candidates p L at t)
-      (each_passing (λ (q : PeerNo). is_neighbour p q ≡ true) (Chosen at t) (is_candidate p L at t) (λ q is near. (is, near)) (links_of p) (linked_are p.neighbours))
+  candidates_are : (at : ℕ) (t : Topic) → AllByRecursion (Chosen at t) (candidates p L at t)
+  candidates_are at t =
+      each_passing (λ (q : PeerNo). is_neighbour p q ≡ true) (Chosen at t) (is_candidate p L at t) (λ q is near. (is, near)) (links_of p) (linked_are p.neighbours)
 
-  enters : (at : ℕ) (t : Topic) (q : PeerNo) → Chosen at t q → MayGraft p L at (Subscribe t) q t
-  enters at t q (may, near) =
+  chosen_are : (at : ℕ) (t : Topic) (chosen : List PeerNo) → AllByRecursion (Chosen at t) (those_among chosen (candidates p L at t))
+  chosen_are at t chosen = each_passing (Chosen at t) (Chosen at t) (is_among chosen) (λ q is may. may) (candidates p L at t) (candidates_are at t)
+
+  -- and may come in by an event that lets neighbours in that are up
+  abbrev LetsIn : Event → Topic → Type 0
+  LetsIn event t = ComesOnto L event t × ((q : PeerNo) → (is_neighbour p q ≡ true) × (up L q ≡ true) → GraftedBy p L event q)
+
+  enters : (at : ℕ) (event : Event) (t : Topic) (q : PeerNo) → LetsIn event t → Chosen at t q → MayGraft p L at event q t
+  enters at event t q lets (may, near) =
       let first = and_parts (up L q) (on L q t && (not (is_among (mesh L t) q) && (nat_le (backoff L q t) at && not (is_negative p L at q)))) may in
       let second = and_parts (on L q t) (not (is_among (mesh L t) q) && (nat_le (backoff L q t) at && not (is_negative p L at q))) first.1 in
       let third = and_parts (not (is_among (mesh L t) q)) (nat_le (backoff L q t) at && not (is_negative p L at q)) second.1 in
       let fourth = and_parts (nat_le (backoff L q t) at) (not (is_negative p L at q)) third.1 in
-      record {
-        joins = ap (λ (same : Bool). if same then true else joined L t) ((bytes_eq-Decides t.0 t.0).1 refl);
-        rested = fourth.0;
-        who = (near, first.0);
-      }
+      record { joins = lets.0; rested = fourth.0; who = lets.1 q (near, first.0) }
 
-  entering_marks : (at : ℕ) (t : Topic) (chosen : List PeerNo) → AllByRecursion (Chosen at t) chosen → Marks p L at (Subscribe t) (entering (each_on t chosen))
-  entering_marks at t [] all = tt
-  entering_marks at t (q ∷ chosen) all = (enters at t q all.0, entering_marks at t chosen all.1)
+  entering_marks : (at : ℕ) (event : Event) (t : Topic) (chosen : List PeerNo) → LetsIn event t → AllByRecursion (Chosen at t) chosen → Marks p L at event (entering (each_on t chosen))
+  entering_marks at event t [] lets all = tt
+  entering_marks at event t (q ∷ chosen) lets all = (enters at event t q lets all.0, entering_marks at event t chosen lets all.1)
 
   joining_marks : (at : Millis) (t : Topic) (chosen : List PeerNo) → AllByRecursion (Chosen at.0 t) chosen → Marks p L at.0 (Subscribe t) (joining p L at t chosen).marks
   joining_marks at t chosen all =
       all-append (MayMark p L at.0 (Subscribe t)) (entering (each_on t chosen)) (unfanning t (fanout L t))
-      (entering_marks at.0 t chosen all) (unfanning_marks p L at.0 (Subscribe t) t (fanout L t))
+      (entering_marks at.0 (Subscribe t) t chosen (ap (λ (same : Bool). if same then true else joined L t) ((bytes_eq-Decides t.0 t.0).1 refl), λ q who. who) all)
+      (unfanning_marks p L at.0 (Subscribe t) t (fanout L t))
 
   subscribe_marks : (t : Topic) (e : Entry) → Follows free (subscribe_rule p L e.at t) tt e tt → Marks p L e.at.0 (Subscribe t) e.marks
   subscribe_marks t e effects =
@@ -296,6 +308,42 @@ module _ (p : Peer) (L : Entries) where
       by true = broken_marks at event q (overdue L at q) all.0
       by false = tt
 
+  -- ---- heartbeats
+
+  -- what holds of each of some peers holds of those that are left of them as members
+  members_are_such : (P : PeerNo → Type 0) (at : ℕ) (test : Member → Bool) (qs : List PeerNo) → AllByRecursion P qs → AllByRecursion P (map (λ (m : Member). m.peer) (filter test (members_of p L at qs)))
+  members_are_such P at test qs all =
+      each_mapped P (λ (m : Member). m.peer) (filter test (members_of p L at qs))
+      (each_passing (λ (m : Member). P m.peer) (λ (m : Member). P m.peer) test (λ m is such. such) (members_of p L at qs)
+      (each_mapped (λ (m : Member). P m.peer) (member_of p L at) qs all))
+
+  -- who goes was a member, and who comes in was a candidate
+  mending_marks : (at : Millis) (t : Topic) (kept come : List PeerNo) → Marks p L at.0 (MeshBeat t) (mending p L at t (choice_at p L at.0 t kept come)).marks
+  mending_marks at t kept come =
+      let go : List PeerNo = (choice_at p L at.0 t kept come).pruned in
+      let come_in : List PeerNo = (choice_at p L at.0 t kept come).grafted in
+      let seconds : ℕ = p.params.windows.prune_backoff_s in
+      all-append (MayMark p L at.0 (MeshBeat t)) (leaving p L at.0 (each_on t go)) (barring at.0 seconds (each_on t go) ++ entering (each_on t come_in))
+      (leaving_marks p L at.0 (MeshBeat t) (each_on t go)
+      (each_mapped (λ (x : PeerNo × Topic). is_among (mesh L x.1) x.0 ≡ true) (λ (q : PeerNo). (q, t)) go
+      (members_are_such (λ (q : PeerNo). is_among (mesh L t) q ≡ true) at.0 (λ (m : Member). not (is_member same_peer kept m.peer)) (mesh L t) (each_among (mesh L t)))))
+      (all-append (MayMark p L at.0 (MeshBeat t)) (barring at.0 seconds (each_on t go)) (entering (each_on t come_in))
+      (barring_marks p L at.0 (MeshBeat t) seconds (each_on t go))
+      (entering_marks at.0 (MeshBeat t) t come_in (refl, λ q who. who)
+      (members_are_such (Chosen at.0 t) at.0 (λ (m : Member). is_member same_peer come m.peer) (candidates p L at.0 t) (candidates_are at.0 t))))
+
+  beat_marks : (t : Topic) (e : Entry) → Follows free (rule_of p L e.at (MeshBeat t)) tt e tt → Marks p L e.at.0 (MeshBeat t) e.marks
+  beat_marks t e effects =
+      what_is_mended (Marks p L e.at.0 (MeshBeat t) e.marks) p L t e
+      (λ kept come same. same_marks (MayMark p L e.at.0 (MeshBeat t)) e (mending p L e.at t (choice_at p L e.at.0 t kept come)) same (mending_marks e.at t kept come))
+      effects
+
+  refanning_marks : (at : Millis) (t : Topic) (chosen : List PeerNo) → Marks p L at.0 (FanBeat t) (refanning p L at t chosen).marks
+  refanning_marks at t chosen =
+      let out : List PeerNo = those_outside (receivers p L at.0 t) (fanout L t) in
+      all-append (MayMark p L at.0 (FanBeat t)) (unfanning t out) (fanning t chosen)
+      (unfanning_marks p L at.0 (FanBeat t) t out) (fanning_marks p L at.0 (FanBeat t) t chosen)
+
   pub entry_marks : (event : Event) (e : Entry) → Follows free (rule_of p L e.at event) tt e tt → AllByRecursion (MayMark p L e.at.0 event) e.marks
   entry_marks (Msg q m) e effects = same_marks _ e _ effects.0 (message_marks e.at q m)
   entry_marks (Have q offer) e effects = offer_marks q offer e effects
@@ -311,5 +359,8 @@ module _ (p : Peer) (L : Entries) where
   entry_marks (Unsubscribe t) e effects = same_marks _ e _ effects.0 (unsubscribe_marks e.at t)
   entry_marks (Publish t payload) e effects = publish_marks t payload e effects
   entry_marks Promises e effects = same_marks _ e _ effects.0 (blaming_marks e.at.0 Promises (links_of p) (linked_are p.neighbours))
+  entry_marks (MeshBeat t) e effects = beat_marks t e effects
+  entry_marks (FanBeat t) e effects = same_marks _ e (refanning p L e.at t effects.0) effects.3.0 (refanning_marks e.at t effects.0)
+  entry_marks (FanEnd t) e effects = same_marks _ e (fan_end L e.at t) effects.0 (unfanning_marks p L e.at.0 (FanEnd t) t (fanout L t))
   entry_marks (GossipBeat t) e effects = same_marks _ e _ effects.3.0 tt
   entry_marks other e effects = same_marks _ e _ effects.0 tt

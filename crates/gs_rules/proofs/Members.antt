@@ -19,7 +19,7 @@ use Rattle.gs_base.specs.declared.mark.Mark.TheVariants.{Grafted, Pruned}
 use Rattle.gs_base.specs.Names.{same_peer, same_topic}
 use Rattle.gs_mesh.specs.Peers.{is_among, put_in, without}
 use Rattle.gs_rules.specs.declared.trace.Event.{Event}
-use Rattle.gs_rules.specs.declared.trace.Event.TheVariants.{Subscribe, Unsubscribe}
+use Rattle.gs_rules.specs.declared.trace.Event.TheVariants.{MeshBeat, Subscribe, Unsubscribe}
 use Rattle.gs_rules.specs.declared.trace.Entry.{Entry}
 use Rattle.gs_rules.specs.Peers.{Peer}
 use Rattle.gs_rules.specs.Tables.{Entries, after_marks, joined, joined_after}
@@ -31,7 +31,8 @@ use Rattle.gs_rules.specs.Modes.{Follows, free}
 use Rattle.gs_rules.specs.Legal.{Legal}
 use Rattle.gs_rules.proofs.Each.{each_passing, each_weaker}
 use Rattle.gs_rules.proofs.Legality.{legal_newest}
-use Rattle.gs_rules.proofs.Marks.{MayMark, each_among, entry_marks}
+use Rattle.gs_rules.proofs.Marks.{ComesOnto, MayMark, each_among, entry_marks}
+use Rattle.gs_rules.proofs.OwnBeats.{IsOfOwn, next_of_own}
 use Rattle.gs_rules.proofs.Topics.{same_are_one}
 
 -- nothing both holds and does not
@@ -188,16 +189,21 @@ grafts_none_leaving : (p : Peer) (L : Entries) (at : ℕ) (u : Topic) (mark : Ma
 grafts_none_leaving p L at u (Grafted q t) may = may.who
 grafts_none_leaving p L at u other may = tt
 
-comes_joined : (p : Peer) (L : Entries) (at : ℕ) (event : Event) (t : Topic) (mark : Mark) → MayMark p L at event mark → ComesAs t (λ q. joined_after t event (joined L t) ≡ true) mark
-comes_joined p L at event t (Grafted q u) may = λ same. subst (λ (v : Topic). joined_after v event (joined L v) ≡ true) (same_are_one u t same) may.joins
-comes_joined p L at event t other may = tt
+-- whoever comes in comes onto a topic that the peer is subscribed to then
+pub joins_then : (L : Entries) (event : Event) (t : Topic) → IsOfOwn L event → ComesOnto L event t → joined_after t event (joined L t) ≡ true
+joins_then L (MeshBeat u) t own is = subst (λ (v : Topic). joined L v ≡ true) (sym is) own
+joins_then L other t own is = is
+
+comes_joined : (p : Peer) (L : Entries) (at : ℕ) (event : Event) (t : Topic) → IsOfOwn L event → (mark : Mark) → MayMark p L at event mark → ComesAs t (λ q. joined_after t event (joined L t) ≡ true) mark
+comes_joined p L at event t own (Grafted q u) may = λ same. subst (λ (v : Topic). joined_after v event (joined L v) ≡ true) (same_are_one u t same) (joins_then L event u own may.joins)
+comes_joined p L at event t own other may = tt
 
 module _ (p : Peer) (L : Entries) (t : Topic) (before : AllByRecursion (λ q. joined L t ≡ true) (mesh L t)) where
   -- where the topic stays joined that has members
-  still : (event : Event) (e : Entry) → Follows free (rule_of p L e.at event) tt e tt → (joined L t ≡ true → joined_after t event (joined L t) ≡ true) → AllByRecursion (λ q. joined_after t event (joined L t) ≡ true) (after_marks (mesh_after t) e.marks (mesh L t))
-  still event e effects stays =
+  still : (event : Event) (e : Entry) → IsOfOwn L event → Follows free (rule_of p L e.at event) tt e tt → (joined L t ≡ true → joined_after t event (joined L t) ≡ true) → AllByRecursion (λ q. joined_after t event (joined L t) ≡ true) (after_marks (mesh_after t) e.marks (mesh L t))
+  still event e own effects stays =
       members_are (λ q. joined_after t event (joined L t) ≡ true) t e.marks (mesh L t)
-      (each_weaker (MayMark p L e.at.0 event) (ComesAs t (λ q. joined_after t event (joined L t) ≡ true)) (comes_joined p L e.at.0 event t) e.marks (entry_marks p L event e effects))
+      (each_weaker (MayMark p L e.at.0 event) (ComesAs t (λ q. joined_after t event (joined L t) ≡ true)) (comes_joined p L e.at.0 event t own) e.marks (entry_marks p L event e effects))
       (each_weaker (λ q. joined L t ≡ true) (λ q. joined_after t event (joined L t) ≡ true) (λ q joins. stays joins) (mesh L t) before)
 
   subscribed : (same before : Bool) → before ≡ true → (if same then true else before) ≡ true
@@ -219,16 +225,18 @@ module _ (p : Peer) (L : Entries) (t : Topic) (before : AllByRecursion (λ q. jo
       (members_stay t e.marks (mesh L t) (each_weaker (MayMark p L e.at.0 (Unsubscribe u)) GraftsNone (grafts_none_leaving p L e.at.0 u) e.marks (entry_marks p L (Unsubscribe u) e effects)))
   left u e effects false is =
       subst (λ (same : Bool). AllByRecursion (λ q. (if same then false else joined L t) ≡ true) (after_marks (mesh_after t) e.marks (mesh L t))) is
-      (still (Unsubscribe u) e effects (λ joins. subst (λ (same : Bool). (if same then false else joined L t) ≡ true) (sym is) joins))
+      (still (Unsubscribe u) e tt effects (λ joins. subst (λ (same : Bool). (if same then false else joined L t) ≡ true) (sym is) joins))
 
-  joined_step : (event : Event) (e : Entry) → Follows free (rule_of p L e.at event) tt e tt → AllByRecursion (λ q. joined_after t event (joined L t) ≡ true) (after_marks (mesh_after t) e.marks (mesh L t))
-  joined_step (Subscribe u) e effects = still (Subscribe u) e effects (λ joins. subscribed (same_topic u t) (joined L t) joins)
-  joined_step (Unsubscribe u) e effects = left u e effects (same_topic u t) refl
-  joined_step other e effects = still other e effects (λ joins. joins)
+  joined_step : (event : Event) (e : Entry) → IsOfOwn L event → Follows free (rule_of p L e.at event) tt e tt → AllByRecursion (λ q. joined_after t event (joined L t) ≡ true) (after_marks (mesh_after t) e.marks (mesh L t))
+  joined_step (Subscribe u) e own effects = still (Subscribe u) e own effects (λ joins. subscribed (same_topic u t) (joined L t) joins)
+  joined_step (Unsubscribe u) e own effects = left u e effects (same_topic u t) refl
+  joined_step other e own effects = still other e own effects (λ joins. joins)
 
 pub mesh_is_joined : (p : Peer) (L : Entries) (t : Topic) → Legal p L → AllByRecursion (λ q. joined L t ≡ true) (mesh L t)
 mesh_is_joined p [] t legal = tt
-mesh_is_joined p (e ∷ L) t legal = joined_step p L t (mesh_is_joined p L t legal.1) e.event e (legal_newest p e L legal).effects
+mesh_is_joined p (e ∷ L) t legal =
+    let newest = legal_newest p e L legal in
+    joined_step p L t (mesh_is_joined p L t legal.1) e.event e (next_of_own p L e.at.0 e.event legal.1 newest.next) newest.effects
 
 pub member_joined : (p : Peer) (L : Entries) (q : PeerNo) (t : Topic) → Legal p L → is_among (mesh L t) q ≡ true → joined L t ≡ true
 member_joined p L q t legal is = of_member (λ r. joined L t ≡ true) (mesh L t) q (mesh_is_joined p L t legal) is

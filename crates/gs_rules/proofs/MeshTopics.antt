@@ -10,7 +10,7 @@ use Rattle.gs_base.specs.declared.mark.Mark.{Mark}
 use Rattle.gs_base.specs.declared.mark.Mark.TheVariants.{Published}
 use Rattle.gs_base.specs.Names.{same_topic}
 use Rattle.gs_rules.specs.declared.trace.Event.{Event}
-use Rattle.gs_rules.specs.declared.trace.Event.TheVariants.{Publish, Subscribe}
+use Rattle.gs_rules.specs.declared.trace.Event.TheVariants.{FanEnd, Publish, Subscribe}
 use Rattle.gs_rules.specs.Peers.{Peer}
 use Rattle.gs_rules.specs.Tables.{Entries, after_marks, joined, known}
 use Rattle.gs_rules.specs.Meshes.{dropped_after, ever_fanned, has_mesh, last_published, mesh_topics, published_after}
@@ -54,6 +54,7 @@ was_there false before some = some
 
 not_dropped : (t : Topic) (event : Event) (before : Option ℕ) → is_some (dropped_after t None event before) ≡ true → is_some before ≡ true
 not_dropped t (Subscribe u) before some = was_there (same_topic u t) before some
+not_dropped t (FanEnd u) before some = was_there (same_topic u t) before some
 not_dropped t other before some = some
 
 published_short : (p : Peer) (L : Entries) (t : Topic) → Legal p L → is_some (last_published L t) ≡ true → IsShort t

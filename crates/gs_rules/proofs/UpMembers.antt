@@ -19,15 +19,15 @@ use Rattle.gs_base.specs.Names.{same_peer, same_topic}
 use Rattle.gs_params.specs.Picks.{IsAscending}
 use Rattle.gs_mesh.specs.Peers.{is_among, put_in, without}
 use Rattle.gs_rules.specs.declared.trace.Event.{Event}
-use Rattle.gs_rules.specs.declared.trace.Event.TheVariants.{BeatEnd, Fault, Gone, GossipBeat, GraftIn, Have, Heard, Msg, PruneIn, Shut, Sub, Subscribe, Want}
+use Rattle.gs_rules.specs.declared.trace.Event.TheVariants.{BeatEnd, FanBeat, FanEnd, Fault, Gone, GossipBeat, GraftIn, Have, Heard, MeshBeat, Msg, PruneIn, Shut, Sub, Subscribe, Want}
 use Rattle.gs_rules.specs.declared.trace.Entry.{Entry}
 use Rattle.gs_rules.specs.Peers.{Peer}
-use Rattle.gs_rules.specs.Tables.{Entries, after_marks, is_shut, is_shut_after, up, up_after}
+use Rattle.gs_rules.specs.Tables.{Entries, after_marks, is_shut, is_shut_after, own_topics, up, up_after}
 use Rattle.gs_rules.specs.Meshes.{backoff, mesh, mesh_after, mesh_topics}
 use Rattle.gs_rules.specs.Membership.{losing_marks, meshes_with}
 use Rattle.gs_rules.specs.MeshRules.{lost_rule}
 use Rattle.gs_rules.specs.Scoring.{IsFromNeighbour, is_neighbour}
-use Rattle.gs_rules.specs.Owed.{gossip_topics, owed, parts}
+use Rattle.gs_rules.specs.Owed.{gossip_topics, heartbeat_groups, owed, parts}
 use Rattle.gs_rules.specs.Rules.{rule_of}
 use Rattle.gs_rules.specs.Modes.{Follows, SaysTheSame, free}
 use Rattle.gs_rules.specs.Legal.{IsNext, Legal}
@@ -38,7 +38,7 @@ use Rattle.gs_rules.proofs.Legality.{legal_newest}
 use Rattle.gs_rules.proofs.Marks.{GraftedBy, MayMark, entry_marks}
 use Rattle.gs_rules.proofs.Members.{ComesAs, GraftsNone, Stays, leaving_prunes, member_joined, members_are, members_stay, never, of_member, one_peer, pruned_with, prunes, put_are}
 use Rattle.gs_rules.proofs.MeshTopics.{joined_has_mesh}
-use Rattle.gs_rules.proofs.Owed.{IsOwed, OwesSuch, beats_are_such, nothing_is_such, opens, owed_are_such, owing_are_such, parts_are_such}
+use Rattle.gs_rules.proofs.Owed.{IsOwed, OwesSuch, ReachesSuch, always_such, heartbeat_is_such, opens, parts_are_such}
 
 -- ---- whoever sends a GRAFT is up
 
@@ -55,6 +55,9 @@ owed_leaves q (Have r offer) before own is = is
 owed_leaves q (Want r request) before own is = is
 owed_leaves q (GraftIn r graft) before own is = is
 owed_leaves q (PruneIn r prune) before own is = is
+owed_leaves q (MeshBeat t) before own is = is
+owed_leaves q (FanBeat t) before own is = is
+owed_leaves q (FanEnd t) before own is = is
 owed_leaves q (GossipBeat t) before own is = is
 owed_leaves q BeatEnd before own is = is
 owed_leaves q other before own is = absurd own
@@ -63,28 +66,26 @@ sender_stays : (L : Entries) (e : Entry) → IsOwed e.event → (event : Event) 
 sender_stays L e own (GraftIn q graft) is = owed_leaves q e.event (up L q) own is
 sender_stays L e own other is = tt
 
-senders_stay : (p : Peer) (L : Entries) (e : Entry) (events : List Event) → AllByRecursion IsOwed events → IsNext p L e.at.0 events e.event → AllByRecursion (SenderUp L) events → AllByRecursion (SenderUp (e ∷ L)) events
-senders_stay p L e [] own next all = tt
-senders_stay p L e (first ∷ rest) own next all =
-    each_weaker (SenderUp L) (SenderUp (e ∷ L)) (sender_stays L e (subst IsOwed (sym next) own.0)) (first ∷ rest) all
+heartbeat_up : (p : Peer) (at : ℕ) → ReachesSuch p (Legal p) SenderUp (heartbeat_groups at)
+heartbeat_up p at =
+    heartbeat_is_such p (Legal p) SenderUp at
+    (λ M legal. of_each (λ (t : Topic). SenderUp M (MeshBeat t)) (λ t. tt) (own_topics M)) (λ M t. tt) (λ M t. tt)
+    (λ M legal. of_each (λ (t : Topic). SenderUp M (GossipBeat t)) (λ t. tt) (gossip_topics p M)) (λ M. tt)
 
-owed_up : (p : Peer) (L : Entries) → Legal p L → OwesSuch (SenderUp L) (owed p L)
-owed_up p [] legal = nothing_is_such (SenderUp [])
-owed_up p (e ∷ L) legal =
-    owing_are_such (SenderUp (e ∷ L)) p L (e ∷ L) e.at.0 e.event (owed p L) heard
-    (λ is. beats_are_such (SenderUp (e ∷ L)) (gossip_topics p (e ∷ L)) (of_each (λ (t : Topic). SenderUp (e ∷ L) (GossipBeat t)) (λ t. tt) (gossip_topics p (e ∷ L))) tt)
-    (senders_stay p L e (owed p L).events (owed_are_such p L).0 (legal_newest p e L legal).next (owed_up p L legal.1).0, (owed_are_such p L).1)
-  where
-    heard : (q : PeerNo) (rpc : Rpc) → e.event ≡ Heard q rpc → AllByRecursion (SenderUp (e ∷ L)) (parts q rpc)
-    heard q rpc is =
-        let here : up L q ≡ true = (opens p L e.at.0 (Heard q rpc) (λ h. h) (subst (IsNext p L e.at.0 (owed p L).events) is (legal_newest p e L legal).next)).is_up in
-        let now : up (e ∷ L) q ≡ true = subst (λ (event : Event). up_after q event (up L q) ≡ true) (sym is) here in
-        parts_are_such (SenderUp (e ∷ L)) q rpc (λ sub. tt) (λ m. tt) (λ offer. tt) (λ request. tt) (λ graft. now) (λ prune. tt)
+heard_up : (p : Peer) (L : Entries) (e : Entry) (q : PeerNo) (rpc : Rpc) → Legal p (e ∷ L) → e.event ≡ Heard q rpc → AllByRecursion (SenderUp (e ∷ L)) (parts q rpc)
+heard_up p L e q rpc legal is =
+    let here : up L q ≡ true = (opens p L e.at.0 (Heard q rpc) (λ h. h) (subst (IsNext p L e.at.0 (owed p L).events) is (legal_newest p e L legal).next)).is_up in
+    let now : up (e ∷ L) q ≡ true = subst (λ (event : Event). up_after q event (up L q) ≡ true) (sym is) here in
+    parts_are_such (SenderUp (e ∷ L)) q rpc (λ sub. tt) (λ m. tt) (λ offer. tt) (λ request. tt) (λ graft. now) (λ prune. tt)
+
+owed_up : (p : Peer) (L : Entries) → Legal p L → OwesSuch p (Legal p) SenderUp L (owed p L)
+owed_up p L legal = always_such p SenderUp sender_stays (heard_up p) (heartbeat_up p) L legal
 
 next_up : (p : Peer) (L : Entries) (at : ℕ) (events : List Event) (event : Event) (q : PeerNo) → AllByRecursion (SenderUp L) events → IsNext p L at events event → GraftedBy p L event q → up L q ≡ true
 next_up p L at [] (GraftIn r graft) q all next is = absurd next
 next_up p L at (first ∷ rest) (GraftIn r graft) q all next is = subst (λ (s : PeerNo). up L s ≡ true) (sym is) (subst (SenderUp L) (sym next) all.0)
 next_up p L at events (Subscribe t) q all next is = is.1
+next_up p L at events (MeshBeat t) q all next is = is.1
 next_up p L at events other q all next is = absurd is
 
 -- ---- members are up

@@ -8,6 +8,7 @@ pub mod Gossip
 pub mod Owed
 pub mod Rule
 pub mod MeshRules
+pub mod BeatRules
 pub mod Rules
 pub mod Modes
 pub mod Legal

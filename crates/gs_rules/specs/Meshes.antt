@@ -1,6 +1,6 @@
 -- The meshes and fanouts of topics, and who is not to be grafted yet, as a trace has them (gossipsub v1.0, "Router
 -- State"; v1.1, "Prune Backoff").
-use Rattle.std.specs.Prelude.{ℕ, max, Bool, true, false, not, ◌&&◌, ◌||◌, if◌then◌else◌, List, [], ◌∷◌, ◌++◌, filter, Option, Some, None, is_some}
+use Rattle.std.specs.Prelude.{ℕ, ◌+◌, nat_le, max, Bool, true, false, not, ◌&&◌, ◌||◌, if◌then◌else◌, List, [], ◌∷◌, ◌++◌, filter, Option, Some, None, is_some}
 use Rattle.std.specs.List.{list_any}
 use Rattle.gs_base.specs.declared.names.PeerNo.{PeerNo}
 use Rattle.gs_base.specs.declared.names.Topic.{Topic}
@@ -10,7 +10,7 @@ use Rattle.gs_base.specs.declared.mark.Mark.TheVariants.{Seen, First, Near, Graf
 use Rattle.gs_base.specs.Names.{same_id, same_peer, same_topic}
 use Rattle.gs_mesh.specs.Peers.{put_in, without}
 use Rattle.gs_rules.specs.declared.trace.Event.{Event}
-use Rattle.gs_rules.specs.declared.trace.Event.TheVariants.{Subscribe}
+use Rattle.gs_rules.specs.declared.trace.Event.TheVariants.{FanEnd, Subscribe}
 use Rattle.gs_rules.specs.declared.trace.Entry.{Entry}
 use Rattle.gs_rules.specs.Tables.{Entries, after_marks, ascending, joined, known}
 
@@ -27,9 +27,10 @@ abbrev pub mesh : Entries → Topic → List PeerNo
 mesh [] t = []
 mesh (e ∷ L) t = after_marks (mesh_after t) e.marks (mesh L t)
 
--- to subscribe to a topic ends its fanout
+-- to subscribe to a topic ends its fanout, and so does a heartbeat once its time has come
 abbrev pub dropped_after : {A : Type 0} → Topic → A → Event → A → A
 dropped_after t none (Subscribe u) before = if same_topic u t then none else before
+dropped_after t none (FanEnd u) before = if same_topic u t then none else before
 dropped_after t none other before = before
 
 -- what a mark leaves of who is in the fanout of a topic
@@ -61,13 +62,25 @@ abbrev pub ever_fanned : Entries → List Topic
 ever_fanned [] = []
 ever_fanned (e ∷ L) = after_marks fanned_topics_after e.marks (ever_fanned L)
 
--- a topic has a mesh while the peer is subscribed to it, and a fanout while one is kept
+-- a topic has a fanout while it is known when the peer last published on it, and a mesh while the peer is subscribed to it
+abbrev pub has_fanout : Entries → Topic → Bool
+has_fanout L t = is_some (last_published L t)
+
 abbrev pub has_mesh : Entries → Topic → Bool
 has_mesh L t = joined L t || is_some (last_published L t)
 
 -- the topics that have a mesh or a fanout, if only an empty one, ascending
 abbrev pub mesh_topics : Entries → List Topic
 mesh_topics L = ascending (filter (has_mesh L) (known L ++ ever_fanned L))
+
+-- those of them that have a fanout
+abbrev pub fanout_topics : Entries → List Topic
+fanout_topics L = filter (has_fanout L) (mesh_topics L)
+
+-- whether a fanout's time has come at a moment: the peer has not published on the topic for so many milliseconds
+abbrev pub is_stale : ℕ → ℕ → Option ℕ → Bool
+is_stale ttl at None = false
+is_stale ttl at (Some published) = nat_le (published + ttl) at
 
 -- ---- who is not to be grafted
 

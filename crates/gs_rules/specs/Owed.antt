@@ -1,5 +1,5 @@
--- What must come next. An event may owe others: after an RPC was heard, its parts follow, and a heartbeat gossips
--- and ends. What is owed comes in groups, and a group holds what there is when it is reached.
+-- What must come next. An event may owe others: after an RPC was heard, its parts follow, and a heartbeat mends the meshes
+-- and the fanouts, gossips and ends. What is owed comes in groups, and a group holds what there is when it is reached.
 use Rattle.std.specs.Prelude.{ℕ, Bool, true, false, if◌then◌else◌, List, [], ◌∷◌, ◌++◌, drop, filter, map, Option, Some, None}
 use Rattle.gs_base.specs.declared.names.PeerNo.{PeerNo}
 use Rattle.gs_base.specs.declared.names.Topic.{Topic}
@@ -11,11 +11,12 @@ use Rattle.gs_base.specs.declared.control.IWant.{IWant}
 use Rattle.gs_base.specs.declared.control.Graft.{Graft}
 use Rattle.gs_base.specs.declared.control.Prune.{Prune}
 use Rattle.gs_rules.specs.declared.trace.Event.{Event}
-use Rattle.gs_rules.specs.declared.trace.Event.TheVariants.{Heard, Sub, Msg, Have, Want, GraftIn, PruneIn, Promises, GossipBeat, BeatEnd}
+use Rattle.gs_rules.specs.declared.trace.Event.TheVariants.{Heard, Sub, Msg, Have, Want, GraftIn, PruneIn, Promises, MeshBeat, GossipBeat, BeatEnd}
 use Rattle.gs_rules.specs.declared.trace.Entry.{Entry}
 use Rattle.gs_rules.specs.Peers.{Peer}
-use Rattle.gs_rules.specs.Tables.{Entries}
-use Rattle.gs_rules.specs.Meshes.{mesh_topics}
+use Rattle.gs_rules.specs.Tables.{Entries, own_topics}
+use Rattle.gs_rules.specs.Meshes.{fanout_topics, mesh_topics}
+use Rattle.gs_rules.specs.BeatRules.{fan_event}
 use Rattle.gs_rules.specs.Scoring.{is_graylisted}
 use Rattle.gs_rules.specs.Gossip.{gossip}
 
@@ -25,6 +26,10 @@ use Rattle.gs_rules.specs.Gossip.{gossip}
 pub data Group : Type 0 where
   -- the parts of an RPC
   PartsOf : PeerNo → Rpc → Group
+  -- the meshes that a heartbeat mends
+  MeshBeats : Group
+  -- the fanouts that a heartbeat at this moment mends or ends
+  FanBeats : ℕ → Group
   -- the gossip of a heartbeat, and its end
   Gossips : Group
 
@@ -71,13 +76,20 @@ beats topics = map GossipBeat topics ++ BeatEnd ∷ []
 -- the events of a group that is reached behind this trace
 abbrev pub events_in : Peer → Entries → Group → List Event
 events_in p L (PartsOf q rpc) = parts q rpc
+events_in p L MeshBeats = map MeshBeat (own_topics L)
+events_in p L (FanBeats at) = map (fan_event p L at) (fanout_topics L)
 events_in p L Gossips = beats (gossip_topics p L)
+
+-- What a heartbeat does at a moment, in order: the mesh of each topic that the peer is subscribed to, each fanout, and the
+-- gossip of each topic on which there is some; then it ends. Within a group topics ascend (gossipsub v1.0, "Heartbeat").
+abbrev pub heartbeat_groups : ℕ → List Group
+heartbeat_groups at = MeshBeats ∷ FanBeats at ∷ Gossips ∷ []
 
 -- The groups that an event owes which comes behind this trace at a moment. Whoever is on the graylist is heard in vain
 -- (gossipsub v1.1, Peer Scoring, "Score Thresholds").
 abbrev pub owes : Peer → Entries → ℕ → Event → List Group
 owes p L at (Heard q rpc) = if is_graylisted p L at q then [] else PartsOf q rpc ∷ []
-owes p L at Promises = Gossips ∷ []
+owes p L at Promises = heartbeat_groups at
 owes p L at other = []
 
 -- ---- debts

@@ -22,7 +22,7 @@ use Rattle.gs_mesh.specs.Peers.{without as all_but}
 use Rattle.gs_score.specs.Accounts.{rules_of}
 use Rattle.gs_wire.specs.Messages.{most_identifiers, offering, passed_on, requesting}
 use Rattle.gs_rules.specs.declared.trace.Event.{Event}
-use Rattle.gs_rules.specs.declared.trace.Event.TheVariants.{Fault, Gone, GossipBeat, GraftIn, Have, Msg, Promises, PruneIn, Publish, Sub, Subscribe, Unsubscribe, Want}
+use Rattle.gs_rules.specs.declared.trace.Event.TheVariants.{FanBeat, FanEnd, Fault, Gone, GossipBeat, GraftIn, Have, MeshBeat, Msg, Promises, PruneIn, Publish, Sub, Subscribe, Unsubscribe, Want}
 use Rattle.gs_rules.specs.declared.trace.Entry.{Entry}
 use Rattle.gs_rules.specs.Peers.{Peer, seen_ttl, windows}
 use Rattle.gs_rules.specs.Tables.{Entries, Keeping, Sighting, answered, asked, joined, kept, last_millis, last_seen, offers, seen}
@@ -30,6 +30,7 @@ use Rattle.gs_rules.specs.Meshes.{fanout, mesh, noted}
 use Rattle.gs_rules.specs.Scoring.{is_ignored}
 use Rattle.gs_rules.specs.Gossip.{all_charges, gossip, gossip_size}
 pub use Rattle.gs_rules.specs.Rule.{AnyOf, CutOf, Gives, OneOf, Rule, bare, listeners, to_each, up_neighbours, without}
+use Rattle.gs_rules.specs.BeatRules.{fan_beat_rule, fan_end, mesh_beat_rule}
 use Rattle.gs_rules.specs.MeshRules.{graft_rule, lost_rule, prune_rule, publish_rule, sub_rule, subscribe_rule, unsubscribe_rule}
 
 -- ---- messages that come
@@ -245,5 +246,8 @@ rule_of p L at (Subscribe t) = subscribe_rule p L at t
 rule_of p L at (Unsubscribe t) = Gives (unsubscribe_rule p L at t)
 rule_of p L at (Publish t payload) = publish_rule p L at t payload
 rule_of p L at Promises = Gives (promises_rule p L at)
+rule_of p L at (MeshBeat t) = mesh_beat_rule p L at t
+rule_of p L at (FanBeat t) = fan_beat_rule p L at t
+rule_of p L at (FanEnd t) = Gives (fan_end L at t)
 rule_of p L at (GossipBeat t) = gossip_rule p L at t
 rule_of p L at other = Gives (bare at other)

@@ -214,6 +214,17 @@ abbrev pub answered : Entries → PeerNo → MsgId → ℕ
 answered [] q id = 0
 answered (e ∷ L) q id = after_marks (answered_after q id) e.marks (answered L q id)
 
+-- ---- heartbeats
+
+-- how many heartbeats began
+abbrev pub counted_after : Event → ℕ → ℕ
+counted_after Promises before = before + 1
+counted_after other before = before
+
+abbrev pub heartbeats : Entries → ℕ
+heartbeats [] = 0
+heartbeats (e ∷ L) = counted_after e.event (heartbeats L)
+
 -- ---- budgets
 
 -- the end of a heartbeat begins a count anew

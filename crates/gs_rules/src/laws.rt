@@ -14,6 +14,7 @@ ghost use Rattle.gs_mesh.specs.Peers.{is_among};
 ghost use Rattle.gs_wire.specs.Codec.{codec};
 ghost use Rattle.gs_rules.specs.declared.trace.Entry.{Entry};
 ghost use Rattle.gs_rules.specs.declared.trace.Promise.{Promise};
+ghost use Rattle.gs_rules.specs.declared.trace.Event.{Event};
 ghost use Rattle.gs_rules.specs.declared.trace.Event.TheVariants.{Promises, Shut};
 ghost use Rattle.gs_rules.specs.declared.refusal.RefusedLine.{RefusedLine};
 ghost use Rattle.gs_rules.specs.Peers.{Peer, links_of, seen_ttl};
@@ -22,7 +23,7 @@ ghost use Rattle.gs_rules.specs.Meshes.{backoff, mesh};
 ghost use Rattle.gs_rules.specs.Arrivals.{CameIn};
 ghost use Rattle.gs_rules.specs.Scoring.{IsFromNeighbour, change_of, changed_after, has_counters, history, is_neighbour, score};
 ghost use Rattle.gs_rules.specs.Gossip.{IsKeptOn, IsOpen, WasLeftOpen, charges, gossip, gossipable, overdue};
-ghost use Rattle.gs_rules.specs.Owed.{beats, gossip_topics, owed};
+ghost use Rattle.gs_rules.specs.Owed.{Gossips, Group, beats, gossip_topics, heartbeat_groups, owed, owes, reached};
 ghost use Rattle.gs_rules.specs.Rules.{Gives, Rule, rule_of};
 ghost use Rattle.gs_rules.specs.Modes.{Follows, exact, free, settled};
 ghost use Rattle.gs_rules.specs.Legal.{DeliversApart, Legal, LegalOn};
@@ -156,12 +157,25 @@ pub fn own_topics_are_those_that_are_joined()
     ensures ascend { (entries : Entries) → IsStrictlySortedBy topic_order (own_topics entries) }
 {}
 
-/// Once a heartbeat has charged broken promises, it owes gossip on each topic that has a mesh or a fanout and on which
-/// there is some, and its end, and nothing behind that.
-pub fn a_heartbeat_gossips_and_ends()
-    ensures { (p : Peer) (entries : Entries) (e : Entry)
+/// Once a heartbeat has charged broken promises, three groups of events are owed, and nothing else: it mends the meshes,
+/// then the fanouts, then it gossips and ends. Of each group one event comes after the other; behind the last one the
+/// next group is reached, as things stand then, and one that holds no event is passed over. The last group is gossip on
+/// each topic that has a mesh or a fanout and on which there is some, and the heartbeat's end.
+pub fn a_heartbeat_mends_gossips_and_ends()
+    ensures begins { (p : Peer) (entries : Entries) (e : Entry)
         → e.event ≡ Promises
-        → owed p (e ∷ entries) ≡ record { events = beats (gossip_topics p (e ∷ entries)); groups = [] } }
+        → owed p (e ∷ entries) ≡ reached p (e ∷ entries) (heartbeat_groups e.at.0) }
+    ensures within { (p : Peer) (entries : Entries) (e : Entry)
+        (first second : Event) (rest : List Event) (groups : List Group)
+        → owed p entries ≡ record { events = first ∷ second ∷ rest; groups = groups }
+        → owes p entries e.at.0 e.event ≡ []
+        → owed p (e ∷ entries) ≡ record { events = second ∷ rest; groups = groups } }
+    ensures behind { (p : Peer) (entries : Entries) (e : Entry) (last : Event) (groups : List Group)
+        → owed p entries ≡ record { events = last ∷ []; groups = groups }
+        → owes p entries e.at.0 e.event ≡ []
+        → owed p (e ∷ entries) ≡ reached p (e ∷ entries) groups }
+    ensures gossips { (p : Peer) (entries : Entries)
+        → reached p entries (Gossips ∷ []) ≡ record { events = beats (gossip_topics p entries); groups = [] } }
 {}
 
 /// What is gossiped on a topic is kept as one of that topic, and was kept lately; and it fits one offer.

@@ -1,14 +1,14 @@
 //! Traces keep their entries, entries compare, and laws can be called.
 use crate::{
     Entry, Event, Refusal, Trace, a_broken_promise_is_charged, a_delivery_is_not_repeated,
-    a_heartbeat_gossips_and_ends, a_member_was_not_in_backoff, a_part_with_nothing_left_is_whole,
-    a_promise_is_charged_once, each_mark_of_a_legal_trace_counts, gossip_is_of_what_is_kept,
-    legal_entries_compose, mesh_members_are_up, meshes_are_of_own_topics,
-    nothing_changes_a_mesh_behind_a_shut, nothing_changes_a_score_behind_a_shut,
-    nothing_is_said_behind_a_close, one_more_entry, own_topics_are_those_that_are_joined,
-    what_is_given_draws_no_word, what_is_kept_is_gossiped, what_is_sent_is_spelled,
-    what_was_said_is_handled, what_was_sent_is_handled, what_words_choose_is_legal,
-    words_fix_the_next_entry, words_fix_what_follows_a_rule,
+    a_heartbeat_mends_gossips_and_ends, a_member_was_not_in_backoff,
+    a_part_with_nothing_left_is_whole, a_promise_is_charged_once,
+    each_mark_of_a_legal_trace_counts, gossip_is_of_what_is_kept, legal_entries_compose,
+    mesh_members_are_up, meshes_are_of_own_topics, nothing_changes_a_mesh_behind_a_shut,
+    nothing_changes_a_score_behind_a_shut, nothing_is_said_behind_a_close, one_more_entry,
+    own_topics_are_those_that_are_joined, what_is_given_draws_no_word, what_is_kept_is_gossiped,
+    what_is_sent_is_spelled, what_was_said_is_handled, what_was_sent_is_handled,
+    what_words_choose_is_legal, words_fix_the_next_entry, words_fix_what_follows_a_rule,
 };
 use bytes::Bytes;
 use gs_base::{Mark, Message, Millis, MsgId, PeerNo, Rpc, Seq, Shared, Topic, Verdict};
@@ -100,21 +100,19 @@ fn a_trace_keeps_its_entries_in_order(rt: HostRuntime) -> Result<(), AllocError>
     Ok(())
 }
 
-/// Entries are equal where their parts are, and differ where one part does.
-fn compares_entries(alloc: Global) -> Result<bool, AllocError> {
+/// Entries are equal where their parts are, and differ where their moments do.
+fn compares_moments(alloc: Global) -> Result<bool, AllocError> {
     let seen = delivery(alloc, 7, b"second")?;
     let again = delivery(alloc, 7, b"second")?;
     let later = delivery(alloc, 8, b"second")?;
+    Ok(seen == again && seen != later && seen.event == later.event && seen.marks == later.marks)
+}
+
+/// Entries of two payloads differ in each part that the payload is in.
+fn compares_payloads(alloc: Global) -> Result<bool, AllocError> {
+    let seen = delivery(alloc, 7, b"second")?;
     let other = delivery(alloc, 7, b"third")?;
-    Ok(
-        seen == again
-            && seen != later
-            && seen.event == later.event
-            && seen.event != other.event
-            && seen.marks == later.marks
-            && seen.marks != other.marks
-            && seen.delivered != other.delivered,
-    )
+    Ok(seen.event != other.event && seen.marks != other.marks && seen.delivered != other.delivered)
 }
 
 /// Events that hold no memory differ in their variant or in their number.
@@ -145,7 +143,8 @@ fn compares_marks(alloc: Global) -> Result<bool, AllocError> {
 
 #[test]
 fn entries_are_equal_where_their_parts_are(rt: HostRuntime) -> Result<(), AllocError> {
-    assert!(rt; compares_entries(rt.alloc())?);
+    assert!(rt; compares_moments(rt.alloc())?);
+    assert!(rt; compares_payloads(rt.alloc())?);
     Ok(())
 }
 
@@ -188,7 +187,7 @@ fn laws_can_be_called(_rt: HostRuntime) {
     what_was_sent_is_handled();
     a_part_with_nothing_left_is_whole();
     own_topics_are_those_that_are_joined();
-    a_heartbeat_gossips_and_ends();
+    a_heartbeat_mends_gossips_and_ends();
     gossip_is_of_what_is_kept();
     a_promise_is_charged_once();
     a_broken_promise_is_charged();

@@ -34,8 +34,14 @@ pub enum Event {
     Unsubscribe(Topic),
     /// The peer published a payload on a topic.
     Publish(Topic, Bytes),
-    /// A heartbeat began: promises whose time had come ended. Gossip follows, and the heartbeat's end.
+    /// A heartbeat began: promises whose time had come ended. Meshes, fanouts and gossip follow, and the heartbeat's end.
     Promises,
+    /// The mesh of a topic was mended.
+    MeshBeat(Topic),
+    /// The fanout of a topic was mended.
+    FanBeat(Topic),
+    /// The fanout of a topic ended: the peer has not published on it for its time.
+    FanEnd(Topic),
     /// What there is on a topic was gossiped.
     GossipBeat(Topic),
     /// A heartbeat ended.

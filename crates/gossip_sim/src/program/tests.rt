@@ -46,6 +46,7 @@ hex = "616263"
 "#;
 
 const REPORT: &str = "delivered a 200 news 616263\ndelivered b 300 news 616263\n\
+    mesh a news b\nmesh b news a\n\
     score a b 0.000000\nscore b a 0.000000\nlinks 2 settled\n";
 
 /// What a run asks of a runtime.

@@ -11,17 +11,27 @@ const GRAFTED: &str = "delivered a 400 news 616263\ndelivered b 500 news 616263\
     mesh a news b\nmesh b news a\n\
     score a b 0.000000\nscore b a 0.000000\nlinks 2 settled\n";
 
+/// The same peers in ten rounds, before the first heartbeat.
+const TEN_ROUNDS: &str = "round_ms = 100\nrounds = 9\nworkers = 2\ncapacity = 8\nseed = 1\n\
+    [[topic]]\nname = \"news\"\n[[peer]]\nname = \"a\"\n[[peer]]\nname = \"b\"\n";
+
 /// `a` has heard from round 1 on that `b` is on the topic, and grafts it where it subscribes then. Of two that
-/// subscribe in one round neither grafts the other.
+/// subscribe in one round neither grafts the other, until the heartbeat in round 10.
 #[test]
 fn who_subscribes_behind_a_neighbour_grafts_it(rt: HostRuntime) -> Result<(), AllocError> {
-    for (joins, report) in [(0, APART), (1, GRAFTED), (2, GRAFTED)] {
+    for (front, joins, report) in [
+        (TEN_ROUNDS, 0, APART),
+        (TWO, 0, GRAFTED),
+        (TEN_ROUNDS, 1, GRAFTED),
+        (TEN_ROUNDS, 2, GRAFTED),
+        (TWO, 2, GRAFTED),
+    ] {
         let script: [Told<'_>; 3] = [
             (0, "b", "subscribe", "news", None),
             (joins, "a", "subscribe", "news", None),
             (4, "a", "publish", "news", Some("616263")),
         ];
-        assert!(rt; reports(&rt, &[TWO, A_DIALS_B], &script, report)?);
+        assert!(rt; reports(&rt, &[front, A_DIALS_B], &script, report)?);
     }
     Ok(())
 }
@@ -72,28 +82,24 @@ const LINE: &str = "round_ms = 100\nrounds = 10\nworkers = 3\ncapacity = 8\nseed
     [[peer]]\nname = \"a\"\n[[peer]]\nname = \"b\"\n[[peer]]\nname = \"c\"\n\
     [[dial]]\nfrom = \"a\"\nto = \"b\"\n[[dial]]\nfrom = \"b\"\nto = \"c\"\n";
 
-/// Nobody is in a mesh. `b` offers in round 5 what it heard; `c` asks for it in round 6 and gets it in round 8.
-const HEALED: &str = "delivered a 200 news 616263\ndelivered b 300 news 616263\n\
-    delivered c 800 news 616263\n\
-    score a b 0.000000\nscore b a 0.000000\n\
-    score b c 0.000000\nscore c b 0.000000\nlinks 4 settled\n";
-
 /// `b` passes on at once what it hears in round 3, since `c` is in its mesh then.
 const PASSED_ON: &str = "delivered a 200 news 616263\ndelivered b 300 news 616263\n\
-    delivered c 400 news 616263\nmesh b news c\nmesh c news b\n\
+    delivered c 400 news 616263\n\
+    mesh a news b\nmesh b news a\nmesh b news c\nmesh c news b\n\
     score a b 0.000000\nscore b a 0.000000\n\
     score b c 0.000000\nscore c b 0.000000\nlinks 4 settled\n";
 
-/// The GRAFT of `c` comes behind the message, and members of the mesh are offered nothing.
+/// `c` comes into the mesh of `b` behind the message, at the heartbeat in round 5 or before, and members of a mesh are
+/// offered nothing.
 const MISSED: &str = "delivered a 200 news 616263\ndelivered b 300 news 616263\n\
-    mesh b news c\nmesh c news b\n\
+    mesh a news b\nmesh b news a\nmesh b news c\nmesh c news b\n\
     score a b 0.000000\nscore b a 0.000000\n\
     score b c 0.000000\nscore c b 0.000000\nlinks 4 settled\n";
 
 /// `c` hears in round 1 that `b` is on the topic, and `b` hears the message of `a` in round 3, ahead of what `c` says.
 #[test]
-fn a_message_passes_a_line_by_gossip_or_through_a_mesh(rt: HostRuntime) -> Result<(), AllocError> {
-    for (joins, report) in [(0, HEALED), (1, PASSED_ON), (2, MISSED), (4, MISSED)] {
+fn a_message_passes_a_line_through_a_mesh(rt: HostRuntime) -> Result<(), AllocError> {
+    for (joins, report) in [(0, MISSED), (1, PASSED_ON), (2, MISSED), (4, MISSED)] {
         let script: [Told<'_>; 4] = [
             (0, "a", "subscribe", "news", None),
             (0, "b", "subscribe", "news", None),
@@ -105,10 +111,38 @@ fn a_message_passes_a_line_by_gossip_or_through_a_mesh(rt: HostRuntime) -> Resul
     Ok(())
 }
 
+/// Two islands, `a` with `b` and `c` with `d`: each peer has room for one member. `c` dials `b` as well.
+const ISLANDS: &str = "round_ms = 100\nrounds = 20\nworkers = 2\ncapacity = 8\nseed = 1\n\
+    [params]\nflood_publish = false\nd = 1\nd_low = 1\nd_high = 1\nd_score = 1\nd_out = 0\n\
+    [[topic]]\nname = \"news\"\n\
+    [[peer]]\nname = \"a\"\n[[peer]]\nname = \"b\"\n[[peer]]\nname = \"c\"\n[[peer]]\nname = \"d\"\n\
+    [[dial]]\nfrom = \"a\"\nto = \"b\"\n[[dial]]\nfrom = \"c\"\nto = \"b\"\n\
+    [[dial]]\nfrom = \"c\"\nto = \"d\"\n";
+
+/// The mesh of `b` is full when `c` grafts it in round 3, so `c` is free for `d`. `b` offers `c` in round 10 what it heard,
+/// `c` asks for it in round 11, gets it in round 13 and passes it on.
+#[test]
+fn what_no_mesh_brings_comes_by_gossip(rt: HostRuntime) -> Result<(), AllocError> {
+    let script: [Told<'_>; 5] = [
+        (0, "a", "subscribe", "news", None),
+        (1, "b", "subscribe", "news", None),
+        (3, "c", "subscribe", "news", None),
+        (4, "d", "subscribe", "news", None),
+        (6, "a", "publish", "news", Some("616263")),
+    ];
+    let report = "delivered a 600 news 616263\ndelivered b 700 news 616263\n\
+        delivered c 1300 news 616263\ndelivered d 1400 news 616263\n\
+        mesh a news b\nmesh b news a\nmesh c news d\nmesh d news c\n\
+        score a b 0.000000\nscore b a 0.000000\nscore b c 0.000000\n\
+        score c b 0.000000\nscore c d 0.000000\nscore d c 0.000000\nlinks 6 settled\n";
+    assert!(rt; reports(&rt, &[ISLANDS], &script, report)?);
+    Ok(())
+}
+
 // ---- backoff
 
-/// Twenty-one rounds, and a second of backoff when a subscription ends. Nothing decays.
-const A_SECOND: &str = "round_ms = 100\nrounds = 20\nworkers = 3\ncapacity = 8\nseed = 1\n\
+/// Twenty rounds, with a heartbeat in round 10, and a second of backoff when a subscription ends. Nothing decays.
+const A_SECOND: &str = "round_ms = 100\nrounds = 19\nworkers = 3\ncapacity = 8\nseed = 1\n\
     [[topic]]\nname = \"news\"\n[[peer]]\nname = \"a\"\n[[peer]]\nname = \"b\"\n\
     [params]\nunsubscribe_backoff_s = 1\ndecay_ms = 60000\n";
 
@@ -181,5 +215,30 @@ fn what_is_missing_of_a_member_costs_in_the_mesh_and_behind_it(
         ];
         assert!(rt; reports(&rt, &[DEMANDING, A_DIALS_B], &script, report)?);
     }
+    Ok(())
+}
+
+// ---- two topics
+
+/// One payload, on one topic, on another while it is remembered, and again when it is not. In round 10 each peer grafts the
+/// other on both.
+#[test]
+fn a_payload_is_published_again_once_it_is_forgotten(rt: HostRuntime) -> Result<(), AllocError> {
+    let script: [Told<'_>; 7] = [
+        (0, "a", "subscribe", "news", None),
+        (0, "b", "subscribe", "news", None),
+        (0, "a", "subscribe", "blog", None),
+        (0, "b", "subscribe", "blog", None),
+        (2, "a", "publish", "news", Some("616263")),
+        (3, "a", "publish", "blog", Some("616263")),
+        (7, "a", "publish", "blog", Some("616263")),
+    ];
+    let report = "delivered a 200 news 616263\ndelivered a 700 blog 616263\n\
+        delivered b 300 news 616263\ndelivered b 800 blog 616263\n\
+        refused a 300 publish 16\n\
+        mesh a blog b\nmesh a news b\nmesh b blog a\nmesh b news a\n\
+        score a b 0.000000\nscore b a 0.000000\nlinks 2 settled\n";
+    let short = "[params]\nseen_ttl_ms = 500\n";
+    assert!(rt; reports(&rt, &[TWO, A_DIALS_B, short], &script, report)?);
     Ok(())
 }

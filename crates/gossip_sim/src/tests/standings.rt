@@ -6,8 +6,9 @@ use std::alloc::AllocError;
 const JUDGES: &str = "[[topic]]\nname = \"news\"\nreject = [\"ff\"]\nw4 = -10000000\n\
     [[peer]]\nname = \"a\"\n[[peer]]\nname = \"b\"\n";
 
-/// `a` hears an invalid message of `b` in round 13. Each step of decay until round 20 halves its counter: none, one in
-/// round 20, and four from round 14 on.
+/// In round 10 each grafts the other. `a` hears an invalid message of `b` in round 13. Each step of decay until round 20
+/// halves its counter: none, one in round 20, and four from round 14 on. Then `a` puts `b` out of its mesh, who hears of it
+/// too late.
 #[test]
 fn a_rejected_message_costs_its_sender_until_it_decays(rt: HostRuntime) -> Result<(), AllocError> {
     let script: [Told<'_>; 3] = [
@@ -24,7 +25,9 @@ fn a_rejected_message_costs_its_sender_until_it_decays(rt: HostRuntime) -> Resul
             "round_ms = 100\nrounds = 20\nworkers = 2\ncapacity = 8\n"
         )?;
         let params = format!(in rt.alloc(); "seed = 1\n[params]\ndecay_ms = {decay}\n")?;
-        let report = format!(in rt.alloc(); "delivered b 1200 news ff\nscore a b {score}\n")?;
+        let report = format!(in rt.alloc();
+            "delivered b 1200 news ff\nmesh b news a\nscore a b {score}\n"
+        )?;
         let mut text = String::new(rt.alloc());
         text.push_str(&report)?;
         text.push_str("score b a 0.000000\nlinks 2 settled\n")?;
@@ -34,35 +37,43 @@ fn a_rejected_message_costs_its_sender_until_it_decays(rt: HostRuntime) -> Resul
 }
 
 /// What the application of one peer gives the other: whose, about whom, and how much; and whether `b` still gets what `a`
-/// publishes. A peer gets nothing of one that it scores below -80, nor of one that scores it below -50.
-static STANDINGS: [(&str, &str, &str, bool, &str); 4] = [
+/// publishes. A peer gets nothing of one that it scores below -80, nor of one that scores it below -50. Nobody grafts whom it
+/// scores below 0; the other does, in the last round, and its GRAFT comes late.
+static STANDINGS: [(&str, &str, &str, bool, &str); 5] = [
     (
         "b",
         "a",
         "-80000000",
         true,
-        "score a b 0.000000\nscore b a -80.000000\n",
+        "mesh a news b\nscore a b 0.000000\nscore b a -80.000000\n",
     ),
     (
         "b",
         "a",
         "-80000001",
         false,
-        "score a b 0.000000\nscore b a -80.000001\n",
+        "mesh a news b\nscore a b 0.000000\nscore b a -80.000001\n",
+    ),
+    (
+        "b",
+        "a",
+        "-100000000",
+        false,
+        "mesh a news b\nscore a b 0.000000\nscore b a -100.000000\n",
     ),
     (
         "a",
         "b",
         "-50000000",
         true,
-        "score a b -50.000000\nscore b a 0.000000\n",
+        "mesh b news a\nscore a b -50.000000\nscore b a 0.000000\n",
     ),
     (
         "a",
         "b",
         "-50000001",
         false,
-        "score a b -50.000001\nscore b a 0.000000\n",
+        "mesh b news a\nscore a b -50.000001\nscore b a 0.000000\n",
     ),
 ];
 

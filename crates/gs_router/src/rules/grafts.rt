@@ -72,7 +72,7 @@ fn is_negative(state: &State, peer: PeerNo, now: Millis) -> bool
 }
 
 /// Whether this side dialled a neighbour.
-fn is_outbound(state: &State, peer: PeerNo) -> bool
+pub fn is_outbound(state: &State, peer: PeerNo) -> bool
     ensures { result ≡ is_outbound (peer_with state.now.setup) peer }
 {
     state

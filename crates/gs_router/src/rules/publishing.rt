@@ -82,7 +82,11 @@ fn delivered(state: &State, publishing: &Publishing) -> Result<Seq<(Topic, Bytes
 }
 
 /// The neighbours on a topic that are not below the threshold.
-fn worthy_listeners(state: &State, topic: &Topic, now: Millis) -> Result<Vec<PeerNo>, AllocError>
+pub fn worthy_listeners(
+    state: &State,
+    topic: &Topic,
+    now: Millis,
+) -> Result<Vec<PeerNo>, AllocError>
     ensures { IfOk result (λ receivers. (L : Entries)
         → Knows state.now now.0 L
         → receivers.items

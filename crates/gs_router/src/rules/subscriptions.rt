@@ -44,7 +44,7 @@ fn is_among(peers: &[PeerNo], peer: PeerNo) -> bool
 }
 
 /// Those of these peers that are among others.
-fn those_among(
+pub fn those_among(
     alloc: Global,
     others: &[PeerNo],
     peers: &[PeerNo],
@@ -61,7 +61,7 @@ fn those_among(
 }
 
 /// Those of these peers that are not among others.
-fn those_outside(
+pub fn those_outside(
     alloc: Global,
     others: &[PeerNo],
     peers: &[PeerNo],
@@ -78,7 +78,7 @@ fn those_outside(
 }
 
 /// How many of so many places these leave.
-fn left_of(size: usize, peers: &[PeerNo]) -> usize
+pub fn left_of(size: usize, peers: &[PeerNo]) -> usize
     ensures { result ≡ size - length peers.now }
 {
     size.saturating_sub(peers.len())

@@ -1,11 +1,16 @@
 //! How a router has a heartbeat.
-ghost use Rattle.std.specs.Prelude.{◌≡◌, ◌≤◌, IfOk};
+ghost use Rattle.std.specs.Prelude.{◌≡◌, ◌≤◌, IfOk, map, option_map};
+ghost use Rattle.gs_base.specs.declared.names.Millis.{Millis as MillisValue};
 ghost use Rattle.gs_rules.specs.declared.trace.Event.TheVariants as events;
-ghost use Rattle.gs_rules.specs.Tables.{last_moment};
-ghost use Rattle.gs_rules.specs.Owed.{gossip_topics, is_some_list, owed};
+ghost use Rattle.gs_rules.specs.Tables.{Entries, last_moment};
+ghost use Rattle.gs_rules.specs.Meshes.{fanout_topics, has_fanout, is_stale};
+ghost use Rattle.gs_rules.specs.BeatRules.{fan_event};
+ghost use Rattle.gs_rules.specs.Owed.{FanBeats, events_in, gossip_topics, is_some_list, owed};
 ghost use Rattle.gs_rules.specs.Gossip.{gossip};
 ghost use Rattle.gs_rules.specs.Modes.{exact};
 ghost use Rattle.gs_rules.specs.Legal.{IsNext, MayOpen};
+ghost use Rattle.gs_router.specs.Beats.{event_of};
+ghost use Rattle.gs_router.specs.Tables.{Agrees};
 ghost use Rattle.gs_router.specs.State.{Ends, IsCurrent, IsReady, Steps, peer_with};
 
 use crate::state::State;
@@ -14,8 +19,28 @@ use gs_params::Words;
 use gs_rules::Event;
 use std::alloc::AllocError;
 
+/// A fanout whose turn comes in a heartbeat.
+#[derive(Debug, Drop)]
+pub struct DueFanout {
+    /// Its topic.
+    topic: Topic,
+    /// The router has not published on it for its time.
+    is_stale: bool,
+}
+
+/// Whether the time of a fanout has come, which is in milliseconds from when the router last published on its topic.
+fn is_stale(time: u64, now: Millis, published: Option<Millis>) -> bool
+    ensures { result ≡ is_stale time now.0 (option_map (λ (at : MillisValue). at.0) published) }
+{
+    match published {
+        Some(published) => u128::from(published.0) + u128::from(time) <= u128::from(now.0),
+        None => false,
+    }
+}
+
 impl State {
-    /// Has a heartbeat: ends promises, gossips on each topic on which there is something, and ends the heartbeat.
+    /// Has a heartbeat: ends promises, mends meshes and fanouts, gossips on each topic on which there is something, and ends
+    /// the heartbeat.
     pub fn heartbeat<W: Words>(&mut self, now: Millis, words: &mut W) -> Result<(), AllocError>
         requires ready { IsReady self.old }
         requires time { last_moment self.old.trace ≤ now.0 }
@@ -23,12 +48,108 @@ impl State {
         ensures { Ends (exact W.word W.after) events.Promises now self.old words.old result self.new words.new }
     {
         self.step(Event::Promises, now, words)?;
+        let own_topics = self.tables.topics.joined(self.alloc)?;
+        for own in own_topics.as_slice() {
+            self.mend_mesh(own, now, words)?;
+        }
+        let fanouts = self.due_fanouts(now)?;
+        for fanout in fanouts.as_slice() {
+            self.mend_fanout(fanout, now, words)?;
+        }
         let topics = self.gossip_topics()?;
         for topic in topics.as_slice() {
             self.gossip(topic, now, words)?;
         }
         self.step(Event::BeatEnd, now, words)?;
         Ok(())
+    }
+
+    /// Mends the mesh of a topic, which comes next.
+    fn mend_mesh<W: Words>(
+        &mut self,
+        topic: &Topic,
+        now: Millis,
+        words: &mut W,
+    ) -> Result<(), AllocError>
+        requires current { IsCurrent self.old }
+        requires time { last_moment self.old.trace ≤ now.0 }
+        requires next { IsNext (peer_with self.old.setup) self.old.trace now.0
+            (owed (peer_with self.old.setup) self.old.trace).events (events.MeshBeat topic.now) }
+        ensures { Steps (exact W.word W.after) (events.MeshBeat topic.now) now
+            self.old words.old result self.new words.new }
+    {
+        let topic = clone_of(topic)?;
+        self.step(Event::MeshBeat(topic), now, words)
+    }
+
+    /// Mends a fanout or ends it, which comes next.
+    fn mend_fanout<W: Words>(
+        &mut self,
+        due: &DueFanout,
+        now: Millis,
+        words: &mut W,
+    ) -> Result<(), AllocError>
+        requires current { IsCurrent self.old }
+        requires time { last_moment self.old.trace ≤ now.0 }
+        requires next { IsNext (peer_with self.old.setup) self.old.trace now.0
+            (owed (peer_with self.old.setup) self.old.trace).events (event_of due.now) }
+        ensures { Steps (exact W.word W.after) (event_of due.now) now
+            self.old words.old result self.new words.new }
+    {
+        let topic = clone_of(&due.topic)?;
+        if due.is_stale {
+            return self.step(Event::FanEnd(topic), now, words);
+        }
+        self.step(Event::FanBeat(topic), now, words)
+    }
+
+    /// What becomes of each fanout at a moment, in the order of the bytes of topics.
+    fn due_fanouts(&self, now: Millis) -> Result<Vec<DueFanout>, AllocError>
+        requires { IsCurrent self.now }
+        ensures { IfOk result (λ list. map event_of list.items
+            ≡ events_in (peer_with self.now.setup) self.now.trace (FanBeats now.0)) }
+    {
+        let topics = self.fanout_topics()?;
+        let mut list = Vec::new(self.alloc);
+        for topic in topics.as_slice() {
+            list.push(self.due_fanout(topic, now)?)?;
+        }
+        Ok(list)
+    }
+
+    /// The topics that have a fanout, in the order of their bytes.
+    fn fanout_topics(&self) -> Result<Vec<Topic>, AllocError>
+        requires { IsCurrent self.now }
+        ensures { IfOk result (λ topics. topics.items ≡ fanout_topics self.now.trace) }
+    {
+        let all = self.tables.mesh_topics.list(self.alloc)?;
+        let mut topics = Vec::new(self.alloc);
+        for topic in all.as_slice() {
+            if self.has_fanout(topic) {
+                topics.push(clone_of(topic)?)?;
+            }
+        }
+        Ok(topics)
+    }
+
+    /// Whether a topic has a fanout.
+    fn has_fanout(&self, topic: &Topic) -> bool
+        ensures { (L : Entries) → Agrees self.now.tables L → result ≡ has_fanout L topic.now }
+    {
+        self.tables.memberships.last_published(topic).is_some()
+    }
+
+    /// What becomes of the fanout of a topic at a moment.
+    fn due_fanout(&self, topic: &Topic, now: Millis) -> Result<DueFanout, AllocError>
+        ensures { IfOk result (λ due. (L : Entries)
+            → Agrees self.now.tables L
+            → event_of due ≡ fan_event (peer_with self.now.setup) L now.0 topic.now) }
+    {
+        let published = self.tables.memberships.last_published(topic);
+        Ok(DueFanout {
+            topic: clone_of(topic)?,
+            is_stale: is_stale(self.setup.params.windows.fanout_ttl_ms, now, published),
+        })
     }
 
     /// Gossips on a topic, which comes next.

@@ -1,10 +1,12 @@
 //! Who is in which mesh and fanout, and who is not to be grafted yet.
-ghost use Rattle.std.specs.Prelude.{◌≡◌, ℕ, List, [], ◌∷◌, None, OnOk, Option};
+ghost use Rattle.std.specs.Prelude.{◌≡◌, ℕ, List, [], ◌∷◌, None, OnOk, Option, option_map};
+ghost use Rattle.gs_base.specs.declared.names.Millis.{Millis as MillisValue};
 ghost use Rattle.gs_base.specs.declared.names.PeerNo.{PeerNo as PeerNoValue};
+ghost use Rattle.gs_params.specs.Picks.{IsAscending};
 ghost use Rattle.gs_base.specs.declared.names.Topic.{Topic as TopicValue};
 ghost use Rattle.gs_mesh.specs.Peers.{is_among};
 ghost use Rattle.gs_rules.specs.Tables.{Entries, after_marks};
-ghost use Rattle.gs_rules.specs.Meshes.{backoff, backoff_after, dropped_after, fanout, fanout_after, mesh, mesh_after, published_after};
+ghost use Rattle.gs_rules.specs.Meshes.{backoff, backoff_after, dropped_after, fanout, fanout_after, last_published, mesh, mesh_after, published_after};
 ghost use Rattle.gs_router.specs.Tables.{AgreesOnMeshes, HasMeshes};
 
 use gs_base::{Mark, Millis, PeerNo, Topic};
@@ -31,7 +33,8 @@ impl Memberships {
 
     /// Who is in the mesh of a topic, ascending by number.
     pub fn members(&self, topic: &Topic) -> &[PeerNo]
-        ensures { (L : Entries) → AgreesOnMeshes self.now L → result.now ≡ mesh L topic.now }
+        ensures value { (L : Entries) → AgreesOnMeshes self.now L → result.now ≡ mesh L topic.now }
+        ensures ascending { IsAscending result.now }
     {
         self.meshes.members(topic)
     }
@@ -41,6 +44,15 @@ impl Memberships {
         ensures { (L : Entries) → AgreesOnMeshes self.now L → result.now ≡ fanout L topic.now }
     {
         self.meshes.fanout(topic)
+    }
+
+    /// When the router last published on a topic without being subscribed, for as long as that keeps a fanout.
+    pub fn last_published(&self, topic: &Topic) -> Option<Millis>
+        ensures { (L : Entries)
+            → AgreesOnMeshes self.now L
+            → option_map (λ (at : MillisValue). at.0) result ≡ last_published L topic.now }
+    {
+        self.meshes.last_published(topic)
     }
 
     /// Whether a neighbour is in the mesh of a topic.
@@ -76,7 +88,7 @@ impl Memberships {
         Ok(())
     }
 
-    /// Notes that an event came: a subscription ends the fanout of its topic. It takes no memory.
+    /// Notes that an event came: a subscription ends the fanout of its topic, and so does its time. It takes no memory.
     fn note_event(&mut self, event: &Event)
         ensures { (members fans : TopicValue → List PeerNoValue)
             (publishes : TopicValue → Option ℕ)
@@ -89,6 +101,7 @@ impl Memberships {
     {
         match event {
             Event::Subscribe(topic) => self.meshes.drop_fanout(topic),
+            Event::FanEnd(topic) => self.meshes.drop_fanout(topic),
             _ => {}
         }
     }

@@ -94,6 +94,17 @@ impl MeshTopics {
                 )?;
                 Ok(())
             }
+            Event::FanEnd(topic) => {
+                let has_mesh = self.uses(topic).has_mesh;
+                self.put(
+                    topic,
+                    Uses {
+                        has_mesh,
+                        has_fanout: false,
+                    },
+                )?;
+                Ok(())
+            }
             _ => Ok(()),
         }
     }

@@ -16,6 +16,8 @@ pub enum Deed<'a> {
     On(u16, u16, &'a str),
     /// They leave it.
     Off(u16, u16, &'a str),
+    /// They are not to be grafted to its mesh for an hour: they say PRUNE.
+    Bar(u16, u16, &'a str),
     Publish(&'a str, u8),
     Leave(&'a str),
     Gone(u16),
@@ -59,6 +61,9 @@ const IGNORES: Seen<'static> = Seen::Last(COUNTS);
 /// An offer counts, and nothing is asked for.
 const ONLY_COUNTS: Seen<'static> = Seen::Last(COUNTS);
 
+/// A backoff is kept.
+const BARS: Seen<'static> = Seen::Last(COUNTS);
+
 /// A message is rejected and invalid, or one that is published is seen and kept.
 const TWO_MARKS: Seen<'static> = Seen::Last(Then {
     asks: &[],
@@ -82,9 +87,10 @@ const NINE: Gossip<'static> = Gossip {
 
 /// Of twelve offers ten count. Of what was promised by them all but one comes, and that one is broken once, when its
 /// time has come.
-pub static TEN_PROMISES: [Moment<'static>; 28] = [
+pub static TEN_PROMISES: [Moment<'static>; 29] = [
     (0, JOIN_A, NONE),
     (0, Deed::On(2, 3, "a"), NONE),
+    (0, Deed::Bar(2, 3, "a"), BARS),
     (0, Deed::Offer(1, 0), Seen::Asks(0, 3_000)),
     (0, Deed::Offer(1, 1), Seen::Asks(1, 3_000)),
     (0, Deed::Offer(1, 2), Seen::Asks(2, 3_000)),
@@ -210,9 +216,10 @@ const SECOND: Gossip<'static> = Gossip {
 };
 
 /// What is kept is gossiped at three heartbeats, and gone behind five.
-pub static KEEPING: [Moment<'static>; 15] = [
+pub static KEEPING: [Moment<'static>; 16] = [
     (0, JOIN_A, NONE),
     (0, Deed::On(1, 2, "a"), NONE),
+    (0, Deed::Bar(1, 2, "a"), BARS),
     (0, Deed::Message(2, 1), ACCEPTS),
     (1_000, Deed::Beat, Seen::Beat(0, &[FIRST])),
     (2_000, Deed::Beat, Seen::Beat(0, &[FIRST])),
@@ -265,9 +272,10 @@ pub static EIGHT_WORDS: [u32; 12] = [7, 0, 8, 9, 6, 3, 6, 5, 4, 3, 2, 1];
 
 /// Ten neighbours, of which eight are on the topic: six are told. One of these is gone and one leaves: the six that are
 /// left are told, and no word is drawn. Then one comes back.
-pub static EIGHT_LISTENERS: [Moment<'static>; 10] = [
+pub static EIGHT_LISTENERS: [Moment<'static>; 11] = [
     (0, JOIN_A, NONE),
     (0, Deed::On(1, 9, "a"), NONE),
+    (0, Deed::Bar(1, 9, "a"), BARS),
     (0, Deed::On(9, 10, "b"), NONE),
     (0, Deed::Message(10, 7), ACCEPTS),
     (1_000, Deed::Beat, Seen::Beat(0, &[SIX_OF_EIGHT])),
@@ -297,11 +305,13 @@ pub static FORTY_WORDS: [u32; 20] = [
 ];
 
 /// Forty neighbours on two topics, of each of which a quarter is told, on the topic of lesser bytes first.
-pub static FORTY_LISTENERS: [Moment<'static>; 7] = [
+pub static FORTY_LISTENERS: [Moment<'static>; 9] = [
     (0, JOIN_B, NONE),
     (0, JOIN_A, NONE),
     (0, Deed::On(1, 41, "a"), NONE),
     (0, Deed::On(1, 41, "b"), NONE),
+    (0, Deed::Bar(1, 41, "a"), BARS),
+    (0, Deed::Bar(1, 41, "b"), BARS),
     (0, Deed::Publish("b", 2), TWO_MARKS),
     (0, Deed::Publish("a", 1), TWO_MARKS),
     (1_000, Deed::Beat, Seen::Beat(0, &[TEN_ON_A, TEN_ON_B])),
@@ -333,13 +343,14 @@ const ON_B: Gossip<'static> = Gossip {
 
 /// What is published on a topic that is not joined, or was left, is not gossiped, nor is there gossip on a topic without
 /// anything. Topics have the order of their bytes.
-pub static TOPICS_IN_ORDER: [Moment<'static>; 16] = [
+pub static TOPICS_IN_ORDER: [Moment<'static>; 17] = [
     (0, JOIN_B, NONE),
     (0, Deed::Join("aa"), NONE),
     (0, JOIN_A, NONE),
     (0, Deed::Join("c"), NONE),
     (0, Deed::Join(""), NONE),
     (0, Deed::On(1, 2, "b"), NONE),
+    (0, Deed::Bar(1, 2, "b"), BARS),
     (0, Deed::Publish("b", 1), TWO_MARKS),
     (1, Deed::Publish("", 2), TWO_MARKS),
     (2, Deed::Publish("aa", 3), TWO_MARKS),

@@ -1,6 +1,6 @@
 //! Heartbeats: which promises are broken, what is kept, and who is told what, moment by moment.
 
-ghost use Rattle.std.specs.Prelude.{◌≤◌, ◌^◌, unsigned_abs, All, IfOk};
+ghost use Rattle.std.specs.Prelude.{◌≡◌, ◌≤◌, ◌^◌, unsigned_abs, All, IfOk};
 ghost use Rattle.gs_base.specs.Names.{peers_of};
 ghost use Rattle.gs_base.specs.declared.neighbour.Neighbour.{Neighbour as NeighbourValue};
 ghost use Rattle.gs_params.specs.Picks.{IsAscending};
@@ -10,28 +10,23 @@ use crate::tests::beat_cases::{
     IDENTIFIERS_ANEW, KEEPING, KEPT_PROMISES, Moment, OFFERS_ANEW, READINGS, Reading, SHUT_DOWN,
     Seen, TEN_PROMISES, TOPICS_IN_ORDER,
 };
+use crate::tests::calls::{call, hear, is_due, number_of};
 use crate::tests::gossip::{tell, topic_of};
 use crate::tests::gossip_cases::{Act, Id};
+use crate::tests::meshes::pruning;
 use crate::tests::sights::is_seen;
-use crate::tests::{checked, hear, is_due, neighbour, router_with, words};
+use crate::tests::{checked, neighbour, router_with, words};
 use bytes::Bytes;
 use gs_base::{Millis, Neighbour, PeerNo, Rpc, Seq};
 use gs_params::{Params, SeededWords, TopicParams};
-use gs_router::{Router, RouterFault};
+use gs_router::Router;
+use gs_rules::Event;
 use std::alloc::{AllocError, Global};
 use std::ops::Range;
 
 // ---- what is done
 
-/// The number of an answer; 0 where nothing was refused.
-fn number_of(answer: Result<(), RouterFault>) -> u8 {
-    match answer {
-        Ok(()) => 0,
-        Err(fault) => fault.number(),
-    }
-}
-
-/// Has a neighbour subscribe to a topic or leave it.
+/// Has a neighbour say this of a topic.
 fn turn(
     alloc: Global,
     router: &mut Router,
@@ -47,7 +42,7 @@ fn turn(
     Ok(number_of(answer))
 }
 
-/// Has some neighbours subscribe to a topic or leave it.
+/// Has some neighbours say this of a topic.
 fn turn_each(
     alloc: Global,
     router: &mut Router,
@@ -100,6 +95,10 @@ fn say(
             let rpc = Rpc::announcement(alloc, false, &topic_of(alloc, name)?)?;
             turn_each(alloc, router, at, first..end, &rpc)
         }
+        Deed::Bar(first, end, name) => {
+            let rpc = pruning(alloc, name, Some(3_600))?;
+            turn_each(alloc, router, at, first..end, &rpc)
+        }
         _ => Ok(u8::MAX),
     }
 }
@@ -112,23 +111,20 @@ pub fn live(
     deed: Deed<'_>,
     words: &mut SeededWords,
 ) -> Result<u8, AllocError> {
-    let now = Millis(at);
-    if !is_due(router.trace(), now) {
-        return Ok(u8::MAX);
-    }
-    let answer = match deed {
-        Deed::Join(name) => router.subscribe(topic_of(alloc, name)?, now, words),
-        Deed::Leave(name) => router.unsubscribe(topic_of(alloc, name)?, now, words),
+    let event = match deed {
+        Deed::Join(name) => Event::Subscribe(topic_of(alloc, name)?),
+        Deed::Leave(name) => Event::Unsubscribe(topic_of(alloc, name)?),
         Deed::Publish(name, payload) => {
             let payload = Bytes::copy_from_slice(alloc, &[payload])?;
-            router.publish(topic_of(alloc, name)?, payload, now, words)
+            Event::Publish(topic_of(alloc, name)?, payload)
         }
-        Deed::Gone(peer) => router.gone(PeerNo(peer), now, words),
-        Deed::Beat => router.heartbeat(now, words),
-        Deed::Decay => router.decay(now, words),
-        Deed::Shut => router.shut(now, words),
+        Deed::Gone(peer) => Event::Gone(PeerNo(peer)),
+        Deed::Beat => Event::Promises,
+        Deed::Decay => Event::Decay,
+        Deed::Shut => Event::Shut,
         said => return say(alloc, router, at, said, words),
     };
+    let answer = call(alloc, router, at, event, words)?;
     Ok(number_of(answer))
 }
 
@@ -172,18 +168,58 @@ fn first_wrong_of(
     moments: &[Moment<'_>],
 ) -> Result<usize, AllocError> {
     let mut words = SeededWords::new(list.to_vec(alloc)?, 1, PeerNo(0));
-    let mut router = Router::new(alloc, checked(params)?, neighbours(alloc, count)?)?;
+    let mut router = Router::new(alloc, checked(params)?, neighbours(alloc, count, &[])?)?;
     first_wrong(alloc, &mut router, moments, &mut words)
 }
 
-/// Neighbours 1 to this number.
-fn neighbours(alloc: Global, count: u16) -> Result<Vec<Neighbour>, AllocError>
+/// What a neighbour is beside its number.
+#[derive(Clone, Copy)]
+pub enum Kind {
+    /// It dialled, and the application says nothing of it.
+    Plain,
+    /// It was dialled.
+    Dialled,
+    /// It scores -50.000001 by the application.
+    Distrusted,
+    /// It scores 3 by the application.
+    Praised,
+}
+
+/// A neighbour of this kind.
+fn neighbour_of(alloc: Global, number: u16, kind: Kind) -> Result<Neighbour, AllocError>
+    ensures number { IfOk result (λ neighbour. neighbour.peer.0 ≡ number) }
+    ensures app { IfOk result (λ neighbour. unsigned_abs neighbour.app ≤ 10 ^ 12) }
+{
+    let mut one = neighbour(alloc, number)?;
+    match kind {
+        Kind::Plain => Ok(one),
+        Kind::Dialled => {
+            one.outbound = true;
+            Ok(one)
+        }
+        Kind::Distrusted => {
+            one.app = -50_000_001;
+            Ok(one)
+        }
+        Kind::Praised => {
+            one.app = 3_000_000;
+            Ok(one)
+        }
+    }
+}
+
+/// Neighbours 1 to this number, the first ones of these kinds.
+pub fn neighbours(alloc: Global, count: u16, kinds: &[Kind]) -> Result<Vec<Neighbour>, AllocError>
     ensures ascending { IfOk result (λ list. IsAscending (peers_of list.items)) }
     ensures apps { IfOk result (λ list. All (λ (n : NeighbourValue). unsigned_abs n.app ≤ 10 ^ 12) list.items) }
 {
     let mut list = Vec::new(alloc);
     for below in 0..count {
-        let one = neighbour(alloc, below + 1)?;
+        let kind = kinds
+            .get(usize::from(below))
+            .copied()
+            .unwrap_or(Kind::Plain);
+        let one = neighbour_of(alloc, below + 1, kind)?;
         list.push(one)?;
     }
     Ok(list)
@@ -198,7 +234,7 @@ fn first_wrong_of_two(alloc: Global, moments: &[Moment<'_>]) -> Result<usize, Al
 
 #[test]
 fn a_promise_of_which_nothing_comes_is_broken_once(rt: HostRuntime) -> Result<(), AllocError> {
-    assert_eq!(rt; first_wrong_of_two(rt.alloc(), &TEN_PROMISES)?, 28);
+    assert_eq!(rt; first_wrong_of_two(rt.alloc(), &TEN_PROMISES)?, 29);
     Ok(())
 }
 
@@ -250,7 +286,7 @@ fn identifiers_count_anew_behind_a_heartbeat(rt: HostRuntime) -> Result<(), Allo
 fn what_is_kept_is_gossiped_thrice_and_sent_until_the_fifth_heartbeat(
     rt: HostRuntime,
 ) -> Result<(), AllocError> {
-    assert_eq!(rt; first_wrong_of_two(rt.alloc(), &KEEPING)?, 15);
+    assert_eq!(rt; first_wrong_of_two(rt.alloc(), &KEEPING)?, 16);
     Ok(())
 }
 
@@ -260,19 +296,19 @@ fn words_choose_who_of_the_listeners_is_told(rt: HostRuntime) -> Result<(), Allo
     let params = Params::new(alloc);
     assert_eq!(rt;
         first_wrong_of(alloc, params, 10, &EIGHT_WORDS, &EIGHT_LISTENERS)?,
-        10
+        11
     );
     let params = Params::new(alloc);
     assert_eq!(rt;
         first_wrong_of(alloc, params, 40, &FORTY_WORDS, &FORTY_LISTENERS)?,
-        7
+        9
     );
     Ok(())
 }
 
 #[test]
 fn topics_on_which_there_is_something_gossip_in_order(rt: HostRuntime) -> Result<(), AllocError> {
-    assert_eq!(rt; first_wrong_of_two(rt.alloc(), &TOPICS_IN_ORDER)?, 16);
+    assert_eq!(rt; first_wrong_of_two(rt.alloc(), &TOPICS_IN_ORDER)?, 17);
     Ok(())
 }
 

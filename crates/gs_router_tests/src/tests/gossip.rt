@@ -1,9 +1,10 @@
 //! Offers and requests: what a router with neighbours 1 and 2 asks for, promises and sends, act by act.
 
+use crate::tests::calls::call;
 use crate::tests::gossip_cases::{
     Act, BUDGET, CHOICE, Id, OFFERS, REQUESTS, SPENT, Step, Then, WANTED,
 };
-use crate::tests::{hear, is_due, router_with};
+use crate::tests::router_with;
 use bytes::Bytes;
 use gs_base::{
     Control, IHave, IWant, Mark, Message, Millis, MsgId, PeerNo, Rpc, Seq, Shared, Topic,
@@ -75,6 +76,11 @@ fn publishing(alloc: Global, payload: u8) -> Result<Rpc, AllocError> {
     )
 }
 
+/// What comes to a router with an RPC.
+pub fn heard(alloc: Global, from: u16, rpc: Rpc) -> Result<Event, AllocError> {
+    Ok(Event::Heard(PeerNo(from), Shared::new(alloc, rpc)?))
+}
+
 /// Tells a router this, which chooses by these words; whether it did as it was told.
 pub fn tell(
     alloc: Global,
@@ -83,25 +89,15 @@ pub fn tell(
     act: Act<'_>,
     words: &mut SeededWords,
 ) -> Result<bool, AllocError> {
-    let now = Millis(at);
-    if !is_due(router.trace(), now) {
-        return Ok(false);
-    }
-    let answer = match act {
-        Act::Join(name) => router.subscribe(topic_of(alloc, name)?, now, words),
-        Act::Message(from, payload) => {
-            let rpc = publishing(alloc, payload)?;
-            hear(alloc, router, PeerNo(from), &rpc, now, words)?
-        }
+    let event = match act {
+        Act::Join(name) => Event::Subscribe(topic_of(alloc, name)?),
+        Act::Message(from, payload) => heard(alloc, from, publishing(alloc, payload)?)?,
         Act::Offer(from, name, ids) => {
-            let rpc = controlling(alloc, offering(alloc, name, ids)?);
-            hear(alloc, router, PeerNo(from), &rpc, now, words)?
+            heard(alloc, from, controlling(alloc, offering(alloc, name, ids)?))?
         }
-        Act::Request(from, ids) => {
-            let rpc = controlling(alloc, asking(alloc, ids)?);
-            hear(alloc, router, PeerNo(from), &rpc, now, words)?
-        }
+        Act::Request(from, ids) => heard(alloc, from, controlling(alloc, asking(alloc, ids)?))?,
     };
+    let answer = call(alloc, router, at, event, words)?;
     Ok(answer.is_ok())
 }
 

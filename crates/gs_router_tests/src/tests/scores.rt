@@ -47,7 +47,7 @@ static STANDINGS: [Step<'static>; 22] = [
     ),
     // but it is published to, and not told of messages
     (8, Deed::Publish("a", 5), 1, 2, [-9_000_000, -40_000_000]),
-    (9, Deed::Beat, 3, 1, [-9_000_000, -40_000_000]),
+    (9, Deed::Beat, 4, 1, [-9_000_000, -40_000_000]),
     (10, Deed::Message(2, 0xfd), 2, 0, [-9_000_000, -90_000_000]),
     // on the graylist no part of what it sends counts
     (11, Deed::Message(2, 6), 1, 0, [-9_000_000, -90_000_000]),
@@ -56,7 +56,7 @@ static STANDINGS: [Step<'static>; 22] = [
     (1_000, Deed::Decay, 1, 0, [-2_000_000, -22_500_000]),
     (1_001, Deed::Message(2, 6), 2, 0, [-2_000_000, -21_500_000]),
     // neighbour 2 broke the promise that it made at 4
-    (4_000, Deed::Beat, 3, 1, [-2_000_000, -31_500_000]),
+    (4_000, Deed::Beat, 4, 1, [-2_000_000, -31_500_000]),
     // misbehaviour decays by a tenth, all else by half
     (4_000, Deed::Decay, 1, 0, [-375_000, -13_225_000]),
     (4_001, Deed::Gone(2), 1, 0, [-375_000, -13_225_000]),

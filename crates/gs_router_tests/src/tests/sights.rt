@@ -82,11 +82,31 @@ fn tell_all(entries: &[Entry], gossip: &[Gossip<'_>]) -> bool {
     entries.len() == gossip.len()
 }
 
+/// Whether a heartbeat mended a mesh or a fanout.
+fn is_mending(entry: &Entry) -> bool {
+    match &entry.event {
+        Event::MeshBeat(_) | Event::FanBeat(_) | Event::FanEnd(_) => true,
+        _ => false,
+    }
+}
+
+/// What stands behind the first entries, in which meshes and fanouts were mended.
+fn behind_mending(entries: &[Entry]) -> &[Entry] {
+    let mut count = 0usize;
+    for entry in entries {
+        if !is_mending(entry) {
+            break;
+        }
+        count = count.saturating_add(1);
+    }
+    entries.get(count..).unwrap_or_default()
+}
+
 /// Whether these entries are a heartbeat with this gossip.
 fn is_beat(entries: &[Entry], gossip: &[Gossip<'_>]) -> bool {
     match entries {
-        [first, told @ .., last] => match (&first.event, &last.event) {
-            (Event::Promises, Event::BeatEnd) => tell_all(told, gossip),
+        [first, done @ .., last] => match (&first.event, &last.event) {
+            (Event::Promises, Event::BeatEnd) => tell_all(behind_mending(done), gossip),
             _ => false,
         },
         _ => false,

@@ -1,5 +1,6 @@
 //! What messages are found to be, and what is remembered of them.
-use crate::tests::{hear, is_due, router_with, words};
+use crate::tests::calls::{hear, is_due};
+use crate::tests::{router_with, words};
 use bytes::Bytes;
 use gs_base::{Mark, Millis, PeerNo, Rpc, Seq, Topic, Verdict};
 use gs_params::{Params, TopicParams};

@@ -1,4 +1,4 @@
-use Rattle.std.proofs.Common.{◌≡◌, ◌≤◌, ◌<◌, ◌+◌, ◌^◌, ℕ, pos, unsigned_abs, List, [], ◌∷◌, ◌++◌, arith}
+use Rattle.std.proofs.Common.{◌≡◌, ◌≤◌, ◌<◌, ◌+◌, ◌^◌, ℕ, unsigned_abs, List, [], ◌∷◌, ◌++◌, arith}
 use Rattle.std.specs.List.{All}
 use Rattle.std.proofs.lemmas.List.{map-append}
 use Rattle.std.proofs.lemmas.List.Elements.{All-push}
@@ -18,9 +18,9 @@ most_more : (before after : List Neighbour) (n : Neighbour) (k : ℕ) → All (�
 most_more before after n k most is number =
     rw (is, map-append (λ (m : Neighbour). m.peer) before (n ∷ [])) (All-push (λ (q : PeerNo). q.0 ≤ k + 1) (peers_of before) n.peer (λ i d within. omega (arith, most i d within)) (omega (arith, number)))
 
-apps_more : (before after : List Neighbour) (n : Neighbour) → All (λ (m : Neighbour). unsigned_abs m.app ≤ 10 ^ 12) before → after ≡ before ++ n ∷ [] → n.app ≡ pos 0 → All (λ (m : Neighbour). unsigned_abs m.app ≤ 10 ^ 12) after
-apps_more before after n within is none =
-    rw is (All-push (λ (m : Neighbour). unsigned_abs m.app ≤ 10 ^ 12) before n within (rw none (omega arith)))
+apps_more : (before after : List Neighbour) (n : Neighbour) → All (λ (m : Neighbour). unsigned_abs m.app ≤ 10 ^ 12) before → after ≡ before ++ n ∷ [] → unsigned_abs n.app ≤ 10 ^ 12 → All (λ (m : Neighbour). unsigned_abs m.app ≤ 10 ^ 12) after
+apps_more before after n within is most =
+    rw is (All-push (λ (m : Neighbour). unsigned_abs m.app ≤ 10 ^ 12) before n within most)
 
 pub loop-below-preserved : goal.loop-below-preserved
 loop-below-preserved c = record {

@@ -1,0 +1,164 @@
+-- What a heartbeat does to the mesh of a topic (gossipsub v1.0, "Mesh maintenance"; v1.1, "Heartbeat Maintenance", "Outbound
+-- Mesh Quotas" and "Opportunistic Grafting"). Members that score below 0 go. Of the others, where they are few, more come
+-- in; where they are many, some go; where few of them are outbound, outbound ones come in. Then, at every so many
+-- heartbeats, a mesh whose median score is low gets neighbours that score better.
+use Rattle.std.specs.Prelude.{◌≡◌, ℕ, ◌+◌, ◌-◌, ◌≤◌, ◌/◌, ◌%◌, nat_eq, nat_lt, ℤ, pos, int_lt, Bool, true, false, not, ◌&&◌, if◌then◌else◌, List, [], ◌++◌, length, filter}
+use Rattle.std.specs.List.{count_by}
+use Rattle.gs_base.specs.declared.names.PeerNo.{PeerNo}
+use Rattle.gs_params.specs.declared.cuts.Member.{Member}
+use Rattle.gs_params.specs.declared.params.Degrees.{Degrees}
+use Rattle.gs_params.specs.declared.params.Params.{Params}
+use Rattle.gs_params.specs.Picks.{IsAscending, IsChoice, picked, picked_words}
+use Rattle.gs_params.specs.Cuts.{IsCut, among, cut, cut_words, outbound_of, outside, peers_of}
+use Rattle.gs_mesh.specs.declared.heartbeat.Choice.{Choice}
+use Rattle.gs_mesh.specs.declared.condition.Condition.{Condition}
+use Rattle.gs_mesh.specs.declared.condition.Condition.TheVariants.{Few, Many, FewOutbound, Well}
+
+-- ---- the members
+
+-- who scores below 0
+abbrev pub is_negative : Member → Bool
+is_negative m = int_lt m.score (pos 0)
+
+abbrev pub not_negative : List Member → List Member
+not_negative mesh = filter (λ m. not (is_negative m)) mesh
+
+-- How a mesh stands by its members: they are fewer than D_low, or more than D_high, or fewer than D_out of them are
+-- outbound, or all is well.
+abbrev pub condition_of : Degrees → List Member → Condition
+condition_of degrees members =
+    if nat_lt (length members) degrees.d_low then Few
+    else if nat_lt degrees.d_high (length members) then Many
+    else if nat_lt (length (outbound_of members)) degrees.d_out then FewOutbound
+    else Well
+
+-- ---- the median
+
+-- Whether the median score lies below x. Of n scores that ascend the median is the one at place n / 2, from 0, so it does
+-- where more than n / 2 of them lie below x. Where there is no member, nothing does.
+abbrev pub median_is_below : List Member → ℤ → Bool
+median_is_below members x = nat_lt (length members / 2) (count_by (λ m. int_lt m.score x) members)
+
+-- those that score above the median of these members
+abbrev pub above_median : List Member → List Member → List Member
+above_median members candidates = filter (λ c. median_is_below members c.score) candidates
+
+-- at every so many heartbeats a mesh is poor whose median score lies below the threshold
+abbrev pub is_poor : Params → ℕ → List Member → Bool
+is_poor params tick members =
+    nat_eq (tick % params.windows.opportunistic_ticks) 0
+    && median_is_below members params.thresholds.opportunistic_threshold
+
+-- ---- the step
+
+-- The members, as those that are kept and those that are grafted make them.
+abbrev pub made_of : List Member → List Member → List PeerNo → List PeerNo → List Member
+made_of members candidates kept grafted = among kept members ++ among grafted candidates
+
+-- who goes, and who comes in, each in their order
+abbrev pub choice_of : List Member → List Member → List PeerNo → List PeerNo → Choice
+choice_of mesh candidates kept grafted =
+    record { pruned = peers_of (outside kept mesh); grafted = peers_of (among grafted candidates) }
+
+-- What follows is the step by what is chosen in it, and what comes of each choice: of any so many of some peers, and of
+-- whom a cut keeps.
+
+module _ {R : Type 0} (any_of : ℕ → List PeerNo → (List PeerNo → R) → R) where
+  -- where a mesh is poor, any so many come in of those that score above its median
+  abbrev pub bettered : Bool → ℕ → List Member → List Member → (List PeerNo → R) → R
+  bettered true most members candidates next = any_of most (peers_of (above_median members candidates)) next
+  bettered false most members candidates next = next []
+
+  -- so it is with the mesh as its number of members left it; whom that grafted does not come in twice
+  abbrev pub bettered_then : Params → ℕ → List Member → List Member → List PeerNo → (List PeerNo → R) → R
+  bettered_then params tick members candidates grafted next =
+      bettered (is_poor params tick members) params.windows.opportunistic_peers members (outside grafted candidates) next
+
+module _ {R : Type 0} (any_of : ℕ → List PeerNo → (List PeerNo → R) → R) (cut_of : Degrees → List Member → (List PeerNo → R) → R) where
+  -- Who is kept and who is grafted. Where members are few, any candidates come in, up to D members. Where they are many,
+  -- they are cut to D. Where few are outbound, any outbound candidates come in, up to D_out outbound members. Else nobody
+  -- comes or goes.
+  abbrev pub mended : Condition → Degrees → List Member → List Member → (List PeerNo → List PeerNo → R) → R
+  mended Few degrees members candidates next =
+      any_of (degrees.d - length members) (peers_of candidates) (next (peers_of members))
+  mended Many degrees members candidates next = cut_of degrees members (λ kept. next kept [])
+  mended FewOutbound degrees members candidates next =
+      any_of (degrees.d_out - length (outbound_of members)) (peers_of (outbound_of candidates)) (next (peers_of members))
+  mended Well degrees members candidates next = next (peers_of members) []
+
+  -- the whole step
+  abbrev pub stepped : Params → ℕ → List Member → List Member → (Choice → R) → R
+  stepped params tick mesh candidates next =
+      mended (condition_of params.degrees (not_negative mesh)) params.degrees (not_negative mesh) candidates (λ kept grafted.
+      bettered_then any_of params tick (made_of (not_negative mesh) candidates kept grafted) candidates grafted (λ more.
+      next (choice_of mesh candidates kept (grafted ++ more))))
+
+-- ---- the step by random words
+
+module _ {S : Type 0} (word : S → ℕ) (after : S → S) where
+  -- what comes of so many of these peers by the next words, from the state behind them
+  abbrev pub any_by_words : {A : Type 0} → ℕ → List PeerNo → (List PeerNo → S → A) → S → A
+  any_by_words k candidates next s = next (picked word after k candidates s) (picked_words word after k candidates s)
+
+  -- what comes of the cut by the next words
+  abbrev pub cut_by_words : {A : Type 0} → Degrees → List Member → (List PeerNo → S → A) → S → A
+  cut_by_words degrees members next s = next (cut word after degrees members s) (cut_words word after degrees members s)
+
+  -- whom a mesh keeps by its number of members, who is grafted for that, and the state behind it
+  abbrev pub mended_by_words : Degrees → List Member → List Member → S → List PeerNo × List PeerNo × S
+  mended_by_words degrees members candidates s =
+      mended any_by_words cut_by_words (condition_of degrees members) degrees members candidates
+      (λ kept grafted t. (kept, grafted, t)) s
+
+  -- who is grafted where it is poor, beside those that were, and the state behind that
+  abbrev pub bettered_by_words : Params → ℕ → List Member → List Member → List PeerNo → S → List PeerNo × S
+  bettered_by_words params tick members candidates grafted s =
+      bettered_then any_by_words params tick members candidates grafted (λ more t. (more, t)) s
+
+  -- who goes and who comes in by the next words, and the state behind them
+  unfoldable pub step_by_words : Params → ℕ → List Member → List Member → S → Choice × S
+  step_by_words params tick mesh candidates s =
+      stepped any_by_words cut_by_words params tick mesh candidates (λ choice t. (choice, t)) s
+
+-- ---- any step
+
+-- whom a mesh keeps and who is grafted to it, by how it stands
+abbrev pub IsMended : Condition → Degrees → List Member → List Member → List PeerNo → List PeerNo → Type 0
+IsMended Few degrees members candidates kept grafted =
+    (kept ≡ peers_of members) × IsChoice (degrees.d - length members) (peers_of candidates) grafted
+IsMended Many degrees members candidates kept grafted = IsCut degrees members kept × (grafted ≡ [])
+IsMended FewOutbound degrees members candidates kept grafted =
+    (kept ≡ peers_of members)
+    × IsChoice (degrees.d_out - length (outbound_of members)) (peers_of (outbound_of candidates)) grafted
+IsMended Well degrees members candidates kept grafted = (kept ≡ peers_of members) × (grafted ≡ [])
+
+-- who is grafted to a poor mesh
+abbrev pub IsBettered : Bool → ℕ → List Member → List Member → List PeerNo → Type 0
+IsBettered true most members candidates more = IsChoice most (peers_of (above_median members candidates)) more
+IsBettered false most members candidates more = more ≡ []
+
+-- Who goes and who comes in, by any choices.
+pub record IsMeshStep (params : Params) (tick : ℕ) (mesh candidates : List Member) (choice : Choice) : Type 0 where
+  pub kept : List PeerNo
+  pub grafted : List PeerNo
+  pub more : List PeerNo
+  pub is_mended
+      : IsMended (condition_of params.degrees (not_negative mesh)) params.degrees (not_negative mesh) candidates kept grafted
+  pub is_bettered
+      : IsBettered (is_poor params tick (made_of (not_negative mesh) candidates kept grafted))
+      params.windows.opportunistic_peers
+      (made_of (not_negative mesh) candidates kept grafted)
+      (outside grafted candidates)
+      more
+  pub choice_is : choice ≡ choice_of mesh candidates kept (grafted ++ more)
+
+-- Whatever the words, it is a mesh step, where members and candidates ascend and D leaves room for a cut's best and
+-- outbound members.
+module _ {S : Type 0} (word : S → ℕ) (after : S → S) where
+  abbrev pub EachIsAMeshStep : Type 0
+  EachIsAMeshStep =
+      (params : Params) (tick : ℕ) (mesh candidates : List Member) (s : S)
+      → IsAscending (peers_of mesh)
+      → IsAscending (peers_of candidates)
+      → params.degrees.d_score + params.degrees.d_out ≤ params.degrees.d
+      → IsMeshStep params tick mesh candidates (step_by_words word after params tick mesh candidates s).0

@@ -1,0 +1,45 @@
+//! How a mesh stands by its members.
+ghost use Rattle.std.specs.Prelude.{◌≡◌, length};
+ghost use Rattle.gs_params.specs.Cuts.{outbound_of};
+ghost use Rattle.gs_mesh.specs.MeshSteps.{condition_of};
+
+use gs_params::{Degrees, Member};
+
+/// How a mesh stands by its members.
+#[derive(Clone, Copy, Debug, PartialEq, Eq)]
+pub enum Condition {
+    /// They are fewer than `d_low`.
+    Few,
+    /// They are more than `d_high`.
+    Many,
+    /// They are neither, and fewer than `d_out` are outbound.
+    FewOutbound,
+    /// Nothing is lacking.
+    Well,
+}
+
+impl Condition {
+    /// How a mesh of these members stands.
+    pub(crate) fn of(degrees: &Degrees, members: &[Member]) -> Condition
+        ensures { result ≡ condition_of degrees.now members.now }
+    {
+        let size = members.len() as u64;
+        if size < degrees.d_low {
+            return Condition::Few;
+        }
+        if degrees.d_high < size {
+            return Condition::Many;
+        }
+        if outbound_count(members) < degrees.d_out {
+            return Condition::FewOutbound;
+        }
+        Condition::Well
+    }
+}
+
+/// How many of these are outbound.
+pub(crate) fn outbound_count(members: &[Member]) -> u64
+    ensures { result ≡ length (outbound_of members.now) }
+{
+    members.iter().filter(|member| member.outbound).count() as u64
+}

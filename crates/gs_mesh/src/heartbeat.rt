@@ -1,0 +1,223 @@
+//! What a heartbeat does to a mesh.
+ghost use Rattle.std.specs.Prelude.{◌≡◌, ◌≤◌, IfOk, OnOk};
+ghost use Rattle.gs_params.specs.Picks.{IsAscending, picked, picked_words};
+ghost use Rattle.gs_params.specs.Cuts.{peers_of};
+ghost use Rattle.gs_mesh.specs.MeshSteps.{EachIsAMeshStep, above_median, bettered_by_words, choice_of, is_poor, made_of, median_is_below, mended_by_words, step_by_words};
+
+use crate::condition::{Condition, outbound_count};
+use crate::cut::{cut, pick_of};
+use crate::members::{among, not_negative, outbound_of, outside, peers_of};
+use gs_base::{PeerNo, Seq};
+use gs_params::{Degrees, Member, Params, Words};
+use std::alloc::{AllocError, Global};
+
+/// Who leaves a mesh at a heartbeat, and who comes into it. Each list ascends by number.
+#[derive(Debug, Drop, PartialEq, Eq)]
+pub struct Choice {
+    /// Who leaves it.
+    pub pruned: Seq<PeerNo>,
+    /// Who comes into it.
+    pub grafted: Seq<PeerNo>,
+}
+
+/// Whom a mesh keeps by its number of members, and who comes into it.
+#[derive(Drop)]
+struct Mended {
+    kept: Vec<PeerNo>,
+    grafted: Vec<PeerNo>,
+}
+
+/// What a heartbeat does to the mesh of a topic: who scores below 0 goes, too few members become more and too many become
+/// fewer, and outbound ones come in where they lack. Then, at each heartbeat whose number is a multiple of
+/// `opportunistic_ticks`, candidates come in that score above the median, where that is low. Members and candidates are
+/// listed by number, ascending; a candidate is one that may be grafted. What is chosen is chosen by the next words.
+///
+/// # Errors
+/// `AllocError` where there was no memory; words may have been drawn.
+pub fn choose_heartbeat<W: Words>(
+    alloc: Global,
+    params: &Params,
+    mesh: &[Member],
+    candidates: &[Member],
+    tick: u64,
+    words: &mut W,
+) -> Result<Choice, AllocError>
+    requires ticks { 1 ≤ params.now.windows.opportunistic_ticks }
+    requires members { IsAscending (peers_of mesh.now) }
+    requires candidates { IsAscending (peers_of candidates.now) }
+    ensures { IfOk result (λ choice. step_by_words W.word W.after params.now tick mesh.now candidates.now words.old
+        ≡ (choice, words.new)) }
+{
+    let members = not_negative(alloc, mesh)?;
+    let mended = mend(alloc, &params.degrees, &members, candidates, words)?;
+    let Mended { kept, mut grafted } = mended;
+    let made = made_of(alloc, &members, candidates, &kept, &grafted)?;
+    let mut more = bettered(alloc, params, tick, &made, candidates, &grafted, words)?;
+    grafted.append(&mut more)?;
+    let choice = choice_of(alloc, mesh, candidates, &kept, &grafted)?;
+    Ok(choice)
+}
+
+/// Who goes, where these are kept, and who comes in, where these are grafted.
+fn choice_of(
+    alloc: Global,
+    mesh: &[Member],
+    candidates: &[Member],
+    kept: &[PeerNo],
+    grafted: &[PeerNo],
+) -> Result<Choice, AllocError>
+    ensures { IfOk result (λ choice. choice ≡ choice_of mesh.now candidates.now kept.now grafted.now) }
+{
+    let pruned = outside(alloc, kept, mesh)?;
+    let entering = among(alloc, grafted, candidates)?;
+    Ok(Choice {
+        pruned: Seq::from(peers_of(alloc, &pruned)?),
+        grafted: Seq::from(peers_of(alloc, &entering)?),
+    })
+}
+
+/// The members, where these are kept and these are grafted.
+fn made_of(
+    alloc: Global,
+    members: &[Member],
+    candidates: &[Member],
+    kept: &[PeerNo],
+    grafted: &[PeerNo],
+) -> Result<Vec<Member>, AllocError>
+    ensures { IfOk result (λ made. made.items ≡ made_of members.now candidates.now kept.now grafted.now) }
+{
+    let mut made = among(alloc, kept, members)?;
+    let mut entering = among(alloc, grafted, candidates)?;
+    made.append(&mut entering)?;
+    Ok(made)
+}
+
+// ---- the number of members
+
+/// Whom a mesh keeps, and who comes into it, as its number of members wants it.
+fn mend<W: Words>(
+    alloc: Global,
+    degrees: &Degrees,
+    members: &[Member],
+    candidates: &[Member],
+    words: &mut W,
+) -> Result<Mended, AllocError>
+    requires members { IsAscending (peers_of members.now) }
+    requires candidates { IsAscending (peers_of candidates.now) }
+    ensures { IfOk result (λ made. mended_by_words W.word W.after degrees.now members.now candidates.now words.old
+        ≡ (made.kept.items, made.grafted.items, words.new)) }
+{
+    match Condition::of(degrees, members) {
+        Condition::Few => {
+            let count = degrees.d.saturating_sub(members.len() as u64);
+            let made = filled(alloc, members, candidates, count, words)?;
+            Ok(made)
+        }
+        Condition::Many => {
+            let kept = cut(alloc, degrees, members, words)?;
+            let grafted = Vec::new(alloc);
+            Ok(Mended { kept, grafted })
+        }
+        Condition::FewOutbound => {
+            let outbound = outbound_of(alloc, candidates)?;
+            let count = degrees.d_out.saturating_sub(outbound_count(members));
+            let made = filled(alloc, members, &outbound, count, words)?;
+            Ok(made)
+        }
+        Condition::Well => {
+            let kept = peers_of(alloc, members)?;
+            let grafted = Vec::new(alloc);
+            Ok(Mended { kept, grafted })
+        }
+    }
+}
+
+/// All members stay, and so many candidates come in, which the words pick.
+fn filled<W: Words>(
+    alloc: Global,
+    members: &[Member],
+    candidates: &[Member],
+    count: u64,
+    words: &mut W,
+) -> Result<Mended, AllocError>
+    requires { IsAscending (peers_of candidates.now) }
+    ensures kept { IfOk result (λ made. made.kept.items ≡ peers_of members.now) }
+    ensures grafted { IfOk result (λ made. made.grafted.items
+        ≡ picked W.word W.after count (peers_of candidates.now) words.old) }
+    ensures words { OnOk result (words.new
+        ≡ picked_words W.word W.after count (peers_of candidates.now) words.old) }
+{
+    let kept = peers_of(alloc, members)?;
+    let grafted = pick_of(alloc, candidates, count, words)?;
+    Ok(Mended { kept, grafted })
+}
+
+// ---- the median (gossipsub v1.1, "Opportunistic Grafting")
+
+/// Whether the median score of the members lies below a score: more than half of them do, rounded down. Where there is no
+/// member, none does.
+fn median_is_below(members: &[Member], score: &i128) -> bool
+    ensures { result ≡ median_is_below members.now score.now }
+{
+    let below = members
+        .iter()
+        .filter(|member| member.score < *score)
+        .count();
+    members.len() / 2 < below
+}
+
+/// Whether a mesh of these members is to get better ones at a heartbeat of this number.
+fn is_poor(params: &Params, tick: u64, members: &[Member]) -> bool
+    requires { 1 ≤ params.now.windows.opportunistic_ticks }
+    ensures { result ≡ is_poor params.now tick members.now }
+{
+    let threshold = i128::from(params.thresholds.opportunistic_threshold);
+    tick % params.windows.opportunistic_ticks == 0 && median_is_below(members, &threshold)
+}
+
+/// The candidates that score above the median of the members.
+fn above_median(
+    alloc: Global,
+    members: &[Member],
+    candidates: &[Member],
+) -> Result<Vec<Member>, AllocError>
+    ensures { IfOk result (λ better. better.items ≡ above_median members.now candidates.now) }
+{
+    candidates
+        .iter()
+        .copied()
+        .filter(|candidate| median_is_below(members, &candidate.score))
+        .collect(alloc)
+}
+
+/// Who comes into a poor mesh, beside those that came in already: nobody, where it is not poor.
+fn bettered<W: Words>(
+    alloc: Global,
+    params: &Params,
+    tick: u64,
+    members: &[Member],
+    candidates: &[Member],
+    grafted: &[PeerNo],
+    words: &mut W,
+) -> Result<Vec<PeerNo>, AllocError>
+    requires ticks { 1 ≤ params.now.windows.opportunistic_ticks }
+    requires candidates { IsAscending (peers_of candidates.now) }
+    ensures { IfOk result (λ more. bettered_by_words W.word W.after params.now tick members.now candidates.now
+        grafted.now words.old
+        ≡ (more.items, words.new)) }
+{
+    if !is_poor(params, tick, members) {
+        return Ok(Vec::new(alloc));
+    }
+    let others = outside(alloc, grafted, candidates)?;
+    let better = above_median(alloc, members, &others)?;
+    let more = pick_of(alloc, &better, params.windows.opportunistic_peers, words)?;
+    Ok(more)
+}
+
+// ---- what choices keep
+
+/// Whatever the words, what a heartbeat chooses is what the rules allow: as many as they say, and of those whom they name.
+pub fn a_choice_by_words_is_a_mesh_step<W: Words>()
+    ensures { EachIsAMeshStep W.word W.after }
+{}

@@ -1,0 +1,66 @@
+//! Lists of members and of candidates.
+ghost use Rattle.std.specs.Prelude.{◌≡◌, IfOk};
+ghost use Rattle.gs_params.specs.Cuts.{among, outbound_of, outside, peers_of};
+ghost use Rattle.gs_mesh.specs.MeshSteps.{not_negative};
+
+use gs_base::PeerNo;
+use gs_params::Member;
+use std::alloc::{AllocError, Global};
+
+/// Who they are.
+pub(crate) fn peers_of(alloc: Global, members: &[Member]) -> Result<Vec<PeerNo>, AllocError>
+    ensures { IfOk result (λ peers. peers.items ≡ peers_of members.now) }
+{
+    members.iter().map(|member| member.peer).collect(alloc)
+}
+
+/// Those that do not score below 0.
+pub(crate) fn not_negative(alloc: Global, mesh: &[Member]) -> Result<Vec<Member>, AllocError>
+    ensures { IfOk result (λ members. members.items ≡ not_negative mesh.now) }
+{
+    mesh.iter()
+        .copied()
+        .filter(|member| member.score >= 0)
+        .collect(alloc)
+}
+
+/// Those that this side dialled.
+pub(crate) fn outbound_of(alloc: Global, members: &[Member]) -> Result<Vec<Member>, AllocError>
+    ensures { IfOk result (λ outbound. outbound.items ≡ outbound_of members.now) }
+{
+    members
+        .iter()
+        .copied()
+        .filter(|member| member.outbound)
+        .collect(alloc)
+}
+
+/// Those that are among these peers.
+pub(crate) fn among(
+    alloc: Global,
+    peers: &[PeerNo],
+    members: &[Member],
+) -> Result<Vec<Member>, AllocError>
+    ensures { IfOk result (λ found. found.items ≡ among peers.now members.now) }
+{
+    members
+        .iter()
+        .copied()
+        .filter(|member| peers.contains(&member.peer))
+        .collect(alloc)
+}
+
+/// Those that are not among these peers.
+pub(crate) fn outside(
+    alloc: Global,
+    peers: &[PeerNo],
+    members: &[Member],
+) -> Result<Vec<Member>, AllocError>
+    ensures { IfOk result (λ found. found.items ≡ outside peers.now members.now) }
+{
+    members
+        .iter()
+        .copied()
+        .filter(|member| !peers.contains(&member.peer))
+        .collect(alloc)
+}

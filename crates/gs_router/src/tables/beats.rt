@@ -1,0 +1,39 @@
+//! How many heartbeats a router had.
+ghost use Rattle.std.specs.Prelude.{◌≡◌, ◌<◌, ◌^◌, [], ◌∷◌};
+ghost use Rattle.gs_rules.specs.Tables.{Entries, heartbeats};
+ghost use Rattle.gs_router.specs.Tables.{AgreesOnBeats};
+
+use gs_rules::{Entry, Event};
+
+/// How many heartbeats began.
+#[derive(Drop)]
+pub struct Beats {
+    count: u64,
+}
+
+impl Beats {
+    /// None began.
+    pub fn new() -> Beats
+        ensures { AgreesOnBeats result [] }
+    {
+        Beats { count: 0 }
+    }
+
+    /// How many began.
+    pub fn count(&self) -> u64
+        ensures { (L : Entries) → AgreesOnBeats self.now L → result ≡ heartbeats L }
+    {
+        self.count
+    }
+
+    /// Notes an entry.
+    pub fn note(&mut self, entry: &Entry)
+        requires few { self.old.count < 2 ^ 63 }
+        ensures { (L : Entries) → AgreesOnBeats self.old L → AgreesOnBeats self.new (entry.now ∷ L) }
+    {
+        match entry.event {
+            Event::Promises => self.count += 1,
+            _ => {}
+        }
+    }
+}

@@ -1,0 +1,283 @@
+//! What heartbeats do to meshes and fanouts.
+
+use crate::tests::beat_cases::Deed as LiveDeed;
+use crate::tests::beats::{Kind, live, neighbours};
+use crate::tests::gossip::topic_of;
+use crate::tests::mend_cases::{
+    BEST, BETTER, BETTER_AT_SECOND, CHOICES, FANOUT, FANOUT_OF_ONE, FEW, FEW_OUTBOUND, MANY,
+    MISSING_ALL, NEGATIVE, ONES,
+};
+use crate::tests::mesh_cases::{Deed, Said};
+use crate::tests::meshes::{
+    act, demanding, first_wrong, first_wrong_of, judging, sized, sized_without_flood,
+};
+use crate::tests::{checked, router_with, words};
+use gs_base::{PeerNo, Rpc, Shared};
+use gs_params::{Degrees, Params};
+use gs_router::Router;
+use gs_rules::{Entry, Event};
+use std::alloc::{AllocError, Global};
+
+// ---- the number of members
+
+#[test]
+fn a_mesh_of_few_members_gets_candidates(rt: HostRuntime) -> Result<(), AllocError> {
+    let alloc = rt.alloc();
+    assert_eq!(rt; first_wrong(alloc, Params::new(alloc), &[], &FEW)?, 10);
+    Ok(())
+}
+
+#[test]
+fn who_scores_below_nothing_is_put_out(rt: HostRuntime) -> Result<(), AllocError> {
+    let alloc = rt.alloc();
+    assert_eq!(rt; first_wrong(alloc, judging(alloc)?, &[], &NEGATIVE)?, 6);
+    Ok(())
+}
+
+#[test]
+fn who_brings_nothing_is_put_out_and_charged(rt: HostRuntime) -> Result<(), AllocError> {
+    let alloc = rt.alloc();
+    assert_eq!(rt;
+        first_wrong(alloc, demanding(alloc)?, &[], &MISSING_ALL)?,
+        4
+    );
+    Ok(())
+}
+
+#[test]
+fn a_mesh_of_many_members_is_cut(rt: HostRuntime) -> Result<(), AllocError> {
+    let alloc = rt.alloc();
+    assert_eq!(rt; first_wrong(alloc, sized(alloc, 2, 2), &[], &MANY)?, 6);
+    Ok(())
+}
+
+#[test]
+fn a_mesh_gets_the_outbound_members_that_it_lacks(rt: HostRuntime) -> Result<(), AllocError> {
+    let alloc = rt.alloc();
+    let mut params = Params::new(alloc);
+    params.degrees = Degrees {
+        d: 2,
+        d_low: 2,
+        d_high: 12,
+        d_score: 1,
+        d_out: 1,
+        d_lazy: 6,
+    };
+    assert_eq!(rt; first_wrong(alloc, params, &[], &FEW_OUTBOUND)?, 6);
+    Ok(())
+}
+
+#[test]
+fn a_fanout_is_filled_and_ends(rt: HostRuntime) -> Result<(), AllocError> {
+    let alloc = rt.alloc();
+    let params = sized_without_flood(alloc, 2);
+    assert_eq!(rt; first_wrong(alloc, params, &CHOICES, &FANOUT)?, 11);
+    let params = sized_without_flood(alloc, 1);
+    assert_eq!(rt; first_wrong(alloc, params, &ONES, &FANOUT_OF_ONE)?, 6);
+    Ok(())
+}
+
+// ---- scores
+
+/// Has these neighbours say this of the topic; how many were heard.
+fn hear_each(
+    alloc: Global,
+    router: &mut Router,
+    first: u16,
+    end: u16,
+    said: Said,
+) -> Result<u16, AllocError> {
+    let mut count = 0u16;
+    for number in first..end {
+        if act(
+            alloc,
+            router,
+            0,
+            Deed::Hear(number, said),
+            &mut words(alloc),
+        )?
+        .is_ok()
+        {
+            count = count.saturating_add(1);
+        }
+    }
+    Ok(count)
+}
+
+/// A router that is subscribed, with neighbours 1 to this number, the first ones of these kinds.
+fn subscribed(
+    alloc: Global,
+    params: Params,
+    count: u16,
+    kinds: &[Kind],
+) -> Result<Router, AllocError> {
+    let mut router = Router::new(alloc, checked(params)?, neighbours(alloc, count, kinds)?)?;
+    if act(alloc, &mut router, 0, Deed::Join, &mut words(alloc))?.is_err() {
+        return Err(AllocError);
+    }
+    Ok(router)
+}
+
+/// Neighbours 1, 2 and 3 score 3, and 12 and 13 were dialled.
+static THIRTEEN: [Kind; 13] = [
+    Kind::Praised,
+    Kind::Praised,
+    Kind::Praised,
+    Kind::Plain,
+    Kind::Plain,
+    Kind::Plain,
+    Kind::Plain,
+    Kind::Plain,
+    Kind::Plain,
+    Kind::Plain,
+    Kind::Plain,
+    Kind::Dialled,
+    Kind::Dialled,
+];
+
+#[test]
+fn a_cut_keeps_the_best_and_outbound_members(rt: HostRuntime) -> Result<(), AllocError> {
+    let alloc = rt.alloc();
+    let mut router = subscribed(alloc, Params::new(alloc), 13, &THIRTEEN)?;
+    assert_eq!(rt; hear_each(alloc, &mut router, 1, 14, Said::Graft)?, 13);
+    assert_eq!(rt; router.members(&topic_of(alloc, "a")?).len(), 13);
+    assert_eq!(rt; first_wrong_of(alloc, &mut router, &[], &BEST)?, 1);
+    Ok(())
+}
+
+/// Neighbour 5 scores 3.
+static FOUR_AND_ONE: [Kind; 5] = [
+    Kind::Plain,
+    Kind::Plain,
+    Kind::Plain,
+    Kind::Plain,
+    Kind::Praised,
+];
+
+/// A router that looks for better members at every so many heartbeats: neighbours 1 to 6 are on its topic, 1 to 4 in the
+/// mesh.
+fn ambitious(alloc: Global, ticks: u64) -> Result<Router, AllocError> {
+    let mut params = Params::new(alloc);
+    params.windows.opportunistic_ticks = ticks;
+    let mut router = subscribed(alloc, params, 6, &FOUR_AND_ONE)?;
+    let on = hear_each(alloc, &mut router, 1, 7, Said::On)?;
+    let grafts = hear_each(alloc, &mut router, 1, 5, Said::Graft)?;
+    if (on, grafts) != (6, 4) {
+        return Err(AllocError);
+    }
+    Ok(router)
+}
+
+#[test]
+fn a_poor_mesh_gets_a_better_member(rt: HostRuntime) -> Result<(), AllocError> {
+    let alloc = rt.alloc();
+    let mut router = ambitious(alloc, 1)?;
+    assert_eq!(rt; first_wrong_of(alloc, &mut router, &[], &BETTER)?, 1);
+    let mut router = ambitious(alloc, 2)?;
+    assert_eq!(rt;
+        first_wrong_of(alloc, &mut router, &[], &BETTER_AT_SECOND)?,
+        2
+    );
+    Ok(())
+}
+
+// ---- who is told beside the mesh
+
+/// How many of those to whom this was sent are not among these.
+fn outside(sends: &[(PeerNo, Shared<Rpc>)], members: &[PeerNo]) -> usize {
+    let mut count = 0usize;
+    for (peer, _) in sends {
+        if !members.contains(peer) {
+            count = count.saturating_add(1);
+        }
+    }
+    count
+}
+
+/// How many neighbours outside these were told what there is at a heartbeat.
+fn told_outside(entries: &[Entry], members: &[PeerNo]) -> usize {
+    let mut count = 0usize;
+    for entry in entries {
+        if let Event::GossipBeat(_) = &entry.event {
+            count = count.saturating_add(outside(entry.sends.as_slice(), members));
+        }
+    }
+    count
+}
+
+/// Forty neighbours subscribe, then the router does, and publishes, and a heartbeat comes.
+static CROWD: [LiveDeed<'static>; 4] = [
+    LiveDeed::On(1, 41, "a"),
+    LiveDeed::Join("a"),
+    LiveDeed::Publish("a", 1),
+    LiveDeed::Beat,
+];
+
+#[test]
+fn of_forty_neighbours_six_are_in_the_mesh_and_eight_are_told(
+    rt: HostRuntime,
+) -> Result<(), AllocError> {
+    let alloc = rt.alloc();
+    let list = neighbours(alloc, 40, &[])?;
+    let mut router = Router::new(alloc, checked(Params::new(alloc))?, list)?;
+    for deed in &CROWD {
+        assert_eq!(rt;
+            live(alloc, &mut router, 1_000, *deed, &mut words(alloc))?,
+            0
+        );
+    }
+    let members = router.members(&topic_of(alloc, "a")?);
+    assert_eq!(rt; members.len(), 6);
+    assert_eq!(rt; told_outside(router.trace().entries(), members), 8);
+    Ok(())
+}
+
+// ---- several topics
+
+/// Three topics are joined, on a fourth something is published, and then a heartbeat comes.
+static TOPICS: [LiveDeed<'static>; 5] = [
+    LiveDeed::Join("c"),
+    LiveDeed::Join("b"),
+    LiveDeed::Join("a"),
+    LiveDeed::Publish("aa", 1),
+    LiveDeed::Beat,
+];
+
+/// Whether an entry mends the mesh of a topic, or else its fanout.
+fn is_mending(entry: &Entry, is_mesh: bool, name: &str) -> bool {
+    match &entry.event {
+        Event::MeshBeat(topic) => is_mesh && topic.0.as_slice() == name.as_bytes(),
+        Event::FanBeat(topic) => !is_mesh && topic.0.as_slice() == name.as_bytes(),
+        _ => false,
+    }
+}
+
+/// Whether these entries mend these meshes and fanouts, one after the other.
+fn are_mending(entries: &[Entry], wanted: &[(bool, &str)]) -> bool {
+    for (entry, (is_mesh, name)) in entries.iter().zip(wanted) {
+        if !is_mending(entry, *is_mesh, name) {
+            return false;
+        }
+    }
+    entries.len() == wanted.len()
+}
+
+#[test]
+fn meshes_are_mended_in_order_and_then_fanouts(rt: HostRuntime) -> Result<(), AllocError> {
+    let alloc = rt.alloc();
+    let mut router = router_with(alloc, sized_without_flood(alloc, 2))?;
+    for deed in &TOPICS {
+        assert_eq!(rt;
+            live(alloc, &mut router, 1_000, *deed, &mut words(alloc))?,
+            0
+        );
+    }
+    let wanted = [(true, "a"), (true, "b"), (true, "c"), (false, "aa")];
+    assert!(rt;
+        are_mending(
+            router.trace().entries().get(5..9).unwrap_or_default(),
+            &wanted
+        )
+    );
+    Ok(())
+}

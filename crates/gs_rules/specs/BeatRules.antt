@@ -1,0 +1,77 @@
+-- What a heartbeat does to meshes and fanouts (gossipsub v1.0, "Mesh maintenance" and "Fanout maintenance"; v1.1,
+-- "Heartbeat Maintenance", "Outbound Mesh Quotas" and "Opportunistic Grafting"). Each of these gives a whole entry, or what
+-- is chosen before it.
+use Rattle.std.specs.Prelude.{ℕ, ◌-◌, if◌then◌else◌, List, ◌++◌, length, map}
+use Rattle.gs_base.specs.declared.names.PeerNo.{PeerNo}
+use Rattle.gs_base.specs.declared.names.Topic.{Topic}
+use Rattle.gs_base.specs.declared.names.Millis.{Millis}
+use Rattle.gs_params.specs.declared.cuts.Member.{Member}
+use Rattle.gs_mesh.specs.declared.heartbeat.Choice.{Choice}
+use Rattle.gs_mesh.specs.MeshSteps.{stepped}
+use Rattle.gs_wire.specs.Messages.{grafting, pruning}
+use Rattle.gs_rules.specs.declared.trace.Event.{Event}
+use Rattle.gs_rules.specs.declared.trace.Event.TheVariants.{FanBeat, FanEnd, MeshBeat}
+use Rattle.gs_rules.specs.declared.trace.Entry.{Entry}
+use Rattle.gs_rules.specs.Peers.{Peer}
+use Rattle.gs_rules.specs.Tables.{Entries, heartbeats}
+use Rattle.gs_rules.specs.Meshes.{fanout, is_stale, last_published, mesh}
+use Rattle.gs_rules.specs.Membership.{barring, candidates, each_on, entering, fanning, is_outbound, leaving, unfanning}
+use Rattle.gs_rules.specs.Scoring.{is_passed_over, score}
+use Rattle.gs_rules.specs.Rule.{AnyOf, CutOf, Gives, Rule, bare, listeners, to_each, without}
+use Rattle.gs_rules.specs.MeshRules.{those_among, those_outside}
+
+-- ---- meshes
+
+-- neighbours with their scores at a moment
+abbrev pub member_of : Peer → Entries → ℕ → PeerNo → Member
+member_of p L at q = record { peer = q; score = score p L at q; outbound = is_outbound p q }
+
+abbrev pub members_of : Peer → Entries → ℕ → List PeerNo → List Member
+members_of p L at qs = map (member_of p L at) qs
+
+-- Those who go are told, are charged with what is missing, and are not to come back for a while; those who come in are
+-- told.
+abbrev pub mending : Peer → Entries → Millis → Topic → Choice → Entry
+mending p L at t choice = record (bare at (MeshBeat t)) {
+  sends = to_each (pruning t p.params.windows.prune_backoff_s) choice.pruned ++ to_each (grafting t) choice.grafted;
+  marks = leaving p L at.0 (each_on t choice.pruned)
+      ++ (barring at.0 p.params.windows.prune_backoff_s (each_on t choice.pruned)
+      ++ entering (each_on t choice.grafted));
+}
+
+-- The mesh of a topic goes a step, by the scores before it and the number of this heartbeat, of the neighbours that may be
+-- grafted.
+abbrev pub mesh_beat_rule : Peer → Entries → Millis → Topic → Rule
+mesh_beat_rule p L at t =
+    stepped AnyOf CutOf p.params (heartbeats L)
+    (members_of p L at.0 (mesh L t))
+    (members_of p L at.0 (candidates p L at.0 t))
+    (λ choice. Gives (mending p L at t choice))
+
+-- ---- fanouts
+
+-- the neighbours that may be in the fanout of a topic: those that are up, on it, and to whom the peer publishes
+abbrev pub receivers : Peer → Entries → ℕ → Topic → List PeerNo
+receivers p L at t = without (is_passed_over p L at) (listeners p L t)
+
+-- members that may not stay leave, and these come in
+abbrev pub refanning : Peer → Entries → Millis → Topic → List PeerNo → Entry
+refanning p L at t chosen = record (bare at (FanBeat t)) {
+  marks = unfanning t (those_outside (receivers p L at.0 t) (fanout L t)) ++ fanning t chosen;
+}
+
+-- Beside the members that stay any others come in that may, up to D.
+abbrev pub fan_beat_rule : Peer → Entries → Millis → Topic → Rule
+fan_beat_rule p L at t =
+    AnyOf
+    (p.params.degrees.d - length (those_among (receivers p L at.0 t) (fanout L t)))
+    (those_outside (fanout L t) (receivers p L at.0 t))
+    (λ chosen. Gives (refanning p L at t chosen))
+
+-- all members of a fanout leave it, and it ends
+abbrev pub fan_end : Entries → Millis → Topic → Entry
+fan_end L at t = record (bare at (FanEnd t)) { marks = unfanning t (fanout L t) }
+
+-- what a heartbeat does to a fanout at a moment: it ends where its time has come, and else is mended
+abbrev pub fan_event : Peer → Entries → ℕ → Topic → Event
+fan_event p L at t = if is_stale p.params.windows.fanout_ttl_ms at (last_published L t) then FanEnd t else FanBeat t
