@@ -30,7 +30,8 @@ struct Mended {
 /// What a heartbeat does to the mesh of a topic: who scores below 0 goes, too few members become more and too many become
 /// fewer, and outbound ones come in where they lack. Then, at each heartbeat whose number is a multiple of
 /// `opportunistic_ticks`, candidates come in that score above the median, where that is low. Members and candidates are
-/// listed by number, ascending; a candidate is one that may be grafted. What is chosen is chosen by the next words.
+/// listed by number, ascending; a candidate is one that may be grafted. `opportunistic_ticks` is 1 at least, as it is in
+/// parameters that pass their checks. What is chosen is chosen by the next words.
 ///
 /// # Errors
 /// `AllocError` where there was no memory; words may have been drawn.

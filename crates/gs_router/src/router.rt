@@ -206,8 +206,9 @@ impl Router {
         ended(&mut self.is_stopped, done)
     }
 
-    /// Has a heartbeat (gossipsub v1.0, Heartbeat): charges promises that were broken, gossips on each topic on
-    /// which there is something, and begins a new window of what is kept. Meshes and fanouts stay as they are.
+    /// Has a heartbeat (gossipsub v1.0, Heartbeat): charges promises that were broken, mends each mesh, mends each fanout
+    /// or ends it where nothing was published for `fanout_ttl_ms`, gossips on each topic on which there is something, and
+    /// begins a new window of what is kept.
     ///
     /// # Errors
     /// `Stopped`, and `NoMemory`.

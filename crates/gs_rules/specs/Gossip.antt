@@ -1,4 +1,4 @@
--- What a heartbeat does: it charges broken promises, and gossips of the messages that are kept.
+-- What a heartbeat does with promises and with messages that are kept: it charges those who broke a promise, and gossips.
 use Rattle.std.specs.Prelude.{◌≡◌, ◌<◌, ℕ, ◌-◌, ◌*◌, ◌/◌, min, max, Bool, true, false, ◌&&◌, nat_le, nat_lt, if◌then◌else◌, List, [], ◌∷◌, ◌++◌, length, drop, map, filter, Option, Some, None}
 use Rattle.std.specs.List.{AllByRecursion, flat_map, list_any}
 use Rattle.gs_base.specs.declared.names.PeerNo.{PeerNo}
