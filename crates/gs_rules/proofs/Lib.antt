@@ -20,6 +20,7 @@ pub mod Spelled
 pub mod Counted
 pub mod UpMembers
 pub mod CameIn
+pub mod MeshMoves
 pub mod AfterShut
 pub mod Examples
 pub mod GossipExamples

@@ -311,7 +311,7 @@ module _ (p : Peer) (L : Entries) where
   -- ---- heartbeats
 
   -- what holds of each of some peers holds of those that are left of them as members
-  members_are_such : (P : PeerNo → Type 0) (at : ℕ) (test : Member → Bool) (qs : List PeerNo) → AllByRecursion P qs → AllByRecursion P (map (λ (m : Member). m.peer) (filter test (members_of p L at qs)))
+  pub members_are_such : (P : PeerNo → Type 0) (at : ℕ) (test : Member → Bool) (qs : List PeerNo) → AllByRecursion P qs → AllByRecursion P (map (λ (m : Member). m.peer) (filter test (members_of p L at qs)))
   members_are_such P at test qs all =
       each_mapped P (λ (m : Member). m.peer) (filter test (members_of p L at qs))
       (each_passing (λ (m : Member). P m.peer) (λ (m : Member). P m.peer) test (λ m is such. such) (members_of p L at qs)

@@ -1,9 +1,11 @@
--- The topics that have a mesh or a fanout are short.
+-- The topics that have a mesh or a fanout are short, and ascend.
 use Rattle.std.proofs.Common.{◌≡◌, ℕ, Bool, true, false, if◌then◌else◌, List, [], ◌∷◌, ◌++◌, filter, Option, Some, None, is_some, refl, sym, ap, subst, ◌∙◌}
 use Rattle.std.specs.Prelude.{◌||◌}
 use Rattle.std.specs.List.{AllByRecursion, list_any}
+use Rattle.std.specs.List.Sorted.{IsStrictlySortedBy}
 use Rattle.std.proofs.lemmas.Bool.{or_left}
 use Rattle.std.proofs.lemmas.List.Folds.{list_any-append}
+use Rattle.std.proofs.lemmas.List.Kept.{IsStrictlySortedBy-filter}
 use Rattle.std.proofs.lemmas.Map.Views.{any-filter_same}
 use Rattle.gs_base.specs.declared.names.Topic.{Topic}
 use Rattle.gs_base.specs.declared.mark.Mark.{Mark}
@@ -12,15 +14,16 @@ use Rattle.gs_base.specs.Names.{same_topic}
 use Rattle.gs_rules.specs.declared.trace.Event.{Event}
 use Rattle.gs_rules.specs.declared.trace.Event.TheVariants.{FanEnd, Publish, Subscribe}
 use Rattle.gs_rules.specs.Peers.{Peer}
-use Rattle.gs_rules.specs.Tables.{Entries, after_marks, joined, known}
-use Rattle.gs_rules.specs.Meshes.{dropped_after, ever_fanned, has_mesh, last_published, mesh_topics, published_after}
-use Rattle.gs_rules.specs.Owed.{owed}
+use Rattle.gs_rules.specs.Tables.{Entries, after_marks, joined, known, topic_order}
+use Rattle.gs_rules.specs.Meshes.{dropped_after, ever_fanned, fanout_topics, has_fanout, has_mesh, last_published, mesh_topics, published_after}
+use Rattle.gs_rules.specs.Gossip.{gossip}
+use Rattle.gs_rules.specs.Owed.{gossip_topics, is_some_list, owed}
 use Rattle.gs_rules.specs.Legal.{IsNext, Legal}
 use Rattle.gs_rules.proofs.Each.{each_weaker}
 use Rattle.gs_rules.proofs.Legality.{legal_newest}
 use Rattle.gs_rules.proofs.Marks.{MayMark, Publishes, entry_marks}
 use Rattle.gs_rules.proofs.Owed.{opens}
-use Rattle.gs_rules.proofs.Topics.{IsShort, ascending_any, ascending_are, joined_known, joined_short, passing_are, same_are_one}
+use Rattle.gs_rules.proofs.Topics.{IsShort, ascending_any, ascending_are, ascending_sorted, joined_known, joined_short, passing_are, same_are_one}
 
 -- ---- topics that were published on
 
@@ -89,3 +92,14 @@ joined_has_mesh L t joins =
     ∙ any-filter_same (same_topic t) (has_mesh L) true (λ u is. ap (has_mesh L) (sym (same_are_one t u is)) ∙ here) all
     ∙ list_any-append (same_topic t) (known L) (ever_fanned L)
     ∙ or_left (list_any (same_topic t) (known L)) (list_any (same_topic t) (ever_fanned L)) (joined_known L t joins)
+
+-- ---- they ascend, and so do those of them that pass a test
+
+mesh_topics_ascend : (L : Entries) → IsStrictlySortedBy topic_order (mesh_topics L)
+mesh_topics_ascend L = ascending_sorted (filter (has_mesh L) (known L ++ ever_fanned L))
+
+pub fanout_topics_ascend : (L : Entries) → IsStrictlySortedBy topic_order (fanout_topics L)
+fanout_topics_ascend L = IsStrictlySortedBy-filter topic_order (has_fanout L) (mesh_topics L) (mesh_topics_ascend L)
+
+pub gossip_topics_ascend : (p : Peer) (L : Entries) → IsStrictlySortedBy topic_order (gossip_topics p L)
+gossip_topics_ascend p L = IsStrictlySortedBy-filter topic_order (λ (t : Topic). is_some_list (gossip p L t)) (mesh_topics L) (mesh_topics_ascend L)

@@ -114,7 +114,7 @@ placed_sorted t (u ∷ us) h = by (topic_order t u) refl (placed_sorted t us h.1
     by Equal is rest = h
     by Greater is rest = (placed_are (λ v. topic_order u v ≡ Less) t us (order_is_total.antisymm u t ∙ ap ordering_reverse is) h.0, rest)
 
-ascending_sorted : (ts : List Topic) → IsStrictlySortedBy topic_order (ascending ts)
+pub ascending_sorted : (ts : List Topic) → IsStrictlySortedBy topic_order (ascending ts)
 unfolding IsStrictlySortedBy
 ascending_sorted [] = tt
 ascending_sorted (t ∷ ts) = placed_sorted t (ascending ts) (ascending_sorted ts)

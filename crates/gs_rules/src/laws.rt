@@ -11,21 +11,25 @@ ghost use Rattle.gs_base.specs.Codecs.{Codec};
 ghost use Rattle.gs_base.specs.Names.{same_id, same_topic};
 ghost use Rattle.gs_params.specs.Picks.{IsAscending};
 ghost use Rattle.gs_mesh.specs.Peers.{is_among};
+ghost use Rattle.gs_mesh.specs.declared.heartbeat.Choice.{Choice};
+ghost use Rattle.gs_mesh.specs.MeshSteps.{IsMeshStep};
 ghost use Rattle.gs_wire.specs.Codec.{codec};
 ghost use Rattle.gs_rules.specs.declared.trace.Entry.{Entry};
 ghost use Rattle.gs_rules.specs.declared.trace.Promise.{Promise};
 ghost use Rattle.gs_rules.specs.declared.trace.Event.{Event};
-ghost use Rattle.gs_rules.specs.declared.trace.Event.TheVariants.{Promises, Shut};
+ghost use Rattle.gs_rules.specs.declared.trace.Event.TheVariants.{MeshBeat, Promises, Shut};
 ghost use Rattle.gs_rules.specs.declared.refusal.RefusedLine.{RefusedLine};
 ghost use Rattle.gs_rules.specs.Peers.{Peer, links_of, seen_ttl};
-ghost use Rattle.gs_rules.specs.Tables.{Entries, Keeping, is_shut, joined, kept, keeping_order, own_topics, promises, topic_order, up};
-ghost use Rattle.gs_rules.specs.Meshes.{backoff, mesh};
+ghost use Rattle.gs_rules.specs.Tables.{Entries, Keeping, heartbeats, is_shut, joined, kept, keeping_order, own_topics, promises, topic_order, up};
+ghost use Rattle.gs_rules.specs.Meshes.{backoff, fanout_topics, mesh};
+ghost use Rattle.gs_rules.specs.Membership.{candidates};
+ghost use Rattle.gs_rules.specs.BeatRules.{fan_event, members_of, mending, mesh_beat_rule};
 ghost use Rattle.gs_rules.specs.Arrivals.{CameIn};
 ghost use Rattle.gs_rules.specs.Scoring.{IsFromNeighbour, change_of, changed_after, has_counters, history, is_neighbour, score};
 ghost use Rattle.gs_rules.specs.Gossip.{IsKeptOn, IsOpen, WasLeftOpen, charges, gossip, gossipable, overdue};
-ghost use Rattle.gs_rules.specs.Owed.{Gossips, Group, beats, gossip_topics, heartbeat_groups, owed, owes, reached};
+ghost use Rattle.gs_rules.specs.Owed.{FanBeats, Gossips, Group, MeshBeats, beats, events_in, gossip_topics, heartbeat_groups, owed, owes, reached};
 ghost use Rattle.gs_rules.specs.Rules.{Gives, Rule, rule_of};
-ghost use Rattle.gs_rules.specs.Modes.{Follows, exact, free, settled};
+ghost use Rattle.gs_rules.specs.Modes.{Follows, SaysTheSame, exact, free, settled};
 ghost use Rattle.gs_rules.specs.Legal.{DeliversApart, Legal, LegalOn};
 ghost use Rattle.gs_rules.specs.Saying.{Close, Said, bytes_of, handled, handled_by, out, says, sent};
 ghost use Rattle.gs_rules.specs.Hearing.{Spell};
@@ -157,10 +161,12 @@ pub fn own_topics_are_those_that_are_joined()
     ensures ascend { (entries : Entries) → IsStrictlySortedBy topic_order (own_topics entries) }
 {}
 
-/// Once a heartbeat has charged broken promises, three groups of events are owed, and nothing else: it mends the meshes,
-/// then the fanouts, then it gossips and ends. Of each group one event comes after the other; behind the last one the
-/// next group is reached, as things stand then, and one that holds no event is passed over. The last group is gossip on
-/// each topic that has a mesh or a fanout and on which there is some, and the heartbeat's end.
+/// Once a heartbeat has charged broken promises, three groups of events are owed, and nothing else: it mends the
+/// meshes, then the fanouts, then it gossips and ends. Of each group one event comes after the other; behind the last
+/// one the next group is reached, as things stand then, and one that holds no event is passed over. The first group is
+/// the mesh of each topic that the peer is subscribed to, and the second is each fanout, which ends where its time has
+/// come and else is mended. The last group is gossip on each topic that has a mesh or a fanout and on which there is
+/// some, and the heartbeat's end. The topics of each group ascend by their bytes, and none comes twice.
 pub fn a_heartbeat_mends_gossips_and_ends()
     ensures begins { (p : Peer) (entries : Entries) (e : Entry)
         → e.event ≡ Promises
@@ -174,8 +180,48 @@ pub fn a_heartbeat_mends_gossips_and_ends()
         → owed p entries ≡ record { events = last ∷ []; groups = groups }
         → owes p entries e.at.0 e.event ≡ []
         → owed p (e ∷ entries) ≡ reached p (e ∷ entries) groups }
+    ensures meshes { (p : Peer) (entries : Entries)
+        → events_in p entries MeshBeats ≡ map MeshBeat (own_topics entries) }
+    ensures fanouts { (p : Peer) (entries : Entries) (at : ℕ)
+        → events_in p entries (FanBeats at) ≡ map (fan_event p entries at) (fanout_topics entries) }
     ensures gossips { (p : Peer) (entries : Entries)
         → reached p entries (Gossips ∷ []) ≡ record { events = beats (gossip_topics p entries); groups = [] } }
+    ensures ascend { (p : Peer) (entries : Entries)
+        → IsStrictlySortedBy topic_order (own_topics entries)
+        × IsStrictlySortedBy topic_order (fanout_topics entries)
+        × IsStrictlySortedBy topic_order (gossip_topics p entries) }
+{}
+
+/// Whatever may come where a heartbeat mends a mesh is a step of that mesh, by any choices: of its members and of those
+/// who may be grafted, by their scores at that moment and by how many heartbeats began. The entry says what the mending
+/// by that step says, but for an order that nobody sees: whoever goes is told, is charged with what is missing of its
+/// deliveries, and is not to come back for a while, and whoever comes in is told. Where words choose, the entry is that
+/// mending as it stands. Whoever comes in might be grafted, and whoever goes was a member.
+pub fn a_heartbeat_moves_a_mesh_a_step<W: Words>()
+    ensures step { (p : Peer) (entries : Entries) (e : Entry) (t : Topic)
+        → Follows free (mesh_beat_rule p entries e.at t) tt e tt
+        → (choice : Choice)
+        × IsMeshStep p.params (heartbeats entries)
+        (members_of p entries e.at.0 (mesh entries t))
+        (members_of p entries e.at.0 (candidates p entries e.at.0 t)) choice
+        × SaysTheSame e (mending p entries e.at t choice) }
+    ensures words { (p : Peer) (entries : Entries) (e : Entry) (t : Topic) (s u : W)
+        → Follows (exact W.word W.after) (mesh_beat_rule p entries e.at t) s e u
+        → (choice : Choice)
+        × IsMeshStep p.params (heartbeats entries)
+        (members_of p entries e.at.0 (mesh entries t))
+        (members_of p entries e.at.0 (candidates p entries e.at.0 t)) choice
+        × (e ≡ mending p entries e.at t choice) }
+    ensures grafted { (p : Peer) (entries : Entries) (at : ℕ) (t : Topic) (choice : Choice)
+        → IsMeshStep p.params (heartbeats entries)
+        (members_of p entries at (mesh entries t))
+        (members_of p entries at (candidates p entries at t)) choice
+        → AllByRecursion (λ q. is_among (candidates p entries at t) q ≡ true) choice.grafted }
+    ensures pruned { (p : Peer) (entries : Entries) (at : ℕ) (t : Topic) (choice : Choice)
+        → IsMeshStep p.params (heartbeats entries)
+        (members_of p entries at (mesh entries t))
+        (members_of p entries at (candidates p entries at t)) choice
+        → AllByRecursion (λ q. is_among (mesh entries t) q ≡ true) choice.pruned }
 {}
 
 /// What is gossiped on a topic is kept as one of that topic, and was kept lately; and it fits one offer.
