@@ -8,7 +8,8 @@ mod trace;
 
 pub use laws::{
     a_broken_promise_is_charged, a_delivery_is_not_repeated, a_heartbeat_mends_gossips_and_ends,
-    a_member_was_not_in_backoff, a_part_with_nothing_left_is_whole, a_promise_is_charged_once,
+    a_heartbeat_moves_a_mesh_a_step, a_member_was_not_in_backoff,
+    a_part_with_nothing_left_is_whole, a_promise_is_charged_once,
     each_mark_of_a_legal_trace_counts, gossip_is_of_what_is_kept, legal_entries_compose,
     mesh_members_are_up, meshes_are_of_own_topics, nothing_changes_a_mesh_behind_a_shut,
     nothing_changes_a_score_behind_a_shut, nothing_is_said_behind_a_close, one_more_entry,
