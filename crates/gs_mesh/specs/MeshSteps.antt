@@ -75,7 +75,7 @@ module _ {R : Type 0} (any_of : ℕ → List PeerNo → (List PeerNo → R) → 
       bettered (is_poor params tick members) params.windows.opportunistic_peers members (outside grafted candidates) next
 
 module _ {R : Type 0} (any_of : ℕ → List PeerNo → (List PeerNo → R) → R)
-         (cut_of : Degrees → List Member → (List PeerNo → R) → R) where
+    (cut_of : Degrees → List Member → (List PeerNo → R) → R) where
   -- Who is kept and who is grafted. Where members are few, any candidates come in, up to D members. Where they are many,
   -- they are cut to D. Where few are outbound, any outbound candidates come in, up to D_out outbound members. Else nobody
   -- comes or goes.
