@@ -9,12 +9,13 @@ mod over_links;
 mod streams;
 
 use crate::tests::made::{
-    AtMost, ONE, Step, lists, made, said, says, says_with_heartbeats, script,
+    AtMost, ONE, Step, lists, made, said, said_with_a_prune, says, says_with_heartbeats, script,
     script_with_heartbeats, task, task_in,
 };
 use futures::executor::block_on;
 use gs_base::{Millis, PeerNo};
 use gs_ends::ListEnds;
+use gs_link::Item;
 use gs_params::Line;
 use gs_peer::{Finished, Gate, NoGate, PeerFault, StopFlag, Surroundings};
 use gs_rules::{Refusal, RefusedLine};
@@ -54,11 +55,12 @@ fn is_scripted(alloc: Global, life: &Finished<ListEnds>) -> Result<bool, AllocEr
     )
 }
 
-/// The life over lists, in rounds up to this one, of a peer with such a script, where every so many puts
-/// are refused. None where it doesn't end within 10,000 polls.
+/// The life over lists, in rounds up to this one, of a peer with such a script whose neighbour says this, where every so
+/// many puts are refused. None where it doesn't end within 10,000 polls.
 fn lives<R>(
     rt: &R,
     lines: Vec<(usize, Line)>,
+    said: Vec<Item>,
     rounds: u64,
     every: u64,
 ) -> io::Result<Option<Finished<ListEnds>>>
@@ -67,7 +69,7 @@ where
     requires { rounds ≤ 100_000 }
     ensures { IfOk result (λ ended. IfSome ended (λ life. has (joints_of life.ends) (record { 0 = 2 }) ≡ true)) }
 {
-    let ends = lists(rt.alloc(), said(rt.alloc(), rounds)?, 100, every)?;
+    let ends = lists(rt.alloc(), said, 100, every)?;
     let task = task(rt.alloc(), ONE, lines, rounds, ends)?;
     let polled = AtMost {
         inner: task,
@@ -84,7 +86,8 @@ fn ends_scripted<R>(rt: &R, every: u64) -> io::Result<bool>
 where
     R: Wait + RandomSource + AllocGlobal,
 {
-    match lives(rt, script(rt.alloc())?, 2, every)? {
+    let lines = script(rt.alloc())?;
+    match lives(rt, lines, said(rt.alloc(), 2)?, 2, every)? {
         Some(life) => Ok(is_scripted(rt.alloc(), &life)?),
         None => Ok(false),
     }
@@ -112,9 +115,9 @@ fn what_is_never_accepted_keeps_a_task_pending(rt: HostRuntime) -> Result<(), Fa
 
 // ---- heartbeats
 
-/// A step of decay and a heartbeat come each second but the first, behind the lines of their round. The heartbeat gossips
-/// of what is kept.
-static WITH_HEARTBEATS: [Step; 34] = [
+/// A step of decay and a heartbeat come each second but the first, behind the lines of their round. The heartbeat mends the
+/// mesh, and gossips of what is kept. Whoever was pruned stays out of the mesh at the second one.
+static WITH_HEARTBEATS: [Step; 38] = [
     Step::Subscribe,
     Step::RoundEnd(0),
     Step::Heard,
@@ -131,9 +134,12 @@ static WITH_HEARTBEATS: [Step; 34] = [
     Step::Publish,
     Step::Decay,
     Step::Promises,
+    Step::Mesh,
     Step::Gossip,
     Step::BeatEnd,
     Step::RoundEnd(10),
+    Step::Heard,
+    Step::Prune,
     Step::RoundEnd(11),
     Step::RoundEnd(12),
     Step::RoundEnd(13),
@@ -145,13 +151,14 @@ static WITH_HEARTBEATS: [Step; 34] = [
     Step::RoundEnd(19),
     Step::Decay,
     Step::Promises,
+    Step::Mesh,
     Step::Gossip,
     Step::BeatEnd,
     Step::RoundEnd(20),
     Step::Shut,
 ];
 
-/// Whether a life has those steps, and offered what it published at each heartbeat.
+/// Whether a life has those steps, and said so.
 fn is_gossiping(alloc: Global, life: &Finished<ListEnds>) -> Result<bool, AllocError>
     requires { has (joints_of life.now.ends) (record { 0 = 2 }) ≡ true }
 {
@@ -159,15 +166,23 @@ fn is_gossiping(alloc: Global, life: &Finished<ListEnds>) -> Result<bool, AllocE
     Ok(made(&life.trace, &WITH_HEARTBEATS) && life.ends.sent(PeerNo(2)) == says.as_slice())
 }
 
+/// Whether the life with heartbeats ends so, where every so many puts are refused.
+fn ends_gossiping<R>(rt: &R, every: u64) -> io::Result<bool>
+where
+    R: Wait + RandomSource + AllocGlobal,
+{
+    let lines = script_with_heartbeats(rt.alloc())?;
+    match lives(rt, lines, said_with_a_prune(rt.alloc())?, 20, every)? {
+        Some(life) => Ok(is_gossiping(rt.alloc(), &life)?),
+        None => Ok(false),
+    }
+}
+
 /// In rounds of 100 milliseconds heartbeats come in rounds 10 and 20, and none in round 0.
 #[test]
-fn a_message_is_offered_at_each_heartbeat(rt: HostRuntime) -> Result<(), Fail> {
+fn a_heartbeat_grafts_a_neighbour_or_offers_it_what_is_kept(rt: HostRuntime) -> Result<(), Fail> {
     for every in [0, 3] {
-        let lines = script_with_heartbeats(rt.alloc())?;
-        let Some(life) = lives(&rt, lines, 20, every)? else {
-            panic!(rt; "the life doesn't end");
-        };
-        assert!(rt; is_gossiping(rt.alloc(), &life)?);
+        assert!(rt; ends_gossiping(&rt, every)?);
     }
     Ok(())
 }

@@ -29,10 +29,16 @@ pub const SUBSCRIBES: [u8; 8] = [0x07, 0x0a, 0x05, 0x08, 0x01, 0x12, 0x01, 0x61]
 /// The frame of the message `abc` on `a`.
 const PUBLISHES: &[u8] = b"\x0a\x12\x08\x12\x03abc\x22\x01a";
 
-/// The frame that offers it: an IHAVE of the topic and of one identifier, the SHA-256 of `abc`.
+/// The frame of a GRAFT of `a`.
+const GRAFTS: &[u8] = b"\x07\x1a\x05\x1a\x03\x0a\x01a";
+
+/// The frame that offers the message: an IHAVE of the topic and of one identifier, the SHA-256 of `abc`.
 const OFFERS: &[u8] = b"\x29\x1a\x27\x0a\x25\x0a\x01a\x12\x20\
     \xba\x78\x16\xbf\x8f\x01\xcf\xea\x41\x41\x40\xde\x5d\xae\x22\x23\
     \xb0\x03\x61\xa3\x96\x17\x7a\x9c\xb4\x10\xff\x61\xf2\x00\x15\xad";
+
+/// The frame of a PRUNE of `a` for 60 seconds.
+const PRUNES: &[u8] = b"\x09\x1a\x07\x22\x05\x0a\x01a\x18\x3c";
 
 /// What happened at a peer, without what it was about.
 #[derive(Clone, Copy, Debug, PartialEq, Eq)]
@@ -49,6 +55,8 @@ pub enum Step {
     Unsubscribe,
     Publish,
     Promises,
+    Mesh,
+    Fanout,
     Gossip,
     BeatEnd,
     Decay,
@@ -72,6 +80,8 @@ fn step_of(event: &Event) -> Step {
         Event::Unsubscribe(_) => Step::Unsubscribe,
         Event::Publish(_, _) => Step::Publish,
         Event::Promises => Step::Promises,
+        Event::MeshBeat(_) => Step::Mesh,
+        Event::FanBeat(_) | Event::FanEnd(_) => Step::Fanout,
         Event::GossipBeat(_) => Step::Gossip,
         Event::BeatEnd => Step::BeatEnd,
         Event::Decay => Step::Decay,
@@ -294,6 +304,14 @@ pub fn said(alloc: Global, last: u64) -> Result<Vec<Item>, AllocError> {
     Ok(items)
 }
 
+/// What one says that subscribes to `a` in the first round, and prunes it in round 10, up to round 20.
+pub fn said_with_a_prune(alloc: Global) -> Result<Vec<Item>, AllocError> {
+    let mut items = said(alloc, 9)?;
+    items.push(piece(alloc, PRUNES)?)?;
+    push_rounds(&mut items, 10, 20)?;
+    Ok(items)
+}
+
 /// The ends of the rounds from one to another.
 fn push_rounds(items: &mut Vec<Item>, first: u64, last: u64) -> Result<(), AllocError> {
     for before in first..last {
@@ -314,13 +332,14 @@ pub fn says(alloc: Global) -> Result<Vec<Item>, AllocError> {
     Ok(items)
 }
 
-/// What the peer says to it where it has heartbeats in rounds 10 and 20: in each it offers what it published.
+/// What the peer says to it where it has heartbeats in rounds 10 and 20: the first grafts it, and behind its PRUNE the
+/// second offers it what was published.
 pub fn says_with_heartbeats(alloc: Global) -> Result<Vec<Item>, AllocError> {
     let mut items = Vec::new(alloc);
     items.push(piece(alloc, &SUBSCRIBES)?)?;
     push_rounds(&mut items, 0, 9)?;
     items.push(piece(alloc, PUBLISHES)?)?;
-    items.push(piece(alloc, OFFERS)?)?;
+    items.push(piece(alloc, GRAFTS)?)?;
     push_rounds(&mut items, 10, 19)?;
     items.push(piece(alloc, OFFERS)?)?;
     items.push(Item::Round(20))?;

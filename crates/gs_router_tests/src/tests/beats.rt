@@ -124,8 +124,23 @@ pub fn live(
         Deed::Shut => Event::Shut,
         said => return say(alloc, router, at, said, words),
     };
-    let answer = call(alloc, router, at, event, words)?;
+    let answer = call(alloc, router, at, &event, words)?;
     Ok(number_of(answer))
+}
+
+/// Whether a router does all of this at a moment.
+pub fn lives(
+    alloc: Global,
+    router: &mut Router,
+    at: u64,
+    deeds: &[Deed<'_>],
+) -> Result<bool, AllocError> {
+    for deed in deeds {
+        if live(alloc, router, at, *deed, &mut words(alloc))? != 0 {
+            return Ok(false);
+        }
+    }
+    Ok(true)
 }
 
 // ---- moment by moment
@@ -168,8 +183,8 @@ fn first_wrong_of(
     moments: &[Moment<'_>],
 ) -> Result<usize, AllocError> {
     let mut words = SeededWords::new(list.to_vec(alloc)?, 1, PeerNo(0));
-    let mut router = Router::new(alloc, checked(params)?, neighbours(alloc, count, &[])?)?;
-    first_wrong(alloc, &mut router, moments, &mut words)
+    let router = &mut router_of(alloc, params, count, &[])?;
+    first_wrong(alloc, router, moments, &mut words)
 }
 
 /// What a neighbour is beside its number.
@@ -223,6 +238,17 @@ pub fn neighbours(alloc: Global, count: u16, kinds: &[Kind]) -> Result<Vec<Neigh
         list.push(one)?;
     }
     Ok(list)
+}
+
+/// A router with these parameters and neighbours 1 to this number, the first ones of these kinds.
+pub fn router_of(
+    alloc: Global,
+    params: Params,
+    count: u16,
+    kinds: &[Kind],
+) -> Result<Router, AllocError> {
+    let neighbours = neighbours(alloc, count, kinds)?;
+    Router::new(alloc, checked(params)?, neighbours)
 }
 
 /// The same of a router with neighbours 1 and 2 and the parameters where nothing is said.
@@ -343,13 +369,21 @@ fn first_misread(
     Ok(readings.len())
 }
 
+/// How often heartbeats come in a router with such parameters, as it tells.
+fn heartbeat_of(alloc: Global, heartbeat_ms: u64) -> Result<u64, AllocError> {
+    let mut params = Params::new(alloc);
+    params.windows.heartbeat_ms = heartbeat_ms;
+    Ok(router_with(alloc, params)?.heartbeat_ms())
+}
+
 #[test]
 fn a_router_says_when_its_last_entry_was_and_who_is_up(rt: HostRuntime) -> Result<(), AllocError> {
     let alloc = rt.alloc();
-    let mut params = Params::new(alloc);
-    params.windows.heartbeat_ms = 700;
-    let mut router = router_with(alloc, params)?;
-    assert_eq!(rt; router.heartbeat_ms(), 700);
-    assert_eq!(rt; first_misread(alloc, &mut router, &READINGS)?, 7);
+    assert_eq!(rt; heartbeat_of(alloc, 700)?, 700);
+    let params = Params::new(alloc);
+    assert_eq!(rt;
+        first_misread(alloc, &mut router_with(alloc, params)?, &READINGS)?,
+        7
+    );
     Ok(())
 }

@@ -49,48 +49,58 @@ pub fn hear(
     Ok(router.hear(from, rpc, now, words))
 }
 
-/// Whether an event tells of what a router's user wishes of topics.
-fn is_wish(event: &Event) -> bool {
-    match event {
-        Event::Subscribe(_) | Event::Unsubscribe(_) | Event::Publish(_, _) => true,
-        _ => false,
-    }
-}
-
-/// Has a router do what its user wishes; an event of another kind is not there to be called.
+/// Has a router do what its user wishes of topics.
 fn wish(
     router: &mut Router,
-    event: Event,
+    event: &Event,
     now: Millis,
     words: &mut SeededWords,
 ) -> Result<Result<(), RouterFault>, AllocError>
     requires { last_moment router.old.trace ≤ now.0 }
 {
     match event {
-        Event::Subscribe(topic) => Ok(router.subscribe(topic, now, words)),
-        Event::Unsubscribe(topic) => Ok(router.unsubscribe(topic, now, words)),
-        Event::Publish(topic, payload) => Ok(router.publish(topic, payload, now, words)),
+        Event::Subscribe(topic) => Ok(router.subscribe(clone_of(topic)?, now, words)),
+        Event::Unsubscribe(topic) => Ok(router.unsubscribe(clone_of(topic)?, now, words)),
+        Event::Publish(topic, payload) => {
+            let topic = clone_of(topic)?;
+            let payload = payload.clone()?;
+            Ok(router.publish(topic, payload, now, words))
+        }
         _ => Err(AllocError),
     }
 }
 
-/// Has a router do what comes with time, or with the end of a link.
+/// Has a router do what comes with time.
 fn turn(
     router: &mut Router,
     event: &Event,
     now: Millis,
     words: &mut SeededWords,
-) -> Option<Result<(), RouterFault>>
+) -> Result<Result<(), RouterFault>, AllocError>
     requires { last_moment router.old.trace ≤ now.0 }
 {
     match event {
-        Event::Promises => Some(router.heartbeat(now, words)),
-        Event::Decay => Some(router.decay(now, words)),
-        Event::RoundEnd(round) => Some(router.end_round(*round, now, words)),
-        Event::Gone(peer) => Some(router.gone(*peer, now, words)),
-        Event::Fault(peer) => Some(router.fault(*peer, now, words)),
-        Event::Shut => Some(router.shut(now, words)),
-        _ => None,
+        Event::Promises => Ok(router.heartbeat(now, words)),
+        Event::Decay => Ok(router.decay(now, words)),
+        Event::RoundEnd(round) => Ok(router.end_round(*round, now, words)),
+        _ => Err(AllocError),
+    }
+}
+
+/// Has a router do what comes with the end of a link, or of its life.
+fn end(
+    router: &mut Router,
+    event: &Event,
+    now: Millis,
+    words: &mut SeededWords,
+) -> Result<Result<(), RouterFault>, AllocError>
+    requires { last_moment router.old.trace ≤ now.0 }
+{
+    match event {
+        Event::Gone(peer) => Ok(router.gone(*peer, now, words)),
+        Event::Fault(peer) => Ok(router.fault(*peer, now, words)),
+        Event::Shut => Ok(router.shut(now, words)),
+        _ => Err(AllocError),
     }
 }
 
@@ -100,23 +110,23 @@ pub fn call(
     alloc: Global,
     router: &mut Router,
     at: u64,
-    event: Event,
+    event: &Event,
     words: &mut SeededWords,
 ) -> Result<Result<(), RouterFault>, AllocError> {
     let now = Millis(at);
     if !is_due(router.trace(), now) {
         return Err(AllocError);
     }
-    if let Event::Heard(from, rpc) = &event {
-        return hear(alloc, router, *from, rpc.get(), now, words);
+    match event {
+        Event::Heard(from, rpc) | Event::Late(from, rpc) => {
+            hear(alloc, router, *from, rpc.get(), now, words)
+        }
+        Event::Subscribe(_) | Event::Unsubscribe(_) | Event::Publish(_, _) => {
+            wish(router, event, now, words)
+        }
+        Event::Gone(_) | Event::Fault(_) | Event::Shut => end(router, event, now, words),
+        _ => turn(router, event, now, words),
     }
-    if let Event::Late(from, rpc) = &event {
-        return hear(alloc, router, *from, rpc.get(), now, words);
-    }
-    if is_wish(&event) {
-        return wish(router, event, now, words);
-    }
-    turn(router, &event, now, words).ok_or(AllocError)
 }
 
 /// The number of a refusal; 0 where there is none.

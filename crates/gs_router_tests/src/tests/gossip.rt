@@ -97,7 +97,7 @@ pub fn tell(
         }
         Act::Request(from, ids) => heard(alloc, from, controlling(alloc, asking(alloc, ids)?))?,
     };
-    let answer = call(alloc, router, at, event, words)?;
+    let answer = call(alloc, router, at, &event, words)?;
     Ok(answer.is_ok())
 }
 
@@ -184,17 +184,26 @@ pub fn ends_with(router: &Router, then: Then<'_>) -> bool {
     }
 }
 
-/// The place of the first step that a router with these parameters takes otherwise; the number of steps where there
-/// is none. Its first word is 7.
-fn first_wrong(alloc: Global, params: Params, steps: &[Step<'_>]) -> Result<usize, AllocError> {
-    let mut router = router_with(alloc, params)?;
-    let mut words = SeededWords::new(vec![in alloc; 7]?, 1, PeerNo(0));
+/// The place of the first step that a router takes otherwise, which chooses by these words; the number of steps where
+/// there is none.
+fn first_wrong_of(
+    alloc: Global,
+    router: &mut Router,
+    steps: &[Step<'_>],
+    words: &mut SeededWords,
+) -> Result<usize, AllocError> {
     for (place, (at, act, then)) in steps.iter().enumerate() {
-        if !tell(alloc, &mut router, *at, *act, &mut words)? || !ends_with(&router, *then) {
+        if !tell(alloc, router, *at, *act, words)? || !ends_with(router, *then) {
             return Ok(place);
         }
     }
     Ok(steps.len())
+}
+
+/// The same of a router with these parameters, whose first word is 7.
+fn first_wrong(alloc: Global, params: Params, steps: &[Step<'_>]) -> Result<usize, AllocError> {
+    let mut words = SeededWords::new(vec![in alloc; 7]?, 1, PeerNo(0));
+    first_wrong_of(alloc, &mut router_with(alloc, params)?, steps, &mut words)
 }
 
 // ---- offers and requests

@@ -1,17 +1,17 @@
 //! What heartbeats do to meshes and fanouts.
 
 use crate::tests::beat_cases::Deed as LiveDeed;
-use crate::tests::beats::{Kind, live, neighbours};
+use crate::tests::beats::{Kind, lives, router_of};
 use crate::tests::gossip::topic_of;
 use crate::tests::mend_cases::{
     BEST, BETTER, BETTER_AT_SECOND, CHOICES, FANOUT, FANOUT_OF_ONE, FEW, FEW_OUTBOUND, MANY,
     MISSING_ALL, NEGATIVE, ONES,
 };
-use crate::tests::mesh_cases::{Deed, Said};
+use crate::tests::mesh_cases::{Deed, Said, Step};
 use crate::tests::meshes::{
     act, demanding, first_wrong, first_wrong_of, judging, sized, sized_without_flood,
 };
-use crate::tests::{checked, router_with, words};
+use crate::tests::{router_with, words};
 use gs_base::{PeerNo, Rpc, Shared};
 use gs_params::{Degrees, Params};
 use gs_router::Router;
@@ -104,20 +104,6 @@ fn hear_each(
     Ok(count)
 }
 
-/// A router that is subscribed, with neighbours 1 to this number, the first ones of these kinds.
-fn subscribed(
-    alloc: Global,
-    params: Params,
-    count: u16,
-    kinds: &[Kind],
-) -> Result<Router, AllocError> {
-    let mut router = Router::new(alloc, checked(params)?, neighbours(alloc, count, kinds)?)?;
-    if act(alloc, &mut router, 0, Deed::Join, &mut words(alloc))?.is_err() {
-        return Err(AllocError);
-    }
-    Ok(router)
-}
-
 /// Neighbours 1, 2 and 3 score 3, and 12 and 13 were dialled.
 static THIRTEEN: [Kind; 13] = [
     Kind::Praised,
@@ -135,13 +121,30 @@ static THIRTEEN: [Kind; 13] = [
     Kind::Dialled,
 ];
 
+/// How many members the mesh has.
+fn size(alloc: Global, router: &Router) -> Result<usize, AllocError> {
+    Ok(router.members(&topic_of(alloc, "a")?).len())
+}
+
+/// Has a router join, and then thirteen neighbours graft it; how many members its mesh has.
+fn size_by_grafts(alloc: Global, router: &mut Router) -> Result<usize, AllocError> {
+    if act(alloc, router, 0, Deed::Join, &mut words(alloc))?.is_err() {
+        return Ok(0);
+    }
+    hear_each(alloc, router, 1, 14, Said::Graft)?;
+    size(alloc, router)
+}
+
+/// Whether thirteen members are cut to the best, and to outbound ones.
+fn is_cut(alloc: Global, router: &mut Router) -> Result<bool, AllocError> {
+    Ok(size_by_grafts(alloc, router)? == 13 && first_wrong_of(alloc, router, &[], &BEST)? == 1)
+}
+
 #[test]
 fn a_cut_keeps_the_best_and_outbound_members(rt: HostRuntime) -> Result<(), AllocError> {
     let alloc = rt.alloc();
-    let mut router = subscribed(alloc, Params::new(alloc), 13, &THIRTEEN)?;
-    assert_eq!(rt; hear_each(alloc, &mut router, 1, 14, Said::Graft)?, 13);
-    assert_eq!(rt; router.members(&topic_of(alloc, "a")?).len(), 13);
-    assert_eq!(rt; first_wrong_of(alloc, &mut router, &[], &BEST)?, 1);
+    let params = Params::new(alloc);
+    assert!(rt; is_cut(alloc, &mut router_of(alloc, params, 13, &THIRTEEN)?)?);
     Ok(())
 }
 
@@ -154,28 +157,46 @@ static FOUR_AND_ONE: [Kind; 5] = [
     Kind::Praised,
 ];
 
-/// A router that looks for better members at every so many heartbeats: neighbours 1 to 6 are on its topic, 1 to 4 in the
-/// mesh.
+/// A router that looks for better members at every so many heartbeats, with neighbours 1 to 6.
 fn ambitious(alloc: Global, ticks: u64) -> Result<Router, AllocError> {
     let mut params = Params::new(alloc);
     params.windows.opportunistic_ticks = ticks;
-    let mut router = subscribed(alloc, params, 6, &FOUR_AND_ONE)?;
-    let on = hear_each(alloc, &mut router, 1, 7, Said::On)?;
-    let grafts = hear_each(alloc, &mut router, 1, 5, Said::Graft)?;
-    if (on, grafts) != (6, 4) {
-        return Err(AllocError);
+    router_of(alloc, params, 6, &FOUR_AND_ONE)
+}
+
+/// The place of the first step of which something else becomes, where all neighbours are on the router's topic, and 1 to 4
+/// in its mesh.
+fn first_unmended(
+    alloc: Global,
+    router: &mut Router,
+    steps: &[Step<'_>],
+) -> Result<usize, AllocError> {
+    if act(alloc, router, 0, Deed::Join, &mut words(alloc))?.is_err() {
+        return Ok(usize::MAX);
     }
-    Ok(router)
+    let on = hear_each(alloc, router, 1, 7, Said::On)?;
+    let grafts = hear_each(alloc, router, 1, 5, Said::Graft)?;
+    match (on, grafts) {
+        (6, 4) => first_wrong_of(alloc, router, &[], steps),
+        _ => Ok(usize::MAX),
+    }
 }
 
 #[test]
 fn a_poor_mesh_gets_a_better_member(rt: HostRuntime) -> Result<(), AllocError> {
     let alloc = rt.alloc();
-    let mut router = ambitious(alloc, 1)?;
-    assert_eq!(rt; first_wrong_of(alloc, &mut router, &[], &BETTER)?, 1);
-    let mut router = ambitious(alloc, 2)?;
     assert_eq!(rt;
-        first_wrong_of(alloc, &mut router, &[], &BETTER_AT_SECOND)?,
+        first_unmended(alloc, &mut ambitious(alloc, 1)?, &BETTER)?,
+        1
+    );
+    Ok(())
+}
+
+#[test]
+fn a_better_member_comes_at_every_so_many_heartbeats(rt: HostRuntime) -> Result<(), AllocError> {
+    let alloc = rt.alloc();
+    assert_eq!(rt;
+        first_unmended(alloc, &mut ambitious(alloc, 2)?, &BETTER_AT_SECOND)?,
         2
     );
     Ok(())
@@ -213,22 +234,27 @@ static CROWD: [LiveDeed<'static>; 4] = [
     LiveDeed::Beat,
 ];
 
+/// How many are in the mesh of a router in this crowd, and how many others are told.
+fn in_and_told(alloc: Global, router: &mut Router) -> Result<(usize, usize), AllocError> {
+    if !lives(alloc, router, 1_000, &CROWD)? {
+        return Ok((0, 0));
+    }
+    let topic = topic_of(alloc, "a")?;
+    let members = router.members(&topic);
+    Ok((
+        members.len(),
+        told_outside(router.trace().entries(), members),
+    ))
+}
+
 #[test]
 fn of_forty_neighbours_six_are_in_the_mesh_and_eight_are_told(
     rt: HostRuntime,
 ) -> Result<(), AllocError> {
     let alloc = rt.alloc();
-    let list = neighbours(alloc, 40, &[])?;
-    let mut router = Router::new(alloc, checked(Params::new(alloc))?, list)?;
-    for deed in &CROWD {
-        assert_eq!(rt;
-            live(alloc, &mut router, 1_000, *deed, &mut words(alloc))?,
-            0
-        );
-    }
-    let members = router.members(&topic_of(alloc, "a")?);
-    assert_eq!(rt; members.len(), 6);
-    assert_eq!(rt; told_outside(router.trace().entries(), members), 8);
+    let params = Params::new(alloc);
+    let found = in_and_told(alloc, &mut router_of(alloc, params, 40, &[])?)?;
+    assert!(rt; found == (6, 8));
     Ok(())
 }
 
@@ -262,22 +288,20 @@ fn are_mending(entries: &[Entry], wanted: &[(bool, &str)]) -> bool {
     entries.len() == wanted.len()
 }
 
+/// Whether a router mends three meshes and a fanout behind its first entries.
+fn mends_in_order(alloc: Global, router: &mut Router) -> Result<bool, AllocError> {
+    if !lives(alloc, router, 1_000, &TOPICS)? {
+        return Ok(false);
+    }
+    let wanted = [(true, "a"), (true, "b"), (true, "c"), (false, "aa")];
+    let entries = router.trace().entries().get(5..9).unwrap_or_default();
+    Ok(are_mending(entries, &wanted))
+}
+
 #[test]
 fn meshes_are_mended_in_order_and_then_fanouts(rt: HostRuntime) -> Result<(), AllocError> {
     let alloc = rt.alloc();
-    let mut router = router_with(alloc, sized_without_flood(alloc, 2))?;
-    for deed in &TOPICS {
-        assert_eq!(rt;
-            live(alloc, &mut router, 1_000, *deed, &mut words(alloc))?,
-            0
-        );
-    }
-    let wanted = [(true, "a"), (true, "b"), (true, "c"), (false, "aa")];
-    assert!(rt;
-        are_mending(
-            router.trace().entries().get(5..9).unwrap_or_default(),
-            &wanted
-        )
-    );
+    let params = sized_without_flood(alloc, 2);
+    assert!(rt; mends_in_order(alloc, &mut router_with(alloc, params)?)?);
     Ok(())
 }

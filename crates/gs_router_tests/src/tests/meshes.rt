@@ -1,7 +1,7 @@
 //! Meshes, fanouts and backoffs, moment by moment.
 
 use crate::tests::beat_cases::Deed as LiveDeed;
-use crate::tests::beats::{Kind, live, neighbours};
+use crate::tests::beats::{Kind, lives, router_of};
 use crate::tests::calls::call;
 use crate::tests::gossip::{heard, topic_of};
 use crate::tests::mesh_cases::{
@@ -10,7 +10,7 @@ use crate::tests::mesh_cases::{
 };
 use crate::tests::mesh_sights::{does, entry_of, has_members};
 use crate::tests::mesh_traffic::{CHARGED, FORWARDED, LOST, MISSING, PUBLISHED, Standing};
-use crate::tests::{checked, router_with, words};
+use crate::tests::{router_with, words};
 use bytes::Bytes;
 use gs_base::{Control, Graft, Millis, PeerNo, Prune, Rpc, Seq, Topic};
 use gs_params::{Degrees, Params, SeededWords, TopicParams};
@@ -92,7 +92,7 @@ pub fn act(
         Deed::Decay => Event::Decay,
         Deed::Beat => Event::Promises,
     };
-    call(alloc, router, at, event, words)
+    call(alloc, router, at, &event, words)
 }
 
 // ---- routers
@@ -100,8 +100,7 @@ pub fn act(
 /// A router with neighbours 1 to 4, of which 3 was dialled and 4 is distrusted, and these parameters.
 fn router_of_four(alloc: Global, params: Params) -> Result<Router, AllocError> {
     let kinds = &[Kind::Plain, Kind::Plain, Kind::Dialled, Kind::Distrusted];
-    let four = neighbours(alloc, 4, kinds)?;
-    Router::new(alloc, checked(params)?, four)
+    router_of(alloc, params, 4, kinds)
 }
 
 /// Parameters with meshes of so many members, and of at most so many.
@@ -172,8 +171,7 @@ pub fn first_wrong(
     list: &[u32],
     steps: &[Step<'_>],
 ) -> Result<usize, AllocError> {
-    let mut router = router_of_four(alloc, params)?;
-    first_wrong_of(alloc, &mut router, list, steps)
+    first_wrong_of(alloc, &mut router_of_four(alloc, params)?, list, steps)
 }
 
 /// The same of this router.
@@ -302,8 +300,11 @@ fn first_misjudged(
 #[test]
 fn what_is_missing_costs_in_the_mesh_and_behind_it(rt: HostRuntime) -> Result<(), AllocError> {
     let alloc = rt.alloc();
-    let mut router = router_of_four(alloc, demanding(alloc)?)?;
-    assert_eq!(rt; first_misjudged(alloc, &mut router, &MISSING)?, 8);
+    let params = demanding(alloc)?;
+    assert_eq!(rt;
+        first_misjudged(alloc, &mut router_of_four(alloc, params)?, &MISSING)?,
+        8
+    );
     Ok(())
 }
 
@@ -328,14 +329,19 @@ fn are(meshes: &[(Topic, PeerNo)], wanted: &[(&str, u16)]) -> bool {
     meshes.len() == wanted.len()
 }
 
+/// Whether a router tells of the members of `a`, and then of those of `b`, behind those joins.
+fn tells_meshes(alloc: Global, router: &mut Router) -> Result<bool, AllocError> {
+    if !lives(alloc, router, 0, &JOINS)? {
+        return Ok(false);
+    }
+    let meshes = router.meshes()?;
+    Ok(are(meshes.as_slice(), &[("a", 2), ("b", 1), ("b", 2)]))
+}
+
 #[test]
 fn a_router_tells_the_meshes_of_its_topics_in_order(rt: HostRuntime) -> Result<(), AllocError> {
     let alloc = rt.alloc();
-    let mut router = router_with(alloc, Params::new(alloc))?;
-    for deed in &JOINS {
-        assert_eq!(rt; live(alloc, &mut router, 0, *deed, &mut words(alloc))?, 0);
-    }
-    let meshes = router.meshes()?;
-    assert!(rt; are(meshes.as_slice(), &[("a", 2), ("b", 1), ("b", 2)]));
+    let params = Params::new(alloc);
+    assert!(rt; tells_meshes(alloc, &mut router_with(alloc, params)?)?);
     Ok(())
 }

@@ -124,8 +124,11 @@ fn neighbours_that_score_low_lose_one_thing_after_the_other(
     rt: HostRuntime,
 ) -> Result<(), AllocError> {
     let alloc = rt.alloc();
-    let mut router = router_with(alloc, params(alloc)?)?;
-    assert_eq!(rt; first_wrong(alloc, &mut router, &STANDINGS)?, 22);
+    let params = params(alloc)?;
+    assert_eq!(rt;
+        first_wrong(alloc, &mut router_with(alloc, params)?, &STANDINGS)?,
+        22
+    );
     Ok(())
 }
 
@@ -144,6 +147,12 @@ fn crowded(alloc: Global, number: u16) -> Result<Neighbour, AllocError>
     })
 }
 
+/// A router with three neighbours of one address.
+fn crowd(alloc: Global) -> Result<Router, AllocError> {
+    let neighbours = vec![in alloc; crowded(alloc, 1)?, crowded(alloc, 2)?, crowded(alloc, 3)?]?;
+    Router::new(alloc, checked(Params::new(alloc))?, neighbours)
+}
+
 /// Whether these are the scores of the neighbours with these numbers.
 fn are(scores: &[(PeerNo, i128)], wanted: &[(u16, i128)]) -> bool {
     for ((peer, score), (number, wanted)) in scores.iter().zip(wanted) {
@@ -154,6 +163,11 @@ fn are(scores: &[(PeerNo, i128)], wanted: &[(u16, i128)]) -> bool {
     scores.len() == wanted.len()
 }
 
+/// Whether a router tells these scores at a moment, all at once.
+fn tells(router: &Router, at: u64, wanted: &[(u16, i128)]) -> Result<bool, AllocError> {
+    Ok(are(router.scores(Millis(at))?.as_slice(), wanted))
+}
+
 /// Two neighbours more than may be at an address cost 4 times 5 each. One that is gone counts no more, and still scores
 /// what the others at its address make.
 static CROWDED: [Step<'static>; 3] = [
@@ -162,30 +176,30 @@ static CROWDED: [Step<'static>; 3] = [
     (2, Deed::Gone(3), 1, 0, [3_000_000, 3_000_000]),
 ];
 
+/// Whether each step becomes of a router, and then it tells the scores of all three.
+fn are_crowded(alloc: Global, router: &mut Router) -> Result<bool, AllocError> {
+    let wanted = [(1, 3_000_000), (2, 3_000_000), (3, 3_000_000)];
+    Ok(first_wrong(alloc, router, &CROWDED)? == CROWDED.len() && tells(router, 2, &wanted)?)
+}
+
 #[test]
 fn neighbours_count_at_their_address_until_they_are_gone(
     rt: HostRuntime,
 ) -> Result<(), AllocError> {
     let alloc = rt.alloc();
-    let neighbours = vec![in alloc; crowded(alloc, 1)?, crowded(alloc, 2)?, crowded(alloc, 3)?]?;
-    let mut router = Router::new(alloc, checked(Params::new(alloc))?, neighbours)?;
-    assert_eq!(rt; first_wrong(alloc, &mut router, &CROWDED)?, 3);
-    let scores = router.scores(Millis(2))?;
-    assert!(rt;
-        are(
-            scores.as_slice(),
-            &[(1, 3_000_000), (2, 3_000_000), (3, 3_000_000)]
-        )
-    );
+    assert!(rt; are_crowded(alloc, &mut crowd(alloc)?)?);
     Ok(())
+}
+
+/// How often counters decay in a router with such parameters, as it tells.
+fn decay_of(alloc: Global, decay_ms: u64) -> Result<u64, AllocError> {
+    let mut params = Params::new(alloc);
+    params.windows.decay_ms = decay_ms;
+    Ok(router_with(alloc, params)?.decay_ms())
 }
 
 #[test]
 fn a_router_tells_how_often_counters_decay(rt: HostRuntime) -> Result<(), AllocError> {
-    let alloc = rt.alloc();
-    let mut params = Params::new(alloc);
-    params.windows.decay_ms = 300;
-    let router = router_with(alloc, params)?;
-    assert_eq!(rt; router.decay_ms(), 300);
+    assert_eq!(rt; decay_of(rt.alloc(), 300)?, 300);
     Ok(())
 }

@@ -1,11 +1,11 @@
 //! What messages are found to be, and what is remembered of them.
-use crate::tests::calls::{hear, is_due};
+use crate::tests::calls::{call, hear, is_due};
 use crate::tests::{router_with, words};
 use bytes::Bytes;
 use gs_base::{Mark, Millis, PeerNo, Rpc, Seq, Topic, Verdict};
 use gs_params::{Params, TopicParams};
 use gs_router::Router;
-use gs_rules::Entry;
+use gs_rules::{Entry, Event};
 use gs_wire::decode;
 use std::alloc::{AllocError, Global};
 
@@ -108,27 +108,29 @@ fn told(alloc: Global, router: &mut Router, row: Row<'_>) -> Result<Outcome, All
     }
 }
 
-/// A router that has joined `a` and `b`.
-fn router(alloc: Global) -> Result<Router, AllocError> {
-    let mut router = router_with(alloc, params(alloc)?)?;
-    for name in ["a", "b"] {
-        let topic = topic_of(alloc, name)?;
-        if is_due(router.trace(), Millis(0)) {
-            drop(router.subscribe(topic, Millis(0), &mut words(alloc)));
-        }
-    }
-    Ok(router)
+/// Has a router join a topic.
+fn join(alloc: Global, router: &mut Router, name: &str) -> Result<bool, AllocError> {
+    let event = Event::Subscribe(topic_of(alloc, name)?);
+    Ok(call(alloc, router, 0, &event, &mut words(alloc))?.is_ok())
 }
 
-/// The place of the first message of which something else becomes; the number of messages where there is none.
-fn first_wrong(alloc: Global, rows: &[Row<'_>]) -> Result<usize, AllocError> {
-    let mut router = router(alloc)?;
+/// The place of the first message of which something else becomes, of a router that joins `a` and `b` first; the number
+/// of messages where there is none.
+fn first_wrong(alloc: Global, router: &mut Router, rows: &[Row<'_>]) -> Result<usize, AllocError> {
+    if !join(alloc, router, "a")? || !join(alloc, router, "b")? {
+        return Ok(usize::MAX);
+    }
     for (place, row) in rows.iter().enumerate() {
-        if told(alloc, &mut router, *row)? != row.4 {
+        if told(alloc, router, *row)? != row.4 {
             return Ok(place);
         }
     }
     Ok(rows.len())
+}
+
+/// A router with those parameters.
+fn router(alloc: Global) -> Result<Router, AllocError> {
+    router_with(alloc, params(alloc)?)
 }
 
 /// Bodies of RPCs from neighbour 1, and what becomes of the message in each: `abc` on `a`, with an origin that is there
@@ -154,11 +156,18 @@ fn read(alloc: Global, router: &mut Router, body: &[u8]) -> Result<Outcome, Allo
     }
 }
 
-/// The place of the first body of whose message something else becomes; the number of bodies where there is none.
-fn first_misread(alloc: Global, bodies: &[(&[u8], Outcome)]) -> Result<usize, AllocError> {
-    let mut router = router(alloc)?;
+/// The place of the first body of whose message something else becomes, of a router that joins `a` first; the number of
+/// bodies where there is none.
+fn first_misread(
+    alloc: Global,
+    router: &mut Router,
+    bodies: &[(&[u8], Outcome)],
+) -> Result<usize, AllocError> {
+    if !join(alloc, router, "a")? {
+        return Ok(usize::MAX);
+    }
     for (place, (body, outcome)) in bodies.iter().enumerate() {
-        if read(alloc, &mut router, body)? != *outcome {
+        if read(alloc, router, body)? != *outcome {
             return Ok(place);
         }
     }
@@ -169,39 +178,42 @@ fn first_misread(alloc: Global, bodies: &[(&[u8], Outcome)]) -> Result<usize, Al
 fn a_message_with_an_empty_origin_is_invalid_as_it_is_read(
     rt: HostRuntime,
 ) -> Result<(), AllocError> {
-    assert_eq!(rt; first_misread(rt.alloc(), &BODIES)?, 3);
+    let alloc = rt.alloc();
+    assert_eq!(rt; first_misread(alloc, &mut router(alloc)?, &BODIES)?, 3);
     Ok(())
 }
 
 #[test]
 fn a_payload_is_judged_by_the_prefixes_of_its_topic(rt: HostRuntime) -> Result<(), AllocError> {
-    assert_eq!(rt; first_wrong(rt.alloc(), &MESSAGES)?, 13);
+    let alloc = rt.alloc();
+    assert_eq!(rt; first_wrong(alloc, &mut router(alloc)?, &MESSAGES)?, 13);
     Ok(())
 }
 
-/// What a router publishes is accepted, whatever it begins with: it is delivered, and not judged when it comes back.
-fn accepts_its_own(alloc: Global) -> Result<bool, AllocError> {
-    let mut router = router(alloc)?;
-    if !is_due(router.trace(), Millis(0)) {
-        return Ok(false);
-    }
-    let topic = topic_of(alloc, "a")?;
-    let answer = router.publish(
-        topic,
-        bytes_of(alloc, &[0xff])?,
-        Millis(0),
-        &mut words(alloc),
-    );
-    let is_told = match router.trace().entries() {
-        [.., last] => last.delivered.len() == 1,
-        [] => false,
-    };
+/// How much a router delivers of what it publishes on `a`.
+fn published(alloc: Global, router: &mut Router, payload: &[u8]) -> Result<usize, AllocError> {
+    let event = Event::Publish(topic_of(alloc, "a")?, bytes_of(alloc, payload)?);
+    let answer = call(alloc, router, 0, &event, &mut words(alloc))?;
+    Ok(match (answer, router.trace().entries()) {
+        (Ok(()), [.., last]) => last.delivered.len(),
+        _ => 0,
+    })
+}
+
+/// Whether a router accepts what it publishes, whatever it begins with: it is delivered, and not judged when it comes
+/// back.
+fn accepts_its_own(alloc: Global, router: &mut Router) -> Result<bool, AllocError> {
     let back = (0, 1, "a", [0xff].as_slice(), Outcome::Dropped);
-    Ok(answer.is_ok() && is_told && told(alloc, &mut router, back)? == Outcome::Dropped)
+    Ok(
+        join(alloc, router, "a")?
+            && published(alloc, router, &[0xff])? == 1
+            && told(alloc, router, back)? == Outcome::Dropped,
+    )
 }
 
 #[test]
 fn what_a_router_publishes_is_not_judged(rt: HostRuntime) -> Result<(), AllocError> {
-    assert!(rt; accepts_its_own(rt.alloc())?);
+    let alloc = rt.alloc();
+    assert!(rt; accepts_its_own(alloc, &mut router(alloc)?)?);
     Ok(())
 }
