@@ -70,6 +70,25 @@ fn hears(
     Ok(if is_heard { 0 } else { u8::MAX })
 }
 
+/// What some neighbours say of a topic, and which ones, if it is of a topic alone.
+fn said_of(alloc: Global, deed: Deed<'_>) -> Result<Option<(Range<u16>, Rpc)>, AllocError> {
+    match deed {
+        Deed::On(first, end, name) => {
+            let rpc = Rpc::announcement(alloc, true, &topic_of(alloc, name)?)?;
+            Ok(Some((first..end, rpc)))
+        }
+        Deed::Off(first, end, name) => {
+            let rpc = Rpc::announcement(alloc, false, &topic_of(alloc, name)?)?;
+            Ok(Some((first..end, rpc)))
+        }
+        Deed::Bar(first, end, name) => {
+            let rpc = pruning(alloc, name, Some(3_600))?;
+            Ok(Some((first..end, rpc)))
+        }
+        _ => Ok(None),
+    }
+}
+
 /// Has neighbours say this to a router.
 fn say(
     alloc: Global,
@@ -87,19 +106,10 @@ fn say(
             hears(alloc, router, at, Act::Offer(from, "a", ids), words)
         }
         Deed::Request(from, ids) => hears(alloc, router, at, Act::Request(from, ids), words),
-        Deed::On(first, end, name) => {
-            let rpc = Rpc::announcement(alloc, true, &topic_of(alloc, name)?)?;
-            turn_each(alloc, router, at, first..end, &rpc)
-        }
-        Deed::Off(first, end, name) => {
-            let rpc = Rpc::announcement(alloc, false, &topic_of(alloc, name)?)?;
-            turn_each(alloc, router, at, first..end, &rpc)
-        }
-        Deed::Bar(first, end, name) => {
-            let rpc = pruning(alloc, name, Some(3_600))?;
-            turn_each(alloc, router, at, first..end, &rpc)
-        }
-        _ => Ok(u8::MAX),
+        of_a_topic => match said_of(alloc, of_a_topic)? {
+            Some((from, rpc)) => turn_each(alloc, router, at, from, &rpc),
+            None => Ok(u8::MAX),
+        },
     }
 }
 

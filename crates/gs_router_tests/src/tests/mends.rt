@@ -12,7 +12,7 @@ use crate::tests::meshes::{
     act, demanding, first_wrong, first_wrong_of, judging, sized, sized_without_flood,
 };
 use crate::tests::{router_with, words};
-use gs_base::{PeerNo, Rpc, Shared};
+use gs_base::{PeerNo, Rpc, Shared, Topic};
 use gs_params::{Degrees, Params};
 use gs_router::Router;
 use gs_rules::{Entry, Event};
@@ -234,17 +234,20 @@ static CROWD: [LiveDeed<'static>; 4] = [
     LiveDeed::Beat,
 ];
 
-/// How many are in the mesh of a router in this crowd, and how many others are told.
-fn in_and_told(alloc: Global, router: &mut Router) -> Result<(usize, usize), AllocError> {
-    if !lives(alloc, router, 1_000, &CROWD)? {
-        return Ok((0, 0));
-    }
+/// How many are in the mesh of a router's topic, and how many others were told.
+fn in_and_told(router: &Router, topic: &Topic) -> (usize, usize) {
+    let members = router.members(topic);
+    let told = told_outside(router.trace().entries(), members);
+    (members.len(), told)
+}
+
+/// The same of a router in this crowd.
+fn in_and_told_of(alloc: Global, router: &mut Router) -> Result<(usize, usize), AllocError> {
     let topic = topic_of(alloc, "a")?;
-    let members = router.members(&topic);
-    Ok((
-        members.len(),
-        told_outside(router.trace().entries(), members),
-    ))
+    Ok(match lives(alloc, router, 1_000, &CROWD)? {
+        true => in_and_told(router, &topic),
+        false => (0, 0),
+    })
 }
 
 #[test]
@@ -253,7 +256,7 @@ fn of_forty_neighbours_six_are_in_the_mesh_and_eight_are_told(
 ) -> Result<(), AllocError> {
     let alloc = rt.alloc();
     let params = Params::new(alloc);
-    let found = in_and_told(alloc, &mut router_of(alloc, params, 40, &[])?)?;
+    let found = in_and_told_of(alloc, &mut router_of(alloc, params, 40, &[])?)?;
     assert!(rt; found == (6, 8));
     Ok(())
 }
