@@ -15,7 +15,9 @@ use Rattle.gs_ends.specs.Ends.{Joint, has}
 use Rattle.gs_peer.specs.declared.assignment.Assignment.{Assignment}
 use Rattle.gs_peer.specs.declared.outboxes.Outboxes.{Outboxes}
 use Rattle.gs_peer.specs.declared.place.Place.TheVariants.{Closing}
+use Rattle.gs_peer.specs.declared.finished.Finished.{Finished}
 use Rattle.gs_peer.specs.declared.running.Running.{Running}
+use Rattle.gs_peer.specs.declared.running.Standing.{Standing}
 use Rattle.gs_peer.specs.Inboxes.{InboxView, is_full}
 use Rattle.gs_peer.specs.Kept.{BoxKept, Kept}
 use Rattle.gs_peer.specs.Life.{words_of}
@@ -85,3 +87,13 @@ pub record IsOver {G S : Type 0} (t : Running G S) : Type 0 where
   pub place : t.place ≡ Closing
   pub full : AllFull t.player.inboxes.items
   pub silent : AllSilent t.outboxes t.player.inboxes.items
+
+-- what is left of it, where its router stands so
+abbrev pub left_of : {G S : Type 0} → Running G S → Standing → Finished S
+left_of t standing = record {
+  trace = t.player.router.trace;
+  refused = t.player.refused.items;
+  meshes = standing.meshes;
+  scores = standing.scores;
+  ends = t.ends;
+}

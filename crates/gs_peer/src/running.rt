@@ -7,7 +7,8 @@ ghost use Rattle.gs_ends.specs.Ends.{GrewBy, has};
 ghost use Rattle.gs_peer.specs.declared.place.Place.TheVariants.{Playing};
 ghost use Rattle.gs_peer.specs.Inboxes.{is_full, new_inbox};
 ghost use Rattle.gs_peer.specs.Life.{IsLife};
-ghost use Rattle.gs_peer.specs.Running.{AllFull, AllSilent, Goes, IsFresh, IsKept, IsOver, MayBegin, TellsSince, seat_of};
+ghost use Rattle.gs_peer.specs.Outboxes.{is_open, waiting};
+ghost use Rattle.gs_peer.specs.Running.{AllFull, AllSilent, Goes, IsFresh, IsKept, IsOver, MayBegin, TellsSince, left_of, seat_of};
 
 use crate::assignment::Assignment;
 use crate::finished::Finished;
@@ -16,7 +17,7 @@ use crate::inbox::Inbox;
 use crate::outboxes::Outboxes;
 use crate::place::Place;
 use crate::player::Player;
-use gs_base::{Millis, PeerNo, Seq};
+use gs_base::{Millis, PeerNo, Seq, Topic};
 use gs_ends::Ends;
 use gs_params::SeededWords;
 use gs_router::Router;
@@ -41,6 +42,15 @@ pub struct Running<G: Gate, S: Ends> {
     ends: S,
 }
 
+/// How a router stands.
+#[derive(Drop)]
+pub struct Standing {
+    /// Who is in the meshes of its topics, by topic and number.
+    pub meshes: Seq<(Topic, PeerNo)>,
+    /// What each neighbour scores, by number, in millionths.
+    pub scores: Seq<(PeerNo, i128)>,
+}
+
 impl<G: Gate, S: Ends> Running<G, S> {
     /// A peer that has done nothing.
     ///
@@ -58,8 +68,7 @@ impl<G: Gate, S: Ends> Running<G, S> {
         ensures kept { IfOk result (λ t. IsKept S.joints S.accepted S.taken t) }
         ensures fresh { IfOk result (λ t. IsFresh assignment router words ends t) }
     {
-        let inboxes = inboxes_of(alloc, &assignment.neighbours)?;
-        let outboxes = Outboxes::new(alloc, &assignment.neighbours)?;
+        let Boxes { inboxes, outboxes } = boxes_of(alloc, &assignment.neighbours)?;
         let first = Snapshot::of(&words);
         Ok(Running {
             alloc,
@@ -217,39 +226,42 @@ impl<G: Gate, S: Ends> Running<G, S> {
         all_full(&self.player.inboxes) && all_silent(&self.outboxes, &self.player.inboxes)
     }
 
-    /// Hears what still came, and gives what is left of the life.
+    /// Hears what still came, and says how the router stands then.
     ///
     /// # Errors
     /// `AllocError` where there was no memory.
-    pub fn finish(self) -> Result<Finished<S>, AllocError>
-        requires kept { IsKept S.joints S.accepted S.taken self }
-        requires over { IsOver self }
-        ensures life { IfOk result (λ f. IsLife S.accepted S.taken (seat_of self) self.first.value f) }
-        ensures ends { IfOk result (λ f. f.ends ≡ self.ends) }
+    pub fn settle(&mut self) -> Result<Standing, AllocError>
+        requires kept { IsKept S.joints S.accepted S.taken self.old }
+        requires over { IsOver self.old }
+        ensures life { IfOk result (λ standing.
+            IsLife S.accepted S.taken (seat_of self.old) self.old.first.value (left_of self.new standing)) }
+        ensures ends { self.new.ends ≡ self.old.ends }
     {
-        let Running {
-            alloc,
-            assignment,
-            mut player,
-            ends,
-            ..
-        } = self;
-        let now = Millis(assignment.rounds * assignment.round_ms);
-        player.hear(alloc, now)?;
+        let now = Millis(self.assignment.rounds * self.assignment.round_ms);
+        self.player.hear(self.alloc, now)?;
+        let meshes = self.player.router.meshes()?;
+        let scores = self.player.router.scores(now)?;
+        Ok(Standing { meshes, scores })
+    }
+
+    /// What is left of the life, where the router stands so.
+    pub fn finish(self, standing: Standing) -> Finished<S>
+        ensures { result ≡ left_of self standing }
+    {
+        let Running { player, ends, .. } = self;
         let Player {
             router,
             refused,
             ..
         } = player;
-        let meshes = router.meshes()?;
-        let scores = router.scores(now)?;
-        Ok(Finished {
+        let Standing { meshes, scores } = standing;
+        Finished {
             trace: router.into_trace(),
             refused: Seq::from(refused),
             meshes,
             scores,
             ends,
-        })
+        }
     }
 }
 
@@ -268,15 +280,32 @@ fn tell_since(
     Ok(())
 }
 
+/// What a peer has for its neighbours.
+#[derive(Drop)]
+struct Boxes {
+    inboxes: Vec<Inbox>,
+    outboxes: Outboxes,
+}
+
+/// Boxes for these neighbours, of which nothing was taken, and in which nothing waits.
+fn boxes_of(alloc: Global, neighbours: &[PeerNo]) -> Result<Boxes, AllocError>
+    ensures inboxes { IfOk result (λ boxes. boxes.inboxes.items ≡ map new_inbox neighbours.now) }
+    ensures open { IfOk result (λ boxes. AllByRecursion (λ q. is_open boxes.outboxes q ≡ true) neighbours.now) }
+    ensures silent { IfOk result (λ boxes. (q : PeerNoValue) → waiting boxes.outboxes q ≡ []) }
+{
+    let inboxes = inboxes_of(alloc, neighbours)?;
+    let outboxes = Outboxes::new(alloc, neighbours)?;
+    Ok(Boxes { inboxes, outboxes })
+}
+
 /// An inbox for each of these neighbours, of which nothing was taken.
 fn inboxes_of(alloc: Global, neighbours: &[PeerNo]) -> Result<Vec<Inbox>, AllocError>
     ensures { IfOk result (λ inboxes. inboxes.items ≡ map new_inbox neighbours.now) }
 {
-    let mut inboxes = Vec::new(alloc);
-    for neighbour in neighbours {
-        inboxes.push(Inbox::new(alloc, *neighbour))?;
-    }
-    Ok(inboxes)
+    neighbours
+        .iter()
+        .map(move |neighbour| Inbox::new(alloc, *neighbour))
+        .collect(alloc)
 }
 
 /// Whether all is taken that is heard at a place. It looks first at the neighbour that was awaited

@@ -131,8 +131,9 @@ fn finish<G: Gate, S: Ends>(
     ensures life { IfOk result (λ f. IsLife S.accepted S.taken (seat_of running) running.first.value f) }
     ensures ends { IfOk result (λ f. f.ends ≡ running.ends) }
 {
-    match running.finish() {
-        Ok(finished) => Ok(finished),
+    let mut running = running;
+    match running.settle() {
+        Ok(standing) => Ok(running.finish(standing)),
         Err(_) => {
             stop.set();
             Err(PeerFault::NoMemory)

@@ -19,6 +19,7 @@ mod scores;
 mod sights;
 mod verdicts;
 
+use crate::tests::beats::router_of;
 use crate::tests::calls::{call, number_of};
 use crate::tests::cases::{
     Call, DUPLICATES, DUPLICATES_TRACE, FULL, JOINED, JOINED_TRACE, LISTENERS, LISTENERS_TRACE,
@@ -83,8 +84,7 @@ fn checked(params: Params) -> Result<Params, AllocError>
 
 /// A router with neighbours 1 and 2 and these parameters.
 fn router_with(alloc: Global, params: Params) -> Result<Router, AllocError> {
-    let neighbours = vec![in alloc; neighbour(alloc, 1)?, neighbour(alloc, 2)?]?;
-    Router::new(alloc, checked(params)?, neighbours)
+    router_of(alloc, params, 2, &[])
 }
 
 /// A router with neighbours 1 and 2 and the parameters where nothing is said.
@@ -198,11 +198,10 @@ fn a_neighbour_that_is_lost_is_not_sent_to_and_what_it_says_is_late(
 fn losing_twice(alloc: Global, router: &mut Router) -> Result<usize, AllocError> {
     let first = ask(alloc, router, 0, What::Gone(1))?;
     let second = ask(alloc, router, 0, What::Fault(1))?;
-    Ok(if (first, second) == (0, 0) {
-        router.trace().entries().len()
-    } else {
-        0
-    })
+    if first != 0 || second != 0 {
+        return Ok(0);
+    }
+    Ok(router.trace().entries().len())
 }
 
 #[test]
@@ -333,11 +332,10 @@ fn refuses_length_first(alloc: Global, router: &mut Router) -> Result<bool, Allo
 
 /// Whether a new router joins 1,024 topics, and then no other.
 fn is_full_with_1024(alloc: Global, router: &mut Router) -> Result<bool, AllocError> {
-    Ok(
-        joins_1024(alloc, router)?
-            && refuses_length_first(alloc, router)?
-            && answers(alloc, router, &FULL)?,
-    )
+    if !joins_1024(alloc, router)? || !refuses_length_first(alloc, router)? {
+        return Ok(false);
+    }
+    answers(alloc, router, &FULL)
 }
 
 #[test]

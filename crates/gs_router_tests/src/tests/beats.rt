@@ -258,7 +258,8 @@ pub fn router_of(
     kinds: &[Kind],
 ) -> Result<Router, AllocError> {
     let neighbours = neighbours(alloc, count, kinds)?;
-    Router::new(alloc, checked(params)?, neighbours)
+    let params = checked(params)?;
+    Router::new(alloc, params, neighbours)
 }
 
 /// The same of a router with neighbours 1 and 2 and the parameters where nothing is said.

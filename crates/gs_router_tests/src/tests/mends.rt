@@ -30,17 +30,16 @@ fn a_mesh_of_few_members_gets_candidates(rt: HostRuntime) -> Result<(), AllocErr
 #[test]
 fn who_scores_below_nothing_is_put_out(rt: HostRuntime) -> Result<(), AllocError> {
     let alloc = rt.alloc();
-    assert_eq!(rt; first_wrong(alloc, judging(alloc)?, &[], &NEGATIVE)?, 6);
+    let params = judging(alloc)?;
+    assert_eq!(rt; first_wrong(alloc, params, &[], &NEGATIVE)?, 6);
     Ok(())
 }
 
 #[test]
 fn who_brings_nothing_is_put_out_and_charged(rt: HostRuntime) -> Result<(), AllocError> {
     let alloc = rt.alloc();
-    assert_eq!(rt;
-        first_wrong(alloc, demanding(alloc)?, &[], &MISSING_ALL)?,
-        4
-    );
+    let params = demanding(alloc)?;
+    assert_eq!(rt; first_wrong(alloc, params, &[], &MISSING_ALL)?, 4);
     Ok(())
 }
 

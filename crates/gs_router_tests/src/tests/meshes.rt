@@ -262,7 +262,8 @@ fn what_is_published_goes_to_the_mesh_above_the_threshold(
     rt: HostRuntime,
 ) -> Result<(), AllocError> {
     let alloc = rt.alloc();
-    assert_eq!(rt; first_wrong(alloc, judging(alloc)?, &[], &PUBLISHED)?, 7);
+    let params = judging(alloc)?;
+    assert_eq!(rt; first_wrong(alloc, params, &[], &PUBLISHED)?, 7);
     Ok(())
 }
 
@@ -278,7 +279,8 @@ fn who_is_lost_leaves_the_mesh_and_is_told_nothing(rt: HostRuntime) -> Result<()
 #[test]
 fn a_prune_charges_what_is_missing(rt: HostRuntime) -> Result<(), AllocError> {
     let alloc = rt.alloc();
-    assert_eq!(rt; first_wrong(alloc, demanding(alloc)?, &[], &CHARGED)?, 5);
+    let params = demanding(alloc)?;
+    assert_eq!(rt; first_wrong(alloc, params, &[], &CHARGED)?, 5);
     Ok(())
 }
 

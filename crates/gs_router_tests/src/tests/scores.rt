@@ -150,7 +150,8 @@ fn crowded(alloc: Global, number: u16) -> Result<Neighbour, AllocError>
 /// A router with three neighbours of one address.
 fn crowd(alloc: Global) -> Result<Router, AllocError> {
     let neighbours = vec![in alloc; crowded(alloc, 1)?, crowded(alloc, 2)?, crowded(alloc, 3)?]?;
-    Router::new(alloc, checked(Params::new(alloc))?, neighbours)
+    let params = checked(Params::new(alloc))?;
+    Router::new(alloc, params, neighbours)
 }
 
 /// Whether these are the scores of the neighbours with these numbers.

@@ -130,7 +130,8 @@ fn first_wrong(alloc: Global, router: &mut Router, rows: &[Row<'_>]) -> Result<u
 
 /// A router with those parameters.
 fn router(alloc: Global) -> Result<Router, AllocError> {
-    router_with(alloc, params(alloc)?)
+    let params = params(alloc)?;
+    router_with(alloc, params)
 }
 
 /// Bodies of RPCs from neighbour 1, and what becomes of the message in each: `abc` on `a`, with an origin that is there
@@ -203,12 +204,11 @@ fn published(alloc: Global, router: &mut Router, payload: &[u8]) -> Result<usize
 /// Whether a router accepts what it publishes, whatever it begins with: it is delivered, and not judged when it comes
 /// back.
 fn accepts_its_own(alloc: Global, router: &mut Router) -> Result<bool, AllocError> {
+    if !join(alloc, router, "a")? || published(alloc, router, &[0xff])? != 1 {
+        return Ok(false);
+    }
     let back = (0, 1, "a", [0xff].as_slice(), Outcome::Dropped);
-    Ok(
-        join(alloc, router, "a")?
-            && published(alloc, router, &[0xff])? == 1
-            && told(alloc, router, back)? == Outcome::Dropped,
-    )
+    Ok(told(alloc, router, back)? == Outcome::Dropped)
 }
 
 #[test]
