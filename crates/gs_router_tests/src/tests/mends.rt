@@ -136,7 +136,10 @@ fn size_by_grafts(alloc: Global, router: &mut Router) -> Result<usize, AllocErro
 
 /// Whether thirteen members are cut to the best, and to outbound ones.
 fn is_cut(alloc: Global, router: &mut Router) -> Result<bool, AllocError> {
-    Ok(size_by_grafts(alloc, router)? == 13 && first_wrong_of(alloc, router, &[], &BEST)? == 1)
+    if size_by_grafts(alloc, router)? != 13 {
+        return Ok(false);
+    }
+    Ok(first_wrong_of(alloc, router, &[], &BEST)? == 1)
 }
 
 #[test]
