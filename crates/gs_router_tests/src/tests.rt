@@ -20,18 +20,18 @@ mod sights;
 mod verdicts;
 
 use crate::tests::beats::router_of;
-use crate::tests::calls::{call, number_of};
+use crate::tests::calls::{Cause, call, numbered, publish, subscribe, unsubscribe};
 use crate::tests::cases::{
     Call, DUPLICATES, DUPLICATES_TRACE, FULL, JOINED, JOINED_TRACE, LISTENERS, LISTENERS_TRACE,
     LOST, LOST_TRACE, PARTS, PARTS_TRACE, REFUSED, REFUSED_TRACE, SHUT, SHUT_TRACE, SIGNATURES,
     SIGNATURES_TRACE, TOPICS, TOPICS_TRACE,
 };
-use crate::tests::made::{Row, What, event_of, is_trace};
+use crate::tests::made::{Parts, Row, What, is_trace, rpc_of};
 use bytes::Bytes;
 use gs_base::{Neighbour, PeerNo};
 use gs_params::{Params, SeededWords, Words};
 use gs_router::{Router, RouterFault};
-use gs_rules::{Event, Refusal, Trace};
+use gs_rules::{Refusal, Trace};
 use std::alloc::{AllocError, Global};
 
 /// Words of which none is drawn.
@@ -39,11 +39,38 @@ fn words(alloc: Global) -> SeededWords {
     SeededWords::new(Vec::new(alloc), 1, PeerNo(0))
 }
 
+/// Has a router hear these parts of an RPC; the number with which it is refused, 0 where it isn't.
+fn hear_parts(
+    alloc: Global,
+    router: &mut Router,
+    at: u64,
+    from: u16,
+    parts: Parts<'_>,
+) -> Result<u8, AllocError> {
+    let rpc = rpc_of(alloc, parts)?;
+    let words = &mut words(alloc);
+    numbered(call(alloc, router, at, Cause::Heard(from, &rpc), words))
+}
+
 /// The number with which a call is refused; 0 where it isn't.
 fn ask(alloc: Global, router: &mut Router, at: u64, what: What<'_>) -> Result<u8, AllocError> {
-    let event = event_of(alloc, what)?;
-    let answer = call(alloc, router, at, &event, &mut words(alloc))?;
-    Ok(number_of(answer))
+    let words = &mut words(alloc);
+    match what {
+        What::Heard(from, parts) | What::Late(from, parts) => {
+            hear_parts(alloc, router, at, from, parts)
+        }
+        What::Subscribe(name) => numbered(subscribe(alloc, router, at, name, words)),
+        What::Unsubscribe(name) => numbered(unsubscribe(alloc, router, at, name, words)),
+        What::Publish(name, payload) => {
+            numbered(publish(alloc, router, at, name, payload, words))
+        }
+        What::Beat => numbered(call(alloc, router, at, Cause::Beat, words)),
+        What::RoundEnd(round) => numbered(call(alloc, router, at, Cause::RoundEnd(round), words)),
+        What::Gone(peer) => numbered(call(alloc, router, at, Cause::Gone(peer), words)),
+        What::Fault(peer) => numbered(call(alloc, router, at, Cause::Fault(peer), words)),
+        What::Shut => numbered(call(alloc, router, at, Cause::Shut, words)),
+        What::Sub(_, _) | What::Msg(_, _) => Err(AllocError),
+    }
 }
 
 /// Whether each call at its moment is answered by its number. A refused one adds no entry.
@@ -204,35 +231,39 @@ fn losing_twice(alloc: Global, router: &mut Router) -> Result<usize, AllocError>
     Ok(router.trace().entries().len())
 }
 
+/// The same of a new router.
+fn losing_twice_of(alloc: Global) -> Result<usize, AllocError> {
+    losing_twice(alloc, &mut router(alloc)?)
+}
+
 #[test]
 fn a_neighbour_is_lost_once(rt: HostRuntime) -> Result<(), AllocError> {
-    let alloc = rt.alloc();
-    assert_eq!(rt; losing_twice(alloc, &mut router(alloc)?)?, 1);
+    assert_eq!(rt; losing_twice_of(rt.alloc())?, 1);
     Ok(())
 }
 
-/// Whether a router that is new does this by words that it leaves as they were: the next one is the first that they had.
-fn leaves_its_words(
+/// The first word that is left where a router subscribes by these; 0 where it is refused.
+fn word_behind(
     alloc: Global,
     router: &mut Router,
-    event: &Event,
     words: &mut SeededWords,
-) -> Result<bool, AllocError> {
-    let is_done = call(alloc, router, 0, event, words)?.is_ok();
-    Ok(is_done && words.next_word() == 7)
+) -> Result<u32, AllocError> {
+    let answer = subscribe(alloc, router, 0, "a", words)?;
+    Ok(match answer {
+        Ok(()) => words.next_word(),
+        Err(_) => 0,
+    })
 }
 
-/// The same where it subscribes.
-fn subscribes_without_words(alloc: Global, router: &mut Router) -> Result<bool, AllocError> {
-    let event = event_of(alloc, What::Subscribe("a"))?;
+/// The same of a new router, where the first word is 7.
+fn word_left(alloc: Global) -> Result<u32, AllocError> {
     let mut words = SeededWords::new(vec![in alloc; 7]?, 1, PeerNo(0));
-    leaves_its_words(alloc, router, &event, &mut words)
+    word_behind(alloc, &mut router(alloc)?, &mut words)
 }
 
 #[test]
 fn a_call_that_chooses_nothing_draws_no_word(rt: HostRuntime) -> Result<(), AllocError> {
-    let alloc = rt.alloc();
-    assert!(rt; subscribes_without_words(alloc, &mut router(alloc)?)?);
+    assert_eq!(rt; word_left(rt.alloc())?, 7);
     Ok(())
 }
 
@@ -331,6 +362,11 @@ fn refuses_length_first(alloc: Global, router: &mut Router) -> Result<bool, Allo
 }
 
 /// Whether a new router joins 1,024 topics, and then no other.
+fn is_full_with_1024_of(alloc: Global) -> Result<bool, AllocError> {
+    is_full_with_1024(alloc, &mut router(alloc)?)
+}
+
+/// The same of this router.
 fn is_full_with_1024(alloc: Global, router: &mut Router) -> Result<bool, AllocError> {
     if !joins_1024(alloc, router)? || !refuses_length_first(alloc, router)? {
         return Ok(false);
@@ -340,8 +376,7 @@ fn is_full_with_1024(alloc: Global, router: &mut Router) -> Result<bool, AllocEr
 
 #[test]
 fn a_topic_counts_among_1024_even_after_it_was_left(rt: HostRuntime) -> Result<(), AllocError> {
-    let alloc = rt.alloc();
-    assert!(rt; is_full_with_1024(alloc, &mut router(alloc)?)?);
+    assert!(rt; is_full_with_1024_of(rt.alloc())?);
     Ok(())
 }
 

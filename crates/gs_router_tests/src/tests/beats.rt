@@ -10,7 +10,9 @@ use crate::tests::beat_cases::{
     IDENTIFIERS_ANEW, KEEPING, KEPT_PROMISES, Moment, OFFERS_ANEW, READINGS, Reading, SHUT_DOWN,
     Seen, TEN_PROMISES, TOPICS_IN_ORDER,
 };
-use crate::tests::calls::{call, hear, is_due, number_of};
+use crate::tests::calls::{
+    Cause, call, hear, is_due, number_of, numbered, publish, subscribe, unsubscribe,
+};
 use crate::tests::gossip::{tell, topic_of};
 use crate::tests::gossip_cases::{Act, Id};
 use crate::tests::meshes::pruning;
@@ -20,7 +22,6 @@ use bytes::Bytes;
 use gs_base::{Millis, Neighbour, PeerNo, Rpc, Seq};
 use gs_params::{Params, SeededWords, TopicParams};
 use gs_router::Router;
-use gs_rules::Event;
 use std::alloc::{AllocError, Global};
 use std::ops::Range;
 
@@ -121,21 +122,18 @@ pub fn live(
     deed: Deed<'_>,
     words: &mut SeededWords,
 ) -> Result<u8, AllocError> {
-    let event = match deed {
-        Deed::Join(name) => Event::Subscribe(topic_of(alloc, name)?),
-        Deed::Leave(name) => Event::Unsubscribe(topic_of(alloc, name)?),
+    match deed {
+        Deed::Join(name) => numbered(subscribe(alloc, router, at, name, words)),
+        Deed::Leave(name) => numbered(unsubscribe(alloc, router, at, name, words)),
         Deed::Publish(name, payload) => {
-            let payload = Bytes::copy_from_slice(alloc, &[payload])?;
-            Event::Publish(topic_of(alloc, name)?, payload)
+            numbered(publish(alloc, router, at, name, &[payload], words))
         }
-        Deed::Gone(peer) => Event::Gone(PeerNo(peer)),
-        Deed::Beat => Event::Promises,
-        Deed::Decay => Event::Decay,
-        Deed::Shut => Event::Shut,
-        said => return say(alloc, router, at, said, words),
-    };
-    let answer = call(alloc, router, at, &event, words)?;
-    Ok(number_of(answer))
+        Deed::Gone(peer) => numbered(call(alloc, router, at, Cause::Gone(peer), words)),
+        Deed::Beat => numbered(call(alloc, router, at, Cause::Beat, words)),
+        Deed::Decay => numbered(call(alloc, router, at, Cause::Decay, words)),
+        Deed::Shut => numbered(call(alloc, router, at, Cause::Shut, words)),
+        said => say(alloc, router, at, said, words),
+    }
 }
 
 /// Whether a router does all of this at a moment.
@@ -380,6 +378,12 @@ fn first_misread(
     Ok(readings.len())
 }
 
+/// The same of a router with neighbours 1 and 2 and the parameters where nothing is said.
+fn first_misread_of(alloc: Global, readings: &[Reading<'_>]) -> Result<usize, AllocError> {
+    let params = Params::new(alloc);
+    first_misread(alloc, &mut router_with(alloc, params)?, readings)
+}
+
 /// How often heartbeats come in a router with such parameters, as it tells.
 fn heartbeat_of(alloc: Global, heartbeat_ms: u64) -> Result<u64, AllocError> {
     let mut params = Params::new(alloc);
@@ -391,10 +395,6 @@ fn heartbeat_of(alloc: Global, heartbeat_ms: u64) -> Result<u64, AllocError> {
 fn a_router_says_when_its_last_entry_was_and_who_is_up(rt: HostRuntime) -> Result<(), AllocError> {
     let alloc = rt.alloc();
     assert_eq!(rt; heartbeat_of(alloc, 700)?, 700);
-    let params = Params::new(alloc);
-    assert_eq!(rt;
-        first_misread(alloc, &mut router_with(alloc, params)?, &READINGS)?,
-        7
-    );
+    assert_eq!(rt; first_misread_of(alloc, &READINGS)?, 7);
     Ok(())
 }

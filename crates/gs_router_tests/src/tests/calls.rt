@@ -1,12 +1,14 @@
-//! Calls of a router by the events that they are for.
+//! Calls of a router by what they are for.
 ghost use Rattle.std.specs.Prelude.{◌≡◌, ◌≤◌, true, IfOk};
 ghost use Rattle.gs_rules.specs.Tables.{last_moment};
 ghost use Rattle.gs_wire.specs.Codec.{codec};
 
-use gs_base::{Millis, PeerNo, Rpc, clone_of};
+use crate::tests::gossip::topic_of;
+use bytes::Bytes;
+use gs_base::{Millis, PeerNo, Rpc, Topic, clone_of};
 use gs_params::SeededWords;
 use gs_router::{Router, RouterFault};
-use gs_rules::{Event, Trace};
+use gs_rules::Trace;
 use gs_wire::{MAX_BODY, encode};
 use std::alloc::{AllocError, Global};
 
@@ -49,19 +51,34 @@ pub fn hear(
     Ok(router.hear(from, rpc, now, words))
 }
 
+/// What a router is called for.
+#[derive(Clone, Copy)]
+pub enum Cause<'a> {
+    Heard(u16, &'a Rpc),
+    Subscribe(&'a Topic),
+    Unsubscribe(&'a Topic),
+    Publish(&'a Topic, &'a Bytes),
+    Beat,
+    Decay,
+    RoundEnd(u64),
+    Gone(u16),
+    Fault(u16),
+    Shut,
+}
+
 /// Has a router do what its user wishes of topics.
 fn wish(
     router: &mut Router,
-    event: &Event,
+    cause: Cause<'_>,
     now: Millis,
     words: &mut SeededWords,
 ) -> Result<Result<(), RouterFault>, AllocError>
     requires { last_moment router.old.trace ≤ now.0 }
 {
-    match event {
-        Event::Subscribe(topic) => Ok(router.subscribe(clone_of(topic)?, now, words)),
-        Event::Unsubscribe(topic) => Ok(router.unsubscribe(clone_of(topic)?, now, words)),
-        Event::Publish(topic, payload) => {
+    match cause {
+        Cause::Subscribe(topic) => Ok(router.subscribe(clone_of(topic)?, now, words)),
+        Cause::Unsubscribe(topic) => Ok(router.unsubscribe(clone_of(topic)?, now, words)),
+        Cause::Publish(topic, payload) => {
             let topic = clone_of(topic)?;
             let payload = payload.clone()?;
             Ok(router.publish(topic, payload, now, words))
@@ -70,63 +87,83 @@ fn wish(
     }
 }
 
-/// Has a router do what comes with time.
+/// Has a router do what comes with time, or with the end of a link or of its life.
 fn turn(
     router: &mut Router,
-    event: &Event,
+    cause: Cause<'_>,
     now: Millis,
     words: &mut SeededWords,
 ) -> Result<Result<(), RouterFault>, AllocError>
     requires { last_moment router.old.trace ≤ now.0 }
 {
-    match event {
-        Event::Promises => Ok(router.heartbeat(now, words)),
-        Event::Decay => Ok(router.decay(now, words)),
-        Event::RoundEnd(round) => Ok(router.end_round(*round, now, words)),
+    match cause {
+        Cause::Beat => Ok(router.heartbeat(now, words)),
+        Cause::Decay => Ok(router.decay(now, words)),
+        Cause::RoundEnd(round) => Ok(router.end_round(round, now, words)),
+        Cause::Gone(peer) => Ok(router.gone(PeerNo(peer), now, words)),
+        Cause::Fault(peer) => Ok(router.fault(PeerNo(peer), now, words)),
+        Cause::Shut => Ok(router.shut(now, words)),
         _ => Err(AllocError),
     }
 }
 
-/// Has a router do what comes with the end of a link, or of its life.
-fn end(
-    router: &mut Router,
-    event: &Event,
-    now: Millis,
-    words: &mut SeededWords,
-) -> Result<Result<(), RouterFault>, AllocError>
-    requires { last_moment router.old.trace ≤ now.0 }
-{
-    match event {
-        Event::Gone(peer) => Ok(router.gone(*peer, now, words)),
-        Event::Fault(peer) => Ok(router.fault(*peer, now, words)),
-        Event::Shut => Ok(router.shut(now, words)),
-        _ => Err(AllocError),
-    }
-}
-
-/// Has a router do what an event tells of, by these words. With a moment that is past, or an event that no call is for,
-/// the test fails.
+/// Has a router do this, by these words. With a moment that is past the test fails.
 pub fn call(
     alloc: Global,
     router: &mut Router,
     at: u64,
-    event: &Event,
+    cause: Cause<'_>,
     words: &mut SeededWords,
 ) -> Result<Result<(), RouterFault>, AllocError> {
     let now = Millis(at);
     if !is_due(router.trace(), now) {
         return Err(AllocError);
     }
-    match event {
-        Event::Heard(from, rpc) | Event::Late(from, rpc) => {
-            hear(alloc, router, *from, rpc.get(), now, words)
+    match cause {
+        Cause::Heard(from, rpc) => hear(alloc, router, PeerNo(from), rpc, now, words),
+        Cause::Subscribe(_) | Cause::Unsubscribe(_) | Cause::Publish(_, _) => {
+            wish(router, cause, now, words)
         }
-        Event::Subscribe(_) | Event::Unsubscribe(_) | Event::Publish(_, _) => {
-            wish(router, event, now, words)
-        }
-        Event::Gone(_) | Event::Fault(_) | Event::Shut => end(router, event, now, words),
-        _ => turn(router, event, now, words),
+        _ => turn(router, cause, now, words),
     }
+}
+
+/// Has a router subscribe to a topic.
+pub fn subscribe(
+    alloc: Global,
+    router: &mut Router,
+    at: u64,
+    name: &str,
+    words: &mut SeededWords,
+) -> Result<Result<(), RouterFault>, AllocError> {
+    let topic = topic_of(alloc, name)?;
+    call(alloc, router, at, Cause::Subscribe(&topic), words)
+}
+
+/// Has a router leave a topic.
+pub fn unsubscribe(
+    alloc: Global,
+    router: &mut Router,
+    at: u64,
+    name: &str,
+    words: &mut SeededWords,
+) -> Result<Result<(), RouterFault>, AllocError> {
+    let topic = topic_of(alloc, name)?;
+    call(alloc, router, at, Cause::Unsubscribe(&topic), words)
+}
+
+/// Has a router publish this.
+pub fn publish(
+    alloc: Global,
+    router: &mut Router,
+    at: u64,
+    name: &str,
+    payload: &[u8],
+    words: &mut SeededWords,
+) -> Result<Result<(), RouterFault>, AllocError> {
+    let topic = topic_of(alloc, name)?;
+    let payload = Bytes::copy_from_slice(alloc, payload)?;
+    call(alloc, router, at, Cause::Publish(&topic, &payload), words)
 }
 
 /// The number of a refusal; 0 where there is none.
@@ -135,4 +172,9 @@ pub fn number_of(answer: Result<(), RouterFault>) -> u8 {
         Ok(()) => 0,
         Err(fault) => fault.number(),
     }
+}
+
+/// The number with which a call was refused.
+pub fn numbered(answer: Result<Result<(), RouterFault>, AllocError>) -> Result<u8, AllocError> {
+    Ok(number_of(answer?))
 }

@@ -1,14 +1,12 @@
 //! Offers and requests: what a router with neighbours 1 and 2 asks for, promises and sends, act by act.
 
-use crate::tests::calls::call;
+use crate::tests::calls::{Cause, call, subscribe};
 use crate::tests::gossip_cases::{
     Act, BUDGET, CHOICE, Id, OFFERS, REQUESTS, SPENT, Step, Then, WANTED,
 };
 use crate::tests::router_with;
 use bytes::Bytes;
-use gs_base::{
-    Control, IHave, IWant, Mark, Message, Millis, MsgId, PeerNo, Rpc, Seq, Shared, Topic,
-};
+use gs_base::{Control, IHave, IWant, Mark, Millis, MsgId, PeerNo, Rpc, Seq, Topic};
 use gs_params::{Params, SeededWords};
 use gs_router::Router;
 use gs_rules::{Entry, Event};
@@ -76,9 +74,37 @@ fn publishing(alloc: Global, payload: u8) -> Result<Rpc, AllocError> {
     )
 }
 
-/// What comes to a router with an RPC.
-pub fn heard(alloc: Global, from: u16, rpc: Rpc) -> Result<Event, AllocError> {
-    Ok(Event::Heard(PeerNo(from), Shared::new(alloc, rpc)?))
+/// What a neighbour says, and which one, if one does.
+fn heard_of(alloc: Global, act: Act<'_>) -> Result<Option<(u16, Rpc)>, AllocError> {
+    match act {
+        Act::Join(_) => Ok(None),
+        Act::Message(from, payload) => Ok(Some((from, publishing(alloc, payload)?))),
+        Act::Offer(from, name, ids) => {
+            let offer = offering(alloc, name, ids)?;
+            Ok(Some((from, controlling(alloc, offer))))
+        }
+        Act::Request(from, ids) => {
+            let request = asking(alloc, ids)?;
+            Ok(Some((from, controlling(alloc, request))))
+        }
+    }
+}
+
+/// Has a router hear what a neighbour says; whether it did.
+fn hears(
+    alloc: Global,
+    router: &mut Router,
+    at: u64,
+    act: Act<'_>,
+    words: &mut SeededWords,
+) -> Result<bool, AllocError> {
+    match heard_of(alloc, act)? {
+        Some((from, rpc)) => {
+            let answer = call(alloc, router, at, Cause::Heard(from, &rpc), words)?;
+            Ok(answer.is_ok())
+        }
+        None => Ok(false),
+    }
 }
 
 /// Tells a router this, which chooses by these words; whether it did as it was told.
@@ -89,16 +115,10 @@ pub fn tell(
     act: Act<'_>,
     words: &mut SeededWords,
 ) -> Result<bool, AllocError> {
-    let event = match act {
-        Act::Join(name) => Event::Subscribe(topic_of(alloc, name)?),
-        Act::Message(from, payload) => heard(alloc, from, publishing(alloc, payload)?)?,
-        Act::Offer(from, name, ids) => {
-            heard(alloc, from, controlling(alloc, offering(alloc, name, ids)?))?
-        }
-        Act::Request(from, ids) => heard(alloc, from, controlling(alloc, asking(alloc, ids)?))?,
-    };
-    let answer = call(alloc, router, at, &event, words)?;
-    Ok(answer.is_ok())
+    match act {
+        Act::Join(name) => Ok(subscribe(alloc, router, at, name, words)?.is_ok()),
+        said => hears(alloc, router, at, said, words),
+    }
 }
 
 // ---- what comes of it

@@ -89,7 +89,7 @@ fn message_of(alloc: Global, told: Told<'_>) -> Result<Message, AllocError> {
     Ok(message)
 }
 
-fn rpc_of(alloc: Global, parts: Parts<'_>) -> Result<Rpc, AllocError> {
+pub fn rpc_of(alloc: Global, parts: Parts<'_>) -> Result<Rpc, AllocError> {
     let mut rpc = Rpc {
         subs: Seq::new(alloc),
         publish: Seq::new(alloc),
@@ -104,7 +104,7 @@ fn rpc_of(alloc: Global, parts: Parts<'_>) -> Result<Rpc, AllocError> {
     Ok(rpc)
 }
 
-pub fn event_of(alloc: Global, what: What<'_>) -> Result<Event, AllocError> {
+fn event_of(alloc: Global, what: What<'_>) -> Result<Event, AllocError> {
     Ok(match what {
         What::Heard(from, parts) => Event::Heard(
             PeerNo(from),
@@ -181,27 +181,57 @@ fn marks_of(alloc: Global, mark: Option<Left<'_>>) -> Result<Seq<Mark>, AllocErr
     Ok(marks)
 }
 
-fn entry_of(alloc: Global, row: &Row<'_>) -> Result<Entry, AllocError> {
+fn is_event(alloc: Global, event: &Event, what: What<'_>) -> Result<bool, AllocError> {
+    let wanted = event_of(alloc, what)?;
+    Ok(*event == wanted)
+}
+
+fn are_sends(
+    alloc: Global,
+    sends: &Seq<(PeerNo, Shared<Rpc>)>,
+    wanted: Sends<'_>,
+) -> Result<bool, AllocError> {
+    let wanted = sends_of(alloc, wanted.0, wanted.1)?;
+    Ok(*sends == wanted)
+}
+
+fn is_delivered(
+    alloc: Global,
+    delivered: &Seq<(Topic, Bytes)>,
+    wanted: Option<(&str, &[u8])>,
+) -> Result<bool, AllocError> {
+    let wanted = delivered_of(alloc, wanted)?;
+    Ok(*delivered == wanted)
+}
+
+fn are_marks(
+    alloc: Global,
+    marks: &Seq<Mark>,
+    wanted: Option<Left<'_>>,
+) -> Result<bool, AllocError> {
+    let wanted = marks_of(alloc, wanted)?;
+    Ok(*marks == wanted)
+}
+
+/// Whether an entry is that of the row.
+fn is_entry(alloc: Global, entry: &Entry, row: &Row<'_>) -> Result<bool, AllocError> {
     let (at, what, sends, delivered, mark) = *row;
-    let event = event_of(alloc, what)?;
-    let sends = sends_of(alloc, sends.0, sends.1)?;
-    let delivered = delivered_of(alloc, delivered)?;
-    let marks = marks_of(alloc, mark)?;
-    Ok(Entry {
-        at: Millis(at),
-        event,
-        sends,
-        delivered,
-        promise: None,
-        marks,
-    })
+    if entry.at != Millis(at) || entry.promise.is_some() {
+        return Ok(false);
+    }
+    if !is_event(alloc, &entry.event, what)? || !are_sends(alloc, &entry.sends, sends)? {
+        return Ok(false);
+    }
+    if !is_delivered(alloc, &entry.delivered, delivered)? {
+        return Ok(false);
+    }
+    are_marks(alloc, &entry.marks, mark)
 }
 
 /// Whether this is the trace, from the first entry to the last.
 pub fn is_trace(alloc: Global, trace: &Trace, rows: &[Row<'_>]) -> Result<bool, AllocError> {
     for (entry, row) in trace.entries().iter().zip(rows) {
-        let wanted = entry_of(alloc, row)?;
-        if *entry != wanted {
+        if !is_entry(alloc, entry, row)? {
             return Ok(false);
         }
     }

@@ -142,11 +142,15 @@ fn is_cut(alloc: Global, router: &mut Router) -> Result<bool, AllocError> {
     Ok(first_wrong_of(alloc, router, &[], &BEST)? == 1)
 }
 
+/// The same of a new router with those thirteen.
+fn is_cut_of(alloc: Global) -> Result<bool, AllocError> {
+    let params = Params::new(alloc);
+    is_cut(alloc, &mut router_of(alloc, params, 13, &THIRTEEN)?)
+}
+
 #[test]
 fn a_cut_keeps_the_best_and_outbound_members(rt: HostRuntime) -> Result<(), AllocError> {
-    let alloc = rt.alloc();
-    let params = Params::new(alloc);
-    assert!(rt; is_cut(alloc, &mut router_of(alloc, params, 13, &THIRTEEN)?)?);
+    assert!(rt; is_cut_of(rt.alloc())?);
     Ok(())
 }
 
@@ -184,23 +188,20 @@ fn first_unmended(
     }
 }
 
+/// The same of a router that looks for better members at every so many heartbeats.
+fn first_unmended_of(alloc: Global, ticks: u64, steps: &[Step<'_>]) -> Result<usize, AllocError> {
+    first_unmended(alloc, &mut ambitious(alloc, ticks)?, steps)
+}
+
 #[test]
 fn a_poor_mesh_gets_a_better_member(rt: HostRuntime) -> Result<(), AllocError> {
-    let alloc = rt.alloc();
-    assert_eq!(rt;
-        first_unmended(alloc, &mut ambitious(alloc, 1)?, &BETTER)?,
-        1
-    );
+    assert_eq!(rt; first_unmended_of(rt.alloc(), 1, &BETTER)?, 1);
     Ok(())
 }
 
 #[test]
 fn a_better_member_comes_at_every_so_many_heartbeats(rt: HostRuntime) -> Result<(), AllocError> {
-    let alloc = rt.alloc();
-    assert_eq!(rt;
-        first_unmended(alloc, &mut ambitious(alloc, 2)?, &BETTER_AT_SECOND)?,
-        2
-    );
+    assert_eq!(rt; first_unmended_of(rt.alloc(), 2, &BETTER_AT_SECOND)?, 2);
     Ok(())
 }
 
@@ -252,14 +253,18 @@ fn in_and_told_of(alloc: Global, router: &mut Router) -> Result<(usize, usize), 
     })
 }
 
+/// Whether six of forty are in the mesh of a router, and eight others are told.
+fn tells_eight(alloc: Global) -> Result<bool, AllocError> {
+    let params = Params::new(alloc);
+    let (members, told) = in_and_told_of(alloc, &mut router_of(alloc, params, 40, &[])?)?;
+    Ok(members == 6 && told == 8)
+}
+
 #[test]
 fn of_forty_neighbours_six_are_in_the_mesh_and_eight_are_told(
     rt: HostRuntime,
 ) -> Result<(), AllocError> {
-    let alloc = rt.alloc();
-    let params = Params::new(alloc);
-    let found = in_and_told_of(alloc, &mut router_of(alloc, params, 40, &[])?)?;
-    assert!(rt; found == (6, 8));
+    assert!(rt; tells_eight(rt.alloc())?);
     Ok(())
 }
 
@@ -303,10 +308,14 @@ fn mends_in_order(alloc: Global, router: &mut Router) -> Result<bool, AllocError
     Ok(are_mending(entries, &wanted))
 }
 
+/// The same of a new router without flood publishing.
+fn mends_in_order_of(alloc: Global) -> Result<bool, AllocError> {
+    let params = sized_without_flood(alloc, 2);
+    mends_in_order(alloc, &mut router_with(alloc, params)?)
+}
+
 #[test]
 fn meshes_are_mended_in_order_and_then_fanouts(rt: HostRuntime) -> Result<(), AllocError> {
-    let alloc = rt.alloc();
-    let params = sized_without_flood(alloc, 2);
-    assert!(rt; mends_in_order(alloc, &mut router_with(alloc, params)?)?);
+    assert!(rt; mends_in_order_of(rt.alloc())?);
     Ok(())
 }

@@ -2,8 +2,8 @@
 
 use crate::tests::beat_cases::Deed as LiveDeed;
 use crate::tests::beats::{Kind, lives, router_of};
-use crate::tests::calls::call;
-use crate::tests::gossip::{heard, topic_of};
+use crate::tests::calls::{Cause, call, publish, subscribe, unsubscribe};
+use crate::tests::gossip::topic_of;
 use crate::tests::mesh_cases::{
     ANSWERS, BACKOFF, BARRED, CHOICES, CHOSEN, Deed, FANNED, FANNED_AND_GONE, LEAVING, PRUNES,
     Said, Step,
@@ -15,7 +15,6 @@ use bytes::Bytes;
 use gs_base::{Control, Graft, Millis, PeerNo, Prune, Rpc, Seq, Topic};
 use gs_params::{Degrees, Params, SeededWords, TopicParams};
 use gs_router::{Router, RouterFault};
-use gs_rules::Event;
 use std::alloc::{AllocError, Global};
 
 // ---- what is done
@@ -71,6 +70,19 @@ fn rpc_of(alloc: Global, said: Said) -> Result<Rpc, AllocError> {
     }
 }
 
+/// Has a router hear this.
+fn say(
+    alloc: Global,
+    router: &mut Router,
+    at: u64,
+    from: u16,
+    said: Said,
+    words: &mut SeededWords,
+) -> Result<Result<(), RouterFault>, AllocError> {
+    let rpc = rpc_of(alloc, said)?;
+    call(alloc, router, at, Cause::Heard(from, &rpc), words)
+}
+
 /// Has a router do this, by these words.
 pub fn act(
     alloc: Global,
@@ -79,20 +91,16 @@ pub fn act(
     deed: Deed,
     words: &mut SeededWords,
 ) -> Result<Result<(), RouterFault>, AllocError> {
-    let event = match deed {
-        Deed::Join => Event::Subscribe(topic_of(alloc, "a")?),
-        Deed::Leave => Event::Unsubscribe(topic_of(alloc, "a")?),
-        Deed::Publish(payload) => {
-            let payload = Bytes::copy_from_slice(alloc, &[payload])?;
-            Event::Publish(topic_of(alloc, "a")?, payload)
-        }
-        Deed::Hear(from, said) => heard(alloc, from, rpc_of(alloc, said)?)?,
-        Deed::Gone(peer) => Event::Gone(PeerNo(peer)),
-        Deed::Fault(peer) => Event::Fault(PeerNo(peer)),
-        Deed::Decay => Event::Decay,
-        Deed::Beat => Event::Promises,
-    };
-    call(alloc, router, at, &event, words)
+    match deed {
+        Deed::Join => subscribe(alloc, router, at, "a", words),
+        Deed::Leave => unsubscribe(alloc, router, at, "a", words),
+        Deed::Publish(payload) => publish(alloc, router, at, "a", &[payload], words),
+        Deed::Hear(from, said) => say(alloc, router, at, from, said, words),
+        Deed::Gone(peer) => call(alloc, router, at, Cause::Gone(peer), words),
+        Deed::Fault(peer) => call(alloc, router, at, Cause::Fault(peer), words),
+        Deed::Decay => call(alloc, router, at, Cause::Decay, words),
+        Deed::Beat => call(alloc, router, at, Cause::Beat, words),
+    }
 }
 
 // ---- routers
@@ -299,14 +307,15 @@ fn first_misjudged(
     Ok(steps.len())
 }
 
+/// The same of a router whose topic is demanding.
+fn first_misjudged_of(alloc: Global, steps: &[Standing]) -> Result<usize, AllocError> {
+    let params = demanding(alloc)?;
+    first_misjudged(alloc, &mut router_of_four(alloc, params)?, steps)
+}
+
 #[test]
 fn what_is_missing_costs_in_the_mesh_and_behind_it(rt: HostRuntime) -> Result<(), AllocError> {
-    let alloc = rt.alloc();
-    let params = demanding(alloc)?;
-    assert_eq!(rt;
-        first_misjudged(alloc, &mut router_of_four(alloc, params)?, &MISSING)?,
-        8
-    );
+    assert_eq!(rt; first_misjudged_of(rt.alloc(), &MISSING)?, 8);
     Ok(())
 }
 
@@ -340,10 +349,14 @@ fn tells_meshes(alloc: Global, router: &mut Router) -> Result<bool, AllocError> 
     Ok(are(meshes.as_slice(), &[("a", 2), ("b", 1), ("b", 2)]))
 }
 
+/// The same of a new router.
+fn tells_meshes_of(alloc: Global) -> Result<bool, AllocError> {
+    let params = Params::new(alloc);
+    tells_meshes(alloc, &mut router_with(alloc, params)?)
+}
+
 #[test]
 fn a_router_tells_the_meshes_of_its_topics_in_order(rt: HostRuntime) -> Result<(), AllocError> {
-    let alloc = rt.alloc();
-    let params = Params::new(alloc);
-    assert!(rt; tells_meshes(alloc, &mut router_with(alloc, params)?)?);
+    assert!(rt; tells_meshes_of(rt.alloc())?);
     Ok(())
 }

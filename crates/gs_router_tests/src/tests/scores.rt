@@ -119,16 +119,17 @@ fn first_wrong(
     Ok(steps.len())
 }
 
+/// The same of a router with those parameters.
+fn first_wrong_of(alloc: Global, steps: &[Step<'_>]) -> Result<usize, AllocError> {
+    let params = params(alloc)?;
+    first_wrong(alloc, &mut router_with(alloc, params)?, steps)
+}
+
 #[test]
 fn neighbours_that_score_low_lose_one_thing_after_the_other(
     rt: HostRuntime,
 ) -> Result<(), AllocError> {
-    let alloc = rt.alloc();
-    let params = params(alloc)?;
-    assert_eq!(rt;
-        first_wrong(alloc, &mut router_with(alloc, params)?, &STANDINGS)?,
-        22
-    );
+    assert_eq!(rt; first_wrong_of(rt.alloc(), &STANDINGS)?, 22);
     Ok(())
 }
 
@@ -183,12 +184,16 @@ fn are_crowded(alloc: Global, router: &mut Router) -> Result<bool, AllocError> {
     Ok(first_wrong(alloc, router, &CROWDED)? == CROWDED.len() && tells(router, 2, &wanted)?)
 }
 
+/// The same of a new router.
+fn are_crowded_of(alloc: Global) -> Result<bool, AllocError> {
+    are_crowded(alloc, &mut crowd(alloc)?)
+}
+
 #[test]
 fn neighbours_count_at_their_address_until_they_are_gone(
     rt: HostRuntime,
 ) -> Result<(), AllocError> {
-    let alloc = rt.alloc();
-    assert!(rt; are_crowded(alloc, &mut crowd(alloc)?)?);
+    assert!(rt; are_crowded_of(rt.alloc())?);
     Ok(())
 }
 

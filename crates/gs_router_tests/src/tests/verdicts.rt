@@ -1,11 +1,11 @@
 //! What messages are found to be, and what is remembered of them.
-use crate::tests::calls::{call, hear, is_due};
+use crate::tests::calls::{hear, is_due, publish, subscribe};
 use crate::tests::{router_with, words};
 use bytes::Bytes;
 use gs_base::{Mark, Millis, PeerNo, Rpc, Seq, Topic, Verdict};
 use gs_params::{Params, TopicParams};
 use gs_router::Router;
-use gs_rules::{Entry, Event};
+use gs_rules::Entry;
 use gs_wire::decode;
 use std::alloc::{AllocError, Global};
 
@@ -110,8 +110,7 @@ fn told(alloc: Global, router: &mut Router, row: Row<'_>) -> Result<Outcome, All
 
 /// Has a router join a topic.
 fn join(alloc: Global, router: &mut Router, name: &str) -> Result<bool, AllocError> {
-    let event = Event::Subscribe(topic_of(alloc, name)?);
-    Ok(call(alloc, router, 0, &event, &mut words(alloc))?.is_ok())
+    Ok(subscribe(alloc, router, 0, name, &mut words(alloc))?.is_ok())
 }
 
 /// The place of the first message of which something else becomes, of a router that joins `a` and `b` first; the number
@@ -175,26 +174,33 @@ fn first_misread(
     Ok(bodies.len())
 }
 
+/// The same of a new router.
+fn first_misread_of(alloc: Global, bodies: &[(&[u8], Outcome)]) -> Result<usize, AllocError> {
+    first_misread(alloc, &mut router(alloc)?, bodies)
+}
+
 #[test]
 fn a_message_with_an_empty_origin_is_invalid_as_it_is_read(
     rt: HostRuntime,
 ) -> Result<(), AllocError> {
-    let alloc = rt.alloc();
-    assert_eq!(rt; first_misread(alloc, &mut router(alloc)?, &BODIES)?, 3);
+    assert_eq!(rt; first_misread_of(rt.alloc(), &BODIES)?, 3);
     Ok(())
+}
+
+/// The place of the first message of which something else becomes, of a new router.
+fn first_wrong_of(alloc: Global, rows: &[Row<'_>]) -> Result<usize, AllocError> {
+    first_wrong(alloc, &mut router(alloc)?, rows)
 }
 
 #[test]
 fn a_payload_is_judged_by_the_prefixes_of_its_topic(rt: HostRuntime) -> Result<(), AllocError> {
-    let alloc = rt.alloc();
-    assert_eq!(rt; first_wrong(alloc, &mut router(alloc)?, &MESSAGES)?, 13);
+    assert_eq!(rt; first_wrong_of(rt.alloc(), &MESSAGES)?, 13);
     Ok(())
 }
 
 /// How much a router delivers of what it publishes on `a`.
 fn published(alloc: Global, router: &mut Router, payload: &[u8]) -> Result<usize, AllocError> {
-    let event = Event::Publish(topic_of(alloc, "a")?, bytes_of(alloc, payload)?);
-    let answer = call(alloc, router, 0, &event, &mut words(alloc))?;
+    let answer = publish(alloc, router, 0, "a", payload, &mut words(alloc))?;
     Ok(match (answer, router.trace().entries()) {
         (Ok(()), [.., last]) => last.delivered.len(),
         _ => 0,
@@ -211,9 +217,13 @@ fn accepts_its_own(alloc: Global, router: &mut Router) -> Result<bool, AllocErro
     Ok(told(alloc, router, back)? == Outcome::Dropped)
 }
 
+/// The same of a new router.
+fn accepts_its_own_of(alloc: Global) -> Result<bool, AllocError> {
+    accepts_its_own(alloc, &mut router(alloc)?)
+}
+
 #[test]
 fn what_a_router_publishes_is_not_judged(rt: HostRuntime) -> Result<(), AllocError> {
-    let alloc = rt.alloc();
-    assert!(rt; accepts_its_own(alloc, &mut router(alloc)?)?);
+    assert!(rt; accepts_its_own_of(rt.alloc())?);
     Ok(())
 }
