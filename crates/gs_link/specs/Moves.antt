@@ -16,7 +16,8 @@ account sends takes accepted taken = record { sends = sends; takes = takes; acce
 -- one may take, and it has the list of what was taken
 abbrev pub Fits : ℕ → ℕ → List Slot → List Slot → ℕ → Account → Type 0
 Fits sender taker accepted taken pass v =
-    (v.sends ≡ true → (pass ≡ sender) × (v.accepted ≡ accepted)) × (v.takes ≡ true → (pass ≡ taker) × (v.taken ≡ taken))
+    (v.sends ≡ true → (pass ≡ sender) × (v.accepted ≡ accepted))
+    × (v.takes ≡ true → (pass ≡ taker) × (v.taken ≡ taken))
 
 -- what the passes say is a run of the link, with what waits in its queue
 abbrev pub InOrder : List Slot → List Account → Type 0

@@ -10,7 +10,8 @@ use Rattle.gs_params.specs.declared.params.Params.{Params}
 use Rattle.gs_params.specs.declared.topic_params.TopicFactors.{TopicFactors}
 use Rattle.gs_params.specs.declared.topic_params.TopicWindows.{TopicWindows}
 use Rattle.gs_params.specs.declared.topic_params.TopicParams.{TopicParams}
-pub use Rattle.gs_params.specs.Checks.{checked, heaviest, highest_cap, in_range, int_in_range, longest_backoff, longest_time, number_of}
+pub use Rattle.gs_params.specs.Checks.{checked, heaviest, highest_cap, in_range, int_in_range}
+pub use Rattle.gs_params.specs.Checks.{longest_backoff, longest_time, number_of}
 
 -- ---- where nothing else is said
 

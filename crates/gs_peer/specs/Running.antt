@@ -17,7 +17,7 @@ use Rattle.gs_peer.specs.declared.outboxes.Outboxes.{Outboxes}
 use Rattle.gs_peer.specs.declared.place.Place.TheVariants.{Closing}
 use Rattle.gs_peer.specs.declared.finished.Finished.{Finished}
 use Rattle.gs_peer.specs.declared.running.Running.{Running}
-use Rattle.gs_peer.specs.declared.running.Standing.{Standing}
+use Rattle.gs_peer.specs.declared.finished.FinalState.{FinalState}
 use Rattle.gs_peer.specs.Inboxes.{InboxView, is_full}
 use Rattle.gs_peer.specs.Kept.{BoxKept, Kept}
 use Rattle.gs_peer.specs.Life.{words_of}
@@ -89,11 +89,11 @@ pub record IsOver {G S : Type 0} (t : Running G S) : Type 0 where
   pub silent : AllSilent t.outboxes t.player.inboxes.items
 
 -- what is left of it, where its router stands so
-abbrev pub left_of : {G S : Type 0} → Running G S → Standing → Finished S
-left_of t standing = record {
+abbrev pub left_of : {G S : Type 0} → Running G S → FinalState → Finished S
+left_of t state = record {
   trace = t.player.router.trace;
   refused = t.player.refused.items;
-  meshes = standing.meshes;
-  scores = standing.scores;
+  meshes = state.meshes;
+  scores = state.scores;
   ends = t.ends;
 }

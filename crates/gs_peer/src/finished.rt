@@ -20,6 +20,15 @@ pub struct Finished<S: Drop> {
     pub ends: S,
 }
 
+/// How a router stands when all is done.
+#[derive(Drop)]
+pub struct FinalState {
+    /// Who is in the meshes of its topics, by topic and number.
+    pub meshes: Seq<(Topic, PeerNo)>,
+    /// What each neighbour scores, by number, in millionths.
+    pub scores: Seq<(PeerNo, i128)>,
+}
+
 /// Why a task gives no life.
 #[derive(Clone, Copy, Debug, PartialEq, Eq, thiserror::Error)]
 pub enum PeerFault {

@@ -3,6 +3,7 @@
 
 mod agenda;
 mod assignment;
+mod boxes;
 mod calls;
 mod finished;
 mod frames;

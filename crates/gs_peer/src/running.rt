@@ -1,17 +1,15 @@
 //! A peer's life, step by step.
-ghost use Rattle.std.specs.Prelude.{◌≡◌, ◌<◌, ◌≤◌, ◌*◌, ◌^◌, [], true, length, map, IfOk, OnOk};
-ghost use Rattle.std.specs.List.{AllByRecursion};
+ghost use Rattle.std.specs.Prelude.{◌≡◌, ◌<◌, ◌≤◌, ◌*◌, ◌^◌, true, length, IfOk, OnOk};
 ghost use Rattle.gs_base.specs.declared.names.PeerNo.{PeerNo as PeerNoValue};
 ghost use Rattle.gs_rules.specs.Legal.{Legal};
 ghost use Rattle.gs_ends.specs.Ends.{GrewBy, has};
 ghost use Rattle.gs_peer.specs.declared.place.Place.TheVariants.{Playing};
-ghost use Rattle.gs_peer.specs.Inboxes.{is_full, new_inbox};
 ghost use Rattle.gs_peer.specs.Life.{IsLife};
-ghost use Rattle.gs_peer.specs.Outboxes.{is_open, waiting};
 ghost use Rattle.gs_peer.specs.Running.{AllFull, AllSilent, Goes, IsFresh, IsKept, IsOver, MayBegin, TellsSince, left_of, seat_of};
 
 use crate::assignment::Assignment;
-use crate::finished::Finished;
+use crate::boxes::{Boxes, boxes_of};
+use crate::finished::{FinalState, Finished};
 use crate::gate::Gate;
 use crate::inbox::Inbox;
 use crate::outboxes::Outboxes;
@@ -40,15 +38,6 @@ pub struct Running<G: Gate, S: Ends> {
     /// Of which neighbour it was seen last that not all is taken that is heard of it.
     awaited: usize,
     ends: S,
-}
-
-/// How a router stands.
-#[derive(Drop)]
-pub struct Standing {
-    /// Who is in the meshes of its topics, by topic and number.
-    pub meshes: Seq<(Topic, PeerNo)>,
-    /// What each neighbour scores, by number, in millionths.
-    pub scores: Seq<(PeerNo, i128)>,
 }
 
 impl<G: Gate, S: Ends> Running<G, S> {
@@ -230,23 +219,23 @@ impl<G: Gate, S: Ends> Running<G, S> {
     ///
     /// # Errors
     /// `AllocError` where there was no memory.
-    pub fn settle(&mut self) -> Result<Standing, AllocError>
+    pub fn settle(&mut self) -> Result<FinalState, AllocError>
         requires kept { IsKept S.joints S.accepted S.taken self.old }
         requires over { IsOver self.old }
-        ensures life { IfOk result (λ standing.
-            IsLife S.accepted S.taken (seat_of self.old) self.old.first.value (left_of self.new standing)) }
+        ensures life { IfOk result (λ state.
+            IsLife S.accepted S.taken (seat_of self.old) self.old.first.value (left_of self.new state)) }
         ensures ends { self.new.ends ≡ self.old.ends }
     {
         let now = Millis(self.assignment.rounds * self.assignment.round_ms);
         self.player.hear(self.alloc, now)?;
         let meshes = self.player.router.meshes()?;
         let scores = self.player.router.scores(now)?;
-        Ok(Standing { meshes, scores })
+        Ok(FinalState { meshes, scores })
     }
 
     /// What is left of the life, where the router stands so.
-    pub fn finish(self, standing: Standing) -> Finished<S>
-        ensures { result ≡ left_of self standing }
+    pub fn finish(self, state: FinalState) -> Finished<S>
+        ensures { result ≡ left_of self state }
     {
         let Running { player, ends, .. } = self;
         let Player {
@@ -254,7 +243,7 @@ impl<G: Gate, S: Ends> Running<G, S> {
             refused,
             ..
         } = player;
-        let Standing { meshes, scores } = standing;
+        let FinalState { meshes, scores } = state;
         Finished {
             trace: router.into_trace(),
             refused: Seq::from(refused),
@@ -278,34 +267,6 @@ fn tell_since(
 {
     outboxes.tell_all(alloc, &router.trace().entries()[told..])?;
     Ok(())
-}
-
-/// What a peer has for its neighbours.
-#[derive(Drop)]
-struct Boxes {
-    inboxes: Vec<Inbox>,
-    outboxes: Outboxes,
-}
-
-/// Boxes for these neighbours, of which nothing was taken, and in which nothing waits.
-fn boxes_of(alloc: Global, neighbours: &[PeerNo]) -> Result<Boxes, AllocError>
-    ensures inboxes { IfOk result (λ boxes. boxes.inboxes.items ≡ map new_inbox neighbours.now) }
-    ensures open { IfOk result (λ boxes. AllByRecursion (λ q. is_open boxes.outboxes q ≡ true) neighbours.now) }
-    ensures silent { IfOk result (λ boxes. (q : PeerNoValue) → waiting boxes.outboxes q ≡ []) }
-{
-    let inboxes = inboxes_of(alloc, neighbours)?;
-    let outboxes = Outboxes::new(alloc, neighbours)?;
-    Ok(Boxes { inboxes, outboxes })
-}
-
-/// An inbox for each of these neighbours, of which nothing was taken.
-fn inboxes_of(alloc: Global, neighbours: &[PeerNo]) -> Result<Vec<Inbox>, AllocError>
-    ensures { IfOk result (λ inboxes. inboxes.items ≡ map new_inbox neighbours.now) }
-{
-    neighbours
-        .iter()
-        .map(move |neighbour| Inbox::new(alloc, *neighbour))
-        .collect(alloc)
 }
 
 /// Whether all is taken that is heard at a place. It looks first at the neighbour that was awaited

@@ -133,7 +133,7 @@ fn finish<G: Gate, S: Ends>(
 {
     let mut running = running;
     match running.settle() {
-        Ok(standing) => Ok(running.finish(standing)),
+        Ok(state) => Ok(running.finish(state)),
         Err(_) => {
             stop.set();
             Err(PeerFault::NoMemory)

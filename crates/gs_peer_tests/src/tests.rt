@@ -4,14 +4,15 @@ ghost use Rattle.gs_ends.specs.Ends.{has};
 ghost use Rattle.gs_ends.specs.Pairs.{joints_of};
 
 mod gates;
+mod items;
 mod made;
 mod over_links;
 mod streams;
 
-use crate::tests::made::{
-    AtMost, ONE, Step, lists, made, said, said_with_a_prune, says, says_with_heartbeats, script,
-    script_with_heartbeats, task, task_in,
+use crate::tests::items::{
+    said, said_with_a_prune, says, says_with_heartbeats, script, script_with_heartbeats,
 };
+use crate::tests::made::{AtMost, ONE, Step, lists, made, task, task_in};
 use futures::executor::block_on;
 use gs_base::{Millis, PeerNo};
 use gs_ends::ListEnds;

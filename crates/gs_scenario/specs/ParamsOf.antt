@@ -63,7 +63,8 @@ abbrev pub d_lazy_key : Key ℕ
 d_lazy_key = count_key (codes "d_lazy") default_degrees.d_lazy
 
 abbrev pub degree_names : List (List ℕ)
-degree_names = d_key.name ∷ d_low_key.name ∷ d_high_key.name ∷ d_score_key.name ∷ d_out_key.name ∷ d_lazy_key.name ∷ []
+degree_names =
+    d_key.name ∷ d_low_key.name ∷ d_high_key.name ∷ d_score_key.name ∷ d_out_key.name ∷ d_lazy_key.name ∷ []
 
 unfoldable pub degrees_in : Section → Result Degrees ScenarioFault
 degrees_in section = do

@@ -168,7 +168,9 @@ fn raise_at(
         then raised_standing rules.now kind by tick (standing_in standings.old.entries topic.now)
         else standing_in standings.old.entries t)) }
     ensures number { length standings.new.entries
-        ≤ (if has_topic standings.old.entries topic.now then length standings.old.entries else length standings.old.entries + 1) }
+        ≤ (if has_topic standings.old.entries topic.now
+        then length standings.old.entries
+        else length standings.old.entries + 1) }
     ensures adds { OnOk result (AddsTopic standings.old.entries standings.new.entries topic.now) }
     ensures unchanged { OnErr result (standings.new.entries ≡ standings.old.entries) }
     ensures succeeds { has_topic standings.old.entries topic.now ≡ true → IsOk result }
@@ -199,7 +201,9 @@ fn graft_at(
         then grafted now (standing_in standings.old.entries topic.now)
         else standing_in standings.old.entries t)) }
     ensures number { length standings.new.entries
-        ≤ (if has_topic standings.old.entries topic.now then length standings.old.entries else length standings.old.entries + 1) }
+        ≤ (if has_topic standings.old.entries topic.now
+        then length standings.old.entries
+        else length standings.old.entries + 1) }
     ensures adds { OnOk result (AddsTopic standings.old.entries standings.new.entries topic.now) }
     ensures unchanged { OnErr result (standings.new.entries ≡ standings.old.entries) }
     ensures succeeds { has_topic standings.old.entries topic.now ≡ true → IsOk result }

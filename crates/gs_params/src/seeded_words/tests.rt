@@ -21,7 +21,8 @@ const STREAM: PeerNo = PeerNo(54);
 /// The same, of the definitions alone, behind a list of two words.
 #[tactic(auto, unfolding(crate::specs::Picks::next_words))]
 fn the_definitions_give_the_reference_words()
-    ensures { next_words seeded_word seeded_after 8 (new_seeded (7 ∷ 9 ∷ []) 42 STREAM) ≡ 7 ∷ 9 ∷ 0xa15c02b7 ∷ 0x7b47f409 ∷ 0xba1d3330 ∷ 0x83d2f293 ∷ 0xbfa4784b ∷ 0xcbed606e ∷ [] }
+    ensures { next_words seeded_word seeded_after 8 (new_seeded (7 ∷ 9 ∷ []) 42 STREAM)
+        ≡ 7 ∷ 9 ∷ 0xa15c02b7 ∷ 0x7b47f409 ∷ 0xba1d3330 ∷ 0x83d2f293 ∷ 0xbfa4784b ∷ 0xcbed606e ∷ [] }
 {}
 
 /// Whether these are the next words.

@@ -1,5 +1,6 @@
 //! A gate that a task passes at each round.
-use crate::tests::made::{ONE, lists, said, script, task_in};
+use crate::tests::items::{said, script};
+use crate::tests::made::{ONE, lists, task_in};
 use futures::executor::block_on;
 use gs_peer::{Gate, StopFlag, Surroundings};
 use std::sync::Arc;

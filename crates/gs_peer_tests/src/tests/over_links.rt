@@ -4,7 +4,8 @@ ghost use Rattle.gs_link.specs.Items.{IsCapacity};
 ghost use Rattle.gs_ends.specs.Pairs.{accepted_for, joints_of, taken_from};
 ghost use Rattle.gs_peer.specs.Task.{CanPoll};
 
-use crate::tests::made::{ONE, Pair, Step, TWO, links, made, script, task};
+use crate::tests::items::script;
+use crate::tests::made::{ONE, Pair, Step, TWO, links, made, task};
 use futures::executor::block_on;
 use futures::future::join;
 use gs_ends::LinkEnds;

@@ -1,5 +1,6 @@
 //! Streams that a peer hears over lists: whole, malformed, closed within a frame, and a byte at a time.
-use crate::tests::made::{ONE, SUBSCRIBES, Step, cut, lists, long_frame, made, task};
+use crate::tests::items::{SUBSCRIBES, cut, long_frame};
+use crate::tests::made::{ONE, Step, lists, made, task};
 use futures::executor::block_on;
 use std::alloc::AllocGlobal;
 use std::io;

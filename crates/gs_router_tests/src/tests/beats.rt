@@ -1,5 +1,4 @@
 //! Heartbeats: which promises are broken, what is kept, and who is told what, moment by moment.
-
 ghost use Rattle.std.specs.Prelude.{◌≡◌, ◌≤◌, ◌^◌, unsigned_abs, All, IfOk};
 ghost use Rattle.gs_base.specs.Names.{peers_of};
 ghost use Rattle.gs_base.specs.declared.neighbour.Neighbour.{Neighbour as NeighbourValue};
@@ -13,8 +12,9 @@ use crate::tests::beat_cases::{
 use crate::tests::calls::{
     Cause, call, hear, is_due, number_of, numbered, publish, subscribe, unsubscribe,
 };
-use crate::tests::gossip::{tell, topic_of};
+use crate::tests::gossip::tell;
 use crate::tests::gossip_cases::{Act, Id};
+use crate::tests::made::topic_of;
 use crate::tests::meshes::pruning;
 use crate::tests::sights::is_seen;
 use crate::tests::{checked, neighbour, router_with, words};

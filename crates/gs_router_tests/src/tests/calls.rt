@@ -3,7 +3,7 @@ ghost use Rattle.std.specs.Prelude.{◌≡◌, ◌≤◌, true, IfOk};
 ghost use Rattle.gs_rules.specs.Tables.{last_moment};
 ghost use Rattle.gs_wire.specs.Codec.{codec};
 
-use crate::tests::gossip::topic_of;
+use crate::tests::made::topic_of;
 use bytes::Bytes;
 use gs_base::{Millis, PeerNo, Rpc, Topic, clone_of};
 use gs_params::SeededWords;

@@ -4,6 +4,7 @@ use crate::tests::calls::{Cause, call, subscribe};
 use crate::tests::gossip_cases::{
     Act, BUDGET, CHOICE, Id, OFFERS, REQUESTS, SPENT, Step, Then, WANTED,
 };
+use crate::tests::made::topic_of;
 use crate::tests::router_with;
 use bytes::Bytes;
 use gs_base::{Control, IHave, IWant, Mark, Millis, MsgId, PeerNo, Rpc, Seq, Topic};
@@ -27,10 +28,6 @@ fn ids_of(alloc: Global, ids: &[Id]) -> Result<Seq<Bytes>, AllocError> {
         list.push(bytes_of(alloc, *id)?)?;
     }
     Ok(list)
-}
-
-pub fn topic_of(alloc: Global, name: &str) -> Result<Topic, AllocError> {
-    Ok(Topic(Bytes::copy_from_slice(alloc, name.as_bytes())?))
 }
 
 fn offering(alloc: Global, name: &str, ids: &[Id]) -> Result<Control, AllocError> {

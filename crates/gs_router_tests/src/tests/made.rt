@@ -48,7 +48,7 @@ pub type Row<'a> = (
     Option<Left<'a>>,
 );
 
-fn topic_of(alloc: Global, name: &str) -> Result<Topic, AllocError> {
+pub fn topic_of(alloc: Global, name: &str) -> Result<Topic, AllocError> {
     Ok(Topic(Bytes::copy_from_slice(alloc, name.as_bytes())?))
 }
 

@@ -215,6 +215,15 @@ pub static FANOUT: [Step<'static>; 11] = [
     (61_000, Deed::Beat, &[], &[], &[]),
 ];
 
+/// Member 3 scores 60 below nothing, and may be published to from 50 below on: neighbour 1 comes in its place.
+pub static FALLEN: [Step<'static>; 1] = [(
+    1_000,
+    Deed::Beat,
+    &[],
+    &[Left::Unfanned(3), Left::Fanned(1)],
+    &[],
+)];
+
 /// Of 1, 2 and 3 the first two change places, and of 1 and 3 both.
 pub static ONES: [u32; 2] = [1, 1];
 

@@ -2,18 +2,21 @@
 
 use crate::tests::beat_cases::Deed as LiveDeed;
 use crate::tests::beats::{Kind, lives, router_of};
-use crate::tests::gossip::topic_of;
+use crate::tests::calls::{Cause, call, subscribe, unsubscribe};
+use crate::tests::made::topic_of;
 use crate::tests::mend_cases::{
-    BEST, BETTER, BETTER_AT_SECOND, CHOICES, FANOUT, FANOUT_OF_ONE, FEW, FEW_OUTBOUND, MANY,
-    MISSING_ALL, NEGATIVE, ONES,
+    BEST, BETTER, BETTER_AT_SECOND, CHOICES, FALLEN, FANOUT, FANOUT_OF_ONE, FEW, FEW_OUTBOUND,
+    MANY, MISSING_ALL, NEGATIVE, ONES,
 };
 use crate::tests::mesh_cases::{Deed, Said, Step};
 use crate::tests::meshes::{
-    act, demanding, first_wrong, first_wrong_of, judging, sized, sized_without_flood,
+    act, demanding, first_wrong, first_wrong_of, judging, router_of_four, sized,
+    sized_without_flood,
 };
 use crate::tests::{router_with, words};
-use gs_base::{PeerNo, Rpc, Shared, Topic};
-use gs_params::{Degrees, Params};
+use bytes::Bytes;
+use gs_base::{PeerNo, Rpc, Seq, Shared, Topic};
+use gs_params::{Degrees, Params, TopicParams};
 use gs_router::Router;
 use gs_rules::{Entry, Event};
 use std::alloc::{AllocError, Global};
@@ -73,6 +76,50 @@ fn a_fanout_is_filled_and_ends(rt: HostRuntime) -> Result<(), AllocError> {
     assert_eq!(rt; first_wrong(alloc, params, &CHOICES, &FANOUT)?, 11);
     let params = sized_without_flood(alloc, 1);
     assert_eq!(rt; first_wrong(alloc, params, &ONES, &FANOUT_OF_ONE)?, 6);
+    Ok(())
+}
+
+/// A fanout of two, where what begins with `ff` on `b` is rejected, and costs 60.
+fn judging_on_b(alloc: Global) -> Result<Params, AllocError> {
+    let mut judges = TopicParams::new(alloc);
+    judges.factors.w4 = -60_000_000;
+    judges.reject = Seq::only(alloc, Bytes::copy_from_slice(alloc, &[0xff])?)?;
+    let mut params = sized_without_flood(alloc, 2);
+    params.topics.push((topic_of(alloc, "b")?, judges))?;
+    Ok(params)
+}
+
+/// Has a router be on `b` while neighbour 3 passes on there what is rejected.
+fn is_spoilt(alloc: Global, router: &mut Router) -> Result<bool, AllocError> {
+    let words = &mut words(alloc);
+    let payload = Bytes::copy_from_slice(alloc, &[0xff])?;
+    let rpc = Rpc::publication(alloc, &topic_of(alloc, "b")?, &payload)?;
+    let joins = subscribe(alloc, router, 500, "b", words)?;
+    let hears = call(alloc, router, 500, Cause::Heard(3, &rpc), words)?;
+    let leaves = unsubscribe(alloc, router, 500, "b", words)?;
+    Ok(joins.is_ok() && hears.is_ok() && leaves.is_ok())
+}
+
+/// How many steps are right before and behind that.
+fn right_around_spoil(alloc: Global, router: &mut Router) -> Result<usize, AllocError> {
+    let before = first_wrong_of(alloc, router, &CHOICES, &FANOUT[..5])?;
+    if !is_spoilt(alloc, router)? {
+        return Ok(0);
+    }
+    let behind = first_wrong_of(alloc, router, &[], &FALLEN)?;
+    Ok(before.saturating_add(behind))
+}
+
+/// The same of a new router.
+fn right_around_spoil_of(alloc: Global) -> Result<usize, AllocError> {
+    right_around_spoil(alloc, &mut router_of_four(alloc, judging_on_b(alloc)?)?)
+}
+
+#[test]
+fn who_falls_below_the_threshold_of_publishing_leaves_the_fanout(
+    rt: HostRuntime,
+) -> Result<(), AllocError> {
+    assert_eq!(rt; right_around_spoil_of(rt.alloc())?, 6);
     Ok(())
 }
 

@@ -3,7 +3,7 @@
 use crate::tests::beat_cases::Deed as LiveDeed;
 use crate::tests::beats::{Kind, lives, router_of};
 use crate::tests::calls::{Cause, call, publish, subscribe, unsubscribe};
-use crate::tests::gossip::topic_of;
+use crate::tests::made::topic_of;
 use crate::tests::mesh_cases::{
     ANSWERS, BACKOFF, BARRED, CHOICES, CHOSEN, Deed, FANNED, FANNED_AND_GONE, LEAVING, PRUNES,
     Said, Step,
@@ -106,7 +106,7 @@ pub fn act(
 // ---- routers
 
 /// A router with neighbours 1 to 4, of which 3 was dialled and 4 is distrusted, and these parameters.
-fn router_of_four(alloc: Global, params: Params) -> Result<Router, AllocError> {
+pub fn router_of_four(alloc: Global, params: Params) -> Result<Router, AllocError> {
     let kinds = &[Kind::Plain, Kind::Plain, Kind::Dialled, Kind::Distrusted];
     router_of(alloc, params, 4, kinds)
 }

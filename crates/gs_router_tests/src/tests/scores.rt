@@ -3,8 +3,8 @@ ghost use Rattle.std.specs.Prelude.{pos, ◌≡◌, IfOk};
 
 use crate::tests::beat_cases::Deed;
 use crate::tests::beats::live;
-use crate::tests::gossip::topic_of;
 use crate::tests::gossip_cases::Id;
+use crate::tests::made::topic_of;
 use crate::tests::{checked, router_with, words};
 use bytes::Bytes;
 use gs_base::{Millis, Neighbour, PeerNo, Seq};

@@ -1,5 +1,6 @@
 //! What messages are found to be, and what is remembered of them.
 use crate::tests::calls::{hear, is_due, publish, subscribe};
+use crate::tests::made::topic_of;
 use crate::tests::{router_with, words};
 use bytes::Bytes;
 use gs_base::{Mark, Millis, PeerNo, Rpc, Seq, Topic, Verdict};
@@ -43,10 +44,6 @@ static MESSAGES: [Row<'static>; 13] = [
 
 fn bytes_of(alloc: Global, bytes: &[u8]) -> Result<Bytes, AllocError> {
     Bytes::copy_from_slice(alloc, bytes)
-}
-
-fn topic_of(alloc: Global, name: &str) -> Result<Topic, AllocError> {
-    Ok(Topic(bytes_of(alloc, name.as_bytes())?))
 }
 
 fn prefixes(alloc: Global, first: &[u8], second: &[u8]) -> Result<Seq<Bytes>, AllocError> {
