@@ -6,14 +6,28 @@ use crate::exact::{ExactClone, clone_of};
 use bytes::Bytes;
 use sha2::{Digest, Sha256};
 use std::alloc::AllocError;
+use std::hash::{Hash, Hasher};
 
 /// A peer of a run, numbered from 0.
 #[derive(Clone, Copy, Debug, PartialEq, Eq, PartialOrd, Ord, Hash)]
 pub struct PeerNo(pub u16);
 
 /// A topic. It is any bytes: whether they are UTF-8 is not looked at.
-#[derive(Debug, Drop, PartialEq, Eq, PartialOrd, Ord, Hash)]
+#[derive(Debug, Drop, PartialEq, Eq, PartialOrd, Ord)]
 pub struct Topic(pub Bytes);
+
+/// All of it is hashed at once, and not byte by byte.
+impl Hash for Topic {
+    ghost use Rattle.std.specs.Prelude.{[], ◌∷◌};
+
+    ghost hash_input = { λ topic. topic.0 ∷ [] };
+
+    ghost respects_eq = { Prim.search rules };
+
+    fn hash<H: Hasher>(&self, state: &mut H) {
+        state.write(self.0.as_slice());
+    }
+}
 
 impl Clone for Topic {
     ghost is_clone = { λ source copy. copy ≡ source };
@@ -49,8 +63,21 @@ pub const LONGEST_TOPIC: usize = 1_024;
 pub const MOST_TOPICS: usize = 1_024;
 
 /// The identifier of a message: the SHA-256 of its payload.
-#[derive(Clone, Copy, Debug, PartialEq, Eq, PartialOrd, Ord, Hash)]
+#[derive(Clone, Copy, Debug, PartialEq, Eq, PartialOrd, Ord)]
 pub struct MsgId(pub [u8; 32]);
+
+/// All of it is hashed at once. An array would be byte by byte, at ten times the cost.
+impl Hash for MsgId {
+    ghost use Rattle.std.specs.Prelude.{[], ◌∷◌};
+
+    ghost hash_input = { λ id. id.0 ∷ [] };
+
+    ghost respects_eq = { Prim.search rules };
+
+    fn hash<H: Hasher>(&self, state: &mut H) {
+        state.write(&self.0);
+    }
+}
 
 impl MsgId {
     /// The identifier of a message with this payload.

@@ -1,5 +1,5 @@
 //! Products of whole millionths, rounded down.
-ghost use Rattle.std.specs.Prelude.{◌≡◌, ◌≤◌, ◌^◌, pos, ◌+ℤ◌, ◌*ℤ◌, FitsSigned, unsigned_abs};
+ghost use Rattle.std.specs.Prelude.{◌≡◌, ◌≤◌, ◌^◌, pos, ◌+ℤ◌, ◌*ℤ◌, FitsSigned, IfSome, unsigned_abs};
 ghost use Rattle.std.specs.Int.{w128};
 ghost use Rattle.gs_score.specs.Millionths.{scaled, squared, times};
 
@@ -10,7 +10,22 @@ pub fn times(weight: i64, amount: i128) -> i128
     requires amount { unsigned_abs amount ≤ 10 ^ 24 }
     ensures { result ≡ times weight amount }
 {
-    product(weight as i128, amount)
+    match small_product(weight, amount) {
+        Some(product) => product,
+        None => product(weight as i128, amount),
+    }
+}
+
+/// The same, where all of it fits 64 bits: that is the case of most, and costs a tenth.
+#[tactic(auto, unfolding(crate::specs::Millionths::times))]
+fn small_product(weight: i64, amount: i128) -> Option<i128>
+    ensures { IfSome result (λ product. product ≡ times weight amount) }
+{
+    let Ok(small) = i64::try_from(amount) else {
+        return None;
+    };
+    let product = weight.checked_mul(small)?;
+    Some(i128::from(product.div_euclid(1_000_000)))
 }
 
 /// A product that fits, rounded down.
@@ -74,7 +89,10 @@ pub fn scaled(factor: u64, amount: u64) -> u64
     ensures value { result ≡ scaled factor amount }
     ensures most { result ≤ 10 ^ 18 }
 {
-    (u128::from(factor) * u128::from(amount) / 1_000_000) as u64
+    match factor.checked_mul(amount) {
+        Some(product) => product / 1_000_000,
+        None => (u128::from(factor) * u128::from(amount) / 1_000_000) as u64,
+    }
 }
 
 /// The square of an amount of at most 10^12, rounded down.
