@@ -19,6 +19,7 @@ pub struct Topic(pub Bytes);
 /// All of it is hashed at once, and not byte by byte.
 impl Hash for Topic {
     ghost use Rattle.std.specs.Prelude.{[], ◌∷◌};
+    ghost use Rattle.std.proofs.Common.{rules};
 
     ghost hash_input = { λ topic. topic.0 ∷ [] };
 
@@ -69,6 +70,7 @@ pub struct MsgId(pub [u8; 32]);
 /// All of it is hashed at once. An array would be byte by byte, at ten times the cost.
 impl Hash for MsgId {
     ghost use Rattle.std.specs.Prelude.{[], ◌∷◌};
+    ghost use Rattle.std.proofs.Common.{rules};
 
     ghost hash_input = { λ id. id.0 ∷ [] };
 
