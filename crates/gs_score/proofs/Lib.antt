@@ -5,6 +5,7 @@ pub mod Stepping
 pub mod Sums
 pub mod Kept
 pub mod RulesInRange
+pub mod NoWeight
 pub mod Numbering
 pub mod Accounting
 pub mod Keeping

@@ -1,6 +1,7 @@
 //! What a neighbour has on a topic.
-ghost use Rattle.std.specs.Prelude.{◌≡◌, ◌≤◌, ◌^◌, unsigned_abs};
+ghost use Rattle.std.specs.Prelude.{◌≡◌, ◌≤◌, ◌^◌, pos, unsigned_abs};
 ghost use Rattle.gs_score.specs.Formula.{p3, topic_part};
+ghost use Rattle.gs_score.specs.Millionths.{squared, times};
 ghost use Rattle.gs_score.specs.Ranges.{RulesAreInRange};
 ghost use Rattle.gs_score.specs.Standings.{count, fresh, grafted, held, pruned, raised_held, raised_standing, stored, with_stored};
 
@@ -120,6 +121,45 @@ impl Standing {
         0
     }
 
+    /// A counter under a weight, in millionths: at most 10^21 either way. Under a weight of 0 it is not looked at.
+    fn weighed_count(&self, weight: i64, kind: Kind, rules: &TopicRules, tick: u64) -> i128
+        requires in_range { RulesAreInRange rules.now }
+        requires weight { unsigned_abs weight ≤ 10 ^ 9 }
+        ensures value { result ≡ times weight (pos (count kind (held rules.now tick self.now))) }
+        ensures bound { unsigned_abs result ≤ 10 ^ 21 }
+    {
+        if weight == 0 {
+            return 0;
+        }
+        weighed(weight, self.count(kind, rules, tick))
+    }
+
+    /// The square of a counter under a weight, in the same way.
+    fn weighed_square(&self, weight: i64, kind: Kind, rules: &TopicRules, tick: u64) -> i128
+        requires in_range { RulesAreInRange rules.now }
+        requires weight { unsigned_abs weight ≤ 10 ^ 9 }
+        ensures value { result ≡ times weight (pos (squared (count kind (held rules.now tick self.now)))) }
+        ensures bound { unsigned_abs result ≤ 10 ^ 21 }
+    {
+        if weight == 0 {
+            return 0;
+        }
+        weighed(weight, squared(self.count(kind, rules, tick)))
+    }
+
+    /// The square of what is missing under a weight, in the same way.
+    fn weighed_missing(&self, weight: i64, rules: &TopicRules, tick: u64, now: Millis) -> i128
+        requires in_range { RulesAreInRange rules.now }
+        requires weight { unsigned_abs weight ≤ 10 ^ 9 }
+        ensures value { result ≡ times weight (pos (p3 rules.now now.0 (held rules.now tick self.now))) }
+        ensures bound { unsigned_abs result ≤ 10 ^ 21 }
+    {
+        if weight == 0 {
+            return 0;
+        }
+        weighed(weight, self.missing(rules, tick, now))
+    }
+
     /// What the topic gives, in millionths: at most 10^25 either way.
     #[tactic(auto, unfolding(crate::specs::Formula::topic_part))]
     pub fn part(&self, rules: &TopicRules, tick: u64, now: Millis) -> i128
@@ -129,10 +169,10 @@ impl Standing {
     {
         let factors = &rules.factors;
         let present = weighed(factors.w1, rules.presence(self.since, now));
-        let first = weighed(factors.w2, self.count(Kind::First, rules, tick));
-        let missing = weighed(factors.w3, self.missing(rules, tick, now));
-        let deficit = weighed(factors.w3b, self.count(Kind::Deficit, rules, tick));
-        let invalid = weighed(factors.w4, squared(self.count(Kind::Invalid, rules, tick)));
+        let first = self.weighed_count(factors.w2, Kind::First, rules, tick);
+        let missing = self.weighed_missing(factors.w3, rules, tick, now);
+        let deficit = self.weighed_count(factors.w3b, Kind::Deficit, rules, tick);
+        let invalid = self.weighed_square(factors.w4, Kind::Invalid, rules, tick);
         let sum = sum_of_five(present, first, missing, deficit, invalid);
         weighed_sum(factors.topic_weight, sum)
     }

@@ -1,9 +1,9 @@
-use Rattle.std.proofs.Common.{◌≤◌, refl, sym, ap, subst, ◌∙◌}
+use Rattle.std.proofs.Common.{◌≤◌, refl, sym, subst}
 use Rattle.std.specs.Option.{IsSome}
 use Rattle.gs_base.specs.Names.{most_topics}
 use Rattle.gs_score.specs.declared.accounts.Account.{Account}
 use Rattle.gs_score.specs.Standings.{pruned}
-use Rattle.gs_score.proofs.Accounting.{Changed, is_kept, is_stepped, few_stay, few_of, account_was}
+use Rattle.gs_score.proofs.Accounting.{Changed, is_kept, is_stepped, few_stay, few_of}
 use Rattle.gs_score.proofs.accounts.prune_standing.Goals as goal
 
 pub returns-in-Some-clause-puts : goal.returns-in-Some-clause-puts

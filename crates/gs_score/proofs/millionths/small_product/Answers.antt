@@ -1,5 +1,5 @@
-use Rattle.std.proofs.Common.{rules, ◌≡◌, ℤ, to_z, of_z, ◌*ℤ◌, pos, ap, ◌∙◌, FitsSigned}
-use Rattle.std.specs.Int.{w64, w128, int_div_euclid}
+use Rattle.std.proofs.Common.{rules, ◌≡◌, ◌*ℤ◌, pos, ap, ◌∙◌}
+use Rattle.std.specs.Int.{w128, int_div_euclid}
 use Rattle.std.proofs.lemmas.Int.{to_z-of_z}
 use Rattle.gs_score.specs.Millionths.{times}
 use Rattle.gs_score.proofs.millionths.small_product.Goals as goal

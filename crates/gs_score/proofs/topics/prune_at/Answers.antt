@@ -1,4 +1,4 @@
-use Rattle.std.proofs.Common.{◌≡◌, Option, refl, length, sym, ap, is_some, subst, ◌∙◌}
+use Rattle.std.proofs.Common.{Option, refl, length, sym, ap, is_some, subst, ◌∙◌}
 use Rattle.std.specs.Option.{IsSome, unwrap_or}
 use Rattle.std.proofs.lemmas.Map.{length-set_value}
 use Rattle.gs_base.specs.Names.{same_topic}

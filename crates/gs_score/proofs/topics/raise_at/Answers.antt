@@ -1,4 +1,4 @@
-use Rattle.std.proofs.Common.{◌≡◌, Option, refl, sym, ap, subst, ◌∙◌}
+use Rattle.std.proofs.Common.{Option, refl, sym, ap, subst, ◌∙◌}
 use Rattle.std.specs.Option.{IsSome, unwrap_or}
 use Rattle.gs_score.specs.declared.standing.Standing.{Standing}
 use Rattle.gs_score.specs.Standings.{fresh, raised_standing}
