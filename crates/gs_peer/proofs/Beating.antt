@@ -2,7 +2,7 @@
 use Rattle.std.proofs.Common.{◌≡◌, ℕ, Bool, true, [], ◌∷◌, if◌then◌else◌, ap}
 use Rattle.gs_base.specs.declared.names.Millis.{Millis}
 use Rattle.gs_rules.specs.Peers.{Peer}
-use Rattle.gs_rules.specs.Rounds.{Todo, Beat, LowerCounters, beats_in, decays_in, is_due}
+use Rattle.gs_rules.specs.Rounds.{Beat, LowerCounters, beats_in, decays_in, is_due}
 
 pub one_decay : (p : Peer) (r : ℕ) (at : Millis)
     → is_due p.params.windows.decay_ms r at ≡ true

@@ -1,5 +1,5 @@
 -- What a poll gives, and how far it goes.
-use Rattle.std.proofs.Common.{◌≡◌, ℕ, Option, Some, None, Result, Ok, Err, IfOk, List, sym, ap, subst, subst₂, ◌∙◌}
+use Rattle.std.proofs.Common.{◌≡◌, ℕ, Option, Some, None, Result, Ok, Err, IfOk, List, sym, ap, subst, ◌∙◌}
 use Rattle.futures.specs.Poll.{OnPending}
 use Rattle.futures.specs.declared.task.Poll.{Poll}
 use Rattle.futures.specs.declared.task.Poll.TheVariants.{Ready, Pending}
@@ -9,12 +9,7 @@ use Rattle.gs_peer.specs.declared.finished.Finished.{Finished}
 use Rattle.gs_peer.specs.declared.finished.PeerFault.{PeerFault}
 use Rattle.gs_peer.specs.declared.running.Running.{Running}
 use Rattle.gs_peer.specs.declared.task.PeerTask.{PeerTask}
-use Rattle.gs_params.specs.Seeding.{SeededState}
-use Rattle.gs_ends.specs.Ends.{Joint}
-use Rattle.gs_rules.specs.Rounds.{Seat}
-use Rattle.gs_peer.specs.Life.{IsLife}
-use Rattle.gs_peer.specs.Running.{seat_of}
-use Rattle.gs_peer.specs.Task.{BothGrew, Bounded, Gives}
+use Rattle.gs_peer.specs.Task.{BothGrew, Bounded}
 
 some_same : {A : Type 0} (a b : A) → Some a ≡ Some b → a ≡ b
 some_same a b e = ap (λ o. elim o [ None ↦ a | Some x ↦ x ]) e
@@ -41,25 +36,6 @@ module _ {G S : Type 0} (acc tak : S → PeerNo → List Slot) where
       → Bounded acc tak most old new (Ready given)
   ended most old new t u (Ok f) is h same = λ v was. subst (λ (x : Running G S). BothGrew acc tak most x.ends f.ends) (some_same t v (sym is ∙ was)) (subst (λ (e : S). BothGrew acc tak most t.ends e) (sym same) h)
   ended most old new t u (Err e) is h same = tt
-
-module _ {G S : Type 0} (joints : S → List Joint) (acc tak : S → PeerNo → List Slot) where
-  -- a task that went on and then finished gives a life at its seat, by its words and with its ends
-  pub gives_life : (task : PeerTask G S) (t u : Running G S) (given : Result (Finished S) PeerFault)
-      → task.running ≡ Some t
-      → seat_of u ≡ seat_of t
-      → u.first.value ≡ t.first.value
-      → joints u.ends ≡ joints t.ends
-      → IfOk given (λ f. IsLife acc tak (seat_of u) u.first.value f)
-      → IfOk given (λ f. f.ends ≡ u.ends)
-      → Gives joints acc tak task given
-  gives_life task t u (Ok f) is seat first same life ends = (
-    seat_of t,
-    t.first.value,
-    ap (λ (o : Option (Running G S)). elim o [ None ↦ None | Some x ↦ Some (seat_of x, x.first.value, joints x.ends) ]) is
-        ∙ ap (λ (js : List Joint). Some (seat_of t, t.first.value, js)) (sym same ∙ ap joints (sym ends)),
-    subst₂ (λ (s : Seat) (w : SeededState). IsLife acc tak s w f) seat first life,
-  )
-  gives_life task t u (Err e) is seat first same life ends = tt
 
 -- the ends that a life gives are of the task's links
 pub joints_kept : {A B J : Type 0} (given : Option (A × B × J)) (a c : A) (b d : B) (of now : J) → given ≡ Some (a, b, of) → given ≡ Some (c, d, now) → now ≡ of

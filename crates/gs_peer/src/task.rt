@@ -1,9 +1,10 @@
 //! A peer's life as a future.
-ghost use Rattle.std.specs.Prelude.{◌≡◌, None, Err, IfOk};
+ghost use Rattle.std.specs.Prelude.{◌≡◌, None, Err, IfOk, IfSome, OnOk, true};
 ghost use Rattle.futures.specs.Poll.{IfReady, OnPending};
 ghost use Rattle.futures.specs.Task.{Covers, Keeps};
+ghost use Rattle.gs_ends.specs.Ends.{GrewBy};
 ghost use Rattle.gs_peer.specs.Life.{IsLife};
-ghost use Rattle.gs_peer.specs.Running.{IsKept, IsOver, MayBegin, seat_of};
+ghost use Rattle.gs_peer.specs.Running.{Goes, IsKept, IsOver, MayBegin, seat_of};
 ghost use Rattle.gs_peer.specs.Task.{Bounded, CanPoll, Gives, HasEnds, IsSuspended, IsTaskOf, given_of};
 
 use crate::assignment::Assignment;
@@ -101,39 +102,56 @@ impl<G: Gate, S: Ends> Future for PeerTask<G, S> {
         ensures after { IfReady result (λ _. given_of S.joints self.new ≡ None) }
         ensures spent { given_of S.joints self.old ≡ None → result ≡ Poll.Ready (Err PeerFault.Stopped) }
     {
-        let Some(mut running) = self.running.take() else {
+        let Some(running) = &mut self.running else {
             return Poll::Ready(Err(PeerFault::Stopped));
         };
-        if self.stop.is_set() {
-            return Poll::Ready(Err(PeerFault::Stopped));
-        }
-        match running.run() {
-            Ok(true) => Poll::Ready(finish(&self.stop, running)),
-            Ok(false) => {
-                self.running = Some(running);
-                cx.yield_now()
-            }
-            Err(_) => {
-                self.stop.set();
-                Poll::Ready(Err(PeerFault::NoMemory))
+        match go_on(&self.stop, running) {
+            Ok(true) => Poll::Ready(finish(&self.stop, &mut self.running)),
+            Ok(false) => cx.yield_now(),
+            Err(fault) => {
+                self.running = None;
+                Poll::Ready(Err(fault))
             }
         }
     }
 }
 
-/// Finishes a life that is over. Where there is no memory the flag is set first.
+/// Goes on with a life, until nothing moves. True where it has ended. Where there is no memory the flag is set first.
+fn go_on<G: Gate, S: Ends>(stop: &StopFlag, running: &mut Running<G, S>) -> Result<bool, PeerFault>
+    requires { IsKept S.joints S.accepted S.taken running.old }
+    ensures goes { OnOk result (Goes S.joints S.accepted S.taken running.old running.new) }
+    ensures taken { OnOk result (GrewBy 64 (S.taken running.old.ends) (S.taken running.new.ends)) }
+    ensures accepted { OnOk result (GrewBy 64 (S.accepted running.old.ends) (S.accepted running.new.ends)) }
+    ensures over { IfOk result (λ over. over ≡ true → IsOver running.new) }
+{
+    if stop.is_set() {
+        return Err(PeerFault::Stopped);
+    }
+    match running.run() {
+        Ok(over) => Ok(over),
+        Err(_) => {
+            stop.set();
+            Err(PeerFault::NoMemory)
+        }
+    }
+}
+
+/// Finishes a life that is over, and takes it out of its task. Where there is no memory the flag is set first.
 fn finish<G: Gate, S: Ends>(
     stop: &StopFlag,
-    running: Running<G, S>,
+    running: &mut Option<Running<G, S>>,
 ) -> Result<Finished<S>, PeerFault>
-    requires kept { IsKept S.joints S.accepted S.taken running }
-    requires over { IsOver running }
-    ensures life { IfOk result (λ f. IsLife S.accepted S.taken (seat_of running) running.first.value f) }
-    ensures ends { IfOk result (λ f. f.ends ≡ running.ends) }
+    requires kept { IfSome running.old (IsKept S.joints S.accepted S.taken) }
+    requires over { IfSome running.old IsOver }
+    ensures life { IfSome running.old (λ t. IfOk result (λ f. IsLife S.accepted S.taken (seat_of t) t.first.value f)) }
+    ensures ends { IfSome running.old (λ t. IfOk result (λ f. f.ends ≡ t.ends)) }
+    ensures taken { running.new ≡ None }
 {
-    let mut running = running;
-    match running.settle() {
-        Ok(state) => Ok(running.finish(state)),
+    let Some(mut life) = running.take() else {
+        return Err(PeerFault::Stopped);
+    };
+    match life.settle() {
+        Ok(state) => Ok(life.finish(state)),
         Err(_) => {
             stop.set();
             Err(PeerFault::NoMemory)

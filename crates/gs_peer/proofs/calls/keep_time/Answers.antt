@@ -1,4 +1,4 @@
-use Rattle.std.proofs.Common.{◌≡◌, List, [], subst}
+use Rattle.std.proofs.Common.{[], subst}
 use Rattle.gs_params.specs.Seeding.{seeded_after, seeded_word}
 use Rattle.gs_rules.specs.Modes.{exact}
 use Rattle.gs_rules.specs.Peers.{Peer}
