@@ -2,7 +2,6 @@
 #![tactic(auto)]
 
 mod program;
-mod report;
 
 use gs_peer::NoGate;
 use std::process::ExitCode;

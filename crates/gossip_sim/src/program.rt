@@ -5,15 +5,15 @@ ghost use Rattle.std.specs.Process.{exit_status};
 ghost use Rattle.gossip_sim.specs.Program.{EndsAs, TellsFault, TellsRefusal, peer_of, refusal_line, run_refusal_line, spaced_name, status_of};
 ghost use Rattle.gs_input.specs.Inputs.{IsRefusal, IsScenario};
 ghost use Rattle.gs_params.specs.Plans.{IsInRange};
-ghost use Rattle.gossip_sim.specs.Report.{report_text};
+ghost use Rattle.gs_report.specs.Text.{report_text};
 ghost use Rattle.gs_net.specs.Reports.{IsReport};
 
-use crate::report::{name_of, report_text};
 use gs_base::PeerNo;
 use gs_input::{input_too_long, plan_from};
-use gs_net::{NetFault, Report, run_net};
+use gs_net::{NetFault, run_net};
 use gs_params::Plan;
 use gs_peer::Gate;
+use gs_report::{Report, name_of, report_text};
 use gs_scenario::ScenarioFault;
 use gs_streams::{ReadFault, read_input, tell, write_text};
 use std::alloc::{AllocError, AllocGlobal, Global};
@@ -150,13 +150,14 @@ where
         × (text.items ≡ report_text plan.now report)) }
 {
     let report = run_net(rt, plan, gate)?;
-    let Ok(text) = report_text(rt.alloc(), plan, &report) else {
-        return Err(NetFault::NoMemory(None));
-    };
+    let text = report_text(rt.alloc(), plan, &report);
     // The program ends behind its report, and its memory goes back as a whole: to take the traces
     // apart first, entry by entry, is a tenth of a run.
     mem::forget(report);
-    Ok(text)
+    match text {
+        Ok(text) => Ok(text),
+        Err(_) => Err(NetFault::NoMemory(None)),
+    }
 }
 
 /// Writes the line of a refusal, or a front of it. Where there is no memory for the line, the

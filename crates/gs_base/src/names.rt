@@ -67,7 +67,7 @@ pub const MOST_TOPICS: usize = 1_024;
 #[derive(Clone, Copy, Debug, PartialEq, Eq, PartialOrd, Ord)]
 pub struct MsgId(pub [u8; 32]);
 
-/// All of it is hashed at once. An array would be byte by byte, at ten times the cost.
+/// All of it is hashed at once. An array would be byte by byte, at five times the cost.
 impl Hash for MsgId {
     ghost use Rattle.std.specs.Prelude.{[], ◌∷◌};
     ghost use Rattle.std.proofs.Common.{rules};

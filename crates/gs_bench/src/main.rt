@@ -39,6 +39,3 @@ fn main(rt: HostRuntime) -> Result<(), BenchFault> {
     }
     Ok(())
 }
-
-#[cfg(test)]
-mod tests;

@@ -1,5 +1,6 @@
 //! What caches answer, by hand.
 mod messages;
+mod payloads;
 mod seen;
 
 use gs_base::MsgId;

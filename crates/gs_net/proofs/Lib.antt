@@ -1,5 +1,6 @@
 pub mod Beginning
 pub mod ByNumber
+pub mod Crosses
 pub mod Each
 pub mod EachPeer
 pub mod Exchanges

@@ -5,7 +5,7 @@ use Rattle.std.specs.List.{range_with_len}
 use Rattle.std.specs.declared.alloc.Global.{Global}
 use Rattle.gs_base.specs.declared.names.PeerNo.{PeerNo}
 use Rattle.gs_ends.specs.Pairs.{Pair}
-use Rattle.gs_net.specs.declared.finished.Finished.{Finished}
+use Rattle.gs_report.specs.declared.finished.Finished.{Finished}
 use Rattle.gs_net.specs.declared.lives.Lives.{Lives}
 use Rattle.gs_net.specs.Given.{Given, bare}
 use Rattle.gs_net.specs.Lives.{IsTakenApart}

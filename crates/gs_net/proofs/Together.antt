@@ -21,7 +21,7 @@ use Rattle.gs_rules.proofs.Handled.{spelled_once}
 use Rattle.gs_rules.proofs.Legality.{exact_is_free, legal_weakly}
 use Rattle.gs_rules.proofs.Spelled.{sent_is_spelled}
 use Rattle.gs_peer.specs.Life.{words_of}
-use Rattle.gs_net.specs.declared.finished.Finished.{Finished}
+use Rattle.gs_report.specs.declared.finished.Finished.{Finished}
 use Rattle.gs_net.specs.Rounds.{IsLife, IsRun, first_words, neighbours, numbers, peer_in, said_to, seat_in, trace_of}
 use Rattle.gs_net.specs.Given.{Given, GivenLife, Exchanged, Reaches, bare, ends_at}
 use Rattle.gs_net.proofs.ByNumber.{at_number, each_by_number}

@@ -6,7 +6,7 @@ use Rattle.gs_params.specs.declared.plan.Plan.{Plan}
 use Rattle.gs_ends.specs.Pairs.{Pair, accepted_for, taken_from}
 use Rattle.gs_peer.specs.declared.finished.Finished.{Finished as GivenWith}
 use Rattle.gs_peer.specs.Life.{IsLife as IsLifeAt}
-use Rattle.gs_net.specs.declared.finished.Finished.{Finished}
+use Rattle.gs_report.specs.declared.finished.Finished.{Finished}
 use Rattle.gs_net.specs.Rounds.{first_words, seat_in}
 
 -- ---- one peer

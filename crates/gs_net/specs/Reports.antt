@@ -1,7 +1,7 @@
 -- What the report of a run says.
 use Rattle.std.specs.Prelude.{◌≡◌, ◌*◌, length, map}
 use Rattle.gs_params.specs.declared.plan.Plan.{Plan}
-use Rattle.gs_net.specs.declared.report.Report.{Report}
+use Rattle.gs_report.specs.declared.report.Report.{Report}
 use Rattle.gs_net.specs.Rounds.{IsRun, numbers}
 
 -- Each peer of the plan once, by number; their lives are those of a run; and both links of each dial are whole.

@@ -21,7 +21,7 @@ use Rattle.gs_rules.specs.Saying.{Said, bytes_of, out, handled, sent}
 use Rattle.gs_rules.specs.Hearing.{Spell}
 use Rattle.gs_rules.specs.Rounds.{Seat, KeepsRounds}
 use Rattle.gs_router.specs.Router.{meshes_of, scores_of}
-use Rattle.gs_net.specs.declared.finished.Finished.{Finished}
+use Rattle.gs_report.specs.declared.finished.Finished.{Finished}
 
 -- ---- the peers
 

@@ -15,9 +15,9 @@ use gs_base::{Neighbour, PeerNo, clone_of};
 use gs_ends::{Ends, LinkEnds};
 use gs_link::{LinkRx, LinkTx};
 use gs_params::{Line, Plan, SeededWords};
-use gs_peer::{Agenda, Assignment, Gate, PeerTask, StopFlag, Surroundings};
+use gs_peer::{Agenda, Assignment, Gate, PeerTask, Surroundings};
 use gs_router::Router;
-use gs_workers::NetFault;
+use gs_workers::{NetFault, StopFlag};
 use std::alloc::{AllocError, Global};
 use std::sync::{Arc, Wait};
 
@@ -85,14 +85,16 @@ impl<'p, G: Gate + Copy, R: Wait + Drop + Copy> Builder<'p, G, R> {
             ⟦<LinkEnds<R> as Ends>⟧.joints ⟦<LinkEnds<R> as Ends>⟧.accepted ⟦<LinkEnds<R> as Ends>⟧.taken
             self.now.plan.now number (joints_of ends.items)) }
     {
+        let words = first_words(self.alloc, self.plan, number)?;
+        let stop = Arc::try_clone(self.stop)?;
         let neighbours = neighbours_of(self.alloc, self.plan, number)?;
         let assignment = assignment_of(self.alloc, self.plan, number, &neighbours, lines)?;
+        // (last, so that no exit has a router to drop)
         let router = router_of(self.alloc, self.plan, number, neighbours)?;
-        let words = first_words(self.alloc, self.plan, number)?;
         let surroundings = Surroundings {
             ends: LinkEnds::new(self.rt, ends),
             gate: self.gate,
-            stop: Arc::try_clone(self.stop)?,
+            stop,
         };
         match PeerTask::new(self.alloc, assignment, router, words, surroundings) {
             Ok(task) => Ok(task),

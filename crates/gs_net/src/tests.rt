@@ -1,7 +1,8 @@
 //! A run of two peers, of which one dials the other.
-use crate::{Finished, run_net};
+use crate::run_net;
 use gs_base::Millis;
 use gs_peer::{Gate, NoGate};
+use gs_report::Finished;
 use gs_rules::{Refusal, RefusedLine};
 use gs_scenario::read_plan;
 use std::alloc::{AllocError, AllocGlobal};

@@ -1,5 +1,4 @@
-//! What a task meets on its way: a gate at the start of each round, and a flag that stops it.
-use std::sync::atomic::{AtomicBool, Ordering};
+//! What a task meets on its way: a gate at the start of each round.
 
 /// Whoever is told of each round that a peer begins. Nothing is claimed of when or how often.
 pub trait Gate: Drop {
@@ -19,29 +18,4 @@ pub struct NoGate;
 
 impl Gate for NoGate {
     fn turn(&self, _worker: usize, _round: u64) {}
-}
-
-/// A flag that stops tasks. Nothing is claimed of it: whoever sees it set may stop.
-#[derive(Drop)]
-pub struct StopFlag {
-    is_set: AtomicBool,
-}
-
-impl StopFlag {
-    /// A flag that is not set. It takes no memory.
-    pub fn new() -> StopFlag {
-        StopFlag {
-            is_set: AtomicBool::new(false),
-        }
-    }
-
-    /// Sets the flag.
-    pub fn set(&self) {
-        self.is_set.store(true, Ordering::SeqCst);
-    }
-
-    /// Whether the flag is set.
-    pub fn is_set(&self) -> bool {
-        self.is_set.load(Ordering::SeqCst)
-    }
 }

@@ -20,5 +20,5 @@ mod task;
 pub use agenda::Agenda;
 pub use assignment::Assignment;
 pub use finished::{Finished, PeerFault};
-pub use gate::{Gate, NoGate, StopFlag};
+pub use gate::{Gate, NoGate};
 pub use task::{PeerTask, Surroundings};

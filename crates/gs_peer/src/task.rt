@@ -9,13 +9,14 @@ ghost use Rattle.gs_peer.specs.Task.{Bounded, CanPoll, Gives, HasEnds, IsSuspend
 
 use crate::assignment::Assignment;
 use crate::finished::{Finished, PeerFault};
-use crate::gate::{Gate, StopFlag};
+use crate::gate::Gate;
 use crate::running::Running;
 use futures::Future;
 use futures::task::{Context, Poll};
 use gs_ends::Ends;
 use gs_params::SeededWords;
 use gs_router::Router;
+use gs_workers::StopFlag;
 use std::alloc::Global;
 use std::sync::Arc;
 

@@ -22,6 +22,7 @@ use crate::state::State;
 use crate::tables::Tables;
 use bytes::Bytes;
 use gs_base::{Millis, MsgId, Neighbour, PeerNo, Rpc, Topic};
+use gs_cache::Payloads;
 use gs_params::{Params, Words};
 use gs_rules::{Event, Refusal, Trace};
 use std::alloc::{AllocError, Global};
@@ -36,6 +37,7 @@ use std::marker::Model;
 #[derive(Drop)]
 pub struct Router {
     state: State,
+    payloads: Payloads,
     is_stopped: bool,
 }
 
@@ -77,6 +79,7 @@ impl Router {
                 tables,
                 trace: Trace::new(alloc),
             },
+            payloads: Payloads::new(alloc),
             is_stopped: false,
         })
     }
@@ -101,7 +104,7 @@ impl Router {
         if self.is_stopped {
             return Err(RouterFault::Refused(Refusal::Stopped));
         }
-        let done = self.state.hear(from, rpc, now, words);
+        let done = self.state.hear(&mut self.payloads, from, rpc, now, words);
         ended(&mut self.is_stopped, done)
     }
 

@@ -24,6 +24,7 @@ pub mod thresholds;
 use crate::rules::publishing::Publishing;
 use crate::state::State;
 use gs_base::{Millis, MsgId, PeerNo, Rpc, Seq, Shared, clone_of};
+use gs_cache::Payloads;
 use gs_params::Words;
 use gs_rules::{Entry, Event, Refusal};
 use std::alloc::{AllocError, Global};
@@ -89,6 +90,7 @@ fn up_neighbours(state: &State) -> Result<Vec<PeerNo>, AllocError>
 /// The entry that the rule gives of an event.
 pub fn entry_of<W: Words>(
     state: &State,
+    payloads: &mut Payloads,
     event: Event,
     now: Millis,
     words: &mut W,
@@ -100,7 +102,7 @@ pub fn entry_of<W: Words>(
         → Follows (exact W.word W.after) (rule_of (peer_with state.now.setup) L now event) words.old entry words.new) }
 {
     match event {
-        Event::Msg(from, message) => messages::entry_of(state, from, message, now),
+        Event::Msg(from, message) => messages::entry_of(state, payloads, from, message, now),
         Event::Have(from, offer) => offers::entry_of(state, from, offer, now, words),
         Event::Want(from, request) => requests::entry_of(state, from, request, now),
         Event::Sub(from, sub) => departures::entry_of(state, from, sub, now),

@@ -23,6 +23,7 @@ use crate::tables::Tables;
 use gs_base::{
     Control, Graft, IHave, IWant, Message, Millis, PeerNo, Prune, Rpc, Shared, SubOpt, clone_of,
 };
+use gs_cache::Payloads;
 use gs_params::Words;
 use gs_rules::{Entry, Event, Trace};
 use std::alloc::{AllocError, Global};
@@ -71,7 +72,24 @@ impl State {
             (owed (peer_with self.old.setup) self.old.trace).events event }
         ensures { Steps (exact W.word W.after) event now self.old words.old result self.new words.new }
     {
-        let entry = rules::entry_of(self, event, now, words)?;
+        self.step_with(&mut Payloads::new(self.alloc), event, now, words)
+    }
+
+    /// The same, where payloads that are known need not be hashed again.
+    fn step_with<W: Words>(
+        &mut self,
+        payloads: &mut Payloads,
+        event: Event,
+        now: Millis,
+        words: &mut W,
+    ) -> Result<(), AllocError>
+        requires current { IsCurrent self.old }
+        requires time { last_moment self.old.trace ≤ now.0 }
+        requires next { IsNext (peer_with self.old.setup) self.old.trace now.0
+            (owed (peer_with self.old.setup) self.old.trace).events event }
+        ensures { Steps (exact W.word W.after) event now self.old words.old result self.new words.new }
+    {
+        let entry = rules::entry_of(self, payloads, event, now, words)?;
         self.append(entry)
     }
 
@@ -113,6 +131,7 @@ impl State {
     /// Hears an RPC, and all its parts where its sender is up and not on the graylist.
     pub fn hear<W: Words>(
         &mut self,
+        payloads: &mut Payloads,
         from: PeerNo,
         rpc: Rpc,
         now: Millis,
@@ -136,12 +155,13 @@ impl State {
         ) {
             return self.open(Event::Heard(from, rpc), now, words);
         }
-        self.hear_up(from, rpc, now, words)
+        self.hear_up(payloads, from, rpc, now, words)
     }
 
     /// Hears an RPC of a neighbour that is up and not on the graylist, and all its parts.
     fn hear_up<W: Words>(
         &mut self,
+        payloads: &mut Payloads,
         from: PeerNo,
         rpc: Shared<Rpc>,
         now: Millis,
@@ -160,7 +180,7 @@ impl State {
             self.hear_sub(from, sub, now, words)?;
         }
         for message in parts.publish.as_slice() {
-            self.hear_message(from, message, now, words)?;
+            self.hear_message(payloads, from, message, now, words)?;
         }
         for offer in offers_in(&parts.control) {
             self.hear_offer(from, offer, now, words)?;
@@ -198,6 +218,7 @@ impl State {
     /// Hears a message, which comes next.
     fn hear_message<W: Words>(
         &mut self,
+        payloads: &mut Payloads,
         from: PeerNo,
         message: &Message,
         now: Millis,
@@ -210,7 +231,7 @@ impl State {
         ensures { Steps (exact W.word W.after) (events.Msg from message.now) now self.old words.old result self.new words.new }
     {
         let message = Shared::new(self.alloc, clone_of(message)?)?;
-        self.step(Event::Msg(from, message), now, words)
+        self.step_with(payloads, Event::Msg(from, message), now, words)
     }
 
     /// Hears an offer of messages, which comes next.

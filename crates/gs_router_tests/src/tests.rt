@@ -1,44 +1,21 @@
 //! Routers with neighbours 1 and 2: what their calls answer, and the trace that is left.
-ghost use Rattle.std.specs.Prelude.{◌≡◌, pos, IfOk};
-ghost use Rattle.gs_params.specs.Params.{AreInRange};
-
-mod beat_cases;
-mod beats;
 mod bounds;
-mod calls;
 mod cases;
-mod gossip;
-mod gossip_cases;
 mod made;
-mod mend_cases;
-mod mends;
-mod mesh_cases;
-mod mesh_sights;
-mod mesh_traffic;
-mod meshes;
-mod scores;
-mod sights;
 mod verdicts;
 
-use crate::tests::beats::router_of;
-use crate::tests::calls::{Cause, call, numbered, publish, subscribe, unsubscribe};
 use crate::tests::cases::{
     Call, DUPLICATES, DUPLICATES_TRACE, JOINED, JOINED_TRACE, LISTENERS, LISTENERS_TRACE, LOST,
     LOST_TRACE, PARTS, PARTS_TRACE, REFUSED, REFUSED_TRACE, SHUT, SHUT_TRACE, SIGNATURES,
     SIGNATURES_TRACE, TOPICS, TOPICS_TRACE,
 };
 use crate::tests::made::{Parts, Row, What, is_trace, rpc_of};
-use bytes::Bytes;
-use gs_base::{Neighbour, PeerNo};
+use gs_base::PeerNo;
 use gs_params::{Params, SeededWords, Words};
 use gs_router::{Router, RouterFault};
+use gs_router_calls::{Cause, call, numbered, publish, router_with, subscribe, unsubscribe, words};
 use gs_rules::{Refusal, Trace};
 use std::alloc::{AllocError, Global};
-
-/// Words of which none is drawn.
-fn words(alloc: Global) -> SeededWords {
-    SeededWords::new(Vec::new(alloc), 1, PeerNo(0))
-}
 
 /// Has a router hear these parts of an RPC; the number with which it is refused, 0 where it isn't.
 fn hear_parts(
@@ -85,34 +62,6 @@ fn answers(alloc: Global, router: &mut Router, calls: &[Call<'_>]) -> Result<boo
         }
     }
     Ok(true)
-}
-
-/// A neighbour that dialled, at an address of its own.
-fn neighbour(alloc: Global, number: u16) -> Result<Neighbour, AllocError>
-    ensures number { IfOk result (λ neighbour. neighbour.peer.0 ≡ number) }
-    ensures app { IfOk result (λ neighbour. neighbour.app ≡ pos 0) }
-{
-    Ok(Neighbour {
-        peer: PeerNo(number),
-        outbound: false,
-        address: Bytes::copy_from_slice(alloc, &[(number % 256) as u8])?,
-        app: 0,
-    })
-}
-
-/// Parameters that pass their checks; with any others the test fails.
-fn checked(params: Params) -> Result<Params, AllocError>
-    ensures { IfOk result AreInRange }
-{
-    match params.check() {
-        Ok(params) => Ok(params),
-        Err(_) => Err(AllocError),
-    }
-}
-
-/// A router with neighbours 1 and 2 and these parameters.
-fn router_with(alloc: Global, params: Params) -> Result<Router, AllocError> {
-    router_of(alloc, params, 2, &[])
 }
 
 /// A router with neighbours 1 and 2 and the parameters where nothing is said.

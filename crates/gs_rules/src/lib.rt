@@ -19,6 +19,3 @@ pub use laws::{
 };
 pub use refusal::{Refusal, RefusedLine};
 pub use trace::{Entry, Event, Promise, Trace};
-
-#[cfg(test)]
-mod tests;

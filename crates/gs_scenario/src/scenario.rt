@@ -90,6 +90,3 @@ fn plan_in(alloc: Global, table: &Table) -> Result<Plan, ScenarioFault>
         script,
     })
 }
-
-#[cfg(test)]
-mod tests;

@@ -29,12 +29,3 @@ pub use laws::{
     what_was_read_is_no_longer_when_written,
 };
 pub use rpc::{MAX_BODY, decode, encode, encode_frame, publish_len};
-
-#[cfg(test)]
-mod proto_tests;
-#[cfg(test)]
-mod size_tests;
-#[cfg(test)]
-mod stream_tests;
-#[cfg(test)]
-mod tests;

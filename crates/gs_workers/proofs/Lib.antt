@@ -3,4 +3,3 @@ pub mod Ending
 pub mod Dealing
 pub mod Gathering
 pub mod Running
-pub mod Crosses

@@ -1,14 +1,15 @@
-//! Drives peers' tasks on worker threads.
+//! Drives futures on worker threads.
 #![tactic(auto)]
 
 mod deal;
 mod fault;
 mod group;
-mod tasks;
+mod stop_flag;
 mod workers;
 
 pub use fault::NetFault;
-pub use tasks::run_tasks;
+pub use stop_flag::StopFlag;
+pub use workers::run_all;
 
 #[cfg(test)]
 mod tests;

@@ -1,95 +1,61 @@
-//! Runs of tasks of peers without neighbours.
+//! Futures that are run on worker threads.
 ghost use Rattle.std.specs.Prelude.{◌≤◌};
 
 mod made;
 
-use crate::NetFault;
 use crate::deal::deal;
-use crate::tests::made::{LIVES, Meeting, Numbered, made, run, tasks};
+use crate::tests::made::{Guest, Meeting, first_numbers, given};
+use crate::{NetFault, StopFlag, run_all};
 use futures::future::MaybeDone;
 use gs_base::PeerNo;
-use gs_peer::{NoGate, PeerFault, StopFlag};
 use std::alloc::{AllocError, AllocGlobal};
-use std::io;
 use std::random::RandomSource;
-use std::sync::{Arc, Wait};
+use std::sync::Wait;
 use std::test::*;
 use std::thread::Threads;
 
-/// Whether so many tasks on so many workers give their lives, in order.
-fn live<R>(rt: &R, workers: usize, count: u16) -> io::Result<bool>
+/// Whether so many futures on so many workers give these numbers, and leave the flag as it is.
+fn gives<R>(rt: &R, workers: usize, count: u8, numbers: &[u16]) -> bool
 where
     R: Threads + Wait + RandomSource + AllocGlobal + Sync,
     requires { 1 ≤ workers }
 {
-    let stop = Arc::new(rt.alloc(), StopFlag::new())?;
-    let tasks = tasks(rt.alloc(), count, NoGate, &stop)?;
-    let Ok(results) = run(rt, workers, &stop, tasks) else {
-        return Ok(false);
-    };
-    if results.len() != usize::from(count) || stop.is_set() {
-        return Ok(false);
+    let stop = StopFlag::new();
+    match given(rt, workers, count, &stop) {
+        Ok(found) => found.as_slice() == numbers && !stop.is_set(),
+        Err(_) => false,
     }
-    for (result, steps) in results.iter().zip(&LIVES) {
-        match result {
-            Ok(life) if made(&life.trace, steps) => {}
-            _ => return Ok(false),
-        }
-    }
-    Ok(true)
 }
 
 #[test]
-fn two_tasks_live_on_any_number_of_workers(rt: HostRuntime) -> Result<(), Fail> {
-    for workers in 1..6 {
-        assert!(rt; live(&rt, workers, 2)?);
+fn outputs_come_in_the_order_of_the_futures(rt: HostRuntime) {
+    for workers in 1..7 {
+        assert!(rt; gives(&rt, workers, 2, &[0, 1]));
+        assert!(rt; gives(&rt, workers, 5, &[0, 1, 2, 3, 4]));
     }
-    Ok(())
 }
 
 #[test]
-fn results_come_in_the_order_of_the_tasks(rt: HostRuntime) -> Result<(), Fail> {
-    for workers in 1..6 {
-        assert!(rt; live(&rt, workers, 4)?);
-    }
-    Ok(())
-}
-
-#[test]
-fn no_tasks_give_no_results(rt: HostRuntime) -> Result<(), Fail> {
+fn no_futures_give_no_outputs(rt: HostRuntime) {
     for workers in 1..4 {
-        assert!(rt; live(&rt, workers, 0)?);
+        assert!(rt; gives(&rt, workers, 0, &[]));
     }
-    Ok(())
-}
-
-/// Each task whose flag is set gives up; that is no fault of the run.
-#[test]
-fn a_flag_stops_each_task(rt: HostRuntime) -> Result<(), Fail> {
-    let stop = Arc::new(rt.alloc(), StopFlag::new())?;
-    stop.set();
-    let tasks = tasks(rt.alloc(), 3, NoGate, &stop)?;
-    let Ok(results) = run(&rt, 2, &stop, tasks) else {
-        panic!(rt; "a fault of the run");
-    };
-    assert_eq!(rt; results.len(), 3);
-    for result in results {
-        assert!(rt; matches!(result, Err(PeerFault::Stopped)));
-    }
-    Ok(())
 }
 
 /// There is no memory for so many workers; the flag is set.
 #[test]
-fn too_many_workers_are_want_of_memory(rt: HostRuntime) -> Result<(), Fail> {
-    let stop = Arc::new(rt.alloc(), StopFlag::new())?;
-    let tasks = tasks(rt.alloc(), 1, NoGate, &stop)?;
-    let Err(fault) = run(&rt, usize::MAX, &stop, tasks) else {
-        panic!(rt; "results in spite of the number of workers");
-    };
-    assert_eq!(rt; fault, NetFault::NoMemory(None));
+fn too_many_workers_are_want_of_memory(rt: HostRuntime) {
+    let stop = StopFlag::new();
+    assert!(rt; given(&rt, usize::MAX, 1, &stop) == Err(NetFault::NoMemory(None)));
     assert!(rt; stop.is_set());
-    Ok(())
+}
+
+#[test]
+fn a_flag_is_set_once_it_was_set(rt: HostRuntime) {
+    let stop = StopFlag::new();
+    assert!(rt; !stop.is_set());
+    stop.set();
+    assert!(rt; stop.is_set());
 }
 
 /// The numbers and the texts of faults.
@@ -113,29 +79,32 @@ fn each_fault_has_its_number_and_text(rt: HostRuntime) -> Result<(), AllocError>
     Ok(())
 }
 
-/// Four tasks on four workers meet in the middle of a round: each is in it while the others are.
+/// Whether four futures on four workers all meet.
+fn all_meet<R>(rt: &R, meeting: &Meeting) -> Result<bool, NetFault>
+where
+    R: Threads + Wait + RandomSource + AllocGlobal + Sync,
+{
+    let stop = StopFlag::new();
+    let mut guests = Vec::new(rt.alloc());
+    for number in 0..4u32 {
+        guests.push(Guest { number, meeting })?;
+    }
+    let met = run_all(rt, rt.alloc(), 4, &stop, guests)?;
+    Ok(met.as_slice() == [true; 4].as_slice())
+}
+
+/// Each of four workers drives its future while the others drive theirs.
 #[test]
-fn workers_run_side_by_side(rt: HostRuntime) -> Result<(), Fail> {
+fn workers_run_side_by_side(rt: HostRuntime) {
     let meeting = Meeting::new();
-    let stop = Arc::new(rt.alloc(), StopFlag::new())?;
-    let tasks = tasks(rt.alloc(), 4, &meeting, &stop)?;
-    let Ok(results) = run(&rt, 4, &stop, tasks) else {
-        panic!(rt; "a fault of the run");
-    };
-    assert_eq!(rt; results.len(), 4);
-    assert_eq!(rt; meeting.met(), 4);
-    Ok(())
+    assert!(rt; all_meet(&rt, &meeting) == Ok(true));
 }
 
 /// Five futures and two groups: the last of a group is the first that was dealt to it.
 #[test]
 fn futures_are_dealt_in_turns(rt: HostRuntime) -> Result<(), Fail> {
-    let mut futures = Vec::new(rt.alloc());
-    for number in 0..5u8 {
-        futures.push(Numbered(number))?;
-    }
-    let mut groups = deal(rt.alloc(), 2, futures)?;
-    for numbers in [b"\x00\x02\x04".as_slice(), b"\x01\x03".as_slice()] {
+    let mut groups = deal(rt.alloc(), 2, first_numbers(rt.alloc(), 5)?)?;
+    for numbers in [[0, 2, 4].as_slice(), [1, 3].as_slice()] {
         let Some(mut group) = groups.pop_front() else {
             panic!(rt; "a group is wanting");
         };
@@ -143,7 +112,7 @@ fn futures_are_dealt_in_turns(rt: HostRuntime) -> Result<(), Fail> {
             let Some(MaybeDone::Future(future)) = group.pop() else {
                 panic!(rt; "a future is wanting");
             };
-            assert_eq!(rt; future.0, *number);
+            assert_eq!(rt; future.number, *number);
         }
         assert!(rt; group.is_empty());
     }

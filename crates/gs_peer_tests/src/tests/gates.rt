@@ -2,7 +2,8 @@
 use crate::tests::items::{said, script};
 use crate::tests::made::{ONE, lists, task_in};
 use futures::executor::block_on;
-use gs_peer::{Gate, StopFlag, Surroundings};
+use gs_peer::{Gate, Surroundings};
+use gs_workers::StopFlag;
 use std::sync::Arc;
 use std::sync::atomic::{AtomicU64, Ordering};
 use std::test::*;

@@ -16,9 +16,10 @@ use gs_base::{Neighbour, PeerNo};
 use gs_ends::{Ends, LinkEnds, ListEnds};
 use gs_link::{Item, LinkRx, LinkTx};
 use gs_params::{Line, Params, SeededWords};
-use gs_peer::{Agenda, Assignment, Gate, NoGate, PeerTask, StopFlag, Surroundings};
+use gs_peer::{Agenda, Assignment, Gate, NoGate, PeerTask, Surroundings};
 use gs_router::Router;
 use gs_rules::{Event, Trace};
+use gs_workers::StopFlag;
 use std::alloc::{AllocError, Global};
 use std::sync::{Arc, Wait};
 
@@ -156,7 +157,6 @@ pub fn task_in<G: Gate, S: Ends>(
     ensures can { IfOk result (λ task. CanPoll S.joints S.accepted S.taken task) }
     ensures ends { IfOk result (λ task. HasJoints S.joints (S.joints surroundings.ends) task) }
 {
-    let router = router(alloc, pair.other)?;
     let neighbours = vec![in alloc; pair.other]?;
     let assignment = Assignment {
         number: pair.me,
@@ -167,6 +167,8 @@ pub fn task_in<G: Gate, S: Ends>(
         worker: 4,
     };
     let words = SeededWords::new(Vec::new(alloc), 1, pair.me);
+    // (last, so that no exit has a router to drop)
+    let router = router(alloc, pair.other)?;
     match PeerTask::new(alloc, assignment, router, words, surroundings) {
         Ok(task) => Ok(task),
         Err(_) => Err(AllocError),

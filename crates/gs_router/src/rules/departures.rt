@@ -5,6 +5,7 @@ ghost use Rattle.gs_base.specs.declared.mark.Mark.TheVariants.{Unfanned};
 ghost use Rattle.gs_base.specs.declared.names.Topic.{Topic as TopicValue};
 ghost use Rattle.gs_mesh.specs.Peers.{is_among};
 ghost use Rattle.gs_rules.specs.Tables.{Entries};
+ghost use Rattle.gs_rules.specs.Membership.{losing_marks};
 ghost use Rattle.gs_rules.specs.Meshes.{fanout};
 ghost use Rattle.gs_rules.specs.MeshRules.{fanned_of, left_by, lost_rule, sub_rule};
 ghost use Rattle.gs_router.specs.Tables.{Agrees};
@@ -67,15 +68,25 @@ pub fn lost(state: &State, peer: PeerNo, event: Event, now: Millis) -> Result<En
         → Knows state.now now.0 L
         → entry ≡ lost_rule (peer_with state.now.setup) L now peer event) }
 {
+    let marks = losing_marks(state, peer, now)?;
+    Ok(Entry {
+        marks,
+        ..bare(state.alloc, now, event)
+    })
+}
+
+/// What is remembered where a neighbour is lost.
+fn losing_marks(state: &State, peer: PeerNo, now: Millis) -> Result<Seq<Mark>, AllocError>
+    ensures { IfOk result (λ marks. (L : Entries)
+        → Knows state.now now.0 L
+        → marks ≡ losing_marks (peer_with state.now.setup) L now.0 peer) }
+{
     let topics = state.tables.mesh_topics.list(state.alloc)?;
     let mut marks = Seq::new(state.alloc);
     let left = membership::meshes_with(state, peer, topics.as_slice())?;
     membership::leave(state, &mut marks, left.as_slice(), now)?;
     unfan_everywhere(state, &mut marks, peer, topics.as_slice())?;
-    Ok(Entry {
-        marks,
-        ..bare(state.alloc, now, event)
-    })
+    Ok(marks)
 }
 
 /// A neighbour leaves the fanouts of these topics in which it is.

@@ -21,6 +21,7 @@ use crate::rules::{bare, to_each};
 use crate::state::State;
 use bytes::Bytes;
 use gs_base::{Mark, Message, Millis, MsgId, PeerNo, Rpc, Seq, Shared, Topic, Verdict, clone_of};
+use gs_cache::Payloads;
 use gs_params::{DEFAULT_TOPIC_WINDOWS, TopicParams};
 use gs_rules::{Entry, Event};
 use std::alloc::{AllocError, Global};
@@ -43,7 +44,13 @@ pub enum Fate {
 }
 
 /// What becomes of a message.
-fn fate_of(state: &State, from: PeerNo, message: &Message, now: Millis) -> Fate
+fn fate_of(
+    state: &State,
+    payloads: &mut Payloads,
+    from: PeerNo,
+    message: &Message,
+    now: Millis,
+) -> Fate
     ensures { (L : Entries)
         → Knows state.now now.0 L
         → message_rule (peer_with state.now.setup) L now from message.now
@@ -55,12 +62,22 @@ fn fate_of(state: &State, from: PeerNo, message: &Message, now: Millis) -> Fate
     if message.is_signed() {
         return Fate::Invalid;
     }
-    let id = MsgId::of(message.payload_bytes());
+    let id = identifier_of(payloads, message);
     match state.tables.sightings.verdict(&id, now) {
         Some(Verdict::Accept) => fate_again(state, from, message, id, now),
         Some(Verdict::Reject) => Fate::Invalid,
         Some(Verdict::Ignore) => Fate::Dropped,
         None => new_fate(state, message, id),
+    }
+}
+
+/// The identifier of a message.
+fn identifier_of(payloads: &mut Payloads, message: &Message) -> MsgId
+    ensures { result ≡ message_id (payload_of message.now) }
+{
+    match &message.payload {
+        Some(payload) => payloads.identifier(payload),
+        None => MsgId::of(&[]),
     }
 }
 
@@ -340,6 +357,7 @@ fn members_of<'a>(state: &'a State, topic: &Option<Topic>) -> &'a [PeerNo]
 /// The entry of a message that a neighbour passed on.
 pub fn entry_of(
     state: &State,
+    payloads: &mut Payloads,
     from: PeerNo,
     message: Shared<Message>,
     now: Millis,
@@ -348,7 +366,7 @@ pub fn entry_of(
         → Knows state.now now.0 L
         → entry ≡ message_rule (peer_with state.now.setup) L now from message) }
 {
-    let fate = fate_of(state, from, message.get(), now);
+    let fate = fate_of(state, payloads, from, message.get(), now);
     let entry = judged(state, from, message, fate, now)?;
     Ok(entry)
 }

@@ -2,6 +2,7 @@
 use crate::tests::cases::Sends;
 use bytes::Bytes;
 use gs_base::{Mark, Message, Millis, MsgId, PeerNo, Rpc, Seq, Shared, SubOpt, Topic, Verdict};
+use gs_router_calls::topic_of;
 use gs_rules::{Entry, Event, Trace};
 use std::alloc::{AllocError, Global};
 
@@ -47,10 +48,6 @@ pub type Row<'a> = (
     Option<(&'a str, &'a [u8])>,
     Option<Left<'a>>,
 );
-
-pub fn topic_of(alloc: Global, name: &str) -> Result<Topic, AllocError> {
-    Ok(Topic(Bytes::copy_from_slice(alloc, name.as_bytes())?))
-}
 
 fn named(alloc: Global, name: Option<&str>) -> Result<Option<Topic>, AllocError> {
     match name {

@@ -1,11 +1,9 @@
 //! What messages are found to be, and what is remembered of them.
-use crate::tests::calls::{hear, is_due, publish, subscribe};
-use crate::tests::made::topic_of;
-use crate::tests::{router_with, words};
 use bytes::Bytes;
-use gs_base::{Mark, Millis, PeerNo, Rpc, Seq, Topic, Verdict};
+use gs_base::{Mark, Millis, PeerNo, Rpc, Seq, Verdict};
 use gs_params::{Params, TopicParams};
 use gs_router::Router;
+use gs_router_calls::{hear, is_due, publish, router_with, subscribe, topic_of, words};
 use gs_rules::Entry;
 use gs_wire::decode;
 use std::alloc::{AllocError, Global};

@@ -1,9 +1,0 @@
-use Rattle.std.proofs.Common.{◌≡◌, ◌++◌, take}
-use Rattle.std.specs.List.{flat_map}
-use Rattle.gossip_sim.specs.Report.{delivered_line}
-use Rattle.gossip_sim.proofs.report.push_deliveries.Given as goal
-
--- the lines of the deliveries so far stand behind what was there
-abbrev pub invariant-loop-delivery : goal.invariant-loop-delivery
-invariant-loop-delivery l =
-    l.text.items ≡ l.initial.text.items ++ flat_map (delivered_line l.name l.at) (take l.delivery-index l.deliveries)

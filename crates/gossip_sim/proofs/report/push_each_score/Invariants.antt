@@ -1,9 +1,0 @@
-use Rattle.std.proofs.Common.{◌≡◌, ◌++◌, take}
-use Rattle.std.specs.List.{flat_map}
-use Rattle.gossip_sim.specs.Report.{score_line}
-use Rattle.gossip_sim.proofs.report.push_each_score.Given as goal
-
--- the lines of the scores so far stand behind what was there
-abbrev pub invariant-loop-score : goal.invariant-loop-score
-invariant-loop-score l =
-    l.text.items ≡ l.initial.text.items ++ flat_map (score_line l.plan l.name) (take l.score-index l.scores)

@@ -1,0 +1,38 @@
+//! Peers' tasks, driven by workers.
+ghost use Rattle.std.specs.Prelude.{◌≤◌, IfOk};
+ghost use Rattle.std.specs.List.{All, AllZip};
+ghost use Rattle.gs_peer.specs.Task.{CanPoll, Gives};
+
+use gs_ends::Ends;
+use gs_peer::{Finished, Gate, PeerFault, PeerTask};
+use gs_workers::{NetFault, StopFlag, run_all};
+use std::alloc::{AllocGlobal, Global};
+use std::random::RandomSource;
+use std::sync::{Arc, Wait};
+use std::thread::Threads;
+
+/// Runs the tasks on so many worker threads to their ends, and gives what each of them gave, in the
+/// order of the tasks. The task at place i runs on worker i mod `workers`. The workers have ended when
+/// it returns.
+///
+/// # Errors
+/// `NoMemory`, of no peer; and `NoThread` where a thread could not be started or could not wait. The
+/// flag is set before the workers that were started are joined, so that tasks which it stops end.
+pub fn run_tasks<
+    G: Gate + Send,
+    S: Ends + Send,
+    R: Threads + Wait + RandomSource + AllocGlobal + Sync,
+>(
+    rt: &R,
+    alloc: Global,
+    workers: usize,
+    stop: &Arc<StopFlag>,
+    tasks: Vec<PeerTask<G, S>>,
+) -> Result<Vec<Result<Finished<S>, PeerFault>>, NetFault>
+    requires workers { 1 ≤ workers }
+    requires ready { All (CanPoll S.joints S.accepted S.taken) tasks.items }
+    ensures given { IfOk result (λ results.
+        AllZip (Gives S.joints S.accepted S.taken) tasks.items results.items) }
+{
+    run_all(rt, alloc, workers, stop, tasks)
+}

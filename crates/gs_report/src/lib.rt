@@ -1,0 +1,10 @@
+//! What a run of peers leaves, and its text.
+#![tactic(auto)]
+
+mod finished;
+mod report;
+mod text;
+
+pub use finished::Finished;
+pub use report::Report;
+pub use text::{name_of, report_text};

@@ -1,0 +1,13 @@
+//! What is left of all peers.
+use crate::finished::Finished;
+use gs_base::PeerNo;
+
+/// What a run gives.
+#[derive(Debug, Drop)]
+pub struct Report {
+    /// Each peer of the plan with what is left of it, by number.
+    pub peers: Vec<(PeerNo, Finished)>,
+    /// How many links were settled whole: their close was taken, and so all that was sent. Each dial
+    /// has two.
+    pub settled: u64,
+}

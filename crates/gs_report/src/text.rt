@@ -1,0 +1,340 @@
+//! The text of a report.
+ghost use Rattle.std.specs.Prelude.{◌≡◌, ◌++◌, ◌<◌, IfOk, OnOk, string_bytes};
+ghost use Rattle.std.specs.List.{flat_map};
+ghost use Rattle.gs_report.specs.Text.{delivered_line, delivered_lines, digit, entry_lines, links_line, mesh_line, mesh_lines, name_of, payload_text, refused_line, refused_lines, report_text, score_line, score_lines, score_text, word_of};
+
+use crate::{Finished, Report};
+use bytes::Bytes;
+use gs_base::{Millis, PeerNo, Topic};
+use gs_params::Plan;
+use gs_rules::{Entry, RefusedLine};
+use gs_scenario::what_word;
+use std::alloc::{AllocError, Global};
+
+/// The text of a run's report: first a line for each message that was delivered, peer by peer in the
+/// order of its trace, then a line for each refusal, peer by peer in the order of its list, then a line for
+/// each member of a mesh, one for each score of a neighbour, and last the line of the links. A peer has the
+/// name that the plan gives its number.
+///
+/// # Errors
+/// `AllocError` where there was no memory for it.
+pub fn report_text(alloc: Global, plan: &Plan, report: &Report) -> Result<Vec<u8>, AllocError>
+    ensures { IfOk result (λ text. text.items ≡ report_text plan.now report.now) }
+{
+    let mut text = Vec::new(alloc);
+    push_delivered(alloc, &mut text, plan, &report.peers)?;
+    push_refused(alloc, &mut text, plan, &report.peers)?;
+    push_meshes(alloc, &mut text, plan, &report.peers)?;
+    push_scores(alloc, &mut text, plan, &report.peers)?;
+    push_links(alloc, &mut text, report.settled)?;
+    Ok(text)
+}
+
+/// Adds the lines of what was delivered to all peers.
+fn push_delivered(
+    alloc: Global,
+    text: &mut Vec<u8>,
+    plan: &Plan,
+    peers: &[(PeerNo, Finished)],
+) -> Result<(), AllocError>
+    ensures { OnOk result (text.new.items
+        ≡ text.old.items ++ flat_map (delivered_lines plan.now) peers.now) }
+{
+    for (number, life) in peers {
+        push_entries(alloc, text, name_of(plan, *number), life.trace.entries())?;
+    }
+    Ok(())
+}
+
+/// Adds the lines of what was delivered to a peer in these entries.
+fn push_entries(
+    alloc: Global,
+    text: &mut Vec<u8>,
+    name: &str,
+    entries: &[Entry],
+) -> Result<(), AllocError>
+    ensures { OnOk result (text.new.items ≡ text.old.items ++ flat_map (entry_lines name.now) entries.now) }
+{
+    for entry in entries {
+        push_deliveries(alloc, text, name, entry.at, entry.delivered.as_slice())?;
+    }
+    Ok(())
+}
+
+/// Adds the lines of what was delivered to a peer at a moment.
+fn push_deliveries(
+    alloc: Global,
+    text: &mut Vec<u8>,
+    name: &str,
+    at: Millis,
+    deliveries: &[(Topic, Bytes)],
+) -> Result<(), AllocError>
+    ensures { OnOk result (text.new.items ≡ text.old.items ++ flat_map (delivered_line name.now at) deliveries.now) }
+{
+    for delivery in deliveries {
+        push_delivery(alloc, text, name, at, delivery)?;
+    }
+    Ok(())
+}
+
+/// Adds the line of a payload that was delivered to a peer.
+fn push_delivery(
+    alloc: Global,
+    text: &mut Vec<u8>,
+    name: &str,
+    at: Millis,
+    delivery: &(Topic, Bytes),
+) -> Result<(), AllocError>
+    ensures { OnOk result (text.new.items ≡ text.old.items ++ delivered_line name.now at delivery.now) }
+{
+    let (topic, payload) = delivery;
+    let moment = at.0;
+    let front = format!(in alloc; "delivered {name} {moment} ")?;
+    let payload = payload_text(alloc, payload)?;
+    text.extend_from_slice(front.as_bytes())?;
+    text.extend_from_slice(&topic.0)?;
+    text.extend_from_slice(b" ")?;
+    text.extend_from_slice(payload.as_bytes())?;
+    text.extend_from_slice(b"\n")
+}
+
+/// Adds the lines of what all peers refused.
+fn push_refused(
+    alloc: Global,
+    text: &mut Vec<u8>,
+    plan: &Plan,
+    peers: &[(PeerNo, Finished)],
+) -> Result<(), AllocError>
+    ensures { OnOk result (text.new.items
+        ≡ text.old.items ++ flat_map (refused_lines plan.now) peers.now) }
+{
+    for (number, life) in peers {
+        push_refusals(
+            alloc,
+            text,
+            plan,
+            name_of(plan, *number),
+            life.refused.as_slice(),
+        )?;
+    }
+    Ok(())
+}
+
+/// Adds the lines of what a peer refused.
+fn push_refusals(
+    alloc: Global,
+    text: &mut Vec<u8>,
+    plan: &Plan,
+    name: &str,
+    refusals: &[RefusedLine],
+) -> Result<(), AllocError>
+    ensures { OnOk result (text.new.items ≡ text.old.items ++ flat_map (refused_line plan.now name.now) refusals.now) }
+{
+    for refusal in refusals {
+        push_refusal(alloc, text, plan, name, *refusal)?;
+    }
+    Ok(())
+}
+
+/// Adds the line of a refusal.
+fn push_refusal(
+    alloc: Global,
+    text: &mut Vec<u8>,
+    plan: &Plan,
+    name: &str,
+    refusal: RefusedLine,
+) -> Result<(), AllocError>
+    ensures { OnOk result (text.new.items ≡ text.old.items ++ refused_line plan.now name.now refusal) }
+{
+    let moment = refusal.at.0;
+    let word = word_of(plan, refusal.line);
+    let number = refusal.why.number();
+    let front = format!(in alloc; "refused {name} {moment} ")?;
+    let back = format!(in alloc; "{word} {number}\n")?;
+    text.extend_from_slice(front.as_bytes())?;
+    text.extend_from_slice(back.as_bytes())
+}
+
+/// Adds the lines of who was in the meshes of all peers.
+fn push_meshes(
+    alloc: Global,
+    text: &mut Vec<u8>,
+    plan: &Plan,
+    peers: &[(PeerNo, Finished)],
+) -> Result<(), AllocError>
+    ensures { OnOk result (text.new.items
+        ≡ text.old.items ++ flat_map (mesh_lines plan.now) peers.now) }
+{
+    for (number, life) in peers {
+        push_members(
+            alloc,
+            text,
+            plan,
+            name_of(plan, *number),
+            life.meshes.as_slice(),
+        )?;
+    }
+    Ok(())
+}
+
+/// Adds the lines of who was in a peer's meshes.
+fn push_members(
+    alloc: Global,
+    text: &mut Vec<u8>,
+    plan: &Plan,
+    name: &str,
+    members: &[(Topic, PeerNo)],
+) -> Result<(), AllocError>
+    ensures { OnOk result (text.new.items ≡ text.old.items ++ flat_map (mesh_line plan.now name.now) members.now) }
+{
+    for member in members {
+        push_member(alloc, text, plan, name, member)?;
+    }
+    Ok(())
+}
+
+/// Adds the line of who was in a mesh.
+fn push_member(
+    alloc: Global,
+    text: &mut Vec<u8>,
+    plan: &Plan,
+    name: &str,
+    member: &(Topic, PeerNo),
+) -> Result<(), AllocError>
+    ensures { OnOk result (text.new.items ≡ text.old.items ++ mesh_line plan.now name.now member.now) }
+{
+    let (topic, peer) = member;
+    let front = format!(in alloc; "mesh {name} ")?;
+    let back = format!(in alloc; " {}\n", name_of(plan, *peer))?;
+    text.extend_from_slice(front.as_bytes())?;
+    text.extend_from_slice(&topic.0)?;
+    text.extend_from_slice(back.as_bytes())
+}
+
+/// Adds the lines of what the neighbours of all peers scored.
+fn push_scores(
+    alloc: Global,
+    text: &mut Vec<u8>,
+    plan: &Plan,
+    peers: &[(PeerNo, Finished)],
+) -> Result<(), AllocError>
+    ensures { OnOk result (text.new.items
+        ≡ text.old.items ++ flat_map (score_lines plan.now) peers.now) }
+{
+    for (number, life) in peers {
+        push_each_score(
+            alloc,
+            text,
+            plan,
+            name_of(plan, *number),
+            life.scores.as_slice(),
+        )?;
+    }
+    Ok(())
+}
+
+/// Adds the lines of what a peer's neighbours scored.
+fn push_each_score(
+    alloc: Global,
+    text: &mut Vec<u8>,
+    plan: &Plan,
+    name: &str,
+    scores: &[(PeerNo, i128)],
+) -> Result<(), AllocError>
+    ensures { OnOk result (text.new.items ≡ text.old.items ++ flat_map (score_line plan.now name.now) scores.now) }
+{
+    for score in scores {
+        push_score(alloc, text, plan, name, *score)?;
+    }
+    Ok(())
+}
+
+/// Adds the line of what a neighbour scored.
+fn push_score(
+    alloc: Global,
+    text: &mut Vec<u8>,
+    plan: &Plan,
+    name: &str,
+    scored: (PeerNo, i128),
+) -> Result<(), AllocError>
+    ensures { OnOk result (text.new.items ≡ text.old.items ++ score_line plan.now name.now scored) }
+{
+    let neighbour = name_of(plan, scored.0);
+    let front = format!(in alloc; "score {name} {neighbour} ")?;
+    text.extend_from_slice(front.as_bytes())?;
+    push_millionths(alloc, text, scored.1)?;
+    text.extend_from_slice(b"\n")
+}
+
+/// Adds whole millionths as a number with six digits behind the point.
+fn push_millionths(alloc: Global, text: &mut Vec<u8>, score: i128) -> Result<(), AllocError>
+    ensures { OnOk result (text.new.items ≡ text.old.items ++ score_text score) }
+{
+    let size = score.unsigned_abs();
+    let whole = size / 1_000_000;
+    let front = if score < 0 {
+        format!(in alloc; "-{whole}.")?
+    } else {
+        format!(in alloc; "{whole}.")?
+    };
+    text.extend_from_slice(front.as_bytes())?;
+    text.extend_from_slice(&[
+        digit(size, 100_000),
+        digit(size, 10_000),
+        digit(size, 1_000),
+        digit(size, 100),
+        digit(size, 10),
+        digit(size, 1),
+    ])
+}
+
+/// The digit of a number at the place of a power of ten.
+fn digit(number: u128, power: u128) -> u8
+    requires { 0 < power }
+    ensures { result ≡ digit number power }
+{
+    (number / power % 10) as u8 + b'0'
+}
+
+/// Adds the line of the links that were settled.
+fn push_links(alloc: Global, text: &mut Vec<u8>, settled: u64) -> Result<(), AllocError>
+    ensures { OnOk result (text.new.items ≡ text.old.items ++ links_line settled) }
+{
+    let line = format!(in alloc; "links {settled} settled\n")?;
+    text.extend_from_slice(line.as_bytes())
+}
+
+/// The name of the peer with a number. A number that is no peer's has the empty one.
+pub fn name_of(plan: &Plan, number: PeerNo) -> &str
+    ensures { result.now ≡ name_of plan.now number }
+{
+    match plan.peers.as_slice().get(usize::from(number.0)) {
+        Some(peer) => peer.name.as_str(),
+        None => "",
+    }
+}
+
+/// The word of the script's line at a place. A place that is no line's has the empty one.
+fn word_of(plan: &Plan, place: usize) -> &'static str
+    ensures { result.now ≡ word_of plan.now place }
+{
+    match plan.script.as_slice().get(place) {
+        Some(line) => what_word(&line.what),
+        None => "",
+    }
+}
+
+/// A payload in lower-case hexadecimal digits, and the empty one as `-`, so that each line has the
+/// same number of words.
+fn payload_text(alloc: Global, payload: &[u8]) -> Result<String, AllocError>
+    ensures { IfOk result (λ text. string_bytes text ≡ payload_text payload.now) }
+{
+    if payload.is_empty() {
+        String::from_str(alloc, "-")
+    } else {
+        hex::encode(alloc, payload)
+    }
+}
+
+#[cfg(test)]
+mod tests;

@@ -1,0 +1,5 @@
+//! What routers do moment by moment: promises, gossip, meshes, fanouts, heartbeats and scores, compared with tables.
+#![tactic(auto)]
+
+#[cfg(test)]
+mod tests;

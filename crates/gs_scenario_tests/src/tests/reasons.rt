@@ -1,0 +1,237 @@
+//! The reasons of refusals.
+use gs_scenario::TableKind;
+
+/// Edits of the scenario that says something in each table, and the refusals as they are written.
+pub static REASONS: [(&str, &str, &str); 40] = [
+    // What stands there.
+    (
+        "workers = 2",
+        "workers = 17",
+        "Range(Text { text: \"workers\" }, Number(17), Number(1, 16))",
+    ),
+    (
+        "workers = 2",
+        "workers = -1",
+        "Range(Text { text: \"workers\" }, Number(-1), Number(1, 16))",
+    ),
+    (
+        "workers = 2",
+        "workers = 2.0",
+        "Range(Text { text: \"workers\" }, Float, Number(1, 16))",
+    ),
+    (
+        "workers = 2",
+        "workers = '2'",
+        "Range(Text { text: \"workers\" }, Text(Text { text: \"2\" }), Number(1, 16))",
+    ),
+    (
+        "workers = 2",
+        "workers = true",
+        "Range(Text { text: \"workers\" }, TruthValue(true), Number(1, 16))",
+    ),
+    (
+        "workers = 2",
+        "workers = 1979-05-27",
+        "Range(Text { text: \"workers\" }, Date, Number(1, 16))",
+    ),
+    (
+        "workers = 2",
+        "workers = [1, 2]",
+        "Range(Text { text: \"workers\" }, List(2), Number(1, 16))",
+    ),
+    (
+        "workers = 2",
+        "workers = {}",
+        "Range(Text { text: \"workers\" }, Table, Number(1, 16))",
+    ),
+    // What is wanted.
+    (
+        "rounds = 10",
+        "rounds = 0",
+        "Range(Text { text: \"rounds\" }, Number(0), Number(1, 100000))",
+    ),
+    (
+        "seed = 1",
+        "seed = -1",
+        "Range(Text { text: \"seed\" }, Number(-1), Number(0, 9223372036854775807))",
+    ),
+    (
+        "[params]",
+        "params = 1",
+        "Range(Text { text: \"params\" }, Number(1), Table)",
+    ),
+    (
+        "[params]\n\n[[topic]]\nname = \"news\"\n",
+        "topic = []\n",
+        "Range(Text { text: \"topic\" }, List(0), Elements(1, 32))",
+    ),
+    (
+        "seed = 1",
+        "seed = 1\ndo = 1",
+        "Range(Text { text: \"do\" }, Number(1), List)",
+    ),
+    (
+        "[params]\n",
+        "[params]\nd = -1\n",
+        "Range(Text { text: \"params.d\" }, Number(-1), Number(0, 1000000000000))",
+    ),
+    (
+        "[params]\n",
+        "[params]\nw5 = -1\n",
+        "Range(Text { text: \"params.w5\" }, Number(-1), SignedNumber(0, 1000000000000))",
+    ),
+    (
+        "[params]\n",
+        "[params]\nw6 = '1'\n",
+        "Range(Text { text: \"params.w6\" }, Text(Text { text: \"1\" }), SignedNumber(-1000000000000, 1000000000000))",
+    ),
+    (
+        "[params]\n",
+        "[params]\nflood_publish = 1\n",
+        "Range(Text { text: \"params.flood_publish\" }, Number(1), TruthValue)",
+    ),
+    (
+        "[params]\n",
+        "[params]\ndecay_ms = 250\n",
+        "Range(Text { text: \"params.decay_ms\" }, Number(250), Multiple(100))",
+    ),
+    (
+        "round_ms = 100",
+        "round_ms = 300",
+        "Range(Text { text: \"params.heartbeat_ms\" }, Default(1000), Multiple(300))",
+    ),
+    (
+        "name = \"news\"",
+        "name = \"News\"",
+        "Range(Text { text: \"topic[0].name\" }, Text(Text { text: \"News\" }), Name)",
+    ),
+    (
+        "name = \"news\"\n",
+        "name = \"news\"\nreject = ['00', '0']\n",
+        "Range(Text { text: \"topic[0].reject\" }, Text(Text { text: \"0\" }), Hex)",
+    ),
+    (
+        "name = \"b\"\n",
+        "name = \"b\"\naddress = 1\n",
+        "Range(Text { text: \"peer[1].address\" }, Number(1), Text)",
+    ),
+    (
+        "name = \"b\"\n",
+        "name = \"b\"\nwords = [1, -2]\n",
+        "Range(Text { text: \"peer[1].words\" }, Number(-2), Number(0, 4294967295))",
+    ),
+    (
+        "to = \"b\"",
+        "to = \"a\"",
+        "Range(Text { text: \"dial[0].to\" }, Text(Text { text: \"a\" }), AnotherPeer)",
+    ),
+    (
+        "value = 5\n",
+        "value = 1000000001\n",
+        "Range(Text { text: \"app[0].value\" }, Number(1000000001), SignedNumber(-1000000000, 1000000000))",
+    ),
+    (
+        "value = 5\n",
+        "value = 5\n[[do]]\nwhat = 'raw'\n",
+        "Range(Text { text: \"do[0].what\" }, Text(Text { text: \"raw\" }), Verb)",
+    ),
+    // Which name, and of what.
+    (
+        "to = \"b\"",
+        "to = \"d\"",
+        "UnknownName(Text { text: \"dial[0].to\" }, Text { text: \"d\" }, Peer)",
+    ),
+    (
+        "about = \"b\"",
+        "about = \"d\"",
+        "UnknownName(Text { text: \"app[0].about\" }, Text { text: \"d\" }, Peer)",
+    ),
+    (
+        "about = \"b\"",
+        "about = \"c\"",
+        "UnknownName(Text { text: \"app[0].about\" }, Text { text: \"c\" }, Neighbour)",
+    ),
+    (
+        "value = 5\n",
+        "value = 5\n[[do]]\nwhat = 'subscribe'\nat = 0\npeer = 'a'\ntopic = 'blog'\n",
+        "UnknownName(Text { text: \"do[0].topic\" }, Text { text: \"blog\" }, Topic)",
+    ),
+    // Which table has no such key.
+    (
+        "seed = 1",
+        "seed = 1\nspeed = 1",
+        "UnknownKey(Text { text: \"speed\" }, Top)",
+    ),
+    (
+        "[params]\n",
+        "[params]\nD = 1\n",
+        "UnknownKey(Text { text: \"params.D\" }, Params)",
+    ),
+    (
+        "name = \"news\"\n",
+        "name = \"news\"\nd = 1\n",
+        "UnknownKey(Text { text: \"topic[0].d\" }, Topic)",
+    ),
+    (
+        "name = \"b\"\n",
+        "name = \"b\"\nword = 1\n",
+        "UnknownKey(Text { text: \"peer[1].word\" }, Peer)",
+    ),
+    (
+        "to = \"b\"\n",
+        "to = \"b\"\nvia = 1\n",
+        "UnknownKey(Text { text: \"dial[0].via\" }, Dial)",
+    ),
+    (
+        "value = 5\n",
+        "value = 5\nscore = 1\n",
+        "UnknownKey(Text { text: \"app[0].score\" }, App)",
+    ),
+    (
+        "value = 5\n",
+        "value = 5\n[[do]]\nwhat = 'unsubscribe'\nhex = ''\n",
+        "UnknownKey(Text { text: \"do[0].hex\" }, SubscriptionLine)",
+    ),
+    (
+        "value = 5\n",
+        "value = 5\n[[do]]\nwhat = 'publish'\nraw = ''\n",
+        "UnknownKey(Text { text: \"do[0].raw\" }, PublishLine)",
+    ),
+    // Which parameter is what it may not be.
+    (
+        "[params]",
+        "[params]\nd_low = 7",
+        "Params(Degrees(Count(DLow, 7, NotAbove(D, 6))))",
+    ),
+    (
+        "name = \"news\"\n",
+        "name = \"news\"\nw4 = 5\n",
+        "Params(Factor(Score(OfTopic(0, InvalidMessageDeliveriesWeight), 5, Range(-1000000000, 0))))",
+    ),
+];
+
+/// The keys that a table may have, in the order in which they are looked at.
+pub static KNOWN_KEYS: [(TableKind, &str); 8] = [
+    (
+        TableKind::Top,
+        "round_ms rounds workers capacity seed params topic peer dial app do ",
+    ),
+    (
+        TableKind::Params,
+        "d d_low d_high d_score d_out d_lazy gossip_threshold publish_threshold graylist_threshold \
+        opportunistic_threshold gossip_factor p7_decay w5 w6 w7 topic_cap decay_to_zero p6_threshold \
+        heartbeat_ms decay_ms fanout_ttl_ms seen_ttl_ms iwant_followup_ms prune_backoff_s \
+        unsubscribe_backoff_s mcache_len mcache_gossip opportunistic_ticks opportunistic_peers \
+        max_ihave max_ihave_ids gossip_retransmission flood_publish ",
+    ),
+    (
+        TableKind::Topic,
+        "name topic_weight w1 w2 w3 w3b w4 p2_decay p3_decay p3b_decay p4_decay p1_cap p2_cap p3_cap \
+        p3_threshold p1_quantum_ms p3_window_ms p3_activation_ms reject ignore ",
+    ),
+    (TableKind::Peer, "name address words "),
+    (TableKind::Dial, "from to "),
+    (TableKind::App, "peer about value "),
+    (TableKind::SubscriptionLine, "what at peer topic "),
+    (TableKind::PublishLine, "what at peer topic hex "),
+];
