@@ -11,6 +11,3 @@ pub use laws::{a_step_needs_what_counts_alone, limit_of_announcements};
 pub use messages::{Answer, MOST_ANNOUNCED, MessageCache};
 pub use payloads::Payloads;
 pub use seen::{SeenCache, Sighting};
-
-#[cfg(test)]
-mod tests;

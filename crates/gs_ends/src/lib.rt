@@ -11,6 +11,3 @@ mod place;
 pub use ends::Ends;
 pub use link_ends::LinkEnds;
 pub use list_ends::ListEnds;
-
-#[cfg(test)]
-mod tests;

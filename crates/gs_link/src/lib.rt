@@ -19,6 +19,3 @@ pub use receiver::{LinkRx, Taken};
 pub use sender::LinkTx;
 pub use settlement::{Settled, settle};
 pub use wiring::open_link;
-
-#[cfg(test)]
-mod tests;

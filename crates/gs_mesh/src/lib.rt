@@ -17,6 +17,3 @@ pub use heartbeat::{Choice, a_choice_by_words_is_a_mesh_step, choose_heartbeat};
 pub use meshes::Meshes;
 pub use peer_list::PeerList;
 pub use topic_mesh::TopicMesh;
-
-#[cfg(test)]
-mod tests;

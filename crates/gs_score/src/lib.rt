@@ -26,6 +26,3 @@ pub use score::score_of;
 pub use scores::Scores;
 pub use standing::{Kind, Standing};
 pub use topics::Topics;
-
-#[cfg(test)]
-mod tests;

@@ -1,0 +1,3 @@
+//! Links by themselves, and the ends of a peer's links.
+mod ends;
+mod links;

@@ -1,0 +1,4 @@
+//! What routers keep.
+mod caches;
+mod meshes;
+mod scores;

@@ -1,0 +1,205 @@
+//! Two topics, step by step.
+use bytes::Bytes;
+use gs_base::{Millis, PeerNo, Topic};
+use gs_mesh::Meshes;
+use std::alloc::{AllocError, Global};
+
+/// What is done to the topic `a`.
+enum Act {
+    Join,
+    /// Who was in the mesh.
+    Leave(&'static [PeerNo]),
+    Graft(u16),
+    /// Whether it was in the mesh.
+    Prune(u16, bool),
+    Backoff(u16, u64),
+    Fan(u16),
+    /// Whether it was in the fanout.
+    Unfan(u16, bool),
+    Publish(u64),
+    DropFanout,
+}
+
+/// What is done, and what is kept of the topic then.
+struct Row {
+    act: Act,
+    is_joined: bool,
+    members: &'static [PeerNo],
+    fanout: &'static [PeerNo],
+    last_published: Option<Millis>,
+    /// From when on peers 1 and 2 may be grafted.
+    backoffs: [u64; 2],
+}
+
+const EMPTY: Row = Row {
+    act: Act::Join,
+    is_joined: false,
+    members: &[],
+    fanout: &[],
+    last_published: None,
+    backoffs: [0; 2],
+};
+
+static ROWS: [Row; 18] = [
+    Row {
+        act: Act::Fan(2),
+        fanout: &[PeerNo(2)],
+        ..EMPTY
+    },
+    Row {
+        act: Act::Fan(1),
+        fanout: &[PeerNo(1), PeerNo(2)],
+        ..EMPTY
+    },
+    Row {
+        act: Act::Publish(500),
+        fanout: &[PeerNo(1), PeerNo(2)],
+        last_published: Some(Millis(500)),
+        ..EMPTY
+    },
+    Row {
+        act: Act::Unfan(2, true),
+        fanout: &[PeerNo(1)],
+        last_published: Some(Millis(500)),
+        ..EMPTY
+    },
+    Row {
+        act: Act::Unfan(2, false),
+        fanout: &[PeerNo(1)],
+        last_published: Some(Millis(500)),
+        ..EMPTY
+    },
+    Row {
+        act: Act::Publish(700),
+        fanout: &[PeerNo(1)],
+        last_published: Some(Millis(700)),
+        ..EMPTY
+    },
+    Row {
+        act: Act::Join,
+        is_joined: true,
+        fanout: &[PeerNo(1)],
+        last_published: Some(Millis(700)),
+        ..EMPTY
+    },
+    Row {
+        act: Act::DropFanout,
+        is_joined: true,
+        ..EMPTY
+    },
+    Row {
+        act: Act::Graft(4),
+        is_joined: true,
+        members: &[PeerNo(4)],
+        ..EMPTY
+    },
+    Row {
+        act: Act::Graft(1),
+        is_joined: true,
+        members: &[PeerNo(1), PeerNo(4)],
+        ..EMPTY
+    },
+    Row {
+        act: Act::Graft(4),
+        is_joined: true,
+        members: &[PeerNo(1), PeerNo(4)],
+        ..EMPTY
+    },
+    Row {
+        act: Act::Prune(1, true),
+        is_joined: true,
+        members: &[PeerNo(4)],
+        ..EMPTY
+    },
+    Row {
+        act: Act::Backoff(1, 60_000),
+        is_joined: true,
+        members: &[PeerNo(4)],
+        backoffs: [60_000, 0],
+        ..EMPTY
+    },
+    // A shorter one doesn't end a longer one.
+    Row {
+        act: Act::Backoff(1, 10_000),
+        is_joined: true,
+        members: &[PeerNo(4)],
+        backoffs: [60_000, 0],
+        ..EMPTY
+    },
+    Row {
+        act: Act::Backoff(2, 20_000),
+        is_joined: true,
+        members: &[PeerNo(4)],
+        backoffs: [60_000, 20_000],
+        ..EMPTY
+    },
+    Row {
+        act: Act::Backoff(1, 60_001),
+        is_joined: true,
+        members: &[PeerNo(4)],
+        backoffs: [60_001, 20_000],
+        ..EMPTY
+    },
+    Row {
+        act: Act::Prune(9, false),
+        is_joined: true,
+        members: &[PeerNo(4)],
+        backoffs: [60_001, 20_000],
+        ..EMPTY
+    },
+    Row {
+        act: Act::Leave(&[PeerNo(4)]),
+        backoffs: [60_001, 20_000],
+        ..EMPTY
+    },
+];
+
+fn topic(alloc: Global, name: u8) -> Result<Topic, AllocError> {
+    Ok(Topic(Bytes::copy_from_slice(alloc, &[name])?))
+}
+
+/// Does it, and answers whether the answer was the one that is wanted.
+fn does(meshes: &mut Meshes, topic: &Topic, act: &Act) -> Result<bool, AllocError> {
+    match act {
+        Act::Join => meshes.join(topic)?,
+        Act::Leave(members) => return Ok(meshes.leave(topic).as_slice() == *members),
+        Act::Graft(peer) => meshes.graft(PeerNo(*peer), topic)?,
+        Act::Prune(peer, was) => return Ok(meshes.prune(PeerNo(*peer), topic) == *was),
+        Act::Backoff(peer, end) => meshes.note_backoff(PeerNo(*peer), topic, Millis(*end))?,
+        Act::Fan(peer) => meshes.fan(PeerNo(*peer), topic)?,
+        Act::Unfan(peer, was) => return Ok(meshes.unfan(PeerNo(*peer), topic) == *was),
+        Act::Publish(now) => meshes.publish_at(topic, Millis(*now))?,
+        Act::DropFanout => meshes.drop_fanout(topic),
+    }
+    Ok(true)
+}
+
+/// Whether this is kept of a topic.
+fn is_kept(meshes: &Meshes, topic: &Topic, row: &Row) -> bool {
+    let [first, second] = row.backoffs;
+    meshes.is_joined(topic) == row.is_joined
+        && meshes.members(topic) == row.members
+        && meshes.fanout(topic) == row.fanout
+        && meshes.last_published(topic) == row.last_published
+        && meshes.backoff_until(PeerNo(1), topic) == Millis(first)
+        && meshes.backoff_until(PeerNo(2), topic) == Millis(second)
+}
+
+/// The number of the first row that is not as it is wanted.
+fn first_wrong(alloc: Global) -> Result<usize, AllocError> {
+    let mut meshes = Meshes::new(alloc);
+    let (a, b) = (topic(alloc, b'a')?, topic(alloc, b'b')?);
+    for (place, row) in ROWS.iter().enumerate() {
+        let is_well = does(&mut meshes, &a, &row.act)?;
+        if !is_well || !is_kept(&meshes, &a, row) || !is_kept(&meshes, &b, &EMPTY) {
+            return Ok(place);
+        }
+    }
+    Ok(ROWS.len())
+}
+
+#[test]
+fn a_topic_is_changed_step_by_step_and_no_other(rt: HostRuntime) -> Result<(), AllocError> {
+    assert_eq!(rt; first_wrong(rt.alloc())?, 18);
+    Ok(())
+}

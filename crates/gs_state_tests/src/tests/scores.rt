@@ -1,0 +1,8 @@
+//! Counters and scores, by hand.
+mod counters;
+mod formula;
+mod neighbours;
+mod places;
+mod products;
+mod standings;
+mod topics;

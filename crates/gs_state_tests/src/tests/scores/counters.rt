@@ -1,0 +1,142 @@
+//! One counter, with a floor of 10,000.
+ghost use Rattle.std.specs.Prelude.{◌≤◌, ◌^◌};
+
+use gs_score::{Counter, Decay};
+
+/// What is done to a counter.
+enum Act {
+    /// Raised by an amount, up to a cap.
+    Raise(u64, u64),
+    /// So many steps of decay.
+    Steps(u64),
+}
+
+/// What a counter is then.
+struct Case {
+    factor: u64,
+    acts: &'static [Act],
+    /// The kept value, and the tick up to which it was decayed.
+    stored: (u64, u64),
+    read: u64,
+}
+
+const CAP: u64 = 100_000_000;
+
+const ONE: Act = Act::Raise(1_000_000, CAP);
+
+/// A factor of a half, and cases in which it is one.
+static CASES: [Case; 11] = [
+    Case {
+        factor: 500_000,
+        acts: &[],
+        stored: (0, 0),
+        read: 0,
+    },
+    Case {
+        factor: 500_000,
+        acts: &[ONE, Act::Steps(3)],
+        stored: (1_000_000, 0),
+        read: 125_000,
+    },
+    Case {
+        factor: 500_000,
+        acts: &[ONE, Act::Steps(3), ONE],
+        stored: (1_125_000, 3),
+        read: 1_125_000,
+    },
+    Case {
+        factor: 500_000,
+        acts: &[ONE, Act::Steps(6)],
+        stored: (1_000_000, 0),
+        read: 15_625,
+    },
+    // 7,812 is below the floor, and 10,000 is not.
+    Case {
+        factor: 500_000,
+        acts: &[ONE, Act::Steps(7)],
+        stored: (1_000_000, 0),
+        read: 0,
+    },
+    Case {
+        factor: 500_000,
+        acts: &[Act::Raise(20_000, CAP), Act::Steps(1)],
+        stored: (20_000, 0),
+        read: 10_000,
+    },
+    Case {
+        factor: 500_000,
+        acts: &[Act::Raise(19_999, CAP), Act::Steps(1)],
+        stored: (19_999, 0),
+        read: 0,
+    },
+    // No step is made where one changes nothing.
+    Case {
+        factor: 1_000_000,
+        acts: &[ONE, Act::Steps(100_000)],
+        stored: (1_000_000, 0),
+        read: 1_000_000,
+    },
+    Case {
+        factor: 500_000,
+        acts: &[ONE, Act::Steps(1 << 63)],
+        stored: (1_000_000, 0),
+        read: 0,
+    },
+    // The cap holds for the sum.
+    Case {
+        factor: 500_000,
+        acts: &[ONE, Act::Raise(1_000_000, 1_500_000)],
+        stored: (1_500_000, 0),
+        read: 1_500_000,
+    },
+    Case {
+        factor: 0,
+        acts: &[ONE, Act::Raise(1 << 63, 1_000_000_000_000)],
+        stored: (1_000_000_000_000, 0),
+        read: 1_000_000_000_000,
+    },
+];
+
+/// A way to decay, with the floor of these tests.
+fn decay(factor: u64) -> Decay
+    ensures { result.factor ≤ 10 ^ 6 }
+{
+    Decay {
+        factor: factor.min(1_000_000),
+        floor: 10_000,
+    }
+}
+
+/// Does to a counter at a tick what is to be done, and gives the tick after it.
+fn perform(counter: &mut Counter, decay: Decay, tick: u64, act: &Act) -> u64
+    requires { decay.factor ≤ 10 ^ 6 }
+{
+    match act {
+        Act::Raise(by, cap) => {
+            counter.raise(*by, (*cap).min(1_000_000_000_000), decay, tick);
+            tick
+        }
+        Act::Steps(steps) => tick.saturating_add(*steps),
+    }
+}
+
+/// A counter to which all was done, and what it is read as.
+fn done(case: &Case) -> (Counter, u64) {
+    let decay = decay(case.factor);
+    let mut counter = Counter::new();
+    let mut tick = 0;
+    for step in case.acts {
+        tick = perform(&mut counter, decay, tick, step);
+    }
+    let read = counter.read(decay, tick);
+    (counter, read)
+}
+
+#[test]
+fn counters_decay_where_they_are_looked_at(rt: HostRuntime) {
+    for case in &CASES {
+        let (counter, read) = done(case);
+        assert_eq!(rt; counter.stored(), case.stored);
+        assert_eq!(rt; read, case.read);
+    }
+}

@@ -1,0 +1,114 @@
+//! Whole scores, under the default weights.
+ghost use Rattle.gs_params.specs.Params.{FactorsAreInRange};
+
+use gs_params::{DEFAULT_FACTORS, Factors};
+use gs_score::score_of;
+
+/// What a score is made of, and what it is, in millionths.
+struct Case {
+    /// Whether topics together give at most five.
+    capped: bool,
+    topics: i128,
+    app: i128,
+    /// Neighbours at the address.
+    number: u64,
+    behaviour: u64,
+    score: i128,
+}
+
+static CASES: [Case; 7] = [
+    Case {
+        capped: false,
+        topics: 0,
+        app: 0,
+        number: 1,
+        behaviour: 0,
+        score: 0,
+    },
+    Case {
+        capped: false,
+        topics: 9_000_000,
+        app: 0,
+        number: 1,
+        behaviour: 0,
+        score: 9_000_000,
+    },
+    Case {
+        capped: true,
+        topics: 9_000_000,
+        app: 0,
+        number: 1,
+        behaviour: 0,
+        score: 5_000_000,
+    },
+    Case {
+        capped: true,
+        topics: -9_000_000,
+        app: 1,
+        number: 0,
+        behaviour: 0,
+        score: -8_999_999,
+    },
+    // Two neighbours more than may be: -5 * 2 * 2.
+    Case {
+        capped: false,
+        topics: 0,
+        app: 1_000_000,
+        number: 3,
+        behaviour: 0,
+        score: -19_000_000,
+    },
+    // -10 * 2 * 2.
+    Case {
+        capped: false,
+        topics: 0,
+        app: 0,
+        number: 1,
+        behaviour: 2_000_000,
+        score: -40_000_000,
+    },
+    // All at their bounds: 10^12 - 5 * (10^6 - 1)^2 and - 10 * 10^6 * 10^6, with six digits each.
+    Case {
+        capped: true,
+        topics: 10_000_000_000_000_000_000_000_000_000,
+        app: 1_000_000_000_000,
+        number: 1_000_000,
+        behaviour: 1_000_000_000_000,
+        score: 5_000_000 + 1_000_000_000_000
+            - 4_999_990_000_005_000_000
+            - 10_000_000_000_000_000_000,
+    },
+];
+
+fn factors(capped: bool) -> Factors
+    ensures { FactorsAreInRange result }
+{
+    let topic_cap = if capped { 5_000_000 } else { 0 };
+    Factors {
+        topic_cap,
+        ..DEFAULT_FACTORS
+    }
+}
+
+/// The score, where what it is made of is within bounds.
+fn score(case: &Case) -> Option<i128> {
+    let topics_fit = case.topics.unsigned_abs() <= 100_000_000_000_000_000_000_000_000_000;
+    let app_fits = case.app.unsigned_abs() <= 1_000_000_000_000;
+    if !topics_fit || !app_fits || 1_000_000 < case.number || 1_000_000_000_000 < case.behaviour {
+        return None;
+    }
+    Some(score_of(
+        &factors(case.capped),
+        case.topics,
+        case.app,
+        case.number,
+        case.behaviour,
+    ))
+}
+
+#[test]
+fn scores_are_made_by_hand(rt: HostRuntime) {
+    for case in &CASES {
+        assert_eq!(rt; score(case), Some(case.score));
+    }
+}

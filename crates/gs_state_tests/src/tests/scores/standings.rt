@@ -1,0 +1,213 @@
+//! What one neighbour has on one topic.
+ghost use Rattle.gs_score.specs.Ranges.{RulesAreInRange};
+
+use gs_base::Millis;
+use gs_params::{DEFAULT_TOPIC_FACTORS, DEFAULT_TOPIC_WINDOWS, TopicFactors};
+use gs_score::{Kind, Standing, TopicRules};
+
+/// What is done to a standing.
+enum Act {
+    Raise(Kind, u64),
+    Graft(u64),
+    Prune,
+    /// So many steps of decay.
+    Steps(u64),
+}
+
+/// What it holds then, in millionths.
+struct Case {
+    /// Under the strict rules, and not the mixed ones.
+    strict: bool,
+    acts: &'static [Act],
+    now: u64,
+    /// Of first, near, missing and invalid deliveries.
+    counts: [u64; 4],
+    missing: u64,
+    part: i128,
+}
+
+/// Half a delivery in the mesh, where two are asked for once a member is active.
+const LATE: [Act; 2] = [Act::Raise(Kind::Near, 500_000), Act::Graft(0)];
+
+static CASES: [Case; 11] = [
+    Case {
+        strict: true,
+        acts: &[],
+        now: 9_000,
+        counts: [0, 0, 0, 0],
+        missing: 0,
+        part: 0,
+    },
+    // Active, and not yet.
+    Case {
+        strict: true,
+        acts: &LATE,
+        now: 5_000,
+        counts: [0, 500_000, 0, 0],
+        missing: 2_250_000,
+        part: -2_250_000,
+    },
+    Case {
+        strict: true,
+        acts: &LATE,
+        now: 4_999,
+        counts: [0, 500_000, 0, 0],
+        missing: 0,
+        part: 0,
+    },
+    // Out of the mesh it is charged once.
+    Case {
+        strict: true,
+        acts: &[
+            Act::Raise(Kind::Near, 500_000),
+            Act::Graft(0),
+            Act::Raise(Kind::Deficit, 2_250_000),
+            Act::Prune,
+        ],
+        now: 5_000,
+        counts: [0, 500_000, 2_250_000, 0],
+        missing: 0,
+        part: -2_250_000,
+    },
+    Case {
+        strict: true,
+        acts: &[Act::Raise(Kind::Near, 2_000_000), Act::Graft(0)],
+        now: 5_000,
+        counts: [0, 2_000_000, 0, 0],
+        missing: 0,
+        part: 0,
+    },
+    // 3,999 ms are three quanta: 2 * 3 + 3 * 2 - 3 * 3, of which half counts.
+    Case {
+        strict: false,
+        acts: &[
+            Act::Graft(100),
+            Act::Raise(Kind::First, 2_000_000),
+            Act::Raise(Kind::Invalid, 3_000_000),
+        ],
+        now: 4_099,
+        counts: [2_000_000, 0, 0, 3_000_000],
+        missing: 0,
+        part: 1_500_000,
+    },
+    // A step later: 2 * 3 + 3 * 1 - 1.5 * 1.5.
+    Case {
+        strict: false,
+        acts: &[
+            Act::Graft(100),
+            Act::Raise(Kind::First, 2_000_000),
+            Act::Raise(Kind::Invalid, 3_000_000),
+            Act::Steps(1),
+        ],
+        now: 4_099,
+        counts: [1_000_000, 0, 0, 1_500_000],
+        missing: 0,
+        part: 3_375_000,
+    },
+    // The time in the mesh counts up to its cap, and first deliveries up to theirs.
+    Case {
+        strict: false,
+        acts: &[Act::Graft(0)],
+        now: 1_000_000_000_000_000,
+        counts: [0, 0, 0, 0],
+        missing: 0,
+        part: 100_000_000,
+    },
+    Case {
+        strict: false,
+        acts: &[Act::Raise(Kind::First, 1 << 63)],
+        now: 0,
+        counts: [100_000_000, 0, 0, 0],
+        missing: 0,
+        part: 150_000_000,
+    },
+    // The square of a thousandth is a millionth, and half of it, below 0, is one.
+    Case {
+        strict: false,
+        acts: &[Act::Raise(Kind::Invalid, 1_000)],
+        now: 0,
+        counts: [0, 0, 0, 1_000],
+        missing: 0,
+        part: -1,
+    },
+    Case {
+        strict: true,
+        acts: &[Act::Raise(Kind::Deficit, 1 << 63), Act::Steps(1)],
+        now: 0,
+        counts: [0, 0, 500_000_000_000, 0],
+        missing: 0,
+        part: -500_000_000_000,
+    },
+];
+
+/// Rules under which too few deliveries in the mesh cost, and rules by which all others count.
+fn rules(strict: bool) -> TopicRules
+    ensures { RulesAreInRange result }
+{
+    let factors = if strict {
+        TopicFactors {
+            w3: -1_000_000,
+            w3b: -1_000_000,
+            p3_threshold: 2_000_000,
+            ..DEFAULT_TOPIC_FACTORS
+        }
+    } else {
+        TopicFactors {
+            topic_weight: 500_000,
+            w1: 2_000_000,
+            w2: 3_000_000,
+            w4: -1_000_000,
+            ..DEFAULT_TOPIC_FACTORS
+        }
+    };
+    TopicRules {
+        factors,
+        windows: DEFAULT_TOPIC_WINDOWS,
+        decay_to_zero: 10_000,
+    }
+}
+
+/// Does to a standing at a tick what is to be done, and gives the tick after it.
+fn perform(standing: &mut Standing, rules: &TopicRules, tick: u64, act: &Act) -> u64
+    requires { RulesAreInRange rules.now }
+{
+    match act {
+        Act::Raise(kind, by) => standing.raise(*kind, *by, rules, tick),
+        Act::Graft(now) => standing.graft(Millis(*now)),
+        Act::Prune => standing.prune(),
+        Act::Steps(steps) => return tick.saturating_add(*steps),
+    }
+    tick
+}
+
+/// What is held after all that is done: the counters, what is missing, and the part of the score.
+fn held(case: &Case) -> ([u64; 4], u64, i128) {
+    let rules = rules(case.strict);
+    let now = Millis(case.now);
+    let mut standing = Standing::new();
+    let mut tick = 0;
+    for act in case.acts {
+        tick = perform(&mut standing, &rules, tick, act);
+    }
+    let counts = [
+        standing.count(Kind::First, &rules, tick),
+        standing.count(Kind::Near, &rules, tick),
+        standing.count(Kind::Deficit, &rules, tick),
+        standing.count(Kind::Invalid, &rules, tick),
+    ];
+    (
+        counts,
+        standing.missing(&rules, tick, now),
+        standing.part(&rules, tick, now),
+    )
+}
+
+#[test]
+fn standings_are_scored_by_hand(rt: HostRuntime) {
+    for case in &CASES {
+        let (counts, missing, part) = held(case);
+        assert_eq!(rt; counts, case.counts);
+        assert_eq!(rt; missing, case.missing);
+        assert_eq!(rt; part, case.part);
+    }
+}

@@ -1,0 +1,139 @@
+//! One neighbour on two topics, of which the first weighs first deliveries and the second their lack.
+ghost use Rattle.gs_params.specs.Params.{AreInRange};
+
+use bytes::Bytes;
+use gs_base::{Millis, Seq, Topic};
+use gs_params::{DEFAULT_TOPIC_FACTORS, Params, TopicFactors, TopicParams};
+use gs_score::{Kind, TopicRules, Topics};
+use std::alloc::{AllocError, Global};
+
+/// What is done on a topic, which is one byte.
+enum Act {
+    Raise(u8, Kind),
+    Graft(u8),
+    Prune(u8),
+    Step,
+}
+
+/// What is done, and what the topics give at 5,000 ms, in millionths, with so many topics.
+struct Case {
+    acts: &'static [Act],
+    number: usize,
+    sum: i128,
+}
+
+static CASES: [Case; 6] = [
+    Case {
+        acts: &[],
+        number: 0,
+        sum: 0,
+    },
+    Case {
+        acts: &[Act::Raise(b'a', Kind::First), Act::Raise(b'a', Kind::First)],
+        number: 1,
+        sum: 2_000_000,
+    },
+    Case {
+        acts: &[Act::Raise(b'a', Kind::First), Act::Step],
+        number: 1,
+        sum: 500_000,
+    },
+    // Two are missing on the second topic: -2 * 2.
+    Case {
+        acts: &[Act::Graft(b'b'), Act::Raise(b'a', Kind::First)],
+        number: 2,
+        sum: -3_000_000,
+    },
+    Case {
+        acts: &[
+            Act::Graft(b'b'),
+            Act::Raise(b'a', Kind::First),
+            Act::Prune(b'b'),
+        ],
+        number: 2,
+        sum: 1_000_000,
+    },
+    // On a topic without parameters nothing weighs.
+    Case {
+        acts: &[Act::Prune(b'c'), Act::Raise(b'c', Kind::Invalid)],
+        number: 1,
+        sum: 0,
+    },
+];
+
+fn topic(alloc: Global, name: u8) -> Result<Topic, AllocError> {
+    Ok(Topic(Bytes::copy_from_slice(alloc, &[name])?))
+}
+
+fn topic_params(alloc: Global, factors: TopicFactors) -> TopicParams {
+    TopicParams {
+        factors,
+        ..TopicParams::new(alloc)
+    }
+}
+
+fn params(alloc: Global) -> Result<Params, AllocError> {
+    let mut topics = Vec::new(alloc);
+    let gives = TopicFactors {
+        w2: 1_000_000,
+        ..DEFAULT_TOPIC_FACTORS
+    };
+    let takes = TopicFactors {
+        w3: -1_000_000,
+        p3_threshold: 2_000_000,
+        ..DEFAULT_TOPIC_FACTORS
+    };
+    topics.push((topic(alloc, b'a')?, topic_params(alloc, gives)))?;
+    topics.push((topic(alloc, b'b')?, topic_params(alloc, takes)))?;
+    Ok(Params {
+        topics: Seq::from(topics),
+        ..Params::new(alloc)
+    })
+}
+
+/// Does at a tick what is to be done, and gives the tick after it.
+fn perform(
+    alloc: Global,
+    topics: &mut Topics,
+    params: &Params,
+    tick: u64,
+    act: &Act,
+) -> Result<u64, AllocError>
+    requires { AreInRange params.now }
+{
+    match act {
+        Act::Raise(name, kind) => {
+            let topic = topic(alloc, *name)?;
+            let rules = TopicRules::of(params, &topic);
+            topics.raise(&topic, *kind, 1_000_000, &rules, tick)?;
+        }
+        Act::Graft(name) => topics.graft(&topic(alloc, *name)?, Millis(0))?,
+        Act::Prune(name) => topics.prune(&topic(alloc, *name)?),
+        Act::Step => return Ok(tick.saturating_add(1)),
+    }
+    Ok(tick)
+}
+
+/// On how many topics something is held after all that is done, and what they give.
+fn held(alloc: Global, case: &Case) -> Result<Option<(usize, i128)>, AllocError> {
+    let Ok(params) = params(alloc)?.check() else {
+        return Ok(None);
+    };
+    let mut topics = Topics::new(alloc);
+    let mut tick = 0;
+    for act in case.acts {
+        tick = perform(alloc, &mut topics, &params, tick, act)?;
+    }
+    if 1_024 < topics.len() {
+        return Ok(None);
+    }
+    Ok(Some((topics.len(), topics.sum(&params, tick, Millis(5_000)))))
+}
+
+#[test]
+fn topics_are_summed_by_hand(rt: HostRuntime) -> Result<(), AllocError> {
+    for case in &CASES {
+        assert_eq!(rt; held(rt.alloc(), case)?, Some((case.number, case.sum)));
+    }
+    Ok(())
+}
