@@ -23,6 +23,3 @@ pub use seq::Seq;
 pub use shared::Shared;
 pub use text::Text;
 pub use verdict::Verdict;
-
-#[cfg(test)]
-mod tests;

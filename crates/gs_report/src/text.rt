@@ -335,6 +335,3 @@ fn payload_text(alloc: Global, payload: &[u8]) -> Result<String, AllocError>
         hex::encode(alloc, payload)
     }
 }
-
-#[cfg(test)]
-mod tests;

@@ -1,5 +1,9 @@
-use super::*;
+//! Values that equal their clones, what is absent in a message, and identifiers.
 use bytes::Bytes;
+use gs_base::{
+    Message, MsgId, Neighbour, PeerNo, Rpc, Seq, Shared, SubOpt, Text, Topic, clone_of,
+    clone_option, limits_of_topics,
+};
 use std::alloc::{AllocError, Global};
 
 fn topic(alloc: Global) -> Result<Topic, AllocError> {

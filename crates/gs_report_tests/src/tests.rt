@@ -1,0 +1,311 @@
+//! Runs of the peers `a` and `b`, and what is told of them.
+use bytes::Bytes;
+use gs_base::{Millis, PeerNo, Seq, Text, Topic};
+use gs_params::{
+    DEFAULT_DEGREES, DEFAULT_FACTORS, DEFAULT_FLOOD_PUBLISH, DEFAULT_THRESHOLDS, DEFAULT_WINDOWS,
+    Line, Params, Plan, PlannedPeer, What,
+};
+use gs_report::{Finished, Report, report_text};
+use gs_rules::{Entry, Event, Refusal, RefusedLine, Trace};
+use std::alloc::{AllocError, Global};
+
+fn bytes(alloc: Global, text: &[u8]) -> Result<Bytes, AllocError> {
+    Bytes::copy_from_slice(alloc, text)
+}
+
+fn topic(alloc: Global, name: &str) -> Result<Topic, AllocError> {
+    Ok(Topic(bytes(alloc, name.as_bytes())?))
+}
+
+/// Peers `a` and `b`, who are told to subscribe, to unsubscribe and to publish.
+fn plan(alloc: Global) -> Result<Plan, AllocError> {
+    let mut peers = Seq::new(alloc);
+    for name in ["a", "b"] {
+        peers.push(PlannedPeer {
+            name: Text::from_str(alloc, name)?,
+            address: Text::from_str(alloc, name)?,
+            words: Seq::new(alloc),
+        })?;
+    }
+    let mut script = Seq::new(alloc);
+    for what in [
+        What::Subscribe(topic(alloc, "news")?),
+        What::Unsubscribe(topic(alloc, "news")?),
+        What::Publish(topic(alloc, "news")?, bytes(alloc, b"abc")?),
+    ] {
+        script.push(Line {
+            at: 0,
+            peer: PeerNo(0),
+            what,
+        })?;
+    }
+    Ok(Plan {
+        round_ms: 100,
+        rounds: 10,
+        workers: 2,
+        capacity: 8,
+        seed: 1,
+        params: Params {
+            degrees: DEFAULT_DEGREES,
+            thresholds: DEFAULT_THRESHOLDS,
+            factors: DEFAULT_FACTORS,
+            windows: DEFAULT_WINDOWS,
+            flood_publish: DEFAULT_FLOOD_PUBLISH,
+            topics: Seq::new(alloc),
+        },
+        peers,
+        dials: Seq::new(alloc),
+        apps: Seq::new(alloc),
+        script,
+    })
+}
+
+/// What is left of a peer.
+#[derive(Clone, Copy)]
+struct Life {
+    peer: u16,
+    /// What each entry delivers, with its moment: topics and payloads.
+    delivered: &'static [(u64, &'static [(&'static str, &'static [u8])])],
+    /// What it could not follow: moments, places and reasons.
+    refused: &'static [(u64, usize, Refusal)],
+    /// Topics, and who is in their meshes.
+    meshes: &'static [(&'static str, u16)],
+    /// What its neighbours score, in millionths.
+    scores: &'static [(u16, i128)],
+}
+
+/// A peer that did nothing.
+const SILENT: Life = Life {
+    peer: 0,
+    delivered: &[],
+    refused: &[],
+    meshes: &[],
+    scores: &[],
+};
+
+/// An entry that delivers these payloads on these topics.
+fn entry(alloc: Global, at: u64, payloads: &[(&str, &[u8])]) -> Result<Entry, AllocError> {
+    let mut delivered = Seq::new(alloc);
+    for (name, payload) in payloads {
+        delivered.push((topic(alloc, name)?, bytes(alloc, payload)?))?;
+    }
+    Ok(Entry {
+        at: Millis(at),
+        event: Event::RoundEnd(0),
+        sends: Seq::new(alloc),
+        delivered,
+        promise: None,
+        marks: Seq::new(alloc),
+    })
+}
+
+fn trace_of(alloc: Global, life: Life) -> Result<Trace, AllocError> {
+    let mut trace = Trace::new(alloc);
+    for (at, payloads) in life.delivered {
+        trace.push(entry(alloc, *at, payloads)?)?;
+    }
+    Ok(trace)
+}
+
+fn refused_of(alloc: Global, life: Life) -> Result<Seq<RefusedLine>, AllocError> {
+    let mut refused = Seq::new(alloc);
+    for (at, line, why) in life.refused {
+        refused.push(RefusedLine {
+            at: Millis(*at),
+            line: *line,
+            why: *why,
+        })?;
+    }
+    Ok(refused)
+}
+
+fn meshes_of(alloc: Global, life: Life) -> Result<Seq<(Topic, PeerNo)>, AllocError> {
+    let mut meshes = Seq::new(alloc);
+    for (name, member) in life.meshes {
+        meshes.push((topic(alloc, name)?, PeerNo(*member)))?;
+    }
+    Ok(meshes)
+}
+
+fn scores_of(alloc: Global, life: Life) -> Result<Seq<(PeerNo, i128)>, AllocError> {
+    let mut scores = Seq::new(alloc);
+    for (peer, score) in life.scores {
+        scores.push((PeerNo(*peer), *score))?;
+    }
+    Ok(scores)
+}
+
+fn finished(alloc: Global, life: Life) -> Result<Finished, AllocError> {
+    let scores = scores_of(alloc, life)?;
+    let meshes = meshes_of(alloc, life)?;
+    let refused = refused_of(alloc, life)?;
+    Ok(Finished {
+        trace: trace_of(alloc, life)?,
+        refused,
+        meshes,
+        scores,
+    })
+}
+
+fn peers_of(alloc: Global, lives: &[Life]) -> Result<Vec<(PeerNo, Finished)>, AllocError> {
+    let mut peers = Vec::new(alloc);
+    for life in lives {
+        peers.push((PeerNo(life.peer), finished(alloc, *life)?))?;
+    }
+    Ok(peers)
+}
+
+/// Whether the text of a run's report is this.
+fn is_told(alloc: Global, lives: &[Life], settled: u64, text: &str) -> Result<bool, AllocError> {
+    let report = Report {
+        peers: peers_of(alloc, lives)?,
+        settled,
+    };
+    let told = report_text(alloc, &plan(alloc)?, &report)?;
+    Ok(told.as_slice() == text.as_bytes())
+}
+
+static TWO_THAT_REFUSE: [Life; 2] = [
+    Life {
+        delivered: &[
+            (200, &[("news", b"abc")]),
+            (300, &[]),
+            (300, &[("news", b""), ("blog", b"\x0f\xf0")]),
+        ],
+        refused: &[(0, 2, Refusal::AlreadySeen), (500, 1, Refusal::NotJoined)],
+        ..SILENT
+    },
+    Life {
+        peer: 1,
+        delivered: &[(300, &[("news", b"abc")])],
+        refused: &[(400, 0, Refusal::TooMany)],
+        ..SILENT
+    },
+];
+
+const REPORT: &str = "\
+delivered a 200 news 616263
+delivered a 300 news -
+delivered a 300 blog 0ff0
+delivered b 300 news 616263
+refused a 0 publish 16
+refused a 500 unsubscribe 19
+refused b 400 subscribe 34
+links 2 settled
+";
+
+#[test]
+fn refusals_come_after_all_deliveries(rt: HostRuntime) -> Result<(), AllocError> {
+    assert!(rt; is_told(rt.alloc(), &TWO_THAT_REFUSE, 2, REPORT)?);
+    Ok(())
+}
+
+static SECOND_FIRST: [Life; 2] = [
+    Life {
+        peer: 1,
+        delivered: &[(200, &[("news", b"1")])],
+        refused: &[(400, 0, Refusal::Joined)],
+        ..SILENT
+    },
+    Life {
+        delivered: &[(100, &[("blog", b"2")])],
+        refused: &[(300, 1, Refusal::NotJoined)],
+        ..SILENT
+    },
+];
+
+#[test]
+fn a_peer_has_the_name_of_its_number(rt: HostRuntime) -> Result<(), AllocError> {
+    let report = "delivered b 200 news 31\ndelivered a 100 blog 32\n\
+        refused b 400 subscribe 18\nrefused a 300 unsubscribe 19\nlinks 32 settled\n";
+    assert!(rt; is_told(rt.alloc(), &SECOND_FIRST, 32, report)?);
+    Ok(())
+}
+
+/// There is no peer 2, and there are three lines.
+static NO_PEER_AND_NO_LINES: [Life; 3] = [
+    SILENT,
+    Life {
+        peer: 1,
+        refused: &[(1, 3, Refusal::TooLong), (2, usize::MAX, Refusal::Stopped)],
+        ..SILENT
+    },
+    Life {
+        peer: 2,
+        delivered: &[(u64::MAX, &[("news", b"1")])],
+        ..SILENT
+    },
+];
+
+#[test]
+fn what_is_no_peer_or_no_line_has_the_empty_word(rt: HostRuntime) -> Result<(), AllocError> {
+    let report = "delivered  18446744073709551615 news 31\nrefused b 1  17\nrefused b 2  21\n\
+        links 18446744073709551615 settled\n";
+    assert!(rt; is_told(rt.alloc(), &NO_PEER_AND_NO_LINES, u64::MAX, report)?);
+    Ok(())
+}
+
+#[test]
+fn a_run_without_events_reports_its_links(rt: HostRuntime) -> Result<(), AllocError> {
+    assert!(rt; is_told(rt.alloc(), &[], 0, "links 0 settled\n")?);
+    assert!(rt; is_told(rt.alloc(), &[SILENT], 10, "links 10 settled\n")?);
+    Ok(())
+}
+
+/// A score has a whole part and six digits, and a minus sign where it is below 0.
+static SCORES: [Life; 2] = [
+    Life {
+        scores: &[(1, -1), (0, 1_500_000), (2, 0)],
+        ..SILENT
+    },
+    Life {
+        peer: 1,
+        scores: &[(0, -12_345_678), (1, 1_000_000_999_999)],
+        ..SILENT
+    },
+];
+
+#[test]
+fn scores_are_told_in_millionths(rt: HostRuntime) -> Result<(), AllocError> {
+    let report = "score a b -0.000001\nscore a a 1.500000\nscore a  0.000000\n\
+        score b a -12.345678\nscore b b 1000000.999999\nlinks 4 settled\n";
+    assert!(rt; is_told(rt.alloc(), &SCORES, 4, report)?);
+    Ok(())
+}
+
+/// The least score and the greatest that an `i128` holds.
+static LEAST_AND_GREATEST: [Life; 1] = [Life {
+    scores: &[(1, i128::MIN), (1, i128::MAX)],
+    ..SILENT
+}];
+
+#[test]
+fn scores_are_told_whatever_they_are(rt: HostRuntime) -> Result<(), AllocError> {
+    let report = "score a b -170141183460469231731687303715884.105728\n\
+        score a b 170141183460469231731687303715884.105727\nlinks 2 settled\n";
+    assert!(rt; is_told(rt.alloc(), &LEAST_AND_GREATEST, 2, report)?);
+    Ok(())
+}
+
+static MEMBERS: [Life; 2] = [
+    Life {
+        meshes: &[("blog", 1), ("news", 0), ("news", 2)],
+        scores: &[(1, 0)],
+        ..SILENT
+    },
+    Life {
+        peer: 1,
+        meshes: &[("news", 0)],
+        scores: &[(1, 0)],
+        ..SILENT
+    },
+];
+
+/// All members are told ahead of the first score.
+#[test]
+fn members_are_told_by_peer_in_the_order_that_is_given(rt: HostRuntime) -> Result<(), AllocError> {
+    let report = "mesh a blog b\nmesh a news a\nmesh a news \nmesh b news a\n\
+        score a b 0.000000\nscore b b 0.000000\nlinks 2 settled\n";
+    assert!(rt; is_told(rt.alloc(), &MEMBERS, 2, report)?);
+    Ok(())
+}
