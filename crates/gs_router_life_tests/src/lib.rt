@@ -1,4 +1,4 @@
-//! What routers do moment by moment: promises, gossip, meshes, fanouts, heartbeats and scores, compared with tables.
+//! What routers do moment by moment: promises, gossip, heartbeats and scores, compared with tables.
 #![tactic(auto)]
 
 #[cfg(test)]

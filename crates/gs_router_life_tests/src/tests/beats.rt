@@ -6,15 +6,14 @@ use crate::tests::beat_cases::{
 };
 use crate::tests::gossip::tell;
 use crate::tests::gossip_cases::{Act, Id};
-use crate::tests::meshes::pruning;
 use crate::tests::sights::is_seen;
 use bytes::Bytes;
 use gs_base::{Millis, PeerNo, Rpc, Seq};
 use gs_params::{Params, SeededWords, TopicParams};
 use gs_router::Router;
 use gs_router_calls::{
-    Cause, call, hear, is_due, number_of, numbered, publish, router_of, router_with, subscribe,
-    topic_of, unsubscribe, words,
+    Cause, call, hear, is_due, number_of, numbered, pruning, publish, router_of, router_with,
+    subscribe, topic_of, unsubscribe, words,
 };
 use std::alloc::{AllocError, Global};
 use std::ops::Range;

@@ -1,7 +1,5 @@
 //! Meshes, fanouts and backoffs, moment by moment.
 
-use crate::tests::beat_cases::Deed as LiveDeed;
-use crate::tests::beats::lives;
 use crate::tests::mesh_cases::{
     ANSWERS, BACKOFF, BARRED, CHOICES, CHOSEN, Deed, FANNED, FANNED_AND_GONE, LEAVING, PRUNES,
     Said, Step,
@@ -9,44 +7,16 @@ use crate::tests::mesh_cases::{
 use crate::tests::mesh_sights::{does, entry_of, has_members};
 use crate::tests::mesh_traffic::{CHARGED, FORWARDED, LOST, MISSING, PUBLISHED, Standing};
 use bytes::Bytes;
-use gs_base::{Control, Graft, Millis, PeerNo, Prune, Rpc, Seq, Topic};
+use gs_base::{Millis, PeerNo, Rpc, Seq};
 use gs_params::{Degrees, Params, SeededWords, TopicParams};
 use gs_router::{Router, RouterFault};
 use gs_router_calls::{
-    Cause, Kind, call, publish, router_of, router_with, subscribe, topic_of, unsubscribe, words,
+    Cause, Kind, call, grafting, pruning, publish, router_of, subscribe, topic_of, unsubscribe,
+    words,
 };
 use std::alloc::{AllocError, Global};
 
 // ---- what is done
-
-fn control_of(alloc: Global, graft: Seq<Graft>, prune: Seq<Prune>) -> Rpc {
-    Rpc {
-        subs: Seq::new(alloc),
-        publish: Seq::new(alloc),
-        control: Some(Control {
-            ihave: Seq::new(alloc),
-            iwant: Seq::new(alloc),
-            graft,
-            prune,
-        }),
-    }
-}
-
-fn grafting(alloc: Global) -> Result<Rpc, AllocError> {
-    let graft = Graft {
-        topic: Some(topic_of(alloc, "a")?),
-    };
-    Ok(control_of(alloc, Seq::only(alloc, graft)?, Seq::new(alloc)))
-}
-
-/// A PRUNE of a topic, which names these seconds, if any.
-pub fn pruning(alloc: Global, name: &str, backoff: Option<u64>) -> Result<Rpc, AllocError> {
-    let prune = Prune {
-        topic: Some(topic_of(alloc, name)?),
-        backoff,
-    };
-    Ok(control_of(alloc, Seq::new(alloc), Seq::only(alloc, prune)?))
-}
 
 fn publishing(alloc: Global, payload: u8) -> Result<Rpc, AllocError> {
     Rpc::publication(
@@ -64,7 +34,7 @@ fn rpc_of(alloc: Global, said: Said) -> Result<Rpc, AllocError> {
     match said {
         Said::On => changing(alloc, true),
         Said::Off => changing(alloc, false),
-        Said::Graft => grafting(alloc),
+        Said::Graft => grafting(alloc, "a"),
         Said::Prune(backoff) => pruning(alloc, "a", backoff),
         Said::Message(payload) => publishing(alloc, payload),
     }
@@ -316,47 +286,5 @@ fn first_misjudged_of(alloc: Global, steps: &[Standing]) -> Result<usize, AllocE
 #[test]
 fn what_is_missing_costs_in_the_mesh_and_behind_it(rt: HostRuntime) -> Result<(), AllocError> {
     assert_eq!(rt; first_misjudged_of(rt.alloc(), &MISSING)?, 8);
-    Ok(())
-}
-
-// ---- the meshes of all topics
-
-/// Neighbours 1 and 2 are on `b`, and 2 on `a`, and then the router joins both, and `c`.
-static JOINS: [LiveDeed<'static>; 5] = [
-    LiveDeed::On(1, 3, "b"),
-    LiveDeed::On(2, 3, "a"),
-    LiveDeed::Join("c"),
-    LiveDeed::Join("b"),
-    LiveDeed::Join("a"),
-];
-
-/// Whether these are the members of meshes, each with its topic.
-fn are(meshes: &[(Topic, PeerNo)], wanted: &[(&str, u16)]) -> bool {
-    for ((topic, peer), (name, number)) in meshes.iter().zip(wanted) {
-        if peer.0 != *number || topic.0.as_slice() != name.as_bytes() {
-            return false;
-        }
-    }
-    meshes.len() == wanted.len()
-}
-
-/// Whether a router tells of the members of `a`, and then of those of `b`, behind those joins.
-fn tells_meshes(alloc: Global, router: &mut Router) -> Result<bool, AllocError> {
-    if !lives(alloc, router, 0, &JOINS)? {
-        return Ok(false);
-    }
-    let meshes = router.meshes()?;
-    Ok(are(meshes.as_slice(), &[("a", 2), ("b", 1), ("b", 2)]))
-}
-
-/// The same of a new router.
-fn tells_meshes_of(alloc: Global) -> Result<bool, AllocError> {
-    let params = Params::new(alloc);
-    tells_meshes(alloc, &mut router_with(alloc, params)?)
-}
-
-#[test]
-fn a_router_tells_the_meshes_of_its_topics_in_order(rt: HostRuntime) -> Result<(), AllocError> {
-    assert!(rt; tells_meshes_of(rt.alloc())?);
     Ok(())
 }

@@ -1,7 +1,5 @@
 //! What heartbeats do to meshes and fanouts.
 
-use crate::tests::beat_cases::Deed as LiveDeed;
-use crate::tests::beats::lives;
 use crate::tests::mend_cases::{
     BEST, BETTER, BETTER_AT_SECOND, CHOICES, FALLEN, FANOUT, FANOUT_OF_ONE, FEW, FEW_OUTBOUND,
     MANY, MISSING_ALL, NEGATIVE, ONES,
@@ -12,13 +10,10 @@ use crate::tests::meshes::{
     sized_without_flood,
 };
 use bytes::Bytes;
-use gs_base::{PeerNo, Rpc, Seq, Shared, Topic};
+use gs_base::{Rpc, Seq};
 use gs_params::{Degrees, Params, TopicParams};
 use gs_router::Router;
-use gs_router_calls::{
-    Cause, Kind, call, router_of, router_with, subscribe, topic_of, unsubscribe, words,
-};
-use gs_rules::{Entry, Event};
+use gs_router_calls::{Cause, Kind, call, router_of, subscribe, topic_of, unsubscribe, words};
 use std::alloc::{AllocError, Global};
 
 // ---- the number of members
@@ -249,120 +244,5 @@ fn a_poor_mesh_gets_a_better_member(rt: HostRuntime) -> Result<(), AllocError> {
 #[test]
 fn a_better_member_comes_at_every_so_many_heartbeats(rt: HostRuntime) -> Result<(), AllocError> {
     assert_eq!(rt; first_unmended_of(rt.alloc(), 2, &BETTER_AT_SECOND)?, 2);
-    Ok(())
-}
-
-// ---- who is told beside the mesh
-
-/// How many of those to whom this was sent are not among these.
-fn outside(sends: &[(PeerNo, Shared<Rpc>)], members: &[PeerNo]) -> usize {
-    let mut count = 0usize;
-    for (peer, _) in sends {
-        if !members.contains(peer) {
-            count = count.saturating_add(1);
-        }
-    }
-    count
-}
-
-/// How many neighbours outside these were told what there is at a heartbeat.
-fn told_outside(entries: &[Entry], members: &[PeerNo]) -> usize {
-    let mut count = 0usize;
-    for entry in entries {
-        if let Event::GossipBeat(_) = &entry.event {
-            count = count.saturating_add(outside(entry.sends.as_slice(), members));
-        }
-    }
-    count
-}
-
-/// Forty neighbours subscribe, then the router does, and publishes, and a heartbeat comes.
-static CROWD: [LiveDeed<'static>; 4] = [
-    LiveDeed::On(1, 41, "a"),
-    LiveDeed::Join("a"),
-    LiveDeed::Publish("a", 1),
-    LiveDeed::Beat,
-];
-
-/// How many are in the mesh of a router's topic, and how many others were told.
-fn in_and_told(router: &Router, topic: &Topic) -> (usize, usize) {
-    let members = router.members(topic);
-    let told = told_outside(router.trace().entries(), members);
-    (members.len(), told)
-}
-
-/// The same of a router in this crowd.
-fn in_and_told_of(alloc: Global, router: &mut Router) -> Result<(usize, usize), AllocError> {
-    let topic = topic_of(alloc, "a")?;
-    Ok(match lives(alloc, router, 1_000, &CROWD)? {
-        true => in_and_told(router, &topic),
-        false => (0, 0),
-    })
-}
-
-/// Whether six of forty are in the mesh of a router, and eight others are told.
-fn tells_eight(alloc: Global) -> Result<bool, AllocError> {
-    let params = Params::new(alloc);
-    let (members, told) = in_and_told_of(alloc, &mut router_of(alloc, params, 40, &[])?)?;
-    Ok(members == 6 && told == 8)
-}
-
-#[test]
-fn of_forty_neighbours_six_are_in_the_mesh_and_eight_are_told(
-    rt: HostRuntime,
-) -> Result<(), AllocError> {
-    assert!(rt; tells_eight(rt.alloc())?);
-    Ok(())
-}
-
-// ---- several topics
-
-/// Three topics are joined, on a fourth something is published, and then a heartbeat comes.
-static TOPICS: [LiveDeed<'static>; 5] = [
-    LiveDeed::Join("c"),
-    LiveDeed::Join("b"),
-    LiveDeed::Join("a"),
-    LiveDeed::Publish("aa", 1),
-    LiveDeed::Beat,
-];
-
-/// Whether an entry mends the mesh of a topic, or else its fanout.
-fn is_mending(entry: &Entry, is_mesh: bool, name: &str) -> bool {
-    match &entry.event {
-        Event::MeshBeat(topic) => is_mesh && topic.0.as_slice() == name.as_bytes(),
-        Event::FanBeat(topic) => !is_mesh && topic.0.as_slice() == name.as_bytes(),
-        _ => false,
-    }
-}
-
-/// Whether these entries mend these meshes and fanouts, one after the other.
-fn are_mending(entries: &[Entry], wanted: &[(bool, &str)]) -> bool {
-    for (entry, (is_mesh, name)) in entries.iter().zip(wanted) {
-        if !is_mending(entry, *is_mesh, name) {
-            return false;
-        }
-    }
-    entries.len() == wanted.len()
-}
-
-/// Whether a router mends three meshes and a fanout behind its first entries.
-fn mends_in_order(alloc: Global, router: &mut Router) -> Result<bool, AllocError> {
-    if !lives(alloc, router, 1_000, &TOPICS)? {
-        return Ok(false);
-    }
-    let wanted = [(true, "a"), (true, "b"), (true, "c"), (false, "aa")];
-    let entries = router.trace().entries().get(5..9).unwrap_or_default();
-    Ok(are_mending(entries, &wanted))
-}
-
-/// The same of a new router without flood publishing.
-fn mends_in_order_of(alloc: Global) -> Result<bool, AllocError> {
-    let params = sized_without_flood(alloc, 2);
-    mends_in_order(alloc, &mut router_with(alloc, params)?)
-}
-
-#[test]
-fn meshes_are_mended_in_order_and_then_fanouts(rt: HostRuntime) -> Result<(), AllocError> {
-    assert!(rt; mends_in_order_of(rt.alloc())?);
     Ok(())
 }
