@@ -63,130 +63,138 @@ fn reports<T: Host>(
     Ok(is_reported(rt, &NoGate, &text, report))
 }
 
+static TWO_SUBSCRIBE: [Told<'static>; 3] = [
+    (0, "a", "subscribe", "news", None),
+    (0, "b", "subscribe", "news", None),
+    (2, "a", "publish", "news", Some("616263")),
+];
+
 #[test]
 fn two_subscribers_get_one_message(rt: HostRuntime) -> Result<(), AllocError> {
-    let script: [Told<'_>; 3] = [
-        (0, "a", "subscribe", "news", None),
-        (0, "b", "subscribe", "news", None),
-        (2, "a", "publish", "news", Some("616263")),
-    ];
     let report = "delivered a 200 news 616263\ndelivered b 300 news 616263\n\
         mesh a news b\nmesh b news a\n\
         score a b 0.000000\nscore b a 0.000000\nlinks 2 settled\n";
-    assert!(rt; reports(&rt, &[TWO, A_DIALS_B], &script, report)?);
-    assert!(rt; reports(&rt, &[TWO, B_DIALS_A], &script, report)?);
+    assert!(rt; reports(&rt, &[TWO, A_DIALS_B], &TWO_SUBSCRIBE, report)?);
+    assert!(rt; reports(&rt, &[TWO, B_DIALS_A], &TWO_SUBSCRIBE, report)?);
     let report = "delivered a 200 news 616263\nlinks 0 settled\n";
-    assert!(rt; reports(&rt, &[TWO], &script, report)?);
+    assert!(rt; reports(&rt, &[TWO], &TWO_SUBSCRIBE, report)?);
     Ok(())
 }
 
+static LEAVING_TWICE: [Told<'static>; 5] = [
+    (0, "a", "subscribe", "news", None),
+    (0, "b", "subscribe", "news", None),
+    (2, "a", "publish", "news", Some("616263")),
+    (4, "b", "unsubscribe", "news", None),
+    (5, "b", "unsubscribe", "news", None),
+];
+
 #[test]
 fn leaving_a_topic_twice_is_refused(rt: HostRuntime) -> Result<(), AllocError> {
-    let script: [Told<'_>; 5] = [
-        (0, "a", "subscribe", "news", None),
-        (0, "b", "subscribe", "news", None),
-        (2, "a", "publish", "news", Some("616263")),
-        (4, "b", "unsubscribe", "news", None),
-        (5, "b", "unsubscribe", "news", None),
-    ];
     let report = "delivered a 200 news 616263\ndelivered b 300 news 616263\n\
         refused b 500 unsubscribe 19\n\
         score a b 0.000000\nscore b a 0.000000\nlinks 2 settled\n";
-    assert!(rt; reports(&rt, &[TWO, A_DIALS_B], &script, report)?);
+    assert!(rt; reports(&rt, &[TWO, A_DIALS_B], &LEAVING_TWICE, report)?);
     Ok(())
 }
+
+static ALONE: [Told<'static>; 3] = [
+    (0, "a", "subscribe", "news", None),
+    (1, "a", "publish", "news", Some("")),
+    (1, "a", "publish", "news", Some("")),
+];
 
 #[test]
 fn a_peer_by_itself_publishes_once(rt: HostRuntime) -> Result<(), AllocError> {
     let alone = "round_ms = 100\nrounds = 1\nworkers = 2\ncapacity = 8\nseed = 1\n\
         [[topic]]\nname = \"news\"\n[[peer]]\nname = \"a\"\n";
-    let script: [Told<'_>; 3] = [
-        (0, "a", "subscribe", "news", None),
-        (1, "a", "publish", "news", Some("")),
-        (1, "a", "publish", "news", Some("")),
-    ];
     let report = "delivered a 100 news -\nrefused a 100 publish 16\nlinks 0 settled\n";
-    assert!(rt; reports(&rt, &[alone], &script, report)?);
+    assert!(rt; reports(&rt, &[alone], &ALONE, report)?);
     Ok(())
 }
+
+static LEFT_AND_BACK: [Told<'static>; 5] = [
+    (0, "b", "subscribe", "news", None),
+    (2, "a", "publish", "news", Some("01")),
+    (3, "b", "unsubscribe", "news", None),
+    (4, "a", "publish", "news", Some("02")),
+    (5, "b", "subscribe", "news", None),
+];
 
 #[test]
 fn a_neighbour_that_left_gets_nothing_more(rt: HostRuntime) -> Result<(), AllocError> {
-    let script: [Told<'_>; 5] = [
-        (0, "b", "subscribe", "news", None),
-        (2, "a", "publish", "news", Some("01")),
-        (3, "b", "unsubscribe", "news", None),
-        (4, "a", "publish", "news", Some("02")),
-        (5, "b", "subscribe", "news", None),
-    ];
     let report = "delivered b 300 news 01\n\
         score a b 0.000000\nscore b a 0.000000\nlinks 2 settled\n";
-    assert!(rt; reports(&rt, &[TWO, A_DIALS_B], &script, report)?);
+    assert!(rt; reports(&rt, &[TWO, A_DIALS_B], &LEFT_AND_BACK, report)?);
     Ok(())
 }
+
+static A_ROUND_LATER: [Told<'static>; 4] = [
+    (3, "b", "subscribe", "news", None),
+    (3, "a", "publish", "news", Some("03")),
+    (4, "a", "publish", "news", Some("04")),
+    (4, "a", "publish", "blog", Some("05")),
+];
 
 #[test]
 fn what_is_said_in_a_round_is_heard_in_the_next(rt: HostRuntime) -> Result<(), AllocError> {
-    let script: [Told<'_>; 4] = [
-        (3, "b", "subscribe", "news", None),
-        (3, "a", "publish", "news", Some("03")),
-        (4, "a", "publish", "news", Some("04")),
-        (4, "a", "publish", "blog", Some("05")),
-    ];
     let report = "delivered b 500 news 04\n\
         score a b 0.000000\nscore b a 0.000000\nlinks 2 settled\n";
-    assert!(rt; reports(&rt, &[TWO, A_DIALS_B], &script, report)?);
+    assert!(rt; reports(&rt, &[TWO, A_DIALS_B], &A_ROUND_LATER, report)?);
     Ok(())
 }
 
+static LAST_ROUND: [Told<'static>; 4] = [
+    (0, "a", "subscribe", "news", None),
+    (0, "b", "subscribe", "news", None),
+    (9, "a", "publish", "news", Some("09")),
+    (10, "a", "publish", "news", Some("10")),
+];
+
 #[test]
 fn what_is_said_in_the_last_round_is_late(rt: HostRuntime) -> Result<(), AllocError> {
-    let script: [Told<'_>; 4] = [
-        (0, "a", "subscribe", "news", None),
-        (0, "b", "subscribe", "news", None),
-        (9, "a", "publish", "news", Some("09")),
-        (10, "a", "publish", "news", Some("10")),
-    ];
     let report = "delivered a 900 news 09\ndelivered a 1000 news 10\n\
         delivered b 1000 news 09\n\
         mesh a news b\nmesh b news a\n\
         score a b 0.000000\nscore b a 0.000000\nlinks 2 settled\n";
-    assert!(rt; reports(&rt, &[TWO, A_DIALS_B], &script, report)?);
+    assert!(rt; reports(&rt, &[TWO, A_DIALS_B], &LAST_ROUND, report)?);
     Ok(())
 }
+
+static REFUSED: [Told<'static>; 6] = [
+    (4, "b", "publish", "news", Some("616263")),
+    (0, "b", "subscribe", "news", None),
+    (0, "b", "subscribe", "news", None),
+    (0, "b", "unsubscribe", "blog", None),
+    (1, "b", "subscribe", "news", None),
+    (3, "a", "publish", "news", Some("616263")),
+];
 
 #[test]
 fn refusals_stand_by_moment_and_then_in_file_order(rt: HostRuntime) -> Result<(), AllocError> {
-    let script: [Told<'_>; 6] = [
-        (4, "b", "publish", "news", Some("616263")),
-        (0, "b", "subscribe", "news", None),
-        (0, "b", "subscribe", "news", None),
-        (0, "b", "unsubscribe", "blog", None),
-        (1, "b", "subscribe", "news", None),
-        (3, "a", "publish", "news", Some("616263")),
-    ];
     let report = "delivered b 400 news 616263\nrefused b 0 subscribe 18\n\
         refused b 0 unsubscribe 19\nrefused b 100 subscribe 18\nrefused b 400 publish 16\n\
         score a b 0.000000\nscore b a 0.000000\nlinks 2 settled\n";
-    assert!(rt; reports(&rt, &[TWO, A_DIALS_B], &script, report)?);
+    assert!(rt; reports(&rt, &[TWO, A_DIALS_B], &REFUSED, report)?);
     Ok(())
 }
 
+static BY_NEIGHBOUR: [Told<'static>; 6] = [
+    (0, "c", "subscribe", "news", None),
+    (4, "b", "publish", "news", Some("b1")),
+    (5, "c", "publish", "news", Some("c1")),
+    (4, "a", "publish", "news", Some("a1")),
+    (4, "b", "publish", "news", Some("b2")),
+    (4, "a", "publish", "news", Some("a2")),
+];
+
 #[test]
 fn what_is_heard_comes_first_and_by_neighbour(rt: HostRuntime) -> Result<(), AllocError> {
-    let script: [Told<'_>; 6] = [
-        (0, "c", "subscribe", "news", None),
-        (4, "b", "publish", "news", Some("b1")),
-        (5, "c", "publish", "news", Some("c1")),
-        (4, "a", "publish", "news", Some("a1")),
-        (4, "b", "publish", "news", Some("b2")),
-        (4, "a", "publish", "news", Some("a2")),
-    ];
     let report = "delivered c 500 news a1\ndelivered c 500 news a2\n\
         delivered c 500 news b1\ndelivered c 500 news b2\ndelivered c 500 news c1\n\
         score a c 0.000000\nscore b c 0.000000\nscore c a 0.000000\nscore c b 0.000000\n\
         links 4 settled\n";
-    assert!(rt; reports(&rt, &[TWO, C, C_DIALS_BOTH], &script, report)?);
+    assert!(rt; reports(&rt, &[TWO, C, C_DIALS_BOTH], &BY_NEIGHBOUR, report)?);
     Ok(())
 }
 

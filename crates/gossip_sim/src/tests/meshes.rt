@@ -40,37 +40,39 @@ fn who_subscribes_behind_a_neighbour_grafts_it(rt: HostRuntime) -> Result<(), Al
 
 const NO_FLOOD: &str = "[params]\nflood_publish = false\n";
 
+static OUT_OF_A_FANOUT: [Told<'static>; 5] = [
+    (0, "b", "subscribe", "news", None),
+    (2, "a", "publish", "news", Some("616263")),
+    (4, "b", "unsubscribe", "news", None),
+    (5, "b", "unsubscribe", "news", None),
+    (6, "a", "subscribe", "news", None),
+];
+
 /// `a` publishes to `b` without being subscribed. `b` has left the topic when `a` subscribes, and is not grafted.
 #[test]
 fn who_left_a_fanout_is_not_grafted(rt: HostRuntime) -> Result<(), AllocError> {
-    let script: [Told<'_>; 5] = [
-        (0, "b", "subscribe", "news", None),
-        (2, "a", "publish", "news", Some("616263")),
-        (4, "b", "unsubscribe", "news", None),
-        (5, "b", "unsubscribe", "news", None),
-        (6, "a", "subscribe", "news", None),
-    ];
     let report = "delivered b 300 news 616263\nrefused b 500 unsubscribe 19\n\
         score a b 0.000000\nscore b a 0.000000\nlinks 2 settled\n";
-    assert!(rt; reports(&rt, &[TWO, A_DIALS_B, NO_FLOOD], &script, report)?);
+    assert!(rt; reports(&rt, &[TWO, A_DIALS_B, NO_FLOOD], &OUT_OF_A_FANOUT, report)?);
     Ok(())
 }
+
+static FROM_A_FANOUT: [Told<'static>; 5] = [
+    (0, "b", "subscribe", "news", None),
+    (2, "a", "publish", "news", Some("01")),
+    (3, "a", "publish", "news", Some("02")),
+    (5, "a", "subscribe", "news", None),
+    (7, "a", "publish", "news", Some("03")),
+];
 
 /// `b` is in the fanout of `a`, and in its mesh once `a` has subscribed: it gets all three.
 #[test]
 fn a_fanout_becomes_a_mesh(rt: HostRuntime) -> Result<(), AllocError> {
-    let script: [Told<'_>; 5] = [
-        (0, "b", "subscribe", "news", None),
-        (2, "a", "publish", "news", Some("01")),
-        (3, "a", "publish", "news", Some("02")),
-        (5, "a", "subscribe", "news", None),
-        (7, "a", "publish", "news", Some("03")),
-    ];
     let report = "delivered a 700 news 03\ndelivered b 300 news 01\n\
         delivered b 400 news 02\ndelivered b 800 news 03\n\
         mesh a news b\nmesh b news a\n\
         score a b 0.000000\nscore b a 0.000000\nlinks 2 settled\n";
-    assert!(rt; reports(&rt, &[TWO, A_DIALS_B, NO_FLOOD], &script, report)?);
+    assert!(rt; reports(&rt, &[TWO, A_DIALS_B, NO_FLOOD], &FROM_A_FANOUT, report)?);
     Ok(())
 }
 
@@ -119,23 +121,24 @@ const ISLANDS: &str = "round_ms = 100\nrounds = 20\nworkers = 2\ncapacity = 8\ns
     [[dial]]\nfrom = \"a\"\nto = \"b\"\n[[dial]]\nfrom = \"c\"\nto = \"b\"\n\
     [[dial]]\nfrom = \"c\"\nto = \"d\"\n";
 
+static OVER_ISLANDS: [Told<'static>; 5] = [
+    (0, "a", "subscribe", "news", None),
+    (1, "b", "subscribe", "news", None),
+    (3, "c", "subscribe", "news", None),
+    (4, "d", "subscribe", "news", None),
+    (6, "a", "publish", "news", Some("616263")),
+];
+
 /// The mesh of `b` is full when `c` grafts it in round 3, so `c` is free for `d`. `b` offers `c` in round 10 what it heard,
 /// `c` asks for it in round 11, gets it in round 13 and passes it on.
 #[test]
 fn what_no_mesh_brings_comes_by_gossip(rt: HostRuntime) -> Result<(), AllocError> {
-    let script: [Told<'_>; 5] = [
-        (0, "a", "subscribe", "news", None),
-        (1, "b", "subscribe", "news", None),
-        (3, "c", "subscribe", "news", None),
-        (4, "d", "subscribe", "news", None),
-        (6, "a", "publish", "news", Some("616263")),
-    ];
     let report = "delivered a 600 news 616263\ndelivered b 700 news 616263\n\
         delivered c 1300 news 616263\ndelivered d 1400 news 616263\n\
         mesh a news b\nmesh b news a\nmesh c news d\nmesh d news c\n\
         score a b 0.000000\nscore b a 0.000000\nscore b c 0.000000\n\
         score c b 0.000000\nscore c d 0.000000\nscore d c 0.000000\nlinks 6 settled\n";
-    assert!(rt; reports(&rt, &[ISLANDS], &script, report)?);
+    assert!(rt; reports(&rt, &[ISLANDS], &OVER_ISLANDS, report)?);
     Ok(())
 }
 
@@ -168,21 +171,22 @@ fn who_comes_back_within_its_backoff_grafts_nobody(rt: HostRuntime) -> Result<()
 const NARROW: &str = "d = 1\nd_low = 1\nd_high = 1\nd_score = 1\nd_out = 0\n\
     [[peer]]\nname = \"c\"\n[[dial]]\nfrom = \"b\"\nto = \"a\"\n[[dial]]\nfrom = \"c\"\nto = \"a\"\n";
 
+static TOO_SOON: [Told<'static>; 5] = [
+    (0, "a", "subscribe", "news", None),
+    (1, "c", "subscribe", "news", None),
+    (3, "b", "subscribe", "news", None),
+    (4, "b", "unsubscribe", "news", None),
+    (14, "b", "subscribe", "news", None),
+];
+
 /// `c` fills the mesh of `a`, so that the GRAFT of `b` is refused for a minute. `b` leaves before it hears that, and is
 /// back after its own backoff: its second GRAFT comes too soon, and the square of one misbehaviour costs 10.
 #[test]
 fn a_graft_that_comes_too_soon_counts(rt: HostRuntime) -> Result<(), AllocError> {
-    let script: [Told<'_>; 5] = [
-        (0, "a", "subscribe", "news", None),
-        (1, "c", "subscribe", "news", None),
-        (3, "b", "subscribe", "news", None),
-        (4, "b", "unsubscribe", "news", None),
-        (14, "b", "subscribe", "news", None),
-    ];
     let report = "mesh a news c\nmesh c news a\n\
         score a b -10.000000\nscore a c 0.000000\n\
         score b a 0.000000\nscore c a 0.000000\nlinks 4 settled\n";
-    assert!(rt; reports(&rt, &[A_SECOND, NARROW], &script, report)?);
+    assert!(rt; reports(&rt, &[A_SECOND, NARROW], &TOO_SOON, report)?);
     Ok(())
 }
 
@@ -220,25 +224,26 @@ fn what_is_missing_of_a_member_costs_in_the_mesh_and_behind_it(
 
 // ---- two topics
 
+static PUBLISHED_AGAIN: [Told<'static>; 7] = [
+    (0, "a", "subscribe", "news", None),
+    (0, "b", "subscribe", "news", None),
+    (0, "a", "subscribe", "blog", None),
+    (0, "b", "subscribe", "blog", None),
+    (2, "a", "publish", "news", Some("616263")),
+    (3, "a", "publish", "blog", Some("616263")),
+    (7, "a", "publish", "blog", Some("616263")),
+];
+
 /// One payload, on one topic, on another while it is remembered, and again when it is not. In round 10 each peer grafts the
 /// other on both.
 #[test]
 fn a_payload_is_published_again_once_it_is_forgotten(rt: HostRuntime) -> Result<(), AllocError> {
-    let script: [Told<'_>; 7] = [
-        (0, "a", "subscribe", "news", None),
-        (0, "b", "subscribe", "news", None),
-        (0, "a", "subscribe", "blog", None),
-        (0, "b", "subscribe", "blog", None),
-        (2, "a", "publish", "news", Some("616263")),
-        (3, "a", "publish", "blog", Some("616263")),
-        (7, "a", "publish", "blog", Some("616263")),
-    ];
     let report = "delivered a 200 news 616263\ndelivered a 700 blog 616263\n\
         delivered b 300 news 616263\ndelivered b 800 blog 616263\n\
         refused a 300 publish 16\n\
         mesh a blog b\nmesh a news b\nmesh b blog a\nmesh b news a\n\
         score a b 0.000000\nscore b a 0.000000\nlinks 2 settled\n";
     let short = "[params]\nseen_ttl_ms = 500\n";
-    assert!(rt; reports(&rt, &[TWO, A_DIALS_B, short], &script, report)?);
+    assert!(rt; reports(&rt, &[TWO, A_DIALS_B, short], &PUBLISHED_AGAIN, report)?);
     Ok(())
 }
