@@ -1,3 +1,4 @@
-//! Links by themselves, and the ends of a peer's links.
+//! Links by themselves and between two threads, and the ends of a peer's links.
+mod crossing;
 mod ends;
 mod links;

@@ -137,10 +137,7 @@ fn go_on<G: Gate, S: Ends>(stop: &StopFlag, running: &mut Running<G, S>) -> Resu
     }
 }
 
-/// Finishes a life that is over, and takes it out of its task. Where there is no memory the flag is set first. A poll that
-/// had this in it would make room for a whole life each time.
-#[cold]
-#[inline(never)]
+/// Finishes a life that is over, and takes it out of its task. Where there is no memory the flag is set first.
 fn finish<G: Gate, S: Ends>(
     stop: &StopFlag,
     running: &mut Option<Running<G, S>>,
