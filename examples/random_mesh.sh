@@ -1,9 +1,9 @@
 #!/usr/bin/env bash
 # Prints a scenario to measure with: PEERS peers (64) in a ring, with random dials beside it until each has DEGREE
-# neighbours (10) or there is nobody left to dial, all subscribed to one topic, and MESSAGES distinct messages (1,000)
-# of BYTES bytes (100) by random peers, spread evenly over the rounds from 6 to ROUNDS (200) less 10. Publications go
-# to meshes, a round lasts 100 milliseconds, and a heartbeat comes each second. The peers run on WORKERS threads (1),
-# over links of CAPACITY places (64). The same arguments, SEED (7) among them, print the same text.
+# neighbours (10) or there is nobody left to dial, all subscribed to one topic, and MESSAGES messages (1,000) of BYTES
+# bytes (100), distinct where those are 4 or more, by random peers, spread evenly over the rounds from 6 to ROUNDS (200)
+# less 10. Publications go to meshes, a round lasts 100 milliseconds, and a heartbeat comes each second. The peers run on
+# WORKERS threads (1), over links of CAPACITY places (64). The same arguments, SEED (7) among them, print the same text.
 #
 #   examples/random_mesh.sh 16 10 1000 100 200 1 64 7 > random_mesh.toml
 #   time bin/gossip_sim < random_mesh.toml | wc -l

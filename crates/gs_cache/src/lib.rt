@@ -1,5 +1,5 @@
 //! What a gossipsub peer remembers of messages for a while: which ones it has seen, so that none is handled
-//! twice, and the latest ones whole, to offer them and to send them to who asks.
+//! twice, and the latest ones whole, to offer them and to send them to who asks; and the identifiers of the latest payloads.
 #![tactic(auto)]
 
 mod laws;

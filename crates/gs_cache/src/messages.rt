@@ -62,7 +62,7 @@ impl Model for MessageCache {
 
 impl MessageCache {
     /// No message is held. One will be until the `len`-th shift after its last put, and announced until the
-    /// `gossip`-th, and be given to each neighbour `answers` times.
+    /// `gossip`-th, and be given to each neighbour `answers` times. `len` is 1 at least.
     ///
     /// # Errors
     /// `AllocError` where there was no memory.
@@ -116,7 +116,8 @@ impl MessageCache {
         Ok(())
     }
 
-    /// What a neighbour gets that asks for a message.
+    /// What a neighbour gets that asks for a message (gossipsub v1.0, "Control Messages", IWANT; v1.1, "Spam Protection
+    /// Measures").
     pub fn answer_for(&self, id: &MsgId, peer: PeerNo) -> Answer<'_>
         ensures { IsAnswer result (cached self.now id.now) (left self.now id.now peer) }
     {
@@ -131,7 +132,8 @@ impl MessageCache {
         }
     }
 
-    /// How many answers are left to a neighbour: none where the message is not held.
+    /// How many answers are left to a neighbour: none where the message is not held (gossipsub v1.1, "Spam Protection
+    /// Measures").
     pub fn left_for(&self, id: &MsgId, peer: PeerNo) -> u64
         ensures { result ≡ unwrap_or (left self.now id.now peer) 0 }
     {
@@ -141,8 +143,8 @@ impl MessageCache {
         }
     }
 
-    /// Counts an answer that a neighbour got: one less is left to it, where one is. A message that is not held
-    /// stays so.
+    /// Counts an answer that a neighbour got: one less is left to it, where one is (gossipsub v1.1, "Spam Protection
+    /// Measures"). A message that is not held stays so.
     ///
     /// # Errors
     /// `AllocError` where there was no memory; the cache is then as it was.
@@ -175,7 +177,8 @@ impl MessageCache {
         Ok(Seq::from(ids))
     }
 
-    /// Shifts the windows, as each heartbeat does: the puts of the oldest window are lost. It takes no memory.
+    /// Shifts the windows, as each heartbeat does: the puts of the oldest window are lost (gossipsub v1.0, "Message
+    /// Cache"). It takes no memory.
     pub fn shift(&mut self)
         ensures ages { (other : MsgIdValue) → cached self.new other ≡ aged self.old.len (cached self.old other) }
         ensures keeps { (other : MsgIdValue) (q : PeerNoValue)

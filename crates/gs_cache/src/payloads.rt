@@ -19,11 +19,11 @@ pub struct Known {
     id: MsgId,
 }
 
-/// The latest payloads with their identifiers. A payload that comes again is found by comparing its bytes, which takes
-/// a tenth of the time of its SHA-256.
+/// The latest payloads with their identifiers (libp2p pubsub, "Message Identification"). A payload that comes again is
+/// found by comparing its bytes, which costs far less than its SHA-256.
 ///
 /// Each payload lies in the slot that a hash of its bytes chooses, until another one takes that. So at most 1,024 are
-/// held.
+/// held, each with the whole body that it is a slice of.
 #[derive(Drop)]
 pub struct Payloads {
     slots: Vec<Option<Known>>,

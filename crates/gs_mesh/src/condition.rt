@@ -5,7 +5,7 @@ ghost use Rattle.gs_mesh.specs.MeshSteps.{condition_of};
 
 use gs_params::{Degrees, Member};
 
-/// How a mesh stands by its members.
+/// How a mesh stands by its members (gossipsub v1.0, "Mesh maintenance"; v1.1, "Outbound Mesh Quotas").
 #[derive(Clone, Copy, Debug, PartialEq, Eq)]
 pub enum Condition {
     /// They are fewer than `d_low`.

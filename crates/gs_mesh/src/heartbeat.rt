@@ -27,11 +27,13 @@ struct Mended {
     grafted: Vec<PeerNo>,
 }
 
-/// What a heartbeat does to the mesh of a topic: who scores below 0 goes, too few members become more and too many become
-/// fewer, and outbound ones come in where they lack. Then, at each heartbeat whose number is a multiple of
-/// `opportunistic_ticks`, candidates come in that score above the median, where that is low. Members and candidates are
-/// listed by number, ascending; a candidate is one that may be grafted. `opportunistic_ticks` is 1 at least, as it is in
-/// parameters that pass their checks. What is chosen is chosen by the next words.
+/// What a heartbeat does to the mesh of a topic (gossipsub v1.0, "Mesh maintenance"; v1.1, "Heartbeat Maintenance",
+/// "Outbound Mesh Quotas" and "Opportunistic Grafting"): who scores below 0 goes, too few members become more and too many
+/// become fewer, and outbound ones come in where they lack. Then, at each heartbeat whose number, `tick`, is a multiple of
+/// `opportunistic_ticks`, candidates come in that score above the median, where that lies below `opportunistic_threshold`,
+/// both in millionths. Members and candidates are listed by number, ascending; a candidate is one that may be grafted.
+/// `opportunistic_ticks` is 1 at least, as it is in parameters that pass their checks. What is chosen is chosen by the next
+/// words.
 ///
 /// # Errors
 /// `AllocError` where there was no memory; words may have been drawn.
@@ -219,6 +221,8 @@ fn bettered<W: Words>(
 // ---- what choices keep
 
 /// Whatever the words, what a heartbeat chooses is what the rules allow: as many as they say, and of those whom they name.
+/// Members and candidates ascend by number, and `d` has room for `d_score` and `d_out`, as in parameters that pass their
+/// checks.
 pub fn a_choice_by_words_is_a_mesh_step<W: Words>()
     ensures { EachIsAMeshStep W.word W.after }
 {}

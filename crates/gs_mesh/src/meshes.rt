@@ -15,10 +15,12 @@ use indexmap::IndexMap;
 use std::alloc::{AllocError, Global};
 use std::marker::Model;
 
-/// The meshes and fanouts of topics, and who is not to be grafted to them yet.
+/// The meshes and fanouts of topics, and who is not to be grafted to them yet (gossipsub v1.0, "Router State"; v1.1,
+/// "Prune Backoff").
 ///
 /// A topic of which nothing was said is one that the peer is not subscribed to, without members, fanout or backoffs.
-/// Each call costs one look-up of its topic. After `AllocError` each look-up answers as before.
+/// A look-up, and a call that takes no memory, costs one look-up of its topic by hash; one that may take memory costs two,
+/// and an insertion where the topic is new. After `AllocError` each look-up answers as before.
 #[derive(Drop)]
 pub struct Meshes {
     alloc: Global,
@@ -102,7 +104,7 @@ impl Meshes {
 
     // ---- subscriptions
 
-    /// The peer subscribes to a topic. Its mesh and its fanout stay.
+    /// The peer subscribes to a topic. Its mesh and its fanout stay (gossipsub v1.0, "Topic Membership").
     ///
     /// # Errors
     /// `AllocError` where there was no memory; each look-up answers as before.
@@ -116,7 +118,8 @@ impl Meshes {
         Ok(())
     }
 
-    /// The peer leaves a topic, and its mesh ends. The answer is who was in it, ascending by number. It takes no memory.
+    /// The peer leaves a topic, and its mesh ends (gossipsub v1.0, "Topic Membership"). The answer is who was in it,
+    /// ascending by number. It takes no memory.
     pub fn leave(&mut self, topic: &Topic) -> Vec<PeerNo>
         ensures value { result.items ≡ members self.old topic.now }
         ensures ascending { IsAscending result.items }
@@ -128,7 +131,7 @@ impl Meshes {
 
     // ---- the mesh
 
-    /// A peer comes into the mesh of a topic.
+    /// A peer comes into the mesh of a topic (gossipsub v1.0, "Control Messages", GRAFT). Where it is in it, it stays.
     ///
     /// # Errors
     /// `AllocError` where there was no memory; each look-up answers as before.
@@ -141,7 +144,8 @@ impl Meshes {
         changes::graft(&mut self.topics, peer, topic)
     }
 
-    /// A peer leaves the mesh of a topic. The answer is whether it was in it. It takes no memory.
+    /// A peer leaves the mesh of a topic (gossipsub v1.0, "Control Messages", PRUNE). The answer is whether it was in it.
+    /// It takes no memory.
     pub fn prune(&mut self, peer: PeerNo, topic: &Topic) -> bool
         ensures answer { result ≡ is_among (members self.old topic.now) peer }
         ensures prunes { Puts self.old self.new topic.now
@@ -151,7 +155,7 @@ impl Meshes {
     }
 
     /// A neighbour is not to be grafted to the mesh of a topic before a moment. Where it is not to be before a later one,
-    /// that stands.
+    /// that stands (gossipsub v1.1, "Prune Backoff").
     ///
     /// # Errors
     /// `AllocError` where there was no memory; each look-up answers as before.
@@ -175,7 +179,7 @@ impl Meshes {
 
     // ---- the fanout
 
-    /// A peer comes into the fanout of a topic.
+    /// A peer comes into the fanout of a topic (gossipsub v1.0, "Message Processing"). Where it is in it, it stays.
     ///
     /// # Errors
     /// `AllocError` where there was no memory; each look-up answers as before.
@@ -188,7 +192,8 @@ impl Meshes {
         changes::fan(&mut self.topics, peer, topic)
     }
 
-    /// A peer leaves the fanout of a topic. The answer is whether it was in it. It takes no memory.
+    /// A peer leaves the fanout of a topic (gossipsub v1.0, "Fanout maintenance"). The answer is whether it was in it. It
+    /// takes no memory.
     pub fn unfan(&mut self, peer: PeerNo, topic: &Topic) -> bool
         ensures answer { result ≡ is_among (fanout self.old topic.now) peer }
         ensures unfans { Puts self.old self.new topic.now
@@ -197,7 +202,8 @@ impl Meshes {
         changes::unfan(&mut self.topics, peer, topic)
     }
 
-    /// The peer published on a topic without being subscribed, which keeps its fanout.
+    /// The peer published on a topic without being subscribed, which keeps its fanout (gossipsub v1.0, "Fanout
+    /// maintenance").
     ///
     /// # Errors
     /// `AllocError` where there was no memory; each look-up answers as before.
@@ -211,7 +217,7 @@ impl Meshes {
         Ok(())
     }
 
-    /// The fanout of a topic ends, with the moment that kept it. It takes no memory.
+    /// The fanout of a topic ends, with the moment that kept it (gossipsub v1.0, "Fanout maintenance"). It takes no memory.
     pub fn drop_fanout(&mut self, topic: &Topic)
         ensures { Puts self.old self.new topic.now
             (record (kept self.old topic.now) { fanout = []; last_published = None }) }

@@ -7,7 +7,7 @@ use crate::peer_list::PeerList;
 use gs_base::Millis;
 use std::alloc::Global;
 
-/// What is kept of one topic.
+/// What is kept of one topic (gossipsub v1.0, "Router State").
 #[derive(Drop)]
 pub struct TopicMesh {
     /// Whether the peer is subscribed to it.

@@ -31,9 +31,9 @@ use std::marker::Model;
 /// A gossipsub router with its trace.
 ///
 /// Each call that may change it is handed the words by which it chooses, and leaves them as its choices
-/// do. A call that is refused changes nothing and draws no word. After want of memory the trace ends with
-/// the last entry that was whole, and every call is refused as `Stopped`; after `shut` every call of the
-/// user is.
+/// do. `now`, in milliseconds, is never earlier than the last moment of the trace. A call that is refused changes nothing
+/// and draws no word. After want of memory the trace ends with the last entry that was whole, and every call is refused as
+/// `Stopped`; after `shut` every call of the user is.
 #[derive(Drop)]
 pub struct Router {
     state: State,
@@ -85,7 +85,8 @@ impl Router {
     }
 
     /// Hears an RPC that came from a neighbour and fits a frame, as all do that a reader gives. Where the
-    /// neighbour is not up, it is late, and has no effect; of one that is on the graylist, no part has any.
+    /// neighbour is not up, it is late, and has no effect; of one that is on the graylist, no part has any (gossipsub
+    /// v1.1, "Score Thresholds").
     ///
     /// # Errors
     /// `Stopped` after want of memory, and `NoMemory`.
@@ -143,8 +144,8 @@ impl Router {
         self.lose(peer, Event::Fault(peer), now, words)
     }
 
-    /// Subscribes to a topic, announces it to every neighbour, and grafts up to `d` of those that may come into its
-    /// mesh, members of its fanout first (gossipsub v1.0, "Topic Membership").
+    /// Subscribes to a topic, announces it to every neighbour that is up, and grafts up to `d` of those that may come into
+    /// its mesh, members of its fanout first, which ends (gossipsub v1.0, "Topic Membership").
     ///
     /// # Errors
     /// `Stopped`, `TooLong`, `Joined`, `TooMany`, in this order, and `NoMemory`.
@@ -161,8 +162,8 @@ impl Router {
         self.obey(Event::Subscribe(topic), now, words)
     }
 
-    /// Leaves a topic, tells every neighbour, and prunes each member of its mesh, which is not to come back for
-    /// `unsubscribe_backoff_s` (gossipsub v1.1, "Prune Backoff").
+    /// Leaves a topic, tells every neighbour that is up, and prunes each member of its mesh, which is not to come back for
+    /// `unsubscribe_backoff_s` (gossipsub v1.0, "Topic Membership"; v1.1, "Prune Backoff").
     ///
     /// # Errors
     /// `Stopped` and `NotJoined`, in this order, and `NoMemory`.
@@ -182,7 +183,8 @@ impl Router {
     /// Publishes a payload, which is delivered to the router's own user where that is subscribed to the topic. With
     /// `flood_publish` it goes to every neighbour that is up and on the topic; without, to the topic's mesh, or, where
     /// the router isn't subscribed, to its fanout, which is filled where it is empty. Who scores below
-    /// `publish_threshold` gets nothing (gossipsub v1.1, "Flood Publishing").
+    /// `publish_threshold` gets nothing (gossipsub v1.0, "Message Processing"; v1.1, "Flood Publishing" and "Score
+    /// Thresholds").
     ///
     /// # Errors
     /// `Stopped`, `TooLong` and `AlreadySeen`, in this order, and `NoMemory`.

@@ -19,7 +19,7 @@ pub fn topic_of(alloc: Global, name: &str) -> Result<Topic, AllocError> {
     Ok(Topic(Bytes::copy_from_slice(alloc, name.as_bytes())?))
 }
 
-/// Words of which none is drawn.
+/// Words from the seed 1, those of peer 0.
 pub fn words(alloc: Global) -> SeededWords {
     SeededWords::new(Vec::new(alloc), 1, PeerNo(0))
 }

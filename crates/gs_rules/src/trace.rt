@@ -12,7 +12,7 @@ use std::marker::Model;
 /// What happened at a peer. What is long of it stands apart, so that an entry is small.
 #[derive(Debug, Drop, PartialEq, Eq)]
 pub enum Event {
-    /// A neighbour's RPC came. Its parts follow.
+    /// A neighbour's RPC came. Its parts follow, unless the neighbour is on the graylist.
     Heard(PeerNo, Shared<Rpc>),
     /// An RPC came of a neighbour that is not heard any more.
     Late(PeerNo, Shared<Rpc>),

@@ -119,8 +119,8 @@ fn table_words(kind: TableKind) -> &'static str {
 }
 
 /// The known key that fewest edits lead to, the first of several; none where those are more than a
-/// third of the characters of the longer key. An edit puts a character in, leaves one out, changes
-/// one, or swaps two that stand side by side.
+/// third of the bytes of the longer key. An edit puts a byte in, leaves one out, changes one, or
+/// swaps two that stand side by side.
 fn nearest<'a>(
     alloc: Global,
     key: &str,

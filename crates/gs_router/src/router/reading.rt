@@ -56,8 +56,8 @@ impl Router {
         self.state.setup.params.windows.decay_ms
     }
 
-    /// The score of a neighbour at a moment, in millionths (gossipsub v1.1, Peer Scoring, The Score Function). After
-    /// want of memory nothing is known of the answer.
+    /// The score of a neighbour at a moment, in millionths (gossipsub v1.1, Peer Scoring, The Score Function); of a peer
+    /// that is no neighbour, by its marks alone: 0 without any. After want of memory nothing is known of the answer.
     pub fn score(&self, peer: PeerNo, now: Millis) -> i128
         ensures { self.now.is_stopped ≡ false → result ≡ score self.now.peer self.now.trace now.0 peer }
     {
@@ -75,7 +75,8 @@ impl Router {
         self.state.scores(now)
     }
 
-    /// Who is in the mesh of a topic, ascending by number. After want of memory nothing is known of the answer.
+    /// Who is in the mesh of a topic, ascending by number: nobody where there is none. After want of memory nothing is
+    /// known of the answer.
     pub fn members(&self, topic: &Topic) -> &[PeerNo]
         ensures { self.now.is_stopped ≡ false → result.now ≡ mesh self.now.trace topic.now }
     {

@@ -2,7 +2,7 @@
 use crate::tests::beat_cases::{Gossip, Seen};
 use crate::tests::gossip::{are_ids, ends_with};
 use crate::tests::gossip_cases::Then;
-use gs_base::{Mark, PeerNo, Rpc, Shared, Topic};
+use gs_base::{Control, Mark, PeerNo, Rpc, Shared, Topic};
 use gs_router::Router;
 use gs_rules::{Entry, Event};
 
@@ -36,13 +36,20 @@ fn is_named(topic: &Topic, name: &str) -> bool {
     topic.0.as_slice() == name.as_bytes()
 }
 
-/// Whether an RPC offers this, and says nothing else.
-fn is_offer(rpc: &Rpc, gossip: Gossip<'_>) -> bool {
+/// Whether a control asks for nothing, grafts nothing and prunes nothing.
+fn offers_alone(control: &Control) -> bool {
+    control.iwant.is_empty() && control.graft.is_empty() && control.prune.is_empty()
+}
+
+/// Whether an RPC offers these payloads on a topic, and says nothing else.
+pub fn is_offer(rpc: &Rpc, name: &str, ids: &[u8]) -> bool {
     match (&rpc.control, rpc.subs.as_slice(), rpc.publish.as_slice()) {
         (Some(control), [], []) => match control.ihave.as_slice() {
             [offer] => match &offer.topic {
                 Some(topic) => {
-                    is_named(topic, gossip.topic) && are_ids(offer.ids.as_slice(), gossip.ids)
+                    is_named(topic, name)
+                        && are_ids(offer.ids.as_slice(), ids)
+                        && offers_alone(control)
                 }
                 None => false,
             },
@@ -55,7 +62,7 @@ fn is_offer(rpc: &Rpc, gossip: Gossip<'_>) -> bool {
 /// Whether these RPCs tell this.
 fn are_told(sends: &[(PeerNo, Shared<Rpc>)], gossip: Gossip<'_>) -> bool {
     for ((peer, rpc), receiver) in sends.iter().zip(gossip.to) {
-        if peer.0 != *receiver || !is_offer(rpc.get(), gossip) {
+        if peer.0 != *receiver || !is_offer(rpc.get(), gossip.topic, gossip.ids) {
             return false;
         }
     }

@@ -2,6 +2,7 @@
 
 use crate::tests::beat_cases::Deed;
 use crate::tests::beats::lives;
+use crate::tests::sights::is_offer;
 use gs_base::{PeerNo, Rpc, Shared, Topic};
 use gs_params::Params;
 use gs_router::Router;
@@ -11,18 +12,19 @@ use std::alloc::{AllocError, Global};
 
 // ---- who is told beside the mesh
 
-/// How many of those to whom this was sent are not among these.
+/// How many are told of the payload 1 alone, where each is told once and none of them is among these; else 0.
 fn outside(sends: &[(PeerNo, Shared<Rpc>)], members: &[PeerNo]) -> usize {
-    let mut count = 0usize;
-    for (peer, _) in sends {
-        if !members.contains(peer) {
-            count = count.saturating_add(1);
+    let mut next = 0u16;
+    for (peer, rpc) in sends {
+        if peer.0 < next || members.contains(peer) || !is_offer(rpc.get(), "a", &[1]) {
+            return 0;
         }
+        next = peer.0.saturating_add(1);
     }
-    count
+    sends.len()
 }
 
-/// How many neighbours outside these were told what there is at a heartbeat.
+/// How many neighbours outside these were told at a heartbeat of the payload 1.
 fn told_outside(entries: &[Entry], members: &[PeerNo]) -> usize {
     let mut count = 0usize;
     for entry in entries {

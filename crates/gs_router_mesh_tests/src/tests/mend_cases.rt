@@ -84,8 +84,8 @@ pub static NEGATIVE: [Step<'static>; 6] = [
 ];
 
 /// Two deliveries should come of each member, and the square of what is missing counts. Who brought nothing in five seconds
-/// is put out, charged, and told before the one that comes in.
-pub static MISSING_ALL: [Step<'static>; 4] = [
+/// is put out and charged. All who are put out are told before the one that comes in, whatever their numbers.
+pub static MISSING_ALL: [Step<'static>; 5] = [
     (0, Deed::Join, ALL_HEAR, &[], &[]),
     (
         0,
@@ -94,15 +94,25 @@ pub static MISSING_ALL: [Step<'static>; 4] = [
         &[Left::Grafted(1)],
         &[1],
     ),
-    (4_500, ON_2, &[], &[], &[1]),
+    (
+        0,
+        Deed::Hear(3, Said::Graft),
+        &[],
+        &[Left::Grafted(3)],
+        &[1, 3],
+    ),
+    (4_500, ON_2, &[], &[], &[1, 3]),
     (
         5_000,
         Deed::Beat,
-        &[(1, OUT), (2, Said::Graft)],
+        &[(1, OUT), (3, OUT), (2, Said::Graft)],
         &[
             Left::Pruned(1),
+            Left::Pruned(3),
             Left::Deficit(1, 4_000_000),
+            Left::Deficit(3, 4_000_000),
             Left::Backoff(1, 65_000),
+            Left::Backoff(3, 65_000),
             Left::Grafted(2),
         ],
         &[2],
@@ -176,8 +186,9 @@ pub static FEW_OUTBOUND: [Step<'static>; 6] = [
 /// Of 1, 2 and 3 the places 0 and 2 are exchanged, and 1 and 1: the first two are then 3 and 2.
 pub static CHOICES: [u32; 2] = [2, 0];
 
-/// A fanout of two is filled at a heartbeat where a member has left, and ends a minute after the last payload.
-pub static FANOUT: [Step<'static>; 11] = [
+/// A fanout of two is filled at a heartbeat where a member has left, and ends a minute after the last payload. Another
+/// payload makes a new one, of the two that are still on the topic.
+pub static FANOUT: [Step<'static>; 12] = [
     (0, ON_1, &[], &[], &[]),
     (0, ON_2, &[], &[], &[]),
     (0, ON_3, &[], &[], &[]),
@@ -212,7 +223,20 @@ pub static FANOUT: [Step<'static>; 11] = [
         &[Left::Unfanned(1), Left::Unfanned(2)],
         &[],
     ),
-    (61_000, Deed::Beat, &[], &[], &[]),
+    (61_000, Deed::IdleBeat, &[], &[], &[]),
+    (
+        61_500,
+        Deed::Publish(8),
+        &[(1, Said::Message(8)), (2, Said::Message(8))],
+        &[
+            Left::Accepted(8),
+            Left::Cached(8),
+            Left::Fanned(1),
+            Left::Fanned(2),
+            Left::Published,
+        ],
+        &[],
+    ),
 ];
 
 /// Member 3 scores 60 below nothing, and may be published to from 50 below on: neighbour 1 comes in its place.

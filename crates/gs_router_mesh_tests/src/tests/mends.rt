@@ -37,7 +37,7 @@ fn who_scores_below_nothing_is_put_out(rt: HostRuntime) -> Result<(), AllocError
 fn who_brings_nothing_is_put_out_and_charged(rt: HostRuntime) -> Result<(), AllocError> {
     let alloc = rt.alloc();
     let params = demanding(alloc)?;
-    assert_eq!(rt; first_wrong(alloc, params, &[], &MISSING_ALL)?, 4);
+    assert_eq!(rt; first_wrong(alloc, params, &[], &MISSING_ALL)?, 5);
     Ok(())
 }
 
@@ -68,7 +68,7 @@ fn a_mesh_gets_the_outbound_members_that_it_lacks(rt: HostRuntime) -> Result<(),
 fn a_fanout_is_filled_and_ends(rt: HostRuntime) -> Result<(), AllocError> {
     let alloc = rt.alloc();
     let params = sized_without_flood(alloc, 2);
-    assert_eq!(rt; first_wrong(alloc, params, &CHOICES, &FANOUT)?, 11);
+    assert_eq!(rt; first_wrong(alloc, params, &CHOICES, &FANOUT)?, 12);
     let params = sized_without_flood(alloc, 1);
     assert_eq!(rt; first_wrong(alloc, params, &ONES, &FANOUT_OF_ONE)?, 6);
     Ok(())

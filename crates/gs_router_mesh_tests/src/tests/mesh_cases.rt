@@ -26,6 +26,8 @@ pub enum Deed {
     Fault(u16),
     Decay,
     Beat,
+    /// A heartbeat at which no mesh is mended, no fanout is mended or ends, and nothing is gossiped.
+    IdleBeat,
 }
 
 /// A mark: the neighbour and what it says beside the topic.

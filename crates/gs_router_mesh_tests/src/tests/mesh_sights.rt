@@ -2,7 +2,7 @@
 use crate::tests::mesh_cases::{Deed, Left, Said};
 use gs_base::{Control, Mark, Millis, MsgId, PeerNo, Rpc, Shared, Topic, Verdict};
 use gs_router::Router;
-use gs_rules::Entry;
+use gs_rules::{Entry, Event};
 
 fn is_a(topic: &Topic) -> bool {
     topic.0.as_slice() == b"a".as_slice()
@@ -162,10 +162,20 @@ pub fn has_members(router: &Router, topic: &Topic, wanted: &[u16]) -> bool {
     are_members(router.members(topic), wanted)
 }
 
+/// An entry that ends a heartbeat.
+fn end_of_beat(entry: &Entry) -> Option<&Entry> {
+    match &entry.event {
+        Event::BeatEnd => Some(entry),
+        _ => None,
+    }
+}
+
 /// The last entry of a router's trace; of a heartbeat, before which there were so many, the one behind its first.
 pub fn entry_of(router: &Router, before: usize, deed: Deed) -> Option<&Entry> {
+    let second = before.saturating_add(1);
     match deed {
-        Deed::Beat => router.trace().entries().get(before.saturating_add(1)),
+        Deed::Beat => router.trace().entries().get(second),
+        Deed::IdleBeat => end_of_beat(router.trace().entries().get(second)?),
         _ => router.trace().entries().last(),
     }
 }

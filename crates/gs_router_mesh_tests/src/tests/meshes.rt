@@ -69,7 +69,7 @@ pub fn act(
         Deed::Gone(peer) => call(alloc, router, at, Cause::Gone(peer), words),
         Deed::Fault(peer) => call(alloc, router, at, Cause::Fault(peer), words),
         Deed::Decay => call(alloc, router, at, Cause::Decay, words),
-        Deed::Beat => call(alloc, router, at, Cause::Beat, words),
+        Deed::Beat | Deed::IdleBeat => call(alloc, router, at, Cause::Beat, words),
     }
 }
 
