@@ -16,7 +16,7 @@ pub enum Mark {
     Invalid(PeerNo, Topic),
     /// A neighbour left the topic's mesh with this deficit of deliveries, squared, in millionths (P3b).
     Deficit(PeerNo, Topic, i128),
-    /// A neighbour broke a promise, or came back into a mesh too soon (P7).
+    /// A neighbour broke a promise, or asked to come back into a mesh too soon (P7).
     Behaviour(PeerNo),
     /// The message with this identifier is kept as one of this topic, for who asks for it (gossipsub v1.0,
     /// Message Cache).
