@@ -1,6 +1,7 @@
 //! Simulates gossipsub peers: reads a scenario, runs it and reports what happened.
 #![tactic(auto)]
 
+mod laws;
 mod program;
 
 use gs_peer::NoGate;

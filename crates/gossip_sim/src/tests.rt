@@ -1,5 +1,7 @@
 //! Whole runs, from a scenario to its report.
+mod choices;
 mod meshes;
+mod one_output;
 mod standings;
 
 use crate::program::tests::Host;

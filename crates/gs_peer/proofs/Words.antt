@@ -123,7 +123,7 @@ whole_stays (suc r) v w h =
     ap₂ (λ (a b : Bool). a && b) (whole_stays r v w (whole_before r v h))
     (ap (ends r) (after_stays r v w (whole_before r v h)) ∙ ends_stays r (after r v) w (whole_ends r v h))
 
-said_in_stays : (r : ℕ) (v w : Said) → whole (suc r) v ≡ true → said_in r (v ++ w) ≡ said_in r v
+pub said_in_stays : (r : ℕ) (v w : Said) → whole (suc r) v ≡ true → said_in r (v ++ w) ≡ said_in r v
 said_in_stays r v w h = ap (front r) (after_stays r v w (whole_before r v h)) ∙ front_stays r (after r v) w (whole_ends r v h)
 
 pub bytes_stay : (r : ℕ) (v w : Said) → whole r v ≡ true → bytes_before r (v ++ w) ≡ bytes_before r v

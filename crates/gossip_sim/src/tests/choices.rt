@@ -1,0 +1,170 @@
+//! Runs in which words choose, and runs of one scenario by other numbers of workers, over links of other capacities.
+use crate::program::tests::Host;
+use crate::tests::one_output::output_of;
+use crate::tests::{A_DIALS_B, TWO_SUBSCRIBE, Told, is_reported, news, scenario};
+use gs_peer::NoGate;
+use std::alloc::{AllocError, Global};
+
+/// Numbers of workers, each with a capacity of the links.
+static HOW: [(u64, u64); 8] = [
+    (1, 1),
+    (1, 8),
+    (2, 1),
+    (2, 8),
+    (3, 1),
+    (3, 8),
+    (8, 1),
+    (8, 8),
+];
+
+/// Whether a scenario makes such a report, however it is run.
+fn is_one<T: Host>(
+    rt: &T,
+    rounds: u64,
+    rest: [&str; 3],
+    script: &[Told<'_>],
+    report: &str,
+) -> Result<bool, AllocError> {
+    let rest = scenario(rt.alloc(), &rest, script)?;
+    for (workers, capacity) in &HOW {
+        let text = format!(in rt.alloc();
+            "round_ms = 100\nrounds = {rounds}\nworkers = {workers}\ncapacity = {capacity}\nseed = 1\n{rest}"
+        )?;
+        if !is_reported(rt, &NoGate, &text, report) {
+            return Ok(false);
+        }
+    }
+    Ok(true)
+}
+
+const NEWS: &str = "[[topic]]\nname = \"news\"\n[[peer]]\nname = \"a\"\n[[peer]]\nname = \"b\"\n";
+
+#[test]
+fn two_subscribers_have_one_report(rt: HostRuntime) -> Result<(), AllocError> {
+    let report = "delivered a 200 news 616263\ndelivered b 300 news 616263\n\
+        mesh a news b\nmesh b news a\n\
+        score a b 0.000000\nscore b a 0.000000\nlinks 2 settled\n";
+    assert!(rt; is_one(&rt, 10, ["", NEWS, A_DIALS_B], &TWO_SUBSCRIBE, report)?);
+    Ok(())
+}
+
+const BOTH: &str = "[[topic]]\nname = \"news\"\n[[topic]]\nname = \"blog\"\n\
+    [[peer]]\nname = \"a\"\n[[peer]]\nname = \"b\"\n";
+
+static TWICE: [Told<'static>; 7] = [
+    (0, "a", "subscribe", "news", None),
+    (0, "b", "subscribe", "news", None),
+    (0, "a", "subscribe", "blog", None),
+    (0, "b", "subscribe", "blog", None),
+    (2, "a", "publish", "news", Some("616263")),
+    (3, "a", "publish", "blog", Some("616263")),
+    (7, "a", "publish", "blog", Some("616263")),
+];
+
+#[test]
+fn a_payload_on_two_topics_has_one_report(rt: HostRuntime) -> Result<(), AllocError> {
+    let report = "delivered a 200 news 616263\ndelivered a 700 blog 616263\n\
+        delivered b 300 news 616263\ndelivered b 800 blog 616263\n\
+        refused a 300 publish 16\n\
+        mesh a blog b\nmesh a news b\nmesh b blog a\nmesh b news a\n\
+        score a b 0.000000\nscore b a 0.000000\nlinks 2 settled\n";
+    let params = "[params]\nseen_ttl_ms = 500\n";
+    assert!(rt; is_one(&rt, 10, [params, BOTH, A_DIALS_B], &TWICE, report)?);
+    Ok(())
+}
+
+// ---- words that choose
+
+const ROOM_FOR_ONE: &str = "[params]\nd = 1\nd_low = 1\nd_high = 1\nd_score = 1\nd_out = 0\n";
+
+const BY_FOUR: &str = "[[topic]]\nname = \"news\"\n[[peer]]\nname = \"a\"\nwords = [4]\n\
+    [[peer]]\nname = \"b\"\n[[peer]]\nname = \"c\"\n[[peer]]\nname = \"e\"\n";
+
+const BY_THREE: &str = "[[topic]]\nname = \"news\"\n[[peer]]\nname = \"a\"\nwords = [3]\n\
+    [[peer]]\nname = \"b\"\n[[peer]]\nname = \"c\"\n[[peer]]\nname = \"e\"\n";
+
+const A_DIALS_ALL: &str = "[[dial]]\nfrom = \"a\"\nto = \"b\"\n[[dial]]\nfrom = \"a\"\nto = \"c\"\n\
+    [[dial]]\nfrom = \"a\"\nto = \"e\"\n";
+
+static ALL_SUBSCRIBE: [Told<'static>; 4] = [
+    (0, "b", "subscribe", "news", None),
+    (0, "c", "subscribe", "news", None),
+    (0, "e", "subscribe", "news", None),
+    (2, "a", "subscribe", "news", None),
+];
+
+/// A word chooses one of the three that `a` might graft: 4 leaves 1 by three, and 3 leaves 0.
+#[test]
+fn a_word_chooses_whom_a_subscriber_grafts(rt: HostRuntime) -> Result<(), AllocError> {
+    for (peers, meshes) in [
+        (BY_FOUR, "mesh a news c\nmesh c news a\n"),
+        (BY_THREE, "mesh a news b\nmesh b news a\n"),
+    ] {
+        let report = format!(in rt.alloc();
+            "{meshes}score a b 0.000000\nscore a c 0.000000\nscore a e 0.000000\n\
+            score b a 0.000000\nscore c a 0.000000\nscore e a 0.000000\nlinks 6 settled\n"
+        )?;
+        let rest = [ROOM_FOR_ONE, peers, A_DIALS_ALL];
+        assert!(rt; is_one(&rt, 5, rest, &ALL_SUBSCRIBE, &report)?);
+    }
+    Ok(())
+}
+
+// ---- many peers
+
+/// Twelve peers, each joined with all others, who subscribe in round 0. `p0` publishes in round 12, and `p7` in round 23.
+fn twelve(alloc: Global, workers: u64, capacity: u64) -> Result<String, AllocError> {
+    let mut text = news(alloc, 31, workers, capacity, 12)?;
+    for from in 0..12u64 {
+        for to in from + 1..12 {
+            let dial = format!(in alloc; "[[dial]]\nfrom = \"p{from}\"\nto = \"p{to}\"\n")?;
+            text.push_str(&dial)?;
+        }
+        text.push_str(&format!(in alloc; "[[do]]\nat = 0\npeer = \"p{from}\"\n")?)?;
+        text.push_str("what = \"subscribe\"\ntopic = \"news\"\n")?;
+    }
+    text.push_str("[[do]]\nat = 12\npeer = \"p0\"\nwhat = \"publish\"\n")?;
+    text.push_str("topic = \"news\"\nhex = \"616263\"\n")?;
+    text.push_str("[[do]]\nat = 23\npeer = \"p7\"\nwhat = \"publish\"\n")?;
+    text.push_str("topic = \"news\"\nhex = \"646566\"\n")?;
+    Ok(text)
+}
+
+/// What a run of the twelve writes.
+fn output_of_twelve<T: Host>(
+    rt: &T,
+    workers: u64,
+    capacity: u64,
+) -> Result<Option<Vec<u8>>, AllocError> {
+    let text = twelve(rt.alloc(), workers, capacity)?;
+    Ok(output_of(rt, &text))
+}
+
+/// Whether each other run of the twelve writes these bytes.
+fn write_all<T: Host>(rt: &T, first: &[u8]) -> Result<bool, AllocError> {
+    for (workers, capacity) in &HOW {
+        let output = output_of_twelve(rt, *workers, *capacity)?;
+        if !matches!(&output, Some(bytes) if bytes.as_slice() == first) {
+            return Ok(false);
+        }
+    }
+    Ok(true)
+}
+
+/// Three heartbeats choose among eleven neighbours each, by words. Who publishes floods, so each other peer hears it a round
+/// later.
+#[test]
+fn twelve_peers_have_one_report(rt: HostRuntime) -> Result<(), AllocError> {
+    let output = output_of_twelve(&rt, 2, 4)?;
+    let front = b"delivered p0 1200 news 616263\ndelivered p0 2400 news 646566\n\
+        delivered p1 1300 news 616263\ndelivered p1 2400 news 646566\n"
+        .as_slice();
+    let end = b"links 132 settled\n".as_slice();
+    let Some(first) = output else {
+        assert!(rt; false);
+        return Ok(());
+    };
+    assert!(rt; first.starts_with(front) && first.ends_with(end));
+    assert!(rt; write_all(&rt, &first)?);
+    Ok(())
+}

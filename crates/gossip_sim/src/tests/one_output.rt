@@ -1,0 +1,59 @@
+//! Two runs of one scenario, which are proved to write the same bytes.
+ghost use Rattle.std.specs.Prelude.{◌≡◌, IfSome, List, Option, Some, ℕ, []};
+ghost use Rattle.gossip_sim.specs.Program.{Reported};
+
+use crate::laws::two_runs_write_the_same;
+use crate::program::tests::Host;
+use crate::program::{ExitStatus, run};
+use gs_peer::NoGate;
+
+/// Two subscribers by one worker, over links that hold one item.
+const BY_ONE: &str = "round_ms = 100\nrounds = 3\nworkers = 1\ncapacity = 1\nseed = 1\n\
+    [[topic]]\nname = \"news\"\n[[peer]]\nname = \"a\"\n[[peer]]\nname = \"b\"\n\
+    [[dial]]\nfrom = \"a\"\nto = \"b\"\n\
+    [[do]]\nwhat = \"subscribe\"\nat = 0\npeer = \"b\"\ntopic = \"news\"\n\
+    [[do]]\nwhat = \"publish\"\nat = 2\npeer = \"a\"\ntopic = \"news\"\nhex = \"616263\"\n";
+
+/// The same scenario by three workers, over links that hold eight.
+const BY_THREE: &str = "round_ms = 100\nrounds = 3\nworkers = 3\ncapacity = 8\nseed = 1\n\
+    [[topic]]\nname = \"news\"\n[[peer]]\nname = \"a\"\n[[peer]]\nname = \"b\"\n\
+    [[dial]]\nfrom = \"a\"\nto = \"b\"\n\
+    [[do]]\nwhat = \"subscribe\"\nat = 0\npeer = \"b\"\ntopic = \"news\"\n\
+    [[do]]\nwhat = \"publish\"\nat = 2\npeer = \"a\"\ntopic = \"news\"\nhex = \"616263\"\n";
+
+/// What a run of a scenario writes, where it reports.
+pub(super) fn output_of<T: Host>(rt: &T, text: &str) -> Option<Vec<u8>>
+    ensures { IfSome result (λ output. (rest : Option (List ℕ)) × (told : Option (List ℕ)) × (told' : Option (List ℕ))
+        × Reported (Some text.now) rest (Some []) (Some output.items) told told') }
+{
+    let mut output = Vec::new(rt.alloc());
+    let mut errors = Vec::new(rt.alloc());
+    match run(rt, &NoGate, &mut text.as_bytes(), &mut output, &mut errors) {
+        ExitStatus::Reported => Some(output),
+        ExitStatus::ScenarioRefused
+        | ExitStatus::RunRefused
+        | ExitStatus::InputFailed
+        | ExitStatus::OutputFailed => None,
+    }
+}
+
+/// What the two runs write, where both report: it is the same, by the law.
+fn both_outputs<T: Host>(rt: &T) -> Option<(Vec<u8>, Vec<u8>)>
+    ensures { IfSome result (λ both. both.0.items ≡ both.1.items) }
+{
+    two_runs_write_the_same();
+    let one = output_of(rt, BY_ONE)?;
+    let three = output_of(rt, BY_THREE)?;
+    Some((one, three))
+}
+
+/// Such runs exist: both report. `b` delivers what `a` published a round before.
+#[test]
+fn two_runs_of_a_scenario_write_the_same(rt: HostRuntime) {
+    let report = b"delivered b 300 news 616263\n\
+        score a b 0.000000\nscore b a 0.000000\nlinks 2 settled\n"
+        .as_slice();
+    let outputs = both_outputs(&rt);
+    assert!(rt; matches!(&outputs, Some((one, _)) if one.as_slice() == report));
+    assert!(rt; matches!(&outputs, Some((_, three)) if three.as_slice() == report));
+}

@@ -1,0 +1,9 @@
+pub mod Lists
+pub mod Doing
+pub mod Heard
+pub mod Spoken
+pub mod Traces
+pub mod Runs
+pub mod Reports
+pub mod Scenarios
+pub mod ScenarioRows

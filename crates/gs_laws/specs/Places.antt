@@ -1,0 +1,74 @@
+-- What fixes what a peer does at a place of its rounds, and what fixes what it says.
+use Rattle.std.specs.Prelude.{◌≡◌, ℕ, zero, suc, List, [], ◌∷◌, ◌++◌}
+use Rattle.std.specs.List.{AllByRecursion}
+use Rattle.gs_base.specs.declared.names.PeerNo.{PeerNo}
+use Rattle.gs_base.specs.Tokens.{Said}
+use Rattle.gs_wire.specs.Codec.{codec}
+use Rattle.gs_rules.specs.declared.trace.Entry.{Entry}
+use Rattle.gs_rules.specs.declared.trace.Event.TheVariants.{Shut}
+use Rattle.gs_rules.specs.declared.refusal.RefusedLine.{RefusedLine}
+use Rattle.gs_rules.specs.Peers.{Peer, links_of}
+use Rattle.gs_rules.specs.Tables.{Entries}
+use Rattle.gs_rules.specs.Rules.{bare}
+use Rattle.gs_rules.specs.Modes.{exact}
+use Rattle.gs_rules.specs.Legal.{Legal, LegalOn}
+use Rattle.gs_rules.specs.Saying.{out}
+use Rattle.gs_rules.specs.Hearing.{said_in}
+use Rattle.gs_rules.specs.Rounds.{Seat, Place, Playing, Closing, Plays, AfterRounds, moment_of}
+
+-- ---- words that are heard alike
+
+-- what is said in each of the first so many rounds, the last of them first: each up to its end, or up to a close
+abbrev pub first_rounds : ℕ → Said → List Said
+first_rounds zero w = []
+first_rounds (suc r) w = said_in r w ∷ first_rounds r w
+
+-- A peer hears the same in two words at a place: in a round it hears what was said in the rounds before, and behind the
+-- last round it hears all.
+abbrev pub AreHeardAlike : Place → Said → Said → Type 0
+AreHeardAlike (Playing r) v w = first_rounds r v ≡ first_rounds r w
+AreHeardAlike Closing v w = v ≡ w
+
+-- and so it does of each neighbour
+abbrev pub NeighboursAreHeardAlike : Seat → Place → (PeerNo → Said) → (PeerNo → Said) → Type 0
+NeighboursAreHeardAlike seat place said other =
+    AllByRecursion (λ q. AreHeardAlike place (said q) (other q)) (links_of seat.peer)
+
+-- ---- what fixes what a peer does
+
+module _ {S : Type 0} (word : S → ℕ) (after : S → S) where
+  -- each entry may come after those before it, and its choices are those of the words from this state on
+  abbrev pub LegalByWords : Peer → S → Entries → Type 0
+  LegalByWords p first L = (last : S) × LegalOn (exact word after) p first [] L last
+
+  -- The trace before a place, and what the neighbours said as far as the peer hears it there, fix the trace behind the
+  -- place and the lines that are refused at it.
+  abbrev pub APlaceIsFixed : Type 0
+  APlaceIsFixed =
+      (seat : Seat) (first : S) (place : Place) (said other : PeerNo → Said) (before L M : Entries)
+      (refused more : List RefusedLine)
+      → LegalByWords seat.peer first L
+      → LegalByWords seat.peer first M
+      → NeighboursAreHeardAlike seat place said other
+      → Plays seat said place before L refused
+      → Plays seat other place before M more
+      → (L ≡ M) × (refused ≡ more)
+
+-- ---- what fixes what a peer says
+
+-- What a peer says in its first rounds it has said by their end, whatever it does behind them.
+abbrev pub RoundsAreSaidByTheirEnd : Type 0
+RoundsAreSaidByTheirEnd =
+    (seat : Seat) (said : PeerNo → Said) (r : ℕ) (L : Entries) (later : List Entry) (refused : List RefusedLine)
+    (q : PeerNo)
+    → AfterRounds seat said r L refused
+    → first_rounds r (out codec (later ++ L) q) ≡ first_rounds r (out codec L q)
+
+-- All that it says it has said by the end of the last round, but for what its end adds: the word would be the same if the
+-- peer only shut down.
+abbrev pub AllIsSaidByTheEnd : Type 0
+AllIsSaidByTheEnd =
+    (seat : Seat) (said : PeerNo → Said) (last L : Entries) (refused : List RefusedLine) (q : PeerNo)
+    → Legal seat.peer L
+    → Plays seat said Closing last L refused
+    → out codec L q ≡ out codec (bare (moment_of seat Closing) Shut ∷ last) q

@@ -1,0 +1,46 @@
+//! Laws of whole runs: one plan has one report, whatever the number of workers, the capacity of links and the schedule. Each
+//! law holds of its definitions alone, and its function does nothing.
+#![tactic(auto)]
+
+ghost use Rattle.gs_laws.specs.Places.{APlaceIsFixed, AllIsSaidByTheEnd, RoundsAreSaidByTheirEnd};
+ghost use Rattle.gs_laws.specs.Runs.{ReportsAreOne, RunsAreOne, TracesAreOne};
+ghost use Rattle.gs_laws.specs.Scenarios.{TextsAreOne};
+
+use gs_params::Words;
+
+/// What a peer did before a place of its rounds, and what its neighbours said as far as it hears that there, fix what it does
+/// there and which lines it refuses. A place is a round, or what comes behind the last one.
+pub fn what_was_said_fixes_a_place<W: Words>()
+    ensures { APlaceIsFixed W.word W.after }
+{}
+
+/// A peer has said what it says in its first rounds by their end (`rounds`). It has said all that it says, but for its close,
+/// by the end of the last round (`all`).
+pub fn what_was_done_fixes_what_is_said()
+    ensures rounds { RoundsAreSaidByTheirEnd }
+    ensures all { AllIsSaidByTheEnd }
+{}
+
+/// Plans that differ at most in `workers` and `capacity` have one list of traces and of refused lines, where each trace is
+/// legal by the words of its peer and keeps the rounds on what the others say.
+pub fn a_plan_has_one_list_of_traces()
+    ensures { TracesAreOne }
+{}
+
+/// Runs of such plans leave the same traces, refused lines, meshes and scores.
+pub fn a_plan_has_one_run()
+    ensures { RunsAreOne }
+{}
+
+/// Reports of such plans are one, and so are their texts.
+pub fn a_plan_has_one_report()
+    ensures { ReportsAreOne }
+{}
+
+/// Reports of scenarios that differ at most in `workers` and `capacity` have one text.
+pub fn a_scenario_has_one_report()
+    ensures { TextsAreOne }
+{}
+
+#[cfg(test)]
+mod tests;
