@@ -4,7 +4,7 @@ ghost use Rattle.gs_link.specs.Items.{IsCapacity, IsSendable, slot_of};
 
 use bytes::Bytes;
 
-/// The most slots that may wait in a link.
+/// The most slots that may wait in a link. Calls ask for it as a condition: to go beyond is a fault of the caller.
 pub const LARGEST_CAPACITY: usize = 1_024;
 
 /// The most bytes of a piece.

@@ -104,7 +104,8 @@ impl Meshes {
 
     // ---- subscriptions
 
-    /// The peer subscribes to a topic. Its mesh and its fanout stay (gossipsub v1.0, "Topic Membership").
+    /// The peer subscribes to a topic. Its mesh and its fanout stay (gossipsub v1.0, "Topic Membership"). A topic that is
+    /// known is not cloned.
     ///
     /// # Errors
     /// `AllocError` where there was no memory; each look-up answers as before.

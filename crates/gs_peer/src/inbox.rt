@@ -97,7 +97,8 @@ impl Inbox {
         mem::replace(&mut self.stage, Vec::new(alloc))
     }
 
-    /// Takes what comes next from the neighbour, if anything does.
+    /// Takes what comes next from the neighbour, if anything does. Nobody calls it behind the mark of a place, so the stage
+    /// holds what one round brought.
     ///
     /// # Errors
     /// `AllocError` where there was no memory for it.

@@ -17,7 +17,8 @@ use indexmap::IndexMap;
 use std::alloc::{AllocError, Global};
 use std::marker::Model;
 
-/// What a neighbour has on topics, by topic. On all others it has nothing.
+/// What a neighbour has on topics, by topic. On all others it has nothing. How a topic is scored is looked up in the
+/// parameters: no copy is kept here that would have to stay alike.
 #[derive(Drop)]
 pub struct Topics {
     standings: IndexMap<Topic, Standing>,

@@ -9,7 +9,8 @@ use indexmap::IndexMap;
 use std::alloc::{AllocError, Global};
 use std::marker::Model;
 
-/// How many answers are left to the neighbours that got one. To all others as many are left as each gets.
+/// How many answers are left to the neighbours that got one. To all others as many are left as each gets. What is left
+/// counts down to 0, so no count can overflow.
 #[derive(Drop)]
 pub struct Tally {
     left: IndexMap<PeerNo, u64>,

@@ -163,6 +163,7 @@ fn telling(state: &State, topic: Topic, chosen: &[PeerNo], now: Millis) -> Resul
         → Knows state.now now.0 L
         → entry ≡ telling (peer_with state.now.setup) L now topic chosen.now) }
 {
+    // (listed here again, so that no list waits while other topics are gossiped)
     let ids = state.tables.messages.gossip_ids(&topic)?;
     let rpc = offering(state.alloc, &topic, ids.as_slice())?;
     let sends = to_each(state.alloc, rpc, chosen)?;

@@ -17,7 +17,8 @@ use std::alloc::{AllocError, Global};
 #[derive(Drop)]
 pub struct Listeners {
     alloc: Global,
-    /// Those who are on each topic that a neighbour ever spoke of.
+    /// Those who are on each topic that a neighbour ever spoke of: a set by number, so that a publication hashes its
+    /// topic once for all neighbours.
     topics: IndexMap<Topic, PeerSet>,
 }
 

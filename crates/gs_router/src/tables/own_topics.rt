@@ -14,7 +14,7 @@ use std::collections::BTreeMap;
 /// The topics that a router was ever subscribed to, in the order of their bytes.
 #[derive(Drop)]
 pub struct OwnTopics {
-    /// Each, and whether it is subscribed to it now.
+    /// Each, and whether it is subscribed to it now. There are few, and a look-up in a tree hashes nothing.
     topics: BTreeMap<Topic, bool>,
 }
 
