@@ -1,0 +1,138 @@
+//! The program: what it reads, what it writes and how it ends.
+ghost use Rattle.std.specs.Prelude.{◌≡◌, ◌↔◌, List, Option, map, string_bytes, ℕ};
+ghost use Rattle.std.specs.Process.{exit_status};
+ghost use Rattle.gossip_edit.specs.Program.{EndsAs, IsChanged, IsNotChanged, RefusesArguments, status_of};
+
+use crate::change::changed;
+use crate::edits::NoChange;
+use crate::keys::are_edits;
+use crate::reasons::refusal_line;
+use gs_streams::{tell, write_text};
+use std::alloc::Global;
+use std::io::{ErrorKind, Read, Write};
+use std::process::ExitCode;
+
+/// How a run of the program ends.
+#[derive(Clone, Copy, Debug, PartialEq, Eq)]
+pub enum ExitStatus {
+    /// The changed scenario is on the output.
+    Changed,
+    /// The scenario can't be read, or can't be changed so.
+    EditRefused,
+    /// There was no memory for the changed scenario, or for the line of a refusal.
+    NoMemory,
+    /// A read of the input failed, or it was read `MOST_READS` times and had not ended.
+    InputFailed,
+    /// The changed scenario could not be written.
+    OutputFailed,
+    /// There is no argument, or one without an equals sign.
+    WrongArguments,
+}
+
+impl From<ExitStatus> for ExitCode {
+    ghost from_gives = { λ status code. exit_status code ≡ status_of status };
+
+    fn from(status: ExitStatus) -> ExitCode {
+        ExitCode::from(match status {
+            ExitStatus::Changed => 0u8,
+            ExitStatus::EditRefused => 1,
+            ExitStatus::NoMemory => 2,
+            ExitStatus::InputFailed | ExitStatus::OutputFailed => 3,
+            ExitStatus::WrongArguments => 64,
+        })
+    }
+}
+
+/// What is said where the arguments are no edits.
+pub const USAGE: &str = "usage: gossip_edit KEY=VALUE..\n";
+
+/// What is said where there is no memory.
+pub const NO_MEMORY: &str = "edit refused: no memory\n";
+
+/// Reads a scenario from the input, sets the key of each argument to the argument's value, and writes
+/// the changed scenario to the output. Its comments are gone, and the keys of each table ascend. Why
+/// there is none is a line on `errors`; where that can't be written, the status stays the same. With
+/// arguments that are no edits the input is not read.
+pub fn run<R, W, E>(
+    alloc: Global,
+    arguments: &[String],
+    input: &mut R,
+    output: &mut W,
+    errors: &mut E,
+) -> ExitStatus
+where
+    R: Read,
+    W: Write,
+    E: Write,
+    ensures { EndsAs result (map string_bytes arguments.now) (R.remaining input.old)
+        (W.contents output.old) (W.contents output.new) (E.contents errors.old) (E.contents errors.new) }
+{
+    if !are_edits(arguments) {
+        tell(errors, USAGE);
+        return ExitStatus::WrongArguments;
+    }
+    match changed(alloc, arguments, input) {
+        Ok(text) => write_changed(text.as_str(), output, errors),
+        Err(cause) => tell_cause(alloc, arguments, cause, errors),
+    }
+}
+
+/// Says why the arguments could not be read: one of them is no text, or there was no memory.
+pub fn refuse_arguments<E: Write>(cause: ErrorKind, errors: &mut E) -> ExitStatus
+    ensures told { RefusesArguments result (E.contents errors.old) (E.contents errors.new) }
+    ensures memory { (result ≡ ExitStatus.NoMemory) ↔ (cause ≡ ErrorKind.OutOfMemory) }
+{
+    if cause == ErrorKind::OutOfMemory {
+        tell(errors, NO_MEMORY);
+        return ExitStatus::NoMemory;
+    }
+    tell(errors, USAGE);
+    ExitStatus::WrongArguments
+}
+
+/// Writes a changed scenario to the output.
+fn write_changed<W, E>(text: &str, output: &mut W, errors: &mut E) -> ExitStatus
+where
+    W: Write,
+    E: Write,
+    ensures { (arguments : List (List ℕ)) → (input : Option (List ℕ)) → IsChanged arguments input text.now → EndsAs result arguments input
+        (W.contents output.old) (W.contents output.new) (E.contents errors.old) (E.contents errors.new) }
+{
+    if write_text(output, text.as_bytes()).is_err() {
+        tell(errors, "output failed\n");
+        return ExitStatus::OutputFailed;
+    }
+    ExitStatus::Changed
+}
+
+/// Says why there is no changed scenario.
+fn tell_cause<E: Write>(
+    alloc: Global,
+    arguments: &[String],
+    cause: NoChange,
+    errors: &mut E,
+) -> ExitStatus
+    ensures { (input : Option (List ℕ)) → (output : Option (List ℕ)) → IsNotChanged (map string_bytes arguments.now) input cause
+        → EndsAs result (map string_bytes arguments.now) input output output (E.contents errors.old) (E.contents errors.new) }
+{
+    match cause {
+        NoChange::Refused(refusal) => match refusal_line(alloc, arguments, refusal) {
+            Ok(line) => {
+                tell(errors, line.as_str());
+                ExitStatus::EditRefused
+            }
+            Err(_) => {
+                tell(errors, NO_MEMORY);
+                ExitStatus::NoMemory
+            }
+        },
+        NoChange::InputFailed => {
+            tell(errors, "input failed\n");
+            ExitStatus::InputFailed
+        }
+        NoChange::NoMemory => {
+            tell(errors, NO_MEMORY);
+            ExitStatus::NoMemory
+        }
+    }
+}
