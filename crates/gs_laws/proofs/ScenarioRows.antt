@@ -13,10 +13,10 @@ unfoldable pub by_one : List ℕ
 by_one =
     codes "round_ms = 100\nrounds = 3\nworkers = 1\ncapacity = 1\nseed = 1\n[[topic]]\nname = \"news\"\n[[peer]]\nname = \"a\"\n[[peer]]\nname = \"b\"\n[[dial]]\nfrom = \"a\"\nto = \"b\"\n[[do]]\nwhat = \"subscribe\"\nat = 0\npeer = \"b\"\ntopic = \"news\"\n[[do]]\nwhat = \"publish\"\nat = 2\npeer = \"a\"\ntopic = \"news\"\nhex = \"616263\"\n"
 
--- three workers, links that hold eight
-unfoldable pub by_three : List ℕ
-by_three =
-    codes "round_ms = 100\nrounds = 3\nworkers = 3\ncapacity = 8\nseed = 1\n[[topic]]\nname = \"news\"\n[[peer]]\nname = \"a\"\n[[peer]]\nname = \"b\"\n[[dial]]\nfrom = \"a\"\nto = \"b\"\n[[do]]\nwhat = \"subscribe\"\nat = 0\npeer = \"b\"\ntopic = \"news\"\n[[do]]\nwhat = \"publish\"\nat = 2\npeer = \"a\"\ntopic = \"news\"\nhex = \"616263\"\n"
+-- sixteen workers, links that hold eight, a comment, and the keys in another order
+unfoldable pub by_sixteen : List ℕ
+by_sixteen =
+    codes "# threads\nworkers = 16\nseed = 1\ncapacity = 8\nrounds = 3\nround_ms = 100\n[[topic]]\nname = \"news\"\n[[peer]]\nname = \"a\"\n[[peer]]\nname = \"b\"\n[[dial]]\nfrom = \"a\"\nto = \"b\"\n[[do]]\nwhat = \"subscribe\"\nat = 0\npeer = \"b\"\ntopic = \"news\"\n[[do]]\nwhat = \"publish\"\nat = 2\npeer = \"a\"\ntopic = \"news\"\nhex = \"616263\"\n"
 
 by_another_seed : List ℕ
 by_another_seed =
@@ -61,9 +61,9 @@ by_one_holds : parse_document by_one ≡ Some (held 1 1 1)
 unfolding by_one held named dial subscribe publish toml_on_literals
 by_one_holds = refl
 
-by_three_holds : parse_document by_three ≡ Some (held 3 8 1)
-unfolding by_three held named dial subscribe publish toml_on_literals
-by_three_holds = refl
+by_sixteen_holds : parse_document by_sixteen ≡ Some (held 16 8 1)
+unfolding by_sixteen held named dial subscribe publish toml_on_literals
+by_sixteen_holds = refl
 
 by_another_seed_holds : parse_document by_another_seed ≡ Some (held 1 1 2)
 unfolding by_another_seed held named dial subscribe publish toml_on_literals
@@ -72,13 +72,13 @@ by_another_seed_holds = refl
 -- ---- rows
 
 -- numbers of workers and capacities don't count
-pub they_differ_in_running : DifferInRunning by_one by_three
+pub they_differ_in_running : DifferInRunning by_one by_sixteen
 unfolding held
 they_differ_in_running = record {
   members = held 1 1 1;
-  others = held 3 8 1;
+  others = held 16 8 1;
   is = by_one_holds;
-  other_is = by_three_holds;
+  other_is = by_sixteen_holds;
   same = refl;
 }
 

@@ -42,8 +42,8 @@ abbrev given_or : {A : Type 0} → A → Read A → A
 given_or d (Ok x) = x
 given_or d (Err fault) = d
 
--- results are one that give one
-got : {A : Type 0} (x y : A) → ◌≡◌ {A = Read A} (Ok x) (Ok y) → x ≡ y
+-- what two equal results give is equal
+pub got : {A : Type 0} (x y : A) → ◌≡◌ {A = Read A} (Ok x) (Ok y) → x ≡ y
 got x y is = ap (given_or x) is
 
 -- two results: what they give is alike, if both give something

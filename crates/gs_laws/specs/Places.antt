@@ -18,18 +18,18 @@ use Rattle.gs_rules.specs.Rounds.{Seat, Place, Playing, Closing, Plays, AfterRou
 
 -- ---- words that are heard alike
 
--- what is said in each of the first so many rounds, the last of them first: each up to its end, or up to a close
+-- what is said in each of the first so many rounds, the last of these first; behind a close each round holds the close alone
 abbrev pub first_rounds : ℕ → Said → List Said
 first_rounds zero w = []
 first_rounds (suc r) w = said_in r w ∷ first_rounds r w
 
--- A peer hears the same in two words at a place: in a round it hears what was said in the rounds before, and behind the
--- last round it hears all.
+-- Two words are alike to a peer at a place. In round r their first r rounds are the same, and behind the last round the
+-- whole words are.
 abbrev pub AreHeardAlike : Place → Said → Said → Type 0
 AreHeardAlike (Playing r) v w = first_rounds r v ≡ first_rounds r w
 AreHeardAlike Closing v w = v ≡ w
 
--- and so it does of each neighbour
+-- the words of each neighbour are alike to the peer there
 abbrev pub NeighboursAreHeardAlike : Seat → Place → (PeerNo → Said) → (PeerNo → Said) → Type 0
 NeighboursAreHeardAlike seat place said other =
     AllByRecursion (λ q. AreHeardAlike place (said q) (other q)) (links_of seat.peer)
@@ -41,8 +41,8 @@ module _ {S : Type 0} (word : S → ℕ) (after : S → S) where
   abbrev pub LegalByWords : Peer → S → Entries → Type 0
   LegalByWords p first L = (last : S) × LegalOn (exact word after) p first [] L last
 
-  -- The trace before a place, and what the neighbours said as far as the peer hears it there, fix the trace behind the
-  -- place and the lines that are refused at it.
+  -- Where words make the choices, the trace before a place, and what the neighbours said as far as the peer hears it
+  -- there, fix the trace behind the place and the lines that are refused at it.
   abbrev pub APlaceIsFixed : Type 0
   APlaceIsFixed =
       (seat : Seat) (first : S) (place : Place) (said other : PeerNo → Said) (before L M : Entries)
@@ -56,7 +56,7 @@ module _ {S : Type 0} (word : S → ℕ) (after : S → S) where
 
 -- ---- what fixes what a peer says
 
--- What a peer says in its first rounds it has said by their end, whatever it does behind them.
+-- By the end of its first rounds a peer has said all that it says in them, whatever it does behind them.
 abbrev pub RoundsAreSaidByTheirEnd : Type 0
 RoundsAreSaidByTheirEnd =
     (seat : Seat) (said : PeerNo → Said) (r : ℕ) (L : Entries) (later : List Entry) (refused : List RefusedLine)
@@ -64,8 +64,8 @@ RoundsAreSaidByTheirEnd =
     → AfterRounds seat said r L refused
     → first_rounds r (out codec (later ++ L) q) ≡ first_rounds r (out codec L q)
 
--- All that it says it has said by the end of the last round, but for what its end adds: the word would be the same if the
--- peer only shut down.
+-- By the end of the last round a peer has said all that it says, but for what its end adds: the word would be the same if
+-- the peer only shut down.
 abbrev pub AllIsSaidByTheEnd : Type 0
 AllIsSaidByTheEnd =
     (seat : Seat) (said : PeerNo → Said) (last L : Entries) (refused : List RefusedLine) (q : PeerNo)

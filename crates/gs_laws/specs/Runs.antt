@@ -16,7 +16,7 @@ use Rattle.gs_laws.specs.Places.{LegalByWords}
 
 -- ---- plans
 
--- the plan, with one number for how many workers run it and one for how much a link holds
+-- the plan with 1 for its workers and 1 for its capacity
 abbrev pub however_run : Plan → Plan
 however_run plan = record plan { workers = 1; capacity = 1 }
 
@@ -53,7 +53,7 @@ TracesAreOne =
     → ArePlayed other others
     → (traces_of lives ≡ traces_of others) × (refusals_of lives ≡ refusals_of others)
 
--- Their runs leave the same lives: traces, refused lines, meshes and scores.
+-- Runs of alike plans leave the same lives: traces, refused lines, meshes and scores.
 abbrev pub RunsAreOne : Type 0
 RunsAreOne =
     (plan other : Plan) (lives others : List Finished)

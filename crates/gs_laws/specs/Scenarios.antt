@@ -10,7 +10,7 @@ use Rattle.gs_scenario.specs.PlanOf.{capacity_key, workers_key}
 use Rattle.gs_input.specs.Inputs.{IsScenario}
 use Rattle.gs_net.specs.Reports.{IsReport}
 
--- what a table holds at all other keys
+-- the table without these keys
 abbrev pub but_for : List (List ℕ) → Members → Members
 but_for keys no_members = no_members
 but_for keys (member key d rest) = if is_one_of keys key then but_for keys rest else member key d (but_for keys rest)
@@ -19,7 +19,7 @@ but_for keys (member key d rest) = if is_one_of keys key then but_for keys rest 
 abbrev pub running_keys : List (List ℕ)
 running_keys = workers_key.name ∷ capacity_key.name ∷ []
 
--- Two texts are TOML, and their top tables hold the same at all keys but these.
+-- Two texts are TOML, and their top tables hold the same at all keys but `workers` and `capacity`.
 pub record DifferInRunning (text other : List ℕ) : Type 0 where
   pub members : Members
   pub others : Members

@@ -8,14 +8,14 @@ ghost use Rattle.gs_laws.specs.Scenarios.{TextsAreOne};
 
 use gs_params::Words;
 
-/// What a peer did before a place of its rounds, and what its neighbours said as far as it hears that there, fix what it does
-/// there and which lines it refuses. A place is a round, or what comes behind the last one.
+/// Where words make the choices, what a peer did before a place of its rounds, and what its neighbours said as far as it hears
+/// that there, fix what it does there and which lines it refuses. A place is a round, or what comes behind the last one.
 pub fn what_was_said_fixes_a_place<W: Words>()
     ensures { APlaceIsFixed W.word W.after }
 {}
 
-/// A peer has said what it says in its first rounds by their end (`rounds`). It has said all that it says, but for its close,
-/// by the end of the last round (`all`).
+/// By the end of its first rounds a peer has said all that it says in them (`rounds`). By the end of the last round it has
+/// said all that it says, but for its close (`all`).
 pub fn what_was_done_fixes_what_is_said()
     ensures rounds { RoundsAreSaidByTheirEnd }
     ensures all { AllIsSaidByTheEnd }

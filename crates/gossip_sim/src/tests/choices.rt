@@ -1,7 +1,7 @@
 //! Runs in which words choose, and runs of one scenario by other numbers of workers, over links of other capacities.
 use crate::program::tests::Host;
 use crate::tests::one_output::output_of;
-use crate::tests::{A_DIALS_B, TWO_SUBSCRIBE, Told, is_reported, news, scenario};
+use crate::tests::{A_DIALS_B, TWO_SUBSCRIBE, Told, is_reported, scenario};
 use gs_peer::NoGate;
 use std::alloc::{AllocError, Global};
 
@@ -77,10 +77,10 @@ fn a_payload_on_two_topics_has_one_report(rt: HostRuntime) -> Result<(), AllocEr
 
 const ROOM_FOR_ONE: &str = "[params]\nd = 1\nd_low = 1\nd_high = 1\nd_score = 1\nd_out = 0\n";
 
-const BY_FOUR: &str = "[[topic]]\nname = \"news\"\n[[peer]]\nname = \"a\"\nwords = [4]\n\
+const WORD_FOUR: &str = "[[topic]]\nname = \"news\"\n[[peer]]\nname = \"a\"\nwords = [4]\n\
     [[peer]]\nname = \"b\"\n[[peer]]\nname = \"c\"\n[[peer]]\nname = \"e\"\n";
 
-const BY_THREE: &str = "[[topic]]\nname = \"news\"\n[[peer]]\nname = \"a\"\nwords = [3]\n\
+const WORD_THREE: &str = "[[topic]]\nname = \"news\"\n[[peer]]\nname = \"a\"\nwords = [3]\n\
     [[peer]]\nname = \"b\"\n[[peer]]\nname = \"c\"\n[[peer]]\nname = \"e\"\n";
 
 const A_DIALS_ALL: &str = "[[dial]]\nfrom = \"a\"\nto = \"b\"\n[[dial]]\nfrom = \"a\"\nto = \"c\"\n\
@@ -97,8 +97,8 @@ static ALL_SUBSCRIBE: [Told<'static>; 4] = [
 #[test]
 fn a_word_chooses_whom_a_subscriber_grafts(rt: HostRuntime) -> Result<(), AllocError> {
     for (peers, meshes) in [
-        (BY_FOUR, "mesh a news c\nmesh c news a\n"),
-        (BY_THREE, "mesh a news b\nmesh b news a\n"),
+        (WORD_FOUR, "mesh a news c\nmesh c news a\n"),
+        (WORD_THREE, "mesh a news b\nmesh b news a\n"),
     ] {
         let report = format!(in rt.alloc();
             "{meshes}score a b 0.000000\nscore a c 0.000000\nscore a e 0.000000\n\
@@ -112,9 +112,20 @@ fn a_word_chooses_whom_a_subscriber_grafts(rt: HostRuntime) -> Result<(), AllocE
 
 // ---- many peers
 
+/// What a scenario of twelve peers begins with.
+fn front(alloc: Global, workers: u64, capacity: u64, seed: u64) -> Result<String, AllocError> {
+    let mut text = format!(in alloc; "round_ms = 100\nrounds = 31\nseed = {seed}\n")?;
+    text.push_str(&format!(in alloc; "workers = {workers}\ncapacity = {capacity}\n")?)?;
+    text.push_str("[[topic]]\nname = \"news\"\n")?;
+    for number in 0..12u64 {
+        text.push_str(&format!(in alloc; "[[peer]]\nname = \"p{number}\"\n")?)?;
+    }
+    Ok(text)
+}
+
 /// Twelve peers, each joined with all others, who subscribe in round 0. `p0` publishes in round 12, and `p7` in round 23.
-fn twelve(alloc: Global, workers: u64, capacity: u64) -> Result<String, AllocError> {
-    let mut text = news(alloc, 31, workers, capacity, 12)?;
+fn twelve(alloc: Global, workers: u64, capacity: u64, seed: u64) -> Result<String, AllocError> {
+    let mut text = front(alloc, workers, capacity, seed)?;
     for from in 0..12u64 {
         for to in from + 1..12 {
             let dial = format!(in alloc; "[[dial]]\nfrom = \"p{from}\"\nto = \"p{to}\"\n")?;
@@ -130,41 +141,78 @@ fn twelve(alloc: Global, workers: u64, capacity: u64) -> Result<String, AllocErr
     Ok(text)
 }
 
-/// What a run of the twelve writes.
-fn output_of_twelve<T: Host>(
-    rt: &T,
-    workers: u64,
-    capacity: u64,
-) -> Result<Option<Vec<u8>>, AllocError> {
-    let text = twelve(rt.alloc(), workers, capacity)?;
-    Ok(output_of(rt, &text))
+/// When a peer delivers the two payloads. Who publishes floods, so each other peer hears it a round later.
+fn moments(number: u64) -> (u64, u64) {
+    let first = if number == 0 { 1_200 } else { 1_300 };
+    let second = if number == 7 { 2_300 } else { 2_400 };
+    (first, second)
 }
 
-/// Whether each other run of the twelve writes these bytes.
-fn write_all<T: Host>(rt: &T, first: &[u8]) -> Result<bool, AllocError> {
+/// The lines of a report of the twelve that stand before its meshes.
+fn deliveries(alloc: Global) -> Result<String, AllocError> {
+    let mut text = String::new(alloc);
+    for number in 0..12u64 {
+        let (first, second) = moments(number);
+        text.push_str(&format!(in alloc; "delivered p{number} {first} news 616263\n")?)?;
+        text.push_str(&format!(in alloc; "delivered p{number} {second} news 646566\n")?)?;
+    }
+    Ok(text)
+}
+
+/// Those that stand behind its meshes.
+fn scores(alloc: Global) -> Result<String, AllocError> {
+    let mut text = String::new(alloc);
+    for from in 0..12u64 {
+        for to in 0..12u64 {
+            if from != to {
+                text.push_str(&format!(in alloc; "score p{from} p{to} 0.000000\n")?)?;
+            }
+        }
+    }
+    text.push_str("links 132 settled\n")?;
+    Ok(text)
+}
+
+/// Whether each run of the twelve with the first seed writes these bytes.
+fn write_all<T: Host>(rt: &T, bytes: &[u8]) -> Result<bool, AllocError> {
     for (workers, capacity) in &HOW {
-        let output = output_of_twelve(rt, *workers, *capacity)?;
-        if !matches!(&output, Some(bytes) if bytes.as_slice() == first) {
+        let text = twelve(rt.alloc(), *workers, *capacity, 1)?;
+        if !writes(rt, &text, bytes) {
             return Ok(false);
         }
     }
     Ok(true)
 }
 
-/// Three heartbeats choose among eleven neighbours each, by words. Who publishes floods, so each other peer hears it a round
-/// later.
+/// Whether a run of a scenario reports, and writes these bytes.
+fn writes<T: Host>(rt: &T, text: &str, bytes: &[u8]) -> bool {
+    match output_of(rt, text) {
+        Some(output) => output.as_slice() == bytes,
+        None => false,
+    }
+}
+
+/// Whether a run of a scenario reports, and writes other bytes.
+fn writes_others<T: Host>(rt: &T, text: &str, bytes: &[u8]) -> bool {
+    match output_of(rt, text) {
+        Some(output) => output.as_slice() != bytes,
+        None => false,
+    }
+}
+
+/// In the first heartbeat each grafts six of its eleven neighbours, by words, which are others with another seed.
 #[test]
 fn twelve_peers_have_one_report(rt: HostRuntime) -> Result<(), AllocError> {
-    let output = output_of_twelve(&rt, 2, 4)?;
-    let front = b"delivered p0 1200 news 616263\ndelivered p0 2400 news 646566\n\
-        delivered p1 1300 news 616263\ndelivered p1 2400 news 646566\n"
-        .as_slice();
-    let end = b"links 132 settled\n".as_slice();
-    let Some(first) = output else {
+    let alloc = rt.alloc();
+    let text = twelve(alloc, 2, 4, 1)?;
+    let Some(first) = output_of(&rt, &text) else {
         assert!(rt; false);
         return Ok(());
     };
-    assert!(rt; first.starts_with(front) && first.ends_with(end));
+    assert!(rt; first.starts_with(deliveries(alloc)?.as_bytes()));
+    assert!(rt; first.ends_with(scores(alloc)?.as_bytes()));
     assert!(rt; write_all(&rt, &first)?);
+    let text = twelve(alloc, 2, 4, 2)?;
+    assert!(rt; writes_others(&rt, &text, &first));
     Ok(())
 }

@@ -7,19 +7,24 @@ use crate::program::tests::Host;
 use crate::program::{ExitStatus, run};
 use gs_peer::NoGate;
 
-/// Two subscribers by one worker, over links that hold one item.
+/// `b` subscribes and `a` publishes, by one worker, over links that hold one item.
 const BY_ONE: &str = "round_ms = 100\nrounds = 3\nworkers = 1\ncapacity = 1\nseed = 1\n\
     [[topic]]\nname = \"news\"\n[[peer]]\nname = \"a\"\n[[peer]]\nname = \"b\"\n\
     [[dial]]\nfrom = \"a\"\nto = \"b\"\n\
     [[do]]\nwhat = \"subscribe\"\nat = 0\npeer = \"b\"\ntopic = \"news\"\n\
     [[do]]\nwhat = \"publish\"\nat = 2\npeer = \"a\"\ntopic = \"news\"\nhex = \"616263\"\n";
 
-/// The same scenario by three workers, over links that hold eight.
-const BY_THREE: &str = "round_ms = 100\nrounds = 3\nworkers = 3\ncapacity = 8\nseed = 1\n\
+/// The same scenario by sixteen workers, over links that hold eight, with its keys in another order.
+const BY_SIXTEEN: &str =
+    "# threads\nworkers = 16\nseed = 1\ncapacity = 8\nrounds = 3\nround_ms = 100\n\
     [[topic]]\nname = \"news\"\n[[peer]]\nname = \"a\"\n[[peer]]\nname = \"b\"\n\
     [[dial]]\nfrom = \"a\"\nto = \"b\"\n\
     [[do]]\nwhat = \"subscribe\"\nat = 0\npeer = \"b\"\ntopic = \"news\"\n\
     [[do]]\nwhat = \"publish\"\nat = 2\npeer = \"a\"\ntopic = \"news\"\nhex = \"616263\"\n";
+
+/// `b` delivers what `a` published a round before.
+const REPORT: &str = "delivered b 300 news 616263\n\
+    score a b 0.000000\nscore b a 0.000000\nlinks 2 settled\n";
 
 /// What a run of a scenario writes, where it reports.
 pub(super) fn output_of<T: Host>(rt: &T, text: &str) -> Option<Vec<u8>>
@@ -37,23 +42,42 @@ pub(super) fn output_of<T: Host>(rt: &T, text: &str) -> Option<Vec<u8>>
     }
 }
 
-/// What the two runs write, where both report: it is the same, by the law.
+/// What two runs of one scenario write, where both report: it is the same, by the law over plans.
+fn outputs_of<T: Host>(rt: &T, text: &str) -> Option<(Vec<u8>, Vec<u8>)>
+    ensures { IfSome result (λ both. both.0.items ≡ both.1.items) }
+{
+    two_runs_write_the_same();
+    let first = output_of(rt, text)?;
+    let second = output_of(rt, text)?;
+    Some((first, second))
+}
+
+/// What runs of the two scenarios write, where both report: it is the same, by the law over scenarios.
 fn both_outputs<T: Host>(rt: &T) -> Option<(Vec<u8>, Vec<u8>)>
     ensures { IfSome result (λ both. both.0.items ≡ both.1.items) }
 {
     two_runs_write_the_same();
     let one = output_of(rt, BY_ONE)?;
-    let three = output_of(rt, BY_THREE)?;
-    Some((one, three))
+    let sixteen = output_of(rt, BY_SIXTEEN)?;
+    Some((one, sixteen))
 }
 
-/// Such runs exist: both report. `b` delivers what `a` published a round before.
+/// Whether both runs reported this.
+fn are(outputs: &Option<(Vec<u8>, Vec<u8>)>, report: &str) -> bool {
+    match outputs {
+        Some((first, second)) => {
+            first.as_slice() == report.as_bytes() && second.as_slice() == report.as_bytes()
+        }
+        None => false,
+    }
+}
+
 #[test]
 fn two_runs_of_a_scenario_write_the_same(rt: HostRuntime) {
-    let report = b"delivered b 300 news 616263\n\
-        score a b 0.000000\nscore b a 0.000000\nlinks 2 settled\n"
-        .as_slice();
-    let outputs = both_outputs(&rt);
-    assert!(rt; matches!(&outputs, Some((one, _)) if one.as_slice() == report));
-    assert!(rt; matches!(&outputs, Some((_, three)) if three.as_slice() == report));
+    assert!(rt; are(&outputs_of(&rt, BY_SIXTEEN), REPORT));
+}
+
+#[test]
+fn other_workers_and_capacities_write_the_same(rt: HostRuntime) {
+    assert!(rt; are(&both_outputs(&rt), REPORT));
 }
