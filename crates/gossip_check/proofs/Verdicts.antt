@@ -4,7 +4,7 @@ use Rattle.std.specs.Prelude.{◌≤◌, IsUtf8, Ok, is_ok}
 use Rattle.gs_scenario.specs.declared.fault.ScenarioFault.{ScenarioFault}
 use Rattle.gs_scenario.specs.Refusal.{number_of}
 use Rattle.gs_scenario.specs.PlanOf.{plan_of}
-use Rattle.gs_input.specs.Inputs.{IsRefusal, no_memory, no_plan, no_text, too_long}
+use Rattle.gs_streams.specs.Inputs.{IsRefusal, no_memory, no_plan, no_text, too_long}
 use Rattle.gs_streams.specs.Streams.{longest_input}
 use Rattle.gossip_check.specs.declared.answer.Verdict.TheVariants as verdicts
 use Rattle.gossip_check.specs.Program.{Answers}

@@ -4,7 +4,7 @@ use Rattle.std.specs.Io.KnownBytes.{Appends, Keeps}
 use Rattle.gs_params.specs.declared.plan.Plan.{Plan}
 use Rattle.gs_scenario.specs.declared.fault.ScenarioFault.{ScenarioFault}
 use Rattle.gs_scenario.specs.Refusal.{number_of}
-use Rattle.gs_input.specs.Inputs.{IsRefusal, IsScenario}
+use Rattle.gs_streams.specs.Inputs.{IsRefusal, IsScenario}
 use Rattle.gs_streams.specs.Streams.{AppendsFront}
 use Rattle.gossip_check.specs.declared.answer.Verdict.{Verdict}
 use Rattle.gossip_check.specs.declared.answer.Verdict.TheVariants as verdicts

@@ -1,15 +1,14 @@
 //! What is said of an input.
 ghost use Rattle.std.specs.Prelude.{◌≡◌, ◌≤◌, IfOk, IfSome, List, Option, Some, ℕ, length};
 ghost use Rattle.gossip_check.specs.Program.{Answers, IsRefusalText, no_memory_answer};
-ghost use Rattle.gs_input.specs.Inputs.{IsRefusal};
+ghost use Rattle.gs_streams.specs.Inputs.{IsRefusal};
 ghost use Rattle.gs_streams.specs.Streams.{longest_input};
 
 use crate::first_line::first_line;
 use crate::reasons::reason;
 use crate::summary::summary;
-use gs_input::{input_too_long, plan_from};
 use gs_scenario::ScenarioFault;
-use gs_streams::{ReadFault, read_input};
+use gs_streams::{ReadFault, input_too_long, plan_from, read_input};
 use std::alloc::{AllocError, Global};
 use std::io::Read;
 

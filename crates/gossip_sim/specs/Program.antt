@@ -14,7 +14,7 @@ use Rattle.gs_scenario.specs.Refusal.{refusal_text}
 use Rattle.gs_workers.specs.Faults.{number_of}
 use Rattle.gs_report.specs.Text.{name_of, report_text}
 use Rattle.gs_net.specs.Reports.{IsReport}
-use Rattle.gs_input.specs.Inputs.{IsRefusal, IsScenario}
+use Rattle.gs_streams.specs.Inputs.{IsRefusal, IsScenario}
 use Rattle.gs_streams.specs.Streams.{AppendsFront}
 
 abbrev pub refusal_line : ScenarioFault → List ℕ

@@ -4,25 +4,19 @@ use gs_wire::WireFault;
 use std::alloc::AllocError;
 
 /// Why nothing was measured.
-#[derive(Debug, Drop, thiserror::Error)]
+#[derive(Clone, Copy, Debug)]
 pub(crate) enum BenchFault {
-    /// The line is not one that this program reads.
-    #[error("the line is KIND COUNT, as decode-s 1000")]
+    /// The line is not one that this program reads: it is `KIND COUNT`, as `decode-s 1000`.
     Line,
     /// The codec refused a sample.
-    #[error("the codec refused a sample")]
     Codec,
     /// A link or a queue was full where it should have room.
-    #[error("a link was full")]
     Full,
     /// The parameters or a mark were refused.
-    #[error("scores refused a sample")]
     Scores,
     /// There was no memory.
-    #[error("there was no memory")]
     NoMemory,
     /// Standard input or output failed.
-    #[error("a stream failed")]
     Stream,
 }
 

@@ -1,7 +1,7 @@
 //! What is measured.
 
 /// One of the three RPCs that are measured.
-#[derive(Clone, Copy, Debug, PartialEq, Eq)]
+#[derive(Clone, Copy)]
 pub(crate) enum Sample {
     /// One subscription to `news`.
     Subscription,
@@ -12,7 +12,7 @@ pub(crate) enum Sample {
 }
 
 /// What is measured.
-#[derive(Clone, Copy, Debug, PartialEq, Eq)]
+#[derive(Clone, Copy)]
 pub(crate) enum Kind {
     /// A body into an owned value, which is dropped.
     Decode(Sample),
@@ -30,26 +30,33 @@ pub(crate) enum Kind {
     Score(u8),
 }
 
+/// The word for each kind.
+static KINDS: [(&str, Kind); 15] = [
+    ("decode-s", Kind::Decode(Sample::Subscription)),
+    ("decode-m", Kind::Decode(Sample::Message)),
+    ("decode-c", Kind::Decode(Sample::Control)),
+    ("encode-s", Kind::Encode(Sample::Subscription)),
+    ("encode-m", Kind::Encode(Sample::Message)),
+    ("encode-c", Kind::Encode(Sample::Control)),
+    ("feed-1", Kind::Feed(1)),
+    ("feed-64", Kind::Feed(64)),
+    ("feed-65536", Kind::Feed(65_536)),
+    ("link", Kind::Link),
+    ("queue", Kind::Queue),
+    ("apply-1", Kind::Apply(1)),
+    ("apply-32", Kind::Apply(32)),
+    ("score-1", Kind::Score(1)),
+    ("score-32", Kind::Score(32)),
+];
+
 impl Kind {
     /// The kind that a word names.
     pub(crate) fn from_word(word: &str) -> Option<Kind> {
-        match word {
-            "decode-s" => Some(Kind::Decode(Sample::Subscription)),
-            "decode-m" => Some(Kind::Decode(Sample::Message)),
-            "decode-c" => Some(Kind::Decode(Sample::Control)),
-            "encode-s" => Some(Kind::Encode(Sample::Subscription)),
-            "encode-m" => Some(Kind::Encode(Sample::Message)),
-            "encode-c" => Some(Kind::Encode(Sample::Control)),
-            "feed-1" => Some(Kind::Feed(1)),
-            "feed-64" => Some(Kind::Feed(64)),
-            "feed-65536" => Some(Kind::Feed(65_536)),
-            "link" => Some(Kind::Link),
-            "queue" => Some(Kind::Queue),
-            "apply-1" => Some(Kind::Apply(1)),
-            "apply-32" => Some(Kind::Apply(32)),
-            "score-1" => Some(Kind::Score(1)),
-            "score-32" => Some(Kind::Score(32)),
-            _ => None,
+        for (name, kind) in &KINDS {
+            if *name == word {
+                return Some(*kind);
+            }
         }
+        None
     }
 }

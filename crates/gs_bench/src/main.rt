@@ -4,6 +4,7 @@
 
 mod carry;
 mod fault;
+mod feed;
 mod kind;
 mod measure;
 mod samples;
@@ -15,26 +16,32 @@ use measure::checksum;
 use std::alloc::Global;
 use std::sync::Wait;
 
-/// The line that tells what was measured.
-fn told<R: Wait>(rt: &R, alloc: Global, line: &str) -> Result<String, BenchFault> {
-    let Some((word, count)) = line.trim_ascii_end().split_once(' ') else {
-        return Err(BenchFault::Line);
-    };
-    let (Some(kind), Ok(count)) = (Kind::from_word(word), count.parse::<u32>()) else {
+/// The word of a line, what it names, and how often that is to be done.
+fn asked(line: &str) -> Option<(&str, Kind, u32)> {
+    let (word, count) = line.trim_ascii_end().split_once(' ')?;
+    match (Kind::from_word(word), count.parse::<u32>()) {
+        (Some(kind), Ok(count)) => Some((word, kind, count)),
+        _ => None,
+    }
+}
+
+/// Measures what a line asks for, and prints it.
+fn answer<R: Print + Wait>(rt: &R, alloc: Global, line: &str) -> Result<(), BenchFault> {
+    let Some((word, kind, count)) = asked(line) else {
         return Err(BenchFault::Line);
     };
     let sum = checksum(rt, alloc, kind, count)?;
-    Ok(format!(in alloc; "{word} {count} {sum}")?)
+    if println!(rt; "{word} {count} {sum}").is_err() {
+        return Err(BenchFault::Stream);
+    }
+    Ok(())
 }
 
 fn main(rt: HostRuntime) -> Result<(), BenchFault> {
     for line in rt.lines(rt.alloc()) {
-        let Ok(line) = line else {
-            return Err(BenchFault::Stream);
-        };
-        let told = told(&rt, rt.alloc(), line.as_str())?;
-        if rt.println(told).is_err() {
-            return Err(BenchFault::Stream);
+        match line {
+            Ok(line) => answer(&rt, rt.alloc(), line.as_str())?,
+            Err(_) => return Err(BenchFault::Stream),
         }
     }
     Ok(())

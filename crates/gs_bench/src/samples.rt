@@ -2,66 +2,76 @@
 
 use crate::kind::Sample;
 use bytes::Bytes;
-use gs_base::{Control, IHave, Message, Rpc, Seq, SubOpt, Topic};
+use gs_base::{Control, IHave, Rpc, Seq, Topic, clone_of};
+use gs_wire::{WireFault, encode_frame};
 use std::alloc::{AllocError, Global};
 
-fn news(alloc: Global) -> Result<Option<Topic>, AllocError> {
-    Ok(Some(Topic(Bytes::copy_from_slice(alloc, b"news")?)))
+fn news(alloc: Global) -> Result<Topic, AllocError> {
+    Ok(Topic(Bytes::copy_from_slice(alloc, b"news")?))
 }
 
-fn empty(alloc: Global) -> Rpc {
-    Rpc {
-        subs: Seq::new(alloc),
-        publish: Seq::new(alloc),
-        control: None,
+/// 1,000 bytes, of which byte i is i mod 256.
+fn payload(alloc: Global) -> Result<Bytes, AllocError> {
+    let mut bytes = [0u8; 1_000];
+    for number in 0..bytes.len() {
+        bytes[number] = (number % 256) as u8;
     }
+    Bytes::copy_from_slice(alloc, &bytes)
 }
 
-/// A message of 1,000 bytes, of which byte i is i mod 256.
-fn message(alloc: Global) -> Result<Message, AllocError> {
-    let mut payload = Vec::new(alloc);
-    for number in 0..1_000u32 {
-        payload.push((number % 256) as u8)?;
-    }
-    Ok(Message {
-        origin: None,
-        payload: Some(Bytes::from_vec(payload)?),
-        seqno: None,
-        topic: news(alloc)?,
-        signature: None,
-        key: None,
-    })
+fn add_identifier(alloc: Global, number: u8, ids: &mut Seq<Bytes>) -> Result<(), AllocError> {
+    let id = Bytes::copy_from_slice(alloc, &[number; 32])?;
+    ids.push(id)
 }
 
-/// An offer of 50 identifiers, of which identifier k is 32 bytes k.
-fn offer(alloc: Global) -> Result<Control, AllocError> {
+/// 50 identifiers, of which identifier k is 32 bytes k.
+fn identifiers(alloc: Global) -> Result<Seq<Bytes>, AllocError> {
     let mut ids = Seq::new(alloc);
     for number in 0..50u8 {
-        ids.push(Bytes::copy_from_slice(alloc, &[number; 32])?)?;
+        add_identifier(alloc, number, &mut ids)?;
     }
-    let mut ihave = Seq::new(alloc);
-    ihave.push(IHave {
-        topic: news(alloc)?,
-        ids,
-    })?;
-    Ok(Control {
-        ihave,
-        iwant: Seq::new(alloc),
-        graft: Seq::new(alloc),
-        prune: Seq::new(alloc),
+    Ok(ids)
+}
+
+fn offer(alloc: Global, topic: &Topic) -> Result<Rpc, AllocError> {
+    let topic = Some(clone_of(topic)?);
+    let ids = identifiers(alloc)?;
+    let ihave = Seq::only(alloc, IHave { topic, ids })?;
+    Ok(Rpc {
+        subs: Seq::new(alloc),
+        publish: Seq::new(alloc),
+        control: Some(Control {
+            ihave,
+            iwant: Seq::new(alloc),
+            graft: Seq::new(alloc),
+            prune: Seq::new(alloc),
+        }),
     })
+}
+
+fn publication(alloc: Global, topic: &Topic) -> Result<Rpc, AllocError> {
+    Rpc::publication(alloc, topic, &payload(alloc)?)
 }
 
 /// The RPC of a sample.
 pub(crate) fn rpc_of(alloc: Global, sample: Sample) -> Result<Rpc, AllocError> {
-    let mut rpc = empty(alloc);
+    let topic = news(alloc)?;
     match sample {
-        Sample::Subscription => rpc.subs.push(SubOpt {
-            subscribe: Some(true),
-            topic: news(alloc)?,
-        })?,
-        Sample::Message => rpc.publish.push(message(alloc)?)?,
-        Sample::Control => rpc.control = Some(offer(alloc)?),
+        Sample::Subscription => Rpc::announcement(alloc, true, &topic),
+        Sample::Message => publication(alloc, &topic),
+        Sample::Control => offer(alloc, &topic),
     }
-    Ok(rpc)
+}
+
+/// Writes the frame of a sample at the end of a buffer.
+pub(crate) fn write_frame(
+    alloc: Global,
+    sample: Sample,
+    buffer: &mut Vec<u8>,
+) -> Result<(), WireFault> {
+    let rpc = rpc_of(alloc, sample)?;
+    let written = encode_frame(&rpc, buffer);
+    // (one call drops it; left to the end of the scope, each of its parts is a step to prove)
+    drop(rpc);
+    written
 }

@@ -1,6 +1,9 @@
 //! A neighbour that delivers on several topics, and its score.
-ghost use Rattle.std.specs.Prelude.{IfOk};
+ghost use Rattle.std.specs.Prelude.{◌≤◌, ◌^◌, All, IfOk, unsigned_abs};
+ghost use Rattle.gs_base.specs.Names.{peers_of};
+ghost use Rattle.gs_base.specs.declared.neighbour.Neighbour.{Neighbour as NeighbourValue};
 ghost use Rattle.gs_params.specs.Params.{AreInRange};
+ghost use Rattle.gs_params.specs.Picks.{IsAscending};
 
 use crate::fault::BenchFault;
 use bytes::Bytes;
@@ -16,15 +19,20 @@ fn topic(alloc: Global, number: u8) -> Result<Topic, AllocError> {
     Ok(Topic(Bytes::copy_from_slice(alloc, &[b't', number])?))
 }
 
+fn add_topic(alloc: Global, number: u8, params: &mut Params) -> Result<(), AllocError> {
+    let topic = topic(alloc, number)?;
+    let mut one = TopicParams::new(alloc);
+    one.factors.w2 = 1_000_000;
+    params.topics.push((topic, one))
+}
+
 /// Parameters of so many topics, on each of which a first delivery counts 1.
 fn params(alloc: Global, topics: u8) -> Result<Params, BenchFault>
     ensures { IfOk result AreInRange }
 {
     let mut params = Params::new(alloc);
     for number in 0..topics {
-        let mut one = TopicParams::new(alloc);
-        one.factors.w2 = 1_000_000;
-        params.topics.push((topic(alloc, number)?, one))?;
+        add_topic(alloc, number, &mut params)?;
     }
     match params.check() {
         Ok(params) => Ok(params),
@@ -32,14 +40,31 @@ fn params(alloc: Global, topics: u8) -> Result<Params, BenchFault>
     }
 }
 
-fn scores(alloc: Global, topics: u8) -> Result<Scores, BenchFault> {
-    let neighbours = [Neighbour {
+/// The one neighbour, as `Scores::new` takes neighbours.
+fn neighbours() -> [Neighbour; 1]
+    ensures ascending { IsAscending (peers_of result) }
+    ensures apps { All (λ (n : NeighbourValue). unsigned_abs n.app ≤ 10 ^ 12) result }
+{
+    [Neighbour {
         peer: PEER,
         outbound: false,
         address: Bytes::new(),
         app: 0,
-    }];
-    Ok(Scores::new(alloc, &params(alloc, topics)?, &neighbours)?)
+    }]
+}
+
+/// The scores of the one neighbour.
+fn scores_of(alloc: Global, params: &Params) -> Result<Scores, BenchFault>
+    requires { AreInRange params.now }
+{
+    match Scores::new(alloc, params, &neighbours()) {
+        Ok(scores) => Ok(scores),
+        Err(_) => Err(BenchFault::NoMemory),
+    }
+}
+
+fn scores(alloc: Global, topics: u8) -> Result<Scores, BenchFault> {
+    scores_of(alloc, &params(alloc, topics)?)
 }
 
 /// A first delivery on each of so many topics.
@@ -59,36 +84,35 @@ fn apply(scores: &mut Scores, mark: &Mark) -> Result<(), BenchFault> {
     Ok(())
 }
 
-/// How many deliveries are counted on so many topics.
-fn counted(alloc: Global, scores: &Scores, topics: u8) -> Result<u32, AllocError> {
+/// How many deliveries are counted on the topics of these marks.
+fn counted(scores: &Scores, marks: &[Mark]) -> u32 {
     let mut sum: u32 = 0;
-    for number in 0..topics {
-        let counter = scores.counter(PEER, &topic(alloc, number)?, Kind::First);
-        sum = sum.wrapping_add((counter / 1_000_000 % (1 << 32)) as u32);
+    for mark in marks {
+        if let Mark::First(peer, topic, _) = mark {
+            let counter = scores.counter(*peer, topic, Kind::First);
+            sum = sum.wrapping_add((counter / 1_000_000 % (1 << 32)) as u32);
+        }
     }
-    Ok(sum)
+    sum
 }
 
 /// Applies so many marks, on one topic after the other.
-pub(crate) fn apply_all(alloc: Global, topics: u8, count: u32) -> Result<u32, BenchFault> {
-    let marks = firsts(alloc, topics)?;
-    let mut scores = scores(alloc, topics)?;
+fn apply_each(scores: &mut Scores, marks: &[Mark], count: u32) -> Result<u32, BenchFault> {
     let mut place: usize = 0;
     for _ in 0..count {
         let Some(mark) = marks.get(place) else {
             return Err(BenchFault::Scores);
         };
-        apply(&mut scores, mark)?;
+        apply(scores, mark)?;
         place = place.saturating_add(1) % marks.len().max(1);
     }
-    Ok(counted(alloc, &scores, topics)?)
+    Ok(counted(scores, marks))
 }
 
-/// Makes a score over so many topics, so many times.
-pub(crate) fn score_all(alloc: Global, topics: u8, count: u32) -> Result<u32, BenchFault> {
-    let mut scores = scores(alloc, topics)?;
-    for mark in &firsts(alloc, topics)? {
-        apply(&mut scores, mark)?;
+/// Applies each mark, and makes a score so many times.
+fn score_each(scores: &mut Scores, marks: &[Mark], count: u32) -> Result<u32, BenchFault> {
+    for mark in marks {
+        apply(scores, mark)?;
     }
     let mut sum: u32 = 0;
     for _ in 0..count {
@@ -96,4 +120,45 @@ pub(crate) fn score_all(alloc: Global, topics: u8, count: u32) -> Result<u32, Be
         sum = sum.wrapping_add((score % (1 << 32)) as u32);
     }
     Ok(sum)
+}
+
+/// What is done with scores.
+#[derive(Clone, Copy)]
+pub(crate) enum Work {
+    /// Marks are applied.
+    Apply,
+    /// A score is made over all topics.
+    Score,
+}
+
+/// Does so much work over so many topics with these scores.
+fn work_on(
+    alloc: Global,
+    scores: &mut Scores,
+    topics: u8,
+    work: Work,
+    count: u32,
+) -> Result<u32, BenchFault> {
+    let marks = firsts(alloc, topics)?;
+    match work {
+        Work::Apply => apply_each(scores, &marks, count),
+        Work::Score => score_each(scores, &marks, count),
+    }
+}
+
+/// Does so much work over so many topics.
+pub(crate) fn work_all(
+    alloc: Global,
+    topics: u8,
+    work: Work,
+    count: u32,
+) -> Result<u32, BenchFault> {
+    match scores(alloc, topics) {
+        Ok(mut scores) => {
+            let sum = work_on(alloc, &mut scores, topics, work, count);
+            drop(scores);
+            sum
+        }
+        Err(fault) => Err(fault),
+    }
 }

@@ -1,4 +1,4 @@
-//! Reading all of an input, and writing all of a text.
+//! Reading all of an input, the plan that its bytes describe, and writing all of a text.
 #![tactic(auto)]
 
 ghost use Rattle.std.specs.Prelude.{◌≡◌, ◌≤◌, ◌<◌, length, IfOk, IfSome, IsErrOf, List, OnErr, OnOk, ℕ};
@@ -7,7 +7,9 @@ ghost use Rattle.gs_streams.specs.Streams.{AppendsFront, longest_input};
 ghost use Rattle.gs_streams.specs.declared.ReadFault.TheVariants.{NoMemory};
 
 pub mod fakes;
+mod inputs;
 
+pub use inputs::{input_too_long, plan_from};
 use std::alloc::{AllocError, Global};
 use std::io::{ErrorKind, Read, Write};
 

@@ -1,16 +1,14 @@
 //! The scenario that an input holds: the plan of its bytes, or why they are refused.
-#![tactic(auto)]
-
 ghost use Rattle.std.specs.Prelude.{◌≡◌, ◌≤◌, ◌⊎◌, IfErr, IfOk, Some, codes, length};
-ghost use Rattle.gs_input.specs.Inputs.{IsRefusal, IsScenario, input_too_long};
 ghost use Rattle.gs_params.specs.Plans.{IsInRange};
 ghost use Rattle.gs_scenario.specs.declared.fault.ScenarioFault.TheVariants.{NoMemory};
+ghost use Rattle.gs_streams.specs.Inputs.{IsRefusal, IsScenario, input_too_long};
 ghost use Rattle.gs_streams.specs.Streams.{longest_input};
 
+use crate::LONGEST_INPUT;
 use gs_base::Text;
 use gs_params::Plan;
 use gs_scenario::{Found, ScenarioFault, Wanted, read_plan};
-use gs_streams::LONGEST_INPUT;
 use std::alloc::Global;
 
 /// The plan that the bytes of a whole input describe.
