@@ -104,10 +104,15 @@ PartWays _ _ = ⊥
 
 -- what a document holds at the path of a set key is the value
 abbrev pub IsHeldWhereSet : Type 0
-IsHeldWhereSet = (path : List (List ℕ)) (value : Data) (before after : Members) → with_key path value before ≡ Some after
+IsHeldWhereSet =
+    (path : List (List ℕ)) (value : Data) (before after : Members)
+    → with_key path value before ≡ Some after
     → held_at path (table after) ≡ Some value
 
 -- where another path parts from that of a set key, a document holds what it held
 abbrev pub StaysElsewhere : Type 0
-StaysElsewhere = (path others : List (List ℕ)) (value : Data) (before after : Members) → PartWays path others → with_key path value before ≡ Some after
+StaysElsewhere =
+    (path others : List (List ℕ)) (value : Data) (before after : Members)
+    → PartWays path others
+    → with_key path value before ≡ Some after
     → held_at others (table after) ≡ held_at others (table before)

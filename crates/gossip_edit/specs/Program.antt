@@ -75,7 +75,8 @@ key_at arguments n = key_text (unwrap_or (slice_get arguments (n - 1)) [])
 
 abbrev pub no_key : ℕ → List ℕ
 no_key n =
-    codes "argument " ++ decimal n ++ codes " has no key before its `=`: a key is a name, or several with dots between them, of letters, digits, `_` and `-`"
+    codes "argument " ++ decimal n
+    ++ codes " has no key before its `=`: a key is a name, or several with dots between them, of letters, digits, `_` and `-`"
 
 abbrev pub no_value : List ℕ → List ℕ
 no_value key = codes "the value of `" ++ key ++ codes "` is no TOML"
@@ -99,6 +100,9 @@ refusal_line arguments refusal = codes "edit refused: " ++ reason arguments refu
 
 abbrev pub no_memory_line : List ℕ
 no_memory_line = codes "edit refused: no memory\n"
+
+abbrev pub input_line : List ℕ
+input_line = codes "input failed\n"
 
 abbrev pub usage_line : List ℕ
 usage_line = codes "usage: gossip_edit KEY=VALUE..\n"
@@ -139,19 +143,24 @@ pub record WrongArguments (arguments : List (List ℕ)) (output output' errors e
   pub told : Told usage_line output output' errors errors'
 
 -- what each status says
-abbrev pub EndsAs : ExitStatus → (arguments : List (List ℕ)) → (input output output' errors errors' : Option (List ℕ)) → Type 0
+abbrev pub EndsAs : ExitStatus → List (List ℕ) → (input output output' errors errors' : Option (List ℕ)) → Type 0
 EndsAs ends.Changed arguments input output output' errors errors' = Changed arguments input output output' errors errors'
 EndsAs ends.EditRefused arguments input output output' errors errors' = EditRefused arguments input output output' errors errors'
 EndsAs ends.NoMemory arguments input output output' errors errors' = Told no_memory_line output output' errors errors'
-EndsAs ends.InputFailed arguments input output output' errors errors' = Told (codes "input failed\n") output output' errors errors'
-EndsAs ends.OutputFailed arguments input output output' errors errors' = OutputFailed arguments input output output' errors errors'
-EndsAs ends.WrongArguments arguments input output output' errors errors' = WrongArguments arguments output output' errors errors'
+EndsAs ends.InputFailed arguments input output output' errors errors' = Told input_line output output' errors errors'
+EndsAs ends.OutputFailed arguments input output output' errors errors' =
+    OutputFailed arguments input output output' errors errors'
+EndsAs ends.WrongArguments arguments input output output' errors errors' =
+    WrongArguments arguments output output' errors errors'
 
 -- of arguments that can't be read only the line is said that belongs to the status
 abbrev pub RefusesArguments : ExitStatus → (errors errors' : Option (List ℕ)) → Type 0
 RefusesArguments ends.NoMemory errors errors' = AppendsFront errors errors' no_memory_line
 RefusesArguments ends.WrongArguments errors errors' = AppendsFront errors errors' usage_line
-RefusesArguments _ errors errors' = ⊥
+RefusesArguments ends.Changed errors errors' = ⊥
+RefusesArguments ends.EditRefused errors errors' = ⊥
+RefusesArguments ends.InputFailed errors errors' = ⊥
+RefusesArguments ends.OutputFailed errors errors' = ⊥
 
 -- the status that the process ends with
 abbrev pub status_of : ExitStatus → ℕ

@@ -95,7 +95,9 @@ fn write_changed<W, E>(text: &str, output: &mut W, errors: &mut E) -> ExitStatus
 where
     W: Write,
     E: Write,
-    ensures { (arguments : List (List ℕ)) → (input : Option (List ℕ)) → IsChanged arguments input text.now → EndsAs result arguments input
+    ensures { (arguments : List (List ℕ)) → (input : Option (List ℕ))
+        → IsChanged arguments input text.now
+        → EndsAs result arguments input
         (W.contents output.old) (W.contents output.new) (E.contents errors.old) (E.contents errors.new) }
 {
     if write_text(output, text.as_bytes()).is_err() {
@@ -112,7 +114,8 @@ fn tell_cause<E: Write>(
     cause: NoChange,
     errors: &mut E,
 ) -> ExitStatus
-    ensures { (input : Option (List ℕ)) → (output : Option (List ℕ)) → IsNotChanged (map string_bytes arguments.now) input cause
+    ensures { (input : Option (List ℕ)) → (output : Option (List ℕ))
+        → IsNotChanged (map string_bytes arguments.now) input cause
         → EndsAs result (map string_bytes arguments.now) input output output (E.contents errors.old) (E.contents errors.new) }
 {
     match cause {

@@ -39,7 +39,8 @@ fn no_key(alloc: Global, number: usize) -> Result<String, AllocError>
     ensures { IfOk result (λ text. string_bytes text ≡ no_key number) }
 {
     format!(in alloc;
-        "argument {number} has no key before its `=`: a key is a name, or several with dots between them, of letters, digits, `_` and `-`"
+        "argument {number} has no key before its `=`: \
+        a key is a name, or several with dots between them, of letters, digits, `_` and `-`"
     )
 }
 
