@@ -29,7 +29,8 @@ use Rattle.gs_rules.specs.MeshRules.{fanout_publish, graft_rule, is_full_for, le
 use Rattle.gs_rules.specs.Scoring.{is_graylisted, is_ignored, is_passed_over}
 use Rattle.gs_rules.specs.Owed.{Debt, Group, PartsOf, events_in, heartbeat_groups, held_or, nothing, owed, owes, owing, paid, parts, reached}
 use Rattle.gs_params.specs.Picks.{IsAscending}
-use Rattle.gs_rules.specs.Rules.{Rule, Gives, AnyOf, CutOf, OneOf, answering, answers, asked_for, bare, counted, have_rule, ids_in, listeners, message_rule, new_message, rule_of, want_rule, wanted, without}
+use Rattle.gs_rules.specs.Rules.{Rule, Gives, AnyOf, CutOf, OneOf, answering, answers, asked_for, bare, counted, have_rule, ids_in, listeners, rule_of, want_rule, wanted, without}
+use Rattle.gs_rules.specs.Outcomes.{found_to_be, message_entry, message_rule}
 use Rattle.gs_rules.specs.Modes.{Mode, Follows, free}
 use Rattle.gs_rules.specs.Legal.{Legal, LegalOn, IsAllowed, IsNext, MayOpen, Begins}
 use Rattle.gs_base.specs.Names.{peers_of}
@@ -52,9 +53,9 @@ record Tells (at : Millis) (event : Event) (x : Entry) : Type 0 where
 
 message_tells : (p : Peer) (L : Entries) (at : Millis) (q : PeerNo) (m : Message) → Tells at (Msg q m) (message_rule p L at q m)
 message_tells p L at q m =
-    of_a_message (Tells at (Msg q m)) p L at q m (record { moment = refl; tells = refl }) (record { moment = refl; tells = refl }) (λ near. record { moment = refl; tells = refl }) (λ unseen. new_tells)
+    of_a_message (Tells at (Msg q m)) p L at q m (record { moment = refl; tells = refl }) (record { moment = refl; tells = refl }) (record { moment = refl; tells = refl }) (λ unseen. new_tells)
   where
-    new_tells : (v : Verdict) → Tells at (Msg q m) (new_message L at q m v)
+    new_tells : (v : Verdict) → Tells at (Msg q m) (message_entry (mesh L (topic_of m)) at q m (found_to_be (message_id (payload_of m)) v))
     new_tells Accept = record { moment = refl; tells = refl }
     new_tells Reject = record { moment = refl; tells = refl }
     new_tells Ignore = record { moment = refl; tells = refl }

@@ -15,8 +15,9 @@ use Rattle.gs_rules.specs.Tables.{Entries, last_moment}
 use Rattle.gs_rules.specs.Owed.{owed, nothing}
 use Rattle.gs_mesh.specs.Peers.{is_among}
 use Rattle.gs_mesh.specs.Peers.{without as all_but}
-use Rattle.gs_wire.specs.Messages.{passed_on}
-use Rattle.gs_rules.specs.Rules.{bare, invalid, to_each}
+use Rattle.gs_base.specs.Rpcs.{passed_on}
+use Rattle.gs_rules.specs.Rules.{bare, to_each}
+use Rattle.gs_rules.specs.Outcomes.{invalid}
 use Rattle.gs_rules.specs.Modes.{Mode}
 use Rattle.gs_rules.specs.Legal.{Legal, LegalOn, Begins, Opens}
 use Rattle.gs_router.specs.declared.setup.Setup.{Setup}

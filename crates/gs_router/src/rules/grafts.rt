@@ -2,7 +2,7 @@
 ghost use Rattle.std.specs.Prelude.{◌≡◌, IfOk};
 ghost use Rattle.gs_base.specs.Names.{topic_or_empty};
 ghost use Rattle.gs_base.specs.declared.control.Graft.{Graft as GraftValue};
-ghost use Rattle.gs_wire.specs.Messages.{grafting, pruning};
+ghost use Rattle.gs_base.specs.Rpcs.{grafting, pruning};
 ghost use Rattle.gs_rules.specs.Tables.{Entries};
 ghost use Rattle.gs_rules.specs.Membership.{candidates, is_candidate, is_negative, is_outbound};
 ghost use Rattle.gs_rules.specs.MeshRules.{asked_backoff, graft_rule, is_full_for, prune_rule, pruned_by, refusing};

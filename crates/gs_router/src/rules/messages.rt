@@ -8,11 +8,12 @@ ghost use Rattle.gs_base.specs.declared.verdict.Verdict.TheVariants.{Accept, Rej
 ghost use Rattle.gs_base.specs.declared.mark.Mark.TheVariants as marks;
 ghost use Rattle.gs_mesh.specs.Peers.{without as all_but};
 ghost use Rattle.gs_score.specs.Accounts.{params_in};
-ghost use Rattle.gs_wire.specs.Messages.{passed_on};
+ghost use Rattle.gs_base.specs.Rpcs.{passed_on};
 ghost use Rattle.gs_rules.specs.Peers.{seen_ttl};
 ghost use Rattle.gs_rules.specs.Tables.{Entries, seen};
 ghost use Rattle.gs_rules.specs.Meshes.{mesh};
-ghost use Rattle.gs_rules.specs.Rules.{again, begins_with_one, is_near, message_rule, near_window, new_message, to_each, verdict_by, verdict_on};
+ghost use Rattle.gs_rules.specs.Rules.{to_each};
+ghost use Rattle.gs_rules.specs.Outcomes.{again, begins_with_one, is_near, message_rule, near_window, new_message, verdict_by, verdict_on};
 ghost use Rattle.gs_router.specs.declared.rules.messages.Fate.TheVariants.{Accepted};
 ghost use Rattle.gs_router.specs.Tables.{Agrees};
 ghost use Rattle.gs_router.specs.State.{Knows, judged, peer_with};

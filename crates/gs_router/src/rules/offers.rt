@@ -1,12 +1,13 @@
 //! Offers: what a router asks for of what a neighbour offers.
 ghost use Rattle.std.specs.Prelude.{◌≡◌, ◌≤◌, ◌<◌, [], IfOk, OnOk, length, filter, take, get_or};
 ghost use Rattle.std.specs.List.{AllByRecursion};
-ghost use Rattle.gs_wire.specs.Messages.{HasIdentifierLength, most_identifiers, requesting};
+ghost use Rattle.gs_base.specs.Names.{HasIdentifierLength, id_of};
+ghost use Rattle.gs_base.specs.Rpcs.{most_identifiers, requesting};
 ghost use Rattle.gs_rules.specs.Tables.{Entries};
 ghost use Rattle.gs_rules.specs.Rules.{asked_for, asking, counted, each_once, have_rule, is_wanted};
 ghost use Rattle.gs_rules.specs.Modes.{Follows, exact};
 ghost use Rattle.gs_router.specs.State.{Knows, peer_with};
-ghost use Rattle.gs_router.specs.Offers.{add_wanted, id_of};
+ghost use Rattle.gs_router.specs.Offers.{add_wanted};
 
 use crate::rules::{bare, thresholds};
 use crate::state::State;

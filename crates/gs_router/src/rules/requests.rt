@@ -4,7 +4,7 @@ ghost use Rattle.gs_base.specs.Names.{same_id};
 ghost use Rattle.gs_base.specs.declared.names.MsgId.{MsgId as MsgIdValue};
 ghost use Rattle.gs_base.specs.declared.mark.Mark.TheVariants as marks;
 ghost use Rattle.gs_base.specs.declared.rpc.Message.{Message as MessageValue};
-ghost use Rattle.gs_wire.specs.Messages.{passed_on};
+ghost use Rattle.gs_base.specs.Rpcs.{passed_on};
 ghost use Rattle.gs_rules.specs.Tables.{Entries};
 ghost use Rattle.gs_rules.specs.Rules.{answer, answering, answers, ids_in, times_in, want_rule, with_message};
 ghost use Rattle.gs_router.specs.Tables.{Agrees, AreMadeFor};

@@ -1,5 +1,5 @@
 use Rattle.std.proofs.Common.{◌∙◌}
-use Rattle.gs_wire.specs.Messages.{most_identifiers}
+use Rattle.gs_base.specs.Rpcs.{most_identifiers}
 use Rattle.gs_router.specs.State.{peer_with}
 use Rattle.gs_router.proofs.Wanting.{room_few, wanted_few, wanted_long}
 use Rattle.gs_router.proofs.rules.offers.entry_of.Goals as goal
