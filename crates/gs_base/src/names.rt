@@ -1,6 +1,6 @@
 //! Names of peers, topics and messages, and moments.
 ghost use Rattle.std.specs.Prelude.{◌≡◌, IfOk};
-ghost use Rattle.gs_base.specs.Names.{id_of, longest_topic, message_id, most_topics, topic_or_empty};
+ghost use Rattle.gs_base.specs.Names.{HasIdentifierLength, id_of, longest_topic, message_id, most_topics, topic_or_empty};
 
 use crate::exact::{ExactClone, clone_of};
 use bytes::Bytes;
@@ -99,9 +99,17 @@ impl MsgId {
         if bytes.len() != ID_LENGTH {
             return None;
         }
+        Some(MsgId::from_exact(bytes))
+    }
+
+    /// The identifier that these bytes are, which have its length.
+    pub fn from_exact(bytes: &[u8]) -> MsgId
+        requires { HasIdentifierLength bytes.now }
+        ensures { result.0 ≡ bytes.now }
+    {
         let mut id = [0; ID_LENGTH];
         id.copy_from_slice(bytes);
-        Some(MsgId(id))
+        MsgId(id)
     }
 }
 

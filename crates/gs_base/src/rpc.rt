@@ -4,13 +4,12 @@ ghost use Rattle.gs_base.specs.Names.{is_signed, payload_of, topic_of, topic_or_
 
 mod sent;
 
-pub use sent::{LONGEST_BACKOFF, MOST_IDENTIFIERS, limits_of_rpcs};
-
 use crate::control::Control;
 use crate::exact::{ExactClone, clone_of, clone_option};
 use crate::names::Topic;
 use crate::seq::Seq;
 use bytes::Bytes;
+pub use sent::{LONGEST_BACKOFF, MOST_IDENTIFIERS, limits_of_rpcs};
 use std::alloc::AllocError;
 
 /// A change of a subscription (`RPC.SubOpts`).

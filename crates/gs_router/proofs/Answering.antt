@@ -18,7 +18,7 @@ use Rattle.gs_base.specs.Rpcs.{passed_on}
 use Rattle.gs_rules.specs.Peers.{Peer, windows}
 use Rattle.gs_rules.specs.Tables.{Entries, Keeping, answered, kept}
 use Rattle.gs_rules.specs.Rules.{answer, answers, times_in, with_message}
-use Rattle.gs_router.specs.declared.rules.requests.Reply.{Reply}
+use Rattle.gs_router.specs.declared.entries.requests.Reply.{Reply}
 use Rattle.gs_router.specs.Tables.{answers_left, left_of}
 use Rattle.gs_router.specs.Offers.{left_now}
 use Rattle.gs_router.specs.Requests.{Gives, Replies}

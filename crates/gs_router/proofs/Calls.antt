@@ -23,7 +23,8 @@ use Rattle.gs_router.specs.declared.setup.Setup.{Setup}
 use Rattle.gs_router.specs.declared.state.State.{State}
 use Rattle.gs_router.specs.declared.fault.RouterFault.{RouterFault}
 use Rattle.gs_router.specs.declared.fault.RouterFault.TheVariants.{Refused, NoMemory}
-use Rattle.gs_router.specs.State.{Ends, peer_with}
+use Rattle.gs_router.specs.Known.{peer_with}
+use Rattle.gs_router.specs.State.{Ends}
 use Rattle.gs_router.specs.Router.{RouterView, Calls, IsLoss, IsUsers, answer_of, fails, refusal_if, refusal_of, view_of}
 
 -- what a router that goes on refuses
@@ -61,7 +62,7 @@ idles m now v s q event runs down legal = subst (λ (o : Option Event). Calls {A
 
 module _ (m : Mode) {E : Type 0} (event : Event) (now : Millis) (a b : State) (s t : m.State) (stopped after : Bool) (runs : stopped ≡ false) where
   -- what is not refused is done, or memory was wanting
-  pub ends_call : (done : Result (Unit {0}) E) (answer : Result (Unit {0}) RouterFault) → answer ≡ answer_of done → after ≡ (stopped || fails done) → refusal (peer_with a.setup) a.trace now.0 event ≡ None → Ends m event now a s done b t → Calls m (Some event) now (view_of a stopped) s answer (view_of b after) t
+  pub ends_call : (done : Result (Unit {0}) E) (answer : Result (Unit {0}) RouterFault) → answer ≡ answer_of done → after ≡ (stopped || fails done) → refusal (peer_with a.known.setup) a.trace now.0 event ≡ None → Ends m event now a s done b t → Calls m (Some event) now (view_of a stopped) s answer (view_of b after) t
   ends_call done answer answer_is after_is free ends =
       subst (λ (one : Result (Unit {0}) RouterFault). Calls m (Some event) now (view_of a stopped) s one (view_of b after) t) (sym answer_is) (by done after_is ends)
     where

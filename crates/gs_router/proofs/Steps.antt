@@ -42,7 +42,8 @@ use Rattle.gs_router.specs.declared.state.State.{State}
 use Rattle.gs_router.specs.declared.tables.standings.Standings.{Standings}
 use Rattle.gs_router.specs.Tables.{Agrees, AgreesOnScores, AreMadeFor}
 use Rattle.gs_router.proofs.Maintaining.{of_stepped}
-use Rattle.gs_router.specs.State.{Appends, Ends, IsCurrent, IsReady, Knows, Steps, peer_with}
+use Rattle.gs_router.specs.Known.{Knows, peer_with}
+use Rattle.gs_router.specs.State.{Appends, Ends, IsCurrent, IsReady, Steps}
 
 -- ---- rules
 
@@ -179,9 +180,9 @@ module _ (m : Mode) (weakens : Weakens m free (λ u. tt)) where
   }
 
   -- it comes no earlier than what the tables have noted
-  pub no_earlier : (event : Event) (now : Millis) (a : State) (s t : m.State) (e : Entry) → IsCurrent a → last_moment a.trace ≤ now.0 → Follows m (rule_of (peer_with a.setup) a.trace now event) s e t → a.tables.sightings.cache.moment ≤ e.at.0
+  pub no_earlier : (event : Event) (now : Millis) (a : State) (s t : m.State) (e : Entry) → IsCurrent a → last_moment a.trace ≤ now.0 → Follows m (rule_of (peer_with a.known.setup) a.trace now event) s e t → a.known.tables.sightings.cache.moment ≤ e.at.0
   no_earlier event now a s t e current time follows =
-      let p = peer_with a.setup in
+      let p = peer_with a.known.setup in
       let tells = follows_tells now event (rule_of p a.trace now event) e (rule_tells p a.trace now event) (follows_weakly m free (λ u. tt) weakens (rule_of p a.trace now event) s e t follows) in
       omega (arith, current.agrees.sightings.past, time, ap (λ (at : Millis). at.0) tells.moment)
 
@@ -191,18 +192,18 @@ module _ (m : Mode) (weakens : Weakens m free (λ u. tt)) where
 
   module _ {A E : Type 0} where
     -- an entry that may follow was appended, or memory was wanting
-    pub followed : (event : Event) (now : Millis) (a b : State) (s t : m.State) (e : Entry) (done : Result A E) → IsCurrent a → last_moment a.trace ≤ now.0 → IsNext (peer_with a.setup) a.trace now.0 (owed (peer_with a.setup) a.trace).events event → Follows m (rule_of (peer_with a.setup) a.trace now event) s e t → OnOk done (b.trace ≡ e ∷ a.trace) → OnOk done ((L : Entries) → Agrees a.tables L → Agrees b.tables (e ∷ L)) → OnOk done ((p : Peer) (L : Entries) → AgreesOnScores p a.tables.standings L → AgreesOnScores p b.tables.standings (e ∷ L)) → OnOk done ((p : Peer) → AreMadeFor a.tables p → AreMadeFor b.tables p) → OnErr done (b.trace ≡ a.trace) → b.setup ≡ a.setup → Steps m event now a s done b t
+    pub followed : (event : Event) (now : Millis) (a b : State) (s t : m.State) (e : Entry) (done : Result A E) → IsCurrent a → last_moment a.trace ≤ now.0 → IsNext (peer_with a.known.setup) a.trace now.0 (owed (peer_with a.known.setup) a.trace).events event → Follows m (rule_of (peer_with a.known.setup) a.trace now event) s e t → OnOk done (b.trace ≡ e ∷ a.trace) → OnOk done ((L : Entries) → Agrees a.known.tables L → Agrees b.known.tables (e ∷ L)) → OnOk done ((p : Peer) (L : Entries) → AgreesOnScores p a.known.tables.standings L → AgreesOnScores p b.known.tables.standings (e ∷ L)) → OnOk done ((p : Peer) → AreMadeFor a.known.tables p → AreMadeFor b.known.tables p) → OnErr done (b.trace ≡ a.trace) → b.known.setup ≡ a.known.setup → Steps m event now a s done b t
     followed event now a b s t e (Ok x) current time next follows added agrees scores made kept setup =
-        let p = peer_with a.setup in
+        let p = peer_with a.known.setup in
         let tells = follows_tells now event (rule_of p a.trace now event) e (rule_tells p a.trace now event) (follows_weakly m free (λ u. tt) weakens (rule_of p a.trace now event) s e t follows) in
         let one = legal_one m p s t a.trace e (allowed p a.trace now event s t e tells time next follows) in
         record {
           added = record { entry = e; added = added; moment = tells.moment; opened = tells.tells; legal = one };
           current = record {
             legal = subst (λ (g : Setup). Legal (peer_with g) b.trace) (sym setup) (appended_legal p a.trace b.trace s t current.legal (record { entries = e ∷ []; are = added; legal = one }));
-            agrees = subst (λ (L : Entries). Agrees b.tables L) (sym added) (agrees a.trace current.agrees);
-            scores = subst₂ (λ (g : Setup) (L : Entries). AgreesOnScores (peer_with g) b.tables.standings L) (sym setup) (sym added) (scores (peer_with a.setup) a.trace current.scores);
-            made = subst (λ (g : Setup). AreMadeFor b.tables (peer_with g)) (sym setup) (made (peer_with a.setup) current.made);
+            agrees = subst (λ (L : Entries). Agrees b.known.tables L) (sym added) (agrees a.trace current.agrees);
+            scores = subst₂ (λ (g : Setup) (L : Entries). AgreesOnScores (peer_with g) b.known.tables.standings L) (sym setup) (sym added) (scores (peer_with a.known.setup) a.trace current.scores);
+            made = subst (λ (g : Setup). AreMadeFor b.known.tables (peer_with g)) (sym setup) (made (peer_with a.known.setup) current.made);
             ascending = subst (λ (g : Setup). IsAscending (peers_of g.neighbours.items)) (sym setup) current.ascending;
             ticks = subst (λ (g : Setup). 1 ≤ g.params.windows.opportunistic_ticks) (sym setup) current.ticks;
             room = subst (λ (g : Setup). g.params.degrees.d_score + g.params.degrees.d_out ≤ g.params.degrees.d) (sym setup) current.room;
@@ -213,7 +214,7 @@ module _ (m : Mode) (weakens : Weakens m free (λ u. tt)) where
     followed event now a b s t e (Err x) current time next follows added agrees scores made kept setup = record { added = tt; current = tt; kept = kept; setup = setup }
 
     -- memory was wanting before anything came
-    pub breaks_off : (event : Event) (now : Millis) (a b : State) (s t : m.State) (e : E) → IsCurrent a → b.trace ≡ a.trace → b.setup ≡ a.setup → Ends {A = A} {E = E} m event now a s (Err e) b t
+    pub breaks_off : (event : Event) (now : Millis) (a b : State) (s t : m.State) (e : E) → IsCurrent a → b.trace ≡ a.trace → b.known.setup ≡ a.known.setup → Ends {A = A} {E = E} m event now a s (Err e) b t
     breaks_off event now a b s t e current kept setup = record {
       opened = tt;
       appended = tt;
@@ -224,15 +225,15 @@ module _ (m : Mode) (weakens : Weakens m free (λ u. tt)) where
       setup = setup;
     }
 
-    pub stops : (event : Event) (now : Millis) (a b : State) (s t : m.State) (done : Result A E) → IsErr done → IsCurrent a → b.trace ≡ a.trace → b.setup ≡ a.setup → Ends m event now a s done b t
+    pub stops : (event : Event) (now : Millis) (a b : State) (s t : m.State) (done : Result A E) → IsErr done → IsCurrent a → b.trace ≡ a.trace → b.known.setup ≡ a.known.setup → Ends m event now a s done b t
     stops event now a b s t (Ok x) fails current kept setup = absurd cc
     stops event now a b s t (Err e) fails current kept setup = breaks_off event now a b s t e current kept setup
 
     -- an event that owes nothing comes with its step
-    pub opens_alone : (event : Event) (now : Millis) (a b : State) (s t : m.State) (done : Result A E) → IsReady a → owes (peer_with a.setup) a.trace now.0 event ≡ [] → Steps m event now a s done b t → Ends m event now a s done b t
+    pub opens_alone : (event : Event) (now : Millis) (a b : State) (s t : m.State) (done : Result A E) → IsReady a → owes (peer_with a.known.setup) a.trace now.0 event ≡ [] → Steps m event now a s done b t → Ends m event now a s done b t
     opens_alone event now a b s t (Ok x) ready none steps =
         let one = steps.added in
-        let p = peer_with a.setup in
+        let p = peer_with a.known.setup in
         let after : owed p b.trace ≡ nothing = ap (owed p) one.added
         ∙ ap₂ (λ (at : Millis) (ev : Event). owing p (one.entry ∷ a.trace) (owes p a.trace at.0 ev) (owed p a.trace)) one.moment one.opened
         ∙ owes_none p a.trace (one.entry ∷ a.trace) now.0 event (owed p a.trace) none
@@ -269,24 +270,24 @@ left_with p L events groups = held_or events groups (reached p L groups)
 -- these events are left, and then these groups.
 pub record Paying (m : Mode) (now : Millis) (event : Event) (a : State) (s : m.State) (b : State) (t : m.State) (left : List Event) (groups : List Group) : Type 0 where
   pub current : IsCurrent b
-  pub setup : b.setup ≡ a.setup
+  pub setup : b.known.setup ≡ a.known.setup
   pub moment : last_moment b.trace ≡ now.0
-  pub owes : owed (peer_with a.setup) b.trace ≡ left_with (peer_with a.setup) b.trace left groups
-  pub begun : Begins (peer_with a.setup) now event a.trace b.trace
-  pub appended : Appends m (peer_with a.setup) a.trace s b.trace t
+  pub owes : owed (peer_with a.known.setup) b.trace ≡ left_with (peer_with a.known.setup) b.trace left groups
+  pub begun : Begins (peer_with a.known.setup) now event a.trace b.trace
+  pub appended : Appends m (peer_with a.known.setup) a.trace s b.trace t
 
 not_nil : {X : Type 0} (x : X) (xs ys : List X) → ys ≡ x ∷ xs → ys ≢ []
 not_nil x xs [] is = absurd cc
 not_nil x xs (y ∷ ys) is = λ none. absurd cc
 
 -- what is owed first may come
-pub next_due : (m : Mode) (now : Millis) (event first : Event) (rest : List Event) (groups : List Group) (a b : State) (s t : m.State) → Paying m now event a s b t (first ∷ rest) groups → IsNext (peer_with b.setup) b.trace now.0 (owed (peer_with b.setup) b.trace).events first
+pub next_due : (m : Mode) (now : Millis) (event first : Event) (rest : List Event) (groups : List Group) (a b : State) (s t : m.State) → Paying m now event a s b t (first ∷ rest) groups → IsNext (peer_with b.known.setup) b.trace now.0 (owed (peer_with b.known.setup) b.trace).events first
 next_due m now event first rest groups a b s t h =
-    let owed_first : owed (peer_with b.setup) b.trace ≡ record { events = first ∷ rest; groups = groups } = ap (λ (g : Setup). owed (peer_with g) b.trace) h.setup ∙ h.owes in
-    subst (λ (debt : Debt). IsNext (peer_with b.setup) b.trace now.0 debt.events first) (sym owed_first) refl
+    let owed_first : owed (peer_with b.known.setup) b.trace ≡ record { events = first ∷ rest; groups = groups } = ap (λ (g : Setup). owed (peer_with g) b.trace) h.setup ∙ h.owes in
+    subst (λ (debt : Debt). IsNext (peer_with b.known.setup) b.trace now.0 debt.events first) (sym owed_first) refl
 
 -- where nothing is left of a group, the next one is reached
-pub pays_group : (m : Mode) (now : Millis) (event : Event) (group : Group) (groups : List Group) (a b : State) (s t : m.State) → Paying m now event a s b t [] (group ∷ groups) → Paying m now event a s b t (events_in (peer_with a.setup) b.trace group) groups
+pub pays_group : (m : Mode) (now : Millis) (event : Event) (group : Group) (groups : List Group) (a b : State) (s t : m.State) → Paying m now event a s b t [] (group ∷ groups) → Paying m now event a s b t (events_in (peer_with a.known.setup) b.trace group) groups
 pays_group m now event group groups a b s t h = record {
   current = h.current;
   setup = h.setup;
@@ -298,10 +299,10 @@ pays_group m now event group groups a b s t h = record {
 
 module _ (m : Mode) {A E : Type 0} where
   -- an RPC that is not heard in vain owes its parts
-  pub hears_first : (now : Millis) (q : PeerNo) (rpc : Rpc) (a b : State) (s t : m.State) (x : A) → is_graylisted (peer_with a.setup) a.trace now.0 q ≡ false → Steps {A = A} {E = E} m (Heard q rpc) now a s (Ok x) b t → Paying m now (Heard q rpc) a s b t (parts q rpc) []
+  pub hears_first : (now : Millis) (q : PeerNo) (rpc : Rpc) (a b : State) (s t : m.State) (x : A) → is_graylisted (peer_with a.known.setup) a.trace now.0 q ≡ false → Steps {A = A} {E = E} m (Heard q rpc) now a s (Ok x) b t → Paying m now (Heard q rpc) a s b t (parts q rpc) []
   hears_first now q rpc a b s t x listened steps =
       let one = steps.added in
-      let p = peer_with a.setup in
+      let p = peer_with a.known.setup in
       record {
         current = steps.current;
         setup = steps.setup;
@@ -317,7 +318,7 @@ module _ (m : Mode) {A E : Type 0} where
   pub beats_first : (now : Millis) (a b : State) (s t : m.State) (x : A) → Steps {A = A} {E = E} m Promises now a s (Ok x) b t → Paying m now Promises a s b t [] (heartbeat_groups now.0)
   beats_first now a b s t x steps =
       let one = steps.added in
-      let p = peer_with a.setup in
+      let p = peer_with a.known.setup in
       record {
         current = steps.current;
         setup = steps.setup;
@@ -330,10 +331,10 @@ module _ (m : Mode) {A E : Type 0} where
       }
 
   -- one more event of the group is paid, which owes nothing itself
-  pub pays_next : (now : Millis) (event first : Event) (rest : List Event) (groups : List Group) (a b c : State) (s t u : m.State) (x : A) → Paying m now event a s b t (first ∷ rest) groups → owes (peer_with a.setup) b.trace now.0 first ≡ [] → Steps {A = A} {E = E} m first now b t (Ok x) c u → Paying m now event a s c u rest groups
+  pub pays_next : (now : Millis) (event first : Event) (rest : List Event) (groups : List Group) (a b c : State) (s t u : m.State) (x : A) → Paying m now event a s b t (first ∷ rest) groups → owes (peer_with a.known.setup) b.trace now.0 first ≡ [] → Steps {A = A} {E = E} m first now b t (Ok x) c u → Paying m now event a s c u rest groups
   pays_next now event first rest groups a b c s t u x h alone steps =
       let one = steps.added in
-      let p = peer_with a.setup in
+      let p = peer_with a.known.setup in
       let behind : LegalOn m p t (h.appended.entries ++ a.trace) (one.entry ∷ []) u = subst₂ (λ (g : Setup) (L : Entries). LegalOn m (peer_with g) t L (one.entry ∷ []) u) h.setup h.appended.are one.legal in
       record {
         current = steps.current;
@@ -372,13 +373,13 @@ module _ (m : Mode) {A E : Type 0} where
   }
 
   -- memory was wanting for what is owed
-  pub pays_some : (now : Millis) (event : Event) (left : List Event) (groups : List Group) (a b c : State) (s t u : m.State) (done : Result A E) → IsErr done → Paying m now event a s b t left groups → c.trace ≡ b.trace → c.setup ≡ b.setup → Ends m event now a s done c u
+  pub pays_some : (now : Millis) (event : Event) (left : List Event) (groups : List Group) (a b c : State) (s t u : m.State) (done : Result A E) → IsErr done → Paying m now event a s b t left groups → c.trace ≡ b.trace → c.setup ≡ b.known.setup → Ends m event now a s done c u
   pays_some now event left groups a b c s t u (Ok x) fails h kept setup = absurd cc
   pays_some now event left groups a b c s t u (Err e) fails h kept setup = record {
     opened = tt;
     appended = tt;
     ready = tt;
-    broken = inr (subst (λ (L : Entries). Begins (peer_with a.setup) now event a.trace L) (sym kept) h.begun);
+    broken = inr (subst (λ (L : Entries). Begins (peer_with a.known.setup) now event a.trace L) (sym kept) h.begun);
     before = (t, record { entries = h.appended.entries; are = kept ∙ h.appended.are; legal = h.appended.legal });
     legal = subst₂ (λ (g : Setup) (L : Entries). Legal (peer_with g) L) (sym setup) (sym kept) h.current.legal;
     setup = setup ∙ h.setup;

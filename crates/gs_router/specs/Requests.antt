@@ -8,7 +8,7 @@ use Rattle.gs_base.specs.Rpcs.{passed_on}
 use Rattle.gs_rules.specs.Peers.{Peer, windows}
 use Rattle.gs_rules.specs.Tables.{Entries}
 use Rattle.gs_rules.specs.Rules.{times_in}
-use Rattle.gs_router.specs.declared.rules.requests.Reply.{Reply}
+use Rattle.gs_router.specs.declared.entries.requests.Reply.{Reply}
 use Rattle.gs_router.specs.Tables.{answers_left}
 use Rattle.gs_router.specs.Offers.{left_now}
 

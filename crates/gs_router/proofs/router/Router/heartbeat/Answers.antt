@@ -2,7 +2,7 @@ use Rattle.std.proofs.Common.{◌≤◌, ◌∙◌, sym}
 use Rattle.gs_rules.specs.declared.trace.Event.TheVariants.{Promises}
 use Rattle.gs_rules.specs.Tables.{last_moment}
 use Rattle.gs_rules.specs.Modes.{exact}
-use Rattle.gs_router.specs.State.{peer_with}
+use Rattle.gs_router.specs.Known.{peer_with}
 use Rattle.gs_router.proofs.Calls.{ends_call, may_beat, refuses}
 use Rattle.gs_router.proofs.Steps.{knows}
 use Rattle.gs_router.proofs.router.Router.heartbeat.Goals as goal
@@ -19,7 +19,7 @@ heartbeat-done-requires-clause-may g c =
     let s = c.self.inside.state in
     let ready = c.self.invariant.ready c.if-self.false in
     let time : last_moment s.trace ≤ c.args.now.0 = rw (← c.self.view_is) at c.requires in
-    may_beat (peer_with s.setup) s.trace c.args.now.0 (sym (c.refusal_of.ensures s.trace (knows s c.args.now.0 ready.current time)) ∙ c.in_default.is)
+    may_beat (peer_with s.known.setup) s.trace c.args.now.0 (sym (c.refusal_of.ensures s.trace (knows s c.args.now.0 ready.current time)) ∙ c.in_default.is)
 
 pub returns : goal.returns
 returns g c =

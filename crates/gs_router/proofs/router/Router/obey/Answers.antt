@@ -1,7 +1,7 @@
 use Rattle.std.proofs.Common.{◌≤◌, ◌∙◌, sym}
 use Rattle.gs_rules.specs.Tables.{last_moment}
 use Rattle.gs_rules.specs.Modes.{exact}
-use Rattle.gs_router.specs.State.{peer_with}
+use Rattle.gs_router.specs.Known.{peer_with}
 use Rattle.gs_router.proofs.Calls.{ends_call, may_open, owes_nothing, refuses}
 use Rattle.gs_router.proofs.Steps.{knows}
 use Rattle.gs_router.proofs.router.Router.obey.Goals as goal
@@ -18,10 +18,10 @@ open-done-requires-clause-may g c =
     let s = c.self.inside.state in
     let ready = c.self.invariant.ready c.if-self.false in
     let time : last_moment s.trace ≤ c.args.now.0 = rw (← c.self.view_is) at c.requires.time in
-    may_open (peer_with s.setup) s.trace c.args.now.0 c.args.event c.requires.own (sym (c.refusal_of.ensures s.trace (knows s c.args.now.0 ready.current time)) ∙ c.in_default.is)
+    may_open (peer_with s.known.setup) s.trace c.args.now.0 c.args.event c.requires.own (sym (c.refusal_of.ensures s.trace (knows s c.args.now.0 ready.current time)) ∙ c.in_default.is)
 
 pub open-done-requires-clause-alone : goal.open-done-requires-clause-alone
-open-done-requires-clause-alone g c = let s = c.self.inside.state in owes_nothing (peer_with s.setup) s.trace c.args.now.0 c.args.event c.requires.own
+open-done-requires-clause-alone g c = let s = c.self.inside.state in owes_nothing (peer_with s.known.setup) s.trace c.args.now.0 c.args.event c.requires.own
 
 pub returns : goal.returns
 returns g c =

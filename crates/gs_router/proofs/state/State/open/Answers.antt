@@ -1,6 +1,6 @@
 use Rattle.gs_rules.specs.Modes.{exact}
 use Rattle.gs_rules.proofs.Legality.{exact_is_free}
-use Rattle.gs_router.specs.State.{peer_with}
+use Rattle.gs_router.specs.Known.{peer_with}
 use Rattle.gs_router.proofs.Steps.{next_opens, opens_alone}
 use Rattle.gs_router.proofs.state.State.open.Goals as goal
 
@@ -10,7 +10,7 @@ step-requires g c =
     record {
       current = c.requires.ready.current;
       time = c.requires.time;
-      next = next_opens (peer_with a.setup) a.trace c.args.now.0 c.args.event c.requires.ready.settled c.requires.may;
+      next = next_opens (peer_with a.known.setup) a.trace c.args.now.0 c.args.event c.requires.ready.settled c.requires.may;
     }
 
 pub returns : goal.returns
