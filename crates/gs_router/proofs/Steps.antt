@@ -28,12 +28,10 @@ use Rattle.gs_rules.specs.Membership.{candidates, each_on, entering, is_negative
 use Rattle.gs_rules.specs.MeshRules.{fanout_publish, graft_rule, is_full_for, left_by, prune_rule, pruned_by, publish_rule, publishing, refusing, sub_rule}
 use Rattle.gs_rules.specs.Scoring.{is_graylisted, is_ignored, is_passed_over}
 use Rattle.gs_rules.specs.Owed.{Debt, Group, PartsOf, events_in, heartbeat_groups, held_or, nothing, owed, owes, owing, paid, parts, reached}
-use Rattle.gs_params.specs.Picks.{IsAscending}
 use Rattle.gs_rules.specs.Rules.{Rule, Gives, AnyOf, CutOf, OneOf, answering, answers, asked_for, bare, counted, have_rule, ids_in, listeners, rule_of, want_rule, wanted, without}
 use Rattle.gs_rules.specs.Outcomes.{found_to_be, message_entry, message_rule}
 use Rattle.gs_rules.specs.Modes.{Mode, Follows, free}
 use Rattle.gs_rules.specs.Legal.{Legal, LegalOn, IsAllowed, IsNext, MayOpen, Begins}
-use Rattle.gs_base.specs.Names.{peers_of}
 use Rattle.gs_rules.proofs.Judged.{of_a_message}
 use Rattle.gs_rules.proofs.Owed.{owes_none}
 use Rattle.gs_rules.proofs.Legality.{Weakens, follows_weakly, legal_on, legal_one, legal_then, legal_weakly}
@@ -42,7 +40,7 @@ use Rattle.gs_router.specs.declared.state.State.{State}
 use Rattle.gs_router.specs.declared.tables.standings.Standings.{Standings}
 use Rattle.gs_router.specs.Tables.{Agrees, AgreesOnScores, AreMadeFor}
 use Rattle.gs_router.proofs.Maintaining.{of_stepped}
-use Rattle.gs_router.specs.Known.{Knows, peer_with}
+use Rattle.gs_router.specs.Known.{IsFit, Knows, peer_with}
 use Rattle.gs_router.specs.State.{Appends, Ends, IsCurrent, IsReady, Steps}
 
 -- ---- rules
@@ -164,7 +162,7 @@ follows_tells at event (OneOf n rule) x tells follows = follows_tells at event (
 -- ---- what a router knows
 
 -- it knows its own trace
-pub knows : (s : State) (now : ℕ) → IsCurrent s → last_moment s.trace ≤ now → Knows s now s.trace
+pub knows : (s : State) (now : ℕ) → IsCurrent s → last_moment s.trace ≤ now → Knows s.known now s.trace
 knows s now current time = record { agrees = current.agrees; scores = current.scores; made = current.made; time = time }
 
 -- ---- steps
@@ -204,9 +202,7 @@ module _ (m : Mode) (weakens : Weakens m free (λ u. tt)) where
             agrees = subst (λ (L : Entries). Agrees b.known.tables L) (sym added) (agrees a.trace current.agrees);
             scores = subst₂ (λ (g : Setup) (L : Entries). AgreesOnScores (peer_with g) b.known.tables.standings L) (sym setup) (sym added) (scores (peer_with a.known.setup) a.trace current.scores);
             made = subst (λ (g : Setup). AreMadeFor b.known.tables (peer_with g)) (sym setup) (made (peer_with a.known.setup) current.made);
-            ascending = subst (λ (g : Setup). IsAscending (peers_of g.neighbours.items)) (sym setup) current.ascending;
-            ticks = subst (λ (g : Setup). 1 ≤ g.params.windows.opportunistic_ticks) (sym setup) current.ticks;
-            room = subst (λ (g : Setup). g.params.degrees.d_score + g.params.degrees.d_out ≤ g.params.degrees.d) (sym setup) current.room;
+            fit = subst IsFit (sym setup) current.fit;
           };
           kept = tt;
           setup = setup;
@@ -373,7 +369,7 @@ module _ (m : Mode) {A E : Type 0} where
   }
 
   -- memory was wanting for what is owed
-  pub pays_some : (now : Millis) (event : Event) (left : List Event) (groups : List Group) (a b c : State) (s t u : m.State) (done : Result A E) → IsErr done → Paying m now event a s b t left groups → c.trace ≡ b.trace → c.setup ≡ b.known.setup → Ends m event now a s done c u
+  pub pays_some : (now : Millis) (event : Event) (left : List Event) (groups : List Group) (a b c : State) (s t u : m.State) (done : Result A E) → IsErr done → Paying m now event a s b t left groups → c.trace ≡ b.trace → c.known.setup ≡ b.known.setup → Ends m event now a s done c u
   pays_some now event left groups a b c s t u (Ok x) fails h kept setup = absurd cc
   pays_some now event left groups a b c s t u (Err e) fails h kept setup = record {
     opened = tt;

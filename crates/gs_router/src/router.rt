@@ -25,7 +25,7 @@ use crate::wish::Wish;
 use bytes::Bytes;
 use gs_base::{Millis, Neighbour, PeerNo, Rpc, Topic};
 use gs_cache::Payloads;
-use gs_entries::{Event, Refusal, Trace};
+use gs_rules::{Event, Refusal, Trace};
 use gs_params::{Params, Words};
 use std::alloc::{AllocError, Global};
 use std::marker::Model;

@@ -21,7 +21,7 @@ use gs_base::{
     Control, Graft, IHave, IWant, Message, Millis, PeerNo, Prune, Rpc, Shared, SubOpt, clone_of,
 };
 use gs_cache::Payloads;
-use gs_entries::{Entry, Event, Trace};
+use gs_rules::{Entry, Event, Trace};
 use gs_params::Words;
 use std::alloc::AllocError;
 

@@ -43,7 +43,7 @@ pub fn entry_of<W: Words>(
         return counted(known.alloc, from, offer, now);
     }
     let ids = wanted(known, offer.get().ids.as_slice(), budget.ids, now)?;
-    ask(known, Wanted { from, offer, ids }, now, words)
+    ask(known, WantedOffer { from, offer, ids }, now, words)
 }
 
 /// The entry of an offer that counts, without more.
@@ -128,7 +128,7 @@ fn listed(alloc: Global, ids: &[Bytes]) -> Result<Seq<Bytes>, AllocError>
 
 /// An offer of which these identifiers are wanted.
 #[derive(Drop)]
-pub struct Wanted {
+pub struct WantedOffer {
     from: PeerNo,
     offer: Shared<IHave>,
     ids: Seq<Bytes>,
@@ -137,7 +137,7 @@ pub struct Wanted {
 /// The entry of an offer of which something may be wanted.
 fn ask<W: Words>(
     known: &Known,
-    wanted: Wanted,
+    wanted: WantedOffer,
     now: Millis,
     words: &mut W,
 ) -> Result<Entry, AllocError>
@@ -155,14 +155,14 @@ fn ask<W: Words>(
 }
 
 /// The entry of an offer of which something is wanted, where the identifier at this place is promised.
-fn asking(known: &Known, wanted: Wanted, place: usize, now: Millis) -> Result<Entry, AllocError>
+fn asking(known: &Known, wanted: WantedOffer, place: usize, now: Millis) -> Result<Entry, AllocError>
     requires few { length wanted.ids ≤ most_identifiers }
     requires below { place < length wanted.ids }
     requires long { HasIdentifierLength (get_or wanted.ids place []) }
     ensures { IfOk result (λ entry. entry
         ≡ asking (peer_with known.now.setup) now wanted.from wanted.offer wanted.ids place) }
 {
-    let Wanted { from, offer, ids } = wanted;
+    let WantedOffer { from, offer, ids } = wanted;
     let alloc = known.alloc;
     let followup = known.setup.params.windows.iwant_followup_ms;
     let promise = Promise {

@@ -8,7 +8,7 @@ ghost use Rattle.gs_router.specs.Router.{meshes_of, scores_of};
 use crate::router::Router;
 use crate::state::State;
 use gs_base::{Millis, PeerNo, Seq, Topic};
-use gs_entries::Trace;
+use gs_rules::Trace;
 use std::alloc::AllocError;
 
 impl Router {

@@ -15,7 +15,7 @@ ghost use Rattle.gs_router.specs.State.{Ends, IsCurrent, IsDue, IsReady, Steps, 
 
 use crate::state::State;
 use gs_base::{Millis, Topic, clone_of};
-use gs_entries::Event;
+use gs_rules::Event;
 use gs_params::Words;
 use std::alloc::AllocError;
 

@@ -6,6 +6,6 @@ use Rattle.gs_router.proofs.entries.maintenance.members_of.Given as goal
 
 abbrev pub invariant-loop-peer : goal.invariant-loop-peer
 invariant-loop-peer l =
-    (L : Entries) → Knows l.state l.now.0 L
+    (L : Entries) → Knows l.known l.now.0 L
     → l.members.items ++ members_of (peer_with l.known.setup) L l.now.0 (drop l.peer-index l.peers)
     ≡ members_of (peer_with l.known.setup) L l.now.0 l.peers

@@ -7,6 +7,6 @@ use Rattle.gs_router.proofs.entries.membership.charge.Given as goal
 
 abbrev pub invariant-loop-pair : goal.invariant-loop-pair
 invariant-loop-pair l =
-    (L : Entries) → Knows l.state l.now.0 L
+    (L : Entries) → Knows l.known l.now.0 L
     → l.marks ++ flat_map (charge_of (peer_with l.known.setup) L l.now.0) (drop l.pair-index l.pairs)
     ≡ l.initial.marks ++ flat_map (charge_of (peer_with l.known.setup) L l.now.0) l.pairs

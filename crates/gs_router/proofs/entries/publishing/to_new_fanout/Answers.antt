@@ -1,11 +1,12 @@
-use Rattle.std.proofs.Common.{◌≡◌, ◌∙◌, List, true, refl, sym, ap, ap₂, subst}
+use Rattle.std.proofs.Common.{◌≡◌, ◌∙◌, List, refl, sym, ap, subst}
 use Rattle.gs_base.specs.declared.names.PeerNo.{PeerNo}
 use Rattle.gs_params.specs.Picks.{IsAscending}
 use Rattle.gs_rules.specs.MeshRules.{publishing}
 use Rattle.gs_rules.specs.Modes.{IsPick}
 use Rattle.gs_rules.specs.Rules.{listeners}
 use Rattle.gs_rules.specs.Scoring.{is_passed_over}
-use Rattle.gs_router.specs.Meshes.{kept_fanout}
+use Rattle.gs_router.specs.declared.entries.publishing.FanoutUse.TheVariants.{Filled}
+use Rattle.gs_router.specs.Meshes.{kept_by}
 use Rattle.gs_router.specs.Known.{peer_with}
 use Rattle.gs_router.proofs.Choosing.{listeners_ascend, without_ascend}
 use Rattle.gs_router.proofs.entries.publishing.to_new_fanout.Goals as goal
@@ -26,5 +27,5 @@ returns g c = λ L knows.
     let one = c.in_ok-chosen.chosen.items in
     let ascend = subst IsAscending (sym are) (without_ascend (is_passed_over p L c.args.now.0) (listeners p L t) (listeners_ascend p L t c.requires.fit.ascending)) in
     let picks = subst (λ (qs : List PeerNo). IsPick g.W.Words.word g.W.Words.after c.args.known.now.setup.params.degrees.d qs c.args.words.now one c.pick.new.words) are (record { ascending = ascend; chosen_are = c.in_ok-chosen.ensures.picked; words = c.in_ok-chosen.ensures.words }) in
-    let sent = c.in_ok-entry.ensures L knows ∙ ap₂ (λ (qs rs : List PeerNo). publishing L c.args.now t c.args.publishing.payload qs rs (kept_fanout true t)) c.deref-2.ensures.value c.deref-3.ensures.value in
+    let sent = c.in_ok-entry.ensures L knows ∙ ap (λ (qs : List PeerNo). publishing L c.args.now t c.args.publishing.payload qs qs (kept_by Filled t)) c.deref-2.ensures.value in
     (one, c.pick.new.words, picks, (sent, refl))

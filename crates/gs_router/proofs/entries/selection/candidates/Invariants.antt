@@ -7,6 +7,6 @@ use Rattle.gs_router.proofs.entries.selection.candidates.Given as goal
 
 abbrev pub invariant-loop-neighbour : goal.invariant-loop-neighbour
 invariant-loop-neighbour l =
-    (L : Entries) → Knows l.state l.now.0 L
+    (L : Entries) → Knows l.known l.now.0 L
     → l.found.items ++ filter (is_candidate (peer_with l.known.setup) L l.now.0 l.topic) (peers_of (drop l.neighbour-index l.neighbour-items))
     ≡ filter (is_candidate (peer_with l.known.setup) L l.now.0 l.topic) (peers_of l.neighbour-items)

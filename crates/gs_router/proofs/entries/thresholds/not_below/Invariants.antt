@@ -8,6 +8,6 @@ use Rattle.gs_router.proofs.entries.thresholds.not_below.Given as goal
 
 abbrev pub invariant-loop-peer : goal.invariant-loop-peer
 invariant-loop-peer l =
-    (L : Entries) → Knows l.state l.now.0 L
+    (L : Entries) → Knows l.known l.now.0 L
     → l.found.items ++ without (λ (q : PeerNo). is_below l.threshold (score (peer_with l.known.setup) L l.now.0 q)) (drop l.peer-index l.peers)
     ≡ without (λ (q : PeerNo). is_below l.threshold (score (peer_with l.known.setup) L l.now.0 q)) l.peers

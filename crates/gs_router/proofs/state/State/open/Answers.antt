@@ -4,8 +4,8 @@ use Rattle.gs_router.specs.Known.{peer_with}
 use Rattle.gs_router.proofs.Steps.{next_opens, opens_alone}
 use Rattle.gs_router.proofs.state.State.open.Goals as goal
 
-pub step-requires : goal.step-requires
-step-requires g c =
+pub step_with-requires : goal.step_with-requires
+step_with-requires g c =
     let a = c.args.self.now in
     record {
       current = c.requires.ready.current;
@@ -14,4 +14,4 @@ step-requires g c =
     }
 
 pub returns : goal.returns
-returns g c = opens_alone (exact g.W.Words.word g.W.Words.after) (exact_is_free g.W.Words.word g.W.Words.after) c.args.event c.args.now c.args.self.now c.step.new.self c.args.words.now c.step.new.words c.step.result c.requires.ready c.requires.alone c.step.ensures
+returns g c = opens_alone (exact g.W.Words.word g.W.Words.after) (exact_is_free g.W.Words.word g.W.Words.after) c.args.event c.args.now c.args.self.now c.step_with.new.self c.args.words.now c.step_with.new.words c.step_with.result c.requires.ready c.requires.alone c.step_with.ensures
