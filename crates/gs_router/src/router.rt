@@ -25,8 +25,8 @@ use crate::wish::Wish;
 use bytes::Bytes;
 use gs_base::{Millis, Neighbour, PeerNo, Rpc, Topic};
 use gs_cache::Payloads;
-use gs_rules::{Event, Refusal, Trace};
 use gs_params::{Params, Words};
+use gs_rules::{Event, Refusal, Trace};
 use std::alloc::{AllocError, Global};
 use std::marker::Model;
 

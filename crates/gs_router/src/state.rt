@@ -21,8 +21,8 @@ use gs_base::{
     Control, Graft, IHave, IWant, Message, Millis, PeerNo, Prune, Rpc, Shared, SubOpt, clone_of,
 };
 use gs_cache::Payloads;
-use gs_rules::{Entry, Event, Trace};
 use gs_params::Words;
+use gs_rules::{Entry, Event, Trace};
 use std::alloc::AllocError;
 
 /// What is given of a router, what it did, and what that says.

@@ -230,21 +230,26 @@ fn passed_on(
     Ok(sends)
 }
 
-/// The entry of a message that is accepted.
-fn accepting(
-    known: &Known,
+/// A message that is accepted, with its identifier.
+#[derive(Drop)]
+pub struct AcceptedMessage {
     from: PeerNo,
     message: Shared<Message>,
     id: MsgId,
+}
+
+/// The entry of a message that is accepted, where these are in the mesh of its topic.
+fn accepting(
+    alloc: Global,
+    accepted_message: AcceptedMessage,
+    members: &[PeerNo],
     now: Millis,
 ) -> Result<Entry, AllocError>
-    ensures { IfOk result (λ entry. (L : Entries)
-        → Agrees known.now.tables L
-        → entry ≡ message_entry (mesh L (topic_of message)) now from message (Accepted id)) }
+    ensures { IfOk result (λ entry. entry
+        ≡ message_entry members.now now accepted_message.from accepted_message.message (Accepted accepted_message.id)) }
 {
-    let alloc = known.alloc;
+    let AcceptedMessage { from, message, id } = accepted_message;
     let told = message.get();
-    let members = members_of(known, &told.topic);
     let delivery = (told.topic_or_empty()?, told.payload_or_empty()?);
     let sends = passed_on(alloc, from, told, members)?;
     let marks = accepted(alloc, from, id, told, members.contains(&from))?;
@@ -296,7 +301,9 @@ fn entry_with(
             })
         }
         Outcome::Accepted(id) => {
-            let entry = accepting(known, from, message, id, now)?;
+            let members = members_of(known, &message.get().topic);
+            let accepted_message = AcceptedMessage { from, message, id };
+            let entry = accepting(alloc, accepted_message, members, now)?;
             Ok(entry)
         }
     }

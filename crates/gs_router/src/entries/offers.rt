@@ -155,7 +155,12 @@ fn ask<W: Words>(
 }
 
 /// The entry of an offer of which something is wanted, where the identifier at this place is promised.
-fn asking(known: &Known, wanted: WantedOffer, place: usize, now: Millis) -> Result<Entry, AllocError>
+fn asking(
+    known: &Known,
+    wanted: WantedOffer,
+    place: usize,
+    now: Millis,
+) -> Result<Entry, AllocError>
     requires few { length wanted.ids ≤ most_identifiers }
     requires below { place < length wanted.ids }
     requires long { HasIdentifierLength (get_or wanted.ids place []) }

@@ -84,9 +84,12 @@ fn joining(known: &Known, topic: Topic, chosen: &[PeerNo], now: Millis) -> Resul
     membership::enter(&mut marks, pairs.as_slice())?;
     membership::unfan(&mut marks, &topic, known.tables.memberships.fanout(&topic))?;
     Ok(Entry {
+        at: now,
+        event: Event::Subscribe(topic),
         sends,
+        delivered: Seq::new(known.alloc),
+        promise: None,
         marks,
-        ..bare(known.alloc, now, Event::Subscribe(topic))
     })
 }
 

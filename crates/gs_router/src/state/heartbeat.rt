@@ -15,8 +15,8 @@ ghost use Rattle.gs_router.specs.State.{Ends, IsCurrent, IsDue, IsReady, Steps, 
 
 use crate::state::State;
 use gs_base::{Millis, Topic, clone_of};
-use gs_rules::Event;
 use gs_params::Words;
+use gs_rules::Event;
 use std::alloc::AllocError;
 
 /// A fanout whose turn comes in a heartbeat.
