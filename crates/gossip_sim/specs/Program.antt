@@ -4,7 +4,7 @@ use Rattle.std.specs.Io.KnownBytes.{Appends, IsAtEnd, Keeps}
 use Rattle.gs_scenario.specs.declared.fault.ScenarioFault.{ScenarioFault}
 use Rattle.gs_scenario.specs.declared.fault.ScenarioFault.TheVariants.{NoMemory}
 use Rattle.gs_base.specs.declared.names.PeerNo.{PeerNo}
-use Rattle.gs_params.specs.declared.plan.Plan.{Plan}
+use Rattle.gs_plan.specs.declared.plan.Plan.{Plan}
 use Rattle.gs_workers.specs.declared.fault.NetFault.{NetFault}
 use Rattle.gs_workers.specs.declared.fault.NetFault.TheVariants as faults
 use Rattle.gs_report.specs.declared.report.Report.{Report}

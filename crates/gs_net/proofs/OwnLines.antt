@@ -7,7 +7,7 @@ use Rattle.std.proofs.lemmas.List.{drop_more}
 use Rattle.std.proofs.lemmas.List.Elements.{filter-append}
 use Rattle.gs_base.specs.declared.names.PeerNo.{PeerNo}
 use Rattle.gs_base.specs.Names.{same_peer}
-use Rattle.gs_params.specs.declared.plan.Line.{Line}
+use Rattle.gs_plan.specs.declared.plan.Line.{Line}
 use Rattle.gs_net.specs.Rounds.{is_for}
 
 -- those of a script's lines that a peer follows, where the first stands at this place

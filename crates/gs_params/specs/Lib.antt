@@ -3,4 +3,3 @@ pub mod Params
 pub mod Picks
 pub mod Cuts
 pub mod Seeding
-pub mod Plans

@@ -19,7 +19,7 @@ use crate::scenario::tables::TableKind;
 use crate::scenario::topics::{TopicEntry, topic_of};
 use crate::words::{PUBLISH, SUBSCRIBE, UNSUBSCRIBE};
 use gs_base::Seq;
-use gs_params::{Line, MOST_PEERS, PlannedPeer, What};
+use gs_plan::{Line, MOST_PEERS, PlannedPeer, What};
 use std::alloc::Global;
 use toml::Value;
 
