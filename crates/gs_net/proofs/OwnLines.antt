@@ -1,7 +1,7 @@
 -- The lines of a script that a peer follows, one after the other.
 use Rattle.std.proofs.Common.{◌≡◌, ◌≢◌, ℕ, ◌+◌, ◌<◌, Bool, true, false, List, [], ◌∷◌, ◌++◌, cond, length, drop, get_or, filter, refl, sym, ap, ◌∙◌, append_assoc, append-nil, true≢false}
 use Rattle.std.proofs.lemmas.Bool.Decides.{Decides-eqb}
-use Rattle.gs_params.proofs.PeerLists.{same_peer_decides}
+use Rattle.gs_params.proofs.Picking.{same_peer_decides}
 use Rattle.std.specs.List.{enumerate_from}
 use Rattle.std.proofs.lemmas.List.{drop_more}
 use Rattle.std.proofs.lemmas.List.Elements.{filter-append}

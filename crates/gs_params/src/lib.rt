@@ -2,7 +2,6 @@
 #![tactic(auto)]
 
 mod checks;
-mod cuts;
 mod param_fault;
 mod parameter;
 mod params;
@@ -13,7 +12,6 @@ mod topic_params;
 mod words;
 
 pub use checks::{Check, CountRule, ScoreRule};
-pub use cuts::{Member, a_cut_by_words_is_a_cut};
 pub use param_fault::ParamFault;
 pub use parameter::{Parameter, TopicParameter};
 pub use params::{

@@ -14,8 +14,8 @@ use crate::rules::subscriptions::{left_of, those_among, those_outside};
 use crate::rules::{bare, membership, send_to_each, to_each};
 use crate::state::State;
 use gs_base::{Mark, Millis, PeerNo, Seq, Topic};
-use gs_mesh::{Choice, choose_heartbeat};
-use gs_params::{Member, Words, pick};
+use gs_mesh::{Choice, Member, choose_heartbeat};
+use gs_params::{Words, pick};
 use gs_rules::{Entry, Event};
 use std::alloc::AllocError;
 
