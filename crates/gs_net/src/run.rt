@@ -4,6 +4,7 @@ ghost use Rattle.gs_plan.specs.Plans.{IsInRange};
 ghost use Rattle.gs_net.specs.Reports.{IsReport};
 
 use crate::driving::run_tasks;
+use crate::fault::NetFault;
 use crate::lines::lines_by_peer;
 use crate::lives::lives_of;
 use crate::tasks::Builder;
@@ -11,7 +12,7 @@ use gs_dials::{settle_all, wire_all};
 use gs_peer::Gate;
 use gs_plan::Plan;
 use gs_report::Report;
-use gs_workers::{NetFault, StopFlag};
+use gs_workers::StopFlag;
 use std::alloc::{AllocError, AllocGlobal, Global};
 use std::random::RandomSource;
 use std::sync::{Arc, Wait};

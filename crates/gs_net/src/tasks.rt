@@ -9,6 +9,7 @@ ghost use Rattle.gs_dials.specs.Places.{list_at};
 ghost use Rattle.gs_net.specs.Rounds.{first_words, lines_in, neighbours_in, numbers, words_of};
 ghost use Rattle.gs_net.specs.Tasks.{AreUsable, IsAssignedIn, IsTask, IsTaskFor, new_router};
 
+use crate::fault::NetFault;
 use crate::lists::take_list;
 use crate::neighbours::neighbours_of;
 use gs_base::{Neighbour, PeerNo, clone_of};
@@ -18,7 +19,7 @@ use gs_params::SeededWords;
 use gs_peer::{Agenda, Assignment, Gate, PeerTask, Surroundings};
 use gs_plan::{Line, Plan};
 use gs_router::Router;
-use gs_workers::{NetFault, StopFlag};
+use gs_workers::StopFlag;
 use std::alloc::{AllocError, Global};
 use std::sync::{Arc, Wait};
 
