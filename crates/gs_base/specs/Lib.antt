@@ -1,3 +1,4 @@
 pub mod Names
+pub mod Rpcs
 pub mod Codecs
 pub mod Tokens

@@ -1,5 +1,5 @@
 -- When names are the same, what an absent one stands for, and what messages are known by.
-use Rattle.std.specs.Prelude.{ℕ, Bool, nat_eq, ◌||◌, List, [], ◌∷◌, map, Option, Some, None, is_some, unwrap_or}
+use Rattle.std.specs.Prelude.{◌≡◌, ℕ, Bool, nat_eq, ◌||◌, if◌then◌else◌, List, [], length, map, Option, Some, None, is_some, unwrap_or}
 use Rattle.std.specs.Cmp.Lexicographic.{pointwise}
 use Rattle.sha2.specs.Sha256.{sha256}
 use Rattle.gs_base.specs.declared.names.PeerNo.{PeerNo}
@@ -7,7 +7,6 @@ use Rattle.gs_base.specs.declared.names.Topic.{Topic}
 use Rattle.gs_base.specs.declared.names.MsgId.{MsgId}
 use Rattle.gs_base.specs.declared.neighbour.Neighbour.{Neighbour}
 use Rattle.gs_base.specs.declared.rpc.Message.{Message}
-use Rattle.gs_base.specs.declared.rpc.Rpc.{Rpc}
 
 abbrev pub same_peer : PeerNo → PeerNo → Bool
 same_peer p q = nat_eq p.0 q.0
@@ -42,6 +41,14 @@ topic_of m = topic_or_empty m.topic
 abbrev pub payload_of : Message → List ℕ
 payload_of m = unwrap_or m.payload []
 
+-- as long as the identifier of a message
+abbrev pub HasIdentifierLength : List ℕ → Type 0
+HasIdentifierLength bytes = length bytes ≡ 32
+
+-- the identifier that these bytes are, if they have its length
+abbrev pub id_of : List ℕ → Option MsgId
+id_of bytes = if nat_eq (length bytes) 32 then Some (record { 0 = bytes }) else None
+
 -- the identifier of a message is the SHA-256 of its payload
 unfoldable pub message_id : List ℕ → MsgId
 message_id payload = record { 0 = sha256 payload }
@@ -50,21 +57,3 @@ message_id payload = record { 0 = sha256 payload }
 -- (libp2p pubsub, "Signature Policy Options")
 abbrev pub is_signed : Message → Bool
 is_signed m = is_some m.origin || (is_some m.seqno || (is_some m.signature || is_some m.key))
-
--- an RPC that says that its sender subscribes to the topic, or leaves it
-abbrev pub announcement : Bool → Topic → Rpc
-announcement subscribes topic = record {
-  subs = record { subscribe = Some subscribes; topic = Some topic } ∷ [];
-  publish = [];
-  control = None;
-}
-
--- an RPC that publishes one message under StrictNoSign
-abbrev pub publication : Topic → List ℕ → Rpc
-publication topic payload = record {
-  subs = [];
-  publish
-      = record { origin = None; payload = Some payload; seqno = None; topic = Some topic; signature = None; key = None }
-      ∷ [];
-  control = None;
-}

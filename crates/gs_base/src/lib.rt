@@ -18,7 +18,7 @@ pub use exact::{ExactClone, clone_of, clone_option};
 pub use mark::Mark;
 pub use names::{LONGEST_TOPIC, MOST_TOPICS, Millis, MsgId, PeerNo, Topic, limits_of_topics};
 pub use neighbour::Neighbour;
-pub use rpc::{Message, Rpc, SubOpt};
+pub use rpc::{LONGEST_BACKOFF, MOST_IDENTIFIERS, Message, Rpc, SubOpt, limits_of_rpcs};
 pub use seq::Seq;
 pub use shared::Shared;
 pub use text::Text;

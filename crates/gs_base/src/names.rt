@@ -1,6 +1,6 @@
 //! Names of peers, topics and messages, and moments.
 ghost use Rattle.std.specs.Prelude.{◌≡◌, IfOk};
-ghost use Rattle.gs_base.specs.Names.{longest_topic, message_id, most_topics, topic_or_empty};
+ghost use Rattle.gs_base.specs.Names.{HasIdentifierLength, id_of, longest_topic, message_id, most_topics, topic_or_empty};
 
 use crate::exact::{ExactClone, clone_of};
 use bytes::Bytes;
@@ -63,6 +63,9 @@ pub const LONGEST_TOPIC: usize = 1_024;
 /// How many topics a peer may ever be subscribed to.
 pub const MOST_TOPICS: usize = 1_024;
 
+/// The length of an identifier, in bytes.
+const ID_LENGTH: usize = 32;
+
 /// The identifier of a message: the SHA-256 of its payload.
 #[derive(Clone, Copy, Debug, PartialEq, Eq, PartialOrd, Ord)]
 pub struct MsgId(pub [u8; 32]);
@@ -87,6 +90,26 @@ impl MsgId {
         ensures { result ≡ message_id payload.now }
     {
         MsgId(Sha256::digest(payload))
+    }
+
+    /// The identifier that these bytes are, if they have its length, 32.
+    pub fn from_bytes(bytes: &[u8]) -> Option<MsgId>
+        ensures { result ≡ id_of bytes.now }
+    {
+        if bytes.len() != ID_LENGTH {
+            return None;
+        }
+        Some(MsgId::from_exact(bytes))
+    }
+
+    /// The identifier that these bytes are, which have its length.
+    pub fn from_exact(bytes: &[u8]) -> MsgId
+        requires { HasIdentifierLength bytes.now }
+        ensures { result.0 ≡ bytes.now }
+    {
+        let mut id = [0; ID_LENGTH];
+        id.copy_from_slice(bytes);
+        MsgId(id)
     }
 }
 

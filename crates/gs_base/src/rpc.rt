@@ -1,13 +1,16 @@
 //! What two peers send each other: the messages of gossipsub's `rpc.proto`.
 ghost use Rattle.std.specs.Prelude.{◌≡◌, IfOk};
-ghost use Rattle.gs_base.specs.Names.{announcement, is_signed, payload_of, publication, topic_of, topic_or_empty};
+ghost use Rattle.gs_base.specs.Names.{is_signed, payload_of, topic_of, topic_or_empty};
+
+mod sent;
 
 use crate::control::Control;
 use crate::exact::{ExactClone, clone_of, clone_option};
 use crate::names::Topic;
 use crate::seq::Seq;
 use bytes::Bytes;
-use std::alloc::{AllocError, Global};
+pub use sent::{LONGEST_BACKOFF, MOST_IDENTIFIERS, limits_of_rpcs};
+use std::alloc::AllocError;
 
 /// A change of a subscription (`RPC.SubOpts`).
 #[derive(Debug, Drop, PartialEq, Eq)]
@@ -152,46 +155,4 @@ impl Clone for Rpc {
 
 impl ExactClone for Rpc {
     ghost exact = { λ source copy same. same };
-}
-
-impl Rpc {
-    /// An RPC that says that its sender subscribes to a topic or leaves it.
-    ///
-    /// # Errors
-    /// `AllocError` where there was no memory for it.
-    pub fn announcement(alloc: Global, subscribes: bool, topic: &Topic) -> Result<Rpc, AllocError>
-        ensures { IfOk result (λ rpc. rpc ≡ announcement subscribes topic.now) }
-    {
-        let sub = SubOpt {
-            subscribe: Some(subscribes),
-            topic: Some(clone_of(topic)?),
-        };
-        Ok(Rpc {
-            subs: Seq::only(alloc, sub)?,
-            publish: Seq::new(alloc),
-            control: None,
-        })
-    }
-
-    /// An RPC that publishes one message under StrictNoSign.
-    ///
-    /// # Errors
-    /// `AllocError` where there was no memory for it.
-    pub fn publication(alloc: Global, topic: &Topic, payload: &Bytes) -> Result<Rpc, AllocError>
-        ensures { IfOk result (λ rpc. rpc ≡ publication topic.now payload.now) }
-    {
-        let message = Message {
-            origin: None,
-            payload: Some(clone_of(payload)?),
-            seqno: None,
-            topic: Some(clone_of(topic)?),
-            signature: None,
-            key: None,
-        };
-        Ok(Rpc {
-            subs: Seq::new(alloc),
-            publish: Seq::only(alloc, message)?,
-            control: None,
-        })
-    }
 }

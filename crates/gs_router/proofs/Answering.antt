@@ -14,11 +14,11 @@ use Rattle.gs_base.specs.declared.rpc.Rpc.{Rpc}
 use Rattle.gs_base.specs.declared.mark.Mark.{Mark}
 use Rattle.gs_base.specs.declared.mark.Mark.TheVariants as marks
 use Rattle.gs_base.specs.Names.{same_id}
-use Rattle.gs_wire.specs.Messages.{passed_on}
+use Rattle.gs_base.specs.Rpcs.{passed_on}
 use Rattle.gs_rules.specs.Peers.{Peer, windows}
 use Rattle.gs_rules.specs.Tables.{Entries, Keeping, answered, kept}
 use Rattle.gs_rules.specs.Rules.{answer, answers, times_in, with_message}
-use Rattle.gs_router.specs.declared.rules.requests.Reply.{Reply}
+use Rattle.gs_router.specs.declared.entries.requests.Reply.{Reply}
 use Rattle.gs_router.specs.Tables.{answers_left, left_of}
 use Rattle.gs_router.specs.Offers.{left_now}
 use Rattle.gs_router.specs.Requests.{Gives, Replies}

@@ -6,7 +6,8 @@ use Rattle.gs_base.specs.declared.names.Millis.{Millis}
 use Rattle.gs_base.specs.declared.names.PeerNo.{PeerNo}
 use Rattle.gs_base.specs.declared.names.Topic.{Topic}
 use Rattle.gs_base.specs.declared.rpc.Rpc.{Rpc}
-use Rattle.gs_base.specs.Names.{longest_topic, message_id, publication}
+use Rattle.gs_base.specs.Names.{longest_topic, message_id}
+use Rattle.gs_base.specs.Rpcs.{publication}
 use Rattle.gs_wire.specs.Codec.{codec}
 use Rattle.gs_rules.specs.declared.trace.Event.{Event}
 use Rattle.gs_rules.specs.declared.trace.Event.TheVariants.{Heard, Late, Subscribe, Unsubscribe, Publish, Promises, Decay, RoundEnd, Gone, Fault, Shut}
@@ -22,8 +23,12 @@ use Rattle.gs_router.specs.declared.setup.Setup.{Setup}
 use Rattle.gs_router.specs.declared.state.State.{State}
 use Rattle.gs_router.specs.declared.fault.RouterFault.{RouterFault}
 use Rattle.gs_router.specs.declared.fault.RouterFault.TheVariants.{Refused, NoMemory}
-use Rattle.gs_router.specs.State.{Ends, peer_with}
-use Rattle.gs_router.specs.Router.{RouterView, Calls, IsLoss, IsUsers, answer_of, fails, refusal_if, refusal_of, view_of}
+use Rattle.gs_router.specs.Known.{peer_with}
+use Rattle.gs_router.specs.declared.wish.Wish.{Wish}
+use Rattle.gs_router.specs.declared.wish.Wish.TheVariants as wishes
+use Rattle.gs_router.specs.Wishes.{wished}
+use Rattle.gs_router.specs.State.{Ends}
+use Rattle.gs_router.specs.Router.{RouterView, Calls, IsLoss, answer_of, fails, refusal_if, refusal_of, view_of}
 
 -- what a router that goes on refuses
 going : (v : RouterView) (at : ℕ) (event : Option Event) → v.is_stopped ≡ false → refusal_of v at event ≡ refusal_if v.peer v.trace at event
@@ -60,7 +65,7 @@ idles m now v s q event runs down legal = subst (λ (o : Option Event). Calls {A
 
 module _ (m : Mode) {E : Type 0} (event : Event) (now : Millis) (a b : State) (s t : m.State) (stopped after : Bool) (runs : stopped ≡ false) where
   -- what is not refused is done, or memory was wanting
-  pub ends_call : (done : Result (Unit {0}) E) (answer : Result (Unit {0}) RouterFault) → answer ≡ answer_of done → after ≡ (stopped || fails done) → refusal (peer_with a.setup) a.trace now.0 event ≡ None → Ends m event now a s done b t → Calls m (Some event) now (view_of a stopped) s answer (view_of b after) t
+  pub ends_call : (done : Result (Unit {0}) E) (answer : Result (Unit {0}) RouterFault) → answer ≡ answer_of done → after ≡ (stopped || fails done) → refusal (peer_with a.known.setup) a.trace now.0 event ≡ None → Ends m event now a s done b t → Calls m (Some event) now (view_of a stopped) s answer (view_of b after) t
   ends_call done answer answer_is after_is free ends =
       subst (λ (one : Result (Unit {0}) RouterFault). Calls m (Some event) now (view_of a stopped) s one (view_of b after) t) (sym answer_is) (by done after_is ends)
     where
@@ -125,30 +130,33 @@ may_unsubscribe p L at t free =
     let h = none_holds (reasons p L at (Unsubscribe t)) free in
     record { running = h.0; joined = is_not (joined L t) h.1.0 }
 
-pub may_publish : (p : Peer) (L : Entries) (at : ℕ) (t : Topic) (payload : List ℕ) → refusal p L at (Publish t payload) ≡ None → MayPublish p L at t payload
+may_publish : (p : Peer) (L : Entries) (at : ℕ) (t : Topic) (payload : List ℕ) → refusal p L at (Publish t payload) ≡ None → MayPublish p L at t payload
 may_publish p L at t payload free =
     let h = none_holds (reasons p L at (Publish t payload)) free in
     let short = neither (is_long t) (codec.fits (publication t payload)) h.1.0 in
     record { running = h.0; short = is_short t short.0; fits = short.1; unseen = is_unseen (seen (seen_ttl p) L (message_id payload) at) h.1.1.0 }
 
 -- what its user wishes may come where it is not refused
-pub may_open : (p : Peer) (L : Entries) (at : ℕ) (event : Event) → IsUsers event → refusal p L at event ≡ None → MayOpen p L at event
-may_open p L at (Subscribe t) own free = may_subscribe p L at t free
-may_open p L at (Unsubscribe t) own free = may_unsubscribe p L at t free
-may_open p L at Decay own free = (none_holds (reasons p L at Decay) free).0
-may_open p L at (RoundEnd r) own free = (none_holds (reasons p L at (RoundEnd r)) free).0
-may_open p L at Shut own free = (none_holds (reasons p L at Shut) free).0
-may_open p L at other own free = absurd own
+pub may_come_true : (p : Peer) (L : Entries) (at : ℕ) (wish : Wish) → refusal p L at (wished wish) ≡ None → MayOpen p L at (wished wish)
+may_come_true p L at (wishes.Subscribe t) free = may_subscribe p L at t free
+may_come_true p L at (wishes.Unsubscribe t) free = may_unsubscribe p L at t free
+may_come_true p L at (wishes.Publish t payload) free = may_publish p L at t payload free
+may_come_true p L at wishes.Decay free = (none_holds (reasons p L at Decay) free).0
+may_come_true p L at (wishes.EndRound r) free = (none_holds (reasons p L at (RoundEnd r)) free).0
+may_come_true p L at wishes.Shut free = (none_holds (reasons p L at Shut) free).0
 
 -- a heartbeat may come where it is not refused
 pub may_beat : (p : Peer) (L : Entries) (at : ℕ) → refusal p L at Promises ≡ None → MayOpen p L at Promises
 may_beat p L at free = (none_holds (reasons p L at Promises) free).0
 
 -- what its user wishes owes nothing
-pub owes_nothing : (p : Peer) (L : Entries) (at : ℕ) (event : Event) → IsUsers event → owes p L at event ≡ []
-owes_nothing p L at (Heard q rpc) own = absurd own
-owes_nothing p L at Promises own = absurd own
-owes_nothing p L at other own = refl
+pub owes_nothing : (p : Peer) (L : Entries) (at : ℕ) (wish : Wish) → owes p L at (wished wish) ≡ []
+owes_nothing p L at (wishes.Subscribe t) = refl
+owes_nothing p L at (wishes.Unsubscribe t) = refl
+owes_nothing p L at (wishes.Publish t payload) = refl
+owes_nothing p L at wishes.Decay = refl
+owes_nothing p L at (wishes.EndRound r) = refl
+owes_nothing p L at wishes.Shut = refl
 
 -- what comes of a neighbour is not refused
 pub hearing_free : (p : Peer) (L : Entries) (at : ℕ) (q : PeerNo) (rpc : Rpc) → refusal p L at (hearing L q rpc) ≡ None

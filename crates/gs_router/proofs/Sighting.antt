@@ -18,7 +18,7 @@ use Rattle.gs_cache.specs.Sightings as cache
 use Rattle.gs_rules.specs.declared.trace.Entry.{Entry}
 use Rattle.gs_rules.specs.Tables.{Entries, Sighting, after_marks, counting, last_moment, last_seen, seen, sighting_after}
 use Rattle.gs_rules.specs.Meshes.{noted, notes, sees}
-use Rattle.gs_rules.specs.Rules.{is_soon}
+use Rattle.gs_rules.specs.Outcomes.{is_soon}
 use Rattle.gs_router.specs.declared.tables.sightings.Sightings.{Sightings}
 use Rattle.gs_router.specs.Tables.{AgreesOnSightings, PassesOn, Sees, Told, still, telling, told, told_after, told_in, told_of, verdict_at}
 use Rattle.gs_router.proofs.Keeping.{marks_more}

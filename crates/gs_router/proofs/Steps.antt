@@ -28,11 +28,10 @@ use Rattle.gs_rules.specs.Membership.{candidates, each_on, entering, is_negative
 use Rattle.gs_rules.specs.MeshRules.{fanout_publish, graft_rule, is_full_for, left_by, prune_rule, pruned_by, publish_rule, publishing, refusing, sub_rule}
 use Rattle.gs_rules.specs.Scoring.{is_graylisted, is_ignored, is_passed_over}
 use Rattle.gs_rules.specs.Owed.{Debt, Group, PartsOf, events_in, heartbeat_groups, held_or, nothing, owed, owes, owing, paid, parts, reached}
-use Rattle.gs_params.specs.Picks.{IsAscending}
-use Rattle.gs_rules.specs.Rules.{Rule, Gives, AnyOf, CutOf, OneOf, answering, answers, asked_for, bare, counted, have_rule, ids_in, listeners, message_rule, new_message, rule_of, want_rule, wanted, without}
+use Rattle.gs_rules.specs.Rules.{Rule, Gives, AnyOf, CutOf, OneOf, answering, answers, asked_for, bare, counted, have_rule, ids_in, listeners, rule_of, want_rule, wanted, without}
+use Rattle.gs_rules.specs.Outcomes.{found_to_be, message_entry, message_rule}
 use Rattle.gs_rules.specs.Modes.{Mode, Follows, free}
 use Rattle.gs_rules.specs.Legal.{Legal, LegalOn, IsAllowed, IsNext, MayOpen, Begins}
-use Rattle.gs_base.specs.Names.{peers_of}
 use Rattle.gs_rules.proofs.Judged.{of_a_message}
 use Rattle.gs_rules.proofs.Owed.{owes_none}
 use Rattle.gs_rules.proofs.Legality.{Weakens, follows_weakly, legal_on, legal_one, legal_then, legal_weakly}
@@ -41,7 +40,8 @@ use Rattle.gs_router.specs.declared.state.State.{State}
 use Rattle.gs_router.specs.declared.tables.standings.Standings.{Standings}
 use Rattle.gs_router.specs.Tables.{Agrees, AgreesOnScores, AreMadeFor}
 use Rattle.gs_router.proofs.Maintaining.{of_stepped}
-use Rattle.gs_router.specs.State.{Appends, Ends, IsCurrent, IsReady, Knows, Steps, peer_with}
+use Rattle.gs_router.specs.Known.{IsFit, Knows, peer_with}
+use Rattle.gs_router.specs.State.{Appends, Ends, IsCurrent, IsReady, Steps}
 
 -- ---- rules
 
@@ -52,9 +52,9 @@ record Tells (at : Millis) (event : Event) (x : Entry) : Type 0 where
 
 message_tells : (p : Peer) (L : Entries) (at : Millis) (q : PeerNo) (m : Message) → Tells at (Msg q m) (message_rule p L at q m)
 message_tells p L at q m =
-    of_a_message (Tells at (Msg q m)) p L at q m (record { moment = refl; tells = refl }) (record { moment = refl; tells = refl }) (λ near. record { moment = refl; tells = refl }) (λ unseen. new_tells)
+    of_a_message (Tells at (Msg q m)) p L at q m (record { moment = refl; tells = refl }) (record { moment = refl; tells = refl }) (record { moment = refl; tells = refl }) (λ unseen. new_tells)
   where
-    new_tells : (v : Verdict) → Tells at (Msg q m) (new_message L at q m v)
+    new_tells : (v : Verdict) → Tells at (Msg q m) (message_entry (mesh L (topic_of m)) at q m (found_to_be (message_id (payload_of m)) v))
     new_tells Accept = record { moment = refl; tells = refl }
     new_tells Reject = record { moment = refl; tells = refl }
     new_tells Ignore = record { moment = refl; tells = refl }
@@ -162,7 +162,7 @@ follows_tells at event (OneOf n rule) x tells follows = follows_tells at event (
 -- ---- what a router knows
 
 -- it knows its own trace
-pub knows : (s : State) (now : ℕ) → IsCurrent s → last_moment s.trace ≤ now → Knows s now s.trace
+pub knows : (s : State) (now : ℕ) → IsCurrent s → last_moment s.trace ≤ now → Knows s.known now s.trace
 knows s now current time = record { agrees = current.agrees; scores = current.scores; made = current.made; time = time }
 
 -- ---- steps
@@ -178,9 +178,9 @@ module _ (m : Mode) (weakens : Weakens m free (λ u. tt)) where
   }
 
   -- it comes no earlier than what the tables have noted
-  pub no_earlier : (event : Event) (now : Millis) (a : State) (s t : m.State) (e : Entry) → IsCurrent a → last_moment a.trace ≤ now.0 → Follows m (rule_of (peer_with a.setup) a.trace now event) s e t → a.tables.sightings.cache.moment ≤ e.at.0
+  pub no_earlier : (event : Event) (now : Millis) (a : State) (s t : m.State) (e : Entry) → IsCurrent a → last_moment a.trace ≤ now.0 → Follows m (rule_of (peer_with a.known.setup) a.trace now event) s e t → a.known.tables.sightings.cache.moment ≤ e.at.0
   no_earlier event now a s t e current time follows =
-      let p = peer_with a.setup in
+      let p = peer_with a.known.setup in
       let tells = follows_tells now event (rule_of p a.trace now event) e (rule_tells p a.trace now event) (follows_weakly m free (λ u. tt) weakens (rule_of p a.trace now event) s e t follows) in
       omega (arith, current.agrees.sightings.past, time, ap (λ (at : Millis). at.0) tells.moment)
 
@@ -190,21 +190,19 @@ module _ (m : Mode) (weakens : Weakens m free (λ u. tt)) where
 
   module _ {A E : Type 0} where
     -- an entry that may follow was appended, or memory was wanting
-    pub followed : (event : Event) (now : Millis) (a b : State) (s t : m.State) (e : Entry) (done : Result A E) → IsCurrent a → last_moment a.trace ≤ now.0 → IsNext (peer_with a.setup) a.trace now.0 (owed (peer_with a.setup) a.trace).events event → Follows m (rule_of (peer_with a.setup) a.trace now event) s e t → OnOk done (b.trace ≡ e ∷ a.trace) → OnOk done ((L : Entries) → Agrees a.tables L → Agrees b.tables (e ∷ L)) → OnOk done ((p : Peer) (L : Entries) → AgreesOnScores p a.tables.standings L → AgreesOnScores p b.tables.standings (e ∷ L)) → OnOk done ((p : Peer) → AreMadeFor a.tables p → AreMadeFor b.tables p) → OnErr done (b.trace ≡ a.trace) → b.setup ≡ a.setup → Steps m event now a s done b t
+    pub followed : (event : Event) (now : Millis) (a b : State) (s t : m.State) (e : Entry) (done : Result A E) → IsCurrent a → last_moment a.trace ≤ now.0 → IsNext (peer_with a.known.setup) a.trace now.0 (owed (peer_with a.known.setup) a.trace).events event → Follows m (rule_of (peer_with a.known.setup) a.trace now event) s e t → OnOk done (b.trace ≡ e ∷ a.trace) → OnOk done ((L : Entries) → Agrees a.known.tables L → Agrees b.known.tables (e ∷ L)) → OnOk done ((p : Peer) (L : Entries) → AgreesOnScores p a.known.tables.standings L → AgreesOnScores p b.known.tables.standings (e ∷ L)) → OnOk done ((p : Peer) → AreMadeFor a.known.tables p → AreMadeFor b.known.tables p) → OnErr done (b.trace ≡ a.trace) → b.known.setup ≡ a.known.setup → Steps m event now a s done b t
     followed event now a b s t e (Ok x) current time next follows added agrees scores made kept setup =
-        let p = peer_with a.setup in
+        let p = peer_with a.known.setup in
         let tells = follows_tells now event (rule_of p a.trace now event) e (rule_tells p a.trace now event) (follows_weakly m free (λ u. tt) weakens (rule_of p a.trace now event) s e t follows) in
         let one = legal_one m p s t a.trace e (allowed p a.trace now event s t e tells time next follows) in
         record {
           added = record { entry = e; added = added; moment = tells.moment; opened = tells.tells; legal = one };
           current = record {
             legal = subst (λ (g : Setup). Legal (peer_with g) b.trace) (sym setup) (appended_legal p a.trace b.trace s t current.legal (record { entries = e ∷ []; are = added; legal = one }));
-            agrees = subst (λ (L : Entries). Agrees b.tables L) (sym added) (agrees a.trace current.agrees);
-            scores = subst₂ (λ (g : Setup) (L : Entries). AgreesOnScores (peer_with g) b.tables.standings L) (sym setup) (sym added) (scores (peer_with a.setup) a.trace current.scores);
-            made = subst (λ (g : Setup). AreMadeFor b.tables (peer_with g)) (sym setup) (made (peer_with a.setup) current.made);
-            ascending = subst (λ (g : Setup). IsAscending (peers_of g.neighbours.items)) (sym setup) current.ascending;
-            ticks = subst (λ (g : Setup). 1 ≤ g.params.windows.opportunistic_ticks) (sym setup) current.ticks;
-            room = subst (λ (g : Setup). g.params.degrees.d_score + g.params.degrees.d_out ≤ g.params.degrees.d) (sym setup) current.room;
+            agrees = subst (λ (L : Entries). Agrees b.known.tables L) (sym added) (agrees a.trace current.agrees);
+            scores = subst₂ (λ (g : Setup) (L : Entries). AgreesOnScores (peer_with g) b.known.tables.standings L) (sym setup) (sym added) (scores (peer_with a.known.setup) a.trace current.scores);
+            made = subst (λ (g : Setup). AreMadeFor b.known.tables (peer_with g)) (sym setup) (made (peer_with a.known.setup) current.made);
+            fit = subst IsFit (sym setup) current.fit;
           };
           kept = tt;
           setup = setup;
@@ -212,7 +210,7 @@ module _ (m : Mode) (weakens : Weakens m free (λ u. tt)) where
     followed event now a b s t e (Err x) current time next follows added agrees scores made kept setup = record { added = tt; current = tt; kept = kept; setup = setup }
 
     -- memory was wanting before anything came
-    pub breaks_off : (event : Event) (now : Millis) (a b : State) (s t : m.State) (e : E) → IsCurrent a → b.trace ≡ a.trace → b.setup ≡ a.setup → Ends {A = A} {E = E} m event now a s (Err e) b t
+    pub breaks_off : (event : Event) (now : Millis) (a b : State) (s t : m.State) (e : E) → IsCurrent a → b.trace ≡ a.trace → b.known.setup ≡ a.known.setup → Ends {A = A} {E = E} m event now a s (Err e) b t
     breaks_off event now a b s t e current kept setup = record {
       opened = tt;
       appended = tt;
@@ -223,15 +221,15 @@ module _ (m : Mode) (weakens : Weakens m free (λ u. tt)) where
       setup = setup;
     }
 
-    pub stops : (event : Event) (now : Millis) (a b : State) (s t : m.State) (done : Result A E) → IsErr done → IsCurrent a → b.trace ≡ a.trace → b.setup ≡ a.setup → Ends m event now a s done b t
+    pub stops : (event : Event) (now : Millis) (a b : State) (s t : m.State) (done : Result A E) → IsErr done → IsCurrent a → b.trace ≡ a.trace → b.known.setup ≡ a.known.setup → Ends m event now a s done b t
     stops event now a b s t (Ok x) fails current kept setup = absurd cc
     stops event now a b s t (Err e) fails current kept setup = breaks_off event now a b s t e current kept setup
 
     -- an event that owes nothing comes with its step
-    pub opens_alone : (event : Event) (now : Millis) (a b : State) (s t : m.State) (done : Result A E) → IsReady a → owes (peer_with a.setup) a.trace now.0 event ≡ [] → Steps m event now a s done b t → Ends m event now a s done b t
+    pub opens_alone : (event : Event) (now : Millis) (a b : State) (s t : m.State) (done : Result A E) → IsReady a → owes (peer_with a.known.setup) a.trace now.0 event ≡ [] → Steps m event now a s done b t → Ends m event now a s done b t
     opens_alone event now a b s t (Ok x) ready none steps =
         let one = steps.added in
-        let p = peer_with a.setup in
+        let p = peer_with a.known.setup in
         let after : owed p b.trace ≡ nothing = ap (owed p) one.added
         ∙ ap₂ (λ (at : Millis) (ev : Event). owing p (one.entry ∷ a.trace) (owes p a.trace at.0 ev) (owed p a.trace)) one.moment one.opened
         ∙ owes_none p a.trace (one.entry ∷ a.trace) now.0 event (owed p a.trace) none
@@ -268,24 +266,24 @@ left_with p L events groups = held_or events groups (reached p L groups)
 -- these events are left, and then these groups.
 pub record Paying (m : Mode) (now : Millis) (event : Event) (a : State) (s : m.State) (b : State) (t : m.State) (left : List Event) (groups : List Group) : Type 0 where
   pub current : IsCurrent b
-  pub setup : b.setup ≡ a.setup
+  pub setup : b.known.setup ≡ a.known.setup
   pub moment : last_moment b.trace ≡ now.0
-  pub owes : owed (peer_with a.setup) b.trace ≡ left_with (peer_with a.setup) b.trace left groups
-  pub begun : Begins (peer_with a.setup) now event a.trace b.trace
-  pub appended : Appends m (peer_with a.setup) a.trace s b.trace t
+  pub owes : owed (peer_with a.known.setup) b.trace ≡ left_with (peer_with a.known.setup) b.trace left groups
+  pub begun : Begins (peer_with a.known.setup) now event a.trace b.trace
+  pub appended : Appends m (peer_with a.known.setup) a.trace s b.trace t
 
 not_nil : {X : Type 0} (x : X) (xs ys : List X) → ys ≡ x ∷ xs → ys ≢ []
 not_nil x xs [] is = absurd cc
 not_nil x xs (y ∷ ys) is = λ none. absurd cc
 
 -- what is owed first may come
-pub next_due : (m : Mode) (now : Millis) (event first : Event) (rest : List Event) (groups : List Group) (a b : State) (s t : m.State) → Paying m now event a s b t (first ∷ rest) groups → IsNext (peer_with b.setup) b.trace now.0 (owed (peer_with b.setup) b.trace).events first
+pub next_due : (m : Mode) (now : Millis) (event first : Event) (rest : List Event) (groups : List Group) (a b : State) (s t : m.State) → Paying m now event a s b t (first ∷ rest) groups → IsNext (peer_with b.known.setup) b.trace now.0 (owed (peer_with b.known.setup) b.trace).events first
 next_due m now event first rest groups a b s t h =
-    let owed_first : owed (peer_with b.setup) b.trace ≡ record { events = first ∷ rest; groups = groups } = ap (λ (g : Setup). owed (peer_with g) b.trace) h.setup ∙ h.owes in
-    subst (λ (debt : Debt). IsNext (peer_with b.setup) b.trace now.0 debt.events first) (sym owed_first) refl
+    let owed_first : owed (peer_with b.known.setup) b.trace ≡ record { events = first ∷ rest; groups = groups } = ap (λ (g : Setup). owed (peer_with g) b.trace) h.setup ∙ h.owes in
+    subst (λ (debt : Debt). IsNext (peer_with b.known.setup) b.trace now.0 debt.events first) (sym owed_first) refl
 
 -- where nothing is left of a group, the next one is reached
-pub pays_group : (m : Mode) (now : Millis) (event : Event) (group : Group) (groups : List Group) (a b : State) (s t : m.State) → Paying m now event a s b t [] (group ∷ groups) → Paying m now event a s b t (events_in (peer_with a.setup) b.trace group) groups
+pub pays_group : (m : Mode) (now : Millis) (event : Event) (group : Group) (groups : List Group) (a b : State) (s t : m.State) → Paying m now event a s b t [] (group ∷ groups) → Paying m now event a s b t (events_in (peer_with a.known.setup) b.trace group) groups
 pays_group m now event group groups a b s t h = record {
   current = h.current;
   setup = h.setup;
@@ -297,10 +295,10 @@ pays_group m now event group groups a b s t h = record {
 
 module _ (m : Mode) {A E : Type 0} where
   -- an RPC that is not heard in vain owes its parts
-  pub hears_first : (now : Millis) (q : PeerNo) (rpc : Rpc) (a b : State) (s t : m.State) (x : A) → is_graylisted (peer_with a.setup) a.trace now.0 q ≡ false → Steps {A = A} {E = E} m (Heard q rpc) now a s (Ok x) b t → Paying m now (Heard q rpc) a s b t (parts q rpc) []
+  pub hears_first : (now : Millis) (q : PeerNo) (rpc : Rpc) (a b : State) (s t : m.State) (x : A) → is_graylisted (peer_with a.known.setup) a.trace now.0 q ≡ false → Steps {A = A} {E = E} m (Heard q rpc) now a s (Ok x) b t → Paying m now (Heard q rpc) a s b t (parts q rpc) []
   hears_first now q rpc a b s t x listened steps =
       let one = steps.added in
-      let p = peer_with a.setup in
+      let p = peer_with a.known.setup in
       record {
         current = steps.current;
         setup = steps.setup;
@@ -316,7 +314,7 @@ module _ (m : Mode) {A E : Type 0} where
   pub beats_first : (now : Millis) (a b : State) (s t : m.State) (x : A) → Steps {A = A} {E = E} m Promises now a s (Ok x) b t → Paying m now Promises a s b t [] (heartbeat_groups now.0)
   beats_first now a b s t x steps =
       let one = steps.added in
-      let p = peer_with a.setup in
+      let p = peer_with a.known.setup in
       record {
         current = steps.current;
         setup = steps.setup;
@@ -329,10 +327,10 @@ module _ (m : Mode) {A E : Type 0} where
       }
 
   -- one more event of the group is paid, which owes nothing itself
-  pub pays_next : (now : Millis) (event first : Event) (rest : List Event) (groups : List Group) (a b c : State) (s t u : m.State) (x : A) → Paying m now event a s b t (first ∷ rest) groups → owes (peer_with a.setup) b.trace now.0 first ≡ [] → Steps {A = A} {E = E} m first now b t (Ok x) c u → Paying m now event a s c u rest groups
+  pub pays_next : (now : Millis) (event first : Event) (rest : List Event) (groups : List Group) (a b c : State) (s t u : m.State) (x : A) → Paying m now event a s b t (first ∷ rest) groups → owes (peer_with a.known.setup) b.trace now.0 first ≡ [] → Steps {A = A} {E = E} m first now b t (Ok x) c u → Paying m now event a s c u rest groups
   pays_next now event first rest groups a b c s t u x h alone steps =
       let one = steps.added in
-      let p = peer_with a.setup in
+      let p = peer_with a.known.setup in
       let behind : LegalOn m p t (h.appended.entries ++ a.trace) (one.entry ∷ []) u = subst₂ (λ (g : Setup) (L : Entries). LegalOn m (peer_with g) t L (one.entry ∷ []) u) h.setup h.appended.are one.legal in
       record {
         current = steps.current;
@@ -371,13 +369,13 @@ module _ (m : Mode) {A E : Type 0} where
   }
 
   -- memory was wanting for what is owed
-  pub pays_some : (now : Millis) (event : Event) (left : List Event) (groups : List Group) (a b c : State) (s t u : m.State) (done : Result A E) → IsErr done → Paying m now event a s b t left groups → c.trace ≡ b.trace → c.setup ≡ b.setup → Ends m event now a s done c u
+  pub pays_some : (now : Millis) (event : Event) (left : List Event) (groups : List Group) (a b c : State) (s t u : m.State) (done : Result A E) → IsErr done → Paying m now event a s b t left groups → c.trace ≡ b.trace → c.known.setup ≡ b.known.setup → Ends m event now a s done c u
   pays_some now event left groups a b c s t u (Ok x) fails h kept setup = absurd cc
   pays_some now event left groups a b c s t u (Err e) fails h kept setup = record {
     opened = tt;
     appended = tt;
     ready = tt;
-    broken = inr (subst (λ (L : Entries). Begins (peer_with a.setup) now event a.trace L) (sym kept) h.begun);
+    broken = inr (subst (λ (L : Entries). Begins (peer_with a.known.setup) now event a.trace L) (sym kept) h.begun);
     before = (t, record { entries = h.appended.entries; are = kept ∙ h.appended.are; legal = h.appended.legal });
     legal = subst₂ (λ (g : Setup) (L : Entries). Legal (peer_with g) L) (sym setup) (sym kept) h.current.legal;
     setup = setup ∙ h.setup;

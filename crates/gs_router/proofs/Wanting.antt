@@ -5,7 +5,8 @@ use Rattle.std.proofs.lemmas.Bool.Decides.{nat_tests}
 use Rattle.std.proofs.Math.Nat.{min-le_right}
 use Rattle.gs_rules.specs.Peers.{Peer}
 use Rattle.gs_rules.specs.Tables.{Entries}
-use Rattle.gs_wire.specs.Messages.{HasIdentifierLength, most_identifiers}
+use Rattle.gs_base.specs.Names.{HasIdentifierLength}
+use Rattle.gs_base.specs.Rpcs.{most_identifiers}
 use Rattle.gs_rules.specs.Rules.{each_once, is_wanted, once_behind, same_bytes}
 use Rattle.gs_base.specs.declared.names.PeerNo.{PeerNo}
 use Rattle.gs_router.specs.declared.tables.budgets.Budget.{Budget}

@@ -1,6 +1,8 @@
 pub mod PeerSets
 pub mod Tables
+pub mod Known
 pub mod State
+pub mod Wishes
 pub mod Router
 pub mod Offers
 pub mod Requests

@@ -1,5 +1,5 @@
--- What a router does about what neighbours say of their meshes.
-use Rattle.std.specs.Prelude.{Bool, if◌then◌else◌, List, [], ◌∷◌}
+-- What a router does about what neighbours say of their meshes, and to fanouts when it publishes.
+use Rattle.std.specs.Prelude.{List, [], ◌∷◌, ◌++◌}
 use Rattle.gs_base.specs.declared.names.PeerNo.{PeerNo}
 use Rattle.gs_base.specs.declared.names.Topic.{Topic}
 use Rattle.gs_base.specs.declared.names.Millis.{Millis}
@@ -10,11 +10,13 @@ use Rattle.gs_base.specs.Names.{topic_or_empty}
 use Rattle.gs_rules.specs.declared.trace.Event.TheVariants.{GraftIn}
 use Rattle.gs_rules.specs.declared.trace.Entry.{Entry}
 use Rattle.gs_rules.specs.Peers.{Peer}
-use Rattle.gs_rules.specs.Membership.{each_on, entering}
+use Rattle.gs_rules.specs.Membership.{each_on, entering, fanning}
 use Rattle.gs_rules.specs.MeshRules.{refusing}
 use Rattle.gs_rules.specs.Rules.{bare}
-use Rattle.gs_router.specs.declared.rules.grafts.GraftAnswer.{GraftAnswer}
-use Rattle.gs_router.specs.declared.rules.grafts.GraftAnswer.TheVariants.{PassedOver, TooSoon, Refused, Accepted}
+use Rattle.gs_router.specs.declared.entries.publishing.FanoutUse.{FanoutUse}
+use Rattle.gs_router.specs.declared.entries.publishing.FanoutUse.TheVariants.{Unused, Kept, Filled}
+use Rattle.gs_router.specs.declared.entries.grafts.GraftAnswer.{GraftAnswer}
+use Rattle.gs_router.specs.declared.entries.grafts.GraftAnswer.TheVariants.{PassedOver, TooSoon, Refused, Accepted}
 
 -- the entry of a GRAFT whose sender comes into the mesh
 abbrev pub accepting : Millis → PeerNo → Graft → Entry
@@ -29,6 +31,18 @@ answered p at q graft TooSoon = refusing p at q graft (Behaviour q ∷ [])
 answered p at q graft Refused = refusing p at q graft []
 answered p at q graft Accepted = accepting at q graft
 
+-- who comes into the fanout of the topic of a payload that goes to these
+abbrev pub filled_by : FanoutUse → List PeerNo → List PeerNo
+filled_by Unused receivers = []
+filled_by Kept receivers = []
+filled_by Filled receivers = receivers
+
 -- whether what is published keeps a fanout of its topic
-abbrev pub kept_fanout : Bool → Topic → List Mark
-kept_fanout keeps t = if keeps then Published t ∷ [] else []
+abbrev pub kept_by : FanoutUse → Topic → List Mark
+kept_by Unused t = []
+kept_by Kept t = Published t ∷ []
+kept_by Filled t = Published t ∷ []
+
+-- what is remembered of a fanout when a payload goes to these
+abbrev pub fanout_marks : FanoutUse → Topic → List PeerNo → List Mark
+fanout_marks use t receivers = fanning t (filled_by use receivers) ++ kept_by use t

@@ -1,15 +1,11 @@
 -- What becomes of what a neighbour offers and asks for, one identifier after the other.
-use Rattle.std.specs.Prelude.{ℕ, nat_eq, if◌then◌else◌, List, length, Option, Some, None, unwrap_or}
+use Rattle.std.specs.Prelude.{ℕ, if◌then◌else◌, List, unwrap_or}
 use Rattle.std.specs.Map.{lookup}
 use Rattle.gs_base.specs.declared.names.MsgId.{MsgId}
 use Rattle.gs_base.specs.Names.{same_id}
 use Rattle.gs_rules.specs.Peers.{Peer}
 use Rattle.gs_rules.specs.Tables.{Entries}
 use Rattle.gs_rules.specs.Rules.{is_wanted, once_behind}
-
--- the identifier that these bytes are, if they are one
-abbrev pub id_of : List ℕ → Option MsgId
-id_of bytes = if nat_eq (length bytes) 32 then Some (record { 0 = bytes }) else None
 
 -- an identifier is put behind those that are wanted, if it is wanted and not among them
 abbrev pub add_wanted : Peer → Entries → ℕ → List (List ℕ) → List ℕ → List (List ℕ)

@@ -4,11 +4,11 @@ use Rattle.gs_base.specs.declared.names.PeerNo.{PeerNo}
 use Rattle.gs_base.specs.declared.names.MsgId.{MsgId}
 use Rattle.gs_base.specs.declared.rpc.Message.{Message}
 use Rattle.gs_base.specs.declared.mark.Mark.TheVariants as marks
-use Rattle.gs_wire.specs.Messages.{passed_on}
+use Rattle.gs_base.specs.Rpcs.{passed_on}
 use Rattle.gs_rules.specs.Peers.{Peer, windows}
 use Rattle.gs_rules.specs.Tables.{Entries}
 use Rattle.gs_rules.specs.Rules.{times_in}
-use Rattle.gs_router.specs.declared.rules.requests.Reply.{Reply}
+use Rattle.gs_router.specs.declared.entries.requests.Reply.{Reply}
 use Rattle.gs_router.specs.Tables.{answers_left}
 use Rattle.gs_router.specs.Offers.{left_now}
 

@@ -19,7 +19,8 @@ use Rattle.gs_rules.specs.Refusals as refusals
 use Rattle.gs_router.specs.declared.fault.RouterFault.{RouterFault}
 use Rattle.gs_router.specs.declared.fault.RouterFault.TheVariants.{Refused, NoMemory}
 use Rattle.gs_router.specs.declared.state.State.{State}
-use Rattle.gs_router.specs.State.{IsReady, Appends, BreaksOff, peer_with}
+use Rattle.gs_router.specs.Known.{peer_with}
+use Rattle.gs_router.specs.State.{IsReady, Appends, BreaksOff}
 
 -- what is given of it, what it did, and whether it met want of memory
 pub record RouterView : Type 0 where
@@ -28,11 +29,11 @@ pub record RouterView : Type 0 where
   pub is_stopped : Bool
 
 abbrev pub view_of : State → Bool → RouterView
-view_of s is_stopped = record { peer = peer_with s.setup; trace = s.trace; is_stopped = is_stopped }
+view_of s is_stopped = record { peer = peer_with s.known.setup; trace = s.trace; is_stopped = is_stopped }
 
 -- the trace is legal, and until the router has met want of memory it may go on
 pub record IsSound (s : State) (is_stopped : Bool) : Type 0 where
-  pub legal : Legal (peer_with s.setup) s.trace
+  pub legal : Legal (peer_with s.known.setup) s.trace
   pub ready : is_stopped ≡ false → IsReady s
 
 -- the number of a fault
@@ -57,15 +58,6 @@ abbrev pub meshes_of : Entries → List (Topic × PeerNo)
 meshes_of L = flat_map (λ t. map (λ q. (t, q)) (mesh L t)) (own_topics L)
 
 -- ---- events
-
--- what a router's own user may wish, beside publishing
-abbrev pub IsUsers : Event → Type 0
-IsUsers (Subscribe t) = Unit {0}
-IsUsers (Unsubscribe t) = Unit {0}
-IsUsers Decay = Unit {0}
-IsUsers (RoundEnd r) = Unit {0}
-IsUsers Shut = Unit {0}
-IsUsers other = ⊥
 
 -- an event by which this neighbour is lost
 abbrev pub IsLoss : PeerNo → Event → Type 0

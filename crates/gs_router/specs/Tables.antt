@@ -11,7 +11,7 @@ use Rattle.gs_base.specs.Names.{same_peer, same_topic, same_id}
 use Rattle.gs_base.specs.declared.verdict.Verdict.{Verdict}
 use Rattle.gs_base.specs.declared.mark.Mark.{Mark}
 use Rattle.gs_base.specs.declared.mark.Mark.TheVariants as marks
-use Rattle.gs_wire.specs.Messages.{most_identifiers}
+use Rattle.gs_base.specs.Rpcs.{most_identifiers}
 use Rattle.gs_cache.specs.declared.seen.sighting.Sighting.{Sighting as Found}
 use Rattle.gs_cache.specs.Sightings.{is_noted, verdict_in, what_counts}
 use Rattle.gs_cache.specs.Messages.{Cached, all_left, cached, left, one_less}

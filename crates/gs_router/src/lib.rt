@@ -1,13 +1,16 @@
 //! A gossipsub router: what one peer does about what it hears and what its user tells it.
 #![tactic(auto)]
 
+mod entries;
 mod fault;
+mod known;
+mod peer_lists;
 mod peer_set;
 mod router;
-mod rules;
 mod setup;
 mod state;
 mod tables;
+mod wish;
 
 pub use fault::RouterFault;
 pub use router::Router;

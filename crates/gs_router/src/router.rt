@@ -10,21 +10,23 @@ ghost use Rattle.gs_rules.specs.Tables.{last_moment};
 ghost use Rattle.gs_rules.specs.Modes.{exact};
 ghost use Rattle.gs_rules.specs.Legal.{hearing, losing};
 ghost use Rattle.gs_wire.specs.Codec.{codec};
-ghost use Rattle.gs_router.specs.Router.{Calls, IsLoss, IsUsers, answer_of, fails};
+ghost use Rattle.gs_router.specs.Wishes.{wished};
+ghost use Rattle.gs_router.specs.Router.{Calls, IsLoss, answer_of, fails};
 
 mod reading;
 
+use crate::entries;
 use crate::fault::RouterFault;
-use crate::rules;
-use crate::rules::publishing::{self, Publishing};
+use crate::known::Known;
 use crate::setup::Setup;
 use crate::state::State;
 use crate::tables::Tables;
+use crate::wish::Wish;
 use bytes::Bytes;
-use gs_base::{Millis, MsgId, Neighbour, PeerNo, Rpc, Topic};
+use gs_base::{Millis, Neighbour, PeerNo, Rpc, Topic};
 use gs_cache::Payloads;
-use gs_params::{Params, Words};
 use gs_rules::{Event, Refusal, Trace};
+use gs_params::{Params, Words};
 use std::alloc::{AllocError, Global};
 use std::marker::Model;
 
@@ -74,9 +76,11 @@ impl Router {
         let tables = Tables::new(alloc, &params, neighbours.as_slice())?;
         Ok(Router {
             state: State {
-                alloc,
-                setup: Setup { params, neighbours },
-                tables,
+                known: Known {
+                    alloc,
+                    setup: Setup { params, neighbours },
+                    tables,
+                },
                 trace: Trace::new(alloc),
             },
             payloads: Payloads::new(alloc),
@@ -159,7 +163,7 @@ impl Router {
         ensures { Calls (exact W.word W.after) (Some (events.Subscribe topic)) now
             self.old words.old result self.new words.new }
     {
-        self.obey(Event::Subscribe(topic), now, words)
+        self.obey(Wish::Subscribe(topic), now, words)
     }
 
     /// Leaves a topic, tells every neighbour that is up, and prunes each member of its mesh, which is not to come back for
@@ -177,7 +181,7 @@ impl Router {
         ensures { Calls (exact W.word W.after) (Some (events.Unsubscribe topic)) now
             self.old words.old result self.new words.new }
     {
-        self.obey(Event::Unsubscribe(topic), now, words)
+        self.obey(Wish::Unsubscribe(topic), now, words)
     }
 
     /// Publishes a payload, which is delivered to the router's own user where that is subscribed to the topic. With
@@ -199,16 +203,7 @@ impl Router {
         ensures { Calls (exact W.word W.after) (Some (events.Publish topic payload)) now
             self.old words.old result self.new words.new }
     {
-        if self.is_stopped {
-            return Err(RouterFault::Refused(Refusal::Stopped));
-        }
-        let id = MsgId::of(&payload);
-        if let Some(why) = publishing::refusal_of_publish(&self.state, &topic, &payload, id, now) {
-            return Err(RouterFault::Refused(why));
-        }
-        let publishing = Publishing { topic, payload, id };
-        let done = self.state.publish(publishing, now, words);
-        ended(&mut self.is_stopped, done)
+        self.obey(Wish::Publish(topic, payload), now, words)
     }
 
     /// Has a heartbeat (gossipsub v1.0, Heartbeat): charges promises that were broken, mends each mesh, mends each fanout
@@ -225,7 +220,7 @@ impl Router {
         if self.is_stopped {
             return Err(RouterFault::Refused(Refusal::Stopped));
         }
-        if let Some(why) = rules::refusal_of(&self.state, &Event::Promises, now) {
+        if let Some(why) = entries::refusal_of_anything(&self.state.known) {
             return Err(RouterFault::Refused(why));
         }
         let done = self.state.heartbeat(now, words);
@@ -241,7 +236,7 @@ impl Router {
         ensures { Calls (exact W.word W.after) (Some events.Decay) now
             self.old words.old result self.new words.new }
     {
-        self.obey(Event::Decay, now, words)
+        self.obey(Wish::Decay, now, words)
     }
 
     /// Ends a round.
@@ -258,7 +253,7 @@ impl Router {
         ensures { Calls (exact W.word W.after) (Some (events.RoundEnd round)) now
             self.old words.old result self.new words.new }
     {
-        self.obey(Event::RoundEnd(round), now, words)
+        self.obey(Wish::EndRound(round), now, words)
     }
 
     /// Shuts down: nothing is sent any more.
@@ -270,27 +265,23 @@ impl Router {
         ensures { Calls (exact W.word W.after) (Some events.Shut) now
             self.old words.old result self.new words.new }
     {
-        self.obey(Event::Shut, now, words)
+        self.obey(Wish::Shut, now, words)
     }
 
     /// Does what the router's own user wishes, or refuses it.
-    fn obey<W: Words>(
-        &mut self,
-        event: Event,
-        now: Millis,
-        words: &mut W,
-    ) -> Result<(), RouterFault>
-        requires time { last_moment self.old.trace ≤ now.0 }
-        requires own { IsUsers event }
-        ensures { Calls (exact W.word W.after) (Some event) now self.old words.old result self.new words.new }
+    fn obey<W: Words>(&mut self, wish: Wish, now: Millis, words: &mut W) -> Result<(), RouterFault>
+        requires { last_moment self.old.trace ≤ now.0 }
+        ensures { Calls (exact W.word W.after) (Some (wished wish)) now self.old words.old result self.new words.new }
     {
         if self.is_stopped {
             return Err(RouterFault::Refused(Refusal::Stopped));
         }
-        if let Some(why) = rules::refusal_of(&self.state, &event, now) {
+        let known = &self.state.known;
+        if let Some(why) = entries::refusal_of(known, &mut self.payloads, &wish, now) {
             return Err(RouterFault::Refused(why));
         }
-        let done = self.state.open(event, now, words);
+        let event = wish.into_event();
+        let done = self.state.open(&mut self.payloads, event, now, words);
         ended(&mut self.is_stopped, done)
     }
 
@@ -310,10 +301,10 @@ impl Router {
         if self.is_stopped {
             return Err(RouterFault::Refused(Refusal::Stopped));
         }
-        if !self.state.tables.neighbours.is_up(peer) {
+        if !self.state.known.tables.neighbours.is_up(peer) {
             return Ok(());
         }
-        let done = self.state.open(event, now, words);
+        let done = self.state.open(&mut self.payloads, event, now, words);
         ended(&mut self.is_stopped, done)
     }
 }

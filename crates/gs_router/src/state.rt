@@ -1,32 +1,29 @@
 //! What a router knows, and how it takes a step.
 ghost use Rattle.std.specs.Prelude.{◌≡◌, ◌≤◌, [], ◌∷◌, length, OnOk, OnErr, true, false};
-ghost use Rattle.gs_base.specs.Names.{message_id};
 ghost use Rattle.gs_wire.specs.Codec.{codec};
 ghost use Rattle.gs_rules.specs.declared.trace.Event.TheVariants as events;
 ghost use Rattle.gs_rules.specs.Tables.{Entries, last_moment, up};
-ghost use Rattle.gs_rules.specs.Owed.{grafts_in, offers_in, owed, owes, prunes_in, requests_in};
+ghost use Rattle.gs_rules.specs.Owed.{grafts_in, offers_in, owes, prunes_in, requests_in};
 ghost use Rattle.gs_rules.specs.Modes.{exact};
-ghost use Rattle.gs_rules.specs.Legal.{IsNext, MayHear, MayOpen, hearing};
+ghost use Rattle.gs_rules.specs.Legal.{MayHear, MayOpen, hearing};
 ghost use Rattle.gs_rules.specs.Peers.{Peer};
 ghost use Rattle.gs_rules.specs.Scoring.{is_graylisted};
 ghost use Rattle.gs_router.specs.Tables.{Agrees, AgreesOnScores, AreMadeFor};
-ghost use Rattle.gs_router.specs.State.{Ends, IsCurrent, IsReady, Steps, peer_with};
+ghost use Rattle.gs_router.specs.State.{Ends, IsCurrent, IsDue, IsReady, Steps, peer_of};
 
 mod heartbeat;
 mod meshes;
 mod scores;
 
-use crate::rules;
-use crate::rules::publishing::{self, Publishing};
-use crate::setup::Setup;
-use crate::tables::Tables;
+use crate::entries;
+use crate::known::Known;
 use gs_base::{
     Control, Graft, IHave, IWant, Message, Millis, PeerNo, Prune, Rpc, Shared, SubOpt, clone_of,
 };
 use gs_cache::Payloads;
-use gs_params::Words;
 use gs_rules::{Entry, Event, Trace};
-use std::alloc::{AllocError, Global};
+use gs_params::Words;
+use std::alloc::AllocError;
 
 /// What is given of a router, what it did, and what that says.
 ///
@@ -34,9 +31,7 @@ use std::alloc::{AllocError, Global};
 /// it any more: then no further step can be taken.
 #[derive(Drop)]
 pub struct State {
-    pub alloc: Global,
-    pub setup: Setup,
-    pub tables: Tables,
+    pub known: Known,
     pub trace: Trace,
 }
 
@@ -46,20 +41,20 @@ impl State {
     /// # Errors
     /// `AllocError` where there was no memory; the trace is then as it was.
     fn append(&mut self, entry: Entry) -> Result<(), AllocError>
-        requires time { self.old.tables.sightings.cache.moment ≤ entry.at.0 }
-        requires few { self.old.tables.standings.scores.tick ≤ length self.old.trace }
-        requires beats { self.old.tables.beats.count ≤ length self.old.trace }
+        requires time { self.old.known.tables.sightings.cache.moment ≤ entry.at.0 }
+        requires few { self.old.known.tables.standings.scores.tick ≤ length self.old.trace }
+        requires beats { self.old.known.tables.beats.count ≤ length self.old.trace }
         ensures added { OnOk result (self.new.trace ≡ entry ∷ self.old.trace) }
-        ensures agrees { OnOk result ((L : Entries) → Agrees self.old.tables L → Agrees self.new.tables (entry ∷ L)) }
+        ensures agrees { OnOk result ((L : Entries) → Agrees self.old.known.tables L → Agrees self.new.known.tables (entry ∷ L)) }
         ensures scores { OnOk result ((p : Peer) (L : Entries)
-            → AgreesOnScores p self.old.tables.standings L
-            → AgreesOnScores p self.new.tables.standings (entry ∷ L)) }
-        ensures made { OnOk result ((p : Peer) → AreMadeFor self.old.tables p → AreMadeFor self.new.tables p) }
+            → AgreesOnScores p self.old.known.tables.standings L
+            → AgreesOnScores p self.new.known.tables.standings (entry ∷ L)) }
+        ensures made { OnOk result ((p : Peer) → AreMadeFor self.old.known.tables p → AreMadeFor self.new.known.tables p) }
         ensures kept { OnErr result (self.new.trace ≡ self.old.trace) }
-        ensures setup { self.new.setup ≡ self.old.setup }
+        ensures setup { self.new.known.setup ≡ self.old.known.setup }
     {
         self.trace.is_in_memory();
-        self.tables.note(&entry)?;
+        self.known.tables.note(&entry)?;
         self.trace.push(entry)?;
         Ok(())
     }
@@ -68,11 +63,10 @@ impl State {
     fn step<W: Words>(&mut self, event: Event, now: Millis, words: &mut W) -> Result<(), AllocError>
         requires current { IsCurrent self.old }
         requires time { last_moment self.old.trace ≤ now.0 }
-        requires next { IsNext (peer_with self.old.setup) self.old.trace now.0
-            (owed (peer_with self.old.setup) self.old.trace).events event }
+        requires next { IsDue self.old now event }
         ensures { Steps (exact W.word W.after) event now self.old words.old result self.new words.new }
     {
-        self.step_with(&mut Payloads::new(self.alloc), event, now, words)
+        self.step_with(&mut Payloads::new(self.known.alloc), event, now, words)
     }
 
     /// The same, where payloads that are known need not be hashed again.
@@ -85,47 +79,28 @@ impl State {
     ) -> Result<(), AllocError>
         requires current { IsCurrent self.old }
         requires time { last_moment self.old.trace ≤ now.0 }
-        requires next { IsNext (peer_with self.old.setup) self.old.trace now.0
-            (owed (peer_with self.old.setup) self.old.trace).events event }
+        requires next { IsDue self.old now event }
         ensures { Steps (exact W.word W.after) event now self.old words.old result self.new words.new }
     {
-        let entry = rules::entry_of(self, payloads, event, now, words)?;
+        let entry = entries::entry_of(&self.known, payloads, event, now, words)?;
         self.append(entry)
     }
 
     /// Does what the rule says of an event that owes nothing.
     pub fn open<W: Words>(
         &mut self,
+        payloads: &mut Payloads,
         event: Event,
         now: Millis,
         words: &mut W,
     ) -> Result<(), AllocError>
         requires ready { IsReady self.old }
         requires time { last_moment self.old.trace ≤ now.0 }
-        requires may { MayOpen (peer_with self.old.setup) self.old.trace now.0 event }
-        requires alone { owes (peer_with self.old.setup) self.old.trace now.0 event ≡ [] }
+        requires may { MayOpen (peer_of self.old) self.old.trace now.0 event }
+        requires alone { owes (peer_of self.old) self.old.trace now.0 event ≡ [] }
         ensures { Ends (exact W.word W.after) event now self.old words.old result self.new words.new }
     {
-        self.step(event, now, words)
-    }
-
-    /// Publishes a payload with its identifier.
-    pub fn publish<W: Words>(
-        &mut self,
-        publishing: Publishing,
-        now: Millis,
-        words: &mut W,
-    ) -> Result<(), AllocError>
-        requires ready { IsReady self.old }
-        requires time { last_moment self.old.trace ≤ now.0 }
-        requires may { MayOpen (peer_with self.old.setup) self.old.trace now.0
-            (events.Publish publishing.topic publishing.payload) }
-        requires id { publishing.id ≡ message_id publishing.payload }
-        ensures { Ends (exact W.word W.after) (events.Publish publishing.topic publishing.payload) now
-            self.old words.old result self.new words.new }
-    {
-        let entry = publishing::publish(self, publishing, now, words)?;
-        self.append(entry)
+        self.step_with(payloads, event, now, words)
     }
 
     /// Hears an RPC, and all its parts where its sender is up and not on the graylist.
@@ -143,17 +118,17 @@ impl State {
         ensures { Ends (exact W.word W.after) (hearing self.old.trace from rpc) now
             self.old words.old result self.new words.new }
     {
-        let rpc = Shared::new(self.alloc, rpc)?;
-        if !self.tables.neighbours.is_up(from) {
-            return self.open(Event::Late(from, rpc), now, words);
+        let rpc = Shared::new(self.known.alloc, rpc)?;
+        if !self.known.tables.neighbours.is_up(from) {
+            return self.open(payloads, Event::Late(from, rpc), now, words);
         }
-        if rules::thresholds::is_below(
-            self,
-            self.setup.params.thresholds.graylist_threshold,
+        if entries::thresholds::is_below(
+            &self.known,
+            self.known.setup.params.thresholds.graylist_threshold,
             from,
             now,
         ) {
-            return self.open(Event::Heard(from, rpc), now, words);
+            return self.open(payloads, Event::Heard(from, rpc), now, words);
         }
         self.hear_up(payloads, from, rpc, now, words)
     }
@@ -170,7 +145,7 @@ impl State {
         requires ready { IsReady self.old }
         requires time { last_moment self.old.trace ≤ now.0 }
         requires may { MayHear self.old.trace from rpc }
-        requires listened { is_graylisted (peer_with self.old.setup) self.old.trace now.0 from ≡ false }
+        requires listened { is_graylisted (peer_of self.old) self.old.trace now.0 from ≡ false }
         ensures { Ends (exact W.word W.after) (events.Heard from rpc) now self.old words.old result self.new words.new }
     {
         let heard = clone_of(&rpc)?;
@@ -207,8 +182,7 @@ impl State {
     ) -> Result<(), AllocError>
         requires current { IsCurrent self.old }
         requires time { last_moment self.old.trace ≤ now.0 }
-        requires next { IsNext (peer_with self.old.setup) self.old.trace now.0
-            (owed (peer_with self.old.setup) self.old.trace).events (events.Sub from sub.now) }
+        requires next { IsDue self.old now (events.Sub from sub.now) }
         ensures { Steps (exact W.word W.after) (events.Sub from sub.now) now self.old words.old result self.new words.new }
     {
         let sub = clone_of(sub)?;
@@ -226,11 +200,10 @@ impl State {
     ) -> Result<(), AllocError>
         requires current { IsCurrent self.old }
         requires time { last_moment self.old.trace ≤ now.0 }
-        requires next { IsNext (peer_with self.old.setup) self.old.trace now.0
-            (owed (peer_with self.old.setup) self.old.trace).events (events.Msg from message.now) }
+        requires next { IsDue self.old now (events.Msg from message.now) }
         ensures { Steps (exact W.word W.after) (events.Msg from message.now) now self.old words.old result self.new words.new }
     {
-        let message = Shared::new(self.alloc, clone_of(message)?)?;
+        let message = Shared::new(self.known.alloc, clone_of(message)?)?;
         self.step_with(payloads, Event::Msg(from, message), now, words)
     }
 
@@ -244,11 +217,10 @@ impl State {
     ) -> Result<(), AllocError>
         requires current { IsCurrent self.old }
         requires time { last_moment self.old.trace ≤ now.0 }
-        requires next { IsNext (peer_with self.old.setup) self.old.trace now.0
-            (owed (peer_with self.old.setup) self.old.trace).events (events.Have from offer.now) }
+        requires next { IsDue self.old now (events.Have from offer.now) }
         ensures { Steps (exact W.word W.after) (events.Have from offer.now) now self.old words.old result self.new words.new }
     {
-        let offer = Shared::new(self.alloc, clone_of(offer)?)?;
+        let offer = Shared::new(self.known.alloc, clone_of(offer)?)?;
         self.step(Event::Have(from, offer), now, words)
     }
 
@@ -262,11 +234,10 @@ impl State {
     ) -> Result<(), AllocError>
         requires current { IsCurrent self.old }
         requires time { last_moment self.old.trace ≤ now.0 }
-        requires next { IsNext (peer_with self.old.setup) self.old.trace now.0
-            (owed (peer_with self.old.setup) self.old.trace).events (events.Want from request.now) }
+        requires next { IsDue self.old now (events.Want from request.now) }
         ensures { Steps (exact W.word W.after) (events.Want from request.now) now self.old words.old result self.new words.new }
     {
-        let request = Shared::new(self.alloc, clone_of(request)?)?;
+        let request = Shared::new(self.known.alloc, clone_of(request)?)?;
         self.step(Event::Want(from, request), now, words)
     }
 
@@ -280,8 +251,7 @@ impl State {
     ) -> Result<(), AllocError>
         requires current { IsCurrent self.old }
         requires time { last_moment self.old.trace ≤ now.0 }
-        requires next { IsNext (peer_with self.old.setup) self.old.trace now.0
-            (owed (peer_with self.old.setup) self.old.trace).events (events.GraftIn from graft.now) }
+        requires next { IsDue self.old now (events.GraftIn from graft.now) }
         ensures { Steps (exact W.word W.after) (events.GraftIn from graft.now) now
             self.old words.old result self.new words.new }
     {
@@ -299,8 +269,7 @@ impl State {
     ) -> Result<(), AllocError>
         requires current { IsCurrent self.old }
         requires time { last_moment self.old.trace ≤ now.0 }
-        requires next { IsNext (peer_with self.old.setup) self.old.trace now.0
-            (owed (peer_with self.old.setup) self.old.trace).events (events.PruneIn from prune.now) }
+        requires next { IsDue self.old now (events.PruneIn from prune.now) }
         ensures { Steps (exact W.word W.after) (events.PruneIn from prune.now) now
             self.old words.old result self.new words.new }
     {

@@ -32,13 +32,10 @@ use crate::tables::own_topics::OwnTopics;
 use crate::tables::promises::Promises;
 use crate::tables::sightings::Sightings;
 use crate::tables::standings::Standings;
-use gs_base::{Millis, Neighbour};
+use gs_base::{MOST_IDENTIFIERS, Millis, Neighbour};
 use gs_params::{Params, Windows};
 use gs_rules::Entry;
 use std::alloc::{AllocError, Global};
-
-/// How many identifiers a router offers or asks for at once at most.
-pub const MOST_IDENTIFIERS: u64 = 5_000;
 
 /// What a router knows beside its trace.
 #[derive(Drop)]

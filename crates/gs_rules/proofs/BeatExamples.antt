@@ -10,7 +10,7 @@ use Rattle.gs_params.specs.Params.{default_degrees, default_factors, default_thr
 use Rattle.gs_mesh.specs.Cuts.{peers_of}
 use Rattle.gs_score.specs.Formula.{score_of, topic_part}
 use Rattle.gs_score.specs.Millionths.{times}
-use Rattle.gs_wire.specs.Messages.{grafting, pruning}
+use Rattle.gs_base.specs.Rpcs.{grafting, pruning}
 use Rattle.gs_rules.specs.declared.trace.Event.{Event}
 use Rattle.gs_rules.specs.declared.trace.Event.TheVariants.{BeatEnd, FanBeat, FanEnd, MeshBeat, Promises, Publish, Sub, Subscribe}
 use Rattle.gs_rules.specs.declared.trace.Entry.{Entry}

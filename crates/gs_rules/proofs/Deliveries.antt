@@ -29,7 +29,10 @@ use Rattle.gs_rules.specs.Meshes.{mesh}
 use Rattle.gs_rules.specs.Membership.{candidates, fanning}
 use Rattle.gs_rules.specs.MeshRules.{graft_rule, joining, prune_rule, publish_rule, publishing, sub_rule, those_among}
 use Rattle.gs_rules.specs.BeatRules.{mending, refanning}
-use Rattle.gs_rules.specs.Rules.{rule_of, again, asking, bare, counted, have_rule, invalid, message_rule, near_of, new_message, telling, want_rule, wanted}
+use Rattle.gs_rules.specs.Rules.{rule_of, asking, bare, counted, have_rule, telling, want_rule, wanted}
+use Rattle.gs_rules.specs.declared.outcome.Outcome.{Outcome}
+use Rattle.gs_rules.specs.declared.outcome.Outcome.TheVariants.{Accepted, Ignored, Invalid, Near, Rejected}
+use Rattle.gs_rules.specs.Outcomes.{found_to_be, message_entry, message_rule, near_of}
 use Rattle.gs_rules.specs.Modes.{SaysTheSame, Follows, free}
 use Rattle.gs_rules.specs.Legal.{MayPublish, IsNext, IsAllowed, Legal, Delivers, DeliversApart}
 use Rattle.gs_rules.proofs.Legality.{legal_newest}
@@ -113,21 +116,24 @@ heard : (p : Peer) (L : Entries) (q : PeerNo) (m : Message) (e : Entry) (id : Ms
 heard p L q m e id same delivers =
     of_a_message (λ (x : Entry). SaysTheSame e x → IsFresh p L e id) p L e.at q m
     (λ says. delivers_none p L e (bare e.at (Msg q m)) id says refl delivers)
-    (λ says. delivers_none p L e (invalid e.at q m) id says refl delivers)
-    (λ near says. delivers_none p L e (again e.at q m near) id says refl delivers)
+    (λ says. delivers_none p L e (becomes Invalid) id says refl delivers)
+    (λ says. delivers_none p L e (becomes (Near (message_id (payload_of m)))) id says refl delivers)
     new
     same
   where
-    near_says : (near : Bool) (rest : List Mark) → AllByRecursion (SaysSeen (message_id (payload_of m))) rest → AllByRecursion (SaysSeen (message_id (payload_of m))) (near_of near q m ++ rest)
+    becomes : Outcome → Entry
+    becomes found = message_entry (mesh L (topic_of m)) e.at q m found
+
+    near_says : (near : Bool) (rest : List Mark) → AllByRecursion (SaysSeen (message_id (payload_of m))) rest → AllByRecursion (SaysSeen (message_id (payload_of m))) (near_of near q (topic_of m) (message_id (payload_of m)) ++ rest)
     near_says true rest all = (tt, all)
     near_says false rest all = all
 
-    new : seen (seen_ttl p) L (message_id (payload_of m)) e.at.0 ≡ None → (v : Verdict) → SaysTheSame e (new_message L e.at q m v) → IsFresh p L e id
+    new : seen (seen_ttl p) L (message_id (payload_of m)) e.at.0 ≡ None → (v : Verdict) → SaysTheSame e (becomes (found_to_be (message_id (payload_of m)) v)) → IsFresh p L e id
     new unseen Accept says =
-        delivers_one p L e (new_message L e.at q m Accept) (topic_of m, payload_of m) id says refl
+        delivers_one p L e (becomes (Accepted (message_id (payload_of m)))) (topic_of m, payload_of m) id says refl
         ((refl, refl), (tt, near_says (is_among (mesh L (topic_of m)) q) (Cached (message_id (payload_of m)) (topic_of m) ∷ []) (tt, tt))) refl unseen delivers
-    new unseen Reject says = delivers_none p L e (new_message L e.at q m Reject) id says refl delivers
-    new unseen Ignore says = delivers_none p L e (new_message L e.at q m Ignore) id says refl delivers
+    new unseen Reject says = delivers_none p L e (becomes (Rejected (message_id (payload_of m)))) id says refl delivers
+    new unseen Ignore says = delivers_none p L e (becomes (Ignored (message_id (payload_of m)))) id says refl delivers
 
 -- who comes into a fanout says nothing of a message
 fanning_says : (id : MsgId) (t : Topic) (fanned : List PeerNo) (marks : List Mark) → AllByRecursion (SaysSeen id) marks → AllByRecursion (SaysSeen id) (fanning t fanned ++ marks)

@@ -19,7 +19,8 @@ use Rattle.gs_rules.specs.declared.trace.Event.{Event}
 use Rattle.gs_rules.specs.declared.trace.Event.TheVariants.{Sub, Msg, Have, Want, Publish, RoundEnd, Gone, Shut}
 use Rattle.gs_rules.specs.declared.trace.Entry.{Entry}
 use Rattle.gs_rules.specs.Peers.{Peer}
-use Rattle.gs_rules.specs.Tables.{answered, kept, unsigned, up}
+use Rattle.gs_rules.specs.Tables.{answered, kept, up}
+use Rattle.gs_base.specs.Rpcs.{unsigned}
 use Rattle.gs_rules.specs.Scoring.{score}
 use Rattle.gs_rules.specs.Owed.{parts}
 use Rattle.gs_rules.specs.Rules.{Gives, answers, bare, each_once, have_rule, ids_in, room_to_ask}

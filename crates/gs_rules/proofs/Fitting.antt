@@ -17,14 +17,15 @@ use Rattle.gs_base.specs.declared.rpc.Rpc.{Rpc}
 use Rattle.gs_rules.specs.declared.trace.Event.{Event}
 use Rattle.gs_rules.specs.declared.trace.Event.TheVariants.{Msg, Have, Want, Sub, GraftIn, PruneIn, Subscribe, Unsubscribe, Publish, MeshBeat, FanBeat, GossipBeat}
 use Rattle.gs_rules.specs.declared.trace.Entry.{Entry}
-use Rattle.gs_base.specs.Names.{longest_topic, same_peer, announcement, publication, topic_of, topic_or_empty}
+use Rattle.gs_base.specs.Names.{longest_topic, same_peer, topic_of, topic_or_empty, HasIdentifierLength}
+use Rattle.gs_base.specs.Rpcs.{announcement, publication, grafting, longest_backoff, most_identifiers, offering, passed_on, pruning, requesting}
 use Rattle.gs_base.specs.declared.mark.Mark.TheVariants.{Published}
 use Rattle.gs_mesh.specs.Peers.{without as all_but}
 use Rattle.gs_mesh.specs.declared.heartbeat.Choice.{Choice}
 use Rattle.gs_wire.specs.Varint.{varint}
 use Rattle.gs_wire.specs.Records.{record_text, records_text}
 use Rattle.gs_wire.specs.Fields.{bool_number, varint_record, len_record}
-use Rattle.gs_wire.specs.Messages.{HasIdentifierLength, IsInMemory, body, grafting, longest_backoff, most_identifiers, offering, passed_on, pruning, requesting, sub_records}
+use Rattle.gs_wire.specs.Messages.{IsInMemory, body, sub_records}
 use Rattle.gs_wire.specs.Codec.{codec}
 use Rattle.gs_wire.proofs.RoundTrip.{all-append}
 use Rattle.gs_wire.proofs.Written.{varint_ten, records_text-single, len_text-length}
@@ -37,7 +38,8 @@ use Rattle.gs_rules.specs.MeshRules.{graft_rule, joining, prune_rule, publishing
 use Rattle.gs_rules.specs.BeatRules.{mending, refanning}
 use Rattle.gs_rules.specs.Gossip.{gossip}
 use Rattle.gs_rules.specs.Owed.{owed}
-use Rattle.gs_rules.specs.Rules.{answers, asking, bare, counted, have_rule, ids_in, message_rule, new_message, rule_of, telling, to_each, up_neighbours, want_rule, wanted}
+use Rattle.gs_rules.specs.Rules.{answers, asking, bare, counted, have_rule, ids_in, rule_of, telling, to_each, up_neighbours, want_rule, wanted}
+use Rattle.gs_rules.specs.Outcomes.{found_to_be, message_entry, message_rule}
 use Rattle.gs_rules.specs.Modes.{SaysTheSame, sent_to, Follows, free}
 use Rattle.gs_rules.specs.Legal.{MaySubscribe, MayUnsubscribe, MayPublish, IsNext, Legal}
 use Rattle.gs_rules.specs.Saying.{SendsFit, AllFit}
@@ -163,9 +165,9 @@ same_fits e x same fit = sends_fit e.sends (λ q. subst RpcsFit (sym (same.sends
 
 -- a message is passed on as it came
 message_fits : (p : Peer) (L : Entries) (at : Millis) (q : PeerNo) (m : Message) → FitsAlone m → SendsWritten (message_rule p L at q m).sends
-message_fits p L at q m fits = of_a_message (λ (e : Entry). SendsWritten e.sends) p L at q m tt tt (λ near. tt) (λ unseen. new_fits)
+message_fits p L at q m fits = of_a_message (λ (e : Entry). SendsWritten e.sends) p L at q m tt tt tt (λ unseen. new_fits)
   where
-    new_fits : (v : Verdict) → SendsWritten (new_message L at q m v).sends
+    new_fits : (v : Verdict) → SendsWritten (message_entry (mesh L (topic_of m)) at q m (found_to_be (message_id (payload_of m)) v)).sends
     new_fits Accept = each_fits (passed_on m) (all_but q (mesh L (topic_of m))) (passed_on_written m fits)
     new_fits Reject = tt
     new_fits Ignore = tt

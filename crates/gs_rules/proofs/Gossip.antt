@@ -12,8 +12,8 @@ use Rattle.gs_base.specs.declared.names.MsgId.{MsgId}
 use Rattle.gs_base.specs.declared.rpc.Rpc.{Rpc}
 use Rattle.gs_base.specs.declared.mark.Mark.{Mark}
 use Rattle.gs_base.specs.declared.mark.Mark.TheVariants.{Cached, Seen}
-use Rattle.gs_base.specs.Names.{same_id, same_topic}
-use Rattle.gs_wire.specs.Messages.{HasIdentifierLength, most_identifiers}
+use Rattle.gs_base.specs.Names.{same_id, same_topic, HasIdentifierLength}
+use Rattle.gs_base.specs.Rpcs.{most_identifiers}
 use Rattle.gs_wire.proofs.RoundTrip.{all-append}
 use Rattle.gs_rules.specs.declared.trace.Promise.{Promise}
 use Rattle.gs_rules.specs.declared.trace.Event.{Event}

@@ -10,7 +10,7 @@ use Rattle.gs_base.specs.declared.verdict.Verdict.TheVariants.{Accept, Reject}
 use Rattle.gs_base.specs.declared.mark.Mark.{Mark}
 use Rattle.gs_base.specs.declared.mark.Mark.TheVariants.{Seen, Behaviour, Cached, HeardHave, Asked, Published}
 use Rattle.gs_params.specs.Params.{default_degrees, default_factors, default_thresholds, default_windows}
-use Rattle.gs_wire.specs.Messages.{offering}
+use Rattle.gs_base.specs.Rpcs.{offering}
 use Rattle.gs_rules.specs.declared.trace.Event.{Event}
 use Rattle.gs_rules.specs.declared.trace.Event.TheVariants.{Msg, Have, Subscribe, Unsubscribe, Publish, Promises, MeshBeat, FanBeat, FanEnd, GossipBeat, BeatEnd, Gone}
 use Rattle.gs_rules.specs.declared.trace.Promise.{Promise}

@@ -13,20 +13,31 @@ use Rattle.gs_rules.specs.declared.trace.Entry.{Entry}
 use Rattle.gs_rules.specs.Peers.{Peer, seen_ttl}
 use Rattle.gs_rules.specs.Tables.{Entries, joined, seen}
 use Rattle.gs_rules.specs.Scoring.{is_ignored}
-use Rattle.gs_rules.specs.Rules.{again, answering, answers, bare, ids_in, invalid, is_near, known_or_new, message_rule, new_message, verdict_on, want_rule}
+use Rattle.gs_rules.specs.declared.outcome.Outcome.{Outcome}
+use Rattle.gs_rules.specs.declared.outcome.Outcome.TheVariants.{Dropped, Invalid, Near}
+use Rattle.gs_rules.specs.Meshes.{mesh}
+use Rattle.gs_rules.specs.Outcomes.{again, found_to_be, is_near, known_or_new, message_entry, message_rule, outcome, verdict_on}
+use Rattle.gs_rules.specs.Rules.{answering, answers, bare, ids_in, want_rule}
 
--- what holds of the bare entry, and on a topic that is joined of the invalid message, of one that comes again and of a
--- new one, whatever it is found to be, holds of its rule
+-- what holds of the bare entry, and on a topic that is joined of an invalid message, of one that counts for its sender
+-- and of a new one, whatever it is found to be, holds of its rule
 pub of_a_joined_message : (P : Entry → Type 0) (p : Peer) (L : Entries) (at : Millis) (q : PeerNo) (m : Message)
     → P (bare at (Msg q m))
-    → (joined L (topic_of m) ≡ true → P (invalid at q m))
-    → (joined L (topic_of m) ≡ true → (near : Bool) → P (again at q m near))
-    → (joined L (topic_of m) ≡ true → seen (seen_ttl p) L (message_id (payload_of m)) at.0 ≡ None → (v : Verdict) → P (new_message L at q m v))
+    → (joined L (topic_of m) ≡ true → P (message_entry (mesh L (topic_of m)) at q m Invalid))
+    → (joined L (topic_of m) ≡ true → P (message_entry (mesh L (topic_of m)) at q m (Near (message_id (payload_of m)))))
+    → (joined L (topic_of m) ≡ true → seen (seen_ttl p) L (message_id (payload_of m)) at.0 ≡ None → (v : Verdict) → P (message_entry (mesh L (topic_of m)) at q m (found_to_be (message_id (payload_of m)) v)))
     → P (message_rule p L at q m)
-of_a_joined_message P p L at q m dropped against repeated new = by (joined L (topic_of m)) (is_signed m) (seen (seen_ttl p) L (message_id (payload_of m)) at.0) refl refl
+of_a_joined_message P p L at q m dropped against near new = by (joined L (topic_of m)) (is_signed m) (seen (seen_ttl p) L (message_id (payload_of m)) at.0) refl refl
   where
+    Holds : Outcome → Type 0
+    Holds found = P (message_entry (mesh L (topic_of m)) at q m found)
+
+    repeated : joined L (topic_of m) ≡ true → (is_near : Bool) → Holds (again (message_id (payload_of m)) is_near)
+    repeated on true = near on
+    repeated on false = dropped
+
     by : (joins signed : Bool) (found : Option Verdict) → joined L (topic_of m) ≡ joins → seen (seen_ttl p) L (message_id (payload_of m)) at.0 ≡ found
-        → P (if not joins then bare at (Msg q m) else if signed then invalid at q m else known_or_new p L at q m found)
+        → Holds (if not joins then Dropped else if signed then Invalid else known_or_new p L at.0 q m (message_id (payload_of m)) found)
     by false signed found on is = dropped
     by true true found on is = against on
     by true false (Some Reject) on is = against on
@@ -37,12 +48,12 @@ of_a_joined_message P p L at q m dropped against repeated new = by (joined L (to
 -- what holds of each of these, whatever is joined
 pub of_a_message : (P : Entry → Type 0) (p : Peer) (L : Entries) (at : Millis) (q : PeerNo) (m : Message)
     → P (bare at (Msg q m))
-    → P (invalid at q m)
-    → ((near : Bool) → P (again at q m near))
-    → (seen (seen_ttl p) L (message_id (payload_of m)) at.0 ≡ None → (v : Verdict) → P (new_message L at q m v))
+    → P (message_entry (mesh L (topic_of m)) at q m Invalid)
+    → P (message_entry (mesh L (topic_of m)) at q m (Near (message_id (payload_of m))))
+    → (seen (seen_ttl p) L (message_id (payload_of m)) at.0 ≡ None → (v : Verdict) → P (message_entry (mesh L (topic_of m)) at q m (found_to_be (message_id (payload_of m)) v)))
     → P (message_rule p L at q m)
-of_a_message P p L at q m dropped against repeated new =
-    of_a_joined_message P p L at q m dropped (λ on. against) (λ on. repeated) (λ on. new)
+of_a_message P p L at q m dropped against near new =
+    of_a_joined_message P p L at q m dropped (λ on. against) (λ on. near) (λ on. new)
 
 -- what holds of the bare entry and of the answers holds of the rule of a request
 pub of_a_request : (P : Entry → Type 0) (p : Peer) (L : Entries) (at : Millis) (q : PeerNo) (request : IWant)

@@ -13,7 +13,8 @@ use Rattle.gs_base.specs.declared.rpc.Message.{Message}
 use Rattle.gs_base.specs.declared.rpc.Rpc.{Rpc}
 use Rattle.gs_base.specs.Names.{same_id}
 use Rattle.gs_wire.specs.Codec.{codec}
-use Rattle.gs_wire.specs.Messages.{body, longest_body, passed_on}
+use Rattle.gs_wire.specs.Messages.{body, longest_body}
+use Rattle.gs_base.specs.Rpcs.{passed_on}
 use Rattle.gs_wire.specs.Fields.{len_record}
 use Rattle.gs_wire.proofs.RoundTrip.{all-append}
 use Rattle.gs_wire.proofs.SentOn.{passed_on_shorter}

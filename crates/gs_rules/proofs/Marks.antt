@@ -23,10 +23,9 @@ use Rattle.gs_base.specs.declared.verdict.Verdict.{Verdict}
 use Rattle.gs_base.specs.declared.verdict.Verdict.TheVariants.{Accept, Reject, Ignore}
 use Rattle.gs_base.specs.declared.mark.Mark.{Mark}
 use Rattle.gs_base.specs.declared.mark.Mark.TheVariants.{Answered, Behaviour, Cached, Deficit, First, Grafted, Invalid, Near, Pruned, Published, Unfanned}
-use Rattle.gs_base.specs.Names.{message_id, payload_of, peers_of, same_peer, topic_of, topic_or_empty}
+use Rattle.gs_base.specs.Names.{message_id, payload_of, peers_of, same_peer, topic_of, topic_or_empty, HasIdentifierLength}
 use Rattle.gs_mesh.specs.declared.members.Member.{Member}
 use Rattle.gs_mesh.specs.Peers.{is_among}
-use Rattle.gs_wire.specs.Messages.{HasIdentifierLength}
 use Rattle.gs_wire.proofs.RoundTrip.{all-append}
 use Rattle.gs_rules.specs.declared.trace.Promise.{Promise}
 use Rattle.gs_rules.specs.declared.trace.Event.{Event}
@@ -40,7 +39,8 @@ use Rattle.gs_rules.specs.MeshRules.{asked_backoff, fanned_of, graft_rule, joini
 use Rattle.gs_rules.specs.BeatRules.{fan_end, member_of, members_of, mending, receivers, refanning}
 use Rattle.gs_rules.specs.Scoring.{is_neighbour}
 use Rattle.gs_rules.specs.Gossip.{charges, overdue}
-use Rattle.gs_rules.specs.Rules.{answers, asking, bare, counted, have_rule, ids_in, message_rule, near_of, new_message, rule_of, want_rule, wanted}
+use Rattle.gs_rules.specs.Rules.{answers, asking, bare, counted, have_rule, ids_in, rule_of, want_rule, wanted}
+use Rattle.gs_rules.specs.Outcomes.{found_to_be, message_entry, message_rule, near_of}
 use Rattle.gs_rules.specs.Modes.{SaysTheSame, Follows, free}
 use Rattle.gs_rules.proofs.Each.{each_mapped, each_passing, each_weaker, of_each}
 use Rattle.gs_rules.proofs.Judged.{of_a_joined_message, of_a_request}
@@ -262,22 +262,18 @@ module _ (p : Peer) (L : Entries) where
       effects
 
   -- a message counts on a topic that is joined
-  near_marks : (at : ℕ) (q : PeerNo) (m : Message) (near : Bool) (rest : List Mark) → joined L (topic_of m) ≡ true → Marks p L at (Msg q m) rest → Marks p L at (Msg q m) (near_of near q m ++ rest)
+  near_marks : (at : ℕ) (q : PeerNo) (m : Message) (near : Bool) (rest : List Mark) → joined L (topic_of m) ≡ true → Marks p L at (Msg q m) rest → Marks p L at (Msg q m) (near_of near q (topic_of m) (message_id (payload_of m)) ++ rest)
   near_marks at q m true rest on all = ((refl, on), all)
   near_marks at q m false rest on all = all
-
-  again_marks : (at : ℕ) (q : PeerNo) (m : Message) (near : Bool) → joined L (topic_of m) ≡ true → Marks p L at (Msg q m) (near_of near q m)
-  again_marks at q m true on = ((refl, on), tt)
-  again_marks at q m false on = tt
 
   message_marks : (at : Millis) (q : PeerNo) (m : Message) → Marks p L at.0 (Msg q m) (message_rule p L at q m).marks
   message_marks at q m =
       of_a_joined_message (λ (x : Entry). Marks p L at.0 (Msg q m) x.marks) p L at q m tt
       (λ on. ((refl, on), tt))
-      (λ on near. again_marks at.0 q m near on)
+      (λ on. ((refl, on), tt))
       new
     where
-      new : joined L (topic_of m) ≡ true → seen (seen_ttl p) L (message_id (payload_of m)) at.0 ≡ None → (v : Verdict) → Marks p L at.0 (Msg q m) (new_message L at q m v).marks
+      new : joined L (topic_of m) ≡ true → seen (seen_ttl p) L (message_id (payload_of m)) at.0 ≡ None → (v : Verdict) → Marks p L at.0 (Msg q m) (message_entry (mesh L (topic_of m)) at q m (found_to_be (message_id (payload_of m)) v)).marks
       new on unseen Accept =
           (tt, ((refl, on), near_marks at.0 q m (is_among (mesh L (topic_of m)) q) (Cached (message_id (payload_of m)) (topic_of m) ∷ []) on (message_id_long (payload_of m), tt)))
       new on unseen Reject = (tt, ((refl, on), tt))

@@ -10,11 +10,11 @@ use Rattle.gs_base.specs.declared.control.Prune.{Prune}
 use Rattle.gs_base.specs.declared.verdict.Verdict.TheVariants.{Accept}
 use Rattle.gs_base.specs.declared.mark.Mark.{Mark}
 use Rattle.gs_base.specs.declared.mark.Mark.TheVariants.{Backoff, Behaviour, Cached, Deficit, Fanned, First, Grafted, Near, Pruned, Published, Seen, Unfanned}
-use Rattle.gs_base.specs.Names.{announcement, message_id, publication}
+use Rattle.gs_base.specs.Names.{message_id}
+use Rattle.gs_base.specs.Rpcs.{announcement, publication, pruning}
 use Rattle.gs_params.specs.Params.{default_degrees, default_factors, default_thresholds, default_topic_factors, default_topic_params, default_windows}
 use Rattle.gs_score.specs.Formula.{score_of, topic_part}
 use Rattle.gs_score.specs.Millionths.{times}
-use Rattle.gs_wire.specs.Messages.{pruning}
 use Rattle.gs_rules.specs.declared.trace.Event.{Event}
 use Rattle.gs_rules.specs.declared.trace.Event.TheVariants.{BeatEnd, Gone, GraftIn, Promises, PruneIn, Publish, Sub, Subscribe, Unsubscribe}
 use Rattle.gs_rules.specs.declared.trace.Entry.{Entry}

@@ -6,8 +6,8 @@ use Rattle.std.proofs.lemmas.Bool.Decides.{nat_tests}
 use Rattle.gs_base.specs.declared.names.PeerNo.{PeerNo}
 use Rattle.gs_base.specs.declared.names.Millis.{Millis}
 use Rattle.gs_base.specs.declared.control.IHave.{IHave}
-use Rattle.gs_base.specs.Names.{topic_or_empty}
-use Rattle.gs_wire.specs.Messages.{HasIdentifierLength, most_identifiers}
+use Rattle.gs_base.specs.Names.{topic_or_empty, HasIdentifierLength}
+use Rattle.gs_base.specs.Rpcs.{most_identifiers}
 use Rattle.gs_wire.proofs.RoundTrip.{all-append}
 use Rattle.gs_rules.specs.declared.trace.Event.TheVariants.{Have}
 use Rattle.gs_rules.specs.declared.trace.Entry.{Entry}

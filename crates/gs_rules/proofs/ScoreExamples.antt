@@ -16,7 +16,7 @@ use Rattle.gs_params.specs.Params.{default_degrees, default_factors, default_thr
 use Rattle.gs_score.specs.Histories.{Marked, Decayed, ShutOut}
 use Rattle.gs_score.specs.Formula.{score_of, topic_part}
 use Rattle.gs_score.specs.Millionths.{times}
-use Rattle.gs_wire.specs.Messages.{passed_on}
+use Rattle.gs_base.specs.Rpcs.{passed_on}
 use Rattle.gs_rules.specs.declared.trace.Event.{Event}
 use Rattle.gs_rules.specs.declared.trace.Event.TheVariants.{Heard, Sub, Msg, Have, Want, Subscribe, Promises, Decay, Gone, Fault, Shut}
 use Rattle.gs_rules.specs.declared.trace.Entry.{Entry}

@@ -8,7 +8,7 @@ use Rattle.gs_base.specs.declared.names.Millis.{Millis}
 use Rattle.gs_mesh.specs.declared.members.Member.{Member}
 use Rattle.gs_mesh.specs.declared.heartbeat.Choice.{Choice}
 use Rattle.gs_mesh.specs.MeshSteps.{stepped}
-use Rattle.gs_wire.specs.Messages.{grafting, pruning}
+use Rattle.gs_base.specs.Rpcs.{grafting, pruning}
 use Rattle.gs_rules.specs.declared.trace.Event.{Event}
 use Rattle.gs_rules.specs.declared.trace.Event.TheVariants.{FanBeat, FanEnd, MeshBeat}
 use Rattle.gs_rules.specs.declared.trace.Entry.{Entry}

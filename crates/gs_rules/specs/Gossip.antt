@@ -7,7 +7,7 @@ use Rattle.gs_base.specs.declared.names.MsgId.{MsgId}
 use Rattle.gs_base.specs.declared.mark.Mark.{Mark}
 use Rattle.gs_base.specs.declared.mark.Mark.TheVariants.{Behaviour, Seen}
 use Rattle.gs_base.specs.Names.{same_id, same_peer, same_topic}
-use Rattle.gs_wire.specs.Messages.{most_identifiers}
+use Rattle.gs_base.specs.Rpcs.{most_identifiers}
 use Rattle.gs_rules.specs.declared.trace.Event.{Event}
 use Rattle.gs_rules.specs.declared.trace.Event.TheVariants.{Promises}
 use Rattle.gs_rules.specs.declared.trace.Promise.{Promise}

@@ -9,6 +9,7 @@ pub mod Owed
 pub mod Rule
 pub mod MeshRules
 pub mod BeatRules
+pub mod Outcomes
 pub mod Rules
 pub mod Modes
 pub mod Legal

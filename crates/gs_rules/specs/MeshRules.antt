@@ -9,9 +9,9 @@ use Rattle.gs_base.specs.declared.rpc.SubOpt.{SubOpt}
 use Rattle.gs_base.specs.declared.mark.Mark.{Mark}
 use Rattle.gs_base.specs.declared.mark.Mark.TheVariants.{Behaviour, Cached, Published, Seen}
 use Rattle.gs_base.specs.declared.verdict.Verdict.TheVariants.{Accept}
-use Rattle.gs_base.specs.Names.{announcement, message_id, publication, topic_or_empty}
+use Rattle.gs_base.specs.Names.{message_id, topic_or_empty}
+use Rattle.gs_base.specs.Rpcs.{announcement, publication, grafting, longest_backoff, pruning}
 use Rattle.gs_mesh.specs.Peers.{is_among}
-use Rattle.gs_wire.specs.Messages.{grafting, longest_backoff, pruning}
 use Rattle.gs_rules.specs.declared.trace.Event.{Event}
 use Rattle.gs_rules.specs.declared.trace.Event.TheVariants.{GraftIn, PruneIn, Publish, Sub, Subscribe, Unsubscribe}
 use Rattle.gs_rules.specs.declared.trace.Entry.{Entry}

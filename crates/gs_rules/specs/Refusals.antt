@@ -1,7 +1,8 @@
 -- What a peer's own user may be refused, and for which reason first.
 use Rattle.std.specs.Prelude.{ℕ, Bool, not, ◌||◌, nat_lt, if◌then◌else◌, List, [], ◌∷◌, length, Option, Some, None, is_some}
 use Rattle.gs_base.specs.declared.names.Topic.{Topic}
-use Rattle.gs_base.specs.Names.{longest_topic, message_id, publication}
+use Rattle.gs_base.specs.Names.{longest_topic, message_id}
+use Rattle.gs_base.specs.Rpcs.{publication}
 use Rattle.gs_wire.specs.Codec.{codec}
 use Rattle.gs_rules.specs.declared.trace.Event.{Event}
 use Rattle.gs_rules.specs.declared.trace.Event.TheVariants.{Subscribe, Unsubscribe, Publish, Promises, Decay, RoundEnd, Shut}

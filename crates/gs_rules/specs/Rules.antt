@@ -1,8 +1,7 @@
 -- What a peer does about an event: for each event one rule, which gives the whole entry. Rules look at the trace
 -- before the entry alone.
-use Rattle.std.specs.Prelude.{ℕ, ◌+◌, ◌-◌, min, Bool, true, false, not, ◌&&◌, ◌||◌, nat_eq, nat_le, nat_lt, if◌then◌else◌, List, [], ◌∷◌, ◌++◌, length, take, map, filter, fold, get_or, Option, Some, None, is_some, option_map}
-use Rattle.std.specs.List.{list_any, starts_with}
-use Rattle.std.specs.Map.{lookup}
+use Rattle.std.specs.Prelude.{ℕ, ◌+◌, ◌-◌, min, Bool, not, ◌&&◌, ◌||◌, nat_eq, nat_le, nat_lt, if◌then◌else◌, List, [], ◌∷◌, ◌++◌, length, take, map, filter, fold, get_or, Option, Some, None, is_some, option_map}
+use Rattle.std.specs.List.{list_any}
 use Rattle.std.specs.Cmp.Lexicographic.{pointwise}
 use Rattle.gs_base.specs.declared.names.PeerNo.{PeerNo}
 use Rattle.gs_base.specs.declared.names.Topic.{Topic}
@@ -11,103 +10,22 @@ use Rattle.gs_base.specs.declared.rpc.Message.{Message}
 use Rattle.gs_base.specs.declared.names.MsgId.{MsgId}
 use Rattle.gs_base.specs.declared.control.IHave.{IHave}
 use Rattle.gs_base.specs.declared.control.IWant.{IWant}
-use Rattle.gs_base.specs.Names.{same_id, same_topic, topic_or_empty, topic_of, payload_of, message_id, is_signed}
-use Rattle.gs_base.specs.declared.verdict.Verdict.{Verdict}
-use Rattle.gs_base.specs.declared.verdict.Verdict.TheVariants.{Accept, Reject, Ignore}
-use Rattle.gs_base.specs.declared.mark.Mark.{Mark}
-use Rattle.gs_base.specs.declared.mark.Mark.TheVariants.{Seen, First, Near, Invalid, Cached, Answered, HeardHave, Asked}
-use Rattle.gs_params.specs.declared.topic_params.TopicParams.{TopicParams}
+use Rattle.gs_base.specs.Names.{same_id, topic_or_empty}
+use Rattle.gs_base.specs.declared.mark.Mark.TheVariants.{Answered, HeardHave, Asked}
 use Rattle.gs_mesh.specs.Peers.{is_among}
-use Rattle.gs_mesh.specs.Peers.{without as all_but}
-use Rattle.gs_score.specs.Accounts.{rules_of}
-use Rattle.gs_wire.specs.Messages.{most_identifiers, offering, passed_on, requesting}
+use Rattle.gs_base.specs.Rpcs.{most_identifiers, offering, passed_on, requesting}
 use Rattle.gs_rules.specs.declared.trace.Event.{Event}
 use Rattle.gs_rules.specs.declared.trace.Event.TheVariants.{FanBeat, FanEnd, Fault, Gone, GossipBeat, GraftIn, Have, MeshBeat, Msg, Promises, PruneIn, Publish, Sub, Subscribe, Unsubscribe, Want}
 use Rattle.gs_rules.specs.declared.trace.Entry.{Entry}
 use Rattle.gs_rules.specs.Peers.{Peer, seen_ttl, windows}
-use Rattle.gs_rules.specs.Tables.{Entries, Keeping, Sighting, answered, asked, joined, kept, last_millis, last_seen, offers, seen}
-use Rattle.gs_rules.specs.Meshes.{fanout, mesh, noted}
+use Rattle.gs_rules.specs.Tables.{Entries, Keeping, answered, asked, joined, kept, last_millis, offers, seen}
+use Rattle.gs_rules.specs.Meshes.{fanout, mesh}
 use Rattle.gs_rules.specs.Scoring.{is_ignored}
 use Rattle.gs_rules.specs.Gossip.{all_charges, gossip, gossip_size}
 pub use Rattle.gs_rules.specs.Rule.{AnyOf, CutOf, Gives, OneOf, Rule, bare, listeners, to_each, up_neighbours, without}
+use Rattle.gs_rules.specs.Outcomes.{message_rule}
 use Rattle.gs_rules.specs.BeatRules.{fan_beat_rule, fan_end, mesh_beat_rule}
 use Rattle.gs_rules.specs.MeshRules.{graft_rule, lost_rule, prune_rule, publish_rule, sub_rule, subscribe_rule, unsubscribe_rule}
-
--- ---- messages that come
-
--- a payload begins with one of these
-abbrev pub begins_with_one : List (List ℕ) → List ℕ → Bool
-begins_with_one prefixes payload = list_any (λ prefix. starts_with nat_eq payload prefix) prefixes
-
--- What a payload is found to be by the parameters of its topic (gossipsub v1.1, "Extended Validators"): to reject goes
--- before to ignore, and where none are given it is accepted.
-abbrev pub verdict_by : Option TopicParams → List ℕ → Verdict
-verdict_by None payload = Accept
-verdict_by (Some params) payload =
-    if begins_with_one params.reject payload then Reject
-    else if begins_with_one params.ignore payload then Ignore
-    else Accept
-
--- the first parameters of a topic count
-abbrev pub verdict_on : List (Topic × TopicParams) → Message → Verdict
-verdict_on topics m = verdict_by (lookup (same_topic (topic_of m)) topics) (payload_of m)
-
--- a message that counts against its sender
-abbrev pub invalid : Millis → PeerNo → Message → Entry
-invalid at q m = record (bare at (Msg q m)) { marks = Invalid q (topic_of m) ∷ [] }
-
--- the first delivery of a mesh member, and any that comes soon behind the first, counts for it (gossipsub v1.1, Peer
--- Scoring, P3)
-abbrev pub near_of : Bool → PeerNo → Message → List Mark
-near_of is_near q m = if is_near then Near q (topic_of m) (message_id (payload_of m)) ∷ [] else []
-
--- A message that was not seen lately, by what it is found to be. What is accepted goes to the topic's mesh, but for
--- whom it came from (gossipsub v1.0, "Message Processing").
-abbrev pub new_message : Entries → Millis → PeerNo → Message → Verdict → Entry
-new_message L at q m Accept = record (bare at (Msg q m)) {
-  sends = to_each (passed_on m) (all_but q (mesh L (topic_of m)));
-  delivered = (topic_of m, payload_of m) ∷ [];
-  marks = Seen (message_id (payload_of m)) Accept
-      ∷ First q (topic_of m) (message_id (payload_of m))
-      ∷ (near_of (is_among (mesh L (topic_of m)) q) q m ++ Cached (message_id (payload_of m)) (topic_of m) ∷ []);
-}
-new_message L at q m Reject = record (bare at (Msg q m)) {
-  marks = Seen (message_id (payload_of m)) Reject ∷ Invalid q (topic_of m) ∷ [];
-}
-new_message L at q m Ignore = record (bare at (Msg q m)) { marks = Seen (message_id (payload_of m)) Ignore ∷ [] }
-
--- a sighting is at most so many milliseconds old
-abbrev pub is_soon : ℕ → ℕ → Option Sighting → Bool
-is_soon window at None = false
-is_soon window at (Some s) = nat_le (at - s.at) window
-
--- for how long after the first delivery of a message another one counts
-abbrev pub near_window : Peer → Topic → ℕ
-near_window p t = (rules_of p.params t).windows.p3_window_ms
-
--- a member of the topic's mesh passes on what was seen a moment ago, and did not do so before
-abbrev pub is_near : Peer → Entries → ℕ → PeerNo → Topic → MsgId → Bool
-is_near p L at q t id =
-    is_among (mesh L t) q && (is_soon (near_window p t) at (last_seen L id) && not (noted L id q))
-
--- a message that was accepted lately comes again
-abbrev pub again : Millis → PeerNo → Message → Bool → Entry
-again at q m is_near = record (bare at (Msg q m)) { marks = near_of is_near q m }
-
--- a message, by what it was found to be lately: one that was rejected counts against each that passes it on
-abbrev pub known_or_new : Peer → Entries → Millis → PeerNo → Message → Option Verdict → Entry
-known_or_new p L at q m (Some Accept) = again at q m (is_near p L at.0 q (topic_of m) (message_id (payload_of m)))
-known_or_new p L at q m (Some Reject) = invalid at q m
-known_or_new p L at q m (Some Ignore) = bare at (Msg q m)
-known_or_new p L at q m None = new_message L at q m (verdict_on p.params.topics m)
-
--- A message that came is dropped where the peer isn't subscribed. One that is signed is invalid, and not marked as
--- seen. Any other is marked as seen, if it was not lately, and delivered, kept and passed on, if it is accepted.
-abbrev pub message_rule : Peer → Entries → Millis → PeerNo → Message → Entry
-message_rule p L at q m =
-    if not (joined L (topic_of m)) then bare at (Msg q m)
-    else if is_signed m then invalid at q m
-    else known_or_new p L at q m (seen (seen_ttl p) L (message_id (payload_of m)) at.0)
 
 -- ---- offers (gossipsub v1.0, "Control messages", IHAVE)
 

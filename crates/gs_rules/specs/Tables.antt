@@ -11,6 +11,7 @@ use Rattle.gs_base.specs.declared.names.PeerNo.{PeerNo}
 use Rattle.gs_base.specs.declared.names.Topic.{Topic}
 use Rattle.gs_base.specs.declared.names.MsgId.{MsgId}
 use Rattle.gs_base.specs.Names.{same_peer, same_topic, same_id, topic_or_empty}
+use Rattle.gs_base.specs.Rpcs.{unsigned}
 use Rattle.gs_base.specs.declared.verdict.Verdict.{Verdict}
 use Rattle.gs_base.specs.declared.mark.Mark.{Mark}
 use Rattle.gs_base.specs.declared.rpc.Message.{Message}
@@ -142,17 +143,6 @@ pub record Keeping : Type 0 where
   pub topic : Topic
   pub message : Message
   pub age : ℕ
-
--- a message with a payload and a topic alone, as StrictNoSign has it
-abbrev pub unsigned : Topic → List ℕ → Message
-unsigned t payload = record {
-  origin = None;
-  payload = Some payload;
-  seqno = None;
-  topic = Some t;
-  signature = None;
-  key = None;
-}
 
 -- a message without any field
 abbrev pub blank : Message

@@ -3,6 +3,7 @@
 #![tactic(auto)]
 
 mod laws;
+mod outcome;
 mod refusal;
 mod trace;
 
@@ -17,5 +18,6 @@ pub use laws::{
     what_is_sent_is_spelled, what_was_said_is_handled, what_was_sent_is_handled,
     what_words_choose_is_legal, words_fix_the_next_entry, words_fix_what_follows_a_rule,
 };
+pub use outcome::Outcome;
 pub use refusal::{Refusal, RefusedLine};
 pub use trace::{Entry, Event, Promise, Trace};

@@ -5,12 +5,13 @@ use Rattle.std.specs.List.{AllByRecursion, IsAmong}
 use Rattle.gs_base.specs.declared.names.Topic.{Topic}
 use Rattle.gs_base.specs.declared.rpc.Message.{Message}
 use Rattle.gs_base.specs.declared.rpc.Rpc.{Rpc}
-use Rattle.gs_base.specs.Names.{longest_topic}
+use Rattle.gs_base.specs.Names.{longest_topic, HasIdentifierLength}
 use Rattle.gs_wire.specs.Varint.{varint}
 use Rattle.gs_wire.specs.Records.{Record, records_text}
 use Rattle.gs_wire.specs.Fields.{len_record, part_records, repeated_records, varint_record}
 use Rattle.gs_wire.specs.Controls.{control_records, ihave_records, iwant_records}
-use Rattle.gs_wire.specs.Messages.{HasIdentifierLength, body, grafting, longest_backoff, longest_body, message_records, most_identifiers, offering, passed_on, pruning, requesting, sub_records}
+use Rattle.gs_wire.specs.Messages.{body, longest_body, message_records, sub_records}
+use Rattle.gs_base.specs.Rpcs.{grafting, longest_backoff, most_identifiers, offering, passed_on, pruning, requesting}
 use Rattle.gs_wire.proofs.Written.{len_text-length, records_text-append, records_text-single, varint_ten}
 
 -- ---- a message by itself

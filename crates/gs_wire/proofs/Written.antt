@@ -8,7 +8,8 @@ use Rattle.gs_base.specs.declared.names.Topic.{Topic}
 use Rattle.gs_wire.specs.Varint.{varint}
 use Rattle.gs_wire.specs.Records.{Record, record_text, records_text}
 use Rattle.gs_wire.specs.Fields.{len_record, varint_record, number_records, bytes_records}
-use Rattle.gs_wire.specs.Messages.{message_records, body, publication}
+use Rattle.gs_wire.specs.Messages.{message_records, body}
+use Rattle.gs_base.specs.Rpcs.{publication}
 use Rattle.gs_wire.proofs.Varints.{varint_small, written_len}
 
 pub varint_ten : (n : ℕ) → length (varint n) ≤ 10

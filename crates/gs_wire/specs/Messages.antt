@@ -1,6 +1,6 @@
 -- RPCs and their parts as lists of records (libp2p pubsub, "The RPC": `rpc.proto`).
 -- The numbers are those of the fields there.
-use Rattle.std.specs.Prelude.{◌≡◌, ℕ, ◌<◌, ◌^◌, min, List, [], ◌∷◌, ◌++◌, length, Some, None, IfSome, option_to_list}
+use Rattle.std.specs.Prelude.{◌≡◌, ℕ, ◌<◌, ◌^◌, List, ◌++◌, length, IfSome, option_to_list}
 use Rattle.std.specs.List.{AllZip, AllByRecursion}
 use Rattle.gs_base.specs.declared.names.Topic.{Topic}
 use Rattle.gs_base.specs.declared.control.Prune.{Prune}
@@ -8,7 +8,6 @@ use Rattle.gs_base.specs.declared.control.Control.{Control}
 use Rattle.gs_base.specs.declared.rpc.SubOpt.{SubOpt}
 use Rattle.gs_base.specs.declared.rpc.Message.{Message}
 use Rattle.gs_base.specs.declared.rpc.Rpc.{Rpc}
-pub use Rattle.gs_base.specs.Names.{publication}
 use Rattle.gs_wire.specs.Varint.{varint}
 use Rattle.gs_wire.specs.Records.{Record, len_values, records_text}
 use Rattle.gs_wire.specs.Fields.{Spells, bytes_of, topic_of, bool_of, topic_bytes, bool_records, bytes_records, part_records}
@@ -70,63 +69,6 @@ longest_body = 1048576
 -- the frame that is written for an RPC: the length of its body, and the body
 abbrev pub frame : Rpc → List ℕ
 frame v = varint (length (body v)) ++ body v
-
--- ---- what peers send on
-
--- a message by itself, as it was heard
-abbrev pub passed_on : Message → Rpc
-passed_on m = record { subs = []; publish = m ∷ []; control = None }
-
--- an offer of messages on a topic (gossipsub v1.0, "Control messages", IHAVE)
-abbrev pub offering : Topic → List (List ℕ) → Rpc
-offering topic ids = record {
-  subs = [];
-  publish = [];
-  control = Some (record { ihave = record { topic = Some topic; ids = ids } ∷ []; iwant = []; graft = []; prune = [] });
-}
-
--- a request for messages (gossipsub v1.0, "Control messages", IWANT)
-abbrev pub requesting : List (List ℕ) → Rpc
-requesting ids = record {
-  subs = [];
-  publish = [];
-  control = Some (record { ihave = []; iwant = record { ids = ids } ∷ []; graft = []; prune = [] });
-}
-
--- a neighbour is told that it was grafted (gossipsub v1.0, "Control messages", GRAFT)
-abbrev pub grafting : Topic → Rpc
-grafting topic = record {
-  subs = [];
-  publish = [];
-  control = Some (record { ihave = []; iwant = []; graft = record { topic = Some topic } ∷ []; prune = [] });
-}
-
--- the longest backoff that is asked for, or heeded, in seconds
-abbrev pub longest_backoff : ℕ
-longest_backoff = 86_400
-
--- a neighbour is told that it was pruned, and for how many seconds it is not to come back (gossipsub v1.1, "Prune
--- Backoff")
-abbrev pub pruning : Topic → ℕ → Rpc
-pruning topic seconds = record {
-  subs = [];
-  publish = [];
-  control
-      = Some (record {
-        ihave = [];
-        iwant = [];
-        graft = [];
-        prune = record { topic = Some topic; backoff = Some (min seconds longest_backoff) } ∷ [];
-      });
-}
-
--- the most identifiers in an offer or a request
-abbrev pub most_identifiers : ℕ
-most_identifiers = 5000
-
--- as long as the identifier of a message
-abbrev pub HasIdentifierLength : List ℕ → Type 0
-HasIdentifierLength id = length id ≡ 32
 
 -- ---- the values that a program holds
 

@@ -3,13 +3,14 @@ ghost use Rattle.std.specs.Prelude.{[], ◌∷◌, ◌≡◌, ◌<◌, ◌≤◌
 ghost use Rattle.gs_base.specs.declared.names.Topic.{Topic};
 ghost use Rattle.gs_base.specs.declared.rpc.Message.{Message};
 ghost use Rattle.gs_base.specs.declared.rpc.Rpc.{Rpc};
-ghost use Rattle.gs_base.specs.Names.{longest_topic};
+ghost use Rattle.gs_base.specs.Names.{longest_topic, HasIdentifierLength};
 ghost use Rattle.gs_wire.specs.Varint.{IsVarint, varint};
 ghost use Rattle.gs_wire.specs.Records.{Record, SpellRecords};
 ghost use Rattle.std.specs.List.{concat, AllByRecursion, IsAmong};
 ghost use Rattle.gs_wire.specs.declared.frames.End.{End};
 ghost use Rattle.gs_wire.specs.Stream.{IsStream, FindsIn, Holding, FeedsAll, HasRead};
-ghost use Rattle.gs_wire.specs.Messages.{HasIdentifierLength, SpellsRpc, IsInMemory, body, frame, grafting, longest_body, most_identifiers, offering, passed_on, pruning, requesting};
+ghost use Rattle.gs_wire.specs.Messages.{SpellsRpc, IsInMemory, body, frame, longest_body};
+ghost use Rattle.gs_base.specs.Rpcs.{grafting, most_identifiers, offering, passed_on, pruning, requesting};
 
 /// Bytes spell at most one list of records.
 pub fn bytes_spell_one_list_of_records()

@@ -5,7 +5,8 @@ ghost use Rattle.gs_base.specs.declared.control.Control.{Control as ControlValue
 ghost use Rattle.gs_wire.specs.Records.{Record as Spelled, SpellRecords, records_text};
 ghost use Rattle.gs_wire.specs.Fields.{part_records};
 ghost use Rattle.gs_wire.specs.Controls.{SaysControl, no_control, control_records};
-ghost use Rattle.gs_wire.specs.Messages.{SaysRpc, SpellsRpc, longest_body, body, frame, publication};
+ghost use Rattle.gs_wire.specs.Messages.{SaysRpc, SpellsRpc, longest_body, body, frame};
+ghost use Rattle.gs_base.specs.Rpcs.{publication};
 
 use crate::decoding::{Decode, DecodeError, merge_all, push_message};
 use crate::encoding::{Encode, len_record_len, parts_len, put_parts, put_sized_part};

@@ -39,21 +39,21 @@ impl Router {
     pub fn is_up(&self, peer: PeerNo) -> bool
         ensures { self.now.is_stopped ≡ false → result ≡ up self.now.trace peer }
     {
-        self.state.tables.neighbours.is_up(peer)
+        self.state.known.tables.neighbours.is_up(peer)
     }
 
     /// The time from heartbeat to heartbeat, in milliseconds.
     pub fn heartbeat_ms(&self) -> u64
         ensures { result ≡ self.now.peer.params.windows.heartbeat_ms }
     {
-        self.state.setup.params.windows.heartbeat_ms
+        self.state.known.setup.params.windows.heartbeat_ms
     }
 
     /// The time from step to step of the decay of scores, in milliseconds.
     pub fn decay_ms(&self) -> u64
         ensures { result ≡ self.now.peer.params.windows.decay_ms }
     {
-        self.state.setup.params.windows.decay_ms
+        self.state.known.setup.params.windows.decay_ms
     }
 
     /// The score of a neighbour at a moment, in millionths (gossipsub v1.1, Peer Scoring, The Score Function); of a peer
@@ -61,7 +61,7 @@ impl Router {
     pub fn score(&self, peer: PeerNo, now: Millis) -> i128
         ensures { self.now.is_stopped ≡ false → result ≡ score self.now.peer self.now.trace now.0 peer }
     {
-        self.state.tables.standings.score(peer, now)
+        self.state.known.tables.standings.score(peer, now)
     }
 
     /// The scores of all neighbours at a moment, by number. After want of memory nothing is known of them.
@@ -80,7 +80,7 @@ impl Router {
     pub fn members(&self, topic: &Topic) -> &[PeerNo]
         ensures { self.now.is_stopped ≡ false → result.now ≡ mesh self.now.trace topic.now }
     {
-        self.state.tables.memberships.members(topic)
+        self.state.known.tables.memberships.members(topic)
     }
 
     /// The members of the meshes of the router's own topics, topics by their bytes, members by number. After want of

@@ -5,18 +5,18 @@ ghost use Rattle.gs_rules.specs.declared.trace.Event.TheVariants as events;
 ghost use Rattle.gs_rules.specs.Tables.{Entries, last_moment};
 ghost use Rattle.gs_rules.specs.Meshes.{fanout_topics, has_fanout, is_stale};
 ghost use Rattle.gs_rules.specs.BeatRules.{fan_event};
-ghost use Rattle.gs_rules.specs.Owed.{FanBeats, events_in, gossip_topics, is_some_list, owed};
+ghost use Rattle.gs_rules.specs.Owed.{FanBeats, events_in, gossip_topics, is_some_list};
 ghost use Rattle.gs_rules.specs.Gossip.{gossip};
 ghost use Rattle.gs_rules.specs.Modes.{exact};
-ghost use Rattle.gs_rules.specs.Legal.{IsNext, MayOpen};
+ghost use Rattle.gs_rules.specs.Legal.{MayOpen};
 ghost use Rattle.gs_router.specs.Beats.{event_of};
 ghost use Rattle.gs_router.specs.Tables.{Agrees};
-ghost use Rattle.gs_router.specs.State.{Ends, IsCurrent, IsReady, Steps, peer_with};
+ghost use Rattle.gs_router.specs.State.{Ends, IsCurrent, IsDue, IsReady, Steps, peer_of};
 
 use crate::state::State;
 use gs_base::{Millis, Topic, clone_of};
-use gs_params::Words;
 use gs_rules::Event;
+use gs_params::Words;
 use std::alloc::AllocError;
 
 /// A fanout whose turn comes in a heartbeat.
@@ -44,11 +44,11 @@ impl State {
     pub fn heartbeat<W: Words>(&mut self, now: Millis, words: &mut W) -> Result<(), AllocError>
         requires ready { IsReady self.old }
         requires time { last_moment self.old.trace ≤ now.0 }
-        requires may { MayOpen (peer_with self.old.setup) self.old.trace now.0 events.Promises }
+        requires may { MayOpen (peer_of self.old) self.old.trace now.0 events.Promises }
         ensures { Ends (exact W.word W.after) events.Promises now self.old words.old result self.new words.new }
     {
         self.step(Event::Promises, now, words)?;
-        let own_topics = self.tables.topics.joined(self.alloc)?;
+        let own_topics = self.known.tables.topics.joined(self.known.alloc)?;
         for own in own_topics.as_slice() {
             self.mend_mesh(own, now, words)?;
         }
@@ -73,8 +73,7 @@ impl State {
     ) -> Result<(), AllocError>
         requires current { IsCurrent self.old }
         requires time { last_moment self.old.trace ≤ now.0 }
-        requires next { IsNext (peer_with self.old.setup) self.old.trace now.0
-            (owed (peer_with self.old.setup) self.old.trace).events (events.MeshBeat topic.now) }
+        requires next { IsDue self.old now (events.MeshBeat topic.now) }
         ensures { Steps (exact W.word W.after) (events.MeshBeat topic.now) now
             self.old words.old result self.new words.new }
     {
@@ -91,8 +90,7 @@ impl State {
     ) -> Result<(), AllocError>
         requires current { IsCurrent self.old }
         requires time { last_moment self.old.trace ≤ now.0 }
-        requires next { IsNext (peer_with self.old.setup) self.old.trace now.0
-            (owed (peer_with self.old.setup) self.old.trace).events (event_of due.now) }
+        requires next { IsDue self.old now (event_of due.now) }
         ensures { Steps (exact W.word W.after) (event_of due.now) now
             self.old words.old result self.new words.new }
     {
@@ -107,10 +105,10 @@ impl State {
     fn due_fanouts(&self, now: Millis) -> Result<Vec<DueFanout>, AllocError>
         requires { IsCurrent self.now }
         ensures { IfOk result (λ list. map event_of list.items
-            ≡ events_in (peer_with self.now.setup) self.now.trace (FanBeats now.0)) }
+            ≡ events_in (peer_of self.now) self.now.trace (FanBeats now.0)) }
     {
         let topics = self.fanout_topics()?;
-        let mut list = Vec::new(self.alloc);
+        let mut list = Vec::new(self.known.alloc);
         for topic in topics.as_slice() {
             list.push(self.due_fanout(topic, now)?)?;
         }
@@ -122,8 +120,8 @@ impl State {
         requires { IsCurrent self.now }
         ensures { IfOk result (λ topics. topics.items ≡ fanout_topics self.now.trace) }
     {
-        let all = self.tables.mesh_topics.list(self.alloc)?;
-        let mut topics = Vec::new(self.alloc);
+        let all = self.known.tables.mesh_topics.list(self.known.alloc)?;
+        let mut topics = Vec::new(self.known.alloc);
         for topic in all.as_slice() {
             if self.has_fanout(topic) {
                 topics.push(clone_of(topic)?)?;
@@ -134,21 +132,29 @@ impl State {
 
     /// Whether a topic has a fanout.
     fn has_fanout(&self, topic: &Topic) -> bool
-        ensures { (L : Entries) → Agrees self.now.tables L → result ≡ has_fanout L topic.now }
+        ensures { (L : Entries) → Agrees self.now.known.tables L → result ≡ has_fanout L topic.now }
     {
-        self.tables.memberships.last_published(topic).is_some()
+        self.known
+            .tables
+            .memberships
+            .last_published(topic)
+            .is_some()
     }
 
     /// What becomes of the fanout of a topic at a moment.
     fn due_fanout(&self, topic: &Topic, now: Millis) -> Result<DueFanout, AllocError>
         ensures { IfOk result (λ due. (L : Entries)
-            → Agrees self.now.tables L
-            → event_of due ≡ fan_event (peer_with self.now.setup) L now.0 topic.now) }
+            → Agrees self.now.known.tables L
+            → event_of due ≡ fan_event (peer_of self.now) L now.0 topic.now) }
     {
-        let published = self.tables.memberships.last_published(topic);
+        let published = self.known.tables.memberships.last_published(topic);
         Ok(DueFanout {
             topic: clone_of(topic)?,
-            is_stale: is_stale(self.setup.params.windows.fanout_ttl_ms, now, published),
+            is_stale: is_stale(
+                self.known.setup.params.windows.fanout_ttl_ms,
+                now,
+                published,
+            ),
         })
     }
 
@@ -161,8 +167,7 @@ impl State {
     ) -> Result<(), AllocError>
         requires current { IsCurrent self.old }
         requires time { last_moment self.old.trace ≤ now.0 }
-        requires next { IsNext (peer_with self.old.setup) self.old.trace now.0
-            (owed (peer_with self.old.setup) self.old.trace).events (events.GossipBeat topic.now) }
+        requires next { IsDue self.old now (events.GossipBeat topic.now) }
         ensures { Steps (exact W.word W.after) (events.GossipBeat topic.now) now
             self.old words.old result self.new words.new }
     {
@@ -173,10 +178,10 @@ impl State {
     /// The topics on which there is something to gossip, in the order of their bytes.
     fn gossip_topics(&self) -> Result<Vec<Topic>, AllocError>
         requires { IsCurrent self.now }
-        ensures { IfOk result (λ topics. topics.items ≡ gossip_topics (peer_with self.now.setup) self.now.trace) }
+        ensures { IfOk result (λ topics. topics.items ≡ gossip_topics (peer_of self.now) self.now.trace) }
     {
-        let all = self.tables.mesh_topics.list(self.alloc)?;
-        let mut topics = Vec::new(self.alloc);
+        let all = self.known.tables.mesh_topics.list(self.known.alloc)?;
+        let mut topics = Vec::new(self.known.alloc);
         for topic in all.as_slice() {
             if self.has_gossip(topic)? {
                 topics.push(clone_of(topic)?)?;
@@ -189,9 +194,9 @@ impl State {
     fn has_gossip(&self, topic: &Topic) -> Result<bool, AllocError>
         requires { IsCurrent self.now }
         ensures { IfOk result (λ some. some
-            ≡ is_some_list (gossip (peer_with self.now.setup) self.now.trace topic.now)) }
+            ≡ is_some_list (gossip (peer_of self.now) self.now.trace topic.now)) }
     {
-        let ids = self.tables.messages.gossip_ids(topic)?;
+        let ids = self.known.tables.messages.gossip_ids(topic)?;
         Ok(!ids.is_empty())
     }
 }

@@ -13,10 +13,10 @@ use std::alloc::AllocError;
 impl State {
     /// The members of the meshes of the router's own topics, topics by their bytes, members by number.
     pub fn meshes(&self) -> Result<Seq<(Topic, PeerNo)>, AllocError>
-        ensures { IfOk result (λ meshes. (L : Entries) → Agrees self.now.tables L → meshes ≡ meshes_of L) }
+        ensures { IfOk result (λ meshes. (L : Entries) → Agrees self.now.known.tables L → meshes ≡ meshes_of L) }
     {
-        let topics = self.tables.topics.joined(self.alloc)?;
-        let mut meshes = Seq::new(self.alloc);
+        let topics = self.known.tables.topics.joined(self.known.alloc)?;
+        let mut meshes = Seq::new(self.known.alloc);
         for topic in topics.as_slice() {
             self.list_members(&mut meshes, topic)?;
         }
@@ -30,10 +30,10 @@ impl State {
         topic: &Topic,
     ) -> Result<(), AllocError>
         ensures { OnOk result ((L : Entries)
-            → Agrees self.now.tables L
+            → Agrees self.now.known.tables L
             → meshes.new ≡ meshes.old ++ map (λ (q : PeerNoValue). (topic.now, q)) (mesh L topic.now)) }
     {
-        for member in self.tables.memberships.members(topic) {
+        for member in self.known.tables.memberships.members(topic) {
             meshes.push((clone_of(topic)?, *member))?;
         }
         Ok(())

@@ -4,7 +4,7 @@ ghost use Rattle.gs_base.specs.declared.names.MsgId.{MsgId as MsgIdValue};
 ghost use Rattle.gs_base.specs.declared.names.PeerNo.{PeerNo as PeerNoValue};
 ghost use Rattle.gs_rules.specs.Tables.{Entries, last_moment, last_seen, seen};
 ghost use Rattle.gs_rules.specs.Meshes.{noted, notes};
-ghost use Rattle.gs_rules.specs.Rules.{is_soon};
+ghost use Rattle.gs_rules.specs.Outcomes.{is_soon};
 ghost use Rattle.gs_router.specs.Tables.{AgreesOnSightings, PassesOn, Sees, told, told_after, told_of};
 
 use gs_base::{Mark, Millis, MsgId, PeerNo, Verdict};

@@ -28,9 +28,11 @@ invariant_of-result c =
           agrees = subst (λ (L : Entries). Agrees c.in_ok-tables.tables L) (sym c.new-2.ensures) c.in_ok-tables.ensures.agrees;
           scores = subst (λ (L : Entries). AgreesOnScores p c.in_ok-tables.tables.standings L) (sym c.new-2.ensures) (c.in_ok-tables.ensures.scores p refl (sym c.as_slice.ensures.value));
           made = c.in_ok-tables.ensures.made p refl;
-          ascending = c.requires.ascending;
-          ticks = c.requires.in_range.windows.opportunistic_ticks.0;
-          room = c.requires.in_range.degrees.best;
+          fit = record {
+            ascending = c.requires.ascending;
+            ticks = c.requires.in_range.windows.opportunistic_ticks.0;
+            room = c.requires.in_range.degrees.best;
+          };
         };
         settled = ap (owed p) c.new-2.ensures;
       };

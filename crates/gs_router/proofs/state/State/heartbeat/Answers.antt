@@ -11,7 +11,7 @@ use Rattle.gs_rules.proofs.Legality.{exact_is_free}
 use Rattle.gs_router.specs.declared.setup.Setup.{Setup}
 use Rattle.gs_router.specs.declared.state.heartbeat.DueFanout.{DueFanout}
 use Rattle.gs_router.specs.Beats.{event_of}
-use Rattle.gs_router.specs.State.{peer_with}
+use Rattle.gs_router.specs.Known.{peer_with}
 use Rattle.gs_router.proofs.Beating.{due_owes_none}
 use Rattle.gs_router.proofs.Steps.{Paying, beats_first, next_left, pays_all, pays_group, pays_next, pays_some, stops}
 use Rattle.gs_router.proofs.state.State.heartbeat.Goals as goal
@@ -55,7 +55,7 @@ loop-fanout-init g c =
     let topics : List Topic = c.as_slice-own-items.result.now in
     let none = drop_all c.loop-own.own-index topics (omega (arith, c.loop-own-test.false)) in
     let all = subst (λ (left : List Topic). Paying m c.args.now Promises a c.args.words.now b c.loop-own.words (map MeshBeat left) (FanBeats c.args.now.0 ∷ Gossips ∷ [])) none c.loop-own.invariant in
-    let due : map event_of c.as_slice-fanout-items.result.now ≡ events_in (peer_with a.setup) b.trace (FanBeats c.args.now.0)
+    let due : map event_of c.as_slice-fanout-items.result.now ≡ events_in (peer_with a.known.setup) b.trace (FanBeats c.args.now.0)
     = ap (map event_of) c.as_slice-fanout-items.ensures.value
     ∙ c.in_ok-fanouts.ensures
     ∙ ap (λ (s : Setup). events_in (peer_with s) b.trace (FanBeats c.args.now.0)) c.loop-own.invariant.setup in
@@ -67,7 +67,7 @@ loop-fanout-preserved g c =
     let fanouts : List DueFanout = c.as_slice-fanout-items.result.now in
     let here = next_left fanouts c.loop-fanout.fanout-index c.fanout-item.result c.loop-fanout-test.true c.fanout-item.is in
     let due = subst (λ (left : List DueFanout). Paying m c.args.now Promises c.args.self.now c.args.words.now c.loop-fanout.self c.loop-fanout.words (map event_of left) (Gossips ∷ [])) here c.loop-fanout.invariant in
-    pays_next m c.args.now Promises (event_of c.fanout-item.result) (map event_of (drop (c.loop-fanout.fanout-index + 1) fanouts)) (Gossips ∷ []) c.args.self.now c.loop-fanout.self c.mend_fanout.new.self c.args.words.now c.loop-fanout.words c.mend_fanout.new.words c.in_ok-mend_fanout.field-0 due (due_owes_none (peer_with c.args.self.now.setup) c.loop-fanout.self.trace c.args.now.0 c.fanout-item.result) c.in_ok-mend_fanout.ensures
+    pays_next m c.args.now Promises (event_of c.fanout-item.result) (map event_of (drop (c.loop-fanout.fanout-index + 1) fanouts)) (Gossips ∷ []) c.args.self.now c.loop-fanout.self c.mend_fanout.new.self c.args.words.now c.loop-fanout.words c.mend_fanout.new.words c.in_ok-mend_fanout.field-0 due (due_owes_none (peer_with c.args.self.now.known.setup) c.loop-fanout.self.trace c.args.now.0 c.fanout-item.result) c.in_ok-mend_fanout.ensures
 
 pub returns-in_err-topics : goal.returns-in_err-topics
 returns-in_err-topics g c =

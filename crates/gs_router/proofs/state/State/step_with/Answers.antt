@@ -1,7 +1,7 @@
 use Rattle.gs_rules.specs.Modes.{exact}
 use Rattle.gs_rules.proofs.Legality.{exact_is_free}
 use Rattle.gs_router.proofs.Steps.{followed, knows, no_earlier}
-use Rattle.gs_router.specs.State.{peer_with}
+use Rattle.gs_router.specs.Known.{peer_with}
 use Rattle.gs_router.proofs.Beating.{beats_are_few}
 use Rattle.gs_router.proofs.Standing.{ticks_are_few}
 use Rattle.gs_router.proofs.state.State.step_with.Goals as goal
@@ -9,12 +9,12 @@ use Rattle.gs_router.proofs.state.State.step_with.Goals as goal
 pub append-requires-clause-few : goal.append-requires-clause-few
 append-requires-clause-few g c =
     let a = c.args.self.now in
-    ticks_are_few (peer_with a.setup) a.tables.standings a.trace c.requires.current.scores
+    ticks_are_few (peer_with a.known.setup) a.known.tables.standings a.trace c.requires.current.scores
 
 pub append-requires-clause-beats : goal.append-requires-clause-beats
 append-requires-clause-beats g c =
     let a = c.args.self.now in
-    beats_are_few a.tables.beats a.trace c.requires.current.agrees.beats
+    beats_are_few a.known.tables.beats a.trace c.requires.current.agrees.beats
 
 pub append-requires-clause-time : goal.append-requires-clause-time
 append-requires-clause-time g c =

@@ -1,7 +1,7 @@
 use Rattle.std.proofs.Common.{◌∙◌, ℕ, List, ap, ap₂}
 use Rattle.std.specs.Prelude.{filter}
 use Rattle.gs_base.specs.declared.names.MsgId.{MsgId}
-use Rattle.gs_wire.specs.Messages.{most_identifiers}
+use Rattle.gs_base.specs.Rpcs.{most_identifiers}
 use Rattle.gs_rules.specs.Tables.{answered, keeping, keeping_order, last_kept}
 use Rattle.gs_rules.specs.Gossip.{is_gossiped, last_of}
 use Rattle.gs_router.proofs.Keeping.{announced_so}

@@ -1,0 +1,73 @@
+-- The RPCs that a router sends.
+use Rattle.std.specs.Prelude.{ℕ, min, Bool, List, [], ◌∷◌, None, Some}
+use Rattle.gs_base.specs.declared.names.Topic.{Topic}
+use Rattle.gs_base.specs.declared.rpc.Message.{Message}
+use Rattle.gs_base.specs.declared.rpc.Rpc.{Rpc}
+use Rattle.gs_base.specs.declared.control.Control.{Control}
+
+-- the longest backoff that is asked for, or heeded, in seconds
+abbrev pub longest_backoff : ℕ
+longest_backoff = 86_400
+
+-- the most identifiers in an offer or a request
+abbrev pub most_identifiers : ℕ
+most_identifiers = 5_000
+
+-- an RPC that says nothing
+abbrev pub empty_rpc : Rpc
+empty_rpc = record { subs = []; publish = []; control = None }
+
+-- control messages of which there are none
+abbrev pub empty_control : Control
+empty_control = record { ihave = []; iwant = []; graft = []; prune = [] }
+
+-- an RPC that says that its sender subscribes to the topic, or leaves it
+abbrev pub announcement : Bool → Topic → Rpc
+announcement subscribes topic = record empty_rpc {
+  subs = record { subscribe = Some subscribes; topic = Some topic } ∷ [];
+}
+
+-- a message with a payload and a topic alone, as StrictNoSign has it
+abbrev pub unsigned : Topic → List ℕ → Message
+unsigned topic payload = record {
+  origin = None;
+  payload = Some payload;
+  seqno = None;
+  topic = Some topic;
+  signature = None;
+  key = None;
+}
+
+-- a message by itself, as it was heard
+abbrev pub passed_on : Message → Rpc
+passed_on message = record empty_rpc { publish = message ∷ [] }
+
+-- an RPC that publishes one message under StrictNoSign
+abbrev pub publication : Topic → List ℕ → Rpc
+publication topic payload = passed_on (unsigned topic payload)
+
+-- an offer of messages on a topic (gossipsub v1.0, "Control messages", IHAVE)
+abbrev pub offering : Topic → List (List ℕ) → Rpc
+offering topic ids = record empty_rpc {
+  control = Some (record empty_control { ihave = record { topic = Some topic; ids = ids } ∷ [] });
+}
+
+-- a request for messages (gossipsub v1.0, "Control messages", IWANT)
+abbrev pub requesting : List (List ℕ) → Rpc
+requesting ids = record empty_rpc { control = Some (record empty_control { iwant = record { ids = ids } ∷ [] }) }
+
+-- a neighbour is told that it was grafted (gossipsub v1.0, "Control messages", GRAFT)
+abbrev pub grafting : Topic → Rpc
+grafting topic = record empty_rpc {
+  control = Some (record empty_control { graft = record { topic = Some topic } ∷ [] });
+}
+
+-- a neighbour is told that it was pruned, and for how many seconds it is not to come back (gossipsub v1.1, "Prune
+-- Backoff")
+abbrev pub pruning : Topic → ℕ → Rpc
+pruning topic seconds = record empty_rpc {
+  control
+      = Some (record empty_control {
+        prune = record { topic = Some topic; backoff = Some (min seconds longest_backoff) } ∷ [];
+      });
+}

@@ -1,0 +1,191 @@
+//! The RPCs that a router sends.
+ghost use Rattle.std.specs.Prelude.{◌≡◌, IfOk, map};
+ghost use Rattle.gs_base.specs.declared.names.MsgId.{MsgId as MsgIdValue};
+ghost use Rattle.gs_base.specs.Rpcs.{announcement, empty_control, empty_rpc, grafting, longest_backoff, most_identifiers, offering, passed_on, pruning, publication, requesting};
+
+use crate::control::{Control, Graft, IHave, IWant, Prune};
+use crate::exact::clone_of;
+use crate::names::{MsgId, Topic};
+use crate::rpc::{Message, Rpc, SubOpt};
+use crate::seq::Seq;
+use bytes::Bytes;
+use std::alloc::{AllocError, Global};
+
+/// The longest backoff that is asked for, or heeded, in seconds.
+pub const LONGEST_BACKOFF: u64 = 86_400;
+
+/// The most identifiers in an offer or a request.
+pub const MOST_IDENTIFIERS: u64 = 5_000;
+
+/// The limits of RPCs are those of the definitions.
+pub fn limits_of_rpcs()
+    ensures backoff { LONGEST_BACKOFF ≡ longest_backoff }
+    ensures identifiers { MOST_IDENTIFIERS ≡ most_identifiers }
+{}
+
+impl Control {
+    /// Control messages of which there are none. It takes no memory.
+    pub fn empty(alloc: Global) -> Control
+        ensures { result ≡ empty_control }
+    {
+        Control {
+            ihave: Seq::new(alloc),
+            iwant: Seq::new(alloc),
+            graft: Seq::new(alloc),
+            prune: Seq::new(alloc),
+        }
+    }
+}
+
+impl Rpc {
+    /// An RPC that says nothing. It takes no memory.
+    pub fn empty(alloc: Global) -> Rpc
+        ensures { result ≡ empty_rpc }
+    {
+        Rpc {
+            subs: Seq::new(alloc),
+            publish: Seq::new(alloc),
+            control: None,
+        }
+    }
+
+    /// An RPC that says that its sender subscribes to a topic or leaves it.
+    ///
+    /// # Errors
+    /// `AllocError` where there was no memory for it.
+    pub fn announcement(alloc: Global, subscribes: bool, topic: &Topic) -> Result<Rpc, AllocError>
+        ensures { IfOk result (λ rpc. rpc ≡ announcement subscribes topic.now) }
+    {
+        let sub = SubOpt {
+            subscribe: Some(subscribes),
+            topic: Some(clone_of(topic)?),
+        };
+        Ok(Rpc {
+            subs: Seq::only(alloc, sub)?,
+            ..Rpc::empty(alloc)
+        })
+    }
+
+    /// An RPC that publishes one message under StrictNoSign. It shares the payload.
+    ///
+    /// # Errors
+    /// `AllocError` where there was no memory for it.
+    pub fn publication(alloc: Global, topic: &Topic, payload: &Bytes) -> Result<Rpc, AllocError>
+        ensures { IfOk result (λ rpc. rpc ≡ publication topic.now payload.now) }
+    {
+        let message = Message {
+            origin: None,
+            payload: Some(clone_of(payload)?),
+            seqno: None,
+            topic: Some(clone_of(topic)?),
+            signature: None,
+            key: None,
+        };
+        Ok(Rpc {
+            publish: Seq::only(alloc, message)?,
+            ..Rpc::empty(alloc)
+        })
+    }
+
+    /// A message by itself, as it was heard. It shares the payload.
+    ///
+    /// # Errors
+    /// `AllocError` where there was no memory for it.
+    pub fn passed_on(alloc: Global, message: &Message) -> Result<Rpc, AllocError>
+        ensures { IfOk result (λ rpc. rpc ≡ passed_on message.now) }
+    {
+        Ok(Rpc {
+            publish: Seq::only(alloc, clone_of(message)?)?,
+            ..Rpc::empty(alloc)
+        })
+    }
+
+    /// An offer of messages on a topic (gossipsub v1.0, "Control messages", IHAVE).
+    ///
+    /// # Errors
+    /// `AllocError` where there was no memory for it.
+    pub fn offering(alloc: Global, topic: &Topic, ids: &[MsgId]) -> Result<Rpc, AllocError>
+        ensures { IfOk result (λ rpc. rpc ≡ offering topic.now (map (λ (id : MsgIdValue). id.0) ids.now)) }
+    {
+        let offer = IHave {
+            topic: Some(clone_of(topic)?),
+            ids: bytes_of(alloc, ids)?,
+        };
+        let control = Control {
+            ihave: Seq::only(alloc, offer)?,
+            ..Control::empty(alloc)
+        };
+        Ok(control_only(alloc, control))
+    }
+
+    /// A request for messages (gossipsub v1.0, "Control messages", IWANT).
+    ///
+    /// # Errors
+    /// `AllocError` where there was no memory for it.
+    pub fn requesting(alloc: Global, ids: Seq<Bytes>) -> Result<Rpc, AllocError>
+        ensures { IfOk result (λ rpc. rpc ≡ requesting ids) }
+    {
+        let control = Control {
+            iwant: Seq::only(alloc, IWant { ids })?,
+            ..Control::empty(alloc)
+        };
+        Ok(control_only(alloc, control))
+    }
+
+    /// Tells a neighbour that it was grafted (gossipsub v1.0, "Control messages", GRAFT).
+    ///
+    /// # Errors
+    /// `AllocError` where there was no memory for it.
+    pub fn grafting(alloc: Global, topic: &Topic) -> Result<Rpc, AllocError>
+        ensures { IfOk result (λ rpc. rpc ≡ grafting topic.now) }
+    {
+        let graft = Graft {
+            topic: Some(clone_of(topic)?),
+        };
+        let control = Control {
+            graft: Seq::only(alloc, graft)?,
+            ..Control::empty(alloc)
+        };
+        Ok(control_only(alloc, control))
+    }
+
+    /// Tells a neighbour that it was pruned, and for how many seconds it is not to come back: at most
+    /// `LONGEST_BACKOFF` (gossipsub v1.1, "Prune Backoff").
+    ///
+    /// # Errors
+    /// `AllocError` where there was no memory for it.
+    pub fn pruning(alloc: Global, topic: &Topic, seconds: u64) -> Result<Rpc, AllocError>
+        ensures { IfOk result (λ rpc. rpc ≡ pruning topic.now seconds) }
+    {
+        let prune = Prune {
+            topic: Some(clone_of(topic)?),
+            backoff: Some(seconds.min(LONGEST_BACKOFF)),
+        };
+        let control = Control {
+            prune: Seq::only(alloc, prune)?,
+            ..Control::empty(alloc)
+        };
+        Ok(control_only(alloc, control))
+    }
+}
+
+/// An RPC with control messages alone.
+fn control_only(alloc: Global, control: Control) -> Rpc
+    ensures { result ≡ record empty_rpc { control = Some control } }
+{
+    Rpc {
+        control: Some(control),
+        ..Rpc::empty(alloc)
+    }
+}
+
+/// The bytes of these identifiers.
+fn bytes_of(alloc: Global, ids: &[MsgId]) -> Result<Seq<Bytes>, AllocError>
+    ensures { IfOk result (λ list. list ≡ map (λ (id : MsgIdValue). id.0) ids.now) }
+{
+    let mut list = Seq::new(alloc);
+    for id in ids {
+        list.push(Bytes::copy_from_slice(alloc, &id.0)?)?;
+    }
+    Ok(list)
+}

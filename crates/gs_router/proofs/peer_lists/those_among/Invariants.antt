@@ -1,0 +1,7 @@
+use Rattle.std.proofs.Common.{◌≡◌, ◌++◌, drop}
+use Rattle.gs_rules.specs.MeshRules.{those_among}
+use Rattle.gs_router.proofs.peer_lists.those_among.Given as goal
+
+abbrev pub invariant-loop-peer : goal.invariant-loop-peer
+invariant-loop-peer l =
+    l.found.items ++ those_among l.others (drop l.peer-index l.peers) ≡ those_among l.others l.peers

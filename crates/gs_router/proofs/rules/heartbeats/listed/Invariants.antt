@@ -1,6 +1,0 @@
-use Rattle.std.proofs.Common.{◌≡◌, ◌++◌, drop, map}
-use Rattle.gs_base.specs.declared.names.MsgId.{MsgId}
-use Rattle.gs_router.proofs.rules.heartbeats.listed.Given as goal
-
-abbrev pub invariant-loop-id : goal.invariant-loop-id
-invariant-loop-id l = l.list ++ map (λ (id : MsgId). id.0) (drop l.id-index l.ids) ≡ map (λ (id : MsgId). id.0) l.ids

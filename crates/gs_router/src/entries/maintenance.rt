@@ -1,0 +1,190 @@
+//! What a heartbeat does to meshes and fanouts (gossipsub v1.0, "Mesh maintenance" and "Fanout maintenance"; v1.1,
+//! "Heartbeat Maintenance", "Outbound Mesh Quotas" and "Opportunistic Grafting").
+ghost use Rattle.std.specs.Prelude.{◌×◌, ◌≡◌, ◌++◌, IfOk};
+ghost use Rattle.gs_rules.specs.Tables.{Entries};
+ghost use Rattle.gs_rules.specs.BeatRules.{fan_beat_rule, fan_end, member_of, members_of, mending, mesh_beat_rule, receivers as receivers_of, refanning};
+ghost use Rattle.gs_rules.specs.Membership.{barring, each_on, leaving};
+ghost use Rattle.gs_rules.specs.Modes.{Follows, exact};
+ghost use Rattle.gs_router.specs.Tables.{Agrees};
+ghost use Rattle.gs_router.specs.Known.{IsFit, Knows, peer_with};
+
+use crate::entries::membership;
+use crate::entries::selection::{candidates, is_outbound, worthy_listeners};
+use crate::entries::sends::{bare, send_to_each, to_each};
+use crate::known::Known;
+use crate::peer_lists::{left_of, those_among, those_outside};
+use gs_base::{Mark, Millis, PeerNo, Rpc, Seq, Topic};
+use gs_mesh::{Choice, Member, choose_heartbeat};
+use gs_params::{Words, pick};
+use gs_rules::{Entry, Event};
+use std::alloc::AllocError;
+
+// ---- meshes
+
+/// A neighbour with its score, and with whether this side dialled it.
+fn member_of(known: &Known, peer: PeerNo, now: Millis) -> Member
+    ensures { (L : Entries)
+        → Knows known.now now.0 L
+        → result ≡ member_of (peer_with known.now.setup) L now.0 peer }
+{
+    Member {
+        peer,
+        score: known.tables.standings.score(peer, now),
+        outbound: is_outbound(known, peer),
+    }
+}
+
+/// The same of each of these.
+fn members_of(known: &Known, peers: &[PeerNo], now: Millis) -> Result<Vec<Member>, AllocError>
+    ensures { IfOk result (λ members. (L : Entries)
+        → Knows known.now now.0 L
+        → members.items ≡ members_of (peer_with known.now.setup) L now.0 peers.now) }
+{
+    let mut members = Vec::new(known.alloc);
+    for peer in peers {
+        members.push(member_of(known, *peer, now))?;
+    }
+    Ok(members)
+}
+
+/// What is remembered of those who leave a mesh at a heartbeat: each is charged, and is not to come back for a while.
+fn parting(
+    known: &Known,
+    topic: &Topic,
+    pruned: &[PeerNo],
+    now: Millis,
+) -> Result<Seq<Mark>, AllocError>
+    ensures { IfOk result (λ marks. (L : Entries)
+        → Knows known.now now.0 L
+        → marks
+        ≡ leaving (peer_with known.now.setup) L now.0 (each_on topic.now pruned.now)
+        ++ barring now.0 known.now.setup.params.windows.prune_backoff_s (each_on topic.now pruned.now)) }
+{
+    let pairs = membership::each_on(known.alloc, topic, pruned)?;
+    let seconds = known.setup.params.windows.prune_backoff_s;
+    let mut marks = Seq::new(known.alloc);
+    membership::leave(known, &mut marks, pairs.as_slice(), now)?;
+    membership::bar(&mut marks, pairs.as_slice(), seconds, now)?;
+    Ok(marks)
+}
+
+/// The entry in which some leave the mesh of a topic and others come into it.
+fn mending(known: &Known, topic: Topic, choice: &Choice, now: Millis) -> Result<Entry, AllocError>
+    ensures { IfOk result (λ entry. (L : Entries)
+        → Knows known.now now.0 L
+        → entry ≡ mending (peer_with known.now.setup) L now topic choice.now) }
+{
+    let seconds = known.setup.params.windows.prune_backoff_s;
+    let pruned = choice.pruned.as_slice();
+    let grafted = choice.grafted.as_slice();
+    let mut sends = to_each(
+        known.alloc,
+        Rpc::pruning(known.alloc, &topic, seconds)?,
+        pruned,
+    )?;
+    send_to_each(
+        known.alloc,
+        &mut sends,
+        Rpc::grafting(known.alloc, &topic)?,
+        grafted,
+    )?;
+    let mut marks = parting(known, &topic, pruned, now)?;
+    let entering = membership::each_on(known.alloc, &topic, grafted)?;
+    membership::enter(&mut marks, entering.as_slice())?;
+    Ok(Entry {
+        sends,
+        marks,
+        ..bare(known.alloc, now, Event::MeshBeat(topic))
+    })
+}
+
+/// The entry of a heartbeat that mends the mesh of a topic.
+pub fn mesh_beat<W: Words>(
+    known: &Known,
+    topic: Topic,
+    now: Millis,
+    words: &mut W,
+) -> Result<Entry, AllocError>
+    requires fit { IsFit known.now.setup }
+    requires knows { (L : Entries) × Knows known.now now.0 L }
+    ensures { IfOk result (λ entry. (L : Entries)
+        → Knows known.now now.0 L
+        → Follows (exact W.word W.after) (mesh_beat_rule (peer_with known.now.setup) L now topic)
+        words.old entry words.new) }
+{
+    let mesh = members_of(known, known.tables.memberships.members(&topic), now)?;
+    let near = candidates(known, &topic, now)?;
+    let candidates = members_of(known, &near, now)?;
+    let choice = choose_heartbeat(
+        known.alloc,
+        &known.setup.params,
+        &mesh,
+        &candidates,
+        known.tables.beats.count(),
+        words,
+    )?;
+    let entry = mending(known, topic, &choice, now)?;
+    Ok(entry)
+}
+
+// ---- fanouts
+
+/// The entry in which these come into the fanout of a topic, and whoever is none of the receivers leaves it.
+fn refanning(
+    known: &Known,
+    topic: Topic,
+    receivers: &[PeerNo],
+    chosen: &[PeerNo],
+    now: Millis,
+) -> Result<Entry, AllocError>
+    ensures { IfOk result (λ entry. (L : Entries)
+        → Agrees known.now.tables L
+        → receivers.now ≡ receivers_of (peer_with known.now.setup) L now.0 topic
+        → entry ≡ refanning (peer_with known.now.setup) L now topic chosen.now) }
+{
+    let fanout = known.tables.memberships.fanout(&topic);
+    let gone = those_outside(known.alloc, receivers, fanout)?;
+    let mut marks = Seq::new(known.alloc);
+    membership::unfan(&mut marks, &topic, &gone)?;
+    membership::fan(&mut marks, &topic, chosen)?;
+    Ok(Entry {
+        marks,
+        ..bare(known.alloc, now, Event::FanBeat(topic))
+    })
+}
+
+/// The entry of a heartbeat that mends the fanout of a topic.
+pub fn fan_beat<W: Words>(
+    known: &Known,
+    topic: Topic,
+    now: Millis,
+    words: &mut W,
+) -> Result<Entry, AllocError>
+    requires fit { IsFit known.now.setup }
+    requires knows { (L : Entries) × Knows known.now now.0 L }
+    ensures { IfOk result (λ entry. (L : Entries)
+        → Knows known.now now.0 L
+        → Follows (exact W.word W.after) (fan_beat_rule (peer_with known.now.setup) L now topic)
+        words.old entry words.new) }
+{
+    let receivers = worthy_listeners(known, &topic, now)?;
+    let fanout = known.tables.memberships.fanout(&topic);
+    let stay = those_among(known.alloc, &receivers, fanout)?;
+    let others = those_outside(known.alloc, fanout, &receivers)?;
+    let left = left_of(known.setup.params.degrees.d as usize, &stay);
+    let chosen = pick(known.alloc, &others, left, words)?;
+    let entry = refanning(known, topic, &receivers, &chosen, now)?;
+    Ok(entry)
+}
+
+/// The entry of a heartbeat that ends the fanout of a topic.
+pub fn fan_end(known: &Known, topic: Topic, now: Millis) -> Result<Entry, AllocError>
+    ensures { IfOk result (λ entry. (L : Entries) → Agrees known.now.tables L → entry ≡ fan_end L now topic) }
+{
+    let mut marks = Seq::new(known.alloc);
+    membership::unfan(&mut marks, &topic, known.tables.memberships.fanout(&topic))?;
+    Ok(Entry {
+        marks,
+        ..bare(known.alloc, now, Event::FanEnd(topic))
+    })
+}

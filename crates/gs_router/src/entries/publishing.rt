@@ -1,0 +1,237 @@
+//! Publishing: who gets what the router's own user publishes, and what is refused.
+ghost use Rattle.std.specs.Prelude.{◌×◌, ◌≡◌, ◌++◌, [], ◌∷◌, IfOk, if◌then◌else◌};
+ghost use Rattle.gs_base.specs.Names.{message_id};
+ghost use Rattle.gs_base.specs.declared.verdict.Verdict.TheVariants.{Accept};
+ghost use Rattle.gs_base.specs.declared.mark.Mark.TheVariants as marks;
+ghost use Rattle.gs_rules.specs.declared.trace.Event.TheVariants as events;
+ghost use Rattle.gs_rules.specs.Tables.{Entries, joined};
+ghost use Rattle.gs_rules.specs.Meshes.{fanout};
+ghost use Rattle.gs_rules.specs.MeshRules.{fanout_publish, publish_rule};
+ghost use Rattle.gs_rules.specs.MeshRules.{publishing as going_to};
+ghost use Rattle.gs_rules.specs.Scoring.{is_passed_over};
+ghost use Rattle.gs_rules.specs.Rules.{without};
+ghost use Rattle.gs_rules.specs.Modes.{Follows, exact};
+ghost use Rattle.gs_rules.specs.Refusals.{refusal};
+ghost use Rattle.gs_router.specs.declared.entries.publishing.FanoutUse.TheVariants.{Kept};
+ghost use Rattle.gs_router.specs.Tables.{Agrees};
+ghost use Rattle.gs_router.specs.Meshes.{fanout_marks, filled_by, kept_by};
+ghost use Rattle.gs_router.specs.Known.{IsFit, Knows, peer_with};
+
+use crate::entries::membership;
+use crate::entries::selection::{worthy, worthy_listeners};
+use crate::entries::sends::{bare, to_each};
+use crate::known::Known;
+use bytes::Bytes;
+use gs_base::{LONGEST_TOPIC, Mark, Millis, MsgId, PeerNo, Rpc, Seq, Topic, Verdict, clone_of};
+use gs_params::{Words, pick};
+use gs_rules::{Entry, Event, Refusal};
+use gs_wire::{MAX_BODY, publish_len};
+use std::alloc::{AllocError, Global};
+
+/// A payload that the router's own user publishes, with the identifier of its message.
+#[derive(Drop)]
+pub struct Publishing {
+    pub topic: Topic,
+    pub payload: Bytes,
+    pub id: MsgId,
+}
+
+/// What is delivered to the router's own user of a payload that it publishes.
+fn delivered(known: &Known, publishing: &Publishing) -> Result<Seq<(Topic, Bytes)>, AllocError>
+    ensures { IfOk result (λ list. (L : Entries)
+        → Agrees known.now.tables L
+        → list ≡ (if joined L publishing.now.topic then (publishing.now.topic, publishing.now.payload) ∷ [] else [])) }
+{
+    if known.tables.topics.is_joined(&publishing.topic) {
+        let message = (clone_of(&publishing.topic)?, clone_of(&publishing.payload)?);
+        Seq::only(known.alloc, message)
+    } else {
+        Ok(Seq::new(known.alloc))
+    }
+}
+
+/// What a payload that is published does to the fanout of its topic.
+#[derive(Clone, Copy, Debug, PartialEq, Eq)]
+pub enum FanoutUse {
+    /// Nothing: it goes elsewhere.
+    Unused,
+    /// It goes to members of the fanout, which is kept.
+    Kept,
+    /// Those that it goes to become the fanout.
+    Filled,
+}
+
+/// What is remembered of a payload that is published to these.
+fn published(
+    alloc: Global,
+    publishing: &Publishing,
+    receivers: &[PeerNo],
+    fanout: FanoutUse,
+) -> Result<Seq<Mark>, AllocError>
+    ensures { IfOk result (λ list. list
+        ≡ marks.Seen publishing.now.id Accept
+        ∷ marks.Cached publishing.now.id publishing.now.topic
+        ∷ fanout_marks fanout publishing.now.topic receivers.now) }
+{
+    let mut marks = Seq::only(alloc, Mark::Seen(publishing.id, Verdict::Accept))?;
+    marks.push(Mark::Cached(publishing.id, clone_of(&publishing.topic)?))?;
+    match fanout {
+        FanoutUse::Unused => Ok(marks),
+        FanoutUse::Kept => {
+            marks.push(Mark::Published(clone_of(&publishing.topic)?))?;
+            Ok(marks)
+        }
+        FanoutUse::Filled => {
+            membership::fan(&mut marks, &publishing.topic, receivers)?;
+            marks.push(Mark::Published(clone_of(&publishing.topic)?))?;
+            Ok(marks)
+        }
+    }
+}
+
+/// The entry of a payload that goes to these.
+fn sending(
+    known: &Known,
+    publishing: Publishing,
+    receivers: &[PeerNo],
+    fanout: FanoutUse,
+    now: Millis,
+) -> Result<Entry, AllocError>
+    requires { publishing.id ≡ message_id publishing.payload }
+    ensures { IfOk result (λ entry. (L : Entries)
+        → Knows known.now now.0 L
+        → entry ≡ going_to L now publishing.topic publishing.payload receivers.now (filled_by fanout receivers.now)
+        (kept_by fanout publishing.topic)) }
+{
+    let rpc = Rpc::publication(known.alloc, &publishing.topic, &publishing.payload)?;
+    let sends = to_each(known.alloc, rpc, receivers)?;
+    let delivered = delivered(known, &publishing)?;
+    let marks = published(known.alloc, &publishing, receivers, fanout)?;
+    let Publishing { topic, payload, .. } = publishing;
+    Ok(Entry {
+        sends,
+        delivered,
+        marks,
+        ..bare(known.alloc, now, Event::Publish(topic, payload))
+    })
+}
+
+/// The entry of a payload that goes to the fanout of its topic, which is some.
+fn to_fanout(known: &Known, publishing: Publishing, now: Millis) -> Result<Entry, AllocError>
+    requires { publishing.id ≡ message_id publishing.payload }
+    ensures { IfOk result (λ entry. (L : Entries)
+        → Knows known.now now.0 L
+        → entry ≡ going_to L now publishing.topic publishing.payload
+        (without (is_passed_over (peer_with known.now.setup) L now.0) (fanout L publishing.topic))
+        []
+        (kept_by Kept publishing.topic)) }
+{
+    let fanout = known.tables.memberships.fanout(&publishing.topic);
+    let receivers = worthy(known, fanout, now)?;
+    let entry = sending(known, publishing, &receivers, FanoutUse::Kept, now)?;
+    Ok(entry)
+}
+
+/// The entry of a payload that goes to some of the listeners, which become the fanout of its topic.
+fn to_new_fanout<W: Words>(
+    known: &Known,
+    publishing: Publishing,
+    now: Millis,
+    words: &mut W,
+) -> Result<Entry, AllocError>
+    requires id { publishing.id ≡ message_id publishing.payload }
+    requires fit { IsFit known.now.setup }
+    requires knows { (L : Entries) × Knows known.now now.0 L }
+    ensures { IfOk result (λ entry. (L : Entries)
+        → Knows known.now now.0 L
+        → Follows (exact W.word W.after)
+        (fanout_publish (peer_with known.now.setup) L now publishing.topic publishing.payload [])
+        words.old entry words.new) }
+{
+    let listeners = worthy_listeners(known, &publishing.topic, now)?;
+    let size = known.setup.params.degrees.d as usize;
+    let chosen = pick(known.alloc, &listeners, size, words)?;
+    let entry = sending(known, publishing, &chosen, FanoutUse::Filled, now)?;
+    Ok(entry)
+}
+
+/// The entry of a payload that goes to the listeners, or to the mesh of its topic.
+fn without_fanout(
+    known: &Known,
+    publishing: Publishing,
+    receivers: &[PeerNo],
+    now: Millis,
+) -> Result<Entry, AllocError>
+    requires { publishing.id ≡ message_id publishing.payload }
+    ensures { IfOk result (λ entry. (L : Entries)
+        → Knows known.now now.0 L
+        → entry ≡ going_to L now publishing.topic publishing.payload receivers.now [] []) }
+{
+    let entry = sending(known, publishing, receivers, FanoutUse::Unused, now)?;
+    Ok(entry)
+}
+
+/// The entry of a payload that the router's own user publishes.
+pub fn publish<W: Words>(
+    known: &Known,
+    publishing: Publishing,
+    now: Millis,
+    words: &mut W,
+) -> Result<Entry, AllocError>
+    requires id { publishing.id ≡ message_id publishing.payload }
+    requires fit { IsFit known.now.setup }
+    requires knows { (L : Entries) × Knows known.now now.0 L }
+    ensures { IfOk result (λ entry. (L : Entries)
+        → Knows known.now now.0 L
+        → Follows (exact W.word W.after)
+        (publish_rule (peer_with known.now.setup) L now publishing.topic publishing.payload)
+        words.old entry words.new) }
+{
+    if known.setup.params.flood_publish {
+        let receivers = worthy_listeners(known, &publishing.topic, now)?;
+        let entry = without_fanout(known, publishing, &receivers, now)?;
+        return Ok(entry);
+    }
+    if known.tables.topics.is_joined(&publishing.topic) {
+        let members = known.tables.memberships.members(&publishing.topic);
+        let receivers = worthy(known, members, now)?;
+        let entry = without_fanout(known, publishing, &receivers, now)?;
+        return Ok(entry);
+    }
+    if known
+        .tables
+        .memberships
+        .fanout(&publishing.topic)
+        .is_empty()
+    {
+        let entry = to_new_fanout(known, publishing, now, words)?;
+        return Ok(entry);
+    }
+    let entry = to_fanout(known, publishing, now)?;
+    Ok(entry)
+}
+
+/// Why the router may not publish a payload with this identifier on a topic.
+pub fn refusal_of_publish(
+    known: &Known,
+    topic: &Topic,
+    payload: &Bytes,
+    id: MsgId,
+    now: Millis,
+) -> Option<Refusal>
+    requires { id ≡ message_id payload.now }
+    ensures { (L : Entries)
+        → Knows known.now now.0 L
+        → result ≡ refusal (peer_with known.now.setup) L now.0 (events.Publish topic.now payload.now) }
+{
+    if known.tables.neighbours.is_shut() {
+        return Some(Refusal::Stopped);
+    }
+    if topic.0.len() > LONGEST_TOPIC || publish_len(topic, payload) > MAX_BODY {
+        return Some(Refusal::TooLong);
+    }
+    if known.tables.sightings.is_seen(&id, now) {
+        return Some(Refusal::AlreadySeen);
+    }
+    None
+}

@@ -1,0 +1,65 @@
+//! Which neighbours have lost some of their standing (gossipsub v1.1, Peer Scoring, "Score Thresholds").
+ghost use Rattle.std.specs.Prelude.{◌≡◌, IfOk};
+ghost use Rattle.gs_base.specs.declared.names.PeerNo.{PeerNo as PeerNoValue};
+ghost use Rattle.gs_rules.specs.Tables.{Entries};
+ghost use Rattle.gs_rules.specs.Membership.{is_negative};
+ghost use Rattle.gs_rules.specs.Scoring.{is_below, is_ignored, score};
+ghost use Rattle.gs_rules.specs.Rules.{without};
+ghost use Rattle.gs_router.specs.Known.{Knows, peer_with};
+
+use crate::known::Known;
+use gs_base::{Millis, PeerNo};
+use std::alloc::AllocError;
+
+/// Whether the score of a neighbour is below a threshold, in millionths.
+pub fn is_below(known: &Known, threshold: i64, peer: PeerNo, now: Millis) -> bool
+    ensures { (L : Entries)
+        → Knows known.now now.0 L
+        → result ≡ is_below threshold (score (peer_with known.now.setup) L now.0 peer) }
+{
+    known.tables.standings.score(peer, now) < i128::from(threshold)
+}
+
+/// Whether a neighbour scores below 0.
+pub fn is_negative(known: &Known, peer: PeerNo, now: Millis) -> bool
+    ensures { (L : Entries)
+        → Knows known.now now.0 L
+        → result ≡ is_negative (peer_with known.now.setup) L now.0 peer }
+{
+    is_below(known, 0, peer, now)
+}
+
+/// Whether the offers and the requests of a neighbour count for nothing.
+pub fn is_ignored(known: &Known, peer: PeerNo, now: Millis) -> bool
+    ensures { (L : Entries)
+        → Knows known.now now.0 L
+        → result ≡ is_ignored (peer_with known.now.setup) L now.0 peer }
+{
+    is_below(
+        known,
+        known.setup.params.thresholds.gossip_threshold,
+        peer,
+        now,
+    )
+}
+
+/// Those of these neighbours whose scores are not below a threshold, in millionths.
+pub fn not_below(
+    known: &Known,
+    threshold: i64,
+    peers: &[PeerNo],
+    now: Millis,
+) -> Result<Vec<PeerNo>, AllocError>
+    ensures { IfOk result (λ found. (L : Entries)
+        → Knows known.now now.0 L
+        → found.items
+        ≡ without (λ (q : PeerNoValue). is_below threshold (score (peer_with known.now.setup) L now.0 q)) peers.now) }
+{
+    let mut found = Vec::new(known.alloc);
+    for peer in peers {
+        if !is_below(known, threshold, *peer, now) {
+            found.push(*peer)?;
+        }
+    }
+    Ok(found)
+}

@@ -1,0 +1,34 @@
+//! What a router's own user may wish.
+ghost use Rattle.std.specs.Prelude.{◌≡◌};
+ghost use Rattle.gs_router.specs.Wishes.{wished};
+
+use bytes::Bytes;
+use gs_base::Topic;
+use gs_rules::Event;
+
+/// What a router's own user may wish, beside a heartbeat, which is more than one event.
+#[derive(Debug, Drop)]
+pub enum Wish {
+    Subscribe(Topic),
+    Unsubscribe(Topic),
+    Publish(Topic, Bytes),
+    Decay,
+    EndRound(u64),
+    Shut,
+}
+
+impl Wish {
+    /// The event by which it comes true.
+    pub fn into_event(self) -> Event
+        ensures { result ≡ wished self }
+    {
+        match self {
+            Wish::Subscribe(topic) => Event::Subscribe(topic),
+            Wish::Unsubscribe(topic) => Event::Unsubscribe(topic),
+            Wish::Publish(topic, payload) => Event::Publish(topic, payload),
+            Wish::Decay => Event::Decay,
+            Wish::EndRound(round) => Event::RoundEnd(round),
+            Wish::Shut => Event::Shut,
+        }
+    }
+}
