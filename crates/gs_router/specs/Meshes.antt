@@ -45,4 +45,4 @@ kept_by Filled t = Published t ∷ []
 
 -- what is remembered of a fanout when a payload goes to these
 abbrev pub fanout_marks : FanoutUse → Topic → List PeerNo → List Mark
-fanout_marks use t receivers = fanning t (filled_by use receivers) ++ kept_by use t
+fanout_marks fanout t receivers = fanning t (filled_by fanout receivers) ++ kept_by fanout t

@@ -1,5 +1,5 @@
 -- How the steps of a router and its work on an event end.
-use Rattle.std.specs.Prelude.{◌≡◌, ◌⊎◌, List, ◌∷◌, ◌++◌, Result, OnOk, OnErr}
+use Rattle.std.specs.Prelude.{◌≡◌, ◌⊎◌, List, [], ◌∷◌, ◌++◌, Result, OnOk, OnErr}
 use Rattle.gs_base.specs.declared.names.Millis.{Millis}
 use Rattle.gs_rules.specs.declared.trace.Event.{Event}
 use Rattle.gs_rules.specs.declared.trace.Entry.{Entry}

@@ -1,6 +1,6 @@
 //! What a router does about an event, as the rules say, and what it refuses. Each subject has a file with
 //! what it does and what it refuses.
-ghost use Rattle.std.specs.Prelude.{◌×◌, ◌≡◌, [], ◌∷◌, IfOk};
+ghost use Rattle.std.specs.Prelude.{◌≡◌, [], ◌∷◌, IfOk};
 ghost use Rattle.gs_rules.specs.Tables.{Entries, is_shut};
 ghost use Rattle.gs_rules.specs.Rules.{rule_of};
 ghost use Rattle.gs_rules.specs.Modes.{Follows, exact};

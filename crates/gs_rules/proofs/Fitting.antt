@@ -17,7 +17,7 @@ use Rattle.gs_base.specs.declared.rpc.Rpc.{Rpc}
 use Rattle.gs_rules.specs.declared.trace.Event.{Event}
 use Rattle.gs_rules.specs.declared.trace.Event.TheVariants.{Msg, Have, Want, Sub, GraftIn, PruneIn, Subscribe, Unsubscribe, Publish, MeshBeat, FanBeat, GossipBeat}
 use Rattle.gs_rules.specs.declared.trace.Entry.{Entry}
-use Rattle.gs_base.specs.Names.{longest_topic, same_peer, topic_of, topic_or_empty, HasIdentifierLength}
+use Rattle.gs_base.specs.Names.{longest_topic, same_peer, topic_of, topic_or_empty, HasIdentifierLength, message_id, payload_of}
 use Rattle.gs_base.specs.Rpcs.{announcement, publication, grafting, longest_backoff, most_identifiers, offering, passed_on, pruning, requesting}
 use Rattle.gs_base.specs.declared.mark.Mark.TheVariants.{Published}
 use Rattle.gs_mesh.specs.Peers.{without as all_but}

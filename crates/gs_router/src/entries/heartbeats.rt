@@ -1,5 +1,5 @@
 //! Heartbeats: broken promises count against who made them, and neighbours are told what there is.
-ghost use Rattle.std.specs.Prelude.{◌×◌, ◌≡◌, ◌++◌, ◌&&◌, ◌||◌, [], ◌∷◌, IfOk, OnOk, if◌then◌else◌, map, nat_le};
+ghost use Rattle.std.specs.Prelude.{◌≡◌, ◌++◌, ◌&&◌, ◌||◌, [], ◌∷◌, IfOk, OnOk, if◌then◌else◌, map, nat_le};
 ghost use Rattle.gs_base.specs.Names.{same_peer};
 ghost use Rattle.gs_base.specs.declared.mark.Mark.TheVariants.{Behaviour};
 ghost use Rattle.gs_rules.specs.Tables.{Entries};

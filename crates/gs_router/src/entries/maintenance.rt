@@ -1,6 +1,6 @@
 //! What a heartbeat does to meshes and fanouts (gossipsub v1.0, "Mesh maintenance" and "Fanout maintenance"; v1.1,
 //! "Heartbeat Maintenance", "Outbound Mesh Quotas" and "Opportunistic Grafting").
-ghost use Rattle.std.specs.Prelude.{◌×◌, ◌≡◌, ◌++◌, IfOk};
+ghost use Rattle.std.specs.Prelude.{◌≡◌, ◌++◌, IfOk};
 ghost use Rattle.gs_rules.specs.Tables.{Entries};
 ghost use Rattle.gs_rules.specs.BeatRules.{fan_beat_rule, fan_end, member_of, members_of, mending, mesh_beat_rule, receivers as receivers_of, refanning};
 ghost use Rattle.gs_rules.specs.Membership.{barring, each_on, leaving};

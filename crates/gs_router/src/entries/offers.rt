@@ -1,5 +1,5 @@
 //! Offers: what a router asks for of what a neighbour offers.
-ghost use Rattle.std.specs.Prelude.{◌×◌, ◌≡◌, ◌≤◌, ◌<◌, [], IfOk, OnOk, length, filter, take, get_or};
+ghost use Rattle.std.specs.Prelude.{◌≡◌, ◌≤◌, ◌<◌, [], IfOk, OnOk, length, filter, take, get_or};
 ghost use Rattle.std.specs.List.{AllByRecursion};
 ghost use Rattle.gs_base.specs.Names.{HasIdentifierLength};
 ghost use Rattle.gs_base.specs.Rpcs.{most_identifiers, requesting};

@@ -1,5 +1,5 @@
 //! Publishing: who gets what the router's own user publishes, and what is refused.
-ghost use Rattle.std.specs.Prelude.{◌×◌, ◌≡◌, ◌++◌, [], ◌∷◌, IfOk, if◌then◌else◌};
+ghost use Rattle.std.specs.Prelude.{◌≡◌, ◌++◌, [], ◌∷◌, IfOk, if◌then◌else◌};
 ghost use Rattle.gs_base.specs.Names.{message_id};
 ghost use Rattle.gs_base.specs.declared.verdict.Verdict.TheVariants.{Accept};
 ghost use Rattle.gs_base.specs.declared.mark.Mark.TheVariants as marks;

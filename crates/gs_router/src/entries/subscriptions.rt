@@ -1,5 +1,5 @@
 //! Subscribing to a topic, and leaving it (gossipsub v1.0, "Topic Membership").
-ghost use Rattle.std.specs.Prelude.{◌×◌, ◌≡◌, ◌-◌, ℕ, IfOk, length};
+ghost use Rattle.std.specs.Prelude.{◌≡◌, ◌-◌, ℕ, IfOk, length};
 ghost use Rattle.gs_base.specs.Rpcs.{announcement};
 ghost use Rattle.gs_rules.specs.declared.trace.Event.TheVariants as events;
 ghost use Rattle.gs_rules.specs.Peers.{Peer};
