@@ -2,7 +2,7 @@
 ghost use Rattle.std.specs.Prelude.{IfOk};
 ghost use Rattle.gossip_check.specs.Program.{IsAcceptance};
 
-use gs_params::Plan;
+use gs_plan::Plan;
 use std::alloc::{AllocError, Global};
 use std::fmt;
 

@@ -3,15 +3,15 @@ ghost use Rattle.std.specs.Io.KnownBytes.{IsAtEnd};
 ghost use Rattle.std.specs.Prelude.{◌≡◌, IfErr, IfOk, IfSome, List, OnOk, Option, ℕ, string_bytes};
 ghost use Rattle.std.specs.Process.{exit_status};
 ghost use Rattle.gossip_sim.specs.Program.{EndsAs, TellsFault, TellsRefusal, peer_of, refusal_line, run_refusal_line, spaced_name, status_of};
-ghost use Rattle.gs_params.specs.Plans.{IsInRange};
+ghost use Rattle.gs_plan.specs.Plans.{IsInRange};
 ghost use Rattle.gs_report.specs.Text.{report_text};
 ghost use Rattle.gs_net.specs.Reports.{IsReport};
 ghost use Rattle.gs_streams.specs.Inputs.{IsRefusal, IsScenario};
 
 use gs_base::PeerNo;
 use gs_net::{NetFault, run_net};
-use gs_params::Plan;
 use gs_peer::Gate;
+use gs_plan::Plan;
 use gs_report::{Report, name_of, report_text};
 use gs_scenario::ScenarioFault;
 use gs_streams::{ReadFault, input_too_long, plan_from, read_input, tell, write_text};

@@ -4,7 +4,7 @@ use Rattle.std.proofs.lemmas.Bool.{ne_eqb, eq-eqb}
 use Rattle.std.proofs.lemmas.Bool.Decides.{eqb_tells}
 use Rattle.gs_base.specs.declared.names.PeerNo.{PeerNo}
 use Rattle.gs_base.specs.Names.{same_peer}
-use Rattle.gs_params.specs.declared.plan.Dial.{Dial}
+use Rattle.gs_plan.specs.declared.plan.Dial.{Dial}
 use Rattle.gs_dials.specs.Dials.{Dialled, gives, assigned}
 
 -- ---- peers

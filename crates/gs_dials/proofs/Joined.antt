@@ -12,8 +12,8 @@ use Rattle.std.proofs.lemmas.Bool.Decides.{eqb_tells}
 use Rattle.std.specs.declared.alloc.Global.{Global}
 use Rattle.gs_base.specs.declared.names.PeerNo.{PeerNo}
 use Rattle.gs_base.specs.Names.{same_peer}
-use Rattle.gs_params.specs.declared.plan.Dial.{Dial}
-use Rattle.gs_params.specs.Plans.{are_joined, join_the_same, joins}
+use Rattle.gs_plan.specs.declared.plan.Dial.{Dial}
+use Rattle.gs_plan.specs.Plans.{are_joined, join_the_same, joins}
 use Rattle.gs_ends.specs.Ends.{Joint, has, is_joint_of}
 use Rattle.gs_ends.specs.Pairs.{Pair, joints_of, peers_in}
 use Rattle.gs_dials.specs.Places.{list_at}

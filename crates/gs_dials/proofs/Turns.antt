@@ -7,7 +7,7 @@ use Rattle.std.proofs.lemmas.List.Elements.{recursion_from_All}
 use Rattle.std.specs.declared.alloc.Global.{Global}
 use Rattle.gs_base.specs.declared.names.PeerNo.{PeerNo}
 use Rattle.gs_base.specs.Names.{same_peer}
-use Rattle.gs_params.specs.declared.plan.Dial.{Dial}
+use Rattle.gs_plan.specs.declared.plan.Dial.{Dial}
 use Rattle.gs_link.specs.Runs.{closes}
 use Rattle.gs_ends.specs.Ends.{Joint}
 use Rattle.gs_ends.specs.Pairs.{Pair, accepted_for, joint_of, joints_of, peers_in, taken_from}

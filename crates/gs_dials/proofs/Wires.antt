@@ -4,7 +4,7 @@ use Rattle.std.specs.List.{AllByRecursion}
 use Rattle.std.proofs.lemmas.List.{map-append}
 use Rattle.std.specs.declared.alloc.Global.{Global}
 use Rattle.gs_base.specs.declared.names.PeerNo.{PeerNo}
-use Rattle.gs_params.specs.declared.plan.Dial.{Dial}
+use Rattle.gs_plan.specs.declared.plan.Dial.{Dial}
 use Rattle.gs_ends.specs.Pairs.{Pair, joint_of, joints_of}
 use Rattle.gs_dials.specs.Places.{list_at}
 use Rattle.gs_dials.specs.Dials.{Dialled, gives, assigned, AreWired, AtEach, HasCapacity, IsFresh, IsWiredOn}

@@ -4,7 +4,7 @@ use Rattle.std.specs.List.{AllByRecursion}
 use Rattle.std.specs.declared.alloc.Global.{Global}
 use Rattle.gs_base.specs.declared.names.PeerNo.{PeerNo}
 use Rattle.gs_base.specs.Names.{same_peer}
-use Rattle.gs_params.specs.declared.plan.Dial.{Dial}
+use Rattle.gs_plan.specs.declared.plan.Dial.{Dial}
 use Rattle.gs_link.specs.Ends.{LinkId}
 use Rattle.gs_link.specs.Runs.{closes}
 use Rattle.gs_ends.specs.Ends.{Joint}

@@ -11,7 +11,7 @@ ghost use Rattle.gs_dials.specs.Dials.{AreWired, AtEach, IsClosed, IsExchanged, 
 use crate::lists::take_last;
 use gs_base::PeerNo;
 use gs_link::{LinkRx, LinkTx, settle};
-use gs_params::Dial;
+use gs_plan::Dial;
 use std::sync::Wait;
 
 /// Settles the links of all dials, and counts those that are whole: each of them, since each end

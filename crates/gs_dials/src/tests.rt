@@ -10,7 +10,7 @@ use super::*;
 use crate::lists::take_last;
 use gs_base::PeerNo;
 use gs_link::{Item, LinkRx, LinkTx, SendRefused, Taken};
-use gs_params::Dial;
+use gs_plan::Dial;
 use std::alloc::{AllocError, Global};
 use std::sync::Wait;
 use std::test::*;

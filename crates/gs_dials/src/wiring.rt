@@ -7,7 +7,7 @@ ghost use Rattle.gs_dials.specs.Dials.{AreWired, AtEach, HasCapacity, IsFresh, I
 use crate::lists::{empty_lists, put_last};
 use gs_base::PeerNo;
 use gs_link::{LinkRx, LinkTx, open_link};
-use gs_params::Dial;
+use gs_plan::Dial;
 use std::alloc::{AllocError, Global};
 
 /// Opens two links for each dial, one there and one back, and gives each of so many peers its ends

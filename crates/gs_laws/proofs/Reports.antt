@@ -1,6 +1,6 @@
 -- Reports of alike plans are one.
 use Rattle.std.proofs.Common.{◌≡◌, ◌*◌, length, map, refl, sym, ap, ◌∙◌}
-use Rattle.gs_params.specs.declared.plan.Plan.{Plan}
+use Rattle.gs_plan.specs.declared.plan.Plan.{Plan}
 use Rattle.gs_report.specs.Text.{report_text}
 use Rattle.gs_net.specs.Rounds.{numbers}
 use Rattle.gs_laws.specs.Runs.{ReportsAreOne}

@@ -1,3 +1,8 @@
+pub mod Ranks
+pub mod PeerLists
+pub mod BestMembers
+pub mod Cutting
+pub mod CutExamples
 pub mod Placing
 pub mod Noting
 pub mod Keeping

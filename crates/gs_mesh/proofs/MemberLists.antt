@@ -3,10 +3,10 @@ use Rattle.std.proofs.Common.{List, not}
 use Rattle.std.specs.Set.{is_member}
 use Rattle.gs_base.specs.declared.names.PeerNo.{PeerNo}
 use Rattle.gs_base.specs.Names.{same_peer}
-use Rattle.gs_params.specs.declared.cuts.Member.{Member}
+use Rattle.gs_mesh.specs.declared.members.Member.{Member}
 use Rattle.gs_params.specs.Picks.{IsAscending}
-use Rattle.gs_params.specs.Cuts.{outbound_of, outside, peers_of}
-use Rattle.gs_params.proofs.Members.{ascending_kept}
+use Rattle.gs_mesh.specs.Cuts.{outbound_of, outside, peers_of}
+use Rattle.gs_mesh.proofs.BestMembers.{ascending_kept}
 use Rattle.gs_mesh.specs.MeshSteps.{above_median, is_negative, median_is_below, not_negative}
 
 pub outbound_ascend : (members : List Member) → IsAscending (peers_of members) → IsAscending (peers_of (outbound_of members))

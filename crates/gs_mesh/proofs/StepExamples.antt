@@ -2,10 +2,10 @@
 use Rattle.std.proofs.Common.{◌≡◌, ℕ, ◌+◌, Bool, true, false, List, [], ◌∷◌, refl}
 use Rattle.std.specs.Prelude.{ℤ, pos, negsuc}
 use Rattle.gs_base.specs.declared.names.PeerNo.{PeerNo}
-use Rattle.gs_params.specs.declared.cuts.Member.{Member}
+use Rattle.gs_mesh.specs.declared.members.Member.{Member}
 use Rattle.gs_params.specs.Params.{default_degrees, default_params}
 use Rattle.gs_params.specs.Picks.{after_words, next_words, picked, picked_words, shuffled}
-use Rattle.gs_params.specs.Cuts.{best_by_score, cut, cut_words, first_kept, first_words, others_picked, others_picked_words, outbound_lacking, outbound_picked, outbound_picked_words}
+use Rattle.gs_mesh.specs.Cuts.{best_by_score, cut, cut_words, first_kept, first_words, others_picked, others_picked_words, outbound_lacking, outbound_picked, outbound_picked_words}
 use Rattle.gs_mesh.specs.declared.condition.Condition.TheVariants.{Few, FewOutbound, Well}
 use Rattle.gs_mesh.specs.MeshSteps.{condition_of, median_is_below, step_by_words}
 

@@ -1,13 +1,13 @@
 -- A step by words is a mesh step: so many as are called for, of those who are.
 use Rattle.std.proofs.Common.{◌+◌, ◌-◌, ◌≤◌, ℕ, Bool, true, false, List, length, refl, ap}
 use Rattle.gs_base.specs.declared.names.PeerNo.{PeerNo}
-use Rattle.gs_params.specs.declared.cuts.Member.{Member}
+use Rattle.gs_mesh.specs.declared.members.Member.{Member}
 use Rattle.gs_params.specs.declared.params.Degrees.{Degrees}
 use Rattle.gs_params.specs.declared.params.Params.{Params}
 use Rattle.gs_params.specs.Picks.{IsAscending}
-use Rattle.gs_params.specs.Cuts.{cut, cut_words, outbound_of, outside, peers_of}
+use Rattle.gs_mesh.specs.Cuts.{cut, cut_words, outbound_of, outside, peers_of}
 use Rattle.gs_params.proofs.Picking.{picked_is_choice}
-use Rattle.gs_params.proofs.Cutting.{exact_cut_is_cut}
+use Rattle.gs_mesh.proofs.Cutting.{exact_cut_is_cut}
 use Rattle.gs_mesh.specs.declared.heartbeat.Choice.{Choice}
 use Rattle.gs_mesh.specs.declared.condition.Condition.{Condition}
 use Rattle.gs_mesh.specs.declared.condition.Condition.TheVariants.{Few, Many, FewOutbound, Well}

@@ -1,4 +1,5 @@
 pub mod Peers
 pub mod Backoffs
+pub mod Cuts
 pub mod Meshes
 pub mod MeshSteps

@@ -5,11 +5,11 @@
 use Rattle.std.specs.Prelude.{◌≡◌, ℕ, ◌+◌, ◌-◌, ◌≤◌, ◌/◌, ◌%◌, nat_eq, nat_lt, ℤ, pos, int_lt, Bool, true, false, not, ◌&&◌, if◌then◌else◌, List, [], ◌++◌, length, filter}
 use Rattle.std.specs.List.{count_by}
 use Rattle.gs_base.specs.declared.names.PeerNo.{PeerNo}
-use Rattle.gs_params.specs.declared.cuts.Member.{Member}
+use Rattle.gs_mesh.specs.declared.members.Member.{Member}
 use Rattle.gs_params.specs.declared.params.Degrees.{Degrees}
 use Rattle.gs_params.specs.declared.params.Params.{Params}
 use Rattle.gs_params.specs.Picks.{IsAscending, IsChoice, picked, picked_words}
-use Rattle.gs_params.specs.Cuts.{IsCut, among, cut, cut_words, outbound_of, outside, peers_of}
+use Rattle.gs_mesh.specs.Cuts.{IsCut, among, cut, cut_words, outbound_of, outside, peers_of}
 use Rattle.gs_mesh.specs.declared.heartbeat.Choice.{Choice}
 use Rattle.gs_mesh.specs.declared.condition.Condition.{Condition}
 use Rattle.gs_mesh.specs.declared.condition.Condition.TheVariants.{Few, Many, FewOutbound, Well}

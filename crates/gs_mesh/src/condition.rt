@@ -1,9 +1,10 @@
 //! How a mesh stands by its members.
 ghost use Rattle.std.specs.Prelude.{◌≡◌, length};
-ghost use Rattle.gs_params.specs.Cuts.{outbound_of};
+ghost use Rattle.gs_mesh.specs.Cuts.{outbound_of};
 ghost use Rattle.gs_mesh.specs.MeshSteps.{condition_of};
 
-use gs_params::{Degrees, Member};
+use crate::members::Member;
+use gs_params::Degrees;
 
 /// How a mesh stands by its members (gossipsub v1.0, "Mesh maintenance"; v1.1, "Outbound Mesh Quotas").
 #[derive(Clone, Copy, Debug, PartialEq, Eq)]

@@ -3,12 +3,12 @@ ghost use Rattle.std.specs.Prelude.{◌≡◌, ◌++◌, IfOk, OnOk, filter, len
 ghost use Rattle.std.specs.Set.{is_member};
 ghost use Rattle.gs_base.specs.Names.{same_peer};
 ghost use Rattle.gs_params.specs.Picks.{IsAscending, picked, picked_words};
-ghost use Rattle.gs_params.specs.Cuts.{best_by_score, better_ones, cut, cut_words, first_kept, first_words, is_better, others_picked, others_picked_words, outbound_lacking, outbound_of, peers_of};
+ghost use Rattle.gs_mesh.specs.Cuts.{EachIsACut, IsDetermined, best_by_score, better_ones, cut, cut_words, first_kept, first_words, is_better, others_picked, others_picked_words, outbound_lacking, outbound_of, peers_of};
 
 use crate::condition::outbound_count;
-use crate::members::{among, outbound_of, outside, peers_of};
+use crate::members::{Member, among, outbound_of, outside, peers_of};
 use gs_base::PeerNo;
-use gs_params::{Degrees, Member, Words, pick};
+use gs_params::{Degrees, Words, pick};
 use std::alloc::{AllocError, Global};
 
 /// Picks so many of these by the next words.
@@ -138,3 +138,9 @@ pub(crate) fn cut<W: Words>(
     let peers = peers_of(alloc, &remaining)?;
     Ok(peers)
 }
+
+/// A cut by random words is a cut, and the members and the words determine it.
+pub fn a_cut_by_words_is_a_cut<W: Words>()
+    ensures cut { EachIsACut W.word W.after }
+    ensures determined { IsDetermined W.word W.after }
+{}

@@ -1,14 +1,14 @@
 //! What a heartbeat does to a mesh.
 ghost use Rattle.std.specs.Prelude.{◌≡◌, ◌≤◌, IfOk, OnOk};
 ghost use Rattle.gs_params.specs.Picks.{IsAscending, picked, picked_words};
-ghost use Rattle.gs_params.specs.Cuts.{peers_of};
+ghost use Rattle.gs_mesh.specs.Cuts.{peers_of};
 ghost use Rattle.gs_mesh.specs.MeshSteps.{EachIsAMeshStep, above_median, bettered_by_words, choice_of, is_poor, made_of, median_is_below, mended_by_words, step_by_words};
 
 use crate::condition::{Condition, outbound_count};
 use crate::cut::{cut, pick_of};
-use crate::members::{among, not_negative, outbound_of, outside, peers_of};
+use crate::members::{Member, among, not_negative, outbound_of, outside, peers_of};
 use gs_base::{PeerNo, Seq};
-use gs_params::{Degrees, Member, Params, Words};
+use gs_params::{Degrees, Params, Words};
 use std::alloc::{AllocError, Global};
 
 /// Who leaves a mesh at a heartbeat, and who comes into it. Each list ascends by number.

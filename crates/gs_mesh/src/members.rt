@@ -1,11 +1,21 @@
-//! Lists of members and of candidates.
+//! Members of a mesh, and lists of members and of candidates.
 ghost use Rattle.std.specs.Prelude.{◌≡◌, IfOk};
-ghost use Rattle.gs_params.specs.Cuts.{among, outbound_of, outside, peers_of};
+ghost use Rattle.gs_mesh.specs.Cuts.{among, outbound_of, outside, peers_of};
 ghost use Rattle.gs_mesh.specs.MeshSteps.{not_negative};
 
 use gs_base::PeerNo;
-use gs_params::Member;
 use std::alloc::{AllocError, Global};
+
+/// A member of a mesh, as a heartbeat sees it.
+#[derive(Clone, Copy, Debug, PartialEq, Eq)]
+pub struct Member {
+    /// Who it is.
+    pub peer: PeerNo,
+    /// Its score, in millionths.
+    pub score: i128,
+    /// Whether this side dialled it.
+    pub outbound: bool,
+}
 
 /// Who they are.
 pub(crate) fn peers_of(alloc: Global, members: &[Member]) -> Result<Vec<PeerNo>, AllocError>

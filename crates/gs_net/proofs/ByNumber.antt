@@ -3,7 +3,7 @@ use Rattle.std.proofs.Common.{◌≡◌, ◌<◌, ◌+◌, ℕ, zero, suc, List,
 use Rattle.std.specs.Prelude.{slice_get}
 use Rattle.std.specs.List.{range_with_len, AllZip}
 use Rattle.gs_base.specs.declared.names.PeerNo.{PeerNo}
-use Rattle.gs_params.specs.declared.plan.Plan.{Plan}
+use Rattle.gs_plan.specs.declared.plan.Plan.{Plan}
 use Rattle.gs_net.specs.Rounds.{numbers, peer_no}
 
 at_place : {B : Type 0} (R : PeerNo → B → Type 0) (a n k : ℕ) (ys : List B) → k < n → AllZip R (map peer_no (range_with_len a n)) ys → (y : B) × (slice_get ys k ≡ Some y) × R (peer_no (a + k)) y

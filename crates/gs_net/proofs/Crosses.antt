@@ -3,7 +3,7 @@ use denote.RattleType.{RattleType}
 use denote.Param.Send.{IsSend, recorded_send, sendable, struct_send, view_send}
 use denote.Struct.Declared.{shape}
 use Rattle.std.proofs.Crossing.{crosses}
-use Rattle.gs_params.proofs.plan.Line.TheSendSync as Line
+use Rattle.gs_plan.proofs.plan.Line.TheSendSync as Line
 use Rattle.gs_peer.proofs.outboxes.Outboxes.TheSendSync as Outboxes
 use Rattle.gs_peer.proofs.place.Place.TheSendSync as Place
 use Rattle.gs_peer.proofs.player.Player.TheSendSync as Player

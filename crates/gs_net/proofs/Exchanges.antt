@@ -3,8 +3,8 @@ use Rattle.std.proofs.Common.{◌≡◌, inl, inr, true, ◌&&◌, List, [], ◌
 use Rattle.std.specs.List.{AllByRecursion}
 use Rattle.gs_base.specs.declared.names.PeerNo.{PeerNo}
 use Rattle.gs_base.specs.Names.{same_peer}
-use Rattle.gs_params.specs.declared.plan.Dial.{Dial}
-use Rattle.gs_params.specs.Plans.{are_joined, joins}
+use Rattle.gs_plan.specs.declared.plan.Dial.{Dial}
+use Rattle.gs_plan.specs.Plans.{are_joined, joins}
 use Rattle.gs_net.proofs.Truths.{both_of, is_same, one_of}
 use Rattle.gs_net.specs.Given.{Given, Exchanged, Reaches}
 

@@ -1,7 +1,7 @@
 -- How many links a plan has.
 use Rattle.std.proofs.Common.{◌<◌, ◌*◌, ◌^◌, length, arith}
-use Rattle.gs_params.specs.declared.plan.Plan.{Plan}
-use Rattle.gs_params.specs.Plans.{IsInRange}
+use Rattle.gs_plan.specs.declared.plan.Plan.{Plan}
+use Rattle.gs_plan.specs.Plans.{IsInRange}
 use Rattle.gs_dials.proofs.Joined.{few_dials}
 use Rattle.gs_net.proofs.Wired.{dials_join}
 

@@ -6,8 +6,8 @@ use Rattle.std.specs.declared.alloc.Global.{Global}
 use Rattle.std.proofs.lemmas.List.{length-map}
 use Rattle.std.proofs.lemmas.List.FromFn.{length-map-range_with_len}
 use Rattle.gs_base.specs.declared.names.PeerNo.{PeerNo}
-use Rattle.gs_params.specs.declared.plan.Plan.{Plan}
-use Rattle.gs_params.specs.Plans.{IsInRange}
+use Rattle.gs_plan.specs.declared.plan.Plan.{Plan}
+use Rattle.gs_plan.specs.Plans.{IsInRange}
 use Rattle.gs_params.specs.Seeding.{SeededState}
 use Rattle.gs_rules.specs.Rounds.{Seat}
 use Rattle.gs_ends.specs.Ends.{Joint}

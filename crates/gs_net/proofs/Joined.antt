@@ -4,9 +4,9 @@ use Rattle.std.specs.List.{range_with_len, AllByRecursion}
 use Rattle.std.proofs.Math.Bool.{or_comm}
 use Rattle.gs_base.specs.declared.names.PeerNo.{PeerNo}
 use Rattle.gs_base.specs.Names.{same_peer}
-use Rattle.gs_params.specs.declared.plan.Dial.{Dial}
-use Rattle.gs_params.specs.declared.plan.Plan.{Plan}
-use Rattle.gs_params.specs.Plans.{are_joined, joins}
+use Rattle.gs_plan.specs.declared.plan.Dial.{Dial}
+use Rattle.gs_plan.specs.declared.plan.Plan.{Plan}
+use Rattle.gs_plan.specs.Plans.{are_joined, joins}
 use Rattle.gs_net.specs.Rounds.{neighbours, peer_no}
 
 -- whichever of two is named first, a dial joins them or not

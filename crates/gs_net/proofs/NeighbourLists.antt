@@ -7,8 +7,8 @@ use Rattle.gs_base.specs.declared.names.PeerNo.{PeerNo}
 use Rattle.gs_base.specs.declared.neighbour.Neighbour.{Neighbour}
 use Rattle.gs_base.specs.Names.{peers_of}
 use Rattle.gs_params.specs.Picks.{IsAscending}
-use Rattle.gs_params.specs.declared.plan.Plan.{Plan}
-use Rattle.gs_params.specs.Plans.{are_joined}
+use Rattle.gs_plan.specs.declared.plan.Plan.{Plan}
+use Rattle.gs_plan.specs.Plans.{are_joined}
 use Rattle.gs_rules.specs.Peers.{links_of}
 use Rattle.gs_net.specs.Rounds.{peer_no, neighbour_in, neighbours, numbers, peer_in}
 

@@ -1,13 +1,13 @@
 -- The lines of a script that a peer follows, one after the other.
 use Rattle.std.proofs.Common.{◌≡◌, ◌≢◌, ℕ, ◌+◌, ◌<◌, Bool, true, false, List, [], ◌∷◌, ◌++◌, cond, length, drop, get_or, filter, refl, sym, ap, ◌∙◌, append_assoc, append-nil, true≢false}
 use Rattle.std.proofs.lemmas.Bool.Decides.{Decides-eqb}
-use Rattle.gs_params.proofs.PeerLists.{same_peer_decides}
+use Rattle.gs_params.proofs.Picking.{same_peer_decides}
 use Rattle.std.specs.List.{enumerate_from}
 use Rattle.std.proofs.lemmas.List.{drop_more}
 use Rattle.std.proofs.lemmas.List.Elements.{filter-append}
 use Rattle.gs_base.specs.declared.names.PeerNo.{PeerNo}
 use Rattle.gs_base.specs.Names.{same_peer}
-use Rattle.gs_params.specs.declared.plan.Line.{Line}
+use Rattle.gs_plan.specs.declared.plan.Line.{Line}
 use Rattle.gs_net.specs.Rounds.{is_for}
 
 -- those of a script's lines that a peer follows, where the first stands at this place

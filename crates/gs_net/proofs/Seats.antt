@@ -4,8 +4,8 @@ use Rattle.std.proofs.Math.Dec.{lit<}
 use Rattle.std.proofs.Math.Nat.{mul-le-mul_left}
 use Rattle.std.specs.List.{AllByRecursion}
 use Rattle.gs_base.specs.declared.names.PeerNo.{PeerNo}
-use Rattle.gs_params.specs.declared.plan.Plan.{Plan}
-use Rattle.gs_params.specs.Plans.{IsInRange, most_rounds}
+use Rattle.gs_plan.specs.declared.plan.Plan.{Plan}
+use Rattle.gs_plan.specs.Plans.{IsInRange, most_rounds}
 use Rattle.gs_link.specs.Flat.{flat}
 use Rattle.gs_link.specs.Runs.{closes as slots_close}
 use Rattle.gs_ends.specs.Pairs.{taken_from}

@@ -8,13 +8,13 @@ use Rattle.gs_base.specs.declared.names.PeerNo.{PeerNo}
 use Rattle.gs_base.specs.declared.neighbour.Neighbour.{Neighbour}
 use Rattle.gs_params.specs.Checks.{all_factor_checks, all_window_checks, checked, degree_checks, first_broken, threshold_checks, unless_broken}
 use Rattle.gs_params.specs.Params.{AreInRange}
-use Rattle.gs_params.specs.Plans.{IsAppScore, IsInRange}
+use Rattle.gs_plan.specs.Plans.{IsAppScore, IsInRange}
 use Rattle.gs_params.specs.declared.checks.Check.{Check}
 use Rattle.gs_params.specs.declared.params.Params.{Params}
 use Rattle.gs_params.specs.declared.param_fault.ParamFault.{ParamFault}
 use Rattle.gs_params.specs.declared.param_fault.ParamFault.TheVariants as faults
-use Rattle.gs_params.specs.declared.plan.App.{App}
-use Rattle.gs_params.specs.declared.plan.Plan.{Plan}
+use Rattle.gs_plan.specs.declared.plan.App.{App}
+use Rattle.gs_plan.specs.declared.plan.Plan.{Plan}
 use Rattle.gs_params.proofs.InRange.{from_checks}
 use Rattle.gs_net.specs.Rounds.{app_of, is_about, neighbour_in, neighbours, neighbours_in}
 

@@ -1,8 +1,8 @@
 -- What the peers' tasks give, and what the links between them carried.
 use Rattle.std.specs.Prelude.{◌≡◌, ℕ, List, [], option_map, unwrap_or, slice_get}
 use Rattle.gs_base.specs.declared.names.PeerNo.{PeerNo}
-use Rattle.gs_params.specs.declared.plan.Dial.{Dial}
-use Rattle.gs_params.specs.declared.plan.Plan.{Plan}
+use Rattle.gs_plan.specs.declared.plan.Dial.{Dial}
+use Rattle.gs_plan.specs.declared.plan.Plan.{Plan}
 use Rattle.gs_ends.specs.Pairs.{Pair, accepted_for, taken_from}
 use Rattle.gs_peer.specs.declared.finished.Finished.{Finished as GivenWith}
 use Rattle.gs_peer.specs.Life.{IsLife as IsLifeAt}

@@ -1,6 +1,6 @@
 -- What the report of a run says.
 use Rattle.std.specs.Prelude.{◌≡◌, ◌*◌, length, map}
-use Rattle.gs_params.specs.declared.plan.Plan.{Plan}
+use Rattle.gs_plan.specs.declared.plan.Plan.{Plan}
 use Rattle.gs_report.specs.declared.report.Report.{Report}
 use Rattle.gs_net.specs.Rounds.{IsRun, numbers}
 

@@ -5,12 +5,12 @@ use Rattle.gs_base.specs.declared.names.PeerNo.{PeerNo}
 use Rattle.gs_base.specs.declared.names.Millis.{Millis}
 use Rattle.gs_base.specs.declared.neighbour.Neighbour.{Neighbour}
 use Rattle.gs_base.specs.Names.{same_peer}
-use Rattle.gs_params.specs.declared.plan.App.{App}
-use Rattle.gs_params.specs.declared.plan.Dial.{Dial}
-use Rattle.gs_params.specs.declared.plan.Line.{Line}
-use Rattle.gs_params.specs.declared.plan.Plan.{Plan}
-use Rattle.gs_params.specs.declared.plan.PlannedPeer.{PlannedPeer}
-use Rattle.gs_params.specs.Plans.{are_joined}
+use Rattle.gs_plan.specs.declared.plan.App.{App}
+use Rattle.gs_plan.specs.declared.plan.Dial.{Dial}
+use Rattle.gs_plan.specs.declared.plan.Line.{Line}
+use Rattle.gs_plan.specs.declared.plan.Plan.{Plan}
+use Rattle.gs_plan.specs.declared.plan.PlannedPeer.{PlannedPeer}
+use Rattle.gs_plan.specs.Plans.{are_joined}
 use Rattle.gs_params.specs.Seeding.{SeededState, new_seeded, seeded_after, seeded_word}
 use Rattle.gs_wire.specs.Codec.{codec}
 use Rattle.gs_rules.specs.Peers.{Peer, seen_ttl}

@@ -5,7 +5,7 @@ use Rattle.std.specs.declared.vec.Vec.{Vec}
 use Rattle.std.specs.declared.alloc.Global.{Global}
 use Rattle.gs_base.specs.declared.names.PeerNo.{PeerNo}
 use Rattle.gs_base.specs.Names.{same_peer}
-use Rattle.gs_params.specs.declared.plan.Plan.{Plan}
+use Rattle.gs_plan.specs.declared.plan.Plan.{Plan}
 use Rattle.gs_link.specs.declared.item.Slot.{Slot}
 use Rattle.gs_ends.specs.Ends.{Joint, has}
 use Rattle.gs_ends.specs.Pairs.{Pair, joints_of, peers_in}

@@ -3,9 +3,10 @@ ghost use Rattle.std.specs.Prelude.{◌≤◌, IfOk};
 ghost use Rattle.std.specs.List.{All, AllZip};
 ghost use Rattle.gs_peer.specs.Task.{CanPoll, Gives};
 
+use crate::fault::NetFault;
 use gs_ends::Ends;
 use gs_peer::{Finished, Gate, PeerFault, PeerTask};
-use gs_workers::{NetFault, StopFlag, run_all};
+use gs_workers::{StopFlag, run_all};
 use std::alloc::{AllocGlobal, Global};
 use std::random::RandomSource;
 use std::sync::{Arc, Wait};
@@ -34,5 +35,6 @@ pub fn run_tasks<
     ensures given { IfOk result (λ results.
         AllZip (Gives S.joints S.accepted S.taken) tasks.items results.items) }
 {
-    run_all(rt, alloc, workers, stop, tasks)
+    let results = run_all(rt, alloc, workers, stop, tasks)?;
+    Ok(results)
 }

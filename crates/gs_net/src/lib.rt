@@ -2,6 +2,7 @@
 #![tactic(auto)]
 
 mod driving;
+mod fault;
 mod lines;
 mod lists;
 mod lives;
@@ -9,7 +10,7 @@ mod neighbours;
 mod run;
 mod tasks;
 
-pub use gs_workers::NetFault;
+pub use fault::NetFault;
 pub use run::run_net;
 
 #[cfg(test)]

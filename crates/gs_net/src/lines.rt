@@ -1,13 +1,13 @@
 //! The lines of a script, by the peers that follow them.
 ghost use Rattle.std.specs.Prelude.{◌≡◌, ◌<◌, IfOk, length};
 ghost use Rattle.gs_base.specs.declared.names.PeerNo.{PeerNo as PeerNoValue};
-ghost use Rattle.gs_params.specs.Plans.{IsInRange};
+ghost use Rattle.gs_plan.specs.Plans.{IsInRange};
 ghost use Rattle.gs_dials.specs.Places.{list_at};
 ghost use Rattle.gs_net.specs.Rounds.{lines_in};
 
 use gs_base::clone_of;
 use gs_dials::{empty_lists, put_last};
-use gs_params::{Line, Plan, What};
+use gs_plan::{Line, Plan};
 use std::alloc::{AllocError, Global};
 
 /// The lines of a plan by the number of the peer that follows them: each with its place in the
@@ -24,29 +24,8 @@ pub fn lines_by_peer(alloc: Global, plan: &Plan) -> Result<Vec<Vec<(usize, Line)
 {
     let mut lists = empty_lists(alloc, plan.peers.len())?;
     for (place, line) in plan.script.as_slice().iter().enumerate() {
-        let own = (place, line_of(line)?);
+        let own = (place, clone_of(line)?);
         put_last(&mut lists, line.peer, own)?;
     }
     Ok(lists)
-}
-
-/// A clone of a line. What is told shares its bytes with it.
-fn line_of(line: &Line) -> Result<Line, AllocError>
-    ensures { IfOk result (λ copy. copy ≡ line.now) }
-{
-    Ok(Line {
-        at: line.at,
-        peer: line.peer,
-        what: what_of(&line.what)?,
-    })
-}
-
-fn what_of(what: &What) -> Result<What, AllocError>
-    ensures { IfOk result (λ copy. copy ≡ what.now) }
-{
-    match what {
-        What::Subscribe(topic) => Ok(What::Subscribe(clone_of(topic)?)),
-        What::Unsubscribe(topic) => Ok(What::Unsubscribe(clone_of(topic)?)),
-        What::Publish(topic, payload) => Ok(What::Publish(clone_of(topic)?, clone_of(payload)?)),
-    }
 }

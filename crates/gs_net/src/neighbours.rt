@@ -5,7 +5,7 @@ ghost use Rattle.gs_net.specs.Rounds.{address_of, app_of, is_about, is_dial, nei
 
 use bytes::Bytes;
 use gs_base::{Neighbour, PeerNo};
-use gs_params::{App, Dial, MOST_PEERS, Plan, are_joined};
+use gs_plan::{App, Dial, MOST_PEERS, Plan, are_joined};
 use std::alloc::{AllocError, Global};
 
 /// The neighbours of a peer, ascending: whom it dials, and who dials it.

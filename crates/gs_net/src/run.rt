@@ -1,17 +1,18 @@
 //! A run of a plan.
 ghost use Rattle.std.specs.Prelude.{◌≡◌, ◌*◌, IfOk, length, map};
-ghost use Rattle.gs_params.specs.Plans.{IsInRange};
+ghost use Rattle.gs_plan.specs.Plans.{IsInRange};
 ghost use Rattle.gs_net.specs.Reports.{IsReport};
 
 use crate::driving::run_tasks;
+use crate::fault::NetFault;
 use crate::lines::lines_by_peer;
 use crate::lives::lives_of;
 use crate::tasks::Builder;
 use gs_dials::{settle_all, wire_all};
-use gs_params::Plan;
 use gs_peer::Gate;
+use gs_plan::Plan;
 use gs_report::Report;
-use gs_workers::{NetFault, StopFlag};
+use gs_workers::StopFlag;
 use std::alloc::{AllocError, AllocGlobal, Global};
 use std::random::RandomSource;
 use std::sync::{Arc, Wait};

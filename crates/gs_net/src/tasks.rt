@@ -3,21 +3,23 @@ ghost use Rattle.std.specs.Prelude.{◌≡◌, ◌<◌, ℕ, true, IfOk, Some, l
 ghost use Rattle.std.specs.List.{AllByRecursion, AllZip, IsDistinct};
 ghost use Rattle.gs_base.specs.declared.names.PeerNo.{PeerNo as PeerNoValue};
 ghost use Rattle.gs_base.specs.Names.{peers_of, same_peer};
-ghost use Rattle.gs_params.specs.Plans.{IsInRange};
+ghost use Rattle.gs_plan.specs.Plans.{IsInRange};
 ghost use Rattle.gs_ends.specs.Pairs.{joints_of, peers_in};
 ghost use Rattle.gs_dials.specs.Places.{list_at};
 ghost use Rattle.gs_net.specs.Rounds.{first_words, lines_in, neighbours_in, numbers, words_of};
 ghost use Rattle.gs_net.specs.Tasks.{AreUsable, IsAssignedIn, IsTask, IsTaskFor, new_router};
 
+use crate::fault::NetFault;
 use crate::lists::take_list;
 use crate::neighbours::neighbours_of;
 use gs_base::{Neighbour, PeerNo, clone_of};
 use gs_ends::{Ends, LinkEnds};
 use gs_link::{LinkRx, LinkTx};
-use gs_params::{Line, Plan, SeededWords};
+use gs_params::SeededWords;
 use gs_peer::{Agenda, Assignment, Gate, PeerTask, Surroundings};
+use gs_plan::{Line, Plan};
 use gs_router::Router;
-use gs_workers::{NetFault, StopFlag};
+use gs_workers::StopFlag;
 use std::alloc::{AllocError, Global};
 use std::sync::{Arc, Wait};
 

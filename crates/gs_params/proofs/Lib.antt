@@ -3,8 +3,3 @@ pub mod Broken
 pub mod Shuffles
 pub mod Picking
 pub mod Seeded
-pub mod Ranks
-pub mod PeerLists
-pub mod Members
-pub mod Cutting
-pub mod CutExamples

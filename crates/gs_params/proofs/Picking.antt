@@ -1,6 +1,6 @@
 -- What is picked is a choice: so many of the candidates, ascending, and none twice.
 use Rattle.std.proofs.Common.{◌≡◌, ℕ, zero, suc, ◌+◌, ◌-◌, ◌%◌, ◌<◌, ◌≤◌, nat_le, Bool, true, false, List, [], ◌∷◌, ◌++◌, length, take, drop, min, filter, refl, sym, ap, ◌∙◌, arith}
-use Rattle.std.specs.Prelude.{◌&&◌, ◌||◌, swap, All, Contains, IsPermutation}
+use Rattle.std.specs.Prelude.{◌&&◌, ◌||◌, swap, All, Contains, Decides, IsPermutation}
 use Rattle.std.specs.Cmp.{IsEquivalence}
 use Rattle.std.specs.List.{list_any, AllByRecursion, IsDistinct}
 use Rattle.std.specs.Set.{is_member}
@@ -21,11 +21,14 @@ use Rattle.gs_params.specs.Picks.{IsAscending, IsChoice, next_words, after_words
 
 -- ---- peers
 
-same_peer_equiv : IsEquivalence same_peer
+pub same_peer_equiv : IsEquivalence same_peer
 same_peer_equiv = on_equiv (λ (p : PeerNo). p.0) nat_eq_equiv
 
 same_from_test : (p q : PeerNo) → same_peer p q ≡ true → p ≡ q
 same_from_test p q h = let e : p.0 ≡ q.0 = (Decides-eqb p.0 q.0).0 h in ap (λ (n : ℕ). let r : PeerNo = record { 0 = n } in r) e
+
+pub same_peer_decides : (p q : PeerNo) → Decides (same_peer p q) (p ≡ q)
+same_peer_decides p q = (same_from_test p q, λ e. ap (λ (r : PeerNo). same_peer r q) e ∙ same_peer_equiv.refl q)
 
 below_is_apart : (p q : PeerNo) → p.0 < q.0 → same_peer p q ≡ false
 below_is_apart p q h = grind (arith, nat_tests)

@@ -1,6 +1,4 @@
 pub mod Checks
 pub mod Params
 pub mod Picks
-pub mod Cuts
 pub mod Seeding
-pub mod Plans

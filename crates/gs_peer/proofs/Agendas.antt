@@ -5,7 +5,7 @@ use Rattle.std.specs.Map.{lookup}
 use Rattle.std.specs.declared.vec.Vec.{Vec}
 use Rattle.std.specs.declared.alloc.Global.{Global}
 use Rattle.indexmap.specs.IndexMap.{IndexMap}
-use Rattle.gs_params.specs.declared.plan.Line.{Line}
+use Rattle.gs_plan.specs.declared.plan.Line.{Line}
 use Rattle.gs_rules.specs.Rounds.{is_at}
 use Rattle.gs_peer.specs.Agendas.{lines_at}
 

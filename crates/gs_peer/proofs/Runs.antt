@@ -2,7 +2,7 @@
 use Rattle.std.proofs.Common.{◌≡◌, ◌≤◌, ℕ, Bool, false, List, [], ◌∷◌, ◌++◌, Option, None, Some, Ok, Err, Result, refl, sym, ap, subst, subst₂, ◌∙◌, append_assoc, append-nil, arith, if◌then◌else◌, true≢false}
 use Rattle.std.specs.Result.{IsOk}
 use Rattle.gs_base.specs.declared.names.Millis.{Millis}
-use Rattle.gs_params.specs.declared.plan.What.{What}
+use Rattle.gs_plan.specs.declared.plan.What.{What}
 use Rattle.gs_rules.specs.declared.trace.Event.{Event}
 use Rattle.gs_rules.specs.declared.trace.Entry.{Entry}
 use Rattle.gs_rules.specs.declared.refusal.Refusal.{Refusal}

@@ -4,7 +4,7 @@ use Rattle.std.specs.Map.{lookup}
 use Rattle.std.specs.declared.vec.Vec.{Vec}
 use Rattle.std.specs.declared.alloc.Global.{Global}
 use Rattle.indexmap.specs.IndexMap.{IndexMap}
-use Rattle.gs_params.specs.declared.plan.Line.{Line}
+use Rattle.gs_plan.specs.declared.plan.Line.{Line}
 
 -- those that are found there, and none where nothing is
 abbrev pub lines_at : {S : Type 0} → IndexMap ℕ (Vec (ℕ × Line) Global) S → ℕ → List (ℕ × Line)

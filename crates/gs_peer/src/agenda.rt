@@ -3,7 +3,7 @@ ghost use Rattle.std.specs.Prelude.{◌≡◌, ◌++◌, ℕ, [], ◌∷◌, IfO
 ghost use Rattle.gs_rules.specs.Rounds.{is_at};
 ghost use Rattle.gs_peer.specs.Agendas.{lines_at};
 
-use gs_params::Line;
+use gs_plan::Line;
 use indexmap::IndexMap;
 use std::alloc::{AllocError, Global};
 use std::marker::Model;
@@ -21,7 +21,7 @@ pub struct Agenda {
 
 impl Model for Agenda {
     ghost use Rattle.std.specs.Prelude.{◌≡◌, ℕ, List, filter};
-    ghost use Rattle.gs_params.specs.declared.plan.Line.{Line as LineValue};
+    ghost use Rattle.gs_plan.specs.declared.plan.Line.{Line as LineValue};
     ghost use Rattle.gs_rules.specs.Rounds.{is_at};
     ghost use Rattle.gs_peer.specs.Agendas.{lines_at};
 

@@ -12,7 +12,8 @@ ghost use Rattle.gs_peer.specs.Playing.{IsRunning, Runs, RpcsFit};
 
 use crate::inbox::Inbox;
 use gs_base::{Millis, PeerNo, Rpc, clone_of};
-use gs_params::{Line, SeededWords, What};
+use gs_params::SeededWords;
+use gs_plan::{Line, What};
 use gs_router::{Router, RouterFault};
 use gs_rules::RefusedLine;
 use std::alloc::{AllocError, Global};

@@ -6,14 +6,14 @@ use Rattle.gs_base.specs.declared.names.Millis.{Millis}
 use Rattle.gs_base.specs.declared.names.PeerNo.{PeerNo}
 use Rattle.gs_base.specs.declared.names.Topic.{Topic}
 use Rattle.gs_rules.specs.declared.trace.Entry.{Entry}
-use Rattle.gs_params.specs.declared.plan.Plan.{Plan}
-use Rattle.gs_params.specs.declared.plan.PlannedPeer.{PlannedPeer}
-use Rattle.gs_params.specs.declared.plan.Line.{Line}
+use Rattle.gs_plan.specs.declared.plan.Plan.{Plan}
+use Rattle.gs_plan.specs.declared.plan.PlannedPeer.{PlannedPeer}
+use Rattle.gs_plan.specs.declared.plan.Line.{Line}
 use Rattle.gs_rules.specs.declared.refusal.RefusedLine.{RefusedLine}
 use Rattle.gs_rules.specs.Refusals.{number_of}
 use Rattle.gs_report.specs.declared.finished.Finished.{Finished}
 use Rattle.gs_report.specs.declared.report.Report.{Report}
-use Rattle.gs_scenario.specs.PlanOf.{what_word}
+use Rattle.gs_plan.specs.Plans.{what_word}
 
 -- ---- words
 

@@ -6,9 +6,8 @@ ghost use Rattle.gs_report.specs.Text.{delivered_line, delivered_lines, digit, e
 use crate::{Finished, Report};
 use bytes::Bytes;
 use gs_base::{Millis, PeerNo, Topic};
-use gs_params::Plan;
+use gs_plan::{Plan, what_word};
 use gs_rules::{Entry, RefusedLine};
-use gs_scenario::what_word;
 use std::alloc::{AllocError, Global};
 
 /// The text of a run's report: first a line for each message that was delivered, peer by peer in the

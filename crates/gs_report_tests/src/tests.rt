@@ -3,8 +3,9 @@ use bytes::Bytes;
 use gs_base::{Millis, PeerNo, Seq, Text, Topic};
 use gs_params::{
     DEFAULT_DEGREES, DEFAULT_FACTORS, DEFAULT_FLOOD_PUBLISH, DEFAULT_THRESHOLDS, DEFAULT_WINDOWS,
-    Line, Params, Plan, PlannedPeer, What,
+    Params,
 };
+use gs_plan::{Line, Plan, PlannedPeer, What};
 use gs_report::{Finished, Report, report_text};
 use gs_rules::{Entry, Event, Refusal, RefusedLine, Trace};
 use std::alloc::{AllocError, Global};

@@ -1,11 +1,11 @@
 -- What a heartbeat does to a mesh, by the words that choose it.
 use Rattle.std.proofs.Common.{◌≡◌, ◌+◌, ◌-◌, ◌≤◌, ◌++◌, ◌∙◌, ℕ, Bool, true, false, List, [], ◌∷◌, length, refl, sym, ap, ap₂, subst}
 use Rattle.gs_base.specs.declared.names.PeerNo.{PeerNo}
-use Rattle.gs_params.specs.declared.cuts.Member.{Member}
+use Rattle.gs_mesh.specs.declared.members.Member.{Member}
 use Rattle.gs_params.specs.declared.params.Degrees.{Degrees}
 use Rattle.gs_params.specs.declared.params.Params.{Params}
 use Rattle.gs_params.specs.Picks.{IsAscending}
-use Rattle.gs_params.specs.Cuts.{outbound_of, outside, peers_of}
+use Rattle.gs_mesh.specs.Cuts.{outbound_of, outside, peers_of}
 use Rattle.gs_mesh.specs.declared.heartbeat.Choice.{Choice}
 use Rattle.gs_mesh.specs.declared.condition.Condition.{Condition}
 use Rattle.gs_mesh.specs.declared.condition.Condition.TheVariants.{Few, Many, FewOutbound, Well}

@@ -7,7 +7,7 @@ use Rattle.gs_base.specs.declared.neighbour.Neighbour.{Neighbour}
 use Rattle.gs_base.specs.declared.mark.Mark.{Mark}
 use Rattle.gs_base.specs.declared.mark.Mark.TheVariants.{Backoff, Behaviour, Fanned, Grafted, Pruned, Published, Unfanned}
 use Rattle.gs_params.specs.Params.{default_degrees, default_factors, default_thresholds, default_windows}
-use Rattle.gs_params.specs.Cuts.{peers_of}
+use Rattle.gs_mesh.specs.Cuts.{peers_of}
 use Rattle.gs_score.specs.Formula.{score_of, topic_part}
 use Rattle.gs_score.specs.Millionths.{times}
 use Rattle.gs_base.specs.Rpcs.{grafting, pruning}

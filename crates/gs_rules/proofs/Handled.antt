@@ -9,9 +9,9 @@ use Rattle.gs_base.specs.declared.names.Millis.{Millis}
 use Rattle.gs_base.specs.declared.rpc.Rpc.{Rpc}
 use Rattle.gs_base.specs.Names.{same_peer}
 use Rattle.gs_params.specs.Picks.{IsAscending}
-use Rattle.gs_params.specs.declared.plan.Line.{Line}
-use Rattle.gs_params.specs.declared.plan.What.{What}
-use Rattle.gs_params.specs.declared.plan.What.TheVariants.{Subscribe, Unsubscribe, Publish}
+use Rattle.gs_plan.specs.declared.plan.Line.{Line}
+use Rattle.gs_plan.specs.declared.plan.What.{What}
+use Rattle.gs_plan.specs.declared.plan.What.TheVariants.{Subscribe, Unsubscribe, Publish}
 use Rattle.gs_params.proofs.Picking.{distinct_from_ascending}
 use Rattle.gs_wire.specs.declared.frames.End.TheVariants.{Waits}
 use Rattle.gs_wire.specs.Messages.{longest_body}

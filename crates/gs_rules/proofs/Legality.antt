@@ -14,9 +14,9 @@ use Rattle.gs_rules.specs.Rules.{Rule, Gives, AnyOf, CutOf, OneOf, rule_of}
 use Rattle.gs_rules.specs.Modes.{Mode, Follows, SaysTheSame, free, settled, exact}
 use Rattle.gs_rules.specs.Legal.{IsAllowed, LegalOn, Legal}
 use Rattle.gs_params.specs.declared.params.Degrees.{Degrees}
-use Rattle.gs_params.specs.declared.cuts.Member.{Member}
+use Rattle.gs_mesh.specs.declared.members.Member.{Member}
 use Rattle.gs_params.proofs.Picking.{picked_is_choice}
-use Rattle.gs_params.proofs.Cutting.{exact_cut_is_cut, exact_cut_is_one}
+use Rattle.gs_mesh.proofs.Cutting.{exact_cut_is_cut, exact_cut_is_one}
 
 pub says_itself : (x : Entry) → SaysTheSame x x
 says_itself x = record { at = refl; event = refl; sends = λ q. refl; delivered = refl; promise = refl; marks = IsPermutation-refl x.marks }

@@ -24,7 +24,7 @@ use Rattle.gs_base.specs.declared.verdict.Verdict.TheVariants.{Accept, Reject, I
 use Rattle.gs_base.specs.declared.mark.Mark.{Mark}
 use Rattle.gs_base.specs.declared.mark.Mark.TheVariants.{Answered, Behaviour, Cached, Deficit, First, Grafted, Invalid, Near, Pruned, Published, Unfanned}
 use Rattle.gs_base.specs.Names.{message_id, payload_of, peers_of, same_peer, topic_of, topic_or_empty, HasIdentifierLength}
-use Rattle.gs_params.specs.declared.cuts.Member.{Member}
+use Rattle.gs_mesh.specs.declared.members.Member.{Member}
 use Rattle.gs_mesh.specs.Peers.{is_among}
 use Rattle.gs_wire.proofs.RoundTrip.{all-append}
 use Rattle.gs_rules.specs.declared.trace.Promise.{Promise}

@@ -9,8 +9,8 @@ use Rattle.gs_base.specs.declared.control.Prune.{Prune}
 use Rattle.gs_base.specs.declared.rpc.SubOpt.{SubOpt}
 use Rattle.gs_base.specs.declared.mark.Mark.TheVariants.{Behaviour, Published}
 use Rattle.gs_base.specs.Names.{topic_or_empty}
-use Rattle.gs_params.specs.declared.cuts.Member.{Member}
-use Rattle.gs_params.specs.Cuts.{outside, peers_of}
+use Rattle.gs_mesh.specs.declared.members.Member.{Member}
+use Rattle.gs_mesh.specs.Cuts.{outside, peers_of}
 use Rattle.gs_mesh.specs.Peers.{is_among}
 use Rattle.gs_mesh.specs.declared.condition.Condition.{Condition}
 use Rattle.gs_mesh.specs.declared.condition.Condition.TheVariants.{Few, Many, FewOutbound, Well}

@@ -5,7 +5,7 @@ use Rattle.std.specs.Prelude.{ℕ, ◌-◌, if◌then◌else◌, List, ◌++◌,
 use Rattle.gs_base.specs.declared.names.PeerNo.{PeerNo}
 use Rattle.gs_base.specs.declared.names.Topic.{Topic}
 use Rattle.gs_base.specs.declared.names.Millis.{Millis}
-use Rattle.gs_params.specs.declared.cuts.Member.{Member}
+use Rattle.gs_mesh.specs.declared.members.Member.{Member}
 use Rattle.gs_mesh.specs.declared.heartbeat.Choice.{Choice}
 use Rattle.gs_mesh.specs.MeshSteps.{stepped}
 use Rattle.gs_base.specs.Rpcs.{grafting, pruning}

@@ -4,8 +4,8 @@ use Rattle.gs_base.specs.declared.names.PeerNo.{PeerNo}
 use Rattle.gs_base.specs.declared.rpc.Rpc.{Rpc}
 use Rattle.gs_base.specs.Names.{same_peer}
 use Rattle.gs_params.specs.declared.params.Degrees.{Degrees}
-use Rattle.gs_params.specs.declared.cuts.Member.{Member}
-use Rattle.gs_params.specs.Cuts.{IsCut, IsExactCut}
+use Rattle.gs_mesh.specs.declared.members.Member.{Member}
+use Rattle.gs_mesh.specs.Cuts.{IsCut, IsExactCut}
 use Rattle.gs_params.specs.Picks.{IsAscending, IsChoice, picked, picked_words, picked_one, picked_one_words}
 use Rattle.gs_rules.specs.declared.trace.Entry.{Entry}
 use Rattle.gs_rules.specs.Rules.{Rule, Gives, AnyOf, CutOf, OneOf}

@@ -4,9 +4,9 @@ use Rattle.std.specs.List.{flat_map, zip, AllZip}
 use Rattle.gs_base.specs.declared.names.PeerNo.{PeerNo}
 use Rattle.gs_base.specs.declared.names.Millis.{Millis}
 use Rattle.gs_base.specs.declared.rpc.Rpc.{Rpc}
-use Rattle.gs_params.specs.declared.plan.Line.{Line}
-use Rattle.gs_params.specs.declared.plan.What.{What}
-use Rattle.gs_params.specs.declared.plan.What.TheVariants.{Subscribe, Unsubscribe, Publish}
+use Rattle.gs_plan.specs.declared.plan.Line.{Line}
+use Rattle.gs_plan.specs.declared.plan.What.{What}
+use Rattle.gs_plan.specs.declared.plan.What.TheVariants.{Subscribe, Unsubscribe, Publish}
 use Rattle.gs_wire.specs.declared.frames.End.{End}
 use Rattle.gs_wire.specs.declared.frames.End.TheVariants as ends
 use Rattle.gs_rules.specs.declared.trace.Event.{Event}

@@ -9,14 +9,14 @@ use Rattle.toml.specs.Data.{Data, Items}
 use Rattle.gs_base.specs.declared.names.PeerNo.{PeerNo}
 use Rattle.gs_base.specs.declared.names.Topic.{Topic}
 use Rattle.gs_base.specs.Names.{same_peer, same_topic}
-use Rattle.gs_params.specs.Plans.{IsOneOf, IsAppScore, are_joined, are_of_the_same, has_topic, highest_app_score, have_one_name, join_the_same, topic_of}
+use Rattle.gs_plan.specs.Plans.{IsOneOf, IsAppScore, are_joined, are_of_the_same, has_topic, highest_app_score, have_one_name, join_the_same, topic_of}
 use Rattle.gs_params.specs.declared.topic_params.TopicParams.{TopicParams}
-use Rattle.gs_params.specs.declared.plan.App.{App}
-use Rattle.gs_params.specs.declared.plan.Dial.{Dial}
-use Rattle.gs_params.specs.declared.plan.Line.{Line}
-use Rattle.gs_params.specs.declared.plan.PlannedPeer.{PlannedPeer}
-use Rattle.gs_params.specs.declared.plan.What.{What}
-use Rattle.gs_params.specs.declared.plan.What.TheVariants.{Publish}
+use Rattle.gs_plan.specs.declared.plan.App.{App}
+use Rattle.gs_plan.specs.declared.plan.Dial.{Dial}
+use Rattle.gs_plan.specs.declared.plan.Line.{Line}
+use Rattle.gs_plan.specs.declared.plan.PlannedPeer.{PlannedPeer}
+use Rattle.gs_plan.specs.declared.plan.What.{What}
+use Rattle.gs_plan.specs.declared.plan.What.TheVariants.{Publish}
 use Rattle.gs_scenario.specs.declared.scenario.script.Verb.{Verb}
 use Rattle.gs_scenario.specs.declared.scenario.script.Verb.TheVariants as verbs
 use Rattle.gs_scenario.specs.declared.reason.NameKind.TheVariants as names

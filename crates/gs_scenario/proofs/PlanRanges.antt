@@ -5,16 +5,16 @@ use Rattle.toml.specs.Data.{Members}
 use Rattle.toml.specs.Parse.{parse_document}
 use Rattle.gs_base.specs.declared.names.Topic.{Topic}
 use Rattle.gs_params.specs.Params.{checked, default_windows}
-use Rattle.gs_params.specs.Plans.{IsInRange, has_topic, highest_capacity, longest_round, most_peers, most_planned_topics, most_rounds, most_workers, topic_of}
+use Rattle.gs_plan.specs.Plans.{IsInRange, has_topic, highest_capacity, longest_round, most_peers, most_planned_topics, most_rounds, most_workers, topic_of}
 use Rattle.gs_params.specs.declared.params.Params.{Params}
 use Rattle.gs_params.specs.declared.params.Windows.{Windows}
 use Rattle.gs_params.specs.declared.topic_params.TopicParams.{TopicParams}
 use Rattle.gs_params.specs.declared.param_fault.ParamFault.{ParamFault}
-use Rattle.gs_params.specs.declared.plan.App.{App}
-use Rattle.gs_params.specs.declared.plan.Dial.{Dial}
-use Rattle.gs_params.specs.declared.plan.Line.{Line}
-use Rattle.gs_params.specs.declared.plan.Plan.{Plan}
-use Rattle.gs_params.specs.declared.plan.PlannedPeer.{PlannedPeer}
+use Rattle.gs_plan.specs.declared.plan.App.{App}
+use Rattle.gs_plan.specs.declared.plan.Dial.{Dial}
+use Rattle.gs_plan.specs.declared.plan.Line.{Line}
+use Rattle.gs_plan.specs.declared.plan.Plan.{Plan}
+use Rattle.gs_plan.specs.declared.plan.PlannedPeer.{PlannedPeer}
 use Rattle.gs_scenario.specs.declared.fault.ScenarioFault.{ScenarioFault}
 use Rattle.gs_scenario.specs.declared.scenario.params.Shared.{Shared}
 use Rattle.gs_scenario.specs.declared.scenario.tables.TableKind.TheVariants as kinds

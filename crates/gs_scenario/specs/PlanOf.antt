@@ -13,14 +13,14 @@ use Rattle.gs_scenario.specs.declared.reason.NameKind.TheVariants as names
 use Rattle.gs_scenario.specs.declared.scenario.tables.TableKind.{TableKind}
 use Rattle.gs_scenario.specs.declared.scenario.tables.TableKind.TheVariants as kinds
 use Rattle.gs_scenario.specs.declared.reason.Wanted.TheVariants as wanted
-use Rattle.gs_params.specs.declared.plan.Plan.{Plan}
-use Rattle.gs_params.specs.declared.plan.PlannedPeer.{PlannedPeer}
-use Rattle.gs_params.specs.declared.plan.Dial.{Dial}
-use Rattle.gs_params.specs.declared.plan.App.{App}
-use Rattle.gs_params.specs.declared.plan.Line.{Line}
-use Rattle.gs_params.specs.declared.plan.What.{What}
-use Rattle.gs_params.specs.declared.plan.What.TheVariants.{Subscribe, Unsubscribe, Publish}
-use Rattle.gs_params.specs.Plans.{are_joined, are_of_the_same, join_the_same, longest_round, most_rounds, most_workers, highest_capacity, most_peers, most_planned_topics, highest_app_score}
+use Rattle.gs_plan.specs.declared.plan.Plan.{Plan}
+use Rattle.gs_plan.specs.declared.plan.PlannedPeer.{PlannedPeer}
+use Rattle.gs_plan.specs.declared.plan.Dial.{Dial}
+use Rattle.gs_plan.specs.declared.plan.App.{App}
+use Rattle.gs_plan.specs.declared.plan.Line.{Line}
+use Rattle.gs_plan.specs.declared.plan.What.{What}
+use Rattle.gs_plan.specs.declared.plan.What.TheVariants.{Subscribe, Unsubscribe, Publish}
+use Rattle.gs_plan.specs.Plans.{are_joined, are_of_the_same, join_the_same, longest_round, most_rounds, most_workers, highest_capacity, most_peers, most_planned_topics, highest_app_score}
 use Rattle.gs_scenario.specs.declared.scenario.script.Verb.{Verb}
 use Rattle.gs_scenario.specs.declared.scenario.script.Verb.TheVariants as verbs
 use Rattle.gs_scenario.specs.Keys.{Key, Kind, Section, ◌>>=◌, refuse_if, required, optional, read_key, only, read_each}
@@ -241,12 +241,6 @@ verb_of text =
     else if pointwise nat_eq text (codes "unsubscribe") then Some verbs.Unsubscribe
     else if pointwise nat_eq text (codes "publish") then Some verbs.Publish
     else None
-
--- the word for what a peer is told to do
-abbrev pub what_word : What → List ℕ
-what_word (Subscribe topic) = codes "subscribe"
-what_word (Unsubscribe topic) = codes "unsubscribe"
-what_word (Publish topic payload) = codes "publish"
 
 abbrev pub what_key : Key Verb
 what_key = required (codes "what") (word verb_of)

@@ -4,9 +4,7 @@
 mod fault;
 mod reason;
 mod scenario;
-mod words;
 
 pub use fault::ScenarioFault;
 pub use reason::{Found, NameKind, Wanted};
 pub use scenario::{TableKind, read_plan};
-pub use words::what_word;

@@ -3,7 +3,7 @@ ghost use Rattle.std.specs.Prelude.{◌≡◌, IfOk};
 ghost use Rattle.toml.specs.View.{table_view};
 ghost use Rattle.gs_scenario.specs.Refusal.{Gives};
 ghost use Rattle.gs_scenario.specs.PlanOf.{plan_of, plan_in};
-ghost use Rattle.gs_params.specs.Plans.{IsInRange};
+ghost use Rattle.gs_plan.specs.Plans.{IsInRange};
 
 mod apps;
 mod dials;
@@ -29,7 +29,7 @@ use crate::scenario::script::{Known, lines_in};
 use crate::scenario::section::Section;
 use crate::scenario::top::Top;
 use crate::scenario::topics::topics_in;
-use gs_params::Plan;
+use gs_plan::Plan;
 use std::alloc::Global;
 pub use tables::TableKind;
 use toml::Table;

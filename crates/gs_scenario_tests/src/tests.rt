@@ -1,5 +1,6 @@
 //! Scenarios with the plan or the refusal that each must give.
 mod cases;
+mod joins;
 mod keys;
 mod order;
 mod plans;
@@ -14,8 +15,9 @@ use crate::tests::plans::{DEFAULT_PARAMS, DEFAULT_TOPIC, EDITED_PLANS, PLANS};
 use crate::tests::reasons::{KNOWN_KEYS, REASONS};
 use bytes::Bytes;
 use gs_base::{Text, Topic};
-use gs_params::{Check, ParamFault, Parameter, ScoreRule, What};
-use gs_scenario::{Found, ScenarioFault, TableKind, Wanted, read_plan, what_word};
+use gs_params::{Check, ParamFault, Parameter, ScoreRule};
+use gs_plan::{What, what_word};
+use gs_scenario::{Found, ScenarioFault, TableKind, Wanted, read_plan};
 use std::alloc::{AllocError, Global};
 use std::process::Abort;
 

@@ -1,13 +1,13 @@
 //! The scenario that an input holds: the plan of its bytes, or why they are refused.
 ghost use Rattle.std.specs.Prelude.{◌≡◌, ◌≤◌, ◌⊎◌, IfErr, IfOk, Some, codes, length};
-ghost use Rattle.gs_params.specs.Plans.{IsInRange};
+ghost use Rattle.gs_plan.specs.Plans.{IsInRange};
 ghost use Rattle.gs_scenario.specs.declared.fault.ScenarioFault.TheVariants.{NoMemory};
 ghost use Rattle.gs_streams.specs.Inputs.{IsRefusal, IsScenario, input_too_long};
 ghost use Rattle.gs_streams.specs.Streams.{longest_input};
 
 use crate::LONGEST_INPUT;
 use gs_base::Text;
-use gs_params::Plan;
+use gs_plan::Plan;
 use gs_scenario::{Found, ScenarioFault, Wanted, read_plan};
 use std::alloc::Global;
 

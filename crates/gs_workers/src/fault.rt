@@ -1,41 +1,25 @@
-//! Why a run gives no report.
-ghost use Rattle.std.specs.Prelude.{◌≡◌};
-ghost use Rattle.gs_workers.specs.Faults.{number_of};
-
-use gs_base::PeerNo;
+//! Why workers give no outputs.
 use std::alloc::{AllocError, AllocFailed};
 
-/// Why a run gives no report.
+/// Why workers give no outputs.
 #[derive(Clone, Copy, Debug, PartialEq, Eq, thiserror::Error)]
-pub enum NetFault {
-    /// There was no memory: for what this peer is given, or for what belongs to no peer.
+pub enum WorkerFault {
+    /// There was no memory.
     #[error("there was no memory")]
-    NoMemory(Option<PeerNo>),
+    NoMemory,
     /// A worker thread could not be started, or could not wait.
     #[error("a worker thread was wanting")]
     NoThread,
 }
 
-impl NetFault {
-    /// The number of the fault: 24 for want of memory, 25 where a worker thread was wanting.
-    pub fn number(self) -> u8
-        ensures { result ≡ number_of self }
-    {
-        match self {
-            NetFault::NoMemory(_) => 24,
-            NetFault::NoThread => 25,
-        }
+impl From<AllocError> for WorkerFault {
+    fn from(_: AllocError) -> WorkerFault {
+        WorkerFault::NoMemory
     }
 }
 
-impl From<AllocError> for NetFault {
-    fn from(_: AllocError) -> NetFault {
-        NetFault::NoMemory(None)
-    }
-}
-
-impl<T: Drop> From<AllocFailed<T>> for NetFault {
-    fn from(_: AllocFailed<T>) -> NetFault {
-        NetFault::NoMemory(None)
+impl<T: Drop> From<AllocFailed<T>> for WorkerFault {
+    fn from(_: AllocFailed<T>) -> WorkerFault {
+        WorkerFault::NoMemory
     }
 }

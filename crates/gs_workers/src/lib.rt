@@ -7,7 +7,7 @@ mod group;
 mod stop_flag;
 mod workers;
 
-pub use fault::NetFault;
+pub use fault::WorkerFault;
 pub use stop_flag::StopFlag;
 pub use workers::run_all;
 

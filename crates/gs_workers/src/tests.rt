@@ -5,9 +5,8 @@ mod made;
 
 use crate::deal::deal;
 use crate::tests::made::{Guest, Meeting, first_numbers, given};
-use crate::{NetFault, StopFlag, run_all};
+use crate::{StopFlag, WorkerFault, run_all};
 use futures::future::MaybeDone;
-use gs_base::PeerNo;
 use std::alloc::{AllocError, AllocGlobal};
 use std::random::RandomSource;
 use std::sync::Wait;
@@ -46,7 +45,7 @@ fn no_futures_give_no_outputs(rt: HostRuntime) {
 #[test]
 fn too_many_workers_are_want_of_memory(rt: HostRuntime) {
     let stop = StopFlag::new();
-    assert!(rt; given(&rt, usize::MAX, 1, &stop) == Err(NetFault::NoMemory(None)));
+    assert!(rt; given(&rt, usize::MAX, 1, &stop) == Err(WorkerFault::NoMemory));
     assert!(rt; stop.is_set());
 }
 
@@ -58,29 +57,23 @@ fn a_flag_is_set_once_it_was_set(rt: HostRuntime) {
     assert!(rt; stop.is_set());
 }
 
-/// The numbers and the texts of faults.
-static FAULTS: [(NetFault, u8, &str); 3] = [
-    (NetFault::NoMemory(None), 24, "there was no memory"),
-    (
-        NetFault::NoMemory(Some(PeerNo(7))),
-        24,
-        "there was no memory",
-    ),
-    (NetFault::NoThread, 25, "a worker thread was wanting"),
+/// The texts of faults.
+static FAULTS: [(WorkerFault, &str); 2] = [
+    (WorkerFault::NoMemory, "there was no memory"),
+    (WorkerFault::NoThread, "a worker thread was wanting"),
 ];
 
 #[test]
-fn each_fault_has_its_number_and_text(rt: HostRuntime) -> Result<(), AllocError> {
-    for (fault, number, text) in &FAULTS {
+fn each_fault_has_its_text(rt: HostRuntime) -> Result<(), AllocError> {
+    for (fault, text) in &FAULTS {
         let shown = format!(in rt.alloc(); "{fault}")?;
         assert_eq!(rt; shown.as_str(), *text);
-        assert_eq!(rt; fault.number(), *number);
     }
     Ok(())
 }
 
 /// Whether four futures on four workers all meet.
-fn all_meet<R>(rt: &R, meeting: &Meeting) -> Result<bool, NetFault>
+fn all_meet<R>(rt: &R, meeting: &Meeting) -> Result<bool, WorkerFault>
 where
     R: Threads + Wait + RandomSource + AllocGlobal + Sync,
 {

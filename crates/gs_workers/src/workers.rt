@@ -5,7 +5,7 @@ ghost use Rattle.gs_workers.specs.Deals.{lists_of};
 ghost use Rattle.gs_workers.specs.Groups.{AllEnd, AllLive};
 
 use crate::deal::{Groups, deal, gather};
-use crate::fault::NetFault;
+use crate::fault::WorkerFault;
 use crate::group::Group;
 use crate::stop_flag::StopFlag;
 use futures::Future;
@@ -20,7 +20,7 @@ use std::thread;
 use std::thread::{Promise, PromisedHandle, Scope, Threads};
 
 /// A group of which each future is done, or why there is none.
-type Driven<F, T> = Result<Vec<MaybeDone<F, T>>, NetFault>;
+type Driven<F, T> = Result<Vec<MaybeDone<F, T>>, WorkerFault>;
 
 /// A worker that is still to be joined.
 type Worker<F, T> = PromisedHandle<Driven<F, T>, OfGroup<F, T>>;
@@ -46,7 +46,7 @@ pub fn run_all<F, R>(
     workers: usize,
     stop: &StopFlag,
     futures: Vec<F>,
-) -> Result<Vec<F::Output>, NetFault>
+) -> Result<Vec<F::Output>, WorkerFault>
 where
     F: Future<Output: Send + Drop> + Send,
     R: Threads + Wait + RandomSource + AllocGlobal + Sync,
@@ -57,7 +57,7 @@ where
     thread::scope(
         thread::scope_env(),
         rt,
-        move |scope| -> Result<Vec<F::Output>, NetFault>
+        move |scope| -> Result<Vec<F::Output>, WorkerFault>
             requires { (1 ≤ workers) × All F.can_poll futures.items }
             ensures { IfOk result (λ outputs. AllZip F.gives futures.items outputs.items) }
         {
@@ -77,7 +77,7 @@ fn run_in<'s, E, F, R>(
     workers: usize,
     stop: &'s StopFlag,
     futures: Vec<F>,
-) -> Result<Vec<F::Output>, NetFault>
+) -> Result<Vec<F::Output>, WorkerFault>
 where
     F: Future<Output: Send + Drop + 's> + Send + 's,
     R: Threads + Wait + RandomSource + AllocGlobal + Sync,
@@ -99,7 +99,7 @@ fn start_all<'s, E, F, R>(
     alloc: Global,
     stop: &'s StopFlag,
     mut groups: Groups<F, F::Output>,
-) -> Result<Vec<Worker<F, F::Output>>, NetFault>
+) -> Result<Vec<Worker<F, F::Output>>, WorkerFault>
 where
     F: Future<Output: Send + Drop + 's> + Send + 's,
     R: Wait + RandomSource + AllocGlobal + Sync,
@@ -111,7 +111,7 @@ where
     while let Some(group) = groups.pop_front() {
         let promise = OfGroup(Snapshot::of(&group));
         let Ok(worker) = scope.spawn_with(promise, move || drive(rt, stop, group)) else {
-            return Err(NetFault::NoThread);
+            return Err(WorkerFault::NoThread);
         };
         workers.push(worker)?;
     }
@@ -137,7 +137,7 @@ where
         Ok(ended) => Ok(ended),
         Err(_) => {
             stop.set();
-            Err(NetFault::NoThread)
+            Err(WorkerFault::NoThread)
         }
     }
 }
@@ -147,7 +147,7 @@ fn join_all<F, R>(
     rt: &R,
     alloc: Global,
     workers: Vec<Worker<F, F::Output>>,
-) -> Result<Groups<F, F::Output>, NetFault>
+) -> Result<Groups<F, F::Output>, WorkerFault>
 where
     F: Future<Output: Drop>,
     R: Threads,

@@ -1,10 +1,11 @@
 //! Who is whose neighbour in a plan, and what is given of each.
 ghost use Rattle.std.specs.Prelude.{◌≤◌, IfOk, length};
-ghost use Rattle.gs_params.specs.declared.plan.TheConstants.{MOST_PEERS as most};
+ghost use Rattle.gs_plan.specs.declared.plan.TheConstants.{MOST_PEERS as most};
 
 use super::*;
 use gs_base::{Seq, Text};
-use gs_params::{Params, PlannedPeer};
+use gs_params::Params;
+use gs_plan::PlannedPeer;
 
 fn peer(alloc: Global, name: &str, address: &str) -> Result<PlannedPeer, AllocError> {
     Ok(PlannedPeer {

@@ -2,7 +2,7 @@
 use bytes::Bytes;
 use gs_base::{PeerNo, Rpc, Topic};
 use gs_link::Item;
-use gs_params::{Line, What};
+use gs_plan::{Line, What};
 use gs_wire::encode_frame;
 use std::alloc::{AllocError, Global};
 

@@ -14,8 +14,8 @@ use crate::entries::sends::{bare, send_to_each, to_each};
 use crate::known::Known;
 use crate::peer_lists::{left_of, those_among, those_outside};
 use gs_base::{Mark, Millis, PeerNo, Rpc, Seq, Topic};
-use gs_mesh::{Choice, choose_heartbeat};
-use gs_params::{Member, Words, pick};
+use gs_mesh::{Choice, Member, choose_heartbeat};
+use gs_params::{Words, pick};
 use gs_rules::{Entry, Event};
 use std::alloc::AllocError;
 

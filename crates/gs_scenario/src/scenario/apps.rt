@@ -4,7 +4,7 @@ ghost use Rattle.std.specs.List.{list_any};
 ghost use Rattle.toml.specs.View.{view, items_view};
 ghost use Rattle.gs_scenario.specs.Refusal.{Gives};
 ghost use Rattle.gs_scenario.specs.Keys.{read_each};
-ghost use Rattle.gs_params.specs.Plans.{are_of_the_same};
+ghost use Rattle.gs_plan.specs.Plans.{are_of_the_same};
 ghost use Rattle.gs_scenario.specs.PlanOf.{app_in, app_keys, neighbour};
 ghost use Rattle.gs_scenario.specs.Views.{read_as};
 
@@ -16,7 +16,7 @@ use crate::scenario::peers::peer_of;
 use crate::scenario::place::{Element, Place};
 use crate::scenario::tables::TableKind;
 use gs_base::{PeerNo, Seq};
-use gs_params::{App, Dial, HIGHEST_APP_SCORE, MOST_PEERS, PlannedPeer, are_joined};
+use gs_plan::{App, Dial, HIGHEST_APP_SCORE, MOST_PEERS, PlannedPeer, are_joined};
 use std::alloc::Global;
 use toml::Value;
 

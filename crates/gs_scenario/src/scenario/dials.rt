@@ -4,7 +4,7 @@ ghost use Rattle.toml.specs.View.{view, items_view};
 ghost use Rattle.gs_scenario.specs.Refusal.{Gives};
 ghost use Rattle.gs_scenario.specs.Keys.{read_each};
 ghost use Rattle.gs_scenario.specs.PlanOf.{dial_in, dial_keys};
-ghost use Rattle.gs_params.specs.Plans.{are_joined};
+ghost use Rattle.gs_plan.specs.Plans.{are_joined};
 
 use crate::fault::ScenarioFault;
 use crate::reason::Wanted;
@@ -14,7 +14,7 @@ use crate::scenario::peers::peer_of;
 use crate::scenario::place::{Element, Place};
 use crate::scenario::tables::TableKind;
 use gs_base::Seq;
-use gs_params::{Dial, MOST_PEERS, PlannedPeer, are_joined};
+use gs_plan::{Dial, MOST_PEERS, PlannedPeer, are_joined};
 use std::alloc::Global;
 use toml::Value;
 

@@ -16,7 +16,7 @@ use crate::scenario::field::{Field, table_of};
 use crate::scenario::place::Element;
 use crate::scenario::tables::TableKind;
 use gs_base::{PeerNo, Seq, Text};
-use gs_params::{MOST_PEERS, PlannedPeer};
+use gs_plan::{MOST_PEERS, PlannedPeer};
 use std::alloc::Global;
 use toml::Value;
 

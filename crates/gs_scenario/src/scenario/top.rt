@@ -7,7 +7,7 @@ ghost use Rattle.gs_scenario.specs.Views.{section_of, top_view};
 use crate::fault::ScenarioFault;
 use crate::scenario::section::Section;
 use crate::scenario::tables::TableKind;
-use gs_params::{LONGEST_ROUND, MOST_PEERS, MOST_ROUNDS};
+use gs_plan::{LONGEST_ROUND, MOST_PEERS, MOST_ROUNDS};
 use toml::{Table, Value};
 
 const ROUND_MS: &str = "round_ms";

@@ -2,7 +2,7 @@
 use crate::tests::cases::Case;
 use crate::tests::keys::{IN_APP, IN_PARAMS, IN_PEER, IN_TOPIC, TABLES};
 use crate::tests::{check_edits, check_lines, with_line};
-use gs_params::PlannedPeer;
+use gs_plan::PlannedPeer;
 use gs_scenario::read_plan;
 use std::alloc::{AllocError, Global};
 

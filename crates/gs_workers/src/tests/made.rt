@@ -1,7 +1,7 @@
 //! Futures that give their numbers, and futures that meet.
 ghost use Rattle.std.specs.Prelude.{◌≡◌, ◌≤◌};
 
-use crate::{NetFault, StopFlag, run_all};
+use crate::{StopFlag, WorkerFault, run_all};
 use futures::Future;
 use futures::task::{Context, Poll};
 use std::alloc::{AllocError, AllocGlobal, Global};
@@ -45,7 +45,7 @@ pub fn first_numbers(alloc: Global, count: u8) -> Result<Vec<Numbered>, AllocErr
 }
 
 /// What so many futures give on so many workers.
-pub fn given<R>(rt: &R, workers: usize, count: u8, stop: &StopFlag) -> Result<Vec<u16>, NetFault>
+pub fn given<R>(rt: &R, workers: usize, count: u8, stop: &StopFlag) -> Result<Vec<u16>, WorkerFault>
 where
     R: Threads + Wait + RandomSource + AllocGlobal + Sync,
     requires { 1 ≤ workers }

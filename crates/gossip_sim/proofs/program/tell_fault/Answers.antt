@@ -1,7 +1,7 @@
 use Rattle.std.proofs.Common.{◌≡◌, ◌∙◌, ℕ, List, None, codes, inl, inr, refl, subst}
 use Rattle.std.specs.Fmt.{digits}
-use Rattle.gs_params.specs.declared.plan.Plan.{Plan}
-use Rattle.gs_workers.specs.declared.fault.NetFault.TheVariants.{NoMemory}
+use Rattle.gs_plan.specs.declared.plan.Plan.{Plan}
+use Rattle.gs_net.specs.declared.fault.NetFault.TheVariants.{NoMemory}
 use Rattle.gossip_sim.specs.Program.{run_refusal_line}
 use Rattle.gs_streams.specs.Streams.{AppendsFront}
 use Rattle.gossip_sim.proofs.program.tell_fault.Goals as goal

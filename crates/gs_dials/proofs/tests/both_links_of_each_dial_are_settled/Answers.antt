@@ -1,7 +1,7 @@
 use Rattle.std.proofs.Common.{◌≡◌, ◌∙◌, false, refl}
 use Rattle.gs_base.specs.declared.names.PeerNo.{PeerNo}
-use Rattle.gs_params.specs.declared.plan.Dial.{Dial}
-use Rattle.gs_params.specs.Plans.{join_the_same}
+use Rattle.gs_plan.specs.declared.plan.Dial.{Dial}
+use Rattle.gs_plan.specs.Plans.{join_the_same}
 use Rattle.gs_dials.proofs.Closing.{two_differ}
 use Rattle.gs_dials.proofs.Joined.{none_twice}
 use Rattle.gs_dials.proofs.Wires.{still_wired}

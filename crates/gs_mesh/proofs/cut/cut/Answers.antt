@@ -2,8 +2,8 @@ use Rattle.std.proofs.Common.{◌≡◌, ◌++◌, ◌∙◌, List, filter, ap, 
 use Rattle.std.specs.Set.{is_member}
 use Rattle.gs_base.specs.declared.names.PeerNo.{PeerNo}
 use Rattle.gs_base.specs.Names.{same_peer}
-use Rattle.gs_params.specs.Cuts.{cut, cut_words, others_picked, others_picked_words, peers_of}
-use Rattle.gs_params.proofs.Members.{peers_of_kept}
+use Rattle.gs_mesh.specs.Cuts.{cut, cut_words, others_picked, others_picked_words, peers_of}
+use Rattle.gs_mesh.proofs.BestMembers.{peers_of_kept}
 use Rattle.gs_mesh.proofs.cut.cut.Goals as goal
 
 pub returns-clause-kept : goal.returns-clause-kept

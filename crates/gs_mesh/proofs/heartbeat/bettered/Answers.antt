@@ -1,7 +1,7 @@
 use Rattle.std.proofs.Common.{◌∙◌, List, ap, sym, subst}
-use Rattle.gs_params.specs.declared.cuts.Member.{Member}
+use Rattle.gs_mesh.specs.declared.members.Member.{Member}
 use Rattle.gs_params.specs.Picks.{IsAscending}
-use Rattle.gs_params.specs.Cuts.{outside, peers_of}
+use Rattle.gs_mesh.specs.Cuts.{outside, peers_of}
 use Rattle.gs_mesh.specs.MeshSteps.{above_median}
 use Rattle.gs_mesh.proofs.MemberLists.{above_median_ascend, outside_ascend}
 use Rattle.gs_mesh.proofs.heartbeat.bettered.Goals as goal

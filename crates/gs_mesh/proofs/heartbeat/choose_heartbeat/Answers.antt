@@ -1,8 +1,8 @@
 use Rattle.std.proofs.Common.{◌≡◌, ◌∙◌, List, refl, sym, ap₂, subst, subst₂}
 use Rattle.gs_base.specs.declared.names.PeerNo.{PeerNo}
-use Rattle.gs_params.specs.declared.cuts.Member.{Member}
+use Rattle.gs_mesh.specs.declared.members.Member.{Member}
 use Rattle.gs_params.specs.Picks.{IsAscending}
-use Rattle.gs_params.specs.Cuts.{peers_of}
+use Rattle.gs_mesh.specs.Cuts.{peers_of}
 use Rattle.gs_mesh.specs.declared.heartbeat.Choice.{Choice}
 use Rattle.gs_mesh.specs.MeshSteps.{bettered_by_words, choice_of, made_of, mended_by_words, not_negative, step_by_words}
 use Rattle.gs_mesh.proofs.MemberLists.{not_negative_ascend}

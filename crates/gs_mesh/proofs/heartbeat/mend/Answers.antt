@@ -1,7 +1,7 @@
 use Rattle.std.proofs.Common.{◌∙◌, List, sym, subst}
-use Rattle.gs_params.specs.declared.cuts.Member.{Member}
+use Rattle.gs_mesh.specs.declared.members.Member.{Member}
 use Rattle.gs_params.specs.Picks.{IsAscending}
-use Rattle.gs_params.specs.Cuts.{peers_of}
+use Rattle.gs_mesh.specs.Cuts.{peers_of}
 use Rattle.gs_mesh.proofs.MemberLists.{outbound_ascend}
 use Rattle.gs_mesh.proofs.heartbeat.mend.Goals as goal
 

@@ -1,6 +1,6 @@
 use Rattle.std.proofs.Common.{◌≡◌, ◌++◌, [], ◌∷◌, ◌∙◌, ap, subst, rules}
 use Rattle.gs_base.specs.declared.names.PeerNo.{PeerNo}
-use Rattle.gs_params.specs.declared.plan.Line.{Line}
+use Rattle.gs_plan.specs.declared.plan.Line.{Line}
 use Rattle.gs_dials.specs.Places.{list_at}
 use Rattle.gs_net.specs.Rounds.{lines_in}
 use Rattle.gs_net.proofs.OwnLines.{line_listed, put_own}
@@ -10,7 +10,7 @@ pub loop-place-preserved : goal.loop-place-preserved
 loop-place-preserved c =
     let h = c.loop-place.invariant in
     let script = c.args.plan.now.script in
-    let added = c.in_ok-put_last.ensures.put ∙ ap (λ (line : Line). list_at c.loop-place.lists.items c.line-item.result.peer.0 ++ (c.loop-place.place, line) ∷ []) c.in_ok-line_of.ensures in
+    let added = c.in_ok-put_last.ensures.put ∙ ap (λ (line : Line). list_at c.loop-place.lists.items c.line-item.result.peer.0 ++ (c.loop-place.place, line) ∷ []) c.in_ok-clone_of.ensures in
     record {
       count = search rules;
       own = λ p within. line_listed p c.loop-place.place script _ (list_at c.loop-place.lists.items p.0) _ (lines_in c.args.plan.now p) (rw c.as_slice-line-items.ensures at c.loop-place-test.true) (rw c.as_slice-line-items.ensures at c.line-item.is)

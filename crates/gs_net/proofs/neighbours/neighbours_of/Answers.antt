@@ -4,7 +4,7 @@ use Rattle.std.proofs.lemmas.List.{map-append}
 use Rattle.std.proofs.lemmas.List.FromFn.{filter_of_map_range_with_len_more}
 use Rattle.gs_base.specs.declared.names.PeerNo.{PeerNo}
 use Rattle.gs_base.specs.declared.neighbour.Neighbour.{Neighbour}
-use Rattle.gs_params.specs.Plans.{are_joined}
+use Rattle.gs_plan.specs.Plans.{are_joined}
 use Rattle.gs_net.specs.Rounds.{neighbour_in, peer_no}
 use Rattle.gs_net.proofs.neighbours.neighbours_of.Goals as goal
 use Rattle.gs_net.proofs.neighbours.neighbours_of.Goals.{then-are_joined+in_ok-neighbour_of+in_ok-push, else-are_joined}

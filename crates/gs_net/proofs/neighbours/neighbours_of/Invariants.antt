@@ -1,6 +1,6 @@
 use Rattle.std.proofs.Common.{◌≡◌, map, filter}
 use Rattle.std.specs.List.{range_with_len}
-use Rattle.gs_params.specs.Plans.{are_joined}
+use Rattle.gs_plan.specs.Plans.{are_joined}
 use Rattle.gs_net.specs.Rounds.{neighbour_in, peer_no}
 use Rattle.gs_net.proofs.neighbours.neighbours_of.Given as goal
 

@@ -1,7 +1,7 @@
 use Rattle.std.proofs.Common.{◌≡◌, ◌∙◌, ◌*◌, ℕ, List, length, map, refl, sym, ap, subst, arith, rules}
 use Rattle.std.specs.List.{All, AllByRecursion, range_with_len}
 use Rattle.std.proofs.lemmas.List.Elements.{All-from_recursion}
-use Rattle.gs_params.specs.declared.plan.Dial.{Dial}
+use Rattle.gs_plan.specs.declared.plan.Dial.{Dial}
 use Rattle.gs_dials.specs.Dials.{AreWired, IsExchanged, JoinsTwoOf}
 use Rattle.gs_net.specs.Rounds.{IsRun, numbers, peer_no}
 use Rattle.gs_net.proofs.FewDials.{links_fit}

@@ -1,12 +1,15 @@
 //! Heartbeats of one mesh, worked out by hand.
 ghost use Rattle.std.specs.Prelude.{◌≡◌, true, IfOk};
 ghost use Rattle.gs_params.specs.Picks.{IsAscending};
-ghost use Rattle.gs_params.specs.Cuts.{peers_of};
+ghost use Rattle.gs_mesh.specs.Cuts.{peers_of};
 ghost use Rattle.gs_params.specs.Params.{AreInRange};
 
 use gs_base::PeerNo;
-use gs_mesh::{Choice, PeerList, a_choice_by_words_is_a_mesh_step, choose_heartbeat};
-use gs_params::{DEFAULT_DEGREES, Degrees, Member, ParamFault, Params, SeededWords, Words};
+use gs_mesh::{
+    Choice, Member, PeerList, a_choice_by_words_is_a_mesh_step, a_cut_by_words_is_a_cut,
+    choose_heartbeat,
+};
+use gs_params::{DEFAULT_DEGREES, Degrees, ParamFault, Params, SeededWords, Words};
 use std::alloc::{AllocError, Global};
 
 /// A neighbour: its number, its score, and whether it is outbound.
@@ -362,4 +365,9 @@ fn a_heartbeat_mends_a_mesh(rt: HostRuntime) -> Result<(), AllocError> {
 #[test]
 fn the_law_of_mesh_steps_can_be_called(_rt: HostRuntime) {
     a_choice_by_words_is_a_mesh_step::<SeededWords>();
+}
+
+#[test]
+fn the_law_of_cuts_can_be_called(_rt: HostRuntime) {
+    a_cut_by_words_is_a_cut::<SeededWords>();
 }

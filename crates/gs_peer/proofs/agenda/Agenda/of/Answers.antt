@@ -1,6 +1,6 @@
 use Rattle.std.proofs.Common.{[], ◌∷◌, ◌++◌, ◌∙◌, ℕ, List, filter, ap, sym}
 use Rattle.std.proofs.lemmas.List.Elements.{filter-append}
-use Rattle.gs_params.specs.declared.plan.Line.{Line}
+use Rattle.gs_plan.specs.declared.plan.Line.{Line}
 use Rattle.gs_rules.specs.Rounds.{is_at}
 use Rattle.gs_peer.proofs.agenda.Agenda.of.Goals as goal
 

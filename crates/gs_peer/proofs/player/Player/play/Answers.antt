@@ -1,6 +1,6 @@
 use Rattle.std.proofs.Common.{◌≡◌, ℕ, ◌++◌, [], ◌∷◌, List, Some, length, map, refl, rules, vec_len, ap, subst, append-nil, ◌∙◌}
 use Rattle.std.proofs.lemmas.List.{append_assoc, with_items_is}
-use Rattle.gs_params.specs.declared.plan.Line.{Line}
+use Rattle.gs_plan.specs.declared.plan.Line.{Line}
 use Rattle.gs_params.specs.Seeding.{seeded_after, seeded_word}
 use Rattle.gs_rules.specs.declared.refusal.RefusedLine.{RefusedLine}
 use Rattle.gs_rules.specs.declared.trace.Event.TheVariants.{RoundEnd}

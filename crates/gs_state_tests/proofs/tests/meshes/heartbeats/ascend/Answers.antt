@@ -1,7 +1,7 @@
 use Rattle.std.proofs.Common.{◌∙◌, subst}
 use Rattle.std.proofs.lemmas.Slice.Eq.{slice_eq-Decides}
 use Rattle.gs_params.specs.Picks.{IsAscending}
-use Rattle.gs_params.proofs.PeerLists.{same_peer_decides}
+use Rattle.gs_params.proofs.Picking.{same_peer_decides}
 use Rattle.gs_state_tests.proofs.tests.meshes.heartbeats.ascend.Goals as goal
 
 pub returns : goal.returns

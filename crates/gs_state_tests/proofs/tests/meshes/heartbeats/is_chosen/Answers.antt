@@ -1,7 +1,7 @@
 use Rattle.std.proofs.Common.{sym, subst, List}
-use Rattle.gs_params.specs.declared.cuts.Member.{Member}
+use Rattle.gs_mesh.specs.declared.members.Member.{Member}
 use Rattle.gs_params.specs.Picks.{IsAscending}
-use Rattle.gs_params.specs.Cuts.{peers_of}
+use Rattle.gs_mesh.specs.Cuts.{peers_of}
 use Rattle.gs_state_tests.proofs.tests.meshes.heartbeats.is_chosen.Goals as goal
 
 pub choose_heartbeat-requires-clause-ticks : goal.choose_heartbeat-requires-clause-ticks

@@ -1,11 +1,8 @@
 -- Lists of peers in which none stands twice: joined, and counted inside another.
-use Rattle.std.proofs.Common.{◌≡◌, ℕ, ◌+◌, ◌≤◌, Bool, true, false, cond, not, List, [], ◌∷◌, ◌++◌, length, filter, refl, sym, ap, ◌∙◌, arith}
-use Rattle.std.specs.Prelude.{◌||◌, ◌&&◌, Contains, All, Decides}
-use Rattle.std.specs.Cmp.{IsEquivalence}
+use Rattle.std.proofs.Common.{◌≡◌, ℕ, ◌+◌, ◌≤◌, Bool, true, false, cond, not, List, [], ◌∷◌, ◌++◌, length, filter, refl, sym, ◌∙◌, arith}
+use Rattle.std.specs.Prelude.{◌||◌, ◌&&◌, Contains, All}
 use Rattle.std.specs.List.{AllByRecursion, IsDistinct}
 use Rattle.std.specs.Set.{is_member}
-use Rattle.std.proofs.lemmas.Bool.Decides.{Decides-eqb, Decides-like}
-use Rattle.std.proofs.lemmas.Cmp.{nat_eq_equiv, on_equiv}
 use Rattle.std.proofs.lemmas.List.Elements.{All-contains, All-contains_itself, All-filter, All-append, All-weaker, All-from_recursion, recursion_from_All, filter_passes}
 use Rattle.std.proofs.lemmas.List.Folds.{list_any-append}
 use Rattle.std.proofs.lemmas.Map.Keys.{IsDistinct-cons, IsDistinct-head, IsDistinct-tail}
@@ -13,19 +10,10 @@ use Rattle.std.proofs.lemmas.Map.Made.{is_member-Decides, is_member-filter, alik
 use Rattle.gs_base.specs.declared.names.PeerNo.{PeerNo}
 use Rattle.gs_base.specs.Names.{same_peer}
 use Rattle.gs_params.specs.Picks.{IsAscending}
-use Rattle.gs_params.proofs.Picking.{distinct_from_ascending, ascending_filter}
-use Rattle.gs_params.proofs.Ranks.{each_element, length_if}
+use Rattle.gs_params.proofs.Picking.{same_peer_equiv, same_peer_decides, distinct_from_ascending, ascending_filter}
+use Rattle.gs_mesh.proofs.Ranks.{each_element, length_if}
 
 -- ---- who is there
-
-pub same_peer_equiv : IsEquivalence same_peer
-same_peer_equiv = on_equiv (λ (p : PeerNo). p.0) nat_eq_equiv
-
-of_number : (p q : PeerNo) → p.0 ≡ q.0 → p ≡ q
-of_number p q e = ap (λ (n : ℕ). let r : PeerNo = record { 0 = n } in r) e
-
-pub same_peer_decides : (p q : PeerNo) → Decides (same_peer p q) (p ≡ q)
-same_peer_decides p q = Decides-like (same_peer p q) (of_number p q) (λ e. ap (λ (r : PeerNo). r.0) e) (Decides-eqb p.0 q.0)
 
 pub is_there : (peers : List PeerNo) (p : PeerNo) → Contains peers p → is_member same_peer peers p ≡ true
 is_there peers p h = (is_member-Decides same_peer_decides peers p).1 h

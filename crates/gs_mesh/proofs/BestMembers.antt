@@ -9,14 +9,13 @@ use Rattle.std.proofs.lemmas.List.{length-map, get_or-map}
 use Rattle.std.proofs.lemmas.List.Elements.{All-contains_itself, All-filter, All-map, All-weaker, filter_passes}
 use Rattle.std.proofs.lemmas.List.Kept.{AllPairs-filter}
 use Rattle.std.proofs.lemmas.Map.Keys.{IsDistinct-cons, IsDistinct-head, IsDistinct-tail}
-use Rattle.gs_params.specs.declared.cuts.Member.{Member}
+use Rattle.gs_mesh.specs.declared.members.Member.{Member}
 use Rattle.gs_base.specs.declared.names.PeerNo.{PeerNo}
 use Rattle.gs_base.specs.Names.{same_peer}
 use Rattle.gs_params.specs.Picks.{IsAscending}
-use Rattle.gs_params.specs.Cuts.{best_by_score, is_better, better_ones, peers_of}
-use Rattle.gs_params.proofs.Picking.{distinct_from_ascending}
-use Rattle.gs_params.proofs.PeerLists.{same_peer_equiv}
-use Rattle.gs_params.proofs.Ranks.{first_or_later, of_element, rank_rises, length_lowest}
+use Rattle.gs_mesh.specs.Cuts.{best_by_score, is_better, better_ones, peers_of}
+use Rattle.gs_params.proofs.Picking.{same_peer_equiv, distinct_from_ascending}
+use Rattle.gs_mesh.proofs.Ranks.{first_or_later, of_element, rank_rises, length_lowest}
 
 -- ---- who is better
 

@@ -6,15 +6,15 @@ use Rattle.std.specs.Set.{is_member}
 use Rattle.std.proofs.lemmas.List.{length-map}
 use Rattle.std.proofs.lemmas.List.Elements.{All-append, All-contains, All-contains_itself, All-filter, All-weaker}
 use Rattle.std.proofs.lemmas.List.Filters.{length-filter_both}
-use Rattle.gs_params.specs.declared.cuts.Member.{Member}
+use Rattle.gs_mesh.specs.declared.members.Member.{Member}
 use Rattle.gs_base.specs.declared.names.PeerNo.{PeerNo}
 use Rattle.gs_params.specs.declared.params.Degrees.{Degrees}
 use Rattle.gs_base.specs.Names.{same_peer}
 use Rattle.gs_params.specs.Picks.{IsAscending, IsChoice, picked}
-use Rattle.gs_params.specs.Cuts.{peers_of, outbound_of, among, outside, IsCut, best_by_score, outbound_lacking, outbound_picked, others_picked, first_kept, first_words, cut, EachIsACut, IsDetermined}
+use Rattle.gs_mesh.specs.Cuts.{peers_of, outbound_of, among, outside, IsCut, best_by_score, outbound_lacking, outbound_picked, others_picked, first_kept, first_words, cut, EachIsACut, IsDetermined}
 use Rattle.gs_params.proofs.Picking.{distinct_from_ascending, ascending_filter, picked_is_choice}
-use Rattle.gs_params.proofs.PeerLists.{is_there, found, of_whole, false_from_not, is_outside, in_either, in_filter, distinct_joined, length_part, Apart, at_least_both}
-use Rattle.gs_params.proofs.Members.{peers_of_kept, length_of_kept, who_passes, its_peer, kept_inside, ascending_kept, length_best, best_inside, best_ascending, best_are_highest}
+use Rattle.gs_mesh.proofs.PeerLists.{is_there, found, of_whole, false_from_not, is_outside, in_either, in_filter, distinct_joined, length_part, Apart, at_least_both}
+use Rattle.gs_mesh.proofs.BestMembers.{peers_of_kept, length_of_kept, who_passes, its_peer, kept_inside, ascending_kept, length_best, best_inside, best_ascending, best_are_highest}
 
 or_first : (a b : Bool) → a ≡ true → (a || b) ≡ true
 or_first a b h = rw h refl

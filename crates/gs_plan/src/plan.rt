@@ -1,10 +1,11 @@
 //! What is simulated.
 ghost use Rattle.std.specs.Prelude.{◌≡◌};
-ghost use Rattle.gs_params.specs.Plans.{are_joined, highest_app_score, joins, longest_round, most_peers, most_rounds};
+ghost use Rattle.gs_plan.specs.Plans.{are_joined, highest_app_score, joins, longest_round, most_peers, most_rounds};
 
-use crate::params::Params;
 use bytes::Bytes;
-use gs_base::{PeerNo, Seq, Text, Topic};
+use gs_base::{ExactClone, PeerNo, Seq, Text, Topic, clone_of};
+use gs_params::Params;
+use std::alloc::AllocError;
 
 /// How many milliseconds a round lasts at most.
 pub const LONGEST_ROUND: u64 = 60_000;
@@ -81,6 +82,22 @@ pub struct Line {
     pub what: What,
 }
 
+impl Clone for Line {
+    ghost is_clone = { λ source copy. copy ≡ source };
+
+    fn clone(&self) -> Result<Line, AllocError> {
+        Ok(Line {
+            at: self.at,
+            peer: self.peer,
+            what: clone_of(&self.what)?,
+        })
+    }
+}
+
+impl ExactClone for Line {
+    ghost exact = { λ source copy same. same };
+}
+
 /// What a peer may be told to do.
 #[derive(Debug, Drop, PartialEq, Eq)]
 pub enum What {
@@ -90,6 +107,25 @@ pub enum What {
     Unsubscribe(Topic),
     /// Publish a payload on a topic.
     Publish(Topic, Bytes),
+}
+
+impl Clone for What {
+    ghost is_clone = { λ source copy. copy ≡ source };
+
+    fn clone(&self) -> Result<What, AllocError> {
+        match self {
+            What::Subscribe(topic) => Ok(What::Subscribe(clone_of(topic)?)),
+            What::Unsubscribe(topic) => Ok(What::Unsubscribe(clone_of(topic)?)),
+            What::Publish(topic, payload) => Ok(What::Publish(
+                clone_of(topic)?,
+                clone_of(payload)?,
+            )),
+        }
+    }
+}
+
+impl ExactClone for What {
+    ghost exact = { λ source copy same. same };
 }
 
 /// Whether one of two peers dials the other.
@@ -113,6 +149,3 @@ pub fn limits_of_plans()
     ensures peers { MOST_PEERS ≡ most_peers }
     ensures score { HIGHEST_APP_SCORE ≡ highest_app_score }
 {}
-
-#[cfg(test)]
-mod tests;

@@ -1,5 +1,5 @@
--- Who is joined in a plan, and what is known of every plan that was read.
-use Rattle.std.specs.Prelude.{◌≡◌, ◌≤◌, ◌<◌, ◌≤ℤ◌, ◌%◌, ◌^◌, ◌&&◌, ◌||◌, ◌==◌, ℕ, nat_eq, ℤ, pos, neg_ℤ, Bool, true, false, List, length, All, AllPairs, Ok}
+-- Who is joined in a plan, the words for what a peer is told to do, and what is known of every plan that was read.
+use Rattle.std.specs.Prelude.{◌≡◌, ◌≤◌, ◌<◌, ◌≤ℤ◌, ◌%◌, ◌^◌, ◌&&◌, ◌||◌, ◌==◌, ℕ, nat_eq, ℤ, pos, neg_ℤ, Bool, true, false, codes, List, length, All, AllPairs, Ok}
 use Rattle.std.specs.List.{list_any}
 use Rattle.std.specs.Cmp.Lexicographic.{pointwise}
 use Rattle.gs_base.specs.Names.{same_peer, same_topic}
@@ -7,13 +7,13 @@ use Rattle.gs_base.specs.declared.names.PeerNo.{PeerNo}
 use Rattle.gs_base.specs.declared.names.Topic.{Topic}
 use Rattle.gs_params.specs.Params.{checked}
 use Rattle.gs_params.specs.declared.topic_params.TopicParams.{TopicParams}
-use Rattle.gs_params.specs.declared.plan.App.{App}
-use Rattle.gs_params.specs.declared.plan.Dial.{Dial}
-use Rattle.gs_params.specs.declared.plan.Line.{Line}
-use Rattle.gs_params.specs.declared.plan.Plan.{Plan}
-use Rattle.gs_params.specs.declared.plan.PlannedPeer.{PlannedPeer}
-use Rattle.gs_params.specs.declared.plan.What.{What}
-use Rattle.gs_params.specs.declared.plan.What.TheVariants.{Subscribe, Unsubscribe, Publish}
+use Rattle.gs_plan.specs.declared.plan.App.{App}
+use Rattle.gs_plan.specs.declared.plan.Dial.{Dial}
+use Rattle.gs_plan.specs.declared.plan.Line.{Line}
+use Rattle.gs_plan.specs.declared.plan.Plan.{Plan}
+use Rattle.gs_plan.specs.declared.plan.PlannedPeer.{PlannedPeer}
+use Rattle.gs_plan.specs.declared.plan.What.{What}
+use Rattle.gs_plan.specs.declared.plan.What.TheVariants.{Subscribe, Unsubscribe, Publish}
 
 -- ---- numbers
 
@@ -84,6 +84,14 @@ have_one_name x y = pointwise nat_eq x.name y.name
 -- it is one of the topics that have parameters
 abbrev pub has_topic : List (Topic × TopicParams) → Topic → Bool
 has_topic topics topic = list_any (λ (known : Topic × TopicParams). same_topic known.0 topic) topics
+
+-- ---- words
+
+-- the word for what a peer is told to do
+abbrev pub what_word : What → List ℕ
+what_word (Subscribe topic) = codes "subscribe"
+what_word (Unsubscribe topic) = codes "unsubscribe"
+what_word (Publish topic payload) = codes "publish"
 
 -- ---- plans
 

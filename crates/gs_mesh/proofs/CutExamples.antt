@@ -5,11 +5,11 @@ use Rattle.std.proofs.lemmas.Int.{ints}
 use Rattle.std.proofs.lemmas.List.Elements.{All-from_recursion}
 use Rattle.std.proofs.lemmas.List.Kept.{AllPairs-cons}
 use Rattle.gs_params.proofs.Picking.{distinct_from_ascending}
-use Rattle.gs_params.specs.declared.cuts.Member.{Member}
+use Rattle.gs_mesh.specs.declared.members.Member.{Member}
 use Rattle.gs_base.specs.declared.names.PeerNo.{PeerNo}
 use Rattle.gs_params.specs.declared.params.Degrees.{Degrees}
 use Rattle.gs_params.specs.Picks.{next_words, IsAscending, after_words, shuffled, picked, picked_words}
-use Rattle.gs_params.specs.Cuts.{IsCut, peers_of, among, outside, best_by_score, outbound_lacking, outbound_picked, outbound_picked_words, others_picked, others_picked_words, first_kept, first_words, cut, cut_words}
+use Rattle.gs_mesh.specs.Cuts.{IsCut, peers_of, among, outside, best_by_score, outbound_lacking, outbound_picked, outbound_picked_words, others_picked, others_picked_words, first_kept, first_words, cut, cut_words}
 
 abbrev peer : ℕ → PeerNo
 peer n = record { 0 = n }

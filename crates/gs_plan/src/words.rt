@@ -1,8 +1,8 @@
 //! The words for what a peer is told to do, in a scenario and in a report.
 ghost use Rattle.std.specs.Prelude.{◌≡◌};
-ghost use Rattle.gs_scenario.specs.PlanOf.{what_word};
+ghost use Rattle.gs_plan.specs.Plans.{what_word};
 
-use gs_params::What;
+use crate::plan::What;
 
 /// The word that tells a peer to subscribe.
 pub const SUBSCRIBE: &str = "subscribe";

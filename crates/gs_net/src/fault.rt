@@ -1,0 +1,54 @@
+//! Why a run gives no report.
+ghost use Rattle.std.specs.Prelude.{◌≡◌};
+ghost use Rattle.gs_net.specs.Faults.{number_of};
+
+use gs_base::PeerNo;
+use gs_workers::WorkerFault;
+use std::alloc::{AllocError, AllocFailed};
+
+/// Why a run gives no report.
+#[derive(Clone, Copy, Debug, PartialEq, Eq, thiserror::Error)]
+pub enum NetFault {
+    /// There was no memory: for what this peer is given, or for what belongs to no peer.
+    #[error("there was no memory")]
+    NoMemory(Option<PeerNo>),
+    /// A worker thread could not be started, or could not wait.
+    #[error("a worker thread was wanting")]
+    NoThread,
+}
+
+impl NetFault {
+    /// The number of the fault: 24 for want of memory, 25 where a worker thread was wanting.
+    pub fn number(self) -> u8
+        ensures { result ≡ number_of self }
+    {
+        match self {
+            NetFault::NoMemory(_) => 24,
+            NetFault::NoThread => 25,
+        }
+    }
+}
+
+impl From<AllocError> for NetFault {
+    fn from(_: AllocError) -> NetFault {
+        NetFault::NoMemory(None)
+    }
+}
+
+impl<T: Drop> From<AllocFailed<T>> for NetFault {
+    fn from(_: AllocFailed<T>) -> NetFault {
+        NetFault::NoMemory(None)
+    }
+}
+
+impl From<WorkerFault> for NetFault {
+    fn from(fault: WorkerFault) -> NetFault {
+        match fault {
+            WorkerFault::NoMemory => NetFault::NoMemory(None),
+            WorkerFault::NoThread => NetFault::NoThread,
+        }
+    }
+}
+
+#[cfg(test)]
+mod tests;

@@ -1,0 +1,11 @@
+//! What is simulated: the peers of a run, who dials whom, and what they are told to do.
+#![tactic(auto)]
+
+mod plan;
+mod words;
+
+pub use plan::{
+    App, Dial, HIGHEST_APP_SCORE, LONGEST_ROUND, Line, MOST_PEERS, MOST_ROUNDS, Plan, PlannedPeer,
+    What, are_joined, limits_of_plans,
+};
+pub use words::{PUBLISH, SUBSCRIBE, UNSUBSCRIBE, what_word};
