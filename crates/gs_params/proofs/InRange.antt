@@ -58,11 +58,16 @@ reward = between_ints _ _
 penalty : (z : ℤ) → Decides (int_in_range (neg_ℤ heaviest) (pos 0) z) (IsPenalty z)
 penalty = between_ints _ _
 
-part : (z : ℤ) → Decides (int_in_range (pos 0) (pos 1_000_000) z) (IsFraction z)
-part = between_ints _ _
+up_to : (high n : ℕ) → Decides (in_range 0 high n) (n ≤ high)
+up_to high n =
+    let least : 0 ≤ n = omega arith in
+    Decides-like (in_range 0 high n) (λ h. h.1) (λ h. (least, h)) (between 0 high n)
 
-cap : (z : ℤ) → Decides (int_in_range (pos 0) highest_cap z) (IsCap z)
-cap = between_ints _ _
+part : (n : ℕ) → Decides (in_range 0 1_000_000 n) (IsFraction n)
+part = up_to _
+
+cap : (n : ℕ) → Decides (in_range 0 highest_cap n) (IsCap n)
+cap = up_to _
 
 -- ---- the groups of fields
 

@@ -36,8 +36,8 @@ abbrev pub heaviest : ℤ
 heaviest = pos 1_000_000_000
 
 -- the highest cap, in millionths
-abbrev pub highest_cap : ℤ
-highest_cap = pos 1_000_000_000_000
+abbrev pub highest_cap : ℕ
+highest_cap = 1_000_000_000_000
 
 abbrev pub in_range : ℕ → ℕ → ℕ → Bool
 in_range low high n = nat_le low n && nat_le n high
@@ -79,11 +79,11 @@ reward = score.Range (pos 0) heaviest
 abbrev pub penalty : ScoreRule
 penalty = score.Range (neg_ℤ heaviest) (pos 0)
 
-abbrev pub fraction : ScoreRule
-fraction = score.Range (pos 0) (pos 1_000_000)
+abbrev pub fraction : CountRule
+fraction = count.Range 0 1_000_000
 
-abbrev pub cap : ScoreRule
-cap = score.Range (pos 0) highest_cap
+abbrev pub cap : CountRule
+cap = count.Range 0 highest_cap
 
 -- a time that is not empty, a backoff
 abbrev pub some_time : CountRule
@@ -111,18 +111,18 @@ threshold_checks x =
     Score of.GossipThreshold x.gossip_threshold (score.Below (pos 0))
     ∷ Score of.PublishThreshold x.publish_threshold (score.NotAbove of.GossipThreshold x.gossip_threshold)
     ∷ Score of.GraylistThreshold x.graylist_threshold (score.NotAbove of.PublishThreshold x.publish_threshold)
-    ∷ Score of.OpportunisticThreshold x.opportunistic_threshold cap
+    ∷ Count of.OpportunisticThreshold x.opportunistic_threshold cap
     ∷ []
 
 abbrev pub factor_checks : Factors → List Check
 factor_checks x =
     Count of.GossipFactor x.gossip_factor (count.AtMost 1_000_000)
-    ∷ Score of.P7Decay x.p7_decay fraction
+    ∷ Count of.P7Decay x.p7_decay fraction
     ∷ Score of.AppSpecificWeight x.w5 reward
     ∷ Score of.IpColocationFactorWeight x.w6 penalty
     ∷ Score of.BehaviourPenaltyWeight x.w7 penalty
-    ∷ Score of.TopicCap x.topic_cap cap
-    ∷ Score of.DecayToZero x.decay_to_zero cap
+    ∷ Count of.TopicCap x.topic_cap cap
+    ∷ Count of.DecayToZero x.decay_to_zero cap
     ∷ Count of.P6Threshold x.p6_threshold (count.Range 1 65_535)
     ∷ []
 
@@ -154,14 +154,14 @@ topic_factor_checks place x =
     ∷ Score (of.OfTopic place topic.MeshMessageDeliveriesWeight) x.w3 penalty
     ∷ Score (of.OfTopic place topic.MeshFailurePenaltyWeight) x.w3b penalty
     ∷ Score (of.OfTopic place topic.InvalidMessageDeliveriesWeight) x.w4 penalty
-    ∷ Score (of.OfTopic place topic.P2Decay) x.p2_decay fraction
-    ∷ Score (of.OfTopic place topic.P3Decay) x.p3_decay fraction
-    ∷ Score (of.OfTopic place topic.P3bDecay) x.p3b_decay fraction
-    ∷ Score (of.OfTopic place topic.P4Decay) x.p4_decay fraction
-    ∷ Score (of.OfTopic place topic.P1Cap) x.p1_cap cap
-    ∷ Score (of.OfTopic place topic.P2Cap) x.p2_cap cap
-    ∷ Score (of.OfTopic place topic.P3Cap) x.p3_cap cap
-    ∷ Score (of.OfTopic place topic.P3Threshold) x.p3_threshold cap
+    ∷ Count (of.OfTopic place topic.P2Decay) x.p2_decay fraction
+    ∷ Count (of.OfTopic place topic.P3Decay) x.p3_decay fraction
+    ∷ Count (of.OfTopic place topic.P3bDecay) x.p3b_decay fraction
+    ∷ Count (of.OfTopic place topic.P4Decay) x.p4_decay fraction
+    ∷ Count (of.OfTopic place topic.P1Cap) x.p1_cap cap
+    ∷ Count (of.OfTopic place topic.P2Cap) x.p2_cap cap
+    ∷ Count (of.OfTopic place topic.P3Cap) x.p3_cap cap
+    ∷ Count (of.OfTopic place topic.P3Threshold) x.p3_threshold cap
     ∷ []
 
 abbrev pub topic_window_checks : ℕ → TopicWindows → List Check

@@ -1,5 +1,5 @@
 -- The defaults of parameters, and the ranges that they must be in.
-use Rattle.std.specs.Prelude.{◌≤◌, ◌<◌, ◌+◌, ◌*◌, ◌≤ℤ◌, ◌<ℤ◌, Bool, true, [], ℤ, pos, neg_ℤ}
+use Rattle.std.specs.Prelude.{◌≤◌, ◌<◌, ◌+◌, ◌*◌, ◌≤ℤ◌, ◌<ℤ◌, ℕ, Bool, true, [], ℤ, pos, neg_ℤ}
 use Rattle.std.specs.List.{All}
 use Rattle.gs_base.specs.declared.names.Topic.{Topic}
 use Rattle.gs_params.specs.declared.params.Degrees.{Degrees}
@@ -25,19 +25,19 @@ default_thresholds = record {
   gossip_threshold = neg_ℤ (pos 10_000_000);
   publish_threshold = neg_ℤ (pos 50_000_000);
   graylist_threshold = neg_ℤ (pos 80_000_000);
-  opportunistic_threshold = pos 1_000_000;
+  opportunistic_threshold = 1_000_000;
 }
 
 -- in millionths, and whole neighbours at one address
 abbrev pub default_factors : Factors
 default_factors = record {
   gossip_factor = 250_000;
-  p7_decay = pos 900_000;
+  p7_decay = 900_000;
   w5 = pos 1_000_000;
   w6 = neg_ℤ (pos 5_000_000);
   w7 = neg_ℤ (pos 10_000_000);
-  topic_cap = pos 0;
-  decay_to_zero = pos 10_000;
+  topic_cap = 0;
+  decay_to_zero = 10_000;
   p6_threshold = 1;
 }
 
@@ -83,14 +83,14 @@ default_topic_factors = record {
   w3 = pos 0;
   w3b = pos 0;
   w4 = pos 0;
-  p2_decay = pos 500_000;
-  p3_decay = pos 500_000;
-  p3b_decay = pos 500_000;
-  p4_decay = pos 500_000;
-  p1_cap = pos 100_000_000;
-  p2_cap = pos 100_000_000;
-  p3_cap = pos 100_000_000;
-  p3_threshold = pos 0;
+  p2_decay = 500_000;
+  p3_decay = 500_000;
+  p3b_decay = 500_000;
+  p4_decay = 500_000;
+  p1_cap = 100_000_000;
+  p2_cap = 100_000_000;
+  p3_cap = 100_000_000;
+  p3_threshold = 0;
 }
 
 -- in milliseconds
@@ -113,11 +113,11 @@ IsReward z = (pos 0 ≤ℤ z) × (z ≤ℤ heaviest)
 abbrev pub IsPenalty : ℤ → Type 0
 IsPenalty z = (neg_ℤ heaviest ≤ℤ z) × (z ≤ℤ pos 0)
 
-abbrev pub IsFraction : ℤ → Type 0
-IsFraction z = (pos 0 ≤ℤ z) × (z ≤ℤ pos 1_000_000)
+abbrev pub IsFraction : ℕ → Type 0
+IsFraction n = n ≤ 1_000_000
 
-abbrev pub IsCap : ℤ → Type 0
-IsCap z = (pos 0 ≤ℤ z) × (z ≤ℤ highest_cap)
+abbrev pub IsCap : ℕ → Type 0
+IsCap n = n ≤ highest_cap
 
 pub record DegreesAreInRange (x : Degrees) : Type 0 where
   pub some : 1 ≤ x.d_low

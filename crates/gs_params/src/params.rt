@@ -61,7 +61,7 @@ pub struct Thresholds {
     /// With a lower score than this a neighbour is not listened to: at most `publish_threshold`.
     pub graylist_threshold: i64,
     /// With a lower median score than this a mesh gets better members: 0 to 10^12.
-    pub opportunistic_threshold: i64,
+    pub opportunistic_threshold: u64,
 }
 
 /// The thresholds where nothing else is said.
@@ -78,7 +78,7 @@ pub struct Factors {
     /// The part of the neighbours that get gossip: 0 to 1,000,000.
     pub gossip_factor: u64,
     /// What a decay leaves of the counter of misbehaviour (P7): 0 to 1,000,000.
-    pub p7_decay: i64,
+    pub p7_decay: u64,
     /// The weight of the score that the application gives (P5): 0 to 10^9.
     pub w5: i64,
     /// The weight of neighbours at one address (P6): -10^9 to 0.
@@ -86,9 +86,9 @@ pub struct Factors {
     /// The weight of misbehaviour (P7): -10^9 to 0.
     pub w7: i64,
     /// The most that all topics together add to a score: 0, which is no cap, to 10^12.
-    pub topic_cap: i64,
+    pub topic_cap: u64,
     /// A counter that decays below this becomes 0: 0 to 10^12.
-    pub decay_to_zero: i64,
+    pub decay_to_zero: u64,
     /// How many neighbours at one address cost nothing (P6): 1 to 65,535, whole ones.
     pub p6_threshold: u64,
 }
@@ -215,7 +215,7 @@ impl Thresholds {
                 graylist,
                 ScoreRule::NotAbove(PublishThreshold, publish),
             ),
-            Check::Score(OpportunisticThreshold, self.opportunistic_threshold, CAP),
+            Check::Count(OpportunisticThreshold, self.opportunistic_threshold, CAP),
         ])
     }
 }
@@ -231,12 +231,12 @@ impl Factors {
                 self.gossip_factor,
                 CountRule::AtMost(1_000_000),
             ),
-            Check::Score(P7Decay, self.p7_decay, FRACTION),
+            Check::Count(P7Decay, self.p7_decay, FRACTION),
             Check::Score(AppSpecificWeight, self.w5, REWARD),
             Check::Score(IpColocationFactorWeight, self.w6, PENALTY),
             Check::Score(BehaviourPenaltyWeight, self.w7, PENALTY),
-            Check::Score(TopicCap, self.topic_cap, CAP),
-            Check::Score(DecayToZero, self.decay_to_zero, CAP),
+            Check::Count(TopicCap, self.topic_cap, CAP),
+            Check::Count(DecayToZero, self.decay_to_zero, CAP),
             Check::Count(P6Threshold, self.p6_threshold, CountRule::Range(1, 65_535)),
         ])
     }

@@ -1,5 +1,4 @@
-//! The ranges of single parameters. Those of what is counted are of `u64`, and those of scores, weights
-//! and factors, which are whole millionths, of `i64`.
+//! The ranges of single parameters. Those of scores and weights are of `i64`, and all others of `u64`.
 use crate::checks::{CountRule, ScoreRule};
 
 /// The longest time, in milliseconds.
@@ -12,7 +11,7 @@ pub const LONGEST_BACKOFF: u64 = 86_400;
 pub const HEAVIEST: i64 = 1_000_000_000;
 
 /// The highest cap, in millionths.
-pub const HIGHEST_CAP: i64 = 1_000_000_000_000;
+pub const HIGHEST_CAP: u64 = 1_000_000_000_000;
 
 /// A time that is not empty.
 pub const TIME: CountRule = CountRule::Range(1, LONGEST_TIME);
@@ -27,7 +26,7 @@ pub const REWARD: ScoreRule = ScoreRule::Range(0, HEAVIEST);
 pub const PENALTY: ScoreRule = ScoreRule::Range(-HEAVIEST, 0);
 
 /// A factor: 0 to 1,000,000.
-pub const FRACTION: ScoreRule = ScoreRule::Range(0, 1_000_000);
+pub const FRACTION: CountRule = CountRule::Range(0, 1_000_000);
 
 /// A cap.
-pub const CAP: ScoreRule = ScoreRule::Range(0, HIGHEST_CAP);
+pub const CAP: CountRule = CountRule::Range(0, HIGHEST_CAP);

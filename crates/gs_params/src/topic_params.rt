@@ -31,21 +31,21 @@ pub struct TopicFactors {
     /// The weight of invalid messages (P4): -10^9 to 0.
     pub w4: i64,
     /// What a decay leaves of the counter of first deliveries: 0 to 1,000,000.
-    pub p2_decay: i64,
+    pub p2_decay: u64,
     /// What a decay leaves of the counter of deliveries in the mesh: 0 to 1,000,000.
-    pub p3_decay: i64,
+    pub p3_decay: u64,
     /// What a decay leaves of the counter of missing deliveries: 0 to 1,000,000.
-    pub p3b_decay: i64,
+    pub p3b_decay: u64,
     /// What a decay leaves of the counter of invalid messages: 0 to 1,000,000.
-    pub p4_decay: i64,
+    pub p4_decay: u64,
     /// The most that the time in the mesh counts: 0 to 10^12.
-    pub p1_cap: i64,
+    pub p1_cap: u64,
     /// The most that the counter of first deliveries holds: 0 to 10^12.
-    pub p2_cap: i64,
+    pub p2_cap: u64,
     /// The most that the counter of deliveries in the mesh holds: 0 to 10^12.
-    pub p3_cap: i64,
+    pub p3_cap: u64,
     /// With less than this in the counter of deliveries in the mesh some are missing: 0 to 10^12.
-    pub p3_threshold: i64,
+    pub p3_threshold: u64,
 }
 
 /// The factors of a topic where nothing else is said.
@@ -150,14 +150,14 @@ impl TopicFactors {
                 self.w4,
                 PENALTY,
             ),
-            Check::Score(OfTopic(place, P2Decay), self.p2_decay, FRACTION),
-            Check::Score(OfTopic(place, P3Decay), self.p3_decay, FRACTION),
-            Check::Score(OfTopic(place, P3bDecay), self.p3b_decay, FRACTION),
-            Check::Score(OfTopic(place, P4Decay), self.p4_decay, FRACTION),
-            Check::Score(OfTopic(place, P1Cap), self.p1_cap, CAP),
-            Check::Score(OfTopic(place, P2Cap), self.p2_cap, CAP),
-            Check::Score(OfTopic(place, P3Cap), self.p3_cap, CAP),
-            Check::Score(OfTopic(place, P3Threshold), self.p3_threshold, CAP),
+            Check::Count(OfTopic(place, P2Decay), self.p2_decay, FRACTION),
+            Check::Count(OfTopic(place, P3Decay), self.p3_decay, FRACTION),
+            Check::Count(OfTopic(place, P3bDecay), self.p3b_decay, FRACTION),
+            Check::Count(OfTopic(place, P4Decay), self.p4_decay, FRACTION),
+            Check::Count(OfTopic(place, P1Cap), self.p1_cap, CAP),
+            Check::Count(OfTopic(place, P2Cap), self.p2_cap, CAP),
+            Check::Count(OfTopic(place, P3Cap), self.p3_cap, CAP),
+            Check::Count(OfTopic(place, P3Threshold), self.p3_threshold, CAP),
         ])
     }
 }
