@@ -16,7 +16,7 @@ use Rattle.gs_params.specs.declared.topic_params.TopicParams.{TopicParams}
 use Rattle.gs_params.specs.declared.checks.Check.{Check}
 use Rattle.gs_params.specs.declared.param_fault.ParamFault.TheVariants as faults
 use Rattle.gs_params.specs.Params.{AreInRange, DegreesAreInRange, ThresholdsAreInRange, FactorsAreInRange, WindowsAreInRange, TopicFactorsAreInRange, TopicWindowsAreInRange, IsReward, IsPenalty, IsFraction, IsCap}
-use Rattle.gs_params.specs.Checks.{checked, in_range, int_in_range, heaviest, highest_cap, holds, first_broken, unless_broken, degree_checks, threshold_checks, factor_checks, window_checks, topic_factor_checks, topic_window_checks, each_topic_from, all_factor_checks, all_window_checks}
+use Rattle.gs_params.specs.Checks.{checked, in_range, int_in_range, heaviest, highest_cap, highest_factor, holds, first_broken, unless_broken, degree_checks, threshold_checks, factor_checks, window_checks, topic_factor_checks, topic_window_checks, each_topic_from, all_factor_checks, all_window_checks}
 use Rattle.gs_params.proofs.Broken.{all_hold, none_fails}
 
 -- ---- tests
@@ -63,7 +63,7 @@ up_to high n =
     let least : 0 ≤ n = omega arith in
     Decides-like (in_range 0 high n) (λ h. h.1) (λ h. (least, h)) (between 0 high n)
 
-part : (n : ℕ) → Decides (in_range 0 1_000_000 n) (IsFraction n)
+part : (n : ℕ) → Decides (in_range 0 highest_factor n) (IsFraction n)
 part = up_to _
 
 cap : (n : ℕ) → Decides (in_range 0 highest_cap n) (IsCap n)

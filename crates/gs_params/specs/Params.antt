@@ -10,8 +10,9 @@ use Rattle.gs_params.specs.declared.params.Params.{Params}
 use Rattle.gs_params.specs.declared.topic_params.TopicFactors.{TopicFactors}
 use Rattle.gs_params.specs.declared.topic_params.TopicWindows.{TopicWindows}
 use Rattle.gs_params.specs.declared.topic_params.TopicParams.{TopicParams}
-pub use Rattle.gs_params.specs.Checks.{checked, heaviest, highest_cap, in_range, int_in_range}
-pub use Rattle.gs_params.specs.Checks.{longest_backoff, longest_time, number_of}
+pub use Rattle.gs_params.specs.Checks.{checked, heaviest, highest_cap, highest_degree, highest_factor, in_range, int_in_range}
+pub use Rattle.gs_params.specs.Checks.{longest_backoff, longest_memory, longest_time, most_at_an_address, most_identifiers}
+pub use Rattle.gs_params.specs.Checks.{most_offers, most_retransmissions, most_ticks, number_of}
 
 -- ---- where nothing else is said
 
@@ -114,7 +115,7 @@ abbrev pub IsPenalty : ℤ → Type 0
 IsPenalty z = (neg_ℤ heaviest ≤ℤ z) × (z ≤ℤ pos 0)
 
 abbrev pub IsFraction : ℕ → Type 0
-IsFraction n = n ≤ 1_000_000
+IsFraction n = n ≤ highest_factor
 
 abbrev pub IsCap : ℕ → Type 0
 IsCap n = n ≤ highest_cap
@@ -123,11 +124,11 @@ pub record DegreesAreInRange (x : Degrees) : Type 0 where
   pub some : 1 ≤ x.d_low
   pub low : x.d_low ≤ x.d
   pub high : x.d ≤ x.d_high
-  pub few : x.d_high ≤ 64
+  pub few : x.d_high ≤ highest_degree
   pub outbound : x.d_out < x.d_low
   pub half : 2 * x.d_out ≤ x.d
   pub best : x.d_score + x.d_out ≤ x.d
-  pub lazy : x.d_lazy ≤ 64
+  pub lazy : x.d_lazy ≤ highest_degree
 
 pub record ThresholdsAreInRange (x : Thresholds) : Type 0 where
   pub graylist : x.graylist_threshold ≤ℤ x.publish_threshold
@@ -136,14 +137,14 @@ pub record ThresholdsAreInRange (x : Thresholds) : Type 0 where
   pub opportunistic : IsCap x.opportunistic_threshold
 
 pub record FactorsAreInRange (x : Factors) : Type 0 where
-  pub gossip_factor : x.gossip_factor ≤ 1_000_000
+  pub gossip_factor : x.gossip_factor ≤ highest_factor
   pub p7_decay : IsFraction x.p7_decay
   pub w5 : IsReward x.w5
   pub w6 : IsPenalty x.w6
   pub w7 : IsPenalty x.w7
   pub topic_cap : IsCap x.topic_cap
   pub decay_to_zero : IsCap x.decay_to_zero
-  pub p6_threshold : (1 ≤ x.p6_threshold) × (x.p6_threshold ≤ 65_535)
+  pub p6_threshold : (1 ≤ x.p6_threshold) × (x.p6_threshold ≤ most_at_an_address)
 
 pub record WindowsAreInRange (x : Windows) : Type 0 where
   pub heartbeat : (1 ≤ x.heartbeat_ms) × (x.heartbeat_ms ≤ longest_time)
@@ -154,12 +155,12 @@ pub record WindowsAreInRange (x : Windows) : Type 0 where
   pub prune_backoff : (1 ≤ x.prune_backoff_s) × (x.prune_backoff_s ≤ longest_backoff)
   pub unsubscribe_backoff : (1 ≤ x.unsubscribe_backoff_s) × (x.unsubscribe_backoff_s ≤ longest_backoff)
   pub mcache_gossip : (1 ≤ x.mcache_gossip) × (x.mcache_gossip ≤ x.mcache_len)
-  pub mcache_len : x.mcache_len ≤ 64
-  pub opportunistic_ticks : (1 ≤ x.opportunistic_ticks) × (x.opportunistic_ticks ≤ 1_000_000)
-  pub opportunistic_peers : x.opportunistic_peers ≤ 64
-  pub max_ihave : (1 ≤ x.max_ihave) × (x.max_ihave ≤ 1_000)
-  pub max_ihave_ids : (1 ≤ x.max_ihave_ids) × (x.max_ihave_ids ≤ 5_000)
-  pub gossip_retransmission : (1 ≤ x.gossip_retransmission) × (x.gossip_retransmission ≤ 1_000)
+  pub mcache_len : x.mcache_len ≤ longest_memory
+  pub opportunistic_ticks : (1 ≤ x.opportunistic_ticks) × (x.opportunistic_ticks ≤ most_ticks)
+  pub opportunistic_peers : x.opportunistic_peers ≤ highest_degree
+  pub max_ihave : (1 ≤ x.max_ihave) × (x.max_ihave ≤ most_offers)
+  pub max_ihave_ids : (1 ≤ x.max_ihave_ids) × (x.max_ihave_ids ≤ most_identifiers)
+  pub gossip_retransmission : (1 ≤ x.gossip_retransmission) × (x.gossip_retransmission ≤ most_retransmissions)
 
 pub record TopicFactorsAreInRange (x : TopicFactors) : Type 0 where
   pub topic_weight : IsReward x.topic_weight

@@ -27,6 +27,7 @@ pub use plan::{
     App, Dial, HIGHEST_APP_SCORE, LONGEST_ROUND, Line, MOST_PEERS, MOST_ROUNDS, Plan, PlannedPeer,
     What, are_joined, limits_of_plans,
 };
+pub use ranges::{LONGEST_BACKOFF, MOST_IDENTIFIERS, limits_of_parameters};
 pub use seeded_words::{SeededWords, seeded_words_give_their_list_first};
 pub use topic_params::{
     DEFAULT_TOPIC_FACTORS, DEFAULT_TOPIC_WINDOWS, TopicFactors, TopicParams, TopicWindows,

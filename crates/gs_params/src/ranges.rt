@@ -1,4 +1,7 @@
 //! The ranges of single parameters. Those of scores and weights are of `i64`, and all others of `u64`.
+ghost use Rattle.std.specs.Prelude.{◌≡◌};
+ghost use Rattle.gs_params.specs.Checks.{longest_backoff, most_identifiers};
+
 use crate::checks::{CountRule, ScoreRule};
 
 /// The longest time, in milliseconds.
@@ -13,6 +16,15 @@ pub const HEAVIEST: i64 = 1_000_000_000;
 /// The highest cap, in millionths.
 pub const HIGHEST_CAP: u64 = 1_000_000_000_000;
 
+/// The highest degree of a mesh, and the most neighbours that a heartbeat turns to on a topic.
+pub const HIGHEST_DEGREE: u64 = 64;
+
+/// The most identifiers in an offer or a request.
+pub const MOST_IDENTIFIERS: u64 = 5_000;
+
+/// The highest factor: one, in millionths.
+pub const HIGHEST_FACTOR: u64 = 1_000_000;
+
 /// A time that is not empty.
 pub const TIME: CountRule = CountRule::Range(1, LONGEST_TIME);
 
@@ -25,8 +37,14 @@ pub const REWARD: ScoreRule = ScoreRule::Range(0, HEAVIEST);
 /// The weight of what counts against a neighbour.
 pub const PENALTY: ScoreRule = ScoreRule::Range(-HEAVIEST, 0);
 
-/// A factor: 0 to 1,000,000.
-pub const FRACTION: CountRule = CountRule::Range(0, 1_000_000);
+/// What a decay leaves.
+pub const FRACTION: CountRule = CountRule::Range(0, HIGHEST_FACTOR);
 
 /// A cap.
 pub const CAP: CountRule = CountRule::Range(0, HIGHEST_CAP);
+
+/// The limits that other crates read are those of the definitions.
+pub fn limits_of_parameters()
+    ensures backoff { LONGEST_BACKOFF ≡ longest_backoff }
+    ensures identifiers { MOST_IDENTIFIERS ≡ most_identifiers }
+{}

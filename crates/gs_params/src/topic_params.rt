@@ -1,9 +1,9 @@
 //! The parameters of a topic: gossipsub v1.1, Peer Scoring, Topic Parameter Calculation.
 ghost use Rattle.std.specs.Prelude.{◌≡◌};
 ghost use Rattle.gs_params.specs.Params.{default_topic_params};
-ghost use Rattle.gs_params.specs.Checks.{first_broken, topic_factor_checks, topic_window_checks};
+ghost use Rattle.gs_params.specs.Checks.{topic_factor_checks, topic_window_checks};
 
-use crate::checks::{Check, CountRule, first_broken};
+use crate::checks::{Check, CountRule};
 use crate::parameter::Parameter::OfTopic;
 use crate::parameter::TopicParameter::{
     FirstMessageDeliveriesWeight, InvalidMessageDeliveriesWeight, MeshFailurePenaltyWeight,
@@ -127,11 +127,11 @@ impl TopicParams {
 }
 
 impl TopicFactors {
-    /// The first check that fails, of the topic at this place: whether each is in its range.
-    pub(crate) fn first_broken(&self, place: usize) -> Option<Check>
-        ensures { result ≡ first_broken (topic_factor_checks place self.now) }
+    /// What is checked of the topic at this place: whether each is in its range.
+    pub fn checks(&self, place: usize) -> [Check; 14]
+        ensures { result ≡ topic_factor_checks place self.now }
     {
-        first_broken(&[
+        [
             Check::Score(OfTopic(place, TopicWeight), self.topic_weight, REWARD),
             Check::Score(OfTopic(place, TimeInMeshWeight), self.w1, REWARD),
             Check::Score(
@@ -158,17 +158,17 @@ impl TopicFactors {
             Check::Count(OfTopic(place, P2Cap), self.p2_cap, CAP),
             Check::Count(OfTopic(place, P3Cap), self.p3_cap, CAP),
             Check::Count(OfTopic(place, P3Threshold), self.p3_threshold, CAP),
-        ])
+        ]
     }
 }
 
 impl TopicWindows {
-    /// The first check that fails, of the topic at this place: whether each is in its range.
-    pub(crate) fn first_broken(&self, place: usize) -> Option<Check>
-        ensures { result ≡ first_broken (topic_window_checks place self.now) }
+    /// What is checked of the topic at this place: whether each is in its range.
+    pub fn checks(&self, place: usize) -> [Check; 3]
+        ensures { result ≡ topic_window_checks place self.now }
     {
         let any_time = CountRule::AtMost(LONGEST_TIME);
-        first_broken(&[
+        [
             Check::Count(OfTopic(place, P1QuantumMs), self.p1_quantum_ms, TIME),
             Check::Count(OfTopic(place, P3WindowMs), self.p3_window_ms, any_time),
             Check::Count(
@@ -176,6 +176,6 @@ impl TopicWindows {
                 self.p3_activation_ms,
                 any_time,
             ),
-        ])
+        ]
     }
 }

@@ -2,6 +2,7 @@ mod faults;
 mod ranges;
 
 use super::*;
+use crate::ranges::limits_of_parameters;
 use crate::topic_params::{TopicFactors, TopicWindows};
 use bytes::Bytes;
 use std::alloc::AllocError;
@@ -309,8 +310,9 @@ fn each_check_has_its_number(rt: HostRuntime) -> Result<(), AllocError> {
     Ok(())
 }
 
-/// The law takes nothing and gives nothing: that it can be called is all there is to test.
+/// The laws take nothing and give nothing: that they can be called is all there is to test.
 #[test]
-fn the_law_can_be_called(_rt: HostRuntime) {
+fn the_laws_can_be_called(_rt: HostRuntime) {
     parameters_in_range_pass();
+    limits_of_parameters();
 }
