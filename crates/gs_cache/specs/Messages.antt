@@ -6,12 +6,13 @@ use Rattle.gs_base.specs.declared.names.MsgId.{MsgId}
 use Rattle.gs_base.specs.declared.names.Topic.{Topic}
 use Rattle.gs_base.specs.declared.rpc.Message.{Message}
 use Rattle.gs_base.specs.Names.{same_peer, same_id, same_topic}
+use Rattle.gs_base.specs.Rpcs.{most_identifiers}
 use Rattle.gs_cache.specs.declared.messages.Answer.{Answer}
 use Rattle.gs_cache.specs.declared.messages.Answer.TheVariants.{Given, Spent, Absent}
 
--- how many identifiers of a topic are announced at once at most
+-- how many identifiers of a topic are announced at once at most: as many as one offer may have
 abbrev pub most_announced : ℕ
-most_announced = 5_000
+most_announced = most_identifiers
 
 -- ---- one message
 

@@ -47,7 +47,7 @@ above_median members candidates = filter (λ c. median_is_below members c.score)
 abbrev pub is_poor : Params → ℕ → List Member → Bool
 is_poor params tick members =
     nat_eq (tick % params.windows.opportunistic_ticks) 0
-    && median_is_below members params.thresholds.opportunistic_threshold
+    && median_is_below members (pos params.thresholds.opportunistic_threshold)
 
 -- ---- the step
 

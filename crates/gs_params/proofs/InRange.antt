@@ -16,7 +16,7 @@ use Rattle.gs_params.specs.declared.topic_params.TopicParams.{TopicParams}
 use Rattle.gs_params.specs.declared.checks.Check.{Check}
 use Rattle.gs_params.specs.declared.param_fault.ParamFault.TheVariants as faults
 use Rattle.gs_params.specs.Params.{AreInRange, DegreesAreInRange, ThresholdsAreInRange, FactorsAreInRange, WindowsAreInRange, TopicFactorsAreInRange, TopicWindowsAreInRange, IsReward, IsPenalty, IsFraction, IsCap}
-use Rattle.gs_params.specs.Checks.{checked, in_range, int_in_range, heaviest, highest_cap, holds, first_broken, unless_broken, degree_checks, threshold_checks, factor_checks, window_checks, topic_factor_checks, topic_window_checks, each_topic_from, all_factor_checks, all_window_checks}
+use Rattle.gs_params.specs.Checks.{checked, in_range, int_in_range, heaviest, highest_cap, highest_factor, holds, first_broken, unless_broken, degree_checks, threshold_checks, factor_checks, window_checks, topic_factor_checks, topic_window_checks, each_topic_from, all_factor_checks, all_window_checks}
 use Rattle.gs_params.proofs.Broken.{all_hold, none_fails}
 
 -- ---- tests
@@ -58,11 +58,16 @@ reward = between_ints _ _
 penalty : (z : ℤ) → Decides (int_in_range (neg_ℤ heaviest) (pos 0) z) (IsPenalty z)
 penalty = between_ints _ _
 
-part : (z : ℤ) → Decides (int_in_range (pos 0) (pos 1_000_000) z) (IsFraction z)
-part = between_ints _ _
+up_to : (high n : ℕ) → Decides (in_range 0 high n) (n ≤ high)
+up_to high n =
+    let least : 0 ≤ n = omega arith in
+    Decides-like (in_range 0 high n) (λ h. h.1) (λ h. (least, h)) (between 0 high n)
 
-cap : (z : ℤ) → Decides (int_in_range (pos 0) highest_cap z) (IsCap z)
-cap = between_ints _ _
+part : (n : ℕ) → Decides (in_range 0 highest_factor n) (IsFraction n)
+part = up_to _
+
+cap : (n : ℕ) → Decides (in_range 0 highest_cap n) (IsCap n)
+cap = up_to _
 
 -- ---- the groups of fields
 

@@ -2,6 +2,7 @@
 use Rattle.std.specs.Prelude.{◌+◌, ◌*◌, ◌++◌, ◌&&◌, ℕ, nat_le, nat_lt, Bool, not, List, [], ◌∷◌, Option, Some, None, Result, Ok, Err, ℤ, pos, neg_ℤ, int_le, int_lt}
 use Rattle.std.specs.List.{find}
 use Rattle.gs_base.specs.declared.names.Topic.{Topic}
+use Rattle.gs_base.specs.Rpcs.{longest_backoff, most_identifiers}
 use Rattle.gs_params.specs.declared.params.Degrees.{Degrees}
 use Rattle.gs_params.specs.declared.params.Thresholds.{Thresholds}
 use Rattle.gs_params.specs.declared.params.Factors.{Factors}
@@ -27,17 +28,41 @@ use Rattle.gs_params.specs.declared.param_fault.ParamFault.TheVariants as faults
 abbrev pub longest_time : ℕ
 longest_time = 1_000_000_000
 
--- the longest backoff, in seconds: a day
-abbrev pub longest_backoff : ℕ
-longest_backoff = 86_400
-
 -- the heaviest weight, in millionths: what counts against a neighbour weighs as much below 0
 abbrev pub heaviest : ℤ
 heaviest = pos 1_000_000_000
 
 -- the highest cap, in millionths
-abbrev pub highest_cap : ℤ
-highest_cap = pos 1_000_000_000_000
+abbrev pub highest_cap : ℕ
+highest_cap = 1_000_000_000_000
+
+-- the highest degree of a mesh, and the most neighbours that a heartbeat turns to on a topic
+abbrev pub highest_degree : ℕ
+highest_degree = 64
+
+-- the highest factor: one, in millionths
+abbrev pub highest_factor : ℕ
+highest_factor = 1_000_000
+
+-- the most neighbours at one address that cost nothing
+abbrev pub most_at_an_address : ℕ
+most_at_an_address = 65_535
+
+-- the most heartbeats for which a message is kept
+abbrev pub longest_memory : ℕ
+longest_memory = 64
+
+-- the most heartbeats from one opportunistic graft to the next
+abbrev pub most_ticks : ℕ
+most_ticks = 1_000_000
+
+-- the most offers of a neighbour that are looked at from heartbeat to heartbeat
+abbrev pub most_offers : ℕ
+most_offers = 1_000
+
+-- the most times that a message is sent to a neighbour that asks for it
+abbrev pub most_retransmissions : ℕ
+most_retransmissions = 1_000
 
 abbrev pub in_range : ℕ → ℕ → ℕ → Bool
 in_range low high n = nat_le low n && nat_le n high
@@ -79,11 +104,11 @@ reward = score.Range (pos 0) heaviest
 abbrev pub penalty : ScoreRule
 penalty = score.Range (neg_ℤ heaviest) (pos 0)
 
-abbrev pub fraction : ScoreRule
-fraction = score.Range (pos 0) (pos 1_000_000)
+abbrev pub fraction : CountRule
+fraction = count.Range 0 highest_factor
 
-abbrev pub cap : ScoreRule
-cap = score.Range (pos 0) highest_cap
+abbrev pub cap : CountRule
+cap = count.Range 0 highest_cap
 
 -- a time that is not empty, a backoff
 abbrev pub some_time : CountRule
@@ -99,11 +124,11 @@ degree_checks x =
     Count of.D x.d (count.NotAbove of.DHigh x.d_high)
     ∷ Count of.DLow x.d_low (count.AtLeast 1)
     ∷ Count of.DLow x.d_low (count.NotAbove of.D x.d)
-    ∷ Count of.DHigh x.d_high (count.AtMost 64)
+    ∷ Count of.DHigh x.d_high (count.AtMost highest_degree)
     ∷ Count of.DScore x.d_score (count.SumNotAbove of.DOut x.d_out of.D x.d)
     ∷ Count of.DOut x.d_out (count.BelowThat of.DLow x.d_low)
     ∷ Count of.DOut x.d_out (count.TwiceNotAbove of.D x.d)
-    ∷ Count of.DLazy x.d_lazy (count.AtMost 64)
+    ∷ Count of.DLazy x.d_lazy (count.AtMost highest_degree)
     ∷ []
 
 abbrev pub threshold_checks : Thresholds → List Check
@@ -111,19 +136,19 @@ threshold_checks x =
     Score of.GossipThreshold x.gossip_threshold (score.Below (pos 0))
     ∷ Score of.PublishThreshold x.publish_threshold (score.NotAbove of.GossipThreshold x.gossip_threshold)
     ∷ Score of.GraylistThreshold x.graylist_threshold (score.NotAbove of.PublishThreshold x.publish_threshold)
-    ∷ Score of.OpportunisticThreshold x.opportunistic_threshold cap
+    ∷ Count of.OpportunisticThreshold x.opportunistic_threshold cap
     ∷ []
 
 abbrev pub factor_checks : Factors → List Check
 factor_checks x =
-    Count of.GossipFactor x.gossip_factor (count.AtMost 1_000_000)
-    ∷ Score of.P7Decay x.p7_decay fraction
+    Count of.GossipFactor x.gossip_factor (count.AtMost highest_factor)
+    ∷ Count of.P7Decay x.p7_decay fraction
     ∷ Score of.AppSpecificWeight x.w5 reward
     ∷ Score of.IpColocationFactorWeight x.w6 penalty
     ∷ Score of.BehaviourPenaltyWeight x.w7 penalty
-    ∷ Score of.TopicCap x.topic_cap cap
-    ∷ Score of.DecayToZero x.decay_to_zero cap
-    ∷ Count of.P6Threshold x.p6_threshold (count.Range 1 65_535)
+    ∷ Count of.TopicCap x.topic_cap cap
+    ∷ Count of.DecayToZero x.decay_to_zero cap
+    ∷ Count of.P6Threshold x.p6_threshold (count.Range 1 most_at_an_address)
     ∷ []
 
 abbrev pub window_checks : Windows → List Check
@@ -135,14 +160,14 @@ window_checks x =
     ∷ Count of.IwantFollowupMs x.iwant_followup_ms some_time
     ∷ Count of.PruneBackoffS x.prune_backoff_s backoff
     ∷ Count of.UnsubscribeBackoffS x.unsubscribe_backoff_s backoff
-    ∷ Count of.McacheLen x.mcache_len (count.Range 1 64)
+    ∷ Count of.McacheLen x.mcache_len (count.Range 1 longest_memory)
     ∷ Count of.McacheGossip x.mcache_gossip (count.AtLeast 1)
     ∷ Count of.McacheGossip x.mcache_gossip (count.NotAbove of.McacheLen x.mcache_len)
-    ∷ Count of.OpportunisticTicks x.opportunistic_ticks (count.Range 1 1_000_000)
-    ∷ Count of.OpportunisticPeers x.opportunistic_peers (count.AtMost 64)
-    ∷ Count of.MaxIhave x.max_ihave (count.Range 1 1_000)
-    ∷ Count of.MaxIhaveIds x.max_ihave_ids (count.Range 1 5_000)
-    ∷ Count of.GossipRetransmission x.gossip_retransmission (count.Range 1 1_000)
+    ∷ Count of.OpportunisticTicks x.opportunistic_ticks (count.Range 1 most_ticks)
+    ∷ Count of.OpportunisticPeers x.opportunistic_peers (count.AtMost highest_degree)
+    ∷ Count of.MaxIhave x.max_ihave (count.Range 1 most_offers)
+    ∷ Count of.MaxIhaveIds x.max_ihave_ids (count.Range 1 most_identifiers)
+    ∷ Count of.GossipRetransmission x.gossip_retransmission (count.Range 1 most_retransmissions)
     ∷ []
 
 -- of the topic at a place
@@ -154,14 +179,14 @@ topic_factor_checks place x =
     ∷ Score (of.OfTopic place topic.MeshMessageDeliveriesWeight) x.w3 penalty
     ∷ Score (of.OfTopic place topic.MeshFailurePenaltyWeight) x.w3b penalty
     ∷ Score (of.OfTopic place topic.InvalidMessageDeliveriesWeight) x.w4 penalty
-    ∷ Score (of.OfTopic place topic.P2Decay) x.p2_decay fraction
-    ∷ Score (of.OfTopic place topic.P3Decay) x.p3_decay fraction
-    ∷ Score (of.OfTopic place topic.P3bDecay) x.p3b_decay fraction
-    ∷ Score (of.OfTopic place topic.P4Decay) x.p4_decay fraction
-    ∷ Score (of.OfTopic place topic.P1Cap) x.p1_cap cap
-    ∷ Score (of.OfTopic place topic.P2Cap) x.p2_cap cap
-    ∷ Score (of.OfTopic place topic.P3Cap) x.p3_cap cap
-    ∷ Score (of.OfTopic place topic.P3Threshold) x.p3_threshold cap
+    ∷ Count (of.OfTopic place topic.P2Decay) x.p2_decay fraction
+    ∷ Count (of.OfTopic place topic.P3Decay) x.p3_decay fraction
+    ∷ Count (of.OfTopic place topic.P3bDecay) x.p3b_decay fraction
+    ∷ Count (of.OfTopic place topic.P4Decay) x.p4_decay fraction
+    ∷ Count (of.OfTopic place topic.P1Cap) x.p1_cap cap
+    ∷ Count (of.OfTopic place topic.P2Cap) x.p2_cap cap
+    ∷ Count (of.OfTopic place topic.P3Cap) x.p3_cap cap
+    ∷ Count (of.OfTopic place topic.P3Threshold) x.p3_threshold cap
     ∷ []
 
 abbrev pub topic_window_checks : ℕ → TopicWindows → List Check

@@ -1,5 +1,5 @@
 -- The defaults of parameters, and the ranges that they must be in.
-use Rattle.std.specs.Prelude.{◌≤◌, ◌<◌, ◌+◌, ◌*◌, ◌≤ℤ◌, ◌<ℤ◌, Bool, true, [], ℤ, pos, neg_ℤ}
+use Rattle.std.specs.Prelude.{◌≤◌, ◌<◌, ◌+◌, ◌*◌, ◌≤ℤ◌, ◌<ℤ◌, ℕ, Bool, true, [], ℤ, pos, neg_ℤ}
 use Rattle.std.specs.List.{All}
 use Rattle.gs_base.specs.declared.names.Topic.{Topic}
 use Rattle.gs_params.specs.declared.params.Degrees.{Degrees}
@@ -10,8 +10,10 @@ use Rattle.gs_params.specs.declared.params.Params.{Params}
 use Rattle.gs_params.specs.declared.topic_params.TopicFactors.{TopicFactors}
 use Rattle.gs_params.specs.declared.topic_params.TopicWindows.{TopicWindows}
 use Rattle.gs_params.specs.declared.topic_params.TopicParams.{TopicParams}
-pub use Rattle.gs_params.specs.Checks.{checked, heaviest, highest_cap, in_range, int_in_range}
-pub use Rattle.gs_params.specs.Checks.{longest_backoff, longest_time, number_of}
+pub use Rattle.gs_params.specs.Checks.{checked, heaviest, highest_cap, highest_degree, highest_factor, in_range, int_in_range}
+pub use Rattle.gs_params.specs.Checks.{longest_memory, longest_time, most_at_an_address}
+use Rattle.gs_base.specs.Rpcs.{longest_backoff, most_identifiers}
+pub use Rattle.gs_params.specs.Checks.{most_offers, most_retransmissions, most_ticks, number_of}
 
 -- ---- where nothing else is said
 
@@ -25,19 +27,19 @@ default_thresholds = record {
   gossip_threshold = neg_ℤ (pos 10_000_000);
   publish_threshold = neg_ℤ (pos 50_000_000);
   graylist_threshold = neg_ℤ (pos 80_000_000);
-  opportunistic_threshold = pos 1_000_000;
+  opportunistic_threshold = 1_000_000;
 }
 
 -- in millionths, and whole neighbours at one address
 abbrev pub default_factors : Factors
 default_factors = record {
   gossip_factor = 250_000;
-  p7_decay = pos 900_000;
+  p7_decay = 900_000;
   w5 = pos 1_000_000;
   w6 = neg_ℤ (pos 5_000_000);
   w7 = neg_ℤ (pos 10_000_000);
-  topic_cap = pos 0;
-  decay_to_zero = pos 10_000;
+  topic_cap = 0;
+  decay_to_zero = 10_000;
   p6_threshold = 1;
 }
 
@@ -83,14 +85,14 @@ default_topic_factors = record {
   w3 = pos 0;
   w3b = pos 0;
   w4 = pos 0;
-  p2_decay = pos 500_000;
-  p3_decay = pos 500_000;
-  p3b_decay = pos 500_000;
-  p4_decay = pos 500_000;
-  p1_cap = pos 100_000_000;
-  p2_cap = pos 100_000_000;
-  p3_cap = pos 100_000_000;
-  p3_threshold = pos 0;
+  p2_decay = 500_000;
+  p3_decay = 500_000;
+  p3b_decay = 500_000;
+  p4_decay = 500_000;
+  p1_cap = 100_000_000;
+  p2_cap = 100_000_000;
+  p3_cap = 100_000_000;
+  p3_threshold = 0;
 }
 
 -- in milliseconds
@@ -113,21 +115,21 @@ IsReward z = (pos 0 ≤ℤ z) × (z ≤ℤ heaviest)
 abbrev pub IsPenalty : ℤ → Type 0
 IsPenalty z = (neg_ℤ heaviest ≤ℤ z) × (z ≤ℤ pos 0)
 
-abbrev pub IsFraction : ℤ → Type 0
-IsFraction z = (pos 0 ≤ℤ z) × (z ≤ℤ pos 1_000_000)
+abbrev pub IsFraction : ℕ → Type 0
+IsFraction n = n ≤ highest_factor
 
-abbrev pub IsCap : ℤ → Type 0
-IsCap z = (pos 0 ≤ℤ z) × (z ≤ℤ highest_cap)
+abbrev pub IsCap : ℕ → Type 0
+IsCap n = n ≤ highest_cap
 
 pub record DegreesAreInRange (x : Degrees) : Type 0 where
   pub some : 1 ≤ x.d_low
   pub low : x.d_low ≤ x.d
   pub high : x.d ≤ x.d_high
-  pub few : x.d_high ≤ 64
+  pub few : x.d_high ≤ highest_degree
   pub outbound : x.d_out < x.d_low
   pub half : 2 * x.d_out ≤ x.d
   pub best : x.d_score + x.d_out ≤ x.d
-  pub lazy : x.d_lazy ≤ 64
+  pub lazy : x.d_lazy ≤ highest_degree
 
 pub record ThresholdsAreInRange (x : Thresholds) : Type 0 where
   pub graylist : x.graylist_threshold ≤ℤ x.publish_threshold
@@ -136,14 +138,14 @@ pub record ThresholdsAreInRange (x : Thresholds) : Type 0 where
   pub opportunistic : IsCap x.opportunistic_threshold
 
 pub record FactorsAreInRange (x : Factors) : Type 0 where
-  pub gossip_factor : x.gossip_factor ≤ 1_000_000
+  pub gossip_factor : x.gossip_factor ≤ highest_factor
   pub p7_decay : IsFraction x.p7_decay
   pub w5 : IsReward x.w5
   pub w6 : IsPenalty x.w6
   pub w7 : IsPenalty x.w7
   pub topic_cap : IsCap x.topic_cap
   pub decay_to_zero : IsCap x.decay_to_zero
-  pub p6_threshold : (1 ≤ x.p6_threshold) × (x.p6_threshold ≤ 65_535)
+  pub p6_threshold : (1 ≤ x.p6_threshold) × (x.p6_threshold ≤ most_at_an_address)
 
 pub record WindowsAreInRange (x : Windows) : Type 0 where
   pub heartbeat : (1 ≤ x.heartbeat_ms) × (x.heartbeat_ms ≤ longest_time)
@@ -154,12 +156,12 @@ pub record WindowsAreInRange (x : Windows) : Type 0 where
   pub prune_backoff : (1 ≤ x.prune_backoff_s) × (x.prune_backoff_s ≤ longest_backoff)
   pub unsubscribe_backoff : (1 ≤ x.unsubscribe_backoff_s) × (x.unsubscribe_backoff_s ≤ longest_backoff)
   pub mcache_gossip : (1 ≤ x.mcache_gossip) × (x.mcache_gossip ≤ x.mcache_len)
-  pub mcache_len : x.mcache_len ≤ 64
-  pub opportunistic_ticks : (1 ≤ x.opportunistic_ticks) × (x.opportunistic_ticks ≤ 1_000_000)
-  pub opportunistic_peers : x.opportunistic_peers ≤ 64
-  pub max_ihave : (1 ≤ x.max_ihave) × (x.max_ihave ≤ 1_000)
-  pub max_ihave_ids : (1 ≤ x.max_ihave_ids) × (x.max_ihave_ids ≤ 5_000)
-  pub gossip_retransmission : (1 ≤ x.gossip_retransmission) × (x.gossip_retransmission ≤ 1_000)
+  pub mcache_len : x.mcache_len ≤ longest_memory
+  pub opportunistic_ticks : (1 ≤ x.opportunistic_ticks) × (x.opportunistic_ticks ≤ most_ticks)
+  pub opportunistic_peers : x.opportunistic_peers ≤ highest_degree
+  pub max_ihave : (1 ≤ x.max_ihave) × (x.max_ihave ≤ most_offers)
+  pub max_ihave_ids : (1 ≤ x.max_ihave_ids) × (x.max_ihave_ids ≤ most_identifiers)
+  pub gossip_retransmission : (1 ≤ x.gossip_retransmission) × (x.gossip_retransmission ≤ most_retransmissions)
 
 pub record TopicFactorsAreInRange (x : TopicFactors) : Type 0 where
   pub topic_weight : IsReward x.topic_weight

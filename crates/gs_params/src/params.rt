@@ -18,9 +18,11 @@ use crate::parameter::Parameter::{
     OpportunisticTicks, P6Threshold, P7Decay, PruneBackoffS, PublishThreshold, SeenTtlMs, TopicCap,
     UnsubscribeBackoffS,
 };
-use crate::ranges::{BACKOFF, CAP, FRACTION, PENALTY, REWARD, TIME};
+use crate::ranges::{
+    BACKOFF, CAP, FRACTION, HIGHEST_DEGREE, HIGHEST_FACTOR, PENALTY, REWARD, TIME,
+};
 use crate::topic_params::TopicParams;
-use gs_base::{ExactClone, Seq, Topic};
+use gs_base::{ExactClone, MOST_IDENTIFIERS, Seq, Topic};
 use std::alloc::{AllocError, Global};
 
 /// The degrees of a mesh, in neighbours.
@@ -61,7 +63,7 @@ pub struct Thresholds {
     /// With a lower score than this a neighbour is not listened to: at most `publish_threshold`.
     pub graylist_threshold: i64,
     /// With a lower median score than this a mesh gets better members: 0 to 10^12.
-    pub opportunistic_threshold: i64,
+    pub opportunistic_threshold: u64,
 }
 
 /// The thresholds where nothing else is said.
@@ -78,7 +80,7 @@ pub struct Factors {
     /// The part of the neighbours that get gossip: 0 to 1,000,000.
     pub gossip_factor: u64,
     /// What a decay leaves of the counter of misbehaviour (P7): 0 to 1,000,000.
-    pub p7_decay: i64,
+    pub p7_decay: u64,
     /// The weight of the score that the application gives (P5): 0 to 10^9.
     pub w5: i64,
     /// The weight of neighbours at one address (P6): -10^9 to 0.
@@ -86,9 +88,9 @@ pub struct Factors {
     /// The weight of misbehaviour (P7): -10^9 to 0.
     pub w7: i64,
     /// The most that all topics together add to a score: 0, which is no cap, to 10^12.
-    pub topic_cap: i64,
+    pub topic_cap: u64,
     /// A counter that decays below this becomes 0: 0 to 10^12.
-    pub decay_to_zero: i64,
+    pub decay_to_zero: u64,
     /// How many neighbours at one address cost nothing (P6): 1 to 65,535, whole ones.
     pub p6_threshold: u64,
 }
@@ -174,15 +176,15 @@ pub struct Params {
 }
 
 impl Degrees {
-    /// The first check that fails: whether they fit together.
-    fn first_broken(&self) -> Option<Check>
-        ensures { result ≡ first_broken (degree_checks self.now) }
+    /// What is checked: whether they fit together.
+    pub fn checks(&self) -> [Check; 8]
+        ensures { result ≡ degree_checks self.now }
     {
-        first_broken(&[
+        [
             Check::Count(D, self.d, CountRule::NotAbove(DHigh, self.d_high)),
             Check::Count(DLow, self.d_low, CountRule::AtLeast(1)),
             Check::Count(DLow, self.d_low, CountRule::NotAbove(D, self.d)),
-            Check::Count(DHigh, self.d_high, CountRule::AtMost(64)),
+            Check::Count(DHigh, self.d_high, CountRule::AtMost(HIGHEST_DEGREE)),
             Check::Count(
                 DScore,
                 self.d_score,
@@ -190,20 +192,20 @@ impl Degrees {
             ),
             Check::Count(DOut, self.d_out, CountRule::BelowThat(DLow, self.d_low)),
             Check::Count(DOut, self.d_out, CountRule::TwiceNotAbove(D, self.d)),
-            Check::Count(DLazy, self.d_lazy, CountRule::AtMost(64)),
-        ])
+            Check::Count(DLazy, self.d_lazy, CountRule::AtMost(HIGHEST_DEGREE)),
+        ]
     }
 }
 
 impl Thresholds {
-    /// The first check that fails: whether they are in their ranges and their order.
-    fn first_broken(&self) -> Option<Check>
-        ensures { result ≡ first_broken (threshold_checks self.now) }
+    /// What is checked: whether they are in their ranges and their order.
+    pub fn checks(&self) -> [Check; 4]
+        ensures { result ≡ threshold_checks self.now }
     {
         let gossip = self.gossip_threshold;
         let publish = self.publish_threshold;
         let graylist = self.graylist_threshold;
-        first_broken(&[
+        [
             Check::Score(GossipThreshold, gossip, ScoreRule::Below(0)),
             Check::Score(
                 PublishThreshold,
@@ -215,40 +217,40 @@ impl Thresholds {
                 graylist,
                 ScoreRule::NotAbove(PublishThreshold, publish),
             ),
-            Check::Score(OpportunisticThreshold, self.opportunistic_threshold, CAP),
-        ])
+            Check::Count(OpportunisticThreshold, self.opportunistic_threshold, CAP),
+        ]
     }
 }
 
 impl Factors {
-    /// The first check that fails: whether each is in its range.
-    fn first_broken(&self) -> Option<Check>
-        ensures { result ≡ first_broken (factor_checks self.now) }
+    /// What is checked: whether each is in its range.
+    pub fn checks(&self) -> [Check; 8]
+        ensures { result ≡ factor_checks self.now }
     {
-        first_broken(&[
+        [
             Check::Count(
                 GossipFactor,
                 self.gossip_factor,
-                CountRule::AtMost(1_000_000),
+                CountRule::AtMost(HIGHEST_FACTOR),
             ),
-            Check::Score(P7Decay, self.p7_decay, FRACTION),
+            Check::Count(P7Decay, self.p7_decay, FRACTION),
             Check::Score(AppSpecificWeight, self.w5, REWARD),
             Check::Score(IpColocationFactorWeight, self.w6, PENALTY),
             Check::Score(BehaviourPenaltyWeight, self.w7, PENALTY),
-            Check::Score(TopicCap, self.topic_cap, CAP),
-            Check::Score(DecayToZero, self.decay_to_zero, CAP),
+            Check::Count(TopicCap, self.topic_cap, CAP),
+            Check::Count(DecayToZero, self.decay_to_zero, CAP),
             Check::Count(P6Threshold, self.p6_threshold, CountRule::Range(1, 65_535)),
-        ])
+        ]
     }
 }
 
 impl Windows {
-    /// The first check that fails: whether each is in its range.
-    fn first_broken(&self) -> Option<Check>
-        ensures { result ≡ first_broken (window_checks self.now) }
+    /// What is checked: whether each is in its range.
+    pub fn checks(&self) -> [Check; 15]
+        ensures { result ≡ window_checks self.now }
     {
         let len = self.mcache_len;
-        first_broken(&[
+        [
             Check::Count(HeartbeatMs, self.heartbeat_ms, TIME),
             Check::Count(DecayMs, self.decay_ms, TIME),
             Check::Count(FanoutTtlMs, self.fanout_ttl_ms, TIME),
@@ -271,16 +273,20 @@ impl Windows {
             Check::Count(
                 OpportunisticPeers,
                 self.opportunistic_peers,
-                CountRule::AtMost(64),
+                CountRule::AtMost(HIGHEST_DEGREE),
             ),
             Check::Count(MaxIhave, self.max_ihave, CountRule::Range(1, 1_000)),
-            Check::Count(MaxIhaveIds, self.max_ihave_ids, CountRule::Range(1, 5_000)),
+            Check::Count(
+                MaxIhaveIds,
+                self.max_ihave_ids,
+                CountRule::Range(1, MOST_IDENTIFIERS),
+            ),
             Check::Count(
                 GossipRetransmission,
                 self.gossip_retransmission,
                 CountRule::Range(1, 1_000),
             ),
-        ])
+        ]
     }
 }
 
@@ -327,10 +333,10 @@ impl Params {
         ensures checked { result ≡ checked self }
         ensures in_range { IfOk result AreInRange }
     {
-        if let Some(check) = self.degrees.first_broken() {
+        if let Some(check) = first_broken(&self.degrees.checks()) {
             return Err(ParamFault::Degrees(check));
         }
-        if let Some(check) = self.thresholds.first_broken() {
+        if let Some(check) = first_broken(&self.thresholds.checks()) {
             return Err(ParamFault::Thresholds(check));
         }
         if let Some(check) = self.first_broken_factor() {
@@ -346,7 +352,7 @@ impl Params {
     fn first_broken_factor(&self) -> Option<Check>
         ensures { result ≡ first_broken (all_factor_checks self.now) }
     {
-        if let Some(check) = self.factors.first_broken() {
+        if let Some(check) = first_broken(&self.factors.checks()) {
             return Some(check);
         }
         first_broken_factor(self.topics.as_slice())
@@ -356,7 +362,7 @@ impl Params {
     fn first_broken_window(&self) -> Option<Check>
         ensures { result ≡ first_broken (all_window_checks self.now) }
     {
-        if let Some(check) = self.windows.first_broken() {
+        if let Some(check) = first_broken(&self.windows.checks()) {
             return Some(check);
         }
         first_broken_window(self.topics.as_slice())
@@ -373,7 +379,7 @@ fn first_broken_factor(topics: &[(Topic, TopicParams)]) -> Option<Check>
         (each_topic_from (λ place one. topic_factor_checks place one.factors) 0 topics.now) }
 {
     for (place, topic) in topics.iter().enumerate() {
-        if let Some(check) = topic.1.factors.first_broken(place) {
+        if let Some(check) = first_broken(&topic.1.factors.checks(place)) {
             return Some(check);
         }
     }
@@ -385,7 +391,7 @@ fn first_broken_window(topics: &[(Topic, TopicParams)]) -> Option<Check>
         (each_topic_from (λ place one. topic_window_checks place one.windows) 0 topics.now) }
 {
     for (place, topic) in topics.iter().enumerate() {
-        if let Some(check) = topic.1.windows.first_broken(place) {
+        if let Some(check) = first_broken(&topic.1.windows.checks(place)) {
             return Some(check);
         }
     }

@@ -1,18 +1,22 @@
-//! The ranges of single parameters. Those of what is counted are of `u64`, and those of scores, weights
-//! and factors, which are whole millionths, of `i64`.
+//! The ranges of single parameters. Those of scores and weights are of `i64`, and all others of `u64`.
+
 use crate::checks::{CountRule, ScoreRule};
+use gs_base::LONGEST_BACKOFF;
 
 /// The longest time, in milliseconds.
 pub const LONGEST_TIME: u64 = 1_000_000_000;
-
-/// The longest backoff, in seconds: a day.
-pub const LONGEST_BACKOFF: u64 = 86_400;
 
 /// The heaviest weight, in millionths. What counts against a neighbour weighs as much below 0.
 pub const HEAVIEST: i64 = 1_000_000_000;
 
 /// The highest cap, in millionths.
-pub const HIGHEST_CAP: i64 = 1_000_000_000_000;
+pub const HIGHEST_CAP: u64 = 1_000_000_000_000;
+
+/// The highest degree of a mesh, and the most neighbours that a heartbeat turns to on a topic.
+pub const HIGHEST_DEGREE: u64 = 64;
+
+/// The highest factor: one, in millionths.
+pub const HIGHEST_FACTOR: u64 = 1_000_000;
 
 /// A time that is not empty.
 pub const TIME: CountRule = CountRule::Range(1, LONGEST_TIME);
@@ -26,8 +30,8 @@ pub const REWARD: ScoreRule = ScoreRule::Range(0, HEAVIEST);
 /// The weight of what counts against a neighbour.
 pub const PENALTY: ScoreRule = ScoreRule::Range(-HEAVIEST, 0);
 
-/// A factor: 0 to 1,000,000.
-pub const FRACTION: ScoreRule = ScoreRule::Range(0, 1_000_000);
+/// What a decay leaves.
+pub const FRACTION: CountRule = CountRule::Range(0, HIGHEST_FACTOR);
 
 /// A cap.
-pub const CAP: ScoreRule = ScoreRule::Range(0, HIGHEST_CAP);
+pub const CAP: CountRule = CountRule::Range(0, HIGHEST_CAP);

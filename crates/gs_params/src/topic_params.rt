@@ -1,9 +1,9 @@
 //! The parameters of a topic: gossipsub v1.1, Peer Scoring, Topic Parameter Calculation.
 ghost use Rattle.std.specs.Prelude.{◌≡◌};
 ghost use Rattle.gs_params.specs.Params.{default_topic_params};
-ghost use Rattle.gs_params.specs.Checks.{first_broken, topic_factor_checks, topic_window_checks};
+ghost use Rattle.gs_params.specs.Checks.{topic_factor_checks, topic_window_checks};
 
-use crate::checks::{Check, CountRule, first_broken};
+use crate::checks::{Check, CountRule};
 use crate::parameter::Parameter::OfTopic;
 use crate::parameter::TopicParameter::{
     FirstMessageDeliveriesWeight, InvalidMessageDeliveriesWeight, MeshFailurePenaltyWeight,
@@ -31,21 +31,21 @@ pub struct TopicFactors {
     /// The weight of invalid messages (P4): -10^9 to 0.
     pub w4: i64,
     /// What a decay leaves of the counter of first deliveries: 0 to 1,000,000.
-    pub p2_decay: i64,
+    pub p2_decay: u64,
     /// What a decay leaves of the counter of deliveries in the mesh: 0 to 1,000,000.
-    pub p3_decay: i64,
+    pub p3_decay: u64,
     /// What a decay leaves of the counter of missing deliveries: 0 to 1,000,000.
-    pub p3b_decay: i64,
+    pub p3b_decay: u64,
     /// What a decay leaves of the counter of invalid messages: 0 to 1,000,000.
-    pub p4_decay: i64,
+    pub p4_decay: u64,
     /// The most that the time in the mesh counts: 0 to 10^12.
-    pub p1_cap: i64,
+    pub p1_cap: u64,
     /// The most that the counter of first deliveries holds: 0 to 10^12.
-    pub p2_cap: i64,
+    pub p2_cap: u64,
     /// The most that the counter of deliveries in the mesh holds: 0 to 10^12.
-    pub p3_cap: i64,
+    pub p3_cap: u64,
     /// With less than this in the counter of deliveries in the mesh some are missing: 0 to 10^12.
-    pub p3_threshold: i64,
+    pub p3_threshold: u64,
 }
 
 /// The factors of a topic where nothing else is said.
@@ -127,11 +127,11 @@ impl TopicParams {
 }
 
 impl TopicFactors {
-    /// The first check that fails, of the topic at this place: whether each is in its range.
-    pub(crate) fn first_broken(&self, place: usize) -> Option<Check>
-        ensures { result ≡ first_broken (topic_factor_checks place self.now) }
+    /// What is checked of the topic at this place: whether each is in its range.
+    pub fn checks(&self, place: usize) -> [Check; 14]
+        ensures { result ≡ topic_factor_checks place self.now }
     {
-        first_broken(&[
+        [
             Check::Score(OfTopic(place, TopicWeight), self.topic_weight, REWARD),
             Check::Score(OfTopic(place, TimeInMeshWeight), self.w1, REWARD),
             Check::Score(
@@ -150,25 +150,25 @@ impl TopicFactors {
                 self.w4,
                 PENALTY,
             ),
-            Check::Score(OfTopic(place, P2Decay), self.p2_decay, FRACTION),
-            Check::Score(OfTopic(place, P3Decay), self.p3_decay, FRACTION),
-            Check::Score(OfTopic(place, P3bDecay), self.p3b_decay, FRACTION),
-            Check::Score(OfTopic(place, P4Decay), self.p4_decay, FRACTION),
-            Check::Score(OfTopic(place, P1Cap), self.p1_cap, CAP),
-            Check::Score(OfTopic(place, P2Cap), self.p2_cap, CAP),
-            Check::Score(OfTopic(place, P3Cap), self.p3_cap, CAP),
-            Check::Score(OfTopic(place, P3Threshold), self.p3_threshold, CAP),
-        ])
+            Check::Count(OfTopic(place, P2Decay), self.p2_decay, FRACTION),
+            Check::Count(OfTopic(place, P3Decay), self.p3_decay, FRACTION),
+            Check::Count(OfTopic(place, P3bDecay), self.p3b_decay, FRACTION),
+            Check::Count(OfTopic(place, P4Decay), self.p4_decay, FRACTION),
+            Check::Count(OfTopic(place, P1Cap), self.p1_cap, CAP),
+            Check::Count(OfTopic(place, P2Cap), self.p2_cap, CAP),
+            Check::Count(OfTopic(place, P3Cap), self.p3_cap, CAP),
+            Check::Count(OfTopic(place, P3Threshold), self.p3_threshold, CAP),
+        ]
     }
 }
 
 impl TopicWindows {
-    /// The first check that fails, of the topic at this place: whether each is in its range.
-    pub(crate) fn first_broken(&self, place: usize) -> Option<Check>
-        ensures { result ≡ first_broken (topic_window_checks place self.now) }
+    /// What is checked of the topic at this place: whether each is in its range.
+    pub fn checks(&self, place: usize) -> [Check; 3]
+        ensures { result ≡ topic_window_checks place self.now }
     {
         let any_time = CountRule::AtMost(LONGEST_TIME);
-        first_broken(&[
+        [
             Check::Count(OfTopic(place, P1QuantumMs), self.p1_quantum_ms, TIME),
             Check::Count(OfTopic(place, P3WindowMs), self.p3_window_ms, any_time),
             Check::Count(
@@ -176,6 +176,6 @@ impl TopicWindows {
                 self.p3_activation_ms,
                 any_time,
             ),
-        ])
+        ]
     }
 }

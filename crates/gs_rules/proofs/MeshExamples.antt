@@ -223,7 +223,7 @@ wanting = record {
     factors = default_factors;
     windows = default_windows;
     flood_publish = false;
-    topics = (news, record default_topic_params { factors = record default_topic_factors { p3_threshold = pos 2_000_000 } }) ∷ [];
+    topics = (news, record default_topic_params { factors = record default_topic_factors { p3_threshold = 2_000_000 } }) ∷ [];
   };
   neighbours = linked 1 false ∷ [];
 }

@@ -9,6 +9,7 @@ ghost use Rattle.gs_base.specs.declared.names.MsgId.{MsgId};
 ghost use Rattle.gs_base.specs.declared.mark.Mark.TheVariants.{Behaviour, Grafted};
 ghost use Rattle.gs_base.specs.Codecs.{Codec};
 ghost use Rattle.gs_base.specs.Names.{same_id, same_topic};
+ghost use Rattle.gs_base.specs.Rpcs.{most_identifiers};
 ghost use Rattle.gs_params.specs.Picks.{IsAscending};
 ghost use Rattle.gs_mesh.specs.Peers.{is_among};
 ghost use Rattle.gs_mesh.specs.declared.heartbeat.Choice.{Choice};
@@ -228,7 +229,7 @@ pub fn a_heartbeat_moves_a_mesh_a_step<W: Words>()
 pub fn gossip_is_of_what_is_kept()
     ensures lately { (p : Peer) (entries : Entries) (t : Topic)
         → All (IsKeptOn p entries t) (gossip p entries t) }
-    ensures few { (p : Peer) (entries : Entries) (t : Topic) → length (gossip p entries t) ≤ 5_000 }
+    ensures few { (p : Peer) (entries : Entries) (t : Topic) → length (gossip p entries t) ≤ most_identifiers }
 {}
 
 /// Behind the charges of a heartbeat no promise is left whose time has come, so that none is charged again.
@@ -269,15 +270,15 @@ pub fn what_is_kept_is_gossiped()
         → kept len entries id ≡ Some found
         → list_any (same_id id) (keeping_order entries) ≡ true }
     ensures whole { (p : Peer) (entries : Entries) (t : Topic)
-        → length (gossipable p entries t) ≤ 5_000
+        → length (gossipable p entries t) ≤ most_identifiers
         → gossip p entries t ≡ gossipable p entries t }
     ensures each { (p : Peer) (entries : Entries) (t : Topic) (id : MsgId)
         → IsKeptOn p entries t id
-        → length (gossipable p entries t) ≤ 5_000
+        → length (gossipable p entries t) ≤ most_identifiers
         → IsAmong (gossip p entries t) id }
     ensures last { (p : Peer) (entries : Entries) (t : Topic) (id : MsgId) (before behind : List MsgId)
         → gossipable p entries t ≡ before ++ id ∷ behind
-        → length behind < 5_000
+        → length behind < most_identifiers
         → IsAmong (gossip p entries t) id }
 {}
 

@@ -22,7 +22,7 @@ use Rattle.gs_scenario.specs.Kinds.{whole_number, signed_number, truth_value, he
 abbrev pub highest_number : ℕ
 highest_number = 1_000_000_000_000
 
--- a number of things, of milliseconds or of seconds
+-- a number of things, of milliseconds, of seconds or of millionths
 abbrev pub count_key : List ℕ → ℕ → Key ℕ
 count_key name default = optional name (whole_number 0 highest_number) default
 
@@ -30,9 +30,9 @@ count_key name default = optional name (whole_number 0 highest_number) default
 abbrev pub multiple_key : ℕ → List ℕ → ℕ → Key ℕ
 multiple_key step name default = optional_multiple step name (whole_number 0 highest_number) default
 
--- millionths, none of them below zero
-abbrev pub amount_key : List ℕ → ℤ → Key ℤ
-amount_key name default = optional name (signed_number (pos 0) (pos highest_number)) default
+-- the weight of what counts for a neighbour, in millionths
+abbrev pub reward_key : List ℕ → ℤ → Key ℤ
+reward_key name default = optional name (signed_number (pos 0) (pos highest_number)) default
 
 -- millionths of either sign
 abbrev pub score_key : List ℕ → ℤ → Key ℤ
@@ -87,8 +87,8 @@ publish_threshold_key = score_key (codes "publish_threshold") default_thresholds
 abbrev pub graylist_threshold_key : Key ℤ
 graylist_threshold_key = score_key (codes "graylist_threshold") default_thresholds.graylist_threshold
 
-abbrev pub opportunistic_threshold_key : Key ℤ
-opportunistic_threshold_key = amount_key (codes "opportunistic_threshold") default_thresholds.opportunistic_threshold
+abbrev pub opportunistic_threshold_key : Key ℕ
+opportunistic_threshold_key = count_key (codes "opportunistic_threshold") default_thresholds.opportunistic_threshold
 
 abbrev pub threshold_names : List (List ℕ)
 threshold_names =
@@ -116,11 +116,11 @@ thresholds_in section = do
 abbrev pub gossip_factor_key : Key ℕ
 gossip_factor_key = count_key (codes "gossip_factor") default_factors.gossip_factor
 
-abbrev pub p7_decay_key : Key ℤ
-p7_decay_key = amount_key (codes "p7_decay") default_factors.p7_decay
+abbrev pub p7_decay_key : Key ℕ
+p7_decay_key = count_key (codes "p7_decay") default_factors.p7_decay
 
 abbrev pub w5_key : Key ℤ
-w5_key = amount_key (codes "w5") default_factors.w5
+w5_key = reward_key (codes "w5") default_factors.w5
 
 abbrev pub w6_key : Key ℤ
 w6_key = score_key (codes "w6") default_factors.w6
@@ -128,11 +128,11 @@ w6_key = score_key (codes "w6") default_factors.w6
 abbrev pub w7_key : Key ℤ
 w7_key = score_key (codes "w7") default_factors.w7
 
-abbrev pub topic_cap_key : Key ℤ
-topic_cap_key = amount_key (codes "topic_cap") default_factors.topic_cap
+abbrev pub topic_cap_key : Key ℕ
+topic_cap_key = count_key (codes "topic_cap") default_factors.topic_cap
 
-abbrev pub decay_to_zero_key : Key ℤ
-decay_to_zero_key = amount_key (codes "decay_to_zero") default_factors.decay_to_zero
+abbrev pub decay_to_zero_key : Key ℕ
+decay_to_zero_key = count_key (codes "decay_to_zero") default_factors.decay_to_zero
 
 abbrev pub p6_threshold_key : Key ℕ
 p6_threshold_key = count_key (codes "p6_threshold") default_factors.p6_threshold

@@ -8,16 +8,16 @@ use Rattle.gs_scenario.specs.declared.fault.ScenarioFault.{ScenarioFault}
 use Rattle.gs_scenario.specs.declared.scenario.topic_params.TopicWeights.{TopicWeights}
 use Rattle.gs_scenario.specs.declared.scenario.topic_params.TopicCounters.{TopicCounters}
 use Rattle.gs_scenario.specs.Keys.{Key, Section, ◌>>=◌, read_key}
-use Rattle.gs_scenario.specs.ParamsOf.{count_key, amount_key, score_key, prefixes_key}
+use Rattle.gs_scenario.specs.ParamsOf.{count_key, reward_key, score_key, prefixes_key}
 
 abbrev pub topic_weight_key : Key ℤ
-topic_weight_key = amount_key (codes "topic_weight") default_topic_factors.topic_weight
+topic_weight_key = reward_key (codes "topic_weight") default_topic_factors.topic_weight
 
 abbrev pub w1_key : Key ℤ
-w1_key = amount_key (codes "w1") default_topic_factors.w1
+w1_key = reward_key (codes "w1") default_topic_factors.w1
 
 abbrev pub w2_key : Key ℤ
-w2_key = amount_key (codes "w2") default_topic_factors.w2
+w2_key = reward_key (codes "w2") default_topic_factors.w2
 
 abbrev pub w3_key : Key ℤ
 w3_key = score_key (codes "w3") default_topic_factors.w3
@@ -28,29 +28,29 @@ w3b_key = score_key (codes "w3b") default_topic_factors.w3b
 abbrev pub w4_key : Key ℤ
 w4_key = score_key (codes "w4") default_topic_factors.w4
 
-abbrev pub p2_decay_key : Key ℤ
-p2_decay_key = amount_key (codes "p2_decay") default_topic_factors.p2_decay
+abbrev pub p2_decay_key : Key ℕ
+p2_decay_key = count_key (codes "p2_decay") default_topic_factors.p2_decay
 
-abbrev pub p3_decay_key : Key ℤ
-p3_decay_key = amount_key (codes "p3_decay") default_topic_factors.p3_decay
+abbrev pub p3_decay_key : Key ℕ
+p3_decay_key = count_key (codes "p3_decay") default_topic_factors.p3_decay
 
-abbrev pub p3b_decay_key : Key ℤ
-p3b_decay_key = amount_key (codes "p3b_decay") default_topic_factors.p3b_decay
+abbrev pub p3b_decay_key : Key ℕ
+p3b_decay_key = count_key (codes "p3b_decay") default_topic_factors.p3b_decay
 
-abbrev pub p4_decay_key : Key ℤ
-p4_decay_key = amount_key (codes "p4_decay") default_topic_factors.p4_decay
+abbrev pub p4_decay_key : Key ℕ
+p4_decay_key = count_key (codes "p4_decay") default_topic_factors.p4_decay
 
-abbrev pub p1_cap_key : Key ℤ
-p1_cap_key = amount_key (codes "p1_cap") default_topic_factors.p1_cap
+abbrev pub p1_cap_key : Key ℕ
+p1_cap_key = count_key (codes "p1_cap") default_topic_factors.p1_cap
 
-abbrev pub p2_cap_key : Key ℤ
-p2_cap_key = amount_key (codes "p2_cap") default_topic_factors.p2_cap
+abbrev pub p2_cap_key : Key ℕ
+p2_cap_key = count_key (codes "p2_cap") default_topic_factors.p2_cap
 
-abbrev pub p3_cap_key : Key ℤ
-p3_cap_key = amount_key (codes "p3_cap") default_topic_factors.p3_cap
+abbrev pub p3_cap_key : Key ℕ
+p3_cap_key = count_key (codes "p3_cap") default_topic_factors.p3_cap
 
-abbrev pub p3_threshold_key : Key ℤ
-p3_threshold_key = amount_key (codes "p3_threshold") default_topic_factors.p3_threshold
+abbrev pub p3_threshold_key : Key ℕ
+p3_threshold_key = count_key (codes "p3_threshold") default_topic_factors.p3_threshold
 
 abbrev pub p1_quantum_ms_key : Key ℕ
 p1_quantum_ms_key = count_key (codes "p1_quantum_ms") default_topic_windows.p1_quantum_ms

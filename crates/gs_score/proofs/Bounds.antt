@@ -3,7 +3,7 @@ use Rattle.std.proofs.Common.{◌≡◌, ℕ, ◌+◌, ◌*◌, ◌≤◌, ◌<�
 use Rattle.std.proofs.lemmas.Int.{ints, to_z-of_z, unsigned_abs-mul, fits_signed_from_abs}
 use Rattle.std.specs.Int.{int_div_euclid, w64, w128}
 use mir.Val.{to_z, of_z}
-use Rattle.gs_params.specs.Params.{IsCap, IsReward, IsPenalty}
+use Rattle.gs_params.specs.Params.{IsReward, IsPenalty}
 use Rattle.gs_score.specs.Millionths.{times, scaled}
 
 -- what code of 128 bits makes of a number
@@ -74,6 +74,3 @@ reward_back z h = let f : FitsSigned w64 z = fits_signed_from_abs w64 z (omega (
 
 pub penalty_back : (z : ℤ) → IsPenalty z → to_z w64 (of_z w64 z) ≡ z
 penalty_back z h = let f : FitsSigned w64 z = fits_signed_from_abs w64 z (omega (arith, ints, h.0, h.1)) in to_z-of_z w64 z f
-
-pub cap_back : (z : ℤ) → IsCap z → to_z w64 (of_z w64 z) ≡ z
-cap_back z h = let f : FitsSigned w64 z = fits_signed_from_abs w64 z (omega (arith, ints, h.0, h.1)) in to_z-of_z w64 z f

@@ -13,7 +13,7 @@ use Rattle.gs_params.specs.Params.{default_topic_params}
 use Rattle.gs_score.specs.declared.counter.Decay.{Decay}
 use Rattle.gs_score.specs.declared.rules.TopicRules.{TopicRules}
 use Rattle.gs_score.specs.declared.standing.Standing.{Standing}
-use Rattle.gs_score.specs.Standings.{Held, amount, fresh, held, nothing_held}
+use Rattle.gs_score.specs.Standings.{Held, fresh, held, nothing_held}
 use Rattle.gs_score.specs.Formula.{topic_part}
 
 -- ---- how topics are scored
@@ -35,7 +35,7 @@ rules_of params t = record {
 
 -- how misbehaviour decays
 abbrev pub behaviour_decay : Params → Decay
-behaviour_decay params = record { factor = amount params.factors.p7_decay; floor = amount params.factors.decay_to_zero }
+behaviour_decay params = record { factor = params.factors.p7_decay; floor = params.factors.decay_to_zero }
 
 -- ---- what a neighbour has on topics
 

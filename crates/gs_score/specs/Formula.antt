@@ -1,16 +1,16 @@
 -- The parts of a score (gossipsub v1.1, Peer Scoring, "The Score Function"), each product rounded down.
-use Rattle.std.specs.Prelude.{ℕ, ◌*◌, ◌-◌, ◌/◌, min, nat_le, nat_lt, int_lt, ℤ, pos, ◌+ℤ◌, Bool, false, ◌&&◌, if◌then◌else◌, Option, Some, None}
+use Rattle.std.specs.Prelude.{ℕ, ◌*◌, ◌-◌, ◌/◌, min, nat_le, nat_lt, ℤ, pos, ◌+ℤ◌, Bool, false, ◌&&◌, if◌then◌else◌, Option, Some, None}
 use Rattle.std.specs.Int.{int_min}
 use Rattle.gs_base.specs.declared.names.Millis.{Millis}
 use Rattle.gs_params.specs.declared.params.Factors.{Factors}
 use Rattle.gs_score.specs.declared.rules.TopicRules.{TopicRules}
 use Rattle.gs_score.specs.Millionths.{times, squared}
-use Rattle.gs_score.specs.Standings.{Held, amount}
+use Rattle.gs_score.specs.Standings.{Held}
 
 -- P1, time in mesh: one for each whole quantum in the mesh, up to a cap
 abbrev pub p1 : TopicRules → ℕ → Option Millis → ℕ
 p1 r now None = 0
-p1 r now (Some since) = min (1_000_000 * ((now - since.0) / r.windows.p1_quantum_ms)) (amount r.factors.p1_cap)
+p1 r now (Some since) = min (1_000_000 * ((now - since.0) / r.windows.p1_quantum_ms)) r.factors.p1_cap
 
 -- P2, first message deliveries
 abbrev pub p2 : Held → ℕ
@@ -24,8 +24,8 @@ is_active r now (Some since) = nat_le r.windows.p3_activation_ms (now - since.0)
 -- P3, mesh message delivery rate: the square of what is missing to the threshold, of a member that is active
 abbrev pub p3 : TopicRules → ℕ → Held → ℕ
 p3 r now h =
-    if is_active r now h.since && nat_lt h.near (amount r.factors.p3_threshold)
-    then squared (amount r.factors.p3_threshold - h.near)
+    if is_active r now h.since && nat_lt h.near r.factors.p3_threshold
+    then squared (r.factors.p3_threshold - h.near)
     else 0
 
 -- P3b, mesh message delivery failures
@@ -64,8 +64,8 @@ abbrev pub p7 : ℕ → ℕ
 p7 behaviour = squared behaviour
 
 -- at most the cap, where there is one
-abbrev pub capped : ℤ → ℤ → ℤ
-capped cap x = if int_lt (pos 0) cap then int_min x cap else x
+abbrev pub capped : ℕ → ℤ → ℤ
+capped cap x = if nat_lt 0 cap then int_min x (pos cap) else x
 
 -- the score of a neighbour with this sum over topics, this score of the application, so many neighbours at its address,
 -- and this misbehaviour

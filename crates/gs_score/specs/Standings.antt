@@ -1,5 +1,5 @@
 -- What a neighbour has on a topic, and its steps.
-use Rattle.std.specs.Prelude.{ℕ, ℤ, unsigned_abs, Option, Some, None}
+use Rattle.std.specs.Prelude.{ℕ, Option, Some, None}
 use Rattle.gs_base.specs.declared.names.Millis.{Millis}
 use Rattle.gs_score.specs.declared.counter.Decay.{Decay}
 use Rattle.gs_score.specs.declared.rules.TopicRules.{TopicRules}
@@ -10,20 +10,16 @@ use Rattle.gs_score.specs.Counters.{Stored, most_counted, decay_step, raised, re
 
 -- ---- how each counter decays, and up to where it is raised
 
--- a parameter that is never negative
-abbrev pub amount : ℤ → ℕ
-amount z = unsigned_abs z
-
 abbrev pub decay_of : TopicRules → Kind → Decay
-decay_of r First = record { factor = amount r.factors.p2_decay; floor = amount r.decay_to_zero }
-decay_of r Near = record { factor = amount r.factors.p3_decay; floor = amount r.decay_to_zero }
-decay_of r Deficit = record { factor = amount r.factors.p3b_decay; floor = amount r.decay_to_zero }
-decay_of r Invalid = record { factor = amount r.factors.p4_decay; floor = amount r.decay_to_zero }
+decay_of r First = record { factor = r.factors.p2_decay; floor = r.decay_to_zero }
+decay_of r Near = record { factor = r.factors.p3_decay; floor = r.decay_to_zero }
+decay_of r Deficit = record { factor = r.factors.p3b_decay; floor = r.decay_to_zero }
+decay_of r Invalid = record { factor = r.factors.p4_decay; floor = r.decay_to_zero }
 
 -- counters of what is wrong have no cap of their own
 abbrev pub cap_of : TopicRules → Kind → ℕ
-cap_of r First = amount r.factors.p2_cap
-cap_of r Near = amount r.factors.p3_cap
+cap_of r First = r.factors.p2_cap
+cap_of r Near = r.factors.p3_cap
 cap_of r Deficit = most_counted
 cap_of r Invalid = most_counted
 

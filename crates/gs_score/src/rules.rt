@@ -21,7 +21,7 @@ pub struct TopicRules {
     /// Its times.
     pub windows: TopicWindows,
     /// A counter that decays below this becomes 0, in millionths: 0 to 10^12. It is the same for all topics.
-    pub decay_to_zero: i64,
+    pub decay_to_zero: u64,
 }
 
 impl TopicRules {
@@ -53,8 +53,8 @@ impl TopicRules {
             Kind::Invalid => self.factors.p4_decay,
         };
         Decay {
-            factor: factor.unsigned_abs(),
-            floor: self.decay_to_zero.unsigned_abs(),
+            factor,
+            floor: self.decay_to_zero,
         }
     }
 
@@ -65,8 +65,8 @@ impl TopicRules {
         ensures most { result ≤ 10 ^ 12 }
     {
         match kind {
-            Kind::First => self.factors.p2_cap.unsigned_abs(),
-            Kind::Near => self.factors.p3_cap.unsigned_abs(),
+            Kind::First => self.factors.p2_cap,
+            Kind::Near => self.factors.p3_cap,
             Kind::Deficit => MOST_COUNTED,
             Kind::Invalid => MOST_COUNTED,
         }
@@ -91,9 +91,7 @@ impl TopicRules {
         match since {
             Some(since) => {
                 let quanta = now.0.saturating_sub(since.0) / self.windows.p1_quantum_ms;
-                quanta
-                    .saturating_mul(1_000_000)
-                    .min(self.factors.p1_cap.unsigned_abs())
+                quanta.saturating_mul(1_000_000).min(self.factors.p1_cap)
             }
             None => 0,
         }

@@ -40,7 +40,7 @@ fn crowd(threshold: u64, number: u64) -> u64
 }
 
 /// A sum over topics, at most the cap, where there is one.
-fn capped(cap: i64, sum: i128) -> i128
+fn capped(cap: u64, sum: i128) -> i128
     requires cap { IsCap cap }
     requires sum { unsigned_abs sum ≤ 10 ^ 29 }
     ensures value { result ≡ capped cap sum }

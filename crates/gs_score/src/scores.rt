@@ -311,8 +311,8 @@ fn behaviour_decay(params: &Params) -> Decay
     ensures factor { result.factor ≤ 10 ^ 6 }
 {
     Decay {
-        factor: params.factors.p7_decay.unsigned_abs(),
-        floor: params.factors.decay_to_zero.unsigned_abs(),
+        factor: params.factors.p7_decay,
+        floor: params.factors.decay_to_zero,
     }
 }
 

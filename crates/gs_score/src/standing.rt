@@ -113,7 +113,7 @@ impl Standing {
         ensures value { result ≡ p3 rules.now now.0 (held rules.now tick self.now) }
         ensures most { result ≤ 10 ^ 18 }
     {
-        let threshold = rules.factors.p3_threshold.unsigned_abs();
+        let threshold = rules.factors.p3_threshold;
         let near = self.count(Kind::Near, rules, tick);
         if rules.is_active(self.since, now) && near < threshold {
             return squared(threshold - near);

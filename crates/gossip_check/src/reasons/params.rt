@@ -88,7 +88,7 @@ fn write_score_rule<W: fmt::Write>(f: &mut fmt::Formatter<W>, rule: ScoreRule) -
 }
 
 /// The key of a parameter.
-fn key_of(parameter: Parameter) -> &'static str {
+pub fn key_of(parameter: Parameter) -> &'static str {
     match parameter {
         Parameter::D => "d",
         Parameter::DLow => "d_low",

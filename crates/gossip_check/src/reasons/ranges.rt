@@ -1,75 +1,60 @@
 //! The ranges of parameters.
+use crate::reasons::params::key_of;
+use gs_params::{
+    Check, CountRule, DEFAULT_DEGREES, DEFAULT_FACTORS, DEFAULT_THRESHOLDS, DEFAULT_TOPIC_FACTORS,
+    DEFAULT_TOPIC_WINDOWS, DEFAULT_WINDOWS, ScoreRule,
+};
 
-/// The lowest and the highest number that a scenario may give for any parameter.
-const LOWEST: i64 = -1_000_000_000_000;
-
-const HIGHEST: i64 = 1_000_000_000_000;
-
-/// The weights of most, for and against a neighbour.
-const HEAVIEST: i64 = 1_000_000_000;
-
-/// The longest time, in milliseconds.
-const LONGEST: i64 = 1_000_000_000;
-
-/// The key of a parameter, with the lowest and the highest number that it can have. Where its rule
+/// The lowest and the highest number that a key can have, where it is a parameter's. Where its rule
 /// compares it with other keys, these are the bounds that hold whatever those are.
-type Range = (&'static str, i64, i64);
-
-/// No key of `[params]` is one of a `[[topic]]`, too.
-static RANGES: [Range; 49] = [
-    ("d", 1, 64),
-    ("d_low", 1, 64),
-    ("d_high", 1, 64),
-    ("d_score", 0, 64),
-    ("d_out", 0, 32),
-    ("d_lazy", 0, 64),
-    ("gossip_threshold", LOWEST, -1),
-    ("publish_threshold", LOWEST, -1),
-    ("graylist_threshold", LOWEST, -1),
-    ("opportunistic_threshold", 0, HIGHEST),
-    ("gossip_factor", 0, 1_000_000),
-    ("p7_decay", 0, 1_000_000),
-    ("w5", 0, HEAVIEST),
-    ("w6", -HEAVIEST, 0),
-    ("w7", -HEAVIEST, 0),
-    ("topic_cap", 0, HIGHEST),
-    ("decay_to_zero", 0, HIGHEST),
-    ("p6_threshold", 1, 65_535),
-    ("heartbeat_ms", 1, LONGEST),
-    ("decay_ms", 1, LONGEST),
-    ("fanout_ttl_ms", 1, LONGEST),
-    ("seen_ttl_ms", 1, LONGEST),
-    ("iwant_followup_ms", 1, LONGEST),
-    ("prune_backoff_s", 1, 86_400),
-    ("unsubscribe_backoff_s", 1, 86_400),
-    ("mcache_len", 1, 64),
-    ("mcache_gossip", 1, 64),
-    ("opportunistic_ticks", 1, 1_000_000),
-    ("opportunistic_peers", 0, 64),
-    ("max_ihave", 1, 1_000),
-    ("max_ihave_ids", 1, 5_000),
-    ("gossip_retransmission", 1, 1_000),
-    ("topic_weight", 0, HEAVIEST),
-    ("w1", 0, HEAVIEST),
-    ("w2", 0, HEAVIEST),
-    ("w3", -HEAVIEST, 0),
-    ("w3b", -HEAVIEST, 0),
-    ("w4", -HEAVIEST, 0),
-    ("p2_decay", 0, 1_000_000),
-    ("p3_decay", 0, 1_000_000),
-    ("p3b_decay", 0, 1_000_000),
-    ("p4_decay", 0, 1_000_000),
-    ("p1_cap", 0, HIGHEST),
-    ("p2_cap", 0, HIGHEST),
-    ("p3_cap", 0, HIGHEST),
-    ("p3_threshold", 0, HIGHEST),
-    ("p1_quantum_ms", 1, LONGEST),
-    ("p3_window_ms", 0, LONGEST),
-    ("p3_activation_ms", 0, LONGEST),
-];
-
-/// The lowest and the highest number that a key can have, where it is a parameter's.
 pub fn range_of(key: &str) -> Option<(i64, i64)> {
-    let (_, low, high) = RANGES.iter().find(|row| row.0 == key)?;
-    Some((*low, *high))
+    let (_, degree) = own_range("d_high")?;
+    match key {
+        "d" | "d_low" | "d_high" => Some((1, degree)),
+        "d_score" => Some((0, degree)),
+        "d_out" => Some((0, degree / 2)),
+        "publish_threshold" | "graylist_threshold" => own_range("gossip_threshold"),
+        "mcache_gossip" => Some((1, own_range("mcache_len")?.1)),
+        _ => own_range(key),
+    }
+}
+
+/// The range of a parameter by the first of its checks that compares it with numbers alone. No key of
+/// `[params]` is one of a `[[topic]]`, too.
+fn own_range(key: &str) -> Option<(i64, i64)> {
+    range_in(&DEFAULT_DEGREES.checks(), key)
+        .or(range_in(&DEFAULT_THRESHOLDS.checks(), key))
+        .or(range_in(&DEFAULT_FACTORS.checks(), key))
+        .or(range_in(&DEFAULT_WINDOWS.checks(), key))
+        .or(range_in(&DEFAULT_TOPIC_FACTORS.checks(0), key))
+        .or(range_in(&DEFAULT_TOPIC_WINDOWS.checks(0), key))
+}
+
+fn range_in(checks: &[Check], key: &str) -> Option<(i64, i64)> {
+    for check in checks {
+        let (parameter, range) = match *check {
+            Check::Count(parameter, _, rule) => (parameter, count_range(rule)),
+            Check::Score(parameter, _, rule) => (parameter, score_range(rule)),
+        };
+        if key_of(parameter) == key && range.is_some() {
+            return range;
+        }
+    }
+    None
+}
+
+fn count_range(rule: CountRule) -> Option<(i64, i64)> {
+    match rule {
+        CountRule::AtMost(high) => Some((0, high as i64)),
+        CountRule::Range(low, high) => Some((low as i64, high as i64)),
+        _ => None,
+    }
+}
+
+fn score_range(rule: ScoreRule) -> Option<(i64, i64)> {
+    match rule {
+        ScoreRule::Below(high) => Some((i64::MIN, high.saturating_sub(1))),
+        ScoreRule::Range(low, high) => Some((low, high)),
+        ScoreRule::NotAbove(_, _) => None,
+    }
 }

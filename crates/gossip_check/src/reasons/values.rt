@@ -54,10 +54,13 @@ impl<'a> Mismatch<'a> {
 
     /// The range of a parameter. What is wanted of it is no more than the range of all numbers.
     fn range_of_parameter(&self) -> Option<(i64, i64)> {
-        match self.wanted {
-            Wanted::Number(_, _) | Wanted::SignedNumber(_, _) => range_of(key_of(self.place)),
-            _ => None,
-        }
+        let lowest = match self.wanted {
+            Wanted::Number(low, _) => low as i64,
+            Wanted::SignedNumber(low, _) => low,
+            _ => return None,
+        };
+        let (low, high) = range_of(key_of(self.place))?;
+        Some((low.max(lowest), high))
     }
 
     fn write_rule<W: fmt::Write>(&self, f: &mut fmt::Formatter<W>) -> fmt::Result {

@@ -5,14 +5,14 @@ ghost use Rattle.gs_cache.specs.Messages.{last_of, most_announced};
 ghost use Rattle.gs_cache.specs.Windows.{announced_in, has, is_listed, is_listed_at, listed, placed};
 
 use crate::messages::window::Window;
-use gs_base::{MsgId, Topic};
+use gs_base::{MOST_IDENTIFIERS, MsgId, Topic};
 use std::alloc::{AllocError, Global};
 
 /// How many identifiers of a topic are announced at once at most: as many as one IHAVE may have.
-pub const MOST_ANNOUNCED: usize = 5_000;
+pub const MOST_ANNOUNCED: usize = MOST_IDENTIFIERS as usize;
 
 /// The identifiers to announce on a topic, of the messages in the newest so many windows, in the order of their
-/// last puts, the last 5,000.
+/// last puts, the last `MOST_ANNOUNCED`.
 ///
 /// # Errors
 /// `AllocError` where there was no memory.
@@ -34,7 +34,7 @@ pub fn announce(
     Ok(ids)
 }
 
-/// Keeps the last 5,000.
+/// Keeps the last `MOST_ANNOUNCED`.
 fn keep_last(ids: &mut Vec<MsgId>)
     ensures { ids.new.items ≡ last_of most_announced ids.old.items }
 {

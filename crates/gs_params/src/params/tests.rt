@@ -1,4 +1,5 @@
 mod faults;
+mod ranges;
 
 use super::*;
 use crate::topic_params::{TopicFactors, TopicWindows};
@@ -137,22 +138,23 @@ fn set_threshold(thresholds: &mut Thresholds, name: &str, value: i64) -> bool {
         "gossip_threshold" => thresholds.gossip_threshold = value,
         "publish_threshold" => thresholds.publish_threshold = value,
         "graylist_threshold" => thresholds.graylist_threshold = value,
-        "opportunistic_threshold" => thresholds.opportunistic_threshold = value,
+        "opportunistic_threshold" => thresholds.opportunistic_threshold = value.unsigned_abs(),
         _ => return false,
     }
     true
 }
 
 fn set_factor(factors: &mut Factors, name: &str, value: i64) -> bool {
+    let count = value.unsigned_abs();
     match name {
-        "gossip_factor" => factors.gossip_factor = value.unsigned_abs(),
-        "p7_decay" => factors.p7_decay = value,
+        "gossip_factor" => factors.gossip_factor = count,
+        "p7_decay" => factors.p7_decay = count,
         "w5" => factors.w5 = value,
         "w6" => factors.w6 = value,
         "w7" => factors.w7 = value,
-        "topic_cap" => factors.topic_cap = value,
-        "decay_to_zero" => factors.decay_to_zero = value,
-        "p6_threshold" => factors.p6_threshold = value.unsigned_abs(),
+        "topic_cap" => factors.topic_cap = count,
+        "decay_to_zero" => factors.decay_to_zero = count,
+        "p6_threshold" => factors.p6_threshold = count,
         _ => return false,
     }
     true
@@ -181,6 +183,7 @@ fn set_window(windows: &mut Windows, name: &str, value: i64) -> bool {
 }
 
 fn set_topic_factor(factors: &mut TopicFactors, name: &str, value: i64) -> bool {
+    let count = value.unsigned_abs();
     match name {
         "topic_weight" => factors.topic_weight = value,
         "w1" => factors.w1 = value,
@@ -188,14 +191,14 @@ fn set_topic_factor(factors: &mut TopicFactors, name: &str, value: i64) -> bool 
         "w3" => factors.w3 = value,
         "w3b" => factors.w3b = value,
         "w4" => factors.w4 = value,
-        "p2_decay" => factors.p2_decay = value,
-        "p3_decay" => factors.p3_decay = value,
-        "p3b_decay" => factors.p3b_decay = value,
-        "p4_decay" => factors.p4_decay = value,
-        "p1_cap" => factors.p1_cap = value,
-        "p2_cap" => factors.p2_cap = value,
-        "p3_cap" => factors.p3_cap = value,
-        "p3_threshold" => factors.p3_threshold = value,
+        "p2_decay" => factors.p2_decay = count,
+        "p3_decay" => factors.p3_decay = count,
+        "p3b_decay" => factors.p3b_decay = count,
+        "p4_decay" => factors.p4_decay = count,
+        "p1_cap" => factors.p1_cap = count,
+        "p2_cap" => factors.p2_cap = count,
+        "p3_cap" => factors.p3_cap = count,
+        "p3_threshold" => factors.p3_threshold = count,
         _ => return false,
     }
     true
@@ -255,77 +258,8 @@ fn refusal(alloc: Global, changes: &[(&str, i64)]) -> Result<u8, AllocError> {
     }
 }
 
-/// A parameter, the least and the greatest value that it may have, and the number of the refusal of
-/// the values next to these.
-static RANGES: [(&str, i64, i64, u8); 38] = [
-    ("publish_threshold", -80_000_000, -10_000_000, 2),
-    ("gossip_threshold", -50_000_000, -1, 2),
-    ("opportunistic_threshold", 0, 1_000_000_000_000, 2),
-    ("p7_decay", 0, 1_000_000, 3),
-    ("w5", 0, 1_000_000_000, 3),
-    ("w6", -1_000_000_000, 0, 3),
-    ("w7", -1_000_000_000, 0, 3),
-    ("topic_cap", 0, 1_000_000_000_000, 3),
-    ("decay_to_zero", 0, 1_000_000_000_000, 3),
-    ("p6_threshold", 1, 65_535, 3),
-    ("topic_weight", 0, 1_000_000_000, 3),
-    ("w1", 0, 1_000_000_000, 3),
-    ("w2", 0, 1_000_000_000, 3),
-    ("w3", -1_000_000_000, 0, 3),
-    ("w3b", -1_000_000_000, 0, 3),
-    ("w4", -1_000_000_000, 0, 3),
-    ("p2_decay", 0, 1_000_000, 3),
-    ("p3_decay", 0, 1_000_000, 3),
-    ("p3b_decay", 0, 1_000_000, 3),
-    ("p4_decay", 0, 1_000_000, 3),
-    ("p1_cap", 0, 1_000_000_000_000, 3),
-    ("p2_cap", 0, 1_000_000_000_000, 3),
-    ("p3_cap", 0, 1_000_000_000_000, 3),
-    ("p3_threshold", 0, 1_000_000_000_000, 3),
-    ("heartbeat_ms", 1, 1_000_000_000, 4),
-    ("decay_ms", 1, 1_000_000_000, 4),
-    ("fanout_ttl_ms", 1, 1_000_000_000, 4),
-    ("seen_ttl_ms", 1, 1_000_000_000, 4),
-    ("iwant_followup_ms", 1, 1_000_000_000, 4),
-    ("prune_backoff_s", 1, 86_400, 4),
-    ("unsubscribe_backoff_s", 1, 86_400, 4),
-    ("mcache_len", 3, 64, 4),
-    ("mcache_gossip", 1, 5, 4),
-    ("opportunistic_ticks", 1, 1_000_000, 4),
-    ("max_ihave", 1, 1_000, 4),
-    ("max_ihave_ids", 1, 5_000, 4),
-    ("gossip_retransmission", 1, 1_000, 4),
-    ("p1_quantum_ms", 1, 1_000_000_000, 4),
-];
-
-fn are_bounds(
-    alloc: Global,
-    name: &str,
-    least: i64,
-    greatest: i64,
-    number: u8,
-) -> Result<bool, AllocError> {
-    Ok(
-        refusal(alloc, &[(name, least)])? == 0
-            && refusal(alloc, &[(name, least.saturating_sub(1))])? == number
-            && refusal(alloc, &[(name, greatest)])? == 0
-            && refusal(alloc, &[(name, greatest.saturating_add(1))])? == number,
-    )
-}
-
-#[test]
-fn each_range_has_its_bounds(rt: HostRuntime) -> Result<(), AllocError> {
-    for (name, least, greatest, number) in &RANGES {
-        assert!(rt;
-            are_bounds(rt.alloc(), name, *least, *greatest, *number)?,
-            "{name}"
-        );
-    }
-    Ok(())
-}
-
 /// Parameters with other values than the defaults, and the number of the refusal, or 0.
-static CHANGES: [(&[(&str, i64)], u8); 44] = [
+static CHANGES: [(&[(&str, i64)], u8); 32] = [
     (&[("d_low", 1), ("d_out", 0)], 0),
     (&[("d_low", 0), ("d_out", 0)], 1),
     (&[("d_low", 6)], 0),
@@ -346,20 +280,8 @@ static CHANGES: [(&[(&str, i64)], u8); 44] = [
     (&[("d_lazy", 65)], 1),
     (&[("graylist_threshold", -50_000_000)], 0),
     (&[("graylist_threshold", -49_999_999)], 2),
-    (&[("gossip_factor", 0)], 0),
-    (&[("gossip_factor", 1_000_000)], 0),
-    (&[("gossip_factor", 1_000_001)], 3),
-    (&[("opportunistic_peers", 0)], 0),
-    (&[("opportunistic_peers", 64)], 0),
-    (&[("opportunistic_peers", 65)], 4),
     (&[("mcache_len", 64), ("mcache_gossip", 64)], 0),
     (&[("mcache_len", 0), ("mcache_gossip", 0)], 4),
-    (&[("p3_window_ms", 0)], 0),
-    (&[("p3_window_ms", 1_000_000_000)], 0),
-    (&[("p3_window_ms", 1_000_000_001)], 4),
-    (&[("p3_activation_ms", 0)], 0),
-    (&[("p3_activation_ms", 1_000_000_000)], 0),
-    (&[("p3_activation_ms", 1_000_000_001)], 4),
     // Where two checks fail, the lower number.
     (&[("gossip_threshold", 0), ("d_low", 7)], 1),
     (&[("w5", -1), ("d_lazy", 65)], 1),
@@ -368,9 +290,15 @@ static CHANGES: [(&[(&str, i64)], u8); 44] = [
     (&[("w3", 1), ("graylist_threshold", 0)], 2),
     (&[("mcache_len", 2), ("publish_threshold", 0)], 2),
     (&[("mcache_len", 2), ("gossip_factor", 1_000_001)], 3),
-    (&[("heartbeat_ms", 0), ("p2_decay", -1)], 3),
+    (&[("heartbeat_ms", 0), ("p2_decay", 1_000_001)], 3),
     (&[("p1_quantum_ms", 0), ("w6", 1)], 3),
-    (&[("p3_window_ms", 1_000_000_001), ("p1_cap", -1)], 3),
+    (
+        &[
+            ("p3_window_ms", 1_000_000_001),
+            ("p1_cap", 1_000_000_000_001),
+        ],
+        3,
+    ),
 ];
 
 #[test]
@@ -381,8 +309,8 @@ fn each_check_has_its_number(rt: HostRuntime) -> Result<(), AllocError> {
     Ok(())
 }
 
-/// The law takes nothing and gives nothing: that it can be called is all there is to test.
+/// The laws take nothing and give nothing: that they can be called is all there is to test.
 #[test]
-fn the_law_can_be_called(_rt: HostRuntime) {
+fn the_laws_can_be_called(_rt: HostRuntime) {
     parameters_in_range_pass();
 }

@@ -132,7 +132,7 @@ fn thresholds_in(section: &Section<'_>) -> Result<Thresholds, ScenarioFault>
         gossip_threshold: section.score("gossip_threshold", default.gossip_threshold)?,
         publish_threshold: section.score("publish_threshold", default.publish_threshold)?,
         graylist_threshold: section.score("graylist_threshold", default.graylist_threshold)?,
-        opportunistic_threshold: section.amount(
+        opportunistic_threshold: section.count(
             "opportunistic_threshold",
             default.opportunistic_threshold,
         )?,
@@ -146,12 +146,12 @@ fn factors_in(section: &Section<'_>) -> Result<Factors, ScenarioFault>
     let default = DEFAULT_FACTORS;
     Ok(Factors {
         gossip_factor: section.count("gossip_factor", default.gossip_factor)?,
-        p7_decay: section.amount("p7_decay", default.p7_decay)?,
-        w5: section.amount("w5", default.w5)?,
+        p7_decay: section.count("p7_decay", default.p7_decay)?,
+        w5: section.reward("w5", default.w5)?,
         w6: section.score("w6", default.w6)?,
         w7: section.score("w7", default.w7)?,
-        topic_cap: section.amount("topic_cap", default.topic_cap)?,
-        decay_to_zero: section.amount("decay_to_zero", default.decay_to_zero)?,
+        topic_cap: section.count("topic_cap", default.topic_cap)?,
+        decay_to_zero: section.count("decay_to_zero", default.decay_to_zero)?,
         p6_threshold: section.count("p6_threshold", default.p6_threshold)?,
     })
 }

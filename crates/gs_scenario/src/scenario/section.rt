@@ -6,7 +6,7 @@ ghost use Rattle.gs_scenario.specs.declared.fault.ScenarioFault.TheVariants.{Mis
 ghost use Rattle.gs_scenario.specs.Refusal.{Gives};
 ghost use Rattle.gs_scenario.specs.Keys.{required, optional, read_key, only, is_one_of, or_refuse};
 ghost use Rattle.gs_scenario.specs.Kinds as kinds;
-ghost use Rattle.gs_scenario.specs.ParamsOf.{count_key, multiple_key, amount_key, score_key, prefixes_key};
+ghost use Rattle.gs_scenario.specs.ParamsOf.{count_key, multiple_key, reward_key, score_key, prefixes_key};
 ghost use Rattle.gs_scenario.specs.PlanOf.{known_keys};
 ghost use Rattle.gs_scenario.specs.Views.{held_at, path_text, place_text, section_of};
 
@@ -136,9 +136,9 @@ impl<'a> Section<'a> {
         Err(ScenarioFault::Range(place, found, Wanted::Multiple(step)))
     }
 
-    /// The millionths, none of them below zero, at a key, and the default where the key is missing.
-    pub fn amount(&self, key: &'a str, default: i64) -> Result<i64, ScenarioFault>
-        ensures { Gives (λ number. number) result (held_at (amount_key key.now default) self.now) }
+    /// The weight of what counts for a neighbour at a key, and the default where the key is missing.
+    pub fn reward(&self, key: &'a str, default: i64) -> Result<i64, ScenarioFault>
+        ensures { Gives (λ number. number) result (held_at (reward_key key.now default) self.now) }
     {
         self.optional(key)
             .map_or(Ok(default), |field| field.signed_number(0, HIGHEST_SCORE))

@@ -24,14 +24,14 @@ pub struct TopicWeights {
 /// What a decay leaves of a topic's counters, and their caps and threshold.
 #[derive(Clone, Copy)]
 pub struct TopicCounters {
-    pub p2_decay: i64,
-    pub p3_decay: i64,
-    pub p3b_decay: i64,
-    pub p4_decay: i64,
-    pub p1_cap: i64,
-    pub p2_cap: i64,
-    pub p3_cap: i64,
-    pub p3_threshold: i64,
+    pub p2_decay: u64,
+    pub p3_decay: u64,
+    pub p3b_decay: u64,
+    pub p4_decay: u64,
+    pub p1_cap: u64,
+    pub p2_cap: u64,
+    pub p3_cap: u64,
+    pub p3_threshold: u64,
 }
 
 /// The parameters in the table of a topic.
@@ -85,9 +85,9 @@ fn topic_weights_in(section: &Section<'_>) -> Result<TopicWeights, ScenarioFault
 {
     let default = DEFAULT_TOPIC_FACTORS;
     Ok(TopicWeights {
-        topic_weight: section.amount("topic_weight", default.topic_weight)?,
-        w1: section.amount("w1", default.w1)?,
-        w2: section.amount("w2", default.w2)?,
+        topic_weight: section.reward("topic_weight", default.topic_weight)?,
+        w1: section.reward("w1", default.w1)?,
+        w2: section.reward("w2", default.w2)?,
         w3: section.score("w3", default.w3)?,
         w3b: section.score("w3b", default.w3b)?,
         w4: section.score("w4", default.w4)?,
@@ -100,14 +100,14 @@ fn topic_counters_in(section: &Section<'_>) -> Result<TopicCounters, ScenarioFau
 {
     let default = DEFAULT_TOPIC_FACTORS;
     Ok(TopicCounters {
-        p2_decay: section.amount("p2_decay", default.p2_decay)?,
-        p3_decay: section.amount("p3_decay", default.p3_decay)?,
-        p3b_decay: section.amount("p3b_decay", default.p3b_decay)?,
-        p4_decay: section.amount("p4_decay", default.p4_decay)?,
-        p1_cap: section.amount("p1_cap", default.p1_cap)?,
-        p2_cap: section.amount("p2_cap", default.p2_cap)?,
-        p3_cap: section.amount("p3_cap", default.p3_cap)?,
-        p3_threshold: section.amount("p3_threshold", default.p3_threshold)?,
+        p2_decay: section.count("p2_decay", default.p2_decay)?,
+        p3_decay: section.count("p3_decay", default.p3_decay)?,
+        p3b_decay: section.count("p3b_decay", default.p3b_decay)?,
+        p4_decay: section.count("p4_decay", default.p4_decay)?,
+        p1_cap: section.count("p1_cap", default.p1_cap)?,
+        p2_cap: section.count("p2_cap", default.p2_cap)?,
+        p3_cap: section.count("p3_cap", default.p3_cap)?,
+        p3_threshold: section.count("p3_threshold", default.p3_threshold)?,
     })
 }
 

@@ -1,5 +1,5 @@
-use Rattle.std.proofs.Common.{sym, ◌∙◌}
-use Rattle.gs_params.specs.Checks.{topic_factor_checks}
+use Rattle.std.proofs.Common.{ap, sym, ◌∙◌}
+use Rattle.gs_params.specs.Checks.{first_broken, topic_factor_checks}
 use Rattle.gs_params.proofs.Broken.{fails_at, holds_at}
 use Rattle.gs_params.proofs.params.first_broken_factor.Goals as goal
 
@@ -9,11 +9,11 @@ returns-in-Some c =
     (c.loop-place.invariant
     ∙ fails_at (λ place one. topic_factor_checks place one.factors) c.args.topics.now c.loop-place.place
     c.index-topics-place.result c.loop-place-test.true c.index-topics-place.is c.in-Some.check
-    (sym c.first_broken.ensures ∙ c.in-Some.is))
+    (ap first_broken (sym c.checks.ensures) ∙ sym c.first_broken.ensures ∙ c.in-Some.is))
 
 pub loop-place-preserved : goal.loop-place-preserved
 loop-place-preserved c =
     c.loop-place.invariant
     ∙ holds_at (λ place one. topic_factor_checks place one.factors) c.args.topics.now c.loop-place.place
     c.index-topics-place.result c.loop-place-test.true c.index-topics-place.is
-    (sym c.first_broken.ensures ∙ c.in_default.is)
+    (ap first_broken (sym c.checks.ensures) ∙ sym c.first_broken.ensures ∙ c.in_default.is)

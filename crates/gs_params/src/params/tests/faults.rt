@@ -73,11 +73,11 @@ static FAULTS: [(&[(&str, i64)], ParamFault); 28] = [
         )),
     ),
     (
-        &[("opportunistic_threshold", -1)],
-        ParamFault::Thresholds(Check::Score(
+        &[("opportunistic_threshold", 1_000_000_000_001)],
+        ParamFault::Thresholds(Check::Count(
             Parameter::OpportunisticThreshold,
-            -1,
-            ScoreRule::Range(0, 1_000_000_000_000),
+            1_000_000_000_001,
+            CountRule::Range(0, 1_000_000_000_000),
         )),
     ),
     (
@@ -114,10 +114,10 @@ static FAULTS: [(&[(&str, i64)], ParamFault); 28] = [
     ),
     (
         &[("p3b_decay", 1_000_001)],
-        ParamFault::Factor(Check::Score(
+        ParamFault::Factor(Check::Count(
             Parameter::OfTopic(1, TopicParameter::P3bDecay),
             1_000_001,
-            ScoreRule::Range(0, 1_000_000),
+            CountRule::Range(0, 1_000_000),
         )),
     ),
     (
@@ -182,7 +182,7 @@ static FAULTS: [(&[(&str, i64)], ParamFault); 28] = [
         ParamFault::Factor(Check::Count(Parameter::P6Threshold, 0, CountRule::Range(1, 65_535))),
     ),
     (
-        &[("p1_cap", -1), ("w1", -1)],
+        &[("p1_cap", 1_000_000_000_001), ("w1", -1)],
         ParamFault::Factor(Check::Score(
             Parameter::OfTopic(1, TopicParameter::TimeInMeshWeight),
             -1,

@@ -1,7 +1,7 @@
-use Rattle.std.proofs.Common.{◌≡◌, ◌^◌, pos, lit<, ap₂, refl, ◌∙◌}
+use Rattle.std.proofs.Common.{◌≡◌, ◌^◌, pos, lit<, ap, ap₂, refl, ◌∙◌}
 use Rattle.gs_score.specs.Millionths.{times}
 use Rattle.gs_score.specs.Formula.{score_of, capped, p5, p6, p7}
-use Rattle.gs_score.proofs.Bounds.{back, reward_back, penalty_back, cap_back}
+use Rattle.gs_score.proofs.Bounds.{back, reward_back, penalty_back}
 use Rattle.gs_score.proofs.score.score_of.Goals as goal
 
 pub returns-clause-value : goal.returns-clause-value
@@ -10,7 +10,7 @@ returns-clause-value c =
     let f = c.args.factors.now in
     let r = c.requires.in_range in
     let e0 : c.capped-held.result ≡ capped f.topic_cap c.args.topics
-    = c.capped-held.ensures.value ∙ ap₂ capped (cap_back f.topic_cap r.topic_cap) (back c.args.topics (10 ^ 29) c.requires.topics (lit< tt)) in
+    = c.capped-held.ensures.value ∙ ap (capped f.topic_cap) (back c.args.topics (10 ^ 29) c.requires.topics (lit< tt)) in
     let e1 : c.weighed_sum-given.result ≡ times f.w5 (p5 c.args.app)
     = c.weighed_sum-given.ensures.value ∙ ap₂ times (reward_back f.w5 r.w5) (back c.args.app (10 ^ 12) c.requires.app (lit< tt)) in
     let e2 : c.weighed-crowded.result ≡ times f.w6 (pos (p6 f.p6_threshold c.args.number))

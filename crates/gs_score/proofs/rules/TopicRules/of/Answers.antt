@@ -1,6 +1,4 @@
 use Rattle.std.proofs.Common.{◌≡◌, sym, subst, rules}
-use Rattle.std.specs.Int.{w64}
-use mir.Val.{to_z, of_z}
 use Rattle.gs_score.specs.Accounts.{rules_of}
 use Rattle.gs_score.specs.Ranges.{RulesAreInRange}
 use Rattle.gs_score.proofs.RulesInRange.{rules_in_range}
@@ -8,5 +6,5 @@ use Rattle.gs_score.proofs.rules.TopicRules.of.Goals as goal
 
 pub returns-clause-in_range : goal.returns-clause-in_range
 returns-clause-in_range c =
-    let is : record { factors = c.factors_of.result.0; windows = c.factors_of.result.1; decay_to_zero = to_z w64 (of_z w64 c.args.params.now.factors.decay_to_zero) } ≡ rules_of c.args.params.now c.args.topic.now = search rules in
+    let is : record { factors = c.factors_of.result.0; windows = c.factors_of.result.1; decay_to_zero = c.args.params.now.factors.decay_to_zero } ≡ rules_of c.args.params.now c.args.topic.now = search rules in
     subst RulesAreInRange (sym is) (rules_in_range c.args.params.now c.requires.in_range c.args.topic.now)
