@@ -6,6 +6,8 @@ use gs_base::{
 };
 use std::alloc::{AllocError, Global};
 
+mod sent;
+
 fn topic(alloc: Global) -> Result<Topic, AllocError> {
     Ok(Topic(Bytes::copy_from_slice(alloc, b"news")?))
 }
