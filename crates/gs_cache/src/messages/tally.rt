@@ -39,10 +39,7 @@ impl Tally {
     pub fn left_to(&self, peer: PeerNo, answers: u64) -> u64
         ensures { result ≡ left_to answers peer self.now }
     {
-        match self.left.get(&peer) {
-            Some(left) => *left,
-            None => answers,
-        }
+        self.left.get(&peer).copied().unwrap_or(answers)
     }
 
     /// Counts an answer to a neighbour: one less is left to it, where one is.
