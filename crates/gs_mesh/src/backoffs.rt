@@ -40,10 +40,7 @@ impl Backoffs {
     pub fn until(&self, peer: PeerNo) -> Millis
         ensures { result ≡ until self.now peer }
     {
-        match self.ends.get(&peer) {
-            Some(end) => *end,
-            None => Millis(0),
-        }
+        self.ends.get(&peer).copied().unwrap_or(Millis(0))
     }
 
     /// A neighbour is not to be grafted before a moment. Where it is not to be before a later one, that stands.

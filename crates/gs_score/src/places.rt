@@ -193,8 +193,5 @@ fn lower(numbers: &mut IndexMap<Bytes, u64>, address: &Bytes)
 fn number_of(numbers: &IndexMap<Bytes, u64>, address: &Bytes) -> u64
     ensures { result ≡ kept_number numbers.now.entries address.now }
 {
-    match numbers.get(address) {
-        Some(number) => *number,
-        None => 0,
-    }
+    numbers.get(address).copied().unwrap_or(0)
 }
