@@ -3,7 +3,6 @@ use Rattle.std.specs.Prelude.{◌≡◌, true, ◌++◌, ℕ, List, [], Option, 
 use Rattle.std.specs.List.{AllByRecursion}
 use Rattle.futures.specs.declared.task.Poll.{Poll}
 use Rattle.futures.specs.declared.task.Poll.TheVariants.{Ready, Pending}
-use Rattle.gs_base.specs.declared.names.PeerNo.{PeerNo}
 use Rattle.gs_base.specs.Tokens.{bytes_of}
 use Rattle.gs_params.specs.Seeding.{SeededState, seeded_after, seeded_word}
 use Rattle.gs_wire.specs.Codec.{codec}
