@@ -22,6 +22,13 @@ use gs_router::Router;
 use std::alloc::{AllocError, Global};
 use std::snapshot::Snapshot;
 
+/// A router, and the words by which it chooses.
+#[derive(Drop)]
+pub struct Chooser {
+    pub router: Router,
+    pub words: SeededWords,
+}
+
 /// A peer between two steps.
 #[derive(Drop)]
 pub struct Running<G: Gate, S: Ends> {
@@ -48,16 +55,16 @@ impl<G: Gate, S: Ends> Running<G, S> {
     pub fn new(
         alloc: Global,
         assignment: Assignment,
-        router: Router,
-        words: SeededWords,
+        chooser: Chooser,
         ends: S,
         gate: G,
     ) -> Result<Running<G, S>, AllocError>
-        requires { MayBegin S.Ends assignment router ends }
+        requires { MayBegin S.Ends assignment chooser.router ends }
         ensures kept { IfOk result (λ t. IsKept S.Ends t) }
-        ensures fresh { IfOk result (λ t. IsFresh assignment router words ends t) }
+        ensures fresh { IfOk result (λ t. IsFresh assignment chooser.router chooser.words ends t) }
     {
         let Boxes { inboxes, outboxes } = boxes_of(alloc, &assignment.neighbours)?;
+        let Chooser { router, words } = chooser;
         let first = Snapshot::of(&words);
         Ok(Running {
             alloc,

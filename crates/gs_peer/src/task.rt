@@ -10,7 +10,7 @@ ghost use Rattle.gs_peer.specs.Task.{Bounded, CanPoll, Gives, HasEnds, IsSuspend
 use crate::assignment::Assignment;
 use crate::finished::{Finished, PeerFault};
 use crate::gate::Gate;
-use crate::running::Running;
+use crate::running::{Chooser, Running};
 use futures::Future;
 use futures::task::{Context, Poll};
 use gs_ends::Ends;
@@ -63,7 +63,8 @@ impl<G: Gate, S: Ends> PeerTask<G, S> {
         ensures suspended { IfOk result (λ task. IsSuspended S.Ends task) }
     {
         let Surroundings { ends, gate, stop } = surroundings;
-        match Running::new(alloc, assignment, router, words, ends, gate) {
+        let chooser = Chooser { router, words };
+        match Running::new(alloc, assignment, chooser, ends, gate) {
             Ok(running) => Ok(PeerTask {
                 running: Some(running),
                 stop,
