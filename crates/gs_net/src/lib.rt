@@ -3,7 +3,6 @@
 
 mod driving;
 mod lines;
-mod lists;
 mod lives;
 mod neighbours;
 mod run;

@@ -9,9 +9,9 @@ ghost use Rattle.gs_dials.specs.Places.{list_at};
 ghost use Rattle.gs_net.specs.Rounds.{first_words, lines_in, neighbours_in, numbers, words_of};
 ghost use Rattle.gs_net.specs.Tasks.{AreUsable, IsAssignedIn, IsTask, IsTaskFor, new_router};
 
-use crate::lists::take_list;
 use crate::neighbours::neighbours_of;
 use gs_base::{Neighbour, PeerNo, clone_of};
+use gs_dials::take_list;
 use gs_ends::{Ends, LinkEnds};
 use gs_link::{LinkRx, LinkTx};
 use gs_params::{Line, Plan, SeededWords};
