@@ -13,7 +13,7 @@ mod topic_mesh;
 
 pub use backoffs::Backoffs;
 pub use condition::Condition;
-pub use heartbeat::{Choice, a_choice_by_words_is_a_mesh_step, choose_heartbeat};
+pub use heartbeat::{Choice, Heartbeat, a_choice_by_words_is_a_mesh_step, choose_heartbeat};
 pub use meshes::Meshes;
 pub use peer_list::PeerList;
 pub use topic_mesh::TopicMesh;

@@ -14,7 +14,7 @@ use crate::rules::subscriptions::{left_of, those_among, those_outside};
 use crate::rules::{bare, membership, send_to_each, to_each};
 use crate::state::State;
 use gs_base::{Mark, Millis, PeerNo, Seq, Topic};
-use gs_mesh::{Choice, choose_heartbeat};
+use gs_mesh::{Choice, Heartbeat, choose_heartbeat};
 use gs_params::{Member, Words, pick};
 use gs_rules::{Entry, Event};
 use std::alloc::AllocError;
@@ -111,14 +111,11 @@ pub fn mesh_beat<W: Words>(
     let mesh = members_of(state, state.tables.memberships.members(&topic), now)?;
     let near = candidates(state, &topic, now)?;
     let candidates = members_of(state, &near, now)?;
-    let choice = choose_heartbeat(
-        state.alloc,
-        &state.setup.params,
-        &mesh,
-        &candidates,
-        state.tables.beats.count(),
-        words,
-    )?;
+    let heartbeat = Heartbeat {
+        params: &state.setup.params,
+        tick: state.tables.beats.count(),
+    };
+    let choice = choose_heartbeat(state.alloc, heartbeat, &mesh, &candidates, words)?;
     let entry = mending(state, topic, &choice, now)?;
     Ok(entry)
 }
