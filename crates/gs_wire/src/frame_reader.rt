@@ -113,14 +113,8 @@ impl FrameReader {
                 self.next = next;
                 Ok(())
             }
-            End::TooLong => {
-                self.fail();
-                Err(WireFault::TooLong)
-            }
-            End::Malformed => {
-                self.fail();
-                Err(WireFault::Malformed)
-            }
+            End::TooLong => Err(self.fail(WireFault::TooLong)),
+            End::Malformed => Err(self.fail(WireFault::Malformed)),
         }
     }
 
@@ -153,22 +147,18 @@ impl FrameReader {
                 self.next = next;
                 Ok(())
             }
-            End::TooLong => {
-                self.fail();
-                Err(WireFault::TooLong)
-            }
-            End::Malformed => {
-                self.fail();
-                Err(WireFault::Malformed)
-            }
+            End::TooLong => Err(self.fail(WireFault::TooLong)),
+            End::Malformed => Err(self.fail(WireFault::Malformed)),
         }
     }
 
-    /// Nothing is held any more, nor taken.
-    fn fail(&mut self)
-        ensures { self.new ≡ record { limit = self.old.limit; held = None } }
+    /// Nothing is held any more, nor taken. Gives the fault back.
+    fn fail(&mut self, fault: WireFault) -> WireFault
+        ensures same { result ≡ fault }
+        ensures failed { self.new ≡ record { limit = self.old.limit; held = None } }
     {
         self.next = None;
         self.failed = true;
+        fault
     }
 }
