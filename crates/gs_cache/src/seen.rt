@@ -9,7 +9,7 @@ ghost use Rattle.gs_base.specs.declared.names.MsgId.{MsgId as MsgIdValue};
 ghost use Rattle.gs_base.specs.Names.{same_id};
 ghost use Rattle.gs_cache.specs.Sightings.{ChangesBy, is_near_in, noted, sighted, verdict_in, what_counts};
 
-use crate::seen::bucket::{Bucket, is_past, take};
+use crate::seen::bucket::{Bucket, is_past};
 use gs_base::{Millis, MsgId, PeerNo, Seq, Verdict};
 pub use sighting::Sighting;
 use std::alloc::{AllocError, Global};
@@ -108,14 +108,8 @@ impl SeenCache {
             verdict,
             noted: Seq::new(self.alloc),
         };
-        take(
-            self.alloc,
-            self.ttl,
-            &mut self.newer,
-            &mut self.older,
-            id,
-            sighting,
-        )?;
+        self.newer
+            .take(self.alloc, self.ttl, &mut self.older, id, sighting)?;
         self.older.forget(self.alloc, self.ttl, now);
         Ok(())
     }

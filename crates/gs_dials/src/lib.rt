@@ -5,7 +5,7 @@ mod lists;
 mod settlement;
 mod wiring;
 
-pub use lists::{empty_lists, put_last};
+pub use lists::{empty_lists, put_last, take_list};
 pub use settlement::settle_all;
 pub use wiring::wire_all;
 

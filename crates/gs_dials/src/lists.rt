@@ -4,6 +4,7 @@ ghost use Rattle.gs_dials.specs.Places.{list_at};
 
 use gs_base::PeerNo;
 use std::alloc::{AllocError, Global};
+use std::mem;
 
 /// As many empty lists as are asked for.
 ///
@@ -34,6 +35,16 @@ pub fn put_last<T: Drop>(lists: &mut Vec<Vec<T>>, peer: PeerNo, value: T) -> Res
     let list = &mut lists[usize::from(peer.0)];
     list.push(value)?;
     Ok(())
+}
+
+/// Takes a peer's list, and leaves an empty one there.
+pub fn take_list<T: Drop>(alloc: Global, lists: &mut Vec<Vec<T>>, peer: PeerNo) -> Vec<T>
+    requires { peer.0 < length lists.old.items }
+    ensures taken { result.items ≡ list_at lists.old.items peer.0 }
+    ensures count { length lists.new.items ≡ length lists.old.items }
+    ensures others { (n : ℕ) → n ≢ peer.0 → list_at lists.new.items n ≡ list_at lists.old.items n }
+{
+    mem::replace(&mut lists[usize::from(peer.0)], Vec::new(alloc))
 }
 
 /// Takes the last value of a peer's list.

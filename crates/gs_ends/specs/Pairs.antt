@@ -5,6 +5,7 @@ use Rattle.gs_base.specs.Names.{same_peer}
 use Rattle.gs_link.specs.declared.item.Slot.{Slot}
 use Rattle.gs_link.specs.Ends.{SendingEnd, TakingEnd}
 use Rattle.gs_ends.specs.Ends.{Joint}
+use Rattle.gs_ends.specs.declared.ends.Ends.{Ghosts as EndsOf}
 
 -- a neighbour, the end that sends to it and the end that takes from it
 abbrev pub Pair : Type 0
@@ -46,3 +47,7 @@ accepted_for pairs q = listed (λ pair. pair.1.accepted) pairs q
 -- all that the end from a neighbour took
 abbrev pub taken_from : List Pair → PeerNo → List Slot
 taken_from pairs q = listed (λ pair. pair.2.taken) pairs q
+
+-- all three, as contracts see them of any ends
+abbrev pub pair_ends : EndsOf (List Pair)
+pair_ends = record { joints = joints_of; accepted = accepted_for; taken = taken_from }

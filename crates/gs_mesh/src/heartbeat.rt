@@ -11,6 +11,13 @@ use gs_base::{PeerNo, Seq};
 use gs_params::{Degrees, Params, Words};
 use std::alloc::{AllocError, Global};
 
+/// A heartbeat: the parameters by which it goes, and its number.
+#[derive(Clone, Copy)]
+pub struct Heartbeat<'a> {
+    pub params: &'a Params,
+    pub tick: u64,
+}
+
 /// Who leaves a mesh at a heartbeat, and who comes into it. Each list ascends by number.
 #[derive(Debug, Drop, PartialEq, Eq)]
 pub struct Choice {
@@ -29,7 +36,7 @@ struct Mended {
 
 /// What a heartbeat does to the mesh of a topic (gossipsub v1.0, "Mesh maintenance"; v1.1, "Heartbeat Maintenance",
 /// "Outbound Mesh Quotas" and "Opportunistic Grafting"): who scores below 0 goes, too few members become more and too many
-/// become fewer, and outbound ones come in where they lack. Then, at each heartbeat whose number, `tick`, is a multiple of
+/// become fewer, and outbound ones come in where they lack. Then, at each heartbeat whose number is a multiple of
 /// `opportunistic_ticks`, candidates come in that score above the median, where that lies below `opportunistic_threshold`,
 /// both in millionths. Members and candidates are listed by number, ascending; a candidate is one that may be grafted.
 /// `opportunistic_ticks` is 1 at least, as it is in parameters that pass their checks. What is chosen is chosen by the next
@@ -39,23 +46,24 @@ struct Mended {
 /// `AllocError` where there was no memory; words may have been drawn.
 pub fn choose_heartbeat<W: Words>(
     alloc: Global,
-    params: &Params,
+    heartbeat: Heartbeat<'_>,
     mesh: &[Member],
     candidates: &[Member],
-    tick: u64,
     words: &mut W,
 ) -> Result<Choice, AllocError>
-    requires ticks { 1 ≤ params.now.windows.opportunistic_ticks }
+    requires ticks { 1 ≤ heartbeat.params.now.windows.opportunistic_ticks }
     requires members { IsAscending (peers_of mesh.now) }
     requires candidates { IsAscending (peers_of candidates.now) }
-    ensures { IfOk result (λ choice. step_by_words W.word W.after params.now tick mesh.now candidates.now words.old
+    ensures { IfOk result (λ choice. step_by_words W.word W.after heartbeat.entry.params.now heartbeat.entry.tick
+        mesh.now candidates.now words.old
         ≡ (choice, words.new)) }
 {
     let members = not_negative(alloc, mesh)?;
-    let mended = mend(alloc, &params.degrees, &members, candidates, words)?;
+    let degrees = &heartbeat.params.degrees;
+    let mended = mend(alloc, degrees, &members, candidates, words)?;
     let Mended { kept, mut grafted } = mended;
     let made = made_of(alloc, &members, candidates, &kept, &grafted)?;
-    let mut more = bettered(alloc, params, tick, &made, candidates, &grafted, words)?;
+    let mut more = heartbeat.bettered(alloc, &made, candidates, &grafted, words)?;
     grafted.append(&mut more)?;
     let choice = choice_of(alloc, mesh, candidates, &kept, &grafted)?;
     Ok(choice)
@@ -193,29 +201,31 @@ fn above_median(
         .collect(alloc)
 }
 
-/// Who comes into a poor mesh, beside those that came in already: nobody, where it is not poor.
-fn bettered<W: Words>(
-    alloc: Global,
-    params: &Params,
-    tick: u64,
-    members: &[Member],
-    candidates: &[Member],
-    grafted: &[PeerNo],
-    words: &mut W,
-) -> Result<Vec<PeerNo>, AllocError>
-    requires ticks { 1 ≤ params.now.windows.opportunistic_ticks }
-    requires candidates { IsAscending (peers_of candidates.now) }
-    ensures { IfOk result (λ more. bettered_by_words W.word W.after params.now tick members.now candidates.now
-        grafted.now words.old
-        ≡ (more.items, words.new)) }
-{
-    if !is_poor(params, tick, members) {
-        return Ok(Vec::new(alloc));
+impl Heartbeat<'_> {
+    /// Who comes into a poor mesh, beside those that came in already: nobody, where it is not poor.
+    fn bettered<W: Words>(
+        self,
+        alloc: Global,
+        members: &[Member],
+        candidates: &[Member],
+        grafted: &[PeerNo],
+        words: &mut W,
+    ) -> Result<Vec<PeerNo>, AllocError>
+        requires ticks { 1 ≤ self.params.now.windows.opportunistic_ticks }
+        requires candidates { IsAscending (peers_of candidates.now) }
+        ensures { IfOk result (λ more. bettered_by_words W.word W.after self.entry.params.now self.entry.tick
+            members.now candidates.now grafted.now words.old
+            ≡ (more.items, words.new)) }
+    {
+        if !is_poor(self.params, self.tick, members) {
+            return Ok(Vec::new(alloc));
+        }
+        let others = outside(alloc, grafted, candidates)?;
+        let better = above_median(alloc, members, &others)?;
+        let most = self.params.windows.opportunistic_peers;
+        let more = pick_of(alloc, &better, most, words)?;
+        Ok(more)
     }
-    let others = outside(alloc, grafted, candidates)?;
-    let better = above_median(alloc, members, &others)?;
-    let more = pick_of(alloc, &better, params.windows.opportunistic_peers, words)?;
-    Ok(more)
 }
 
 // ---- what choices keep

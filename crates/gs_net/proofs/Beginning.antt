@@ -9,7 +9,7 @@ use Rattle.gs_rules.specs.Peers.{Peer}
 use Rattle.gs_rules.specs.Rounds.{Seat}
 use Rattle.gs_router.specs.Router.{RouterView}
 use Rattle.gs_ends.specs.Ends.{Joint, has}
-use Rattle.gs_ends.specs.Pairs.{Pair, accepted_for, joints_of, taken_from}
+use Rattle.gs_ends.specs.Pairs.{Pair, joints_of, pair_ends}
 use Rattle.gs_peer.specs.declared.assignment.Assignment.{Assignment}
 use Rattle.gs_peer.specs.Running.{MayBegin, seat_with}
 use Rattle.gs_net.specs.Rounds.{first_words, neighbours, peer_in, seat_in}
@@ -18,7 +18,7 @@ use Rattle.gs_net.proofs.NeighbourLists.{links_ascend, links_in}
 use Rattle.gs_net.proofs.Seats.{time_fits}
 use Rattle.gs_net.proofs.Wired.{none_accepted, none_taken}
 
-begins_with : (plan : Plan) (p : PeerNo) (a : Assignment) (pairs : List Pair) → IsInRange plan → IsAssignedIn plan p a → AreUsable plan p pairs → MayBegin joints_of accepted_for taken_from a (new_router plan p) pairs
+begins_with : (plan : Plan) (p : PeerNo) (a : Assignment) (pairs : List Pair) → IsInRange plan → IsAssignedIn plan p a → AreUsable plan p pairs → MayBegin pair_ends a (new_router plan p) pairs
 begins_with plan p a pairs range is usable = record {
   small = rw (is.round_ms, is.rounds) (time_fits plan range);
   neighbours = is.numbers ∙ sym (links_in plan p);
@@ -30,9 +30,9 @@ begins_with plan p a pairs range is usable = record {
   none_taken = λ q. none_taken pairs q usable.fresh;
 }
 
-pub begins : (plan : Plan) (p : PeerNo) (a : Assignment) (router : RouterView) (pairs ends : List Pair) → IsInRange plan → IsAssignedIn plan p a → router ≡ new_router plan p → ends ≡ pairs → AreUsable plan p pairs → MayBegin joints_of accepted_for taken_from a router ends
+pub begins : (plan : Plan) (p : PeerNo) (a : Assignment) (router : RouterView) (pairs ends : List Pair) → IsInRange plan → IsAssignedIn plan p a → router ≡ new_router plan p → ends ≡ pairs → AreUsable plan p pairs → MayBegin pair_ends a router ends
 begins plan p a router pairs ends range is new same usable =
-    subst₂ (λ (v : RouterView) (xs : List Pair). MayBegin joints_of accepted_for taken_from a v xs) (sym new) (sym same) (begins_with plan p a pairs range is usable)
+    subst₂ (λ (v : RouterView) (xs : List Pair). MayBegin pair_ends a v xs) (sym new) (sym same) (begins_with plan p a pairs range is usable)
 
 -- at the peer's seat
 pub seated : (plan : Plan) (p : PeerNo) (a : Assignment) → IsAssignedIn plan p a → seat_with a (peer_in plan p) ≡ seat_in plan p

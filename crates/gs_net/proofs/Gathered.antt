@@ -11,7 +11,7 @@ use Rattle.gs_plan.specs.Plans.{IsInRange}
 use Rattle.gs_params.specs.Seeding.{SeededState}
 use Rattle.gs_rules.specs.Rounds.{Seat}
 use Rattle.gs_ends.specs.Ends.{Joint}
-use Rattle.gs_ends.specs.Pairs.{Pair, accepted_for, joints_of, taken_from}
+use Rattle.gs_ends.specs.Pairs.{Pair, joints_of, pair_ends}
 use Rattle.gs_dials.specs.Places.{list_at}
 use Rattle.gs_peer.specs.declared.finished.PeerFault.{PeerFault}
 use Rattle.gs_peer.specs.declared.task.PeerTask.{PeerTask}
@@ -45,16 +45,16 @@ joints_told None = []
 joints_told (Some x) = x.2
 
 module _ {G : Type 0} (plan : Plan) (ends : List (Vec Pair Global)) where
-  one_gave : (p : PeerNo) (task : PeerTask G (List Pair)) (f : Given) → IsTaskFor joints_of accepted_for taken_from plan ends p task → Gives joints_of accepted_for taken_from task (Ok f) → Gave plan ends p f
+  one_gave : (p : PeerNo) (task : PeerTask G (List Pair)) (f : Given) → IsTaskFor pair_ends plan ends p task → Gives pair_ends task (Ok f) → Gave plan ends p f
   one_gave p task f is (seat, first, given, life) =
       let same : told seat first (joints_of f.ends) ≡ told (seat_in plan p) (first_words plan p) (joints_of (list_at ends p.0)) = sym given ∙ is.is in
       record {
-        life = subst (λ (w : SeededState). IsLife accepted_for taken_from (seat_in plan p) w f) (ap (first_told first) same)
-            (subst (λ (s : Seat). IsLife accepted_for taken_from s first f) (ap (seat_told seat) same) life);
+        life = subst (λ (w : SeededState). IsLife pair_ends (seat_in plan p) w f) (ap (first_told first) same)
+            (subst (λ (s : Seat). IsLife pair_ends s first f) (ap (seat_told seat) same) life);
         joints = ap joints_told same;
       }
 
-  all_gave : (ps : List PeerNo) (tasks : List (PeerTask G (List Pair))) (givens : List Given) → AllZip (IsTaskFor joints_of accepted_for taken_from plan ends) ps tasks → AllZip (Gives joints_of accepted_for taken_from) tasks (map Ok givens) → AllZip (Gave plan ends) ps givens
+  all_gave : (ps : List PeerNo) (tasks : List (PeerTask G (List Pair))) (givens : List Given) → AllZip (IsTaskFor pair_ends plan ends) ps tasks → AllZip (Gives pair_ends) tasks (map Ok givens) → AllZip (Gave plan ends) ps givens
   all_gave [] [] [] is gives = tt
   all_gave (p ∷ ps) (task ∷ tasks) (f ∷ givens) is gives = (one_gave p task f is.0 gives.0, all_gave ps tasks givens is.1 gives.1)
   all_gave [] [] (f ∷ givens) is gives = absurd gives
@@ -62,17 +62,17 @@ module _ {G : Type 0} (plan : Plan) (ends : List (Vec Pair Global)) where
   all_gave (p ∷ ps) [] givens is gives = absurd is
   all_gave (p ∷ ps) (task ∷ tasks) [] is gives = absurd gives
 
-  pub gave : (tasks : List (PeerTask G (List Pair))) (results : List (Result Given PeerFault)) (givens : List Given) → AllZip (IsTaskFor joints_of accepted_for taken_from plan ends) (numbers plan) tasks → AllZip (Gives joints_of accepted_for taken_from) tasks results → map Ok givens ≡ results → AllZip (Gave plan ends) (numbers plan) givens
-  gave tasks results givens is gives are = all_gave (numbers plan) tasks givens is (subst (λ (rs : List (Result Given PeerFault)). AllZip (Gives joints_of accepted_for taken_from) tasks rs) (sym are) gives)
+  pub gave : (tasks : List (PeerTask G (List Pair))) (results : List (Result Given PeerFault)) (givens : List Given) → AllZip (IsTaskFor pair_ends plan ends) (numbers plan) tasks → AllZip (Gives pair_ends) tasks results → map Ok givens ≡ results → AllZip (Gave plan ends) (numbers plan) givens
+  gave tasks results givens is gives are = all_gave (numbers plan) tasks givens is (subst (λ (rs : List (Result Given PeerFault)). AllZip (Gives pair_ends) tasks rs) (sym are) gives)
 
   -- the tasks may be polled
-  can_each : (ps : List PeerNo) (tasks : List (PeerTask G (List Pair))) → AllZip (IsTaskFor joints_of accepted_for taken_from plan ends) ps tasks → AllByRecursion (CanPoll joints_of accepted_for taken_from) tasks
+  can_each : (ps : List PeerNo) (tasks : List (PeerTask G (List Pair))) → AllZip (IsTaskFor pair_ends plan ends) ps tasks → AllByRecursion (CanPoll pair_ends) tasks
   can_each [] [] is = tt
   can_each (p ∷ ps) (task ∷ tasks) is = (is.0.can, can_each ps tasks is.1)
   can_each [] (task ∷ tasks) is = absurd is
   can_each (p ∷ ps) [] is = absurd is
 
-  pub can_all : (tasks : List (PeerTask G (List Pair))) → AllZip (IsTaskFor joints_of accepted_for taken_from plan ends) (numbers plan) tasks → AllByRecursion (CanPoll joints_of accepted_for taken_from) tasks
+  pub can_all : (tasks : List (PeerTask G (List Pair))) → AllZip (IsTaskFor pair_ends plan ends) (numbers plan) tasks → AllByRecursion (CanPoll pair_ends) tasks
   can_all tasks is = can_each (numbers plan) tasks is
 
 -- ---- lists of one length

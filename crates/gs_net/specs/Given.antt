@@ -3,7 +3,7 @@ use Rattle.std.specs.Prelude.{◌≡◌, ℕ, List, [], option_map, unwrap_or, s
 use Rattle.gs_base.specs.declared.names.PeerNo.{PeerNo}
 use Rattle.gs_plan.specs.declared.plan.Dial.{Dial}
 use Rattle.gs_plan.specs.declared.plan.Plan.{Plan}
-use Rattle.gs_ends.specs.Pairs.{Pair, accepted_for, taken_from}
+use Rattle.gs_ends.specs.Pairs.{Pair, accepted_for, pair_ends, taken_from}
 use Rattle.gs_peer.specs.declared.finished.Finished.{Finished as GivenWith}
 use Rattle.gs_peer.specs.Life.{IsLife as IsLifeAt}
 use Rattle.gs_report.specs.declared.finished.Finished.{Finished}
@@ -17,7 +17,7 @@ Given = GivenWith (List Pair)
 
 -- it is a whole life at the peer's seat, by the peer's words
 abbrev pub GivenLife : Plan → PeerNo → Given → Type 0
-GivenLife plan p f = IsLifeAt accepted_for taken_from (seat_in plan p) (first_words plan p) f
+GivenLife plan p f = IsLifeAt pair_ends (seat_in plan p) (first_words plan p) f
 
 -- the life without the ends
 abbrev pub bare : Given → Finished

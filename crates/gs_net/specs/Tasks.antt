@@ -6,8 +6,8 @@ use Rattle.std.specs.declared.alloc.Global.{Global}
 use Rattle.gs_base.specs.declared.names.PeerNo.{PeerNo}
 use Rattle.gs_base.specs.Names.{same_peer}
 use Rattle.gs_plan.specs.declared.plan.Plan.{Plan}
-use Rattle.gs_link.specs.declared.item.Slot.{Slot}
 use Rattle.gs_ends.specs.Ends.{Joint, has}
+use Rattle.gs_ends.specs.declared.ends.Ends.{Ghosts as EndsOf}
 use Rattle.gs_ends.specs.Pairs.{Pair, joints_of, peers_in}
 use Rattle.gs_router.specs.Router.{RouterView}
 use Rattle.gs_peer.specs.declared.assignment.Assignment.{Assignment}
@@ -39,11 +39,11 @@ pub record IsAssignedIn (plan : Plan) (p : PeerNo) (a : Assignment) : Type 0 whe
 abbrev pub new_router : Plan → PeerNo → RouterView
 new_router plan p = record { peer = peer_in plan p; trace = []; is_stopped = false }
 
-module _ {G S : Type 0} (joints : S → List Joint) (accepted taken : S → PeerNo → List Slot) where
+module _ {G S : Type 0} (seen : EndsOf S) where
   -- A task of this peer, by its words, with ends of these links.
   pub record IsTask (plan : Plan) (p : PeerNo) (of : List Joint) (task : PeerTask G S) : Type 0 where
-    pub can : CanPoll joints accepted taken task
-    pub is : given_of joints task ≡ Some (seat_in plan p, first_words plan p, of)
+    pub can : CanPoll seen task
+    pub is : given_of seen.joints task ≡ Some (seat_in plan p, first_words plan p, of)
 
   -- the same with the ends at its number
   abbrev pub IsTaskFor : Plan → List (Vec Pair Global) → PeerNo → PeerTask G S → Type 0

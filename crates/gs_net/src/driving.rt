@@ -31,9 +31,9 @@ pub fn run_tasks<
     tasks: Vec<PeerTask<G, S>>,
 ) -> Result<Vec<Result<Finished<S>, PeerFault>>, NetFault>
     requires workers { 1 ≤ workers }
-    requires ready { All (CanPoll S.joints S.accepted S.taken) tasks.items }
+    requires ready { All (CanPoll S.Ends) tasks.items }
     ensures given { IfOk result (λ results.
-        AllZip (Gives S.joints S.accepted S.taken) tasks.items results.items) }
+        AllZip (Gives S.Ends) tasks.items results.items) }
 {
     let results = run_all(rt, alloc, workers, stop, tasks)?;
     Ok(results)

@@ -4,7 +4,6 @@
 mod driving;
 mod fault;
 mod lines;
-mod lists;
 mod lives;
 mod neighbours;
 mod run;

@@ -10,9 +10,9 @@ ghost use Rattle.gs_net.specs.Rounds.{first_words, lines_in, neighbours_in, numb
 ghost use Rattle.gs_net.specs.Tasks.{AreUsable, IsAssignedIn, IsTask, IsTaskFor, new_router};
 
 use crate::fault::NetFault;
-use crate::lists::take_list;
 use crate::neighbours::neighbours_of;
 use gs_base::{Neighbour, PeerNo, clone_of};
+use gs_dials::take_list;
 use gs_ends::{Ends, LinkEnds};
 use gs_link::{LinkRx, LinkTx};
 use gs_params::SeededWords;
@@ -51,8 +51,7 @@ impl<'p, G: Gate + Copy, R: Wait + Drop + Copy> Builder<'p, G, R> {
         requires usable { (p : PeerNoValue) → p.0 < length self.now.plan.now.peers
             → AreUsable self.now.plan.now p (list_at ends.items p.0) }
         ensures { IfOk result (λ tasks. AllZip
-            (IsTaskFor ⟦<LinkEnds<R> as Ends>⟧.joints ⟦<LinkEnds<R> as Ends>⟧.accepted ⟦<LinkEnds<R> as Ends>⟧.taken
-            self.now.plan.now ends.items)
+            (IsTaskFor ⟦<LinkEnds<R> as Ends>⟧ self.now.plan.now ends.items)
             (numbers self.now.plan.now) tasks.items) }
     {
         let mut lines = lines;
@@ -83,8 +82,7 @@ impl<'p, G: Gate + Copy, R: Wait + Drop + Copy> Builder<'p, G, R> {
         requires range { IsInRange self.now.plan.now }
         requires own { lines.items ≡ lines_in self.now.plan.now number }
         requires usable { AreUsable self.now.plan.now number ends.items }
-        ensures { IfOk result (IsTask
-            ⟦<LinkEnds<R> as Ends>⟧.joints ⟦<LinkEnds<R> as Ends>⟧.accepted ⟦<LinkEnds<R> as Ends>⟧.taken
+        ensures { IfOk result (IsTask ⟦<LinkEnds<R> as Ends>⟧
             self.now.plan.now number (joints_of ends.items)) }
     {
         let words = first_words(self.alloc, self.plan, number)?;

@@ -1,10 +1,9 @@
 -- What a poll gives, and how far it goes.
-use Rattle.std.proofs.Common.{◌≡◌, ℕ, Option, Some, None, Result, Ok, Err, IfOk, List, sym, ap, subst, ◌∙◌}
+use Rattle.std.proofs.Common.{◌≡◌, ℕ, Option, Some, None, Result, Ok, Err, IfOk, sym, ap, subst, ◌∙◌}
 use Rattle.futures.specs.Poll.{OnPending}
 use Rattle.futures.specs.declared.task.Poll.{Poll}
 use Rattle.futures.specs.declared.task.Poll.TheVariants.{Ready, Pending}
-use Rattle.gs_base.specs.declared.names.PeerNo.{PeerNo}
-use Rattle.gs_link.specs.declared.item.Slot.{Slot}
+use Rattle.gs_ends.specs.declared.ends.Ends.{Ghosts as EndsOf}
 use Rattle.gs_peer.specs.declared.finished.Finished.{Finished}
 use Rattle.gs_peer.specs.declared.finished.PeerFault.{PeerFault}
 use Rattle.gs_peer.specs.declared.running.Running.{Running}
@@ -18,23 +17,23 @@ pub on_pending : {X : Type 0} (p : Poll X) (P : Type 0) → P → OnPending p P
 on_pending (Ready x) P h = tt
 on_pending Pending P h = h
 
-module _ {G S : Type 0} (acc tak : S → PeerNo → List Slot) where
+module _ {G S : Type 0} (seen : EndsOf S) where
   pub bounded_pending : (most : ℕ) (old new : PeerTask G S) (t u : Running G S) (result : Poll (Result (Finished S) PeerFault))
       → result ≡ Pending
       → old.running ≡ Some t
       → new.running ≡ Some u
-      → BothGrew acc tak most t.ends u.ends
-      → Bounded acc tak most old new result
+      → BothGrew seen most t.ends u.ends
+      → Bounded seen most old new result
   bounded_pending most old new t u result waits is now h =
-      subst (Bounded acc tak most old new) (sym waits) (λ v was. (u, now, subst (λ (x : Running G S). BothGrew acc tak most x.ends u.ends) (some_same t v (sym is ∙ was)) h))
+      subst (Bounded seen most old new) (sym waits) (λ v was. (u, now, subst (λ (x : Running G S). BothGrew seen most x.ends u.ends) (some_same t v (sym is ∙ was)) h))
 
   -- what it gives has the ends of the task that ran
   pub ended : (most : ℕ) (old new : PeerTask G S) (t u : Running G S) (given : Result (Finished S) PeerFault)
       → old.running ≡ Some t
-      → BothGrew acc tak most t.ends u.ends
+      → BothGrew seen most t.ends u.ends
       → IfOk given (λ f. f.ends ≡ u.ends)
-      → Bounded acc tak most old new (Ready given)
-  ended most old new t u (Ok f) is h same = λ v was. subst (λ (x : Running G S). BothGrew acc tak most x.ends f.ends) (some_same t v (sym is ∙ was)) (subst (λ (e : S). BothGrew acc tak most t.ends e) (sym same) h)
+      → Bounded seen most old new (Ready given)
+  ended most old new t u (Ok f) is h same = λ v was. subst (λ (x : Running G S). BothGrew seen most x.ends f.ends) (some_same t v (sym is ∙ was)) (subst (λ (e : S). BothGrew seen most t.ends e) (sym same) h)
   ended most old new t u (Err e) is h same = tt
 
 -- the ends that a life gives are of the task's links

@@ -5,7 +5,6 @@ use Rattle.gs_base.specs.declared.names.PeerNo.{PeerNo}
 use Rattle.gs_base.specs.Tokens.{Said, bytes_of}
 use Rattle.gs_params.specs.Seeding.{SeededState}
 use Rattle.gs_wire.specs.Codec.{codec}
-use Rattle.gs_link.specs.declared.item.Slot.{Slot}
 use Rattle.gs_link.specs.Flat.{flat}
 use Rattle.gs_rules.specs.declared.refusal.RefusedLine.{RefusedLine}
 use Rattle.gs_rules.specs.Peers.{links_of}
@@ -14,7 +13,7 @@ use Rattle.gs_rules.specs.Saying.{handled, out}
 use Rattle.gs_rules.specs.Hearing.{Spell, bytes_before}
 use Rattle.gs_rules.specs.Rounds.{Seat, Place, Playing, Closing, ComesAt, KeepsSoFar, Stop, Todo, agenda, hears}
 use Rattle.gs_router.specs.Router.{RouterView}
-use Rattle.gs_ends.specs.Ends.{Joint}
+use Rattle.gs_ends.specs.declared.ends.Ends.{Ghosts as EndsOf}
 use Rattle.gs_peer.specs.declared.outboxes.Outboxes.{Outboxes}
 use Rattle.gs_peer.specs.declared.running.Running.{Running}
 use Rattle.gs_peer.specs.Ended.{whole}
@@ -83,12 +82,12 @@ each_said : (L : Entries) (sent : PeerNo → Said) (boxes : Outboxes) (qs : List
 each_said L sent boxes [] k = tt
 each_said L sent boxes (q ∷ qs) k = (k.0.says, each_said L sent boxes qs k.1)
 
-module _ {G S : Type 0} (joints : S → List Joint) (accepted taken : S → PeerNo → List Slot) where
-  pub suspended : (t : Running G S) → IsKept joints accepted taken t → SoFar accepted taken t
+module _ {G S : Type 0} (seen : EndsOf S) where
+  pub suspended : (t : Running G S) → IsKept seen t → SoFar seen t
   suspended t k =
       let seat = seat_of t in
-      let said = words_of (taken t.ends) in
-      let sent = words_of (accepted t.ends) in
+      let said = words_of (seen.taken t.ends) in
+      let sent = words_of (seen.accepted t.ends) in
       let place = place_of t.place in
       record {
         legal = k.kept.legal;

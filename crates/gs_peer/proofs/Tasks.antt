@@ -5,7 +5,6 @@ use Rattle.gs_base.specs.declared.names.PeerNo.{PeerNo}
 use Rattle.gs_base.specs.Tokens.{Said}
 use Rattle.gs_plan.specs.declared.plan.Line.{Line}
 use Rattle.gs_params.specs.Seeding.{SeededState, seeded_after, seeded_word}
-use Rattle.gs_link.specs.declared.item.Slot.{Slot}
 use Rattle.gs_rules.specs.declared.trace.Entry.{Entry}
 use Rattle.gs_rules.specs.declared.refusal.RefusedLine.{RefusedLine}
 use Rattle.gs_rules.specs.Peers.{Peer, links_of}
@@ -14,7 +13,8 @@ use Rattle.gs_rules.specs.Modes.{exact}
 use Rattle.gs_rules.specs.Rounds.{Seat, Stop, moment_of}
 use Rattle.gs_rules.specs.Rounds as rounds
 use Rattle.gs_router.specs.Router.{RouterView}
-use Rattle.gs_ends.specs.Ends.{Joint, has}
+use Rattle.gs_ends.specs.Ends.{has}
+use Rattle.gs_ends.specs.declared.ends.Ends.{Ghosts as EndsOf}
 use Rattle.gs_peer.specs.declared.assignment.Assignment.{Assignment}
 use Rattle.gs_peer.specs.declared.outboxes.Outboxes.{Outboxes}
 use Rattle.gs_peer.specs.declared.place.Place.{Place}
@@ -112,35 +112,35 @@ module _ (seat : Seat) (said sent : PeerNo → Said) (place : Place) (r told : �
 
 -- ---- a task
 
-module _ {G S : Type 0} (joints : S → List Joint) (acc tak : S → PeerNo → List Slot) where
+module _ {G S : Type 0} (seen : EndsOf S) where
   -- where ends and what was given stay
   pub goes_by : (t u : Running G S)
       → u.assignment ≡ t.assignment
       → u.first ≡ t.first
       → u.ends ≡ t.ends
       → u.player.router.peer ≡ t.player.router.peer
-      → IsKept joints acc tak t
-      → Kept (seat_of t) (words_of (tak t.ends)) (words_of (acc t.ends)) (place_of u.place) u.player.inboxes.items u.outboxes u.player.router u.player.refused.items t.first.value u.player.words
-      → Goes joints acc tak t u
+      → IsKept seen t
+      → Kept (seat_of t) (words_of (seen.taken t.ends)) (words_of (seen.accepted t.ends)) (place_of u.place) u.player.inboxes.items u.outboxes u.player.router u.player.refused.items t.first.value u.player.words
+      → Goes seen t u
   goes_by t u given first ends peer k kept =
       let seat : seat_of u ≡ seat_of t = ap₂ seat_with given peer in
       record {
         kept = record {
           small = subst (λ (a : Assignment). a.rounds * a.round_ms < 2 ^ 64) (sym given) k.small;
-          known = subst₂ (λ (e : S) (p : Peer). AllByRecursion (λ q. has (joints e) q ≡ true) (links_of p)) (sym ends) (sym peer) k.known;
-          kept = subst₂ (λ (s : Seat) (e : S). Kept s (words_of (tak e)) (words_of (acc e)) (place_of u.place) u.player.inboxes.items u.outboxes u.player.router u.player.refused.items u.first.value u.player.words) (sym seat) (sym ends)
-              (subst (λ (f : _). Kept (seat_of t) (words_of (tak t.ends)) (words_of (acc t.ends)) (place_of u.place) u.player.inboxes.items u.outboxes u.player.router u.player.refused.items f.value u.player.words) (sym first) kept);
+          known = subst₂ (λ (e : S) (p : Peer). AllByRecursion (λ q. has (seen.joints e) q ≡ true) (links_of p)) (sym ends) (sym peer) k.known;
+          kept = subst₂ (λ (s : Seat) (e : S). Kept s (words_of (seen.taken e)) (words_of (seen.accepted e)) (place_of u.place) u.player.inboxes.items u.outboxes u.player.router u.player.refused.items u.first.value u.player.words) (sym seat) (sym ends)
+              (subst (λ (f : _). Kept (seat_of t) (words_of (seen.taken t.ends)) (words_of (seen.accepted t.ends)) (place_of u.place) u.player.inboxes.items u.outboxes u.player.router u.player.refused.items f.value u.player.words) (sym first) kept);
         };
         seat = seat;
         first = ap (λ (f : _). f.value) first;
-        same_ends = ap joints ends;
+        same_ends = ap seen.joints ends;
       }
 
   -- one step after the other
-  pub goes_then : (t u w : Running G S) → Goes joints acc tak t u → Goes joints acc tak u w → Goes joints acc tak t w
+  pub goes_then : (t u w : Running G S) → Goes seen t u → Goes seen u w → Goes seen t w
   goes_then t u w a b = record { kept = b.kept; seat = b.seat ∙ a.seat; first = b.first ∙ a.first; same_ends = b.same_ends ∙ a.same_ends }
 
-  pub goes_nowhere : (t : Running G S) → IsKept joints acc tak t → Goes joints acc tak t t
+  pub goes_nowhere : (t : Running G S) → IsKept seen t → Goes seen t t
   goes_nowhere t k = record { kept = k; seat = refl; first = refl; same_ends = refl }
 
 -- behind the last round

@@ -7,6 +7,7 @@ use Rattle.gs_params.specs.Seeding.{SeededState, seeded_after, seeded_word}
 use Rattle.gs_wire.specs.Codec.{codec}
 use Rattle.gs_link.specs.declared.item.Slot.{Slot}
 use Rattle.gs_link.specs.Flat.{flat}
+use Rattle.gs_ends.specs.declared.ends.Ends.{Ghosts as EndsOf}
 use Rattle.gs_rules.specs.Peers.{links_of}
 use Rattle.gs_rules.specs.Modes.{exact}
 use Rattle.gs_rules.specs.Legal.{LegalOn}
@@ -21,20 +22,20 @@ abbrev pub words_of : (PeerNo → List Slot) → PeerNo → Said
 words_of lists q = flat (lists q)
 
 -- A whole life at a seat, by choices that begin with these words.
-pub record IsLife {S : Type 0} (accepted taken : S → PeerNo → List Slot) (seat : Seat) (first : SeededState)
+pub record IsLife {S : Type 0} (seen : EndsOf S) (seat : Seat) (first : SeededState)
     (f : Finished S) : Type 0 where
   -- each entry is allowed by those before it, by the choices of the words
   pub legal : (last : SeededState) × LegalOn (exact seeded_word seeded_after) seat.peer first [] f.trace last
   -- it did what there was to do, round by round, and exactly this was refused
-  pub keeps : KeepsRounds seat (words_of (taken f.ends)) f.trace f.refused
+  pub keeps : KeepsRounds seat (words_of (seen.taken f.ends)) f.trace f.refused
   -- these were in the meshes of its topics when it shut down, which nothing behind that changes
   pub meshes : f.meshes ≡ meshes_of f.trace
   -- its neighbours scored this when it shut down, which nothing behind that changes
   pub scores : f.scores ≡ scores_of seat.peer f.trace (seat.rounds * seat.round_ms)
   -- of each neighbour, all RPCs were handled that the bytes spell that were taken
-  pub handles : AllByRecursion (λ q. Spell (bytes_of (words_of (taken f.ends) q)) (handled f.trace q))
+  pub handles : AllByRecursion (λ q. Spell (bytes_of (words_of (seen.taken f.ends) q)) (handled f.trace q))
       (links_of seat.peer)
   -- to each neighbour, all that the trace says was accepted
-  pub says : AllByRecursion (λ q. words_of (accepted f.ends) q ≡ out codec f.trace q) (links_of seat.peer)
+  pub says : AllByRecursion (λ q. words_of (seen.accepted f.ends) q ≡ out codec f.trace q) (links_of seat.peer)
   -- and each neighbour has closed
-  pub closed : AllByRecursion (λ q. closes (words_of (taken f.ends) q) ≡ true) (links_of seat.peer)
+  pub closed : AllByRecursion (λ q. closes (words_of (seen.taken f.ends) q) ≡ true) (links_of seat.peer)

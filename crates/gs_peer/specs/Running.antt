@@ -5,13 +5,13 @@ use Rattle.gs_base.specs.declared.names.PeerNo.{PeerNo}
 use Rattle.gs_base.specs.Tokens.{Said}
 use Rattle.gs_params.specs.Picks.{IsAscending}
 use Rattle.gs_params.specs.Seeding.{SeededState}
-use Rattle.gs_link.specs.declared.item.Slot.{Slot}
 use Rattle.gs_rules.specs.declared.trace.Entry.{Entry}
 use Rattle.gs_rules.specs.Peers.{Peer, links_of}
 use Rattle.gs_rules.specs.Tables.{Entries}
 use Rattle.gs_rules.specs.Rounds.{Seat}
 use Rattle.gs_router.specs.Router.{RouterView}
-use Rattle.gs_ends.specs.Ends.{Joint, has}
+use Rattle.gs_ends.specs.Ends.{has}
+use Rattle.gs_ends.specs.declared.ends.Ends.{Ghosts as EndsOf}
 use Rattle.gs_peer.specs.declared.assignment.Assignment.{Assignment}
 use Rattle.gs_peer.specs.declared.outboxes.Outboxes.{Outboxes}
 use Rattle.gs_peer.specs.declared.place.Place.TheVariants.{Closing}
@@ -48,24 +48,24 @@ TellsSince told L old new =
     → AllByRecursion (λ q. BoxKept K (sent q) old q) qs
     → AllByRecursion (λ q. BoxKept L (sent q) new q) qs
 
-module _ {S : Type 0} (joints : S → List Joint) (accepted taken : S → PeerNo → List Slot) where
+module _ {S : Type 0} (seen : EndsOf S) where
   -- What a peer may be given that has done nothing.
   pub record MayBegin (a : Assignment) (router : RouterView) (ends : S) : Type 0 where
     pub small : a.rounds * a.round_ms < 2 ^ 64
     pub neighbours : a.neighbours.items ≡ links_of router.peer
     pub ascending : IsAscending (links_of router.peer)
-    pub known : AllByRecursion (λ q. has (joints ends) q ≡ true) (links_of router.peer)
+    pub known : AllByRecursion (λ q. has (seen.joints ends) q ≡ true) (links_of router.peer)
     pub fresh : router.trace ≡ []
     pub running : router.is_stopped ≡ false
-    pub none_accepted : (q : PeerNo) → accepted ends q ≡ []
-    pub none_taken : (q : PeerNo) → taken ends q ≡ []
+    pub none_accepted : (q : PeerNo) → seen.accepted ends q ≡ []
+    pub none_taken : (q : PeerNo) → seen.taken ends q ≡ []
 
   -- What a running task keeps.
   pub record IsKept {G : Type 0} (t : Running G S) : Type 0 where
     pub small : t.assignment.rounds * t.assignment.round_ms < 2 ^ 64
     -- there are ends to and from each neighbour
-    pub known : AllByRecursion (λ q. has (joints t.ends) q ≡ true) (links_of t.player.router.peer)
-    pub kept : Kept (seat_of t) (words_of (taken t.ends)) (words_of (accepted t.ends)) (place_of t.place)
+    pub known : AllByRecursion (λ q. has (seen.joints t.ends) q ≡ true) (links_of t.player.router.peer)
+    pub kept : Kept (seat_of t) (words_of (seen.taken t.ends)) (words_of (seen.accepted t.ends)) (place_of t.place)
         t.player.inboxes.items t.outboxes t.player.router t.player.refused.items t.first.value t.player.words
 
   -- A step goes on: what is kept is kept, and what was given stays.
@@ -73,7 +73,7 @@ module _ {S : Type 0} (joints : S → List Joint) (accepted taken : S → PeerNo
     pub kept : IsKept new
     pub seat : seat_of new ≡ seat_of old
     pub first : new.first.value ≡ old.first.value
-    pub same_ends : joints new.ends ≡ joints old.ends
+    pub same_ends : seen.joints new.ends ≡ seen.joints old.ends
 
 -- A task that has just begun.
 pub record IsFresh {G S : Type 0} (a : Assignment) (router : RouterView) (words : SeededState) (ends : S)

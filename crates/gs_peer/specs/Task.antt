@@ -3,11 +3,9 @@ use Rattle.std.specs.Prelude.{◌≡◌, true, ◌++◌, ℕ, List, [], Option, 
 use Rattle.std.specs.List.{AllByRecursion}
 use Rattle.futures.specs.declared.task.Poll.{Poll}
 use Rattle.futures.specs.declared.task.Poll.TheVariants.{Ready, Pending}
-use Rattle.gs_base.specs.declared.names.PeerNo.{PeerNo}
 use Rattle.gs_base.specs.Tokens.{bytes_of}
 use Rattle.gs_params.specs.Seeding.{SeededState, seeded_after, seeded_word}
 use Rattle.gs_wire.specs.Codec.{codec}
-use Rattle.gs_link.specs.declared.item.Slot.{Slot}
 use Rattle.gs_link.specs.Flat.{flat}
 use Rattle.gs_rules.specs.Peers.{links_of}
 use Rattle.gs_rules.specs.Modes.{exact}
@@ -17,6 +15,7 @@ use Rattle.gs_rules.specs.Hearing.{Spell, bytes_before}
 use Rattle.gs_rules.specs.Rounds.{Seat, Todo, KeepsSoFar}
 use Rattle.gs_router.specs.Router.{RouterView}
 use Rattle.gs_ends.specs.Ends.{GrewBy, Joint}
+use Rattle.gs_ends.specs.declared.ends.Ends.{Ghosts as EndsOf}
 use Rattle.gs_peer.specs.declared.assignment.Assignment.{Assignment}
 use Rattle.gs_peer.specs.declared.finished.Finished.{Finished}
 use Rattle.gs_peer.specs.declared.finished.PeerFault.{PeerFault}
@@ -50,56 +49,56 @@ HasJoints joints of task = (seat : Seat) × (first : SeededState) × (given_of j
 
 -- ---- wherever it may be suspended
 
-module _ {G S : Type 0} (accepted taken : S → PeerNo → List Slot) where
+module _ {G S : Type 0} (seen : EndsOf S) where
   -- What a task has done so far.
   pub record SoFar (t : Running G S) : Type 0 where
     -- each entry is allowed by those before it, by the choices of its words
     pub legal : LegalOn (exact seeded_word seeded_after) (seat_of t).peer
         t.first.value [] t.player.router.trace t.player.words
     -- it keeps the rounds, up to some of what there is to do at its place
-    pub keeps : (left : List Todo) × KeepsSoFar (seat_of t) (words_of (taken t.ends)) (place_of t.place) left
+    pub keeps : (left : List Todo) × KeepsSoFar (seat_of t) (words_of (seen.taken t.ends)) (place_of t.place) left
         t.player.router.trace t.player.refused.items
     -- what was handled of each neighbour, and what is staged, are the RPCs of the bytes that were taken from it
     pub names : peers_of t.player.inboxes.items ≡ links_of (seat_of t).peer
     pub hears : AllByRecursion (λ (x : InboxView).
-        Spell (bytes_of (words_of (taken t.ends) x.peer)) (handled t.player.router.trace x.peer ++ x.stage))
+        Spell (bytes_of (words_of (seen.taken t.ends) x.peer)) (handled t.player.router.trace x.peer ++ x.stage))
         t.player.inboxes.items
     -- what was accepted for each neighbour, and what waits, is what the trace says to it
     pub says : AllByRecursion (λ q.
-        words_of (accepted t.ends) q ++ flat (waiting t.outboxes q) ≡ out codec t.player.router.trace q)
+        words_of (seen.accepted t.ends) q ++ flat (waiting t.outboxes q) ≡ out codec t.player.router.trace q)
         (links_of (seat_of t).peer)
     -- the rounds that were heard have ended, in what was taken of each neighbour
     pub ended : AllByRecursion (λ q.
-        whole (settled (seat_of t) (place_of t.place)) (words_of (taken t.ends) q) ≡ true)
+        whole (settled (seat_of t) (place_of t.place)) (words_of (seen.taken t.ends) q) ≡ true)
         (links_of (seat_of t).peer)
     -- what was handled of each neighbour is what it said in them, and nothing of the round that it is in
     pub rounds : AllByRecursion (λ q.
-        Spell (bytes_before (settled (seat_of t) (place_of t.place)) (words_of (taken t.ends) q))
+        Spell (bytes_before (settled (seat_of t) (place_of t.place)) (words_of (seen.taken t.ends) q))
         (handled t.player.router.trace q))
         (links_of (seat_of t).peer)
 
 -- ---- a poll
 
-module _ {G S : Type 0} (joints : S → List Joint) (accepted taken : S → PeerNo → List Slot) where
+module _ {G S : Type 0} (seen : EndsOf S) where
   -- it keeps what a running task keeps, or it has given its result
   abbrev pub CanPoll : PeerTask G S → Type 0
-  CanPoll task = MatchOption task.running ⊤ (λ t. IsKept joints accepted taken t)
+  CanPoll task = MatchOption task.running ⊤ (λ t. IsKept seen t)
 
   -- it is suspended, and has done so much
   abbrev pub IsSuspended : PeerTask G S → Type 0
-  IsSuspended task = MatchOption task.running ⊥ (λ t. SoFar accepted taken t)
+  IsSuspended task = MatchOption task.running ⊥ (λ t. SoFar seen t)
 
   -- a whole life at the task's seat, by its words and with its ends; or a fault
   abbrev pub Gives : PeerTask G S → Result (Finished S) PeerFault → Type 0
   Gives task result = IfOk result (λ f.
       (seat : Seat) × (first : SeededState)
-      × (given_of joints task ≡ Some (seat, first, joints f.ends))
-      × IsLife accepted taken seat first f)
+      × (given_of seen.joints task ≡ Some (seat, first, seen.joints f.ends))
+      × IsLife seen seat first f)
 
-module _ {S : Type 0} (accepted taken : S → PeerNo → List Slot) where
+module _ {S : Type 0} (seen : EndsOf S) where
   -- over all neighbours at most so many slots were taken, and as many accepted
   abbrev pub BothGrew : ℕ → S → S → Type 0
-  BothGrew most before after = GrewBy most (accepted before) (accepted after) × GrewBy most (taken before) (taken after)
+  BothGrew most before after = GrewBy most (seen.accepted before) (seen.accepted after) × GrewBy most (seen.taken before) (seen.taken after)
 
   -- what a poll takes and has accepted
   abbrev pub Bounded : {G : Type 0} → ℕ → PeerTask G S → PeerTask G S → Poll (Result (Finished S) PeerFault) → Type 0

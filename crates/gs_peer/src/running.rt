@@ -22,6 +22,13 @@ use gs_router::Router;
 use std::alloc::{AllocError, Global};
 use std::snapshot::Snapshot;
 
+/// A router, and the words by which it chooses.
+#[derive(Drop)]
+pub struct Chooser {
+    pub router: Router,
+    pub words: SeededWords,
+}
+
 /// A peer between two steps.
 #[derive(Drop)]
 pub struct Running<G: Gate, S: Ends> {
@@ -48,16 +55,16 @@ impl<G: Gate, S: Ends> Running<G, S> {
     pub fn new(
         alloc: Global,
         assignment: Assignment,
-        router: Router,
-        words: SeededWords,
+        chooser: Chooser,
         ends: S,
         gate: G,
     ) -> Result<Running<G, S>, AllocError>
-        requires { MayBegin S.joints S.accepted S.taken assignment router ends }
-        ensures kept { IfOk result (λ t. IsKept S.joints S.accepted S.taken t) }
-        ensures fresh { IfOk result (λ t. IsFresh assignment router words ends t) }
+        requires { MayBegin S.Ends assignment chooser.router ends }
+        ensures kept { IfOk result (λ t. IsKept S.Ends t) }
+        ensures fresh { IfOk result (λ t. IsFresh assignment chooser.router chooser.words ends t) }
     {
         let Boxes { inboxes, outboxes } = boxes_of(alloc, &assignment.neighbours)?;
+        let Chooser { router, words } = chooser;
         let first = Snapshot::of(&words);
         Ok(Running {
             alloc,
@@ -83,8 +90,8 @@ impl<G: Gate, S: Ends> Running<G, S> {
     /// # Errors
     /// `AllocError` where there was no memory.
     pub fn run(&mut self) -> Result<bool, AllocError>
-        requires { IsKept S.joints S.accepted S.taken self.old }
-        ensures goes { OnOk result (Goes S.joints S.accepted S.taken self.old self.new) }
+        requires { IsKept S.Ends self.old }
+        ensures goes { OnOk result (Goes S.Ends self.old self.new) }
         ensures taken { OnOk result (GrewBy 64 (S.taken self.old.ends) (S.taken self.new.ends)) }
         ensures accepted { OnOk result (GrewBy 64 (S.accepted self.old.ends) (S.accepted self.new.ends)) }
         ensures over { IfOk result (λ over. over ≡ true → IsOver self.new) }
@@ -106,8 +113,8 @@ impl<G: Gate, S: Ends> Running<G, S> {
     /// is heard in it, and has an item accepted. True where something moved. It keeps its turn where
     /// more may move, so that no link is looked at in vain.
     fn step(&mut self) -> Result<bool, AllocError>
-        requires { IsKept S.joints S.accepted S.taken self.old }
-        ensures goes { OnOk result (Goes S.joints S.accepted S.taken self.old self.new) }
+        requires { IsKept S.Ends self.old }
+        ensures goes { OnOk result (Goes S.Ends self.old self.new) }
         ensures taken { OnOk result (GrewBy 1 (S.taken self.old.ends) (S.taken self.new.ends)) }
         ensures accepted { OnOk result (GrewBy 1 (S.accepted self.old.ends) (S.accepted self.new.ends)) }
     {
@@ -132,8 +139,8 @@ impl<G: Gate, S: Ends> Running<G, S> {
     /// Takes what comes next from the neighbour whose turn it is, unless all is taken that is heard
     /// of it.
     fn listen(&mut self) -> Result<bool, AllocError>
-        requires { IsKept S.joints S.accepted S.taken self.old }
-        ensures goes { OnOk result (Goes S.joints S.accepted S.taken self.old self.new) }
+        requires { IsKept S.Ends self.old }
+        ensures goes { OnOk result (Goes S.Ends self.old self.new) }
         ensures taken { OnOk result (GrewBy 1 (S.taken self.old.ends) (S.taken self.new.ends)) }
         ensures accepted { (q : PeerNoValue) → S.accepted self.new.ends q ≡ S.accepted self.old.ends q }
     {
@@ -150,8 +157,8 @@ impl<G: Gate, S: Ends> Running<G, S> {
 
     /// Offers the neighbour whose turn it is what waits first for it.
     fn offer(&mut self) -> Result<bool, AllocError>
-        requires { IsKept S.joints S.accepted S.taken self.old }
-        ensures goes { OnOk result (Goes S.joints S.accepted S.taken self.old self.new) }
+        requires { IsKept S.Ends self.old }
+        ensures goes { OnOk result (Goes S.Ends self.old self.new) }
         ensures accepted { OnOk result (GrewBy 1 (S.accepted self.old.ends) (S.accepted self.new.ends)) }
         ensures taken { (q : PeerNoValue) → S.taken self.new.ends q ≡ S.taken self.old.ends q }
     {
@@ -165,8 +172,8 @@ impl<G: Gate, S: Ends> Running<G, S> {
 
     /// Plays the round, where all is taken that is heard in it.
     fn play_if_due(&mut self) -> Result<bool, AllocError>
-        requires { IsKept S.joints S.accepted S.taken self.old }
-        ensures goes { OnOk result (Goes S.joints S.accepted S.taken self.old self.new) }
+        requires { IsKept S.Ends self.old }
+        ensures goes { OnOk result (Goes S.Ends self.old self.new) }
         ensures ends { self.new.ends ≡ self.old.ends }
     {
         let Place::Playing(round) = self.place else {
@@ -182,10 +189,10 @@ impl<G: Gate, S: Ends> Running<G, S> {
     /// Plays a round: hears what came, follows the lines, and ends it. Behind the last one it shuts
     /// down.
     fn play(&mut self, round: u64) -> Result<(), AllocError>
-        requires kept { IsKept S.joints S.accepted S.taken self.old }
+        requires kept { IsKept S.Ends self.old }
         requires full { AllFull self.old.player.inboxes.items }
         requires place { self.old.place ≡ Playing round }
-        ensures goes { OnOk result (Goes S.joints S.accepted S.taken self.old self.new) }
+        ensures goes { OnOk result (Goes S.Ends self.old self.new) }
         ensures ends { self.new.ends ≡ self.old.ends }
     {
         self.gate.turn(self.assignment.worker, round);
@@ -220,10 +227,10 @@ impl<G: Gate, S: Ends> Running<G, S> {
     /// # Errors
     /// `AllocError` where there was no memory.
     pub fn settle(&mut self) -> Result<FinalState, AllocError>
-        requires kept { IsKept S.joints S.accepted S.taken self.old }
+        requires kept { IsKept S.Ends self.old }
         requires over { IsOver self.old }
         ensures life { IfOk result (λ state.
-            IsLife S.accepted S.taken (seat_of self.old) self.old.first.value (left_of self.new state)) }
+            IsLife S.Ends (seat_of self.old) self.old.first.value (left_of self.new state)) }
         ensures ends { self.new.ends ≡ self.old.ends }
     {
         let now = Millis(self.assignment.rounds * self.assignment.round_ms);

@@ -10,7 +10,7 @@ ghost use Rattle.gs_peer.specs.Task.{Bounded, CanPoll, Gives, HasEnds, IsSuspend
 use crate::assignment::Assignment;
 use crate::finished::{Finished, PeerFault};
 use crate::gate::Gate;
-use crate::running::Running;
+use crate::running::{Chooser, Running};
 use futures::Future;
 use futures::task::{Context, Poll};
 use gs_ends::Ends;
@@ -56,14 +56,15 @@ impl<G: Gate, S: Ends> PeerTask<G, S> {
         words: SeededWords,
         surroundings: Surroundings<G, S>,
     ) -> Result<PeerTask<G, S>, PeerFault>
-        requires { MayBegin S.joints S.accepted S.taken assignment router surroundings.ends }
-        ensures can { IfOk result (λ task. CanPoll S.joints S.accepted S.taken task) }
+        requires { MayBegin S.Ends assignment router surroundings.ends }
+        ensures can { IfOk result (λ task. CanPoll S.Ends task) }
         ensures is { IfOk result (λ task. IsTaskOf S.joints assignment router words surroundings.ends task) }
         ensures ends { IfOk result (λ task. HasEnds surroundings.ends task) }
-        ensures suspended { IfOk result (λ task. IsSuspended S.joints S.accepted S.taken task) }
+        ensures suspended { IfOk result (λ task. IsSuspended S.Ends task) }
     {
         let Surroundings { ends, gate, stop } = surroundings;
-        match Running::new(alloc, assignment, router, words, ends, gate) {
+        let chooser = Chooser { router, words };
+        match Running::new(alloc, assignment, chooser, ends, gate) {
             Ok(running) => Ok(PeerTask {
                 running: Some(running),
                 stop,
@@ -79,9 +80,9 @@ impl<G: Gate, S: Ends> PeerTask<G, S> {
 impl<G: Gate, S: Ends> Future for PeerTask<G, S> {
     type Output = Result<Finished<S>, PeerFault>;
 
-    ghost can_poll = { λ task. CanPoll S.joints S.accepted S.taken task };
+    ghost can_poll = { λ task. CanPoll S.Ends task };
 
-    ghost gives = { λ task result. Gives S.joints S.accepted S.taken task result };
+    ghost gives = { λ task result. Gives S.Ends task result };
 
     /// Takes at most 64 items and has at most 64 accepted, where a close is an item, and may stop between
     /// any two of them. It asks to be polled again at once where the life has not ended.
@@ -89,17 +90,17 @@ impl<G: Gate, S: Ends> Future for PeerTask<G, S> {
     /// It gives what is left of the life; or `NoMemory`, with the stop flag set; or `Stopped` where that
     /// was set, and where the result was given before. Behind any result there is nothing to give.
     fn poll(&mut self, cx: &mut Context<'_>) -> Poll<Result<Finished<S>, PeerFault>>
-        requires { CanPoll S.joints S.accepted S.taken self.old }
-        ensures value { IfReady result (Gives S.joints S.accepted S.taken self.old) }
-        ensures again { OnPending result (CanPoll S.joints S.accepted S.taken self.new) }
+        requires { CanPoll S.Ends self.old }
+        ensures value { IfReady result (Gives S.Ends self.old) }
+        ensures again { OnPending result (CanPoll S.Ends self.new) }
         ensures same { OnPending result ((x : _)
-            → Gives S.joints S.accepted S.taken self.new x
-            → Gives S.joints S.accepted S.taken self.old x) }
+            → Gives S.Ends self.new x
+            → Gives S.Ends self.old x) }
         ensures registered { OnPending result (Covers cx.new (λ _. ⊥)) }
         ensures kept { Keeps cx.old cx.new }
-        ensures suspended { OnPending result (IsSuspended S.joints S.accepted S.taken self.new) }
+        ensures suspended { OnPending result (IsSuspended S.Ends self.new) }
         ensures stays { OnPending result (given_of S.joints self.new ≡ given_of S.joints self.old) }
-        ensures bounded { Bounded S.accepted S.taken 64 self.old self.new result }
+        ensures bounded { Bounded S.Ends 64 self.old self.new result }
         ensures after { IfReady result (λ _. given_of S.joints self.new ≡ None) }
         ensures spent { given_of S.joints self.old ≡ None → result ≡ Poll.Ready (Err PeerFault.Stopped) }
     {
@@ -119,8 +120,8 @@ impl<G: Gate, S: Ends> Future for PeerTask<G, S> {
 
 /// Goes on with a life, until nothing moves. True where it has ended. Where there is no memory the flag is set first.
 fn go_on<G: Gate, S: Ends>(stop: &StopFlag, running: &mut Running<G, S>) -> Result<bool, PeerFault>
-    requires { IsKept S.joints S.accepted S.taken running.old }
-    ensures goes { OnOk result (Goes S.joints S.accepted S.taken running.old running.new) }
+    requires { IsKept S.Ends running.old }
+    ensures goes { OnOk result (Goes S.Ends running.old running.new) }
     ensures taken { OnOk result (GrewBy 64 (S.taken running.old.ends) (S.taken running.new.ends)) }
     ensures accepted { OnOk result (GrewBy 64 (S.accepted running.old.ends) (S.accepted running.new.ends)) }
     ensures over { IfOk result (λ over. over ≡ true → IsOver running.new) }
@@ -142,9 +143,9 @@ fn finish<G: Gate, S: Ends>(
     stop: &StopFlag,
     running: &mut Option<Running<G, S>>,
 ) -> Result<Finished<S>, PeerFault>
-    requires kept { IfSome running.old (IsKept S.joints S.accepted S.taken) }
+    requires kept { IfSome running.old (IsKept S.Ends) }
     requires over { IfSome running.old IsOver }
-    ensures life { IfSome running.old (λ t. IfOk result (λ f. IsLife S.accepted S.taken (seat_of t) t.first.value f)) }
+    ensures life { IfSome running.old (λ t. IfOk result (λ f. IsLife S.Ends (seat_of t) t.first.value f)) }
     ensures ends { IfSome running.old (λ t. IfOk result (λ f. f.ends ≡ t.ends)) }
     ensures taken { running.new ≡ None }
 {

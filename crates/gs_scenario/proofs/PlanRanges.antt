@@ -22,7 +22,7 @@ use Rattle.gs_scenario.specs.Keys.{Section, only, required, read_key, read_each}
 use Rattle.gs_scenario.specs.Kinds.{whole_number, list_of, section_at}
 use Rattle.gs_scenario.specs.ParamsOf.{highest_number, heartbeat_ms_key, decay_ms_key, fanout_ttl_ms_key, seen_ttl_ms_key, iwant_followup_ms_key, prune_backoff_s_key, unsubscribe_backoff_s_key, mcache_len_key, mcache_gossip_key, opportunistic_ticks_key, opportunistic_peers_key, max_ihave_key, max_ihave_ids_key, gossip_retransmission_key, degrees_in, thresholds_in, factors_in, windows_in, flood_publish_key, shared_names, shared_in, params_of, or_refuse_params, with_topics}
 use Rattle.gs_scenario.specs.PlanOf.{Top, round_ms_key, rounds_key, workers_key, capacity_key, seed_key, params_key, topics_key, peers_key, dials_key, apps_key, script_key, top_keys, top_in, topic_in, peer_in, dial_in, app_in, line_in, plan_in, plan_of_document, plan_of}
-use Rattle.gs_scenario.specs.Refusal.{Gives, item_count}
+use Rattle.gs_scenario.specs.Refusal.{GivesSame, item_count}
 use Rattle.gs_scenario.proofs.Checked.{same_of_checked, checked_again}
 use Rattle.gs_scenario.proofs.Ranges.{next, past, at_required, number_is, list_is, multiple_is}
 use Rattle.gs_scenario.proofs.ElementRanges.{PeersAre, peers_are, TopicsDiffer, TopicsAre, topics_are, DialsAre, dials_are, AppsAre, apps_are, LinesAre, lines_are}
@@ -179,10 +179,10 @@ document_is : (found : Option Members) → IfOk (plan_of_document found) IsInRan
 document_is None = tt
 document_is (Some all) = plan_is all
 
-given_is : (said given : Result Plan ScenarioFault) → Gives (λ (plan : Plan). plan) given said → IfOk said IsInRange → IfOk given IsInRange
+given_is : (said given : Result Plan ScenarioFault) → GivesSame given said → IfOk said IsInRange → IfOk given IsInRange
 given_is said (Ok plan) e h = rw e at h
 given_is said (Err fault) e h = tt
 
 -- what is given as the plan of a text is in range
-pub plan_in_range : (text : List ℕ) (given : Result Plan ScenarioFault) → Gives (λ (plan : Plan). plan) given (plan_of text) → IfOk given IsInRange
+pub plan_in_range : (text : List ℕ) (given : Result Plan ScenarioFault) → GivesSame given (plan_of text) → IfOk given IsInRange
 plan_in_range text given e = given_is (plan_of text) given e (document_is (parse_document text))

@@ -68,3 +68,7 @@ Refuses NoMemory said = Unit {0}
 abbrev pub Gives : {A B : Type 0} → (A → B) → Result A ScenarioFault → Result B ScenarioFault → Type 0
 Gives view (Ok x) said = said ≡ Ok (view x)
 Gives view (Err fault) said = Refuses fault said
+
+-- it gave just what the definition says, unless memory ran out
+abbrev pub GivesSame : {A : Type 0} → Result A ScenarioFault → Result A ScenarioFault → Type 0
+GivesSame = Gives (λ x. x)

@@ -16,7 +16,7 @@ use Rattle.gs_scenario.specs.declared.scenario.top.Top as code_top
 use Rattle.gs_scenario.specs.Keys.{Kind, Key, Section, read_key}
 use Rattle.gs_scenario.specs.Kinds.{element}
 use Rattle.gs_scenario.specs.PlanOf.{Top}
-use Rattle.gs_scenario.specs.Refusal.{Gives}
+use Rattle.gs_scenario.specs.Refusal.{GivesSame}
 
 -- the text of a place
 abbrev pub element_text : Element → List ℕ
@@ -64,4 +64,4 @@ top_view top = record {
 abbrev pub ReadsAs : {A : Type 0} → (Bor (List A) → Bor Value → Result A ScenarioFault → Type 0)
     → (List A → Data → Result A ScenarioFault) → Type 0
 ReadsAs {A} may_say reads = (earlier : Bor (List A)) (value : Bor Value) (said : Result A ScenarioFault)
-    → may_say earlier value said → Gives (λ x. x) said (reads earlier.now (view value.now))
+    → may_say earlier value said → GivesSame said (reads earlier.now (view value.now))

@@ -1,7 +1,7 @@
 //! Scenarios: the plan that a TOML text describes, or its first refusal.
 ghost use Rattle.std.specs.Prelude.{◌≡◌, IfOk};
 ghost use Rattle.toml.specs.View.{table_view};
-ghost use Rattle.gs_scenario.specs.Refusal.{Gives};
+ghost use Rattle.gs_scenario.specs.Refusal.{GivesSame};
 ghost use Rattle.gs_scenario.specs.PlanOf.{plan_of, plan_in};
 ghost use Rattle.gs_plan.specs.Plans.{IsInRange};
 
@@ -43,7 +43,7 @@ use toml::Table;
 /// `NoMemory` may come at any step before, and so in the place of any refusal: that a scenario which is to
 /// be refused isn't refused as want of memory, only tests say.
 pub fn read_plan(alloc: Global, text: &str) -> Result<Plan, ScenarioFault>
-    ensures plan { Gives (λ plan. plan) result (plan_of text.now) }
+    ensures plan { GivesSame result (plan_of text.now) }
     ensures in_range { IfOk result (λ plan. IsInRange plan) }
 {
     match toml::table_from_str(alloc, text) {
@@ -61,7 +61,7 @@ pub fn read_plan(alloc: Global, text: &str) -> Result<Plan, ScenarioFault>
 /// The plan that a document describes.
 #[tactic(auto, unfolding(crate::specs::PlanOf::plan_in))]
 fn plan_in(alloc: Global, table: &Table) -> Result<Plan, ScenarioFault>
-    ensures { Gives (λ plan. plan) result (plan_in (table_view table.now)) }
+    ensures { GivesSame result (plan_in (table_view table.now)) }
 {
     let path = Path::Top;
     let top = Top::read(Section { alloc, path, table })?;

@@ -4,6 +4,7 @@ use Rattle.gs_base.specs.declared.names.Millis.{Millis}
 use Rattle.gs_score.specs.declared.counter.Decay.{Decay}
 use Rattle.gs_score.specs.declared.rules.TopicRules.{TopicRules}
 use Rattle.gs_score.specs.declared.standing.Kind.{Kind}
+use Rattle.gs_score.specs.declared.standing.Raise.{Raise}
 use Rattle.gs_score.specs.declared.standing.Kind.TheVariants.{First, Near, Deficit, Invalid}
 use Rattle.gs_score.specs.declared.standing.Standing.{Standing}
 use Rattle.gs_score.specs.Counters.{Stored, most_counted, decay_step, raised, read_at}
@@ -97,6 +98,9 @@ raised_stored r kind by tick s = record { value = raised (cap_of r kind) by (rea
 
 abbrev pub raised_standing : TopicRules → Kind → ℕ → ℕ → Standing → Standing
 raised_standing r kind by tick s = with_stored kind (raised_stored r kind by tick s) s
+
+abbrev pub raised_by : Raise → Standing → Standing
+raised_by raise s = raised_standing raise.rules.now raise.kind raise.by raise.tick s
 
 -- out of the mesh, with the counters that it had
 abbrev pub pruned : Standing → Standing

@@ -10,11 +10,10 @@ ghost use Rattle.gs_score.specs.Accounts.{Covers, has_topic, held_in, topic_sum}
 ghost use Rattle.gs_score.specs.Counters.{most_counted, raised, read_at};
 ghost use Rattle.gs_score.specs.Ledgers.{Adds, AreFew, Blames, Keeps, has_room, Puts, account_of, behaviour_of, has_account, nothing_counted, standing_of, topics_of};
 ghost use Rattle.gs_score.specs.Ranges.{RulesAreInRange};
-ghost use Rattle.gs_score.specs.Standings.{grafted, pruned, raised_standing};
+ghost use Rattle.gs_score.specs.Standings.{grafted, pruned, raised_by};
 
 use crate::counter::{Counter, Decay, MOST_COUNTED};
-use crate::rules::TopicRules;
-use crate::standing::{Kind, Standing};
+use crate::standing::{Raise, Standing};
 use crate::topics::Topics;
 use gs_base::{Millis, Neighbour, PeerNo, Topic};
 use gs_params::Params;
@@ -105,16 +104,13 @@ pub(crate) fn raise_standing(
     accounts: &mut IndexMap<PeerNo, Account>,
     peer: PeerNo,
     topic: &Topic,
-    kind: Kind,
-    by: u64,
-    rules: &TopicRules,
-    tick: u64,
+    raise: Raise<'_>,
 ) -> Result<(), AllocError>
     requires room { has_room accounts.old.entries peer topic.now ≡ true }
     requires few { AreFew accounts.old.entries }
-    requires in_range { RulesAreInRange rules.now }
+    requires in_range { RulesAreInRange raise.rules.now }
     ensures puts { OnOk result (Puts accounts.old.entries accounts.new.entries peer topic.now
-        (raised_standing rules.now kind by tick (standing_of accounts.old.entries peer topic.now))) }
+        (raised_by raise.entry (standing_of accounts.old.entries peer topic.now))) }
     ensures adds { OnOk result (Adds accounts.old.entries accounts.new.entries peer topic.now) }
     ensures few { AreFew accounts.new.entries }
     ensures unchanged { OnErr result (accounts.new.entries ≡ accounts.old.entries) }
@@ -122,7 +118,7 @@ pub(crate) fn raise_standing(
 {
     match accounts.get_mut(&peer) {
         Some(account) => {
-            account.topics.raise(topic, kind, by, rules, tick)?;
+            account.topics.raise(topic, raise)?;
             Ok(())
         }
         None => Ok(()),

@@ -24,5 +24,5 @@ pub use places::{Place, Places};
 pub use rules::TopicRules;
 pub use score::score_of;
 pub use scores::Scores;
-pub use standing::{Kind, Standing};
+pub use standing::{Kind, Raise, Standing};
 pub use topics::Topics;

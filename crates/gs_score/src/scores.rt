@@ -21,7 +21,7 @@ use crate::counter::{Decay, MOST_COUNTED};
 use crate::places::Places;
 use crate::rules::TopicRules;
 use crate::score::score_of;
-use crate::standing::Kind;
+use crate::standing::{Kind, Raise};
 use gs_base::{Mark, Millis, Neighbour, PeerNo, Topic, clone_of};
 use gs_params::Params;
 use indexmap::IndexMap;
@@ -286,7 +286,13 @@ impl Scores {
         ensures succeeds { has_topic (topics_of self.old.accounts peer) topic.now ≡ true → IsOk result }
     {
         let rules = TopicRules::of(&self.params, topic);
-        raise_standing(&mut self.accounts, peer, topic, kind, by, &rules, self.tick)?;
+        let raise = Raise {
+            kind,
+            by,
+            rules: &rules,
+            tick: self.tick,
+        };
+        raise_standing(&mut self.accounts, peer, topic, raise)?;
         Ok(())
     }
 

@@ -3,7 +3,7 @@ ghost use Rattle.std.specs.Prelude.{◌≡◌, ◌≤◌, ◌^◌, pos, unsigned
 ghost use Rattle.gs_score.specs.Formula.{p3, topic_part};
 ghost use Rattle.gs_score.specs.Millionths.{squared, times};
 ghost use Rattle.gs_score.specs.Ranges.{RulesAreInRange};
-ghost use Rattle.gs_score.specs.Standings.{count, fresh, grafted, held, pruned, raised_held, raised_standing, stored, with_stored};
+ghost use Rattle.gs_score.specs.Standings.{count, fresh, grafted, held, pruned, raised_by, raised_held, stored, with_stored};
 
 use crate::counter::Counter;
 use crate::millionths::{squared, sum_of_five, weighed, weighed_sum};
@@ -21,6 +21,19 @@ pub enum Kind {
     Deficit,
     /// Invalid messages (P4).
     Invalid,
+}
+
+/// By how much a counter is raised, and by which rules.
+#[derive(Clone, Copy)]
+pub struct Raise<'a> {
+    /// The counter.
+    pub kind: Kind,
+    /// In millionths.
+    pub by: u64,
+    /// How its topic is scored.
+    pub rules: &'a TopicRules,
+    /// The counter is as it is at this tick.
+    pub tick: u64,
 }
 
 /// What a neighbour has on a topic: since when it is in the mesh, and its counters.
@@ -70,12 +83,19 @@ impl Standing {
     }
 
     /// Raises a counter by an amount, up to its cap.
-    pub fn raise(&mut self, kind: Kind, by: u64, rules: &TopicRules, tick: u64)
-        requires in_range { RulesAreInRange rules.now }
-        ensures raises { held rules.now tick self.new
-            ≡ raised_held rules.now kind by (held rules.now tick self.old) }
-        ensures keeps { self.new ≡ raised_standing rules.now kind by tick self.old }
+    pub fn raise(&mut self, raise: Raise<'_>)
+        requires in_range { RulesAreInRange raise.rules.now }
+        ensures raises { held raise.entry.rules.now raise.entry.tick self.new
+            ≡ raised_held raise.entry.rules.now raise.entry.kind raise.entry.by
+            (held raise.entry.rules.now raise.entry.tick self.old) }
+        ensures keeps { self.new ≡ raised_by raise.entry self.old }
     {
+        let Raise {
+            kind,
+            by,
+            rules,
+            tick,
+        } = raise;
         let mut counter = self.counter(kind);
         counter.raise(by, rules.cap_of(kind), rules.decay_of(kind), tick);
         self.put(kind, counter);

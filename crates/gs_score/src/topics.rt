@@ -7,10 +7,10 @@ ghost use Rattle.gs_base.specs.declared.names.Topic.{Topic as TopicValue};
 ghost use Rattle.gs_params.specs.Params.{AreInRange};
 ghost use Rattle.gs_score.specs.Accounts.{AddsTopic, Covers, KeepsTopics, has_topic, held_in, standing_in, topic_sum};
 ghost use Rattle.gs_score.specs.Ranges.{RulesAreInRange};
-ghost use Rattle.gs_score.specs.Standings.{grafted, pruned, raised_standing};
+ghost use Rattle.gs_score.specs.Standings.{grafted, pruned, raised_by};
 
 use crate::rules::TopicRules;
-use crate::standing::{Kind, Standing};
+use crate::standing::{Raise, Standing};
 use gs_base::{MOST_TOPICS, Millis, Topic, clone_of};
 use gs_params::Params;
 use indexmap::IndexMap;
@@ -70,19 +70,12 @@ impl Topics {
     ///
     /// # Errors
     /// `AllocError` where there was no memory; nothing is changed then.
-    pub fn raise(
-        &mut self,
-        topic: &Topic,
-        kind: Kind,
-        by: u64,
-        rules: &TopicRules,
-        tick: u64,
-    ) -> Result<(), AllocError>
-        requires in_range { RulesAreInRange rules.now }
+    pub fn raise(&mut self, topic: &Topic, raise: Raise<'_>) -> Result<(), AllocError>
+        requires in_range { RulesAreInRange raise.rules.now }
         ensures puts { OnOk result ((t : TopicValue)
             → standing_in self.new t
             ≡ (if same_topic topic.now t
-            then raised_standing rules.now kind by tick (standing_in self.old topic.now)
+            then raised_by raise.entry (standing_in self.old topic.now)
             else standing_in self.old t)) }
         ensures number { length self.new
             ≤ (if has_topic self.old topic.now then length self.old else length self.old + 1) }
@@ -90,7 +83,7 @@ impl Topics {
         ensures unchanged { OnErr result (self.new ≡ self.old) }
         ensures succeeds { has_topic self.old topic.now ≡ true → IsOk result }
     {
-        raise_at(&mut self.standings, topic, kind, by, rules, tick)?;
+        raise_at(&mut self.standings, topic, raise)?;
         Ok(())
     }
 
@@ -157,16 +150,13 @@ fn standing_at(standings: &IndexMap<Topic, Standing>, topic: &Topic) -> Standing
 fn raise_at(
     standings: &mut IndexMap<Topic, Standing>,
     topic: &Topic,
-    kind: Kind,
-    by: u64,
-    rules: &TopicRules,
-    tick: u64,
+    raise: Raise<'_>,
 ) -> Result<(), AllocError>
-    requires in_range { RulesAreInRange rules.now }
+    requires in_range { RulesAreInRange raise.rules.now }
     ensures puts { OnOk result ((t : TopicValue)
         → standing_in standings.new.entries t
         ≡ (if same_topic topic.now t
-        then raised_standing rules.now kind by tick (standing_in standings.old.entries topic.now)
+        then raised_by raise.entry (standing_in standings.old.entries topic.now)
         else standing_in standings.old.entries t)) }
     ensures number { length standings.new.entries
         ≤ (if has_topic standings.old.entries topic.now
@@ -177,10 +167,10 @@ fn raise_at(
     ensures succeeds { has_topic standings.old.entries topic.now ≡ true → IsOk result }
 {
     match standings.get_mut(topic) {
-        Some(place) => place.raise(kind, by, rules, tick),
+        Some(place) => place.raise(raise),
         None => {
             let mut raised = Standing::new();
-            raised.raise(kind, by, rules, tick);
+            raised.raise(raise);
             standings.insert(clone_of(topic)?, raised)?;
         }
     }

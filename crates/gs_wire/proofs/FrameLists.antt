@@ -1,14 +1,15 @@
 -- Frames at the front of a stream, and streams that are cut.
-use Rattle.std.proofs.Common.{◌≡◌, ℕ, ◌+◌, ◌-◌, ◌<◌, ◌≤◌, List, [], ◌∷◌, ◌++◌, length, take, drop, refl, sym, ap, subst, ◌∙◌, append_assoc, append-nil, take-append-drop, length-append, length-take, length-drop, arith, inl, inr}
+use Rattle.std.proofs.Common.{◌≡◌, ℕ, ◌+◌, ◌-◌, ◌<◌, ◌≤◌, List, [], ◌∷◌, ◌++◌, length, take, drop, refl, sym, ap, subst, ◌∙◌, append_assoc, append-nil, take-append-drop, length-append, length-take, length-drop, arith, inl, inr, Result, Ok}
 use Rattle.std.specs.List.{concat}
 use Rattle.std.proofs.lemmas.List.{drop-drop, drop-append-le}
 use Rattle.bytes.proofs.Ranges.{take-append_past}
 use Rattle.gs_base.specs.declared.rpc.Rpc.{Rpc}
+use Rattle.gs_wire.specs.declared.fault.WireFault.{WireFault}
 use Rattle.gs_wire.specs.declared.frames.End.{End}
 use Rattle.gs_wire.specs.declared.frames.End.TheVariants as ends
 use Rattle.gs_wire.specs.Varint.{IsVarint, varint}
 use Rattle.gs_wire.specs.Messages.{SpellsRpc, IsInMemory, body, frame}
-use Rattle.gs_wire.specs.Stream.{SpellsFrame, SpellFrames, HasLength, GoesOn, IsStream, IsSpan, FindsIn, FindsAfter}
+use Rattle.gs_wire.specs.Stream.{SpellsFrame, SpellFrames, HasLength, GoesOn, IsStream, IsSpan, Holding, Feeds, EndsFeed, FindsIn, FindsAfter}
 use Rattle.gs_wire.proofs.Varints.{written_varint}
 use Rattle.gs_wire.proofs.Rpcs.{one_rpc}
 use Rattle.gs_wire.proofs.RpcRoundTrip.{body_spelled, same_fronts}
@@ -84,6 +85,19 @@ span_stream limit held piece start end s few = record {
   parts = refl;
   frames = refl;
   goes_on = span_waits limit (held ++ piece) start end (span_more limit held piece start end s) (omega (arith, few, length-append held piece));
+}
+
+-- a feed that only adds
+pub only_adds : (old new : Holding) (piece : List ℕ) (before after : List Rpc) (result : Result (Unit {0}) WireFault) → result ≡ Ok tt → Feeds old piece new before after ends.Waits → EndsFeed old piece new before after result
+only_adds old new piece before after result ok feeds = record {
+  fed = rw ok feeds;
+  malformed = λ h. absurd (cc);
+  too_long = λ h. absurd (cc);
+  failed = ((λ h. absurd (cc)), (λ h. let held = feeds.was_held in absurd (cc)));
+  failed_reader = λ h. absurd (cc);
+  failed_list = λ h. absurd (cc);
+  no_memory_reader = λ h. absurd (cc);
+  no_memory_list = λ h. absurd (cc);
 }
 
 -- ---- frames in order

@@ -1,8 +1,10 @@
 -- Streams of frames: a varint length, and then that many bytes of a body. A stream is told as a whole, so it doesn't
 -- matter how it was cut into pieces.
-use Rattle.std.specs.Prelude.{◌≡◌, ℕ, ◌-◌, ◌<◌, ◌≤◌, Bool, false, List, [], ◌∷◌, ◌++◌, length, drop, Option, Some, None, IfSome, IsSome, ◌⊎◌}
+use Rattle.std.specs.Prelude.{◌≡◌, ℕ, ◌-◌, ◌<◌, ◌≤◌, Bool, false, List, [], ◌∷◌, ◌++◌, length, drop, Option, Some, None, IfSome, IsSome, ◌⊎◌, ◌↔◌, Result, Err, OnOk, IsErrOf}
 use Rattle.std.specs.List.{AllByRecursion}
 use Rattle.gs_base.specs.declared.rpc.Rpc.{Rpc}
+use Rattle.gs_wire.specs.declared.fault.WireFault.{WireFault}
+use Rattle.gs_wire.specs.declared.fault.WireFault.TheVariants as faults
 use Rattle.gs_wire.specs.declared.frames.End.{End}
 use Rattle.gs_wire.specs.declared.frames.Span.{Span}
 use Rattle.gs_wire.specs.declared.frames.End.TheVariants as ends
@@ -88,6 +90,18 @@ pub record Feeds (old : Holding) (piece : List ℕ) (new : Holding) (before afte
   pub stream : IsStream old.limit (held ++ piece) found rest end
   pub added : after ≡ before ++ found
   pub keeps : new ≡ record { limit = old.limit; held = held_after end rest }
+
+-- How a feed of the piece ends, by its result. What it adds before a fault of the stream stays added; where it failed
+-- before, or there was no memory, nothing changes.
+pub record EndsFeed (old : Holding) (piece : List ℕ) (new : Holding) (before after : List Rpc) (result : Result (Unit {0}) WireFault) : Type 0 where
+  pub fed : OnOk result (Feeds old piece new before after ends.Waits)
+  pub malformed : IsErrOf result faults.Malformed → Feeds old piece new before after ends.Malformed
+  pub too_long : IsErrOf result faults.TooLong → Feeds old piece new before after ends.TooLong
+  pub failed : (result ≡ Err faults.Failed) ↔ (old.held ≡ None)
+  pub failed_reader : result ≡ Err faults.Failed → new ≡ old
+  pub failed_list : result ≡ Err faults.Failed → after ≡ before
+  pub no_memory_reader : result ≡ Err faults.NoMemory → new ≡ old
+  pub no_memory_list : result ≡ Err faults.NoMemory → after ≡ before
 
 -- What a reader that held these bytes finds in the pieces that it is fed in turn, and how the last one ended.
 -- After a fault nothing more is found.

@@ -1,7 +1,7 @@
 //! A reader of frames from a stream that comes in pieces.
-ghost use Rattle.std.specs.Prelude.{◌≡◌, ◌↔◌, ◌≤◌, [], Some, None, Err, OnOk, IsErrOf, length, unwrap_or};
+ghost use Rattle.std.specs.Prelude.{◌≡◌, ◌≤◌, [], Some, None, length, unwrap_or};
 ghost use Rattle.gs_wire.specs.Messages.{longest_body};
-ghost use Rattle.gs_wire.specs.Stream.{Feeds};
+ghost use Rattle.gs_wire.specs.Stream.{EndsFeed};
 
 use crate::fault::WireFault;
 use crate::frames::{End, Progress, Span, read_frames};
@@ -66,16 +66,7 @@ impl FrameReader {
         piece: &[u8],
         rpcs: &mut Vec<Rpc>,
     ) -> Result<(), WireFault>
-        ensures fed { OnOk result (Feeds self.old piece.now self.new rpcs.old.items rpcs.new.items End.Waits) }
-        ensures malformed { IsErrOf result WireFault.Malformed
-            → Feeds self.old piece.now self.new rpcs.old.items rpcs.new.items End.Malformed }
-        ensures too_long { IsErrOf result WireFault.TooLong
-            → Feeds self.old piece.now self.new rpcs.old.items rpcs.new.items End.TooLong }
-        ensures failed { (result ≡ Err WireFault.Failed) ↔ (self.old.held ≡ None) }
-        ensures failed_reader { result ≡ Err WireFault.Failed → self.new ≡ self.old }
-        ensures failed_list { result ≡ Err WireFault.Failed → rpcs.new.items ≡ rpcs.old.items }
-        ensures no_memory_reader { result ≡ Err WireFault.NoMemory → self.new ≡ self.old }
-        ensures no_memory_list { result ≡ Err WireFault.NoMemory → rpcs.new.items ≡ rpcs.old.items }
+        ensures { EndsFeed self.old piece.now self.new rpcs.old.items rpcs.new.items result }
     {
         if let Some(span) = self.next {
             if self.held.len() + piece.len() < span.end {
@@ -94,16 +85,7 @@ impl FrameReader {
         piece: &[u8],
         rpcs: &mut Vec<Rpc>,
     ) -> Result<(), WireFault>
-        ensures fed { OnOk result (Feeds self.old piece.now self.new rpcs.old.items rpcs.new.items End.Waits) }
-        ensures malformed { IsErrOf result WireFault.Malformed
-            → Feeds self.old piece.now self.new rpcs.old.items rpcs.new.items End.Malformed }
-        ensures too_long { IsErrOf result WireFault.TooLong
-            → Feeds self.old piece.now self.new rpcs.old.items rpcs.new.items End.TooLong }
-        ensures failed { (result ≡ Err WireFault.Failed) ↔ (self.old.held ≡ None) }
-        ensures failed_reader { result ≡ Err WireFault.Failed → self.new ≡ self.old }
-        ensures failed_list { result ≡ Err WireFault.Failed → rpcs.new.items ≡ rpcs.old.items }
-        ensures no_memory_reader { result ≡ Err WireFault.NoMemory → self.new ≡ self.old }
-        ensures no_memory_list { result ≡ Err WireFault.NoMemory → rpcs.new.items ≡ rpcs.old.items }
+        ensures { EndsFeed self.old piece.now self.new rpcs.old.items rpcs.new.items result }
     {
         if self.failed {
             return Err(WireFault::Failed);
@@ -131,14 +113,8 @@ impl FrameReader {
                 self.next = next;
                 Ok(())
             }
-            End::TooLong => {
-                self.fail();
-                Err(WireFault::TooLong)
-            }
-            End::Malformed => {
-                self.fail();
-                Err(WireFault::Malformed)
-            }
+            End::TooLong => Err(self.fail(WireFault::TooLong)),
+            End::Malformed => Err(self.fail(WireFault::Malformed)),
         }
     }
 
@@ -151,14 +127,7 @@ impl FrameReader {
         rpcs: &mut Vec<Rpc>,
     ) -> Result<(), WireFault>
         requires { self.old.held ≡ Some [] }
-        ensures fed { OnOk result (Feeds self.old piece.now self.new rpcs.old.items rpcs.new.items End.Waits) }
-        ensures malformed { IsErrOf result WireFault.Malformed
-            → Feeds self.old piece.now self.new rpcs.old.items rpcs.new.items End.Malformed }
-        ensures too_long { IsErrOf result WireFault.TooLong
-            → Feeds self.old piece.now self.new rpcs.old.items rpcs.new.items End.TooLong }
-        ensures failed { ¬ (result ≡ Err WireFault.Failed) }
-        ensures no_memory_reader { result ≡ Err WireFault.NoMemory → self.new ≡ self.old }
-        ensures no_memory_list { result ≡ Err WireFault.NoMemory → rpcs.new.items ≡ rpcs.old.items }
+        ensures { EndsFeed self.old piece.now self.new rpcs.old.items rpcs.new.items result }
     {
         if piece.is_empty() {
             return Ok(());
@@ -178,22 +147,18 @@ impl FrameReader {
                 self.next = next;
                 Ok(())
             }
-            End::TooLong => {
-                self.fail();
-                Err(WireFault::TooLong)
-            }
-            End::Malformed => {
-                self.fail();
-                Err(WireFault::Malformed)
-            }
+            End::TooLong => Err(self.fail(WireFault::TooLong)),
+            End::Malformed => Err(self.fail(WireFault::Malformed)),
         }
     }
 
-    /// Nothing is held any more, nor taken.
-    fn fail(&mut self)
-        ensures { self.new ≡ record { limit = self.old.limit; held = None } }
+    /// Nothing is held any more, nor taken. Gives the fault back.
+    fn fail(&mut self, fault: WireFault) -> WireFault
+        ensures same { result ≡ fault }
+        ensures failed { self.new ≡ record { limit = self.old.limit; held = None } }
     {
         self.next = None;
         self.failed = true;
+        fault
     }
 }

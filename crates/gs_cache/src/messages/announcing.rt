@@ -11,6 +11,14 @@ use std::alloc::{AllocError, Global};
 /// How many identifiers of a topic are announced at once at most: as many as one IHAVE may have.
 pub const MOST_ANNOUNCED: usize = MOST_IDENTIFIERS as usize;
 
+/// A window of which identifiers are listed, the windows that are newer, and the topic.
+#[derive(Clone, Copy)]
+struct Listing<'a> {
+    window: &'a Window,
+    newer: &'a [Window],
+    topic: &'a Topic,
+}
+
 /// The identifiers to announce on a topic, of the messages in the newest so many windows, in the order of their
 /// last puts, the last `MOST_ANNOUNCED`.
 ///
@@ -28,7 +36,12 @@ pub fn announce(
     let end = gossip.min(windows.len());
     for done in 0..end {
         let age = end - 1 - done;
-        list_window(&mut ids, &windows[age], &windows[..age], topic)?;
+        let listing = Listing {
+            window: &windows[age],
+            newer: &windows[..age],
+            topic,
+        };
+        list_window(&mut ids, listing)?;
     }
     keep_last(&mut ids);
     Ok(ids)
@@ -44,20 +57,16 @@ fn keep_last(ids: &mut Vec<MsgId>)
     ids.truncate(kept);
 }
 
-/// Lists the identifiers of a window that are announced, where these windows are newer.
+/// Lists the identifiers of a window that are announced.
 ///
 /// # Errors
 /// `AllocError` where there was no memory.
-fn list_window(
-    ids: &mut Vec<MsgId>,
-    window: &Window,
-    newer: &[Window],
-    topic: &Topic,
-) -> Result<(), AllocError>
-    ensures { OnOk result (ids.new.items ≡ ids.old.items ++ listed newer.now window.now topic.now) }
+fn list_window(ids: &mut Vec<MsgId>, listing: Listing<'_>) -> Result<(), AllocError>
+    ensures { OnOk result (ids.new.items
+        ≡ ids.old.items ++ listed listing.entry.newer.now listing.entry.window.now listing.entry.topic.now) }
 {
-    for place in 0..window.order.len() {
-        list_one(ids, window, newer, topic, place, &window.order[place])?;
+    for place in 0..listing.window.order.len() {
+        list_one(ids, listing, place, &listing.window.order[place])?;
     }
     Ok(())
 }
@@ -68,20 +77,19 @@ fn list_window(
 /// `AllocError` where there was no memory.
 fn list_one(
     ids: &mut Vec<MsgId>,
-    window: &Window,
-    newer: &[Window],
-    topic: &Topic,
+    listing: Listing<'_>,
     place: usize,
     id: &MsgId,
 ) -> Result<(), AllocError>
     ensures { OnOk result (ids.new.items
         ≡ ids.old.items
-        ++ filter (is_listed newer.now window.now topic.now) (placed window.now.puts.entries place (id.now ∷ []))) }
+        ++ filter (is_listed listing.entry.newer.now listing.entry.window.now listing.entry.topic.now)
+        (placed listing.entry.window.now.puts.entries place (id.now ∷ []))) }
 {
-    if !is_placed_on(window, topic, place, id) {
+    if !is_placed_on(listing.window, listing.topic, place, id) {
         return Ok(());
     }
-    if any_has(newer, id) {
+    if any_has(listing.newer, id) {
         return Ok(());
     }
     ids.push(*id)?;

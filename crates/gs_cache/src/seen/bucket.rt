@@ -101,32 +101,32 @@ impl Bucket {
             self.sightings = IndexMap::new(alloc);
         }
     }
-}
 
-/// Takes a sighting into the newer bucket, or, where that began the time ago or more, into one of its own: the
-/// newer bucket is then the older one, and what that held counts no more.
-///
-/// # Errors
-/// `AllocError` where there was no memory; nothing is changed then.
-pub fn take(
-    alloc: Global,
-    ttl: Millis,
-    newer: &mut Bucket,
-    older: &mut Bucket,
-    id: MsgId,
-    sighting: Sighting,
-) -> Result<(), AllocError>
-    requires in_order { AreInOrder ttl.0 newer.old older.old }
-    requires no_earlier { newer.old.last.0 ≤ sighting.at.0 }
-    ensures takes { OnOk result (Takes ttl.0 id sighting newer.old older.old newer.new older.new) }
-    ensures newer_err { OnErr result (IsUnchanged newer.old newer.new) }
-    ensures older_err { OnErr result (older.new ≡ older.old) }
-{
-    if is_past(newer.first, ttl, sighting.at) {
-        let newest = Bucket::of(alloc, id, sighting)?;
-        *older = replace(newer, newest);
-        return Ok(());
+    /// Takes a sighting, or, where the bucket began the time ago or more, into a bucket of its own: that is then the
+    /// newer one, this is the older one, and what the older one held counts no more.
+    ///
+    /// # Errors
+    /// `AllocError` where there was no memory; nothing is changed then.
+    pub fn take(
+        &mut self,
+        alloc: Global,
+        ttl: Millis,
+        older: &mut Bucket,
+        id: MsgId,
+        sighting: Sighting,
+    ) -> Result<(), AllocError>
+        requires in_order { AreInOrder ttl.0 self.old older.old }
+        requires no_earlier { self.old.last.0 ≤ sighting.at.0 }
+        ensures takes { OnOk result (Takes ttl.0 id sighting self.old older.old self.new older.new) }
+        ensures newer_err { OnErr result (IsUnchanged self.old self.new) }
+        ensures older_err { OnErr result (older.new ≡ older.old) }
+    {
+        if is_past(self.first, ttl, sighting.at) {
+            let newest = Bucket::of(alloc, id, sighting)?;
+            *older = replace(self, newest);
+            return Ok(());
+        }
+        self.put(id, sighting)?;
+        Ok(())
     }
-    newer.put(id, sighting)?;
-    Ok(())
 }

@@ -155,7 +155,7 @@ pub fn task_in<G: Gate, S: Ends>(
     requires known { has (S.joints surroundings.ends) pair.other ≡ true }
     requires accepted { (q : PeerNoValue) → S.accepted surroundings.ends q ≡ [] }
     requires taken { (q : PeerNoValue) → S.taken surroundings.ends q ≡ [] }
-    ensures can { IfOk result (λ task. CanPoll S.joints S.accepted S.taken task) }
+    ensures can { IfOk result (λ task. CanPoll S.Ends task) }
     ensures ends { IfOk result (λ task. HasJoints S.joints (S.joints surroundings.ends) task) }
 {
     let neighbours = vec![in alloc; pair.other]?;
@@ -188,7 +188,7 @@ pub fn task<S: Ends>(
     requires known { has (S.joints ends) pair.other ≡ true }
     requires accepted { (q : PeerNoValue) → S.accepted ends q ≡ [] }
     requires taken { (q : PeerNoValue) → S.taken ends q ≡ [] }
-    ensures can { IfOk result (λ task. CanPoll S.joints S.accepted S.taken task) }
+    ensures can { IfOk result (λ task. CanPoll S.Ends task) }
     ensures ends { IfOk result (λ task. HasJoints S.joints (S.joints ends) task) }
 {
     let surroundings = Surroundings {

@@ -1,7 +1,7 @@
 //! Two tasks that hear each other over links.
 ghost use Rattle.std.specs.Prelude.{◌≡◌, [], IfOk};
 ghost use Rattle.gs_link.specs.Items.{IsCapacity};
-ghost use Rattle.gs_ends.specs.Pairs.{accepted_for, joints_of, taken_from};
+ghost use Rattle.gs_ends.specs.Pairs.{pair_ends};
 ghost use Rattle.gs_peer.specs.Task.{CanPoll};
 
 use crate::tests::items::script;
@@ -41,7 +41,7 @@ fn side<R: Wait + AllocGlobal + Copy + Drop>(
 ) -> Result<PeerTask<NoGate, LinkEnds<R>>, AllocError>
     requires accepted { tx.accepted ≡ [] }
     requires taken { rx.taken ≡ [] }
-    ensures { IfOk result (λ task. CanPoll joints_of accepted_for taken_from task) }
+    ensures { IfOk result (λ task. CanPoll pair_ends task) }
 {
     let ends = links(rt, rt.alloc(), pair.other, tx, rx)?;
     let lines = script(rt.alloc())?;
@@ -64,8 +64,8 @@ fn hear_each_other<R>(
 ) -> io::Result<bool>
 where
     R: Wait + RandomSource + AllocGlobal + Copy + Drop,
-    requires first { CanPoll joints_of accepted_for taken_from first }
-    requires second { CanPoll joints_of accepted_for taken_from second }
+    requires first { CanPoll pair_ends first }
+    requires second { CanPoll pair_ends second }
 {
     let (first, second) = block_on(&rt, join(first, second))?;
     Ok(heard_all(first) && heard_all(second))

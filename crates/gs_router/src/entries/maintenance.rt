@@ -14,7 +14,7 @@ use crate::entries::sends::{bare, send_to_each, to_each};
 use crate::known::Known;
 use crate::peer_lists::{left_of, those_among, those_outside};
 use gs_base::{Mark, Millis, PeerNo, Rpc, Seq, Topic};
-use gs_mesh::{Choice, Member, choose_heartbeat};
+use gs_mesh::{Choice, Heartbeat, Member, choose_heartbeat};
 use gs_params::{Words, pick};
 use gs_rules::{Entry, Event};
 use std::alloc::AllocError;
@@ -115,14 +115,11 @@ pub fn mesh_beat<W: Words>(
     let mesh = members_of(known, known.tables.memberships.members(&topic), now)?;
     let near = candidates(known, &topic, now)?;
     let candidates = members_of(known, &near, now)?;
-    let choice = choose_heartbeat(
-        known.alloc,
-        &known.setup.params,
-        &mesh,
-        &candidates,
-        known.tables.beats.count(),
-        words,
-    )?;
+    let heartbeat = Heartbeat {
+        params: &known.setup.params,
+        tick: known.tables.beats.count(),
+    };
+    let choice = choose_heartbeat(known.alloc, heartbeat, &mesh, &candidates, words)?;
     let entry = mending(known, topic, &choice, now)?;
     Ok(entry)
 }

@@ -2,7 +2,7 @@
 ghost use Rattle.std.specs.Prelude.{◌≡◌, ◌≤◌, [], length, map};
 ghost use Rattle.std.specs.List.{list_any};
 ghost use Rattle.toml.specs.View.{view, items_view};
-ghost use Rattle.gs_scenario.specs.Refusal.{Gives};
+ghost use Rattle.gs_scenario.specs.Refusal.{GivesSame};
 ghost use Rattle.gs_scenario.specs.Keys.{read_each};
 ghost use Rattle.gs_plan.specs.Plans.{are_of_the_same};
 ghost use Rattle.gs_scenario.specs.PlanOf.{app_in, app_keys, neighbour};
@@ -41,8 +41,7 @@ pub fn apps_in(
     list: &[Value],
 ) -> Result<Seq<App>, ScenarioFault>
     requires { length peers.now ≤ MOST_PEERS }
-    ensures { Gives (λ apps. apps) result
-        (read_each (app_in peers.now dials.now) [] (items_view list.now)) }
+    ensures { GivesSame result (read_each (app_in peers.now dials.now) [] (items_view list.now)) }
 {
     read_each(
         alloc,
@@ -61,8 +60,7 @@ fn app_in(
     value: &Value,
 ) -> Result<App, ScenarioFault>
     requires { length peers.now ≤ MOST_PEERS }
-    ensures { Gives (λ app. app) result
-        (app_in peers.now dials.now earlier.now (view value.now)) }
+    ensures { GivesSame result (app_in peers.now dials.now earlier.now (view value.now)) }
 {
     let element = Element {
         list: "app",
@@ -89,8 +87,7 @@ fn neighbour_of(
     field: &Field<'_>,
 ) -> Result<PeerNo, ScenarioFault>
     requires { length peers.now ≤ MOST_PEERS }
-    ensures { Gives (λ other. other) result
-        (read_as (neighbour peers.now dials.now peer) field.now) }
+    ensures { GivesSame result (read_as (neighbour peers.now dials.now peer) field.now) }
 {
     let name = field.name()?;
     let other = peer_of(peers, field)?;

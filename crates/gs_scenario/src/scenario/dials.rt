@@ -1,7 +1,7 @@
 //! The dials of a scenario.
 ghost use Rattle.std.specs.Prelude.{◌≡◌, ◌≤◌, [], length, map};
 ghost use Rattle.toml.specs.View.{view, items_view};
-ghost use Rattle.gs_scenario.specs.Refusal.{Gives};
+ghost use Rattle.gs_scenario.specs.Refusal.{GivesSame};
 ghost use Rattle.gs_scenario.specs.Keys.{read_each};
 ghost use Rattle.gs_scenario.specs.PlanOf.{dial_in, dial_keys};
 ghost use Rattle.gs_plan.specs.Plans.{are_joined};
@@ -36,8 +36,7 @@ pub fn dials_in(
     list: &[Value],
 ) -> Result<Seq<Dial>, ScenarioFault>
     requires { length peers.now ≤ MOST_PEERS }
-    ensures { Gives (λ dials. dials) result
-        (read_each (dial_in peers.now) [] (items_view list.now)) }
+    ensures { GivesSame result (read_each (dial_in peers.now) [] (items_view list.now)) }
 {
     read_each(
         alloc,
@@ -55,7 +54,7 @@ fn dial_in(
     value: &Value,
 ) -> Result<Dial, ScenarioFault>
     requires { length peers.now ≤ MOST_PEERS }
-    ensures { Gives (λ dial. dial) result (dial_in peers.now earlier.now (view value.now)) }
+    ensures { GivesSame result (dial_in peers.now earlier.now (view value.now)) }
 {
     let element = Element {
         list: "dial",

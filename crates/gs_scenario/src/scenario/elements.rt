@@ -3,7 +3,7 @@ ghost use Rattle.std.specs.Prelude.{◌≡◌, [], IfOk, List, Result, length};
 ghost use Rattle.toml.specs.Data.{Data};
 ghost use Rattle.toml.specs.View.{items_view};
 ghost use Rattle.gs_scenario.specs.declared.fault.ScenarioFault.{ScenarioFault as Fault};
-ghost use Rattle.gs_scenario.specs.Refusal.{Gives};
+ghost use Rattle.gs_scenario.specs.Refusal.{GivesSame};
 ghost use Rattle.gs_scenario.specs.Keys.{read_each};
 ghost use Rattle.gs_scenario.specs.Views.{ReadsAs};
 
@@ -21,7 +21,7 @@ where
     ghost reads: { List T → Data → Result T Fault }
     requires callable { F.IsAlwaysCallable read }
     requires each { ReadsAs (F.post read) reads }
-    ensures read { Gives (λ elements. elements) result (read_each reads [] (items_view list.now)) }
+    ensures read { GivesSame result (read_each reads [] (items_view list.now)) }
     ensures count { IfOk result (λ elements. length elements ≡ length list.now) }
 {
     let mut elements = Seq::new(alloc);

@@ -4,7 +4,7 @@ ghost use Rattle.std.specs.List.{list_all};
 ghost use Rattle.toml.specs.Data.{as_integer, as_str, as_array};
 ghost use Rattle.toml.specs.View.{view, items_view, table_view};
 ghost use Rattle.gs_scenario.specs.declared.fault.ScenarioFault.TheVariants.{UnknownName, Repeated};
-ghost use Rattle.gs_scenario.specs.Refusal.{Gives};
+ghost use Rattle.gs_scenario.specs.Refusal.{Gives, GivesSame};
 ghost use Rattle.gs_scenario.specs.Kinds as kinds;
 ghost use Rattle.gs_scenario.specs.Views.{element_text, place_text, read_as, section_of};
 
@@ -65,8 +65,7 @@ impl<'a> Field<'a> {
 
     /// A whole number from low to high.
     pub fn whole_number(&self, low: u64, high: u64) -> Result<u64, ScenarioFault>
-        ensures number { Gives (λ number. number) result
-            (read_as (kinds.whole_number low high) self.now) }
+        ensures number { GivesSame result (read_as (kinds.whole_number low high) self.now) }
         ensures within { IfOk result (λ number. (low ≤ number) × (number ≤ high)) }
     {
         if let Some(number) = self.value.as_integer() {
@@ -82,8 +81,7 @@ impl<'a> Field<'a> {
 
     /// A whole number of either sign, from low to high.
     pub fn signed_number(&self, low: i64, high: i64) -> Result<i64, ScenarioFault>
-        ensures { Gives (λ number. number) result
-            (read_as (kinds.signed_number low high) self.now) }
+        ensures { GivesSame result (read_as (kinds.signed_number low high) self.now) }
     {
         if let Some(number) = self.value.as_integer() {
             if (low..=high).contains(&number) {
@@ -96,7 +94,7 @@ impl<'a> Field<'a> {
     /// A whole number from low to high that is a multiple of a step.
     pub fn multiple(&self, low: u64, high: u64, step: u64) -> Result<u64, ScenarioFault>
         requires { 1 ≤ step }
-        ensures { Gives (λ number. number) result
+        ensures { GivesSame result
             (read_as (kinds.multiple_of step (kinds.whole_number low high)) self.now) }
     {
         let number = self.whole_number(low, high)?;
@@ -109,7 +107,7 @@ impl<'a> Field<'a> {
 
     /// True or false.
     pub fn truth_value(&self) -> Result<bool, ScenarioFault>
-        ensures { Gives (λ value. value) result (read_as kinds.truth_value self.now) }
+        ensures { GivesSame result (read_as kinds.truth_value self.now) }
     {
         match self.value.as_bool() {
             Some(value) => Ok(value),
@@ -177,7 +175,7 @@ impl<'a> Field<'a> {
 
     /// The bytes of a text of hex digits, in either case and even in number.
     pub fn hex(&self) -> Result<Bytes, ScenarioFault>
-        ensures { Gives (λ bytes. bytes) result (read_as kinds.hex_text self.now) }
+        ensures { GivesSame result (read_as kinds.hex_text self.now) }
     {
         if let Some(text) = self.value.as_str() {
             match hex::decode(self.alloc, text) {
@@ -192,8 +190,7 @@ impl<'a> Field<'a> {
     /// The bytes of each hex text of a list.
     #[tactic(auto, unfolding(crate::specs::Keys::read_each))]
     pub fn prefixes(&self) -> Result<Seq<Bytes>, ScenarioFault>
-        ensures { Gives (λ prefixes. prefixes) result
-            (read_as (kinds.list_of_each kinds.hex_text) self.now) }
+        ensures { GivesSame result (read_as (kinds.list_of_each kinds.hex_text) self.now) }
     {
         let list = self.any_list()?;
         let mut prefixes = Seq::new(self.alloc);
@@ -208,7 +205,7 @@ impl<'a> Field<'a> {
     /// The words of 32 bits of a list.
     #[tactic(auto, unfolding(crate::specs::Keys::read_each))]
     pub fn words(&self) -> Result<Seq<u32>, ScenarioFault>
-        ensures { Gives (λ words. words) result (read_as kinds.words self.now) }
+        ensures { GivesSame result (read_as kinds.words self.now) }
     {
         let list = self.any_list()?;
         let mut words = Seq::new(self.alloc);

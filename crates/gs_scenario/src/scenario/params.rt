@@ -2,7 +2,7 @@
 ghost use Rattle.std.specs.Prelude.{◌≡◌, ◌≤◌, map, option_map, unwrap_or};
 ghost use Rattle.toml.specs.Data.{no_members};
 ghost use Rattle.toml.specs.View.{table_view};
-ghost use Rattle.gs_scenario.specs.Refusal.{Gives};
+ghost use Rattle.gs_scenario.specs.Refusal.{GivesSame};
 ghost use Rattle.gs_scenario.specs.ParamsOf.{shared_in, shared_names, degrees_in, thresholds_in, factors_in, windows_in, params_of};
 ghost use Rattle.gs_scenario.specs.Kinds.{section_at};
 ghost use Rattle.gs_scenario.specs.PlanOf.{params_key};
@@ -38,7 +38,7 @@ pub fn shared_of(
     round_ms: u64,
 ) -> Result<Shared, ScenarioFault>
     requires { 1 ≤ round_ms }
-    ensures { Gives (λ shared. shared) result (shared_in round_ms (section_at params_key.name
+    ensures { GivesSame result (shared_in round_ms (section_at params_key.name
         (unwrap_or (option_map (λ found. table_view found.now) table.entry) no_members))) }
 {
     let path = Path::Table("params");
@@ -96,7 +96,7 @@ pub fn keys() -> &'static [&'static str]
 #[tactic(auto, unfolding(crate::specs::ParamsOf::shared_in))]
 fn shared_in(section: &Section<'_>, round_ms: u64) -> Result<Shared, ScenarioFault>
     requires { 1 ≤ round_ms }
-    ensures { Gives (λ shared. shared) result (shared_in round_ms (section_of section.now)) }
+    ensures { GivesSame result (shared_in round_ms (section_of section.now)) }
 {
     section.only(TableKind::Params)?;
     Ok(Shared {
@@ -110,7 +110,7 @@ fn shared_in(section: &Section<'_>, round_ms: u64) -> Result<Shared, ScenarioFau
 
 #[tactic(auto, unfolding(crate::specs::ParamsOf::degrees_in))]
 fn degrees_in(section: &Section<'_>) -> Result<Degrees, ScenarioFault>
-    ensures { Gives (λ degrees. degrees) result (degrees_in (section_of section.now)) }
+    ensures { GivesSame result (degrees_in (section_of section.now)) }
 {
     let default = DEFAULT_DEGREES;
     Ok(Degrees {
@@ -125,7 +125,7 @@ fn degrees_in(section: &Section<'_>) -> Result<Degrees, ScenarioFault>
 
 #[tactic(auto, unfolding(crate::specs::ParamsOf::thresholds_in))]
 fn thresholds_in(section: &Section<'_>) -> Result<Thresholds, ScenarioFault>
-    ensures { Gives (λ thresholds. thresholds) result (thresholds_in (section_of section.now)) }
+    ensures { GivesSame result (thresholds_in (section_of section.now)) }
 {
     let default = DEFAULT_THRESHOLDS;
     Ok(Thresholds {
@@ -141,7 +141,7 @@ fn thresholds_in(section: &Section<'_>) -> Result<Thresholds, ScenarioFault>
 
 #[tactic(auto, unfolding(crate::specs::ParamsOf::factors_in))]
 fn factors_in(section: &Section<'_>) -> Result<Factors, ScenarioFault>
-    ensures { Gives (λ factors. factors) result (factors_in (section_of section.now)) }
+    ensures { GivesSame result (factors_in (section_of section.now)) }
 {
     let default = DEFAULT_FACTORS;
     Ok(Factors {
@@ -159,7 +159,7 @@ fn factors_in(section: &Section<'_>) -> Result<Factors, ScenarioFault>
 #[tactic(auto, unfolding(crate::specs::ParamsOf::windows_in))]
 fn windows_in(section: &Section<'_>, round_ms: u64) -> Result<Windows, ScenarioFault>
     requires { 1 ≤ round_ms }
-    ensures { Gives (λ windows. windows) result (windows_in round_ms (section_of section.now)) }
+    ensures { GivesSame result (windows_in round_ms (section_of section.now)) }
 {
     let default = DEFAULT_WINDOWS;
     Ok(Windows {
@@ -189,7 +189,7 @@ fn windows_in(section: &Section<'_>, round_ms: u64) -> Result<Windows, ScenarioF
 /// All parameters, if they pass their checks.
 #[tactic(auto, unfolding(crate::specs::ParamsOf::params_of))]
 pub fn params_of(shared: Shared, topics: Seq<(Topic, TopicParams)>) -> Result<Params, ScenarioFault>
-    ensures { Gives (λ params. params) result (params_of shared topics) }
+    ensures { GivesSame result (params_of shared topics) }
 {
     let params = Params {
         degrees: shared.degrees,

@@ -3,7 +3,7 @@ ghost use Rattle.std.specs.Prelude.{◌≡◌, ◌<◌, ◌≤◌, [], IfOk, IfS
 ghost use Rattle.std.specs.Cmp.Lexicographic.{pointwise};
 ghost use Rattle.toml.specs.View.{view, items_view};
 ghost use Rattle.gs_scenario.specs.declared.reason.NameKind.TheVariants as names;
-ghost use Rattle.gs_scenario.specs.Refusal.{Gives};
+ghost use Rattle.gs_scenario.specs.Refusal.{GivesSame};
 ghost use Rattle.gs_scenario.specs.Keys.{read_each};
 ghost use Rattle.gs_scenario.specs.Kinds.{reference};
 ghost use Rattle.gs_scenario.specs.Views.{read_as};
@@ -35,7 +35,7 @@ pub fn keys() -> &'static [&'static str]
 
 /// The peers of a list, in its order.
 pub fn peers_in(alloc: Global, list: &[Value]) -> Result<Seq<PlannedPeer>, ScenarioFault>
-    ensures read { Gives (λ peers. peers) result (read_each peer_in [] (items_view list.now)) }
+    ensures read { GivesSame result (read_each peer_in [] (items_view list.now)) }
     ensures count { IfOk result (λ peers. length peers ≡ length list.now) }
 {
     read_each(alloc, list, |earlier, value| peer_in(alloc, earlier, value))
@@ -48,7 +48,7 @@ fn peer_in(
     earlier: &[PlannedPeer],
     value: &Value,
 ) -> Result<PlannedPeer, ScenarioFault>
-    ensures { Gives (λ peer. peer) result (peer_in earlier.now (view value.now)) }
+    ensures { GivesSame result (peer_in earlier.now (view value.now)) }
 {
     let element = Element {
         list: "peer",
@@ -73,8 +73,7 @@ fn peer_in(
 /// The number of the peer that a value names.
 pub fn peer_of(peers: &[PlannedPeer], field: &Field<'_>) -> Result<PeerNo, ScenarioFault>
     requires { length peers.now ≤ MOST_PEERS }
-    ensures { Gives (λ peer. peer) result
-        (read_as (reference names.Peer (peer_named peers.now)) field.now) }
+    ensures { GivesSame result (read_as (reference names.Peer (peer_named peers.now)) field.now) }
 {
     let name = field.name()?;
     match peer_named(peers, name) {

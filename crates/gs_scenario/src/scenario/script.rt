@@ -2,7 +2,7 @@
 ghost use Rattle.std.specs.Prelude.{◌≡◌, ◌≤◌, [], length, map};
 ghost use Rattle.toml.specs.View.{view, items_view};
 ghost use Rattle.gs_scenario.specs.declared.scenario.tables.TableKind.TheVariants as kinds;
-ghost use Rattle.gs_scenario.specs.Refusal.{Gives};
+ghost use Rattle.gs_scenario.specs.Refusal.{GivesSame};
 ghost use Rattle.gs_scenario.specs.Keys.{read_each};
 ghost use Rattle.gs_scenario.specs.Kinds.{word};
 ghost use Rattle.gs_scenario.specs.Views.{read_as, section_of};
@@ -78,7 +78,7 @@ pub fn publish_keys() -> &'static [&'static str]
 /// The lines of a list, in its order.
 pub fn lines_in(alloc: Global, known: Known<'_>, list: &[Value]) -> Result<Seq<Line>, ScenarioFault>
     requires { length known.peers.now ≤ MOST_PEERS }
-    ensures { let known = known.entry in Gives (λ lines. lines) result
+    ensures { let known = known.entry in GivesSame result
         (read_each (line_in known.topics.now known.peers.now known.rounds) [] (items_view list.now)) }
 {
     read_each(
@@ -97,7 +97,7 @@ fn line_in(
     value: &Value,
 ) -> Result<Line, ScenarioFault>
     requires { length known.peers.now ≤ MOST_PEERS }
-    ensures { let known = known.entry in Gives (λ line. line) result
+    ensures { let known = known.entry in GivesSame result
         (line_in known.topics.now known.peers.now known.rounds earlier.now (view value.now)) }
 {
     let element = Element {
@@ -115,7 +115,7 @@ fn line_in(
 /// What a peer is told to do by a line that begins with a word.
 #[tactic(auto, unfolding(crate::specs::PlanOf::what_in))]
 fn what_in(topics: &[TopicEntry], section: &Section<'_>, verb: Verb) -> Result<What, ScenarioFault>
-    ensures { Gives (λ what. what) result (what_in topics.now (section_of section.now) verb) }
+    ensures { GivesSame result (what_in topics.now (section_of section.now) verb) }
 {
     let topic = topic_of(topics, &section.required(TOPIC)?)?;
     match verb {
@@ -128,7 +128,7 @@ fn what_in(topics: &[TopicEntry], section: &Section<'_>, verb: Verb) -> Result<W
 /// What a line tells a peer, which has no other key than one that tells this may have.
 #[tactic(auto, unfolding(crate::specs::PlanOf::verb_in))]
 fn verb_in(section: &Section<'_>) -> Result<Verb, ScenarioFault>
-    ensures { Gives (λ verb. verb) result (verb_in (section_of section.now)) }
+    ensures { GivesSame result (verb_in (section_of section.now)) }
 {
     let verb = verb_at(&section.required(WHAT)?)?;
     section.only(verb.line_kind())?;
@@ -137,7 +137,7 @@ fn verb_in(section: &Section<'_>) -> Result<Verb, ScenarioFault>
 
 /// The word that a value is.
 fn verb_at(field: &Field<'_>) -> Result<Verb, ScenarioFault>
-    ensures { Gives (λ verb. verb) result (read_as (word verb_of) field.now) }
+    ensures { GivesSame result (read_as (word verb_of) field.now) }
 {
     if let Some(text) = field.value.as_str() {
         if let Some(verb) = verb_of(text) {

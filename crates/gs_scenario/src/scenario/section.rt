@@ -3,7 +3,7 @@ ghost use Rattle.std.specs.Prelude.{◌≡◌, [], ◌++◌, ◌≤◌, IfOk, If
 ghost use Rattle.toml.specs.Data.{get_member, no_items, no_members};
 ghost use Rattle.toml.specs.View.{view, items_view, table_view};
 ghost use Rattle.gs_scenario.specs.declared.fault.ScenarioFault.TheVariants.{Missing};
-ghost use Rattle.gs_scenario.specs.Refusal.{Gives};
+ghost use Rattle.gs_scenario.specs.Refusal.{Gives, GivesSame};
 ghost use Rattle.gs_scenario.specs.Keys.{required, optional, read_key, only, is_one_of, or_refuse};
 ghost use Rattle.gs_scenario.specs.Kinds as kinds;
 ghost use Rattle.gs_scenario.specs.ParamsOf.{count_key, multiple_key, reward_key, score_key, prefixes_key};
@@ -39,8 +39,7 @@ impl<'a> Section<'a> {
     /// Refuses the first key, in the order of bytes, that such a table may not have.
     #[tactic(auto, unfolding(crate::specs::Keys::only))]
     pub fn only(&self, kind: TableKind) -> Result<(), ScenarioFault>
-        ensures { Gives (λ x. x) result
-            (only kind (known_keys kind) (section_of self.now)) }
+        ensures { GivesSame result (only kind (known_keys kind) (section_of self.now)) }
     {
         let known = kind.known_keys();
         for (key, _value) in self.table {
@@ -96,7 +95,7 @@ impl<'a> Section<'a> {
 
     /// The whole number from low to high at a key that is required.
     pub fn number(&self, key: &'a str, low: u64, high: u64) -> Result<u64, ScenarioFault>
-        ensures number { Gives (λ number. number) result
+        ensures number { GivesSame result
             (held_at (required key.now (kinds.whole_number low high)) self.now) }
         ensures within { IfOk result (λ number. (low ≤ number) × (number ≤ high)) }
     {
@@ -105,7 +104,7 @@ impl<'a> Section<'a> {
 
     /// The whole number of either sign from low to high at a key that is required.
     pub fn signed_number(&self, key: &'a str, low: i64, high: i64) -> Result<i64, ScenarioFault>
-        ensures { Gives (λ number. number) result
+        ensures { GivesSame result
             (held_at (required key.now (kinds.signed_number low high)) self.now) }
     {
         self.required(key)?.signed_number(low, high)
@@ -113,7 +112,7 @@ impl<'a> Section<'a> {
 
     /// The count at a key, and the default where the key is missing.
     pub fn count(&self, key: &'a str, default: u64) -> Result<u64, ScenarioFault>
-        ensures { Gives (λ number. number) result (held_at (count_key key.now default) self.now) }
+        ensures { GivesSame result (held_at (count_key key.now default) self.now) }
     {
         self.optional(key)
             .map_or(Ok(default), |field| field.whole_number(0, HIGHEST_NUMBER))
@@ -122,8 +121,7 @@ impl<'a> Section<'a> {
     /// The count at a key, and the default where the key is missing, if it is a multiple of a step.
     pub fn multiple(&self, key: &'a str, default: u64, step: u64) -> Result<u64, ScenarioFault>
         requires { 1 ≤ step }
-        ensures { Gives (λ number. number) result
-            (held_at (multiple_key step key.now default) self.now) }
+        ensures { GivesSame result (held_at (multiple_key step key.now default) self.now) }
     {
         if let Some(field) = self.optional(key) {
             return field.multiple(0, HIGHEST_NUMBER, step);
@@ -138,7 +136,7 @@ impl<'a> Section<'a> {
 
     /// The weight of what counts for a neighbour at a key, and the default where the key is missing.
     pub fn reward(&self, key: &'a str, default: i64) -> Result<i64, ScenarioFault>
-        ensures { Gives (λ number. number) result (held_at (reward_key key.now default) self.now) }
+        ensures { GivesSame result (held_at (reward_key key.now default) self.now) }
     {
         self.optional(key)
             .map_or(Ok(default), |field| field.signed_number(0, HIGHEST_SCORE))
@@ -146,7 +144,7 @@ impl<'a> Section<'a> {
 
     /// The millionths of either sign at a key, and the default where the key is missing.
     pub fn score(&self, key: &'a str, default: i64) -> Result<i64, ScenarioFault>
-        ensures { Gives (λ number. number) result (held_at (score_key key.now default) self.now) }
+        ensures { GivesSame result (held_at (score_key key.now default) self.now) }
     {
         self.optional(key).map_or(
             Ok(default),
@@ -156,8 +154,7 @@ impl<'a> Section<'a> {
 
     /// The truth value at a key, and the default where the key is missing.
     pub fn truth_value(&self, key: &'a str, default: bool) -> Result<bool, ScenarioFault>
-        ensures { Gives (λ value. value) result
-            (held_at (optional key.now kinds.truth_value default) self.now) }
+        ensures { GivesSame result (held_at (optional key.now kinds.truth_value default) self.now) }
     {
         self.optional(key)
             .map_or(Ok(default), |field| field.truth_value())
@@ -165,7 +162,7 @@ impl<'a> Section<'a> {
 
     /// The bytes of each hex text of the list at a key, none where the key is missing.
     pub fn prefixes(&self, key: &'a str) -> Result<Seq<Bytes>, ScenarioFault>
-        ensures { Gives (λ prefixes. prefixes) result (held_at (prefixes_key key.now) self.now) }
+        ensures { GivesSame result (held_at (prefixes_key key.now) self.now) }
     {
         self.optional(key)
             .map_or(Ok(Seq::new(self.alloc)), |field| field.prefixes())
@@ -173,7 +170,7 @@ impl<'a> Section<'a> {
 
     /// The words of 32 bits of the list at a key, none where the key is missing.
     pub fn words(&self, key: &'a str) -> Result<Seq<u32>, ScenarioFault>
-        ensures { Gives (λ words. words) result (held_at (optional key.now kinds.words []) self.now) }
+        ensures { GivesSame result (held_at (optional key.now kinds.words []) self.now) }
     {
         self.optional(key)
             .map_or(Ok(Seq::new(self.alloc)), |field| field.words())
@@ -214,8 +211,7 @@ impl<'a> Section<'a> {
 
     /// The bytes of the hex text at a key that is required.
     pub fn hex(&self, key: &'a str) -> Result<Bytes, ScenarioFault>
-        ensures { Gives (λ bytes. bytes) result
-            (held_at (required key.now kinds.hex_text) self.now) }
+        ensures { GivesSame result (held_at (required key.now kinds.hex_text) self.now) }
     {
         self.required(key)?.hex()
     }

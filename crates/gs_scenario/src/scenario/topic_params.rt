@@ -1,6 +1,6 @@
 //! The parameters of a topic of a scenario.
 ghost use Rattle.std.specs.Prelude.{◌≡◌};
-ghost use Rattle.gs_scenario.specs.Refusal.{Gives};
+ghost use Rattle.gs_scenario.specs.Refusal.{GivesSame};
 ghost use Rattle.gs_scenario.specs.TopicParamsOf.{topic_params_in, topic_factors_in, topic_weights_in, topic_counters_in, topic_windows_in, factors_of};
 ghost use Rattle.gs_scenario.specs.Views.{section_of};
 
@@ -37,7 +37,7 @@ pub struct TopicCounters {
 /// The parameters in the table of a topic.
 #[tactic(auto, unfolding(crate::specs::TopicParamsOf::topic_params_in))]
 pub fn topic_params_in(section: &Section<'_>) -> Result<TopicParams, ScenarioFault>
-    ensures { Gives (λ params. params) result (topic_params_in (section_of section.now)) }
+    ensures { GivesSame result (topic_params_in (section_of section.now)) }
 {
     Ok(TopicParams {
         factors: topic_factors_in(section)?,
@@ -49,7 +49,7 @@ pub fn topic_params_in(section: &Section<'_>) -> Result<TopicParams, ScenarioFau
 
 #[tactic(auto, unfolding(crate::specs::TopicParamsOf::topic_factors_in))]
 fn topic_factors_in(section: &Section<'_>) -> Result<TopicFactors, ScenarioFault>
-    ensures { Gives (λ factors. factors) result (topic_factors_in (section_of section.now)) }
+    ensures { GivesSame result (topic_factors_in (section_of section.now)) }
 {
     let weights = topic_weights_in(section)?;
     let counters = topic_counters_in(section)?;
@@ -81,7 +81,7 @@ fn factors_of(weights: TopicWeights, counters: TopicCounters) -> TopicFactors
 
 #[tactic(auto, unfolding(crate::specs::TopicParamsOf::topic_weights_in))]
 fn topic_weights_in(section: &Section<'_>) -> Result<TopicWeights, ScenarioFault>
-    ensures { Gives (λ weights. weights) result (topic_weights_in (section_of section.now)) }
+    ensures { GivesSame result (topic_weights_in (section_of section.now)) }
 {
     let default = DEFAULT_TOPIC_FACTORS;
     Ok(TopicWeights {
@@ -96,7 +96,7 @@ fn topic_weights_in(section: &Section<'_>) -> Result<TopicWeights, ScenarioFault
 
 #[tactic(auto, unfolding(crate::specs::TopicParamsOf::topic_counters_in))]
 fn topic_counters_in(section: &Section<'_>) -> Result<TopicCounters, ScenarioFault>
-    ensures { Gives (λ counters. counters) result (topic_counters_in (section_of section.now)) }
+    ensures { GivesSame result (topic_counters_in (section_of section.now)) }
 {
     let default = DEFAULT_TOPIC_FACTORS;
     Ok(TopicCounters {
@@ -113,7 +113,7 @@ fn topic_counters_in(section: &Section<'_>) -> Result<TopicCounters, ScenarioFau
 
 #[tactic(auto, unfolding(crate::specs::TopicParamsOf::topic_windows_in))]
 fn topic_windows_in(section: &Section<'_>) -> Result<TopicWindows, ScenarioFault>
-    ensures { Gives (λ windows. windows) result (topic_windows_in (section_of section.now)) }
+    ensures { GivesSame result (topic_windows_in (section_of section.now)) }
 {
     let default = DEFAULT_TOPIC_WINDOWS;
     Ok(TopicWindows {

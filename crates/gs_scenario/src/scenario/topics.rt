@@ -3,7 +3,7 @@ ghost use Rattle.std.specs.Prelude.{◌≡◌, [], option_map, is_some, map};
 ghost use Rattle.std.specs.Option.{option_copied};
 ghost use Rattle.toml.specs.View.{view, items_view};
 ghost use Rattle.gs_scenario.specs.declared.reason.NameKind.TheVariants as names;
-ghost use Rattle.gs_scenario.specs.Refusal.{Gives};
+ghost use Rattle.gs_scenario.specs.Refusal.{GivesSame};
 ghost use Rattle.gs_scenario.specs.Keys.{read_each};
 ghost use Rattle.gs_scenario.specs.Kinds.{reference};
 ghost use Rattle.gs_scenario.specs.Views.{read_as};
@@ -55,7 +55,7 @@ pub fn keys() -> &'static [&'static str]
 
 /// The topics of a list, in its order.
 pub fn topics_in(alloc: Global, list: &[Value]) -> Result<Seq<TopicEntry>, ScenarioFault>
-    ensures { Gives (λ topics. topics) result (read_each topic_in [] (items_view list.now)) }
+    ensures { GivesSame result (read_each topic_in [] (items_view list.now)) }
 {
     read_each(
         alloc,
@@ -71,7 +71,7 @@ fn topic_in(
     earlier: &[TopicEntry],
     value: &Value,
 ) -> Result<TopicEntry, ScenarioFault>
-    ensures { Gives (λ topic. topic) result (topic_in earlier.now (view value.now)) }
+    ensures { GivesSame result (topic_in earlier.now (view value.now)) }
 {
     let element = Element {
         list: "topic",
@@ -91,7 +91,7 @@ fn topic_in(
 
 /// The topic that a value names.
 pub fn topic_of(topics: &[TopicEntry], field: &Field<'_>) -> Result<Topic, ScenarioFault>
-    ensures { Gives (λ topic. topic) result
+    ensures { GivesSame result
         (read_as (reference names.Topic (topic_named topics.now)) field.now) }
 {
     let name = field.name()?;

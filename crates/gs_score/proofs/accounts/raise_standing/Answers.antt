@@ -4,7 +4,7 @@ use Rattle.std.proofs.lemmas.Map.Steps.{set_value_same}
 use Rattle.gs_base.specs.Names.{same_peer}
 use Rattle.gs_score.specs.declared.accounts.Account.{Account}
 use Rattle.gs_score.specs.Accounts.{has_topic}
-use Rattle.gs_score.specs.Standings.{raised_standing}
+use Rattle.gs_score.specs.Standings.{raised_by}
 use Rattle.gs_score.proofs.Accounting.{Changed, is_added, is_stepped, few_stay, few_of, grown, account_was, both_true}
 use Rattle.gs_score.proofs.accounts.raise_standing.Goals as goal
 
@@ -37,7 +37,7 @@ returns-in_ok-raise-in-Some-clause-puts c =
     let was : Account = c.in-Some.account.now in
     let is : Account = record { topics = c.raise.new.self; behaviour = was.behaviour } in
     let changed : Changed old (c.get_mut.follows.lender is).entries c.args.peer was is = (sym c.in-Some.ensures.value, ((c.get_mut.follows.holds is).3 (subst IsSome c.in-Some.ensures.value refl)).0) in
-    is_stepped old (c.get_mut.follows.lender is).entries c.args.peer c.args.topic.now (raised_standing c.args.rules.now c.args.kind c.args.by c.args.tick) was is changed refl c.in_ok-raise-in-Some.ensures.puts
+    is_stepped old (c.get_mut.follows.lender is).entries c.args.peer c.args.topic.now (raised_by c.args.raise) was is changed refl c.in_ok-raise-in-Some.ensures.puts
 
 pub returns-in_ok-raise-in-Some-clause-adds : goal.returns-in_ok-raise-in-Some-clause-adds
 returns-in_ok-raise-in-Some-clause-adds c =

@@ -1,7 +1,7 @@
 use Rattle.std.proofs.Common.{Option, refl, sym, ap, subst, ◌∙◌}
 use Rattle.std.specs.Option.{IsSome, unwrap_or}
 use Rattle.gs_score.specs.declared.standing.Standing.{Standing}
-use Rattle.gs_score.specs.Standings.{fresh, raised_standing}
+use Rattle.gs_score.specs.Standings.{fresh, raised_by}
 use Rattle.gs_score.proofs.Kept.{kept_adds, kept_step, most_added}
 use Rattle.gs_score.proofs.topics.raise_at.Goals as goal
 
@@ -10,16 +10,16 @@ returns-in-Some-clause-puts c =
     let old = c.args.standings.now.entries in
     let topic = c.args.topic.now in
     let is = c.raise.new.self in
-    kept_step old (c.get_mut.follows.lender is).entries topic (raised_standing c.args.rules.now c.args.kind c.args.by c.args.tick) c.in-Some.place.now is
+    kept_step old (c.get_mut.follows.lender is).entries topic (raised_by c.args.raise) c.in-Some.place.now is
     (ap (λ (o : Option Standing). unwrap_or o fresh) (sym c.in-Some.ensures.value))
     c.raise.ensures.keeps
     (((c.get_mut.follows.holds is).3 (subst IsSome c.in-Some.ensures.value refl)).0)
 
 pub returns-in_ok-insert-in-None-clause-puts : goal.returns-in_ok-insert-in-None-clause-puts
 returns-in_ok-insert-in-None-clause-puts c = λ t.
-    kept_step c.args.standings.now.entries c.insert.new.self.entries c.args.topic.now (raised_standing c.args.rules.now c.args.kind c.args.by c.args.tick) fresh c.raise-in-None.new.self
+    kept_step c.args.standings.now.entries c.insert.new.self.entries c.args.topic.now (raised_by c.args.raise) fresh c.raise-in-None.new.self
     (ap (λ (o : Option Standing). unwrap_or o fresh) (sym c.in-None.ensures.value))
-    (c.raise-in-None.ensures.keeps ∙ ap (raised_standing c.args.rules.now c.args.kind c.args.by c.args.tick) c.new-raised.ensures)
+    (c.raise-in-None.ensures.keeps ∙ ap (raised_by c.args.raise) c.new-raised.ensures)
     (λ q. rw (← c.get_mut.follows.holds-at-none, ← c.in_ok-clone_of-in-None.ensures) (c.in_ok-insert-in-None.ensures.updates.0 q)) t
 
 pub returns-in_ok-insert-in-None-clause-adds : goal.returns-in_ok-insert-in-None-clause-adds

@@ -6,7 +6,7 @@ ghost use Rattle.gs_params.specs.Params.{AreInRange};
 
 use gs_base::PeerNo;
 use gs_mesh::{
-    Choice, Member, PeerList, a_choice_by_words_is_a_mesh_step, a_cut_by_words_is_a_cut,
+    Choice, Heartbeat, Member, PeerList, a_choice_by_words_is_a_mesh_step, a_cut_by_words_is_a_cut,
     choose_heartbeat,
 };
 use gs_params::{DEFAULT_DEGREES, Degrees, ParamFault, Params, SeededWords, Words};
@@ -336,7 +336,11 @@ fn is_chosen(alloc: Global, case: &Case, params: &Params) -> Result<bool, AllocE
     let mesh = listed(alloc, case.mesh)?;
     let candidates = listed(alloc, case.candidates)?;
     let mut words = SeededWords::new(vec![in alloc; 7, 9, 11, 13, 15]?, 1, PeerNo(0));
-    let choice = choose_heartbeat(alloc, params, &mesh, &candidates, case.tick, &mut words)?;
+    let heartbeat = Heartbeat {
+        params,
+        tick: case.tick,
+    };
+    let choice = choose_heartbeat(alloc, heartbeat, &mesh, &candidates, &mut words)?;
     Ok(is_wanted(&choice, case) && words.next_word() == case.next)
 }
 

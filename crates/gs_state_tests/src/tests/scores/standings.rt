@@ -3,7 +3,7 @@ ghost use Rattle.gs_score.specs.Ranges.{RulesAreInRange};
 
 use gs_base::Millis;
 use gs_params::{DEFAULT_TOPIC_FACTORS, DEFAULT_TOPIC_WINDOWS, TopicFactors};
-use gs_score::{Kind, Standing, TopicRules};
+use gs_score::{Kind, Raise, Standing, TopicRules};
 
 /// What is done to a standing.
 enum Act {
@@ -172,7 +172,12 @@ fn perform(standing: &mut Standing, rules: &TopicRules, tick: u64, act: &Act) ->
     requires { RulesAreInRange rules.now }
 {
     match act {
-        Act::Raise(kind, by) => standing.raise(*kind, *by, rules, tick),
+        Act::Raise(kind, by) => standing.raise(Raise {
+            kind: *kind,
+            by: *by,
+            rules,
+            tick,
+        }),
         Act::Graft(now) => standing.graft(Millis(*now)),
         Act::Prune => standing.prune(),
         Act::Steps(steps) => return tick.saturating_add(*steps),

@@ -4,7 +4,7 @@ ghost use Rattle.gs_params.specs.Params.{AreInRange};
 use bytes::Bytes;
 use gs_base::{Millis, Seq, Topic};
 use gs_params::{DEFAULT_TOPIC_FACTORS, Params, TopicFactors, TopicParams};
-use gs_score::{Kind, TopicRules, Topics};
+use gs_score::{Kind, Raise, TopicRules, Topics};
 use std::alloc::{AllocError, Global};
 
 /// What is done on a topic, which is one byte.
@@ -105,7 +105,13 @@ fn perform(
         Act::Raise(name, kind) => {
             let topic = topic(alloc, *name)?;
             let rules = TopicRules::of(params, &topic);
-            topics.raise(&topic, *kind, 1_000_000, &rules, tick)?;
+            let raise = Raise {
+                kind: *kind,
+                by: 1_000_000,
+                rules: &rules,
+                tick,
+            };
+            topics.raise(&topic, raise)?;
         }
         Act::Graft(name) => topics.graft(&topic(alloc, *name)?, Millis(0))?,
         Act::Prune(name) => topics.prune(&topic(alloc, *name)?),

@@ -5,5 +5,6 @@ use Rattle.gs_cache.proofs.messages.announcing.list_window.Given as goal
 
 abbrev pub invariant-loop-place : goal.invariant-loop-place
 invariant-loop-place l =
-    l.ids.items ++ filter (is_listed l.newer l.window l.topic) (placed l.window.puts.entries l.place (drop l.place l.window.order.items))
-    ≡ l.fn.ids.items ++ listed l.newer l.window l.topic
+    let x = l.listing in
+    l.ids.items ++ filter (is_listed x.newer.now x.window.now x.topic.now) (placed x.window.now.puts.entries l.place (drop l.place x.window.now.order.items))
+    ≡ l.fn.ids.items ++ listed x.newer.now x.window.now x.topic.now

@@ -2,7 +2,7 @@ use Rattle.std.proofs.Common.{◌≡◌, ◌<◌, ◌∙◌, ◌++◌, ◌∷◌
 use Rattle.std.specs.List.{AllZip, range_with_len}
 use Rattle.gs_base.specs.declared.names.PeerNo.{PeerNo}
 use Rattle.gs_ends.specs.Ends.{Joint}
-use Rattle.gs_ends.specs.Pairs.{Pair, accepted_for, joints_of, taken_from}
+use Rattle.gs_ends.specs.Pairs.{joints_of, pair_ends}
 use Rattle.gs_dials.specs.Places.{list_at}
 use Rattle.gs_peer.specs.declared.task.PeerTask.{PeerTask}
 use Rattle.gs_net.specs.Rounds.{lines_in, peer_no}
@@ -28,8 +28,8 @@ loop-number-preserved g c =
     let plan = c.args.self.now.plan.now in
     let ends_are = c.take_list-own_ends.ensures.taken ∙ h.own_ends n (omega arith) in
     record {
-      built = subst₂ (λ (ps : List PeerNo) (tasks : List _). AllZip (IsTaskFor joints_of accepted_for taken_from plan c.args.ends.items) ps tasks) (sym (numbers_more n)) (sym c.in-Ok-push.ensures.items)
-          (zip_more (IsTaskFor joints_of accepted_for taken_from plan c.args.ends.items) (map peer_no (range_with_len 0 n)) c.loop-number.tasks.items (peer_no n) c.in-Ok.task h.built (subst (λ (joints : List Joint). IsTask joints_of accepted_for taken_from plan (peer_no n) joints c.in-Ok.task) (ap joints_of ends_are) c.in-Ok.ensures));
+      built = subst₂ (λ (ps : List PeerNo) (tasks : List _). AllZip (IsTaskFor pair_ends plan c.args.ends.items) ps tasks) (sym (numbers_more n)) (sym c.in-Ok-push.ensures.items)
+          (zip_more (IsTaskFor pair_ends plan c.args.ends.items) (map peer_no (range_with_len 0 n)) c.loop-number.tasks.items (peer_no n) c.in-Ok.task h.built (subst (λ (joints : List Joint). IsTask pair_ends plan (peer_no n) joints c.in-Ok.task) (ap joints_of ends_are) c.in-Ok.ensures));
       lines = c.take_list-own_lines.ensures.count ∙ h.lines;
       own_lines = λ k after. c.take_list-own_lines.ensures.others k (λ e. absurd (omega (arith, after, e))) ∙ h.own_lines k (omega (arith, after));
       ends = c.take_list-own_ends.ensures.count ∙ h.ends;
@@ -39,4 +39,4 @@ loop-number-preserved g c =
 pub returns : goal.returns
 returns g c =
     let count : c.loop-number.number ≡ length c.args.self.now.plan.now.peers = search rules in
-    subst (λ (n : ℕ). AllZip (IsTaskFor joints_of accepted_for taken_from c.args.self.now.plan.now c.args.ends.items) (map peer_no (range_with_len 0 n)) c.loop-number.tasks.items) count c.loop-number.invariant.built
+    subst (λ (n : ℕ). AllZip (IsTaskFor pair_ends c.args.self.now.plan.now c.args.ends.items) (map peer_no (range_with_len 0 n)) c.loop-number.tasks.items) count c.loop-number.invariant.built

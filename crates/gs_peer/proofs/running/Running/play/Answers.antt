@@ -39,7 +39,7 @@ returns-then-round-self-clause-goes g c =
     let said = words_of (g.S.Ends.taken t.ends) in
     let sent = words_of (g.S.Ends.accepted t.ends) in
     let count = counted c.entries-told.result.now t.player.router.trace (c.entries-told.ensures ∙ c.trace.ensures) in
-    goes_by g.S.Ends.joints g.S.Ends.accepted g.S.Ends.taken t _ refl refl refl e.runs.peer c.requires.kept
+    goes_by g.S.Ends t _ refl refl refl e.runs.peer c.requires.kept
     (plays_on (seat_of t) said sent t.place r (length c.entries-told.result.now) t.assignment.lines t.player c.play.new.self t.outboxes c.tell_since.new.outboxes t.first.value c.requires.kept.kept c.requires.place c.requires.full refl e count
     (search rules) (search rules))
 
@@ -59,6 +59,6 @@ returns-clause-goes g c =
     let said = words_of (g.S.Ends.taken t.ends) in
     let sent = words_of (g.S.Ends.accepted t.ends) in
     let count = counted c.entries-told.result.now t.player.router.trace (c.entries-told.ensures ∙ c.trace.ensures) in
-    goes_by g.S.Ends.joints g.S.Ends.accepted g.S.Ends.taken t _ refl refl refl (c.in_ok-shut.ensures.runs.peer ∙ e.runs.peer) c.requires.kept
+    goes_by g.S.Ends t _ refl refl refl (c.in_ok-shut.ensures.runs.peer ∙ e.runs.peer) c.requires.kept
     (plays_last (seat_of t) said sent t.place r (length c.entries-told.result.now) t.assignment.lines t.player c.play.new.self t.outboxes c.tell_since-2.new.outboxes t.first.value c.requires.kept.kept c.requires.place c.requires.full refl e count
     c.shut.new.self (search rules) c.in_ok-shut.ensures.runs c.in_ok-shut.ensures.refused c.in_ok-shut.ensures.inboxes (search rules))

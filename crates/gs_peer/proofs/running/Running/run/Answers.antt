@@ -22,7 +22,7 @@ loop-preserved g c =
     let i = c.loop.invariant in
     let e = c.in_ok-moved.ensures in
     record {
-      goes = goes_then g.S.Ends.joints acc tak t u w i.goes e.goes;
+      goes = goes_then g.S.Ends t u w i.goes e.goes;
       taken = grew_then c.loop.counter 1 (tak t.ends) (tak u.ends) (tak w.ends) i.taken e.taken;
       accepted = grew_then c.loop.counter 1 (acc t.ends) (acc u.ends) (acc w.ends) i.accepted e.accepted;
     }

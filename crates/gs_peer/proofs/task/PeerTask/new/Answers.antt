@@ -3,4 +3,4 @@ use Rattle.gs_peer.proofs.task.PeerTask.new.Goals as goal
 
 pub returns-in-Ok-clause-suspended : goal.returns-in-Ok-clause-suspended
 returns-in-Ok-clause-suspended g c =
-    suspended g.S.Ends.joints g.S.Ends.accepted g.S.Ends.taken c.in-Ok.running c.in-Ok.ensures.kept
+    suspended g.S.Ends c.in-Ok.running c.in-Ok.ensures.kept

@@ -1,10 +1,10 @@
 use Rattle.std.proofs.Common.{◌≡◌, ap, ◌∙◌, rules}
-use Rattle.gs_score.specs.Standings.{held, raised_standing}
+use Rattle.gs_score.specs.Standings.{held, raised_by}
 use Rattle.gs_score.proofs.Raising.{held-raised}
 use Rattle.gs_score.proofs.standing.Standing.raise.Goals as goal
 
 pub returns-clause-raises : goal.returns-clause-raises
 returns-clause-raises c =
-    let is : c.put.new.self ≡ raised_standing c.args.rules.now c.args.kind c.args.by c.args.tick c.args.self.now = search rules in
-    ap (held c.args.rules.now c.args.tick) is
-    ∙ held-raised c.args.rules.now c.args.kind c.args.by c.args.tick c.args.self.now
+    let r = c.args.raise in
+    let is : c.put.new.self ≡ raised_by r c.args.self.now = search rules in
+    ap (held r.rules.now r.tick) is ∙ held-raised r.rules.now r.kind r.by r.tick c.args.self.now

@@ -1,15 +1,15 @@
 use Rattle.std.proofs.Common.{rules, arith, ◌≡◌, ◌++◌, [], false, refl, sym, append-nil}
 use Rattle.gs_wire.specs.Stream.{IsSpan}
-use Rattle.gs_wire.proofs.FrameLists.{span_stream}
+use Rattle.gs_wire.proofs.FrameLists.{only_adds, span_stream}
 use Rattle.gs_wire.proofs.frame_reader.FrameReader.feed.Goals as goal
 
-pub returns-then-len-piece-clause-fed : goal.returns-then-len-piece-clause-fed
-returns-then-len-piece-clause-fed c =
+pub returns-then-len-piece : goal.returns-then-len-piece
+returns-then-len-piece c =
     let held = c.self.inside.held.items in
     let piece = c.args.piece.now in
     let span : IsSpan c.self.inside.limit held c.in-Some.span.start c.in-Some.span.end = rw c.in-Some.is at c.self.invariant.right in
     let sound : c.self.inside.failed ≡ false = c.self.invariant.sound (search rules) in
-    rw (← c.self.view_is) (record {
+    rw (← c.self.view_is) (only_adds _ _ piece c.args.rpcs.now.items c.args.rpcs.now.items _ refl (record {
       held = held;
       was_held = rw sound refl;
       found = [];
@@ -17,4 +17,4 @@ returns-then-len-piece-clause-fed c =
       stream = span_stream c.self.inside.limit held piece c.in-Some.span.start c.in-Some.span.end span (omega arith);
       added = sym (append-nil c.args.rpcs.now.items);
       keeps = rw (sound, c.in_ok-extend_from_slice.ensures.ok) refl;
-    })
+    }))

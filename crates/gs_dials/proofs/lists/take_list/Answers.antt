@@ -1,6 +1,6 @@
 use Rattle.std.proofs.Common.{sym, ap, ◌∙◌}
 use Rattle.gs_dials.proofs.PlaceLists.{list_at-get, list_at-other}
-use Rattle.gs_net.proofs.lists.take_list.Goals as goal
+use Rattle.gs_dials.proofs.lists.take_list.Goals as goal
 
 pub returns-clause-taken : goal.returns-clause-taken
 returns-clause-taken g c =

@@ -4,7 +4,7 @@ use Rattle.gs_params.specs.Picks.{IsAscending}
 use Rattle.gs_mesh.specs.Cuts.{outside, peers_of}
 use Rattle.gs_mesh.specs.MeshSteps.{above_median}
 use Rattle.gs_mesh.proofs.MemberLists.{above_median_ascend, outside_ascend}
-use Rattle.gs_mesh.proofs.heartbeat.bettered.Goals as goal
+use Rattle.gs_mesh.proofs.heartbeat.Heartbeat.bettered.Goals as goal
 
 pub pick_of-requires : goal.pick_of-requires
 pick_of-requires g c =
