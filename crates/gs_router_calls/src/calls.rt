@@ -1,26 +1,30 @@
-//! Calls of a router by what they are for.
+//! Calls of a router, as cases name them.
 ghost use Rattle.std.specs.Prelude.{◌≡◌, ◌≤◌, true, IfOk};
 ghost use Rattle.gs_rules.specs.Tables.{last_moment};
 ghost use Rattle.gs_wire.specs.Codec.{codec};
 
+use crate::cases::Act;
 use crate::routers::topic_of;
+use crate::rpcs::rpc_of;
 use bytes::Bytes;
-use gs_base::{Millis, PeerNo, Rpc, Topic, clone_of};
+use gs_base::{Millis, PeerNo, Rpc};
 use gs_params::SeededWords;
 use gs_router::{Router, RouterFault};
 use gs_rules::Trace;
-use gs_wire::{MAX_BODY, encode};
+use gs_wire::{MAX_BODY, decode, encode};
 use std::alloc::{AllocError, Global};
 
+/// What a call answers.
+pub type Answer = Result<(), RouterFault>;
+
 /// Whether no entry is later than the moment.
-pub fn is_due(trace: &Trace, now: Millis) -> bool
+fn is_due(trace: &Trace, now: Millis) -> bool
     ensures { result ≡ true → last_moment trace.now ≤ now.0 }
 {
-    match trace.entries() {
-        [] => true,
-        [.., last] => last.at.0 <= now.0,
-    }
+    trace.last_moment().0 <= now.0
 }
+
+// ---- what is heard
 
 /// Whether an RPC fits a frame.
 fn fits(alloc: Global, rpc: &Rpc) -> Result<bool, AllocError>
@@ -33,54 +37,71 @@ fn fits(alloc: Global, rpc: &Rpc) -> Result<bool, AllocError>
     }
 }
 
-/// Has a router hear an RPC that fits a frame.
-pub fn hear(
+/// An RPC that fits a frame; with any other the test fails.
+fn fitting(alloc: Global, rpc: Rpc) -> Result<Rpc, AllocError>
+    ensures { IfOk result (λ rpc. codec.fits rpc ≡ true) }
+{
+    match fits(alloc, &rpc)? {
+        true => Ok(rpc),
+        false => Err(AllocError),
+    }
+}
+
+/// The RPC that bytes spell; with any others the test fails.
+fn spelled(alloc: Global, body: &[u8]) -> Result<Rpc, AllocError> {
+    match decode(alloc, body) {
+        Ok(rpc) => Ok(rpc),
+        Err(_) => Err(AllocError),
+    }
+}
+
+/// Has a router hear an RPC.
+fn listen(
     alloc: Global,
     router: &mut Router,
-    from: PeerNo,
-    rpc: &Rpc,
     now: Millis,
+    act: Act<'_>,
     words: &mut SeededWords,
-) -> Result<Result<(), RouterFault>, AllocError>
+) -> Result<Answer, AllocError>
     requires { last_moment router.old.trace ≤ now.0 }
 {
-    let rpc = clone_of(rpc)?;
-    if !fits(alloc, &rpc)? {
-        return Err(AllocError);
+    match act {
+        Act::Hear(from, parts) => {
+            let rpc = fitting(alloc, rpc_of(alloc, parts)?)?;
+            Ok(router.hear(PeerNo(from), rpc, now, words))
+        }
+        Act::Read(from, body) => {
+            let rpc = fitting(alloc, spelled(alloc, body)?)?;
+            Ok(router.hear(PeerNo(from), rpc, now, words))
+        }
+        _ => Err(AllocError),
     }
-    Ok(router.hear(from, rpc, now, words))
 }
 
-/// What a router is called for.
-#[derive(Clone, Copy)]
-pub enum Cause<'a> {
-    Heard(u16, &'a Rpc),
-    Subscribe(&'a Topic),
-    Unsubscribe(&'a Topic),
-    Publish(&'a Topic, &'a Bytes),
-    Beat,
-    Decay,
-    RoundEnd(u64),
-    Gone(u16),
-    Fault(u16),
-    Shut,
-}
+// ---- what is done
 
-/// Has a router do what its user wishes of topics.
+/// Has a router do what its user wishes.
 fn wish(
+    alloc: Global,
     router: &mut Router,
-    cause: Cause<'_>,
     now: Millis,
+    act: Act<'_>,
     words: &mut SeededWords,
-) -> Result<Result<(), RouterFault>, AllocError>
+) -> Result<Answer, AllocError>
     requires { last_moment router.old.trace ≤ now.0 }
 {
-    match cause {
-        Cause::Subscribe(topic) => Ok(router.subscribe(clone_of(topic)?, now, words)),
-        Cause::Unsubscribe(topic) => Ok(router.unsubscribe(clone_of(topic)?, now, words)),
-        Cause::Publish(topic, payload) => {
-            let topic = clone_of(topic)?;
-            let payload = payload.clone()?;
+    match act {
+        Act::Subscribe(name) => {
+            let topic = topic_of(alloc, name)?;
+            Ok(router.subscribe(topic, now, words))
+        }
+        Act::Unsubscribe(name) => {
+            let topic = topic_of(alloc, name)?;
+            Ok(router.unsubscribe(topic, now, words))
+        }
+        Act::Publish(name, payload) => {
+            let topic = topic_of(alloc, name)?;
+            let payload = Bytes::copy_from_slice(alloc, payload)?;
             Ok(router.publish(topic, payload, now, words))
         }
         _ => Err(AllocError),
@@ -90,91 +111,79 @@ fn wish(
 /// Has a router do what comes with time, or with the end of a link or of its life.
 fn turn(
     router: &mut Router,
-    cause: Cause<'_>,
     now: Millis,
+    act: Act<'_>,
     words: &mut SeededWords,
-) -> Result<Result<(), RouterFault>, AllocError>
+) -> Result<Answer, AllocError>
     requires { last_moment router.old.trace ≤ now.0 }
 {
-    match cause {
-        Cause::Beat => Ok(router.heartbeat(now, words)),
-        Cause::Decay => Ok(router.decay(now, words)),
-        Cause::RoundEnd(round) => Ok(router.end_round(round, now, words)),
-        Cause::Gone(peer) => Ok(router.gone(PeerNo(peer), now, words)),
-        Cause::Fault(peer) => Ok(router.fault(PeerNo(peer), now, words)),
-        Cause::Shut => Ok(router.shut(now, words)),
+    match act {
+        Act::Heartbeat => Ok(router.heartbeat(now, words)),
+        Act::Decay => Ok(router.decay(now, words)),
+        Act::EndRound(round) => Ok(router.end_round(round, now, words)),
+        Act::Gone(peer) => Ok(router.gone(PeerNo(peer), now, words)),
+        Act::Fault(peer) => Ok(router.fault(PeerNo(peer), now, words)),
+        Act::Shut => Ok(router.shut(now, words)),
         _ => Err(AllocError),
     }
 }
 
 /// Has a router do this, by these words. With a moment that is past the test fails.
-pub fn call(
+pub fn once(
     alloc: Global,
     router: &mut Router,
-    at: u64,
-    cause: Cause<'_>,
+    now: Millis,
+    act: Act<'_>,
     words: &mut SeededWords,
-) -> Result<Result<(), RouterFault>, AllocError> {
-    let now = Millis(at);
+) -> Result<Answer, AllocError> {
     if !is_due(router.trace(), now) {
         return Err(AllocError);
     }
-    match cause {
-        Cause::Heard(from, rpc) => hear(alloc, router, PeerNo(from), rpc, now, words),
-        Cause::Subscribe(_) | Cause::Unsubscribe(_) | Cause::Publish(_, _) => {
-            wish(router, cause, now, words)
+    match act {
+        Act::Hear(_, _) | Act::Read(_, _) => listen(alloc, router, now, act, words),
+        Act::Subscribe(_) | Act::Unsubscribe(_) | Act::Publish(_, _) => {
+            wish(alloc, router, now, act, words)
         }
-        _ => turn(router, cause, now, words),
+        _ => turn(router, now, act, words),
     }
 }
 
-/// Has a router subscribe to a topic.
-pub fn subscribe(
+/// Has a router do this, which it must not refuse.
+fn allowed(
     alloc: Global,
     router: &mut Router,
-    at: u64,
-    name: &str,
+    now: Millis,
+    act: Act<'_>,
     words: &mut SeededWords,
-) -> Result<Result<(), RouterFault>, AllocError> {
-    let topic = topic_of(alloc, name)?;
-    call(alloc, router, at, Cause::Subscribe(&topic), words)
-}
-
-/// Has a router leave a topic.
-pub fn unsubscribe(
-    alloc: Global,
-    router: &mut Router,
-    at: u64,
-    name: &str,
-    words: &mut SeededWords,
-) -> Result<Result<(), RouterFault>, AllocError> {
-    let topic = topic_of(alloc, name)?;
-    call(alloc, router, at, Cause::Unsubscribe(&topic), words)
-}
-
-/// Has a router publish this.
-pub fn publish(
-    alloc: Global,
-    router: &mut Router,
-    at: u64,
-    name: &str,
-    payload: &[u8],
-    words: &mut SeededWords,
-) -> Result<Result<(), RouterFault>, AllocError> {
-    let topic = topic_of(alloc, name)?;
-    let payload = Bytes::copy_from_slice(alloc, payload)?;
-    call(alloc, router, at, Cause::Publish(&topic, &payload), words)
-}
-
-/// The number of a refusal; 0 where there is none.
-pub fn number_of(answer: Result<(), RouterFault>) -> u8 {
-    match answer {
-        Ok(()) => 0,
-        Err(fault) => fault.number(),
+) -> Result<(), AllocError> {
+    match once(alloc, router, now, act, words)? {
+        Ok(()) => Ok(()),
+        Err(_) => Err(AllocError),
     }
 }
 
-/// The number with which a call was refused.
-pub fn numbered(answer: Result<Result<(), RouterFault>, AllocError>) -> Result<u8, AllocError> {
-    Ok(number_of(answer?))
+/// Has a router do all of an act but the last call, which it gives, if there is one.
+pub fn all_but_last<'a>(
+    alloc: Global,
+    router: &mut Router,
+    now: Millis,
+    act: Act<'a>,
+    words: &mut SeededWords,
+) -> Result<Option<Act<'a>>, AllocError> {
+    match act {
+        Act::HearEach(first, last, parts) => {
+            for peer in first..last {
+                allowed(alloc, router, now, Act::Hear(peer, parts), words)?;
+            }
+            Ok(Some(Act::Hear(last, parts)))
+        }
+        Act::SubscribeEach(end) => {
+            for number in 0..end {
+                let name = format!(in alloc; "{number}")?;
+                allowed(alloc, router, now, Act::Subscribe(name.as_str()), words)?;
+            }
+            Ok(None)
+        }
+        once => Ok(Some(once)),
+    }
 }

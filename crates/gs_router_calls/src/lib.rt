@@ -1,10 +1,16 @@
-//! Routers to test with, and their calls by what they are for, as tables of tests name them.
+//! Cases of a router: what is done to it, and what must be seen then, each a value of a table.
 #![tactic(auto)]
 
 mod calls;
+mod cases;
+mod entries;
+mod play;
 mod routers;
 mod rpcs;
+mod shown;
 
-pub use calls::{Cause, call, hear, is_due, number_of, numbered, publish, subscribe, unsubscribe};
-pub use routers::{Kind, checked, neighbours, router_of, router_with, topic_of, words};
-pub use rpcs::{grafting, pruning};
+pub use cases::{
+    Act, Ask, Case, Fields, Id, Kind, NO_FIELDS, NO_RULES, NO_TOPIC, NOTHING, Rules, Said, Seen,
+    Step,
+};
+pub use play::{Outcome, events_in, left_by, played, text_of_all};

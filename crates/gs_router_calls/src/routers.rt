@@ -1,63 +1,49 @@
-//! Routers with neighbours, parameters and words to test with.
-ghost use Rattle.std.specs.Prelude.{◌≡◌, ◌≤◌, ◌^◌, pos, unsigned_abs, All, IfOk};
+//! Routers with the neighbours and the parameters that cases name.
+ghost use Rattle.std.specs.Prelude.{◌≡◌, ◌≤◌, ◌^◌, unsigned_abs, All, IfOk};
 ghost use Rattle.gs_base.specs.Names.{peers_of};
 ghost use Rattle.gs_base.specs.declared.neighbour.Neighbour.{Neighbour as NeighbourValue};
 ghost use Rattle.gs_params.specs.Params.{AreInRange};
 ghost use Rattle.gs_params.specs.Picks.{IsAscending};
 
+use crate::cases::{Case, Kind, Rules};
 use bytes::Bytes;
-use gs_base::{Neighbour, PeerNo, Topic};
-use gs_params::{Params, SeededWords};
+use gs_base::{Neighbour, PeerNo, Seq, Topic};
+use gs_params::{Params, TopicParams};
 use gs_router::Router;
 use std::alloc::{AllocError, Global};
 
 /// The topic of this name.
-///
-/// # Errors
-/// `AllocError` where there was no memory for it.
 pub fn topic_of(alloc: Global, name: &str) -> Result<Topic, AllocError> {
     Ok(Topic(Bytes::copy_from_slice(alloc, name.as_bytes())?))
 }
 
-/// Words from the seed 1, those of peer 0.
-pub fn words(alloc: Global) -> SeededWords {
-    SeededWords::new(Vec::new(alloc), 1, PeerNo(0))
-}
+// ---- neighbours
 
-/// A neighbour that dialled, at an address of its own.
-fn neighbour(alloc: Global, number: u16) -> Result<Neighbour, AllocError>
-    ensures number { IfOk result (λ neighbour. neighbour.peer.0 ≡ number) }
-    ensures app { IfOk result (λ neighbour. neighbour.app ≡ pos 0) }
+/// The score that the application gives a neighbour, in millionths.
+fn app_of(kind: Kind) -> i128
+    ensures { unsigned_abs result ≤ 10 ^ 12 }
 {
-    Ok(Neighbour {
-        peer: PeerNo(number),
-        outbound: false,
-        address: Bytes::copy_from_slice(alloc, &[(number % 256) as u8])?,
-        app: 0,
-    })
-}
-
-/// Parameters that pass their checks; with any others the test fails.
-pub fn checked(params: Params) -> Result<Params, AllocError>
-    ensures { IfOk result AreInRange }
-{
-    match params.check() {
-        Ok(params) => Ok(params),
-        Err(_) => Err(AllocError),
+    match kind {
+        Kind::Plain | Kind::Dialled => 0,
+        Kind::Distrusted => -50_000_001,
+        Kind::Praised | Kind::Crowded => 3_000_000,
     }
 }
 
-/// What a neighbour is beside its number.
-#[derive(Clone, Copy)]
-pub enum Kind {
-    /// It dialled, and the application says nothing of it.
-    Plain,
-    /// It was dialled.
-    Dialled,
-    /// It scores -50.000001 by the application.
-    Distrusted,
-    /// It scores 3 by the application.
-    Praised,
+/// Whether a neighbour was dialled.
+fn is_outbound(kind: Kind) -> bool {
+    match kind {
+        Kind::Dialled | Kind::Crowded => true,
+        Kind::Plain | Kind::Distrusted | Kind::Praised => false,
+    }
+}
+
+/// The address of a neighbour: its own, or that of a crowd.
+fn address_of(number: u16, kind: Kind) -> [u8; 2] {
+    match kind {
+        Kind::Crowded => [0, 0],
+        _ => number.to_be_bytes(),
+    }
 }
 
 /// A neighbour of this kind.
@@ -65,26 +51,16 @@ fn neighbour_of(alloc: Global, number: u16, kind: Kind) -> Result<Neighbour, All
     ensures number { IfOk result (λ neighbour. neighbour.peer.0 ≡ number) }
     ensures app { IfOk result (λ neighbour. unsigned_abs neighbour.app ≤ 10 ^ 12) }
 {
-    let mut one = neighbour(alloc, number)?;
-    match kind {
-        Kind::Plain => Ok(one),
-        Kind::Dialled => {
-            one.outbound = true;
-            Ok(one)
-        }
-        Kind::Distrusted => {
-            one.app = -50_000_001;
-            Ok(one)
-        }
-        Kind::Praised => {
-            one.app = 3_000_000;
-            Ok(one)
-        }
-    }
+    Ok(Neighbour {
+        peer: PeerNo(number),
+        outbound: is_outbound(kind),
+        address: Bytes::copy_from_slice(alloc, &address_of(number, kind))?,
+        app: app_of(kind),
+    })
 }
 
 /// Neighbours 1 to this number, the first ones of these kinds.
-pub fn neighbours(alloc: Global, count: u16, kinds: &[Kind]) -> Result<Vec<Neighbour>, AllocError>
+fn neighbours(alloc: Global, count: u16, kinds: &[Kind]) -> Result<Vec<Neighbour>, AllocError>
     ensures ascending { IfOk result (λ list. IsAscending (peers_of list.items)) }
     ensures apps { IfOk result (λ list. All (λ (n : NeighbourValue). unsigned_abs n.app ≤ 10 ^ 12) list.items) }
 {
@@ -100,19 +76,55 @@ pub fn neighbours(alloc: Global, count: u16, kinds: &[Kind]) -> Result<Vec<Neigh
     Ok(list)
 }
 
-/// A router with these parameters and neighbours 1 to this number, the first ones of these kinds.
-pub fn router_of(
-    alloc: Global,
-    params: Params,
-    count: u16,
-    kinds: &[Kind],
-) -> Result<Router, AllocError> {
-    let neighbours = neighbours(alloc, count, kinds)?;
-    let params = checked(params)?;
-    Router::new(alloc, params, neighbours)
+// ---- parameters
+
+/// What payloads begin with.
+fn prefixes(alloc: Global, list: &[&[u8]]) -> Result<Seq<Bytes>, AllocError> {
+    let mut prefixes = Seq::new(alloc);
+    for prefix in list {
+        prefixes.push(Bytes::copy_from_slice(alloc, prefix)?)?;
+    }
+    Ok(prefixes)
 }
 
-/// A router with neighbours 1 and 2 and these parameters.
-pub fn router_with(alloc: Global, params: Params) -> Result<Router, AllocError> {
-    router_of(alloc, params, 2, &[])
+/// The parameters of a topic.
+fn topic_params(alloc: Global, rules: &Rules<'_>) -> Result<TopicParams, AllocError> {
+    let mut params = TopicParams::new(alloc);
+    params.factors = rules.factors;
+    params.reject = prefixes(alloc, rules.reject)?;
+    params.ignore = prefixes(alloc, rules.ignore)?;
+    Ok(params)
+}
+
+/// The parameters of topics.
+fn topics(alloc: Global, list: &[Rules<'_>]) -> Result<Seq<(Topic, TopicParams)>, AllocError> {
+    let mut topics = Seq::new(alloc);
+    for rules in list {
+        let topic = topic_of(alloc, rules.topic)?;
+        topics.push((topic, topic_params(alloc, rules)?))?;
+    }
+    Ok(topics)
+}
+
+/// The parameters of a case, which pass their checks; with any others the test fails.
+fn params_of(alloc: Global, case: &Case<'_>) -> Result<Params, AllocError>
+    ensures { IfOk result AreInRange }
+{
+    let mut params = Params::new(alloc);
+    params.degrees = case.degrees;
+    params.factors = case.factors;
+    params.windows = case.windows;
+    params.flood_publish = case.flood_publish;
+    params.topics = topics(alloc, case.topics)?;
+    match params.check() {
+        Ok(params) => Ok(params),
+        Err(_) => Err(AllocError),
+    }
+}
+
+/// The router of a case, which has done nothing.
+pub fn router_of(alloc: Global, case: &Case<'_>) -> Result<Router, AllocError> {
+    let neighbours = neighbours(alloc, case.neighbours, case.kinds)?;
+    let params = params_of(alloc, case)?;
+    Router::new(alloc, params, neighbours)
 }

@@ -1,34 +1,149 @@
-//! What neighbours say of meshes.
+//! RPCs of the parts that cases name.
+use crate::cases::{Fields, Id, NO_FIELDS, NO_TOPIC, Said};
 use crate::routers::topic_of;
-use gs_base::{Control, Graft, Prune, Rpc, Seq};
+use bytes::Bytes;
+use gs_base::{Control, Graft, IHave, IWant, Message, MsgId, Prune, Rpc, Seq, SubOpt, Topic};
 use std::alloc::{AllocError, Global};
 
-fn control_of(alloc: Global, graft: Seq<Graft>, prune: Seq<Prune>) -> Rpc {
-    Rpc {
-        subs: Seq::new(alloc),
-        publish: Seq::new(alloc),
-        control: Some(Control {
-            ihave: Seq::new(alloc),
-            iwant: Seq::new(alloc),
-            graft,
-            prune,
-        }),
+/// The topic of this name, if it names one.
+fn named(alloc: Global, name: &str) -> Result<Option<Topic>, AllocError> {
+    if name == NO_TOPIC {
+        return Ok(None);
+    }
+    Ok(Some(topic_of(alloc, name)?))
+}
+
+fn field(alloc: Global, bytes: Option<&[u8]>) -> Result<Option<Bytes>, AllocError> {
+    match bytes {
+        Some(bytes) => Ok(Some(Bytes::copy_from_slice(alloc, bytes)?)),
+        None => Ok(None),
     }
 }
 
-/// A GRAFT of a topic.
-pub fn grafting(alloc: Global, name: &str) -> Result<Rpc, AllocError> {
-    let graft = Graft {
-        topic: Some(topic_of(alloc, name)?),
-    };
-    Ok(control_of(alloc, Seq::only(alloc, graft)?, Seq::new(alloc)))
+fn id_bytes(alloc: Global, id: Id<'_>) -> Result<Bytes, AllocError> {
+    match id {
+        Id::Of(payload) => Bytes::copy_from_slice(alloc, &MsgId::of(payload).0),
+        Id::ShortOf(payload) => Bytes::copy_from_slice(alloc, &MsgId::of(payload).0[..31]),
+        Id::Unknown => Ok(Bytes::new()),
+    }
 }
 
-/// A PRUNE of a topic, which names these seconds, if any.
-pub fn pruning(alloc: Global, name: &str, backoff: Option<u64>) -> Result<Rpc, AllocError> {
-    let prune = Prune {
-        topic: Some(topic_of(alloc, name)?),
-        backoff,
+fn ids_of(alloc: Global, ids: &[Id<'_>]) -> Result<Seq<Bytes>, AllocError> {
+    let mut list = Seq::new(alloc);
+    for id in ids {
+        list.push(id_bytes(alloc, *id)?)?;
+    }
+    Ok(list)
+}
+
+fn sub_of(alloc: Global, subscribe: Option<bool>, name: &str) -> Result<SubOpt, AllocError> {
+    Ok(SubOpt {
+        subscribe,
+        topic: named(alloc, name)?,
+    })
+}
+
+/// Gives a message these fields.
+fn fill(alloc: Global, message: &mut Message, fields: Fields<'_>) -> Result<(), AllocError> {
+    message.topic = named(alloc, fields.topic)?;
+    message.payload = field(alloc, fields.payload)?;
+    message.origin = field(alloc, fields.origin)?;
+    message.seqno = field(alloc, fields.seqno)?;
+    message.signature = field(alloc, fields.signature)?;
+    message.key = field(alloc, fields.key)?;
+    Ok(())
+}
+
+fn message_of(alloc: Global, fields: Fields<'_>) -> Result<Message, AllocError> {
+    let mut message = Message {
+        origin: None,
+        payload: None,
+        seqno: None,
+        topic: None,
+        signature: None,
+        key: None,
     };
-    Ok(control_of(alloc, Seq::new(alloc), Seq::only(alloc, prune)?))
+    fill(alloc, &mut message, fields)?;
+    Ok(message)
+}
+
+/// A message with a topic and a payload alone.
+fn bare<'a>(name: &'a str, payload: &'a [u8]) -> Fields<'a> {
+    Fields {
+        topic: name,
+        payload: Some(payload),
+        ..NO_FIELDS
+    }
+}
+
+/// Adds an offer, a request, a GRAFT or a PRUNE.
+fn control(alloc: Global, control: &mut Control, said: Said<'_>) -> Result<(), AllocError> {
+    match said {
+        Said::Have(name, ids) => {
+            let topic = named(alloc, name)?;
+            let ids = ids_of(alloc, ids)?;
+            control.ihave.push(IHave { topic, ids })
+        }
+        Said::Want(ids) => {
+            let ids = ids_of(alloc, ids)?;
+            control.iwant.push(IWant { ids })
+        }
+        Said::Graft(name) => {
+            let topic = named(alloc, name)?;
+            control.graft.push(Graft { topic })
+        }
+        Said::Prune(name, backoff) => {
+            let topic = named(alloc, name)?;
+            control.prune.push(Prune { topic, backoff })
+        }
+        _ => Err(AllocError),
+    }
+}
+
+/// What an RPC has as its one offer, request, GRAFT or PRUNE.
+fn only_control(alloc: Global, said: Said<'_>) -> Result<Control, AllocError> {
+    let mut only = Control {
+        ihave: Seq::new(alloc),
+        iwant: Seq::new(alloc),
+        graft: Seq::new(alloc),
+        prune: Seq::new(alloc),
+    };
+    control(alloc, &mut only, said)?;
+    Ok(only)
+}
+
+/// Adds a part to an RPC.
+fn add(alloc: Global, rpc: &mut Rpc, said: Said<'_>) -> Result<(), AllocError> {
+    match said {
+        Said::On(name) => rpc.subs.push(sub_of(alloc, Some(true), name)?),
+        Said::Off(name) => rpc.subs.push(sub_of(alloc, Some(false), name)?),
+        Said::Sub(name) => rpc.subs.push(sub_of(alloc, None, name)?),
+        Said::Message(name, payload) => {
+            rpc.publish.push(message_of(alloc, bare(name, payload))?)
+        }
+        Said::Other(fields) => rpc.publish.push(message_of(alloc, fields)?),
+        control => {
+            rpc.control = Some(only_control(alloc, control)?);
+            Ok(())
+        }
+    }
+}
+
+/// Adds these parts to an RPC.
+fn add_all(alloc: Global, rpc: &mut Rpc, parts: &[Said<'_>]) -> Result<(), AllocError> {
+    for said in parts {
+        add(alloc, rpc, *said)?;
+    }
+    Ok(())
+}
+
+/// The RPC of these parts, of which at most one is an offer, a request, a GRAFT or a PRUNE.
+pub fn rpc_of(alloc: Global, parts: &[Said<'_>]) -> Result<Rpc, AllocError> {
+    let mut rpc = Rpc {
+        subs: Seq::new(alloc),
+        publish: Seq::new(alloc),
+        control: None,
+    };
+    add_all(alloc, &mut rpc, parts)?;
+    Ok(rpc)
 }

@@ -1,8 +1,61 @@
 //! Routers moment by moment.
-mod beat_cases;
-mod beats;
 mod gossip;
-mod gossip_cases;
+mod listeners;
+mod offers;
+mod promises;
+mod readings;
 mod scores;
-mod sights;
-mod topics;
+
+use crate::tests::gossip::GOSSIP;
+use crate::tests::listeners::LISTENERS;
+use crate::tests::offers::OFFERS;
+use crate::tests::promises::PROMISES;
+use crate::tests::readings::READINGS;
+use crate::tests::scores::SCORES;
+use gs_router_calls::{Case, played};
+use std::alloc::AllocError;
+use std::process::Abort;
+
+/// Checks that just that is seen of each step of each case which it names.
+fn check<R: AllocGlobal + Abort>(rt: &R, cases: &[Case<'_>]) -> Result<(), AllocError> {
+    for case in cases {
+        let outcome = played(rt.alloc(), case)?;
+        assert_eq!(rt;
+            outcome.came.as_str(),
+            outcome.wanted.as_str(),
+            "{}",
+            case.name
+        );
+    }
+    Ok(())
+}
+
+#[test]
+fn offers_and_requests(rt: HostRuntime) -> Result<(), AllocError> {
+    check(&rt, OFFERS)
+}
+
+#[test]
+fn promises_that_are_kept_and_broken(rt: HostRuntime) -> Result<(), AllocError> {
+    check(&rt, PROMISES)
+}
+
+#[test]
+fn gossip_of_what_is_kept(rt: HostRuntime) -> Result<(), AllocError> {
+    check(&rt, GOSSIP)
+}
+
+#[test]
+fn listeners_that_are_told(rt: HostRuntime) -> Result<(), AllocError> {
+    check(&rt, LISTENERS)
+}
+
+#[test]
+fn what_a_router_tells_of_itself(rt: HostRuntime) -> Result<(), AllocError> {
+    check(&rt, READINGS)
+}
+
+#[test]
+fn scores_of_neighbours(rt: HostRuntime) -> Result<(), AllocError> {
+    check(&rt, SCORES)
+}

@@ -1,7 +1,47 @@
-//! The mesh of one topic, step by step.
-mod mend_cases;
+//! The mesh and the fanout of one topic, step by step.
+mod fanouts;
+mod grafts;
 mod mends;
-mod mesh_cases;
-mod mesh_sights;
-mod mesh_traffic;
-mod meshes;
+mod traffic;
+
+use crate::tests::fanouts::FANOUTS;
+use crate::tests::grafts::GRAFTS;
+use crate::tests::mends::MENDS;
+use crate::tests::traffic::TRAFFIC;
+use gs_router_calls::{Case, played};
+use std::alloc::AllocError;
+use std::process::Abort;
+
+/// Checks that just that is seen of each step of each case which it names.
+fn check<R: AllocGlobal + Abort>(rt: &R, cases: &[Case<'_>]) -> Result<(), AllocError> {
+    for case in cases {
+        let outcome = played(rt.alloc(), case)?;
+        assert_eq!(rt;
+            outcome.came.as_str(),
+            outcome.wanted.as_str(),
+            "{}",
+            case.name
+        );
+    }
+    Ok(())
+}
+
+#[test]
+fn grafts_and_prunes(rt: HostRuntime) -> Result<(), AllocError> {
+    check(&rt, GRAFTS)
+}
+
+#[test]
+fn fanouts_that_are_made_mended_and_ended(rt: HostRuntime) -> Result<(), AllocError> {
+    check(&rt, FANOUTS)
+}
+
+#[test]
+fn messages_through_a_mesh_and_members_that_leave(rt: HostRuntime) -> Result<(), AllocError> {
+    check(&rt, TRAFFIC)
+}
+
+#[test]
+fn meshes_that_heartbeats_mend(rt: HostRuntime) -> Result<(), AllocError> {
+    check(&rt, MENDS)
+}

@@ -1,248 +1,393 @@
-//! What heartbeats do to meshes and fanouts.
-
-use crate::tests::mend_cases::{
-    BEST, BETTER, BETTER_AT_SECOND, CHOICES, FALLEN, FANOUT, FANOUT_OF_ONE, FEW, FEW_OUTBOUND,
-    MANY, MISSING_ALL, NEGATIVE, ONES,
+//! What heartbeats do to a mesh.
+use gs_params::{
+    DEFAULT_DEGREES, DEFAULT_TOPIC_FACTORS, DEFAULT_WINDOWS, Degrees, TopicFactors, Windows,
 };
-use crate::tests::mesh_cases::{Deed, Said, Step};
-use crate::tests::meshes::{
-    act, demanding, first_wrong, first_wrong_of, judging, router_of_four, sized,
-    sized_without_flood,
+use gs_router_calls::Act::{Hear, HearEach, Heartbeat, Subscribe};
+use gs_router_calls::Id::Of;
+use gs_router_calls::Said::{Graft, Message, On, Prune};
+use gs_router_calls::Seen::{
+    Backoff, Deficit, Grafted, Invalid, Members, MeshBeat, Pruned, Rejected, Sent,
 };
-use bytes::Bytes;
-use gs_base::{Rpc, Seq};
-use gs_params::{Degrees, Params, TopicParams};
-use gs_router::Router;
-use gs_router_calls::{Cause, Kind, call, router_of, subscribe, topic_of, unsubscribe, words};
-use std::alloc::{AllocError, Global};
+use gs_router_calls::{Act, Ask, Case, Kind, NO_RULES, NOTHING, Rules, Seen};
 
-// ---- the number of members
+/// Neighbour 3 was dialled, and 4 scores -50.000001.
+const FOUR: &[Kind] = &[Kind::Plain, Kind::Plain, Kind::Dialled, Kind::Distrusted];
 
-#[test]
-fn a_mesh_of_few_members_gets_candidates(rt: HostRuntime) -> Result<(), AllocError> {
-    let alloc = rt.alloc();
-    assert_eq!(rt; first_wrong(alloc, Params::new(alloc), &[], &FEW)?, 10);
-    Ok(())
-}
+/// Who is in the mesh of `a`.
+const OF_A: &[Ask<'static>] = &[Ask::Members("a")];
 
-#[test]
-fn who_scores_below_nothing_is_put_out(rt: HostRuntime) -> Result<(), AllocError> {
-    let alloc = rt.alloc();
-    let params = judging(alloc)?;
-    assert_eq!(rt; first_wrong(alloc, params, &[], &NEGATIVE)?, 6);
-    Ok(())
-}
+/// What begins with `ff` is to reject, and costs 60.
+const JUDGING: Rules<'static> = Rules {
+    reject: &[&[0xff]],
+    factors: TopicFactors {
+        w4: -60_000_000,
+        ..DEFAULT_TOPIC_FACTORS
+    },
+    ..NO_RULES
+};
 
-#[test]
-fn who_brings_nothing_is_put_out_and_charged(rt: HostRuntime) -> Result<(), AllocError> {
-    let alloc = rt.alloc();
-    let params = demanding(alloc)?;
-    assert_eq!(rt; first_wrong(alloc, params, &[], &MISSING_ALL)?, 5);
-    Ok(())
-}
+/// Two deliveries should be there, and what is missing costs its square.
+const DEMANDING: Rules<'static> = Rules {
+    factors: TopicFactors {
+        p3_threshold: 2_000_000,
+        w3: -1_000_000,
+        w3b: -1_000_000,
+        ..DEFAULT_TOPIC_FACTORS
+    },
+    ..NO_RULES
+};
 
-#[test]
-fn a_mesh_of_many_members_is_cut(rt: HostRuntime) -> Result<(), AllocError> {
-    let alloc = rt.alloc();
-    assert_eq!(rt; first_wrong(alloc, sized(alloc, 2, 2), &[], &MANY)?, 6);
-    Ok(())
-}
-
-#[test]
-fn a_mesh_gets_the_outbound_members_that_it_lacks(rt: HostRuntime) -> Result<(), AllocError> {
-    let alloc = rt.alloc();
-    let mut params = Params::new(alloc);
-    params.degrees = Degrees {
-        d: 2,
-        d_low: 2,
-        d_high: 12,
-        d_score: 1,
-        d_out: 1,
-        d_lazy: 6,
-    };
-    assert_eq!(rt; first_wrong(alloc, params, &[], &FEW_OUTBOUND)?, 6);
-    Ok(())
-}
-
-#[test]
-fn a_fanout_is_filled_and_ends(rt: HostRuntime) -> Result<(), AllocError> {
-    let alloc = rt.alloc();
-    let params = sized_without_flood(alloc, 2);
-    assert_eq!(rt; first_wrong(alloc, params, &CHOICES, &FANOUT)?, 12);
-    let params = sized_without_flood(alloc, 1);
-    assert_eq!(rt; first_wrong(alloc, params, &ONES, &FANOUT_OF_ONE)?, 6);
-    Ok(())
-}
-
-/// A fanout of two, where what begins with `ff` on `b` is rejected, and costs 60.
-fn judging_on_b(alloc: Global) -> Result<Params, AllocError> {
-    let mut judges = TopicParams::new(alloc);
-    judges.factors.w4 = -60_000_000;
-    judges.reject = Seq::only(alloc, Bytes::copy_from_slice(alloc, &[0xff])?)?;
-    let mut params = sized_without_flood(alloc, 2);
-    params.topics.push((topic_of(alloc, "b")?, judges))?;
-    Ok(params)
-}
-
-/// Has a router be on `b` while neighbour 3 passes on there what is rejected.
-fn is_spoilt(alloc: Global, router: &mut Router) -> Result<bool, AllocError> {
-    let words = &mut words(alloc);
-    let payload = Bytes::copy_from_slice(alloc, &[0xff])?;
-    let rpc = Rpc::publication(alloc, &topic_of(alloc, "b")?, &payload)?;
-    let joins = subscribe(alloc, router, 500, "b", words)?;
-    let hears = call(alloc, router, 500, Cause::Heard(3, &rpc), words)?;
-    let leaves = unsubscribe(alloc, router, 500, "b", words)?;
-    Ok(joins.is_ok() && hears.is_ok() && leaves.is_ok())
-}
-
-/// How many steps are right before and behind that.
-fn right_around_spoil(alloc: Global, router: &mut Router) -> Result<usize, AllocError> {
-    let before = first_wrong_of(alloc, router, &CHOICES, &FANOUT[..5])?;
-    if !is_spoilt(alloc, router)? {
-        return Ok(0);
-    }
-    let behind = first_wrong_of(alloc, router, &[], &FALLEN)?;
-    Ok(before.saturating_add(behind))
-}
-
-/// The same of a new router.
-fn right_around_spoil_of(alloc: Global) -> Result<usize, AllocError> {
-    right_around_spoil(alloc, &mut router_of_four(alloc, judging_on_b(alloc)?)?)
-}
-
-#[test]
-fn who_falls_below_the_threshold_of_publishing_leaves_the_fanout(
-    rt: HostRuntime,
-) -> Result<(), AllocError> {
-    assert_eq!(rt; right_around_spoil_of(rt.alloc())?, 6);
-    Ok(())
-}
-
-// ---- scores
-
-/// Has these neighbours say this of the topic; how many were heard.
-fn hear_each(
-    alloc: Global,
-    router: &mut Router,
-    first: u16,
-    end: u16,
-    said: Said,
-) -> Result<u16, AllocError> {
-    let mut count = 0u16;
-    for number in first..end {
-        if act(
-            alloc,
-            router,
-            0,
-            Deed::Hear(number, said),
-            &mut words(alloc),
-        )?
-        .is_ok()
-        {
-            count = count.saturating_add(1);
-        }
-    }
-    Ok(count)
-}
-
-/// Neighbours 1, 2 and 3 score 3, and 12 and 13 were dialled.
-static THIRTEEN: [Kind; 13] = [
-    Kind::Praised,
-    Kind::Praised,
-    Kind::Praised,
-    Kind::Plain,
-    Kind::Plain,
-    Kind::Plain,
-    Kind::Plain,
-    Kind::Plain,
-    Kind::Plain,
-    Kind::Plain,
-    Kind::Plain,
-    Kind::Dialled,
-    Kind::Dialled,
+/// All neighbours are told that the router subscribes.
+const JOINED: &[Seen<'static>] = &[
+    Sent(1, On("a")),
+    Sent(2, On("a")),
+    Sent(3, On("a")),
+    Sent(4, On("a")),
+    Members("a", &[]),
 ];
 
-/// How many members the mesh has.
-fn size(alloc: Global, router: &Router) -> Result<usize, AllocError> {
-    Ok(router.members(&topic_of(alloc, "a")?).len())
-}
+const GRAFT_1: Act<'static> = Hear(1, &[Graft("a")]);
 
-/// Has a router join, and then thirteen neighbours graft it; how many members its mesh has.
-fn size_by_grafts(alloc: Global, router: &mut Router) -> Result<usize, AllocError> {
-    if act(alloc, router, 0, Deed::Join, &mut words(alloc))?.is_err() {
-        return Ok(0);
-    }
-    hear_each(alloc, router, 1, 14, Said::Graft)?;
-    size(alloc, router)
-}
+const GRAFT_2: Act<'static> = Hear(2, &[Graft("a")]);
 
-/// Whether thirteen members are cut to the best, and to outbound ones.
-fn is_cut(alloc: Global, router: &mut Router) -> Result<bool, AllocError> {
-    if size_by_grafts(alloc, router)? != 13 {
-        return Ok(false);
-    }
-    Ok(first_wrong_of(alloc, router, &[], &BEST)? == 1)
-}
+const GRAFT_3: Act<'static> = Hear(3, &[Graft("a")]);
 
-/// The same of a new router with those thirteen.
-fn is_cut_of(alloc: Global) -> Result<bool, AllocError> {
-    let params = Params::new(alloc);
-    is_cut(alloc, &mut router_of(alloc, params, 13, &THIRTEEN)?)
-}
+const ON_1: Act<'static> = Hear(1, &[On("a")]);
 
-#[test]
-fn a_cut_keeps_the_best_and_outbound_members(rt: HostRuntime) -> Result<(), AllocError> {
-    assert!(rt; is_cut_of(rt.alloc())?);
-    Ok(())
-}
+const ON_2: Act<'static> = Hear(2, &[On("a")]);
 
-/// Neighbour 5 scores 3.
-static FOUR_AND_ONE: [Kind; 5] = [
-    Kind::Plain,
-    Kind::Plain,
-    Kind::Plain,
-    Kind::Plain,
-    Kind::Praised,
+const ON_3: Act<'static> = Hear(3, &[On("a")]);
+
+const ON_4: Act<'static> = Hear(4, &[On("a")]);
+
+pub static MENDS: &[Case<'static>] = &[
+    // Fewer than four members are few, and then candidates come in, all of them where they are no more than there is room for.
+    // Whoever scores below 0 or is in backoff is none.
+    Case {
+        name: "a mesh of few members gets candidates",
+        neighbours: 4,
+        kinds: FOUR,
+        asks: OF_A,
+        steps: &[
+            (0, Subscribe("a"), JOINED),
+            (0, ON_1, &[]),
+            (0, ON_2, &[]),
+            (0, ON_4, &[]),
+            (
+                1_000,
+                Heartbeat,
+                &[
+                    MeshBeat("a"),
+                    Sent(1, Graft("a")),
+                    Sent(2, Graft("a")),
+                    Grafted(1, "a"),
+                    Grafted(2, "a"),
+                    Members("a", &[1, 2]),
+                ],
+            ),
+            (
+                1_500,
+                Hear(1, &[Prune("a", Some(5))]),
+                &[Pruned(1, "a"), Backoff(1, "a", 6_500), Members("a", &[2])],
+            ),
+            (2_000, ON_3, &[]),
+            (
+                2_000,
+                Heartbeat,
+                &[
+                    MeshBeat("a"),
+                    Sent(3, Graft("a")),
+                    Grafted(3, "a"),
+                    Members("a", &[2, 3]),
+                ],
+            ),
+            (6_499, Heartbeat, &[MeshBeat("a")]),
+            (
+                6_500,
+                Heartbeat,
+                &[
+                    MeshBeat("a"),
+                    Sent(1, Graft("a")),
+                    Grafted(1, "a"),
+                    Members("a", &[1, 2, 3]),
+                ],
+            ),
+        ],
+        ..NOTHING
+    },
+    // For as long as any that is put out.
+    Case {
+        name: "who scores below nothing is put out",
+        neighbours: 4,
+        kinds: FOUR,
+        asks: OF_A,
+        topics: &[JUDGING],
+        flood_publish: false,
+        steps: &[
+            (0, Subscribe("a"), JOINED),
+            (0, ON_1, &[]),
+            (0, ON_2, &[]),
+            (
+                1_000,
+                Heartbeat,
+                &[
+                    MeshBeat("a"),
+                    Sent(1, Graft("a")),
+                    Sent(2, Graft("a")),
+                    Grafted(1, "a"),
+                    Grafted(2, "a"),
+                    Members("a", &[1, 2]),
+                ],
+            ),
+            (
+                1_100,
+                Hear(1, &[Message("a", &[0xff])]),
+                &[Rejected(Of(&[0xff])), Invalid(1, "a")],
+            ),
+            (
+                2_000,
+                Heartbeat,
+                &[
+                    MeshBeat("a"),
+                    Sent(1, Prune("a", Some(60))),
+                    Pruned(1, "a"),
+                    Backoff(1, "a", 62_000),
+                    Members("a", &[2]),
+                ],
+            ),
+        ],
+        ..NOTHING
+    },
+    // Two deliveries should come of each member, and the square of what is missing counts. All who are put out are told before the
+    // one that comes in, whatever their numbers.
+    Case {
+        name: "who brings nothing is put out and charged",
+        neighbours: 4,
+        kinds: FOUR,
+        asks: OF_A,
+        topics: &[DEMANDING],
+        steps: &[
+            (0, Subscribe("a"), JOINED),
+            (0, GRAFT_1, &[Grafted(1, "a"), Members("a", &[1])]),
+            (0, GRAFT_3, &[Grafted(3, "a"), Members("a", &[1, 3])]),
+            (4_500, ON_2, &[]),
+            (
+                5_000,
+                Heartbeat,
+                &[
+                    MeshBeat("a"),
+                    Sent(1, Prune("a", Some(60))),
+                    Sent(3, Prune("a", Some(60))),
+                    Sent(2, Graft("a")),
+                    Pruned(1, "a"),
+                    Pruned(3, "a"),
+                    Deficit(1, "a", 4_000_000),
+                    Deficit(3, "a", 4_000_000),
+                    Backoff(1, "a", 65_000),
+                    Backoff(3, "a", 65_000),
+                    Grafted(2, "a"),
+                    Members("a", &[2]),
+                ],
+            ),
+        ],
+        ..NOTHING
+    },
+    // More than two members are many, and are cut to two: of equal scores the lowest numbers are best.
+    Case {
+        name: "a mesh of many members is cut",
+        neighbours: 4,
+        kinds: FOUR,
+        asks: OF_A,
+        degrees: Degrees {
+            d: 2,
+            d_low: 1,
+            d_high: 2,
+            d_score: 2,
+            d_out: 0,
+            ..DEFAULT_DEGREES
+        },
+        steps: &[
+            (0, Subscribe("a"), JOINED),
+            (0, GRAFT_1, &[Grafted(1, "a"), Members("a", &[1])]),
+            (0, GRAFT_2, &[Grafted(2, "a"), Members("a", &[1, 2])]),
+            (500, Heartbeat, &[MeshBeat("a")]),
+            (600, GRAFT_3, &[Grafted(3, "a"), Members("a", &[1, 2, 3])]),
+            (
+                1_000,
+                Heartbeat,
+                &[
+                    MeshBeat("a"),
+                    Sent(3, Prune("a", Some(60))),
+                    Pruned(3, "a"),
+                    Backoff(3, "a", 61_000),
+                    Members("a", &[1, 2]),
+                ],
+            ),
+        ],
+        ..NOTHING
+    },
+    // One is wanted: a mesh of enough members gets it, once it is a candidate.
+    Case {
+        name: "a mesh gets the outbound members that it lacks",
+        neighbours: 4,
+        kinds: FOUR,
+        asks: OF_A,
+        degrees: Degrees {
+            d: 2,
+            d_low: 2,
+            d_high: 12,
+            d_score: 1,
+            d_out: 1,
+            ..DEFAULT_DEGREES
+        },
+        steps: &[
+            (0, Subscribe("a"), JOINED),
+            (0, GRAFT_1, &[Grafted(1, "a"), Members("a", &[1])]),
+            (0, GRAFT_2, &[Grafted(2, "a"), Members("a", &[1, 2])]),
+            (500, Heartbeat, &[MeshBeat("a")]),
+            (600, ON_3, &[]),
+            (
+                1_000,
+                Heartbeat,
+                &[
+                    MeshBeat("a"),
+                    Sent(3, Graft("a")),
+                    Grafted(3, "a"),
+                    Members("a", &[1, 2, 3]),
+                ],
+            ),
+        ],
+        ..NOTHING
+    },
+    // Of thirteen members, more than twelve, the best four by score and number stay, and two outbound ones.
+    Case {
+        name: "a cut keeps the best members, and outbound ones",
+        neighbours: 13,
+        kinds: &[
+            Kind::Praised,
+            Kind::Praised,
+            Kind::Praised,
+            Kind::Plain,
+            Kind::Plain,
+            Kind::Plain,
+            Kind::Plain,
+            Kind::Plain,
+            Kind::Plain,
+            Kind::Plain,
+            Kind::Plain,
+            Kind::Dialled,
+            Kind::Dialled,
+        ],
+        asks: OF_A,
+        steps: &[
+            (
+                0,
+                Subscribe("a"),
+                &[
+                    Sent(1, On("a")),
+                    Sent(2, On("a")),
+                    Sent(3, On("a")),
+                    Sent(4, On("a")),
+                    Sent(5, On("a")),
+                    Sent(6, On("a")),
+                    Sent(7, On("a")),
+                    Sent(8, On("a")),
+                    Sent(9, On("a")),
+                    Sent(10, On("a")),
+                    Sent(11, On("a")),
+                    Sent(12, On("a")),
+                    Sent(13, On("a")),
+                    Members("a", &[]),
+                ],
+            ),
+            (
+                0,
+                HearEach(1, 13, &[Graft("a")]),
+                &[
+                    Grafted(13, "a"),
+                    Members("a", &[1, 2, 3, 4, 5, 6, 7, 8, 9, 10, 11, 12, 13]),
+                ],
+            ),
+            (
+                1_000,
+                Heartbeat,
+                &[
+                    MeshBeat("a"),
+                    Sent(5, Prune("a", Some(60))),
+                    Sent(6, Prune("a", Some(60))),
+                    Sent(7, Prune("a", Some(60))),
+                    Sent(8, Prune("a", Some(60))),
+                    Sent(9, Prune("a", Some(60))),
+                    Sent(10, Prune("a", Some(60))),
+                    Sent(11, Prune("a", Some(60))),
+                    Pruned(5, "a"),
+                    Pruned(6, "a"),
+                    Pruned(7, "a"),
+                    Pruned(8, "a"),
+                    Pruned(9, "a"),
+                    Pruned(10, "a"),
+                    Pruned(11, "a"),
+                    Backoff(5, "a", 61_000),
+                    Backoff(6, "a", 61_000),
+                    Backoff(7, "a", 61_000),
+                    Backoff(8, "a", 61_000),
+                    Backoff(9, "a", 61_000),
+                    Backoff(10, "a", 61_000),
+                    Backoff(11, "a", 61_000),
+                    Members("a", &[1, 2, 3, 4, 12, 13]),
+                ],
+            ),
+        ],
+        ..NOTHING
+    },
+    // A mesh of four that score nothing gets the one neighbour that scores more, at every second heartbeat.
+    Case {
+        name: "a poor mesh gets a better member at every so many heartbeats",
+        neighbours: 6,
+        kinds: &[
+            Kind::Plain,
+            Kind::Plain,
+            Kind::Plain,
+            Kind::Plain,
+            Kind::Praised,
+        ],
+        asks: OF_A,
+        windows: Windows {
+            opportunistic_ticks: 2,
+            ..DEFAULT_WINDOWS
+        },
+        steps: &[
+            (
+                0,
+                Subscribe("a"),
+                &[
+                    Sent(1, On("a")),
+                    Sent(2, On("a")),
+                    Sent(3, On("a")),
+                    Sent(4, On("a")),
+                    Sent(5, On("a")),
+                    Sent(6, On("a")),
+                    Members("a", &[]),
+                ],
+            ),
+            (0, HearEach(1, 6, &[On("a")]), &[]),
+            (
+                0,
+                HearEach(1, 4, &[Graft("a")]),
+                &[Grafted(4, "a"), Members("a", &[1, 2, 3, 4])],
+            ),
+            (1_000, Heartbeat, &[MeshBeat("a")]),
+            (
+                2_000,
+                Heartbeat,
+                &[
+                    MeshBeat("a"),
+                    Sent(5, Graft("a")),
+                    Grafted(5, "a"),
+                    Members("a", &[1, 2, 3, 4, 5]),
+                ],
+            ),
+        ],
+        ..NOTHING
+    },
 ];
-
-/// A router that looks for better members at every so many heartbeats, with neighbours 1 to 6.
-fn ambitious(alloc: Global, ticks: u64) -> Result<Router, AllocError> {
-    let mut params = Params::new(alloc);
-    params.windows.opportunistic_ticks = ticks;
-    router_of(alloc, params, 6, &FOUR_AND_ONE)
-}
-
-/// The place of the first step of which something else becomes, where all neighbours are on the router's topic, and 1 to 4
-/// in its mesh.
-fn first_unmended(
-    alloc: Global,
-    router: &mut Router,
-    steps: &[Step<'_>],
-) -> Result<usize, AllocError> {
-    if act(alloc, router, 0, Deed::Join, &mut words(alloc))?.is_err() {
-        return Ok(usize::MAX);
-    }
-    let on = hear_each(alloc, router, 1, 7, Said::On)?;
-    let grafts = hear_each(alloc, router, 1, 5, Said::Graft)?;
-    match (on, grafts) {
-        (6, 4) => first_wrong_of(alloc, router, &[], steps),
-        _ => Ok(usize::MAX),
-    }
-}
-
-/// The same of a router that looks for better members at every so many heartbeats.
-fn first_unmended_of(alloc: Global, ticks: u64, steps: &[Step<'_>]) -> Result<usize, AllocError> {
-    first_unmended(alloc, &mut ambitious(alloc, ticks)?, steps)
-}
-
-#[test]
-fn a_poor_mesh_gets_a_better_member(rt: HostRuntime) -> Result<(), AllocError> {
-    assert_eq!(rt; first_unmended_of(rt.alloc(), 1, &BETTER)?, 1);
-    Ok(())
-}
-
-#[test]
-fn a_better_member_comes_at_every_so_many_heartbeats(rt: HostRuntime) -> Result<(), AllocError> {
-    assert_eq!(rt; first_unmended_of(rt.alloc(), 2, &BETTER_AT_SECOND)?, 2);
-    Ok(())
-}

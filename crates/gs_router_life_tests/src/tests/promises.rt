@@ -1,0 +1,203 @@
+//! Promises, kept and broken.
+use gs_router_calls::Act::{Gone, Hear, Heartbeat, Publish, Subscribe};
+use gs_router_calls::Id::Of;
+use gs_router_calls::Said::{Have, Message, On, Want};
+use gs_router_calls::Seen::{
+    Accepted, Asked, Behaviour, Cached, Delivered, First, GossipBeat, HeardHave, Ignored, Invalid,
+    MeshBeat, Promised, Rejected, Sent,
+};
+use gs_router_calls::{Case, NO_RULES, NOTHING, Rules, Seen};
+
+/// All neighbours are told that the router subscribes.
+const JOINED: &[Seen<'static>] = &[Sent(1, On("a")), Sent(2, On("a"))];
+
+pub static PROMISES: &[Case<'static>] = &[
+    // A promise is kept by a message of its maker or of another neighbour, by one that is rejected or ignored, and by one that
+    // the router publishes. It is not broken before its time, and a neighbour that is gone is not charged. What begins with `ff`
+    // is to reject, and with `fe` to ignore.
+    Case {
+        name: "a promise is kept by whatever is seen",
+        topics: &[Rules {
+            reject: &[&[0xff]],
+            ignore: &[&[0xfe]],
+            ..NO_RULES
+        }],
+        steps: &[
+            (0, Subscribe("a"), JOINED),
+            (
+                0,
+                Hear(1, &[Have("a", &[Of(&[0])])]),
+                &[
+                    Sent(1, Want(&[Of(&[0])])),
+                    Promised(1, Of(&[0]), 3_000),
+                    HeardHave(1),
+                    Asked(1, 1),
+                ],
+            ),
+            (
+                0,
+                Hear(1, &[Have("a", &[Of(&[0xff])])]),
+                &[
+                    Sent(1, Want(&[Of(&[0xff])])),
+                    Promised(1, Of(&[0xff]), 3_000),
+                    HeardHave(1),
+                    Asked(1, 1),
+                ],
+            ),
+            (
+                0,
+                Hear(1, &[Have("a", &[Of(&[0xfe])])]),
+                &[
+                    Sent(1, Want(&[Of(&[0xfe])])),
+                    Promised(1, Of(&[0xfe]), 3_000),
+                    HeardHave(1),
+                    Asked(1, 1),
+                ],
+            ),
+            (
+                0,
+                Hear(1, &[Have("a", &[Of(&[2])])]),
+                &[
+                    Sent(1, Want(&[Of(&[2])])),
+                    Promised(1, Of(&[2]), 3_000),
+                    HeardHave(1),
+                    Asked(1, 1),
+                ],
+            ),
+            (
+                0,
+                Hear(1, &[Have("a", &[Of(&[5])])]),
+                &[
+                    Sent(1, Want(&[Of(&[5])])),
+                    Promised(1, Of(&[5]), 3_000),
+                    HeardHave(1),
+                    Asked(1, 1),
+                ],
+            ),
+            (
+                0,
+                Hear(1, &[Have("a", &[Of(&[3])])]),
+                &[
+                    Sent(1, Want(&[Of(&[3])])),
+                    Promised(1, Of(&[3]), 3_000),
+                    HeardHave(1),
+                    Asked(1, 1),
+                ],
+            ),
+            (
+                0,
+                Hear(2, &[Have("a", &[Of(&[4])])]),
+                &[
+                    Sent(2, Want(&[Of(&[4])])),
+                    Promised(2, Of(&[4]), 3_000),
+                    HeardHave(2),
+                    Asked(2, 1),
+                ],
+            ),
+            (
+                100,
+                Hear(2, &[Message("a", &[0])]),
+                &[
+                    Delivered("a", &[0]),
+                    Accepted(Of(&[0])),
+                    First(2, "a", Of(&[0])),
+                    Cached(Of(&[0]), "a"),
+                ],
+            ),
+            (
+                200,
+                Hear(2, &[Message("a", &[0xff])]),
+                &[Rejected(Of(&[0xff])), Invalid(2, "a")],
+            ),
+            (
+                200,
+                Hear(2, &[Message("a", &[0xfe])]),
+                &[Ignored(Of(&[0xfe]))],
+            ),
+            (
+                300,
+                Publish("a", &[2]),
+                &[
+                    Delivered("a", &[2]),
+                    Accepted(Of(&[2])),
+                    Cached(Of(&[2]), "a"),
+                ],
+            ),
+            (
+                400,
+                Hear(1, &[Message("a", &[5])]),
+                &[
+                    Delivered("a", &[5]),
+                    Accepted(Of(&[5])),
+                    First(1, "a", Of(&[5])),
+                    Cached(Of(&[5]), "a"),
+                ],
+            ),
+            (2_999, Heartbeat, &[MeshBeat("a"), GossipBeat("a")]),
+            (2_999, Gone(2), &[]),
+            (
+                3_000,
+                Heartbeat,
+                &[Behaviour(1), MeshBeat("a"), GossipBeat("a")],
+            ),
+            (6_000, Heartbeat, &[MeshBeat("a"), GossipBeat("a")]),
+            (9_000, Heartbeat, &[MeshBeat("a")]),
+        ],
+        ..NOTHING
+    },
+    // Whoever else made the same promise.
+    Case {
+        name: "each broken promise counts once",
+        steps: &[
+            (0, Subscribe("a"), JOINED),
+            (
+                0,
+                Hear(1, &[Have("a", &[Of(&[1])])]),
+                &[
+                    Sent(1, Want(&[Of(&[1])])),
+                    Promised(1, Of(&[1]), 3_000),
+                    HeardHave(1),
+                    Asked(1, 1),
+                ],
+            ),
+            (
+                0,
+                Hear(1, &[Have("a", &[Of(&[2])])]),
+                &[
+                    Sent(1, Want(&[Of(&[2])])),
+                    Promised(1, Of(&[2]), 3_000),
+                    HeardHave(1),
+                    Asked(1, 1),
+                ],
+            ),
+            (
+                0,
+                Hear(2, &[Have("a", &[Of(&[1])])]),
+                &[
+                    Sent(2, Want(&[Of(&[1])])),
+                    Promised(2, Of(&[1]), 3_000),
+                    HeardHave(2),
+                    Asked(2, 1),
+                ],
+            ),
+            (
+                1,
+                Hear(2, &[Have("a", &[Of(&[5])])]),
+                &[
+                    Sent(2, Want(&[Of(&[5])])),
+                    Promised(2, Of(&[5]), 3_001),
+                    HeardHave(2),
+                    Asked(2, 1),
+                ],
+            ),
+            (
+                3_000,
+                Heartbeat,
+                &[Behaviour(1), Behaviour(1), Behaviour(2), MeshBeat("a")],
+            ),
+            (3_001, Heartbeat, &[Behaviour(2), MeshBeat("a")]),
+            (3_002, Heartbeat, &[MeshBeat("a")]),
+        ],
+        ..NOTHING
+    },
+];

@@ -1,0 +1,248 @@
+//! What goes through a mesh, who leaves it, and what that costs.
+use gs_params::{DEFAULT_TOPIC_FACTORS, TopicFactors};
+use gs_router_calls::Act::{Decay, Fault, Gone, Hear, Publish, Subscribe};
+use gs_router_calls::Id::Of;
+use gs_router_calls::Said::{Graft, Message, Off, On, Prune};
+use gs_router_calls::Seen::{
+    Accepted, Backoff, Cached, Deficit, Delivered, First, Grafted, Invalid, Members, Near, Pruned,
+    Rejected, Score, Sent,
+};
+use gs_router_calls::{Act, Ask, Case, Kind, NO_RULES, NOTHING, Rules, Seen};
+
+/// Neighbour 3 was dialled, and 4 scores -50.000001.
+const FOUR: &[Kind] = &[Kind::Plain, Kind::Plain, Kind::Dialled, Kind::Distrusted];
+
+/// Who is in the mesh of `a`.
+const OF_A: &[Ask<'static>] = &[Ask::Members("a")];
+
+/// What begins with `ff` is to reject, and costs 60.
+const JUDGING: Rules<'static> = Rules {
+    reject: &[&[0xff]],
+    factors: TopicFactors {
+        w4: -60_000_000,
+        ..DEFAULT_TOPIC_FACTORS
+    },
+    ..NO_RULES
+};
+
+/// Two deliveries should be there, and what is missing costs its square.
+const DEMANDING: Rules<'static> = Rules {
+    factors: TopicFactors {
+        p3_threshold: 2_000_000,
+        w3: -1_000_000,
+        w3b: -1_000_000,
+        ..DEFAULT_TOPIC_FACTORS
+    },
+    ..NO_RULES
+};
+
+/// All neighbours are told that the router subscribes.
+const JOINED: &[Seen<'static>] = &[
+    Sent(1, On("a")),
+    Sent(2, On("a")),
+    Sent(3, On("a")),
+    Sent(4, On("a")),
+    Members("a", &[]),
+];
+
+const GRAFT_1: Act<'static> = Hear(1, &[Graft("a")]);
+
+const GRAFT_2: Act<'static> = Hear(2, &[Graft("a")]);
+
+const GRAFT_3: Act<'static> = Hear(3, &[Graft("a")]);
+
+pub static TRAFFIC: &[Case<'static>] = &[
+    // It goes to all members but its sender. Another member that passes it on at most ten milliseconds later counts once; whoever
+    // passed it on first does not count again, nor does one that is no member.
+    Case {
+        name: "a message goes to the mesh, and counts for members",
+        neighbours: 4,
+        kinds: FOUR,
+        asks: OF_A,
+        steps: &[
+            (0, Subscribe("a"), JOINED),
+            (0, GRAFT_1, &[Grafted(1, "a"), Members("a", &[1])]),
+            (0, GRAFT_2, &[Grafted(2, "a"), Members("a", &[1, 2])]),
+            (0, GRAFT_3, &[Grafted(3, "a"), Members("a", &[1, 2, 3])]),
+            (
+                1,
+                Hear(1, &[Message("a", &[5])]),
+                &[
+                    Sent(2, Message("a", &[5])),
+                    Sent(3, Message("a", &[5])),
+                    Delivered("a", &[5]),
+                    Accepted(Of(&[5])),
+                    First(1, "a", Of(&[5])),
+                    Near(1, "a", Of(&[5])),
+                    Cached(Of(&[5]), "a"),
+                ],
+            ),
+            (1, Hear(4, &[Message("a", &[5])]), &[]),
+            (
+                11,
+                Hear(2, &[Message("a", &[5])]),
+                &[Near(2, "a", Of(&[5]))],
+            ),
+            (11, Hear(2, &[Message("a", &[5])]), &[]),
+            (11, Hear(1, &[Message("a", &[5])]), &[]),
+            (12, Hear(3, &[Message("a", &[5])]), &[]),
+            (
+                13,
+                Hear(4, &[Message("a", &[6])]),
+                &[
+                    Sent(1, Message("a", &[6])),
+                    Sent(2, Message("a", &[6])),
+                    Sent(3, Message("a", &[6])),
+                    Delivered("a", &[6]),
+                    Accepted(Of(&[6])),
+                    First(4, "a", Of(&[6])),
+                    Cached(Of(&[6]), "a"),
+                ],
+            ),
+            (
+                14,
+                Hear(1, &[Message("a", &[6])]),
+                &[Near(1, "a", Of(&[6]))],
+            ),
+            // what the router publishes itself is seen then, too
+            (
+                15,
+                Publish("a", &[7]),
+                &[
+                    Delivered("a", &[7]),
+                    Accepted(Of(&[7])),
+                    Cached(Of(&[7]), "a"),
+                ],
+            ),
+            (
+                16,
+                Hear(2, &[Message("a", &[7])]),
+                &[Near(2, "a", Of(&[7]))],
+            ),
+        ],
+        ..NOTHING
+    },
+    // Without flood publishing a payload goes to the mesh alone, but for a member that scores below the threshold: a rejected
+    // message costs it 60.
+    Case {
+        name: "what is published goes to the mesh above the threshold",
+        neighbours: 4,
+        kinds: FOUR,
+        asks: OF_A,
+        topics: &[JUDGING],
+        flood_publish: false,
+        steps: &[
+            (0, Subscribe("a"), JOINED),
+            (0, GRAFT_1, &[Grafted(1, "a"), Members("a", &[1])]),
+            (0, GRAFT_2, &[Grafted(2, "a"), Members("a", &[1, 2])]),
+            (0, Hear(3, &[On("a")]), &[]),
+            (
+                1,
+                Publish("a", &[5]),
+                &[
+                    Sent(1, Message("a", &[5])),
+                    Sent(2, Message("a", &[5])),
+                    Delivered("a", &[5]),
+                    Accepted(Of(&[5])),
+                    Cached(Of(&[5]), "a"),
+                ],
+            ),
+            (
+                2,
+                Hear(1, &[Message("a", &[0xff])]),
+                &[Rejected(Of(&[0xff])), Invalid(1, "a")],
+            ),
+            (
+                3,
+                Publish("a", &[6]),
+                &[
+                    Sent(2, Message("a", &[6])),
+                    Delivered("a", &[6]),
+                    Accepted(Of(&[6])),
+                    Cached(Of(&[6]), "a"),
+                ],
+            ),
+        ],
+        ..NOTHING
+    },
+    // Whoever leaves the topic, closes its link or is at fault.
+    Case {
+        name: "who is lost leaves the mesh, and is told nothing",
+        neighbours: 4,
+        kinds: FOUR,
+        asks: OF_A,
+        steps: &[
+            (0, Subscribe("a"), JOINED),
+            (0, GRAFT_1, &[Grafted(1, "a"), Members("a", &[1])]),
+            (0, GRAFT_2, &[Grafted(2, "a"), Members("a", &[1, 2])]),
+            (0, GRAFT_3, &[Grafted(3, "a"), Members("a", &[1, 2, 3])]),
+            (
+                1,
+                Hear(1, &[Off("a")]),
+                &[Pruned(1, "a"), Members("a", &[2, 3])],
+            ),
+            (2, Gone(2), &[Pruned(2, "a"), Members("a", &[3])]),
+            (3, Fault(3), &[Pruned(3, "a"), Members("a", &[])]),
+        ],
+        ..NOTHING
+    },
+    // One delivery of two that should be there, halved once: the square of the 1.5 that are missing is 2.25. It counts from
+    // 5,000 milliseconds in the mesh on. Whoever is pruned then is charged with it, and that is halved in turn.
+    Case {
+        name: "what is missing costs in the mesh and behind it, and a PRUNE charges it",
+        neighbours: 4,
+        kinds: FOUR,
+        asks: &[Ask::Members("a"), Ask::Score(1)],
+        topics: &[DEMANDING],
+        steps: &[
+            (
+                0,
+                Subscribe("a"),
+                &[
+                    Sent(1, On("a")),
+                    Sent(2, On("a")),
+                    Sent(3, On("a")),
+                    Sent(4, On("a")),
+                    Members("a", &[]),
+                    Score(1, 0),
+                ],
+            ),
+            (
+                0,
+                GRAFT_1,
+                &[Grafted(1, "a"), Members("a", &[1]), Score(1, 0)],
+            ),
+            (
+                1,
+                Hear(1, &[Message("a", &[5])]),
+                &[
+                    Delivered("a", &[5]),
+                    Accepted(Of(&[5])),
+                    First(1, "a", Of(&[5])),
+                    Near(1, "a", Of(&[5])),
+                    Cached(Of(&[5]), "a"),
+                ],
+            ),
+            (1_000, Decay, &[]),
+            (4_999, Hear(1, &[On("a")]), &[]),
+            (
+                5_000,
+                Hear(1, &[On("a")]),
+                &[Members("a", &[1]), Score(1, -2_250_000)],
+            ),
+            (
+                5_000,
+                Hear(1, &[Prune("a", None)]),
+                &[
+                    Pruned(1, "a"),
+                    Deficit(1, "a", 2_250_000),
+                    Backoff(1, "a", 65_000),
+                    Members("a", &[]),
+                    Score(1, -2_250_000),
+                ],
+            ),
+            (6_000, Decay, &[Members("a", &[]), Score(1, -1_125_000)]),
+        ],
+        ..NOTHING
+    },
+];

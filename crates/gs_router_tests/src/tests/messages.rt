@@ -1,0 +1,297 @@
+//! Messages that come and are published.
+use gs_router_calls::Id::Of;
+use gs_router_calls::Said::{Message, Off, On, Other, Parts, Sub};
+use gs_router_calls::{Act, Case, Fields, NO_FIELDS, NO_TOPIC, NOTHING, Said, Seen};
+
+/// The fields of the message `abc` on `a`.
+const ABC_FIELDS: Fields<'static> = Fields {
+    topic: "a",
+    payload: Some(b"abc"),
+    ..NO_FIELDS
+};
+
+const WITH_ORIGIN: Said<'static> = Other(Fields {
+    origin: Some(b""),
+    ..ABC_FIELDS
+});
+
+const WITH_SEQNO: Said<'static> = Other(Fields {
+    seqno: Some(b""),
+    ..ABC_FIELDS
+});
+
+const WITH_SIGNATURE: Said<'static> = Other(Fields {
+    signature: Some(b""),
+    ..ABC_FIELDS
+});
+
+const WITH_KEY: Said<'static> = Other(Fields {
+    key: Some(b""),
+    ..ABC_FIELDS
+});
+
+const ABC_ON_A: Said<'static> = Message("a", b"abc");
+
+/// The message comes, and nothing comes of it.
+const COMES: &[Seen<'static>] = &[Seen::Heard(1, ABC_ON_A), Seen::Handled(1, ABC_ON_A)];
+
+/// It comes, and is delivered and kept.
+const IS_DELIVERED: &[Seen<'static>] = &[
+    Seen::Heard(1, ABC_ON_A),
+    Seen::Handled(1, ABC_ON_A),
+    Seen::Delivered("a", b"abc"),
+    Seen::Accepted(Of(b"abc")),
+    Seen::First(1, "a", Of(b"abc")),
+    Seen::Cached(Of(b"abc"), "a"),
+];
+
+pub static MESSAGES: &[Case<'static>] = &[
+    // Neighbour 2 is on `a`, and neighbour 1 was.
+    Case {
+        name: "a message goes to the neighbours on its topic, and to a subscribed user",
+        events: true,
+        steps: &[
+            (
+                0,
+                Act::Subscribe("a"),
+                &[
+                    Seen::Subscribe("a"),
+                    Seen::Sent(1, On("a")),
+                    Seen::Sent(2, On("a")),
+                ],
+            ),
+            (
+                1,
+                Act::Hear(1, &[On("a")]),
+                &[Seen::Heard(1, On("a")), Seen::Handled(1, On("a"))],
+            ),
+            (
+                2,
+                Act::Hear(2, &[On("a")]),
+                &[Seen::Heard(2, On("a")), Seen::Handled(2, On("a"))],
+            ),
+            (
+                3,
+                Act::Hear(1, &[Off("a")]),
+                &[Seen::Heard(1, Off("a")), Seen::Handled(1, Off("a"))],
+            ),
+            (
+                4,
+                Act::Publish("a", b"abc"),
+                &[
+                    Seen::Publish("a", b"abc"),
+                    Seen::Sent(2, ABC_ON_A),
+                    Seen::Delivered("a", b"abc"),
+                    Seen::Accepted(Of(b"abc")),
+                    Seen::Cached(Of(b"abc"), "a"),
+                ],
+            ),
+            (
+                4,
+                Act::Publish("b", b""),
+                &[
+                    Seen::Publish("b", &[]),
+                    Seen::Accepted(Of(&[])),
+                    Seen::Cached(Of(&[]), "b"),
+                ],
+            ),
+        ],
+        ..NOTHING
+    },
+    // It has a field that StrictNoSign forbids, even an empty one.
+    Case {
+        name: "a signed message is invalid where its topic is joined, and is not marked as seen",
+        events: true,
+        steps: &[
+            (
+                0,
+                Act::Hear(
+                    1,
+                    &[WITH_ORIGIN, WITH_SEQNO, WITH_SIGNATURE, WITH_KEY, ABC_ON_A],
+                ),
+                &[
+                    Seen::Heard(1, Parts(5)),
+                    Seen::Heard(1, WITH_ORIGIN),
+                    Seen::Heard(1, WITH_SEQNO),
+                    Seen::Heard(1, WITH_SIGNATURE),
+                    Seen::Heard(1, WITH_KEY),
+                    Seen::Heard(1, ABC_ON_A),
+                    Seen::Handled(1, WITH_ORIGIN),
+                    Seen::Handled(1, WITH_SEQNO),
+                    Seen::Handled(1, WITH_SIGNATURE),
+                    Seen::Handled(1, WITH_KEY),
+                    Seen::Handled(1, ABC_ON_A),
+                ],
+            ),
+            (
+                0,
+                Act::Subscribe("a"),
+                &[
+                    Seen::Subscribe("a"),
+                    Seen::Sent(1, On("a")),
+                    Seen::Sent(2, On("a")),
+                ],
+            ),
+            (
+                0,
+                Act::Hear(
+                    1,
+                    &[WITH_ORIGIN, WITH_SEQNO, WITH_SIGNATURE, WITH_KEY, ABC_ON_A],
+                ),
+                &[
+                    Seen::Heard(1, Parts(5)),
+                    Seen::Heard(1, WITH_ORIGIN),
+                    Seen::Heard(1, WITH_SEQNO),
+                    Seen::Heard(1, WITH_SIGNATURE),
+                    Seen::Heard(1, WITH_KEY),
+                    Seen::Heard(1, ABC_ON_A),
+                    Seen::Handled(1, WITH_ORIGIN),
+                    Seen::Invalid(1, "a"),
+                    Seen::Handled(1, WITH_SEQNO),
+                    Seen::Invalid(1, "a"),
+                    Seen::Handled(1, WITH_SIGNATURE),
+                    Seen::Invalid(1, "a"),
+                    Seen::Handled(1, WITH_KEY),
+                    Seen::Invalid(1, "a"),
+                    Seen::Handled(1, ABC_ON_A),
+                    Seen::Delivered("a", b"abc"),
+                    Seen::Accepted(Of(b"abc")),
+                    Seen::First(1, "a", Of(b"abc")),
+                    Seen::Cached(Of(b"abc"), "a"),
+                ],
+            ),
+        ],
+        ..NOTHING
+    },
+    Case {
+        name: "an RPC is heard part by part, and what is absent has a value",
+        events: true,
+        steps: &[
+            (
+                0,
+                Act::Subscribe(""),
+                &[
+                    Seen::Subscribe(""),
+                    Seen::Sent(1, On("")),
+                    Seen::Sent(2, On("")),
+                ],
+            ),
+            (
+                3,
+                Act::Hear(
+                    1,
+                    &[On("a"), Sub("a"), On(NO_TOPIC), ABC_ON_A, Other(NO_FIELDS)],
+                ),
+                &[
+                    Seen::Heard(1, Parts(5)),
+                    Seen::Heard(1, On("a")),
+                    Seen::Heard(1, Sub("a")),
+                    Seen::Heard(1, On(NO_TOPIC)),
+                    Seen::Heard(1, ABC_ON_A),
+                    Seen::Heard(1, Other(NO_FIELDS)),
+                    Seen::Handled(1, On("a")),
+                    Seen::Handled(1, Sub("a")),
+                    Seen::Handled(1, On(NO_TOPIC)),
+                    Seen::Handled(1, ABC_ON_A),
+                    Seen::Handled(1, Other(NO_FIELDS)),
+                    Seen::Delivered("", &[]),
+                    Seen::Accepted(Of(&[])),
+                    Seen::First(1, "", Of(&[])),
+                    Seen::Cached(Of(&[]), ""),
+                ],
+            ),
+            (
+                3,
+                Act::Publish("a", b"abc"),
+                &[
+                    Seen::Publish("a", b"abc"),
+                    Seen::Accepted(Of(b"abc")),
+                    Seen::Cached(Of(b"abc"), "a"),
+                ],
+            ),
+            (120_003, Act::Hear(2, &[]), &[Seen::Heard(2, Parts(0))]),
+            (
+                120_003,
+                Act::Publish("", b""),
+                &[
+                    Seen::Publish("", &[]),
+                    Seen::Sent(1, Message("", &[])),
+                    Seen::Delivered("", &[]),
+                    Seen::Accepted(Of(&[])),
+                    Seen::Cached(Of(&[]), ""),
+                ],
+            ),
+        ],
+        ..NOTHING
+    },
+    Case {
+        name: "a message is delivered again where it was first seen 120,000 milliseconds ago",
+        events: true,
+        steps: &[
+            (
+                0,
+                Act::Subscribe("a"),
+                &[
+                    Seen::Subscribe("a"),
+                    Seen::Sent(1, On("a")),
+                    Seen::Sent(2, On("a")),
+                ],
+            ),
+            (1_000, Act::Hear(1, &[ABC_ON_A]), IS_DELIVERED),
+            (1_000, Act::Hear(1, &[ABC_ON_A]), COMES),
+            (120_999, Act::Hear(1, &[ABC_ON_A]), COMES),
+            (120_999, Act::Publish("b", b"abc"), &[Seen::Refused(16)]),
+            (121_000, Act::Hear(1, &[ABC_ON_A]), IS_DELIVERED),
+            (240_999, Act::Hear(1, &[ABC_ON_A]), COMES),
+            (240_999, Act::Publish("a", b"abc"), &[Seen::Refused(16)]),
+            (
+                241_000,
+                Act::Publish("a", b"abc"),
+                &[
+                    Seen::Publish("a", b"abc"),
+                    Seen::Delivered("a", b"abc"),
+                    Seen::Accepted(Of(b"abc")),
+                    Seen::Cached(Of(b"abc"), "a"),
+                ],
+            ),
+        ],
+        ..NOTHING
+    },
+    Case {
+        name: "a message on a topic that is not joined is dropped, and not seen",
+        events: true,
+        steps: &[
+            (
+                0,
+                Act::Subscribe("b"),
+                &[
+                    Seen::Subscribe("b"),
+                    Seen::Sent(1, On("b")),
+                    Seen::Sent(2, On("b")),
+                ],
+            ),
+            (0, Act::Hear(1, &[ABC_ON_A]), COMES),
+            (
+                0,
+                Act::Subscribe("a"),
+                &[
+                    Seen::Subscribe("a"),
+                    Seen::Sent(1, On("a")),
+                    Seen::Sent(2, On("a")),
+                ],
+            ),
+            (0, Act::Hear(1, &[ABC_ON_A]), IS_DELIVERED),
+            (
+                0,
+                Act::Unsubscribe("a"),
+                &[
+                    Seen::Unsubscribe("a"),
+                    Seen::Sent(1, Off("a")),
+                    Seen::Sent(2, Off("a")),
+                ],
+            ),
+            (120_000, Act::Hear(1, &[ABC_ON_A]), COMES),
+        ],
+        ..NOTHING
+    },
+];
