@@ -1,4 +1,3 @@
-//! What is said of an input.
 ghost use Rattle.std.specs.Prelude.{◌≡◌, ◌≤◌, IfOk, IfSome, List, Option, Some, ℕ, length};
 ghost use Rattle.gossip_check.specs.Program.{Answers, IsRefusalText, no_memory_answer};
 ghost use Rattle.gs_streams.specs.Inputs.{IsRefusal};
@@ -15,9 +14,9 @@ use std::io::Read;
 /// What an answer says of a scenario.
 #[derive(Clone, Copy, Debug, PartialEq, Eq)]
 pub enum Verdict {
-    /// It describes a plan.
+    /// The input describes a plan.
     Accepted,
-    /// It is refused.
+    /// The input is refused.
     Refused,
     /// Nothing: there was no memory to find out, or to say it.
     NoMemory,

@@ -61,7 +61,6 @@ where
     }
 }
 
-/// Writes an answer to the output.
 fn tell_answer<W, E>(verdict: Verdict, answer: &[u8], output: &mut W, errors: &mut E) -> ExitStatus
 where
     W: Write,

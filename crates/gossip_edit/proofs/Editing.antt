@@ -49,7 +49,7 @@ not_changed arguments bytes before (Refused NotWritable) holds why = absurd why
 not_changed arguments bytes before InputFailed holds why = absurd why
 not_changed arguments bytes before NoMemory holds why = tt
 
--- the same of an error that a `?` passes on
+-- what is known of an error, where a `?` passes it on
 pub not_changed_err : {A : Type 0} (r : Result A NoChange) (arguments : List (List ℕ)) (bytes : List ℕ) (before : Members) (e : NoChange) (Q : NoChange → Type 0)
     → IsErrAnd r Q → ((y : NoChange) → Q y → y ≡ e) → parse_document bytes ≡ Some before → Explains (edited 1 arguments before) e
     → IfErr r (IsNotChanged arguments (Some bytes))

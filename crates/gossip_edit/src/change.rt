@@ -1,4 +1,3 @@
-//! The text of a changed scenario.
 ghost use Rattle.std.specs.Prelude.{◌≡◌, ◌≢◌, IfErr, IfOk, Some, false, map, string_bytes};
 ghost use Rattle.toml.specs.View.{table_view};
 ghost use Rattle.gossip_edit.specs.Program.{IsChanged, IsNotChanged, IsTextOf, is_writable};
@@ -55,7 +54,7 @@ fn changed_text(alloc: Global, arguments: &[String], bytes: &[u8]) -> Result<Str
     text_of(alloc, &table)
 }
 
-/// The text of a document.
+/// The text of a document; a document that can't be written is refused.
 fn text_of(alloc: Global, table: &Table) -> Result<String, NoChange>
     ensures ok { IfOk result (λ text. IsTextOf (table_view table.now) (string_bytes text)) }
     ensures refused { result ≡ Err (NoChange.Refused Refusal.NotWritable) → is_writable (table_view table.now) ≡ false }

@@ -23,7 +23,6 @@ fn all_are_edits(arguments: &[String]) -> bool
     true
 }
 
-/// Whether an argument has an equals sign.
 fn is_edit(argument: &str) -> bool
     ensures { result ≡ is_edit argument.now }
 {

@@ -90,7 +90,6 @@ pub fn refuse_arguments<E: Write>(cause: ErrorKind, errors: &mut E) -> ExitStatu
     ExitStatus::WrongArguments
 }
 
-/// Writes a changed scenario to the output.
 fn write_changed<W, E>(text: &str, output: &mut W, errors: &mut E) -> ExitStatus
 where
     W: Write,

@@ -6,7 +6,6 @@ use crate::edits::{EditFault, Refusal};
 use crate::keys::key_and_value;
 use std::alloc::{AllocError, Global};
 
-/// The line of a refusal.
 pub(crate) fn refusal_line(
     alloc: Global,
     arguments: &[String],
@@ -18,7 +17,6 @@ pub(crate) fn refusal_line(
     format!(in alloc; "edit refused: {reason}\n")
 }
 
-/// Why an edit is refused.
 fn reason(alloc: Global, arguments: &[String], refusal: Refusal) -> Result<String, AllocError>
     ensures { IfOk result (λ text. string_bytes text ≡ reason (map string_bytes arguments.now) refusal) }
 {

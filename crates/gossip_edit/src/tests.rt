@@ -9,7 +9,7 @@ use std::process::{Abort, ExitCode};
 const SCENARIO: &str = "workers = 2\ncapacity = 8 # items\n\n[params]\nd = 6\n\n\
     [[topic]]\nname = \"news\"\n\n[[topic]]\nname = \"sport\"\nw4 = -1\n";
 
-/// The arguments that some lines are.
+/// One argument a line.
 fn arguments_of(alloc: Global, lines: &str) -> Result<Vec<String>, AllocError> {
     let mut arguments = Vec::new(alloc);
     for line in lines.lines() {

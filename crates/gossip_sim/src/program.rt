@@ -28,7 +28,7 @@ use std::thread::Threads;
 pub enum ExitStatus {
     /// The report is on the output.
     Reported,
-    /// The scenario is refused.
+    /// The scenario is refused, and a line on `errors` says so.
     ScenarioRefused,
     /// The run met a fault, or there was no memory to report on it.
     RunRefused,
@@ -114,11 +114,10 @@ where
 enum NoPlan {
     /// A read of the input failed, or the reads ran out.
     InputFailed,
-    /// What was read is refused.
+    /// The bytes that were read are refused.
     Refused(ScenarioFault),
 }
 
-/// The plan that the input describes.
 fn plan_in<R: Read>(alloc: Global, input: &mut R) -> Result<Plan, NoPlan>
     ensures found { IfOk result (λ plan. IsScenario (R.remaining input.old) plan) }
     ensures at_end { OnOk result (IsAtEnd (R.remaining input.new)) }
@@ -138,7 +137,6 @@ fn plan_in<R: Read>(alloc: Global, input: &mut R) -> Result<Plan, NoPlan>
     }
 }
 
-/// The report of a run of the plan.
 fn report_of<T, G>(rt: &T, gate: &G, plan: &Plan) -> Result<Vec<u8>, NetFault>
 where
     T: Threads + Wait + RandomSource + AllocGlobal + Sync + Send + Copy,
@@ -208,7 +206,6 @@ fn spaced_name(alloc: Global, plan: &Plan, peer: Option<PeerNo>) -> Result<Strin
     }
 }
 
-/// The peer that a fault names.
 fn peer_of(fault: NetFault) -> Option<PeerNo>
     ensures { result ≡ peer_of fault }
 {

@@ -1,4 +1,3 @@
--- How RPCs are written, as what stands below the codec sees it.
 use Rattle.std.specs.Prelude.{ℕ, Bool, List}
 use Rattle.gs_base.specs.declared.rpc.Rpc.{Rpc}
 

@@ -33,7 +33,6 @@ most_topics = 1_024
 abbrev pub topic_or_empty : Option Topic → Topic
 topic_or_empty topic = unwrap_or topic (record { 0 = [] })
 
--- the topic that a message is on
 abbrev pub topic_of : Message → Topic
 topic_of m = topic_or_empty m.topic
 

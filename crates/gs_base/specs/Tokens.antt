@@ -1,4 +1,3 @@
--- What one peer says to another.
 use Rattle.std.specs.Prelude.{ℕ, List, [], ◌∷◌}
 
 -- a byte, the end of a round, or the close
@@ -11,7 +10,7 @@ pub data Token : Type 0 where
 abbrev pub Said : Type 0
 Said = List Token
 
--- its bytes
+-- its bytes, without the ends of rounds and the close
 abbrev pub bytes_of : Said → List ℕ
 bytes_of [] = []
 bytes_of (Byte b ∷ w) = b ∷ bytes_of w

@@ -1,5 +1,4 @@
-//! What gossipsub peers say of their meshes and of what they have seen: the control messages of
-//! gossipsub v1.0 and v1.1.
+//! The control messages of gossipsub v1.0 and v1.1, field by field as `rpc.proto` has them.
 ghost use Rattle.std.specs.Prelude.{◌≡◌};
 
 use crate::exact::{ExactClone, clone_option};
@@ -13,7 +12,7 @@ use std::alloc::AllocError;
 pub struct IHave {
     /// The topic that they were published on (`topicID`).
     pub topic: Option<Topic>,
-    /// Their identifiers (`messageIDs`).
+    /// Their identifiers (`messageIDs`): any bytes, of which a router passes over those that are not 32.
     pub ids: Seq<Bytes>,
 }
 
@@ -80,7 +79,7 @@ impl ExactClone for Graft {
 pub struct Prune {
     /// The topic of the mesh (`topicID`).
     pub topic: Option<Topic>,
-    /// For how long the receiver is not to graft, in seconds.
+    /// For how long the receiver is not to graft, in seconds. Absent and 0 mean the receiver's own `prune_backoff_s`.
     pub backoff: Option<u64>,
 }
 

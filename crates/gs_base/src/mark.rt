@@ -1,4 +1,3 @@
-//! What an entry of a trace leaves to be remembered.
 use crate::names::{Millis, MsgId, PeerNo, Topic};
 use crate::verdict::Verdict;
 
@@ -21,17 +20,17 @@ pub enum Mark {
     /// The message with this identifier is kept as one of this topic, for who asks for it (gossipsub v1.0,
     /// Message Cache).
     Cached(MsgId, Topic),
-    /// A neighbour was sent a kept message that it asked for.
+    /// A neighbour was sent a kept message that it asked for, which counts against `gossip_retransmission`.
     Answered(PeerNo, MsgId),
-    /// An offer of a neighbour counted against its budget.
+    /// An offer of a neighbour counted against its budget (`max_ihave`).
     HeardHave(PeerNo),
-    /// So many identifiers were asked of a neighbour, which count against its budget.
+    /// So many identifiers were asked of a neighbour, which count against its budget (`max_ihave_ids`).
     Asked(PeerNo, u32),
-    /// A neighbour came into the mesh of this topic.
+    /// A neighbour came into the mesh of this topic, whoever grafted whom. From then on its time there counts (P1).
     Grafted(PeerNo, Topic),
-    /// A neighbour left the mesh of this topic.
+    /// A neighbour left the mesh of this topic, for whatever reason. Its counters stay.
     Pruned(PeerNo, Topic),
-    /// A neighbour came into the fanout of this topic.
+    /// A neighbour came into the fanout of this topic (gossipsub v1.0, Fanout Maintenance).
     Fanned(PeerNo, Topic),
     /// A neighbour left the fanout of this topic.
     Unfanned(PeerNo, Topic),

@@ -16,7 +16,8 @@ pub struct PeerNo(pub u16);
 #[derive(Debug, Drop, PartialEq, Eq, PartialOrd, Ord)]
 pub struct Topic(pub Bytes);
 
-/// All of it is hashed at once, and not byte by byte.
+/// All of it is hashed at once, and not byte by byte. Hash maps are `IndexMap`s in all crates: the order of their
+/// entries is that of insertion, so no trace and no report depends on a hash.
 impl Hash for Topic {
     ghost use Rattle.std.specs.Prelude.{[], ◌∷◌};
     ghost use Rattle.std.proofs.Common.{rules};
@@ -63,7 +64,7 @@ pub const LONGEST_TOPIC: usize = 1_024;
 /// How many topics a peer may ever be subscribed to.
 pub const MOST_TOPICS: usize = 1_024;
 
-/// The length of an identifier, in bytes.
+/// The length of an identifier, in bytes: that of a SHA-256.
 const ID_LENGTH: usize = 32;
 
 /// The identifier of a message: the SHA-256 of its payload.
@@ -85,7 +86,8 @@ impl Hash for MsgId {
 }
 
 impl MsgId {
-    /// The identifier of a message with this payload.
+    /// The SHA-256 of the payload alone: neither the topic nor the author counts, so one payload on two topics is one
+    /// message.
     pub fn of(payload: &[u8]) -> MsgId
         ensures { result ≡ message_id payload.now }
     {

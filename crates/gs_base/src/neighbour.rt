@@ -1,4 +1,3 @@
-//! The peers to which a peer has a link.
 ghost use Rattle.std.specs.Prelude.{◌≡◌};
 
 use crate::exact::{ExactClone, clone_of};
@@ -9,7 +8,7 @@ use std::alloc::AllocError;
 /// A peer to which another has a link, as that one knows it.
 #[derive(Debug, Drop, PartialEq, Eq)]
 pub struct Neighbour {
-    /// Its number.
+    /// Its number, by which links, traces and reports name it.
     pub peer: PeerNo,
     /// Whether it was dialled, and did not dial (gossipsub v1.1, Outbound Mesh Quotas).
     pub outbound: bool,

@@ -55,7 +55,7 @@ pub struct Message {
     pub origin: Option<Bytes>,
     /// What is published (`data`).
     pub payload: Option<Bytes>,
-    /// The author's number of the message.
+    /// The author's number of the message (`seqno`).
     pub seqno: Option<Bytes>,
     /// The topic that it is published on.
     pub topic: Option<Topic>,

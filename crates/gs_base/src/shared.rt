@@ -1,4 +1,3 @@
-//! A value with several owners, that contracts see as the value.
 ghost use Rattle.std.specs.Prelude.{◌≡◌, IfOk};
 
 use crate::exact::ExactClone;
@@ -24,7 +23,7 @@ impl<T> Model for Shared<T> {
 }
 
 impl<T> Shared<T> {
-    /// The value.
+    /// The value. No owner can change it, since all others have it too.
     pub fn get(&self) -> &T
         ensures { result.now ≡ self.now }
     {

@@ -1,4 +1,3 @@
-//! A text that contracts see as its bytes.
 ghost use Rattle.std.specs.Prelude.{◌≡◌, string_bytes, nat_eq, IfOk};
 ghost use Rattle.std.specs.Cmp.Lexicographic.{pointwise, nat_list_eq_equiv};
 ghost use Rattle.std.specs.Cmp.{partial_equiv_from_equiv};
@@ -34,7 +33,7 @@ impl Text {
         })
     }
 
-    /// The text.
+    /// The text as a slice, which copies nothing.
     pub fn as_str(&self) -> &str
         ensures { result.now ≡ self.now }
     {

@@ -1,12 +1,10 @@
-//! What a message is found to be.
-
 /// What a message was found to be (gossipsub v1.1, Extended Validators).
 #[derive(Clone, Copy, Debug, PartialEq, Eq)]
 pub enum Verdict {
     /// It is delivered and passed on.
     Accept,
-    /// It is dropped, and counts against its sender.
+    /// It is dropped, and counts against each neighbour that passes it on (P4).
     Reject,
-    /// It is dropped.
+    /// It is dropped, and counts against nobody.
     Ignore,
 }

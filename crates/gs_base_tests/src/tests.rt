@@ -49,7 +49,7 @@ fn is_its_clone(alloc: Global) -> Result<bool, AllocError> {
     Ok(copy == source)
 }
 
-/// So is what `clone_option` makes of what may be there.
+/// What `clone_option` makes of what may be there is equal to its source.
 fn is_cloned_where_there(alloc: Global) -> Result<bool, AllocError> {
     let source = Some(topic(alloc)?);
     let copy = clone_option(&source)?;
@@ -208,7 +208,7 @@ fn publishes_alone(alloc: Global) -> Result<bool, AllocError> {
     Ok(published == wanted)
 }
 
-/// And so is a subscription.
+/// A subscription is alone in its RPC.
 fn announces_alone(alloc: Global) -> Result<bool, AllocError> {
     let joins = Rpc::announcement(alloc, true, &topic(alloc)?)?;
     let [sub] = joins.subs.as_slice() else {

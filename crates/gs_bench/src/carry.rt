@@ -8,7 +8,7 @@ use gs_link::{Item, LinkRx, LinkTx, Taken, open_link};
 use std::alloc::Global;
 use std::sync::Wait;
 
-/// How many slots there are.
+/// How many slots a link and a queue have.
 const SLOTS: usize = 64;
 
 /// A piece that takes no memory.

@@ -1,4 +1,3 @@
-//! Why nothing was measured.
 use gs_link::LinkFault;
 use gs_wire::WireFault;
 use std::alloc::AllocError;

@@ -1,5 +1,3 @@
-//! What is measured.
-
 /// One of the three RPCs that are measured.
 #[derive(Clone, Copy)]
 pub(crate) enum Sample {
@@ -22,7 +20,7 @@ pub(crate) enum Kind {
     Feed(usize),
     /// A link of 64 slots, filled with pieces and emptied.
     Link,
-    /// The same over a plain queue.
+    /// A plain queue of 64 slots, filled with pieces and emptied, to compare the link with.
     Queue,
     /// A mark of a neighbour that has counters on so many topics.
     Apply(u8),
@@ -50,7 +48,6 @@ static KINDS: [(&str, Kind); 15] = [
 ];
 
 impl Kind {
-    /// The kind that a word names.
     pub(crate) fn from_word(word: &str) -> Option<Kind> {
         for (name, kind) in &KINDS {
             if *name == word {

@@ -53,7 +53,6 @@ fn publication(alloc: Global, topic: &Topic) -> Result<Rpc, AllocError> {
     Rpc::publication(alloc, topic, &payload(alloc)?)
 }
 
-/// The RPC of a sample.
 pub(crate) fn rpc_of(alloc: Global, sample: Sample) -> Result<Rpc, AllocError> {
     let topic = news(alloc)?;
     match sample {
@@ -63,7 +62,6 @@ pub(crate) fn rpc_of(alloc: Global, sample: Sample) -> Result<Rpc, AllocError> {
     }
 }
 
-/// Writes the frame of a sample at the end of a buffer.
 pub(crate) fn write_frame(
     alloc: Global,
     sample: Sample,

@@ -12,7 +12,6 @@ use gs_params::{Params, TopicParams};
 use gs_score::{Kind, Scores};
 use std::alloc::{AllocError, Global};
 
-/// The neighbour.
 const PEER: PeerNo = PeerNo(1);
 
 fn topic(alloc: Global, number: u8) -> Result<Topic, AllocError> {

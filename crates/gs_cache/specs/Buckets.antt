@@ -8,7 +8,6 @@ use Rattle.gs_cache.specs.declared.seen.sighting.Sighting.{Sighting}
 use Rattle.gs_cache.specs.declared.seen.bucket.Bucket.{Bucket}
 use Rattle.gs_cache.specs.Sightings.{counting}
 
--- the sighting of a message
 abbrev pub sighting_in : Bucket → MsgId → Option Sighting
 sighting_in b id = lookup (same_id id) b.sightings.entries
 

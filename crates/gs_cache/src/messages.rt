@@ -1,4 +1,3 @@
-//! The latest messages, whole.
 mod announcing;
 mod tally;
 mod window;
@@ -18,7 +17,7 @@ use std::marker::Model;
 /// What a neighbour that asks for a message gets.
 #[derive(Debug, Drop)]
 pub enum Answer<'a> {
-    /// The message.
+    /// The message, of which the neighbour has answers left.
     Given(&'a Shared<Message>),
     /// Nothing: it got the message as often as it may since the last put.
     Spent,

@@ -1,4 +1,3 @@
-//! The latest payloads, with their identifiers.
 ghost use Rattle.std.specs.Prelude.{◌≡◌, All};
 ghost use Rattle.gs_base.specs.Names.{message_id};
 ghost use Rattle.gs_cache.specs.Payloads.{IsRight};
@@ -12,7 +11,7 @@ use std::marker::Model;
 /// How many payloads are held at most.
 const SLOTS: usize = 1_024;
 
-/// A payload with its identifier.
+/// A payload and its SHA-256.
 #[derive(Drop)]
 pub struct Known {
     payload: Bytes,
@@ -74,14 +73,15 @@ fn set_up(slots: &mut Vec<Option<Known>>)
     }
 }
 
-/// The slot of a payload.
+/// The slot of a payload, by a hash that anybody can compute: who sends payloads that share a slot has each of them
+/// hashed by SHA-256, as it would be without slots, and gains no more.
 fn slot_of(payload: &[u8]) -> usize {
     let mut hasher = FoldHasher::default();
     hasher.write(payload);
     hasher.finish() as usize % SLOTS
 }
 
-/// The identifier of a payload, which lies in its slot from now on.
+/// The identifier of a payload, which lies in its slot from now on, where there is memory for that.
 fn identifier_by(slot: &mut Option<Known>, payload: &Bytes) -> MsgId
     requires { IsRight slot.old }
     ensures identifies { result ≡ message_id payload.now }

@@ -1,4 +1,3 @@
-//! The messages that were seen.
 mod bucket;
 mod sighting;
 
@@ -143,7 +142,6 @@ impl SeenCache {
         Some(sighting)
     }
 
-    /// The last sighting of a message.
     fn last(&self, id: &MsgId) -> Option<&Sighting>
         ensures { option_copied result ≡ lookup (same_id id.now) self.now.sightings }
     {

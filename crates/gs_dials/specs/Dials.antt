@@ -61,7 +61,7 @@ AtEach P lists = (p : PeerNo) → AllByRecursion P (list_at lists p.0)
 abbrev pub HasReached : List (Vec Pair Global) → PeerNo → PeerNo → Type 0
 HasReached lists p q = accepted_for (list_at lists p.0) q ≡ taken_from (list_at lists q.0) p
 
--- both ways of a dial
+-- what either peer of a dial accepted for the other has reached it
 abbrev pub IsExchanged : List (Vec Pair Global) → Dial → Type 0
 IsExchanged lists dial = HasReached lists dial.from dial.to × HasReached lists dial.to dial.from
 

@@ -47,7 +47,6 @@ pub fn take_list<T: Drop>(alloc: Global, lists: &mut Vec<Vec<T>>, peer: PeerNo) 
     mem::replace(&mut lists[usize::from(peer.0)], Vec::new(alloc))
 }
 
-/// Takes the last value of a peer's list.
 pub(crate) fn take_last<T: Drop>(lists: &mut Vec<Vec<T>>, peer: PeerNo) -> Option<T>
     requires within { peer.0 < length lists.old.items }
     ensures count { length lists.new.items ≡ length lists.old.items }

@@ -1,4 +1,3 @@
-//! The links of all dials are settled.
 ghost use Rattle.std.specs.Prelude.{◌≡◌, ◌*◌, ◌<◌, ◌^◌, length, true};
 ghost use Rattle.std.specs.List.{All, AllByRecursion, IsDistinct};
 ghost use Rattle.gs_base.specs.Names.{same_peer};
@@ -28,7 +27,7 @@ pub fn settle_all<R: Wait>(rt: &R, dials: &[Dial], lists: Vec<Vec<(PeerNo, LinkT
     let mut left = dials;
     let mut lists = lists;
     let mut settled = 0;
-    // What a dial gave stands last where no later dial is left.
+    // From the last dial back each peer's ends are a stack: what a dial gave stands last, and no end is searched.
     while let Some((dial, rest)) = left.split_last() {
         let Some(one) = take_last(&mut lists, dial.from) else {
             unreachable!()

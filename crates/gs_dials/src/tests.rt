@@ -116,7 +116,6 @@ fn a_value_stands_behind_the_others_of_its_peer(rt: HostRuntime) -> Result<(), F
 
 // ---- settled
 
-/// Whether the close was taken.
 fn is_closed(taken: Taken) -> bool
     ensures { result ≡ take_found_closed taken }
 {
@@ -147,7 +146,7 @@ fn close_list<R: Wait>(rt: &R, list: &mut Vec<(PeerNo, LinkTx, LinkRx)>) -> bool
     closed
 }
 
-/// The same of each list.
+/// `close_list` for each list.
 fn close_all<R: Wait>(rt: &R, lists: &mut Vec<Vec<(PeerNo, LinkTx, LinkRx)>>) -> bool
     ensures count { length lists.new.items ≡ length lists.old.items }
     ensures joints { (n : ℕ) → joints_of (list_at lists.new.items n) ≡ joints_of (list_at lists.old.items n) }

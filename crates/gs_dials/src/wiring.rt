@@ -1,4 +1,3 @@
-//! The links of all dials are opened.
 ghost use Rattle.std.specs.Prelude.{◌≡◌, IfOk, OnOk, length};
 ghost use Rattle.std.specs.List.{All};
 ghost use Rattle.gs_link.specs.Items.{IsCapacity};
@@ -36,7 +35,6 @@ pub fn wire_all(
     Ok(lists)
 }
 
-/// Opens the two links of a dial.
 fn wire_dial(
     alloc: Global,
     capacity: usize,

@@ -7,7 +7,6 @@ use Rattle.gs_link.specs.Ends.{SendingEnd, TakingEnd}
 use Rattle.gs_ends.specs.Ends.{Joint}
 use Rattle.gs_ends.specs.declared.ends.Ends.{Ghosts as EndsOf}
 
--- a neighbour, the end that sends to it and the end that takes from it
 abbrev pub Pair : Type 0
 Pair = PeerNo × SendingEnd × TakingEnd
 

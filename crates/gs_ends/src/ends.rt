@@ -1,4 +1,3 @@
-//! The ends of a peer's links, by neighbour.
 ghost use Rattle.std.specs.Prelude.{◌≡◌, List, true};
 ghost use Rattle.gs_base.specs.declared.names.PeerNo.{PeerNo as PeerNoValue};
 ghost use Rattle.gs_link.specs.declared.item.Slot.{Slot};

@@ -1,4 +1,5 @@
-//! The ends of a peer's links, by neighbour: those of links, and lists in memory in their place.
+//! The ends of a peer's links, by neighbour: those of links, and lists in memory in their place. So a task stands
+//! on what any ends promise, and is tested without threads.
 #![tactic(auto)]
 
 mod ends;

@@ -1,4 +1,3 @@
-//! Ends that are those of links.
 ghost use Rattle.std.specs.Prelude.{◌≡◌};
 ghost use Rattle.std.specs.List.{IsDistinct};
 ghost use Rattle.gs_base.specs.Names.{same_peer};

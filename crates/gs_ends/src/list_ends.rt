@@ -1,4 +1,3 @@
-//! Ends that are lists in memory.
 ghost use Rattle.std.specs.Prelude.{◌≡◌, IfOk, List, [], map, true};
 ghost use Rattle.std.specs.List.{All, IsDistinct};
 ghost use Rattle.gs_base.specs.Names.{same_peer};

@@ -1,4 +1,3 @@
-//! Where a neighbour stands in a list.
 ghost use Rattle.std.specs.Prelude.{◌≡◌, ◌<◌, length, true};
 ghost use Rattle.std.specs.List.{list_any};
 ghost use Rattle.gs_ends.specs.Pairs.{is_of, place_in};

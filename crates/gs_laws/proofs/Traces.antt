@@ -95,7 +95,7 @@ stands plan lives p played below =
 last_goes_on : (plan : Plan) (lives : List Finished) (p : PeerNo) (one : Stands plan lives p) → GoesOn one.keeps.last (trace_of lives p)
 last_goes_on plan lives p one = plays_on (seat_in plan p) (said_to lives p) Closing one.keeps.last (trace_of lives p) [] one.keeps.closed
 
--- and where so many rounds before
+-- where r rounds of a life had ended
 reached : (plan : Plan) (lives : List Finished) (p : PeerNo) (r : ℕ) → Stands plan lives p → r ≤ suc plan.rounds → Reached (seat_in plan p) (said_to lives p) r (trace_of lives p)
 reached plan lives p r one few =
     let there = reach (seat_in plan p) (said_to lives p) r (suc plan.rounds) one.keeps.last one.life.refused few one.keeps.played in
@@ -166,7 +166,7 @@ module _ (plan : Plan) (lives others : List Finished) (run : ArePlayed plan live
       ∙ ap (λ (L : Entries). out codec (bare (moment_of seat Closing) Shut ∷ L) p) (same_last q below one other).0
       ∙ sym (all_said seat (said_to others q) other.keeps.last (trace_of others q) [] p other.legal other.keeps.closed)
 
-  -- and so each has done the same, and refused the same
+  -- each peer has done the same in both runs, and refused the same
   same_life : (p : PeerNo) → p.0 < length plan.peers → (one : Stands plan lives p) (other : Stands plan others p) → (one.life.trace ≡ other.life.trace) × (one.life.refused ≡ other.life.refused)
   same_life p below one other =
       let seat : Seat = seat_in plan p in

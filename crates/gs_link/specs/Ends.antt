@@ -52,7 +52,7 @@ abbrev pub send_found_closed : Result (Unit {0}) SendRefused → Bool
 send_found_closed (Err (send.Closed item)) = true
 send_found_closed other = false
 
--- the same of the answers to close
+-- the link is full, or this end has closed before, says the answer to close
 abbrev pub close_found_full : Result (Unit {0}) CloseRefused → Bool
 close_found_full (Err close.Full) = true
 close_found_full other = false

@@ -22,7 +22,7 @@ pub record Run (accepted taken waiting : List Slot) : Type 0 where
   pub closed_last : ClosesLast accepted
   pub sized : All IsCarried waiting
 
--- The same of a link of this capacity: no more than that wait.
+-- A run of a link in which no more slots wait than its capacity.
 pub record RunWithin (capacity : ℕ) (accepted taken waiting : List Slot) : Type 0 where
   pub run : Run accepted taken waiting
   pub room : length waiting ≤ capacity

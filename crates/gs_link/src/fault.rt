@@ -1,4 +1,3 @@
-//! Why a link is not made, and why one of its ends refuses.
 ghost use Rattle.std.specs.Prelude.{◌≡◌};
 ghost use Rattle.gs_link.specs.Refusals.{link_number, send_number, close_number};
 

@@ -23,16 +23,15 @@ pub enum Item {
 /// that a link costs no more than a queue of items.
 #[derive(Debug, PartialEq, Eq, Drop)]
 pub enum Slot {
-    /// A piece.
+    /// 1 to 64 bytes of the frames that are sent.
     Piece(Bytes),
-    /// The end of a round.
+    /// The end of this round: the bytes that were sent in it stand before it.
     Round(u64),
-    /// The close.
+    /// The close: nothing stands behind it.
     Close,
 }
 
 impl Slot {
-    /// An item, as it lies in a link.
     pub(crate) fn of(item: Item) -> Slot
         ensures { result ≡ slot_of item }
     {

@@ -1,4 +1,3 @@
-//! The taking end of a link.
 ghost use Rattle.std.specs.Prelude.{◌≡◌, ◌++◌, ◌∷◌, [], IsTrue};
 ghost use Rattle.gs_link.specs.Items.{IsSendable, slot_of};
 ghost use Rattle.gs_link.specs.Runs.{closes};
@@ -15,7 +14,7 @@ use std::sync::{Arc, Wait};
 pub enum Taken {
     /// The item that waited longest.
     Got(Item),
-    /// Nothing waits.
+    /// Nothing waits now, and more may come.
     Empty,
     /// The close was taken: nothing more comes.
     Closed,

@@ -6,9 +6,9 @@ use std::collections::LinkedList;
 
 /// What a pass may do, and what it did. It exists in proofs alone: no value of it is made.
 pub struct Account {
-    /// Whether it may send.
+    /// Whether it may send: at most one pass of a link may.
     pub sends: bool,
-    /// Whether it may take.
+    /// Whether it may take: at most one pass of a link may.
     pub takes: bool,
     /// What it sent.
     pub accepted: LinkedList<Slot>,
@@ -96,7 +96,7 @@ impl Lesson<Slot, Account> for JoinEnds {
     ghost fact = { SeesWhole };
 }
 
-/// The queue of a link.
+/// The queue of a link, which takes no lock: each of its steps keeps `InOrder`, whichever thread takes it.
 pub type Queue = RuledArrayQueue<Slot, Account, InOrder>;
 
 /// What one end knows of its queue.

@@ -1,4 +1,3 @@
-//! The sending end of a link.
 ghost use Rattle.std.specs.Prelude.{◌≡◌, ◌++◌, ◌∷◌, [], OnOk, OnErr, IfErr, IsTrue};
 ghost use Rattle.gs_link.specs.declared.item.Slot.TheVariants.{Close};
 ghost use Rattle.gs_link.specs.Items.{IsSendable, slot_of};

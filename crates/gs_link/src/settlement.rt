@@ -1,4 +1,3 @@
-//! How a link is settled.
 ghost use Rattle.std.specs.Prelude.{◌≡◌, IsTrue, List};
 ghost use Rattle.gs_link.specs.declared.item.Slot.{Slot as SlotValue};
 ghost use Rattle.gs_link.specs.Runs.{closes, RunWithin};

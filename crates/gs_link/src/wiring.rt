@@ -1,4 +1,3 @@
-//! How a link is made.
 ghost use Rattle.std.specs.Prelude.{◌≡◌, [], IfOk};
 ghost use Rattle.gs_link.specs.Items.{IsCapacity};
 

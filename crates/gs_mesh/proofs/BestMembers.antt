@@ -88,7 +88,7 @@ ascending_peers members up = λ i j d before within.
     let e : Member = record { peer = d; score = pos 0; outbound = false } in
     rw (get_or-map (λ (m : Member). m.peer) members i e d (omega arith), get_or-map (λ (m : Member). m.peer) members j e d (omega arith)) (up i j e before (omega arith))
 
--- and they are ascending as those of all are
+-- where all members ascend by number, so do those that pass a test
 pub ascending_kept : (test : Member → Bool) (members : List Member) → IsAscending (peers_of members) → IsAscending (peers_of (filter test members))
 ascending_kept test members up = ascending_peers (filter test members) (AllPairs-filter (λ (a b : Member). a.peer.0 < b.peer.0) test members (rising_members members up))
 

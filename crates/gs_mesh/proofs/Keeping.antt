@@ -42,7 +42,7 @@ none_kept es t none = ap (λ (o : Option TopicMesh). unwrap_or o nothing) none
 pub the_same : (old new : List (Topic × TopicMesh)) (t : Topic) → lookup (same_topic t) old ≡ None → Replaces old new t nothing → SayTheSame old new
 the_same old new t none replaces u = puts old new t nothing replaces u ∙ sym (stays old t nothing (none_kept old t none) u)
 
--- and what was kept comes in its own place
+-- where what was kept of a topic is put again, nothing changes
 pub same_again : (old new : List (Topic × TopicMesh)) (t : Topic) (m : TopicMesh) → lookup (same_topic t) old ≡ Some m → Replaces old new t m → SayTheSame old new
 same_again old new t m found replaces u = puts old new t m replaces u ∙ sym (stays old t m (was_kept old t m found) u)
 

@@ -9,6 +9,5 @@ use Rattle.gs_base.specs.Names.{same_peer}
 abbrev pub until : List (PeerNo × Millis) → PeerNo → Millis
 until ends q = unwrap_or (lookup (same_peer q) ends) (record { 0 = 0 })
 
--- of two moments the later one
 abbrev pub later : Millis → Millis → Millis
 later a b = record { 0 = max a.0 b.0 }

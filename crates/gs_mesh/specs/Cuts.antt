@@ -42,7 +42,6 @@ pub record IsCut (degrees : Degrees) (members : List Member) (kept : List PeerNo
 abbrev pub is_better : Member → Member → Bool
 is_better a b = int_lt b.score a.score || (int_eq a.score b.score && nat_lt a.peer.0 b.peer.0)
 
--- how many of the members are better
 abbrev pub better_ones : List Member → Member → ℕ
 better_ones members m = length (filter (λ other. is_better other m) members)
 

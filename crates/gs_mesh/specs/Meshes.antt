@@ -14,7 +14,6 @@ use Rattle.gs_mesh.specs.Backoffs.{until}
 abbrev pub nothing : TopicMesh
 nothing = record { is_joined = false; members = []; fanout = []; last_published = None; backoffs = [] }
 
--- what is kept of a topic
 abbrev pub kept : List (Topic × TopicMesh) → Topic → TopicMesh
 kept topics t = unwrap_or (lookup (same_topic t) topics) nothing
 
@@ -36,7 +35,7 @@ is_kept topics t = is_some (lookup (same_topic t) topics)
 
 -- ---- changes
 
--- the same is kept of each topic
+-- each look-up answers as before: so it is after want of memory
 abbrev pub SayTheSame : List (Topic × TopicMesh) → List (Topic × TopicMesh) → Type 0
 SayTheSame old new = (t : Topic) → kept new t ≡ kept old t
 

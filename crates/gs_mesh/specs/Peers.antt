@@ -6,7 +6,6 @@ use Rattle.std.specs.FinMap.Entries.{by_order}
 use Rattle.gs_base.specs.declared.names.PeerNo.{PeerNo}
 use Rattle.gs_base.specs.Names.{same_peer}
 
--- whether a peer is one of these
 abbrev pub is_among : List PeerNo → PeerNo → Bool
 is_among qs p = list_any (same_peer p) qs
 

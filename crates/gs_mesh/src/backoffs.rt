@@ -1,4 +1,3 @@
-//! Until when neighbours are not to be grafted.
 ghost use Rattle.std.specs.Prelude.{◌≡◌, [], ◌&&◌, if◌then◌else◌, OnErr, OnOk};
 ghost use Rattle.gs_base.specs.declared.names.PeerNo.{PeerNo as PeerNoValue};
 ghost use Rattle.gs_base.specs.Names.{same_peer};

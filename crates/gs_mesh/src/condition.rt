@@ -1,4 +1,3 @@
-//! How a mesh stands by its members.
 ghost use Rattle.std.specs.Prelude.{◌≡◌, length};
 ghost use Rattle.gs_mesh.specs.Cuts.{outbound_of};
 ghost use Rattle.gs_mesh.specs.MeshSteps.{condition_of};
@@ -20,7 +19,6 @@ pub enum Condition {
 }
 
 impl Condition {
-    /// How a mesh of these members stands.
     pub(crate) fn of(degrees: &Degrees, members: &[Member]) -> Condition
         ensures { result ≡ condition_of degrees.now members.now }
     {
@@ -38,7 +36,6 @@ impl Condition {
     }
 }
 
-/// How many of these are outbound.
 pub(crate) fn outbound_count(members: &[Member]) -> u64
     ensures { result ≡ length (outbound_of members.now) }
 {

@@ -39,7 +39,6 @@ fn is_better(member: &Member, other: &Member) -> bool
     other.score < member.score || (member.score == other.score && member.peer.0 < other.peer.0)
 }
 
-/// How many of the members are better than one.
 fn better_ones(members: &[Member], member: &Member) -> u64
     ensures { result ≡ better_ones members.now member.now }
 {

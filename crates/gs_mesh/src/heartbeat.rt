@@ -1,4 +1,3 @@
-//! What a heartbeat does to a mesh.
 ghost use Rattle.std.specs.Prelude.{◌≡◌, ◌≤◌, IfOk, OnOk};
 ghost use Rattle.gs_params.specs.Picks.{IsAscending, picked, picked_words};
 ghost use Rattle.gs_mesh.specs.Cuts.{peers_of};
@@ -21,9 +20,9 @@ pub struct Heartbeat<'a> {
 /// Who leaves a mesh at a heartbeat, and who comes into it. Each list ascends by number.
 #[derive(Debug, Drop, PartialEq, Eq)]
 pub struct Choice {
-    /// Who leaves it.
+    /// Members that leave it.
     pub pruned: Seq<PeerNo>,
-    /// Who comes into it.
+    /// Candidates that come into it.
     pub grafted: Seq<PeerNo>,
 }
 
@@ -165,8 +164,8 @@ fn filled<W: Words>(
 
 // ---- the median (gossipsub v1.1, "Opportunistic Grafting")
 
-/// Whether the median score of the members lies below a score: more than half of them do, rounded down. Where there is no
-/// member, none does.
+/// Whether the median score of the members lies below a score: more than half of them do, rounded down. Where there
+/// is no member, none does. No more is ever asked of the median, so nothing is sorted.
 fn median_is_below(members: &[Member], score: &i128) -> bool
     ensures { result ≡ median_is_below members.now score.now }
 {
@@ -186,7 +185,6 @@ fn is_poor(params: &Params, tick: u64, members: &[Member]) -> bool
     tick % params.windows.opportunistic_ticks == 0 && median_is_below(members, &threshold)
 }
 
-/// The candidates that score above the median of the members.
 fn above_median(
     alloc: Global,
     members: &[Member],

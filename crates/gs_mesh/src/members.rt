@@ -9,22 +9,20 @@ use std::alloc::{AllocError, Global};
 /// A member of a mesh, as a heartbeat sees it.
 #[derive(Clone, Copy, Debug, PartialEq, Eq)]
 pub struct Member {
-    /// Who it is.
+    /// Its number: of equal scores the lower one is better.
     pub peer: PeerNo,
     /// Its score, in millionths.
     pub score: i128,
-    /// Whether this side dialled it.
+    /// Whether this side dialled it (gossipsub v1.1, "Outbound Mesh Quotas").
     pub outbound: bool,
 }
 
-/// Who they are.
 pub(crate) fn peers_of(alloc: Global, members: &[Member]) -> Result<Vec<PeerNo>, AllocError>
     ensures { IfOk result (λ peers. peers.items ≡ peers_of members.now) }
 {
     members.iter().map(|member| member.peer).collect(alloc)
 }
 
-/// Those that do not score below 0.
 pub(crate) fn not_negative(alloc: Global, mesh: &[Member]) -> Result<Vec<Member>, AllocError>
     ensures { IfOk result (λ members. members.items ≡ not_negative mesh.now) }
 {
@@ -34,7 +32,6 @@ pub(crate) fn not_negative(alloc: Global, mesh: &[Member]) -> Result<Vec<Member>
         .collect(alloc)
 }
 
-/// Those that this side dialled.
 pub(crate) fn outbound_of(alloc: Global, members: &[Member]) -> Result<Vec<Member>, AllocError>
     ensures { IfOk result (λ outbound. outbound.items ≡ outbound_of members.now) }
 {
@@ -45,7 +42,6 @@ pub(crate) fn outbound_of(alloc: Global, members: &[Member]) -> Result<Vec<Membe
         .collect(alloc)
 }
 
-/// Those that are among these peers.
 pub(crate) fn among(
     alloc: Global,
     peers: &[PeerNo],
@@ -60,7 +56,6 @@ pub(crate) fn among(
         .collect(alloc)
 }
 
-/// Those that are not among these peers.
 pub(crate) fn outside(
     alloc: Global,
     peers: &[PeerNo],

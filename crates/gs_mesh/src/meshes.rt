@@ -1,4 +1,3 @@
-//! The meshes and fanouts of all topics.
 mod changes;
 
 ghost use Rattle.std.specs.Prelude.{◌≡◌, [], false, true, None, Some, if◌then◌else◌, OnErr, OnOk};
@@ -50,7 +49,7 @@ impl Meshes {
 
     // ---- look-ups
 
-    /// Whether the peer is subscribed to a topic.
+    /// Whether the peer is subscribed to a topic, and so has a mesh of it.
     pub fn is_joined(&self, topic: &Topic) -> bool
         ensures { result ≡ (kept self.now topic.now).is_joined }
     {

@@ -1,4 +1,3 @@
-//! Peers in the order of their numbers.
 ghost use Rattle.std.specs.Prelude.{◌≡◌, [], OnErr, OnOk};
 ghost use Rattle.gs_params.specs.Picks.{IsAscending};
 ghost use Rattle.gs_mesh.specs.Peers.{is_among, put_in, without};
@@ -38,7 +37,7 @@ impl PeerList {
         }
     }
 
-    /// The peers.
+    /// The peers, ascending by number.
     pub fn as_slice(&self) -> &[PeerNo]
         ensures value { result.now ≡ self.now }
         ensures ascending { IsAscending result.now }
@@ -110,7 +109,6 @@ fn put(peers: &mut Vec<PeerNo>, peer: PeerNo) -> Result<(), AllocError>
     }
 }
 
-/// Takes a peer out.
 fn keep_others(peers: &mut Vec<PeerNo>, peer: PeerNo)
     ensures { peers.new.items ≡ without peer peers.old.items }
 {

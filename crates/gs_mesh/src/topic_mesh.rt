@@ -1,4 +1,3 @@
-//! What is kept of one topic.
 ghost use Rattle.std.specs.Prelude.{◌≡◌};
 ghost use Rattle.gs_mesh.specs.Meshes.{nothing};
 
@@ -18,7 +17,7 @@ pub struct TopicMesh {
     pub fanout: PeerList,
     /// When the peer last published on it without being subscribed, for as long as that keeps a fanout.
     pub last_published: Option<Millis>,
-    /// Until when neighbours are not to be grafted.
+    /// Until when neighbours are not to be grafted. It outlasts a subscription.
     pub backoffs: Backoffs,
 }
 

@@ -13,7 +13,7 @@ use Rattle.gs_net.specs.Rounds.{neighbours, peer_no}
 pub joins_both : (dial : Dial) (p q : PeerNo) → joins p q dial ≡ joins q p dial
 joins_both dial p q = or_comm (same_peer dial.from p && same_peer dial.to q) (same_peer dial.from q && same_peer dial.to p)
 
--- and so it is with all dials
+-- whichever of two is named first, the dials of a list join them or not
 pub joined_both : (dials : List Dial) (p q : PeerNo) → are_joined dials p q ≡ are_joined dials q p
 joined_both [] p q = refl
 joined_both (dial ∷ dials) p q =

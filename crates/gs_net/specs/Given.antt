@@ -33,6 +33,6 @@ ends_at givens n = unwrap_or (option_map (λ (f : Given). f.ends) (slice_get giv
 abbrev pub Reaches : List Given → PeerNo → PeerNo → Type 0
 Reaches givens from to = accepted_for (ends_at givens from.0) to ≡ taken_from (ends_at givens to.0) from
 
--- and so it is both ways between the two peers of a dial
+-- what either peer of a dial accepted for the other has reached it
 abbrev pub Exchanged : List Given → Dial → Type 0
 Exchanged givens dial = Reaches givens dial.from dial.to × Reaches givens dial.to dial.from

@@ -36,7 +36,7 @@ numbers plan = map peer_no (range_with_len 0 (length plan.peers))
 abbrev pub neighbours : Plan → PeerNo → List PeerNo
 neighbours plan p = filter (are_joined plan.dials p) (numbers plan)
 
--- where a peer is
+-- the address of a peer, which its neighbours count by (P6): that of a number that is no peer's is empty
 abbrev pub address_of : Plan → PeerNo → List ℕ
 address_of plan p = unwrap_or (option_map (λ (planned : PlannedPeer). planned.address) (slice_get plan.peers p.0)) []
 
@@ -48,7 +48,6 @@ words_of plan p = unwrap_or (option_map (λ (planned : PlannedPeer). planned.wor
 abbrev pub first_words : Plan → PeerNo → SeededState
 first_words plan p = new_seeded (words_of plan p) plan.seed p
 
--- the one dials the other
 abbrev pub is_dial : PeerNo → PeerNo → Dial → Bool
 is_dial p q dial = same_peer dial.from p && same_peer dial.to q
 
@@ -113,7 +112,7 @@ said_to lives p q = out codec (trace_of lives q) p
 pub record IsLife (plan : Plan) (lives : List Finished) (p : PeerNo) (life : Finished) : Type 0 where
   -- each step is allowed by those before it
   pub legal : Legal (peer_in plan p) life.trace
-  -- and its choices are those of its words
+  -- its choices are those of its words
   pub chosen : (last : SeededState)
       × LegalOn (exact seeded_word seeded_after) (peer_in plan p) (first_words plan p) [] life.trace last
   -- it did what there was to do, round by round

@@ -45,6 +45,6 @@ module _ {G S : Type 0} (seen : EndsOf S) where
     pub can : CanPoll seen task
     pub is : given_of seen.joints task ≡ Some (seat_in plan p, first_words plan p, of)
 
-  -- the same with the ends at its number
+  -- a task of this peer with the ends that stand at its number
   abbrev pub IsTaskFor : Plan → List (Vec Pair Global) → PeerNo → PeerTask G S → Type 0
   IsTaskFor plan ends p task = IsTask plan p (joints_of (list_at ends p.0)) task

@@ -1,4 +1,3 @@
-//! What the tasks of a run gave.
 ghost use Rattle.std.specs.Prelude.{◌≡◌, ◌≤◌, IfErr, IfOk, List, Ok, length, map, position};
 ghost use Rattle.gs_peer.specs.declared.finished.Finished.{Finished as Life};
 ghost use Rattle.gs_ends.specs.Pairs.{Pair};
@@ -90,7 +89,6 @@ fn place_of_want<R: Wait + Drop>(
     results.iter().position(|given| wants_memory(given))
 }
 
-/// Whether a task met want of memory.
 fn wants_memory<R: Wait + Drop>(given: &Result<gs_peer::Finished<LinkEnds<R>>, PeerFault>) -> bool
     ensures { result ≡ wants_memory given.now }
 {

@@ -1,4 +1,3 @@
-//! The neighbours of a peer, as a plan gives them.
 ghost use Rattle.std.specs.Prelude.{◌≡◌, ◌≤◌, ◌<◌, IfOk, length};
 ghost use Rattle.std.specs.List.{list_any};
 ghost use Rattle.gs_net.specs.Rounds.{address_of, app_of, is_about, is_dial, neighbour_in, neighbours_in};
@@ -27,7 +26,6 @@ pub fn neighbours_of(alloc: Global, plan: &Plan, peer: PeerNo) -> Result<Vec<Nei
     Ok(found)
 }
 
-/// A peer as another's neighbour.
 fn neighbour_of(
     alloc: Global,
     plan: &Plan,
@@ -44,21 +42,18 @@ fn neighbour_of(
     })
 }
 
-/// Whether the one peer dials the other.
 fn dials(all: &[Dial], from: PeerNo, to: PeerNo) -> bool
     ensures { result ≡ list_any (is_dial from to) all.now }
 {
     all.iter().any(|dial| is_dial(from, to, dial))
 }
 
-/// Whether this is a dial of the one peer to the other.
 fn is_dial(from: PeerNo, to: PeerNo, dial: &Dial) -> bool
     ensures { result ≡ is_dial from to dial.now }
 {
     dial.from == from && dial.to == to
 }
 
-/// Where a peer is, as bytes.
 fn address_of(alloc: Global, plan: &Plan, peer: PeerNo) -> Result<Bytes, AllocError>
     ensures { IfOk result (λ address. address ≡ address_of plan.now peer) }
 {
@@ -86,7 +81,6 @@ fn app_of(plan: &Plan, peer: PeerNo, about: PeerNo) -> i64
     }
 }
 
-/// Whether this is said by the one peer's application of the other.
 fn is_about(peer: PeerNo, about: PeerNo, app: &App) -> bool
     ensures { result ≡ is_about peer about app.now }
 {

@@ -1,4 +1,3 @@
-//! A run of a plan.
 ghost use Rattle.std.specs.Prelude.{◌≡◌, ◌*◌, IfOk, length, map};
 ghost use Rattle.gs_plan.specs.Plans.{IsInRange};
 ghost use Rattle.gs_net.specs.Reports.{IsReport};
@@ -35,7 +34,7 @@ where
     run_with(rt, plan, gate)
 }
 
-/// The same with a gate that can be copied.
+/// `run_net` with a gate that can be copied: each task keeps one.
 fn run_with<G, R>(rt: &R, plan: &Plan, gate: G) -> Result<Report, NetFault>
 where
     G: Gate + Copy + Send,
@@ -69,7 +68,6 @@ where
     })
 }
 
-/// A flag that stops all tasks of a run.
 fn flag(alloc: Global) -> Result<Arc<StopFlag>, AllocError> {
     let stop = Arc::new(alloc, StopFlag::new())?;
     Ok(stop)

@@ -1,4 +1,3 @@
-//! The tasks of a run.
 ghost use Rattle.std.specs.Prelude.{◌≡◌, ◌<◌, ℕ, true, IfOk, Some, length};
 ghost use Rattle.std.specs.List.{AllByRecursion, AllZip, IsDistinct};
 ghost use Rattle.gs_base.specs.declared.names.PeerNo.{PeerNo as PeerNoValue};
@@ -72,7 +71,6 @@ impl<'p, G: Gate + Copy, R: Wait + Drop + Copy> Builder<'p, G, R> {
         Ok(tasks)
     }
 
-    /// The task of a peer, with its lines and its ends.
     fn task(
         &self,
         number: PeerNo,
@@ -142,7 +140,6 @@ fn router_of(
     Ok(router)
 }
 
-/// The words by which a peer chooses, as they are at first.
 fn first_words(alloc: Global, plan: &Plan, number: PeerNo) -> Result<SeededWords, AllocError>
     ensures { IfOk result (λ words. words ≡ first_words plan.now number) }
 {
@@ -150,7 +147,6 @@ fn first_words(alloc: Global, plan: &Plan, number: PeerNo) -> Result<SeededWords
     Ok(SeededWords::new(list, plan.seed, number))
 }
 
-/// The numbers of these neighbours.
 fn numbers_of(alloc: Global, neighbours: &[Neighbour]) -> Result<Vec<PeerNo>, AllocError>
     ensures { IfOk result (λ found. found.items ≡ peers_of neighbours.now) }
 {

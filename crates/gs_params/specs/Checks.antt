@@ -72,7 +72,6 @@ int_in_range low high z = int_le low z && int_le z high
 
 -- ---- rules
 
--- what is counted keeps a rule
 abbrev pub count_keeps : ℕ → CountRule → Bool
 count_keeps n (count.AtLeast low) = nat_le low n
 count_keeps n (count.AtMost high) = nat_le n high
@@ -82,7 +81,6 @@ count_keeps n (count.BelowThat other its) = nat_lt n its
 count_keeps n (count.TwiceNotAbove other its) = nat_le (2 * n) its
 count_keeps n (count.SumNotAbove second its third highest) = nat_le (n + its) highest
 
--- millionths keep a rule
 abbrev pub score_keeps : ℤ → ScoreRule → Bool
 score_keeps z (score.Below high) = int_lt z high
 score_keeps z (score.Range low high) = int_in_range low high z
@@ -201,7 +199,7 @@ abbrev pub each_topic_from : (ℕ → TopicParams → List Check) → ℕ → Li
 each_topic_from checks place [] = []
 each_topic_from checks place (one ∷ topics) = checks place one.1 ++ each_topic_from checks (place + 1) topics
 
--- and of all topics
+-- of a peer's own factors, and then of those of each of its topics
 abbrev pub all_factor_checks : Params → List Check
 all_factor_checks p = factor_checks p.factors ++ each_topic_from (λ place one. topic_factor_checks place one.factors) 0 p.topics
 

@@ -1,4 +1,3 @@
-//! What is checked of a parameter: its value, and the rule that it must keep.
 ghost use Rattle.std.specs.Prelude.{◌≡◌};
 ghost use Rattle.gs_params.specs.Checks.{count_keeps, first_broken, holds, score_keeps};
 
@@ -37,14 +36,13 @@ pub enum ScoreRule {
 /// A parameter, the value that it has, and a rule that it must keep.
 #[derive(Clone, Copy, Debug, PartialEq, Eq)]
 pub enum Check {
-    /// Of what is counted.
+    /// A value that is counted, and never below 0.
     Count(Parameter, u64, CountRule),
-    /// Of whole millionths.
+    /// A value in whole millionths.
     Score(Parameter, i64, ScoreRule),
 }
 
 impl CountRule {
-    /// Whether a value keeps the rule.
     fn is_kept_by(&self, value: u64) -> bool
         ensures { result ≡ count_keeps value self.now }
     {
@@ -63,7 +61,6 @@ impl CountRule {
 }
 
 impl ScoreRule {
-    /// Whether a value keeps the rule.
     fn is_kept_by(&self, value: i64) -> bool
         ensures { result ≡ score_keeps value self.now }
     {
@@ -76,7 +73,6 @@ impl ScoreRule {
 }
 
 impl Check {
-    /// Whether the value keeps the rule.
     fn holds(&self) -> bool
         ensures { result ≡ holds self.now }
     {

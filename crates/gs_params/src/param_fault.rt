@@ -1,4 +1,3 @@
-//! Why parameters are refused.
 ghost use Rattle.std.specs.Prelude.{◌≡◌};
 ghost use Rattle.gs_params.specs.Checks.{number_of};
 
@@ -22,7 +21,7 @@ pub enum ParamFault {
 }
 
 impl ParamFault {
-    /// The number of the refusal: 1 to 4.
+    /// The number of the refusal, as docs/FORMATS.md lists it: 1 to 4.
     pub fn number(self) -> u8
         ensures { result ≡ number_of self }
     {

@@ -1,6 +1,6 @@
 //! The names of the parameters that are checked.
 
-/// A parameter of a peer, or of a topic of its.
+/// A parameter of a peer, by its key in a scenario, or one of a topic.
 #[derive(Clone, Copy, Debug, PartialEq, Eq)]
 pub enum Parameter {
     /// `d`
@@ -71,7 +71,7 @@ pub enum Parameter {
     OfTopic(usize, TopicParameter),
 }
 
-/// A parameter of a topic.
+/// A parameter of a topic, by its key in a scenario.
 #[derive(Clone, Copy, Debug, PartialEq, Eq)]
 pub enum TopicParameter {
     /// `topic_weight`

@@ -22,7 +22,7 @@ fn shuffle<W: Words>(places: &mut Vec<PeerNo>, k: usize, words: &mut W)
     }
 }
 
-/// Keeps the peers that are among these.
+/// Keeps the peers that are among these, in their order, so that no pick is sorted.
 fn keep(peers: &mut Vec<PeerNo>, these: &[PeerNo])
     ensures { peers.new.items ≡ filter (is_member same_peer these.now) peers.old.items }
 {

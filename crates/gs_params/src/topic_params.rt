@@ -84,7 +84,7 @@ pub const DEFAULT_TOPIC_WINDOWS: TopicWindows = TopicWindows {
     p3_activation_ms: 5_000,
 };
 
-/// The parameters of a topic.
+/// The parameters of a topic: how it is scored, and what is found of its messages.
 #[derive(Debug, Drop, PartialEq, Eq)]
 pub struct TopicParams {
     pub factors: TopicFactors,

@@ -73,7 +73,7 @@ module _ (seat : Seat) (said sent : PeerNo → Said) (boxes : Outboxes) (first :
   round_free : Legal seat.peer w.trace
   round_free = subst (λ (p : Peer). Legal p w.trace) peer_stays runs.runs_on.legal
 
-  -- AND THE NEXT ONE BEGINS
+  -- what a task keeps where the next round begins
   pub kept_turned : (boxes' : Outboxes)
       → suc r ≤ seat.rounds
       → AllByRecursion (λ q. BoxKept w.trace (sent q) boxes' q) (links_of seat.peer)

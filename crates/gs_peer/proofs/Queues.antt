@@ -15,7 +15,7 @@ told_if may old new slot w may_be says is =
     ∙ flat-append old (slot ∷ [])
     ∙ ap (λ v. flat old ++ v) (says ∙ sym (ap (λ b. said_if b w) may_be))
 
--- and so is a frame
+-- a frame that is put at the back is said
 pub told_frame : (may : Bool) (old new : List Slot) (frame : List ℕ) → may ≡ true → new ≡ old ++ Piece frame ∷ [] → flat new ≡ flat old ++ said_if may (map Byte frame)
 told_frame may old new frame may_be puts = told_if may old new (Piece frame) (map Byte frame) may_be (append-nil (map Byte frame)) puts
 
@@ -27,7 +27,7 @@ moved before after behind slot is =
     ∙ ap flat (append_assoc before (slot ∷ []) behind)
     ∙ flat-append before (slot ∷ behind)
 
--- and what goes back to the front
+-- what goes back to the front is said by both lists together as before
 pub refused : (before after old new : List Slot) (slot : Slot) → after ≡ before → flat new ≡ flat (slot ∷ old) → flat after ++ flat new ≡ flat before ++ flat (slot ∷ old)
 refused before after old new slot stays back = ap (λ w. flat w ++ flat new) stays ∙ ap (λ w. flat before ++ w) back
 

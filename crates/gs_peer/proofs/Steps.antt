@@ -87,7 +87,7 @@ reads_peer place x new (Round r) is = ap (λ (y : InboxView). y.peer) is
 reads_peer place x new Close is = ap (λ (y : InboxView). y.peer) is
 
 module _ (seat : Seat) (place : Place) (boxes : Outboxes) (v : RouterView) (refused : List RefusedLine) (first words : SeededState) where
-  -- the same is said
+  -- what a task keeps is kept of any words that are the same for each neighbour
   kept_words : (said said' sent sent' : PeerNo → Said) (xs : List InboxView) → ((q : PeerNo) → said' q ≡ said q) → ((q : PeerNo) → sent' q ≡ sent q) → Kept seat said sent place xs boxes v refused first words → Kept seat said' sent' place xs boxes v refused first words
   kept_words said said' sent sent' xs a b k =
       let same_said : said ≡ said' = (λ i q. sym (a q) i) in

@@ -65,7 +65,7 @@ turns_round seat r K L said x k full spell =
       read = all_handled seat r K L said x k spell;
     }
 
--- and behind the last one
+-- what is kept of an inbox where the last round is over
 turns_last : (seat : Seat) (K L : Entries) (said : Said) (x : InboxView)
     → InboxKept seat (Playing seat.rounds) K said x
     → is_full x ≡ true

@@ -9,7 +9,6 @@ use Rattle.gs_link.specs.declared.item.Slot.{Slot}
 use Rattle.gs_link.specs.declared.item.Slot.TheVariants as slots
 use Rattle.gs_rules.specs.Rounds.{Place, Playing, Closing, Todo, Hear, HearFault, HearGone}
 
--- What a task keeps of what comes from a neighbour.
 pub record InboxView : Type 0 where
   pub peer : PeerNo
   pub reader : Holding
@@ -44,7 +43,7 @@ ending_of x = if is_broken_off x then HearFault x.peer ∷ [] else if x.is_close
 abbrev pub heard_of : InboxView → List Todo
 heard_of x = map (Hear x.peer) x.stage ++ ending_of x
 
--- and of all of them
+-- what there is to hear of each, one neighbour after the other
 abbrev pub all_heard : List InboxView → List Todo
 all_heard inboxes = flat_map heard_of inboxes
 

@@ -37,5 +37,5 @@ pub record IsLife {S : Type 0} (seen : EndsOf S) (seat : Seat) (first : SeededSt
       (links_of seat.peer)
   -- to each neighbour, all that the trace says was accepted
   pub says : AllByRecursion (λ q. words_of (seen.accepted f.ends) q ≡ out codec f.trace q) (links_of seat.peer)
-  -- and each neighbour has closed
+  -- each neighbour has closed, so that nothing of what it said is left in its link
   pub closed : AllByRecursion (λ q. closes (words_of (seen.taken f.ends) q) ≡ true) (links_of seat.peer)

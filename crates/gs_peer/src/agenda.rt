@@ -1,4 +1,3 @@
-//! The lines of a script that a peer follows.
 ghost use Rattle.std.specs.Prelude.{◌≡◌, ◌++◌, ℕ, [], ◌∷◌, IfOk, OnOk, filter};
 ghost use Rattle.gs_rules.specs.Rounds.{is_at};
 ghost use Rattle.gs_peer.specs.Agendas.{lines_at};
@@ -33,7 +32,7 @@ impl Model for Agenda {
 }
 
 impl Agenda {
-    /// These lines.
+    /// The agenda of these lines: those of one round are followed in this order.
     ///
     /// # Errors
     /// `AllocError` where there was no memory.

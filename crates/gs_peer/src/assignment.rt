@@ -1,15 +1,14 @@
-//! What a peer is given in a run.
 use crate::agenda::Agenda;
 use gs_base::PeerNo;
 
 /// What a peer is given in a run, and keeps to its end.
 #[derive(Drop)]
 pub struct Assignment {
-    /// Its number.
+    /// Its number in the plan, by which its neighbours name it.
     pub number: PeerNo,
     /// The numbers of its neighbours, ascending.
     pub neighbours: Vec<PeerNo>,
-    /// Its lines of the script.
+    /// Its lines of the script, by rounds.
     pub lines: Agenda,
     /// The length of a round in milliseconds: 1 to 60,000.
     pub round_ms: u64,

@@ -1,4 +1,3 @@
-//! What a peer has for its neighbours.
 ghost use Rattle.std.specs.Prelude.{◌≡◌, [], true, map, IfOk};
 ghost use Rattle.std.specs.List.{AllByRecursion};
 ghost use Rattle.gs_base.specs.declared.names.PeerNo.{PeerNo as PeerNoValue};
@@ -28,7 +27,6 @@ pub fn boxes_of(alloc: Global, neighbours: &[PeerNo]) -> Result<Boxes, AllocErro
     Ok(Boxes { inboxes, outboxes })
 }
 
-/// An inbox for each of these neighbours, of which nothing was taken.
 fn inboxes_of(alloc: Global, neighbours: &[PeerNo]) -> Result<Vec<Inbox>, AllocError>
     ensures { IfOk result (λ inboxes. inboxes.items ≡ map new_inbox neighbours.now) }
 {

@@ -66,7 +66,6 @@ fn hear_from(
     Ok(())
 }
 
-/// Hears these RPCs of a neighbour.
 fn hear_each(
     router: &mut Router,
     words: &mut SeededWords,
@@ -137,7 +136,6 @@ fn follow(
     }
 }
 
-/// Tells a router to do something.
 fn tell(
     router: &mut Router,
     words: &mut SeededWords,

@@ -1,4 +1,3 @@
-//! What is left of a peer's life.
 ghost use Rattle.std.specs.Prelude.{◌≡◌};
 ghost use Rattle.gs_peer.specs.Faults.{number_of};
 
@@ -8,7 +7,7 @@ use gs_rules::{RefusedLine, Trace};
 /// What is left of a peer's life that has ended.
 #[derive(Drop)]
 pub struct Finished<S: Drop> {
-    /// What it did.
+    /// What it did, entry by entry.
     pub trace: Trace,
     /// What it could not follow, by moment and then by place in the script.
     pub refused: Seq<RefusedLine>,
@@ -16,14 +15,14 @@ pub struct Finished<S: Drop> {
     pub meshes: Seq<(Topic, PeerNo)>,
     /// What each neighbour scored when it shut down, by number, in millionths.
     pub scores: Seq<(PeerNo, i128)>,
-    /// The ends of its links.
+    /// The ends of its links, by which the links are settled.
     pub ends: S,
 }
 
 /// How a router stands when all is done.
 #[derive(Drop)]
 pub struct FinalState {
-    /// Who is in the meshes of its topics, by topic and number.
+    /// The members of the meshes of its topics, by topic and number.
     pub meshes: Seq<(Topic, PeerNo)>,
     /// What each neighbour scores, by number, in millionths.
     pub scores: Seq<(PeerNo, i128)>,

@@ -41,14 +41,12 @@ pub(crate) fn frame_for(
     Ok(frame)
 }
 
-/// Whether two RPCs are one.
 fn is_same(known: &Rpc, rpc: &Rpc) -> bool
     ensures { result ≡ true → known.now ≡ rpc.now }
 {
     known == rpc
 }
 
-/// The frame of an RPC.
 fn frame_of(alloc: Global, rpc: &Rpc) -> Result<Bytes, AllocError>
     requires { codec.fits rpc.now ≡ true }
     ensures { IfOk result (λ frame. frame ≡ codec.frame rpc.now) }

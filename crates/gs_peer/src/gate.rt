@@ -1,5 +1,3 @@
-//! What a task meets on its way: a gate at the start of each round.
-
 /// Whoever is told of each round that a peer begins. Nothing is claimed of when or how often.
 pub trait Gate: Drop {
     /// A peer on this worker begins this round.
@@ -12,7 +10,7 @@ impl<G: Gate> Gate for &G {
     }
 }
 
-/// A gate that does nothing.
+/// A gate that nobody watches.
 #[derive(Clone, Copy, Debug, Drop)]
 pub struct NoGate;
 

@@ -1,4 +1,3 @@
-//! What a task keeps of what comes from a neighbour.
 ghost use Rattle.std.specs.Prelude.{◌≡◌, false, true, OnOk};
 ghost use Rattle.gs_base.specs.declared.names.PeerNo.{PeerNo as PeerNoValue};
 ghost use Rattle.gs_link.specs.Runs.{closes};
@@ -60,7 +59,7 @@ impl Inbox {
         }
     }
 
-    /// Whose it is.
+    /// The neighbour whose words are taken here.
     pub fn peer(&self) -> PeerNo
         ensures { result ≡ self.now.peer }
     {

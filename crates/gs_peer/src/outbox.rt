@@ -1,4 +1,3 @@
-//! What waits to go to one neighbour.
 ghost use Rattle.std.specs.Prelude.{◌≡◌, ◌≤◌, ◌++◌, ◌∷◌, [], true, false, length, map, OnOk, IfOk};
 ghost use Rattle.gs_base.specs.declared.names.PeerNo.{PeerNo as PeerNoValue};
 ghost use Rattle.gs_base.specs.Tokens.{Byte, Close, EndOf};
@@ -184,7 +183,6 @@ impl Outbox {
         }
     }
 
-    /// Puts an item back to the front.
     fn put_back(&mut self, item: Item) -> Result<(), AllocError>
         ensures says { OnOk result (flat self.new.slots ≡ flat (slot_of item ∷ self.old.slots)) }
         ensures open { OnOk result (self.new.is_open ≡ self.old.is_open) }

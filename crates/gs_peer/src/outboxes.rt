@@ -1,4 +1,3 @@
-//! What waits to go to each neighbour.
 ghost use Rattle.std.specs.Prelude.{◌≡◌, ◌≢◌, ◌<◌, ◌++◌, ◌∷◌, [], true, false, nat_eq, length, map, if◌then◌else◌, OnOk, IfOk};
 ghost use Rattle.std.specs.List.{AllByRecursion};
 ghost use Rattle.gs_base.specs.declared.names.PeerNo.{PeerNo as PeerNoValue};
@@ -18,8 +17,8 @@ use gs_ends::Ends;
 use gs_rules::{Entry, Event};
 use std::alloc::{AllocError, Global};
 
-/// What waits to go to each neighbour, by its number. A frame waits whole, and is cut into pieces as
-/// it goes out.
+/// What waits to go to each neighbour, by its number: so a send searches nothing. A frame waits whole, shared by
+/// all whom it goes to, and is cut into pieces as it goes out.
 #[derive(Drop)]
 pub struct Outboxes {
     boxes: Vec<Outbox>,

@@ -1,5 +1,3 @@
-//! Where a peer is in its life.
-
 /// Where a peer is in its life.
 #[derive(Clone, Copy, Debug, PartialEq, Eq)]
 pub enum Place {

@@ -1,4 +1,3 @@
-//! What a task plays its rounds with.
 ghost use Rattle.std.specs.Prelude.{◌≡◌, [], ◌∷◌, OnOk};
 ghost use Rattle.std.specs.List.{AllByRecursion};
 ghost use Rattle.gs_params.specs.Seeding.{seeded_after, seeded_word};

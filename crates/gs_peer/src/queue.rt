@@ -1,4 +1,3 @@
-//! A queue that contracts see as its elements.
 ghost use Rattle.std.specs.Prelude.{◌≡◌, ◌==◌, [], ◌∷◌, ◌++◌, length, OnOk, OnErr, MatchOption};
 
 use std::alloc::{AllocError, Global};

@@ -299,7 +299,6 @@ fn first_awaited(inboxes: &[Inbox], from: usize) -> usize {
     inboxes.len()
 }
 
-/// Whether all is taken that is heard at a place, of each neighbour.
 fn all_full(inboxes: &[Inbox]) -> bool
     ensures { result ≡ true → AllFull inboxes.now }
 {
@@ -311,7 +310,6 @@ fn all_full(inboxes: &[Inbox]) -> bool
     true
 }
 
-/// Whether nothing waits for any neighbour.
 fn all_silent(outboxes: &Outboxes, inboxes: &[Inbox]) -> bool
     ensures { result ≡ true → AllSilent outboxes.now inboxes.now }
 {

@@ -1,4 +1,3 @@
-//! A peer's life as a future.
 ghost use Rattle.std.specs.Prelude.{◌≡◌, None, Err, IfOk, IfSome, OnOk, true};
 ghost use Rattle.futures.specs.Poll.{IfReady, OnPending};
 ghost use Rattle.futures.specs.Task.{Covers, Keeps};

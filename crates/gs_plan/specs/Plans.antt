@@ -77,7 +77,6 @@ topic_of (Subscribe topic) = topic
 topic_of (Unsubscribe topic) = topic
 topic_of (Publish topic payload) = topic
 
--- two peers have one name
 abbrev pub have_one_name : PlannedPeer → PlannedPeer → Bool
 have_one_name x y = pointwise nat_eq x.name y.name
 

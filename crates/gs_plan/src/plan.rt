@@ -1,4 +1,3 @@
-//! What is simulated.
 ghost use Rattle.std.specs.Prelude.{◌≡◌};
 ghost use Rattle.gs_plan.specs.Plans.{are_joined, highest_app_score, joins, longest_round, most_peers, most_rounds};
 
@@ -19,7 +18,7 @@ pub const MOST_PEERS: usize = 64;
 /// The highest score that an application gives, in millionths. The lowest is as far below 0.
 pub const HIGHEST_APP_SCORE: i64 = 1_000_000_000;
 
-/// What is simulated.
+/// What is simulated. Of every plan that was read `IsInRange` is known.
 #[derive(Debug, Drop, PartialEq, Eq)]
 pub struct Plan {
     /// The length of a round in milliseconds: 1 to 60,000.
@@ -44,25 +43,25 @@ pub struct Plan {
     pub script: Seq<Line>,
 }
 
-/// A peer that is simulated.
+/// A peer of a plan, whose number is its place among the peers.
 #[derive(Debug, Drop, PartialEq, Eq)]
 pub struct PlannedPeer {
     /// Its name: 1 to 32 of `a` to `z`, `0` to `9`, `_` and `-`.
     pub name: Text,
-    /// Where it is: neighbours at one address count against each other.
+    /// Where it is: neighbours at one address count against each other (P6).
     pub address: Text,
-    /// The first of its random words.
+    /// The first of its random words. Behind them come those of its generator (`SeededWords`).
     pub words: Seq<u32>,
 }
 
-/// A link between two peers, which the first of them dials.
+/// A connection of two peers, which the first of them dials: a link each way.
 #[derive(Clone, Copy, Debug, PartialEq, Eq)]
 pub struct Dial {
     pub from: PeerNo,
     pub to: PeerNo,
 }
 
-/// The score that a peer's application gives a neighbour.
+/// The score that a peer's application gives a neighbour (P5).
 #[derive(Clone, Copy, Debug, PartialEq, Eq)]
 pub struct App {
     pub peer: PeerNo,
@@ -76,9 +75,9 @@ pub struct App {
 pub struct Line {
     /// The round in which it is done: 0 to the last.
     pub at: u64,
-    /// Who does it.
+    /// The peer that is told.
     pub peer: PeerNo,
-    /// What is done.
+    /// What it is told. A peer that can't follow it notes why, and goes on.
     pub what: What,
 }
 
@@ -101,11 +100,11 @@ impl ExactClone for Line {
 /// What a peer may be told to do.
 #[derive(Debug, Drop, PartialEq, Eq)]
 pub enum What {
-    /// Subscribe to a topic.
+    /// Subscribe to a topic (gossipsub v1.0, "Topic Membership", JOIN).
     Subscribe(Topic),
-    /// Leave a topic.
+    /// Leave a topic (gossipsub v1.0, "Topic Membership", LEAVE).
     Unsubscribe(Topic),
-    /// Publish a payload on a topic.
+    /// Publish a payload on a topic (gossipsub v1.0, "Message Processing").
     Publish(Topic, Bytes),
 }
 
@@ -135,7 +134,6 @@ pub fn are_joined(dials: &[Dial], one: PeerNo, other: PeerNo) -> bool
     dials.iter().any(|dial| joins(one, other, dial))
 }
 
-/// Whether a dial joins two peers.
 fn joins(one: PeerNo, other: PeerNo, dial: &Dial) -> bool
     ensures { result ≡ joins one other dial.now }
 {

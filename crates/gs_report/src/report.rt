@@ -1,8 +1,7 @@
-//! What is left of all peers.
 use crate::finished::Finished;
 use gs_base::PeerNo;
 
-/// What a run gives.
+/// What a run gives: its peers stand with their numbers, so that it can be read without its plan.
 #[derive(Debug, Drop)]
 pub struct Report {
     /// Each peer of the plan with what is left of it, by number.

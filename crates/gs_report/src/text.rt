@@ -1,4 +1,3 @@
-//! The text of a report.
 ghost use Rattle.std.specs.Prelude.{◌≡◌, ◌++◌, ◌<◌, IfOk, OnOk, string_bytes};
 ghost use Rattle.std.specs.List.{flat_map};
 ghost use Rattle.gs_report.specs.Text.{delivered_line, delivered_lines, digit, entry_lines, links_line, mesh_line, mesh_lines, name_of, payload_text, refused_line, refused_lines, report_text, score_line, score_lines, score_text, word_of};
@@ -10,9 +9,9 @@ use gs_plan::{Plan, what_word};
 use gs_rules::{Entry, RefusedLine};
 use std::alloc::{AllocError, Global};
 
-/// The text of a run's report: first a line for each message that was delivered, peer by peer in the
-/// order of its trace, then a line for each refusal, peer by peer in the order of its list, then a line for
-/// each member of a mesh, one for each score of a neighbour, and last the line of the links. A peer has the
+/// The text of a run's report, as docs/FORMATS.md lists its lines: first one for each message that was delivered,
+/// peer by peer in the order of its trace, then one for each refusal, peer by peer in the order of its list, then
+/// one for each member of a mesh, one for each score of a neighbour, and last the line of the links. A peer has the
 /// name that the plan gives its number.
 ///
 /// # Errors
@@ -29,7 +28,6 @@ pub fn report_text(alloc: Global, plan: &Plan, report: &Report) -> Result<Vec<u8
     Ok(text)
 }
 
-/// Adds the lines of what was delivered to all peers.
 fn push_delivered(
     alloc: Global,
     text: &mut Vec<u8>,
@@ -45,7 +43,6 @@ fn push_delivered(
     Ok(())
 }
 
-/// Adds the lines of what was delivered to a peer in these entries.
 fn push_entries(
     alloc: Global,
     text: &mut Vec<u8>,
@@ -60,7 +57,6 @@ fn push_entries(
     Ok(())
 }
 
-/// Adds the lines of what was delivered to a peer at a moment.
 fn push_deliveries(
     alloc: Global,
     text: &mut Vec<u8>,
@@ -76,7 +72,7 @@ fn push_deliveries(
     Ok(())
 }
 
-/// Adds the line of a payload that was delivered to a peer.
+/// Adds a line `delivered PEER MOMENT TOPIC PAYLOAD`.
 fn push_delivery(
     alloc: Global,
     text: &mut Vec<u8>,
@@ -97,7 +93,6 @@ fn push_delivery(
     text.extend_from_slice(b"\n")
 }
 
-/// Adds the lines of what all peers refused.
 fn push_refused(
     alloc: Global,
     text: &mut Vec<u8>,
@@ -119,7 +114,6 @@ fn push_refused(
     Ok(())
 }
 
-/// Adds the lines of what a peer refused.
 fn push_refusals(
     alloc: Global,
     text: &mut Vec<u8>,
@@ -135,7 +129,7 @@ fn push_refusals(
     Ok(())
 }
 
-/// Adds the line of a refusal.
+/// Adds a line `refused PEER MOMENT WHAT NUMBER`.
 fn push_refusal(
     alloc: Global,
     text: &mut Vec<u8>,
@@ -154,7 +148,6 @@ fn push_refusal(
     text.extend_from_slice(back.as_bytes())
 }
 
-/// Adds the lines of who was in the meshes of all peers.
 fn push_meshes(
     alloc: Global,
     text: &mut Vec<u8>,
@@ -176,7 +169,6 @@ fn push_meshes(
     Ok(())
 }
 
-/// Adds the lines of who was in a peer's meshes.
 fn push_members(
     alloc: Global,
     text: &mut Vec<u8>,
@@ -192,7 +184,7 @@ fn push_members(
     Ok(())
 }
 
-/// Adds the line of who was in a mesh.
+/// Adds a line `mesh PEER TOPIC MEMBER`.
 fn push_member(
     alloc: Global,
     text: &mut Vec<u8>,
@@ -210,7 +202,6 @@ fn push_member(
     text.extend_from_slice(back.as_bytes())
 }
 
-/// Adds the lines of what the neighbours of all peers scored.
 fn push_scores(
     alloc: Global,
     text: &mut Vec<u8>,
@@ -232,7 +223,6 @@ fn push_scores(
     Ok(())
 }
 
-/// Adds the lines of what a peer's neighbours scored.
 fn push_each_score(
     alloc: Global,
     text: &mut Vec<u8>,
@@ -248,7 +238,7 @@ fn push_each_score(
     Ok(())
 }
 
-/// Adds the line of what a neighbour scored.
+/// Adds a line `score PEER NEIGHBOUR SCORE`.
 fn push_score(
     alloc: Global,
     text: &mut Vec<u8>,
@@ -295,7 +285,7 @@ fn digit(number: u128, power: u128) -> u8
     (number / power % 10) as u8 + b'0'
 }
 
-/// Adds the line of the links that were settled.
+/// Adds the line `links NUMBER settled`.
 fn push_links(alloc: Global, text: &mut Vec<u8>, settled: u64) -> Result<(), AllocError>
     ensures { OnOk result (text.new.items ≡ text.old.items ++ links_line settled) }
 {

@@ -83,7 +83,7 @@ lost_for_good len (Some k) = by (nat_lt k.age len) refl
     by true is = refl
     by false is = sym (ap (λ (c : Bool). if c then Some (record { topic = k.topic; message = k.message; age = k.age + 1 }) else None) (nothing_older len k.age is))
 
--- and what is kept when it is older was kept
+-- what is kept when it is a heartbeat older was kept before
 kept_before : (len : ℕ) (k : Option Keeping) → is_some (keeping len (older k)) ≡ true → is_some (keeping len k) ≡ true
 kept_before len None is = is
 kept_before len (Some k) is = by (nat_lt k.age len) refl

@@ -53,7 +53,7 @@ one_known was known topic t b false apart before = by (same_topic topic t) (nat_
     by true is = sym (last ∙ ap (λ (same : Bool). list_any (same_topic t) known || (same || false)) (sym is) ∙ or_true (list_any (same_topic t) known))
     by false is = before ∙ sym (last ∙ ap (λ (same : Bool). list_any (same_topic t) known || (same || false)) (sym is) ∙ or_false (list_any (same_topic t) known))
 
--- and how many there are then
+-- a topic that is new is one more of the known ones
 one_counted : (known : List Topic) (topic : Topic) (n : ℕ) (c : Bool) → n ≡ length known → n + (if c then 0 else 1) ≡ length (if c then known else known ++ topic ∷ [])
 one_counted known topic n true is = omega (arith, is)
 one_counted known topic n false is = omega (arith, is, length-append known (topic ∷ []))

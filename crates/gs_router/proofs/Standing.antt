@@ -62,7 +62,7 @@ counts p old new H (Grafted q t) accepted applied agrees = raises_nothing (setti
 counts p old new H mark accepted applied agrees =
     subst (λ (b : Bool). Agrees (setting_of p) new (if b then Marked mark ∷ H else H)) (sym accepted ∙ accepts_so p old H mark agrees) (applied (setting_of p) H agrees)
 
--- and any other leaves all as it is
+-- a mark that is not accepted leaves all as it is
 pub passes : (p : Peer) (k : Kept) (H : History) (mark : Mark) → accepts k.accounts mark ≡ false → Agrees (setting_of p) k H → Agrees (setting_of p) k (if is_counted p H mark then Marked mark ∷ H else H)
 passes p k H (Grafted q t) refused agrees = absurd cc
 passes p k H mark refused agrees =
@@ -73,7 +73,7 @@ pub grafts : (p : Peer) (old new : Kept) (H : History) (q : PeerNo) (t : Topic) 
 grafts p old new H q t at room grafted agrees =
     subst (λ (b : Bool). Agrees (setting_of p) new (if b then histories.Grafted q t at ∷ H else H)) (sym room ∙ room_so p old H q t agrees) (grafted (setting_of p) H agrees)
 
--- and nothing counts where it has none
+-- where a neighbour has no room for a topic, to come into its mesh does not count
 pub grafts_nobody : (p : Peer) (k : Kept) (H : History) (q : PeerNo) (t : Topic) (at : Millis) → has_room k.accounts q t ≡ false → Agrees (setting_of p) k H → Agrees (setting_of p) k (marked_after p at (Grafted q t) H)
 grafts_nobody p k H q t at room agrees =
     subst (λ (b : Bool). Agrees (setting_of p) k (if b then histories.Grafted q t at ∷ H else H)) (sym room ∙ room_so p k H q t agrees) agrees

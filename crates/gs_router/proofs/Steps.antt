@@ -59,7 +59,7 @@ message_tells p L at q m =
     new_tells Reject = record { moment = refl; tells = refl }
     new_tells Ignore = record { moment = refl; tells = refl }
 
--- and so does each that it may give
+-- each entry that a rule may give tells the event and the moment
 abbrev TellsOnly : Millis → Event → Rule → Type 0
 TellsOnly at event (Gives x) = Tells at event x
 TellsOnly at event (AnyOf k candidates rule) = (chosen : List PeerNo) → TellsOnly at event (rule chosen)

@@ -70,7 +70,7 @@ long_fold p L at found (x ∷ xs) all = by (is_wanted p L at x) refl (λ keys. l
 pub wanted_long : (p : Peer) (L : Entries) (at room : ℕ) (xs ids : List (List ℕ)) → ids ≡ take room (each_once (filter (is_wanted p L at) xs)) → AreLong ids
 wanted_long p L at room xs ids is = subst AreLong (sym is) (long_taken room (each_once (filter (is_wanted p L at) xs)) (long_fold p L at [] xs tt))
 
--- and are not more than there is room for
+-- identifiers that are wanted are no more than there is room for
 pub wanted_few : (p : Peer) (L : Entries) (at room most : ℕ) (xs ids : List (List ℕ)) → ids ≡ take room (each_once (filter (is_wanted p L at) xs)) → room ≤ most → length ids ≤ most
 wanted_few p L at room most xs ids is few = omega (arith, ap length is, few_taken room (each_once (filter (is_wanted p L at) xs)))
 

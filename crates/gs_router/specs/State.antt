@@ -28,7 +28,7 @@ pub record IsCurrent (s : State) : Type 0 where
 abbrev pub IsDue : State → Millis → Event → Type 0
 IsDue s now event = IsNext (peer_of s) s.trace now.0 (owed (peer_of s) s.trace).events event
 
--- and nothing is owed
+-- The state is current, and nothing is owed: so any event may come that may open.
 pub record IsReady (s : State) : Type 0 where
   pub current : IsCurrent s
   pub settled : owed (peer_of s) s.trace ≡ nothing

@@ -149,7 +149,7 @@ left_after most q id other before = before
 abbrev pub left_of : ℕ → Option Keeping → ℕ → Option ℕ
 left_of most keeping given = option_map (λ (k : Keeping). most - given) keeping
 
--- and none where none is kept
+-- how many answers are left to a neighbour: none where no message is kept
 abbrev pub answers_left : ℕ → ℕ → Entries → PeerNo → MsgId → ℕ
 answers_left most len L q id = unwrap_or (left_of most (kept len L id) (answered L q id)) 0
 
@@ -194,7 +194,7 @@ budget_of p = record {
   ids = min p.params.windows.max_ihave_ids most_identifiers;
 }
 
--- what is left of a budget
+-- what is left of a neighbour's budget behind what its offers and requests to it counted
 abbrev pub budget_left : Budget → Entries → PeerNo → Budget
 budget_left full L q = record { offers = full.offers - offers L q; ids = full.ids - asked L q }
 

@@ -7,7 +7,6 @@ ghost use Rattle.gs_rules.specs.MeshRules.{those_among, those_outside};
 use gs_base::PeerNo;
 use std::alloc::{AllocError, Global};
 
-/// Whether a peer is one of these.
 fn is_among(peers: &[PeerNo], peer: PeerNo) -> bool
     ensures { result ≡ is_among peers.now peer }
 {

@@ -1,4 +1,3 @@
-//! Sets of peers, by their numbers.
 ghost use Rattle.std.specs.Prelude.{◌≡◌, ◌<◌, ℕ, false, OnOk, if◌then◌else◌, length};
 ghost use Rattle.gs_base.specs.Names.{same_peer};
 ghost use Rattle.gs_base.specs.declared.names.PeerNo.{PeerNo as PeerNoValue};
@@ -47,7 +46,6 @@ impl PeerSet {
         Ok(())
     }
 
-    /// Makes room for a peer's flag.
     fn cover(&mut self, peer: PeerNo) -> Result<(), AllocError>
         ensures room { OnOk result (peer.0 < length self.new.flags.items) }
         ensures same { OnOk result ((q : PeerNoValue) → has self.new q ≡ has self.old q) }

@@ -32,10 +32,14 @@ use std::marker::Model;
 
 /// A gossipsub router with its trace.
 ///
-/// Each call that may change it is handed the words by which it chooses, and leaves them as its choices
-/// do. `now`, in milliseconds, is never earlier than the last moment of the trace. A call that is refused changes nothing
-/// and draws no word. After want of memory the trace ends with the last entry that was whole, and every call is refused as
-/// `Stopped`; after `shut` every call of the user is.
+/// Each call that may change it is handed the words by which it chooses, and leaves them as its choices do: the
+/// random words belong to who runs the router, so that one plan has one report. A call that leaves nothing to
+/// choose is handed them too, since its contract speaks of the source that it is handed; that it draws none is a
+/// law (`what_is_given_draws_no_word`).
+///
+/// `now`, in milliseconds, is never earlier than the last moment of the trace. A call that is refused changes
+/// nothing and draws no word. After want of memory the trace ends with the last entry that was whole, and every
+/// call is refused as `Stopped`; after `shut` every call of the user is.
 #[derive(Drop)]
 pub struct Router {
     state: State,

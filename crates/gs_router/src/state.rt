@@ -69,7 +69,7 @@ impl State {
         self.step_with(&mut Payloads::new(self.known.alloc), event, now, words)
     }
 
-    /// The same, where payloads that are known need not be hashed again.
+    /// `step`, where payloads that are known need not be hashed again.
     fn step_with<W: Words>(
         &mut self,
         payloads: &mut Payloads,
@@ -278,7 +278,6 @@ impl State {
     }
 }
 
-/// The grafts among what is said of meshes and messages.
 fn grafts_in(control: &Option<Control>) -> &[Graft]
     ensures { result.now ≡ grafts_in control.now }
 {
@@ -288,7 +287,6 @@ fn grafts_in(control: &Option<Control>) -> &[Graft]
     }
 }
 
-/// The prunes among what is said of meshes and messages.
 fn prunes_in(control: &Option<Control>) -> &[Prune]
     ensures { result.now ≡ prunes_in control.now }
 {
@@ -298,7 +296,6 @@ fn prunes_in(control: &Option<Control>) -> &[Prune]
     }
 }
 
-/// The offers among what is said of meshes and messages.
 fn offers_in(control: &Option<Control>) -> &[IHave]
     ensures { result.now ≡ offers_in control.now }
 {
@@ -308,7 +305,6 @@ fn offers_in(control: &Option<Control>) -> &[IHave]
     }
 }
 
-/// The requests among what is said of meshes and messages.
 fn requests_in(control: &Option<Control>) -> &[IWant]
     ensures { result.now ≡ requests_in control.now }
 {

@@ -46,7 +46,6 @@ fn address_of(number: u16, kind: Kind) -> [u8; 2] {
     }
 }
 
-/// A neighbour of this kind.
 fn neighbour_of(alloc: Global, number: u16, kind: Kind) -> Result<Neighbour, AllocError>
     ensures number { IfOk result (λ neighbour. neighbour.peer.0 ≡ number) }
     ensures app { IfOk result (λ neighbour. unsigned_abs neighbour.app ≤ 10 ^ 12) }

@@ -83,7 +83,7 @@ asked_of (CutOf degrees members next) = Some (degrees.d, peers_of members)
 asked_of (OneOf n next) = None
 asked_of (Gives x) = None
 
--- and what it says behind that choice
+-- what a rule says behind its first choice
 abbrev behind : List PeerNo → Rule → Rule
 behind chosen (AnyOf n candidates next) = next chosen
 behind chosen (CutOf degrees members next) = next chosen

@@ -105,7 +105,7 @@ marks_leave promise (Seen id verdict ∷ marks) before unkept among =
     marks_leave promise marks others parts.1 (among_passing (λ other. not (same_id id other.id)) promise before (not_from_false (same_id id promise.id) parts.0) among)
 marks_leave promise (other ∷ marks) before unkept among = marks_leave promise marks before unkept among
 
--- and so does an event that does not end it
+-- an event that does not end a promise leaves it
 event_leaves : (promise : Promise) (event : Event) (at : ℕ) (before : List Promise) → ends_promise promise event at ≡ false → IsAmong before promise → IsAmong (ended_after event at before) promise
 event_leaves promise Promises at before unended among =
     among_passing (λ other. nat_lt at other.until.0) promise before (lt-ltb at promise.until.0 (leb-false promise.until.0 at unended)) among
@@ -157,7 +157,7 @@ marks_left promise (Seen id verdict ∷ marks) before among =
     apart false is = refl
 marks_left promise (other ∷ marks) before among = marks_left promise marks before among
 
--- and an event what it does not end
+-- of the promises behind an event, each was there before it, and the event does not end it
 event_left : (promise : Promise) (event : Event) (at : ℕ) (before : List Promise) → IsAmong (ended_after event at before) promise → (ends_promise promise event at ≡ false) × IsAmong before promise
 event_left promise Promises at before among =
     let passed = among_passed (λ other. nat_lt at other.until.0) promise before among in

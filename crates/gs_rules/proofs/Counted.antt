@@ -45,7 +45,7 @@ stays_known : (event : Event) (before : List Topic) (u : Topic) → IsOf before 
 stays_known (Subscribe t) before u is = still_known u t (list_any (same_topic t) before) before is
 stays_known other before u is = is
 
--- and they are not too many
+-- with one topic more, where there is room for it, the known ones are not too many
 few_after : (t : Topic) (is_known : Bool) (before : List Topic) → length before ≤ most_topics → (is_known || nat_lt (length before) most_topics) ≡ true → length (if is_known then before else before ++ t ∷ []) ≤ most_topics
 few_after t true before few room = few
 few_after t false before few room =
@@ -193,7 +193,7 @@ marks_of p L e legal near =
 abbrev Names : List Topic → PeerNo → Change → Type 0
 Names ts q c = AllByRecursion (IsOf ts) (named_after q c [])
 
--- and so do all
+-- all changes of a history name these topics alone, for each neighbour
 abbrev NamesOf : List Topic → History → Type 0
 NamesOf ts H = (q : PeerNo) → AllByRecursion (Names ts q) H
 

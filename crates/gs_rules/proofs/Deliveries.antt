@@ -83,7 +83,7 @@ stays_seen id at (Seen other verdict ∷ marks) all =
     ap (λ (before : Option Sighting). after_marks (sighting_after id at) marks before) (found_itself id other verdict at (accepted at) all.0.0 all.0.1) ∙ stays_seen id at marks all.1
 stays_seen id at (other ∷ marks) all = stays_seen id at marks all.1
 
--- and one of them says it
+-- where one mark says that the message was seen, and no other says otherwise, it was seen at this moment
 gets_seen : (id : MsgId) (at : ℕ) (marks : List Mark) (before : Option Sighting) → AllByRecursion (SaysSeen id) marks → list_any is_sight marks ≡ true → after_marks (sighting_after id at) marks before ≡ accepted at
 gets_seen id at [] before all some = absurd cc
 gets_seen id at (Seen other verdict ∷ marks) before all some =
@@ -164,7 +164,7 @@ offered p L q offer e id effects delivers =
     (λ place same. delivers_none p L e (asking p e.at q offer (wanted p L e.at.0 q offer.ids) place) id same refl delivers)
     effects
 
--- and neither does a request
+-- a request delivers nothing
 requested : (p : Peer) (L : Entries) (q : PeerNo) (request : IWant) (e : Entry) (id : MsgId) → SaysTheSame e (want_rule p L e.at q request) → Delivers e id → IsFresh p L e id
 requested p L q request e id same delivers =
     delivers_none p L e (want_rule p L e.at q request) id same (of_a_request (λ (x : Entry). x.delivered ≡ []) p L e.at q request refl refl) delivers
@@ -211,7 +211,7 @@ record IsSince (moment : ℕ) (seen : Option Sighting) : Type 0 where
   is : seen ≡ Some sighting
   since : moment ≤ sighting.at
 
--- and so it was after each mark that came later
+-- a message that was seen at a moment or after it still was behind one more mark
 since_by : (moment at : ℕ) (verdict : Verdict) (same : Bool) (before : Option Sighting) → moment ≤ at → IsSince moment before → IsSince moment (if same then Some (record { at = at; verdict = verdict }) else before)
 since_by moment at verdict true before later h = record { sighting = record { at = at; verdict = verdict }; is = refl; since = later }
 since_by moment at verdict false before later h = h

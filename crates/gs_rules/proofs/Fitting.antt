@@ -145,7 +145,7 @@ received_fit q (x ∷ sends) all = with_first (same_peer x.0 q) x.1 (sent_to q s
     with_first true rpc rpcs fits rest = (fits, rest)
     with_first false rpc rpcs fits rest = rest
 
--- and back
+-- what all are sent, from what each receiver is sent
 sends_fit : (sends : List (PeerNo × Rpc)) → ((q : PeerNo) → RpcsFit (sent_to q sends)) → SendsWritten sends
 sends_fit [] all = tt
 sends_fit (x ∷ sends) all = (first.0, sends_fit sends (λ q. without_first (same_peer x.0 q) x.1 (sent_to q sends) (all q)))

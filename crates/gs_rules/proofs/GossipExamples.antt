@@ -151,7 +151,7 @@ a_heartbeat_gossips_where_there_is_something = refl
 a_quiet_heartbeat_ends : owed peer (entry (MeshBeat a) ∷ entry Promises ∷ entry (Subscribe a) ∷ []) ≡ record { events = BeatEnd ∷ []; groups = [] }
 a_quiet_heartbeat_ends = refl
 
--- and without a topic
+-- without a topic it ends at once
 a_heartbeat_of_no_topic_ends : owed peer (entry Promises ∷ []) ≡ record { events = BeatEnd ∷ []; groups = [] }
 a_heartbeat_of_no_topic_ends = refl
 

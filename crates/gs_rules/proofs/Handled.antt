@@ -225,7 +225,7 @@ lines_quiet q r (x ∷ xs) = either (is_at r x) (lines_quiet q r xs)
     either true h = h
     either false h = h
 
--- and so is a step of decay
+-- a step of decay is nothing to hear
 decays_quiet : (q : PeerNo) (p : Peer) (r : ℕ) (at : Millis) → flat_map (rpc_of q) (decays_in p r at) ≡ []
 decays_quiet q p r at = by (is_due p.params.windows.decay_ms r at)
   where
@@ -233,7 +233,7 @@ decays_quiet q p r at = by (is_due p.params.windows.decay_ms r at)
     by true = refl
     by false = refl
 
--- and a heartbeat
+-- a heartbeat is nothing to hear
 beats_quiet : (q : PeerNo) (p : Peer) (r : ℕ) (at : Millis) → flat_map (rpc_of q) (beats_in p r at) ≡ []
 beats_quiet q p r at = by (is_due p.params.windows.heartbeat_ms r at)
   where
@@ -308,7 +308,7 @@ rounds_handle seat said q (suc r) L refused once (K, earlier, more, before, play
     let one = place_handles seat said (Playing r) q K L more once plays legal in
     subst (HandledIn (suc r) (said q)) (sym one.now) (one_round r (said q) (handled K q) one.inbound (rounds_handle seat said q r K earlier once before one.before) one.was_said)
 
--- and after the close
+-- behind the close all that a neighbour said is handled
 life_handles : (seat : Seat) (said : PeerNo → Said) (q : PeerNo) (L : Entries) (refused : List RefusedLine) → StandsOnce q (links_of seat.peer) → Legal seat.peer L → KeepsRounds seat said L refused → Spell (bytes_of (said q)) (handled L q)
 life_handles seat said q L refused once legal keeps =
     let one = place_handles seat said Closing q keeps.last L [] once keeps.closed legal in

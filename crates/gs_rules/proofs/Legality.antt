@@ -29,7 +29,7 @@ legal_then m p s u t K L [] legal more = subst (LegalOn m p s K L) (sym more) le
 legal_then m p s u t K L (e ∷ M) legal more =
     (more.0, legal_then m p s u more.0 K L M legal more.1, subst (λ (N : Entries). IsAllowed m p N more.0 e t) (sym (append_assoc M L K)) more.2)
 
--- and the one part after the other
+-- legal entries fall into two parts anywhere, the one legal behind the other
 pub legal_parts : (m : Mode) (p : Peer) (s t : m.State) (K L M : Entries) → LegalOn m p s K (M ++ L) t → (u : m.State) × LegalOn m p s K L u × LegalOn m p u (L ++ K) M t
 legal_parts m p s t K L [] legal = (t, legal, refl)
 legal_parts m p s t K L (e ∷ M) legal =

@@ -76,7 +76,7 @@ module _ (m : Mode) (frees : Weakens m free (λ u. tt)) where
   mends Well degrees members others next s e u effects =
       record { kept = peers_of members; come = []; state = s; is = (refl, refl); follows = effects }
 
-  -- and so it is where the mesh is poor
+  -- what is chosen where the mesh is poor, and what follows it
   record Betters (poor : Bool) (most : ℕ) (members others : List Member) (next : List PeerNo → Rule) (e : Entry) (u : m.State) : Type 0 where
     more : List PeerNo
     state : m.State
@@ -118,7 +118,7 @@ grafts_candidates p L at t choice step =
     subst (λ (c : Choice). AllByRecursion (λ q. is_among (candidates p L at t) q ≡ true) c.grafted) (sym step.choice_is)
     (members_are_such p L (λ q. is_among (candidates p L at t) q ≡ true) at (λ (m : Member). is_member same_peer (step.grafted ++ step.more) m.peer) (candidates p L at t) (each_among (candidates p L at t)))
 
--- and whoever goes was a member
+-- whoever goes was a member
 pub prunes_members : (p : Peer) (L : Entries) (at : ℕ) (t : Topic) (choice : Choice) → IsStepOf p L at t choice → AllByRecursion (λ q. is_among (mesh L t) q ≡ true) choice.pruned
 prunes_members p L at t choice step =
     subst (λ (c : Choice). AllByRecursion (λ q. is_among (mesh L t) q ≡ true) c.pruned) (sym step.choice_is)

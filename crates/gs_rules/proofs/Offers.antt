@@ -82,7 +82,7 @@ taken_few n most ids few = omega (arith, length-take n ids)
 room_is_small : (a b c : ℕ) → min a b - c ≤ b
 room_is_small a b c = omega arith
 
--- and it is no more than an RPC may hold
+-- what is wanted is no more than an RPC may hold
 pub wanted_few : (p : Peer) (L : Entries) (at : ℕ) (q : PeerNo) (ids : List (List ℕ)) → length (wanted p L at q ids) ≤ most_identifiers
 wanted_few p L at q ids =
     taken_few (room_to_ask p L q) most_identifiers (each_once (filter (is_wanted p L at) ids)) (room_is_small p.params.windows.max_ihave_ids most_identifiers (asked L q))

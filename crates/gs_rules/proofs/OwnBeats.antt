@@ -53,7 +53,7 @@ owed_own p L legal =
     (λ M e q rpc goes_on is. parts_are_such (IsOfOwn (e ∷ M)) q rpc (λ sub. tt) (λ m. tt) (λ offer. tt) (λ request. tt) (λ graft. tt) (λ prune. tt))
     (heartbeat_of_own p) L legal
 
--- so is what comes next
+-- what comes next is of an own topic, as what is owed is
 pub next_of_own : (p : Peer) (L : Entries) (at : ℕ) (event : Event) → Legal p L → IsNext p L at (owed p L).events event → IsOfOwn L event
 next_of_own p L at (MeshBeat t) legal next = next_is_such (IsOfOwn L) p L at (owed p L).events (MeshBeat t) (owed_own p L legal).0 (λ h. h) next
 next_of_own p L at other legal next = tt

@@ -57,7 +57,7 @@ pub still_known : (t u : Topic) (knows : Bool) (before : List Topic) → list_an
 still_known t u true before is = is
 still_known t u false before is = rw (list_any-append (same_topic t) before (u ∷ []), is) refl
 
--- and what it subscribes to is known
+-- a topic that the peer subscribes to is known
 gets_known : (t : Topic) (knows : Bool) (before : List Topic) → list_any (same_topic t) before ≡ knows → list_any (same_topic t) (if knows then before else before ++ t ∷ []) ≡ true
 gets_known t true before is = is
 gets_known t false before is = rw (list_any-append (same_topic t) before (t ∷ []), is, (bytes_eq-Decides t.0 t.0).1 refl) refl

@@ -67,7 +67,6 @@ unfanning t qs = map (λ q. Unfanned q t) qs
 
 -- ---- whom it concerns
 
--- peers, each with one topic
 abbrev pub each_on : Topic → List PeerNo → List (PeerNo × Topic)
 each_on t qs = map (λ q. (q, t)) qs
 

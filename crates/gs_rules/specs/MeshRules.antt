@@ -48,7 +48,8 @@ graft_rule p L at q graft =
     else if is_full_for p L q (topic_or_empty graft.topic) then refusing p at q graft []
     else record (bare at (GraftIn q graft)) { marks = entering (each_on (topic_or_empty graft.topic) (q ∷ [])) }
 
--- for how many seconds a neighbour is not to be grafted that says so, or says nothing or 0
+-- for how many seconds the sender of a PRUNE is not to be grafted: those that it names, up to a day, and
+-- `otherwise` where it names none or 0
 abbrev pub asked_backoff : ℕ → Option ℕ → ℕ
 asked_backoff otherwise None = otherwise
 asked_backoff otherwise (Some seconds) = if nat_eq seconds 0 then otherwise else min seconds longest_backoff
@@ -90,7 +91,6 @@ lost_rule p L at q event = record (bare at event) { marks = losing_marks p L at.
 
 -- ---- the peer's own topics (gossipsub v1.0, "Topic Membership")
 
--- those of these peers that are among others
 abbrev pub those_among : List PeerNo → List PeerNo → List PeerNo
 those_among others qs = filter (is_among others) qs
 

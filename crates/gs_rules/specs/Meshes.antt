@@ -27,7 +27,8 @@ abbrev pub mesh : Entries → Topic → List PeerNo
 mesh [] t = []
 mesh (e ∷ L) t = after_marks (mesh_after t) e.marks (mesh L t)
 
--- to subscribe to a topic ends its fanout, and so does a heartbeat once its time has come
+-- to subscribe to a topic ends its fanout, and so does a heartbeat once its time has come. That is an event of its
+-- own (`FanEnd`, beside `FanBeat`), so that one rule judges its entry, and a table needs no `fanout_ttl_ms`.
 abbrev pub dropped_after : {A : Type 0} → Topic → A → Event → A → A
 dropped_after t none (Subscribe u) before = if same_topic u t then none else before
 dropped_after t none (FanEnd u) before = if same_topic u t then none else before
@@ -107,7 +108,9 @@ abbrev pub sees : MsgId → Mark → Bool
 sees id (Seen other verdict) = same_id other id
 sees id other = false
 
--- whether a neighbour passed on a message, first or near the first, since it was marked as seen last
+-- Whether a neighbour passed on a message, first or near the first, since it was marked as seen last. The marks of
+-- one entry are asked in no order, since they may stand in any (`SaysTheSame`): an entry that marks a message as
+-- seen says with it who was first, and none notes a neighbour for an earlier sighting beside that.
 abbrev pub noted : Entries → MsgId → PeerNo → Bool
 noted [] id q = false
 noted (e ∷ L) id q = list_any (notes id q) e.marks || (not (list_any (sees id) e.marks) && noted L id q)

@@ -26,7 +26,6 @@ use Rattle.gs_rules.specs.Tables.{Entries, Sighting, joined, last_seen, seen}
 use Rattle.gs_rules.specs.Meshes.{mesh, noted}
 use Rattle.gs_rules.specs.Rule.{bare, to_each}
 
--- a payload begins with one of these
 abbrev pub begins_with_one : List (List ℕ) → List ℕ → Bool
 begins_with_one prefixes payload = list_any (λ prefix. starts_with nat_eq payload prefix) prefixes
 

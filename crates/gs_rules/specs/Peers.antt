@@ -1,11 +1,11 @@
--- What is given of a peer.
 use Rattle.std.specs.Prelude.{ℕ, max, List}
 use Rattle.gs_base.specs.declared.names.PeerNo.{PeerNo}
 use Rattle.gs_base.specs.declared.neighbour.Neighbour.{Neighbour}
 use Rattle.gs_base.specs.Names.{peers_of}
 use Rattle.gs_params.specs.declared.params.Params.{Params}
 
--- What is given of a peer, and stays as it is.
+-- What is given of a peer, and stays as it is. No codec stands here: what is written on links is the codec's, and a
+-- trace holds RPCs as values. The rules name the one codec where it counts whether an RPC fits a frame.
 pub record Peer : Type 0 where
   pub params : Params
   -- ascending by number

@@ -12,7 +12,7 @@ use Rattle.gs_rules.specs.Peers.{Peer, seen_ttl}
 use Rattle.gs_rules.specs.Tables.{Entries, is_shut, joined, seen}
 use Rattle.gs_rules.specs.Legal.{has_room_for}
 
--- the number of a refusal
+-- the numbers of refusals, as docs/FORMATS.md lists them
 abbrev pub number_of : Refusal → ℕ
 number_of AlreadySeen = 16
 number_of TooLong = 17

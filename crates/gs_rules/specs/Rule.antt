@@ -15,7 +15,7 @@ use Rattle.gs_rules.specs.Tables.{Entries, on, up}
 
 -- What a rule says: an entry, or what is chosen before it.
 pub data Rule : Type 0 where
-  -- this entry
+  -- this entry, and nothing is chosen
   Gives : Entry → Rule
   -- any so many of these peers, or all where there are fewer
   AnyOf : ℕ → List PeerNo → (List PeerNo → Rule) → Rule
@@ -30,11 +30,9 @@ pub data Rule : Type 0 where
 abbrev pub bare : Millis → Event → Entry
 bare at event = record { at = at; event = event; sends = []; delivered = []; promise = None; marks = [] }
 
--- the same RPC to each of these
 abbrev pub to_each : Rpc → List PeerNo → List (PeerNo × Rpc)
 to_each rpc qs = map (λ q. (q, rpc)) qs
 
--- the neighbours that are up
 abbrev pub up_neighbours : Peer → Entries → List PeerNo
 up_neighbours p L = filter (up L) (links_of p)
 

@@ -49,6 +49,6 @@ handled (e ∷ L) q = handled L q ++ handled_by q e.event
 abbrev pub SendsFit : Codec → List (PeerNo × Rpc) → Type 0
 SendsFit codec sends = AllByRecursion (λ x. codec.fits x.1 ≡ true) sends
 
--- and so do all that these entries send
+-- each RPC that these entries send fits a frame
 abbrev pub AllFit : Codec → List Entry → Type 0
 AllFit codec entries = AllByRecursion (λ e. SendsFit codec e.sends) entries

@@ -1,4 +1,3 @@
-//! Why a peer refuses what its own user wishes.
 ghost use Rattle.std.specs.Prelude.{◌≡◌};
 ghost use Rattle.gs_rules.specs.Refusals.{number_of};
 
@@ -28,7 +27,7 @@ pub enum Refusal {
 }
 
 impl Refusal {
-    /// The number of the refusal: 16 to 19, 21 and 34.
+    /// The number of the refusal, as docs/FORMATS.md lists it: 16 to 19, 21 and 34.
     pub fn number(self) -> u8
         ensures { result ≡ number_of self }
     {
@@ -50,6 +49,6 @@ pub struct RefusedLine {
     pub at: Millis,
     /// The place of the line in the plan's script, where the first is 0.
     pub line: usize,
-    /// Why it was refused.
+    /// The first reason that held (`reasons`).
     pub why: Refusal,
 }

@@ -18,37 +18,37 @@ pub enum Event {
     Late(PeerNo, Shared<Rpc>),
     /// A neighbour subscribed to a topic or left it.
     Sub(PeerNo, SubOpt),
-    /// A neighbour passed on a message.
+    /// A neighbour passed on a message (gossipsub v1.0, "Message Processing").
     Msg(PeerNo, Shared<Message>),
-    /// A neighbour offered messages.
+    /// A neighbour offered messages (gossipsub v1.0, "Control Messages", IHAVE).
     Have(PeerNo, Shared<IHave>),
-    /// A neighbour asked for messages.
+    /// A neighbour asked for messages (IWANT).
     Want(PeerNo, Shared<IWant>),
-    /// A neighbour said that it put the peer into a mesh.
+    /// A neighbour said that it put the peer into a mesh (GRAFT).
     GraftIn(PeerNo, Graft),
-    /// A neighbour said that it took the peer out of a mesh.
+    /// A neighbour said that it took the peer out of a mesh (PRUNE).
     PruneIn(PeerNo, Prune),
-    /// The peer subscribed to a topic.
+    /// The peer subscribed to a topic (gossipsub v1.0, "Topic Membership", JOIN).
     Subscribe(Topic),
-    /// The peer left a topic.
+    /// The peer left a topic (LEAVE).
     Unsubscribe(Topic),
     /// The peer published a payload on a topic.
     Publish(Topic, Bytes),
     /// A heartbeat began: promises whose time had come ended. Meshes, fanouts and gossip follow, and the heartbeat's end.
     Promises,
-    /// The mesh of a topic was mended.
+    /// The mesh of a topic was mended by a heartbeat (gossipsub v1.0, "Mesh maintenance").
     MeshBeat(Topic),
-    /// The fanout of a topic was mended.
+    /// The fanout of a topic was mended by a heartbeat (gossipsub v1.0, "Fanout maintenance").
     FanBeat(Topic),
     /// The fanout of a topic ended: the peer has not published on it for its time.
     FanEnd(Topic),
-    /// What there is on a topic was gossiped.
+    /// What there is on a topic was gossiped by a heartbeat (gossipsub v1.0, "Gossip Emission").
     GossipBeat(Topic),
     /// A heartbeat ended.
     BeatEnd,
     /// The counters that scores are made of decayed by a step.
     Decay,
-    /// A round ended.
+    /// The round of this number ended: neighbours hear in the next one what was sent in it.
     RoundEnd(u64),
     /// A neighbour closed its link.
     Gone(PeerNo),
@@ -58,14 +58,15 @@ pub enum Event {
     Shut,
 }
 
-/// What a neighbour promised by its offer: one of the messages that it was asked for.
+/// What a neighbour promised by its offer: one of the messages that it was asked for (gossipsub v1.1, "Spam
+/// Protection Measures").
 #[derive(Clone, Copy, Debug, PartialEq, Eq)]
 pub struct Promise {
-    /// The neighbour.
+    /// The neighbour that made the offer.
     pub from: PeerNo,
-    /// The identifier of the message.
+    /// The one identifier, of those that were asked for, that is watched.
     pub id: MsgId,
-    /// When the message is overdue.
+    /// The moment from which on the message is overdue: `iwant_followup_ms` after it was asked for.
     pub until: Millis,
 }
 
@@ -76,11 +77,11 @@ pub struct Entry {
     pub at: Millis,
     /// What happened.
     pub event: Event,
-    /// What was sent to whom, in order.
+    /// What was sent to whom, in order. One RPC is shared by all whom it goes to.
     pub sends: Seq<(PeerNo, Shared<Rpc>)>,
     /// The topics and payloads of what was delivered to the peer's own user.
     pub delivered: Seq<(Topic, Bytes)>,
-    /// What a neighbour promised.
+    /// What a neighbour promised, where it was asked for something.
     pub promise: Option<Shared<Promise>>,
     /// What is to be remembered.
     pub marks: Seq<Mark>,

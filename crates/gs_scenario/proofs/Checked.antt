@@ -23,6 +23,6 @@ same_of_found a b c d p q h =
 pub same_of_checked : (p q : Params) → checked p ≡ Ok q → p ≡ q
 same_of_checked p q h = same_of_found (first_broken (degree_checks p.degrees)) (first_broken (threshold_checks p.thresholds)) (first_broken (all_factor_checks p)) (first_broken (all_window_checks p)) p q h
 
--- and passes it again
+-- what passed the checks passes them again
 pub checked_again : (p q : Params) → checked p ≡ Ok q → checked q ≡ Ok q
 checked_again p q h = subst (λ (x : Params). checked x ≡ Ok q) (same_of_checked p q h) h

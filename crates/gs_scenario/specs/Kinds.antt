@@ -37,7 +37,6 @@ int_between low high z = if int_in_range low high z then Some z else None
 abbrev pub signed_number : ℤ → ℤ → Kind ℤ
 signed_number low high = kind_of (wanted.SignedNumber low high) (λ d. option_and_then (int_between low high) (as_integer d))
 
--- true or false
 abbrev pub truth_value : Kind Bool
 truth_value = kind_of wanted.TruthValue as_bool
 

@@ -122,7 +122,6 @@ top_in top = do
 
 -- ---- a topic
 
--- the topic that has a name
 abbrev pub topic_named : List (Topic × TopicParams) → List ℕ → Option Topic
 topic_named topics text = option_map
     (λ (found : Topic × TopicParams). found.0)
@@ -144,7 +143,6 @@ topic_in earlier d = do
 
 -- ---- a peer
 
--- the number of the peer that has a name
 abbrev pub peer_named : List PlannedPeer → List ℕ → Option PeerNo
 peer_named peers text = option_map (λ n. record { 0 = n }) (position (λ peer. pointwise nat_eq peer.name text) peers)
 
@@ -264,7 +262,7 @@ line_kind verbs.Subscribe = kinds.SubscriptionLine
 line_kind verbs.Unsubscribe = kinds.SubscriptionLine
 line_kind verbs.Publish = kinds.PublishLine
 
--- the keys that each table may have
+-- the keys that each table may have, in the order in which they are looked at
 abbrev pub known_keys : TableKind → List (List ℕ)
 known_keys kinds.Top = top_keys
 known_keys kinds.Params = shared_names

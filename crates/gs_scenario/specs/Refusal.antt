@@ -7,7 +7,6 @@ use Rattle.gs_scenario.specs.declared.reason.Found.TheVariants as found
 use Rattle.gs_params.specs.Params as params
 use Rattle.toml.specs.Data.{Data, string, integer, float, boolean, datetime, array, table, Items, no_items, item}
 
--- how many elements a list has
 abbrev pub item_count : Items → ℕ
 item_count no_items = 0
 item_count (item d ds) = item_count ds + 1
@@ -22,7 +21,7 @@ found_of (datetime time) = found.Date
 found_of (array ds) = found.List (item_count ds)
 found_of (table entries) = found.Table
 
--- the number of a refusal
+-- the numbers of refusals, as docs/FORMATS.md lists them
 abbrev pub number_of : ScenarioFault → ℕ
 number_of (Params fault) = params.number_of fault
 number_of Toml = 26
@@ -33,7 +32,7 @@ number_of (UnknownName place name kind) = 30
 number_of (Repeated place) = 31
 number_of NoMemory = 32
 
--- where it is refused
+-- where it is refused: three refusals have no place
 abbrev pub place_of : ScenarioFault → Option (List ℕ)
 place_of (Params fault) = None
 place_of Toml = None

@@ -1,4 +1,3 @@
-//! Why a scenario is refused.
 ghost use Rattle.std.specs.Prelude.{◌≡◌, Some, option_map};
 ghost use Rattle.gs_scenario.specs.declared.fault.ScenarioFault.TheVariants.{NoMemory};
 ghost use Rattle.gs_scenario.specs.Refusal.{number_of, place_of, refusal_text};
@@ -36,7 +35,7 @@ pub enum ScenarioFault {
 }
 
 impl ScenarioFault {
-    /// The number of the refusal: 26 to 32, or 1 to 4 for parameters.
+    /// The number of the refusal, as docs/FORMATS.md lists it: 26 to 32, or 1 to 4 for parameters.
     pub fn number(&self) -> u8
         ensures { result ≡ number_of self.now }
     {
@@ -52,7 +51,7 @@ impl ScenarioFault {
         }
     }
 
-    /// Where the scenario is refused.
+    /// Where the scenario is refused; a text that is no TOML, parameters and want of memory have no place.
     pub fn place(&self) -> Option<&Text>
         ensures { option_map (λ place. place.now) result ≡ place_of self.now }
     {

@@ -18,7 +18,7 @@ pub enum Wanted {
     Multiple(u64),
     /// True or false.
     TruthValue,
-    /// A table.
+    /// A table, whose keys are looked at later.
     Table,
     /// A list of any length.
     List,
@@ -45,7 +45,7 @@ pub enum Found {
     Number(i64),
     /// A number with a fraction or an exponent, an infinity, or no number (`nan`).
     Float,
-    /// A text.
+    /// This text.
     Text(Text),
     /// True or false.
     TruthValue(bool),

@@ -1,4 +1,3 @@
-//! Scenarios: the plan that a TOML text describes, or its first refusal.
 ghost use Rattle.std.specs.Prelude.{◌≡◌, IfOk};
 ghost use Rattle.toml.specs.View.{table_view};
 ghost use Rattle.gs_scenario.specs.Refusal.{GivesSame};
@@ -58,7 +57,6 @@ pub fn read_plan(alloc: Global, text: &str) -> Result<Plan, ScenarioFault>
     }
 }
 
-/// The plan that a document describes.
 #[tactic(auto, unfolding(crate::specs::PlanOf::plan_in))]
 fn plan_in(alloc: Global, table: &Table) -> Result<Plan, ScenarioFault>
     ensures { GivesSame result (plan_in (table_view table.now)) }

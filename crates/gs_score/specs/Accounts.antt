@@ -39,11 +39,9 @@ behaviour_decay params = record { factor = params.factors.p7_decay; floor = para
 
 -- ---- what a neighbour has on topics
 
--- what it has on a topic
 abbrev pub standing_in : List (Topic × Standing) → Topic → Standing
 standing_in topics t = unwrap_or (lookup (same_topic t) topics) fresh
 
--- a topic that has a standing
 abbrev pub has_topic : List (Topic × Standing) → Topic → Bool
 has_topic topics t = is_some (lookup (same_topic t) topics)
 

@@ -11,7 +11,7 @@ most_counted = 1_000_000_000_000
 abbrev pub decay_step : Decay → ℕ → ℕ
 decay_step d x = if nat_lt (scaled d.factor x) d.floor then 0 else scaled d.factor x
 
--- so many steps
+-- n steps of decay
 abbrev pub decayed : Decay → ℕ → ℕ → ℕ
 decayed d zero x = x
 decayed d (suc n) x = decayed d n (decay_step d x)

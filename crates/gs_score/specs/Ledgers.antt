@@ -35,11 +35,9 @@ same_pair p t q u = same_peer p q && same_topic t u
 abbrev pub topics_of : List (PeerNo × Account) → PeerNo → List (Topic × Standing)
 topics_of accounts q = (account_of accounts q).topics
 
--- what a neighbour has on a topic
 abbrev pub standing_of : List (PeerNo × Account) → PeerNo → Topic → Standing
 standing_of accounts q t = standing_in (topics_of accounts q) t
 
--- how it misbehaved
 abbrev pub behaviour_of : List (PeerNo × Account) → PeerNo → Stored
 behaviour_of accounts q = (account_of accounts q).behaviour
 

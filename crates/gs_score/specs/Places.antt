@@ -25,7 +25,6 @@ place_at places p = lookup (same_peer p) places
 abbrev pub app_of : List (PeerNo × Place) → PeerNo → ℤ
 app_of places p = option_map_or (λ (x : Place). x.app) (place_at places p) (pos 0)
 
--- whether it counts
 abbrev pub is_counted : List (PeerNo × Place) → PeerNo → Bool
 is_counted places p = option_map_or (λ (x : Place). x.counted) (place_at places p) false
 

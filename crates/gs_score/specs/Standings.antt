@@ -38,7 +38,6 @@ pub record Held : Type 0 where
 abbrev pub nothing_held : Held
 nothing_held = record { since = None; first = 0; near = 0; deficit = 0; invalid = 0 }
 
--- one of its counters
 abbrev pub count : Kind → Held → ℕ
 count First h = h.first
 count Near h = h.near
@@ -82,7 +81,7 @@ with_stored Invalid c s = record s { invalid = c }
 abbrev pub read : TopicRules → ℕ → Standing → Kind → ℕ
 read r tick s kind = read_at (decay_of r kind) tick (stored kind s)
 
--- and what that is at a tick
+-- what is held at a tick: each counter decayed by the steps that it lacks
 abbrev pub held : TopicRules → ℕ → Standing → Held
 held r tick s = record {
   since = s.since;

@@ -1,4 +1,3 @@
-//! What is counted of each neighbour.
 ghost use Rattle.std.specs.Prelude.{◌≡◌, ◌≤◌, ◌*◌, ◌^◌, ℕ, true, [], List, IfOk, IsOk, OnOk, OnErr, unsigned_abs};
 ghost use Rattle.std.specs.List.{list_any};
 ghost use Rattle.gs_base.specs.Names.{same_peer};
@@ -23,7 +22,7 @@ use std::alloc::{AllocError, Global};
 /// What is counted of a neighbour.
 #[derive(Drop)]
 pub struct Account {
-    /// What it has on topics.
+    /// What counts on single topics (P1 to P4).
     pub topics: Topics,
     /// How it misbehaved, whatever the topic (P7).
     pub behaviour: Counter,
@@ -54,7 +53,6 @@ pub(crate) fn open_accounts(
     Ok(accounts)
 }
 
-/// What a neighbour has on a topic.
 pub(crate) fn standing_of(
     accounts: &IndexMap<PeerNo, Account>,
     peer: PeerNo,
@@ -68,7 +66,6 @@ pub(crate) fn standing_of(
     }
 }
 
-/// How a neighbour misbehaved.
 pub(crate) fn behaviour_of(accounts: &IndexMap<PeerNo, Account>, peer: PeerNo) -> Counter
     ensures { result ≡ behaviour_of accounts.now.entries peer }
 {
@@ -78,7 +75,6 @@ pub(crate) fn behaviour_of(accounts: &IndexMap<PeerNo, Account>, peer: PeerNo) -
     }
 }
 
-/// Whether this is a neighbour.
 pub(crate) fn has_account(accounts: &IndexMap<PeerNo, Account>, peer: PeerNo) -> bool
     ensures { result ≡ has_account accounts.now.entries peer }
 {

@@ -18,7 +18,6 @@ pub struct Decay {
 }
 
 impl Decay {
-    /// A value after one step.
     fn step(self, value: u64) -> u64
         requires factor { self.factor ≤ 10 ^ 6 }
         requires value { value ≤ 10 ^ 12 }

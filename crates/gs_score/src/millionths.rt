@@ -16,7 +16,7 @@ pub fn times(weight: i64, amount: i128) -> i128
     }
 }
 
-/// The same, where all of it fits 64 bits: that is the case of most, and costs a tenth.
+/// The product where all of it fits 64 bits: that is the case of most, and costs a tenth.
 #[tactic(auto, unfolding(crate::specs::Millionths::times))]
 fn small_product(weight: i64, amount: i128) -> Option<i128>
     ensures { IfSome result (λ product. product ≡ times weight amount) }

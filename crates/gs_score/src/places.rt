@@ -1,4 +1,3 @@
-//! Where neighbours are, and what the application thinks of them.
 ghost use Rattle.std.specs.Prelude.{◌≡◌, ◌+◌, ◌-◌, ◌≤◌, ◌<◌, ◌^◌, ℕ, List, [], map, drop, length, IfOk, OnOk};
 ghost use Rattle.indexmap.specs.IndexMap.{insert_all};
 ghost use Rattle.gs_base.specs.Names.{same_peer};
@@ -17,11 +16,11 @@ pub struct Place {
     pub app: i128,
     /// Neighbours at one address count against each other (P6).
     pub address: Bytes,
-    /// Whether it counts there.
+    /// Whether it counts there: until it is shut out.
     pub counted: bool,
 }
 
-/// Where all neighbours are. How many count at each address is kept, and not searched for.
+/// Where all neighbours are. How many count at each address is kept, so that a score searches no neighbour.
 #[derive(Drop)]
 pub struct Places {
     places: IndexMap<PeerNo, Place>,
@@ -89,7 +88,6 @@ impl Places {
     }
 }
 
-/// Whether a neighbour counts at its address.
 fn is_counted(places: &IndexMap<PeerNo, Place>, peer: PeerNo) -> bool
     ensures { result ≡ is_counted places.now.entries peer }
 {

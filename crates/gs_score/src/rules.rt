@@ -1,4 +1,3 @@
-//! How a topic is scored.
 ghost use Rattle.std.specs.Prelude.{◌≡◌, ◌≤◌, ◌^◌};
 ghost use Rattle.gs_params.specs.Params.{AreInRange};
 ghost use Rattle.gs_score.specs.Accounts.{factors_in, rules_of};
@@ -18,7 +17,7 @@ use gs_params::{
 pub struct TopicRules {
     /// Its weights, factors and caps.
     pub factors: TopicFactors,
-    /// Its times.
+    /// Its times, in milliseconds.
     pub windows: TopicWindows,
     /// A counter that decays below this becomes 0, in millionths: 0 to 10^12. It is the same for all topics.
     pub decay_to_zero: u64,
@@ -40,7 +39,7 @@ impl TopicRules {
         }
     }
 
-    /// How a counter decays.
+    /// The factor by which a counter of this kind decays, and the floor below which it becomes 0, both in millionths.
     pub fn decay_of(&self, kind: Kind) -> Decay
         requires in_range { RulesAreInRange self.now }
         ensures value { result ≡ decay_of self.now kind }
@@ -58,7 +57,8 @@ impl TopicRules {
         }
     }
 
-    /// Up to where a counter is raised.
+    /// Up to where a counter is raised, in millionths: its cap, and 10^12 for P3b and P4, which have no cap of their
+    /// own.
     pub fn cap_of(&self, kind: Kind) -> u64
         requires in_range { RulesAreInRange self.now }
         ensures value { result ≡ cap_of self.now kind }
@@ -98,7 +98,7 @@ impl TopicRules {
     }
 }
 
-/// The factors and the times of a topic.
+/// The factors and the times of a topic: those of its first parameters, and the defaults where it has none.
 fn factors_of(topics: &[(Topic, TopicParams)], topic: &Topic) -> (TopicFactors, TopicWindows)
     ensures { result ≡ factors_in topics.now topic.now }
 {

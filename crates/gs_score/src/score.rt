@@ -1,4 +1,3 @@
-//! The score of a neighbour.
 ghost use Rattle.std.specs.Prelude.{◌≡◌, ◌≤◌, ◌^◌, unsigned_abs};
 ghost use Rattle.gs_params.specs.Params.{FactorsAreInRange, IsCap};
 ghost use Rattle.gs_score.specs.Formula.{capped, p6, score_of};

@@ -1,4 +1,3 @@
-//! The scores of all neighbours.
 ghost use Rattle.std.specs.Prelude.{◌≡◌, ◌≤◌, ◌<◌, ◌+◌, ◌^◌, ℕ, true, List, [], ◌∷◌, length, unsigned_abs, All, IfOk, IfSome, IsOk, OnErr, OnOk};
 ghost use Rattle.gs_base.specs.Names.{peers_of};
 ghost use Rattle.gs_base.specs.declared.names.Topic.{Topic as TopicValue};

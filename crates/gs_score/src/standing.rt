@@ -1,4 +1,3 @@
-//! What a neighbour has on a topic.
 ghost use Rattle.std.specs.Prelude.{◌≡◌, ◌≤◌, ◌^◌, pos, unsigned_abs};
 ghost use Rattle.gs_score.specs.Formula.{p3, topic_part};
 ghost use Rattle.gs_score.specs.Millionths.{squared, times};
@@ -61,7 +60,7 @@ impl Standing {
         }
     }
 
-    /// A counter.
+    /// A counter as it is kept, which may have steps of decay to come.
     pub fn counter(&self, kind: Kind) -> Counter
         ensures { result ≡ stored kind self.now }
     {
@@ -101,7 +100,6 @@ impl Standing {
         self.put(kind, counter);
     }
 
-    /// Puts a counter in the place of another.
     fn put(&mut self, kind: Kind, counter: Counter)
         ensures { self.new ≡ with_stored kind counter self.old }
     {
@@ -113,7 +111,7 @@ impl Standing {
         }
     }
 
-    /// It comes into the mesh.
+    /// It comes into the mesh at this moment, from which its time there (P1) and its activation (P3) are counted.
     pub fn graft(&mut self, now: Millis)
         ensures { self.new ≡ grafted now self.old }
     {

@@ -1,4 +1,3 @@
-//! What a neighbour has on topics.
 ghost use Rattle.std.specs.Prelude.{◌≡◌, ◌+◌, ◌≤◌, ◌<◌, ◌*◌, ◌^◌, ◌+ℤ◌, ◌||◌, nat_lt, true, if◌then◌else◌, [], List, drop, length, unsigned_abs, IsOk, OnOk, OnErr};
 ghost use Rattle.std.specs.List.{IsDistinct};
 ghost use Rattle.std.specs.Map.{keys_of};
@@ -51,7 +50,7 @@ impl Topics {
         self.standings.len()
     }
 
-    /// What it has on a topic.
+    /// What it has on a topic: nothing, and outside the mesh, where nothing was ever counted.
     pub fn standing(&self, topic: &Topic) -> Standing
         ensures { result ≡ standing_in self.now topic.now }
     {

@@ -70,7 +70,8 @@ pub(crate) fn merge_all<M: Decode>(
     Ok(())
 }
 
-/// Makes room for one element where there is none yet: most lists of an RPC have one.
+/// Makes room for one element where there is none yet: most lists of an RPC have one, and would else get room for
+/// more.
 fn make_room<M: Drop>(items: &mut Vec<M>) -> Result<(), AllocError>
     ensures { items.new.items ≡ items.old.items }
 {

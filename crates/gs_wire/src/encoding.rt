@@ -25,7 +25,6 @@ pub(crate) trait Encode {
         ensures capacity { vec_capacity buffer.old ≤ vec_capacity buffer.new };
 }
 
-/// The bytes of an optional field.
 pub(crate) fn bytes_of(value: &Option<Bytes>) -> Option<&[u8]>
     ensures { option_copied result ≡ value.now }
 {
@@ -35,7 +34,6 @@ pub(crate) fn bytes_of(value: &Option<Bytes>) -> Option<&[u8]>
     }
 }
 
-/// The bytes of an optional topic.
 pub(crate) fn bytes_of_topic(value: &Option<Topic>) -> Option<&[u8]>
     ensures { option_copied result ≡ topic_bytes value.now }
 {
@@ -55,7 +53,6 @@ pub(crate) fn len_record_len(len: usize) -> usize
     (1 + varint_len(len as u64)).saturating_add(len)
 }
 
-/// The length of an optional field of bytes.
 pub(crate) fn optional_len(value: Option<&[u8]>) -> usize
     ensures { (field : ℕ)
         → field < 16
@@ -67,7 +64,7 @@ pub(crate) fn optional_len(value: Option<&[u8]>) -> usize
     }
 }
 
-/// The number that stands for an optional truth value.
+/// 1 for true and 0 for false (Protocol Buffers, Encoding, "Bools and Enums").
 pub(crate) fn bool_number(value: Option<bool>) -> Option<u64>
     ensures { result ≡ option_map bool_number value }
 {
@@ -78,7 +75,6 @@ pub(crate) fn bool_number(value: Option<bool>) -> Option<u64>
     }
 }
 
-/// The length of an optional field of a number.
 pub(crate) fn number_len(value: Option<u64>) -> usize
     ensures { (field : ℕ) → field < 16 → result ≡ min usize.MAX (length (records_text (number_records field value))) }
 {
@@ -88,7 +84,6 @@ pub(crate) fn number_len(value: Option<u64>) -> usize
     }
 }
 
-/// The length of a repeated field of bytes.
 pub(crate) fn repeated_len(values: &[Bytes]) -> usize
     ensures { (field : ℕ)
         → field < 16
@@ -101,7 +96,6 @@ pub(crate) fn repeated_len(values: &[Bytes]) -> usize
     total
 }
 
-/// The length of a repeated field of messages.
 pub(crate) fn parts_len<M: Encode>(parts: &[M]) -> usize
     ensures { (field : ℕ)
         → field < 16
@@ -125,7 +119,6 @@ fn put_len(buffer: &mut Vec<u8>, field: u64, len: usize)
     put_varint(buffer, len as u64);
 }
 
-/// Writes a number where there is one to write.
 pub(crate) fn put_number(buffer: &mut Vec<u8>, field: u64, value: Option<u64>)
     requires small { field < 16 }
     requires room { vec_len buffer.old + length (records_text (number_records field value)) ≤ vec_capacity buffer.old }
@@ -138,7 +131,6 @@ pub(crate) fn put_number(buffer: &mut Vec<u8>, field: u64, value: Option<u64>)
     }
 }
 
-/// Writes bytes.
 fn put_bytes(buffer: &mut Vec<u8>, field: u64, bytes: &[u8])
     requires small { field < 16 }
     requires room { vec_len buffer.old + length (record_text (len_record field bytes.now)) ≤ vec_capacity buffer.old }
@@ -149,7 +141,6 @@ fn put_bytes(buffer: &mut Vec<u8>, field: u64, bytes: &[u8])
     let _fits = buffer.extend_from_slice(bytes);
 }
 
-/// Writes bytes where there are any to write.
 pub(crate) fn put_optional(buffer: &mut Vec<u8>, field: u64, value: Option<&[u8]>)
     requires small { field < 16 }
     requires room { vec_len buffer.old + length (records_text (bytes_records field (option_copied value)))
@@ -163,7 +154,6 @@ pub(crate) fn put_optional(buffer: &mut Vec<u8>, field: u64, value: Option<&[u8]
     }
 }
 
-/// Writes each value in order.
 pub(crate) fn put_repeated(buffer: &mut Vec<u8>, field: u64, values: &[Bytes])
     requires small { field < 16 }
     requires room { vec_len buffer.old + length (records_text (repeated_records field values.now))
@@ -176,7 +166,7 @@ pub(crate) fn put_repeated(buffer: &mut Vec<u8>, field: u64, values: &[Bytes])
     }
 }
 
-/// Writes a part whose length is known.
+/// Writes a part whose length is known, so that the part is measured once.
 pub(crate) fn put_sized_part<M: Encode>(buffer: &mut Vec<u8>, field: u64, part: &M, len: usize)
     requires small { field < 16 }
     requires sized { len ≡ min usize.MAX (length (records_text (M.records part.now))) }
@@ -190,7 +180,6 @@ pub(crate) fn put_sized_part<M: Encode>(buffer: &mut Vec<u8>, field: u64, part: 
     part.put(buffer);
 }
 
-/// Writes each part in order.
 pub(crate) fn put_parts<M: Encode>(buffer: &mut Vec<u8>, field: u64, parts: &[M])
     requires small { field < 16 }
     requires room { vec_len buffer.old + length (records_text (part_records M.records field parts.now))

@@ -1,4 +1,3 @@
-//! Why bytes or an RPC were refused.
 ghost use Rattle.std.specs.Prelude.{◌≡◌};
 
 use std::alloc::AllocError;

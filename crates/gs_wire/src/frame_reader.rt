@@ -1,4 +1,3 @@
-//! A reader of frames from a stream that comes in pieces.
 ghost use Rattle.std.specs.Prelude.{◌≡◌, ◌≤◌, [], Some, None, length, unwrap_or};
 ghost use Rattle.gs_wire.specs.Messages.{longest_body};
 ghost use Rattle.gs_wire.specs.Stream.{EndsFeed};

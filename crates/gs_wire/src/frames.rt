@@ -13,7 +13,7 @@ use std::alloc::{AllocError, Global};
 /// How a stream goes on behind its whole frames.
 #[derive(Clone, Copy, Debug, PartialEq, Eq)]
 pub enum End {
-    /// It waits for more of a frame.
+    /// It waits for more of a frame, or for the next one.
     Waits,
     /// A length is above the limit.
     TooLong,
@@ -86,7 +86,6 @@ fn span_at(limit: usize, known: Option<Span>, bytes: &[u8]) -> Result<Span, End>
     })
 }
 
-/// Adds the RPC of a whole body to a list.
 fn push_body(
     alloc: Global,
     span: Span,

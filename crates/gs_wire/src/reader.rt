@@ -1,4 +1,3 @@
-//! Reading from the front of a shared body.
 ghost use Rattle.std.specs.Prelude.{◌≡◌, ◌==◌, ◌≤◌, length, take, drop, option_map, IfOk};
 ghost use Rattle.gs_wire.specs.Reading.{varint_at, bytes_at};
 
@@ -28,7 +27,6 @@ impl<'a> Model for Reader<'a> {
 }
 
 impl<'a> Reader<'a> {
-    /// All of a body.
     pub(crate) fn new(body: &'a Bytes) -> Reader<'a>
         ensures { result ≡ body.now }
     {
@@ -39,7 +37,6 @@ impl<'a> Reader<'a> {
         }
     }
 
-    /// Whether nothing is left.
     pub(crate) fn is_empty(&self) -> bool
         ensures { result ≡ (length self.now == 0) }
     {
@@ -70,7 +67,6 @@ impl<'a> Reader<'a> {
         }
     }
 
-    /// Reads a varint.
     #[tactic(auto, unfolding(crate::specs::Reading::varint_at))]
     pub(crate) fn varint(&mut self) -> Option<u64>
         ensures { option_map (λ number. (number, self.new)) result ≡ varint_at self.old }
@@ -80,7 +76,7 @@ impl<'a> Reader<'a> {
         Some(number)
     }
 
-    /// Reads that many bytes.
+    /// The next so many bytes; none where fewer are left.
     pub(crate) fn bytes(&mut self, count: u64) -> Option<Reader<'a>>
         ensures { option_map (λ bytes. (bytes, self.new)) result ≡ bytes_at count self.old }
     {

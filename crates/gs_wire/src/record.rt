@@ -14,14 +14,13 @@ pub(crate) enum Value<'a> {
     I32(Reader<'a>),
 }
 
-/// A field number and a value.
 #[derive(Drop)]
 pub(crate) struct Record<'a> {
     pub field: u64,
     pub value: Value<'a>,
 }
 
-/// Reads the value of a wire type.
+/// Reads the value of a wire type; 3 and 4, groups, are deprecated, and none here.
 #[inline(always)]
 #[tactic(auto, unfolding(crate::specs::Reading::value_at))]
 fn read_value<'a>(reader: &mut Reader<'a>, wire_type: u64) -> Option<Value<'a>>
@@ -39,7 +38,6 @@ fn read_value<'a>(reader: &mut Reader<'a>, wire_type: u64) -> Option<Value<'a>>
     }
 }
 
-/// Reads a record.
 #[inline(always)]
 #[tactic(auto, unfolding(crate::specs::Reading::record_at))]
 pub(crate) fn read_record<'a>(reader: &mut Reader<'a>) -> Option<Record<'a>>

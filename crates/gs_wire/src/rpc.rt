@@ -144,7 +144,6 @@ fn body_len(rpc: &Rpc, control: Option<usize>) -> Result<usize, WireFault>
     Ok(len)
 }
 
-/// Writes the body of an RPC.
 fn put_body(buffer: &mut Vec<u8>, rpc: &Rpc, control: Option<usize>)
     requires sized { control ≡
         option_map (λ c. min usize.MAX (length (records_text (control_records c)))) rpc.now.control }

@@ -3,7 +3,7 @@ ghost use Rattle.std.specs.Prelude.{◌≡◌, ◌+◌, ◌≤◌, ◌++◌, ◌
 ghost use Rattle.gs_wire.specs.Reading.{varint_at, varint_at_most};
 ghost use Rattle.gs_wire.specs.Varint.{varint, varint_within};
 
-/// The most bytes that a varint takes.
+/// The most bytes that a varint takes: ten groups of seven bits hold 64.
 pub(crate) const MAX_VARINT: u32 = 10;
 
 /// The varint of at most `most` bytes at the front, and how many bytes it takes.

@@ -185,7 +185,6 @@ fn what_is_written_goes_to_the_end(rt: HostRuntime) -> Result<(), AllocError> {
     Ok(())
 }
 
-/// The texts of faults.
 static TEXTS: [(WireFault, &str); 4] = [
     (WireFault::Malformed, "the bytes spell no RPC"),
     (WireFault::TooLong, "the body is too long"),

@@ -40,7 +40,6 @@ pub fn deal<F: Future<Output: Drop>>(
     Ok(groups)
 }
 
-/// So many groups with nothing in them.
 fn empty_groups<M: Drop>(alloc: Global, count: usize) -> Result<VecDeque<Vec<M>>, AllocError>
     ensures len { IfOk result (λ groups. deque_len groups ≡ count) }
     ensures empty { IfOk result (λ groups. AllByRecursion (λ group. group ≡ []) (lists_of groups.items)) }

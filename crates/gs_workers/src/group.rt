@@ -1,4 +1,3 @@
-//! Futures that run side by side on one thread, as one future.
 ghost use Rattle.std.specs.Prelude.{◌≡◌, true};
 ghost use Rattle.std.specs.List.{AllByRecursion, AllZip};
 ghost use Rattle.futures.specs.Joined.{IsDone};

@@ -1,4 +1,3 @@
-//! A flag that stops what workers drive.
 use std::sync::atomic::{AtomicBool, Ordering};
 
 /// A flag that stops tasks. Nothing is claimed of it: whoever sees it set may stop.

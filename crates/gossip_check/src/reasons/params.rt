@@ -126,7 +126,6 @@ pub fn key_of(parameter: Parameter) -> &'static str {
     }
 }
 
-/// The key of a topic's parameter.
 fn topic_key_of(parameter: TopicParameter) -> &'static str {
     match parameter {
         TopicParameter::TopicWeight => "topic_weight",

@@ -179,7 +179,6 @@ fn control_only(alloc: Global, control: Control) -> Rpc
     }
 }
 
-/// The bytes of these identifiers.
 fn bytes_of(alloc: Global, ids: &[MsgId]) -> Result<Seq<Bytes>, AllocError>
     ensures { IfOk result (λ list. list ≡ map (λ (id : MsgIdValue). id.0) ids.now) }
 {

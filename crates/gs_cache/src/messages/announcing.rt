@@ -106,7 +106,6 @@ fn is_placed_on(window: &Window, topic: &Topic, place: usize, id: &MsgId) -> boo
     }
 }
 
-/// Whether one of the windows has a message.
 fn any_has(windows: &[Window], id: &MsgId) -> bool
     ensures { result ≡ list_any (λ w. has w id.now) windows.now }
 {

@@ -1,4 +1,3 @@
-//! How many answers are left to neighbours.
 ghost use Rattle.std.specs.Prelude.{◌≡◌, ◌-◌, [], if◌then◌else◌, OnOk, OnErr};
 ghost use Rattle.gs_base.specs.declared.names.PeerNo.{PeerNo as PeerNoValue};
 ghost use Rattle.gs_base.specs.Names.{same_peer};

@@ -1,4 +1,3 @@
-//! The puts between two shifts.
 ghost use Rattle.std.specs.Prelude.{◌≡◌, [], position, OnOk, OnErr};
 ghost use Rattle.std.specs.Option.{option_copied};
 ghost use Rattle.gs_cache.specs.Windows.{Counts, HasSame, Puts, has, kept_in};
@@ -23,7 +22,7 @@ pub struct Kept {
 pub struct Window {
     /// The identifiers in the order of the puts. Where a message was put again, only its last place counts.
     pub order: Vec<MsgId>,
-    /// By identifier.
+    /// What is kept of each message, by its identifier.
     pub puts: IndexMap<MsgId, Kept>,
 }
 

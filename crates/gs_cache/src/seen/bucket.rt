@@ -1,4 +1,3 @@
-//! The sightings of one span of time.
 ghost use Rattle.std.specs.Prelude.{◌≡◌, ◌≤◌, ◌-◌, [], None, false, nat_le, is_some, OnOk, OnErr, IfOk};
 ghost use Rattle.gs_base.specs.declared.names.MsgId.{MsgId as MsgIdValue};
 ghost use Rattle.gs_cache.specs.Buckets.{AreInOrder, Becomes, Forgets, Takes, IsUnchanged, Spans, put, sighting_in};

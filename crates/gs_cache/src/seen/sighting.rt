@@ -1,4 +1,3 @@
-//! The last mark of a message.
 ghost use Rattle.std.specs.Prelude.{◌≡◌, Some, OnOk, OnErr};
 ghost use Rattle.gs_cache.specs.Sightings.{is_near_in, with_noted};
 
@@ -8,7 +7,7 @@ use std::alloc::AllocError;
 /// The last mark of a message as seen.
 #[derive(Debug, Drop)]
 pub struct Sighting {
-    /// When it was made.
+    /// The moment of the mark, from which the time and the window are counted.
     pub at: Millis,
     /// What the message was found to be.
     pub verdict: Verdict,
@@ -24,7 +23,7 @@ impl Sighting {
         now.0.saturating_sub(self.at.0) <= window.0 && !self.noted.as_slice().contains(&peer)
     }
 
-    /// Notes a neighbour.
+    /// Notes a neighbour, unless it is noted already.
     ///
     /// # Errors
     /// `AllocError` where there was no memory; nothing is changed then.

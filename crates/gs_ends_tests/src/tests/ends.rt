@@ -14,7 +14,6 @@ use std::alloc::{AllocError, Global};
 use std::sync::Wait;
 use std::test::*;
 
-/// A piece of these bytes.
 fn piece(alloc: Global, bytes: &[u8]) -> Result<Item, AllocError>
     requires { (1 ≤ length bytes.now) × (length bytes.now ≤ 64) }
     ensures { IfOk result IsSendable }
@@ -203,7 +202,6 @@ fn what_comes_is_taken_in_order_and_then_the_close(rt: HostRuntime) -> Result<()
     Ok(())
 }
 
-/// Puts items for both, in turns.
 fn puts_in_turns(ends: &mut ListEnds, piece: Item) -> bool
     requires two { joints_of ends.old ≡ map listed_joint (record { 0 = 5 } ∷ record { 0 = 3 } ∷ []) }
     requires piece { IsSendable piece }

@@ -12,7 +12,6 @@ use std::fmt::Display;
 use std::sync::Wait;
 use std::test::*;
 
-/// A piece of these bytes.
 fn piece(alloc: Global, bytes: &[u8]) -> Result<Item, AllocError>
     requires { (1 ≤ length bytes.now) × (length bytes.now ≤ 64) }
     ensures { IfOk result IsSendable }
@@ -288,7 +287,6 @@ fn numbers() -> (u8, u8) {
     (full.number(), closed.number())
 }
 
-/// Whether a refusal reads so.
 fn reads<T: Display>(alloc: Global, refusal: &T, text: &str) -> Result<bool, AllocError> {
     let shown = format!(in alloc; "{refusal}")?;
     Ok(shown.as_str() == text)

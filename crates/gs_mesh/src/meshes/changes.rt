@@ -30,7 +30,6 @@ pub(crate) fn keep(
     Ok(())
 }
 
-/// The peer subscribes to a topic.
 pub(crate) fn join(topics: &mut IndexMap<Topic, TopicMesh>, topic: &Topic)
     requires kept { is_kept topics.old.entries topic.now ≡ true }
     ensures { Puts topics.old.entries topics.new.entries topic.now
@@ -41,7 +40,7 @@ pub(crate) fn join(topics: &mut IndexMap<Topic, TopicMesh>, topic: &Topic)
     }
 }
 
-/// The peer leaves a topic. The answer is who was in its mesh.
+/// The peer leaves a topic. The answer is who was in its mesh, since each of them is told.
 pub(crate) fn leave(
     alloc: Global,
     topics: &mut IndexMap<Topic, TopicMesh>,
@@ -158,7 +157,6 @@ pub(crate) fn unfan(topics: &mut IndexMap<Topic, TopicMesh>, peer: PeerNo, topic
     }
 }
 
-/// The peer published on a topic without being subscribed.
 pub(crate) fn publish_at(topics: &mut IndexMap<Topic, TopicMesh>, topic: &Topic, now: Millis)
     requires kept { is_kept topics.old.entries topic.now ≡ true }
     ensures { Puts topics.old.entries topics.new.entries topic.now
@@ -169,7 +167,6 @@ pub(crate) fn publish_at(topics: &mut IndexMap<Topic, TopicMesh>, topic: &Topic,
     }
 }
 
-/// The fanout of a topic ends, with the moment that kept it.
 pub(crate) fn drop_fanout(topics: &mut IndexMap<Topic, TopicMesh>, topic: &Topic)
     ensures { Puts topics.old.entries topics.new.entries topic.now
         (record (kept topics.old.entries topic.now) { fanout = []; last_published = None }) }

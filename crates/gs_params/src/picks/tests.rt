@@ -4,7 +4,6 @@ ghost use Rattle.gs_params.specs.Picks.{IsAscending, picked, picked_one, picked_
 use super::*;
 use crate::SeededWords;
 
-/// Five candidates.
 const FIVE: [PeerNo; 5] = [PeerNo(1), PeerNo(2), PeerNo(3), PeerNo(4), PeerNo(5)];
 
 /// Their places once the words 7 and 9 shuffled two of them: by 7 the first is exchanged with the
@@ -55,7 +54,6 @@ fn seven_and_nine() -> InTurn {
     }
 }
 
-/// Peers 1 to n.
 fn numbered(alloc: Global, n: u16) -> Result<Vec<PeerNo>, AllocError>
     ensures { IfOk result (λ v. IsAscending v.items) }
 {

@@ -176,7 +176,7 @@ pub fn task_in<G: Gate, S: Ends>(
     }
 }
 
-/// The same with a gate that does nothing and a flag that nobody sets.
+/// `task_in` with a gate that does nothing and a flag that nobody sets.
 pub fn task<S: Ends>(
     alloc: Global,
     pair: Pair,

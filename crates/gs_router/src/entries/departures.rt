@@ -49,7 +49,6 @@ fn leaving(known: &Known, from: PeerNo, sub: SubOpt, now: Millis) -> Result<Entr
     })
 }
 
-/// A neighbour, if it is in the fanout of a topic.
 fn fanned_of(known: &Known, topic: &Topic, peer: PeerNo) -> Result<Vec<PeerNo>, AllocError>
     ensures { IfOk result (λ found. (L : Entries)
         → Agrees known.now.tables L

@@ -39,7 +39,7 @@ pub enum GraftAnswer {
     PassedOver,
     /// It comes too soon: it counts against its sender, and is refused.
     TooSoon,
-    /// It is refused.
+    /// It is refused: its sender scores below 0, or there is no room for it.
     Refused,
     /// Its sender comes into the mesh.
     Accepted,
@@ -137,7 +137,7 @@ fn answered(
     }
 }
 
-/// The entry of a GRAFT.
+/// The entry of a GRAFT: it may come too soon, be refused, be passed over, or bring its sender into the mesh.
 pub fn graft(known: &Known, from: PeerNo, graft: Graft, now: Millis) -> Result<Entry, AllocError>
     ensures { IfOk result (λ entry. (L : Entries)
         → Knows known.now now.0 L
@@ -151,7 +151,8 @@ pub fn graft(known: &Known, from: PeerNo, graft: Graft, now: Millis) -> Result<E
 
 // ---- a PRUNE
 
-/// For how many seconds a neighbour is not to be grafted that says so, or says nothing or 0.
+/// For how many seconds the sender of a PRUNE is not to be grafted: those that it names, up to a day, and
+/// `otherwise` where it names none or 0.
 fn asked_backoff(otherwise: u64, asked: Option<u64>) -> u64
     ensures { result ≡ asked_backoff otherwise asked }
 {
@@ -162,7 +163,8 @@ fn asked_backoff(otherwise: u64, asked: Option<u64>) -> u64
     }
 }
 
-/// The entry of a PRUNE.
+/// The entry of a PRUNE: where the router is subscribed, its sender leaves the mesh, and is not to be grafted for a
+/// while.
 pub fn prune(known: &Known, from: PeerNo, prune: Prune, now: Millis) -> Result<Entry, AllocError>
     ensures { IfOk result (λ entry. (L : Entries)
         → Knows known.now now.0 L

@@ -140,7 +140,6 @@ fn outside_mesh_and_fanout(
     Ok(found)
 }
 
-/// Whether a neighbour is in the mesh of a topic, or in its fanout.
 fn is_inside(known: &Known, topic: &Topic, peer: PeerNo) -> bool
     ensures { (L : Entries)
         → Agrees known.now.tables L

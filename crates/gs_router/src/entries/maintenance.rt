@@ -34,7 +34,6 @@ fn member_of(known: &Known, peer: PeerNo, now: Millis) -> Member
     }
 }
 
-/// The same of each of these.
 fn members_of(known: &Known, peers: &[PeerNo], now: Millis) -> Result<Vec<Member>, AllocError>
     ensures { IfOk result (λ members. (L : Entries)
         → Knows known.now now.0 L

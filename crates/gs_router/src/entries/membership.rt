@@ -73,7 +73,6 @@ pub fn leave(
     Ok(())
 }
 
-/// These leave these meshes.
 fn prune(marks: &mut Seq<Mark>, pairs: &[(PeerNo, Topic)]) -> Result<(), AllocError>
     ensures { OnOk result (marks.new
         ≡ marks.old ++ map (λ (x : PeerNoValue × TopicValue). Pruned x.0 x.1) pairs.now) }

@@ -53,7 +53,6 @@ fn outcome_of(
     }
 }
 
-/// The identifier of a message.
 fn identifier_of(payloads: &mut Payloads, message: &Message) -> MsgId
     ensures { result ≡ message_id (payload_of message.now) }
 {
@@ -90,7 +89,7 @@ fn is_near(known: &Known, from: PeerNo, topic: &Option<Topic>, id: &MsgId, now: 
     }
 }
 
-/// The same of a topic.
+/// `is_near` on a topic that is there.
 fn is_near_on(known: &Known, from: PeerNo, topic: &Topic, id: &MsgId, now: Millis) -> bool
     ensures { (L : Entries)
         → Knows known.now now.0 L
@@ -111,7 +110,8 @@ fn near_window(known: &Known, topic: &Topic) -> Millis
     Millis(window_in(known.setup.params.topics.as_slice(), topic))
 }
 
-/// The same by the parameters of topics: the first ones of the topic count, and a topic without any has the default.
+/// `near_window` by the parameters of topics: the first ones of the topic count, and a topic without any has the
+/// default.
 fn window_in(topics: &[(Topic, TopicParams)], topic: &Topic) -> u64
     ensures { result ≡ (params_in topics.now topic.now).windows.p3_window_ms }
 {
@@ -156,7 +156,7 @@ fn verdict_by(topics: &[(Topic, TopicParams)], topic: &Topic, payload: &[u8]) ->
     Verdict::Accept
 }
 
-/// What a payload is found to be by these parameters.
+/// What a payload is found to be by these parameters: to reject goes before to ignore.
 fn verdict_with(params: &TopicParams, payload: &[u8]) -> Verdict
     ensures { result ≡ verdict_by (Some params.now) payload.now }
 {
@@ -169,7 +169,6 @@ fn verdict_with(params: &TopicParams, payload: &[u8]) -> Verdict
     Verdict::Accept
 }
 
-/// Whether a payload begins with one of these.
 fn begins_with_one(prefixes: &[Bytes], payload: &[u8]) -> bool
     ensures { result ≡ begins_with_one prefixes.now payload.now }
 {
@@ -202,7 +201,6 @@ fn accepted(
     Ok(marks)
 }
 
-/// What is remembered of a message that is rejected.
 fn rejected(
     alloc: Global,
     from: PeerNo,

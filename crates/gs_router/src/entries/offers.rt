@@ -19,7 +19,7 @@ use gs_rules::{Entry, Event, Promise};
 use indexmap::IndexSet;
 use std::alloc::{AllocError, Global};
 
-/// The entry of an offer.
+/// The entry of an offer (IHAVE): its sender is asked for what is wanted of it, within its budget.
 pub fn entry_of<W: Words>(
     known: &Known,
     from: PeerNo,

@@ -21,7 +21,7 @@ use gs_rules::{Entry, Event};
 use indexmap::IndexMap;
 use std::alloc::{AllocError, Global};
 
-/// The entry of a request.
+/// The entry of a request (IWANT): its sender gets what is kept of it, as often as it may.
 pub fn entry_of(
     known: &Known,
     from: PeerNo,
@@ -60,7 +60,7 @@ fn answering(
     Ok(entry)
 }
 
-/// The identifiers among these bytes.
+/// The identifiers among these bytes: those of another length are passed over.
 fn ids_in(alloc: Global, all: &[Bytes]) -> Result<Vec<MsgId>, AllocError>
     ensures { IfOk result (λ ids. ids.items ≡ ids_in all.now) }
 {
@@ -76,11 +76,9 @@ fn ids_in(alloc: Global, all: &[Bytes]) -> Result<Vec<MsgId>, AllocError>
 /// What a neighbour gets for its request, so far.
 #[derive(Drop)]
 struct Reply {
-    /// The messages.
     sends: Seq<(PeerNo, Shared<Rpc>)>,
-    /// A mark for each.
     marks: Seq<Mark>,
-    /// How many answers are left for those that were sent.
+    /// How many answers are left for those that were sent: the tables count them once the entry is made.
     left: IndexMap<MsgId, u64>,
 }
 

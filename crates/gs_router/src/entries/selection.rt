@@ -17,7 +17,7 @@ use std::alloc::AllocError;
 
 // ---- whom to send to
 
-/// The neighbours that are up.
+/// The neighbours that are up, ascending by number.
 pub fn up_neighbours(known: &Known) -> Result<Vec<PeerNo>, AllocError>
     ensures { IfOk result (λ receivers. (L : Entries)
         → Agrees known.now.tables L
@@ -47,7 +47,6 @@ pub fn listeners(known: &Known, topic: &Topic) -> Result<Vec<PeerNo>, AllocError
     }
 }
 
-/// The neighbours that are up and in a set.
 fn up_among(known: &Known, set: &PeerSet) -> Result<Vec<PeerNo>, AllocError>
     ensures { IfOk result (λ receivers. (L : Entries)
         → Agrees known.now.tables L
@@ -92,7 +91,7 @@ pub fn worthy(known: &Known, peers: &[PeerNo], now: Millis) -> Result<Vec<PeerNo
 
 // ---- whom to graft
 
-/// Whether this side dialled a neighbour.
+/// Whether this side dialled a neighbour (gossipsub v1.1, "Outbound Mesh Quotas").
 pub fn is_outbound(known: &Known, peer: PeerNo) -> bool
     ensures { result ≡ is_outbound (peer_with known.now.setup) peer }
 {

@@ -20,7 +20,7 @@ pub fn bare(alloc: Global, at: Millis, event: Event) -> Entry
     }
 }
 
-/// The same RPC to each of these.
+/// One RPC to each of these, which share it.
 pub fn to_each(
     alloc: Global,
     rpc: Rpc,
@@ -33,7 +33,7 @@ pub fn to_each(
     Ok(sends)
 }
 
-/// The same RPC to each of these, behind what is sent already.
+/// `to_each` behind what is sent already.
 pub fn send_to_each(
     alloc: Global,
     sends: &mut Seq<(PeerNo, Shared<Rpc>)>,

@@ -20,7 +20,8 @@ pub fn is_below(known: &Known, threshold: i64, peer: PeerNo, now: Millis) -> boo
     known.tables.standings.score(peer, now) < i128::from(threshold)
 }
 
-/// Whether a neighbour scores below 0.
+/// Whether a neighbour scores below 0, and so may neither stay in a mesh nor come into one (gossipsub v1.1,
+/// "Heartbeat Maintenance").
 pub fn is_negative(known: &Known, peer: PeerNo, now: Millis) -> bool
     ensures { (L : Entries)
         → Knows known.now now.0 L

@@ -12,14 +12,14 @@ use gs_rules::Trace;
 use std::alloc::AllocError;
 
 impl Router {
-    /// What the router did.
+    /// All that the router did, entry by entry.
     pub fn trace(&self) -> &Trace
         ensures { result.now ≡ self.now.trace }
     {
         &self.state.trace
     }
 
-    /// What the router did.
+    /// All that the router did, without the router.
     pub fn into_trace(self) -> Trace
         ensures { result ≡ self.trace }
     {

@@ -22,9 +22,8 @@ use std::alloc::AllocError;
 /// A fanout whose turn comes in a heartbeat.
 #[derive(Debug, Drop)]
 pub struct DueFanout {
-    /// Its topic.
     topic: Topic,
-    /// The router has not published on it for its time.
+    /// The router had not published on it for its time when the heartbeat began: a heartbeat takes no simulated time.
     is_stale: bool,
 }
 
@@ -130,7 +129,6 @@ impl State {
         Ok(topics)
     }
 
-    /// Whether a topic has a fanout.
     fn has_fanout(&self, topic: &Topic) -> bool
         ensures { (L : Entries) → Agrees self.now.known.tables L → result ≡ has_fanout L topic.now }
     {
@@ -190,7 +188,8 @@ impl State {
         Ok(topics)
     }
 
-    /// Whether there is something to gossip on a topic.
+    /// Whether there is something to gossip on a topic. It is listed again when its turn comes, so that no list of
+    /// identifiers waits meanwhile.
     fn has_gossip(&self, topic: &Topic) -> Result<bool, AllocError>
         requires { IsCurrent self.now }
         ensures { IfOk result (λ some. some

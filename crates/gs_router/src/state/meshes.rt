@@ -1,4 +1,3 @@
-//! Who is in a router's meshes.
 ghost use Rattle.std.specs.Prelude.{◌≡◌, ◌++◌, IfOk, OnOk, map};
 ghost use Rattle.gs_base.specs.declared.names.PeerNo.{PeerNo as PeerNoValue};
 ghost use Rattle.gs_rules.specs.Tables.{Entries};
@@ -23,7 +22,6 @@ impl State {
         Ok(meshes)
     }
 
-    /// Adds the members of the mesh of a topic.
     fn list_members(
         &self,
         meshes: &mut Seq<(Topic, PeerNo)>,

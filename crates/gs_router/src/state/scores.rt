@@ -1,4 +1,3 @@
-//! What a router's neighbours score.
 ghost use Rattle.std.specs.Prelude.{◌≡◌, IfOk};
 ghost use Rattle.gs_rules.specs.Tables.{Entries};
 ghost use Rattle.gs_router.specs.Tables.{AgreesOnScores};

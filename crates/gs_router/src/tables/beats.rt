@@ -1,11 +1,10 @@
-//! How many heartbeats a router had.
 ghost use Rattle.std.specs.Prelude.{◌≡◌, ◌<◌, ◌^◌, [], ◌∷◌};
 ghost use Rattle.gs_rules.specs.Tables.{Entries, heartbeats};
 ghost use Rattle.gs_router.specs.Tables.{AgreesOnBeats};
 
 use gs_rules::{Entry, Event};
 
-/// How many heartbeats began.
+/// How many heartbeats began, by which every so many of them look for better members (`opportunistic_ticks`).
 #[derive(Drop)]
 pub struct Beats {
     count: u64,
@@ -19,14 +18,14 @@ impl Beats {
         Beats { count: 0 }
     }
 
-    /// How many began.
+    /// How many heartbeats began, with the one that is on its way.
     pub fn count(&self) -> u64
         ensures { (L : Entries) → AgreesOnBeats self.now L → result ≡ heartbeats L }
     {
         self.count
     }
 
-    /// Notes an entry.
+    /// Counts the heartbeat that an entry begins (`Promises`).
     pub fn note(&mut self, entry: &Entry)
         requires few { self.old.count < 2 ^ 63 }
         ensures { (L : Entries) → AgreesOnBeats self.old L → AgreesOnBeats self.new (entry.now ∷ L) }

@@ -50,7 +50,6 @@ impl Budgets {
         }
     }
 
-    /// Notes a mark.
     fn note_mark(&mut self, mark: &Mark) -> Result<(), AllocError>
         ensures leaves { OnOk result ((q : PeerNoValue)
             → budget_in self.new q ≡ budget_after q mark.now (budget_in self.old q)) }
@@ -79,7 +78,11 @@ impl Budgets {
         }
     }
 
-    /// Notes an entry.
+    /// Notes what an entry counts against budgets (offers that count, and identifiers that were asked for), and makes
+    /// them whole where it ends a heartbeat.
+    ///
+    /// # Errors
+    /// `AllocError` where there was no memory; some of its marks may then have been noted.
     pub fn note(&mut self, entry: &Entry) -> Result<(), AllocError>
         ensures agrees { OnOk result ((L : Entries)
             → AgreesOnBudgets self.old L
@@ -106,7 +109,6 @@ impl Budgets {
         }
     }
 
-    /// Notes the marks of an entry whose event was noted.
     fn note_marks(&mut self, entry: &Entry) -> Result<(), AllocError>
         ensures agrees { OnOk result ((L : Entries)
             → AgreesOnBudgets self.old (unmarked entry.now ∷ L)

@@ -1,4 +1,3 @@
-//! What neighbours said of topics.
 ghost use Rattle.std.specs.Prelude.{◌≡◌, [], ◌∷◌, IfSome, IfNone, OnOk, false, if◌then◌else◌, ◌&&◌};
 ghost use Rattle.gs_base.specs.Names.{same_peer, same_topic};
 ghost use Rattle.gs_base.specs.declared.names.PeerNo.{PeerNo as PeerNoValue};
@@ -55,7 +54,10 @@ impl Listeners {
         }
     }
 
-    /// Notes an entry.
+    /// Notes what a neighbour says of a topic (`Sub`): to say neither is to leave it.
+    ///
+    /// # Errors
+    /// `AllocError` where there was no memory.
     pub fn note(&mut self, entry: &Entry) -> Result<(), AllocError>
         ensures { OnOk result ((L : Entries)
             → AgreesOnListeners self.old L
@@ -71,7 +73,6 @@ impl Listeners {
         }
     }
 
-    /// Notes whether a neighbour is on a topic.
     fn put(&mut self, topic: Topic, peer: PeerNo, is_on: bool) -> Result<(), AllocError>
         ensures { OnOk result ((q : PeerNoValue) (t : TopicValue)
             → listens self.new q t ≡ (if same_peer peer q && same_topic topic t then is_on else listens self.old q t)) }

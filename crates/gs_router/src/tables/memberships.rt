@@ -1,4 +1,3 @@
-//! Who is in which mesh and fanout, and who is not to be grafted yet.
 ghost use Rattle.std.specs.Prelude.{◌≡◌, ℕ, List, [], ◌∷◌, None, OnOk, Option, option_map};
 ghost use Rattle.gs_base.specs.declared.names.Millis.{Millis as MillisValue};
 ghost use Rattle.gs_base.specs.declared.names.PeerNo.{PeerNo as PeerNoValue};
@@ -76,7 +75,7 @@ impl Memberships {
         self.meshes.backoff_until(peer, topic)
     }
 
-    /// Notes an entry.
+    /// Notes who comes into a mesh or a fanout or leaves one, who is not to be grafted, and which fanout ends.
     ///
     /// # Errors
     /// `AllocError` where there was no memory; some of its marks may then have been noted.
@@ -106,7 +105,6 @@ impl Memberships {
         }
     }
 
-    /// Notes marks that were made at a moment, one after the other.
     fn note_marks(&mut self, marks: &[Mark], at: Millis) -> Result<(), AllocError>
         ensures { OnOk result ((members fans : TopicValue → List PeerNoValue)
             (publishes : TopicValue → Option ℕ)
@@ -124,7 +122,6 @@ impl Memberships {
         Ok(())
     }
 
-    /// Notes a mark that was made at a moment.
     fn note_mark(&mut self, mark: &Mark, at: Millis) -> Result<(), AllocError>
         ensures { OnOk result ((members fans : TopicValue → List PeerNoValue)
             (publishes : TopicValue → Option ℕ)

@@ -1,4 +1,3 @@
-//! The topics that have a mesh or a fanout.
 ghost use Rattle.std.specs.Prelude.{◌≡◌, Bool, [], ◌∷◌, IfOk, OnOk, if◌then◌else◌};
 ghost use Rattle.gs_base.specs.Names.{same_topic};
 ghost use Rattle.gs_base.specs.declared.names.Topic.{Topic as TopicValue};
@@ -27,7 +26,7 @@ pub struct MeshTopics {
 }
 
 impl MeshTopics {
-    /// No topics.
+    /// No topic has a mesh or a fanout.
     pub fn new(alloc: Global) -> MeshTopics
         ensures { AgreesOnMeshTopics result [] }
     {
@@ -52,7 +51,7 @@ impl MeshTopics {
         Ok(list)
     }
 
-    /// Notes an entry.
+    /// Notes which topic has a mesh or a fanout by an entry, or has one no more.
     ///
     /// # Errors
     /// `AllocError` where there was no memory; some of it may then have been noted.
@@ -66,7 +65,6 @@ impl MeshTopics {
         Ok(())
     }
 
-    /// Notes that an event came.
     fn note_event(&mut self, event: &Event) -> Result<(), AllocError>
         ensures { OnOk result ((meshes fanouts : TopicValue → Bool)
             → HasTopics self.old meshes fanouts
@@ -109,7 +107,6 @@ impl MeshTopics {
         }
     }
 
-    /// Notes marks, one after the other.
     fn note_marks(&mut self, marks: &[Mark]) -> Result<(), AllocError>
         ensures { OnOk result ((meshes fanouts : TopicValue → Bool)
             → HasTopics self.old meshes fanouts
@@ -121,7 +118,6 @@ impl MeshTopics {
         Ok(())
     }
 
-    /// Notes a mark.
     fn note_mark(&mut self, mark: &Mark) -> Result<(), AllocError>
         ensures { OnOk result ((meshes fanouts : TopicValue → Bool)
             → HasTopics self.old meshes fanouts
@@ -143,7 +139,6 @@ impl MeshTopics {
         }
     }
 
-    /// What a topic has.
     fn uses(&self, topic: &Topic) -> Uses
         ensures { result ≡ uses_in self.now topic.now }
     {
@@ -156,7 +151,6 @@ impl MeshTopics {
         }
     }
 
-    /// Puts what a topic has.
     fn put(&mut self, topic: &Topic, uses: Uses) -> Result<(), AllocError>
         ensures { OnOk result ((t : TopicValue)
             → uses_in self.new t ≡ (if same_topic topic.now t then uses else uses_in self.old t)) }

@@ -1,4 +1,3 @@
-//! Which messages are kept for who asks for them.
 ghost use Rattle.std.specs.Prelude.{◌≡◌, ℕ, max, List, [], ◌∷◌, OnOk, IfOk, IfSome, IfNone, Option, Some, option_map};
 ghost use Rattle.gs_base.specs.declared.names.MsgId.{MsgId as MsgIdValue};
 ghost use Rattle.gs_base.specs.declared.names.PeerNo.{PeerNo as PeerNoValue};
@@ -96,7 +95,6 @@ impl Messages {
         }
     }
 
-    /// Notes a mark that came with an event.
     fn note_mark(&mut self, mark: &Mark, event: &Event) -> Result<(), AllocError>
         ensures has { OnOk result ((last : MsgIdValue → Option Keeping)
             (given : PeerNoValue → MsgIdValue → ℕ)
@@ -122,7 +120,11 @@ impl Messages {
         }
     }
 
-    /// Notes an entry.
+    /// Notes an entry: the message that its event brings is kept (`Cached`), answers are counted (`Answered`), and the
+    /// end of a heartbeat makes all that is kept older.
+    ///
+    /// # Errors
+    /// `AllocError` where there was no memory; some of its marks may then have been noted.
     pub fn note(&mut self, entry: &Entry) -> Result<(), AllocError>
         ensures agrees { OnOk result ((L : Entries)
             → AgreesOnMessages self.old L
@@ -134,7 +136,6 @@ impl Messages {
         Ok(())
     }
 
-    /// Notes the marks of an entry whose event was noted.
     fn note_marks(&mut self, entry: &Entry) -> Result<(), AllocError>
         ensures agrees { OnOk result ((L : Entries)
             → AgreesOnMessages self.old (unmarked entry.now ∷ L)

@@ -1,4 +1,3 @@
-//! Which neighbours are heard and sent to.
 ghost use Rattle.std.specs.Prelude.{◌≡◌, [], ◌∷◌, OnOk};
 ghost use Rattle.gs_rules.specs.Tables.{Entries, is_shut, up};
 ghost use Rattle.gs_router.specs.Tables.{AgreesOnNeighbours};
@@ -17,7 +16,7 @@ pub struct Neighbours {
 }
 
 impl Neighbours {
-    /// All are.
+    /// Each neighbour is heard and sent to.
     pub fn new(alloc: Global) -> Neighbours
         ensures { AgreesOnNeighbours result [] }
     {
@@ -41,7 +40,10 @@ impl Neighbours {
         !(self.is_shut || self.lost.contains(peer))
     }
 
-    /// Notes an entry.
+    /// Notes who is lost (`Gone`, `Fault`), and that the router shuts down (`Shut`).
+    ///
+    /// # Errors
+    /// `AllocError` where there was no memory.
     pub fn note(&mut self, entry: &Entry) -> Result<(), AllocError>
         ensures { OnOk result ((L : Entries)
             → AgreesOnNeighbours self.old L

@@ -1,4 +1,3 @@
-//! The topics that a router is or was subscribed to.
 ghost use Rattle.std.specs.Prelude.{◌≡◌, [], ◌∷◌, OnOk, IfOk};
 ghost use Rattle.gs_base.specs.Names.{topic_or_empty};
 ghost use Rattle.gs_rules.specs.Tables.{Entries, joined, own_topics};
@@ -19,7 +18,7 @@ pub struct OwnTopics {
 }
 
 impl OwnTopics {
-    /// No topics.
+    /// The router was subscribed to no topic.
     pub fn new(alloc: Global) -> OwnTopics
         ensures { AgreesOnTopics result [] }
     {
@@ -71,7 +70,10 @@ impl OwnTopics {
         Ok(list)
     }
 
-    /// Notes an entry.
+    /// Notes that the router subscribes to a topic or leaves it.
+    ///
+    /// # Errors
+    /// `AllocError` where there was no memory.
     pub fn note(&mut self, entry: &Entry) -> Result<(), AllocError>
         ensures { OnOk result ((L : Entries) → AgreesOnTopics self.old L → AgreesOnTopics self.new (entry.now ∷ L)) }
     {

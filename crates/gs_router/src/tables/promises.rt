@@ -32,7 +32,11 @@ impl Promises {
         self.waiting.as_slice()
     }
 
-    /// Notes an entry.
+    /// Notes an entry: a heartbeat ends promises, then a message that is seen keeps those of it, and then one may be
+    /// made.
+    ///
+    /// # Errors
+    /// `AllocError` where there was no memory; what the entry ended or kept is then noted.
     pub fn note(&mut self, entry: &Entry) -> Result<(), AllocError>
         ensures { OnOk result ((L : Entries)
             → AgreesOnPromises self.old L
@@ -46,7 +50,7 @@ impl Promises {
         Ok(())
     }
 
-    /// Ends what an event ends at this moment.
+    /// Ends the promises whose time has come, where a heartbeat begins.
     fn end(&mut self, event: &Event, at: Millis)
         ensures { self.new.waiting.items ≡ ended_after event.now at.0 self.old.waiting.items }
     {
@@ -56,7 +60,6 @@ impl Promises {
         }
     }
 
-    /// Notes that a mark keeps promises.
     fn fulfil(&mut self, mark: &Mark)
         ensures { self.new.waiting.items ≡ fulfilled_after mark.now self.old.waiting.items }
     {
@@ -81,7 +84,6 @@ impl Promises {
         self.waiting.retain(|promise| *id != promise.id);
     }
 
-    /// Notes the promise that was made, if one was.
     fn make(&mut self, promise: &Option<Shared<Promise>>) -> Result<(), AllocError>
         ensures { OnOk result (self.new.waiting.items ≡ self.old.waiting.items ++ made promise.now) }
     {

@@ -1,4 +1,3 @@
-//! How neighbours stand.
 ghost use Rattle.std.specs.Prelude.{◌≡◌, ◌≤◌, ◌<◌, ◌+◌, ◌^◌, [], ◌∷◌, unsigned_abs, All, IfOk, OnOk, if◌then◌else◌};
 ghost use Rattle.gs_base.specs.Names.{peers_of};
 ghost use Rattle.gs_base.specs.declared.neighbour.Neighbour.{Neighbour as NeighbourValue};
@@ -62,7 +61,7 @@ impl Standings {
         self.scores.missing(peer, topic, now)
     }
 
-    /// Notes an entry.
+    /// Notes what an entry says of neighbours: its marks raise counters, and its event lowers them or shuts one out.
     ///
     /// # Errors
     /// `AllocError` where there was no memory; some of its marks may then have been noted.
@@ -77,7 +76,6 @@ impl Standings {
         Ok(())
     }
 
-    /// Notes that an event came. It takes no memory.
     fn note_event(&mut self, event: &Event)
         requires few { self.old.scores.tick < 2 ^ 63 }
         ensures { (p : Peer) (H : History)
@@ -92,7 +90,6 @@ impl Standings {
         }
     }
 
-    /// Notes marks that were made at a moment, one after the other.
     fn note_marks(&mut self, marks: &[Mark], at: Millis) -> Result<(), AllocError>
         ensures { OnOk result ((p : Peer) (H : History)
             → Agrees (setting_of p) self.old.scores H

@@ -105,7 +105,6 @@ fn is_repeated(earlier: &[App], app: &App) -> bool
     earlier.iter().any(|other| are_of_the_same(app, other))
 }
 
-/// Whether two scores are of the same neighbour of the same peer.
 fn are_of_the_same(one: &App, other: &App) -> bool
     ensures { result ≡ are_of_the_same one.now other.now }
 {

@@ -115,7 +115,7 @@ impl<'a> Field<'a> {
         }
     }
 
-    /// A table.
+    /// A table, whose keys are looked at later.
     pub fn table(&self) -> Result<&'a Table, ScenarioFault>
         ensures { Gives (λ table. table_view table.now) result
             (read_as kinds.any_table self.now) }
@@ -141,7 +141,7 @@ impl<'a> Field<'a> {
         Err(self.out_of_range(Wanted::Elements(low, high))?)
     }
 
-    /// A list.
+    /// A list of any length, whose elements are looked at later.
     pub fn any_list(&self) -> Result<&'a [Value], ScenarioFault>
         ensures { Gives (λ list. items_view list.now) result (read_as kinds.any_list self.now) }
     {
@@ -151,7 +151,7 @@ impl<'a> Field<'a> {
         }
     }
 
-    /// Any text.
+    /// Any text, the empty one too.
     pub fn text(&self) -> Result<&'a str, ScenarioFault>
         ensures { Gives (λ text. text.now) result (read_as kinds.any_text self.now) }
     {
@@ -237,7 +237,6 @@ pub fn table_of<'a>(
     Ok(Section { alloc, path, table })
 }
 
-/// Whether a text is a name.
 fn is_name(text: &str) -> bool
     ensures { result ≡ kinds.is_name text.now }
 {

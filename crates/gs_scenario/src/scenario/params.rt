@@ -1,4 +1,3 @@
-//! The parameters of a scenario that all topics share.
 ghost use Rattle.std.specs.Prelude.{◌≡◌, ◌≤◌, map, option_map, unwrap_or};
 ghost use Rattle.toml.specs.Data.{no_members};
 ghost use Rattle.toml.specs.View.{table_view};
@@ -92,7 +91,6 @@ pub fn keys() -> &'static [&'static str]
     ]
 }
 
-/// The parameters of a table.
 #[tactic(auto, unfolding(crate::specs::ParamsOf::shared_in))]
 fn shared_in(section: &Section<'_>, round_ms: u64) -> Result<Shared, ScenarioFault>
     requires { 1 ≤ round_ms }

@@ -82,7 +82,6 @@ pub fn peer_of(peers: &[PlannedPeer], field: &Field<'_>) -> Result<PeerNo, Scena
     }
 }
 
-/// The number of the peer that has a name.
 fn peer_named(peers: &[PlannedPeer], name: &str) -> Option<PeerNo>
     requires { length peers.now ≤ MOST_PEERS }
     ensures { result ≡ peer_named peers.now name.now }

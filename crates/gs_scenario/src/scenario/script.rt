@@ -50,7 +50,6 @@ pub enum Verb {
 }
 
 impl Verb {
-    /// The table of a line that says this.
     fn line_kind(self) -> TableKind
         ensures { result ≡ line_kind self }
     {
@@ -135,7 +134,6 @@ fn verb_in(section: &Section<'_>) -> Result<Verb, ScenarioFault>
     Ok(verb)
 }
 
-/// The word that a value is.
 fn verb_at(field: &Field<'_>) -> Result<Verb, ScenarioFault>
     ensures { GivesSame result (read_as (word verb_of) field.now) }
 {
@@ -147,7 +145,6 @@ fn verb_at(field: &Field<'_>) -> Result<Verb, ScenarioFault>
     Err(field.out_of_range(Wanted::Verb)?)
 }
 
-/// What a word says.
 fn verb_of(word: &str) -> Option<Verb>
     ensures { result ≡ verb_of word.now }
 {

@@ -23,7 +23,7 @@ use toml::{Table, Value};
 /// The highest number that a parameter may be given. The lowest is as far below 0.
 const HIGHEST_NUMBER: u64 = 1_000_000_000_000;
 
-/// The same, of a number of either sign.
+/// The highest number where either sign is allowed.
 const HIGHEST_SCORE: i64 = HIGHEST_NUMBER as i64;
 
 /// A table of a scenario, and where it stands.
@@ -217,7 +217,6 @@ impl<'a> Section<'a> {
     }
 }
 
-/// Whether a name is one of these.
 fn is_one_of(names: &[&str], name: &str) -> bool
     ensures { result ≡ is_one_of (map (λ known. known.now) names.now) name.now }
 {

@@ -1,4 +1,3 @@
-//! The kinds of tables of a scenario.
 ghost use Rattle.std.specs.Prelude.{◌≡◌, map};
 ghost use Rattle.gs_scenario.specs.PlanOf.{known_keys};
 

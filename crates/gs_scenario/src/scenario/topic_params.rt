@@ -1,4 +1,3 @@
-//! The parameters of a topic of a scenario.
 ghost use Rattle.std.specs.Prelude.{◌≡◌};
 ghost use Rattle.gs_scenario.specs.Refusal.{GivesSame};
 ghost use Rattle.gs_scenario.specs.TopicParamsOf.{topic_params_in, topic_factors_in, topic_weights_in, topic_counters_in, topic_windows_in, factors_of};

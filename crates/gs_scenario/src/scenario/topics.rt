@@ -22,7 +22,7 @@ use gs_params::TopicParams;
 use std::alloc::Global;
 use toml::Value;
 
-/// A topic, with its parameters.
+/// A topic, which lines and look-ups name, with its parameters.
 pub type TopicEntry = (Topic, TopicParams);
 
 /// The keys of a topic's table.
@@ -101,7 +101,6 @@ pub fn topic_of(topics: &[TopicEntry], field: &Field<'_>) -> Result<Topic, Scena
     }
 }
 
-/// The topic that has a name.
 fn topic_named<'a>(topics: &'a [TopicEntry], name: &str) -> Option<&'a Topic>
     ensures { option_map (λ topic. topic.now) result ≡ topic_named topics.now name.now }
 {

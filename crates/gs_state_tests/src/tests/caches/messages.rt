@@ -88,7 +88,7 @@ enum Step {
     Count(u64, u16),
     /// The neighbour gets the message.
     Given(u64, u16),
-    /// It has had its answers.
+    /// The neighbour has had its answers.
     Spent(u64, u16),
     /// The message is not held.
     Absent(u64),
@@ -122,7 +122,6 @@ fn right(alloc: Global, cache: &mut MessageCache, steps: &[Step]) -> Result<usiz
     Ok(right)
 }
 
-/// The same of a new cache.
 fn right_from_new(alloc: Global, steps: &[Step]) -> Result<usize, AllocError> {
     let mut cache = cache(alloc)?;
     let right = right(alloc, &mut cache, steps)?;

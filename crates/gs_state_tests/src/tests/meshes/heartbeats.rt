@@ -297,7 +297,6 @@ fn in_order(alloc: Global, peers: &[PeerNo]) -> Result<PeerList, AllocError> {
     Ok(list)
 }
 
-/// Who they are.
 fn numbers_of(alloc: Global, members: &[Member]) -> Result<Vec<PeerNo>, AllocError>
     ensures { IfOk result (λ peers. peers.items ≡ peers_of members.now) }
 {
@@ -329,7 +328,6 @@ fn is_wanted(choice: &Choice, case: &Case) -> bool {
     choice.pruned.as_slice() == case.pruned && choice.grafted.as_slice() == case.grafted
 }
 
-/// Whether this is chosen.
 fn is_chosen(alloc: Global, case: &Case, params: &Params) -> Result<bool, AllocError>
     requires { AreInRange params.now }
 {

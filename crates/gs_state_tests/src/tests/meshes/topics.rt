@@ -174,7 +174,6 @@ fn does(meshes: &mut Meshes, topic: &Topic, act: &Act) -> Result<bool, AllocErro
     Ok(true)
 }
 
-/// Whether this is kept of a topic.
 fn is_kept(meshes: &Meshes, topic: &Topic, row: &Row) -> bool {
     let [first, second] = row.backoffs;
     meshes.is_joined(topic) == row.is_joined
