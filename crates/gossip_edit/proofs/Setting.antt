@@ -15,7 +15,7 @@ use Rattle.toml.specs.declared.value.Value.{Value}
 use Rattle.toml.proofs.Views.{Entry, at_text, get_item_past, view-lookup}
 use Rattle.gossip_edit.specs.Keys.{number_of, onto_first, path_of}
 use Rattle.gossip_edit.specs.Documents.{Change, changed_inside, changed_item, changed_member, insert_member, replace_item, replace_member, with_item, with_key, with_path}
-use Rattle.gossip_edit.specs.Places.{Sets}
+use Rattle.gossip_edit.specs.Sets.{Sets}
 use Rattle.gossip_edit.specs.Rest.{text_left}
 use Rattle.gossip_edit.specs.declared.places.PlaceFault.{PlaceFault}
 use Rattle.gossip_edit.specs.declared.places.PlaceFault.TheVariants.{NoMemory}

@@ -1,7 +1,7 @@
 pub mod Keys
 pub mod Rest
 pub mod Documents
-pub mod Places
+pub mod Sets
 pub mod Edits
 pub mod Endings
 pub mod Program

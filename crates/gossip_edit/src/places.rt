@@ -3,7 +3,7 @@ ghost use Rattle.std.specs.Prelude.{◌≡◌};
 ghost use Rattle.toml.specs.View.{array_view, table_view, view};
 ghost use Rattle.gossip_edit.specs.Documents.{with_item, with_key, with_path};
 ghost use Rattle.gossip_edit.specs.Keys.{path_of};
-ghost use Rattle.gossip_edit.specs.Places.{Sets};
+ghost use Rattle.gossip_edit.specs.Sets.{Sets};
 ghost use Rattle.gossip_edit.specs.Rest.{rest_of};
 
 use crate::keys::{first_part, number_of};

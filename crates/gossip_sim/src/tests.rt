@@ -338,7 +338,7 @@ struct Meeting {
 }
 
 impl Gate for Meeting {
-    fn turn(&self, worker: usize, round: u64) {
+    fn begin_round(&self, worker: usize, round: u64) {
         if round != 5 || worker >= 16 {
             return;
         }

@@ -16,14 +16,14 @@ pub enum Mark {
     /// A neighbour left the topic's mesh with this deficit of deliveries, squared, in millionths (P3b).
     Deficit(PeerNo, Topic, i128),
     /// A neighbour broke a promise, or asked to come back into a mesh too soon (P7).
-    Behaviour(PeerNo),
+    Misbehaviour(PeerNo),
     /// The message with this identifier is kept as one of this topic, for who asks for it (gossipsub v1.0,
     /// Message Cache).
     Cached(MsgId, Topic),
     /// A neighbour was sent a kept message that it asked for, which counts against `gossip_retransmission`.
     Answered(PeerNo, MsgId),
     /// An offer of a neighbour counted against its budget (`max_ihave`).
-    HeardHave(PeerNo),
+    Offered(PeerNo),
     /// So many identifiers were asked of a neighbour, which count against its budget (`max_ihave_ids`).
     Asked(PeerNo, u32),
     /// A neighbour came into the mesh of this topic, whoever grafted whom. From then on its time there counts (P1).

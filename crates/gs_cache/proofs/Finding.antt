@@ -6,9 +6,9 @@ use Rattle.std.proofs.lemmas.Map.Made.{lookup-map_values}
 use Rattle.gs_base.specs.declared.names.PeerNo.{PeerNo}
 use Rattle.gs_base.specs.declared.names.MsgId.{MsgId}
 use Rattle.gs_base.specs.Names.{same_id}
-use Rattle.gs_cache.specs.declared.messages.window.Kept.{Kept}
-use Rattle.gs_cache.specs.declared.messages.window.Window.{Window}
-use Rattle.gs_cache.specs.Messages.{Cached, Put, left_to}
+use Rattle.gs_cache.specs.declared.message_cache.window.Kept.{Kept}
+use Rattle.gs_cache.specs.declared.message_cache.window.Window.{Window}
+use Rattle.gs_cache.specs.CachedMessages.{Cached, Put, left_to}
 use Rattle.gs_cache.specs.Windows.{kept_at, kept_in, put_of, puts_of}
 use Rattle.gs_cache.proofs.Counting.{lookup_append, same_found}
 use Rattle.gs_cache.proofs.Lists.{map_map, map_or}

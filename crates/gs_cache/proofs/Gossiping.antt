@@ -11,9 +11,9 @@ use Rattle.std.proofs.lemmas.List.Folds.{list_any-append}
 use Rattle.gs_base.specs.declared.names.MsgId.{MsgId}
 use Rattle.gs_base.specs.declared.names.Topic.{Topic}
 use Rattle.gs_base.specs.Names.{same_id, same_topic}
-use Rattle.gs_cache.specs.declared.messages.window.Kept.{Kept}
-use Rattle.gs_cache.specs.declared.messages.window.Window.{Window}
-use Rattle.gs_cache.specs.Messages.{Cached, Put, is_announced}
+use Rattle.gs_cache.specs.declared.message_cache.window.Kept.{Kept}
+use Rattle.gs_cache.specs.declared.message_cache.window.Window.{Window}
+use Rattle.gs_cache.specs.CachedMessages.{Cached, Put, is_announced}
 use Rattle.gs_cache.specs.Windows.{announced_in, has, ids_of, is_on, is_placed, kept_at, listed, order_of, placed, put_of}
 use Rattle.gs_cache.proofs.Lists.{filter_alike, filter_all, filter_both, filter_twice, map_map, map_or}
 use Rattle.gs_cache.proofs.Finding.{cached_in, put_first, put_in}

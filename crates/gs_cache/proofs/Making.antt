@@ -2,9 +2,9 @@
 use Rattle.std.proofs.Common.{◌≡◌, ℕ, ◌+◌, List, [], ◌∷◌, ◌++◌, map, refl, ap₂}
 use Rattle.std.specs.Prelude.{not, filter}
 use Rattle.gs_base.specs.declared.names.MsgId.{MsgId}
-use Rattle.gs_cache.specs.declared.messages.window.Kept.{Kept}
-use Rattle.gs_cache.specs.declared.messages.window.Window.{Window}
-use Rattle.gs_cache.specs.Messages.{Put}
+use Rattle.gs_cache.specs.declared.message_cache.window.Kept.{Kept}
+use Rattle.gs_cache.specs.declared.message_cache.window.Window.{Window}
+use Rattle.gs_cache.specs.CachedMessages.{Put}
 use Rattle.gs_cache.specs.Windows.{has, order_of, placed, put_of, puts_of}
 
 -- no window has a message

@@ -11,9 +11,9 @@ use Rattle.gs_base.specs.declared.names.MsgId.{MsgId}
 use Rattle.gs_base.specs.declared.names.Topic.{Topic}
 use Rattle.gs_base.specs.declared.rpc.Message.{Message}
 use Rattle.gs_base.specs.Names.{same_id}
-use Rattle.gs_cache.specs.declared.messages.window.Kept.{Kept}
-use Rattle.gs_cache.specs.declared.messages.window.Window.{Window}
-use Rattle.gs_cache.specs.Messages.{Put, all_left, left_to, put_anew, put_last}
+use Rattle.gs_cache.specs.declared.message_cache.window.Kept.{Kept}
+use Rattle.gs_cache.specs.declared.message_cache.window.Window.{Window}
+use Rattle.gs_cache.specs.CachedMessages.{Put, all_left, left_to, put_anew, put_last}
 use Rattle.gs_cache.specs.Windows.{Puts, has, ids_of, is_placed, kept_at, order_of, placed, put_of}
 use Rattle.gs_cache.proofs.Lists.{filter_alike, filter_both, map_if}
 use Rattle.gs_cache.proofs.Finding.{cached_in, left_in, put_first, put_in}

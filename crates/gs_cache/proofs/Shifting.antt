@@ -10,9 +10,9 @@ use Rattle.std.proofs.lemmas.List.Elements.{filter-append}
 use Rattle.gs_base.specs.declared.names.PeerNo.{PeerNo}
 use Rattle.gs_base.specs.declared.names.MsgId.{MsgId}
 use Rattle.gs_base.specs.Names.{same_id}
-use Rattle.gs_cache.specs.declared.messages.window.Kept.{Kept}
-use Rattle.gs_cache.specs.declared.messages.window.Window.{Window}
-use Rattle.gs_cache.specs.Messages.{Cached, Put, aged, left_to}
+use Rattle.gs_cache.specs.declared.message_cache.window.Kept.{Kept}
+use Rattle.gs_cache.specs.declared.message_cache.window.Window.{Window}
+use Rattle.gs_cache.specs.CachedMessages.{Cached, Put, aged, left_to}
 use Rattle.gs_cache.specs.Windows.{has, ids_of, is_placed, kept_at, kept_in, order_of, placed, put_of}
 use Rattle.gs_cache.proofs.Lists.{filter_all, filter_alike, filter_none, filter_twice, map_map, map_or}
 use Rattle.gs_cache.proofs.Finding.{cached_in, held_kept, left_in, left_kept, put_first, put_in}

@@ -11,9 +11,9 @@ use Rattle.std.proofs.lemmas.Cmp.{nat_eq_equiv}
 use Rattle.gs_base.specs.declared.names.PeerNo.{PeerNo}
 use Rattle.gs_base.specs.declared.names.MsgId.{MsgId}
 use Rattle.gs_base.specs.Names.{same_id, same_peer}
-use Rattle.gs_cache.specs.declared.messages.window.Kept.{Kept}
-use Rattle.gs_cache.specs.declared.messages.window.Window.{Window}
-use Rattle.gs_cache.specs.Messages.{Cached, Put, left_to, one_less}
+use Rattle.gs_cache.specs.declared.message_cache.window.Kept.{Kept}
+use Rattle.gs_cache.specs.declared.message_cache.window.Window.{Window}
+use Rattle.gs_cache.specs.CachedMessages.{Cached, Put, left_to, one_less}
 use Rattle.gs_cache.specs.Windows.{Core, Counts, HasSame, core, has, ids_of, is_placed, kept_at, kept_in, left_at, order_of, placed, put_of, puts_of}
 use Rattle.gs_cache.proofs.Counting.{same_found}
 use Rattle.gs_cache.proofs.Lists.{filter_alike, map_map, map_or, some_map}

@@ -1,5 +1,5 @@
 pub mod Sightings
 pub mod Buckets
-pub mod Messages
+pub mod CachedMessages
 pub mod Windows
 pub mod Payloads

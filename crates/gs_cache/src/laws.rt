@@ -1,9 +1,9 @@
 //! Laws of what caches answer. Each holds of its definitions alone, and its function does nothing.
 ghost use Rattle.std.specs.Prelude.{◌≡◌};
-ghost use Rattle.gs_cache.specs.Messages.{most_announced};
+ghost use Rattle.gs_cache.specs.CachedMessages.{most_announced};
 ghost use Rattle.gs_cache.specs.Sightings.{StepsNeedWhatCounts};
 
-use crate::messages::MOST_ANNOUNCED;
+use crate::message_cache::MOST_ANNOUNCED;
 
 /// What counts after a step follows from what counted before it, and from nothing that was forgotten: so a
 /// cache that forgets agrees with a record of all sightings.

@@ -1,7 +1,7 @@
 -- Lists among lists: one is replaced, one more stands behind them.
 use Rattle.std.proofs.Common.{◌≡◌, ◌≢◌, ℕ, zero, suc, ◌<◌, List, [], ◌∷◌, ◌++◌, length, set, get_or, refl, sym, ap, ◌∙◌, arith, Vec}
 use Rattle.std.specs.declared.alloc.Global.{Global}
-use Rattle.gs_dials.specs.Places.{list_at}
+use Rattle.gs_dials.specs.ListsByPeer.{list_at}
 
 set_here : {A : Type 0} (lists : List (Vec A Global)) (n : ℕ) (v : Vec A Global) → n < length lists → list_at (set lists n v) n ≡ v.items
 set_here [] n v within = absurd (omega arith)

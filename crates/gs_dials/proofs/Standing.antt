@@ -6,13 +6,13 @@ use Rattle.gs_base.specs.declared.names.PeerNo.{PeerNo}
 use Rattle.gs_base.specs.Names.{same_peer}
 use Rattle.gs_link.specs.declared.item.Slot.{Slot}
 use Rattle.gs_link.specs.Runs.{closes}
-use Rattle.gs_ends.specs.Pairs.{Pair, accepted_for, listed, peers_in, taken_from}
+use Rattle.gs_ends.specs.Pairs.{Pair, accepted_for, peers_in, slots_with, taken_from}
 use Rattle.gs_dials.specs.Dials.{IsClosed, IsFresh}
 use Rattle.gs_dials.proofs.Giving.{same_itself}
 
 -- what is found by its neighbour is its own
 abbrev IsFound : (Pair → List Slot) → List Pair → Pair → Type 0
-IsFound list pairs pair = listed list pairs pair.0 ≡ list pair
+IsFound list pairs pair = slots_with list pairs pair.0 ≡ list pair
 
 module _ (list : Pair → List Slot) where
   found_behind : (first : Pair) (pairs some : List Pair) → AllByRecursion (λ q. same_peer first.0 q ≡ false) (peers_in some) → AllByRecursion (IsFound list pairs) some → AllByRecursion (IsFound list (first ∷ pairs)) some

@@ -17,9 +17,9 @@ abbrev pub is_of : {A B : Type 0} → PeerNo → PeerNo × A × B → Bool
 is_of q x = same_peer x.0 q
 
 -- the place of the first that is of this neighbour
-abbrev pub place_in : {A B : Type 0} → List (PeerNo × A × B) → PeerNo → ℕ
-place_in [] q = 0
-place_in (x ∷ xs) q = if is_of q x then 0 else suc (place_in xs q)
+abbrev pub position_in : {A B : Type 0} → List (PeerNo × A × B) → PeerNo → ℕ
+position_in [] q = 0
+position_in (x ∷ xs) q = if is_of q x then 0 else suc (position_in xs q)
 
 -- the neighbours, in the order of the list
 abbrev pub peers_in : {A B : Type 0} → List (PeerNo × A × B) → List PeerNo
@@ -35,17 +35,17 @@ abbrev pub joints_of : List Pair → List Joint
 joints_of pairs = map joint_of pairs
 
 -- the list that an end of a neighbour has, and none where there is no such neighbour
-abbrev pub listed : (Pair → List Slot) → List Pair → PeerNo → List Slot
-listed list [] q = []
-listed list (pair ∷ pairs) q = if is_of q pair then list pair else listed list pairs q
+abbrev pub slots_with : (Pair → List Slot) → List Pair → PeerNo → List Slot
+slots_with list [] q = []
+slots_with list (pair ∷ pairs) q = if is_of q pair then list pair else slots_with list pairs q
 
 -- all that the end to a neighbour accepted
 abbrev pub accepted_for : List Pair → PeerNo → List Slot
-accepted_for pairs q = listed (λ pair. pair.1.accepted) pairs q
+accepted_for pairs q = slots_with (λ pair. pair.1.accepted) pairs q
 
 -- all that the end from a neighbour took
 abbrev pub taken_from : List Pair → PeerNo → List Slot
-taken_from pairs q = listed (λ pair. pair.2.taken) pairs q
+taken_from pairs q = slots_with (λ pair. pair.2.taken) pairs q
 
 -- all three, as contracts see them of any ends
 abbrev pub pair_ends : EndsOf (List Pair)

@@ -7,7 +7,7 @@ mod inbound;
 mod link_ends;
 mod list_ends;
 mod outbound;
-mod place;
+mod position;
 
 pub use ends::Ends;
 pub use link_ends::LinkEnds;

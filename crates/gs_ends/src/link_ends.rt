@@ -7,7 +7,7 @@ ghost use Rattle.gs_ends.specs.Ends.{IsFinished, IsPut, IsTaken, Joint, OthersSt
 ghost use Rattle.gs_ends.specs.Pairs.{accepted_for, joints_of, peers_in, taken_from};
 
 use crate::ends::Ends;
-use crate::place::place_of;
+use crate::position::position_of;
 use gs_base::PeerNo;
 use gs_link::{CloseRefused, Item, LinkRx, LinkTx, SendRefused, Taken};
 use std::marker::Model;
@@ -57,19 +57,19 @@ impl<R: Wait + Drop> Ends for LinkEnds<R> {
     ghost taken = { λ s q. taken_from s q };
 
     fn put(&mut self, to: PeerNo, item: Item) -> Result<(), SendRefused> {
-        let place = place_of(self.list.as_slice(), to);
+        let place = position_of(self.list.as_slice(), to);
         let pair = &mut self.list[place];
         pair.1.send(&self.rt, item)
     }
 
     fn finish(&mut self, to: PeerNo) -> Result<(), CloseRefused> {
-        let place = place_of(self.list.as_slice(), to);
+        let place = position_of(self.list.as_slice(), to);
         let pair = &mut self.list[place];
         pair.1.close(&self.rt)
     }
 
     fn take(&mut self, from: PeerNo) -> Taken {
-        let place = place_of(self.list.as_slice(), from);
+        let place = position_of(self.list.as_slice(), from);
         let pair = &mut self.list[place];
         pair.2.take(&self.rt)
     }

@@ -11,7 +11,7 @@ ghost use Rattle.gs_ends.specs.Lists.{BringsSendable, as_slots, counted, fresh_p
 use crate::ends::Ends;
 use crate::inbound::Inbound;
 use crate::outbound::Outbound;
-use crate::place::place_of;
+use crate::position::position_of;
 use gs_base::PeerNo;
 use gs_link::{CloseRefused, Item, SendRefused, Taken};
 use std::alloc::{AllocError, Global};
@@ -77,7 +77,7 @@ impl ListEnds {
         requires known { has (joints_of self.now) to ≡ true }
         ensures { as_slots result.now (closes (accepted_for self.now to)) ≡ accepted_for self.now to }
     {
-        let place = place_of(self.list.as_slice(), to);
+        let place = position_of(self.list.as_slice(), to);
         let pair = &self.list[place];
         pair.1.items()
     }
@@ -107,21 +107,21 @@ impl Ends for ListEnds {
     ghost taken = { λ s q. taken_from s q };
 
     fn put(&mut self, to: PeerNo, item: Item) -> Result<(), SendRefused> {
-        let place = place_of(self.list.as_slice(), to);
+        let place = position_of(self.list.as_slice(), to);
         let pair = &mut self.list[place];
         let refused = !pair.1.is_closed() && is_counted_out(self.every, &mut self.count);
         pair.1.put(item, refused)
     }
 
     fn finish(&mut self, to: PeerNo) -> Result<(), CloseRefused> {
-        let place = place_of(self.list.as_slice(), to);
+        let place = position_of(self.list.as_slice(), to);
         let pair = &mut self.list[place];
         let refused = !pair.1.is_closed() && is_counted_out(self.every, &mut self.count);
         pair.1.finish(refused)
     }
 
     fn take(&mut self, from: PeerNo) -> Taken {
-        let place = place_of(self.list.as_slice(), from);
+        let place = position_of(self.list.as_slice(), from);
         let pair = &mut self.list[place];
         pair.2.take()
     }

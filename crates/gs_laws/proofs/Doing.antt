@@ -12,7 +12,7 @@ use Rattle.gs_rules.specs.Legal.{IsNext, IsAllowed, ArePayments, Opens, Comes}
 use Rattle.gs_rules.specs.Rounds.{Todo, opening, noted, Does}
 use Rattle.gs_rules.proofs.Legality.{legal_parts, next_alone}
 use Rattle.gs_rules.proofs.Handled.{GoesOn, does_on}
-use Rattle.gs_laws.specs.Places.{LegalByWords}
+use Rattle.gs_laws.specs.Fixed.{LegalByWords}
 use Rattle.gs_laws.proofs.Lists.{last_of}
 
 -- ---- what is paid

@@ -10,9 +10,9 @@ use Rattle.gs_wire.specs.Messages.{longest_body}
 use Rattle.gs_wire.proofs.FrameLists.{one_stream}
 use Rattle.gs_rules.specs.Peers.{links_of}
 use Rattle.gs_rules.specs.Hearing.{Inbound, IsBetween, ComesIn, ComesAfter, after, bytes_before, closes, said_in}
-use Rattle.gs_rules.specs.Rounds.{Seat, Place, Playing, Closing, ComesAt, Does, agenda, moment_of}
+use Rattle.gs_rules.specs.Rounds.{Seat, Phase, Playing, Closing, ComesAt, Does, agenda, moment_of}
 use Rattle.gs_rules.proofs.Handled.{spelled_once}
-use Rattle.gs_laws.specs.Places.{APlaceIsFixed, AreHeardAlike, NeighboursAreHeardAlike, first_rounds}
+use Rattle.gs_laws.specs.Fixed.{APhaseIsFixed, AreHeardAlike, NeighboursAreHeardAlike, first_rounds}
 use Rattle.gs_laws.proofs.Doing.{does_alone}
 use Rattle.gs_laws.proofs.Lists.{zipped_alone}
 
@@ -59,21 +59,21 @@ rest_alone r v w x y same h k =
     between_alone (bytes_before r w) (bytes_of w) x y (subst (λ (u : Said). IsBetween (bytes_before r u) (bytes_of u) x) same h.0) k.0
     (h.1 ∙ ap (λ (u : Said). closes (after r u)) same ∙ sym k.1)
 
-place_alone : (seat : Seat) (place : Place) (v w : Said) (x y : Inbound) → AreHeardAlike place v w → ComesAt seat place v x → ComesAt seat place w y → x ≡ y
-place_alone seat (Playing r) v w x y same h k = round_alone r v w x y same h k
-place_alone seat Closing v w x y same h k = rest_alone seat.rounds v w x y same h k
+phase_alone : (seat : Seat) (phase : Phase) (v w : Said) (x y : Inbound) → AreHeardAlike phase v w → ComesAt seat phase v x → ComesAt seat phase w y → x ≡ y
+phase_alone seat (Playing r) v w x y same h k = round_alone r v w x y same h k
+phase_alone seat Closing v w x y same h k = rest_alone seat.rounds v w x y same h k
 
 -- ---- all neighbours
 
-heard_alone : (seat : Seat) (place : Place) (said other : PeerNo → Said) (xs ys : List Inbound) → NeighboursAreHeardAlike seat place said other → AllZip (λ q x. ComesAt seat place (said q) x) (links_of seat.peer) xs → AllZip (λ q x. ComesAt seat place (other q) x) (links_of seat.peer) ys → xs ≡ ys
-heard_alone seat place said other xs ys same h k =
-    zipped_alone (λ (q : PeerNo). AreHeardAlike place (said q) (other q)) (λ (q : PeerNo) (x : Inbound). ComesAt seat place (said q) x) (λ (q : PeerNo) (x : Inbound). ComesAt seat place (other q) x)
-    (λ q x y alike mine theirs. place_alone seat place (said q) (other q) x y alike mine theirs) (links_of seat.peer) xs ys same h k
+heard_alone : (seat : Seat) (phase : Phase) (said other : PeerNo → Said) (xs ys : List Inbound) → NeighboursAreHeardAlike seat phase said other → AllZip (λ q x. ComesAt seat phase (said q) x) (links_of seat.peer) xs → AllZip (λ q x. ComesAt seat phase (other q) x) (links_of seat.peer) ys → xs ≡ ys
+heard_alone seat phase said other xs ys same h k =
+    zipped_alone (λ (q : PeerNo). AreHeardAlike phase (said q) (other q)) (λ (q : PeerNo) (x : Inbound). ComesAt seat phase (said q) x) (λ (q : PeerNo) (x : Inbound). ComesAt seat phase (other q) x)
+    (λ q x y alike mine theirs. phase_alone seat phase (said q) (other q) x y alike mine theirs) (links_of seat.peer) xs ys same h k
 
--- ---- a place
+-- ---- a phase
 
-pub place_fixed : {S : Type 0} (word : S → ℕ) (after : S → S) → APlaceIsFixed word after
-place_fixed word after seat first place said other K L M refused more legal legal' same h k =
-    let inbound : h.inbound ≡ k.inbound = heard_alone seat place said other h.inbound k.inbound same h.was_said k.was_said in
-    does_alone word after seat.peer first (moment_of seat place) (agenda seat place k.inbound) K L M refused more legal legal'
-    (subst (λ (xs : List Inbound). Does seat.peer (moment_of seat place) (agenda seat place xs) K L refused) inbound h.does) k.does
+pub phase_fixed : {S : Type 0} (word : S → ℕ) (after : S → S) → APhaseIsFixed word after
+phase_fixed word after seat first phase said other K L M refused more legal legal' same h k =
+    let inbound : h.inbound ≡ k.inbound = heard_alone seat phase said other h.inbound k.inbound same h.was_said k.was_said in
+    does_alone word after seat.peer first (moment_of seat phase) (agenda seat phase k.inbound) K L M refused more legal legal'
+    (subst (λ (xs : List Inbound). Does seat.peer (moment_of seat phase) (agenda seat phase xs) K L refused) inbound h.does) k.does

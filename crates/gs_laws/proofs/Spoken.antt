@@ -24,7 +24,7 @@ use Rattle.gs_rules.proofs.Handled.{GoesOn, does_on}
 use Rattle.gs_rules.proofs.Legality.{legal_newest}
 use Rattle.gs_peer.specs.Ended.{ends, whole}
 use Rattle.gs_peer.proofs.Words.{after_stays, said_in_stays, whole_before, whole_stays}
-use Rattle.gs_laws.specs.Places.{AllIsSaidByTheEnd, RoundsAreSaidByTheirEnd, first_rounds}
+use Rattle.gs_laws.specs.Fixed.{AllIsSaidByTheEnd, RoundsAreSaidByTheirEnd, first_rounds}
 
 -- ---- words
 

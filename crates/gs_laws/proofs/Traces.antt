@@ -17,7 +17,7 @@ use Rattle.gs_rules.specs.Rules.{bare}
 use Rattle.gs_rules.specs.Modes.{exact, free}
 use Rattle.gs_rules.specs.Legal.{Legal}
 use Rattle.gs_rules.specs.Saying.{out}
-use Rattle.gs_rules.specs.Rounds.{Seat, Place, Playing, Closing, Plays, AfterRounds, KeepsRounds, agenda, moment_of}
+use Rattle.gs_rules.specs.Rounds.{Seat, Phase, Playing, Closing, Plays, AfterRounds, KeepsRounds, agenda, moment_of}
 use Rattle.gs_rules.proofs.Each.{each_weaker}
 use Rattle.gs_rules.proofs.Handled.{GoesOn, does_on}
 use Rattle.gs_rules.proofs.Legality.{exact_is_free, legal_weakly}
@@ -27,10 +27,10 @@ use Rattle.gs_net.proofs.ByNumber.{at_number}
 use Rattle.gs_net.proofs.Gathered.{as_many}
 use Rattle.gs_net.proofs.Joined.{IsJoined, neighbours_joined}
 use Rattle.gs_net.proofs.NeighbourLists.{links_in}
-use Rattle.gs_laws.specs.Places.{AreHeardAlike, LegalByWords, NeighboursAreHeardAlike, first_rounds}
+use Rattle.gs_laws.specs.Fixed.{AreHeardAlike, LegalByWords, NeighboursAreHeardAlike, first_rounds}
 use Rattle.gs_laws.specs.Runs.{ArePlayed, IsPlayed, TracesAreOne, however_run, refusals_of, traces_of}
 use Rattle.gs_laws.proofs.Doing.{exact_then_before}
-use Rattle.gs_laws.proofs.Heard.{place_fixed}
+use Rattle.gs_laws.proofs.Heard.{phase_fixed}
 use Rattle.gs_laws.proofs.Lists.{same_places, zipped_weaker}
 use Rattle.gs_laws.proofs.Spoken.{all_said, rounds_said}
 
@@ -39,8 +39,8 @@ use Rattle.gs_laws.proofs.Spoken.{all_said, rounds_said}
 goes_on_on : (K M L : Entries) → GoesOn K M → GoesOn M L → GoesOn K L
 goes_on_on K M L h k = (k.0 ++ h.0, k.1 ∙ ap (λ (N : Entries). k.0 ++ N) h.1 ∙ sym (append_assoc k.0 h.0 K))
 
-plays_on : (seat : Seat) (said : PeerNo → Said) (place : Place) (K L : Entries) (refused : List RefusedLine) → Plays seat said place K L refused → GoesOn K L
-plays_on seat said place K L refused plays = does_on seat.peer (moment_of seat place) (agenda seat place plays.inbound) K L refused plays.does
+plays_on : (seat : Seat) (said : PeerNo → Said) (phase : Phase) (K L : Entries) (refused : List RefusedLine) → Plays seat said phase K L refused → GoesOn K L
+plays_on seat said phase K L refused plays = does_on seat.peer (moment_of seat phase) (agenda seat phase plays.inbound) K L refused plays.does
 
 -- a trace after so many rounds, with another going on behind it
 record Reached (seat : Seat) (said : PeerNo → Said) (r : ℕ) (L : Entries) : Type 0 where
@@ -148,7 +148,7 @@ module _ (plan : Plan) (lives others : List Finished) (run : ArePlayed plan live
       let chosen' = exact_then_before seeded_word seeded_after (peer_in plan p) (first_words plan p) J (trace_of others p) goes_on' (stands plan others p run' below).chosen in
       let alike : NeighboursAreHeardAlike seat (Playing r) (said_to lives p) (said_to others p) = of_neighbours plan p (λ (q : PeerNo). AreHeardAlike (Playing r) (said_to lives p q) (said_to others p q)) (λ q within. same_said r less same p q within) in
       let moved : Plays seat (said_to lives p) (Playing r) I' K now = subst (λ (N : Entries). Plays seat (said_to lives p) (Playing r) N K now) was.0 plays in
-      let round = place_fixed seeded_word seeded_after seat (first_words plan p) (Playing r) (said_to lives p) (said_to others p) I' K J now now' chosen chosen' alike moved plays' in
+      let round = phase_fixed seeded_word seeded_after seat (first_words plan p) (Playing r) (said_to lives p) (said_to others p) I' K J now now' chosen chosen' alike moved plays' in
       (round.0, is ∙ ap₂ (λ (xs ys : List RefusedLine). xs ++ ys) was.1 round.1 ∙ sym is')
 
   -- where each has ended its last round
@@ -173,7 +173,7 @@ module _ (plan : Plan) (lives others : List Finished) (run : ArePlayed plan live
       let ended = same_last p below one other in
       let alike : NeighboursAreHeardAlike seat Closing (said_to lives p) (said_to others p) = of_neighbours plan p (λ (q : PeerNo). AreHeardAlike Closing (said_to lives p q) (said_to others p q)) (λ q within. same_words p q within) in
       let moved : Plays seat (said_to lives p) Closing other.keeps.last (trace_of lives p) [] = subst (λ (N : Entries). Plays seat (said_to lives p) Closing N (trace_of lives p) []) ended.0 one.keeps.closed in
-      let closed = place_fixed seeded_word seeded_after seat (first_words plan p) Closing (said_to lives p) (said_to others p) other.keeps.last (trace_of lives p) (trace_of others p) [] [] one.chosen other.chosen alike moved other.keeps.closed in
+      let closed = phase_fixed seeded_word seeded_after seat (first_words plan p) Closing (said_to lives p) (said_to others p) other.keeps.last (trace_of lives p) (trace_of others p) [] [] one.chosen other.chosen alike moved other.keeps.closed in
       (sym one.trace ∙ closed.0 ∙ other.trace, ended.1)
 
 -- what each of two lists of lives has at each peer's number, they have

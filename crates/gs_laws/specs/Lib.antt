@@ -1,3 +1,3 @@
-pub mod Places
+pub mod Fixed
 pub mod Runs
 pub mod Scenarios

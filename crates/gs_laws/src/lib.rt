@@ -2,16 +2,16 @@
 //! law holds of its definitions alone, and its function does nothing.
 #![tactic(auto)]
 
-ghost use Rattle.gs_laws.specs.Places.{APlaceIsFixed, AllIsSaidByTheEnd, RoundsAreSaidByTheirEnd};
+ghost use Rattle.gs_laws.specs.Fixed.{APhaseIsFixed, AllIsSaidByTheEnd, RoundsAreSaidByTheirEnd};
 ghost use Rattle.gs_laws.specs.Runs.{ReportsAreOne, RunsAreOne, TracesAreOne};
 ghost use Rattle.gs_laws.specs.Scenarios.{TextsAreOne};
 
 use gs_params::Words;
 
-/// Where words make the choices, what a peer did before a place of its rounds, and what its neighbours said as far as it hears
-/// that there, fix what it does there and which lines it refuses. A place is a round, or what comes behind the last one.
-pub fn what_was_said_fixes_a_place<W: Words>()
-    ensures { APlaceIsFixed W.word W.after }
+/// Where words make the choices, what a peer did before a phase of its life, and what its neighbours said as far as it hears
+/// that there, fix what it does there and which lines it refuses. A phase is a round, or what comes behind the last one.
+pub fn what_was_said_fixes_a_phase<W: Words>()
+    ensures { APhaseIsFixed W.word W.after }
 {}
 
 /// By the end of its first rounds a peer has said all that it says in them (`rounds`). By the end of the last round it has

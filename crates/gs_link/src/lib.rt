@@ -6,16 +6,16 @@
 mod fault;
 mod item;
 mod laws;
+mod opening;
 mod receiver;
 mod rule;
 mod sender;
-mod settlement;
-mod wiring;
+mod settled;
 
 pub use fault::{CloseRefused, LinkFault, SendRefused};
 pub use item::{Item, LARGEST_CAPACITY, LONGEST_PIECE, Slot, is_capacity};
 pub use laws::{cutting_does_not_show, what_stands_behind_is_said_later};
+pub use opening::open_link;
 pub use receiver::{LinkRx, Taken};
 pub use sender::LinkTx;
-pub use settlement::{Settled, settle};
-pub use wiring::open_link;
+pub use settled::{Settled, settle};

@@ -10,9 +10,9 @@ use Rattle.gs_mesh.specs.declared.members.Member.{Member}
 use Rattle.gs_base.specs.declared.names.PeerNo.{PeerNo}
 use Rattle.gs_params.specs.declared.params.Degrees.{Degrees}
 use Rattle.gs_base.specs.Names.{same_peer}
-use Rattle.gs_params.specs.Picks.{IsAscending, IsChoice, picked}
+use Rattle.gs_params.specs.Picks.{IsAscending, IsSample, picked}
 use Rattle.gs_mesh.specs.Cuts.{peers_of, outbound_of, among, outside, IsCut, best_by_score, outbound_lacking, outbound_picked, others_picked, first_kept, first_words, cut, EachIsACut, IsDetermined}
-use Rattle.gs_params.proofs.Picking.{distinct_from_ascending, ascending_filter, picked_is_choice}
+use Rattle.gs_params.proofs.Picking.{distinct_from_ascending, ascending_filter, picked_is_sample}
 use Rattle.gs_mesh.proofs.PeerLists.{is_there, found, of_whole, false_from_not, is_outside, in_either, in_filter, distinct_joined, length_part, Apart, at_least_both}
 use Rattle.gs_mesh.proofs.BestMembers.{peers_of_kept, length_of_kept, who_passes, its_peer, kept_inside, ascending_kept, length_best, best_inside, best_ascending, best_are_highest}
 
@@ -30,7 +30,7 @@ not_both a true h k = let e : a ≡ false = h refl in cc
 -- ---- one choice more
 
 -- a choice of members that are not there yet
-module _ (first : List PeerNo) (k : ℕ) (members : List Member) (up : IsAscending (peers_of members)) (more : List PeerNo) (are : IsChoice k (peers_of (outside first members)) more) where
+module _ (first : List PeerNo) (k : ℕ) (members : List Member) (up : IsAscending (peers_of members)) (more : List PeerNo) (are : IsSample k (peers_of (outside first members)) more) where
   abbrev from_peers : All (Contains (filter (λ p. not (is_member same_peer first p)) (peers_of members))) more
   from_peers = rw (peers_of_kept (λ p. not (is_member same_peer first p)) members) at are.members
 
@@ -51,8 +51,8 @@ module _ (first : List PeerNo) (k : ℕ) (members : List Member) (up : IsAscendi
 -- ---- any choices
 
 module _ (degrees : Degrees) (members : List Member) (up : IsAscending (peers_of members)) (room : degrees.d_score + degrees.d_out ≤ degrees.d) (picks others : List PeerNo)
-    (picks_are : IsChoice (outbound_lacking degrees members (best_by_score degrees.d_score members)) (peers_of (outside (best_by_score degrees.d_score members) (outbound_of members))) picks)
-    (others_are : IsChoice (degrees.d - length (best_by_score degrees.d_score members ++ picks)) (peers_of (outside (best_by_score degrees.d_score members ++ picks) members)) others) where
+    (picks_are : IsSample (outbound_lacking degrees members (best_by_score degrees.d_score members)) (peers_of (outside (best_by_score degrees.d_score members) (outbound_of members))) picks)
+    (others_are : IsSample (degrees.d - length (best_by_score degrees.d_score members ++ picks)) (peers_of (outside (best_by_score degrees.d_score members ++ picks) members)) others) where
   abbrev top : List PeerNo
   top = best_by_score degrees.d_score members
 
@@ -181,8 +181,8 @@ exact_cut_is_cut word after degrees members s kept t exact =
     let others_up = ascending_kept (λ (m : Member). not (is_member same_peer (best ++ picks) m.peer)) members exact.ascending in
     let outbound_up = ascending_kept (λ (m : Member). not (is_member same_peer best m.peer)) (outbound_of members) (ascending_kept (λ (m : Member). m.outbound) members exact.ascending) in
     rw exact.kept_are (cut_by_choices degrees members exact.ascending exact.room picks (others_picked word after degrees members (best ++ picks) (first_words word after degrees members s))
-    (picked_is_choice word after lacking candidates s outbound_up)
-    (picked_is_choice word after left (peers_of (outside (best ++ picks) members)) (first_words word after degrees members s) others_up))
+    (picked_is_sample word after lacking candidates s outbound_up)
+    (picked_is_sample word after left (peers_of (outside (best ++ picks) members)) (first_words word after degrees members s) others_up))
 
 pub exact_cut_is_one : {S : Type 0} (word : S → ℕ) (after : S → S) → IsDetermined word after
 exact_cut_is_one word after degrees members s kept other t u one two = (one.kept_are ∙ sym two.kept_are, one.words ∙ sym two.words)

@@ -6,7 +6,7 @@ use Rattle.gs_mesh.specs.declared.members.Member.{Member}
 use Rattle.gs_params.specs.Params.{default_degrees, default_params}
 use Rattle.gs_params.specs.Picks.{after_words, next_words, picked, picked_words, shuffled}
 use Rattle.gs_mesh.specs.Cuts.{best_by_score, cut, cut_words, first_kept, first_words, others_picked, others_picked_words, outbound_lacking, outbound_picked, outbound_picked_words}
-use Rattle.gs_mesh.specs.declared.condition.Condition.TheVariants.{Few, FewOutbound, Well}
+use Rattle.gs_mesh.specs.declared.condition.Condition.TheVariants.{Balanced, Few, FewOutbound}
 use Rattle.gs_mesh.specs.MeshSteps.{condition_of, median_is_below, step_by_words}
 
 abbrev peer : ℕ → PeerNo
@@ -36,7 +36,7 @@ three_are_few = refl
 pub four_lack_outbound_ones : condition_of default_degrees four ≡ FewOutbound
 four_lack_outbound_ones = refl
 
-pub two_of_four_outbound_are_enough : condition_of default_degrees (member 1 (pos 0) true ∷ plain 2 ∷ plain 3 ∷ member 4 (pos 0) true ∷ []) ≡ Well
+pub two_of_four_outbound_are_enough : condition_of default_degrees (member 1 (pos 0) true ∷ plain 2 ∷ plain 3 ∷ member 4 (pos 0) true ∷ []) ≡ Balanced
 two_of_four_outbound_are_enough = refl
 
 -- ---- medians

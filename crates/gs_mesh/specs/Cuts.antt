@@ -7,7 +7,7 @@ use Rattle.gs_mesh.specs.declared.members.Member.{Member}
 use Rattle.gs_base.specs.declared.names.PeerNo.{PeerNo}
 use Rattle.gs_params.specs.declared.params.Degrees.{Degrees}
 use Rattle.gs_base.specs.Names.{same_peer}
-use Rattle.gs_params.specs.Picks.{IsAscending, IsChoice, picked, picked_words}
+use Rattle.gs_params.specs.Picks.{IsAscending, IsSample, picked, picked_words}
 
 -- ---- members
 
@@ -30,9 +30,9 @@ outside peers members = filter (λ m. not (is_member same_peer peers m.peer)) me
 -- higher than one of these, so it is free who counts as best of equal ones. And among them are d_out outbound ones,
 -- or all that there are.
 pub record IsCut (degrees : Degrees) (members : List Member) (kept : List PeerNo) : Type 0 where
-  pub some : IsChoice degrees.d (peers_of members) kept
+  pub some : IsSample degrees.d (peers_of members) kept
   pub best : List PeerNo
-  pub best_are : IsChoice degrees.d_score kept best
+  pub best_are : IsSample degrees.d_score kept best
   pub highest : All (λ m. All (λ n. n.score ≤ℤ m.score) (outside best members)) (among best members)
   pub outbound : min degrees.d_out (length (outbound_of members)) ≤ length (among kept (outbound_of members))
 

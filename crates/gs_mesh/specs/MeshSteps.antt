@@ -8,11 +8,11 @@ use Rattle.gs_base.specs.declared.names.PeerNo.{PeerNo}
 use Rattle.gs_mesh.specs.declared.members.Member.{Member}
 use Rattle.gs_params.specs.declared.params.Degrees.{Degrees}
 use Rattle.gs_params.specs.declared.params.Params.{Params}
-use Rattle.gs_params.specs.Picks.{IsAscending, IsChoice, picked, picked_words}
+use Rattle.gs_params.specs.Picks.{IsAscending, IsSample, picked, picked_words}
 use Rattle.gs_mesh.specs.Cuts.{IsCut, among, cut, cut_words, outbound_of, outside, peers_of}
-use Rattle.gs_mesh.specs.declared.heartbeat.Choice.{Choice}
+use Rattle.gs_mesh.specs.declared.heartbeat.MeshChange.{MeshChange}
 use Rattle.gs_mesh.specs.declared.condition.Condition.{Condition}
-use Rattle.gs_mesh.specs.declared.condition.Condition.TheVariants.{Few, Many, FewOutbound, Well}
+use Rattle.gs_mesh.specs.declared.condition.Condition.TheVariants.{Few, Many, FewOutbound, Balanced}
 
 -- ---- the members
 
@@ -30,7 +30,7 @@ condition_of degrees members =
     if nat_lt (length members) degrees.d_low then Few
     else if nat_lt degrees.d_high (length members) then Many
     else if nat_lt (length (outbound_of members)) degrees.d_out then FewOutbound
-    else Well
+    else Balanced
 
 -- ---- the median
 
@@ -46,18 +46,18 @@ above_median members candidates = filter (λ c. median_is_below members c.score)
 -- at every so many heartbeats a mesh is poor whose median score lies below the threshold
 abbrev pub is_poor : Params → ℕ → List Member → Bool
 is_poor params tick members =
-    nat_eq (tick % params.windows.opportunistic_ticks) 0
+    nat_eq (tick % params.timing.opportunistic_ticks) 0
     && median_is_below members (pos params.thresholds.opportunistic_threshold)
 
 -- ---- the step
 
 -- The members, as those that are kept and those that are grafted make them.
-abbrev pub made_of : List Member → List Member → List PeerNo → List PeerNo → List Member
-made_of members candidates kept grafted = among kept members ++ among grafted candidates
+abbrev pub mended_members : List Member → List Member → List PeerNo → List PeerNo → List Member
+mended_members members candidates kept grafted = among kept members ++ among grafted candidates
 
 -- who goes, and who comes in, each in their order
-abbrev pub choice_of : List Member → List Member → List PeerNo → List PeerNo → Choice
-choice_of mesh candidates kept grafted =
+abbrev pub mesh_change : List Member → List Member → List PeerNo → List PeerNo → MeshChange
+mesh_change mesh candidates kept grafted =
     record { pruned = peers_of (outside kept mesh); grafted = peers_of (among grafted candidates) }
 
 -- What follows is the step by what is chosen in it, and what comes of each choice: of any so many of some peers, and of
@@ -65,14 +65,14 @@ choice_of mesh candidates kept grafted =
 
 module _ {R : Type 0} (any_of : ℕ → List PeerNo → (List PeerNo → R) → R) where
   -- where a mesh is poor, any so many come in of those that score above its median
-  abbrev pub bettered : Bool → ℕ → List Member → List Member → (List PeerNo → R) → R
-  bettered true most members candidates next = any_of most (peers_of (above_median members candidates)) next
-  bettered false most members candidates next = next []
+  abbrev pub opportunistic_grafts : Bool → ℕ → List Member → List Member → (List PeerNo → R) → R
+  opportunistic_grafts true most members candidates next = any_of most (peers_of (above_median members candidates)) next
+  opportunistic_grafts false most members candidates next = next []
 
   -- so it is with the mesh as its number of members left it; whom that grafted does not come in twice
-  abbrev pub bettered_then : Params → ℕ → List Member → List Member → List PeerNo → (List PeerNo → R) → R
-  bettered_then params tick members candidates grafted next =
-      bettered (is_poor params tick members) params.windows.opportunistic_peers members (outside grafted candidates) next
+  abbrev pub opportunistic_grafts_then : Params → ℕ → List Member → List Member → List PeerNo → (List PeerNo → R) → R
+  opportunistic_grafts_then params tick members candidates grafted next =
+      opportunistic_grafts (is_poor params tick members) params.timing.opportunistic_peers members (outside grafted candidates) next
 
 module _ {R : Type 0} (any_of : ℕ → List PeerNo → (List PeerNo → R) → R)
     (cut_of : Degrees → List Member → (List PeerNo → R) → R) where
@@ -85,14 +85,14 @@ module _ {R : Type 0} (any_of : ℕ → List PeerNo → (List PeerNo → R) → 
   mended Many degrees members candidates next = cut_of degrees members (λ kept. next kept [])
   mended FewOutbound degrees members candidates next =
       any_of (degrees.d_out - length (outbound_of members)) (peers_of (outbound_of candidates)) (next (peers_of members))
-  mended Well degrees members candidates next = next (peers_of members) []
+  mended Balanced degrees members candidates next = next (peers_of members) []
 
   -- the whole step
-  abbrev pub stepped : Params → ℕ → List Member → List Member → (Choice → R) → R
+  abbrev pub stepped : Params → ℕ → List Member → List Member → (MeshChange → R) → R
   stepped params tick mesh candidates next =
       mended (condition_of params.degrees (not_negative mesh)) params.degrees (not_negative mesh) candidates (λ kept grafted.
-      bettered_then any_of params tick (made_of (not_negative mesh) candidates kept grafted) candidates grafted (λ more.
-      next (choice_of mesh candidates kept (grafted ++ more))))
+      opportunistic_grafts_then any_of params tick (mended_members (not_negative mesh) candidates kept grafted) candidates grafted (λ more.
+      next (mesh_change mesh candidates kept (grafted ++ more))))
 
 -- ---- the step by random words
 
@@ -112,46 +112,46 @@ module _ {S : Type 0} (word : S → ℕ) (after : S → S) where
       (λ kept grafted t. (kept, grafted, t)) s
 
   -- who is grafted where it is poor, beside those that were, and the state behind that
-  abbrev pub bettered_by_words : Params → ℕ → List Member → List Member → List PeerNo → S → List PeerNo × S
-  bettered_by_words params tick members candidates grafted s =
-      bettered_then any_by_words params tick members candidates grafted (λ more t. (more, t)) s
+  abbrev pub opportunistic_grafts_by_words : Params → ℕ → List Member → List Member → List PeerNo → S → List PeerNo × S
+  opportunistic_grafts_by_words params tick members candidates grafted s =
+      opportunistic_grafts_then any_by_words params tick members candidates grafted (λ more t. (more, t)) s
 
   -- who goes and who comes in by the next words, and the state behind them
-  unfoldable pub step_by_words : Params → ℕ → List Member → List Member → S → Choice × S
+  unfoldable pub step_by_words : Params → ℕ → List Member → List Member → S → MeshChange × S
   step_by_words params tick mesh candidates s =
-      stepped any_by_words cut_by_words params tick mesh candidates (λ choice t. (choice, t)) s
+      stepped any_by_words cut_by_words params tick mesh candidates (λ change t. (change, t)) s
 
 -- ---- any step
 
 -- whom a mesh keeps and who is grafted to it, by how it stands
 abbrev pub IsMended : Condition → Degrees → List Member → List Member → List PeerNo → List PeerNo → Type 0
 IsMended Few degrees members candidates kept grafted =
-    (kept ≡ peers_of members) × IsChoice (degrees.d - length members) (peers_of candidates) grafted
+    (kept ≡ peers_of members) × IsSample (degrees.d - length members) (peers_of candidates) grafted
 IsMended Many degrees members candidates kept grafted = IsCut degrees members kept × (grafted ≡ [])
 IsMended FewOutbound degrees members candidates kept grafted =
     (kept ≡ peers_of members)
-    × IsChoice (degrees.d_out - length (outbound_of members)) (peers_of (outbound_of candidates)) grafted
-IsMended Well degrees members candidates kept grafted = (kept ≡ peers_of members) × (grafted ≡ [])
+    × IsSample (degrees.d_out - length (outbound_of members)) (peers_of (outbound_of candidates)) grafted
+IsMended Balanced degrees members candidates kept grafted = (kept ≡ peers_of members) × (grafted ≡ [])
 
 -- who is grafted to a poor mesh
-abbrev pub IsBettered : Bool → ℕ → List Member → List Member → List PeerNo → Type 0
-IsBettered true most members candidates more = IsChoice most (peers_of (above_median members candidates)) more
-IsBettered false most members candidates more = more ≡ []
+abbrev pub AreOpportunisticGrafts : Bool → ℕ → List Member → List Member → List PeerNo → Type 0
+AreOpportunisticGrafts true most members candidates more = IsSample most (peers_of (above_median members candidates)) more
+AreOpportunisticGrafts false most members candidates more = more ≡ []
 
 -- Who goes and who comes in, by any choices.
-pub record IsMeshStep (params : Params) (tick : ℕ) (mesh candidates : List Member) (choice : Choice) : Type 0 where
+pub record IsMeshStep (params : Params) (tick : ℕ) (mesh candidates : List Member) (change : MeshChange) : Type 0 where
   pub kept : List PeerNo
   pub grafted : List PeerNo
   pub more : List PeerNo
   pub is_mended
       : IsMended (condition_of params.degrees (not_negative mesh)) params.degrees (not_negative mesh) candidates kept grafted
-  pub is_bettered
-      : IsBettered (is_poor params tick (made_of (not_negative mesh) candidates kept grafted))
-      params.windows.opportunistic_peers
-      (made_of (not_negative mesh) candidates kept grafted)
+  pub are_opportunistic_grafts
+      : AreOpportunisticGrafts (is_poor params tick (mended_members (not_negative mesh) candidates kept grafted))
+      params.timing.opportunistic_peers
+      (mended_members (not_negative mesh) candidates kept grafted)
       (outside grafted candidates)
       more
-  pub choice_is : choice ≡ choice_of mesh candidates kept (grafted ++ more)
+  pub change_is : change ≡ mesh_change mesh candidates kept (grafted ++ more)
 
 -- Whatever the words, it is a mesh step, where members and candidates ascend and D leaves room for a cut's best and
 -- outbound members.

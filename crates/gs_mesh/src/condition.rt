@@ -15,7 +15,7 @@ pub enum Condition {
     /// They are neither, and fewer than `d_out` are outbound.
     FewOutbound,
     /// Nothing is lacking.
-    Well,
+    Balanced,
 }
 
 impl Condition {
@@ -32,7 +32,7 @@ impl Condition {
         if outbound_count(members) < degrees.d_out {
             return Condition::FewOutbound;
         }
-        Condition::Well
+        Condition::Balanced
     }
 }
 

@@ -1,7 +1,7 @@
 ghost use Rattle.std.specs.Prelude.{◌≡◌, ◌≤◌, IfOk, OnOk};
 ghost use Rattle.gs_params.specs.Picks.{IsAscending, picked, picked_words};
 ghost use Rattle.gs_mesh.specs.Cuts.{peers_of};
-ghost use Rattle.gs_mesh.specs.MeshSteps.{EachIsAMeshStep, above_median, bettered_by_words, choice_of, is_poor, made_of, median_is_below, mended_by_words, step_by_words};
+ghost use Rattle.gs_mesh.specs.MeshSteps.{EachIsAMeshStep, above_median, is_poor, median_is_below, mended_by_words, mended_members, mesh_change, opportunistic_grafts_by_words, step_by_words};
 
 use crate::condition::{Condition, outbound_count};
 use crate::cut::{cut, pick_of};
@@ -19,7 +19,7 @@ pub struct Heartbeat<'a> {
 
 /// Who leaves a mesh at a heartbeat, and who comes into it. Each list ascends by number.
 #[derive(Debug, Drop, PartialEq, Eq)]
-pub struct Choice {
+pub struct MeshChange {
     /// Members that leave it.
     pub pruned: Seq<PeerNo>,
     /// Candidates that come into it.
@@ -49,52 +49,52 @@ pub fn choose_heartbeat<W: Words>(
     mesh: &[Member],
     candidates: &[Member],
     words: &mut W,
-) -> Result<Choice, AllocError>
-    requires ticks { 1 ≤ heartbeat.params.now.windows.opportunistic_ticks }
+) -> Result<MeshChange, AllocError>
+    requires ticks { 1 ≤ heartbeat.params.now.timing.opportunistic_ticks }
     requires members { IsAscending (peers_of mesh.now) }
     requires candidates { IsAscending (peers_of candidates.now) }
-    ensures { IfOk result (λ choice. step_by_words W.word W.after heartbeat.entry.params.now heartbeat.entry.tick
+    ensures { IfOk result (λ change. step_by_words W.word W.after heartbeat.entry.params.now heartbeat.entry.tick
         mesh.now candidates.now words.old
-        ≡ (choice, words.new)) }
+        ≡ (change, words.new)) }
 {
     let members = not_negative(alloc, mesh)?;
     let degrees = &heartbeat.params.degrees;
     let mended = mend(alloc, degrees, &members, candidates, words)?;
     let Mended { kept, mut grafted } = mended;
-    let made = made_of(alloc, &members, candidates, &kept, &grafted)?;
-    let mut more = heartbeat.bettered(alloc, &made, candidates, &grafted, words)?;
+    let made = mended_members(alloc, &members, candidates, &kept, &grafted)?;
+    let mut more = heartbeat.opportunistic_grafts(alloc, &made, candidates, &grafted, words)?;
     grafted.append(&mut more)?;
-    let choice = choice_of(alloc, mesh, candidates, &kept, &grafted)?;
-    Ok(choice)
+    let change = mesh_change(alloc, mesh, candidates, &kept, &grafted)?;
+    Ok(change)
 }
 
 /// Who goes, where these are kept, and who comes in, where these are grafted.
-fn choice_of(
+fn mesh_change(
     alloc: Global,
     mesh: &[Member],
     candidates: &[Member],
     kept: &[PeerNo],
     grafted: &[PeerNo],
-) -> Result<Choice, AllocError>
-    ensures { IfOk result (λ choice. choice ≡ choice_of mesh.now candidates.now kept.now grafted.now) }
+) -> Result<MeshChange, AllocError>
+    ensures { IfOk result (λ change. change ≡ mesh_change mesh.now candidates.now kept.now grafted.now) }
 {
     let pruned = outside(alloc, kept, mesh)?;
     let entering = among(alloc, grafted, candidates)?;
-    Ok(Choice {
+    Ok(MeshChange {
         pruned: Seq::from(peers_of(alloc, &pruned)?),
         grafted: Seq::from(peers_of(alloc, &entering)?),
     })
 }
 
 /// The members, where these are kept and these are grafted.
-fn made_of(
+fn mended_members(
     alloc: Global,
     members: &[Member],
     candidates: &[Member],
     kept: &[PeerNo],
     grafted: &[PeerNo],
 ) -> Result<Vec<Member>, AllocError>
-    ensures { IfOk result (λ made. made.items ≡ made_of members.now candidates.now kept.now grafted.now) }
+    ensures { IfOk result (λ made. made.items ≡ mended_members members.now candidates.now kept.now grafted.now) }
 {
     let mut made = among(alloc, kept, members)?;
     let mut entering = among(alloc, grafted, candidates)?;
@@ -134,7 +134,7 @@ fn mend<W: Words>(
             let made = filled(alloc, members, &outbound, count, words)?;
             Ok(made)
         }
-        Condition::Well => {
+        Condition::Balanced => {
             let kept = peers_of(alloc, members)?;
             let grafted = Vec::new(alloc);
             Ok(Mended { kept, grafted })
@@ -178,11 +178,11 @@ fn median_is_below(members: &[Member], score: &i128) -> bool
 
 /// Whether a mesh of these members is to get better ones at a heartbeat of this number.
 fn is_poor(params: &Params, tick: u64, members: &[Member]) -> bool
-    requires { 1 ≤ params.now.windows.opportunistic_ticks }
+    requires { 1 ≤ params.now.timing.opportunistic_ticks }
     ensures { result ≡ is_poor params.now tick members.now }
 {
     let threshold = i128::from(params.thresholds.opportunistic_threshold);
-    tick % params.windows.opportunistic_ticks == 0 && median_is_below(members, &threshold)
+    tick % params.timing.opportunistic_ticks == 0 && median_is_below(members, &threshold)
 }
 
 fn above_median(
@@ -201,7 +201,7 @@ fn above_median(
 
 impl Heartbeat<'_> {
     /// Who comes into a poor mesh, beside those that came in already: nobody, where it is not poor.
-    fn bettered<W: Words>(
+    fn opportunistic_grafts<W: Words>(
         self,
         alloc: Global,
         members: &[Member],
@@ -209,9 +209,9 @@ impl Heartbeat<'_> {
         grafted: &[PeerNo],
         words: &mut W,
     ) -> Result<Vec<PeerNo>, AllocError>
-        requires ticks { 1 ≤ self.params.now.windows.opportunistic_ticks }
+        requires ticks { 1 ≤ self.params.now.timing.opportunistic_ticks }
         requires candidates { IsAscending (peers_of candidates.now) }
-        ensures { IfOk result (λ more. bettered_by_words W.word W.after self.entry.params.now self.entry.tick
+        ensures { IfOk result (λ more. opportunistic_grafts_by_words W.word W.after self.entry.params.now self.entry.tick
             members.now candidates.now grafted.now words.old
             ≡ (more.items, words.new)) }
     {
@@ -220,7 +220,7 @@ impl Heartbeat<'_> {
         }
         let others = outside(alloc, grafted, candidates)?;
         let better = above_median(alloc, members, &others)?;
-        let most = self.params.windows.opportunistic_peers;
+        let most = self.params.timing.opportunistic_peers;
         let more = pick_of(alloc, &better, most, words)?;
         Ok(more)
     }

@@ -14,7 +14,7 @@ mod topic_mesh;
 pub use backoffs::Backoffs;
 pub use condition::Condition;
 pub use cut::a_cut_by_words_is_a_cut;
-pub use heartbeat::{Choice, Heartbeat, a_choice_by_words_is_a_mesh_step, choose_heartbeat};
+pub use heartbeat::{Heartbeat, MeshChange, a_choice_by_words_is_a_mesh_step, choose_heartbeat};
 pub use members::Member;
 pub use meshes::Meshes;
 pub use peer_list::PeerList;

@@ -5,7 +5,7 @@ use denote.Struct.Declared.{shape}
 use Rattle.std.proofs.Crossing.{crosses}
 use Rattle.gs_plan.proofs.plan.Line.TheSendSync as Line
 use Rattle.gs_peer.proofs.outboxes.Outboxes.TheSendSync as Outboxes
-use Rattle.gs_peer.proofs.place.Place.TheSendSync as Place
+use Rattle.gs_peer.proofs.phase.Phase.TheSendSync as Phase
 use Rattle.gs_peer.proofs.player.Player.TheSendSync as Player
 use Rattle.gs_peer.specs.contracts.agenda.Agenda as Agenda
 use Rattle.gs_peer.specs.contracts.agenda.Agenda.TheInside as AgendaFields
@@ -31,7 +31,7 @@ module _ (G S : RattleType) where
         search (sendable, crosses) depth 8,
         (
           assignment,
-          (gate, (Player.the_field_send, (search (sendable, crosses) depth 8, (Place.the_field_send, (Outboxes.the_field_send, (search sendable, (search sendable, (ends, tt)))))))),
+          (gate, (Player.the_field_send, (search (sendable, crosses) depth 8, (Phase.the_field_send, (Outboxes.the_field_send, (search sendable, (search sendable, (ends, tt)))))))),
         ),
       ))
 

@@ -12,8 +12,8 @@ use Rattle.gs_params.specs.Seeding.{SeededState}
 use Rattle.gs_rules.specs.Rounds.{Seat}
 use Rattle.gs_ends.specs.Ends.{Joint}
 use Rattle.gs_ends.specs.Pairs.{Pair, joints_of, pair_ends}
-use Rattle.gs_dials.specs.Places.{list_at}
-use Rattle.gs_peer.specs.declared.finished.PeerFault.{PeerFault}
+use Rattle.gs_dials.specs.ListsByPeer.{list_at}
+use Rattle.gs_peer.specs.declared.finished_task.PeerFault.{PeerFault}
 use Rattle.gs_peer.specs.declared.task.PeerTask.{PeerTask}
 use Rattle.gs_peer.specs.Life.{IsLife}
 use Rattle.gs_peer.specs.Task.{CanPoll, Gives, given_of}

@@ -7,7 +7,7 @@ use Rattle.gs_rules.specs.Peers.{links_of}
 use Rattle.gs_rules.specs.Tables.{Entries}
 use Rattle.gs_rules.specs.Saying.{Said, bytes_of, handled}
 use Rattle.gs_rules.specs.Hearing.{Inbound, Spell}
-use Rattle.gs_rules.specs.Rounds.{Seat, Place, Playing, Closing, ComesAt, Plays, AfterRounds, KeepsRounds}
+use Rattle.gs_rules.specs.Rounds.{Seat, Phase, Playing, Closing, ComesAt, Plays, AfterRounds, KeepsRounds}
 
 -- each of these says the same
 abbrev pub SayTheSame : (PeerNo → Said) → (PeerNo → Said) → List PeerNo → Type 0
@@ -15,17 +15,17 @@ SayTheSame said other qs = AllByRecursion (λ q. said q ≡ other q) qs
 
 -- ---- rounds
 
-comes_same : (seat : Seat) (said other : PeerNo → Said) (place : Place) (qs : List PeerNo) (xs : List Inbound) → SayTheSame said other qs → AllZip (λ q x. ComesAt seat place (said q) x) qs xs → AllZip (λ q x. ComesAt seat place (other q) x) qs xs
-comes_same seat said other place [] [] same h = tt
-comes_same seat said other place [] (x ∷ xs) same h = absurd h
-comes_same seat said other place (q ∷ qs) [] same h = absurd h
-comes_same seat said other place (q ∷ qs) (x ∷ xs) same h =
-    (subst (λ (w : Said). ComesAt seat place w x) same.0 h.0, comes_same seat said other place qs xs same.1 h.1)
+comes_same : (seat : Seat) (said other : PeerNo → Said) (phase : Phase) (qs : List PeerNo) (xs : List Inbound) → SayTheSame said other qs → AllZip (λ q x. ComesAt seat phase (said q) x) qs xs → AllZip (λ q x. ComesAt seat phase (other q) x) qs xs
+comes_same seat said other phase [] [] same h = tt
+comes_same seat said other phase [] (x ∷ xs) same h = absurd h
+comes_same seat said other phase (q ∷ qs) [] same h = absurd h
+comes_same seat said other phase (q ∷ qs) (x ∷ xs) same h =
+    (subst (λ (w : Said). ComesAt seat phase w x) same.0 h.0, comes_same seat said other phase qs xs same.1 h.1)
 
-plays_same : (seat : Seat) (said other : PeerNo → Said) (place : Place) (K L : Entries) (refused : List RefusedLine) → SayTheSame said other (links_of seat.peer) → Plays seat said place K L refused → Plays seat other place K L refused
-plays_same seat said other place K L refused same plays = record {
+plays_same : (seat : Seat) (said other : PeerNo → Said) (phase : Phase) (K L : Entries) (refused : List RefusedLine) → SayTheSame said other (links_of seat.peer) → Plays seat said phase K L refused → Plays seat other phase K L refused
+plays_same seat said other phase K L refused same plays = record {
   inbound = plays.inbound;
-  was_said = comes_same seat said other place (links_of seat.peer) plays.inbound same plays.was_said;
+  was_said = comes_same seat said other phase (links_of seat.peer) plays.inbound same plays.was_said;
   does = plays.does;
 }
 

@@ -16,8 +16,8 @@ use Rattle.gs_plan.specs.Plans.{IsInRange}
 use Rattle.gs_link.specs.declared.item.Slot.{Slot}
 use Rattle.gs_link.specs.Runs.{closes}
 use Rattle.gs_ends.specs.Ends.{Joint, has}
-use Rattle.gs_ends.specs.Pairs.{Pair, accepted_for, joints_of, listed, peers_in, taken_from}
-use Rattle.gs_dials.specs.Places.{list_at}
+use Rattle.gs_ends.specs.Pairs.{Pair, accepted_for, joints_of, peers_in, slots_with, taken_from}
+use Rattle.gs_dials.specs.ListsByPeer.{list_at}
 use Rattle.gs_dials.specs.Dials.{AreWired, AtEach, Dialled, HasCapacity, HasReached, IsClosed, IsExchanged, IsFresh, JoinsTwoOf, assigned, gives}
 use Rattle.gs_net.specs.Given.{Exchanged, Given, GivenLife, Reaches, ends_at}
 use Rattle.gs_net.specs.Rounds.{neighbours, numbers, peer_no}
@@ -82,11 +82,11 @@ usable plan lists p range wired sized fresh =
     }
 
 -- ends over which nothing went have empty lists for every neighbour
-none_listed : (list : Pair → List Slot) (pairs : List Pair) (q : PeerNo) → AllByRecursion (λ pair. list pair ≡ []) pairs → listed list pairs q ≡ []
+none_listed : (list : Pair → List Slot) (pairs : List Pair) (q : PeerNo) → AllByRecursion (λ pair. list pair ≡ []) pairs → slots_with list pairs q ≡ []
 none_listed list [] q none = refl
 none_listed list (pair ∷ pairs) q none = by (same_peer pair.0 q) (none_listed list pairs q none.1)
   where
-    by : (b : Bool) → listed list pairs q ≡ [] → (if b then list pair else listed list pairs q) ≡ []
+    by : (b : Bool) → slots_with list pairs q ≡ [] → (if b then list pair else slots_with list pairs q) ≡ []
     by true others = none.0
     by false others = others
 

@@ -6,7 +6,7 @@ use Rattle.std.proofs.lemmas.Int.{ints}
 use Rattle.std.proofs.lemmas.List.Elements.{All-from_recursion, recursion_from_All}
 use Rattle.gs_base.specs.declared.names.PeerNo.{PeerNo}
 use Rattle.gs_base.specs.declared.neighbour.Neighbour.{Neighbour}
-use Rattle.gs_params.specs.Checks.{all_factor_checks, all_window_checks, checked, degree_checks, first_broken, threshold_checks, unless_broken}
+use Rattle.gs_params.specs.Checks.{all_factor_checks, all_timing_checks, checked, degree_checks, first_broken, threshold_checks, unless_broken}
 use Rattle.gs_params.specs.Params.{AreInRange}
 use Rattle.gs_plan.specs.Plans.{IsAppScore, IsInRange}
 use Rattle.gs_params.specs.declared.checks.Check.{Check}
@@ -21,7 +21,7 @@ use Rattle.gs_net.specs.Rounds.{app_of, is_about, neighbour_in, neighbours, neig
 -- ---- parameters
 
 -- where parameters pass, no group has a check that fails
-none_broken : (a b c d : Option Check) (p : Params) → unless_broken faults.Degrees a (unless_broken faults.Thresholds b (unless_broken faults.Factor c (unless_broken faults.Window d (Ok p)))) ≡ Ok p → (a ≡ None) × (b ≡ None) × (c ≡ None) × (d ≡ None)
+none_broken : (a b c d : Option Check) (p : Params) → unless_broken faults.Degrees a (unless_broken faults.Thresholds b (unless_broken faults.Factor c (unless_broken faults.Timing d (Ok p)))) ≡ Ok p → (a ≡ None) × (b ≡ None) × (c ≡ None) × (d ≡ None)
 none_broken None None None None p passed = (refl, refl, refl, refl)
 none_broken (Some x) b c d p passed = absurd cc
 none_broken None (Some x) c d p passed = absurd cc
@@ -31,7 +31,7 @@ none_broken None None None (Some x) p passed = absurd cc
 pub params_in_range : (plan : Plan) → IsInRange plan → AreInRange plan.params
 params_in_range plan range =
     let p = plan.params in
-    let (d, t, f, w) = none_broken (first_broken (degree_checks p.degrees)) (first_broken (threshold_checks p.thresholds)) (first_broken (all_factor_checks p)) (first_broken (all_window_checks p)) p range.params in
+    let (d, t, f, w) = none_broken (first_broken (degree_checks p.degrees)) (first_broken (threshold_checks p.thresholds)) (first_broken (all_factor_checks p)) (first_broken (all_timing_checks p)) p range.params in
     from_checks p d t f w
 
 -- ---- what applications say

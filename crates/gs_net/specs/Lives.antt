@@ -1,8 +1,8 @@
 -- What the tasks of a run gave, taken apart.
 use Rattle.std.specs.Prelude.{◌≡◌, Bool, true, false, List, length, map, position, Option, option_map, Result, Ok, Err}
 use Rattle.gs_base.specs.declared.names.PeerNo.{PeerNo}
-use Rattle.gs_peer.specs.declared.finished.PeerFault.{PeerFault}
-use Rattle.gs_peer.specs.declared.finished.PeerFault.TheVariants.{NoMemory, Stopped}
+use Rattle.gs_peer.specs.declared.finished_task.PeerFault.{PeerFault}
+use Rattle.gs_peer.specs.declared.finished_task.PeerFault.TheVariants.{NoMemory, Stopped}
 use Rattle.std.specs.List.{range_with_len}
 use Rattle.gs_net.specs.declared.lives.Lives.{Lives}
 use Rattle.gs_net.specs.Given.{Given, bare}

@@ -13,7 +13,7 @@ use Rattle.gs_router.specs.Router.{RouterView}
 use Rattle.gs_peer.specs.declared.assignment.Assignment.{Assignment}
 use Rattle.gs_peer.specs.declared.task.PeerTask.{PeerTask}
 use Rattle.gs_peer.specs.Task.{CanPoll, given_of}
-use Rattle.gs_dials.specs.Places.{list_at}
+use Rattle.gs_dials.specs.ListsByPeer.{list_at}
 use Rattle.gs_dials.specs.Dials.{HasCapacity, IsFresh}
 use Rattle.gs_net.specs.Rounds.{first_words, lines_in, neighbours, peer_in, seat_in}
 

@@ -5,7 +5,7 @@ ghost use Rattle.gs_peer.specs.Task.{CanPoll, Gives};
 
 use crate::fault::NetFault;
 use gs_ends::Ends;
-use gs_peer::{Finished, Gate, PeerFault, PeerTask};
+use gs_peer::{FinishedTask, Gate, PeerFault, PeerTask};
 use gs_workers::{StopFlag, run_all};
 use std::alloc::{AllocGlobal, Global};
 use std::random::RandomSource;
@@ -29,7 +29,7 @@ pub fn run_tasks<
     workers: usize,
     stop: &Arc<StopFlag>,
     tasks: Vec<PeerTask<G, S>>,
-) -> Result<Vec<Result<Finished<S>, PeerFault>>, NetFault>
+) -> Result<Vec<Result<FinishedTask<S>, PeerFault>>, NetFault>
     requires workers { 1 ≤ workers }
     requires ready { All (CanPoll S.Ends) tasks.items }
     ensures given { IfOk result (λ results.

@@ -2,7 +2,7 @@
 ghost use Rattle.std.specs.Prelude.{◌≡◌, ◌<◌, IfOk, length};
 ghost use Rattle.gs_base.specs.declared.names.PeerNo.{PeerNo as PeerNoValue};
 ghost use Rattle.gs_plan.specs.Plans.{IsInRange};
-ghost use Rattle.gs_dials.specs.Places.{list_at};
+ghost use Rattle.gs_dials.specs.ListsByPeer.{list_at};
 ghost use Rattle.gs_net.specs.Rounds.{lines_in};
 
 use gs_base::clone_of;

@@ -1,5 +1,5 @@
 ghost use Rattle.std.specs.Prelude.{◌≡◌, ◌≤◌, IfErr, IfOk, List, Ok, length, map, position};
-ghost use Rattle.gs_peer.specs.declared.finished.Finished.{Finished as Life};
+ghost use Rattle.gs_peer.specs.declared.finished_task.FinishedTask.{FinishedTask as Life};
 ghost use Rattle.gs_ends.specs.Pairs.{Pair};
 ghost use Rattle.gs_net.specs.Lives.{IsTakenApart, first_without_memory, wants_memory};
 
@@ -26,7 +26,7 @@ pub struct Lives {
 /// want of memory, if one did.
 pub fn lives_of<R: Wait + Drop>(
     alloc: Global,
-    results: Vec<Result<gs_peer::Finished<LinkEnds<R>>, PeerFault>>,
+    results: Vec<Result<gs_peer::FinishedTask<LinkEnds<R>>, PeerFault>>,
 ) -> Result<Lives, NetFault>
     requires { length results.items ≤ 64 }
     ensures lives { IfOk result (λ lives. (given : List (Life (List Pair)))
@@ -44,7 +44,7 @@ pub fn lives_of<R: Wait + Drop>(
         let Ok(life) = result else {
             return Err(NetFault::NoMemory(None));
         };
-        let gs_peer::Finished {
+        let gs_peer::FinishedTask {
             trace,
             refused,
             meshes,
@@ -69,7 +69,7 @@ pub fn lives_of<R: Wait + Drop>(
 
 /// The lowest peer whose task met want of memory.
 fn first_without_memory<R: Wait + Drop>(
-    results: &[Result<gs_peer::Finished<LinkEnds<R>>, PeerFault>],
+    results: &[Result<gs_peer::FinishedTask<LinkEnds<R>>, PeerFault>],
 ) -> Option<PeerNo>
     requires { length results.now ≤ 64 }
     ensures { result ≡ first_without_memory results.now }
@@ -82,14 +82,16 @@ fn first_without_memory<R: Wait + Drop>(
 
 /// The place of the first task that met want of memory.
 fn place_of_want<R: Wait + Drop>(
-    results: &[Result<gs_peer::Finished<LinkEnds<R>>, PeerFault>],
+    results: &[Result<gs_peer::FinishedTask<LinkEnds<R>>, PeerFault>],
 ) -> Option<usize>
     ensures { result ≡ position wants_memory results.now }
 {
     results.iter().position(|given| wants_memory(given))
 }
 
-fn wants_memory<R: Wait + Drop>(given: &Result<gs_peer::Finished<LinkEnds<R>>, PeerFault>) -> bool
+fn wants_memory<R: Wait + Drop>(
+    given: &Result<gs_peer::FinishedTask<LinkEnds<R>>, PeerFault>,
+) -> bool
     ensures { result ≡ wants_memory given.now }
 {
     match given {

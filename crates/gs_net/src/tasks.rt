@@ -4,7 +4,7 @@ ghost use Rattle.gs_base.specs.declared.names.PeerNo.{PeerNo as PeerNoValue};
 ghost use Rattle.gs_base.specs.Names.{peers_of, same_peer};
 ghost use Rattle.gs_plan.specs.Plans.{IsInRange};
 ghost use Rattle.gs_ends.specs.Pairs.{joints_of, peers_in};
-ghost use Rattle.gs_dials.specs.Places.{list_at};
+ghost use Rattle.gs_dials.specs.ListsByPeer.{list_at};
 ghost use Rattle.gs_net.specs.Rounds.{first_words, lines_in, neighbours_in, numbers, words_of};
 ghost use Rattle.gs_net.specs.Tasks.{AreUsable, IsAssignedIn, IsTask, IsTaskFor, new_router};
 

@@ -104,7 +104,7 @@ struct Turns {
 }
 
 impl Gate for Turns {
-    fn turn(&self, worker: usize, _round: u64) {
+    fn begin_round(&self, worker: usize, _round: u64) {
         let count = match worker {
             0 => &self.first,
             1 => &self.second,

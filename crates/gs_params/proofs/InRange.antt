@@ -8,15 +8,15 @@ use Rattle.gs_base.specs.declared.names.Topic.{Topic}
 use Rattle.gs_params.specs.declared.params.Degrees.{Degrees}
 use Rattle.gs_params.specs.declared.params.Thresholds.{Thresholds}
 use Rattle.gs_params.specs.declared.params.Factors.{Factors}
-use Rattle.gs_params.specs.declared.params.Windows.{Windows}
+use Rattle.gs_params.specs.declared.params.Timing.{Timing}
 use Rattle.gs_params.specs.declared.params.Params.{Params}
 use Rattle.gs_params.specs.declared.topic_params.TopicFactors.{TopicFactors}
-use Rattle.gs_params.specs.declared.topic_params.TopicWindows.{TopicWindows}
+use Rattle.gs_params.specs.declared.topic_params.TopicTiming.{TopicTiming}
 use Rattle.gs_params.specs.declared.topic_params.TopicParams.{TopicParams}
 use Rattle.gs_params.specs.declared.checks.Check.{Check}
 use Rattle.gs_params.specs.declared.param_fault.ParamFault.TheVariants as faults
-use Rattle.gs_params.specs.Params.{AreInRange, DegreesAreInRange, ThresholdsAreInRange, FactorsAreInRange, WindowsAreInRange, TopicFactorsAreInRange, TopicWindowsAreInRange, IsReward, IsPenalty, IsFraction, IsCap}
-use Rattle.gs_params.specs.Checks.{checked, in_range, int_in_range, heaviest, highest_cap, highest_factor, holds, first_broken, unless_broken, degree_checks, threshold_checks, factor_checks, window_checks, topic_factor_checks, topic_window_checks, each_topic_from, all_factor_checks, all_window_checks}
+use Rattle.gs_params.specs.Params.{AreInRange, DegreesAreInRange, ThresholdsAreInRange, FactorsAreInRange, TimingIsInRange, TopicFactorsAreInRange, TopicTimingIsInRange, IsReward, IsPenalty, IsFraction, IsCap}
+use Rattle.gs_params.specs.Checks.{checked, in_range, int_in_range, heaviest, highest_cap, highest_factor, holds, first_broken, unless_broken, degree_checks, threshold_checks, factor_checks, timing_checks, topic_factor_checks, topic_timing_checks, each_topic_from, all_factor_checks, all_timing_checks}
 use Rattle.gs_params.proofs.Broken.{all_hold, none_fails}
 
 -- ---- tests
@@ -95,9 +95,9 @@ factors x =
 some_of_more : (low a b : ℕ) → low ≤ a → a ≤ b → low ≤ b
 some_of_more low a b p q = omega (arith, p, q)
 
-windows : (x : Windows) → Decides (list_all holds (window_checks x)) (WindowsAreInRange x)
-windows x =
-    Decides-like (list_all holds (window_checks x))
+timing : (x : Timing) → Decides (list_all holds (timing_checks x)) (TimingIsInRange x)
+timing x =
+    Decides-like (list_all holds (timing_checks x))
     (λ (heartbeat, (decay, (fanout_ttl, (seen_ttl, (iwant_followup, (prune_backoff, (unsubscribe_backoff, (mcache_len, (some, (fewer, (opportunistic_ticks, (opportunistic_peers, (max_ihave, (max_ihave_ids, (gossip_retransmission, _))))))))))))))). record { heartbeat = heartbeat; decay = decay; fanout_ttl = fanout_ttl; seen_ttl = seen_ttl; iwant_followup = iwant_followup; prune_backoff = prune_backoff; unsubscribe_backoff = unsubscribe_backoff; mcache_gossip = (some, fewer); mcache_len = mcache_len.1; opportunistic_ticks = opportunistic_ticks; opportunistic_peers = opportunistic_peers; max_ihave = max_ihave; max_ihave_ids = max_ihave_ids; gossip_retransmission = gossip_retransmission })
     (λ h. (h.heartbeat, (h.decay, (h.fanout_ttl, (h.seen_ttl, (h.iwant_followup, (h.prune_backoff, (h.unsubscribe_backoff, ((some_of_more _ _ _ h.mcache_gossip.0 h.mcache_gossip.1, h.mcache_len), (h.mcache_gossip.0, (h.mcache_gossip.1, (h.opportunistic_ticks, (h.opportunistic_peers, (h.max_ihave, (h.max_ihave_ids, (h.gossip_retransmission, tt))))))))))))))))
     (between _ _ _ and between _ _ _ and between _ _ _ and between _ _ _ and between _ _ _ and between _ _ _ and between _ _ _ and between _ _ _ and le _ _ and le _ _ and between _ _ _ and le _ _ and between _ _ _ and between _ _ _ and between _ _ _ and done)
@@ -109,9 +109,9 @@ topic_factors place x =
     (λ h. (h.topic_weight, (h.w1, (h.w2, (h.w3, (h.w3b, (h.w4, (h.p2_decay, (h.p3_decay, (h.p3b_decay, (h.p4_decay, (h.p1_cap, (h.p2_cap, (h.p3_cap, (h.p3_threshold, tt)))))))))))))))
     (reward _ and reward _ and reward _ and penalty _ and penalty _ and penalty _ and part _ and part _ and part _ and part _ and cap _ and cap _ and cap _ and cap _ and done)
 
-topic_windows : (place : ℕ) (x : TopicWindows) → Decides (list_all holds (topic_window_checks place x)) (TopicWindowsAreInRange x)
-topic_windows place x =
-    Decides-like (list_all holds (topic_window_checks place x))
+topic_timing : (place : ℕ) (x : TopicTiming) → Decides (list_all holds (topic_timing_checks place x)) (TopicTimingIsInRange x)
+topic_timing place x =
+    Decides-like (list_all holds (topic_timing_checks place x))
     (λ (p1_quantum, (p3_window, (p3_activation, _))). record { p1_quantum = p1_quantum; p3_window = p3_window; p3_activation = p3_activation })
     (λ h. (h.p1_quantum, (h.p3_window, (h.p3_activation, tt))))
     (between _ _ _ and le _ _ and le _ _ and done)
@@ -141,34 +141,34 @@ all_factors p =
     (Decides-and _ _ (factors p.factors)
     (of_each (λ place one. topic_factor_checks place one.factors) (λ one. TopicFactorsAreInRange one.factors) (λ one. topic_factors 0 one.factors) (λ _ _. refl) p.topics))
 
-all_windows : (p : Params) → Decides (list_all holds (all_window_checks p)) (WindowsAreInRange p.windows × All (λ (topic : Topic × TopicParams). TopicWindowsAreInRange topic.1.windows) p.topics)
-all_windows p =
-    Decides-at _ _ (list_all-append holds (window_checks p.windows) (each_topic_from (λ place one. topic_window_checks place one.windows) 0 p.topics))
-    (Decides-and _ _ (windows p.windows)
-    (of_each (λ place one. topic_window_checks place one.windows) (λ one. TopicWindowsAreInRange one.windows) (λ one. topic_windows 0 one.windows) (λ _ _. refl) p.topics))
+all_timing : (p : Params) → Decides (list_all holds (all_timing_checks p)) (TimingIsInRange p.timing × All (λ (topic : Topic × TopicParams). TopicTimingIsInRange topic.1.timing) p.topics)
+all_timing p =
+    Decides-at _ _ (list_all-append holds (timing_checks p.timing) (each_topic_from (λ place one. topic_timing_checks place one.timing) 0 p.topics))
+    (Decides-and _ _ (timing p.timing)
+    (of_each (λ place one. topic_timing_checks place one.timing) (λ one. TopicTimingIsInRange one.timing) (λ one. topic_timing 0 one.timing) (λ _ _. refl) p.topics))
 
 -- ---- the four groups
 
-pub from_checks : (p : Params) → first_broken (degree_checks p.degrees) ≡ None → first_broken (threshold_checks p.thresholds) ≡ None → first_broken (all_factor_checks p) ≡ None → first_broken (all_window_checks p) ≡ None → AreInRange p
+pub from_checks : (p : Params) → first_broken (degree_checks p.degrees) ≡ None → first_broken (threshold_checks p.thresholds) ≡ None → first_broken (all_factor_checks p) ≡ None → first_broken (all_timing_checks p) ≡ None → AreInRange p
 from_checks p d t f w =
     let of_factors = (all_factors p).0 (all_hold (all_factor_checks p) f) in
-    let of_windows = (all_windows p).0 (all_hold (all_window_checks p) w) in record {
+    let of_timing = (all_timing p).0 (all_hold (all_timing_checks p) w) in record {
       degrees = (degrees p.degrees).0 (all_hold (degree_checks p.degrees) d);
       thresholds = (thresholds p.thresholds).0 (all_hold (threshold_checks p.thresholds) t);
       factors = of_factors.0;
-      windows = of_windows.0;
+      timing = of_timing.0;
       topic_factors = of_factors.1;
-      topic_windows = of_windows.1;
+      topic_timing = of_timing.1;
     }
 
 -- where no group has a check that fails, the parameters pass
-passed : (a b c d : Option Check) (p : Params) → a ≡ None → b ≡ None → c ≡ None → d ≡ None → unless_broken faults.Degrees a (unless_broken faults.Thresholds b (unless_broken faults.Factor c (unless_broken faults.Window d (Ok p)))) ≡ Ok p
+passed : (a b c d : Option Check) (p : Params) → a ≡ None → b ≡ None → c ≡ None → d ≡ None → unless_broken faults.Degrees a (unless_broken faults.Thresholds b (unless_broken faults.Factor c (unless_broken faults.Timing d (Ok p)))) ≡ Ok p
 passed a b c d p e f g h = rw (e, f, g, h) refl
 
 pub is_checked : (p : Params) → AreInRange p → checked p ≡ Ok p
 is_checked p h =
-    passed (first_broken (degree_checks p.degrees)) (first_broken (threshold_checks p.thresholds)) (first_broken (all_factor_checks p)) (first_broken (all_window_checks p)) p
+    passed (first_broken (degree_checks p.degrees)) (first_broken (threshold_checks p.thresholds)) (first_broken (all_factor_checks p)) (first_broken (all_timing_checks p)) p
     (none_fails (degree_checks p.degrees) ((degrees p.degrees).1 h.degrees))
     (none_fails (threshold_checks p.thresholds) ((thresholds p.thresholds).1 h.thresholds))
     (none_fails (all_factor_checks p) ((all_factors p).1 (h.factors, h.topic_factors)))
-    (none_fails (all_window_checks p) ((all_windows p).1 (h.windows, h.topic_windows)))
+    (none_fails (all_timing_checks p) ((all_timing p).1 (h.timing, h.topic_timing)))

@@ -17,7 +17,7 @@ use Rattle.std.proofs.lemmas.Map.Keys.{IsDistinct-from_apart, IsDistinct-IsPermu
 use Rattle.std.proofs.lemmas.Map.Made.{is_member-filter, length-from_same_keys}
 use Rattle.gs_base.specs.declared.names.PeerNo.{PeerNo}
 use Rattle.gs_base.specs.Names.{same_peer}
-use Rattle.gs_params.specs.Picks.{IsAscending, IsChoice, next_words, after_words, shuffled, picked, picked_words}
+use Rattle.gs_params.specs.Picks.{IsAscending, IsSample, next_words, after_words, shuffled, picked, picked_words}
 
 -- ---- peers
 
@@ -115,8 +115,8 @@ unfolding picked_words
 picked_some_words word after k xs s h = let e : nat_le (length xs) k ≡ false = grind (arith, nat_tests) in rw e refl
 
 -- those that pass a test are among the candidates, as they stand there
-choice_by_test : (k : ℕ) (test : PeerNo → Bool) (xs : List PeerNo) → IsAscending xs → length (filter test xs) ≡ min k (length xs) → IsChoice k xs (filter test xs)
-choice_by_test k test xs up n =
+sample_by_test : (k : ℕ) (test : PeerNo → Bool) (xs : List PeerNo) → IsAscending xs → length (filter test xs) ≡ min k (length xs) → IsSample k xs (filter test xs)
+sample_by_test k test xs up n =
     let still : IsAscending (filter test xs) = ascending_filter test xs up in
     record {
       count = n;
@@ -125,34 +125,34 @@ choice_by_test k test xs up n =
       distinct = distinct_from_ascending (filter test xs) still;
     }
 
-choice_of_all : (k : ℕ) (xs : List PeerNo) → IsAscending xs → length xs ≤ k → IsChoice k xs xs
-choice_of_all k xs up h = record {
+sample_of_all : (k : ℕ) (xs : List PeerNo) → IsAscending xs → length xs ≤ k → IsSample k xs xs
+sample_of_all k xs up h = record {
   count = omega arith;
   members = All-contains_itself xs;
   ascending = up;
   distinct = distinct_from_ascending xs up;
 }
 
-choice_of_front : (k : ℕ) (xs ys : List PeerNo) → IsAscending xs → IsPermutation xs ys → k < length xs → IsChoice k xs (filter (is_member same_peer (take k ys)) xs)
-choice_of_front k xs ys up moved h =
+sample_of_front : (k : ℕ) (xs ys : List PeerNo) → IsAscending xs → IsPermutation xs ys → k < length xs → IsSample k xs (filter (is_member same_peer (take k ys)) xs)
+sample_of_front k xs ys up moved h =
     let test = is_member same_peer (take k ys) in
     let kept : IsDistinct same_peer (filter test xs) = distinct_from_ascending (filter test xs) (ascending_filter test xs up) in
     let front : IsDistinct same_peer (take k ys) = distinct_front k ys (IsDistinct-IsPermutation same_peer same_peer_equiv.symm xs ys moved (distinct_from_ascending xs up)) in
     let n : length (filter test xs) ≡ length (take k ys) = length-from_same_keys same_peer_equiv (filter test xs) (take k ys) kept front (λ p. front_is_kept k xs ys p moved) in
     let long : length ys ≡ length xs = length_permutation xs ys moved in
     let m : length (take k ys) ≡ k = length-take-le k ys (omega arith) in
-    choice_by_test k test xs up (omega arith)
+    sample_by_test k test xs up (omega arith)
 
 shuffle_of_all : {S : Type 0} (word : S → ℕ) (after : S → S) (k : ℕ) (xs : List PeerNo) (s : S) → k < length xs → IsPermutation xs (shuffled 0 (next_words word after k s) xs)
 shuffle_of_all word after k xs s h = let n = length-next_words word after k s in shuffled_moves 0 (next_words word after k s) xs (omega arith)
 
-choice_by_size : {S : Type 0} (word : S → ℕ) (after : S → S) (k : ℕ) (xs : List PeerNo) (s : S) → IsAscending xs → (all : Bool) → nat_le (length xs) k ≡ all → IsChoice k xs (picked word after k xs s)
-choice_by_size word after k xs s up true e = let h : length xs ≤ k = grind (arith, nat_tests) in rw (picked_all word after k xs s h) (choice_of_all k xs up h)
-choice_by_size word after k xs s up false e = let h : k < length xs = grind (arith, nat_tests) in rw (picked_some word after k xs s h) (choice_of_front k xs (shuffled 0 (next_words word after k s) xs) up (shuffle_of_all word after k xs s h) h)
+sample_by_size : {S : Type 0} (word : S → ℕ) (after : S → S) (k : ℕ) (xs : List PeerNo) (s : S) → IsAscending xs → (all : Bool) → nat_le (length xs) k ≡ all → IsSample k xs (picked word after k xs s)
+sample_by_size word after k xs s up true e = let h : length xs ≤ k = grind (arith, nat_tests) in rw (picked_all word after k xs s h) (sample_of_all k xs up h)
+sample_by_size word after k xs s up false e = let h : k < length xs = grind (arith, nat_tests) in rw (picked_some word after k xs s h) (sample_of_front k xs (shuffled 0 (next_words word after k s) xs) up (shuffle_of_all word after k xs s h) h)
 
 -- what is picked is a choice of k of the candidates
-pub picked_is_choice : {S : Type 0} (word : S → ℕ) (after : S → S) (k : ℕ) (xs : List PeerNo) (s : S) → IsAscending xs → IsChoice k xs (picked word after k xs s)
-picked_is_choice word after k xs s up = choice_by_size word after k xs s up (nat_le (length xs) k) refl
+pub picked_is_sample : {S : Type 0} (word : S → ℕ) (after : S → S) (k : ℕ) (xs : List PeerNo) (s : S) → IsAscending xs → IsSample k xs (picked word after k xs s)
+picked_is_sample word after k xs s up = sample_by_size word after k xs s up (nat_le (length xs) k) refl
 
 -- a peer is picked where it stands in one of the first k places
 pub picked_from_front : {S : Type 0} (word : S → ℕ) (after : S → S) (k : ℕ) (xs : List PeerNo) (s : S) (p : PeerNo) → k < length xs → is_member same_peer (picked word after k xs s) p ≡ is_member same_peer (take k (shuffled 0 (next_words word after k s) xs)) p

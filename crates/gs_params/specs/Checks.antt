@@ -6,10 +6,10 @@ use Rattle.gs_base.specs.Rpcs.{longest_backoff, most_identifiers}
 use Rattle.gs_params.specs.declared.params.Degrees.{Degrees}
 use Rattle.gs_params.specs.declared.params.Thresholds.{Thresholds}
 use Rattle.gs_params.specs.declared.params.Factors.{Factors}
-use Rattle.gs_params.specs.declared.params.Windows.{Windows}
+use Rattle.gs_params.specs.declared.params.Timing.{Timing}
 use Rattle.gs_params.specs.declared.params.Params.{Params}
 use Rattle.gs_params.specs.declared.topic_params.TopicFactors.{TopicFactors}
-use Rattle.gs_params.specs.declared.topic_params.TopicWindows.{TopicWindows}
+use Rattle.gs_params.specs.declared.topic_params.TopicTiming.{TopicTiming}
 use Rattle.gs_params.specs.declared.topic_params.TopicParams.{TopicParams}
 use Rattle.gs_params.specs.declared.parameter.Parameter.TheVariants as of
 use Rattle.gs_params.specs.declared.parameter.TopicParameter.TheVariants as topic
@@ -149,8 +149,8 @@ factor_checks x =
     ∷ Count of.P6Threshold x.p6_threshold (count.Range 1 most_at_an_address)
     ∷ []
 
-abbrev pub window_checks : Windows → List Check
-window_checks x =
+abbrev pub timing_checks : Timing → List Check
+timing_checks x =
     Count of.HeartbeatMs x.heartbeat_ms some_time
     ∷ Count of.DecayMs x.decay_ms some_time
     ∷ Count of.FanoutTtlMs x.fanout_ttl_ms some_time
@@ -187,8 +187,8 @@ topic_factor_checks place x =
     ∷ Count (of.OfTopic place topic.P3Threshold) x.p3_threshold cap
     ∷ []
 
-abbrev pub topic_window_checks : ℕ → TopicWindows → List Check
-topic_window_checks place x =
+abbrev pub topic_timing_checks : ℕ → TopicTiming → List Check
+topic_timing_checks place x =
     Count (of.OfTopic place topic.P1QuantumMs) x.p1_quantum_ms some_time
     ∷ Count (of.OfTopic place topic.P3WindowMs) x.p3_window_ms (count.AtMost longest_time)
     ∷ Count (of.OfTopic place topic.P3ActivationMs) x.p3_activation_ms (count.AtMost longest_time)
@@ -203,8 +203,8 @@ each_topic_from checks place (one ∷ topics) = checks place one.1 ++ each_topic
 abbrev pub all_factor_checks : Params → List Check
 all_factor_checks p = factor_checks p.factors ++ each_topic_from (λ place one. topic_factor_checks place one.factors) 0 p.topics
 
-abbrev pub all_window_checks : Params → List Check
-all_window_checks p = window_checks p.windows ++ each_topic_from (λ place one. topic_window_checks place one.windows) 0 p.topics
+abbrev pub all_timing_checks : Params → List Check
+all_timing_checks p = timing_checks p.timing ++ each_topic_from (λ place one. topic_timing_checks place one.timing) 0 p.topics
 
 -- ---- which fault is first
 
@@ -219,10 +219,10 @@ checked p =
     unless_broken faults.Degrees (first_broken (degree_checks p.degrees))
     (unless_broken faults.Thresholds (first_broken (threshold_checks p.thresholds))
     (unless_broken faults.Factor (first_broken (all_factor_checks p))
-    (unless_broken faults.Window (first_broken (all_window_checks p)) (Ok p))))
+    (unless_broken faults.Timing (first_broken (all_timing_checks p)) (Ok p))))
 
 abbrev pub number_of : ParamFault → ℕ
 number_of (faults.Degrees check) = 1
 number_of (faults.Thresholds check) = 2
 number_of (faults.Factor check) = 3
-number_of (faults.Window check) = 4
+number_of (faults.Timing check) = 4

@@ -5,10 +5,10 @@ use Rattle.gs_base.specs.declared.names.Topic.{Topic}
 use Rattle.gs_params.specs.declared.params.Degrees.{Degrees}
 use Rattle.gs_params.specs.declared.params.Thresholds.{Thresholds}
 use Rattle.gs_params.specs.declared.params.Factors.{Factors}
-use Rattle.gs_params.specs.declared.params.Windows.{Windows}
+use Rattle.gs_params.specs.declared.params.Timing.{Timing}
 use Rattle.gs_params.specs.declared.params.Params.{Params}
 use Rattle.gs_params.specs.declared.topic_params.TopicFactors.{TopicFactors}
-use Rattle.gs_params.specs.declared.topic_params.TopicWindows.{TopicWindows}
+use Rattle.gs_params.specs.declared.topic_params.TopicTiming.{TopicTiming}
 use Rattle.gs_params.specs.declared.topic_params.TopicParams.{TopicParams}
 pub use Rattle.gs_params.specs.Checks.{checked, heaviest, highest_cap, highest_degree, highest_factor, in_range, int_in_range}
 pub use Rattle.gs_params.specs.Checks.{longest_memory, longest_time, most_at_an_address}
@@ -44,8 +44,8 @@ default_factors = record {
 }
 
 -- in milliseconds, backoffs in seconds, and numbers of heartbeats, neighbours and messages
-abbrev pub default_windows : Windows
-default_windows = record {
+abbrev pub default_timing : Timing
+default_timing = record {
   heartbeat_ms = 1_000;
   decay_ms = 1_000;
   fanout_ttl_ms = 60_000;
@@ -71,7 +71,7 @@ default_params = record {
   degrees = default_degrees;
   thresholds = default_thresholds;
   factors = default_factors;
-  windows = default_windows;
+  timing = default_timing;
   flood_publish = default_flood_publish;
   topics = [];
 }
@@ -96,13 +96,13 @@ default_topic_factors = record {
 }
 
 -- in milliseconds
-abbrev pub default_topic_windows : TopicWindows
-default_topic_windows = record { p1_quantum_ms = 1_000; p3_window_ms = 10; p3_activation_ms = 5_000 }
+abbrev pub default_topic_timing : TopicTiming
+default_topic_timing = record { p1_quantum_ms = 1_000; p3_window_ms = 10; p3_activation_ms = 5_000 }
 
 abbrev pub default_topic_params : TopicParams
 default_topic_params = record {
   factors = default_topic_factors;
-  windows = default_topic_windows;
+  timing = default_topic_timing;
   reject = [];
   ignore = [];
 }
@@ -147,7 +147,7 @@ pub record FactorsAreInRange (x : Factors) : Type 0 where
   pub decay_to_zero : IsCap x.decay_to_zero
   pub p6_threshold : (1 ≤ x.p6_threshold) × (x.p6_threshold ≤ most_at_an_address)
 
-pub record WindowsAreInRange (x : Windows) : Type 0 where
+pub record TimingIsInRange (x : Timing) : Type 0 where
   pub heartbeat : (1 ≤ x.heartbeat_ms) × (x.heartbeat_ms ≤ longest_time)
   pub decay : (1 ≤ x.decay_ms) × (x.decay_ms ≤ longest_time)
   pub fanout_ttl : (1 ≤ x.fanout_ttl_ms) × (x.fanout_ttl_ms ≤ longest_time)
@@ -179,7 +179,7 @@ pub record TopicFactorsAreInRange (x : TopicFactors) : Type 0 where
   pub p3_cap : IsCap x.p3_cap
   pub p3_threshold : IsCap x.p3_threshold
 
-pub record TopicWindowsAreInRange (x : TopicWindows) : Type 0 where
+pub record TopicTimingIsInRange (x : TopicTiming) : Type 0 where
   pub p1_quantum : (1 ≤ x.p1_quantum_ms) × (x.p1_quantum_ms ≤ longest_time)
   pub p3_window : x.p3_window_ms ≤ longest_time
   pub p3_activation : x.p3_activation_ms ≤ longest_time
@@ -188,6 +188,6 @@ pub record AreInRange (p : Params) : Type 0 where
   pub degrees : DegreesAreInRange p.degrees
   pub thresholds : ThresholdsAreInRange p.thresholds
   pub factors : FactorsAreInRange p.factors
-  pub windows : WindowsAreInRange p.windows
+  pub timing : TimingIsInRange p.timing
   pub topic_factors : All (λ (topic : Topic × TopicParams). TopicFactorsAreInRange topic.1.factors) p.topics
-  pub topic_windows : All (λ (topic : Topic × TopicParams). TopicWindowsAreInRange topic.1.windows) p.topics
+  pub topic_timing : All (λ (topic : Topic × TopicParams). TopicTimingIsInRange topic.1.timing) p.topics

@@ -12,7 +12,7 @@ abbrev pub IsAscending : List PeerNo → Type 0
 IsAscending peers = AllPairs (λ p q. p.0 < q.0) peers
 
 -- k of the candidates, or all where there are fewer
-pub record IsChoice (k : ℕ) (candidates chosen : List PeerNo) : Type 0 where
+pub record IsSample (k : ℕ) (candidates chosen : List PeerNo) : Type 0 where
   pub count : length chosen ≡ min k (length candidates)
   pub members : All (Contains candidates) chosen
   pub ascending : IsAscending chosen

@@ -17,7 +17,7 @@ pub enum ParamFault {
     Factor(Check),
     /// A time or a budget is out of its range.
     #[error("a time or a budget is out of range")]
-    Window(Check),
+    Timing(Check),
 }
 
 impl ParamFault {
@@ -29,7 +29,7 @@ impl ParamFault {
             ParamFault::Degrees(_) => 1,
             ParamFault::Thresholds(_) => 2,
             ParamFault::Factor(_) => 3,
-            ParamFault::Window(_) => 4,
+            ParamFault::Timing(_) => 4,
         }
     }
 }

@@ -6,7 +6,7 @@
 ghost use Rattle.std.specs.Prelude.{◌≡◌, IfOk};
 ghost use Rattle.gs_params.specs.declared.params.Params.{Params as ParamsValue};
 ghost use Rattle.gs_params.specs.Params.{AreInRange, default_params};
-ghost use Rattle.gs_params.specs.Checks.{all_factor_checks, all_window_checks, checked, degree_checks, each_topic_from, factor_checks, first_broken, threshold_checks, topic_factor_checks, topic_window_checks, window_checks};
+ghost use Rattle.gs_params.specs.Checks.{all_factor_checks, all_timing_checks, checked, degree_checks, each_topic_from, factor_checks, first_broken, threshold_checks, timing_checks, topic_factor_checks, topic_timing_checks};
 
 use crate::checks::{Check, CountRule, ScoreRule, first_broken};
 use crate::param_fault::ParamFault;
@@ -109,7 +109,7 @@ pub const DEFAULT_FACTORS: Factors = Factors {
 
 /// Times, and how much of something there is in a time.
 #[derive(Clone, Copy, Debug, PartialEq, Eq)]
-pub struct Windows {
+pub struct Timing {
     /// The time from heartbeat to heartbeat, in milliseconds: 1 to 10^9.
     pub heartbeat_ms: u64,
     /// The time from decay to decay of the counters, in milliseconds: 1 to 10^9.
@@ -140,8 +140,8 @@ pub struct Windows {
     pub gossip_retransmission: u64,
 }
 
-/// The windows where nothing else is said.
-pub const DEFAULT_WINDOWS: Windows = Windows {
+/// The times and budgets where nothing else is said.
+pub const DEFAULT_TIMING: Timing = Timing {
     heartbeat_ms: 1_000,
     decay_ms: 1_000,
     fanout_ttl_ms: 60_000,
@@ -167,7 +167,7 @@ pub struct Params {
     pub degrees: Degrees,
     pub thresholds: Thresholds,
     pub factors: Factors,
-    pub windows: Windows,
+    pub timing: Timing,
     /// Whether an own message goes to all that are on its topic, and not to its mesh alone.
     pub flood_publish: bool,
     /// The parameters of topics. The first of a topic counts, and a topic without any has the
@@ -244,10 +244,10 @@ impl Factors {
     }
 }
 
-impl Windows {
+impl Timing {
     /// What is checked: whether each is in its range.
     pub fn checks(&self) -> [Check; 15]
-        ensures { result ≡ window_checks self.now }
+        ensures { result ≡ timing_checks self.now }
     {
         let len = self.mcache_len;
         [
@@ -298,7 +298,7 @@ impl Clone for Params {
             degrees: self.degrees,
             thresholds: self.thresholds,
             factors: self.factors,
-            windows: self.windows,
+            timing: self.timing,
             flood_publish: self.flood_publish,
             topics: self.topics.clone()?,
         })
@@ -318,7 +318,7 @@ impl Params {
             degrees: DEFAULT_DEGREES,
             thresholds: DEFAULT_THRESHOLDS,
             factors: DEFAULT_FACTORS,
-            windows: DEFAULT_WINDOWS,
+            timing: DEFAULT_TIMING,
             flood_publish: DEFAULT_FLOOD_PUBLISH,
             topics: Seq::new(alloc),
         }
@@ -327,7 +327,7 @@ impl Params {
     /// The parameters, which are then known to be in their ranges.
     ///
     /// # Errors
-    /// The first check that fails. First come `Degrees`, then `Thresholds`, `Factor` and `Window`, each of these two
+    /// The first check that fails. First come `Degrees`, then `Thresholds`, `Factor` and `Timing`, each of these two
     /// with those of topics last; within a group the checks have the order of the parameters' names in the structs.
     pub fn check(self) -> Result<Params, ParamFault>
         ensures checked { result ≡ checked self }
@@ -342,8 +342,8 @@ impl Params {
         if let Some(check) = self.first_broken_factor() {
             return Err(ParamFault::Factor(check));
         }
-        if let Some(check) = self.first_broken_window() {
-            return Err(ParamFault::Window(check));
+        if let Some(check) = self.first_broken_timing() {
+            return Err(ParamFault::Timing(check));
         }
         Ok(self)
     }
@@ -358,14 +358,14 @@ impl Params {
         first_broken_factor(self.topics.as_slice())
     }
 
-    /// The first check of a window that fails, those of topics last.
-    fn first_broken_window(&self) -> Option<Check>
-        ensures { result ≡ first_broken (all_window_checks self.now) }
+    /// The first check of a time or a budget that fails, those of topics last.
+    fn first_broken_timing(&self) -> Option<Check>
+        ensures { result ≡ first_broken (all_timing_checks self.now) }
     {
-        if let Some(check) = first_broken(&self.windows.checks()) {
+        if let Some(check) = first_broken(&self.timing.checks()) {
             return Some(check);
         }
-        first_broken_window(self.topics.as_slice())
+        first_broken_timing(self.topics.as_slice())
     }
 }
 
@@ -386,12 +386,12 @@ fn first_broken_factor(topics: &[(Topic, TopicParams)]) -> Option<Check>
     None
 }
 
-fn first_broken_window(topics: &[(Topic, TopicParams)]) -> Option<Check>
+fn first_broken_timing(topics: &[(Topic, TopicParams)]) -> Option<Check>
     ensures { result ≡ first_broken
-        (each_topic_from (λ place one. topic_window_checks place one.windows) 0 topics.now) }
+        (each_topic_from (λ place one. topic_timing_checks place one.timing) 0 topics.now) }
 {
     for (place, topic) in topics.iter().enumerate() {
-        if let Some(check) = first_broken(&topic.1.windows.checks(place)) {
+        if let Some(check) = first_broken(&topic.1.timing.checks(place)) {
             return Some(check);
         }
     }

@@ -3,7 +3,7 @@ ghost use Rattle.std.specs.Prelude.{◌≡◌, ◌<◌, ℕ, IfOk, OnOk, OnErr, 
 ghost use Rattle.std.specs.Set.{is_member};
 ghost use Rattle.gs_base.specs.Names.{same_peer};
 ghost use Rattle.gs_base.specs.declared.names.PeerNo.{PeerNo as PeerNoValue};
-ghost use Rattle.gs_params.specs.Picks.{IsAscending, IsChoice, after_words, next_words, picked, picked_one, picked_one_words, picked_words, shuffled};
+ghost use Rattle.gs_params.specs.Picks.{IsAscending, IsSample, after_words, next_words, picked, picked_one, picked_one_words, picked_words, shuffled};
 
 use crate::words::Words;
 use gs_base::PeerNo;
@@ -42,7 +42,7 @@ pub fn pick<W: Words>(
 ) -> Result<Vec<PeerNo>, AllocError>
     requires { IsAscending candidates.now }
     ensures picked { IfOk result (λ v. v.items ≡ picked W.word W.after k candidates.now words.old) }
-    ensures choice { IfOk result (λ v. IsChoice k candidates.now v.items) }
+    ensures sample { IfOk result (λ v. IsSample k candidates.now v.items) }
     ensures words { OnOk result (words.new ≡ picked_words W.word W.after k candidates.now words.old) }
     ensures err { OnErr result (words.new ≡ words.old) }
 {
@@ -75,9 +75,9 @@ pub fn pick_one<W: Words>(n: usize, words: &mut W) -> usize
 /// Who is picked. So many of the candidates are, ascending and none twice; and where not all are,
 /// they are those in the first k places of the shuffle by the next k words.
 pub fn a_pick_is_the_front_of_a_shuffle<W: Words>()
-    ensures choice { (k : ℕ) (candidates : List PeerNoValue) (words : W)
+    ensures sample { (k : ℕ) (candidates : List PeerNoValue) (words : W)
         → IsAscending candidates
-        → IsChoice k candidates (picked W.word W.after k candidates words) }
+        → IsSample k candidates (picked W.word W.after k candidates words) }
     ensures front { (k : ℕ) (candidates : List PeerNoValue) (words : W) (p : PeerNoValue)
         → k < length candidates
         → is_member same_peer (picked W.word W.after k candidates words) p ≡

@@ -1,7 +1,7 @@
 //! The parameters of a topic: gossipsub v1.1, Peer Scoring, Topic Parameter Calculation.
 ghost use Rattle.std.specs.Prelude.{◌≡◌};
 ghost use Rattle.gs_params.specs.Params.{default_topic_params};
-ghost use Rattle.gs_params.specs.Checks.{topic_factor_checks, topic_window_checks};
+ghost use Rattle.gs_params.specs.Checks.{topic_factor_checks, topic_timing_checks};
 
 use crate::checks::{Check, CountRule};
 use crate::parameter::Parameter::OfTopic;
@@ -68,7 +68,7 @@ pub const DEFAULT_TOPIC_FACTORS: TopicFactors = TopicFactors {
 
 /// Times of a topic, in milliseconds.
 #[derive(Clone, Copy, Debug, PartialEq, Eq)]
-pub struct TopicWindows {
+pub struct TopicTiming {
     /// The time in the mesh that counts as one (P1): 1 to 10^9.
     pub p1_quantum_ms: u64,
     /// For how long after the first delivery another counts (P3): 0 to 10^9.
@@ -78,7 +78,7 @@ pub struct TopicWindows {
 }
 
 /// The times of a topic where nothing else is said.
-pub const DEFAULT_TOPIC_WINDOWS: TopicWindows = TopicWindows {
+pub const DEFAULT_TOPIC_TIMING: TopicTiming = TopicTiming {
     p1_quantum_ms: 1_000,
     p3_window_ms: 10,
     p3_activation_ms: 5_000,
@@ -88,7 +88,7 @@ pub const DEFAULT_TOPIC_WINDOWS: TopicWindows = TopicWindows {
 #[derive(Debug, Drop, PartialEq, Eq)]
 pub struct TopicParams {
     pub factors: TopicFactors,
-    pub windows: TopicWindows,
+    pub timing: TopicTiming,
     /// A payload that begins with one of these is rejected.
     pub reject: Seq<Bytes>,
     /// A payload that begins with one of these, and is not rejected, is ignored.
@@ -101,7 +101,7 @@ impl Clone for TopicParams {
     fn clone(&self) -> Result<TopicParams, AllocError> {
         Ok(TopicParams {
             factors: self.factors,
-            windows: self.windows,
+            timing: self.timing,
             reject: self.reject.clone()?,
             ignore: self.ignore.clone()?,
         })
@@ -119,7 +119,7 @@ impl TopicParams {
     {
         TopicParams {
             factors: DEFAULT_TOPIC_FACTORS,
-            windows: DEFAULT_TOPIC_WINDOWS,
+            timing: DEFAULT_TOPIC_TIMING,
             reject: Seq::new(alloc),
             ignore: Seq::new(alloc),
         }
@@ -162,10 +162,10 @@ impl TopicFactors {
     }
 }
 
-impl TopicWindows {
+impl TopicTiming {
     /// What is checked of the topic at this place: whether each is in its range.
     pub fn checks(&self, place: usize) -> [Check; 3]
-        ensures { result ≡ topic_window_checks place self.now }
+        ensures { result ≡ topic_timing_checks place self.now }
     {
         let any_time = CountRule::AtMost(LONGEST_TIME);
         [

@@ -7,10 +7,10 @@ use Rattle.gs_rules.specs.declared.refusal.RefusedLine.{RefusedLine}
 use Rattle.gs_rules.specs.Peers.{links_of}
 use Rattle.gs_rules.specs.Tables.{Entries}
 use Rattle.gs_rules.specs.Hearing.{Inbound}
-use Rattle.gs_rules.specs.Rounds.{Seat, Place, Playing, Closing, AfterRounds, ComesAt}
+use Rattle.gs_rules.specs.Rounds.{Seat, Phase, Playing, Closing, AfterRounds, ComesAt}
 use Rattle.gs_rules.proofs.Each.{each_weaker}
 use Rattle.gs_peer.specs.Ended.{whole}
-use Rattle.gs_peer.specs.Places.{settled}
+use Rattle.gs_peer.specs.Phases.{rounds_ended}
 use Rattle.gs_peer.specs.Kept.{Begun}
 use Rattle.gs_peer.proofs.Words.{comes_stays, whole_before}
 
@@ -55,9 +55,9 @@ rounds_stay seat (suc r) said said' L refused on (K, earlier, more, before, play
   is,
 )
 
-pub begun_stays : (seat : Seat) (place : Place) (said said' : PeerNo → Said) (L : Entries) (refused : List RefusedLine)
-    → AllByRecursion (GoesOn (settled seat place) said said') (links_of seat.peer)
-    → Begun seat said place L refused
-    → Begun seat said' place L refused
+pub begun_stays : (seat : Seat) (phase : Phase) (said said' : PeerNo → Said) (L : Entries) (refused : List RefusedLine)
+    → AllByRecursion (GoesOn (rounds_ended seat phase) said said') (links_of seat.peer)
+    → Begun seat said phase L refused
+    → Begun seat said' phase L refused
 begun_stays seat (Playing r) said said' L refused on (low, after) = (low, rounds_stay seat r said said' L refused on after)
 begun_stays seat Closing said said' L refused on (K, after, stops) = (K, rounds_stay seat (suc seat.rounds) said said' K refused on after, stops)

@@ -4,7 +4,7 @@ use Rattle.std.proofs.lemmas.Bool.Decides.{eqb_tells}
 use Rattle.gs_base.specs.declared.names.PeerNo.{PeerNo}
 use Rattle.gs_base.specs.Names.{same_peer}
 use Rattle.gs_link.specs.declared.item.Slot.{Slot}
-use Rattle.gs_rules.specs.Rounds.{Place}
+use Rattle.gs_rules.specs.Rounds.{Phase}
 use Rattle.gs_ends.specs.Ends.{GrewBy, OthersStay, slots_of}
 use Rattle.gs_peer.specs.Inboxes.{InboxView, Listens}
 use Rattle.gs_peer.specs.Outboxes.{AcceptsOne}
@@ -57,9 +57,9 @@ grew_after k u v w a same = (a.0, a.1, λ q. same q ∙ a.2 q)
 pub grew_before : (k : ℕ) (u v w : PeerNo → List Slot) → ((q : PeerNo) → v q ≡ u q) → GrewBy k v w → GrewBy k u w
 grew_before k u v w same a = (a.0, a.1, λ q. a.2 q ∙ ap (λ (l : List Slot). l ++ slots_of a.0 q) (same q))
 
-pub grew_listened : (place : Place) (v w : PeerNo → List Slot) (old new : InboxView) → Listens place (v old.peer) (w old.peer) old new → OthersStay old.peer v w → GrewBy 1 v w
-grew_listened place v w old new (inl h) others = grew_none 1 v w (all_stay old.peer v w h.0 others)
-grew_listened place v w old new (inr h) others = grew_one v w old.peer h.0 h.1 others
+pub grew_listened : (phase : Phase) (v w : PeerNo → List Slot) (old new : InboxView) → Listens phase (v old.peer) (w old.peer) old new → OthersStay old.peer v w → GrewBy 1 v w
+grew_listened phase v w old new (inl h) others = grew_none 1 v w (all_stay old.peer v w h.0 others)
+grew_listened phase v w old new (inr h) others = grew_one v w old.peer h.0 h.1 others
 
 pub grew_accepted : (p : PeerNo) (v w : PeerNo → List Slot) → AcceptsOne (v p) (w p) → OthersStay p v w → GrewBy 1 v w
 grew_accepted p v w (inl h) others = grew_none 1 v w (all_stay p v w h others)

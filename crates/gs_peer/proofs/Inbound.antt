@@ -14,7 +14,7 @@ use Rattle.gs_wire.proofs.Shorter.{stream_fits}
 use Rattle.gs_rules.specs.Tables.{Entries}
 use Rattle.gs_rules.specs.Saying.{handled}
 use Rattle.gs_rules.specs.Hearing.{Inbound, bytes_before, silence}
-use Rattle.gs_rules.specs.Rounds.{Seat, Place, Playing, Closing, ComesAt, Todo, Hear, HearFault, HearGone, hears, hears_of, is_broken, is_fault}
+use Rattle.gs_rules.specs.Rounds.{Seat, Phase, Playing, Closing, ComesAt, Todo, Hear, HearFault, HearGone, hears, hears_of, is_broken, is_fault}
 use Rattle.gs_rules.proofs.Spelled.{no_stream}
 use Rattle.gs_peer.specs.Inboxes.{InboxView, all_heard, heard_of, is_broken_off, peers_of}
 use Rattle.gs_peer.specs.Kept.{InboxKept, close_if}
@@ -49,7 +49,7 @@ nothing_yet seat L said x k =
     let same = one_stream longest_body [] (handled L x.peer ++ x.stage) [] k.read.rest [] k.read.end ends.Waits stream no_stream in
     λ i. record { rpcs = append_none (handled L x.peer) x.stage same.0 i; rest = same.1 i; end = same.2 i; closes = runs i }
 
-pub comes_at : (seat : Seat) (place : Place) (L : Entries) (said : Said) (x : InboxView) (k : InboxKept seat place L said x) → ComesAt seat place said (inbound_of x (bytes_of said) (handled L x.peer ++ x.stage) k.read)
+pub comes_at : (seat : Seat) (phase : Phase) (L : Entries) (said : Said) (x : InboxView) (k : InboxKept seat phase L said x) → ComesAt seat phase said (inbound_of x (bytes_of said) (handled L x.peer ++ x.stage) k.read)
 comes_at seat (Playing zero) L said x k = nothing_yet seat L said x k
 comes_at seat (Playing (suc r)) L said x k = (
   record {
@@ -79,21 +79,21 @@ heard_as x bytes vs read =
 
 -- ---- all of them
 
-pub record AllCome (seat : Seat) (place : Place) (said : PeerNo → Said) (xs : List InboxView) : Type 0 where
+pub record AllCome (seat : Seat) (phase : Phase) (said : PeerNo → Said) (xs : List InboxView) : Type 0 where
   pub inbound : List Inbound
-  pub was_said : AllZip (λ q x. ComesAt seat place (said q) x) (peers_of xs) inbound
+  pub was_said : AllZip (λ q x. ComesAt seat phase (said q) x) (peers_of xs) inbound
   pub heard : all_heard xs ≡ hears (peers_of xs) inbound
 
-pub all_come : (seat : Seat) (place : Place) (L : Entries) (said : PeerNo → Said) (xs : List InboxView)
-    → AllByRecursion (λ (x : InboxView). InboxKept seat place L (said x.peer) x) xs
-    → AllCome seat place said xs
-all_come seat place L said [] k = record { inbound = []; was_said = tt; heard = refl }
-all_come seat place L said (x ∷ xs) k =
+pub all_come : (seat : Seat) (phase : Phase) (L : Entries) (said : PeerNo → Said) (xs : List InboxView)
+    → AllByRecursion (λ (x : InboxView). InboxKept seat phase L (said x.peer) x) xs
+    → AllCome seat phase said xs
+all_come seat phase L said [] k = record { inbound = []; was_said = tt; heard = refl }
+all_come seat phase L said (x ∷ xs) k =
     let one = inbound_of x (bytes_of (said x.peer)) (handled L x.peer ++ x.stage) k.0.read in
-    let rest = all_come seat place L said xs k.1 in
+    let rest = all_come seat phase L said xs k.1 in
     record {
       inbound = one ∷ rest.inbound;
-      was_said = (comes_at seat place L (said x.peer) x k.0, rest.was_said);
+      was_said = (comes_at seat phase L (said x.peer) x k.0, rest.was_said);
       heard = ap₂ (λ (todos more : List Todo). todos ++ more) (heard_as x (bytes_of (said x.peer)) (handled L x.peer ++ x.stage) k.0.read) rest.heard;
     }
 
@@ -104,11 +104,11 @@ fit_behind [] [] h = tt
 fit_behind [] (y ∷ ys) h = (le-leb (length (body y)) longest_body h.0, fit_behind [] ys h.1)
 fit_behind (x ∷ xs) ys h = fit_behind xs ys h.1
 
-stage_fits : (seat : Seat) (place : Place) (L : Entries) (said : Said) (x : InboxView) → InboxKept seat place L said x → RpcsFit x.stage
-stage_fits seat place L said x k = fit_behind (handled L x.peer) x.stage (stream_fits longest_body (bytes_of said) (handled L x.peer ++ x.stage) k.read.rest k.read.end k.read.stream)
+stage_fits : (seat : Seat) (phase : Phase) (L : Entries) (said : Said) (x : InboxView) → InboxKept seat phase L said x → RpcsFit x.stage
+stage_fits seat phase L said x k = fit_behind (handled L x.peer) x.stage (stream_fits longest_body (bytes_of said) (handled L x.peer ++ x.stage) k.read.rest k.read.end k.read.stream)
 
-pub all_fit : (seat : Seat) (place : Place) (L : Entries) (said : PeerNo → Said) (xs : List InboxView)
-    → AllByRecursion (λ (x : InboxView). InboxKept seat place L (said x.peer) x) xs
+pub all_fit : (seat : Seat) (phase : Phase) (L : Entries) (said : PeerNo → Said) (xs : List InboxView)
+    → AllByRecursion (λ (x : InboxView). InboxKept seat phase L (said x.peer) x) xs
     → AllByRecursion (λ (x : InboxView). RpcsFit x.stage) xs
-all_fit seat place L said [] k = tt
-all_fit seat place L said (x ∷ xs) k = (stage_fits seat place L (said x.peer) x k.0, all_fit seat place L said xs k.1)
+all_fit seat phase L said [] k = tt
+all_fit seat phase L said (x ∷ xs) k = (stage_fits seat phase L (said x.peer) x k.0, all_fit seat phase L said xs k.1)

@@ -12,7 +12,7 @@ use Rattle.gs_link.specs.Flat.{flat}
 use Rattle.gs_rules.specs.Tables.{Entries}
 use Rattle.gs_rules.specs.Saying.{handled}
 use Rattle.gs_rules.specs.Hearing.{Spell, after, behind, closes, front}
-use Rattle.gs_rules.specs.Rounds.{Seat, Place, Playing, Closing}
+use Rattle.gs_rules.specs.Rounds.{Seat, Phase, Playing, Closing}
 use Rattle.gs_rules.proofs.Spelled.{bytes_of_append, bytes_of_bytes}
 use Rattle.gs_peer.specs.Ended.{ends, whole}
 use Rattle.gs_peer.specs.Inboxes.{InboxView, Reads, is_full, is_mark}
@@ -77,20 +77,20 @@ and_false false b h k = absurd (true≢false (sym h))
 
 -- ---- what it makes of the inbox
 
--- what it says of the end of what is heard at a place
-abbrev EndsBy : Place → Said → InboxView → Type 0
+-- what it says of the end of what is heard in a phase
+abbrev EndsBy : Phase → Said → InboxView → Type 0
 EndsBy (Playing zero) w new = Unit {0}
 EndsBy (Playing (suc r)) w new = (ends r w ≡ is_full new) × (behind r w ≡ close_if new.is_closed) × (closes (front r w) ≡ new.is_closed)
 EndsBy Closing w new = closes w ≡ is_full new
 
-record SaysSo (place : Place) (w : Said) (new : InboxView) : Type 0 where
+record SaysSo (phase : Phase) (w : Said) (new : InboxView) : Type 0 where
   closed : closes w ≡ new.is_closed
-  ends_by : EndsBy place w new
+  ends_by : EndsBy phase w new
 
-piece_says : (place : Place) (bytes : List ℕ) (new : InboxView) → is_full new ≡ false → new.is_closed ≡ false → SaysSo place (map Byte bytes) new
-piece_says place bytes new waits runs = record { closed = closes_bytes bytes ∙ sym runs; ends_by = by place }
+piece_says : (phase : Phase) (bytes : List ℕ) (new : InboxView) → is_full new ≡ false → new.is_closed ≡ false → SaysSo phase (map Byte bytes) new
+piece_says phase bytes new waits runs = record { closed = closes_bytes bytes ∙ sym runs; ends_by = by phase }
   where
-    by : (at : Place) → EndsBy at (map Byte bytes) new
+    by : (at : Phase) → EndsBy at (map Byte bytes) new
     by (Playing zero) = tt
     by (Playing (suc r)) = (
       ends_bytes r bytes ∙ sym waits,
@@ -99,10 +99,10 @@ piece_says place bytes new waits runs = record { closed = closes_bytes bytes ∙
     )
     by Closing = closes_bytes bytes ∙ sym waits
 
-mark_says : (place : Place) (k : ℕ) (x : InboxView) → x.is_closed ≡ false → SaysSo place (EndOf k ∷ []) (record x { is_marked = is_mark place k })
-mark_says place k x runs = record { closed = sym runs; ends_by = by place }
+mark_says : (phase : Phase) (k : ℕ) (x : InboxView) → x.is_closed ≡ false → SaysSo phase (EndOf k ∷ []) (record x { is_marked = is_mark phase k })
+mark_says phase k x runs = record { closed = sym runs; ends_by = by phase }
   where
-    by : (at : Place) → EndsBy at (EndOf k ∷ []) (record x { is_marked = is_mark at k })
+    by : (at : Phase) → EndsBy at (EndOf k ∷ []) (record x { is_marked = is_mark at k })
     by (Playing zero) = tt
     by (Playing (suc r)) = (
       if_same (nat_eq k r) ∙ sym (or_false (nat_eq k r) x.is_closed runs),
@@ -111,23 +111,23 @@ mark_says place k x runs = record { closed = sym runs; ends_by = by place }
     )
     by Closing = sym runs
 
-close_says : (place : Place) (x : InboxView) → SaysSo place (Closed ∷ []) (record x { is_closed = true })
-close_says place x = record { closed = refl; ends_by = by place }
+close_says : (phase : Phase) (x : InboxView) → SaysSo phase (Closed ∷ []) (record x { is_closed = true })
+close_says phase x = record { closed = refl; ends_by = by phase }
   where
-    by : (at : Place) → EndsBy at (Closed ∷ []) (record x { is_closed = true })
+    by : (at : Phase) → EndsBy at (Closed ∷ []) (record x { is_closed = true })
     by (Playing zero) = tt
     by (Playing (suc r)) = (sym (or_true x.is_marked), refl, refl)
     by Closing = sym (or_true x.is_marked)
 
 -- ---- the inbox, when this is taken
 
-heard_so : (seat : Seat) (place : Place) (L : Entries) (said w : Said) (x new : InboxView)
-    → InboxKept seat place L said x
+heard_so : (seat : Seat) (phase : Phase) (L : Entries) (said w : Said) (x new : InboxView)
+    → InboxKept seat phase L said x
     → is_full x ≡ false
     → new.peer ≡ x.peer
-    → SaysSo place w new
+    → SaysSo phase w new
     → HasRead longest_body (bytes_of (said ++ w)) new.reader (handled L new.peer ++ new.stage)
-    → InboxKept seat place L (said ++ w) new
+    → InboxKept seat phase L (said ++ w) new
 heard_so seat (Playing zero) L said w x new k waits same so read = absurd (true≢false (k.full ∙ waits))
 heard_so seat (Playing (suc r)) L said w x new k waits same so read =
     let runs : x.is_closed ≡ false = right_false x.is_marked x.is_closed waits in
@@ -170,31 +170,31 @@ reads_on L said w x silent h =
     subst (λ (bs : List ℕ). HasRead longest_body bs x.reader (handled L x.peer ++ x.stage))
     (sym (bytes_of_append said w ∙ ap (λ (bs : List ℕ). bytes_of said ++ bs) silent ∙ append-nil (bytes_of said))) h
 
-taken : (seat : Seat) (place : Place) (L : Entries) (said : Said) (x new : InboxView) (slot : Slot)
-    → InboxKept seat place L said x
+taken : (seat : Seat) (phase : Phase) (L : Entries) (said : Said) (x new : InboxView) (slot : Slot)
+    → InboxKept seat phase L said x
     → is_full x ≡ false
-    → Reads place x slot new
-    → InboxKept seat place L (said ++ said_by_slot slot) new
-taken seat place L said x new (Piece bytes) k waits (reader, found, feeds, is) =
-    subst (InboxKept seat place L (said ++ map Byte bytes)) (sym is)
-    (heard_so seat place L said (map Byte bytes) x (record x { reader = reader; stage = x.stage ++ found }) k waits refl
-    (piece_says place bytes (record x { reader = reader; stage = x.stage ++ found }) waits (right_false x.is_marked x.is_closed waits))
+    → Reads phase x slot new
+    → InboxKept seat phase L (said ++ said_by_slot slot) new
+taken seat phase L said x new (Piece bytes) k waits (reader, found, feeds, is) =
+    subst (InboxKept seat phase L (said ++ map Byte bytes)) (sym is)
+    (heard_so seat phase L said (map Byte bytes) x (record x { reader = reader; stage = x.stage ++ found }) k waits refl
+    (piece_says phase bytes (record x { reader = reader; stage = x.stage ++ found }) waits (right_false x.is_marked x.is_closed waits))
     (reads_piece L said x bytes reader found (read_once longest_body (bytes_of said) bytes x.reader reader (handled L x.peer ++ x.stage) found k.read feeds)))
-taken seat place L said x new (Round r) k waits is =
-    subst (InboxKept seat place L (said ++ EndOf r ∷ [])) (sym is)
-    (heard_so seat place L said (EndOf r ∷ []) x (record x { is_marked = is_mark place r }) k waits refl
-    (mark_says place r x (right_false x.is_marked x.is_closed waits)) (reads_on L said (EndOf r ∷ []) x refl k.read))
-taken seat place L said x new Close k waits is =
-    subst (InboxKept seat place L (said ++ Closed ∷ [])) (sym is)
-    (heard_so seat place L said (Closed ∷ []) x (record x { is_closed = true }) k waits refl
-    (close_says place x) (reads_on L said (Closed ∷ []) x refl k.read))
+taken seat phase L said x new (Round r) k waits is =
+    subst (InboxKept seat phase L (said ++ EndOf r ∷ [])) (sym is)
+    (heard_so seat phase L said (EndOf r ∷ []) x (record x { is_marked = is_mark phase r }) k waits refl
+    (mark_says phase r x (right_false x.is_marked x.is_closed waits)) (reads_on L said (EndOf r ∷ []) x refl k.read))
+taken seat phase L said x new Close k waits is =
+    subst (InboxKept seat phase L (said ++ Closed ∷ [])) (sym is)
+    (heard_so seat phase L said (Closed ∷ []) x (record x { is_closed = true }) k waits refl
+    (close_says phase x) (reads_on L said (Closed ∷ []) x refl k.read))
 
 -- AN INBOX STAYS RIGHT when a slot is taken, where not all is taken that it hears
-pub listened : (seat : Seat) (place : Place) (L : Entries) (said said' : Said) (x new : InboxView) (slot : Slot)
-    → InboxKept seat place L said x
+pub listened : (seat : Seat) (phase : Phase) (L : Entries) (said said' : Said) (x new : InboxView) (slot : Slot)
+    → InboxKept seat phase L said x
     → is_full x ≡ false
-    → Reads place x slot new
+    → Reads phase x slot new
     → said' ≡ said ++ flat (slot ∷ [])
-    → InboxKept seat place L said' new
-listened seat place L said said' x new slot k waits reads is =
-    subst (λ (w : Said). InboxKept seat place L w new) (sym (is ∙ ap (λ (w : Said). said ++ w) (flat_slot slot))) (taken seat place L said x new slot k waits reads)
+    → InboxKept seat phase L said' new
+listened seat phase L said said' x new slot k waits reads is =
+    subst (λ (w : Said). InboxKept seat phase L w new) (sym (is ∙ ap (λ (w : Said). said ++ w) (flat_slot slot))) (taken seat phase L said x new slot k waits reads)

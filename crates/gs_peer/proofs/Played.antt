@@ -18,22 +18,22 @@ use Rattle.gs_rules.specs.Modes.{exact, free}
 use Rattle.gs_rules.specs.Legal.{Comes, Legal, LegalOn}
 use Rattle.gs_rules.specs.Saying.{handled, out}
 use Rattle.gs_rules.specs.Hearing.{Spell, closes}
-use Rattle.gs_rules.specs.Rounds.{Seat, Place, Playing, Closing, AfterRounds, ComesAt, Does, KeepsRounds, Stop, Todo, agenda, hears, moment_of}
+use Rattle.gs_rules.specs.Rounds.{Seat, Phase, Playing, Closing, AfterRounds, ComesAt, Does, KeepsRounds, Stop, Todo, agenda, hears, moment_of}
 use Rattle.gs_rules.proofs.Handled.{does_handle, said_is_handled}
 use Rattle.gs_rules.proofs.Legality.{exact_is_free, legal_then, legal_weakly}
 use Rattle.gs_router.specs.Router.{RouterView}
 use Rattle.gs_router.specs.State.{Appends}
 use Rattle.gs_peer.specs.declared.outboxes.Outboxes.{Outboxes}
-use Rattle.gs_peer.specs.Inboxes.{InboxView, all_heard, peers_of, turned}
+use Rattle.gs_peer.specs.Inboxes.{InboxView, all_heard, in_next_phase, peers_of}
 use Rattle.gs_peer.specs.Kept.{BoxKept, InboxKept, Kept}
 use Rattle.gs_peer.specs.Outboxes.{waiting}
 use Rattle.gs_peer.specs.Playing.{IsRunning, Runs, behind_heard}
 use Rattle.gs_peer.specs.Running.{AllFull, AllSilent}
 use Rattle.gs_peer.proofs.Inbound.{all_come}
-use Rattle.gs_peer.proofs.Turning.{inboxes_close, inboxes_turn, peers_turned}
+use Rattle.gs_peer.proofs.Turning.{inboxes_close, inboxes_turn, peers_in_next_phase}
 use Rattle.gs_peer.proofs.Telling.{down_stays, out_no_more}
 
--- ---- what is done at a place
+-- ---- what is done in a phase
 
 -- more that is legal, behind what was
 pub legal_more : (p q : Peer) (first s t : SeededState) (K L : Entries) → q ≡ p → LegalOn (exact seeded_word seeded_after) p first [] K s → Appends (exact seeded_word seeded_after) q K s L t → LegalOn (exact seeded_word seeded_after) p first [] L t
@@ -77,10 +77,10 @@ module _ (seat : Seat) (said sent : PeerNo → Said) (boxes : Outboxes) (first :
   pub kept_turned : (boxes' : Outboxes)
       → suc r ≤ seat.rounds
       → AllByRecursion (λ q. BoxKept w.trace (sent q) boxes' q) (links_of seat.peer)
-      → Kept seat said sent (Playing (suc r)) (map turned xs) boxes' w (refused ++ more) first t
+      → Kept seat said sent (Playing (suc r)) (map in_next_phase xs) boxes' w (refused ++ more) first t
   kept_turned boxes' low says = record {
     peer = peer_stays;
-    names = peers_turned xs ∙ k.names;
+    names = peers_in_next_phase xs ∙ k.names;
     ascending = k.ascending;
     running = runs.runs_on.running;
     time = (let before = runs.runs_on.time in let product = suc-mul r seat.round_ms in omega (arith, before, product));
@@ -102,7 +102,7 @@ pub kept_closed : (seat : Seat) (said sent : PeerNo → Said) (boxes boxes' : Ou
     → Runs (exact seeded_word seeded_after) (moment_of seat (Playing seat.rounds)) (all_heard xs ++ own_rest seat seat.rounds) v s w t more
     → Runs (exact seeded_word seeded_after) (moment_of seat (Playing seat.rounds)) (Stop ∷ []) w t y u []
     → AllByRecursion (λ q. BoxKept y.trace (sent q) boxes' q) (links_of seat.peer)
-    → Kept seat said sent Closing (map turned xs) boxes' y (refused ++ more) first u
+    → Kept seat said sent Closing (map in_next_phase xs) boxes' y (refused ++ more) first u
 kept_closed seat said sent boxes boxes' first xs v w y s t u refused more k full runs stops says =
     let now = moment_of seat Closing in
     let played = round_played seat said sent boxes first seat.rounds xs v w s t refused more k full runs in
@@ -111,7 +111,7 @@ kept_closed seat said sent boxes boxes' first xs v w y s t u refused more k full
     let free_then : Legal w.peer y.trace = subst (λ (p : Peer). Legal p y.trace) stops.peer stops.runs_on.legal in
     record {
       peer = stops.peer ∙ same;
-      names = peers_turned xs ∙ k.names;
+      names = peers_in_next_phase xs ∙ k.names;
       ascending = k.ascending;
       running = stops.runs_on.running;
       time = stops.runs_on.time;
@@ -193,10 +193,10 @@ life seat said sent boxes first xs v w s t refused k full silent runs =
 
 -- ---- a router that may be called
 
-pub runs_at : (seat : Seat) (said sent : PeerNo → Said) (place : Place) (xs : List InboxView) (boxes : Outboxes) (v : RouterView) (refused : List RefusedLine) (first words : SeededState)
-    → Kept seat said sent place xs boxes v refused first words
-    → IsRunning (moment_of seat place) v
-runs_at seat said sent place xs boxes v refused first words k = record {
+pub runs_at : (seat : Seat) (said sent : PeerNo → Said) (phase : Phase) (xs : List InboxView) (boxes : Outboxes) (v : RouterView) (refused : List RefusedLine) (first words : SeededState)
+    → Kept seat said sent phase xs boxes v refused first words
+    → IsRunning (moment_of seat phase) v
+runs_at seat said sent phase xs boxes v refused first words k = record {
   running = k.running;
   time = k.time;
   legal = subst (λ (p : Peer). Legal p v.trace) (sym k.peer) (legal_weakly (exact seeded_word seeded_after) free (λ u. tt) (exact_is_free seeded_word seeded_after) seat.peer first words [] v.trace k.legal);

@@ -4,8 +4,8 @@ use Rattle.futures.specs.Poll.{OnPending}
 use Rattle.futures.specs.declared.task.Poll.{Poll}
 use Rattle.futures.specs.declared.task.Poll.TheVariants.{Ready, Pending}
 use Rattle.gs_ends.specs.declared.ends.Ends.{Ghosts as EndsOf}
-use Rattle.gs_peer.specs.declared.finished.Finished.{Finished}
-use Rattle.gs_peer.specs.declared.finished.PeerFault.{PeerFault}
+use Rattle.gs_peer.specs.declared.finished_task.FinishedTask.{FinishedTask}
+use Rattle.gs_peer.specs.declared.finished_task.PeerFault.{PeerFault}
 use Rattle.gs_peer.specs.declared.running.Running.{Running}
 use Rattle.gs_peer.specs.declared.task.PeerTask.{PeerTask}
 use Rattle.gs_peer.specs.Task.{BothGrew, Bounded}
@@ -18,7 +18,7 @@ on_pending (Ready x) P h = tt
 on_pending Pending P h = h
 
 module _ {G S : Type 0} (seen : EndsOf S) where
-  pub bounded_pending : (most : ℕ) (old new : PeerTask G S) (t u : Running G S) (result : Poll (Result (Finished S) PeerFault))
+  pub bounded_pending : (most : ℕ) (old new : PeerTask G S) (t u : Running G S) (result : Poll (Result (FinishedTask S) PeerFault))
       → result ≡ Pending
       → old.running ≡ Some t
       → new.running ≡ Some u
@@ -28,7 +28,7 @@ module _ {G S : Type 0} (seen : EndsOf S) where
       subst (Bounded seen most old new) (sym waits) (λ v was. (u, now, subst (λ (x : Running G S). BothGrew seen most x.ends u.ends) (some_same t v (sym is ∙ was)) h))
 
   -- what it gives has the ends of the task that ran
-  pub ended : (most : ℕ) (old new : PeerTask G S) (t u : Running G S) (given : Result (Finished S) PeerFault)
+  pub ended : (most : ℕ) (old new : PeerTask G S) (t u : Running G S) (given : Result (FinishedTask S) PeerFault)
       → old.running ≡ Some t
       → BothGrew seen most t.ends u.ends
       → IfOk given (λ f. f.ends ≡ u.ends)

@@ -16,7 +16,7 @@ use Rattle.gs_link.proofs.Flats.{flat-append}
 use Rattle.gs_rules.specs.declared.refusal.RefusedLine.{RefusedLine}
 use Rattle.gs_rules.specs.Peers.{links_of}
 use Rattle.gs_rules.specs.Tables.{Entries}
-use Rattle.gs_rules.specs.Rounds.{Seat, Place}
+use Rattle.gs_rules.specs.Rounds.{Seat, Phase}
 use Rattle.gs_router.specs.Router.{RouterView}
 use Rattle.gs_ends.specs.Ends.{Joint, OthersStay, has}
 use Rattle.gs_peer.specs.declared.outboxes.Outboxes.{Outboxes}
@@ -24,7 +24,7 @@ use Rattle.gs_peer.specs.Inboxes.{InboxView, Listens, Reads, is_full, peers_of}
 use Rattle.gs_peer.specs.Kept.{BoxKept, InboxKept, Kept}
 use Rattle.gs_peer.specs.Life.{words_of}
 use Rattle.gs_peer.specs.Outboxes.{is_open, waiting}
-use Rattle.gs_peer.specs.Places.{settled}
+use Rattle.gs_peer.specs.Phases.{rounds_ended}
 use Rattle.gs_peer.proofs.Grows.{all_stay, same_or}
 use Rattle.gs_peer.proofs.Growing.{GoesOn, begun_stays}
 use Rattle.gs_peer.proofs.Listening.{listened, right_false}
@@ -70,7 +70,7 @@ peers_each : (P : InboxView → Type 0) (Q : PeerNo → Type 0) → ((x : InboxV
 peers_each P Q f [] h = tt
 peers_each P Q f (x ∷ xs) h = (f x h.0, peers_each P Q f xs h.1)
 
--- at a place
+-- in a phase
 pub mid_is : {A : Type 0} (xs : List A) (i : ℕ) (x : A) → i < length xs → x ≡ get_or xs i x → xs ≡ take i xs ++ x ∷ drop (suc i) xs
 mid_is xs i x low is =
     let same : i + 1 ≡ suc i = omega arith in
@@ -81,34 +81,34 @@ each_at P xs i x low is h = each_mid P (take i xs) x (drop (suc i) xs) (subst (A
 
 -- ---- a slot is taken
 
-reads_peer : (place : Place) (x new : InboxView) (slot : Slot) → Reads place x slot new → new.peer ≡ x.peer
-reads_peer place x new (Piece bytes) (reader, found, feeds, is) = ap (λ (y : InboxView). y.peer) is
-reads_peer place x new (Round r) is = ap (λ (y : InboxView). y.peer) is
-reads_peer place x new Close is = ap (λ (y : InboxView). y.peer) is
+reads_peer : (phase : Phase) (x new : InboxView) (slot : Slot) → Reads phase x slot new → new.peer ≡ x.peer
+reads_peer phase x new (Piece bytes) (reader, found, feeds, is) = ap (λ (y : InboxView). y.peer) is
+reads_peer phase x new (Round r) is = ap (λ (y : InboxView). y.peer) is
+reads_peer phase x new Close is = ap (λ (y : InboxView). y.peer) is
 
-module _ (seat : Seat) (place : Place) (boxes : Outboxes) (v : RouterView) (refused : List RefusedLine) (first words : SeededState) where
+module _ (seat : Seat) (phase : Phase) (boxes : Outboxes) (v : RouterView) (refused : List RefusedLine) (first words : SeededState) where
   -- what a task keeps is kept of any words that are the same for each neighbour
-  kept_words : (said said' sent sent' : PeerNo → Said) (xs : List InboxView) → ((q : PeerNo) → said' q ≡ said q) → ((q : PeerNo) → sent' q ≡ sent q) → Kept seat said sent place xs boxes v refused first words → Kept seat said' sent' place xs boxes v refused first words
+  kept_words : (said said' sent sent' : PeerNo → Said) (xs : List InboxView) → ((q : PeerNo) → said' q ≡ said q) → ((q : PeerNo) → sent' q ≡ sent q) → Kept seat said sent phase xs boxes v refused first words → Kept seat said' sent' phase xs boxes v refused first words
   kept_words said said' sent sent' xs a b k =
       let same_said : said ≡ said' = (λ i q. sym (a q) i) in
       let same_sent : sent ≡ sent' = (λ i q. sym (b q) i) in
-      subst (λ (w : PeerNo → Said). Kept seat w sent' place xs boxes v refused first words) same_said (subst (λ (w : PeerNo → Said). Kept seat said w place xs boxes v refused first words) same_sent k)
+      subst (λ (w : PeerNo → Said). Kept seat w sent' phase xs boxes v refused first words) same_said (subst (λ (w : PeerNo → Said). Kept seat said w phase xs boxes v refused first words) same_sent k)
 
   kept_took : (said said' sent : PeerNo → Said) (pre : List InboxView) (x : InboxView) (post : List InboxView) (new : InboxView) (slot : Slot)
-      → Kept seat said sent place (pre ++ x ∷ post) boxes v refused first words
+      → Kept seat said sent phase (pre ++ x ∷ post) boxes v refused first words
       → is_full x ≡ false
-      → Reads place x slot new
+      → Reads phase x slot new
       → said' x.peer ≡ said x.peer ++ flat (slot ∷ [])
       → ((q : PeerNo) → q ≢ x.peer → said' q ≡ said q)
-      → Kept seat said' sent place (pre ++ new ∷ post) boxes v refused first words
+      → Kept seat said' sent phase (pre ++ new ∷ post) boxes v refused first words
   kept_took said said' sent pre x post new slot k waits reads mine others =
-      let same : new.peer ≡ x.peer = reads_peer place x new slot reads in
+      let same : new.peer ≡ x.peer = reads_peer phase x new slot reads in
       let apart : Apart (peers_of (pre ++ x ∷ post)) = subst Apart (sym k.names) (distinct_apart (links_of seat.peer) (distinct_from_ascending (links_of seat.peer) k.ascending)) in
-      let P : InboxView → Type 0 = λ y. InboxKept seat place v.trace (said y.peer) y in
+      let P : InboxView → Type 0 = λ y. InboxKept seat phase v.trace (said y.peer) y in
       let own = each_mid P pre x post k.hears in
-      let goes : AllByRecursion (GoesOn (settled seat place) said said') (peers_of (pre ++ x ∷ post)) =
-      peers_each (λ (y : InboxView). GoesOn (settled seat place) said said' y.peer) (GoesOn (settled seat place) said said') (λ y h. h) (pre ++ x ∷ post)
-      (each_but P (λ (y : InboxView). GoesOn (settled seat place) said said' y.peer) pre x x post apart (λ y other h. (h.stable, [], others y.peer other ∙ sym (append-nil (said y.peer)))) k.hears
+      let goes : AllByRecursion (GoesOn (rounds_ended seat phase) said said') (peers_of (pre ++ x ∷ post)) =
+      peers_each (λ (y : InboxView). GoesOn (rounds_ended seat phase) said said' y.peer) (GoesOn (rounds_ended seat phase) said said') (λ y h. h) (pre ++ x ∷ post)
+      (each_but P (λ (y : InboxView). GoesOn (rounds_ended seat phase) said said' y.peer) pre x x post apart (λ y other h. (h.stable, [], others y.peer other ∙ sym (append-nil (said y.peer)))) k.hears
       (own.stable, flat (slot ∷ []), mine)) in
       record {
         peer = k.peer;
@@ -117,31 +117,31 @@ module _ (seat : Seat) (place : Place) (boxes : Outboxes) (v : RouterView) (refu
         running = k.running;
         time = k.time;
         legal = k.legal;
-        begun = begun_stays seat place said said' v.trace refused (subst (AllByRecursion (GoesOn (settled seat place) said said')) k.names goes) k.begun;
-        hears = each_but P (λ (y : InboxView). InboxKept seat place v.trace (said' y.peer) y) pre x new post apart
-            (λ y other h. subst (λ (w : Said). InboxKept seat place v.trace w y) (sym (others y.peer other)) h) k.hears
-            (subst (λ (q : PeerNo). InboxKept seat place v.trace (said' q) new) (sym same) (listened seat place v.trace (said x.peer) (said' x.peer) x new slot own waits reads mine));
+        begun = begun_stays seat phase said said' v.trace refused (subst (AllByRecursion (GoesOn (rounds_ended seat phase) said said')) k.names goes) k.begun;
+        hears = each_but P (λ (y : InboxView). InboxKept seat phase v.trace (said' y.peer) y) pre x new post apart
+            (λ y other h. subst (λ (w : Said). InboxKept seat phase v.trace w y) (sym (others y.peer other)) h) k.hears
+            (subst (λ (q : PeerNo). InboxKept seat phase v.trace (said' q) new) (sym same) (listened seat phase v.trace (said x.peer) (said' x.peer) x new slot own waits reads mine));
         says = k.says;
       }
 
   -- what is taken of one neighbour
   pub kept_listens : (tak tak' acc acc' : PeerNo → List Slot) (xs : List InboxView) (i : ℕ) (x new : InboxView)
-      → Kept seat (words_of tak) (words_of acc) place xs boxes v refused first words
+      → Kept seat (words_of tak) (words_of acc) phase xs boxes v refused first words
       → i < length xs
       → x ≡ get_or xs i x
       → is_full x ≡ false
-      → Listens place (tak x.peer) (tak' x.peer) x new
+      → Listens phase (tak x.peer) (tak' x.peer) x new
       → OthersStay x.peer tak tak'
       → ((q : PeerNo) → acc' q ≡ acc q)
-      → Kept seat (words_of tak') (words_of acc') place (set xs i new) boxes v refused first words
+      → Kept seat (words_of tak') (words_of acc') phase (set xs i new) boxes v refused first words
   kept_listens tak tak' acc acc' xs i x new k low is waits (inl h) others same =
-      subst (λ (ys : List InboxView). Kept seat (words_of tak') (words_of acc') place ys boxes v refused first words) (sym (ap (set xs i) (h.1 ∙ is) ∙ set-get_or xs i x))
+      subst (λ (ys : List InboxView). Kept seat (words_of tak') (words_of acc') phase ys boxes v refused first words) (sym (ap (set xs i) (h.1 ∙ is) ∙ set-get_or xs i x))
       (kept_words (words_of tak) (words_of tak') (words_of acc) (words_of acc') xs (λ q. ap flat (all_stay x.peer tak tak' h.0 others q)) (λ q. ap flat (same q)) k)
   kept_listens tak tak' acc acc' xs i x new k low is waits (inr h) others same =
       kept_words (words_of tak') (words_of tak') (words_of acc) (words_of acc') (set xs i new) (λ q. refl) (λ q. ap flat (same q))
-      (subst (λ (ys : List InboxView). Kept seat (words_of tak') (words_of acc) place ys boxes v refused first words) (sym (set_split xs i new low))
+      (subst (λ (ys : List InboxView). Kept seat (words_of tak') (words_of acc) phase ys boxes v refused first words) (sym (set_split xs i new low))
       (kept_took (words_of tak) (words_of tak') (words_of acc) (take i xs) x (drop (suc i) xs) new h.0
-      (subst (λ (ys : List InboxView). Kept seat (words_of tak) (words_of acc) place ys boxes v refused first words) (mid_is xs i x low is) k) waits h.2
+      (subst (λ (ys : List InboxView). Kept seat (words_of tak) (words_of acc) phase ys boxes v refused first words) (mid_is xs i x low is) k) waits h.2
       (ap flat h.1 ∙ flat-append (tak x.peer) (h.0 ∷ [])) (λ q other. ap flat (others q other))))
 
 -- ---- a slot is accepted
@@ -155,21 +155,21 @@ boxes_offer L sent sent' old new [] says opens k = tt
 boxes_offer L sent sent' old new (q ∷ qs) says opens k =
     (record { is_open = opens q ∙ k.0.is_open; says = says q ∙ k.0.says }, boxes_offer L sent sent' old new qs says opens k.1)
 
-pub kept_offers : (seat : Seat) (place : Place) (tak tak' acc acc' : PeerNo → List Slot) (xs : List InboxView) (old new : Outboxes) (v : RouterView) (refused : List RefusedLine) (first words : SeededState) (p : PeerNo)
-    → Kept seat (words_of tak) (words_of acc) place xs old v refused first words
+pub kept_offers : (seat : Seat) (phase : Phase) (tak tak' acc acc' : PeerNo → List Slot) (xs : List InboxView) (old new : Outboxes) (v : RouterView) (refused : List RefusedLine) (first words : SeededState) (p : PeerNo)
+    → Kept seat (words_of tak) (words_of acc) phase xs old v refused first words
     → flat (acc' p) ++ flat (waiting new p) ≡ flat (acc p) ++ flat (waiting old p)
     → ((q : PeerNo) → q ≢ p → waiting new q ≡ waiting old q)
     → ((q : PeerNo) → is_open new q ≡ is_open old q)
     → OthersStay p acc acc'
     → ((q : PeerNo) → tak' q ≡ tak q)
-    → Kept seat (words_of tak') (words_of acc') place xs new v refused first words
-kept_offers seat place tak tak' acc acc' xs old new v refused first words p k mine stays opens others same =
+    → Kept seat (words_of tak') (words_of acc') phase xs new v refused first words
+kept_offers seat phase tak tak' acc acc' xs old new v refused first words p k mine stays opens others same =
     let says : (q : PeerNo) → flat (acc' q) ++ flat (waiting new q) ≡ flat (acc q) ++ flat (waiting old q) = λ q. elim (same_or p q) [
       | inl y ↦ subst (λ (n : PeerNo). flat (acc' n) ++ flat (waiting new n) ≡ flat (acc n) ++ flat (waiting old n)) y.1 mine
       | inr n ↦ ap₂ (λ (ys zs : List Slot). flat ys ++ flat zs) (others q n.1) (stays q n.1)
     ] in
     let told : words_of tak ≡ words_of tak' = (λ i q. flat (sym (same q) i)) in
-    subst (λ (w : PeerNo → Said). Kept seat w (words_of acc') place xs new v refused first words) told (record {
+    subst (λ (w : PeerNo → Said). Kept seat w (words_of acc') phase xs new v refused first words) told (record {
       peer = k.peer;
       names = k.names;
       ascending = k.ascending;
@@ -184,8 +184,8 @@ kept_offers seat place tak tak' acc acc' xs old new v refused first words p k mi
 -- ---- who may be asked
 
 -- who is not heard in full has not closed
-pub not_closed : (seat : Seat) (place : Place) (L : Entries) (tak : List Slot) (x : InboxView) → InboxKept seat place L (flat tak) x → is_full x ≡ false → slots_close tak ≡ false
-not_closed seat place L tak x k waits = sym (closes_flat tak) ∙ k.closed ∙ right_false x.is_marked x.is_closed waits
+pub not_closed : (seat : Seat) (phase : Phase) (L : Entries) (tak : List Slot) (x : InboxView) → InboxKept seat phase L (flat tak) x → is_full x ≡ false → slots_close tak ≡ false
+not_closed seat phase L tak x k waits = sym (closes_flat tak) ∙ k.closed ∙ right_false x.is_marked x.is_closed waits
 
 -- there are ends to and from whoever has an inbox
 pub known_at : (joints : List Joint) (qs : List PeerNo) (xs : List InboxView) (i : ℕ) (x : InboxView) → peers_of xs ≡ qs → i < length xs → x ≡ get_or xs i x → AllByRecursion (λ q. has joints q ≡ true) qs → has joints x.peer ≡ true

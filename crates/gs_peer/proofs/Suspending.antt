@@ -11,7 +11,7 @@ use Rattle.gs_rules.specs.Peers.{links_of}
 use Rattle.gs_rules.specs.Tables.{Entries}
 use Rattle.gs_rules.specs.Saying.{handled, out}
 use Rattle.gs_rules.specs.Hearing.{Spell, bytes_before}
-use Rattle.gs_rules.specs.Rounds.{Seat, Place, Playing, Closing, ComesAt, KeepsSoFar, Stop, Todo, agenda, hears}
+use Rattle.gs_rules.specs.Rounds.{Seat, Phase, Playing, Closing, ComesAt, KeepsSoFar, Stop, Todo, agenda, hears}
 use Rattle.gs_router.specs.Router.{RouterView}
 use Rattle.gs_ends.specs.declared.ends.Ends.{Ghosts as EndsOf}
 use Rattle.gs_peer.specs.declared.outboxes.Outboxes.{Outboxes}
@@ -21,20 +21,20 @@ use Rattle.gs_peer.specs.Inboxes.{InboxView, peers_of}
 use Rattle.gs_peer.specs.Kept.{BoxKept, InboxKept, Kept}
 use Rattle.gs_peer.specs.Life.{words_of}
 use Rattle.gs_peer.specs.Outboxes.{waiting}
-use Rattle.gs_peer.specs.Places.{place_of, settled}
+use Rattle.gs_peer.specs.Phases.{phase_of, rounds_ended}
 use Rattle.gs_peer.specs.Running.{IsKept, seat_of}
 use Rattle.gs_peer.specs.Task.{SoFar}
 use Rattle.gs_peer.proofs.Inbound.{all_come}
 
-keeps_so_far : (seat : Seat) (said sent : PeerNo → Said) (place : Place) (xs : List InboxView) (boxes : Outboxes) (v : RouterView) (refused : List RefusedLine) (first words : SeededState)
-    → Kept seat said sent place xs boxes v refused first words
-    → (left : List Todo) × KeepsSoFar seat said place left v.trace refused
+keeps_so_far : (seat : Seat) (said sent : PeerNo → Said) (phase : Phase) (xs : List InboxView) (boxes : Outboxes) (v : RouterView) (refused : List RefusedLine) (first words : SeededState)
+    → Kept seat said sent phase xs boxes v refused first words
+    → (left : List Todo) × KeepsSoFar seat said phase left v.trace refused
 keeps_so_far seat said sent (Playing r) xs boxes v refused first words k =
     let come = all_come seat (Playing r) v.trace said xs k.hears in
     let was_said : AllZip (λ q x. ComesAt seat (Playing r) (said q) x) (links_of seat.peer) come.inbound = subst (λ (qs : List PeerNo). AllZip (λ q x. ComesAt seat (Playing r) (said q) x) qs come.inbound) k.names come.was_said in (
       agenda seat (Playing r) come.inbound,
       record {
-        place_is = k.begun.0;
+        phase_is = k.begun.0;
         start = v.trace;
         earlier = refused;
         more = [];
@@ -48,7 +48,7 @@ keeps_so_far seat said sent Closing xs boxes v refused first words k =
     let was_said : AllZip (λ q x. ComesAt seat Closing (said q) x) (links_of seat.peer) come.inbound = subst (λ (qs : List PeerNo). AllZip (λ q x. ComesAt seat Closing (said q) x) qs come.inbound) k.names come.was_said in (
       hears (links_of seat.peer) come.inbound,
       record {
-        place_is = tt;
+        phase_is = tt;
         start = k.begun.0;
         earlier = refused;
         more = [];
@@ -58,23 +58,23 @@ keeps_so_far seat said sent Closing xs boxes v refused first words k =
       },
     )
 
-each_staged : (seat : Seat) (place : Place) (L : Entries) (said : PeerNo → Said) (xs : List InboxView)
-    → AllByRecursion (λ (x : InboxView). InboxKept seat place L (said x.peer) x) xs
+each_staged : (seat : Seat) (phase : Phase) (L : Entries) (said : PeerNo → Said) (xs : List InboxView)
+    → AllByRecursion (λ (x : InboxView). InboxKept seat phase L (said x.peer) x) xs
     → AllByRecursion (λ (x : InboxView). Spell (bytes_of (said x.peer)) (handled L x.peer ++ x.stage)) xs
-each_staged seat place L said [] k = tt
-each_staged seat place L said (x ∷ xs) k = ((k.0.read.rest, k.0.read.end, k.0.read.stream), each_staged seat place L said xs k.1)
+each_staged seat phase L said [] k = tt
+each_staged seat phase L said (x ∷ xs) k = ((k.0.read.rest, k.0.read.end, k.0.read.stream), each_staged seat phase L said xs k.1)
 
-each_heard : (seat : Seat) (place : Place) (L : Entries) (said : PeerNo → Said) (xs : List InboxView)
-    → AllByRecursion (λ (x : InboxView). InboxKept seat place L (said x.peer) x) xs
-    → AllByRecursion (λ q. Spell (bytes_before (settled seat place) (said q)) (handled L q)) (peers_of xs)
-each_heard seat place L said [] k = tt
-each_heard seat place L said (x ∷ xs) k = (k.0.earlier, each_heard seat place L said xs k.1)
+each_heard : (seat : Seat) (phase : Phase) (L : Entries) (said : PeerNo → Said) (xs : List InboxView)
+    → AllByRecursion (λ (x : InboxView). InboxKept seat phase L (said x.peer) x) xs
+    → AllByRecursion (λ q. Spell (bytes_before (rounds_ended seat phase) (said q)) (handled L q)) (peers_of xs)
+each_heard seat phase L said [] k = tt
+each_heard seat phase L said (x ∷ xs) k = (k.0.earlier, each_heard seat phase L said xs k.1)
 
-each_ended : (seat : Seat) (place : Place) (L : Entries) (said : PeerNo → Said) (xs : List InboxView)
-    → AllByRecursion (λ (x : InboxView). InboxKept seat place L (said x.peer) x) xs
-    → AllByRecursion (λ q. whole (settled seat place) (said q) ≡ true) (peers_of xs)
-each_ended seat place L said [] k = tt
-each_ended seat place L said (x ∷ xs) k = (k.0.stable, each_ended seat place L said xs k.1)
+each_ended : (seat : Seat) (phase : Phase) (L : Entries) (said : PeerNo → Said) (xs : List InboxView)
+    → AllByRecursion (λ (x : InboxView). InboxKept seat phase L (said x.peer) x) xs
+    → AllByRecursion (λ q. whole (rounds_ended seat phase) (said q) ≡ true) (peers_of xs)
+each_ended seat phase L said [] k = tt
+each_ended seat phase L said (x ∷ xs) k = (k.0.stable, each_ended seat phase L said xs k.1)
 
 each_said : (L : Entries) (sent : PeerNo → Said) (boxes : Outboxes) (qs : List PeerNo)
     → AllByRecursion (λ q. BoxKept L (sent q) boxes q) qs
@@ -88,15 +88,15 @@ module _ {G S : Type 0} (seen : EndsOf S) where
       let seat = seat_of t in
       let said = words_of (seen.taken t.ends) in
       let sent = words_of (seen.accepted t.ends) in
-      let place = place_of t.place in
+      let phase = phase_of t.phase in
       record {
         legal = k.kept.legal;
-        keeps = keeps_so_far seat said sent place t.player.inboxes.items t.outboxes t.player.router t.player.refused.items t.first.value t.player.words k.kept;
+        keeps = keeps_so_far seat said sent phase t.player.inboxes.items t.outboxes t.player.router t.player.refused.items t.first.value t.player.words k.kept;
         names = k.kept.names;
-        hears = each_staged seat place t.player.router.trace said t.player.inboxes.items k.kept.hears;
+        hears = each_staged seat phase t.player.router.trace said t.player.inboxes.items k.kept.hears;
         says = each_said t.player.router.trace sent t.outboxes (links_of seat.peer) k.kept.says;
-        ended = subst (AllByRecursion (λ q. whole (settled seat place) (said q) ≡ true)) k.kept.names
-            (each_ended seat place t.player.router.trace said t.player.inboxes.items k.kept.hears);
-        rounds = subst (AllByRecursion (λ q. Spell (bytes_before (settled seat place) (said q)) (handled t.player.router.trace q))) k.kept.names
-            (each_heard seat place t.player.router.trace said t.player.inboxes.items k.kept.hears);
+        ended = subst (AllByRecursion (λ q. whole (rounds_ended seat phase) (said q) ≡ true)) k.kept.names
+            (each_ended seat phase t.player.router.trace said t.player.inboxes.items k.kept.hears);
+        rounds = subst (AllByRecursion (λ q. Spell (bytes_before (rounds_ended seat phase) (said q)) (handled t.player.router.trace q))) k.kept.names
+            (each_heard seat phase t.player.router.trace said t.player.inboxes.items k.kept.hears);
       }

@@ -17,33 +17,33 @@ use Rattle.gs_ends.specs.Ends.{has}
 use Rattle.gs_ends.specs.declared.ends.Ends.{Ghosts as EndsOf}
 use Rattle.gs_peer.specs.declared.assignment.Assignment.{Assignment}
 use Rattle.gs_peer.specs.declared.outboxes.Outboxes.{Outboxes}
-use Rattle.gs_peer.specs.declared.place.Place.{Place}
-use Rattle.gs_peer.specs.declared.place.Place.TheVariants.{Playing, Closing}
+use Rattle.gs_peer.specs.declared.phase.Phase.{Phase}
+use Rattle.gs_peer.specs.declared.phase.Phase.TheVariants.{Playing, Closing}
 use Rattle.gs_peer.specs.declared.player.Player.{Player}
 use Rattle.gs_peer.specs.declared.running.Running.{Running}
-use Rattle.gs_peer.specs.Inboxes.{InboxView, all_heard, turned}
+use Rattle.gs_peer.specs.Inboxes.{InboxView, all_heard, in_next_phase}
 use Rattle.gs_peer.specs.Kept.{Kept}
 use Rattle.gs_peer.specs.Life.{words_of}
-use Rattle.gs_peer.specs.Places.{place_of}
+use Rattle.gs_peer.specs.Phases.{phase_of}
 use Rattle.gs_peer.specs.Players.{PlaysRound}
 use Rattle.gs_peer.specs.Playing.{Runs, behind_heard}
 use Rattle.gs_peer.specs.Running.{AllFull, Goes, IsKept, TellsSince, seat_of, seat_with}
 use Rattle.gs_peer.proofs.Played.{kept_closed, kept_turned, own_rest}
 
--- ---- at a place
+-- ---- in a phase
 
-pub at_round : (seat : Seat) (said sent : PeerNo → Said) (place : Place) (r : ℕ) (xs : List InboxView) (boxes : Outboxes) (v : RouterView) (refused : List RefusedLine) (first words : SeededState)
-    → place ≡ Playing r
-    → Kept seat said sent (place_of place) xs boxes v refused first words
+pub at_round : (seat : Seat) (said sent : PeerNo → Said) (phase : Phase) (r : ℕ) (xs : List InboxView) (boxes : Outboxes) (v : RouterView) (refused : List RefusedLine) (first words : SeededState)
+    → phase ≡ Playing r
+    → Kept seat said sent (phase_of phase) xs boxes v refused first words
     → Kept seat said sent (rounds.Playing r) xs boxes v refused first words
-at_round seat said sent place r xs boxes v refused first words is k = subst (λ (p : Place). Kept seat said sent (place_of p) xs boxes v refused first words) is k
+at_round seat said sent phase r xs boxes v refused first words is k = subst (λ (p : Phase). Kept seat said sent (phase_of p) xs boxes v refused first words) is k
 
 -- a round that is played is one of the seat's
-pub in_time : (seat : Seat) (said sent : PeerNo → Said) (place : Place) (r : ℕ) (xs : List InboxView) (boxes : Outboxes) (v : RouterView) (refused : List RefusedLine) (first words : SeededState)
-    → place ≡ Playing r
-    → Kept seat said sent (place_of place) xs boxes v refused first words
+pub in_time : (seat : Seat) (said sent : PeerNo → Said) (phase : Phase) (r : ℕ) (xs : List InboxView) (boxes : Outboxes) (v : RouterView) (refused : List RefusedLine) (first words : SeededState)
+    → phase ≡ Playing r
+    → Kept seat said sent (phase_of phase) xs boxes v refused first words
     → r ≤ seat.rounds
-in_time seat said sent place r xs boxes v refused first words is k = (at_round seat said sent place r xs boxes v refused first words is k).begun.0
+in_time seat said sent phase r xs boxes v refused first words is k = (at_round seat said sent phase r xs boxes v refused first words is k).begun.0
 
 -- the trace has grown
 grown : (told : ℕ) (K L : Entries) (es : List _) → told ≡ length K → L ≡ es ++ K → told ≤ length L
@@ -59,15 +59,15 @@ pub told_twice : (m : _) (now : _) (todos more : List _) (v w y : RouterView) (s
 told_twice m now todos more v w y s t u refused later told runs behind is =
     grown told v.trace y.trace (behind.appended.entries ++ runs.appended.entries) is (added v.trace w.trace y.trace runs.appended.entries behind.appended.entries runs.appended.are behind.appended.are)
 
-module _ (seat : Seat) (said sent : PeerNo → Said) (place : Place) (r told : ℕ) (lines : List (ℕ × Line)) (a b : Player) (old new : Outboxes) (first : SeededState)
-    (k : Kept seat said sent (place_of place) a.inboxes.items old a.router a.refused.items first a.words)
-    (is : place ≡ Playing r)
+module _ (seat : Seat) (said sent : PeerNo → Said) (phase : Phase) (r told : ℕ) (lines : List (ℕ × Line)) (a b : Player) (old new : Outboxes) (first : SeededState)
+    (k : Kept seat said sent (phase_of phase) a.inboxes.items old a.router a.refused.items first a.words)
+    (is : phase ≡ Playing r)
     (full : AllFull a.inboxes.items)
     (own : lines ≡ seat.lines)
     (plays : PlaysRound r (moment_of seat (rounds.Playing r)) lines a b)
     (count : told ≡ length a.router.trace) where
   here : Kept seat said sent (rounds.Playing r) a.inboxes.items old a.router a.refused.items first a.words
-  here = at_round seat said sent place r a.inboxes.items old a.router a.refused.items first a.words is k
+  here = at_round seat said sent phase r a.inboxes.items old a.router a.refused.items first a.words is k
 
   mine : PlaysRound r (moment_of seat (rounds.Playing r)) seat.lines a b
   mine = subst (λ (ls : List (ℕ × Line)). PlaysRound r (moment_of seat (rounds.Playing r)) ls a b) own plays
@@ -87,7 +87,7 @@ module _ (seat : Seat) (said sent : PeerNo → Said) (place : Place) (r told : �
       (tells a.router.trace sent (links_of seat.peer) (sym count) (more.appended.entries, more.appended.are) k.says) in
       subst (λ (n : ℕ). Kept seat said sent (rounds.Playing n) b.inboxes.items new b.router b.refused.items first b.words) next
       (subst (λ (ys : List InboxView). Kept seat said sent (rounds.Playing (suc r)) ys new b.router b.refused.items first b.words) (sym mine.turns)
-      (subst (λ (ls : List RefusedLine). Kept seat said sent (rounds.Playing (suc r)) (map turned a.inboxes.items) new b.router ls first b.words) (sym mine.refused) one))
+      (subst (λ (ls : List RefusedLine). Kept seat said sent (rounds.Playing (suc r)) (map in_next_phase a.inboxes.items) new b.router ls first b.words) (sym mine.refused) one))
 
   -- or the peer shuts down
   pub plays_last : (c : Player)
@@ -108,7 +108,7 @@ module _ (seat : Seat) (said sent : PeerNo → Said) (place : Place) (r told : �
       (subst (λ (n : ℕ). Runs (exact seeded_word seeded_after) (moment_of seat (rounds.Playing n)) (Stop ∷ []) b.router b.words c.router c.words []) last stops)
       (tells a.router.trace sent (links_of seat.peer) (sym count) (stops.appended.entries ++ more.appended.entries, both) k.says) in
       subst (λ (ys : List InboxView). Kept seat said sent rounds.Closing ys new c.router c.refused.items first c.words) (sym (ap (λ (x : _). x.items) same_inboxes ∙ mine.turns))
-      (subst (λ (ls : List RefusedLine). Kept seat said sent rounds.Closing (map turned a.inboxes.items) new c.router ls first c.words) (sym (ap (λ (x : _). x.items) same_refused ∙ mine.refused)) one)
+      (subst (λ (ls : List RefusedLine). Kept seat said sent rounds.Closing (map in_next_phase a.inboxes.items) new c.router ls first c.words) (sym (ap (λ (x : _). x.items) same_refused ∙ mine.refused)) one)
 
 -- ---- a task
 
@@ -120,7 +120,7 @@ module _ {G S : Type 0} (seen : EndsOf S) where
       → u.ends ≡ t.ends
       → u.player.router.peer ≡ t.player.router.peer
       → IsKept seen t
-      → Kept (seat_of t) (words_of (seen.taken t.ends)) (words_of (seen.accepted t.ends)) (place_of u.place) u.player.inboxes.items u.outboxes u.player.router u.player.refused.items t.first.value u.player.words
+      → Kept (seat_of t) (words_of (seen.taken t.ends)) (words_of (seen.accepted t.ends)) (phase_of u.phase) u.player.inboxes.items u.outboxes u.player.router u.player.refused.items t.first.value u.player.words
       → Goes seen t u
   goes_by t u given first ends peer k kept =
       let seat : seat_of u ≡ seat_of t = ap₂ seat_with given peer in
@@ -128,8 +128,8 @@ module _ {G S : Type 0} (seen : EndsOf S) where
         kept = record {
           small = subst (λ (a : Assignment). a.rounds * a.round_ms < 2 ^ 64) (sym given) k.small;
           known = subst₂ (λ (e : S) (p : Peer). AllByRecursion (λ q. has (seen.joints e) q ≡ true) (links_of p)) (sym ends) (sym peer) k.known;
-          kept = subst₂ (λ (s : Seat) (e : S). Kept s (words_of (seen.taken e)) (words_of (seen.accepted e)) (place_of u.place) u.player.inboxes.items u.outboxes u.player.router u.player.refused.items u.first.value u.player.words) (sym seat) (sym ends)
-              (subst (λ (f : _). Kept (seat_of t) (words_of (seen.taken t.ends)) (words_of (seen.accepted t.ends)) (place_of u.place) u.player.inboxes.items u.outboxes u.player.router u.player.refused.items f.value u.player.words) (sym first) kept);
+          kept = subst₂ (λ (s : Seat) (e : S). Kept s (words_of (seen.taken e)) (words_of (seen.accepted e)) (phase_of u.phase) u.player.inboxes.items u.outboxes u.player.router u.player.refused.items u.first.value u.player.words) (sym seat) (sym ends)
+              (subst (λ (f : _). Kept (seat_of t) (words_of (seen.taken t.ends)) (words_of (seen.accepted t.ends)) (phase_of u.phase) u.player.inboxes.items u.outboxes u.player.router u.player.refused.items f.value u.player.words) (sym first) kept);
         };
         seat = seat;
         first = ap (λ (f : _). f.value) first;
@@ -144,8 +144,8 @@ module _ {G S : Type 0} (seen : EndsOf S) where
   goes_nowhere t k = record { kept = k; seat = refl; first = refl; same_ends = refl }
 
 -- behind the last round
-pub at_close : (seat : Seat) (said sent : PeerNo → Said) (place : Place) (xs : List InboxView) (boxes : Outboxes) (v : RouterView) (refused : List RefusedLine) (first words : SeededState)
-    → place ≡ Closing
-    → Kept seat said sent (place_of place) xs boxes v refused first words
+pub at_close : (seat : Seat) (said sent : PeerNo → Said) (phase : Phase) (xs : List InboxView) (boxes : Outboxes) (v : RouterView) (refused : List RefusedLine) (first words : SeededState)
+    → phase ≡ Closing
+    → Kept seat said sent (phase_of phase) xs boxes v refused first words
     → Kept seat said sent rounds.Closing xs boxes v refused first words
-at_close seat said sent place xs boxes v refused first words is k = subst (λ (p : Place). Kept seat said sent (place_of p) xs boxes v refused first words) is k
+at_close seat said sent phase xs boxes v refused first words is k = subst (λ (p : Phase). Kept seat said sent (phase_of p) xs boxes v refused first words) is k

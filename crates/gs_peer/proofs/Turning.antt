@@ -1,4 +1,4 @@
--- A place is over, and the next one begins.
+-- A phase is over, and the next one begins.
 use Rattle.std.proofs.Common.{◌≡◌, ℕ, suc, Bool, true, false, List, [], ◌∷◌, ◌++◌, map, refl, sym, ap, subst, ◌∙◌, append-nil}
 use Rattle.std.specs.List.{AllByRecursion}
 use Rattle.gs_base.specs.declared.names.PeerNo.{PeerNo}
@@ -18,7 +18,7 @@ use Rattle.gs_rules.specs.Rounds.{Seat, Playing, Closing, AfterRounds}
 use Rattle.gs_rules.proofs.Each.{each_weaker}
 use Rattle.gs_rules.proofs.Handled.{StandsOnce, distinct_once, rounds_handle, spelled_once}
 use Rattle.gs_peer.specs.Ended.{ends, whole}
-use Rattle.gs_peer.specs.Inboxes.{InboxView, is_full, peers_of, turned}
+use Rattle.gs_peer.specs.Inboxes.{InboxView, in_next_phase, is_full, peers_of}
 use Rattle.gs_peer.specs.Kept.{InboxKept, close_if}
 use Rattle.gs_peer.proofs.Inbound.{all_before}
 use Rattle.gs_peer.proofs.Words.{and_same}
@@ -52,7 +52,7 @@ turns_round : (seat : Seat) (r : ℕ) (K L : Entries) (said : Said) (x : InboxVi
     → InboxKept seat (Playing r) K said x
     → is_full x ≡ true
     → Spell (bytes_before r said) (handled L x.peer)
-    → InboxKept seat (Playing (suc r)) L said (turned x)
+    → InboxKept seat (Playing (suc r)) L said (in_next_phase x)
 turns_round seat r K L said x k full spell =
     let ended : whole r said ≡ true = k.full ∙ full in
     record {
@@ -70,7 +70,7 @@ turns_last : (seat : Seat) (K L : Entries) (said : Said) (x : InboxView)
     → InboxKept seat (Playing seat.rounds) K said x
     → is_full x ≡ true
     → Spell (bytes_before seat.rounds said) (handled L x.peer)
-    → InboxKept seat Closing L said (turned x)
+    → InboxKept seat Closing L said (in_next_phase x)
 turns_last seat K L said x k full spell = record {
   stable = k.full ∙ full;
   full = k.closed;
@@ -91,9 +91,9 @@ each_map : {A : Type 0} (P Q : A → Type 0) (f : A → A) → ((x : A) → P x 
 each_map P Q f h [] k = tt
 each_map P Q f h (x ∷ xs) k = (h x k.0, each_map P Q f h xs k.1)
 
-pub peers_turned : (xs : List InboxView) → peers_of (map turned xs) ≡ peers_of xs
-peers_turned [] = refl
-peers_turned (x ∷ xs) = ap (λ (qs : List PeerNo). x.peer ∷ qs) (peers_turned xs)
+pub peers_in_next_phase : (xs : List InboxView) → peers_of (map in_next_phase xs) ≡ peers_of xs
+peers_in_next_phase [] = refl
+peers_in_next_phase (x ∷ xs) = ap (λ (qs : List PeerNo). x.peer ∷ qs) (peers_in_next_phase xs)
 
 -- what the rounds so far have handled of each neighbour
 pub rounds_spell : (seat : Seat) (said : PeerNo → Said) (r : ℕ) (L : Entries) (refused : List RefusedLine)
@@ -110,7 +110,7 @@ all_turn_round : (seat : Seat) (r : ℕ) (K L : Entries) (said : PeerNo → Said
     → AllByRecursion (λ (x : InboxView). InboxKept seat (Playing r) K (said x.peer) x) xs
     → AllByRecursion (λ x. is_full x ≡ true) xs
     → AllByRecursion (λ q. Spell (bytes_before r (said q)) (handled L q)) (peers_of xs)
-    → AllByRecursion (λ (x : InboxView). InboxKept seat (Playing (suc r)) L (said x.peer) x) (map turned xs)
+    → AllByRecursion (λ (x : InboxView). InboxKept seat (Playing (suc r)) L (said x.peer) x) (map in_next_phase xs)
 all_turn_round seat r K L said [] k full spell = tt
 all_turn_round seat r K L said (x ∷ xs) k full spell =
     (turns_round seat r K L (said x.peer) x k.0 full.0 spell.0, all_turn_round seat r K L said xs k.1 full.1 spell.1)
@@ -119,7 +119,7 @@ all_turn_last : (seat : Seat) (K L : Entries) (said : PeerNo → Said) (xs : Lis
     → AllByRecursion (λ (x : InboxView). InboxKept seat (Playing seat.rounds) K (said x.peer) x) xs
     → AllByRecursion (λ x. is_full x ≡ true) xs
     → AllByRecursion (λ q. Spell (bytes_before seat.rounds (said q)) (handled L q)) (peers_of xs)
-    → AllByRecursion (λ (x : InboxView). InboxKept seat Closing L (said x.peer) x) (map turned xs)
+    → AllByRecursion (λ (x : InboxView). InboxKept seat Closing L (said x.peer) x) (map in_next_phase xs)
 all_turn_last seat K L said [] k full spell = tt
 all_turn_last seat K L said (x ∷ xs) k full spell =
     (turns_last seat K L (said x.peer) x k.0 full.0 spell.0, all_turn_last seat K L said xs k.1 full.1 spell.1)
@@ -132,7 +132,7 @@ pub inboxes_turn : (seat : Seat) (r : ℕ) (K L : Entries) (said : PeerNo → Sa
     → AllByRecursion (λ x. is_full x ≡ true) xs
     → AfterRounds seat said (suc r) L refused
     → Legal seat.peer L
-    → AllByRecursion (λ (x : InboxView). InboxKept seat (Playing (suc r)) L (said x.peer) x) (map turned xs)
+    → AllByRecursion (λ (x : InboxView). InboxKept seat (Playing (suc r)) L (said x.peer) x) (map in_next_phase xs)
 inboxes_turn seat r K L said refused xs names ascending k full played legal =
     all_turn_round seat r K L said xs k full
     (subst (AllByRecursion (λ q. Spell (bytes_before r (said q)) (handled L q))) (sym names) (rounds_spell seat said r L refused ascending played legal))
@@ -146,7 +146,7 @@ pub inboxes_close : (seat : Seat) (K L M : Entries) (said : PeerNo → Said) (re
     → AfterRounds seat said (suc seat.rounds) L refused
     → Legal seat.peer L
     → ((q : PeerNo) → handled M q ≡ handled L q)
-    → AllByRecursion (λ (x : InboxView). InboxKept seat Closing M (said x.peer) x) (map turned xs)
+    → AllByRecursion (λ (x : InboxView). InboxKept seat Closing M (said x.peer) x) (map in_next_phase xs)
 inboxes_close seat K L M said refused xs names ascending k full played legal same =
     all_turn_last seat K M said xs k full
     (subst (AllByRecursion (λ q. Spell (bytes_before seat.rounds (said q)) (handled M q))) (sym names)

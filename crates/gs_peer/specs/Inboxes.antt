@@ -7,14 +7,14 @@ use Rattle.gs_wire.specs.Messages.{longest_body}
 use Rattle.gs_wire.specs.Stream.{Holding, FeedsOnce}
 use Rattle.gs_link.specs.declared.item.Slot.{Slot}
 use Rattle.gs_link.specs.declared.item.Slot.TheVariants as slots
-use Rattle.gs_rules.specs.Rounds.{Place, Playing, Closing, Todo, Hear, HearFault, HearGone}
+use Rattle.gs_rules.specs.Rounds.{Phase, Playing, Closing, Todo, Hear, HearFault, HearGone}
 
 pub record InboxView : Type 0 where
   pub peer : PeerNo
   pub reader : Holding
   -- the RPCs that were taken and not handled
   pub stage : List Rpc
-  -- all is taken that is heard at this place: the end of a round was
+  -- all is taken that is heard in this phase: the end of a round was
   pub is_marked : Bool
   -- the close was taken
   pub is_closed : Bool
@@ -51,14 +51,14 @@ all_heard inboxes = flat_map heard_of inboxes
 abbrev pub peers_of : List InboxView → List PeerNo
 peers_of inboxes = map (λ (x : InboxView). x.peer) inboxes
 
--- all is taken that is heard at this place
+-- all is taken that is heard in this phase
 abbrev pub is_full : InboxView → Bool
 is_full x = x.is_marked || x.is_closed
 
 -- ---- what is taken
 
--- this mark ends what is heard at a place: that of the round before
-abbrev pub is_mark : Place → ℕ → Bool
+-- this mark ends what is heard in a phase: that of the round before
+abbrev pub is_mark : Phase → ℕ → Bool
 is_mark (Playing zero) k = false
 is_mark (Playing (suc r)) k = nat_eq k r
 is_mark Closing k = false
@@ -71,18 +71,18 @@ FeedsPiece old bytes new =
     × (new ≡ record old { reader = reader; stage = old.stage ++ found })
 
 -- how an inbox changes when a slot is taken
-abbrev pub Reads : Place → InboxView → Slot → InboxView → Type 0
-Reads place old (slots.Piece bytes) new = FeedsPiece old bytes new
-Reads place old (slots.Round k) new = new ≡ record old { is_marked = is_mark place k }
-Reads place old slots.Close new = new ≡ record old { is_closed = true }
+abbrev pub Reads : Phase → InboxView → Slot → InboxView → Type 0
+Reads phase old (slots.Piece bytes) new = FeedsPiece old bytes new
+Reads phase old (slots.Round k) new = new ≡ record old { is_marked = is_mark phase k }
+Reads phase old slots.Close new = new ≡ record old { is_closed = true }
 
 -- nothing is taken, or one slot
-abbrev pub Listens : Place → List Slot → List Slot → InboxView → InboxView → Type 0
-Listens place before after old new =
-    ((after ≡ before) × (new ≡ old)) ⊎ ((slot : Slot) × (after ≡ before ++ slot ∷ []) × Reads place old slot new)
+abbrev pub Listens : Phase → List Slot → List Slot → InboxView → InboxView → Type 0
+Listens phase before after old new =
+    ((after ≡ before) × (new ≡ old)) ⊎ ((slot : Slot) × (after ≡ before ++ slot ∷ []) × Reads phase old slot new)
 
--- ---- a place is over
+-- ---- a phase is over
 
--- what was staged is handled, and nothing is taken yet of what is heard at the next place
-abbrev pub turned : InboxView → InboxView
-turned x = record x { stage = []; is_marked = false }
+-- what was staged is handled, and nothing is taken yet of what is heard in the next phase
+abbrev pub in_next_phase : InboxView → InboxView
+in_next_phase x = record x { stage = []; is_marked = false }

@@ -17,18 +17,18 @@ use Rattle.gs_rules.specs.Modes.{exact}
 use Rattle.gs_rules.specs.Legal.{Comes, LegalOn}
 use Rattle.gs_rules.specs.Saying.{handled, out}
 use Rattle.gs_rules.specs.Hearing.{Spell, after, bytes_before, closes}
-use Rattle.gs_rules.specs.Rounds.{Seat, Place, Playing, Closing, AfterRounds, moment_of}
+use Rattle.gs_rules.specs.Rounds.{Seat, Phase, Playing, Closing, AfterRounds, moment_of}
 use Rattle.gs_router.specs.Router.{RouterView}
 use Rattle.gs_peer.specs.declared.outboxes.Outboxes.{Outboxes}
 use Rattle.gs_peer.specs.Ended.{closes_in, whole}
-use Rattle.gs_peer.specs.Places.{settled}
+use Rattle.gs_peer.specs.Phases.{rounds_ended}
 use Rattle.gs_peer.specs.Inboxes.{InboxView, is_full, peers_of}
 use Rattle.gs_peer.specs.Outboxes.{is_open, waiting}
 
 -- ---- what comes from one neighbour
 
--- all is taken that is heard at a place
-abbrev pub is_whole : Place → Said → Bool
+-- all is taken that is heard in a phase
+abbrev pub is_whole : Phase → Said → Bool
 is_whole (Playing r) w = whole r w
 is_whole Closing w = closes w
 
@@ -36,25 +36,25 @@ abbrev pub close_if : Bool → Said
 close_if closed = if closed then Close ∷ [] else []
 
 -- in a round nothing but a close is taken behind what is heard in it
-abbrev pub NothingBehind : Place → Said → Bool → Type 0
+abbrev pub NothingBehind : Phase → Said → Bool → Type 0
 NothingBehind (Playing r) w closed = after r w ≡ close_if closed
 NothingBehind Closing w closed = Unit {0}
 
 -- in a round what is heard ends with a close, where one is taken
-abbrev pub ClosesHere : Place → Said → Bool → Type 0
+abbrev pub ClosesHere : Phase → Said → Bool → Type 0
 ClosesHere (Playing r) w closed = closes_in r w ≡ closed
 ClosesHere Closing w closed = Unit {0}
 
--- An inbox at a place, where this trace has come of the peer and this is taken from the neighbour.
-pub record InboxKept (seat : Seat) (place : Place) (L : Entries) (said : Said) (x : InboxView) : Type 0 where
+-- An inbox in a phase, where this trace has come of the peer and this is taken from the neighbour.
+pub record InboxKept (seat : Seat) (phase : Phase) (L : Entries) (said : Said) (x : InboxView) : Type 0 where
   -- the rounds that were heard have ended
-  pub stable : whole (settled seat place) said ≡ true
-  pub full : is_whole place said ≡ is_full x
+  pub stable : whole (rounds_ended seat phase) said ≡ true
+  pub full : is_whole phase said ≡ is_full x
   pub closed : closes said ≡ x.is_closed
-  pub rest : NothingBehind place said x.is_closed
-  pub here : ClosesHere place said x.is_closed
+  pub rest : NothingBehind phase said x.is_closed
+  pub here : ClosesHere phase said x.is_closed
   -- what was handled is what was said in them, and with what is staged it is all that was taken
-  pub earlier : Spell (bytes_before (settled seat place) said) (handled L x.peer)
+  pub earlier : Spell (bytes_before (rounds_ended seat phase) said) (handled L x.peer)
   pub read : HasRead longest_body (bytes_of said) x.reader (handled L x.peer ++ x.stage)
 
 -- ---- what goes to one neighbour
@@ -66,23 +66,23 @@ pub record BoxKept (L : Entries) (sent : Said) (boxes : Outboxes) (q : PeerNo) :
 
 -- ---- all of it
 
--- so far the rounds before a place were played, and behind the last one the peer has shut down
-abbrev pub Begun : Seat → (PeerNo → Said) → Place → Entries → List RefusedLine → Type 0
+-- so far the rounds before a phase were played, and behind the last one the peer has shut down
+abbrev pub Begun : Seat → (PeerNo → Said) → Phase → Entries → List RefusedLine → Type 0
 Begun seat said (Playing r) L refused = (r ≤ seat.rounds) × AfterRounds seat said r L refused
 Begun seat said Closing L refused =
     (K : Entries)
     × AfterRounds seat said (suc seat.rounds) K refused
     × Comes seat.peer (moment_of seat Closing) (Some Shut) K L
 
--- What a task keeps at a place, where this is taken from its neighbours and this is accepted for them.
-pub record Kept (seat : Seat) (said sent : PeerNo → Said) (place : Place) (inboxes : List InboxView)
+-- What a task keeps in a phase, where this is taken from its neighbours and this is accepted for them.
+pub record Kept (seat : Seat) (said sent : PeerNo → Said) (phase : Phase) (inboxes : List InboxView)
     (boxes : Outboxes) (v : RouterView) (refused : List RefusedLine) (first words : SeededState) : Type 0 where
   pub peer : v.peer ≡ seat.peer
   pub names : peers_of inboxes ≡ links_of seat.peer
   pub ascending : IsAscending (links_of seat.peer)
   pub running : v.is_stopped ≡ false
-  pub time : last_moment v.trace ≤ (moment_of seat place).0
+  pub time : last_moment v.trace ≤ (moment_of seat phase).0
   pub legal : LegalOn (exact seeded_word seeded_after) seat.peer first [] v.trace words
-  pub begun : Begun seat said place v.trace refused
-  pub hears : AllByRecursion (λ (x : InboxView). InboxKept seat place v.trace (said x.peer) x) inboxes
+  pub begun : Begun seat said phase v.trace refused
+  pub hears : AllByRecursion (λ (x : InboxView). InboxKept seat phase v.trace (said x.peer) x) inboxes
   pub says : AllByRecursion (λ q. BoxKept v.trace (sent q) boxes q) (links_of seat.peer)

@@ -1,5 +1,5 @@
 pub mod Ended
-pub mod Places
+pub mod Phases
 pub mod Inboxes
 pub mod Outboxes
 pub mod Framed

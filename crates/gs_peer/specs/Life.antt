@@ -15,7 +15,7 @@ use Rattle.gs_rules.specs.Saying.{handled, out}
 use Rattle.gs_rules.specs.Hearing.{Spell, closes}
 use Rattle.gs_rules.specs.Rounds.{Seat, KeepsRounds}
 use Rattle.gs_router.specs.Router.{meshes_of, scores_of}
-use Rattle.gs_peer.specs.declared.finished.Finished.{Finished}
+use Rattle.gs_peer.specs.declared.finished_task.FinishedTask.{FinishedTask}
 
 -- what lists of slots say, by neighbour
 abbrev pub words_of : (PeerNo → List Slot) → PeerNo → Said
@@ -23,7 +23,7 @@ words_of lists q = flat (lists q)
 
 -- A whole life at a seat, by choices that begin with these words.
 pub record IsLife {S : Type 0} (seen : EndsOf S) (seat : Seat) (first : SeededState)
-    (f : Finished S) : Type 0 where
+    (f : FinishedTask S) : Type 0 where
   -- each entry is allowed by those before it, by the choices of the words
   pub legal : (last : SeededState) × LegalOn (exact seeded_word seeded_after) seat.peer first [] f.trace last
   -- it did what there was to do, round by round, and exactly this was refused

@@ -6,7 +6,7 @@ use Rattle.gs_params.specs.Seeding.{seeded_after, seeded_word}
 use Rattle.gs_rules.specs.declared.refusal.RefusedLine.{RefusedLine}
 use Rattle.gs_rules.specs.Modes.{exact}
 use Rattle.gs_peer.specs.declared.player.Player.{Player}
-use Rattle.gs_peer.specs.Inboxes.{all_heard, turned}
+use Rattle.gs_peer.specs.Inboxes.{all_heard, in_next_phase}
 use Rattle.gs_peer.specs.Playing.{Runs, behind_heard}
 
 -- What came was heard, these lines were followed where they are for the round, counters were lowered and a heartbeat
@@ -17,4 +17,4 @@ pub record PlaysRound (r : ℕ) (now : Millis) (lines : List (ℕ × Line)) (old
   pub runs : Runs (exact seeded_word seeded_after) now
       (all_heard old.inboxes.items ++ behind_heard old.router.peer r now lines)
       old.router old.words new.router new.words more
-  pub turns : new.inboxes.items ≡ map turned old.inboxes.items
+  pub turns : new.inboxes.items ≡ map in_next_phase old.inboxes.items

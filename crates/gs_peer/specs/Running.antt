@@ -14,15 +14,15 @@ use Rattle.gs_ends.specs.Ends.{has}
 use Rattle.gs_ends.specs.declared.ends.Ends.{Ghosts as EndsOf}
 use Rattle.gs_peer.specs.declared.assignment.Assignment.{Assignment}
 use Rattle.gs_peer.specs.declared.outboxes.Outboxes.{Outboxes}
-use Rattle.gs_peer.specs.declared.place.Place.TheVariants.{Closing}
-use Rattle.gs_peer.specs.declared.finished.Finished.{Finished}
+use Rattle.gs_peer.specs.declared.phase.Phase.TheVariants.{Closing}
+use Rattle.gs_peer.specs.declared.finished_task.FinishedTask.{FinishedTask}
 use Rattle.gs_peer.specs.declared.running.Running.{Running}
-use Rattle.gs_peer.specs.declared.finished.FinalState.{FinalState}
+use Rattle.gs_peer.specs.declared.finished_task.FinalState.{FinalState}
 use Rattle.gs_peer.specs.Inboxes.{InboxView, is_full}
 use Rattle.gs_peer.specs.Kept.{BoxKept, Kept}
 use Rattle.gs_peer.specs.Life.{words_of}
 use Rattle.gs_peer.specs.Outboxes.{waiting}
-use Rattle.gs_peer.specs.Places.{place_of}
+use Rattle.gs_peer.specs.Phases.{phase_of}
 
 -- the seat of a peer that is given this
 abbrev pub seat_with : Assignment → Peer → Seat
@@ -31,7 +31,7 @@ seat_with a p = record { number = a.number; peer = p; lines = a.lines; round_ms 
 abbrev pub seat_of : {G S : Type 0} → Running G S → Seat
 seat_of t = seat_with t.assignment t.player.router.peer
 
--- all is taken that is heard at this place
+-- all is taken that is heard in this phase
 abbrev pub AllFull : List InboxView → Type 0
 AllFull inboxes = AllByRecursion (λ (x : InboxView). is_full x ≡ true) inboxes
 
@@ -65,7 +65,7 @@ module _ {S : Type 0} (seen : EndsOf S) where
     pub small : t.assignment.rounds * t.assignment.round_ms < 2 ^ 64
     -- there are ends to and from each neighbour
     pub known : AllByRecursion (λ q. has (seen.joints t.ends) q ≡ true) (links_of t.player.router.peer)
-    pub kept : Kept (seat_of t) (words_of (seen.taken t.ends)) (words_of (seen.accepted t.ends)) (place_of t.place)
+    pub kept : Kept (seat_of t) (words_of (seen.taken t.ends)) (words_of (seen.accepted t.ends)) (phase_of t.phase)
         t.player.inboxes.items t.outboxes t.player.router t.player.refused.items t.first.value t.player.words
 
   -- A step goes on: what is kept is kept, and what was given stays.
@@ -84,12 +84,12 @@ pub record IsFresh {G S : Type 0} (a : Assignment) (router : RouterView) (words 
 
 -- The peer has shut down, each neighbour has closed, and all that was said is accepted.
 pub record IsOver {G S : Type 0} (t : Running G S) : Type 0 where
-  pub place : t.place ≡ Closing
+  pub phase : t.phase ≡ Closing
   pub full : AllFull t.player.inboxes.items
   pub silent : AllSilent t.outboxes t.player.inboxes.items
 
 -- what is left of it, where its router stands so
-abbrev pub left_of : {G S : Type 0} → Running G S → FinalState → Finished S
+abbrev pub left_of : {G S : Type 0} → Running G S → FinalState → FinishedTask S
 left_of t state = record {
   trace = t.player.router.trace;
   refused = t.player.refused.items;

@@ -17,15 +17,15 @@ use Rattle.gs_router.specs.Router.{RouterView}
 use Rattle.gs_ends.specs.Ends.{GrewBy, Joint}
 use Rattle.gs_ends.specs.declared.ends.Ends.{Ghosts as EndsOf}
 use Rattle.gs_peer.specs.declared.assignment.Assignment.{Assignment}
-use Rattle.gs_peer.specs.declared.finished.Finished.{Finished}
-use Rattle.gs_peer.specs.declared.finished.PeerFault.{PeerFault}
+use Rattle.gs_peer.specs.declared.finished_task.FinishedTask.{FinishedTask}
+use Rattle.gs_peer.specs.declared.finished_task.PeerFault.{PeerFault}
 use Rattle.gs_peer.specs.declared.running.Running.{Running}
 use Rattle.gs_peer.specs.declared.task.PeerTask.{PeerTask}
 use Rattle.gs_peer.specs.Ended.{whole}
 use Rattle.gs_peer.specs.Inboxes.{InboxView, peers_of}
 use Rattle.gs_peer.specs.Life.{IsLife, words_of}
 use Rattle.gs_peer.specs.Outboxes.{waiting}
-use Rattle.gs_peer.specs.Places.{place_of, settled}
+use Rattle.gs_peer.specs.Phases.{phase_of, rounds_ended}
 use Rattle.gs_peer.specs.Running.{IsKept, seat_of, seat_with}
 
 -- ---- what stays
@@ -55,8 +55,8 @@ module _ {G S : Type 0} (seen : EndsOf S) where
     -- each entry is allowed by those before it, by the choices of its words
     pub legal : LegalOn (exact seeded_word seeded_after) (seat_of t).peer
         t.first.value [] t.player.router.trace t.player.words
-    -- it keeps the rounds, up to some of what there is to do at its place
-    pub keeps : (left : List Todo) × KeepsSoFar (seat_of t) (words_of (seen.taken t.ends)) (place_of t.place) left
+    -- it keeps the rounds, up to some of what there is to do in its phase
+    pub keeps : (left : List Todo) × KeepsSoFar (seat_of t) (words_of (seen.taken t.ends)) (phase_of t.phase) left
         t.player.router.trace t.player.refused.items
     -- what was handled of each neighbour, and what is staged, are the RPCs of the bytes that were taken from it
     pub names : peers_of t.player.inboxes.items ≡ links_of (seat_of t).peer
@@ -69,11 +69,11 @@ module _ {G S : Type 0} (seen : EndsOf S) where
         (links_of (seat_of t).peer)
     -- the rounds that were heard have ended, in what was taken of each neighbour
     pub ended : AllByRecursion (λ q.
-        whole (settled (seat_of t) (place_of t.place)) (words_of (seen.taken t.ends) q) ≡ true)
+        whole (rounds_ended (seat_of t) (phase_of t.phase)) (words_of (seen.taken t.ends) q) ≡ true)
         (links_of (seat_of t).peer)
     -- what was handled of each neighbour is what it said in them, and nothing of the round that it is in
     pub rounds : AllByRecursion (λ q.
-        Spell (bytes_before (settled (seat_of t) (place_of t.place)) (words_of (seen.taken t.ends) q))
+        Spell (bytes_before (rounds_ended (seat_of t) (phase_of t.phase)) (words_of (seen.taken t.ends) q))
         (handled t.player.router.trace q))
         (links_of (seat_of t).peer)
 
@@ -89,7 +89,7 @@ module _ {G S : Type 0} (seen : EndsOf S) where
   IsSuspended task = MatchOption task.running ⊥ (λ t. SoFar seen t)
 
   -- a whole life at the task's seat, by its words and with its ends; or a fault
-  abbrev pub Gives : PeerTask G S → Result (Finished S) PeerFault → Type 0
+  abbrev pub Gives : PeerTask G S → Result (FinishedTask S) PeerFault → Type 0
   Gives task result = IfOk result (λ f.
       (seat : Seat) × (first : SeededState)
       × (given_of seen.joints task ≡ Some (seat, first, seen.joints f.ends))
@@ -101,7 +101,7 @@ module _ {S : Type 0} (seen : EndsOf S) where
   BothGrew most before after = GrewBy most (seen.accepted before) (seen.accepted after) × GrewBy most (seen.taken before) (seen.taken after)
 
   -- what a poll takes and has accepted
-  abbrev pub Bounded : {G : Type 0} → ℕ → PeerTask G S → PeerTask G S → Poll (Result (Finished S) PeerFault) → Type 0
+  abbrev pub Bounded : {G : Type 0} → ℕ → PeerTask G S → PeerTask G S → Poll (Result (FinishedTask S) PeerFault) → Type 0
   Bounded {G} most old new (Ready (Ok f)) = (t : Running G S) → old.running ≡ Some t → BothGrew most t.ends f.ends
   Bounded {G} most old new (Ready (Err e)) = Unit {0}
   Bounded {G} most old new Pending =

@@ -7,7 +7,7 @@ ghost use Rattle.gs_rules.specs.declared.refusal.RefusedLine.{RefusedLine as Ref
 ghost use Rattle.gs_rules.specs.Modes.{exact};
 ghost use Rattle.gs_rules.specs.Rounds.{Hear, Obey, beats_in, decays_in, event_of, is_due, obey};
 ghost use Rattle.gs_router.specs.Router.{Calls};
-ghost use Rattle.gs_peer.specs.Inboxes.{all_heard, heard_of, turned};
+ghost use Rattle.gs_peer.specs.Inboxes.{all_heard, heard_of, in_next_phase};
 ghost use Rattle.gs_peer.specs.Playing.{IsRunning, Runs, RpcsFit};
 
 use crate::inbox::Inbox;
@@ -18,7 +18,7 @@ use gs_router::{Router, RouterFault};
 use gs_rules::RefusedLine;
 use std::alloc::{AllocError, Global};
 
-/// Hears what is staged of each neighbour, one neighbour after the other, and begins the next place.
+/// Hears what is staged of each neighbour, one neighbour after the other, and begins the next phase.
 pub fn hear(
     alloc: Global,
     router: &mut Router,
@@ -30,7 +30,7 @@ pub fn hear(
     requires fit { AllByRecursion (λ x. RpcsFit x.stage) inboxes.old }
     ensures runs { OnOk result (Runs (exact seeded_word seeded_after) now (all_heard inboxes.old)
         router.old words.old router.new words.new []) }
-    ensures turned { OnOk result (inboxes.new ≡ map turned inboxes.old) }
+    ensures in_next_phase { OnOk result (inboxes.new ≡ map in_next_phase inboxes.old) }
 {
     for inbox in inboxes.iter_mut() {
         hear_from(alloc, router, words, inbox, now)?;
@@ -50,17 +50,17 @@ fn hear_from(
     requires fit { RpcsFit inbox.old.stage }
     ensures runs { OnOk result (Runs (exact seeded_word seeded_after) now (heard_of inbox.old)
         router.old words.old router.new words.new []) }
-    ensures turned { OnOk result (inbox.new ≡ turned inbox.old) }
+    ensures in_next_phase { OnOk result (inbox.new ≡ in_next_phase inbox.old) }
 {
     let from = inbox.peer();
-    let rpcs = inbox.turn(alloc);
+    let rpcs = inbox.begin_phase(alloc);
     hear_each(router, words, from, rpcs, now)?;
     if inbox.is_broken_off() {
-        done(router.fault(from, now, words))?;
+        never_refused(router.fault(from, now, words))?;
         return Ok(());
     }
     if inbox.is_closed() {
-        done(router.gone(from, now, words))?;
+        never_refused(router.gone(from, now, words))?;
         return Ok(());
     }
     Ok(())
@@ -157,7 +157,7 @@ fn tell(
 }
 
 /// Lowers the counters of scores and has a heartbeat, each if it is due in a round.
-pub fn keep_time(
+pub fn decay_and_beat(
     router: &mut Router,
     words: &mut SeededWords,
     round: u64,
@@ -168,13 +168,13 @@ pub fn keep_time(
         (decays_in router.old.peer round now ++ beats_in router.old.peer round now)
         router.old words.old router.new words.new []) }
 {
-    lower(router, words, round, now)?;
-    beat(router, words, round, now)?;
+    decay_if_due(router, words, round, now)?;
+    beat_if_due(router, words, round, now)?;
     Ok(())
 }
 
 /// Lowers the counters of scores by a step, if that is due in a round.
-fn lower(
+fn decay_if_due(
     router: &mut Router,
     words: &mut SeededWords,
     round: u64,
@@ -187,12 +187,12 @@ fn lower(
     if !is_due(router.decay_ms(), round, now) {
         return Ok(());
     }
-    done(router.decay(now, words))?;
+    never_refused(router.decay(now, words))?;
     Ok(())
 }
 
 /// Has a heartbeat, if one is due in a round.
-fn beat(
+fn beat_if_due(
     router: &mut Router,
     words: &mut SeededWords,
     round: u64,
@@ -205,7 +205,7 @@ fn beat(
     if !is_due(router.heartbeat_ms(), round, now) {
         return Ok(());
     }
-    done(router.heartbeat(now, words))?;
+    never_refused(router.heartbeat(now, words))?;
     Ok(())
 }
 
@@ -220,7 +220,7 @@ fn is_due(every: u64, round: u64, now: Millis) -> bool
 }
 
 /// A call that only want of memory can keep from being done.
-pub fn done(told: Result<(), RouterFault>) -> Result<(), AllocError>
+pub fn never_refused(told: Result<(), RouterFault>) -> Result<(), AllocError>
     ensures { OnOk result (IsOk told) }
 {
     match told {

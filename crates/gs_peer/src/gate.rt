@@ -1,12 +1,12 @@
 /// Whoever is told of each round that a peer begins. Nothing is claimed of when or how often.
 pub trait Gate: Drop {
     /// A peer on this worker begins this round.
-    fn turn(&self, worker: usize, round: u64);
+    fn begin_round(&self, worker: usize, round: u64);
 }
 
 impl<G: Gate> Gate for &G {
-    fn turn(&self, worker: usize, round: u64) {
-        (**self).turn(worker, round)
+    fn begin_round(&self, worker: usize, round: u64) {
+        (**self).begin_round(worker, round)
     }
 }
 
@@ -15,5 +15,5 @@ impl<G: Gate> Gate for &G {
 pub struct NoGate;
 
 impl Gate for NoGate {
-    fn turn(&self, _worker: usize, _round: u64) {}
+    fn begin_round(&self, _worker: usize, _round: u64) {}
 }

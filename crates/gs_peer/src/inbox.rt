@@ -2,10 +2,10 @@ ghost use Rattle.std.specs.Prelude.{◌≡◌, false, true, OnOk};
 ghost use Rattle.gs_base.specs.declared.names.PeerNo.{PeerNo as PeerNoValue};
 ghost use Rattle.gs_link.specs.Runs.{closes};
 ghost use Rattle.gs_ends.specs.Ends.{OthersStay, has};
-ghost use Rattle.gs_peer.specs.Inboxes.{FeedsPiece, Listens, is_broken_off, is_full, is_mark, new_inbox, turned};
-ghost use Rattle.gs_peer.specs.Places.{place_of};
+ghost use Rattle.gs_peer.specs.Inboxes.{FeedsPiece, Listens, in_next_phase, is_broken_off, is_full, is_mark, new_inbox};
+ghost use Rattle.gs_peer.specs.Phases.{phase_of};
 
-use crate::place::Place;
+use crate::phase::Phase;
 use gs_base::{PeerNo, Rpc};
 use gs_ends::Ends;
 use gs_link::{Item, Taken};
@@ -15,7 +15,7 @@ use std::marker::Model;
 use std::mem;
 
 /// What a task keeps of what comes from a neighbour: what it has read and not handled, and whether
-/// all is taken that it hears at its place.
+/// all is taken that it hears in its phase.
 #[derive(Drop)]
 pub struct Inbox {
     peer: PeerNo,
@@ -66,7 +66,7 @@ impl Inbox {
         self.peer
     }
 
-    /// Whether all is taken that is heard at this place.
+    /// Whether all is taken that is heard in this phase.
     pub fn is_full(&self) -> bool
         ensures { result ≡ is_full self.now }
     {
@@ -87,16 +87,16 @@ impl Inbox {
         self.is_failed || (self.is_closed && self.reader.pending() != 0)
     }
 
-    /// Gives what is staged, and begins the next place.
-    pub fn turn(&mut self, alloc: Global) -> Vec<Rpc>
+    /// Gives what is staged, and begins the next phase.
+    pub fn begin_phase(&mut self, alloc: Global) -> Vec<Rpc>
         ensures staged { result.items ≡ self.old.stage }
-        ensures turned { self.new ≡ turned self.old }
+        ensures in_next_phase { self.new ≡ in_next_phase self.old }
     {
         self.is_marked = false;
         mem::replace(&mut self.stage, Vec::new(alloc))
     }
 
-    /// Takes what comes next from the neighbour, if anything does. Nobody calls it behind the mark of a place, so the stage
+    /// Takes what comes next from the neighbour, if anything does. Nobody calls it behind the mark of a phase, so the stage
     /// holds what one round brought.
     ///
     /// # Errors
@@ -105,11 +105,11 @@ impl Inbox {
         &mut self,
         alloc: Global,
         ends: &mut S,
-        place: Place,
+        phase: Phase,
     ) -> Result<bool, AllocError>
         requires known { has (S.joints ends.old) self.old.peer ≡ true }
         requires open { closes (S.taken ends.old self.old.peer) ≡ false }
-        ensures listened { OnOk result (Listens (place_of place)
+        ensures listened { OnOk result (Listens (phase_of phase)
             (S.taken ends.old self.old.peer) (S.taken ends.new self.old.peer) self.old self.new) }
         ensures joints { S.joints ends.new ≡ S.joints ends.old }
         ensures others { OthersStay self.old.peer (S.taken ends.old) (S.taken ends.new) }
@@ -121,7 +121,7 @@ impl Inbox {
                 Ok(true)
             }
             Taken::Got(Item::Round(round)) => {
-                self.is_marked = ends_hearing(place, round);
+                self.is_marked = ends_hearing(phase, round);
                 Ok(true)
             }
             Taken::Empty => Ok(false),
@@ -152,12 +152,12 @@ impl Inbox {
     }
 }
 
-/// Whether the end of this round ends what is heard at a place: that is the round before.
-fn ends_hearing(place: Place, round: u64) -> bool
-    ensures { result ≡ is_mark (place_of place) round }
+/// Whether the end of this round ends what is heard in a phase: that is the round before.
+fn ends_hearing(phase: Phase, round: u64) -> bool
+    ensures { result ≡ is_mark (phase_of phase) round }
 {
-    match place {
-        Place::Playing(now) => now > 0 && round == now - 1,
-        Place::Closing => false,
+    match phase {
+        Phase::Playing(now) => now > 0 && round == now - 1,
+        Phase::Closing => false,
     }
 }

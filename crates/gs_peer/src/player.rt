@@ -8,7 +8,7 @@ ghost use Rattle.gs_peer.specs.Playing.{IsRunning, Runs, RpcsFit};
 ghost use Rattle.gs_peer.specs.Players.{PlaysRound};
 
 use crate::agenda::Agenda;
-use crate::calls::{self, done};
+use crate::calls::{self, never_refused};
 use crate::inbox::Inbox;
 use gs_base::Millis;
 use gs_params::SeededWords;
@@ -59,8 +59,8 @@ impl Player {
             agenda.at(round),
             now,
         )?;
-        calls::keep_time(&mut self.router, &mut self.words, round, now)?;
-        done(self.router.end_round(round, now, &mut self.words))?;
+        calls::decay_and_beat(&mut self.router, &mut self.words, round, now)?;
+        never_refused(self.router.end_round(round, now, &mut self.words))?;
         Ok(())
     }
 
@@ -75,7 +75,7 @@ impl Player {
         ensures refused { self.new.refused ≡ self.old.refused }
         ensures inboxes { self.new.inboxes ≡ self.old.inboxes }
     {
-        done(self.router.shut(now, &mut self.words))?;
+        never_refused(self.router.shut(now, &mut self.words))?;
         Ok(())
     }
 

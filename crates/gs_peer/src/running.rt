@@ -3,17 +3,17 @@ ghost use Rattle.std.specs.Prelude.{◌≡◌, ◌<◌, ◌≤◌, ◌*◌, ◌^
 ghost use Rattle.gs_base.specs.declared.names.PeerNo.{PeerNo as PeerNoValue};
 ghost use Rattle.gs_rules.specs.Legal.{Legal};
 ghost use Rattle.gs_ends.specs.Ends.{GrewBy, has};
-ghost use Rattle.gs_peer.specs.declared.place.Place.TheVariants.{Playing};
+ghost use Rattle.gs_peer.specs.declared.phase.Phase.TheVariants.{Playing};
 ghost use Rattle.gs_peer.specs.Life.{IsLife};
 ghost use Rattle.gs_peer.specs.Running.{AllFull, AllSilent, Goes, IsFresh, IsKept, IsOver, MayBegin, TellsSince, left_of, seat_of};
 
 use crate::assignment::Assignment;
 use crate::boxes::{Boxes, boxes_of};
-use crate::finished::{FinalState, Finished};
+use crate::finished_task::{FinalState, FinishedTask};
 use crate::gate::Gate;
 use crate::inbox::Inbox;
 use crate::outboxes::Outboxes;
-use crate::place::Place;
+use crate::phase::Phase;
 use crate::player::Player;
 use gs_base::{Millis, PeerNo, Seq, Topic};
 use gs_ends::Ends;
@@ -38,12 +38,12 @@ pub struct Running<G: Gate, S: Ends> {
     player: Player,
     /// What the words of its choices were at first, for proofs alone.
     first: Snapshot<SeededWords>,
-    place: Place,
+    phase: Phase,
     outboxes: Outboxes,
     /// Which neighbour is looked at next, by its place among them.
     turn: usize,
     /// Of which neighbour it was seen last that not all is taken that is heard of it.
-    awaited: usize,
+    last_not_full: usize,
     ends: S,
 }
 
@@ -77,10 +77,10 @@ impl<G: Gate, S: Ends> Running<G, S> {
                 inboxes,
             },
             first,
-            place: Place::Playing(0),
+            phase: Phase::Playing(0),
             outboxes,
             turn: 0,
-            awaited: 0,
+            last_not_full: 0,
             ends,
         })
     }
@@ -99,7 +99,7 @@ impl<G: Gate, S: Ends> Running<G, S> {
         let mut idle = 0;
         for _ in 0..64u8 {
             let moved = self.step()?;
-            idle = waited(idle, moved);
+            idle = idle_after(idle, moved);
             if idle > self.player.inboxes.len() {
                 let over = self.is_over();
                 return Ok(over);
@@ -151,7 +151,7 @@ impl<G: Gate, S: Ends> Running<G, S> {
         if inbox.is_full() {
             return Ok(false);
         }
-        let listened = inbox.listen(self.alloc, &mut self.ends, self.place)?;
+        let listened = inbox.listen(self.alloc, &mut self.ends, self.phase)?;
         Ok(listened)
     }
 
@@ -176,10 +176,10 @@ impl<G: Gate, S: Ends> Running<G, S> {
         ensures goes { OnOk result (Goes S.Ends self.old self.new) }
         ensures ends { self.new.ends ≡ self.old.ends }
     {
-        let Place::Playing(round) = self.place else {
+        let Phase::Playing(round) = self.phase else {
             return Ok(false);
         };
-        if !is_due(&self.player.inboxes, &mut self.awaited) {
+        if !is_due(&self.player.inboxes, &mut self.last_not_full) {
             return Ok(false);
         }
         self.play(round)?;
@@ -191,23 +191,23 @@ impl<G: Gate, S: Ends> Running<G, S> {
     fn play(&mut self, round: u64) -> Result<(), AllocError>
         requires kept { IsKept S.Ends self.old }
         requires full { AllFull self.old.player.inboxes.items }
-        requires place { self.old.place ≡ Playing round }
+        requires phase { self.old.phase ≡ Playing round }
         ensures goes { OnOk result (Goes S.Ends self.old self.new) }
         ensures ends { self.new.ends ≡ self.old.ends }
     {
-        self.gate.turn(self.assignment.worker, round);
+        self.gate.begin_round(self.assignment.worker, round);
         let now = Millis(round * self.assignment.round_ms);
         let told = self.player.router.trace().entries().len();
         self.player
             .play(self.alloc, &self.assignment.lines, round, now)?;
         if round < self.assignment.rounds {
             tell_since(self.alloc, &mut self.outboxes, &self.player.router, told)?;
-            self.place = Place::Playing(round + 1);
+            self.phase = Phase::Playing(round + 1);
             return Ok(());
         }
         self.player.shut(now)?;
         tell_since(self.alloc, &mut self.outboxes, &self.player.router, told)?;
-        self.place = Place::Closing;
+        self.phase = Phase::Closing;
         Ok(())
     }
 
@@ -216,7 +216,7 @@ impl<G: Gate, S: Ends> Running<G, S> {
     fn is_over(&self) -> bool
         ensures { result ≡ true → IsOver self.now }
     {
-        let Place::Closing = self.place else {
+        let Phase::Closing = self.phase else {
             return false;
         };
         all_full(&self.player.inboxes) && all_silent(&self.outboxes, &self.player.inboxes)
@@ -226,7 +226,7 @@ impl<G: Gate, S: Ends> Running<G, S> {
     ///
     /// # Errors
     /// `AllocError` where there was no memory.
-    pub fn settle(&mut self) -> Result<FinalState, AllocError>
+    pub fn final_state(&mut self) -> Result<FinalState, AllocError>
         requires kept { IsKept S.Ends self.old }
         requires over { IsOver self.old }
         ensures life { IfOk result (λ state.
@@ -241,7 +241,7 @@ impl<G: Gate, S: Ends> Running<G, S> {
     }
 
     /// What is left of the life, where the router stands so.
-    pub fn finish(self, state: FinalState) -> Finished<S>
+    pub fn finish(self, state: FinalState) -> FinishedTask<S>
         ensures { result ≡ left_of self state }
     {
         let Running { player, ends, .. } = self;
@@ -251,7 +251,7 @@ impl<G: Gate, S: Ends> Running<G, S> {
             ..
         } = player;
         let FinalState { meshes, scores } = state;
-        Finished {
+        FinishedTask {
             trace: router.into_trace(),
             refused: Seq::from(refused),
             meshes,
@@ -276,21 +276,21 @@ fn tell_since(
     Ok(())
 }
 
-/// Whether all is taken that is heard at a place. It looks first at the neighbour that was awaited
-/// last.
-fn is_due(inboxes: &[Inbox], awaited: &mut usize) -> bool
+/// Whether all is taken that is heard in a phase. It looks first at the neighbour of which
+/// that was not so last.
+fn is_due(inboxes: &[Inbox], last_not_full: &mut usize) -> bool
     ensures { result ≡ true → AllFull inboxes.now }
 {
-    *awaited = first_awaited(inboxes, *awaited);
-    if *awaited < inboxes.len() {
+    *last_not_full = first_not_full(inboxes, *last_not_full);
+    if *last_not_full < inboxes.len() {
         return false;
     }
-    *awaited = 0;
+    *last_not_full = 0;
     all_full(inboxes)
 }
 
 /// The first inbox, from this one on, of which not all is taken; or how many there are.
-fn first_awaited(inboxes: &[Inbox], from: usize) -> usize {
+fn first_not_full(inboxes: &[Inbox], from: usize) -> usize {
     for place in from..inboxes.len() {
         if !inboxes[place].is_full() {
             return place;
@@ -322,7 +322,7 @@ fn all_silent(outboxes: &Outboxes, inboxes: &[Inbox]) -> bool
 }
 
 /// For how many steps nothing has moved.
-fn waited(idle: usize, moved: bool) -> usize {
+fn idle_after(idle: usize, moved: bool) -> usize {
     if moved { 0 } else { idle.saturating_add(1) }
 }
 

@@ -7,7 +7,7 @@ ghost use Rattle.gs_peer.specs.Running.{Goes, IsKept, IsOver, MayBegin, seat_of}
 ghost use Rattle.gs_peer.specs.Task.{Bounded, CanPoll, Gives, HasEnds, IsSuspended, IsTaskOf, given_of};
 
 use crate::assignment::Assignment;
-use crate::finished::{Finished, PeerFault};
+use crate::finished_task::{FinishedTask, PeerFault};
 use crate::gate::Gate;
 use crate::running::{Chooser, Running};
 use futures::Future;
@@ -77,7 +77,7 @@ impl<G: Gate, S: Ends> PeerTask<G, S> {
 }
 
 impl<G: Gate, S: Ends> Future for PeerTask<G, S> {
-    type Output = Result<Finished<S>, PeerFault>;
+    type Output = Result<FinishedTask<S>, PeerFault>;
 
     ghost can_poll = { λ task. CanPoll S.Ends task };
 
@@ -88,7 +88,7 @@ impl<G: Gate, S: Ends> Future for PeerTask<G, S> {
     ///
     /// It gives what is left of the life; or `NoMemory`, with the stop flag set; or `Stopped` where that
     /// was set, and where the result was given before. Behind any result there is nothing to give.
-    fn poll(&mut self, cx: &mut Context<'_>) -> Poll<Result<Finished<S>, PeerFault>>
+    fn poll(&mut self, cx: &mut Context<'_>) -> Poll<Result<FinishedTask<S>, PeerFault>>
         requires { CanPoll S.Ends self.old }
         ensures value { IfReady result (Gives S.Ends self.old) }
         ensures again { OnPending result (CanPoll S.Ends self.new) }
@@ -141,7 +141,7 @@ fn go_on<G: Gate, S: Ends>(stop: &StopFlag, running: &mut Running<G, S>) -> Resu
 fn finish<G: Gate, S: Ends>(
     stop: &StopFlag,
     running: &mut Option<Running<G, S>>,
-) -> Result<Finished<S>, PeerFault>
+) -> Result<FinishedTask<S>, PeerFault>
     requires kept { IfSome running.old (IsKept S.Ends) }
     requires over { IfSome running.old IsOver }
     ensures life { IfSome running.old (λ t. IfOk result (λ f. IsLife S.Ends (seat_of t) t.first.value f)) }
@@ -151,7 +151,7 @@ fn finish<G: Gate, S: Ends>(
     let Some(mut life) = running.take() else {
         return Err(PeerFault::Stopped);
     };
-    match life.settle() {
+    match life.final_state() {
         Ok(state) => Ok(life.finish(state)),
         Err(_) => {
             stop.set();

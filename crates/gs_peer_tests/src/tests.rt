@@ -17,7 +17,7 @@ use futures::executor::block_on;
 use gs_base::{Millis, PeerNo};
 use gs_ends::ListEnds;
 use gs_link::Item;
-use gs_peer::{Finished, Gate, NoGate, PeerFault, Surroundings};
+use gs_peer::{FinishedTask, Gate, NoGate, PeerFault, Surroundings};
 use gs_plan::Line;
 use gs_rules::{Refusal, RefusedLine};
 use gs_workers::StopFlag;
@@ -41,7 +41,7 @@ const SCRIPTED: [Step; 8] = [
 ];
 
 /// Whether a life is that of the script: its steps, its one refused line, and what it said.
-fn is_scripted(alloc: Global, life: &Finished<ListEnds>) -> Result<bool, AllocError>
+fn is_scripted(alloc: Global, life: &FinishedTask<ListEnds>) -> Result<bool, AllocError>
     requires { has (joints_of life.now.ends) (record { 0 = 2 }) ≡ true }
 {
     let refusal = RefusedLine {
@@ -65,7 +65,7 @@ fn lives<R>(
     said: Vec<Item>,
     rounds: u64,
     every: u64,
-) -> io::Result<Option<Finished<ListEnds>>>
+) -> io::Result<Option<FinishedTask<ListEnds>>>
 where
     R: Wait + RandomSource + AllocGlobal,
     requires { rounds ≤ 100_000 }
@@ -135,7 +135,7 @@ static WITH_HEARTBEATS: [Step; 38] = [
     Step::RoundEnd(9),
     Step::Publish,
     Step::Decay,
-    Step::Promises,
+    Step::BeatBegin,
     Step::Mesh,
     Step::Gossip,
     Step::BeatEnd,
@@ -152,7 +152,7 @@ static WITH_HEARTBEATS: [Step; 38] = [
     Step::RoundEnd(18),
     Step::RoundEnd(19),
     Step::Decay,
-    Step::Promises,
+    Step::BeatBegin,
     Step::Mesh,
     Step::Gossip,
     Step::BeatEnd,
@@ -161,7 +161,7 @@ static WITH_HEARTBEATS: [Step; 38] = [
 ];
 
 /// Whether a life has those steps, and said so.
-fn is_gossiping(alloc: Global, life: &Finished<ListEnds>) -> Result<bool, AllocError>
+fn is_gossiping(alloc: Global, life: &FinishedTask<ListEnds>) -> Result<bool, AllocError>
     requires { has (joints_of life.now.ends) (record { 0 = 2 }) ≡ true }
 {
     let says = says_with_heartbeats(alloc)?;
@@ -225,6 +225,6 @@ fn each_fault_has_its_number_and_text(rt: HostRuntime) -> Result<(), AllocError>
         assert_eq!(rt; shown.as_str(), *text);
         assert_eq!(rt; fault.number(), *number);
     }
-    NoGate.turn(3, 7);
+    NoGate.begin_round(3, 7);
     Ok(())
 }

@@ -115,8 +115,8 @@ pub record IsInRange (plan : Plan) : Type 0 where
   pub topics_differ : AllPairs (λ (x y : Topic × TopicParams). same_topic x.0 y.0 ≡ false) plan.params.topics
   -- its parameters passed their checks, and heartbeats and decays take whole rounds
   pub params : checked plan.params ≡ Ok plan.params
-  pub heartbeat : plan.params.windows.heartbeat_ms % plan.round_ms ≡ 0
-  pub decay : plan.params.windows.decay_ms % plan.round_ms ≡ 0
+  pub heartbeat : plan.params.timing.heartbeat_ms % plan.round_ms ≡ 0
+  pub decay : plan.params.timing.decay_ms % plan.round_ms ≡ 0
   -- a dial joins two peers of the plan, and no other dial joins them
   pub dials_from : All (λ (dial : Dial). IsOneOf plan.peers dial.from) plan.dials
   pub dials_to : All (λ (dial : Dial). IsOneOf plan.peers dial.to) plan.dials

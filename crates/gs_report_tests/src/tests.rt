@@ -2,7 +2,7 @@
 use bytes::Bytes;
 use gs_base::{Millis, PeerNo, Seq, Text, Topic};
 use gs_params::{
-    DEFAULT_DEGREES, DEFAULT_FACTORS, DEFAULT_FLOOD_PUBLISH, DEFAULT_THRESHOLDS, DEFAULT_WINDOWS,
+    DEFAULT_DEGREES, DEFAULT_FACTORS, DEFAULT_FLOOD_PUBLISH, DEFAULT_THRESHOLDS, DEFAULT_TIMING,
     Params,
 };
 use gs_plan::{Line, Plan, PlannedPeer, What};
@@ -50,7 +50,7 @@ fn plan(alloc: Global) -> Result<Plan, AllocError> {
             degrees: DEFAULT_DEGREES,
             thresholds: DEFAULT_THRESHOLDS,
             factors: DEFAULT_FACTORS,
-            windows: DEFAULT_WINDOWS,
+            timing: DEFAULT_TIMING,
             flood_publish: DEFAULT_FLOOD_PUBLISH,
             topics: Seq::new(alloc),
         },

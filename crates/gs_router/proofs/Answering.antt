@@ -67,14 +67,14 @@ same_identifier x id is = ap (λ (bytes : List ℕ). record { 0 = bytes }) ((byt
 
 module _ (p : Peer) (L : Entries) (q : PeerNo) (ahead : List MsgId) (given : List (MsgId × Message)) where
   abbrev pub at_first : MsgId → ℕ
-  at_first id = answers_left p.params.windows.gossip_retransmission (windows p) L q id
+  at_first id = answers_left p.params.timing.gossip_retransmission (windows p) L q id
 
   -- nothing is given for it
   pub gives_none : (x : MsgId) (reply : Reply) → at_first x - times_in x ahead ≡ 0
       → Replies p L q ahead given reply
       → Replies p L q (ahead ++ x ∷ []) (given ++ with_message x (answer p L q x (times_in x ahead))) reply
   gives_none x reply spent so_far =
-      let none : answer p L q x (times_in x ahead) ≡ None = no_answer p.params.windows.gossip_retransmission (kept (windows p) L x) (answered L q x) (times_in x ahead) spent in
+      let none : answer p L q x (times_in x ahead) ≡ None = no_answer p.params.timing.gossip_retransmission (kept (windows p) L x) (answered L q x) (times_in x ahead) spent in
       let nothing : given ++ with_message x (answer p L q x (times_in x ahead)) ≡ given = ap (λ (o : Option Message). given ++ with_message x o) none ∙ append-nil given in
       record {
         gives = subst (λ (list : List (MsgId × Message)). Gives q list reply) (sym nothing) so_far.gives;
@@ -99,7 +99,7 @@ module _ (p : Peer) (L : Entries) (q : PeerNo) (ahead : List MsgId) (given : Lis
       → Replies p L q ahead given old
       → Replies p L q (ahead ++ x ∷ []) (given ++ with_message x (answer p L q x (times_in x ahead))) new
   gives_one x m left old new message is some sends marks_are leaves so_far =
-      let found : answer p L q x (times_in x ahead) ≡ Some m = some_answer p.params.windows.gossip_retransmission (kept (windows p) L x) (answered L q x) (times_in x ahead) m message (omega (arith, some, is)) in
+      let found : answer p L q x (times_in x ahead) ≡ Some m = some_answer p.params.timing.gossip_retransmission (kept (windows p) L x) (answered L q x) (times_in x ahead) m message (omega (arith, some, is)) in
       let longer : given ++ with_message x (answer p L q x (times_in x ahead)) ≡ given ++ (x, m) ∷ [] = ap (λ (o : Option Message). given ++ with_message x o) found in
       record {
         gives = subst (λ (list : List (MsgId × Message)). Gives q list new) (sym longer) (record {

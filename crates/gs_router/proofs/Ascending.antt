@@ -18,9 +18,9 @@ use Rattle.gs_base.specs.Names.{same_topic}
 use Rattle.gs_rules.specs.Tables.{Entries, ascending, joined, known, own_topics, placed, topic_order}
 use Rattle.gs_rules.specs.Meshes.{ever_fanned, has_mesh, mesh_topics}
 use Rattle.gs_router.specs.declared.tables.own_topics.OwnTopics.{OwnTopics}
-use Rattle.gs_router.specs.declared.tables.mesh_topics.Uses.{Uses}
+use Rattle.gs_router.specs.declared.tables.mesh_topics.MeshOrFanout.{MeshOrFanout}
 use Rattle.gs_router.specs.declared.tables.mesh_topics.MeshTopics.{MeshTopics}
-use Rattle.gs_router.specs.Tables.{AgreesOnMeshTopics, AgreesOnTopics, kept_topic, no_uses}
+use Rattle.gs_router.specs.Tables.{AgreesOnMeshTopics, AgreesOnTopics, kept_topic, neither_mesh_nor_fanout}
 use Rattle.gs_router.proofs.Fanning.{used_is_listed}
 
 -- ---- the order of topics
@@ -196,21 +196,21 @@ listed_so own L sorted agrees =
 
 -- ---- the topics that have a mesh or a fanout
 
-abbrev pub is_used : Uses → Bool
-is_used uses = uses.has_mesh || uses.has_fanout
+abbrev pub is_used : MeshOrFanout → Bool
+is_used mesh_or_fanout = mesh_or_fanout.has_mesh || mesh_or_fanout.has_fanout
 
-abbrev pub used_in : List (Topic × Uses) → List Topic
+abbrev pub used_in : List (Topic × MeshOrFanout) → List Topic
 used_in es = passing_in is_used es
 
-used_passes : (o : Option Uses) → passes is_used o ≡ is_used (unwrap_or o no_uses)
+used_passes : (o : Option MeshOrFanout) → passes is_used o ≡ is_used (unwrap_or o neither_mesh_nor_fanout)
 used_passes None = refl
-used_passes (Some uses) = refl
+used_passes (Some mesh_or_fanout) = refl
 
 pub used_so : (table : MeshTopics) (L : Entries) → IsStrictlySortedBy topic_order (keys_of table.topics.entries) → AgreesOnMeshTopics table L → used_in table.topics.entries ≡ mesh_topics L
 used_so table L sorted agrees =
     ascending_alone (used_in table.topics.entries) (filter (has_mesh L) (known L ++ ever_fanned L)) (passing_sorted is_used table.topics.entries sorted) (λ q.
     passing_finds is_used q table.topics.entries sorted
     ∙ used_passes (lookup (λ u. is_eq (topic_order q u)) table.topics.entries)
-    ∙ ap is_used (agrees.uses q)
+    ∙ ap is_used (agrees.mesh_or_fanout q)
     ∙ used_is_listed L q
     ∙ sym (filter_finds (has_mesh L) q (known L ++ ever_fanned L)))

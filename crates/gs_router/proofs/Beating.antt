@@ -2,7 +2,7 @@
 use Rattle.std.proofs.Common.{◌≡◌, ◌≤◌, ◌+◌, arith, ℕ, Bool, true, false, if◌then◌else◌, List, [], ◌∷◌, length, refl}
 use Rattle.gs_base.specs.declared.names.Topic.{Topic}
 use Rattle.gs_rules.specs.declared.trace.Event.{Event}
-use Rattle.gs_rules.specs.declared.trace.Event.TheVariants.{FanBeat, FanEnd, Promises}
+use Rattle.gs_rules.specs.declared.trace.Event.TheVariants.{BeatBegin, FanBeat, FanEnd}
 use Rattle.gs_rules.specs.Peers.{Peer}
 use Rattle.gs_rules.specs.Tables.{Entries, counted_after, heartbeats}
 use Rattle.gs_rules.specs.Owed.{owes}
@@ -24,7 +24,7 @@ due_owes_none p L at due = by due.is_stale
 -- ---- how many
 
 counted_once : (event : Event) (before : ℕ) → counted_after event before ≤ before + 1
-counted_once Promises before = omega arith
+counted_once BeatBegin before = omega arith
 counted_once other before = omega arith
 
 heartbeats_are_few : (L : Entries) → heartbeats L ≤ length L

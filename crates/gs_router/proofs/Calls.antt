@@ -10,7 +10,7 @@ use Rattle.gs_base.specs.Names.{longest_topic, message_id}
 use Rattle.gs_base.specs.Rpcs.{publication}
 use Rattle.gs_wire.specs.Codec.{codec}
 use Rattle.gs_rules.specs.declared.trace.Event.{Event}
-use Rattle.gs_rules.specs.declared.trace.Event.TheVariants.{Heard, Late, Subscribe, Unsubscribe, Publish, Promises, Decay, RoundEnd, Gone, Fault, Shut}
+use Rattle.gs_rules.specs.declared.trace.Event.TheVariants.{Heard, Late, Subscribe, Unsubscribe, Publish, BeatBegin, Decay, RoundEnd, Gone, Fault, Shut}
 use Rattle.gs_rules.specs.declared.refusal.Refusal.{Refusal}
 use Rattle.gs_rules.specs.declared.refusal.Refusal.TheVariants.{Stopped}
 use Rattle.gs_rules.specs.Peers.{Peer, seen_ttl}
@@ -146,8 +146,8 @@ may_come_true p L at (wishes.EndRound r) free = (none_holds (reasons p L at (Rou
 may_come_true p L at wishes.Shut free = (none_holds (reasons p L at Shut) free).0
 
 -- a heartbeat may come where it is not refused
-pub may_beat : (p : Peer) (L : Entries) (at : ℕ) → refusal p L at Promises ≡ None → MayOpen p L at Promises
-may_beat p L at free = (none_holds (reasons p L at Promises) free).0
+pub may_beat : (p : Peer) (L : Entries) (at : ℕ) → refusal p L at BeatBegin ≡ None → MayOpen p L at BeatBegin
+may_beat p L at free = (none_holds (reasons p L at BeatBegin) free).0
 
 -- what its user wishes owes nothing
 pub owes_nothing : (p : Peer) (L : Entries) (at : ℕ) (wish : Wish) → owes p L at (wished wish) ≡ []

@@ -17,9 +17,9 @@ use Rattle.gs_rules.specs.declared.trace.Event.TheVariants.{FanEnd, Subscribe, U
 use Rattle.gs_rules.specs.declared.trace.Entry.{Entry}
 use Rattle.gs_rules.specs.Tables.{Entries, after_marks, joined, joined_after, known, known_after, topic_order}
 use Rattle.gs_rules.specs.Meshes.{dropped_after, ever_fanned, fanned_topics_after, has_mesh, last_published, published_after}
-use Rattle.gs_router.specs.declared.tables.mesh_topics.Uses.{Uses}
+use Rattle.gs_router.specs.declared.tables.mesh_topics.MeshOrFanout.{MeshOrFanout}
 use Rattle.gs_router.specs.declared.tables.mesh_topics.MeshTopics.{MeshTopics}
-use Rattle.gs_router.specs.Tables.{AgreesOnMeshTopics, HasTopics, dropped_by, fanned_by, no_uses, uses_in}
+use Rattle.gs_router.specs.Tables.{AgreesOnMeshTopics, HasTopics, dropped_by, fanned_by, mesh_or_fanout_in, neither_mesh_nor_fanout}
 use Rattle.gs_router.proofs.Keeping.{marks_more}
 use Rattle.gs_router.proofs.Noting.{or_true, same_order}
 
@@ -108,47 +108,47 @@ used_is_listed L q =
 
 -- ---- what a topic has
 
-abbrev look : List (Topic × Uses) → Topic → Option Uses
+abbrev look : List (Topic × MeshOrFanout) → Topic → Option MeshOrFanout
 look es t = lookup (λ u. is_eq (topic_order t u)) es
 
 -- one topic has something else
-pub put_so : (old new : List (Topic × Uses)) (topic : Topic) (uses : Uses) → ((t : Topic) → look new t ≡ cond (is_eq (topic_order topic t)) (Some uses) (look old t))
-    → (t : Topic) → unwrap_or (look new t) no_uses ≡ (if same_topic topic t then uses else unwrap_or (look old t) no_uses)
-put_so old new topic uses updates t =
-    ap (λ (o : Option Uses). unwrap_or o no_uses) (updates t ∙ ap (λ (b : Bool). cond b (Some uses) (look old t)) (same_order topic t))
+pub put_so : (old new : List (Topic × MeshOrFanout)) (topic : Topic) (mesh_or_fanout : MeshOrFanout) → ((t : Topic) → look new t ≡ cond (is_eq (topic_order topic t)) (Some mesh_or_fanout) (look old t))
+    → (t : Topic) → unwrap_or (look new t) neither_mesh_nor_fanout ≡ (if same_topic topic t then mesh_or_fanout else unwrap_or (look old t) neither_mesh_nor_fanout)
+put_so old new topic mesh_or_fanout updates t =
+    ap (λ (o : Option MeshOrFanout). unwrap_or o neither_mesh_nor_fanout) (updates t ∙ ap (λ (b : Bool). cond b (Some mesh_or_fanout) (look old t)) (same_order topic t))
     ∙ by (same_topic topic t)
   where
-    by : (b : Bool) → unwrap_or (cond b (Some uses) (look old t)) no_uses ≡ (if b then uses else unwrap_or (look old t) no_uses)
+    by : (b : Bool) → unwrap_or (cond b (Some mesh_or_fanout) (look old t)) neither_mesh_nor_fanout ≡ (if b then mesh_or_fanout else unwrap_or (look old t) neither_mesh_nor_fanout)
     by true = refl
     by false = refl
 
-abbrev has : Bool → Bool → Uses
+abbrev has : Bool → Bool → MeshOrFanout
 has mesh fanout = record { has_mesh = mesh; has_fanout = fanout }
 
-module _ (old new : MeshTopics) (topic : Topic) (uses : Uses) (puts : (t : Topic) → uses_in new t ≡ (if same_topic topic t then uses else uses_in old t)) (meshes fanouts : Topic → Bool) (agrees : HasTopics old meshes fanouts) where
+module _ (old new : MeshTopics) (topic : Topic) (mesh_or_fanout : MeshOrFanout) (puts : (t : Topic) → mesh_or_fanout_in new t ≡ (if same_topic topic t then mesh_or_fanout else mesh_or_fanout_in old t)) (meshes fanouts : Topic → Bool) (agrees : HasTopics old meshes fanouts) where
   -- a topic of its own has a mesh, and no fanout
-  pub joins : uses ≡ has true false → HasTopics new (λ t. if same_topic topic t then true else meshes t) (λ t. if same_topic topic t then false else fanouts t)
-  joins is = record { uses = λ t. puts t ∙ by t (same_topic topic t) }
+  pub joins : mesh_or_fanout ≡ has true false → HasTopics new (λ t. if same_topic topic t then true else meshes t) (λ t. if same_topic topic t then false else fanouts t)
+  joins is = record { mesh_or_fanout = λ t. puts t ∙ by t (same_topic topic t) }
     where
-      by : (t : Topic) (b : Bool) → (if b then uses else uses_in old t) ≡ has (if b then true else meshes t) (if b then false else fanouts t)
+      by : (t : Topic) (b : Bool) → (if b then mesh_or_fanout else mesh_or_fanout_in old t) ≡ has (if b then true else meshes t) (if b then false else fanouts t)
       by t true = is
-      by t false = agrees.uses t
+      by t false = agrees.mesh_or_fanout t
 
   -- one that is left has no mesh, and the fanout that it had
-  pub leaves : uses ≡ has false (uses_in old topic).has_fanout → HasTopics new (λ t. if same_topic topic t then false else meshes t) fanouts
-  leaves is = record { uses = λ t. puts t ∙ by t (same_topic topic t) refl }
+  pub leaves : mesh_or_fanout ≡ has false (mesh_or_fanout_in old topic).has_fanout → HasTopics new (λ t. if same_topic topic t then false else meshes t) fanouts
+  leaves is = record { mesh_or_fanout = λ t. puts t ∙ by t (same_topic topic t) refl }
     where
-      by : (t : Topic) (b : Bool) → same_topic topic t ≡ b → (if b then uses else uses_in old t) ≡ has (if b then false else meshes t) (fanouts t)
-      by t true same = is ∙ ap (λ (u : Uses). has false u.has_fanout) (agrees.uses topic) ∙ ap (λ (u : Topic). has false (fanouts u)) (same_are_one topic t same)
-      by t false same = agrees.uses t
+      by : (t : Topic) (b : Bool) → same_topic topic t ≡ b → (if b then mesh_or_fanout else mesh_or_fanout_in old t) ≡ has (if b then false else meshes t) (fanouts t)
+      by t true same = is ∙ ap (λ (u : MeshOrFanout). has false u.has_fanout) (agrees.mesh_or_fanout topic) ∙ ap (λ (u : Topic). has false (fanouts u)) (same_are_one topic t same)
+      by t false same = agrees.mesh_or_fanout t
 
   -- one on which the peer published has a fanout
-  pub publishes : uses ≡ has (uses_in old topic).has_mesh true → HasTopics new meshes (λ t. if same_topic topic t then true else fanouts t)
-  publishes is = record { uses = λ t. puts t ∙ by t (same_topic topic t) refl }
+  pub publishes : mesh_or_fanout ≡ has (mesh_or_fanout_in old topic).has_mesh true → HasTopics new meshes (λ t. if same_topic topic t then true else fanouts t)
+  publishes is = record { mesh_or_fanout = λ t. puts t ∙ by t (same_topic topic t) refl }
     where
-      by : (t : Topic) (b : Bool) → same_topic topic t ≡ b → (if b then uses else uses_in old t) ≡ has (meshes t) (if b then true else fanouts t)
-      by t true same = is ∙ ap (λ (u : Uses). has u.has_mesh true) (agrees.uses topic) ∙ ap (λ (u : Topic). has (meshes u) true) (same_are_one topic t same)
-      by t false same = agrees.uses t
+      by : (t : Topic) (b : Bool) → same_topic topic t ≡ b → (if b then mesh_or_fanout else mesh_or_fanout_in old t) ≡ has (meshes t) (if b then true else fanouts t)
+      by t true same = is ∙ ap (λ (u : MeshOrFanout). has u.has_mesh true) (agrees.mesh_or_fanout topic) ∙ ap (λ (u : Topic). has (meshes u) true) (same_are_one topic t same)
+      by t false same = agrees.mesh_or_fanout t
 
 -- ---- marks one by one
 
@@ -163,7 +163,7 @@ fanned_more marks i mark old now new below is one fanning =
     subst (λ (ms : List Mark). Fanning ms old new) (sym (take_more marks i mark below ∙ ap (λ (x : Mark). take i marks ++ x ∷ []) (sym is)))
     (λ meshes fanouts agrees.
     let noted : HasTopics new meshes (λ t. fanned_by t mark (after_marks (fanned_by t) (take i marks) (fanouts t))) = one meshes (λ t. after_marks (fanned_by t) (take i marks) (fanouts t)) (fanning meshes fanouts agrees) in
-    record { uses = λ t. noted.uses t ∙ ap (has (meshes t)) (sym (marks_more (fanned_by t) (take i marks) mark (fanouts t))) })
+    record { mesh_or_fanout = λ t. noted.mesh_or_fanout t ∙ ap (has (meshes t)) (sym (marks_more (fanned_by t) (take i marks) mark (fanouts t))) })
 
 -- ---- an entry
 
@@ -189,8 +189,8 @@ pub fanned_all : (new : MeshTopics) (e : Entry) (L : Entries) (marks : List Mark
     → HasTopics new (λ t. joined_after t e.event (joined L t)) (λ t. after_marks (fanned_by t) marks (dropped_by t e.event (is_some (last_published L t))))
     → AgreesOnMeshTopics new (e ∷ L)
 fanned_all new e L marks are agrees = record {
-  uses = λ t.
-      agrees.uses t
+  mesh_or_fanout = λ t.
+      agrees.mesh_or_fanout t
       ∙ ap (has (joined (e ∷ L) t)) (
       ap (λ (ms : List Mark). after_marks (fanned_by t) ms (dropped_by t e.event (is_some (last_published L t)))) are
       ∙ ap (after_marks (fanned_by t) e.marks) (dropped_so t e.event (last_published L t))

@@ -12,13 +12,13 @@ use Rattle.gs_base.specs.declared.rpc.Message.{Message}
 use Rattle.gs_base.specs.declared.mark.Mark.{Mark}
 use Rattle.gs_base.specs.declared.mark.Mark.TheVariants.{Cached, Answered}
 use Rattle.gs_base.specs.Names.{same_id, same_peer, same_topic}
-use Rattle.gs_cache.specs.Messages as cache
+use Rattle.gs_cache.specs.CachedMessages as cache
 use Rattle.gs_rules.specs.declared.trace.Event.{Event}
 use Rattle.gs_rules.specs.declared.trace.Event.TheVariants.{BeatEnd}
 use Rattle.gs_rules.specs.declared.trace.Entry.{Entry}
 use Rattle.gs_rules.specs.Tables.{Entries, Keeping, after_marks, answered, answered_after, keeping, keeping_order, kept_after, last_kept, message_in, older, order_after}
 use Rattle.gs_rules.specs.Gossip.{is_gossiped}
-use Rattle.gs_router.specs.declared.tables.messages.Messages.{Messages}
+use Rattle.gs_router.specs.declared.tables.kept_messages.Messages.{Messages}
 use Rattle.gs_router.specs.Tables.{AgreesOnMessages, HasKept, IsMadeAlike, keeping_in, left_of, unmarked}
 
 -- ---- lists

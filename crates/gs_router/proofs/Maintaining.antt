@@ -6,15 +6,15 @@ use Rattle.gs_params.specs.declared.params.Degrees.{Degrees}
 use Rattle.gs_params.specs.declared.params.Params.{Params}
 use Rattle.gs_params.specs.Picks.{IsAscending}
 use Rattle.gs_mesh.specs.Cuts.{outbound_of, outside, peers_of}
-use Rattle.gs_mesh.specs.declared.heartbeat.Choice.{Choice}
+use Rattle.gs_mesh.specs.declared.heartbeat.MeshChange.{MeshChange}
 use Rattle.gs_mesh.specs.declared.condition.Condition.{Condition}
-use Rattle.gs_mesh.specs.declared.condition.Condition.TheVariants.{Few, Many, FewOutbound, Well}
-use Rattle.gs_mesh.specs.MeshSteps.{any_by_words, bettered, bettered_then, choice_of, condition_of, cut_by_words, is_poor, made_of, mended, not_negative, step_by_words, stepped}
+use Rattle.gs_mesh.specs.declared.condition.Condition.TheVariants.{Few, Many, FewOutbound, Balanced}
+use Rattle.gs_mesh.specs.MeshSteps.{any_by_words, condition_of, cut_by_words, is_poor, mended, mended_members, mesh_change, not_negative, opportunistic_grafts, opportunistic_grafts_then, step_by_words, stepped}
 use Rattle.gs_mesh.proofs.MemberLists.{above_median_ascend, not_negative_ascend, outbound_ascend, outside_ascend}
 use Rattle.gs_rules.specs.declared.trace.Entry.{Entry}
 use Rattle.gs_rules.specs.Peers.{Peer}
 use Rattle.gs_rules.specs.Tables.{Entries}
-use Rattle.gs_rules.specs.BeatRules.{members_of}
+use Rattle.gs_rules.specs.BeatRules.{scored_members}
 use Rattle.gs_rules.specs.Rule.{AnyOf, CutOf, Gives, Rule}
 use Rattle.gs_rules.specs.Modes.{Follows, exact}
 
@@ -28,26 +28,26 @@ module _ (P : Rule → Type 0)
   of_mended Few degrees members candidates next each = any _ _ _ (each (peers_of members))
   of_mended Many degrees members candidates next each = cut _ _ _ (λ kept. each kept [])
   of_mended FewOutbound degrees members candidates next each = any _ _ _ (each (peers_of members))
-  of_mended Well degrees members candidates next each = each (peers_of members) []
+  of_mended Balanced degrees members candidates next each = each (peers_of members) []
 
-  of_bettered : (poor : Bool) (most : ℕ) (members candidates : List Member) (next : List PeerNo → Rule) → ((more : List PeerNo) → P (next more)) → P (bettered AnyOf poor most members candidates next)
-  of_bettered true most members candidates next each = any _ _ _ each
-  of_bettered false most members candidates next each = each []
+  of_opportunistic_grafts : (poor : Bool) (most : ℕ) (members candidates : List Member) (next : List PeerNo → Rule) → ((more : List PeerNo) → P (next more)) → P (opportunistic_grafts AnyOf poor most members candidates next)
+  of_opportunistic_grafts true most members candidates next each = any _ _ _ each
+  of_opportunistic_grafts false most members candidates next each = each []
 
-  pub of_stepped : (params : Params) (tick : ℕ) (mesh candidates : List Member) (next : Choice → Rule) → ((choice : Choice) → P (next choice)) → P (stepped AnyOf CutOf params tick mesh candidates next)
+  pub of_stepped : (params : Params) (tick : ℕ) (mesh candidates : List Member) (next : MeshChange → Rule) → ((change : MeshChange) → P (next change)) → P (stepped AnyOf CutOf params tick mesh candidates next)
   of_stepped params tick mesh candidates next each =
       of_mended (condition_of params.degrees (not_negative mesh)) params.degrees (not_negative mesh) candidates _ (λ kept grafted.
-      of_bettered (is_poor params tick (made_of (not_negative mesh) candidates kept grafted)) params.windows.opportunistic_peers (made_of (not_negative mesh) candidates kept grafted) (outside grafted candidates) _ (λ more.
-      each (choice_of mesh candidates kept (grafted ++ more))))
+      of_opportunistic_grafts (is_poor params tick (mended_members (not_negative mesh) candidates kept grafted)) params.timing.opportunistic_peers (mended_members (not_negative mesh) candidates kept grafted) (outside grafted candidates) _ (λ more.
+      each (mesh_change mesh candidates kept (grafted ++ more))))
 
 -- ---- by words
 
-module _ {S : Type 0} (word : S → ℕ) (after : S → S) (entry : Choice → Entry) where
+module _ {S : Type 0} (word : S → ℕ) (after : S → S) (entry : MeshChange → Entry) where
   -- the entry of this choice may follow a rule from a state, with that state behind it
-  abbrev Leads : Rule → S → Choice × S → Type 0
+  abbrev Leads : Rule → S → MeshChange × S → Type 0
   Leads rule s x = Follows (exact word after) rule s (entry x.0) x.1
 
-  mended_leads : (condition : Condition) (degrees : Degrees) (members candidates : List Member) (rule : List PeerNo → List PeerNo → Rule) (next : List PeerNo → List PeerNo → S → Choice × S) (s : S)
+  mended_leads : (condition : Condition) (degrees : Degrees) (members candidates : List Member) (rule : List PeerNo → List PeerNo → Rule) (next : List PeerNo → List PeerNo → S → MeshChange × S) (s : S)
       → IsAscending (peers_of members)
       → IsAscending (peers_of candidates)
       → degrees.d_score + degrees.d_out ≤ degrees.d
@@ -59,42 +59,42 @@ module _ {S : Type 0} (word : S → ℕ) (after : S → S) (entry : Choice → E
       (_, _, record { ascending = up; room = room; kept_are = refl; words = refl }, each _ [] _)
   mended_leads FewOutbound degrees members candidates rule next s up ups room each =
       (_, _, record { ascending = outbound_ascend candidates ups; chosen_are = refl; words = refl }, each (peers_of members) _ _)
-  mended_leads Well degrees members candidates rule next s up ups room each = each (peers_of members) [] s
+  mended_leads Balanced degrees members candidates rule next s up ups room each = each (peers_of members) [] s
 
-  bettered_leads : (poor : Bool) (most : ℕ) (members candidates : List Member) (rule : List PeerNo → Rule) (next : List PeerNo → S → Choice × S) (s : S)
+  opportunistic_grafts_lead : (poor : Bool) (most : ℕ) (members candidates : List Member) (rule : List PeerNo → Rule) (next : List PeerNo → S → MeshChange × S) (s : S)
       → IsAscending (peers_of candidates)
       → ((more : List PeerNo) (t : S) → Leads (rule more) t (next more t))
-      → Leads (bettered AnyOf poor most members candidates rule) s (bettered (any_by_words word after) poor most members candidates next s)
-  bettered_leads true most members candidates rule next s ups each =
+      → Leads (opportunistic_grafts AnyOf poor most members candidates rule) s (opportunistic_grafts (any_by_words word after) poor most members candidates next s)
+  opportunistic_grafts_lead true most members candidates rule next s ups each =
       (_, _, record { ascending = above_median_ascend members candidates ups; chosen_are = refl; words = refl }, each _ _)
-  bettered_leads false most members candidates rule next s ups each = each [] s
+  opportunistic_grafts_lead false most members candidates rule next s ups each = each [] s
 
   stepped_leads : (params : Params) (tick : ℕ) (mesh candidates : List Member) (s : S)
       → IsAscending (peers_of mesh)
       → IsAscending (peers_of candidates)
       → params.degrees.d_score + params.degrees.d_out ≤ params.degrees.d
-      → Leads (stepped AnyOf CutOf params tick mesh candidates (λ choice. Gives (entry choice))) s (step_by_words word after params tick mesh candidates s)
+      → Leads (stepped AnyOf CutOf params tick mesh candidates (λ change. Gives (entry change))) s (step_by_words word after params tick mesh candidates s)
   unfolding step_by_words
   stepped_leads params tick mesh candidates s up ups room =
       mended_leads (condition_of params.degrees (not_negative mesh)) params.degrees (not_negative mesh) candidates _ _ s (not_negative_ascend mesh up) ups room (λ kept grafted t.
-      bettered_leads (is_poor params tick (made_of (not_negative mesh) candidates kept grafted)) params.windows.opportunistic_peers (made_of (not_negative mesh) candidates kept grafted) (outside grafted candidates) _ _ t (outside_ascend grafted candidates ups) (λ more u. (refl, refl)))
+      opportunistic_grafts_lead (is_poor params tick (mended_members (not_negative mesh) candidates kept grafted)) params.timing.opportunistic_peers (mended_members (not_negative mesh) candidates kept grafted) (outside grafted candidates) _ _ t (outside_ascend grafted candidates ups) (λ more u. (refl, refl)))
 
   -- where the words choose so, the entry of that follows
-  pub chosen_leads : (params : Params) (tick : ℕ) (mesh candidates : List Member) (s t : S) (choice : Choice)
+  pub chosen_leads : (params : Params) (tick : ℕ) (mesh candidates : List Member) (s t : S) (change : MeshChange)
       → IsAscending (peers_of mesh)
       → IsAscending (peers_of candidates)
       → params.degrees.d_score + params.degrees.d_out ≤ params.degrees.d
-      → step_by_words word after params tick mesh candidates s ≡ (choice, t)
-      → Follows (exact word after) (stepped AnyOf CutOf params tick mesh candidates (λ choice. Gives (entry choice))) s (entry choice) t
-  chosen_leads params tick mesh candidates s t choice up ups room is =
-      subst (Leads (stepped AnyOf CutOf params tick mesh candidates (λ choice. Gives (entry choice))) s) is (stepped_leads params tick mesh candidates s up ups room)
+      → step_by_words word after params tick mesh candidates s ≡ (change, t)
+      → Follows (exact word after) (stepped AnyOf CutOf params tick mesh candidates (λ change. Gives (entry change))) s (entry change) t
+  chosen_leads params tick mesh candidates s t change up ups room is =
+      subst (Leads (stepped AnyOf CutOf params tick mesh candidates (λ change. Gives (entry change))) s) is (stepped_leads params tick mesh candidates s up ups room)
 
 -- ---- members
 
 -- who they are with their scores, they are the same
-peers_so : (p : Peer) (L : Entries) (at : ℕ) (qs : List PeerNo) → peers_of (members_of p L at qs) ≡ qs
+peers_so : (p : Peer) (L : Entries) (at : ℕ) (qs : List PeerNo) → peers_of (scored_members p L at qs) ≡ qs
 peers_so p L at [] = refl
 peers_so p L at (q ∷ qs) = ap (λ (rest : List PeerNo). q ∷ rest) (peers_so p L at qs)
 
-pub members_ascend : (p : Peer) (L : Entries) (at : ℕ) (qs : List PeerNo) → IsAscending qs → IsAscending (peers_of (members_of p L at qs))
+pub members_ascend : (p : Peer) (L : Entries) (at : ℕ) (qs : List PeerNo) → IsAscending qs → IsAscending (peers_of (scored_members p L at qs))
 members_ascend p L at qs up = subst IsAscending (sym (peers_so p L at qs)) up

@@ -3,7 +3,7 @@ use Rattle.std.proofs.Common.{◌≡◌, ℕ, ◌+◌, ◌-◌, arith, Bool, tru
 use Rattle.std.specs.Prelude.{◌&&◌}
 use Rattle.gs_base.specs.declared.names.PeerNo.{PeerNo}
 use Rattle.gs_base.specs.declared.mark.Mark.{Mark}
-use Rattle.gs_base.specs.declared.mark.Mark.TheVariants.{HeardHave, Asked}
+use Rattle.gs_base.specs.declared.mark.Mark.TheVariants.{Offered, Asked}
 use Rattle.gs_base.specs.Names.{same_peer}
 use Rattle.gs_rules.specs.declared.trace.Entry.{Entry}
 use Rattle.gs_rules.specs.Tables.{Entries, after_marks, asked, asked_after, offers, offers_after}
@@ -25,7 +25,7 @@ spent full n k = record { offers = full.offers - n; ids = full.ids - k }
 spent_so : (full : Budget) (q : PeerNo) (marks : List Mark) (n k : ℕ)
     → after_marks (budget_after q) marks (spent full n k) ≡ spent full (after_marks (offers_after q) marks n) (after_marks (asked_after q) marks k)
 spent_so full q [] n k = refl
-spent_so full q (HeardHave p ∷ marks) n k = by (same_peer p q) (spent_so full q marks)
+spent_so full q (Offered p ∷ marks) n k = by (same_peer p q) (spent_so full q marks)
   where
     by : (same : Bool)
         → ((n k : ℕ) → after_marks (budget_after q) marks (spent full n k) ≡ spent full (after_marks (offers_after q) marks n) (after_marks (asked_after q) marks k))

@@ -6,7 +6,7 @@ use Rattle.gs_base.specs.declared.names.PeerNo.{PeerNo}
 use Rattle.gs_base.specs.declared.names.Topic.{Topic}
 use Rattle.gs_base.specs.declared.names.Millis.{Millis}
 use Rattle.gs_base.specs.declared.mark.Mark.{Mark}
-use Rattle.gs_base.specs.declared.mark.Mark.TheVariants.{First, Near, Deficit, Invalid, Behaviour, Grafted, Pruned}
+use Rattle.gs_base.specs.declared.mark.Mark.TheVariants.{First, Near, Deficit, Invalid, Misbehaviour, Grafted, Pruned}
 use Rattle.gs_base.specs.Names.{most_topics}
 use Rattle.gs_score.specs.Ledgers.{Kept, has_room}
 use Rattle.gs_score.specs.Histories.{Agrees, Change, History, Setting, Marked, Left, accepts, decays}
@@ -39,7 +39,7 @@ accepts_so p k H (First q t id) agrees = room_so p k H q t agrees
 accepts_so p k H (Near q t id) agrees = room_so p k H q t agrees
 accepts_so p k H (Deficit q t z) agrees = room_so p k H q t agrees
 accepts_so p k H (Invalid q t) agrees = room_so p k H q t agrees
-accepts_so p k H (Behaviour q) agrees = agrees.neighbours q
+accepts_so p k H (Misbehaviour q) agrees = agrees.neighbours q
 accepts_so p k H other agrees = refl
 
 -- what happened with a mark that raises nothing, or without it
@@ -53,7 +53,7 @@ raises_nothing s k H q t false agrees = record {
   misbehaves = agrees.misbehaves;
   knows = agrees.knows;
   counts = agrees.counts;
-  places = agrees.places;
+  addresses = agrees.addresses;
 }
 
 -- one that is accepted is applied

@@ -16,14 +16,14 @@ use Rattle.gs_base.specs.declared.verdict.Verdict.{Verdict}
 use Rattle.gs_base.specs.declared.verdict.Verdict.TheVariants.{Accept, Reject, Ignore}
 use Rattle.gs_base.specs.declared.mark.Mark.TheVariants as marks
 use Rattle.gs_rules.specs.declared.trace.Event.{Event}
-use Rattle.gs_rules.specs.declared.trace.Event.TheVariants.{Heard, Sub, Msg, Have, Want, GraftIn, PruneIn, Subscribe, Publish, Promises, MeshBeat, FanBeat, GossipBeat}
+use Rattle.gs_rules.specs.declared.trace.Event.TheVariants.{Heard, Sub, Msg, Have, Want, GraftIn, PruneIn, Subscribe, Publish, BeatBegin, MeshBeat, FanBeat, GossipBeat}
 use Rattle.gs_rules.specs.declared.trace.Entry.{Entry}
 use Rattle.gs_base.specs.Names.{topic_or_empty, topic_of, payload_of, message_id, is_signed}
 use Rattle.gs_rules.specs.Peers.{Peer, seen_ttl}
 use Rattle.gs_rules.specs.Tables.{Entries, heartbeats, last_moment, joined, offers, seen}
 use Rattle.gs_mesh.specs.Peers.{is_among}
 use Rattle.gs_rules.specs.Meshes.{backoff, fanout, mesh}
-use Rattle.gs_rules.specs.BeatRules.{members_of, mending, mesh_beat_rule}
+use Rattle.gs_rules.specs.BeatRules.{mending, mesh_beat_rule, scored_members}
 use Rattle.gs_rules.specs.Membership.{candidates, each_on, entering, is_negative}
 use Rattle.gs_rules.specs.MeshRules.{fanout_publish, graft_rule, is_full_for, left_by, prune_rule, pruned_by, publish_rule, publishing, refusing, sub_rule}
 use Rattle.gs_rules.specs.Scoring.{is_graylisted, is_ignored, is_passed_over}
@@ -71,7 +71,7 @@ asked_tells p at q offer [] = record { moment = refl; tells = refl }
 asked_tells p at q offer (id ∷ ids) = λ place. record { moment = refl; tells = refl }
 
 have_tells : (p : Peer) (L : Entries) (at : Millis) (q : PeerNo) (offer : IHave) → TellsOnly at (Have q offer) (have_rule p L at q offer)
-have_tells p L at q offer = by (is_ignored p L at.0 q) (nat_le p.params.windows.max_ihave (offers L q)) (not (joined L (topic_or_empty offer.topic)))
+have_tells p L at q offer = by (is_ignored p L at.0 q) (nat_le p.params.timing.max_ihave (offers L q)) (not (joined L (topic_or_empty offer.topic)))
   where
     by : (ignored spent apart : Bool) → TellsOnly at (Have q offer) (if ignored then Gives (bare at (Have q offer)) else if spent then Gives (bare at (Have q offer)) else if apart then Gives (counted at q offer) else asked_for p at q offer (wanted p L at.0 q offer.ids))
     by true spent apart = record { moment = refl; tells = refl }
@@ -101,7 +101,7 @@ graft_tells p L at q graft =
     t = topic_or_empty graft.topic
 
     by : (apart is_member soon negative full : Bool) → Tells at (GraftIn q graft)
-        (if apart then bare at (GraftIn q graft) else if is_member then bare at (GraftIn q graft) else if soon then refusing p at q graft (marks.Behaviour q ∷ []) else if negative then refusing p at q graft [] else if full then refusing p at q graft [] else record (bare at (GraftIn q graft)) { marks = entering (each_on t (q ∷ [])) })
+        (if apart then bare at (GraftIn q graft) else if is_member then bare at (GraftIn q graft) else if soon then refusing p at q graft (marks.Misbehaviour q ∷ []) else if negative then refusing p at q graft [] else if full then refusing p at q graft [] else record (bare at (GraftIn q graft)) { marks = entering (each_on t (q ∷ [])) })
     by true is_member soon negative full = record { moment = refl; tells = refl }
     by false true soon negative full = record { moment = refl; tells = refl }
     by false false true negative full = record { moment = refl; tells = refl }
@@ -134,10 +134,10 @@ publish_tells p L at t payload = by p.params.flood_publish (joined L t)
 mesh_beat_tells : (p : Peer) (L : Entries) (at : Millis) (t : Topic) → TellsOnly at (MeshBeat t) (mesh_beat_rule p L at t)
 mesh_beat_tells p L at t =
     of_stepped (TellsOnly at (MeshBeat t)) (λ k qs rule each. each) (λ degrees members rule each. each) p.params (heartbeats L)
-    (members_of p L at.0 (mesh L t))
-    (members_of p L at.0 (candidates p L at.0 t))
-    (λ choice. Gives (mending p L at t choice))
-    (λ choice. record { moment = refl; tells = refl })
+    (scored_members p L at.0 (mesh L t))
+    (scored_members p L at.0 (candidates p L at.0 t))
+    (λ change. Gives (mending p L at t change))
+    (λ change. record { moment = refl; tells = refl })
 
 rule_tells : (p : Peer) (L : Entries) (at : Millis) (event : Event) → TellsOnly at event (rule_of p L at event)
 rule_tells p L at (Msg q m) = message_tells p L at q m
@@ -311,7 +311,7 @@ module _ (m : Mode) {A E : Type 0} where
       }
 
   -- a heartbeat owes what it does to meshes, to fanouts and by gossip
-  pub beats_first : (now : Millis) (a b : State) (s t : m.State) (x : A) → Steps {A = A} {E = E} m Promises now a s (Ok x) b t → Paying m now Promises a s b t [] (heartbeat_groups now.0)
+  pub beats_first : (now : Millis) (a b : State) (s t : m.State) (x : A) → Steps {A = A} {E = E} m BeatBegin now a s (Ok x) b t → Paying m now BeatBegin a s b t [] (heartbeat_groups now.0)
   beats_first now a b s t x steps =
       let one = steps.added in
       let p = peer_with a.known.setup in

@@ -77,4 +77,4 @@ wanted_few p L at room most xs ids is few = omega (arith, ap length is, few_take
 -- there is never more room than a request has
 pub room_few : (p : Peer) (L : Entries) (q : PeerNo) (full here : Budget) → here ≡ budget_left full L q → full ≡ budget_of p → here.ids ≤ most_identifiers
 room_few p L q full here is at_first =
-    omega (arith, ap (λ (b : Budget). b.ids) is, ap (λ (b : Budget). b.ids) at_first, min-le_right p.params.windows.max_ihave_ids most_identifiers)
+    omega (arith, ap (λ (b : Budget). b.ids) is, ap (λ (b : Budget). b.ids) at_first, min-le_right p.params.timing.max_ihave_ids most_identifiers)

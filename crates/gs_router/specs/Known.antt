@@ -16,7 +16,7 @@ peer_with setup = record { params = setup.params; neighbours = setup.neighbours.
 -- its outbound members.
 pub record IsFit (setup : Setup) : Type 0 where
   pub ascending : IsAscending (peers_of setup.neighbours.items)
-  pub ticks : 1 ≤ setup.params.windows.opportunistic_ticks
+  pub ticks : 1 ≤ setup.params.timing.opportunistic_ticks
   pub room : setup.params.degrees.d_score + setup.params.degrees.d_out ≤ setup.params.degrees.d
 
 -- the tables say what this trace says at a moment that is no earlier than its last

@@ -5,7 +5,7 @@ use Rattle.gs_base.specs.declared.names.Topic.{Topic}
 use Rattle.gs_base.specs.declared.names.Millis.{Millis}
 use Rattle.gs_base.specs.declared.mark.Mark.{Mark}
 use Rattle.gs_base.specs.declared.control.Graft.{Graft}
-use Rattle.gs_base.specs.declared.mark.Mark.TheVariants.{Behaviour, Published}
+use Rattle.gs_base.specs.declared.mark.Mark.TheVariants.{Misbehaviour, Published}
 use Rattle.gs_base.specs.Names.{topic_or_empty}
 use Rattle.gs_rules.specs.declared.trace.Event.TheVariants.{GraftIn}
 use Rattle.gs_rules.specs.declared.trace.Entry.{Entry}
@@ -19,17 +19,17 @@ use Rattle.gs_router.specs.declared.entries.grafts.GraftAnswer.{GraftAnswer}
 use Rattle.gs_router.specs.declared.entries.grafts.GraftAnswer.TheVariants.{PassedOver, TooSoon, Refused, Accepted}
 
 -- the entry of a GRAFT whose sender comes into the mesh
-abbrev pub accepting : Millis → PeerNo → Graft → Entry
-accepting at q graft = record (bare at (GraftIn q graft)) {
+abbrev pub accepting_graft : Millis → PeerNo → Graft → Entry
+accepting_graft at q graft = record (bare at (GraftIn q graft)) {
   marks = entering (each_on (topic_or_empty graft.topic) (q ∷ []));
 }
 
 -- the entry of a GRAFT of which this becomes
 abbrev pub answered : Peer → Millis → PeerNo → Graft → GraftAnswer → Entry
 answered p at q graft PassedOver = bare at (GraftIn q graft)
-answered p at q graft TooSoon = refusing p at q graft (Behaviour q ∷ [])
+answered p at q graft TooSoon = refusing p at q graft (Misbehaviour q ∷ [])
 answered p at q graft Refused = refusing p at q graft []
-answered p at q graft Accepted = accepting at q graft
+answered p at q graft Accepted = accepting_graft at q graft
 
 -- who comes into the fanout of the topic of a payload that goes to these
 abbrev pub filled_by : FanoutUse → List PeerNo → List PeerNo

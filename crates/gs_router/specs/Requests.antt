@@ -22,5 +22,5 @@ pub record Replies (p : Peer) (L : Entries) (q : PeerNo) (ahead : List MsgId) (g
     (reply : Reply) : Type 0 where
   pub gives : Gives q given reply
   pub leaves : (id : MsgId) (n : ℕ)
-      → n ≡ answers_left p.params.windows.gossip_retransmission (windows p) L q id
+      → n ≡ answers_left p.params.timing.gossip_retransmission (windows p) L q id
       → left_now reply.left.entries id n ≡ n - times_in id ahead

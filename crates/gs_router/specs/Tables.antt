@@ -14,7 +14,7 @@ use Rattle.gs_base.specs.declared.mark.Mark.TheVariants as marks
 use Rattle.gs_base.specs.Rpcs.{most_identifiers}
 use Rattle.gs_cache.specs.declared.seen.sighting.Sighting.{Sighting as Found}
 use Rattle.gs_cache.specs.Sightings.{is_noted, verdict_in, what_counts}
-use Rattle.gs_cache.specs.Messages.{Cached, all_left, cached, left, one_less}
+use Rattle.gs_cache.specs.CachedMessages.{Cached, all_left, cached, left, one_less}
 use Rattle.gs_mesh.specs.Meshes as meshes
 use Rattle.gs_score.specs.Histories as histories
 use Rattle.gs_rules.specs.declared.trace.Event.{Event}
@@ -27,13 +27,13 @@ use Rattle.gs_router.specs.declared.peer_set.PeerSet.{PeerSet}
 use Rattle.gs_router.specs.declared.tables.own_topics.OwnTopics.{OwnTopics}
 use Rattle.gs_router.specs.declared.tables.listeners.Listeners.{Listeners}
 use Rattle.gs_router.specs.declared.tables.sightings.Sightings.{Sightings}
-use Rattle.gs_router.specs.declared.tables.messages.Messages.{Messages}
+use Rattle.gs_router.specs.declared.tables.kept_messages.Messages.{Messages}
 use Rattle.gs_router.specs.declared.tables.budgets.Budget.{Budget}
 use Rattle.gs_router.specs.declared.tables.budgets.Budgets.{Budgets}
 use Rattle.gs_router.specs.declared.tables.promises.Promises.{Promises}
 use Rattle.gs_router.specs.declared.tables.standings.Standings.{Standings}
 use Rattle.gs_router.specs.declared.tables.memberships.Memberships.{Memberships}
-use Rattle.gs_router.specs.declared.tables.mesh_topics.Uses.{Uses}
+use Rattle.gs_router.specs.declared.tables.mesh_topics.MeshOrFanout.{MeshOrFanout}
 use Rattle.gs_router.specs.declared.tables.mesh_topics.MeshTopics.{MeshTopics}
 use Rattle.gs_router.specs.declared.tables.beats.Beats.{Beats}
 use Rattle.gs_router.specs.declared.tables.neighbours.Neighbours.{Neighbours}
@@ -75,43 +75,43 @@ verdict_at kept id now = verdict_in (what_counts kept.cache id now)
 
 -- what a table has of a message, as it concerns one neighbour: when it was seen last, what it was found to be, and
 -- whether the neighbour was noted for it since
-pub record Told : Type 0 where
+pub record NeighbourSighting : Type 0 where
   pub at : ℕ
   pub verdict : Verdict
   pub noted : Bool
 
-abbrev pub told : Sightings → MsgId → PeerNo → ℕ → Option Told
-told kept id q now =
+abbrev pub neighbour_sighting : Sightings → MsgId → PeerNo → ℕ → Option NeighbourSighting
+neighbour_sighting kept id q now =
     option_map (λ (s : Found). record { at = s.at.0; verdict = s.verdict; noted = is_noted q s }) (what_counts kept.cache id now)
 
 -- it counts for less than a time
-abbrev pub still : ℕ → ℕ → Option Told → Option Told
+abbrev pub still : ℕ → ℕ → Option NeighbourSighting → Option NeighbourSighting
 still ttl now None = None
 still ttl now (Some s) = if nat_lt (now - s.at) ttl then Some s else None
 
-abbrev pub telling : Bool → Sighting → Told
-telling noted s = record { at = s.at; verdict = s.verdict; noted = noted }
+abbrev pub sighting_noted : Bool → Sighting → NeighbourSighting
+sighting_noted noted s = record { at = s.at; verdict = s.verdict; noted = noted }
 
 -- as a trace has it
-abbrev pub told_in : ℕ → Entries → MsgId → PeerNo → ℕ → Option Told
-told_in ttl L id q now = still ttl now (option_map (telling (noted L id q)) (last_seen L id))
+abbrev pub neighbour_sighting_in : ℕ → Entries → MsgId → PeerNo → ℕ → Option NeighbourSighting
+neighbour_sighting_in ttl L id q now = still ttl now (option_map (sighting_noted (noted L id q)) (last_seen L id))
 
 -- what a mark that a message was seen leaves of it
-abbrev pub told_after : ℕ → ℕ → MsgId → ℕ → Mark → Option Told → Option Told
-told_after ttl now id at (marks.Seen other verdict) before =
+abbrev pub neighbour_sighting_after : ℕ → ℕ → MsgId → ℕ → Mark → Option NeighbourSighting → Option NeighbourSighting
+neighbour_sighting_after ttl now id at (marks.Seen other verdict) before =
     if same_id other id then still ttl now (Some (record { at = at; verdict = verdict; noted = false })) else before
-told_after ttl now id at other before = before
+neighbour_sighting_after ttl now id at other before = before
 
 -- and what is left of it where marks say, or do not, that the neighbour passed the message on
-abbrev pub told_of : Bool → Option Told → Option Told
-told_of noted None = None
-told_of noted (Some s) = Some (record { at = s.at; verdict = s.verdict; noted = noted || s.noted })
+abbrev pub noted_if : Bool → Option NeighbourSighting → Option NeighbourSighting
+noted_if noted None = None
+noted_if noted (Some s) = Some (record { at = s.at; verdict = s.verdict; noted = noted || s.noted })
 
 -- which messages marks say were seen at a moment was noted
 pub record Sees (at : ℕ) (marks : List Mark) (old new : Sightings) : Type 0 where
   pub tells
       : (id : MsgId) (q : PeerNo) (now : ℕ) → new.cache.moment ≤ now
-      → told new id q now ≡ after_marks (told_after old.cache.ttl now id at) marks (told old id q now)
+      → neighbour_sighting new id q now ≡ after_marks (neighbour_sighting_after old.cache.ttl now id at) marks (neighbour_sighting old id q now)
   pub later : old.cache.moment ≤ new.cache.moment
   pub moment : new.cache.moment ≤ at
   pub ttl : new.cache.ttl ≡ old.cache.ttl
@@ -120,7 +120,7 @@ pub record Sees (at : ℕ) (marks : List Mark) (old new : Sightings) : Type 0 wh
 pub record PassesOn (marks : List Mark) (old new : Sightings) : Type 0 where
   pub tells
       : (id : MsgId) (q : PeerNo) (now : ℕ) → new.cache.moment ≤ now
-      → told new id q now ≡ told_of (list_any (notes id q) marks) (told old id q now)
+      → neighbour_sighting new id q now ≡ noted_if (list_any (notes id q) marks) (neighbour_sighting old id q now)
   pub moment : new.cache.moment ≡ old.cache.moment
   pub ttl : new.cache.ttl ≡ old.cache.ttl
 
@@ -129,7 +129,7 @@ pub record AgreesOnSightings (kept : Sightings) (L : Entries) : Type 0 where
   pub sees : (id : MsgId) (now : ℕ) → kept.cache.moment ≤ now → verdict_at kept id now ≡ seen kept.cache.ttl L id now
   pub tells
       : (id : MsgId) (q : PeerNo) (now : ℕ) → kept.cache.moment ≤ now
-      → told kept id q now ≡ told_in kept.cache.ttl L id q now
+      → neighbour_sighting kept id q now ≡ neighbour_sighting_in kept.cache.ttl L id q now
   pub past : kept.cache.moment ≤ last_moment L
 
 -- ---- kept messages
@@ -181,7 +181,7 @@ budget_in table q = unwrap_or (lookup (same_peer q) table.left.entries) table.fu
 
 -- what a mark leaves of it
 abbrev pub budget_after : PeerNo → Mark → Budget → Budget
-budget_after q (marks.HeardHave p) before =
+budget_after q (marks.Offered p) before =
     if same_peer p q then record { offers = before.offers - 1; ids = before.ids } else before
 budget_after q (marks.Asked p n) before =
     if same_peer p q then record { offers = before.offers; ids = before.ids - n } else before
@@ -190,8 +190,8 @@ budget_after q other before = before
 -- what a neighbour has at first
 abbrev pub budget_of : Peer → Budget
 budget_of p = record {
-  offers = p.params.windows.max_ihave;
-  ids = min p.params.windows.max_ihave_ids most_identifiers;
+  offers = p.params.timing.max_ihave;
+  ids = min p.params.timing.max_ihave_ids most_identifiers;
 }
 
 -- what is left of a neighbour's budget behind what its offers and requests to it counted
@@ -229,12 +229,12 @@ abbrev pub AgreesOnMeshes : Memberships → Entries → Type 0
 AgreesOnMeshes table L = HasMeshes table (mesh L) (fanout L) (last_published L) (backoff L)
 
 -- a topic without a mesh and without a fanout
-abbrev pub no_uses : Uses
-no_uses = record { has_mesh = false; has_fanout = false }
+abbrev pub neither_mesh_nor_fanout : MeshOrFanout
+neither_mesh_nor_fanout = record { has_mesh = false; has_fanout = false }
 
 -- what a topic has, as the table has it
-abbrev pub uses_in : MeshTopics → Topic → Uses
-uses_in table t = unwrap_or (lookup (λ u. is_eq (topic_order t u)) table.topics.entries) no_uses
+abbrev pub mesh_or_fanout_in : MeshTopics → Topic → MeshOrFanout
+mesh_or_fanout_in table t = unwrap_or (lookup (λ u. is_eq (topic_order t u)) table.topics.entries) neither_mesh_nor_fanout
 
 -- what an event leaves of whether a topic has a fanout, and what a mark does
 abbrev pub dropped_by : Topic → Event → Bool → Bool
@@ -246,7 +246,7 @@ fanned_by t other before = before
 
 -- the table has which topics have a mesh, and which a fanout
 pub record HasTopics (table : MeshTopics) (meshes fanouts : Topic → Bool) : Type 0 where
-  pub uses : (t : Topic) → uses_in table t ≡ record { has_mesh = meshes t; has_fanout = fanouts t }
+  pub mesh_or_fanout : (t : Topic) → mesh_or_fanout_in table t ≡ record { has_mesh = meshes t; has_fanout = fanouts t }
 
 abbrev pub AgreesOnMeshTopics : MeshTopics → Entries → Type 0
 AgreesOnMeshTopics table L = HasTopics table (joined L) (λ t. is_some (last_published L t))
@@ -282,8 +282,8 @@ pub record AreMadeFor (tables : Tables) (p : Peer) : Type 0 where
   pub seen_ttl : tables.sightings.cache.ttl ≡ seen_ttl p
   -- for how many heartbeats a message is kept, and for how many it is gossiped
   pub windows : tables.messages.cache.len ≡ windows p
-  pub gossip : tables.messages.cache.gossip ≡ p.params.windows.mcache_gossip
+  pub gossip : tables.messages.cache.gossip ≡ p.params.timing.mcache_gossip
   -- how often a message is sent to a neighbour that asks for it
-  pub answers : tables.messages.cache.answers ≡ p.params.windows.gossip_retransmission
+  pub answers : tables.messages.cache.answers ≡ p.params.timing.gossip_retransmission
   -- how many offers of a neighbour count, and how many identifiers it may be asked for
   pub budget : tables.budgets.full ≡ budget_of p

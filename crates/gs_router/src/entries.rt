@@ -15,7 +15,7 @@ mod grafts;
 mod heartbeats;
 mod maintenance;
 mod membership;
-mod messages;
+mod message_processing;
 mod offers;
 mod publishing;
 mod requests;
@@ -49,7 +49,9 @@ pub fn entry_of<W: Words>(
         → Follows (exact W.word W.after) (rule_of (peer_with known.now.setup) L now event) words.old entry words.new) }
 {
     match event {
-        Event::Msg(from, message) => messages::entry_of(known, payloads, from, message, now),
+        Event::Msg(from, message) => message_processing::entry_of(
+            known, payloads, from, message, now,
+        ),
         Event::Have(from, offer) => offers::entry_of(known, from, offer, now, words),
         Event::Want(from, request) => requests::entry_of(known, from, request, now),
         Event::Sub(from, sub) => departures::entry_of(known, from, sub, now),
@@ -63,7 +65,7 @@ pub fn entry_of<W: Words>(
             let id = payloads.identifier(&payload);
             publishing::publish(known, Publishing { topic, payload, id }, now, words)
         }
-        Event::Promises => heartbeats::promises(known, now),
+        Event::BeatBegin => heartbeats::beat_begin(known, now),
         Event::MeshBeat(topic) => maintenance::mesh_beat(known, topic, now, words),
         Event::FanBeat(topic) => maintenance::fan_beat(known, topic, now, words),
         Event::FanEnd(topic) => maintenance::fan_end(known, topic, now),

@@ -218,7 +218,7 @@ impl Router {
     /// `Stopped`, and `NoMemory`.
     pub fn heartbeat<W: Words>(&mut self, now: Millis, words: &mut W) -> Result<(), RouterFault>
         requires { last_moment self.old.trace ≤ now.0 }
-        ensures { Calls (exact W.word W.after) (Some events.Promises) now
+        ensures { Calls (exact W.word W.after) (Some events.BeatBegin) now
             self.old words.old result self.new words.new }
     {
         if self.is_stopped {

@@ -53,7 +53,7 @@ impl State {
         ensures kept { OnErr result (self.new.trace ≡ self.old.trace) }
         ensures setup { self.new.known.setup ≡ self.old.known.setup }
     {
-        self.trace.is_in_memory();
+        self.trace.prove_length_fits();
         self.known.tables.note(&entry)?;
         self.trace.push(entry)?;
         Ok(())

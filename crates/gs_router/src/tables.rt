@@ -11,10 +11,10 @@ ghost use Rattle.gs_router.specs.Tables.{Agrees, AgreesOnScores, AreMadeFor};
 
 pub mod beats;
 pub mod budgets;
+pub mod kept_messages;
 pub mod listeners;
 pub mod memberships;
 pub mod mesh_topics;
-pub mod messages;
 pub mod neighbours;
 pub mod own_topics;
 pub mod promises;
@@ -23,17 +23,17 @@ pub mod standings;
 
 use crate::tables::beats::Beats;
 use crate::tables::budgets::{Budget, Budgets};
+use crate::tables::kept_messages::Messages;
 use crate::tables::listeners::Listeners;
 use crate::tables::memberships::Memberships;
 use crate::tables::mesh_topics::MeshTopics;
-use crate::tables::messages::Messages;
 use crate::tables::neighbours::Neighbours;
 use crate::tables::own_topics::OwnTopics;
 use crate::tables::promises::Promises;
 use crate::tables::sightings::Sightings;
 use crate::tables::standings::Standings;
 use gs_base::{MOST_IDENTIFIERS, Millis, Neighbour};
-use gs_params::{Params, Windows};
+use gs_params::{Params, Timing};
 use gs_rules::Entry;
 use std::alloc::{AllocError, Global};
 
@@ -73,19 +73,19 @@ impl Tables {
             → AgreesOnScores p tables.standings []) }
         ensures made { IfOk result (λ tables. (p : Peer) → p.params ≡ params.now → AreMadeFor tables p) }
     {
-        let windows = &params.windows;
-        let kept = windows.mcache_len as usize;
-        let announced = windows.mcache_gossip as usize;
-        let messages = Messages::new(alloc, kept, announced, windows.gossip_retransmission)?;
+        let timing = &params.timing;
+        let kept = timing.mcache_len as usize;
+        let announced = timing.mcache_gossip as usize;
+        let messages = Messages::new(alloc, kept, announced, timing.gossip_retransmission)?;
         let budget = Budget {
-            offers: windows.max_ihave,
-            ids: windows.max_ihave_ids.min(MOST_IDENTIFIERS),
+            offers: timing.max_ihave,
+            ids: timing.max_ihave_ids.min(MOST_IDENTIFIERS),
         };
         let standings = Standings::new(alloc, params, neighbours)?;
         Ok(Tables {
             topics: OwnTopics::new(alloc),
             listeners: Listeners::new(alloc),
-            sightings: Sightings::new(alloc, Millis(windows.seen_ttl_ms)),
+            sightings: Sightings::new(alloc, Millis(timing.seen_ttl_ms)),
             messages,
             budgets: Budgets::new(alloc, budget),
             promises: Promises::new(alloc),

@@ -1,7 +1,7 @@
 //! What is done to a router, and what must be seen of it then.
 use gs_params::{
-    DEFAULT_DEGREES, DEFAULT_FACTORS, DEFAULT_FLOOD_PUBLISH, DEFAULT_TOPIC_FACTORS,
-    DEFAULT_WINDOWS, Degrees, Factors, TopicFactors, Windows,
+    DEFAULT_DEGREES, DEFAULT_FACTORS, DEFAULT_FLOOD_PUBLISH, DEFAULT_TIMING, DEFAULT_TOPIC_FACTORS,
+    Degrees, Factors, Timing, TopicFactors,
 };
 
 /// An identifier, by the payload that it is of.
@@ -123,10 +123,10 @@ pub enum Seen<'a> {
     Invalid(u16, &'a str),
     /// In millionths.
     Deficit(u16, &'a str, i128),
-    Behaviour(u16),
+    Misbehaviour(u16),
     Cached(Id<'a>, &'a str),
     Answered(u16, Id<'a>),
-    HeardHave(u16),
+    Offered(u16),
     Asked(u16, u32),
     Grafted(u16, &'a str),
     Pruned(u16, &'a str),
@@ -209,7 +209,7 @@ pub struct Case<'a> {
     pub kinds: &'a [Kind],
     pub degrees: Degrees,
     pub factors: Factors,
-    pub windows: Windows,
+    pub windows: Timing,
     pub flood_publish: bool,
     pub topics: &'a [Rules<'a>],
     /// The first words by which it chooses.
@@ -227,7 +227,7 @@ pub const NOTHING: Case<'static> = Case {
     kinds: &[],
     degrees: DEFAULT_DEGREES,
     factors: DEFAULT_FACTORS,
-    windows: DEFAULT_WINDOWS,
+    timing: DEFAULT_TIMING,
     flood_publish: DEFAULT_FLOOD_PUBLISH,
     topics: &[],
     words: &[],

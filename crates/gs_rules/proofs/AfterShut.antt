@@ -8,7 +8,7 @@ use Rattle.gs_base.specs.declared.names.Topic.{Topic}
 use Rattle.gs_base.specs.declared.mark.Mark.{Mark}
 use Rattle.gs_score.specs.Histories.{History, named, score_in}
 use Rattle.gs_rules.specs.declared.trace.Event.{Event}
-use Rattle.gs_rules.specs.declared.trace.Event.TheVariants.{Heard, Late, Subscribe, Unsubscribe, Publish, Promises, Decay, RoundEnd, Gone, Fault, Shut}
+use Rattle.gs_rules.specs.declared.trace.Event.TheVariants.{Heard, Late, Subscribe, Unsubscribe, Publish, BeatBegin, Decay, RoundEnd, Gone, Fault, Shut}
 use Rattle.gs_rules.specs.declared.trace.Entry.{Entry}
 use Rattle.gs_rules.specs.Peers.{Peer}
 use Rattle.gs_rules.specs.Tables.{Entries, after_marks, ascending, is_shut, is_shut_after, joined, joined_after, known, known_after, own_topics, up, up_after}
@@ -44,7 +44,7 @@ late_alone p L at (Fault q) shut down may = absurd (never (up L q) may (down q))
 late_alone p L at (Subscribe t) shut down may = absurd (never (is_shut L) shut may.running)
 late_alone p L at (Unsubscribe t) shut down may = absurd (never (is_shut L) shut may.running)
 late_alone p L at (Publish t payload) shut down may = absurd (never (is_shut L) shut may.running)
-late_alone p L at Promises shut down may = absurd (never (is_shut L) shut may)
+late_alone p L at BeatBegin shut down may = absurd (never (is_shut L) shut may)
 late_alone p L at Decay shut down may = absurd (never (is_shut L) shut may)
 late_alone p L at (RoundEnd r) shut down may = absurd (never (is_shut L) shut may)
 late_alone p L at Shut shut down may = absurd (never (is_shut L) shut may)

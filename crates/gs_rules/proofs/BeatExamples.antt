@@ -5,14 +5,14 @@ use Rattle.gs_base.specs.declared.names.Topic.{Topic}
 use Rattle.gs_base.specs.declared.names.Millis.{Millis}
 use Rattle.gs_base.specs.declared.neighbour.Neighbour.{Neighbour}
 use Rattle.gs_base.specs.declared.mark.Mark.{Mark}
-use Rattle.gs_base.specs.declared.mark.Mark.TheVariants.{Backoff, Behaviour, Fanned, Grafted, Pruned, Published, Unfanned}
-use Rattle.gs_params.specs.Params.{default_degrees, default_factors, default_thresholds, default_windows}
+use Rattle.gs_base.specs.declared.mark.Mark.TheVariants.{Backoff, Fanned, Grafted, Misbehaviour, Pruned, Published, Unfanned}
+use Rattle.gs_params.specs.Params.{default_degrees, default_factors, default_thresholds, default_timing}
 use Rattle.gs_mesh.specs.Cuts.{peers_of}
 use Rattle.gs_score.specs.Formula.{score_of, topic_part}
 use Rattle.gs_score.specs.Millionths.{times}
 use Rattle.gs_base.specs.Rpcs.{grafting, pruning}
 use Rattle.gs_rules.specs.declared.trace.Event.{Event}
-use Rattle.gs_rules.specs.declared.trace.Event.TheVariants.{BeatEnd, FanBeat, FanEnd, MeshBeat, Promises, Publish, Sub, Subscribe}
+use Rattle.gs_rules.specs.declared.trace.Event.TheVariants.{BeatBegin, BeatEnd, FanBeat, FanEnd, MeshBeat, Publish, Sub, Subscribe}
 use Rattle.gs_rules.specs.declared.trace.Entry.{Entry}
 use Rattle.gs_rules.specs.Peers.{Peer}
 use Rattle.gs_rules.specs.Tables.{Entries, heartbeats}
@@ -44,7 +44,7 @@ peer_with d_high ticks = record {
     degrees = record default_degrees { d = 3; d_low = 2; d_high = d_high; d_out = 1; d_score = 1 };
     thresholds = default_thresholds;
     factors = default_factors;
-    windows = record default_windows { opportunistic_ticks = ticks };
+    timing = record default_timing { opportunistic_ticks = ticks };
     flood_publish = false;
     topics = [];
   };
@@ -62,7 +62,7 @@ entry event = bare (at 0) event
 
 -- the charges of a heartbeat, behind which these neighbours came into the mesh, the first one first
 abbrev mesh_of : List Mark → Entries
-mesh_of marks = entry Promises ∷ record (entry BeatEnd) { marks = marks } ∷ entry (Subscribe news) ∷ []
+mesh_of marks = entry BeatBegin ∷ record (entry BeatEnd) { marks = marks } ∷ entry (Subscribe news) ∷ []
 
 abbrev on_news : ℕ → Entry
 on_news n = entry (Sub (peer_of n) (record { subscribe = Some true; topic = Some news }))
@@ -92,7 +92,7 @@ behind chosen (Gives x) = Gives x
 
 -- ---- meshes
 
-heartbeats_count_from_their_charges : heartbeats (entry Promises ∷ entry BeatEnd ∷ entry Promises ∷ []) ≡ 2
+heartbeats_count_from_their_charges : heartbeats (entry BeatBegin ∷ entry BeatEnd ∷ entry BeatBegin ∷ []) ≡ 2
 heartbeats_count_from_their_charges = refl
 
 -- two members, of whom one is outbound, and one neighbour that could come in
@@ -102,7 +102,7 @@ a_mesh_that_is_well_stays = refl
 
 -- the first one did not keep a promise, and the others are enough
 who_scores_below_0_goes
-    : mesh_beat_rule peer (record (entry Promises) { marks = Behaviour (peer_of 1) ∷ [] } ∷ mesh_of (grafted 1 ∷ grafted 2 ∷ grafted 3 ∷ [])) (at 2_000) news
+    : mesh_beat_rule peer (record (entry BeatBegin) { marks = Misbehaviour (peer_of 1) ∷ [] } ∷ mesh_of (grafted 1 ∷ grafted 2 ∷ grafted 3 ∷ [])) (at 2_000) news
     ≡ Gives (record (bare (at 2_000) (MeshBeat news)) { sends = (peer_of 1, pruning news 60) ∷ []; marks = pruned 1 ∷ barred 1 62_000 ∷ [] })
 unfolding score score_of topic_part times
 who_scores_below_0_goes = refl

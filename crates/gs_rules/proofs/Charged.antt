@@ -6,11 +6,11 @@ use Rattle.std.proofs.lemmas.Bool.{and_from, le-leb, leb-false, lt-leb, lt-ltb, 
 use Rattle.std.proofs.lemmas.Cmp.{nat_eq_equiv}
 use Rattle.gs_base.specs.declared.names.PeerNo.{PeerNo}
 use Rattle.gs_base.specs.declared.mark.Mark.{Mark}
-use Rattle.gs_base.specs.declared.mark.Mark.TheVariants.{Behaviour, Seen}
+use Rattle.gs_base.specs.declared.mark.Mark.TheVariants.{Misbehaviour, Seen}
 use Rattle.gs_base.specs.Names.{same_id, same_peer}
 use Rattle.gs_rules.specs.declared.trace.Promise.{Promise}
 use Rattle.gs_rules.specs.declared.trace.Event.{Event}
-use Rattle.gs_rules.specs.declared.trace.Event.TheVariants.{Promises}
+use Rattle.gs_rules.specs.declared.trace.Event.TheVariants.{BeatBegin}
 use Rattle.gs_rules.specs.declared.trace.Entry.{Entry}
 use Rattle.gs_rules.specs.Tables.{Entries, after_marks, ended_after, fulfilled_after, made, promises, up}
 use Rattle.gs_rules.specs.Gossip.{IsOpen, WasLeftOpen, charges, ends_promise, keeps_promise, overdue}
@@ -107,7 +107,7 @@ marks_leave promise (other ∷ marks) before unkept among = marks_leave promise 
 
 -- an event that does not end a promise leaves it
 event_leaves : (promise : Promise) (event : Event) (at : ℕ) (before : List Promise) → ends_promise promise event at ≡ false → IsAmong before promise → IsAmong (ended_after event at before) promise
-event_leaves promise Promises at before unended among =
+event_leaves promise BeatBegin at before unended among =
     among_passing (λ other. nat_lt at other.until.0) promise before (lt-ltb at promise.until.0 (leb-false promise.until.0 at unended)) among
 event_leaves promise other at before unended among = among
 
@@ -137,9 +137,9 @@ due_of L promise at time among =
     among_passing (λ other. same_peer other.from promise.from && nat_le other.until.0 at) promise (promises L)
     (and_from (same_peer promise.from promise.from) (nat_le promise.until.0 at) (itself promise.from) (le-leb promise.until.0 at time)) among
 
-pub charged_of : (L : Entries) (promise : Promise) (at : ℕ) → promise.until.0 ≤ at → up L promise.from ≡ true → IsAmong (promises L) promise → IsAmong (charges L at promise.from) (Behaviour promise.from)
+pub charged_of : (L : Entries) (promise : Promise) (at : ℕ) → promise.until.0 ≤ at → up L promise.from ≡ true → IsAmong (promises L) promise → IsAmong (charges L at promise.from) (Misbehaviour promise.from)
 charged_of L promise at time is_up among =
-    rw is_up (among_mapped (λ (other : Promise). Behaviour promise.from) promise (overdue L at promise.from) (due_of L promise at time among))
+    rw is_up (among_mapped (λ (other : Promise). Misbehaviour promise.from) promise (overdue L at promise.from) (due_of L promise at time among))
 
 -- ---- and no other promise is held
 
@@ -159,7 +159,7 @@ marks_left promise (other ∷ marks) before among = marks_left promise marks bef
 
 -- of the promises behind an event, each was there before it, and the event does not end it
 event_left : (promise : Promise) (event : Event) (at : ℕ) (before : List Promise) → IsAmong (ended_after event at before) promise → (ends_promise promise event at ≡ false) × IsAmong before promise
-event_left promise Promises at before among =
+event_left promise BeatBegin at before among =
     let passed = among_passed (λ other. nat_lt at other.until.0) promise before among in
     (lt-leb promise.until.0 at (ltb-true at promise.until.0 passed.1), passed.0)
 event_left promise other at before among = (refl, among)

@@ -9,7 +9,7 @@ use Rattle.gs_base.specs.declared.names.PeerNo.{PeerNo}
 use Rattle.gs_base.specs.declared.names.Topic.{Topic}
 use Rattle.gs_base.specs.declared.names.Millis.{Millis}
 use Rattle.gs_base.specs.declared.mark.Mark.{Mark}
-use Rattle.gs_base.specs.declared.mark.Mark.TheVariants.{First, Near, Deficit, Invalid, Behaviour, Grafted}
+use Rattle.gs_base.specs.declared.mark.Mark.TheVariants.{First, Near, Deficit, Invalid, Misbehaviour, Grafted}
 use Rattle.gs_base.specs.Names.{most_topics, same_peer, same_topic}
 use Rattle.gs_score.specs.Accounts.{rules_of}
 use Rattle.gs_score.specs.Formula.{p3}
@@ -77,7 +77,7 @@ IsOfNeighbour p (First q t id) = is_neighbour p q ≡ true
 IsOfNeighbour p (Near q t id) = is_neighbour p q ≡ true
 IsOfNeighbour p (Deficit q t z) = is_neighbour p q ≡ true
 IsOfNeighbour p (Invalid q t) = is_neighbour p q ≡ true
-IsOfNeighbour p (Behaviour q) = is_neighbour p q ≡ true
+IsOfNeighbour p (Misbehaviour q) = is_neighbour p q ≡ true
 IsOfNeighbour p (Grafted q t) = is_neighbour p q ≡ true
 IsOfNeighbour p other = Unit {0}
 
@@ -122,9 +122,9 @@ module _ (p : Peer) (q : PeerNo) (far : is_neighbour p q ≡ false) where
   mark_unnamed at (Deficit r t z) H none = counted_if H (Marked (Deficit r t z)) r t refl none (has_counters p H r t) refl
   mark_unnamed at (Invalid r t) H none = counted_if H (Marked (Invalid r t)) r t refl none (has_counters p H r t) refl
   mark_unnamed at (Grafted r t) H none = counted_if H (change_of at (Grafted r t)) r t refl none (has_counters p H r t) refl
-  mark_unnamed at (Behaviour r) H none = by (is_neighbour p r)
+  mark_unnamed at (Misbehaviour r) H none = by (is_neighbour p r)
     where
-      by : (counts : Bool) → named (if counts then Marked (Behaviour r) ∷ H else H) q ≡ []
+      by : (counts : Bool) → named (if counts then Marked (Misbehaviour r) ∷ H else H) q ≡ []
       by true = none
       by false = none
   mark_unnamed at other H none = none
@@ -178,7 +178,7 @@ mark_of p L at event near (First q t id) may = come_near p event q near may.0
 mark_of p L at event near (Near q t id) may = come_near p event q near may.0
 mark_of p L at event near (Invalid q t) may = come_near p event q near may.0
 mark_of p L at event near (Deficit q t z) may = missing_near p L at q t may.1
-mark_of p L at event near (Behaviour q) may = blamed_near p event q near may
+mark_of p L at event near (Misbehaviour q) may = blamed_near p event q near may
 mark_of p L at event near (Grafted q t) may = grafted_near p L event q near may.who
 mark_of p L at event near other may = tt
 
@@ -253,7 +253,7 @@ mark_counts p ts H (First q t id) few names on of = has_room p ts H q t few name
 mark_counts p ts H (Near q t id) few names on of = has_room p ts H q t few names of on
 mark_counts p ts H (Deficit q t z) few names on of = has_room p ts H q t few names of on
 mark_counts p ts H (Invalid q t) few names on of = has_room p ts H q t few names of on
-mark_counts p ts H (Behaviour q) few names on of = of
+mark_counts p ts H (Misbehaviour q) few names on of = of
 mark_counts p ts H (Grafted q t) few names on of = has_room p ts H q t few names of on
 mark_counts p ts H other few names on of = refl
 

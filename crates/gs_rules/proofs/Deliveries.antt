@@ -29,7 +29,7 @@ use Rattle.gs_rules.specs.Meshes.{mesh}
 use Rattle.gs_rules.specs.Membership.{candidates, fanning}
 use Rattle.gs_rules.specs.MeshRules.{graft_rule, joining, prune_rule, publish_rule, publishing, sub_rule, those_among}
 use Rattle.gs_rules.specs.BeatRules.{mending, refanning}
-use Rattle.gs_rules.specs.Rules.{rule_of, asking, bare, counted, have_rule, telling, want_rule, wanted}
+use Rattle.gs_rules.specs.Rules.{rule_of, asking, bare, counted, have_rule, gossiping, want_rule, wanted}
 use Rattle.gs_rules.specs.declared.outcome.Outcome.{Outcome}
 use Rattle.gs_rules.specs.declared.outcome.Outcome.TheVariants.{Accepted, Ignored, Invalid, Near, Rejected}
 use Rattle.gs_rules.specs.Outcomes.{found_to_be, message_entry, message_rule, near_of}
@@ -39,7 +39,7 @@ use Rattle.gs_rules.proofs.Legality.{legal_newest}
 use Rattle.gs_rules.proofs.Judged.{of_a_message, of_a_request}
 use Rattle.gs_rules.proofs.Owed.{opens}
 use Rattle.gs_rules.proofs.Offers.{what_is_offered}
-use Rattle.gs_rules.proofs.Ruled.{choice_at, of_a_graft, of_a_prune, of_a_sub, what_is_mended, what_is_published}
+use Rattle.gs_rules.proofs.Ruled.{mesh_change_at, of_a_graft, of_a_prune, of_a_sub, what_is_mended, what_is_published}
 
 -- ---- one entry
 
@@ -185,9 +185,9 @@ by_event p L (Subscribe t) e id next effects delivers =
     delivers_none p L e (joining p L e.at t (those_among (effects.0 ++ effects.3.0) (candidates p L e.at.0 t))) id effects.3.3.0 refl delivers
 by_event p L (MeshBeat t) e id next effects delivers =
     what_is_mended (IsFresh p L e id) p L t e
-    (λ kept come same. delivers_none p L e (mending p L e.at t (choice_at p L e.at.0 t kept come)) id same refl delivers) effects
+    (λ kept come same. delivers_none p L e (mending p L e.at t (mesh_change_at p L e.at.0 t kept come)) id same refl delivers) effects
 by_event p L (FanBeat t) e id next effects delivers = delivers_none p L e (refanning p L e.at t effects.0) id effects.3.0 refl delivers
-by_event p L (GossipBeat t) e id next effects delivers = delivers_none p L e (telling p L e.at t effects.0) id effects.3.0 refl delivers
+by_event p L (GossipBeat t) e id next effects delivers = delivers_none p L e (gossiping p L e.at t effects.0) id effects.3.0 refl delivers
 by_event p L other e id next effects delivers = delivers_none p L e _ id effects.0 refl delivers
 
 delivered_is_fresh : (p : Peer) (L : Entries) (e : Entry) (id : MsgId) → IsAllowed free p L tt e tt → Delivers e id → IsFresh p L e id

@@ -7,8 +7,8 @@ use Rattle.gs_base.specs.declared.control.Control.{Control}
 use Rattle.gs_base.specs.declared.control.IHave.{IHave}
 use Rattle.gs_base.specs.declared.control.IWant.{IWant}
 use Rattle.gs_base.specs.declared.mark.Mark.{Mark}
-use Rattle.gs_base.specs.declared.mark.Mark.TheVariants.{Cached, Answered, HeardHave, Asked}
-use Rattle.gs_params.specs.Params.{default_degrees, default_factors, default_thresholds, default_windows}
+use Rattle.gs_base.specs.declared.mark.Mark.TheVariants.{Cached, Answered, Offered, Asked}
+use Rattle.gs_params.specs.Params.{default_degrees, default_factors, default_thresholds, default_timing}
 use Rattle.gs_base.specs.declared.rpc.SubOpt.{SubOpt}
 use Rattle.gs_base.specs.declared.rpc.Message.{Message}
 use Rattle.gs_score.specs.Formula.{score_of}
@@ -114,7 +114,7 @@ peer = record {
     degrees = default_degrees;
     thresholds = default_thresholds;
     factors = default_factors;
-    windows = record default_windows { max_ihave = 1; max_ihave_ids = 5; gossip_retransmission = 2 };
+    timing = record default_timing { max_ihave = 1; max_ihave_ids = 5; gossip_retransmission = 2 };
     flood_publish = true;
     topics = [];
   };
@@ -140,12 +140,12 @@ each_request_counts = refl
 another_has_its_own_room : room_to_ask peer (marked (Have q offer) (Asked q 3) ∷ []) other ≡ 5
 another_has_its_own_room = refl
 
-one_offer_too_many_counts_no_more : have_rule peer (marked (Have q offer) (HeardHave q) ∷ []) (record { 0 = 0 }) q offer ≡ Gives (entry (Have q offer))
+one_offer_too_many_counts_no_more : have_rule peer (marked (Have q offer) (Offered q) ∷ []) (record { 0 = 0 }) q offer ≡ Gives (entry (Have q offer))
 unfolding score score_of times
 one_offer_too_many_counts_no_more = refl
 
 -- the peer is subscribed to nothing
-an_offer_on_a_foreign_topic_counts : have_rule peer [] (record { 0 = 0 }) q offer ≡ Gives (marked (Have q offer) (HeardHave q))
+an_offer_on_a_foreign_topic_counts : have_rule peer [] (record { 0 = 0 }) q offer ≡ Gives (marked (Have q offer) (Offered q))
 unfolding score score_of times
 an_offer_on_a_foreign_topic_counts = refl
 

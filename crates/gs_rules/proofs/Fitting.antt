@@ -21,7 +21,7 @@ use Rattle.gs_base.specs.Names.{longest_topic, same_peer, topic_of, topic_or_emp
 use Rattle.gs_base.specs.Rpcs.{announcement, publication, grafting, longest_backoff, most_identifiers, offering, passed_on, pruning, requesting}
 use Rattle.gs_base.specs.declared.mark.Mark.TheVariants.{Published}
 use Rattle.gs_mesh.specs.Peers.{without as all_but}
-use Rattle.gs_mesh.specs.declared.heartbeat.Choice.{Choice}
+use Rattle.gs_mesh.specs.declared.heartbeat.MeshChange.{MeshChange}
 use Rattle.gs_wire.specs.Varint.{varint}
 use Rattle.gs_wire.specs.Records.{record_text, records_text}
 use Rattle.gs_wire.specs.Fields.{bool_number, varint_record, len_record}
@@ -38,7 +38,7 @@ use Rattle.gs_rules.specs.MeshRules.{graft_rule, joining, prune_rule, publishing
 use Rattle.gs_rules.specs.BeatRules.{mending, refanning}
 use Rattle.gs_rules.specs.Gossip.{gossip}
 use Rattle.gs_rules.specs.Owed.{owed}
-use Rattle.gs_rules.specs.Rules.{answers, asking, bare, counted, have_rule, ids_in, rule_of, telling, to_each, up_neighbours, want_rule, wanted}
+use Rattle.gs_rules.specs.Rules.{answers, asking, bare, counted, gossiping, have_rule, ids_in, rule_of, to_each, up_neighbours, want_rule, wanted}
 use Rattle.gs_rules.specs.Outcomes.{found_to_be, message_entry, message_rule}
 use Rattle.gs_rules.specs.Modes.{SaysTheSame, sent_to, Follows, free}
 use Rattle.gs_rules.specs.Legal.{MaySubscribe, MayUnsubscribe, MayPublish, IsNext, Legal}
@@ -50,7 +50,7 @@ use Rattle.gs_rules.proofs.Owed.{opens}
 use Rattle.gs_rules.proofs.Legality.{legal_newest}
 use Rattle.gs_rules.proofs.Offers.{wanted_few, wanted_long, what_is_offered}
 use Rattle.gs_rules.proofs.Kept.{AllAlone, FitsAlone, answers_fit, next_fits}
-use Rattle.gs_rules.proofs.Ruled.{choice_at, of_a_graft, of_a_prune, of_a_sub, what_is_mended, what_is_published}
+use Rattle.gs_rules.proofs.Ruled.{mesh_change_at, of_a_graft, of_a_prune, of_a_sub, what_is_mended, what_is_published}
 use Rattle.gs_rules.proofs.OwnBeats.{next_of_own}
 use Rattle.gs_rules.proofs.Topics.{joined_short}
 use Rattle.gs_rules.proofs.Gossip.{beat_short, gossip_few, gossip_long}
@@ -177,8 +177,8 @@ refusal_fits : (p : Peer) (L : Entries) (at : Millis) (q : PeerNo) (graft : Graf
 refusal_fits p L at q graft legal =
     of_a_graft (λ (e : Entry). SendsWritten e.sends) p L at q graft tt (λ on. (told on, tt)) (λ on. (told on, tt)) (λ on late. tt)
   where
-    told : joined L (topic_or_empty graft.topic) ≡ true → IsWritten (pruning (topic_or_empty graft.topic) p.params.windows.prune_backoff_s)
-    told on = prune_written (topic_or_empty graft.topic) p.params.windows.prune_backoff_s (joined_short p L (topic_or_empty graft.topic) legal on)
+    told : joined L (topic_or_empty graft.topic) ≡ true → IsWritten (pruning (topic_or_empty graft.topic) p.params.timing.prune_backoff_s)
+    told on = prune_written (topic_or_empty graft.topic) p.params.timing.prune_backoff_s (joined_short p L (topic_or_empty graft.topic) legal on)
 
 -- an offer sends one request, or nothing
 offer_fits : (p : Peer) (L : Entries) (q : PeerNo) (offer : IHave) (e : Entry) → Follows free (have_rule p L e.at q offer) tt e tt → SendsWritten e.sends
@@ -200,11 +200,11 @@ request_fits p L at q request legal =
     (answers_written q (answers p L q [] (ids_in request.ids)) (answers_fit p L q [] (ids_in request.ids) legal))
 
 -- whoever goes and whoever comes in are told so
-mending_fits : (p : Peer) (L : Entries) (at : Millis) (t : Topic) (choice : Choice) → length t.0 ≤ longest_topic → SendsWritten (mending p L at t choice).sends
-mending_fits p L at t choice short =
-    let seconds : ℕ = p.params.windows.prune_backoff_s in
-    all-append (λ (x : PeerNo × Rpc). IsWritten x.1) (to_each (pruning t seconds) choice.pruned) (to_each (grafting t) choice.grafted)
-    (each_fits (pruning t seconds) choice.pruned (prune_written t seconds short)) (each_fits (grafting t) choice.grafted (graft_written t short))
+mending_fits : (p : Peer) (L : Entries) (at : Millis) (t : Topic) (change : MeshChange) → length t.0 ≤ longest_topic → SendsWritten (mending p L at t change).sends
+mending_fits p L at t change short =
+    let seconds : ℕ = p.params.timing.prune_backoff_s in
+    all-append (λ (x : PeerNo × Rpc). IsWritten x.1) (to_each (pruning t seconds) change.pruned) (to_each (grafting t) change.grafted)
+    (each_fits (pruning t seconds) change.pruned (prune_written t seconds short)) (each_fits (grafting t) change.grafted (graft_written t short))
 
 -- each event sends what fits, or nothing
 module _ (p : Peer) (L : Entries) (legal : Legal p L) where
@@ -226,7 +226,7 @@ module _ (p : Peer) (L : Entries) (legal : Legal p L) where
   by_event (Unsubscribe t) e next effects =
       let may : MayUnsubscribe L t = opens p L e.at.0 (Unsubscribe t) (λ h. h) next in
       let short : length t.0 ≤ longest_topic = joined_short p L t legal may.joined in
-      let seconds : ℕ = p.params.windows.unsubscribe_backoff_s in
+      let seconds : ℕ = p.params.timing.unsubscribe_backoff_s in
       same_fits e (unsubscribe_rule p L e.at t) effects.0
       (all-append (λ (x : PeerNo × Rpc). IsWritten x.1) (to_each (announcement false t) (up_neighbours p L)) (to_each (pruning t seconds) (mesh L t))
       (each_fits (announcement false t) (up_neighbours p L) (announcement_written false t short)) (each_fits (pruning t seconds) (mesh L t) (prune_written t seconds short)))
@@ -240,11 +240,11 @@ module _ (p : Peer) (L : Entries) (legal : Legal p L) where
   by_event (MeshBeat t) e next effects =
       let short : length t.0 ≤ longest_topic = joined_short p L t legal (next_of_own p L e.at.0 (MeshBeat t) legal next) in
       what_is_mended (SendsWritten e.sends) p L t e
-      (λ kept come same. same_fits e (mending p L e.at t (choice_at p L e.at.0 t kept come)) same (mending_fits p L e.at t (choice_at p L e.at.0 t kept come) short)) effects
+      (λ kept come same. same_fits e (mending p L e.at t (mesh_change_at p L e.at.0 t kept come)) same (mending_fits p L e.at t (mesh_change_at p L e.at.0 t kept come) short)) effects
   by_event (FanBeat t) e next effects = same_fits e (refanning p L e.at t effects.0) effects.3.0 tt
   by_event (GossipBeat t) e next effects =
       let ids : List (List ℕ) = map (λ (id : MsgId). id.0) (gossip p L t) in
-      same_fits e (telling p L e.at t effects.0) effects.3.0
+      same_fits e (gossiping p L e.at t effects.0) effects.3.0
       (each_fits (offering t ids) effects.0 (offer_written t ids (beat_short p L e.at.0 t legal next) (omega (arith, length-map (gossip p L t) (λ (id : MsgId). id.0), gossip_few p L t)) (gossip_long p L t legal)))
   by_event other e next effects = same_fits e _ effects.0 tt
 

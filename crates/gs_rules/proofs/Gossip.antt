@@ -17,7 +17,7 @@ use Rattle.gs_base.specs.Rpcs.{most_identifiers}
 use Rattle.gs_wire.proofs.RoundTrip.{all-append}
 use Rattle.gs_rules.specs.declared.trace.Promise.{Promise}
 use Rattle.gs_rules.specs.declared.trace.Event.{Event}
-use Rattle.gs_rules.specs.declared.trace.Event.TheVariants.{Promises, MeshBeat, GossipBeat}
+use Rattle.gs_rules.specs.declared.trace.Event.TheVariants.{BeatBegin, MeshBeat, GossipBeat}
 use Rattle.gs_rules.specs.declared.trace.Entry.{Entry}
 use Rattle.gs_rules.specs.Peers.{Peer, windows}
 use Rattle.gs_rules.specs.Tables.{Entries, Keeping, after_marks, ended_after, fulfilled_after, keeping_order, kept, made, order_after, own_topics, promises}
@@ -115,7 +115,7 @@ order_long p (e ∷ L) legal = marks_order e.marks (keeping_order L) (entry_keep
 
 -- the test of what is gossiped
 abbrev passes : Peer → Entries → Topic → MsgId → Bool
-passes p L t id = is_gossiped p.params.windows.mcache_gossip t (kept (windows p) L id)
+passes p L t id = is_gossiped p.params.timing.mcache_gossip t (kept (windows p) L id)
 
 pub gossip_long : (p : Peer) (L : Entries) (t : Topic) → Legal p L → AllByRecursion HasIdentifierLength (map (λ (id : MsgId). id.0) (gossip p L t))
 gossip_long p L t legal =
@@ -138,13 +138,13 @@ second_of_both : (a b : Bool) → (a && b) ≡ true → b ≡ true
 second_of_both true b both = both
 second_of_both false b both = absurd cc
 
-found_on : (p : Peer) (L : Entries) (t : Topic) (id : MsgId) (found : Option Keeping) → kept (windows p) L id ≡ found → is_gossiped p.params.windows.mcache_gossip t found ≡ true → IsKeptOn p L t id
+found_on : (p : Peer) (L : Entries) (t : Topic) (id : MsgId) (found : Option Keeping) → kept (windows p) L id ≡ found → is_gossiped p.params.timing.mcache_gossip t found ≡ true → IsKeptOn p L t id
 found_on p L t id None is gossiped = absurd cc
 found_on p L t id (Some k) is gossiped = record {
   found = k;
   is_kept = is;
-  on_topic = second_of_both (nat_lt k.age p.params.windows.mcache_gossip) (same_topic k.topic t) gossiped;
-  young = ltb-true k.age p.params.windows.mcache_gossip (first_of_both (nat_lt k.age p.params.windows.mcache_gossip) (same_topic k.topic t) gossiped);
+  on_topic = second_of_both (nat_lt k.age p.params.timing.mcache_gossip) (same_topic k.topic t) gossiped;
+  young = ltb-true k.age p.params.timing.mcache_gossip (first_of_both (nat_lt k.age p.params.timing.mcache_gossip) (same_topic k.topic t) gossiped);
 }
 
 pub gossip_is_kept : (p : Peer) (L : Entries) (t : Topic) → All (IsKeptOn p L t) (gossip p L t)
@@ -171,7 +171,7 @@ IsToCome at promise = at < promise.until.0
 to_come : (at : ℕ) (before : List Promise) → AllByRecursion (IsToCome at) (filter (λ promise. nat_lt at promise.until.0) before)
 to_come at before = passing_are (IsToCome at) (λ promise. nat_lt at promise.until.0) before (λ promise later. ltb-true at promise.until.0 later)
 
-pub none_overdue : (L : Entries) (e : Entry) → e.event ≡ Promises → e.promise ≡ None → All (IsToCome e.at.0) (promises (e ∷ L))
+pub none_overdue : (L : Entries) (e : Entry) → e.event ≡ BeatBegin → e.promise ≡ None → All (IsToCome e.at.0) (promises (e ∷ L))
 none_overdue L e beat none =
     let P = IsToCome e.at.0 in
     let ended : AllByRecursion P (ended_after e.event e.at.0 (promises L)) =

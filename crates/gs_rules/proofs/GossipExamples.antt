@@ -8,19 +8,19 @@ use Rattle.gs_base.specs.declared.neighbour.Neighbour.{Neighbour}
 use Rattle.gs_base.specs.declared.control.IHave.{IHave}
 use Rattle.gs_base.specs.declared.verdict.Verdict.TheVariants.{Accept, Reject}
 use Rattle.gs_base.specs.declared.mark.Mark.{Mark}
-use Rattle.gs_base.specs.declared.mark.Mark.TheVariants.{Seen, Behaviour, Cached, HeardHave, Asked, Published}
-use Rattle.gs_params.specs.Params.{default_degrees, default_factors, default_thresholds, default_windows}
+use Rattle.gs_base.specs.declared.mark.Mark.TheVariants.{Seen, Misbehaviour, Cached, Offered, Asked, Published}
+use Rattle.gs_params.specs.Params.{default_degrees, default_factors, default_thresholds, default_timing}
 use Rattle.gs_base.specs.Rpcs.{offering}
 use Rattle.gs_rules.specs.declared.trace.Event.{Event}
-use Rattle.gs_rules.specs.declared.trace.Event.TheVariants.{Msg, Have, Subscribe, Unsubscribe, Publish, Promises, MeshBeat, FanBeat, FanEnd, GossipBeat, BeatEnd, Gone}
+use Rattle.gs_rules.specs.declared.trace.Event.TheVariants.{Msg, Have, Subscribe, Unsubscribe, Publish, BeatBegin, MeshBeat, FanBeat, FanEnd, GossipBeat, BeatEnd, Gone}
 use Rattle.gs_rules.specs.declared.trace.Promise.{Promise}
 use Rattle.gs_rules.specs.declared.trace.Entry.{Entry}
 use Rattle.gs_rules.specs.Peers.{Peer, windows}
 use Rattle.gs_rules.specs.Tables.{Entries, asked, blank, keeping_order, kept, offers, own_topics, promises}
 use Rattle.gs_rules.specs.Gossip.{IsOpen, all_charges, ends_promise, gossip, gossip_size, gossipable, keeps_promise}
 use Rattle.gs_rules.specs.Owed.{FanBeats, Gossips, owed}
-use Rattle.gs_rules.specs.Rules.{bare, telling}
-use Rattle.gs_rules.specs.Rounds.{Seat, LowerCounters, Beat, EndRound, Playing, agenda}
+use Rattle.gs_rules.specs.Rules.{bare, gossiping}
+use Rattle.gs_rules.specs.Rounds.{Seat, DecayCounters, Beat, EndRound, Playing, agenda}
 
 -- ---- what is given
 
@@ -40,7 +40,7 @@ peer = record {
     degrees = default_degrees;
     thresholds = default_thresholds;
     factors = default_factors;
-    windows = record default_windows { mcache_len = 3; mcache_gossip = 2 };
+    timing = record default_timing { mcache_len = 3; mcache_gossip = 2 };
     flood_publish = true;
     topics = [];
   };
@@ -88,7 +88,7 @@ a_message_is_gone_with_its_last_heartbeat : kept (windows peer) (beat_end ∷ be
 a_message_is_gone_with_its_last_heartbeat = refl
 
 -- other events don't count
-a_message_ages_with_heartbeats_alone : kept (windows peer) (beat_end ∷ entry (GossipBeat a) ∷ entry Promises ∷ keeping 1 a ∷ []) (id 1) ≡ Some (record { topic = a; message = blank; age = 1 })
+a_message_ages_with_heartbeats_alone : kept (windows peer) (beat_end ∷ entry (GossipBeat a) ∷ entry BeatBegin ∷ keeping 1 a ∷ []) (id 1) ≡ Some (record { topic = a; message = blank; age = 1 })
 a_message_ages_with_heartbeats_alone = refl
 
 -- its age begins anew
@@ -135,7 +135,7 @@ gossip_on_the_other_topic = refl
 
 -- behind the charges the mesh of each topic is mended to which the peer is subscribed
 abbrev charged : Entries
-charged = entry Promises ∷ keeping 2 ab ∷ keeping 1 b ∷ entry (Subscribe b) ∷ entry (Subscribe a) ∷ []
+charged = entry BeatBegin ∷ keeping 2 ab ∷ keeping 1 b ∷ entry (Subscribe b) ∷ entry (Subscribe a) ∷ []
 
 a_heartbeat_mends_meshes_first : owed peer charged ≡ record { events = MeshBeat a ∷ MeshBeat b ∷ []; groups = FanBeats 0 ∷ Gossips ∷ [] }
 a_heartbeat_mends_meshes_first = refl
@@ -148,11 +148,11 @@ a_heartbeat_gossips_where_there_is_something : owed peer (entry (MeshBeat b) ∷
 a_heartbeat_gossips_where_there_is_something = refl
 
 -- with nothing to say it ends at once
-a_quiet_heartbeat_ends : owed peer (entry (MeshBeat a) ∷ entry Promises ∷ entry (Subscribe a) ∷ []) ≡ record { events = BeatEnd ∷ []; groups = [] }
+a_quiet_heartbeat_ends : owed peer (entry (MeshBeat a) ∷ entry BeatBegin ∷ entry (Subscribe a) ∷ []) ≡ record { events = BeatEnd ∷ []; groups = [] }
 a_quiet_heartbeat_ends = refl
 
 -- without a topic it ends at once
-a_heartbeat_of_no_topic_ends : owed peer (entry Promises ∷ []) ≡ record { events = BeatEnd ∷ []; groups = [] }
+a_heartbeat_of_no_topic_ends : owed peer (entry BeatBegin ∷ []) ≡ record { events = BeatEnd ∷ []; groups = [] }
 a_heartbeat_of_no_topic_ends = refl
 
 -- the peer published on a topic at millisecond 0, without being subscribed, and is subscribed to another
@@ -160,19 +160,19 @@ abbrev with_fanout : Entries
 with_fanout = entry (Subscribe a) ∷ marked (Publish b []) (Published b) ∷ []
 
 -- a millisecond before its time has come
-a_fanout_is_mended_behind_the_meshes : owed peer (entry_at 59_999 (MeshBeat a) ∷ entry_at 59_999 Promises ∷ with_fanout) ≡ record { events = FanBeat b ∷ []; groups = Gossips ∷ [] }
+a_fanout_is_mended_behind_the_meshes : owed peer (entry_at 59_999 (MeshBeat a) ∷ entry_at 59_999 BeatBegin ∷ with_fanout) ≡ record { events = FanBeat b ∷ []; groups = Gossips ∷ [] }
 a_fanout_is_mended_behind_the_meshes = refl
 
 -- at that very millisecond
-a_fanout_ends_at_its_time : owed peer (entry_at 60_000 (MeshBeat a) ∷ entry_at 60_000 Promises ∷ with_fanout) ≡ record { events = FanEnd b ∷ []; groups = Gossips ∷ [] }
+a_fanout_ends_at_its_time : owed peer (entry_at 60_000 (MeshBeat a) ∷ entry_at 60_000 BeatBegin ∷ with_fanout) ≡ record { events = FanEnd b ∷ []; groups = Gossips ∷ [] }
 a_fanout_ends_at_its_time = refl
 
 -- the messages of a topic whose fanout ended are not gossiped any more
-gossip_is_reached_behind_that : owed peer (entry_at 60_000 (FanEnd b) ∷ entry_at 60_000 (MeshBeat a) ∷ entry_at 60_000 Promises ∷ keeping 1 b ∷ with_fanout) ≡ record { events = BeatEnd ∷ []; groups = [] }
+gossip_is_reached_behind_that : owed peer (entry_at 60_000 (FanEnd b) ∷ entry_at 60_000 (MeshBeat a) ∷ entry_at 60_000 BeatBegin ∷ keeping 1 b ∷ with_fanout) ≡ record { events = BeatEnd ∷ []; groups = [] }
 gossip_is_reached_behind_that = refl
 
 -- both are told the same
-each_that_is_chosen_is_told : (telling peer moved (record { 0 = 0 }) a (q ∷ other ∷ [])).sends ≡ (q, offering a ((2 ∷ []) ∷ [])) ∷ (other, offering a ((2 ∷ []) ∷ [])) ∷ []
+each_that_is_chosen_is_told : (gossiping peer moved (record { 0 = 0 }) a (q ∷ other ∷ [])).sends ≡ (q, offering a ((2 ∷ []) ∷ [])) ∷ (other, offering a ((2 ∷ []) ∷ [])) ∷ []
 each_that_is_chosen_is_told = refl
 
 -- a quarter
@@ -190,7 +190,7 @@ nothing_offered = record { topic = None; ids = [] }
 
 -- an offer that counted, and one for which three were asked
 abbrev offered : Entry
-offered = marked (Have q nothing_offered) (HeardHave q)
+offered = marked (Have q nothing_offered) (Offered q)
 
 abbrev asked_three : Entry
 asked_three = marked (Have q nothing_offered) (Asked q 3)
@@ -204,7 +204,7 @@ offers_count_anew_behind_a_heartbeat : offers (offered ∷ beat_end ∷ offered 
 offers_count_anew_behind_a_heartbeat = refl
 
 -- the start of a heartbeat changes nothing
-offers_count_until_the_heartbeat_ends : offers (entry Promises ∷ offered ∷ offered ∷ []) q ≡ 2
+offers_count_until_the_heartbeat_ends : offers (entry BeatBegin ∷ offered ∷ offered ∷ []) q ≡ 2
 offers_count_until_the_heartbeat_ends = refl
 
 -- six were asked before it, and three since
@@ -221,11 +221,11 @@ abbrev promising : PeerNo → ℕ → Entry
 promising r n = record (entry (Have r nothing_offered)) { promise = Some (promise r n) }
 
 -- one millisecond before
-a_promise_is_there_before_its_time : promises (entry_at 999 Promises ∷ promising q 1 ∷ []) ≡ promise q 1 ∷ []
+a_promise_is_there_before_its_time : promises (entry_at 999 BeatBegin ∷ promising q 1 ∷ []) ≡ promise q 1 ∷ []
 a_promise_is_there_before_its_time = refl
 
 -- at that very millisecond
-a_promise_ends_at_its_time : promises (entry_at 1_000 Promises ∷ promising q 1 ∷ []) ≡ []
+a_promise_ends_at_its_time : promises (entry_at 1_000 BeatBegin ∷ promising q 1 ∷ []) ≡ []
 a_promise_ends_at_its_time = refl
 
 -- the end of the heartbeat ends none
@@ -253,7 +253,7 @@ a_promise_is_not_charged_before_its_time : all_charges peer (promising q 1 ∷ [
 a_promise_is_not_charged_before_its_time = refl
 
 -- at that very millisecond
-a_broken_promise_is_charged : all_charges peer (promising q 1 ∷ []) 1_000 ≡ Behaviour q ∷ []
+a_broken_promise_is_charged : all_charges peer (promising q 1 ∷ []) 1_000 ≡ Misbehaviour q ∷ []
 a_broken_promise_is_charged = refl
 
 -- it promised before it closed its link
@@ -261,15 +261,15 @@ a_neighbour_that_is_gone_is_not_charged : all_charges peer (entry (Gone q) ∷ p
 a_neighbour_that_is_gone_is_not_charged = refl
 
 -- neighbour 2 promised first, and neighbour 1 twice
-each_broken_promise_is_charged : all_charges peer (promising q 3 ∷ promising q 2 ∷ promising other 1 ∷ []) 1_000 ≡ Behaviour q ∷ Behaviour q ∷ Behaviour other ∷ []
+each_broken_promise_is_charged : all_charges peer (promising q 3 ∷ promising q 2 ∷ promising other 1 ∷ []) 1_000 ≡ Misbehaviour q ∷ Misbehaviour q ∷ Misbehaviour other ∷ []
 each_broken_promise_is_charged = refl
 
 -- another message came, a heartbeat ended none a millisecond before, and another ended late
-a_promise_stays_open : AllByRecursion (IsOpen (promise q 1)) (entry_at 2_000 BeatEnd ∷ entry_at 999 Promises ∷ marked (Msg q blank) (Seen (id 2) Accept) ∷ [])
+a_promise_stays_open : AllByRecursion (IsOpen (promise q 1)) (entry_at 2_000 BeatEnd ∷ entry_at 999 BeatBegin ∷ marked (Msg q blank) (Seen (id 2) Accept) ∷ [])
 a_promise_stays_open = (record { unkept = refl; unended = refl }, (record { unkept = refl; unended = refl }, (record { unkept = refl; unended = refl }, tt)))
 
 -- at that very millisecond
-a_heartbeat_ends_a_promise_at_its_time : ends_promise (promise q 1) Promises 1_000 ≡ true
+a_heartbeat_ends_a_promise_at_its_time : ends_promise (promise q 1) BeatBegin 1_000 ≡ true
 a_heartbeat_ends_a_promise_at_its_time = refl
 
 -- it is marked behind another one
@@ -287,7 +287,7 @@ no_heartbeat_in_the_first_round : agenda seat (Playing 0) [] ≡ EndRound 0 ∷ 
 no_heartbeat_in_the_first_round = refl
 
 -- at millisecond 1,000
-a_heartbeat_in_the_tenth_round : agenda seat (Playing 10) [] ≡ LowerCounters ∷ Beat ∷ EndRound 10 ∷ []
+a_heartbeat_in_the_tenth_round : agenda seat (Playing 10) [] ≡ DecayCounters ∷ Beat ∷ EndRound 10 ∷ []
 a_heartbeat_in_the_tenth_round = refl
 
 -- at millisecond 1,100
@@ -295,19 +295,19 @@ no_heartbeat_in_the_eleventh_round : agenda seat (Playing 11) [] ≡ EndRound 11
 no_heartbeat_in_the_eleventh_round = refl
 
 -- at millisecond 2,000
-a_heartbeat_in_the_twentieth_round : agenda seat (Playing 20) [] ≡ LowerCounters ∷ Beat ∷ EndRound 20 ∷ []
+a_heartbeat_in_the_twentieth_round : agenda seat (Playing 20) [] ≡ DecayCounters ∷ Beat ∷ EndRound 20 ∷ []
 a_heartbeat_in_the_twentieth_round = refl
 
 -- the same, where counters decay every 300 milliseconds
 abbrev decaying : Seat
-decaying = record seat { peer = record peer { params = record peer.params { windows = record default_windows { decay_ms = 300 } } } }
+decaying = record seat { peer = record peer { params = record peer.params { timing = record default_timing { decay_ms = 300 } } } }
 
 -- at millisecond 0
 no_step_of_decay_in_the_first_round : agenda decaying (Playing 0) [] ≡ EndRound 0 ∷ []
 no_step_of_decay_in_the_first_round = refl
 
 -- at millisecond 300
-a_step_of_decay_in_the_third_round : agenda decaying (Playing 3) [] ≡ LowerCounters ∷ EndRound 3 ∷ []
+a_step_of_decay_in_the_third_round : agenda decaying (Playing 3) [] ≡ DecayCounters ∷ EndRound 3 ∷ []
 a_step_of_decay_in_the_third_round = refl
 
 -- at millisecond 1,000
@@ -315,7 +315,7 @@ a_heartbeat_without_a_step_of_decay : agenda decaying (Playing 10) [] ≡ Beat �
 a_heartbeat_without_a_step_of_decay = refl
 
 -- at millisecond 3,000
-a_step_of_decay_comes_before_a_heartbeat : agenda decaying (Playing 30) [] ≡ LowerCounters ∷ Beat ∷ EndRound 30 ∷ []
+a_step_of_decay_comes_before_a_heartbeat : agenda decaying (Playing 30) [] ≡ DecayCounters ∷ Beat ∷ EndRound 30 ∷ []
 a_step_of_decay_comes_before_a_heartbeat = refl
 
 -- ---- the peer's own topics

@@ -79,12 +79,12 @@ stands len L id found is = last_stands L id (counts len (last_kept L id) found i
 
 -- the test of what is gossiped
 abbrev passes : Peer → Entries → Topic → MsgId → Bool
-passes p L t id = is_gossiped p.params.windows.mcache_gossip t (kept (windows p) L id)
+passes p L t id = is_gossiped p.params.timing.mcache_gossip t (kept (windows p) L id)
 
 passes_kept : (p : Peer) (L : Entries) (t : Topic) (id : MsgId) → IsKeptOn p L t id → passes p L t id ≡ true
 passes_kept p L t id keeps =
-    ap (is_gossiped p.params.windows.mcache_gossip t) keeps.is_kept
-    ∙ and_from (nat_lt keeps.found.age p.params.windows.mcache_gossip) (same_topic keeps.found.topic t) (lt-ltb keeps.found.age p.params.windows.mcache_gossip keeps.young) keeps.on_topic
+    ap (is_gossiped p.params.timing.mcache_gossip t) keeps.is_kept
+    ∙ and_from (nat_lt keeps.found.age p.params.timing.mcache_gossip) (same_topic keeps.found.topic t) (lt-ltb keeps.found.age p.params.timing.mcache_gossip keeps.young) keeps.on_topic
 
 among_any : (id : MsgId) (ids : List MsgId) → list_any (same_id id) ids ≡ true → IsAmong ids id
 among_any id ids is =

@@ -27,7 +27,7 @@ use Rattle.gs_rules.specs.Legal.{Legal, ArePayments, Begins, Opens, Comes}
 use Rattle.gs_rules.specs.Refusals.{refusal}
 use Rattle.gs_rules.specs.Saying.{Said, bytes_of, handled_by, handled}
 use Rattle.gs_rules.specs.Hearing.{Spell, Inbound, IsBetween, ComesIn, bytes_before}
-use Rattle.gs_rules.specs.Rounds.{Seat, Place, Playing, Closing, Todo, Hear, HearFault, HearGone, Obey, LowerCounters, Beat, EndRound, Stop, agenda, beats_in, decays_in, is_due, ending, hears, hears_of, is_at, is_broken, lines_at, moment_of, event_of, unless_refused, opening, Does, ComesAt, Plays, PlaysInPart, AfterRounds, KeepsRounds}
+use Rattle.gs_rules.specs.Rounds.{Seat, Phase, Playing, Closing, Todo, Hear, HearFault, HearGone, Obey, DecayCounters, Beat, EndRound, Stop, agenda, beats_in, decays_in, is_due, ending, hears, hears_of, is_at, is_broken, lines_at, moment_of, event_of, unless_refused, opening, Does, ComesAt, Plays, PlaysInPart, AfterRounds, KeepsRounds}
 use Rattle.gs_rules.proofs.Owed.{IsOwed, due_is_owed}
 use Rattle.gs_rules.proofs.Legality.{legal_newest}
 use Rattle.gs_rules.proofs.Deliveries.{legal_before}
@@ -124,7 +124,7 @@ opening_handles p q K at (Hear r rpc) = either_way q r rpc (up K r)
 opening_handles p q K at (HearFault r) = lost_handles q (Fault r) (up K r) refl
 opening_handles p q K at (HearGone r) = lost_handles q (Gone r) (up K r) refl
 opening_handles p q K at (Obey place what) = line_handles q what (refusal p K at.0 (event_of what))
-opening_handles p q K at LowerCounters = refl
+opening_handles p q K at DecayCounters = refl
 opening_handles p q K at Beat = refl
 opening_handles p q K at (EndRound r) = refl
 opening_handles p q K at Stop = refl
@@ -227,22 +227,22 @@ lines_quiet q r (x ∷ xs) = either (is_at r x) (lines_quiet q r xs)
 
 -- a step of decay is nothing to hear
 decays_quiet : (q : PeerNo) (p : Peer) (r : ℕ) (at : Millis) → flat_map (rpc_of q) (decays_in p r at) ≡ []
-decays_quiet q p r at = by (is_due p.params.windows.decay_ms r at)
+decays_quiet q p r at = by (is_due p.params.timing.decay_ms r at)
   where
-    by : (due : Bool) → flat_map (rpc_of q) (if due then LowerCounters ∷ [] else []) ≡ []
+    by : (due : Bool) → flat_map (rpc_of q) (if due then DecayCounters ∷ [] else []) ≡ []
     by true = refl
     by false = refl
 
 -- a heartbeat is nothing to hear
 beats_quiet : (q : PeerNo) (p : Peer) (r : ℕ) (at : Millis) → flat_map (rpc_of q) (beats_in p r at) ≡ []
-beats_quiet q p r at = by (is_due p.params.windows.heartbeat_ms r at)
+beats_quiet q p r at = by (is_due p.params.timing.heartbeat_ms r at)
   where
     by : (due : Bool) → flat_map (rpc_of q) (if due then Beat ∷ [] else []) ≡ []
     by true = refl
     by false = refl
 
-place_hears : (seat : Seat) (place : Place) (q : PeerNo) (xs : List Inbound) → flat_map (rpc_of q) (agenda seat place xs) ≡ flat_map (rpc_of q) (hears (links_of seat.peer) xs)
-place_hears seat (Playing r) q xs =
+phase_hears : (seat : Seat) (phase : Phase) (q : PeerNo) (xs : List Inbound) → flat_map (rpc_of q) (agenda seat phase xs) ≡ flat_map (rpc_of q) (hears (links_of seat.peer) xs)
+phase_hears seat (Playing r) q xs =
     let all : List Todo = hears (links_of seat.peer) xs in
     let decay : List Todo = decays_in seat.peer r (moment_of seat (Playing r)) in
     let beat : List Todo = beats_in seat.peer r (moment_of seat (Playing r)) in
@@ -257,7 +257,7 @@ place_hears seat (Playing r) q xs =
     flat_map-append (rpc_of q) all (lines_at seat r ++ (decay ++ (beat ++ EndRound r ∷ [])))
     ∙ ap (λ (ys : List Rpc). flat_map (rpc_of q) all ++ ys) own
     ∙ append-nil (flat_map (rpc_of q) all)
-place_hears seat Closing q xs = refl
+phase_hears seat Closing q xs = refl
 
 -- ---- over the rounds
 
@@ -282,36 +282,36 @@ one_round zero w vs x before comes =
     subst (λ (ws : List Rpc). Spell [] ws) (sym (ap₂ (λ (ys zs : List Rpc). ys ++ zs) before (ap (λ (y : Inbound). y.rpcs) comes))) no_bytes
 one_round (suc r) w vs x before comes = handled_further (bytes_before r w) (bytes_before (suc r) w) vs x before comes.0
 
--- what is handled at a place of one neighbour
-record HandledAt (seat : Seat) (said : PeerNo → Said) (place : Place) (q : PeerNo) (K L : Entries) : Type 0 where
+-- what is handled in a phase of one neighbour
+record HandledAt (seat : Seat) (said : PeerNo → Said) (phase : Phase) (q : PeerNo) (K L : Entries) : Type 0 where
   before : Legal seat.peer K
   inbound : Inbound
-  was_said : ComesAt seat place (said q) inbound
+  was_said : ComesAt seat phase (said q) inbound
   now : handled L q ≡ handled K q ++ inbound.rpcs
 
-place_handles : (seat : Seat) (said : PeerNo → Said) (place : Place) (q : PeerNo) (K L : Entries) (refused : List RefusedLine) → StandsOnce q (links_of seat.peer) → Plays seat said place K L refused → Legal seat.peer L → HandledAt seat said place q K L
-place_handles seat said place q K L refused once plays legal =
+phase_handles : (seat : Seat) (said : PeerNo → Said) (phase : Phase) (q : PeerNo) (K L : Entries) (refused : List RefusedLine) → StandsOnce q (links_of seat.peer) → Plays seat said phase K L refused → Legal seat.peer L → HandledAt seat said phase q K L
+phase_handles seat said phase q K L refused once plays legal =
     let p = seat.peer in
-    let todos : List Todo = agenda seat place plays.inbound in
-    let one = heard_once (λ s x. ComesAt seat place (said s) x) q (links_of p) plays.inbound once plays.was_said in
+    let todos : List Todo = agenda seat phase plays.inbound in
+    let one = heard_once (λ s x. ComesAt seat phase (said s) x) q (links_of p) plays.inbound once plays.was_said in
     record {
-      before = legal_then_before p K L (does_on p (moment_of seat place) todos K L refused plays.does) legal;
+      before = legal_then_before p K L (does_on p (moment_of seat phase) todos K L refused plays.does) legal;
       inbound = one.inbound;
       was_said = one.was_said;
-      now = does_handle p q (moment_of seat place) todos K L refused plays.does legal
-          ∙ ap (λ (xs : List Rpc). handled K q ++ xs) (place_hears seat place q plays.inbound ∙ one.is);
+      now = does_handle p q (moment_of seat phase) todos K L refused plays.does legal
+          ∙ ap (λ (xs : List Rpc). handled K q ++ xs) (phase_hears seat phase q plays.inbound ∙ one.is);
     }
 
 pub rounds_handle : (seat : Seat) (said : PeerNo → Said) (q : PeerNo) (r : ℕ) (L : Entries) (refused : List RefusedLine) → StandsOnce q (links_of seat.peer) → AfterRounds seat said r L refused → Legal seat.peer L → HandledIn r (said q) (handled L q)
 rounds_handle seat said q zero L refused once h legal = ap (λ (M : Entries). handled M q) h.0
 rounds_handle seat said q (suc r) L refused once (K, earlier, more, before, plays, is) legal =
-    let one = place_handles seat said (Playing r) q K L more once plays legal in
+    let one = phase_handles seat said (Playing r) q K L more once plays legal in
     subst (HandledIn (suc r) (said q)) (sym one.now) (one_round r (said q) (handled K q) one.inbound (rounds_handle seat said q r K earlier once before one.before) one.was_said)
 
 -- behind the close all that a neighbour said is handled
 life_handles : (seat : Seat) (said : PeerNo → Said) (q : PeerNo) (L : Entries) (refused : List RefusedLine) → StandsOnce q (links_of seat.peer) → Legal seat.peer L → KeepsRounds seat said L refused → Spell (bytes_of (said q)) (handled L q)
 life_handles seat said q L refused once legal keeps =
-    let one = place_handles seat said Closing q keeps.last L [] once keeps.closed legal in
+    let one = phase_handles seat said Closing q keeps.last L [] once keeps.closed legal in
     let before : Spell (bytes_before seat.rounds (said q)) (handled keeps.last q) = rounds_handle seat said q (suc seat.rounds) keeps.last refused once keeps.played one.before in
     subst (λ (vs : List Rpc). Spell (bytes_of (said q)) vs) (sym one.now) (handled_further (bytes_before seat.rounds (said q)) (bytes_of (said q)) (handled keeps.last q) one.inbound before one.was_said.0)
 
@@ -326,9 +326,9 @@ said_is_handled seat said L refused ascending legal keeps =
 
 -- ---- a part that is whole
 
-pub part_is_whole : (seat : Seat) (said : PeerNo → Said) (place : Place) (K L : Entries) (refused : List RefusedLine) → PlaysInPart seat said place [] K L refused → Plays seat said place K L refused
-part_is_whole seat said place K L refused part = record {
+pub part_is_whole : (seat : Seat) (said : PeerNo → Said) (phase : Phase) (K L : Entries) (refused : List RefusedLine) → PlaysInPart seat said phase [] K L refused → Plays seat said phase K L refused
+part_is_whole seat said phase K L refused part = record {
   inbound = part.inbound;
   was_said = part.was_said;
-  does = subst (λ (todos : List Todo). Does seat.peer (moment_of seat place) todos K L refused) (sym (part.split ∙ append-nil part.done)) part.does;
+  does = subst (λ (todos : List Todo). Does seat.peer (moment_of seat phase) todos K L refused) (sym (part.split ∙ append-nil part.done)) part.does;
 }

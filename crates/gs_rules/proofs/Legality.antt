@@ -7,15 +7,15 @@ use Rattle.gs_base.specs.declared.names.PeerNo.{PeerNo}
 use Rattle.gs_base.specs.declared.names.Millis.{Millis}
 use Rattle.gs_rules.specs.declared.trace.Event.{Event}
 use Rattle.gs_rules.specs.declared.trace.Entry.{Entry}
-use Rattle.gs_params.specs.Picks.{IsChoice, picked_one}
+use Rattle.gs_params.specs.Picks.{IsSample, picked_one}
 use Rattle.gs_rules.specs.Tables.{Entries}
 use Rattle.gs_rules.specs.Peers.{Peer}
 use Rattle.gs_rules.specs.Rules.{Rule, Gives, AnyOf, CutOf, OneOf, rule_of}
-use Rattle.gs_rules.specs.Modes.{Mode, Follows, SaysTheSame, free, settled, exact}
+use Rattle.gs_rules.specs.Modes.{Mode, Follows, SaysTheSame, free, choiceless, exact}
 use Rattle.gs_rules.specs.Legal.{IsAllowed, LegalOn, Legal}
 use Rattle.gs_params.specs.declared.params.Degrees.{Degrees}
 use Rattle.gs_mesh.specs.declared.members.Member.{Member}
-use Rattle.gs_params.proofs.Picking.{picked_is_choice}
+use Rattle.gs_params.proofs.Picking.{picked_is_sample}
 use Rattle.gs_mesh.proofs.Cutting.{exact_cut_is_cut, exact_cut_is_one}
 
 pub says_itself : (x : Entry) → SaysTheSame x x
@@ -74,11 +74,11 @@ same_by : (e x : Entry) → e ≡ x → SaysTheSame e x
 same_by e x is = subst (SaysTheSame e) is (says_itself e)
 
 -- where nothing is chosen, no word is drawn
-pub settled_is_exact : {S : Type 0} (word : S → ℕ) (after : S → S) (s : S) → Weakens settled (exact word after) (λ u. s)
-settled_is_exact word after s = record { picks = λ k candidates u chosen v h. absurd h; cuts = λ degrees members u kept v h. absurd h; one = λ k u place v h. absurd h; meets = λ e x h. h }
+pub choiceless_is_exact : {S : Type 0} (word : S → ℕ) (after : S → S) (s : S) → Weakens choiceless (exact word after) (λ u. s)
+choiceless_is_exact word after s = record { picks = λ k candidates u chosen v h. absurd h; cuts = λ degrees members u kept v h. absurd h; one = λ k u place v h. absurd h; meets = λ e x h. h }
 
-pub settled_is_free : Weakens settled free (λ u. tt)
-settled_is_free = record { picks = λ k candidates u chosen v h. absurd h; cuts = λ degrees members u kept v h. absurd h; one = λ k u place v h. absurd h; meets = same_by }
+pub choiceless_is_free : Weakens choiceless free (λ u. tt)
+choiceless_is_free = record { picks = λ k candidates u chosen v h. absurd h; cuts = λ degrees members u kept v h. absurd h; one = λ k u place v h. absurd h; meets = same_by }
 
 -- ---- words
 
@@ -94,7 +94,7 @@ module _ {S : Type 0} (word : S → ℕ) (after : S → S) where
   -- what words choose is a choice
   pub exact_is_free : Weakens (exact word after) free (λ u. tt)
   exact_is_free = record {
-    picks = λ k candidates s chosen t h. subst (IsChoice k candidates) (sym h.chosen_are) (picked_is_choice word after k candidates s h.ascending);
+    picks = λ k candidates s chosen t h. subst (IsSample k candidates) (sym h.chosen_are) (picked_is_sample word after k candidates s h.ascending);
     cuts = λ degrees members s kept t h. exact_cut_is_cut word after degrees members s kept t h;
     one = λ k s place t h. subst (λ (j : ℕ). j < k) (sym h.place_is) (picked_below k s h.some);
     meets = same_by;

@@ -22,21 +22,21 @@ use Rattle.gs_base.specs.declared.control.Prune.{Prune}
 use Rattle.gs_base.specs.declared.verdict.Verdict.{Verdict}
 use Rattle.gs_base.specs.declared.verdict.Verdict.TheVariants.{Accept, Reject, Ignore}
 use Rattle.gs_base.specs.declared.mark.Mark.{Mark}
-use Rattle.gs_base.specs.declared.mark.Mark.TheVariants.{Answered, Behaviour, Cached, Deficit, First, Grafted, Invalid, Near, Pruned, Published, Unfanned}
+use Rattle.gs_base.specs.declared.mark.Mark.TheVariants.{Answered, Cached, Deficit, First, Grafted, Invalid, Misbehaviour, Near, Pruned, Published, Unfanned}
 use Rattle.gs_base.specs.Names.{message_id, payload_of, peers_of, same_peer, topic_of, topic_or_empty, HasIdentifierLength}
 use Rattle.gs_mesh.specs.declared.members.Member.{Member}
 use Rattle.gs_mesh.specs.Peers.{is_among}
 use Rattle.gs_wire.proofs.RoundTrip.{all-append}
 use Rattle.gs_rules.specs.declared.trace.Promise.{Promise}
 use Rattle.gs_rules.specs.declared.trace.Event.{Event}
-use Rattle.gs_rules.specs.declared.trace.Event.TheVariants.{FanBeat, FanEnd, Fault, Gone, GossipBeat, GraftIn, Have, MeshBeat, Msg, Promises, PruneIn, Publish, Sub, Subscribe, Unsubscribe, Want}
+use Rattle.gs_rules.specs.declared.trace.Event.TheVariants.{BeatBegin, FanBeat, FanEnd, Fault, Gone, GossipBeat, GraftIn, Have, MeshBeat, Msg, PruneIn, Publish, Sub, Subscribe, Unsubscribe, Want}
 use Rattle.gs_rules.specs.declared.trace.Entry.{Entry}
 use Rattle.gs_rules.specs.Peers.{Peer, links_of, seen_ttl}
 use Rattle.gs_rules.specs.Tables.{Entries, joined, joined_after, on, seen, up}
 use Rattle.gs_rules.specs.Meshes.{backoff, fanout, mesh, mesh_topics}
-use Rattle.gs_rules.specs.Membership.{barring, candidates, charge_of, each_on, entering, fanning, is_candidate, is_negative, leaving, meshes_with, missing, unfanning}
+use Rattle.gs_rules.specs.Membership.{barring, candidates, deficit_marks, each_on, entering, fanning, is_candidate, is_negative, leaving, meshes_with, missing, unfanning}
 use Rattle.gs_rules.specs.MeshRules.{asked_backoff, fanned_of, graft_rule, joining, prune_rule, publish_rule, publishing, sub_rule, subscribe_rule, those_among, those_outside, unsubscribe_rule}
-use Rattle.gs_rules.specs.BeatRules.{fan_end, member_of, members_of, mending, receivers, refanning}
+use Rattle.gs_rules.specs.BeatRules.{fan_end, mending, receivers, refanning, scored_member, scored_members}
 use Rattle.gs_rules.specs.Scoring.{is_neighbour}
 use Rattle.gs_rules.specs.Gossip.{charges, overdue}
 use Rattle.gs_rules.specs.Rules.{answers, asking, bare, counted, have_rule, ids_in, rule_of, want_rule, wanted}
@@ -45,7 +45,7 @@ use Rattle.gs_rules.specs.Modes.{SaysTheSame, Follows, free}
 use Rattle.gs_rules.proofs.Each.{each_mapped, each_passing, each_weaker, of_each}
 use Rattle.gs_rules.proofs.Judged.{of_a_joined_message, of_a_request}
 use Rattle.gs_rules.proofs.Offers.{what_is_offered}
-use Rattle.gs_rules.proofs.Ruled.{choice_at, of_a_graft, of_a_prune, of_a_sub, what_is_mended, what_is_published}
+use Rattle.gs_rules.proofs.Ruled.{mesh_change_at, of_a_graft, of_a_prune, of_a_sub, what_is_mended, what_is_published}
 
 -- ---- what a mark says of the entry that makes it
 
@@ -84,7 +84,7 @@ MayMark p L at event (First q t id) = ComesOf event q × (joined L t ≡ true)
 MayMark p L at event (Near q t id) = ComesOf event q × (joined L t ≡ true)
 MayMark p L at event (Invalid q t) = ComesOf event q × (joined L t ≡ true)
 MayMark p L at event (Deficit q t z) = (is_among (mesh L t) q ≡ true) × (nat_eq (missing p L at (q, t)) 0 ≡ false)
-MayMark p L at event (Behaviour q) = ComesOf event q ⊎ (is_neighbour p q ≡ true)
+MayMark p L at event (Misbehaviour q) = ComesOf event q ⊎ (is_neighbour p q ≡ true)
 MayMark p L at event (Cached id t) = HasIdentifierLength id.0
 MayMark p L at event (Grafted q t) = MayGraft p L at event q t
 MayMark p L at event (Published t) = Publishes event t
@@ -130,21 +130,21 @@ module _ (p : Peer) (L : Entries) (at : ℕ) (event : Event) where
   abbrev WasMember : PeerNo × Topic → Type 0
   WasMember x = is_among (mesh L x.1) x.0 ≡ true
 
-  charge_marks : (x : PeerNo × Topic) → WasMember x → Marks (charge_of p L at x)
+  charge_marks : (x : PeerNo × Topic) → WasMember x → Marks (deficit_marks p L at x)
   charge_marks x member = by (nat_eq (missing p L at x) 0) refl
     where
       by : (none : Bool) → nat_eq (missing p L at x) 0 ≡ none → Marks (if none then [] else Deficit x.0 x.1 (pos (missing p L at x)) ∷ [])
       by true is = tt
       by false is = ((member, is), tt)
 
-  charges_marks : (pairs : List (PeerNo × Topic)) → AllByRecursion WasMember pairs → Marks (flat_map (charge_of p L at) pairs)
+  charges_marks : (pairs : List (PeerNo × Topic)) → AllByRecursion WasMember pairs → Marks (flat_map (deficit_marks p L at) pairs)
   charges_marks [] all = tt
   charges_marks (x ∷ pairs) all =
-      all-append (MayMark p L at event) (charge_of p L at x) (flat_map (charge_of p L at) pairs) (charge_marks x all.0) (charges_marks pairs all.1)
+      all-append (MayMark p L at event) (deficit_marks p L at x) (flat_map (deficit_marks p L at) pairs) (charge_marks x all.0) (charges_marks pairs all.1)
 
   leaving_marks : (pairs : List (PeerNo × Topic)) → AllByRecursion WasMember pairs → Marks (leaving p L at pairs)
   leaving_marks pairs all =
-      all-append (MayMark p L at event) (map (λ (x : PeerNo × Topic). Pruned x.0 x.1) pairs) (flat_map (charge_of p L at) pairs)
+      all-append (MayMark p L at event) (map (λ (x : PeerNo × Topic). Pruned x.0 x.1) pairs) (flat_map (deficit_marks p L at) pairs)
       (each_mapped (MayMark p L at event) (λ (x : PeerNo × Topic). Pruned x.0 x.1) pairs (of_each (λ (x : PeerNo × Topic). Unit {0}) (λ x. tt) pairs))
       (charges_marks pairs all)
 
@@ -200,7 +200,7 @@ module _ (p : Peer) (L : Entries) where
   prune_marks at q prune =
       let t : Topic = topic_or_empty prune.topic in
       of_a_prune (λ (x : Entry). Marks p L at.0 (PruneIn q prune) x.marks) p L at q prune tt
-      (out_marks p L at.0 (PruneIn q prune) (asked_backoff p.params.windows.prune_backoff_s prune.backoff) (meshes_with L q (t ∷ [])) (each_on t (q ∷ [])) (with_members p L at.0 (PruneIn q prune) q (t ∷ [])))
+      (out_marks p L at.0 (PruneIn q prune) (asked_backoff p.params.timing.prune_backoff_s prune.backoff) (meshes_with L q (t ∷ [])) (each_on t (q ∷ [])) (with_members p L at.0 (PruneIn q prune) q (t ∷ [])))
 
   sub_marks : (at : Millis) (q : PeerNo) (sub : SubOpt) → Marks p L at.0 (Sub q sub) (sub_rule p L at q sub).marks
   sub_marks at q sub =
@@ -247,7 +247,7 @@ module _ (p : Peer) (L : Entries) where
 
   unsubscribe_marks : (at : Millis) (t : Topic) → Marks p L at.0 (Unsubscribe t) (unsubscribe_rule p L at t).marks
   unsubscribe_marks at t =
-      out_marks p L at.0 (Unsubscribe t) p.params.windows.unsubscribe_backoff_s (each_on t (mesh L t)) (each_on t (mesh L t))
+      out_marks p L at.0 (Unsubscribe t) p.params.timing.unsubscribe_backoff_s (each_on t (mesh L t)) (each_on t (mesh L t))
       (each_mapped (λ (x : PeerNo × Topic). is_among (mesh L x.1) x.0 ≡ true) (λ (q : PeerNo). (q, t)) (mesh L t) (each_among (mesh L t)))
 
   publishing_marks : (at : Millis) (t : Topic) (payload : List ℕ) (receivers fanned : List PeerNo) (marks : List Mark) → Marks p L at.0 (Publish t payload) marks → Marks p L at.0 (Publish t payload) (publishing L at t payload receivers fanned marks).marks
@@ -292,7 +292,7 @@ module _ (p : Peer) (L : Entries) where
   answer_marks at event q [] = tt
   answer_marks at event q (x ∷ given) = (tt, answer_marks at event q given)
 
-  broken_marks : (at : ℕ) (event : Event) (q : PeerNo) (broken : List Promise) → is_neighbour p q ≡ true → Marks p L at event (map (λ (promise : Promise). Behaviour q) broken)
+  broken_marks : (at : ℕ) (event : Event) (q : PeerNo) (broken : List Promise) → is_neighbour p q ≡ true → Marks p L at event (map (λ (promise : Promise). Misbehaviour q) broken)
   broken_marks at event q [] near = tt
   broken_marks at event q (promise ∷ broken) near = (inr near, broken_marks at event q broken near)
 
@@ -300,25 +300,25 @@ module _ (p : Peer) (L : Entries) where
   blaming_marks at event [] all = tt
   blaming_marks at event (q ∷ qs) all = all-append (MayMark p L at event) (charges L at q) (flat_map (charges L at) qs) (by (up L q)) (blaming_marks at event qs all.1)
     where
-      by : (is_up : Bool) → Marks p L at event (if is_up then map (λ (promise : Promise). Behaviour q) (overdue L at q) else [])
+      by : (is_up : Bool) → Marks p L at event (if is_up then map (λ (promise : Promise). Misbehaviour q) (overdue L at q) else [])
       by true = broken_marks at event q (overdue L at q) all.0
       by false = tt
 
   -- ---- heartbeats
 
   -- what holds of each of some peers holds of those that are left of them as members
-  pub members_are_such : (P : PeerNo → Type 0) (at : ℕ) (test : Member → Bool) (qs : List PeerNo) → AllByRecursion P qs → AllByRecursion P (map (λ (m : Member). m.peer) (filter test (members_of p L at qs)))
+  pub members_are_such : (P : PeerNo → Type 0) (at : ℕ) (test : Member → Bool) (qs : List PeerNo) → AllByRecursion P qs → AllByRecursion P (map (λ (m : Member). m.peer) (filter test (scored_members p L at qs)))
   members_are_such P at test qs all =
-      each_mapped P (λ (m : Member). m.peer) (filter test (members_of p L at qs))
-      (each_passing (λ (m : Member). P m.peer) (λ (m : Member). P m.peer) test (λ m is such. such) (members_of p L at qs)
-      (each_mapped (λ (m : Member). P m.peer) (member_of p L at) qs all))
+      each_mapped P (λ (m : Member). m.peer) (filter test (scored_members p L at qs))
+      (each_passing (λ (m : Member). P m.peer) (λ (m : Member). P m.peer) test (λ m is such. such) (scored_members p L at qs)
+      (each_mapped (λ (m : Member). P m.peer) (scored_member p L at) qs all))
 
   -- who goes was a member, and who comes in was a candidate
-  mending_marks : (at : Millis) (t : Topic) (kept come : List PeerNo) → Marks p L at.0 (MeshBeat t) (mending p L at t (choice_at p L at.0 t kept come)).marks
+  mending_marks : (at : Millis) (t : Topic) (kept come : List PeerNo) → Marks p L at.0 (MeshBeat t) (mending p L at t (mesh_change_at p L at.0 t kept come)).marks
   mending_marks at t kept come =
-      let go : List PeerNo = (choice_at p L at.0 t kept come).pruned in
-      let come_in : List PeerNo = (choice_at p L at.0 t kept come).grafted in
-      let seconds : ℕ = p.params.windows.prune_backoff_s in
+      let go : List PeerNo = (mesh_change_at p L at.0 t kept come).pruned in
+      let come_in : List PeerNo = (mesh_change_at p L at.0 t kept come).grafted in
+      let seconds : ℕ = p.params.timing.prune_backoff_s in
       all-append (MayMark p L at.0 (MeshBeat t)) (leaving p L at.0 (each_on t go)) (barring at.0 seconds (each_on t go) ++ entering (each_on t come_in))
       (leaving_marks p L at.0 (MeshBeat t) (each_on t go)
       (each_mapped (λ (x : PeerNo × Topic). is_among (mesh L x.1) x.0 ≡ true) (λ (q : PeerNo). (q, t)) go
@@ -331,7 +331,7 @@ module _ (p : Peer) (L : Entries) where
   beat_marks : (t : Topic) (e : Entry) → Follows free (rule_of p L e.at (MeshBeat t)) tt e tt → Marks p L e.at.0 (MeshBeat t) e.marks
   beat_marks t e effects =
       what_is_mended (Marks p L e.at.0 (MeshBeat t) e.marks) p L t e
-      (λ kept come same. same_marks (MayMark p L e.at.0 (MeshBeat t)) e (mending p L e.at t (choice_at p L e.at.0 t kept come)) same (mending_marks e.at t kept come))
+      (λ kept come same. same_marks (MayMark p L e.at.0 (MeshBeat t)) e (mending p L e.at t (mesh_change_at p L e.at.0 t kept come)) same (mending_marks e.at t kept come))
       effects
 
   refanning_marks : (at : Millis) (t : Topic) (chosen : List PeerNo) → Marks p L at.0 (FanBeat t) (refanning p L at t chosen).marks
@@ -354,7 +354,7 @@ module _ (p : Peer) (L : Entries) where
   entry_marks (Subscribe t) e effects = subscribe_marks t e effects
   entry_marks (Unsubscribe t) e effects = same_marks _ e _ effects.0 (unsubscribe_marks e.at t)
   entry_marks (Publish t payload) e effects = publish_marks t payload e effects
-  entry_marks Promises e effects = same_marks _ e _ effects.0 (blaming_marks e.at.0 Promises (links_of p) (linked_are p.neighbours))
+  entry_marks BeatBegin e effects = same_marks _ e _ effects.0 (blaming_marks e.at.0 BeatBegin (links_of p) (linked_are p.neighbours))
   entry_marks (MeshBeat t) e effects = beat_marks t e effects
   entry_marks (FanBeat t) e effects = same_marks _ e (refanning p L e.at t effects.0) effects.3.0 (refanning_marks e.at t effects.0)
   entry_marks (FanEnd t) e effects = same_marks _ e (fan_end L e.at t) effects.0 (unfanning_marks p L e.at.0 (FanEnd t) t (fanout L t))

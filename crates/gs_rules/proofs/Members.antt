@@ -24,7 +24,7 @@ use Rattle.gs_rules.specs.declared.trace.Entry.{Entry}
 use Rattle.gs_rules.specs.Peers.{Peer}
 use Rattle.gs_rules.specs.Tables.{Entries, after_marks, joined, joined_after}
 use Rattle.gs_rules.specs.Meshes.{mesh, mesh_after}
-use Rattle.gs_rules.specs.Membership.{barring, charge_of, each_on, leaving, meshes_with}
+use Rattle.gs_rules.specs.Membership.{barring, deficit_marks, each_on, leaving, meshes_with}
 use Rattle.gs_rules.specs.MeshRules.{unsubscribe_rule}
 use Rattle.gs_rules.specs.Rules.{rule_of}
 use Rattle.gs_rules.specs.Modes.{Follows, free}
@@ -181,7 +181,7 @@ pruned_with L q t (u ∷ ts) is member = by (same_topic t u) (is_among (mesh L u
 -- whoever leaves is pruned, whatever else is marked
 pub leaving_prunes : (p : Peer) (L : Entries) (at : ℕ) (t : Topic) (q : PeerNo) (pairs : List (PeerNo × Topic)) (rest : List Mark) → list_any (prunes t q) (pruned_marks pairs) ≡ true → list_any (prunes t q) (leaving p L at pairs ++ rest) ≡ true
 leaving_prunes p L at t q pairs rest is =
-    any_front (prunes t q) (leaving p L at pairs) rest (any_front (prunes t q) (pruned_marks pairs) (flat_map (charge_of p L at) pairs) is)
+    any_front (prunes t q) (leaving p L at pairs) rest (any_front (prunes t q) (pruned_marks pairs) (flat_map (deficit_marks p L at) pairs) is)
 
 -- ---- meshes are of joined topics
 
@@ -214,7 +214,7 @@ module _ (p : Peer) (L : Entries) (t : Topic) (before : AllByRecursion (λ q. jo
   left : (u : Topic) (e : Entry) → Follows free (rule_of p L e.at (Unsubscribe u)) tt e tt → (same : Bool) → same_topic u t ≡ same → AllByRecursion (λ q. (if same then false else joined L t) ≡ true) (after_marks (mesh_after t) e.marks (mesh L t))
   left u e effects true is =
       let x : Entry = unsubscribe_rule p L e.at u in
-      let seconds : ℕ = p.params.windows.unsubscribe_backoff_s in
+      let seconds : ℕ = p.params.timing.unsubscribe_backoff_s in
       each_weaker (Stays t (mesh L t) e.marks) (λ q. false ≡ true)
       (λ q stays.
       let member : is_among (mesh L u) q ≡ true = subst (λ (v : Topic). is_among (mesh L v) q ≡ true) (sym (same_are_one u t is)) stays.0 in

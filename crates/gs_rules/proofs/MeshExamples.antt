@@ -9,14 +9,14 @@ use Rattle.gs_base.specs.declared.control.Graft.{Graft}
 use Rattle.gs_base.specs.declared.control.Prune.{Prune}
 use Rattle.gs_base.specs.declared.verdict.Verdict.TheVariants.{Accept}
 use Rattle.gs_base.specs.declared.mark.Mark.{Mark}
-use Rattle.gs_base.specs.declared.mark.Mark.TheVariants.{Backoff, Behaviour, Cached, Deficit, Fanned, First, Grafted, Near, Pruned, Published, Seen, Unfanned}
+use Rattle.gs_base.specs.declared.mark.Mark.TheVariants.{Backoff, Cached, Deficit, Fanned, First, Grafted, Misbehaviour, Near, Pruned, Published, Seen, Unfanned}
 use Rattle.gs_base.specs.Names.{message_id}
 use Rattle.gs_base.specs.Rpcs.{announcement, publication, pruning}
-use Rattle.gs_params.specs.Params.{default_degrees, default_factors, default_thresholds, default_topic_factors, default_topic_params, default_windows}
+use Rattle.gs_params.specs.Params.{default_degrees, default_factors, default_thresholds, default_timing, default_topic_factors, default_topic_params}
 use Rattle.gs_score.specs.Formula.{score_of, topic_part}
 use Rattle.gs_score.specs.Millionths.{times}
 use Rattle.gs_rules.specs.declared.trace.Event.{Event}
-use Rattle.gs_rules.specs.declared.trace.Event.TheVariants.{BeatEnd, Gone, GraftIn, Promises, PruneIn, Publish, Sub, Subscribe, Unsubscribe}
+use Rattle.gs_rules.specs.declared.trace.Event.TheVariants.{BeatBegin, BeatEnd, Gone, GraftIn, PruneIn, Publish, Sub, Subscribe, Unsubscribe}
 use Rattle.gs_rules.specs.declared.trace.Entry.{Entry}
 use Rattle.gs_rules.specs.Peers.{Peer}
 use Rattle.gs_rules.specs.Tables.{Entries}
@@ -47,7 +47,7 @@ peer_with d_high floods = record {
     degrees = record default_degrees { d_high = d_high };
     thresholds = default_thresholds;
     factors = default_factors;
-    windows = default_windows;
+    timing = default_timing;
     flood_publish = floods;
     topics = [];
   };
@@ -159,7 +159,7 @@ and_so_it_is_of_a_member = refl
 -- the backoff is 60 seconds
 too_soon_it_is_refused_and_counts_against_its_sender
     : graft_rule peer (marked (barred 1 2_001 ∷ []) ∷ subscribed) (at 2_000) (peer_of 1) graft
-    ≡ record grafts { sends = (peer_of 1, pruning news 60) ∷ []; marks = Behaviour (peer_of 1) ∷ barred 1 62_000 ∷ [] }
+    ≡ record grafts { sends = (peer_of 1, pruning news 60) ∷ []; marks = Misbehaviour (peer_of 1) ∷ barred 1 62_000 ∷ [] }
 too_soon_it_is_refused_and_counts_against_its_sender = refl
 
 -- the end itself is not too soon
@@ -169,7 +169,7 @@ at_the_end_of_a_backoff_it_is_taken = refl
 
 -- once to blame is ten below 0
 below_0_it_is_refused
-    : graft_rule peer (record (entry Promises) { marks = Behaviour (peer_of 1) ∷ [] } ∷ subscribed) (at 2_000) (peer_of 1) graft
+    : graft_rule peer (record (entry BeatBegin) { marks = Misbehaviour (peer_of 1) ∷ [] } ∷ subscribed) (at 2_000) (peer_of 1) graft
     ≡ record grafts { sends = (peer_of 1, pruning news 60) ∷ []; marks = barred 1 62_000 ∷ [] }
 unfolding score score_of topic_part times
 below_0_it_is_refused = refl
@@ -221,7 +221,7 @@ wanting = record {
     degrees = default_degrees;
     thresholds = default_thresholds;
     factors = default_factors;
-    windows = default_windows;
+    timing = default_timing;
     flood_publish = false;
     topics = (news, record default_topic_params { factors = record default_topic_factors { p3_threshold = 2_000_000 } }) ∷ [];
   };

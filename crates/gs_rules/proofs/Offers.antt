@@ -39,7 +39,7 @@ module _ (Q : Entry → Type 0) (p : Peer) (L : Entries) (at : Millis) (q : Peer
   by_tests false false true effects = when_asked (wanted p L at.0 q offer.ids) asks effects
 
   pub what_is_offered : Follows free (have_rule p L at q offer) tt e tt → Q e
-  what_is_offered effects = by_tests (is_ignored p L at.0 q) (nat_le p.params.windows.max_ihave (offers L q)) (joined L (topic_or_empty offer.topic)) effects
+  what_is_offered effects = by_tests (is_ignored p L at.0 q) (nat_le p.params.timing.max_ihave (offers L q)) (joined L (topic_or_empty offer.topic)) effects
 
 -- ---- what is wanted
 
@@ -85,4 +85,4 @@ room_is_small a b c = omega arith
 -- what is wanted is no more than an RPC may hold
 pub wanted_few : (p : Peer) (L : Entries) (at : ℕ) (q : PeerNo) (ids : List (List ℕ)) → length (wanted p L at q ids) ≤ most_identifiers
 wanted_few p L at q ids =
-    taken_few (room_to_ask p L q) most_identifiers (each_once (filter (is_wanted p L at) ids)) (room_is_small p.params.windows.max_ihave_ids most_identifiers (asked L q))
+    taken_few (room_to_ask p L q) most_identifiers (each_once (filter (is_wanted p L at) ids)) (room_is_small p.params.timing.max_ihave_ids most_identifiers (asked L q))

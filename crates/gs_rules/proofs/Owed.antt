@@ -11,7 +11,7 @@ use Rattle.gs_base.specs.declared.control.IWant.{IWant}
 use Rattle.gs_base.specs.declared.control.Graft.{Graft}
 use Rattle.gs_base.specs.declared.control.Prune.{Prune}
 use Rattle.gs_rules.specs.declared.trace.Event.{Event}
-use Rattle.gs_rules.specs.declared.trace.Event.TheVariants.{Heard, Sub, Msg, Have, Want, GraftIn, PruneIn, Promises, MeshBeat, FanBeat, FanEnd, GossipBeat, BeatEnd}
+use Rattle.gs_rules.specs.declared.trace.Event.TheVariants.{Heard, Sub, Msg, Have, Want, GraftIn, PruneIn, BeatBegin, MeshBeat, FanBeat, FanEnd, GossipBeat, BeatEnd}
 use Rattle.gs_rules.specs.declared.trace.Entry.{Entry}
 use Rattle.gs_rules.specs.Peers.{Peer}
 use Rattle.gs_rules.specs.Tables.{Entries, own_topics}
@@ -101,7 +101,7 @@ module _ (p : Peer) (Stands : Entries → Type 0) (P : Entries → Event → Typ
 
   -- what a heartbeat does to a fanout
   fan_is_such : (M : Entries) (at : ℕ) (t : Topic) → P M (FanBeat t) → P M (FanEnd t) → P M (fan_event p M at t)
-  fan_is_such M at t mends ends = by (is_stale p.params.windows.fanout_ttl_ms at (last_published M t))
+  fan_is_such M at t mends ends = by (is_stale p.params.timing.fanout_ttl_ms at (last_published M t))
     where
       by : (stale : Bool) → P M (if stale then FanEnd t else FanBeat t)
       by true = ends
@@ -131,7 +131,7 @@ module _ (p : Peer) (Stands : Entries → Type 0) (P : Entries → Event → Typ
   -- what was owed before was such, and so are the parts of an RPC that is heard, and what a heartbeat does
   owing_are_such : (L M : Entries) (at : ℕ) (event : Event) (before : Debt) → Stands M → ((q : PeerNo) (rpc : Rpc) → event ≡ Heard q rpc → AllByRecursion (P M) (parts q rpc)) → ReachesSuch (heartbeat_groups at) → OwesSuch M before → OwesSuch M (owing p M (owes p L at event) before)
   owing_are_such L M at (Heard q rpc) before here heard beat h = heard_are_such M q rpc before (is_graylisted p L at q) here (heard q rpc refl) h
-  owing_are_such L M at Promises before here heard beat h = reached_are_such M (heartbeat_groups at) here beat
+  owing_are_such L M at BeatBegin before here heard beat h = reached_are_such M (heartbeat_groups at) here beat
   owing_are_such L M at other before here heard beat h = paid_are_such M before here h
 
 -- ---- what is ever owed
@@ -209,7 +209,7 @@ beat_owes p L = by (gossip_topics p L)
     by (t ∷ topics) = refl
 
 -- behind the charges the groups of a heartbeat are owed, and nothing else
-pub owed_at_beat : (p : Peer) (L : Entries) (e : Entry) → e.event ≡ Promises → owed p (e ∷ L) ≡ reached p (e ∷ L) (heartbeat_groups e.at.0)
+pub owed_at_beat : (p : Peer) (L : Entries) (e : Entry) → e.event ≡ BeatBegin → owed p (e ∷ L) ≡ reached p (e ∷ L) (heartbeat_groups e.at.0)
 owed_at_beat p L e beat = ap (λ (event : Event). owing p (e ∷ L) (owes p L e.at.0 event) (owed p L)) beat
 
 -- an entry that owes nothing leaves the rest of its group

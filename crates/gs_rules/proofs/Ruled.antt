@@ -7,15 +7,15 @@ use Rattle.gs_base.specs.declared.names.Millis.{Millis}
 use Rattle.gs_base.specs.declared.control.Graft.{Graft}
 use Rattle.gs_base.specs.declared.control.Prune.{Prune}
 use Rattle.gs_base.specs.declared.rpc.SubOpt.{SubOpt}
-use Rattle.gs_base.specs.declared.mark.Mark.TheVariants.{Behaviour, Published}
+use Rattle.gs_base.specs.declared.mark.Mark.TheVariants.{Misbehaviour, Published}
 use Rattle.gs_base.specs.Names.{topic_or_empty}
 use Rattle.gs_mesh.specs.declared.members.Member.{Member}
 use Rattle.gs_mesh.specs.Cuts.{outside, peers_of}
 use Rattle.gs_mesh.specs.Peers.{is_among}
 use Rattle.gs_mesh.specs.declared.condition.Condition.{Condition}
-use Rattle.gs_mesh.specs.declared.condition.Condition.TheVariants.{Few, Many, FewOutbound, Well}
-use Rattle.gs_mesh.specs.declared.heartbeat.Choice.{Choice}
-use Rattle.gs_mesh.specs.MeshSteps.{bettered, bettered_then, choice_of, condition_of, is_poor, made_of, mended, not_negative}
+use Rattle.gs_mesh.specs.declared.condition.Condition.TheVariants.{Few, Many, FewOutbound, Balanced}
+use Rattle.gs_mesh.specs.declared.heartbeat.MeshChange.{MeshChange}
+use Rattle.gs_mesh.specs.MeshSteps.{condition_of, is_poor, mended, mended_members, mesh_change, not_negative, opportunistic_grafts, opportunistic_grafts_then}
 use Rattle.gs_rules.specs.declared.trace.Event.TheVariants.{GraftIn, PruneIn, Sub}
 use Rattle.gs_rules.specs.declared.trace.Entry.{Entry}
 use Rattle.gs_rules.specs.Peers.{Peer}
@@ -24,7 +24,7 @@ use Rattle.gs_rules.specs.Meshes.{backoff, fanout, mesh}
 use Rattle.gs_rules.specs.Membership.{candidates, each_on, entering, is_negative}
 use Rattle.gs_rules.specs.MeshRules.{fanout_publish, graft_rule, is_full_for, left_by, prune_rule, pruned_by, publish_rule, publishing, refusing, sub_rule}
 use Rattle.gs_rules.specs.Scoring.{is_passed_over}
-use Rattle.gs_rules.specs.BeatRules.{members_of, mending, mesh_beat_rule}
+use Rattle.gs_rules.specs.BeatRules.{mending, mesh_beat_rule, scored_members}
 use Rattle.gs_rules.specs.Rules.{AnyOf, CutOf, Gives, Rule, bare, listeners, without}
 use Rattle.gs_rules.specs.Modes.{SaysTheSame, Follows, free}
 
@@ -36,7 +36,7 @@ taken at q graft = record (bare at (GraftIn q graft)) { marks = entering (each_o
 -- the rule of a GRAFT
 pub of_a_graft : (P : Entry → Type 0) (p : Peer) (L : Entries) (at : Millis) (q : PeerNo) (graft : Graft)
     → P (bare at (GraftIn q graft))
-    → (joined L (topic_or_empty graft.topic) ≡ true → P (refusing p at q graft (Behaviour q ∷ [])))
+    → (joined L (topic_or_empty graft.topic) ≡ true → P (refusing p at q graft (Misbehaviour q ∷ [])))
     → (joined L (topic_or_empty graft.topic) ≡ true → P (refusing p at q graft []))
     → (joined L (topic_or_empty graft.topic) ≡ true → nat_lt at.0 (backoff L q (topic_or_empty graft.topic)) ≡ false → P (taken at q graft))
     → P (graft_rule p L at q graft)
@@ -49,7 +49,7 @@ of_a_graft P p L at q graft none blamed refused comes =
     by : (joins member soon negative full : Bool) → joined L t ≡ joins → nat_lt at.0 (backoff L q t) ≡ soon
         → P (if not joins then bare at (GraftIn q graft)
         else if member then bare at (GraftIn q graft)
-        else if soon then refusing p at q graft (Behaviour q ∷ [])
+        else if soon then refusing p at q graft (Misbehaviour q ∷ [])
         else if negative then refusing p at q graft []
         else if full then refusing p at q graft []
         else taken at q graft)
@@ -103,44 +103,44 @@ module _ (Q : Type 0) (p : Peer) (L : Entries) (t : Topic) (payload : List ℕ) 
   what_is_published effects = by_tests p.params.flood_publish (joined L t) effects
 
 -- who goes and who comes in at a heartbeat, where these are kept and these come in
-abbrev pub choice_at : Peer → Entries → ℕ → Topic → List PeerNo → List PeerNo → Choice
-choice_at p L at t kept come = choice_of (members_of p L at (mesh L t)) (members_of p L at (candidates p L at t)) kept come
+abbrev pub mesh_change_at : Peer → Entries → ℕ → Topic → List PeerNo → List PeerNo → MeshChange
+mesh_change_at p L at t kept come = mesh_change (scored_members p L at (mesh L t)) (scored_members p L at (candidates p L at t)) kept come
 
 -- the rule of a mesh that a heartbeat mends, behind who is kept and who comes in by its number of members
 abbrev mends_with : Peer → Entries → Millis → Topic → List PeerNo → List PeerNo → List PeerNo → Rule
-mends_with p L at t kept come more = Gives (mending p L at t (choice_at p L at.0 t kept (come ++ more)))
+mends_with p L at t kept come more = Gives (mending p L at t (mesh_change_at p L at.0 t kept (come ++ more)))
 
 abbrev betters_with : Peer → Entries → Millis → Topic → List Member → List PeerNo → List PeerNo → Rule
 betters_with p L at t members kept come =
-    bettered_then AnyOf p.params (heartbeats L)
-    (made_of members (members_of p L at.0 (candidates p L at.0 t)) kept come)
-    (members_of p L at.0 (candidates p L at.0 t))
+    opportunistic_grafts_then AnyOf p.params (heartbeats L)
+    (mended_members members (scored_members p L at.0 (candidates p L at.0 t)) kept come)
+    (scored_members p L at.0 (candidates p L at.0 t))
     come
     (mends_with p L at t kept come)
 
 -- What follows where a heartbeat mends a mesh, whoever is kept and whoever comes in, follows of any entry of that rule.
-module _ (Q : Type 0) (p : Peer) (L : Entries) (t : Topic) (e : Entry) (each : (kept come : List PeerNo) → SaysTheSame e (mending p L e.at t (choice_at p L e.at.0 t kept come)) → Q) where
+module _ (Q : Type 0) (p : Peer) (L : Entries) (t : Topic) (e : Entry) (each : (kept come : List PeerNo) → SaysTheSame e (mending p L e.at t (mesh_change_at p L e.at.0 t kept come)) → Q) where
   by_median : (poor : Bool) (most : ℕ) (members others : List Member) (kept come : List PeerNo) (s : Unit {0})
-      → Follows free (bettered AnyOf poor most members others (mends_with p L e.at t kept come)) s e tt
+      → Follows free (opportunistic_grafts AnyOf poor most members others (mends_with p L e.at t kept come)) s e tt
       → Q
   by_median true most members others kept come s effects = each kept (come ++ effects.0) effects.3.0
   by_median false most members others kept come s effects = each kept (come ++ []) effects.0
 
   by_members : (members : List Member) (kept come : List PeerNo) (s : Unit {0}) → Follows free (betters_with p L e.at t members kept come) s e tt → Q
   by_members members kept come s effects =
-      let others : List Member = members_of p L e.at.0 (candidates p L e.at.0 t) in
-      by_median (is_poor p.params (heartbeats L) (made_of members others kept come)) p.params.windows.opportunistic_peers
-      (made_of members others kept come) (outside come others) kept come s effects
+      let others : List Member = scored_members p L e.at.0 (candidates p L e.at.0 t) in
+      by_median (is_poor p.params (heartbeats L) (mended_members members others kept come)) p.params.timing.opportunistic_peers
+      (mended_members members others kept come) (outside come others) kept come s effects
 
   by_condition : (condition : Condition) (members : List Member)
-      → Follows free (mended AnyOf CutOf condition p.params.degrees members (members_of p L e.at.0 (candidates p L e.at.0 t)) (betters_with p L e.at t members)) tt e tt
+      → Follows free (mended AnyOf CutOf condition p.params.degrees members (scored_members p L e.at.0 (candidates p L e.at.0 t)) (betters_with p L e.at t members)) tt e tt
       → Q
   by_condition Few members effects = by_members members (peers_of members) effects.0 effects.1 effects.3
   by_condition Many members effects = by_members members effects.0 [] effects.1 effects.3
   by_condition FewOutbound members effects = by_members members (peers_of members) effects.0 effects.1 effects.3
-  by_condition Well members effects = by_members members (peers_of members) [] tt effects
+  by_condition Balanced members effects = by_members members (peers_of members) [] tt effects
 
   pub what_is_mended : Follows free (mesh_beat_rule p L e.at t) tt e tt → Q
   what_is_mended effects =
-      let members : List Member = not_negative (members_of p L e.at.0 (mesh L t)) in
+      let members : List Member = not_negative (scored_members p L e.at.0 (mesh L t)) in
       by_condition (condition_of p.params.degrees members) members effects

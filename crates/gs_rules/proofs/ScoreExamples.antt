@@ -11,21 +11,21 @@ use Rattle.gs_base.specs.declared.rpc.Rpc.{Rpc}
 use Rattle.gs_base.specs.declared.rpc.SubOpt.{SubOpt}
 use Rattle.gs_base.specs.declared.verdict.Verdict.TheVariants.{Accept}
 use Rattle.gs_base.specs.declared.mark.Mark.{Mark}
-use Rattle.gs_base.specs.declared.mark.Mark.TheVariants.{Seen, First, Invalid, Behaviour, Cached, Answered, HeardHave}
-use Rattle.gs_params.specs.Params.{default_degrees, default_factors, default_thresholds, default_topic_factors, default_topic_params, default_windows}
+use Rattle.gs_base.specs.declared.mark.Mark.TheVariants.{Seen, First, Invalid, Misbehaviour, Cached, Answered, Offered}
+use Rattle.gs_params.specs.Params.{default_degrees, default_factors, default_thresholds, default_timing, default_topic_factors, default_topic_params}
 use Rattle.gs_score.specs.Histories.{Marked, Decayed, ShutOut}
 use Rattle.gs_score.specs.Formula.{score_of, topic_part}
 use Rattle.gs_score.specs.Millionths.{times}
 use Rattle.gs_base.specs.Rpcs.{passed_on}
 use Rattle.gs_rules.specs.declared.trace.Event.{Event}
-use Rattle.gs_rules.specs.declared.trace.Event.TheVariants.{Heard, Sub, Msg, Have, Want, Subscribe, Promises, Decay, Gone, Fault, Shut}
+use Rattle.gs_rules.specs.declared.trace.Event.TheVariants.{Heard, Sub, Msg, Have, Want, Subscribe, BeatBegin, Decay, Gone, Fault, Shut}
 use Rattle.gs_rules.specs.declared.trace.Entry.{Entry}
 use Rattle.gs_rules.specs.Peers.{Peer}
 use Rattle.gs_rules.specs.Tables.{Entries, blank}
 use Rattle.gs_rules.specs.Scoring.{history, is_graylisted, is_ignored, is_passed_over, score}
 use Rattle.gs_rules.specs.Owed.{nothing, owed}
 use Rattle.gs_rules.specs.MeshRules.{publish_rule, publishing}
-use Rattle.gs_rules.specs.Rules.{Gives, bare, have_rule, told, want_rule}
+use Rattle.gs_rules.specs.Rules.{Gives, bare, gossip_candidates, have_rule, want_rule}
 
 -- ---- what is given
 
@@ -62,7 +62,7 @@ among neighbours = record {
     degrees = default_degrees;
     thresholds = default_thresholds;
     factors = default_factors;
-    windows = default_windows;
+    timing = default_timing;
     flood_publish = true;
     topics = (news, record default_topic_params { factors = record default_topic_factors { topic_weight = pos 500_000; w2 = pos 1_000_000; w4 = neg_ℤ (pos 10_000_000) } }) ∷ [];
   };
@@ -88,7 +88,7 @@ abbrev invalid_on : Topic → PeerNo → Entry
 invalid_on t r = marked r (Invalid r t)
 
 abbrev blamed : PeerNo → Entry
-blamed r = record (entry Promises) { marks = Behaviour r ∷ [] }
+blamed r = record (entry BeatBegin) { marks = Misbehaviour r ∷ [] }
 
 -- ---- scores on a topic
 
@@ -148,7 +148,7 @@ unfolding score score_of topic_part times
 a_step_leaves_a_quarter_of_what_an_invalid_message_costs = refl
 
 -- a heartbeat is no step
-heartbeats_do_not_decay : score peer (entry Promises ∷ first_on news q ∷ []) 0 q ≡ pos 500_000
+heartbeats_do_not_decay : score peer (entry BeatBegin ∷ first_on news q ∷ []) 0 q ≡ pos 500_000
 unfolding score score_of topic_part times
 heartbeats_do_not_decay = refl
 
@@ -264,7 +264,7 @@ an_offer_of_who_is_ignored_counts_for_nothing : have_rule (scored 10_000_001) li
 unfolding score score_of topic_part times
 an_offer_of_who_is_ignored_counts_for_nothing = refl
 
-an_offer_of_another_counts : have_rule (scored 10_000_001) listening (record { 0 = 0 }) other offer ≡ Gives (record (entry (Have other offer)) { marks = HeardHave other ∷ [] })
+an_offer_of_another_counts : have_rule (scored 10_000_001) listening (record { 0 = 0 }) other offer ≡ Gives (record (entry (Have other offer)) { marks = Offered other ∷ [] })
 unfolding score score_of topic_part times
 an_offer_of_another_counts = refl
 
@@ -276,11 +276,11 @@ a_request_of_another_is_answered : want_rule (scored 10_000_001) listening (reco
 unfolding score score_of topic_part times
 a_request_of_another_is_answered = refl
 
-a_message_is_told_to_who_is_at_the_threshold : told (scored 10_000_000) listening 0 news ≡ q ∷ other ∷ []
+a_message_is_told_to_who_is_at_the_threshold : gossip_candidates (scored 10_000_000) listening 0 news ≡ q ∷ other ∷ []
 unfolding score score_of topic_part times
 a_message_is_told_to_who_is_at_the_threshold = refl
 
-and_not_to_who_is_ignored : told (scored 10_000_001) listening 0 news ≡ other ∷ []
+and_not_to_who_is_ignored : gossip_candidates (scored 10_000_001) listening 0 news ≡ other ∷ []
 unfolding score score_of topic_part times
 and_not_to_who_is_ignored = refl
 

@@ -6,7 +6,7 @@ use Rattle.gs_base.specs.declared.names.PeerNo.{PeerNo}
 use Rattle.gs_base.specs.declared.names.Topic.{Topic}
 use Rattle.gs_base.specs.declared.names.Millis.{Millis}
 use Rattle.gs_mesh.specs.declared.members.Member.{Member}
-use Rattle.gs_mesh.specs.declared.heartbeat.Choice.{Choice}
+use Rattle.gs_mesh.specs.declared.heartbeat.MeshChange.{MeshChange}
 use Rattle.gs_mesh.specs.MeshSteps.{stepped}
 use Rattle.gs_base.specs.Rpcs.{grafting, pruning}
 use Rattle.gs_rules.specs.declared.trace.Event.{Event}
@@ -23,20 +23,20 @@ use Rattle.gs_rules.specs.MeshRules.{those_among, those_outside}
 -- ---- meshes
 
 -- neighbours with their scores at a moment
-abbrev pub member_of : Peer → Entries → ℕ → PeerNo → Member
-member_of p L at q = record { peer = q; score = score p L at q; outbound = is_outbound p q }
+abbrev pub scored_member : Peer → Entries → ℕ → PeerNo → Member
+scored_member p L at q = record { peer = q; score = score p L at q; outbound = is_outbound p q }
 
-abbrev pub members_of : Peer → Entries → ℕ → List PeerNo → List Member
-members_of p L at qs = map (member_of p L at) qs
+abbrev pub scored_members : Peer → Entries → ℕ → List PeerNo → List Member
+scored_members p L at qs = map (scored_member p L at) qs
 
 -- Those who go are told, are charged with what is missing, and are not to come back for a while; those who come in are
 -- told.
-abbrev pub mending : Peer → Entries → Millis → Topic → Choice → Entry
-mending p L at t choice = record (bare at (MeshBeat t)) {
-  sends = to_each (pruning t p.params.windows.prune_backoff_s) choice.pruned ++ to_each (grafting t) choice.grafted;
-  marks = leaving p L at.0 (each_on t choice.pruned)
-      ++ (barring at.0 p.params.windows.prune_backoff_s (each_on t choice.pruned)
-      ++ entering (each_on t choice.grafted));
+abbrev pub mending : Peer → Entries → Millis → Topic → MeshChange → Entry
+mending p L at t change = record (bare at (MeshBeat t)) {
+  sends = to_each (pruning t p.params.timing.prune_backoff_s) change.pruned ++ to_each (grafting t) change.grafted;
+  marks = leaving p L at.0 (each_on t change.pruned)
+      ++ (barring at.0 p.params.timing.prune_backoff_s (each_on t change.pruned)
+      ++ entering (each_on t change.grafted));
 }
 
 -- The mesh of a topic goes a step, by the scores before it and the number of this heartbeat, of the neighbours that may be
@@ -44,9 +44,9 @@ mending p L at t choice = record (bare at (MeshBeat t)) {
 abbrev pub mesh_beat_rule : Peer → Entries → Millis → Topic → Rule
 mesh_beat_rule p L at t =
     stepped AnyOf CutOf p.params (heartbeats L)
-    (members_of p L at.0 (mesh L t))
-    (members_of p L at.0 (candidates p L at.0 t))
-    (λ choice. Gives (mending p L at t choice))
+    (scored_members p L at.0 (mesh L t))
+    (scored_members p L at.0 (candidates p L at.0 t))
+    (λ change. Gives (mending p L at t change))
 
 -- ---- fanouts
 
@@ -74,4 +74,4 @@ fan_end L at t = record (bare at (FanEnd t)) { marks = unfanning t (fanout L t) 
 
 -- what a heartbeat does to a fanout at a moment: it ends where its time has come, and else is mended
 abbrev pub fan_event : Peer → Entries → ℕ → Topic → Event
-fan_event p L at t = if is_stale p.params.windows.fanout_ttl_ms at (last_published L t) then FanEnd t else FanBeat t
+fan_event p L at t = if is_stale p.params.timing.fanout_ttl_ms at (last_published L t) then FanEnd t else FanBeat t

@@ -5,11 +5,11 @@ use Rattle.gs_base.specs.declared.names.PeerNo.{PeerNo}
 use Rattle.gs_base.specs.declared.names.Topic.{Topic}
 use Rattle.gs_base.specs.declared.names.MsgId.{MsgId}
 use Rattle.gs_base.specs.declared.mark.Mark.{Mark}
-use Rattle.gs_base.specs.declared.mark.Mark.TheVariants.{Behaviour, Seen}
+use Rattle.gs_base.specs.declared.mark.Mark.TheVariants.{Misbehaviour, Seen}
 use Rattle.gs_base.specs.Names.{same_id, same_peer, same_topic}
 use Rattle.gs_base.specs.Rpcs.{most_identifiers}
 use Rattle.gs_rules.specs.declared.trace.Event.{Event}
-use Rattle.gs_rules.specs.declared.trace.Event.TheVariants.{Promises}
+use Rattle.gs_rules.specs.declared.trace.Event.TheVariants.{BeatBegin}
 use Rattle.gs_rules.specs.declared.trace.Promise.{Promise}
 use Rattle.gs_rules.specs.declared.trace.Entry.{Entry}
 use Rattle.gs_rules.specs.Peers.{Peer, links_of, windows}
@@ -23,7 +23,7 @@ overdue L at q = filter (λ promise. same_peer promise.from q && nat_le promise.
 
 -- each counts against the neighbour, if that is up
 abbrev pub charges : Entries → ℕ → PeerNo → List Mark
-charges L at q = if up L q then map (λ promise. Behaviour q) (overdue L at q) else []
+charges L at q = if up L q then map (λ promise. Misbehaviour q) (overdue L at q) else []
 
 abbrev pub all_charges : Peer → Entries → ℕ → List Mark
 all_charges p L at = flat_map (charges L at) (links_of p)
@@ -35,7 +35,7 @@ keeps_promise promise other = false
 
 -- whether an event at this moment ends a promise: a heartbeat does, once its time has come
 abbrev pub ends_promise : Promise → Event → ℕ → Bool
-ends_promise promise Promises at = nat_le promise.until.0 at
+ends_promise promise BeatBegin at = nat_le promise.until.0 at
 ends_promise promise other at = false
 
 -- An entry neither keeps a promise nor ends it.
@@ -67,19 +67,19 @@ last_of n xs = drop (length xs - n) xs
 abbrev pub gossip : Peer → Entries → Topic → List MsgId
 gossip p L t =
     last_of most_identifiers
-    (filter (λ id. is_gossiped p.params.windows.mcache_gossip t (kept (windows p) L id)) (keeping_order L))
+    (filter (λ id. is_gossiped p.params.timing.mcache_gossip t (kept (windows p) L id)) (keeping_order L))
 
 -- all identifiers that may be gossiped on a topic, however many, the oldest first
 abbrev pub gossipable : Peer → Entries → Topic → List MsgId
 gossipable p L t =
-    filter (λ id. is_gossiped p.params.windows.mcache_gossip t (kept (windows p) L id)) (keeping_order L)
+    filter (λ id. is_gossiped p.params.timing.mcache_gossip t (kept (windows p) L id)) (keeping_order L)
 
 -- A message is kept as one of a topic, and was kept within so many heartbeats as messages are gossiped for.
 pub record IsKeptOn (p : Peer) (L : Entries) (t : Topic) (id : MsgId) : Type 0 where
   pub found : Keeping
   pub is_kept : kept (windows p) L id ≡ Some found
   pub on_topic : same_topic found.topic t ≡ true
-  pub young : found.age < p.params.windows.mcache_gossip
+  pub young : found.age < p.params.timing.mcache_gossip
 
 -- how many of so many neighbours are told: a part of them, and no fewer than a number, where there are so many
 -- (gossipsub v1.1, "Adaptive Gossip Dissemination")

@@ -10,7 +10,7 @@ use Rattle.gs_base.specs.Names.{longest_topic, most_topics, same_topic, message_
 use Rattle.gs_base.specs.Rpcs.{publication}
 use Rattle.gs_wire.specs.Codec.{codec}
 use Rattle.gs_rules.specs.declared.trace.Event.{Event}
-use Rattle.gs_rules.specs.declared.trace.Event.TheVariants.{Heard, Late, Subscribe, Unsubscribe, Publish, Promises, Decay, RoundEnd, Gone, Fault, Shut}
+use Rattle.gs_rules.specs.declared.trace.Event.TheVariants.{Heard, Late, Subscribe, Unsubscribe, Publish, BeatBegin, Decay, RoundEnd, Gone, Fault, Shut}
 use Rattle.gs_rules.specs.declared.trace.Entry.{Entry}
 use Rattle.gs_rules.specs.Peers.{Peer, seen_ttl}
 use Rattle.gs_rules.specs.Tables.{Entries, last_moment, is_shut, up, joined, known, seen}
@@ -57,7 +57,7 @@ MayOpen p L at (Fault q) = up L q ≡ true
 MayOpen p L at (Subscribe t) = MaySubscribe L t
 MayOpen p L at (Unsubscribe t) = MayUnsubscribe L t
 MayOpen p L at (Publish t payload) = MayPublish p L at t payload
-MayOpen p L at Promises = is_shut L ≡ false
+MayOpen p L at BeatBegin = is_shut L ≡ false
 MayOpen p L at Decay = is_shut L ≡ false
 MayOpen p L at (RoundEnd r) = is_shut L ≡ false
 MayOpen p L at Shut = is_shut L ≡ false

@@ -46,12 +46,12 @@ entering pairs = map (λ (x : PeerNo × Topic). Grafted x.0 x.1) pairs
 abbrev pub missing : Peer → Entries → ℕ → PeerNo × Topic → ℕ
 missing p L at x = p3 (rules_of p.params x.1) at (held_by p.params (history p L) x.0 x.1)
 
-abbrev pub charge_of : Peer → Entries → ℕ → PeerNo × Topic → List Mark
-charge_of p L at x = if nat_eq (missing p L at x) 0 then [] else Deficit x.0 x.1 (pos (missing p L at x)) ∷ []
+abbrev pub deficit_marks : Peer → Entries → ℕ → PeerNo × Topic → List Mark
+deficit_marks p L at x = if nat_eq (missing p L at x) 0 then [] else Deficit x.0 x.1 (pos (missing p L at x)) ∷ []
 
 -- these leave the meshes of these topics, and each is charged with what is missing
 abbrev pub leaving : Peer → Entries → ℕ → List (PeerNo × Topic) → List Mark
-leaving p L at pairs = map (λ (x : PeerNo × Topic). Pruned x.0 x.1) pairs ++ flat_map (charge_of p L at) pairs
+leaving p L at pairs = map (λ (x : PeerNo × Topic). Pruned x.0 x.1) pairs ++ flat_map (deficit_marks p L at) pairs
 
 -- these are not to come back for so many seconds
 abbrev pub barring : ℕ → ℕ → List (PeerNo × Topic) → List Mark

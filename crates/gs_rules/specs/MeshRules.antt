@@ -7,7 +7,7 @@ use Rattle.gs_base.specs.declared.control.Graft.{Graft}
 use Rattle.gs_base.specs.declared.control.Prune.{Prune}
 use Rattle.gs_base.specs.declared.rpc.SubOpt.{SubOpt}
 use Rattle.gs_base.specs.declared.mark.Mark.{Mark}
-use Rattle.gs_base.specs.declared.mark.Mark.TheVariants.{Behaviour, Cached, Published, Seen}
+use Rattle.gs_base.specs.declared.mark.Mark.TheVariants.{Cached, Misbehaviour, Published, Seen}
 use Rattle.gs_base.specs.declared.verdict.Verdict.TheVariants.{Accept}
 use Rattle.gs_base.specs.Names.{message_id, topic_or_empty}
 use Rattle.gs_base.specs.Rpcs.{announcement, publication, grafting, longest_backoff, pruning}
@@ -27,8 +27,8 @@ use Rattle.gs_rules.specs.Rule.{AnyOf, Gives, Rule, bare, listeners, to_each, up
 -- a GRAFT is refused: its sender is told so, and is not to come back for a while
 abbrev pub refusing : Peer → Millis → PeerNo → Graft → List Mark → Entry
 refusing p at q graft marks = record (bare at (GraftIn q graft)) {
-  sends = (q, pruning (topic_or_empty graft.topic) p.params.windows.prune_backoff_s) ∷ [];
-  marks = marks ++ barring at.0 p.params.windows.prune_backoff_s (each_on (topic_or_empty graft.topic) (q ∷ []));
+  sends = (q, pruning (topic_or_empty graft.topic) p.params.timing.prune_backoff_s) ∷ [];
+  marks = marks ++ barring at.0 p.params.timing.prune_backoff_s (each_on (topic_or_empty graft.topic) (q ∷ []));
 }
 
 -- there is no room in the mesh for one that was not dialled
@@ -43,7 +43,7 @@ abbrev pub graft_rule : Peer → Entries → Millis → PeerNo → Graft → Ent
 graft_rule p L at q graft =
     if not (joined L (topic_or_empty graft.topic)) then bare at (GraftIn q graft)
     else if is_among (mesh L (topic_or_empty graft.topic)) q then bare at (GraftIn q graft)
-    else if nat_lt at.0 (backoff L q (topic_or_empty graft.topic)) then refusing p at q graft (Behaviour q ∷ [])
+    else if nat_lt at.0 (backoff L q (topic_or_empty graft.topic)) then refusing p at q graft (Misbehaviour q ∷ [])
     else if is_negative p L at.0 q then refusing p at q graft []
     else if is_full_for p L q (topic_or_empty graft.topic) then refusing p at q graft []
     else record (bare at (GraftIn q graft)) { marks = entering (each_on (topic_or_empty graft.topic) (q ∷ [])) }
@@ -59,7 +59,7 @@ abbrev pub pruned_by : Peer → Entries → Millis → PeerNo → Prune → Entr
 pruned_by p L at q prune = record (bare at (PruneIn q prune)) {
   marks = leaving p L at.0 (meshes_with L q (topic_or_empty prune.topic ∷ []))
       ++ barring at.0
-      (asked_backoff p.params.windows.prune_backoff_s prune.backoff)
+      (asked_backoff p.params.timing.prune_backoff_s prune.backoff)
       (each_on (topic_or_empty prune.topic) (q ∷ []));
 }
 
@@ -115,9 +115,9 @@ subscribe_rule p L at t =
 abbrev pub unsubscribe_rule : Peer → Entries → Millis → Topic → Entry
 unsubscribe_rule p L at t = record (bare at (Unsubscribe t)) {
   sends = to_each (announcement false t) (up_neighbours p L)
-      ++ to_each (pruning t p.params.windows.unsubscribe_backoff_s) (mesh L t);
+      ++ to_each (pruning t p.params.timing.unsubscribe_backoff_s) (mesh L t);
   marks = leaving p L at.0 (each_on t (mesh L t))
-      ++ barring at.0 p.params.windows.unsubscribe_backoff_s (each_on t (mesh L t));
+      ++ barring at.0 p.params.timing.unsubscribe_backoff_s (each_on t (mesh L t));
 }
 
 -- ---- publishing

@@ -6,7 +6,7 @@ use Rattle.gs_base.specs.Names.{same_peer}
 use Rattle.gs_params.specs.declared.params.Degrees.{Degrees}
 use Rattle.gs_mesh.specs.declared.members.Member.{Member}
 use Rattle.gs_mesh.specs.Cuts.{IsCut, IsExactCut}
-use Rattle.gs_params.specs.Picks.{IsAscending, IsChoice, picked, picked_words, picked_one, picked_one_words}
+use Rattle.gs_params.specs.Picks.{IsAscending, IsSample, picked, picked_words, picked_one, picked_one_words}
 use Rattle.gs_rules.specs.declared.trace.Entry.{Entry}
 use Rattle.gs_rules.specs.Rules.{Rule, Gives, AnyOf, CutOf, OneOf}
 
@@ -49,15 +49,15 @@ pub record SaysTheSame (e x : Entry) : Type 0 where
 abbrev pub free : Mode
 free = record {
   State = Unit {0};
-  Picks = λ k candidates s chosen t. IsChoice k candidates chosen;
+  Picks = λ k candidates s chosen t. IsSample k candidates chosen;
   Cuts = λ degrees members s kept t. IsCut degrees members kept;
   PicksOne = λ n s place t. place < n;
   Meets = SaysTheSame;
 }
 
 -- nothing is left to choose
-abbrev pub settled : Mode
-settled = record {
+abbrev pub choiceless : Mode
+choiceless = record {
   State = Unit {0};
   Picks = λ k candidates s chosen t. ⊥;
   Cuts = λ degrees members s kept t. ⊥;

@@ -49,7 +49,7 @@ is_soon window at (Some s) = nat_le (at - s.at) window
 
 -- for how long after the first delivery of a message another one counts
 abbrev pub near_window : Peer → Topic → ℕ
-near_window p t = (rules_of p.params t).windows.p3_window_ms
+near_window p t = (rules_of p.params t).timing.p3_window_ms
 
 -- a member of the topic's mesh passes on what was seen a moment ago, and did not do so before (gossipsub v1.1, Peer
 -- Scoring, P3)

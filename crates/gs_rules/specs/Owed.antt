@@ -11,7 +11,7 @@ use Rattle.gs_base.specs.declared.control.IWant.{IWant}
 use Rattle.gs_base.specs.declared.control.Graft.{Graft}
 use Rattle.gs_base.specs.declared.control.Prune.{Prune}
 use Rattle.gs_rules.specs.declared.trace.Event.{Event}
-use Rattle.gs_rules.specs.declared.trace.Event.TheVariants.{Heard, Sub, Msg, Have, Want, GraftIn, PruneIn, Promises, MeshBeat, GossipBeat, BeatEnd}
+use Rattle.gs_rules.specs.declared.trace.Event.TheVariants.{Heard, Sub, Msg, Have, Want, GraftIn, PruneIn, BeatBegin, MeshBeat, GossipBeat, BeatEnd}
 use Rattle.gs_rules.specs.declared.trace.Entry.{Entry}
 use Rattle.gs_rules.specs.Peers.{Peer}
 use Rattle.gs_rules.specs.Tables.{Entries, own_topics}
@@ -89,7 +89,7 @@ heartbeat_groups at = MeshBeats ∷ FanBeats at ∷ Gossips ∷ []
 -- (gossipsub v1.1, Peer Scoring, "Score Thresholds").
 abbrev pub owes : Peer → Entries → ℕ → Event → List Group
 owes p L at (Heard q rpc) = if is_graylisted p L at q then [] else PartsOf q rpc ∷ []
-owes p L at Promises = heartbeat_groups at
+owes p L at BeatBegin = heartbeat_groups at
 owes p L at other = []
 
 -- ---- debts

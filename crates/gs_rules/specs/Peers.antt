@@ -17,8 +17,8 @@ links_of p = peers_of p.neighbours
 
 -- for how many milliseconds a message that was seen is not delivered again
 abbrev pub seen_ttl : Peer → ℕ
-seen_ttl p = p.params.windows.seen_ttl_ms
+seen_ttl p = p.params.timing.seen_ttl_ms
 
 -- for how many heartbeats a message is kept: one at least, as checked parameters say
 abbrev pub windows : Peer → ℕ
-windows p = max 1 p.params.windows.mcache_len
+windows p = max 1 p.params.timing.mcache_len

@@ -5,7 +5,7 @@ use Rattle.gs_base.specs.Names.{longest_topic, message_id}
 use Rattle.gs_base.specs.Rpcs.{publication}
 use Rattle.gs_wire.specs.Codec.{codec}
 use Rattle.gs_rules.specs.declared.trace.Event.{Event}
-use Rattle.gs_rules.specs.declared.trace.Event.TheVariants.{Subscribe, Unsubscribe, Publish, Promises, Decay, RoundEnd, Shut}
+use Rattle.gs_rules.specs.declared.trace.Event.TheVariants.{Subscribe, Unsubscribe, Publish, BeatBegin, Decay, RoundEnd, Shut}
 use Rattle.gs_rules.specs.declared.refusal.Refusal.{Refusal}
 use Rattle.gs_rules.specs.declared.refusal.Refusal.TheVariants.{AlreadySeen, TooLong, Joined, NotJoined, Stopped, TooMany}
 use Rattle.gs_rules.specs.Peers.{Peer, seen_ttl}
@@ -43,7 +43,7 @@ reasons p L at (Publish t payload) =
     ∷ (is_long t || not (codec.fits (publication t payload)), TooLong)
     ∷ (is_some (seen (seen_ttl p) L (message_id payload) at), AlreadySeen)
     ∷ []
-reasons p L at Promises = (is_shut L, Stopped) ∷ []
+reasons p L at BeatBegin = (is_shut L, Stopped) ∷ []
 reasons p L at Decay = (is_shut L, Stopped) ∷ []
 reasons p L at (RoundEnd r) = (is_shut L, Stopped) ∷ []
 reasons p L at Shut = (is_shut L, Stopped) ∷ []

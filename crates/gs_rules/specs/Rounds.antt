@@ -34,12 +34,12 @@ pub record Seat : Type 0 where
   pub rounds : ℕ
 
 -- Where it is: in a round, or behind the last one.
-pub data Place : Type 0 where
-  Playing : ℕ → Place
-  Closing : Place
+pub data Phase : Type 0 where
+  Playing : ℕ → Phase
+  Closing : Phase
 
 -- the moment of a round
-abbrev pub moment_of : Seat → Place → Millis
+abbrev pub moment_of : Seat → Phase → Millis
 moment_of seat (Playing r) = record { 0 = r * seat.round_ms }
 moment_of seat Closing = record { 0 = seat.rounds * seat.round_ms }
 
@@ -54,7 +54,7 @@ pub data Todo : Type 0 where
   -- the line of the script at this place
   Obey : ℕ → What → Todo
   -- a step of the decay of scores
-  LowerCounters : Todo
+  DecayCounters : Todo
   -- a heartbeat
   Beat : Todo
   EndRound : ℕ → Todo
@@ -96,15 +96,15 @@ is_due every r at = nat_lt 0 r && nat_eq (at.0 % every) 0
 
 -- a step of decay, if one is due
 abbrev pub decays_in : Peer → ℕ → Millis → List Todo
-decays_in p r at = if is_due p.params.windows.decay_ms r at then LowerCounters ∷ [] else []
+decays_in p r at = if is_due p.params.timing.decay_ms r at then DecayCounters ∷ [] else []
 
 -- a heartbeat, if one is due
 abbrev pub beats_in : Peer → ℕ → Millis → List Todo
-beats_in p r at = if is_due p.params.windows.heartbeat_ms r at then Beat ∷ [] else []
+beats_in p r at = if is_due p.params.timing.heartbeat_ms r at then Beat ∷ [] else []
 
 -- In a round a peer hears what came, follows its lines, lowers its counters and has a heartbeat, each if it is due, and
 -- ends the round. Behind the last one it shuts down, and then hears what still comes.
-abbrev pub agenda : Seat → Place → List Inbound → List Todo
+abbrev pub agenda : Seat → Phase → List Inbound → List Todo
 agenda seat (Playing r) xs =
     hears (links_of seat.peer) xs
     ++ (lines_at seat r
@@ -129,8 +129,8 @@ opening p L at (Hear q rpc) = Some (hearing L q rpc)
 opening p L at (HearFault q) = losing L q (events.Fault q)
 opening p L at (HearGone q) = losing L q (events.Gone q)
 opening p L at (Obey place what) = unless_refused (event_of what) (refusal p L at.0 (event_of what))
-opening p L at LowerCounters = Some events.Decay
-opening p L at Beat = Some events.Promises
+opening p L at DecayCounters = Some events.Decay
+opening p L at Beat = Some events.BeatBegin
 opening p L at (EndRound r) = Some (events.RoundEnd r)
 opening p L at Stop = Some events.Shut
 
@@ -154,26 +154,26 @@ Does p at (todo ∷ todos) K L refused =
 
 -- ---- rounds
 
--- what there is to hear at a place of one neighbour that says this
-abbrev pub ComesAt : Seat → Place → Said → Inbound → Type 0
+-- what there is to hear in a phase of one neighbour that says this
+abbrev pub ComesAt : Seat → Phase → Said → Inbound → Type 0
 ComesAt seat (Playing r) w x = ComesIn r w x
 ComesAt seat Closing w x = ComesAfter seat.rounds w x
 
--- At a place a peer does all that there is to do, where its neighbours say this.
-pub record Plays (seat : Seat) (said : PeerNo → Said) (place : Place)
+-- In a phase a peer does all that there is to do, where its neighbours say this.
+pub record Plays (seat : Seat) (said : PeerNo → Said) (phase : Phase)
     (K L : Entries) (refused : List RefusedLine) : Type 0 where
   pub inbound : List Inbound
-  pub was_said : AllZip (λ q x. ComesAt seat place (said q) x) (links_of seat.peer) inbound
-  pub does : Does seat.peer (moment_of seat place) (agenda seat place inbound) K L refused
+  pub was_said : AllZip (λ q x. ComesAt seat phase (said q) x) (links_of seat.peer) inbound
+  pub does : Does seat.peer (moment_of seat phase) (agenda seat phase inbound) K L refused
 
 -- It is done up to this, which is left.
-pub record PlaysInPart (seat : Seat) (said : PeerNo → Said) (place : Place) (left : List Todo)
+pub record PlaysInPart (seat : Seat) (said : PeerNo → Said) (phase : Phase) (left : List Todo)
     (K L : Entries) (refused : List RefusedLine) : Type 0 where
   pub inbound : List Inbound
-  pub was_said : AllZip (λ q x. ComesAt seat place (said q) x) (links_of seat.peer) inbound
+  pub was_said : AllZip (λ q x. ComesAt seat phase (said q) x) (links_of seat.peer) inbound
   pub done : List Todo
-  pub split : agenda seat place inbound ≡ done ++ left
-  pub does : Does seat.peer (moment_of seat place) done K L refused
+  pub split : agenda seat phase inbound ≡ done ++ left
+  pub does : Does seat.peer (moment_of seat phase) done K L refused
 
 -- the trace after so many rounds, and what was refused in them
 abbrev pub AfterRounds : Seat → (PeerNo → Said) → ℕ → Entries → List RefusedLine → Type 0
@@ -185,24 +185,24 @@ AfterRounds seat said (suc r) L refused =
     × (refused ≡ earlier ++ more)
 
 -- rounds are 0 to the last
-abbrev pub IsPlaceOf : Seat → Place → Type 0
-IsPlaceOf seat (Playing r) = r ≤ seat.rounds
-IsPlaceOf seat Closing = Unit {0}
+abbrev pub IsPhaseOf : Seat → Phase → Type 0
+IsPhaseOf seat (Playing r) = r ≤ seat.rounds
+IsPhaseOf seat Closing = Unit {0}
 
--- how many rounds are behind a place
-abbrev pub rounds_before : Seat → Place → ℕ
+-- how many rounds are behind a phase
+abbrev pub rounds_before : Seat → Phase → ℕ
 rounds_before seat (Playing r) = r
 rounds_before seat Closing = suc seat.rounds
 
--- So far: the rounds before this place, and what is done of it.
-pub record KeepsSoFar (seat : Seat) (said : PeerNo → Said) (place : Place) (left : List Todo)
+-- So far: the rounds before this phase, and what is done of it.
+pub record KeepsSoFar (seat : Seat) (said : PeerNo → Said) (phase : Phase) (left : List Todo)
     (L : Entries) (refused : List RefusedLine) : Type 0 where
-  pub place_is : IsPlaceOf seat place
+  pub phase_is : IsPhaseOf seat phase
   pub start : Entries
   pub earlier : List RefusedLine
   pub more : List RefusedLine
-  pub begun : AfterRounds seat said (rounds_before seat place) start earlier
-  pub part : PlaysInPart seat said place left start L more
+  pub begun : AfterRounds seat said (rounds_before seat phase) start earlier
+  pub part : PlaysInPart seat said phase left start L more
   pub all_refused : refused ≡ earlier ++ more
 
 -- what was handled of q is what any legal trace sends that says this

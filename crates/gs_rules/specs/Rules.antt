@@ -11,11 +11,11 @@ use Rattle.gs_base.specs.declared.names.MsgId.{MsgId}
 use Rattle.gs_base.specs.declared.control.IHave.{IHave}
 use Rattle.gs_base.specs.declared.control.IWant.{IWant}
 use Rattle.gs_base.specs.Names.{same_id, topic_or_empty}
-use Rattle.gs_base.specs.declared.mark.Mark.TheVariants.{Answered, HeardHave, Asked}
+use Rattle.gs_base.specs.declared.mark.Mark.TheVariants.{Answered, Offered, Asked}
 use Rattle.gs_mesh.specs.Peers.{is_among}
 use Rattle.gs_base.specs.Rpcs.{most_identifiers, offering, passed_on, requesting}
 use Rattle.gs_rules.specs.declared.trace.Event.{Event}
-use Rattle.gs_rules.specs.declared.trace.Event.TheVariants.{FanBeat, FanEnd, Fault, Gone, GossipBeat, GraftIn, Have, MeshBeat, Msg, Promises, PruneIn, Publish, Sub, Subscribe, Unsubscribe, Want}
+use Rattle.gs_rules.specs.declared.trace.Event.TheVariants.{BeatBegin, FanBeat, FanEnd, Fault, Gone, GossipBeat, GraftIn, Have, MeshBeat, Msg, PruneIn, Publish, Sub, Subscribe, Unsubscribe, Want}
 use Rattle.gs_rules.specs.declared.trace.Entry.{Entry}
 use Rattle.gs_rules.specs.Peers.{Peer, seen_ttl, windows}
 use Rattle.gs_rules.specs.Tables.{Entries, Keeping, answered, asked, joined, kept, last_millis, offers, seen}
@@ -31,7 +31,7 @@ use Rattle.gs_rules.specs.MeshRules.{graft_rule, lost_rule, prune_rule, publish_
 
 -- an offer that counts, without more
 abbrev pub counted : Millis → PeerNo → IHave → Entry
-counted at q offer = record (bare at (Have q offer)) { marks = HeardHave q ∷ [] }
+counted at q offer = record (bare at (Have q offer)) { marks = Offered q ∷ [] }
 
 -- the bytes of an identifier of a message that was not seen lately
 abbrev pub is_wanted : Peer → Entries → ℕ → List ℕ → Bool
@@ -51,7 +51,7 @@ each_once ids = fold once_behind [] ids
 
 -- how many identifiers may be asked of a neighbour beside those that were; a request never has more than an RPC may
 abbrev pub room_to_ask : Peer → Entries → PeerNo → ℕ
-room_to_ask p L q = min p.params.windows.max_ihave_ids most_identifiers - asked L q
+room_to_ask p L q = min p.params.timing.max_ihave_ids most_identifiers - asked L q
 
 -- the identifiers that a neighbour is asked for that offers these
 abbrev pub wanted : Peer → Entries → ℕ → PeerNo → List (List ℕ) → List (List ℕ)
@@ -64,9 +64,9 @@ asking p at q offer ids place = record (bare at (Have q offer)) {
   promise = Some (record {
     from = q;
     id = record { 0 = get_or ids place [] };
-    until = record { 0 = min last_millis (at.0 + p.params.windows.iwant_followup_ms) };
+    until = record { 0 = min last_millis (at.0 + p.params.timing.iwant_followup_ms) };
   });
-  marks = HeardHave q ∷ Asked q (length ids) ∷ [];
+  marks = Offered q ∷ Asked q (length ids) ∷ [];
 }
 
 -- a neighbour is asked for what is wanted, if anything is, and promises any one of that
@@ -80,7 +80,7 @@ asked_for p at q offer (id ∷ ids) =
 abbrev pub have_rule : Peer → Entries → Millis → PeerNo → IHave → Rule
 have_rule p L at q offer =
     if is_ignored p L at.0 q then Gives (bare at (Have q offer))
-    else if nat_le p.params.windows.max_ihave (offers L q) then Gives (bare at (Have q offer))
+    else if nat_le p.params.timing.max_ihave (offers L q) then Gives (bare at (Have q offer))
     else if not (joined L (topic_or_empty offer.topic)) then Gives (counted at q offer)
     else asked_for p at q offer (wanted p L at.0 q offer.ids)
 
@@ -98,7 +98,7 @@ times_in id ids = length (filter (same_id id) ids)
 -- is kept, if the neighbour did not get it as often as it may
 abbrev pub answer : Peer → Entries → PeerNo → MsgId → ℕ → Option Message
 answer p L q id ahead =
-    if nat_lt (answered L q id + ahead) p.params.windows.gossip_retransmission
+    if nat_lt (answered L q id + ahead) p.params.timing.gossip_retransmission
     then option_map (λ (k : Keeping). k.message) (kept (windows p) L id)
     else None
 
@@ -128,25 +128,25 @@ want_rule p L at q request =
 -- ---- heartbeats
 
 -- at a heartbeat each broken promise counts against who made it
-abbrev pub promises_rule : Peer → Entries → Millis → Entry
-promises_rule p L at = record (bare at Promises) { marks = all_charges p L at.0 }
+abbrev pub beat_begin_rule : Peer → Entries → Millis → Entry
+beat_begin_rule p L at = record (bare at BeatBegin) { marks = all_charges p L at.0 }
 
 -- these neighbours are told what there is on a topic
-abbrev pub telling : Peer → Entries → Millis → Topic → List PeerNo → Entry
-telling p L at t chosen = record (bare at (GossipBeat t)) {
+abbrev pub gossiping : Peer → Entries → Millis → Topic → List PeerNo → Entry
+gossiping p L at t chosen = record (bare at (GossipBeat t)) {
   sends = to_each (offering t (map (λ (id : MsgId). id.0) (gossip p L t))) chosen;
 }
 
 -- the neighbours that may be told what there is on a topic: those that are up, on it, outside its mesh and its fanout,
 -- and not ignored
-abbrev pub told : Peer → Entries → ℕ → Topic → List PeerNo
-told p L at t =
+abbrev pub gossip_candidates : Peer → Entries → ℕ → Topic → List PeerNo
+gossip_candidates p L at t =
     without (is_ignored p L at) (without (λ q. is_among (mesh L t) q || is_among (fanout L t) q) (listeners p L t))
 
 -- any of these are told
 abbrev pub gossip_rule : Peer → Entries → Millis → Topic → Rule
 gossip_rule p L at t =
-    AnyOf (gossip_size p (length (told p L at.0 t))) (told p L at.0 t) (λ chosen. Gives (telling p L at t chosen))
+    AnyOf (gossip_size p (length (gossip_candidates p L at.0 t))) (gossip_candidates p L at.0 t) (λ chosen. Gives (gossiping p L at t chosen))
 
 -- ---- all events
 
@@ -163,7 +163,7 @@ rule_of p L at (Fault q) = Gives (lost_rule p L at q (Fault q))
 rule_of p L at (Subscribe t) = subscribe_rule p L at t
 rule_of p L at (Unsubscribe t) = Gives (unsubscribe_rule p L at t)
 rule_of p L at (Publish t payload) = publish_rule p L at t payload
-rule_of p L at Promises = Gives (promises_rule p L at)
+rule_of p L at BeatBegin = Gives (beat_begin_rule p L at)
 rule_of p L at (MeshBeat t) = mesh_beat_rule p L at t
 rule_of p L at (FanBeat t) = fan_beat_rule p L at t
 rule_of p L at (FanEnd t) = Gives (fan_end L at t)

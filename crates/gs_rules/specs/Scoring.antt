@@ -7,7 +7,7 @@ use Rattle.gs_base.specs.declared.names.Topic.{Topic}
 use Rattle.gs_base.specs.declared.neighbour.Neighbour.{Neighbour}
 use Rattle.gs_base.specs.declared.mark.Mark.{Mark}
 use Rattle.gs_base.specs.declared.names.Millis.{Millis}
-use Rattle.gs_base.specs.declared.mark.Mark.TheVariants.{First, Near, Deficit, Invalid, Behaviour, Grafted, Pruned}
+use Rattle.gs_base.specs.declared.mark.Mark.TheVariants.{First, Near, Deficit, Invalid, Misbehaviour, Grafted, Pruned}
 use Rattle.gs_base.specs.Names.{most_topics, same_peer, same_topic}
 use Rattle.gs_score.specs.Histories.{Change, History, Marked, Decayed, Left, ShutOut, Setting, named, score_in}
 use Rattle.gs_score.specs.Histories as histories
@@ -41,7 +41,7 @@ is_counted p H (First q t id) = has_counters p H q t
 is_counted p H (Near q t id) = has_counters p H q t
 is_counted p H (Deficit q t z) = has_counters p H q t
 is_counted p H (Invalid q t) = has_counters p H q t
-is_counted p H (Behaviour q) = is_neighbour p q
+is_counted p H (Misbehaviour q) = is_neighbour p q
 is_counted p H (Grafted q t) = has_counters p H q t
 is_counted p H other = true
 

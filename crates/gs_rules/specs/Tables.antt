@@ -15,9 +15,9 @@ use Rattle.gs_base.specs.Rpcs.{unsigned}
 use Rattle.gs_base.specs.declared.verdict.Verdict.{Verdict}
 use Rattle.gs_base.specs.declared.mark.Mark.{Mark}
 use Rattle.gs_base.specs.declared.rpc.Message.{Message}
-use Rattle.gs_base.specs.declared.mark.Mark.TheVariants.{Seen, Cached, Answered, HeardHave, Asked}
+use Rattle.gs_base.specs.declared.mark.Mark.TheVariants.{Seen, Cached, Answered, Offered, Asked}
 use Rattle.gs_rules.specs.declared.trace.Event.{Event}
-use Rattle.gs_rules.specs.declared.trace.Event.TheVariants.{Sub, Msg, Subscribe, Unsubscribe, Publish, Promises, BeatEnd, Gone, Fault, Shut}
+use Rattle.gs_rules.specs.declared.trace.Event.TheVariants.{Sub, Msg, Subscribe, Unsubscribe, Publish, BeatBegin, BeatEnd, Gone, Fault, Shut}
 use Rattle.gs_rules.specs.declared.trace.Promise.{Promise}
 use Rattle.gs_rules.specs.declared.trace.Entry.{Entry}
 
@@ -208,7 +208,7 @@ answered (e ∷ L) q id = after_marks (answered_after q id) e.marks (answered L 
 
 -- how many heartbeats began
 abbrev pub counted_after : Event → ℕ → ℕ
-counted_after Promises before = before + 1
+counted_after BeatBegin before = before + 1
 counted_after other before = before
 
 abbrev pub heartbeats : Entries → ℕ
@@ -224,7 +224,7 @@ anew_after other before = before
 
 -- how many offers of a neighbour counted since the last heartbeat
 abbrev pub offers_after : PeerNo → Mark → ℕ → ℕ
-offers_after q (HeardHave p) before = if same_peer p q then before + 1 else before
+offers_after q (Offered p) before = if same_peer p q then before + 1 else before
 offers_after q other before = before
 
 abbrev pub offers : Entries → PeerNo → ℕ
@@ -244,7 +244,7 @@ asked (e ∷ L) q = after_marks (asked_after q) e.marks (anew_after e.event (ask
 
 -- a heartbeat ends the promises whose time has come
 abbrev pub ended_after : Event → ℕ → List Promise → List Promise
-ended_after Promises at before = filter (λ promise. nat_lt at promise.until.0) before
+ended_after BeatBegin at before = filter (λ promise. nat_lt at promise.until.0) before
 ended_after other at before = before
 
 -- a message that is marked as seen keeps each promise of it, whoever sent it

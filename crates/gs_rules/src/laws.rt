@@ -6,35 +6,35 @@ ghost use Rattle.std.specs.List.Sorted.{IsStrictlySortedBy};
 ghost use Rattle.gs_base.specs.declared.names.PeerNo.{PeerNo as PeerNoValue};
 ghost use Rattle.gs_base.specs.declared.names.Topic.{Topic};
 ghost use Rattle.gs_base.specs.declared.names.MsgId.{MsgId};
-ghost use Rattle.gs_base.specs.declared.mark.Mark.TheVariants.{Behaviour, Grafted};
+ghost use Rattle.gs_base.specs.declared.mark.Mark.TheVariants.{Grafted, Misbehaviour};
 ghost use Rattle.gs_base.specs.Codecs.{Codec};
 ghost use Rattle.gs_base.specs.Names.{same_id, same_topic};
 ghost use Rattle.gs_base.specs.Rpcs.{most_identifiers};
 ghost use Rattle.gs_params.specs.Picks.{IsAscending};
 ghost use Rattle.gs_mesh.specs.Peers.{is_among};
-ghost use Rattle.gs_mesh.specs.declared.heartbeat.Choice.{Choice};
+ghost use Rattle.gs_mesh.specs.declared.heartbeat.MeshChange.{MeshChange};
 ghost use Rattle.gs_mesh.specs.MeshSteps.{IsMeshStep};
 ghost use Rattle.gs_wire.specs.Codec.{codec};
 ghost use Rattle.gs_rules.specs.declared.trace.Entry.{Entry};
 ghost use Rattle.gs_rules.specs.declared.trace.Promise.{Promise};
 ghost use Rattle.gs_rules.specs.declared.trace.Event.{Event};
-ghost use Rattle.gs_rules.specs.declared.trace.Event.TheVariants.{MeshBeat, Promises, Shut};
+ghost use Rattle.gs_rules.specs.declared.trace.Event.TheVariants.{BeatBegin, MeshBeat, Shut};
 ghost use Rattle.gs_rules.specs.declared.refusal.RefusedLine.{RefusedLine};
 ghost use Rattle.gs_rules.specs.Peers.{Peer, links_of, seen_ttl};
 ghost use Rattle.gs_rules.specs.Tables.{Entries, Keeping, heartbeats, is_shut, joined, kept, keeping_order, own_topics, promises, topic_order, up};
 ghost use Rattle.gs_rules.specs.Meshes.{backoff, fanout_topics, mesh};
 ghost use Rattle.gs_rules.specs.Membership.{candidates};
-ghost use Rattle.gs_rules.specs.BeatRules.{fan_event, members_of, mending, mesh_beat_rule};
+ghost use Rattle.gs_rules.specs.BeatRules.{fan_event, mending, mesh_beat_rule, scored_members};
 ghost use Rattle.gs_rules.specs.Arrivals.{CameIn};
 ghost use Rattle.gs_rules.specs.Scoring.{IsFromNeighbour, change_of, changed_after, has_counters, history, is_neighbour, score};
 ghost use Rattle.gs_rules.specs.Gossip.{IsKeptOn, IsOpen, WasLeftOpen, charges, gossip, gossipable, overdue};
 ghost use Rattle.gs_rules.specs.Owed.{FanBeats, Gossips, Group, MeshBeats, beats, events_in, gossip_topics, heartbeat_groups, owed, owes, reached};
 ghost use Rattle.gs_rules.specs.Rules.{Gives, Rule, rule_of};
-ghost use Rattle.gs_rules.specs.Modes.{Follows, SaysTheSame, exact, free, settled};
+ghost use Rattle.gs_rules.specs.Modes.{Follows, SaysTheSame, choiceless, exact, free};
 ghost use Rattle.gs_rules.specs.Legal.{DeliversApart, Legal, LegalOn};
 ghost use Rattle.gs_rules.specs.Saying.{Close, Said, bytes_of, handled, handled_by, out, says, sent};
 ghost use Rattle.gs_rules.specs.Hearing.{Spell};
-ghost use Rattle.gs_rules.specs.Rounds.{HandlesWhatIsSent, KeepsRounds, Place, Plays, PlaysInPart, Seat};
+ghost use Rattle.gs_rules.specs.Rounds.{HandlesWhatIsSent, KeepsRounds, Phase, Plays, PlaysInPart, Seat};
 
 use gs_params::Words;
 
@@ -88,8 +88,8 @@ pub fn what_words_choose_is_legal<W: Words>()
     ensures rule { (r : Rule) (s t : W) (e : Entry)
         → Follows (exact W.word W.after) r s e t
         → Follows free r tt e tt }
-    ensures settled { (p : Peer) (s : W) (first later : Entries)
-        → LegalOn settled p tt first later tt
+    ensures choiceless { (p : Peer) (s : W) (first later : Entries)
+        → LegalOn choiceless p tt first later tt
         → LegalOn (exact W.word W.after) p s first later s }
 {}
 
@@ -150,9 +150,9 @@ pub fn what_was_sent_is_handled()
 
 /// A round of which nothing is left is a whole round.
 pub fn a_part_with_nothing_left_is_whole()
-    ensures { (seat : Seat) (said : PeerNoValue → Said) (place : Place) (old new : Entries) (refused : List RefusedLine)
-        → PlaysInPart seat said place [] old new refused
-        → Plays seat said place old new refused }
+    ensures { (seat : Seat) (said : PeerNoValue → Said) (phase : Phase) (old new : Entries) (refused : List RefusedLine)
+        → PlaysInPart seat said phase [] old new refused
+        → Plays seat said phase old new refused }
 {}
 
 /// A peer's own topics are those that it is subscribed to, each once, ascending by their bytes.
@@ -170,7 +170,7 @@ pub fn own_topics_are_those_that_are_joined()
 /// some, and the heartbeat's end. The topics of each group ascend by their bytes, and none comes twice.
 pub fn a_heartbeat_mends_gossips_and_ends()
     ensures begins { (p : Peer) (entries : Entries) (e : Entry)
-        → e.event ≡ Promises
+        → e.event ≡ BeatBegin
         → owed p (e ∷ entries) ≡ reached p (e ∷ entries) (heartbeat_groups e.at.0) }
     ensures within { (p : Peer) (entries : Entries) (e : Entry)
         (first second : Event) (rest : List Event) (groups : List Group)
@@ -201,28 +201,28 @@ pub fn a_heartbeat_mends_gossips_and_ends()
 pub fn a_heartbeat_moves_a_mesh_a_step<W: Words>()
     ensures step { (p : Peer) (entries : Entries) (e : Entry) (t : Topic)
         → Follows free (mesh_beat_rule p entries e.at t) tt e tt
-        → (choice : Choice)
+        → (change : MeshChange)
         × IsMeshStep p.params (heartbeats entries)
-        (members_of p entries e.at.0 (mesh entries t))
-        (members_of p entries e.at.0 (candidates p entries e.at.0 t)) choice
-        × SaysTheSame e (mending p entries e.at t choice) }
+        (scored_members p entries e.at.0 (mesh entries t))
+        (scored_members p entries e.at.0 (candidates p entries e.at.0 t)) change
+        × SaysTheSame e (mending p entries e.at t change) }
     ensures words { (p : Peer) (entries : Entries) (e : Entry) (t : Topic) (s u : W)
         → Follows (exact W.word W.after) (mesh_beat_rule p entries e.at t) s e u
-        → (choice : Choice)
+        → (change : MeshChange)
         × IsMeshStep p.params (heartbeats entries)
-        (members_of p entries e.at.0 (mesh entries t))
-        (members_of p entries e.at.0 (candidates p entries e.at.0 t)) choice
-        × (e ≡ mending p entries e.at t choice) }
-    ensures grafted { (p : Peer) (entries : Entries) (at : ℕ) (t : Topic) (choice : Choice)
+        (scored_members p entries e.at.0 (mesh entries t))
+        (scored_members p entries e.at.0 (candidates p entries e.at.0 t)) change
+        × (e ≡ mending p entries e.at t change) }
+    ensures grafted { (p : Peer) (entries : Entries) (at : ℕ) (t : Topic) (change : MeshChange)
         → IsMeshStep p.params (heartbeats entries)
-        (members_of p entries at (mesh entries t))
-        (members_of p entries at (candidates p entries at t)) choice
-        → AllByRecursion (λ q. is_among (candidates p entries at t) q ≡ true) choice.grafted }
-    ensures pruned { (p : Peer) (entries : Entries) (at : ℕ) (t : Topic) (choice : Choice)
+        (scored_members p entries at (mesh entries t))
+        (scored_members p entries at (candidates p entries at t)) change
+        → AllByRecursion (λ q. is_among (candidates p entries at t) q ≡ true) change.grafted }
+    ensures pruned { (p : Peer) (entries : Entries) (at : ℕ) (t : Topic) (change : MeshChange)
         → IsMeshStep p.params (heartbeats entries)
-        (members_of p entries at (mesh entries t))
-        (members_of p entries at (candidates p entries at t)) choice
-        → AllByRecursion (λ q. is_among (mesh entries t) q ≡ true) choice.pruned }
+        (scored_members p entries at (mesh entries t))
+        (scored_members p entries at (candidates p entries at t)) change
+        → AllByRecursion (λ q. is_among (mesh entries t) q ≡ true) change.pruned }
 {}
 
 /// What is gossiped on a topic is kept as one of that topic, and was kept lately; and it fits one offer.
@@ -235,7 +235,7 @@ pub fn gossip_is_of_what_is_kept()
 /// Behind the charges of a heartbeat no promise is left whose time has come, so that none is charged again.
 pub fn a_promise_is_charged_once()
     ensures { (entries : Entries) (e : Entry)
-        → e.event ≡ Promises
+        → e.event ≡ BeatBegin
         → e.promise ≡ None
         → All (λ promise. e.at.0 < promise.until.0) (promises (e ∷ entries)) }
 {}
@@ -257,7 +257,7 @@ pub fn a_broken_promise_is_charged()
         → AllByRecursion (IsOpen promise) later
         → promise.until.0 ≤ at
         → up (later ++ e ∷ earlier) promise.from ≡ true
-        → IsAmong (charges (later ++ e ∷ earlier) at promise.from) (Behaviour promise.from) }
+        → IsAmong (charges (later ++ e ∷ earlier) at promise.from) (Misbehaviour promise.from) }
     ensures only { (entries : Entries) (promise : Promise)
         → IsAmong (promises entries) promise
         → WasLeftOpen entries promise }

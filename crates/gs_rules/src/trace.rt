@@ -35,7 +35,7 @@ pub enum Event {
     /// The peer published a payload on a topic.
     Publish(Topic, Bytes),
     /// A heartbeat began: promises whose time had come ended. Meshes, fanouts and gossip follow, and the heartbeat's end.
-    Promises,
+    BeatBegin,
     /// The mesh of a topic was mended by a heartbeat (gossipsub v1.0, "Mesh maintenance").
     MeshBeat(Topic),
     /// The fanout of a topic was mended by a heartbeat (gossipsub v1.0, "Fanout maintenance").
@@ -133,7 +133,7 @@ impl Trace {
     }
 
     /// A trace lies in memory, so that it has fewer than 2^63 entries.
-    pub fn is_in_memory(&self)
+    pub fn prove_length_fits(&self)
         ensures { length self.now < 2 ^ 63 }
     {
         let _count = self.entries.len();

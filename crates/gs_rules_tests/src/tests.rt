@@ -162,7 +162,7 @@ fn heartbeats(alloc: Global) -> Result<Vec<Event>, AllocError> {
     for _ in 0..2u8 {
         events.push(Event::GossipBeat(topic(alloc)?))?;
     }
-    events.push(Event::Promises)?;
+    events.push(Event::BeatBegin)?;
     events.push(Event::BeatEnd)?;
     Ok(events)
 }

@@ -4,10 +4,10 @@ use Rattle.std.specs.Prelude.{IfOk, All}
 use Rattle.toml.specs.Data.{Members}
 use Rattle.toml.specs.Parse.{parse_document}
 use Rattle.gs_base.specs.declared.names.Topic.{Topic}
-use Rattle.gs_params.specs.Params.{checked, default_windows}
+use Rattle.gs_params.specs.Params.{checked, default_timing}
 use Rattle.gs_plan.specs.Plans.{IsInRange, has_topic, highest_capacity, longest_round, most_peers, most_planned_topics, most_rounds, most_workers, topic_of}
 use Rattle.gs_params.specs.declared.params.Params.{Params}
-use Rattle.gs_params.specs.declared.params.Windows.{Windows}
+use Rattle.gs_params.specs.declared.params.Timing.{Timing}
 use Rattle.gs_params.specs.declared.topic_params.TopicParams.{TopicParams}
 use Rattle.gs_params.specs.declared.param_fault.ParamFault.{ParamFault}
 use Rattle.gs_plan.specs.declared.plan.App.{App}
@@ -20,7 +20,7 @@ use Rattle.gs_scenario.specs.declared.scenario.params.Shared.{Shared}
 use Rattle.gs_scenario.specs.declared.scenario.tables.TableKind.TheVariants as kinds
 use Rattle.gs_scenario.specs.Keys.{Section, only, required, read_key, read_each}
 use Rattle.gs_scenario.specs.Kinds.{whole_number, list_of, section_at}
-use Rattle.gs_scenario.specs.ParamsOf.{highest_number, heartbeat_ms_key, decay_ms_key, fanout_ttl_ms_key, seen_ttl_ms_key, iwant_followup_ms_key, prune_backoff_s_key, unsubscribe_backoff_s_key, mcache_len_key, mcache_gossip_key, opportunistic_ticks_key, opportunistic_peers_key, max_ihave_key, max_ihave_ids_key, gossip_retransmission_key, degrees_in, thresholds_in, factors_in, windows_in, flood_publish_key, shared_names, shared_in, params_of, or_refuse_params, with_topics}
+use Rattle.gs_scenario.specs.ParamsOf.{highest_number, heartbeat_ms_key, decay_ms_key, fanout_ttl_ms_key, seen_ttl_ms_key, iwant_followup_ms_key, prune_backoff_s_key, unsubscribe_backoff_s_key, mcache_len_key, mcache_gossip_key, opportunistic_ticks_key, opportunistic_peers_key, max_ihave_key, max_ihave_ids_key, gossip_retransmission_key, degrees_in, thresholds_in, factors_in, timing_in, flood_publish_key, shared_names, shared_in, params_of, or_refuse_params, with_topics}
 use Rattle.gs_scenario.specs.PlanOf.{Top, round_ms_key, rounds_key, workers_key, capacity_key, seed_key, params_key, topics_key, peers_key, dials_key, apps_key, script_key, top_keys, top_in, topic_in, peer_in, dial_in, app_in, line_in, plan_in, plan_of_document, plan_of}
 use Rattle.gs_scenario.specs.Refusal.{GivesSame, item_count}
 use Rattle.gs_scenario.proofs.Checked.{same_of_checked, checked_again}
@@ -30,18 +30,18 @@ use Rattle.gs_scenario.proofs.ElementRanges.{PeersAre, peers_are, TopicsDiffer, 
 -- ---- parameters
 
 -- the heartbeat and the decay take whole rounds
-abbrev TakeRounds : ℕ → Windows → Type 0
-TakeRounds round_ms windows = (windows.heartbeat_ms % round_ms ≡ 0) × (windows.decay_ms % round_ms ≡ 0)
+abbrev TakeRounds : ℕ → Timing → Type 0
+TakeRounds round_ms timing = (timing.heartbeat_ms % round_ms ≡ 0) × (timing.decay_ms % round_ms ≡ 0)
 
 both : {A B : Type 0} → A → B → A × B
 both x y = (x, y)
 
-windows_are : (round_ms : ℕ) (section : Section) → IfOk (windows_in round_ms section) (TakeRounds round_ms)
-unfolding windows_in
-windows_are round_ms section =
+timing_is : (round_ms : ℕ) (section : Section) → IfOk (timing_in round_ms section) (TakeRounds round_ms)
+unfolding timing_in
+timing_is round_ms section =
     let P = TakeRounds round_ms in
-    next (λ n. n % round_ms ≡ 0) P (read_key section (heartbeat_ms_key round_ms)) _ (multiple_is round_ms (heartbeat_ms_key round_ms).name (whole_number 0 highest_number) default_windows.heartbeat_ms section)
-    (λ heartbeat_ms h. next (λ n. n % round_ms ≡ 0) P (read_key section (decay_ms_key round_ms)) _ (multiple_is round_ms (decay_ms_key round_ms).name (whole_number 0 highest_number) default_windows.decay_ms section)
+    next (λ n. n % round_ms ≡ 0) P (read_key section (heartbeat_ms_key round_ms)) _ (multiple_is round_ms (heartbeat_ms_key round_ms).name (whole_number 0 highest_number) default_timing.heartbeat_ms section)
+    (λ heartbeat_ms h. next (λ n. n % round_ms ≡ 0) P (read_key section (decay_ms_key round_ms)) _ (multiple_is round_ms (decay_ms_key round_ms).name (whole_number 0 highest_number) default_timing.decay_ms section)
     (λ decay_ms k.
     past P (read_key section fanout_ttl_ms_key) _ (λ fanout_ttl_ms.
     past P (read_key section seen_ttl_ms_key) _ (λ seen_ttl_ms.
@@ -56,16 +56,16 @@ windows_are round_ms section =
     past P (read_key section max_ihave_ids_key) _ (λ max_ihave_ids.
     past P (read_key section gossip_retransmission_key) _ (λ gossip_retransmission. both h k))))))))))))))
 
-shared_are : (round_ms : ℕ) (section : Section) → IfOk (shared_in round_ms section) (λ shared. TakeRounds round_ms shared.windows)
+shared_are : (round_ms : ℕ) (section : Section) → IfOk (shared_in round_ms section) (λ shared. TakeRounds round_ms shared.timing)
 unfolding shared_in
 shared_are round_ms section =
-    let P = λ (shared : Shared). TakeRounds round_ms shared.windows in
+    let P = λ (shared : Shared). TakeRounds round_ms shared.timing in
     past P (only kinds.Params shared_names section) _
     (λ none. past P (degrees_in section) _
     (λ degrees. past P (thresholds_in section) _
     (λ thresholds. past P (factors_in section) _
-    (λ factors. next (TakeRounds round_ms) P (windows_in round_ms section) _ (windows_are round_ms section)
-    (λ windows h. past P (read_key section flood_publish_key) _ (λ flood_publish. h))))))
+    (λ factors. next (TakeRounds round_ms) P (timing_in round_ms section) _ (timing_is round_ms section)
+    (λ timing h. past P (read_key section flood_publish_key) _ (λ flood_publish. h))))))
 
 -- these parameters, which passed their checks
 abbrev AreChecked : Params → Params → Type 0
@@ -128,7 +128,7 @@ top_is section =
 -- ---- the plan
 
 module _ (top : Top) (shared : Shared) (topics : List (Topic × TopicParams)) (peers : List PlannedPeer) (dials : List Dial) (apps : List App) (script : List Line) (params : Params) where
-  all_in_range : TopIsInRange top → TakeRounds top.round_ms shared.windows → TopicsAre (item_count top.topics) topics → PeersAre (item_count top.peers) peers → DialsAre peers dials → AppsAre peers dials apps → LinesAre topics peers top.rounds script → AreChecked (with_topics shared topics) params → IsInRange (record { round_ms = top.round_ms; rounds = top.rounds; workers = top.workers; capacity = top.capacity; seed = top.seed; params = params; peers = peers; dials = dials; apps = apps; script = script })
+  all_in_range : TopIsInRange top → TakeRounds top.round_ms shared.timing → TopicsAre (item_count top.topics) topics → PeersAre (item_count top.peers) peers → DialsAre peers dials → AppsAre peers dials apps → LinesAre topics peers top.rounds script → AreChecked (with_topics shared topics) params → IsInRange (record { round_ms = top.round_ms; rounds = top.rounds; workers = top.workers; capacity = top.capacity; seed = top.seed; params = params; peers = peers; dials = dials; apps = apps; script = script })
   all_in_range t s m n d a l c = record {
     some_rounds = t.rounds.0;
     rounds = t.rounds.1;
@@ -146,8 +146,8 @@ module _ (top : Top) (shared : Shared) (topics : List (Topic × TopicParams)) (p
     names_differ = n.1;
     topics_differ = subst (λ (p : Params). TopicsDiffer p.topics) c.0 m.1;
     params = c.1;
-    heartbeat = subst (λ (p : Params). p.windows.heartbeat_ms % top.round_ms ≡ 0) c.0 s.0;
-    decay = subst (λ (p : Params). p.windows.decay_ms % top.round_ms ≡ 0) c.0 s.1;
+    heartbeat = subst (λ (p : Params). p.timing.heartbeat_ms % top.round_ms ≡ 0) c.0 s.0;
+    decay = subst (λ (p : Params). p.timing.decay_ms % top.round_ms ≡ 0) c.0 s.1;
     dials_from = d.from;
     dials_to = d.to;
     dials_to_others = d.others;
@@ -166,7 +166,7 @@ unfolding plan_in
 plan_is all =
     let P = IsInRange in
     next TopIsInRange P (top_in (record { path = []; members = all })) _ (top_is (record { path = []; members = all })) (λ top t.
-    next (λ shared. TakeRounds top.round_ms shared.windows) P (shared_in top.round_ms (section_at params_key.name top.params)) _ (shared_are top.round_ms (section_at params_key.name top.params)) (λ shared s.
+    next (λ shared. TakeRounds top.round_ms shared.timing) P (shared_in top.round_ms (section_at params_key.name top.params)) _ (shared_are top.round_ms (section_at params_key.name top.params)) (λ shared s.
     next (TopicsAre (item_count top.topics)) P (read_each topic_in [] top.topics) _ (topics_are top.topics) (λ topics m.
     next (PeersAre (item_count top.peers)) P (read_each peer_in [] top.peers) _ (peers_are top.peers) (λ peers n.
     next (DialsAre peers) P (read_each (dial_in peers) [] top.dials) _ (dials_are peers top.dials) (λ dials d.

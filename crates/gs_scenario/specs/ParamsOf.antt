@@ -1,11 +1,11 @@
 -- The parameters that a scenario gives, or its first refusal: the keys of each table in their order.
 use Rattle.std.specs.Prelude.{ℕ, ◌++◌, Bool, codes, List, [], ◌∷◌, Result, Ok, Err, ℤ, pos, neg_ℤ}
-use Rattle.gs_params.specs.Params.{checked, default_degrees, default_thresholds, default_factors, default_windows, default_flood_publish}
+use Rattle.gs_params.specs.Params.{checked, default_degrees, default_thresholds, default_factors, default_timing, default_flood_publish}
 use Rattle.gs_base.specs.declared.names.Topic.{Topic}
 use Rattle.gs_params.specs.declared.params.Degrees.{Degrees}
 use Rattle.gs_params.specs.declared.params.Thresholds.{Thresholds}
 use Rattle.gs_params.specs.declared.params.Factors.{Factors}
-use Rattle.gs_params.specs.declared.params.Windows.{Windows}
+use Rattle.gs_params.specs.declared.params.Timing.{Timing}
 use Rattle.gs_params.specs.declared.params.Params.{Params}
 use Rattle.gs_params.specs.declared.topic_params.TopicParams.{TopicParams}
 use Rattle.gs_params.specs.declared.param_fault.ParamFault.{ParamFault}
@@ -170,52 +170,52 @@ factors_in section = do
     p6_threshold = p6_threshold;
   })
 
--- ---- windows, of which two are whole rounds
+-- ---- timing, of which two are whole rounds
 
 abbrev pub heartbeat_ms_key : ℕ → Key ℕ
-heartbeat_ms_key round_ms = multiple_key round_ms (codes "heartbeat_ms") default_windows.heartbeat_ms
+heartbeat_ms_key round_ms = multiple_key round_ms (codes "heartbeat_ms") default_timing.heartbeat_ms
 
 abbrev pub decay_ms_key : ℕ → Key ℕ
-decay_ms_key round_ms = multiple_key round_ms (codes "decay_ms") default_windows.decay_ms
+decay_ms_key round_ms = multiple_key round_ms (codes "decay_ms") default_timing.decay_ms
 
 abbrev pub fanout_ttl_ms_key : Key ℕ
-fanout_ttl_ms_key = count_key (codes "fanout_ttl_ms") default_windows.fanout_ttl_ms
+fanout_ttl_ms_key = count_key (codes "fanout_ttl_ms") default_timing.fanout_ttl_ms
 
 abbrev pub seen_ttl_ms_key : Key ℕ
-seen_ttl_ms_key = count_key (codes "seen_ttl_ms") default_windows.seen_ttl_ms
+seen_ttl_ms_key = count_key (codes "seen_ttl_ms") default_timing.seen_ttl_ms
 
 abbrev pub iwant_followup_ms_key : Key ℕ
-iwant_followup_ms_key = count_key (codes "iwant_followup_ms") default_windows.iwant_followup_ms
+iwant_followup_ms_key = count_key (codes "iwant_followup_ms") default_timing.iwant_followup_ms
 
 abbrev pub prune_backoff_s_key : Key ℕ
-prune_backoff_s_key = count_key (codes "prune_backoff_s") default_windows.prune_backoff_s
+prune_backoff_s_key = count_key (codes "prune_backoff_s") default_timing.prune_backoff_s
 
 abbrev pub unsubscribe_backoff_s_key : Key ℕ
-unsubscribe_backoff_s_key = count_key (codes "unsubscribe_backoff_s") default_windows.unsubscribe_backoff_s
+unsubscribe_backoff_s_key = count_key (codes "unsubscribe_backoff_s") default_timing.unsubscribe_backoff_s
 
 abbrev pub mcache_len_key : Key ℕ
-mcache_len_key = count_key (codes "mcache_len") default_windows.mcache_len
+mcache_len_key = count_key (codes "mcache_len") default_timing.mcache_len
 
 abbrev pub mcache_gossip_key : Key ℕ
-mcache_gossip_key = count_key (codes "mcache_gossip") default_windows.mcache_gossip
+mcache_gossip_key = count_key (codes "mcache_gossip") default_timing.mcache_gossip
 
 abbrev pub opportunistic_ticks_key : Key ℕ
-opportunistic_ticks_key = count_key (codes "opportunistic_ticks") default_windows.opportunistic_ticks
+opportunistic_ticks_key = count_key (codes "opportunistic_ticks") default_timing.opportunistic_ticks
 
 abbrev pub opportunistic_peers_key : Key ℕ
-opportunistic_peers_key = count_key (codes "opportunistic_peers") default_windows.opportunistic_peers
+opportunistic_peers_key = count_key (codes "opportunistic_peers") default_timing.opportunistic_peers
 
 abbrev pub max_ihave_key : Key ℕ
-max_ihave_key = count_key (codes "max_ihave") default_windows.max_ihave
+max_ihave_key = count_key (codes "max_ihave") default_timing.max_ihave
 
 abbrev pub max_ihave_ids_key : Key ℕ
-max_ihave_ids_key = count_key (codes "max_ihave_ids") default_windows.max_ihave_ids
+max_ihave_ids_key = count_key (codes "max_ihave_ids") default_timing.max_ihave_ids
 
 abbrev pub gossip_retransmission_key : Key ℕ
-gossip_retransmission_key = count_key (codes "gossip_retransmission") default_windows.gossip_retransmission
+gossip_retransmission_key = count_key (codes "gossip_retransmission") default_timing.gossip_retransmission
 
-abbrev pub window_names : List (List ℕ)
-window_names =
+abbrev pub timing_names : List (List ℕ)
+timing_names =
     (heartbeat_ms_key 1).name
     ∷ (decay_ms_key 1).name
     ∷ fanout_ttl_ms_key.name
@@ -232,8 +232,8 @@ window_names =
     ∷ gossip_retransmission_key.name
     ∷ []
 
-unfoldable pub windows_in : ℕ → Section → Result Windows ScenarioFault
-windows_in round_ms section = do
+unfoldable pub timing_in : ℕ → Section → Result Timing ScenarioFault
+timing_in round_ms section = do
   heartbeat_ms ← read_key section (heartbeat_ms_key round_ms)
   decay_ms ← read_key section (decay_ms_key round_ms)
   fanout_ttl_ms ← read_key section fanout_ttl_ms_key
@@ -271,7 +271,7 @@ abbrev pub flood_publish_key : Key Bool
 flood_publish_key = optional (codes "flood_publish") truth_value default_flood_publish
 
 abbrev pub shared_names : List (List ℕ)
-shared_names = degree_names ++ threshold_names ++ factor_names ++ window_names ++ flood_publish_key.name ∷ []
+shared_names = degree_names ++ threshold_names ++ factor_names ++ timing_names ++ flood_publish_key.name ∷ []
 
 unfoldable pub shared_in : ℕ → Section → Result Shared ScenarioFault
 shared_in round_ms section = do
@@ -279,13 +279,13 @@ shared_in round_ms section = do
   degrees ← degrees_in section
   thresholds ← thresholds_in section
   factors ← factors_in section
-  windows ← windows_in round_ms section
+  timing ← timing_in round_ms section
   flood_publish ← read_key section flood_publish_key
   Ok (record {
     degrees = degrees;
     thresholds = thresholds;
     factors = factors;
-    windows = windows;
+    timing = timing;
     flood_publish = flood_publish;
   })
 
@@ -296,7 +296,7 @@ with_topics shared topics = record {
   degrees = shared.degrees;
   thresholds = shared.thresholds;
   factors = shared.factors;
-  windows = shared.windows;
+  timing = shared.timing;
   flood_publish = shared.flood_publish;
   topics = topics;
 }

@@ -1,8 +1,8 @@
 -- The parameters that a scenario gives a topic, or their first refusal.
 use Rattle.std.specs.Prelude.{ℕ, ◌++◌, codes, List, [], ◌∷◌, Result, Ok, ℤ}
-use Rattle.gs_params.specs.Params.{default_topic_factors, default_topic_windows}
+use Rattle.gs_params.specs.Params.{default_topic_factors, default_topic_timing}
 use Rattle.gs_params.specs.declared.topic_params.TopicFactors.{TopicFactors}
-use Rattle.gs_params.specs.declared.topic_params.TopicWindows.{TopicWindows}
+use Rattle.gs_params.specs.declared.topic_params.TopicTiming.{TopicTiming}
 use Rattle.gs_params.specs.declared.topic_params.TopicParams.{TopicParams}
 use Rattle.gs_scenario.specs.declared.fault.ScenarioFault.{ScenarioFault}
 use Rattle.gs_scenario.specs.declared.scenario.topic_params.TopicWeights.{TopicWeights}
@@ -53,13 +53,13 @@ abbrev pub p3_threshold_key : Key ℕ
 p3_threshold_key = count_key (codes "p3_threshold") default_topic_factors.p3_threshold
 
 abbrev pub p1_quantum_ms_key : Key ℕ
-p1_quantum_ms_key = count_key (codes "p1_quantum_ms") default_topic_windows.p1_quantum_ms
+p1_quantum_ms_key = count_key (codes "p1_quantum_ms") default_topic_timing.p1_quantum_ms
 
 abbrev pub p3_window_ms_key : Key ℕ
-p3_window_ms_key = count_key (codes "p3_window_ms") default_topic_windows.p3_window_ms
+p3_window_ms_key = count_key (codes "p3_window_ms") default_topic_timing.p3_window_ms
 
 abbrev pub p3_activation_ms_key : Key ℕ
-p3_activation_ms_key = count_key (codes "p3_activation_ms") default_topic_windows.p3_activation_ms
+p3_activation_ms_key = count_key (codes "p3_activation_ms") default_topic_timing.p3_activation_ms
 
 abbrev pub reject_key : Key (List (List ℕ))
 reject_key = prefixes_key (codes "reject")
@@ -85,11 +85,11 @@ topic_factor_names =
     ∷ p3_threshold_key.name
     ∷ []
 
-abbrev pub topic_window_names : List (List ℕ)
-topic_window_names = p1_quantum_ms_key.name ∷ p3_window_ms_key.name ∷ p3_activation_ms_key.name ∷ []
+abbrev pub topic_timing_names : List (List ℕ)
+topic_timing_names = p1_quantum_ms_key.name ∷ p3_window_ms_key.name ∷ p3_activation_ms_key.name ∷ []
 
 abbrev pub topic_param_names : List (List ℕ)
-topic_param_names = topic_factor_names ++ topic_window_names ++ reject_key.name ∷ ignore_key.name ∷ []
+topic_param_names = topic_factor_names ++ topic_timing_names ++ reject_key.name ∷ ignore_key.name ∷ []
 
 unfoldable pub topic_weights_in : Section → Result TopicWeights ScenarioFault
 topic_weights_in section = do
@@ -147,8 +147,8 @@ topic_factors_in section = do
   counters ← topic_counters_in section
   Ok (factors_of weights counters)
 
-unfoldable pub topic_windows_in : Section → Result TopicWindows ScenarioFault
-topic_windows_in section = do
+unfoldable pub topic_timing_in : Section → Result TopicTiming ScenarioFault
+topic_timing_in section = do
   p1_quantum_ms ← read_key section p1_quantum_ms_key
   p3_window_ms ← read_key section p3_window_ms_key
   p3_activation_ms ← read_key section p3_activation_ms_key
@@ -157,7 +157,7 @@ topic_windows_in section = do
 unfoldable pub topic_params_in : Section → Result TopicParams ScenarioFault
 topic_params_in section = do
   factors ← topic_factors_in section
-  windows ← topic_windows_in section
+  timing ← topic_timing_in section
   reject ← read_key section reject_key
   ignore ← read_key section ignore_key
-  Ok (record { factors = factors; windows = windows; reject = reject; ignore = ignore })
+  Ok (record { factors = factors; timing = timing; reject = reject; ignore = ignore })

@@ -50,7 +50,7 @@ account_stays old new p b a h q =
     ]
 
 pub is_put : (old new : List (PeerNo × Account)) (p : PeerNo) (t : Topic) (s : Standing) (b a : Account) → Changed old new p b a
-    → a.behaviour ≡ b.behaviour
+    → a.misbehaviour ≡ b.misbehaviour
     → ((u : Topic) → standing_in a.topics u ≡ cond (same_topic t u) s (standing_in b.topics u))
     → Puts old new p t s
 is_put old new p t s b a h same puts = record {
@@ -67,15 +67,15 @@ is_put old new p t s b a h same puts = record {
         rw e.0 (ap (λ (x : Account). standing_in x.topics u) is)
         )
   ];
-  behaviours = λ q. elim (peers_tell p q) [
+  misbehaviours = λ q. elim (peers_tell p q) [
     | inl e ↦ (
         let is : account_of new q ≡ a = account_is old new p b a h q ∙ rw e.0 refl in
         let was : account_of old q ≡ b = subst (λ r. account_of old r ≡ b) e.1 (account_was old p b h.0) in
-        ap (λ (x : Account). x.behaviour) is ∙ same ∙ ap (λ (x : Account). x.behaviour) (sym was)
+        ap (λ (x : Account). x.misbehaviour) is ∙ same ∙ ap (λ (x : Account). x.misbehaviour) (sym was)
         )
     | inr e ↦ (
         let is : account_of new q ≡ account_of old q = account_is old new p b a h q ∙ rw e.0 refl in
-        ap (λ (x : Account). x.behaviour) is
+        ap (λ (x : Account). x.misbehaviour) is
         )
   ];
   accounts = account_stays old new p b a h;
@@ -83,7 +83,7 @@ is_put old new p t s b a h same puts = record {
 
 -- what a neighbour has on a topic makes a step
 pub is_stepped : (old new : List (PeerNo × Account)) (p : PeerNo) (t : Topic) (f : Standing → Standing) (b a : Account) → Changed old new p b a
-    → a.behaviour ≡ b.behaviour
+    → a.misbehaviour ≡ b.misbehaviour
     → ((u : Topic) → standing_in a.topics u ≡ cond (same_topic t u) (f (standing_in b.topics t)) (standing_in b.topics u))
     → Puts old new p t (f (standing_of old p t))
 is_stepped old new p t f b a h same puts =
@@ -159,7 +159,7 @@ both_true false b h = cc
 
 pub is_blamed : (old new : List (PeerNo × Account)) (p : PeerNo) (c : Stored) (b a : Account) → Changed old new p b a
     → a.topics ≡ b.topics
-    → a.behaviour ≡ c
+    → a.misbehaviour ≡ c
     → Blames old new p c
 is_blamed old new p c b a h same is_c = record {
   topics = λ q. elim (peers_tell p q) [
@@ -173,14 +173,14 @@ is_blamed old new p c b a h same is_c = record {
         ap (λ (x : Account). x.topics) is
         )
   ];
-  behaviours = λ q. elim (peers_tell p q) [
+  misbehaviours = λ q. elim (peers_tell p q) [
     | inl e ↦ (
         let is : account_of new q ≡ a = account_is old new p b a h q ∙ rw e.0 refl in
-        rw e.0 (ap (λ (x : Account). x.behaviour) is ∙ is_c)
+        rw e.0 (ap (λ (x : Account). x.misbehaviour) is ∙ is_c)
         )
     | inr e ↦ (
         let is : account_of new q ≡ account_of old q = account_is old new p b a h q ∙ rw e.0 refl in
-        rw e.0 (ap (λ (x : Account). x.behaviour) is)
+        rw e.0 (ap (λ (x : Account). x.misbehaviour) is)
         )
   ];
   accounts = account_stays old new p b a h;

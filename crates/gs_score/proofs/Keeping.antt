@@ -17,13 +17,13 @@ use Rattle.gs_score.specs.declared.standing.Kind.TheVariants.{First, Near, Defic
 use Rattle.gs_score.specs.declared.standing.Standing.{Standing}
 use Rattle.gs_score.specs.Counters.{Stored, most_counted, raised, decay_step, read_at}
 use Rattle.gs_score.specs.Standings.{Held, decayed_held, held, pruned, raised_held, raised_standing}
-use Rattle.gs_score.specs.Accounts.{AddsTopic, Covers, KeepsTopics, behaviour_decay, has_topic, held_in, rules_of, topic_sum}
+use Rattle.gs_score.specs.Accounts.{AddsTopic, Covers, KeepsTopics, has_topic, held_in, misbehaviour_decay, rules_of, topic_sum}
 use Rattle.gs_score.specs.Formula.{score_of, topic_part}
-use Rattle.gs_score.specs.Places.{app_of, number_with}
-use Rattle.gs_score.specs.declared.places.Place.{Place}
+use Rattle.gs_score.specs.Addresses.{app_of, number_with}
+use Rattle.gs_score.specs.declared.addresses.AddressEntry.{AddressEntry}
 use Rattle.gs_score.specs.Ranges.{IsUpTo}
-use Rattle.gs_score.specs.Ledgers.{Adds, AreFew, IsSound, Keeps, Kept, Puts, PutsIn, behaviour_of, same_pair, standing_of, topics_of}
-use Rattle.gs_score.specs.Histories.{Agrees, Change, Decayed, Grafted, History, Left, Marked, Raise, Setting, blamed, decays, held_after, held_by, misbehaved_after, misbehaviour, named, named_after, one, places_in, raise_of, score_in, with_topic}
+use Rattle.gs_score.specs.Ledgers.{Adds, AreFew, IsSound, Keeps, Kept, Puts, PutsIn, misbehaviour_of, same_pair, standing_of, topics_of}
+use Rattle.gs_score.specs.Histories.{Agrees, Change, Decayed, Grafted, History, Left, Marked, Raise, Setting, addresses_in, blamed, decays, held_after, held_by, misbehaved_after, misbehaviour, named, named_after, one, raise_of, score_in, with_topic}
 use Rattle.gs_score.proofs.Accounting.{peers_tell}
 use Rattle.gs_score.proofs.Decaying.{read-later}
 use Rattle.gs_score.proofs.Raising.{held-raised}
@@ -70,9 +70,9 @@ sound_put k es p t s h puts few past = record {
   standings = λ q u.
       subst (IsUpTo k.tick) (sym (puts.standings q u))
       (either (IsUpTo k.tick) (same_pair p t q u) s (standing_of k.accounts q u) past (h.standings q u));
-  behaviours = λ q. subst (λ (c : Stored). c.tick ≤ k.tick) (sym (puts.behaviours q)) (h.behaviours q);
+  misbehaviours = λ q. subst (λ (c : Stored). c.tick ≤ k.tick) (sym (puts.misbehaviours q)) (h.misbehaviours q);
   apps = h.apps;
-  places = h.places;
+  addresses = h.addresses;
 }
 
 pub up_to_raised : (r : TopicRules) (kind : Kind) (by tick : ℕ) (s : Standing) → IsUpTo tick s → IsUpTo tick (raised_standing r kind by tick s)
@@ -164,7 +164,7 @@ pub record Concerns (c : Change) (p : PeerNo) (t : Topic) (step : TopicRules →
   pub here : (r : TopicRules) (h : Held) → held_after r p t c h ≡ step r h
   pub others : (r : TopicRules) (q : PeerNo) (u : Topic) (h : Held) → same_pair p t q u ≡ false → held_after r q u c h ≡ h
   pub misbehaves : (d : Decay) (q : PeerNo) (x : ℕ) → misbehaved_after d q c x ≡ x
-  pub places : (s : Setting) (H : History) → places_in s.neighbours (c ∷ H) ≡ places_in s.neighbours H
+  pub addresses : (s : Setting) (H : History) → addresses_in s.neighbours (c ∷ H) ≡ addresses_in s.neighbours H
   pub decays : (H : History) → decays (c ∷ H) ≡ decays H
 
 agrees_put_here : (setting : Setting) (k : Kept) (es : List (PeerNo × Account)) (H : History) (c : Change) (p : PeerNo) (t : Topic) (s : Standing) (step : TopicRules → Held → Held)
@@ -195,12 +195,12 @@ agrees_put_here setting k es H c p t s step concerns puts there on a = record {
         )
   ];
   misbehaves = λ q.
-      ap (read_at (behaviour_decay setting.params) k.tick) (puts.behaviours q)
+      ap (read_at (misbehaviour_decay setting.params) k.tick) (puts.misbehaviours q)
       ∙ a.misbehaves q
-      ∙ sym (concerns.misbehaves (behaviour_decay setting.params) q (misbehaviour setting.params H q));
+      ∙ sym (concerns.misbehaves (misbehaviour_decay setting.params) q (misbehaviour setting.params H q));
   knows = λ q. (on q).0;
   counts = λ q. (on q).1;
-  places = a.places ∙ sym (concerns.places setting H);
+  addresses = a.addresses ∙ sym (concerns.addresses setting H);
 }
 
 pub agrees_put : (setting : Setting) (k new : Kept) (H : History) (c : Change) (p : PeerNo) (t : Topic) (s : Standing) (step : TopicRules → Held → Held)
@@ -219,7 +219,7 @@ concerns_graft p t now = record {
   here = λ r h. rw (pair_self p t) refl;
   others = λ r q u h e. rw e refl;
   misbehaves = λ d q x. refl;
-  places = λ s H. refl;
+  addresses = λ s H. refl;
   decays = λ H. refl;
 }
 
@@ -231,7 +231,7 @@ concerns_left p t = record {
   here = λ r h. rw (pair_self p t) refl;
   others = λ r q u h e. rw e refl;
   misbehaves = λ d q x. refl;
-  places = λ s H. refl;
+  addresses = λ s H. refl;
   decays = λ H. refl;
 }
 
@@ -258,7 +258,7 @@ concerns_raise m p t kind by is none = record {
       ap (λ (o : Option Raise). option_map_or (λ (x : Raise). cond (same_pair x.peer x.topic q u) (raised_held r x.kind x.by h) h) o h) is
       ∙ rw e refl;
   misbehaves = λ d q x. ap (λ (o : Option PeerNo). option_map_or (λ y. cond (same_peer y q) (raised most_counted one x) x) o x) none;
-  places = λ s H. refl;
+  addresses = λ s H. refl;
   decays = λ H. refl;
 }
 
@@ -288,11 +288,11 @@ agrees_decay setting k H sound a = record {
       held-later (rules_of setting.params u) k.tick (standing_of k.accounts q u) (sound.standings q u)
       ∙ ap (decayed_held (rules_of setting.params u)) (a.holds q u);
   misbehaves = λ q.
-      read-later (behaviour_decay setting.params) (behaviour_of k.accounts q) k.tick 1 (sound.behaviours q)
-      ∙ ap (decay_step (behaviour_decay setting.params)) (a.misbehaves q);
+      read-later (misbehaviour_decay setting.params) (misbehaviour_of k.accounts q) k.tick 1 (sound.misbehaviours q)
+      ∙ ap (decay_step (misbehaviour_decay setting.params)) (a.misbehaves q);
   knows = a.knows;
   counts = a.counts;
-  places = a.places;
+  addresses = a.addresses;
 }
 
 -- ---- scores
@@ -308,7 +308,7 @@ pub score_says : (s : Setting) (k : Kept) (H : History) (p : PeerNo) (now : ℕ)
     → Agrees s k H
     → Covers (held_by s.params H p) ts
     → ((us : List Topic) → Covers (held_in k.params k.tick (topics_of k.accounts p)) us → sum ≡ topic_sum k.params now (held_in k.params k.tick (topics_of k.accounts p)) us)
-    → score_of k.params.factors sum (app_of k.places p) (number_with k.places p) (read_at (behaviour_decay k.params) k.tick (behaviour_of k.accounts p))
+    → score_of k.params.factors sum (app_of k.addresses p) (number_with k.addresses p) (read_at (misbehaviour_decay k.params) k.tick (misbehaviour_of k.accounts p))
     ≡ score_in s now H p ts
 score_says s k H p now ts sum a covers h =
     let T = topics_of k.accounts p in
@@ -318,7 +318,7 @@ score_says s k H p now ts sum a covers h =
     = subst (λ (x : Params). (us : List Topic) → Covers (held_in x k.tick T) us → sum ≡ topic_sum x now (held_in x k.tick T) us) a.params h ts
     (covers_same at by ts (a.holds p) covers)
     ∙ sums_same s.params now at by (a.holds p) ts in
-    ap (λ (x : Params). score_of x.factors sum (app_of k.places p) (number_with k.places p) (read_at (behaviour_decay x) k.tick (behaviour_of k.accounts p))) a.params
-    ∙ ap (λ (x : ℤ). score_of s.params.factors x (app_of k.places p) (number_with k.places p) (read_at (behaviour_decay s.params) k.tick (behaviour_of k.accounts p))) sums
-    ∙ ap (λ (x : List (PeerNo × Place)). score_of s.params.factors (topic_sum s.params now by ts) (app_of x p) (number_with x p) (read_at (behaviour_decay s.params) k.tick (behaviour_of k.accounts p))) a.places
-    ∙ ap (λ (x : ℕ). score_of s.params.factors (topic_sum s.params now by ts) (app_of (places_in s.neighbours H) p) (number_with (places_in s.neighbours H) p) x) (a.misbehaves p)
+    ap (λ (x : Params). score_of x.factors sum (app_of k.addresses p) (number_with k.addresses p) (read_at (misbehaviour_decay x) k.tick (misbehaviour_of k.accounts p))) a.params
+    ∙ ap (λ (x : ℤ). score_of s.params.factors x (app_of k.addresses p) (number_with k.addresses p) (read_at (misbehaviour_decay s.params) k.tick (misbehaviour_of k.accounts p))) sums
+    ∙ ap (λ (x : List (PeerNo × AddressEntry)). score_of s.params.factors (topic_sum s.params now by ts) (app_of x p) (number_with x p) (read_at (misbehaviour_decay s.params) k.tick (misbehaviour_of k.accounts p))) a.addresses
+    ∙ ap (λ (x : ℕ). score_of s.params.factors (topic_sum s.params now by ts) (app_of (addresses_in s.neighbours H) p) (number_with (addresses_in s.neighbours H) p) x) (a.misbehaves p)

@@ -8,8 +8,8 @@ use Rattle.std.proofs.lemmas.Map.Entries.{sum_by-set_value}
 use Rattle.std.proofs.lemmas.Map.Steps.{set_value_same}
 use Rattle.gs_base.specs.declared.names.PeerNo.{PeerNo}
 use Rattle.gs_base.specs.Names.{same_peer}
-use Rattle.gs_score.specs.declared.places.Place.{Place}
-use Rattle.gs_score.specs.Places.{counts_at, is_counted, kept_number, number_at, one_if, place_at, same_address, shut, shut_out}
+use Rattle.gs_score.specs.declared.addresses.AddressEntry.{AddressEntry}
+use Rattle.gs_score.specs.Addresses.{address_entry_at, counts_at, is_counted, kept_number, number_at, one_if, same_address, shut, shut_out}
 use Rattle.gs_score.proofs.Kept.{cond_unwrap}
 use Rattle.gs_score.proofs.Sums.{from_decides}
 
@@ -43,18 +43,18 @@ one_less old new key h a =
     ]
 
 -- who does not count is not shut out anew
-pub uncounted_stays : (places : List (PeerNo × Place)) (p : PeerNo) → is_counted places p ≡ false → places ≡ shut_out p places
-uncounted_stays places p none = by (place_at places p) refl none
+pub uncounted_stays : (addresses : List (PeerNo × AddressEntry)) (p : PeerNo) → is_counted addresses p ≡ false → addresses ≡ shut_out p addresses
+uncounted_stays addresses p none = by (address_entry_at addresses p) refl none
   where
-    by : (o : Option Place) → place_at places p ≡ o → option_map_or (λ (x : Place). x.counted) o false ≡ false → places ≡ option_map_or (λ x. set_value (same_peer p) places (shut x)) o places
+    by : (o : Option AddressEntry) → address_entry_at addresses p ≡ o → option_map_or (λ (x : AddressEntry). x.counted) o false ≡ false → addresses ≡ option_map_or (λ x. set_value (same_peer p) addresses (shut x)) o addresses
     by None e n = refl
-    by (Some x) e n = sym (set_value_same (same_peer p) places (shut x) (e ∙ ap (λ (b : Bool). Some (record x { counted = b })) n))
+    by (Some x) e n = sym (set_value_same (same_peer p) addresses (shut x) (e ∙ ap (λ (b : Bool). Some (record x { counted = b })) n))
 
 -- who counted and is shut out is one less at its address
-pub shut_number : (places : List (PeerNo × Place)) (p : PeerNo) (x : Place) → place_at places p ≡ Some x → x.counted ≡ true
-    → (a : List ℕ) → number_at (set_value (same_peer p) places (shut x)) a ≡ number_at places a - one_if (same_address x.address a)
-shut_number places p x found counted a =
-    let f : Place → ℕ = λ y. one_if (counts_at a y) in
-    let sums = sum_by-set_value f (same_peer p) places x (shut x) found in
+pub shut_number : (addresses : List (PeerNo × AddressEntry)) (p : PeerNo) (x : AddressEntry) → address_entry_at addresses p ≡ Some x → x.counted ≡ true
+    → (a : List ℕ) → number_at (set_value (same_peer p) addresses (shut x)) a ≡ number_at addresses a - one_if (same_address x.address a)
+shut_number addresses p x found counted a =
+    let f : AddressEntry → ℕ = λ y. one_if (counts_at a y) in
+    let sums = sum_by-set_value f (same_peer p) addresses x (shut x) found in
     let was : f x ≡ one_if (same_address x.address a) = rw counted refl in
     omega (arith, sums, was)

@@ -18,15 +18,15 @@ use Rattle.gs_params.specs.declared.params.Params.{Params}
 use Rattle.gs_params.specs.Params.{AreInRange}
 use Rattle.gs_params.specs.Picks.{IsAscending}
 use Rattle.gs_params.proofs.Picking.{distinct_from_ascending}
-use Rattle.gs_score.specs.declared.places.Place.{Place}
+use Rattle.gs_score.specs.declared.addresses.AddressEntry.{AddressEntry}
 use Rattle.gs_score.specs.declared.accounts.Account.{Account}
 use Rattle.gs_score.specs.declared.standing.Kind.TheVariants.{First, Near, Deficit, Invalid}
 use Rattle.gs_score.specs.Counters.{read_at}
 use Rattle.gs_score.specs.Standings.{fresh}
-use Rattle.gs_score.specs.Accounts.{behaviour_decay, has_topic, held_in, rules_of, standing_in}
+use Rattle.gs_score.specs.Accounts.{has_topic, held_in, misbehaviour_decay, rules_of, standing_in}
 use Rattle.gs_score.specs.Ranges.{IsUpTo}
 use Rattle.gs_score.specs.Histories.{Agrees}
-use Rattle.gs_score.specs.Places.{app_of, counts_at, number_at, number_with, one_if, place_at, place_of, shut, shut_out}
+use Rattle.gs_score.specs.Addresses.{address_entry_at, address_entry_of, app_of, counts_at, number_at, number_with, one_if, shut, shut_out}
 use Rattle.gs_score.specs.Ledgers.{IsSound, Kept, account_of, has_account, nothing_counted}
 use Rattle.gs_score.proofs.Accounting.{peers_tell, same_back}
 use Rattle.gs_score.proofs.Sums.{Apart, apart_from_distinct, decayed_nothing, either_false, fresh_held}
@@ -37,38 +37,38 @@ one_le : (b : Bool) → one_if b ≤ 1
 one_le true = omega arith
 one_le false = omega arith
 
-number_le : (ps : List (PeerNo × Place)) (a : List ℕ) → number_at ps a ≤ length ps
+number_le : (ps : List (PeerNo × AddressEntry)) (a : List ℕ) → number_at ps a ≤ length ps
 number_le [] a = omega arith
 number_le (e ∷ ps) a = omega (arith, sum_by-cons (λ x. one_if (counts_at a x)) e.1 (values_of ps), one_le (counts_at a e.1), number_le ps a)
 
-pub number_within : (ps : List (PeerNo × Place)) (q : PeerNo) → number_with ps q ≤ length ps
-number_within ps q = by (place_at ps q)
+pub number_within : (ps : List (PeerNo × AddressEntry)) (q : PeerNo) → number_with ps q ≤ length ps
+number_within ps q = by (address_entry_at ps q)
   where
-    by : (o : Option Place) → option_map_or (λ (x : Place). number_at ps x.address) o 0 ≤ length ps
+    by : (o : Option AddressEntry) → option_map_or (λ (x : AddressEntry). number_at ps x.address) o 0 ≤ length ps
     by None = omega arith
     by (Some x) = number_le ps x.address
 
 -- ---- who is shut out
 
-abbrev given : Option Place → ℤ
-given o = option_map_or (λ (x : Place). x.app) o (pos 0)
+abbrev given : Option AddressEntry → ℤ
+given o = option_map_or (λ (x : AddressEntry). x.app) o (pos 0)
 
-head : (b : Bool) (x y : Place) (o : Option Place) → x.app ≡ y.app → given (cond b (Some x) o) ≡ given (cond b (Some y) o)
+head : (b : Bool) (x y : AddressEntry) (o : Option AddressEntry) → x.app ≡ y.app → given (cond b (Some x) o) ≡ given (cond b (Some y) o)
 head true x y o h = h
 head false x y o h = refl
 
-tail : (b : Bool) (y : Place) (o p : Option Place) → given o ≡ given p → given (cond b (Some y) o) ≡ given (cond b (Some y) p)
+tail : (b : Bool) (y : AddressEntry) (o p : Option AddressEntry) → given o ≡ given p → given (cond b (Some y) o) ≡ given (cond b (Some y) p)
 tail true y o p h = refl
 tail false y o p h = h
 
-app_set : (p q : PeerNo) (ps : List (PeerNo × Place)) (x : Place) → lookup (same_peer p) ps ≡ Some x → app_of (set_value (same_peer p) ps (shut x)) q ≡ app_of ps q
+app_set : (p q : PeerNo) (ps : List (PeerNo × AddressEntry)) (x : AddressEntry) → lookup (same_peer p) ps ≡ Some x → app_of (set_value (same_peer p) ps (shut x)) q ≡ app_of ps q
 app_set p q [] x h = refl
 app_set p q (e ∷ ps) x h =
     elim (peers_tell p e.0) [
       | inl f ↦ (
           let is : Some e.1 ≡ Some x = rw f.0 at h in
-          let same : e.1 ≡ x = ap (λ (o : Option Place). unwrap_or o e.1) is in
-          rw f.0 (head (same_peer q e.0) (shut x) e.1 (lookup (same_peer q) ps) (ap (λ (y : Place). y.app) (sym same)))
+          let same : e.1 ≡ x = ap (λ (o : Option AddressEntry). unwrap_or o e.1) is in
+          rw f.0 (head (same_peer q e.0) (shut x) e.1 (lookup (same_peer q) ps) (ap (λ (y : AddressEntry). y.app) (sym same)))
           )
       | inr f ↦ (
           let is : lookup (same_peer p) ps ≡ Some x = rw f.0 at h in
@@ -76,33 +76,33 @@ app_set p q (e ∷ ps) x h =
           )
     ]
 
-app_shut : (p q : PeerNo) (ps : List (PeerNo × Place)) → app_of (shut_out p ps) q ≡ app_of ps q
-app_shut p q ps = by (place_at ps p) refl
+app_shut : (p q : PeerNo) (ps : List (PeerNo × AddressEntry)) → app_of (shut_out p ps) q ≡ app_of ps q
+app_shut p q ps = by (address_entry_at ps p) refl
   where
-    by : (o : Option Place) → place_at ps p ≡ o → app_of (option_map_or (λ x. set_value (same_peer p) ps (shut x)) o ps) q ≡ app_of ps q
+    by : (o : Option AddressEntry) → address_entry_at ps p ≡ o → app_of (option_map_or (λ x. set_value (same_peer p) ps (shut x)) o ps) q ≡ app_of ps q
     by None e = refl
     by (Some x) e = app_set p q ps x e
 
-length_shut : (p : PeerNo) (ps : List (PeerNo × Place)) → length (shut_out p ps) ≡ length ps
-length_shut p ps = by (place_at ps p)
+length_shut : (p : PeerNo) (ps : List (PeerNo × AddressEntry)) → length (shut_out p ps) ≡ length ps
+length_shut p ps = by (address_entry_at ps p)
   where
-    by : (o : Option Place) → length (option_map_or (λ x. set_value (same_peer p) ps (shut x)) o ps) ≡ length ps
+    by : (o : Option AddressEntry) → length (option_map_or (λ x. set_value (same_peer p) ps (shut x)) o ps) ≡ length ps
     by None = refl
     by (Some x) = length-set_value (same_peer p) ps (shut x)
 
-pub sound_shut : (k : Kept) (p : PeerNo) → IsSound k → IsSound (record k { places = shut_out p k.places })
+pub sound_shut : (k : Kept) (p : PeerNo) → IsSound k → IsSound (record k { addresses = shut_out p k.addresses })
 sound_shut k p h = record {
   in_range = h.in_range;
   few = h.few;
   standings = h.standings;
-  behaviours = h.behaviours;
-  apps = λ q. subst (λ z. unsigned_abs z ≤ 10 ^ 12) (sym (app_shut p q k.places)) (h.apps q);
-  places = omega (arith, length_shut p k.places, h.places);
+  misbehaviours = h.misbehaviours;
+  apps = λ q. subst (λ z. unsigned_abs z ≤ 10 ^ 12) (sym (app_shut p q k.addresses)) (h.apps q);
+  addresses = omega (arith, length_shut p k.addresses, h.addresses);
 }
 
 -- ---- all neighbours, one after the other
 
-entered : (es : List (PeerNo × Place)) (p : PeerNo) (x : Place) → list_any (same_peer p) (keys_of es) ≡ false → insert_entry same_peer es p x ≡ es ++ (p, x) ∷ []
+entered : (es : List (PeerNo × AddressEntry)) (p : PeerNo) (x : AddressEntry) → list_any (same_peer p) (keys_of es) ≡ false → insert_entry same_peer es p x ≡ es ++ (p, x) ∷ []
 entered [] p x h = refl
 entered (e ∷ es) p x h =
     let two = either_false (same_peer p e.0) (list_any (same_peer p) (keys_of es)) h in
@@ -125,32 +125,32 @@ unlike_push ks p (n ∷ ns) u h =
     let two = either_false (same_peer p n.peer) (list_any (same_peer p) (peers_of ns)) h in
     (any_push ks p n.peer u.0 (same_back p n.peer ∙ two.0), unlike_push ks p ns u.1 two.1)
 
-keys_push : (es : List (PeerNo × Place)) (p : PeerNo) (x : Place) → keys_of (es ++ (p, x) ∷ []) ≡ keys_of es ++ p ∷ []
+keys_push : (es : List (PeerNo × AddressEntry)) (p : PeerNo) (x : AddressEntry) → keys_of (es ++ (p, x) ∷ []) ≡ keys_of es ++ p ∷ []
 keys_push [] p x = refl
 keys_push (e ∷ es) p x = ap (λ ks. e.0 ∷ ks) (keys_push es p x)
 
-assoc : (es : List (PeerNo × Place)) (e : PeerNo × Place) (fs : List (PeerNo × Place)) → (es ++ e ∷ []) ++ fs ≡ es ++ e ∷ fs
+assoc : (es : List (PeerNo × AddressEntry)) (e : PeerNo × AddressEntry) (fs : List (PeerNo × AddressEntry)) → (es ++ e ∷ []) ++ fs ≡ es ++ e ∷ fs
 assoc [] e fs = refl
 assoc (d ∷ es) e fs = ap (λ rest. d ∷ rest) (assoc es e fs)
 
-nil : (es : List (PeerNo × Place)) → es ≡ es ++ []
+nil : (es : List (PeerNo × AddressEntry)) → es ≡ es ++ []
 nil [] = refl
 nil (e ∷ es) = ap (λ rest. e ∷ rest) (nil es)
 
-inserted : (es : List (PeerNo × Place)) (ns : List Neighbour) → Unlike (keys_of es) ns → Apart same_peer (peers_of ns) → insert_all same_peer es (map place_of ns) ≡ es ++ map place_of ns
+inserted : (es : List (PeerNo × AddressEntry)) (ns : List Neighbour) → Unlike (keys_of es) ns → Apart same_peer (peers_of ns) → insert_all same_peer es (map address_entry_of ns) ≡ es ++ map address_entry_of ns
 inserted es [] u d = nil es
 inserted es (n ∷ ns) u d =
-    let x : Place = record { app = n.app; address = n.address; counted = true } in
-    ap (λ done. insert_all same_peer done (map place_of ns)) (entered es n.peer x u.0)
+    let x : AddressEntry = record { app = n.app; address = n.address; counted = true } in
+    ap (λ done. insert_all same_peer done (map address_entry_of ns)) (entered es n.peer x u.0)
     ∙ inserted (es ++ (n.peer, x) ∷ []) ns
     (subst (λ ks. Unlike ks ns) (sym (keys_push es n.peer x)) (unlike_push (keys_of es) n.peer ns u.1 d.0)) d.1
-    ∙ assoc es (n.peer, x) (map place_of ns)
+    ∙ assoc es (n.peer, x) (map address_entry_of ns)
 
 like_none : (ns : List Neighbour) → Unlike [] ns
 like_none [] = tt
 like_none (n ∷ ns) = (refl, like_none ns)
 
-pub all_placed : (ns : List Neighbour) → IsAscending (peers_of ns) → insert_all same_peer [] (map place_of ns) ≡ map place_of ns
+pub all_placed : (ns : List Neighbour) → IsAscending (peers_of ns) → insert_all same_peer [] (map address_entry_of ns) ≡ map address_entry_of ns
 all_placed ns up = inserted [] ns (like_none ns) (apart_from_distinct same_peer (peers_of ns) (distinct_from_ascending (peers_of ns) up))
 
 -- ---- how many neighbours there are
@@ -176,18 +176,18 @@ few_neighbours (n ∷ ns) up last is small =
     = subst (λ (p : PeerNo). end ≤ p.0) peer (ascends (peers_of xs) up last.peer end (omega (arith, len, within))) in
     omega (arith, no_less, small)
 
-abbrev given_within : Option Place → Type 0
-given_within o = unsigned_abs (option_map_or (λ (x : Place). x.app) o (pos 0)) ≤ 10 ^ 12
+abbrev given_within : Option AddressEntry → Type 0
+given_within o = unsigned_abs (option_map_or (λ (x : AddressEntry). x.app) o (pos 0)) ≤ 10 ^ 12
 
-within_of : (o : Option Place) → IfSome o (λ (x : Place). unsigned_abs x.app ≤ 10 ^ 12) → given_within o
+within_of : (o : Option AddressEntry) → IfSome o (λ (x : AddressEntry). unsigned_abs x.app ≤ 10 ^ 12) → given_within o
 within_of None h = omega arith
 within_of (Some x) h = h
 
-apps_within : (ns : List Neighbour) → All (λ (n : Neighbour). unsigned_abs n.app ≤ 10 ^ 12) ns → (q : PeerNo) → unsigned_abs (app_of (map place_of ns) q) ≤ 10 ^ 12
+apps_within : (ns : List Neighbour) → All (λ (n : Neighbour). unsigned_abs n.app ≤ 10 ^ 12) ns → (q : PeerNo) → unsigned_abs (app_of (map address_entry_of ns) q) ≤ 10 ^ 12
 apps_within ns h q =
-    within_of (place_at (map place_of ns) q)
-    (All-lookup (λ (x : Place). unsigned_abs x.app ≤ 10 ^ 12) (same_peer q) (map place_of ns)
-    (All-map (λ (e : PeerNo × Place). unsigned_abs e.1.app ≤ 10 ^ 12) place_of ns h))
+    within_of (address_entry_at (map address_entry_of ns) q)
+    (All-lookup (λ (x : AddressEntry). unsigned_abs x.app ≤ 10 ^ 12) (same_peer q) (map address_entry_of ns)
+    (All-map (λ (e : PeerNo × AddressEntry). unsigned_abs e.1.app ≤ 10 ^ 12) address_entry_of ns h))
 
 -- ---- at first
 
@@ -196,14 +196,14 @@ pub sound_first : (params : Params) (ns : List Neighbour) (accounts : List (Peer
     → All (λ (n : Neighbour). unsigned_abs n.app ≤ 10 ^ 12) ns
     → length ns ≤ 65_536
     → ((q : PeerNo) → account_of accounts q ≡ nothing_counted)
-    → IsSound (record { params = params; places = insert_all same_peer [] (map place_of ns); accounts = accounts; tick = 0 })
+    → IsSound (record { params = params; addresses = insert_all same_peer [] (map address_entry_of ns); accounts = accounts; tick = 0 })
 sound_first params ns accounts range up apps few nothing = rw (all_placed ns up) (record {
   in_range = range;
   few = λ q. subst (λ (x : Account). length x.topics ≤ most_topics) (sym (nothing q)) (omega arith);
   standings = λ q t. subst (λ (x : Account). IsUpTo 0 (standing_in x.topics t)) (sym (nothing q)) up_to_first;
-  behaviours = λ q. subst (λ (x : Account). x.behaviour.tick ≤ 0) (sym (nothing q)) (omega arith);
+  misbehaviours = λ q. subst (λ (x : Account). x.misbehaviour.tick ≤ 0) (sym (nothing q)) (omega arith);
   apps = apps_within ns apps;
-  places = omega (arith, length-map ns place_of, few);
+  addresses = omega (arith, length-map ns address_entry_of, few);
 })
   where
     up_to_first : IsUpTo 0 fresh
@@ -216,14 +216,14 @@ pub agrees_first : (params : Params) (ns : List Neighbour) (accounts : List (Pee
     → IsAscending (peers_of ns)
     → ((q : PeerNo) → account_of accounts q ≡ nothing_counted)
     → ((q : PeerNo) → has_account accounts q ≡ list_any (λ (n : Neighbour). same_peer q n.peer) ns)
-    → Agrees (record { params = params; neighbours = ns }) (record { params = params; places = insert_all same_peer [] (map place_of ns); accounts = accounts; tick = 0 }) []
+    → Agrees (record { params = params; neighbours = ns }) (record { params = params; addresses = insert_all same_peer [] (map address_entry_of ns); accounts = accounts; tick = 0 }) []
 agrees_first params ns accounts up nothing all = record {
   params = refl;
   neighbours = all;
   decays = refl;
   holds = λ q t. ap (λ (x : Account). held_in params 0 x.topics t) (nothing q) ∙ fresh_held (rules_of params t) 0;
-  misbehaves = λ q. ap (λ (x : Account). read_at (behaviour_decay params) 0 x.behaviour) (nothing q) ∙ decayed_nothing (behaviour_decay params) (0 - 0);
+  misbehaves = λ q. ap (λ (x : Account). read_at (misbehaviour_decay params) 0 x.misbehaviour) (nothing q) ∙ decayed_nothing (misbehaviour_decay params) (0 - 0);
   knows = λ q t. ap (λ (x : Account). has_topic x.topics t) (nothing q);
   counts = λ q. ap (λ (x : Account). length x.topics) (nothing q);
-  places = all_placed ns up;
+  addresses = all_placed ns up;
 }

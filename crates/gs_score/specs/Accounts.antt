@@ -7,7 +7,7 @@ use Rattle.gs_base.specs.declared.names.Topic.{Topic}
 use Rattle.gs_base.specs.Names.{same_topic}
 use Rattle.gs_params.specs.declared.params.Params.{Params}
 use Rattle.gs_params.specs.declared.topic_params.TopicFactors.{TopicFactors}
-use Rattle.gs_params.specs.declared.topic_params.TopicWindows.{TopicWindows}
+use Rattle.gs_params.specs.declared.topic_params.TopicTiming.{TopicTiming}
 use Rattle.gs_params.specs.declared.topic_params.TopicParams.{TopicParams}
 use Rattle.gs_params.specs.Params.{default_topic_params}
 use Rattle.gs_score.specs.declared.counter.Decay.{Decay}
@@ -22,20 +22,20 @@ use Rattle.gs_score.specs.Formula.{topic_part}
 abbrev pub params_in : List (Topic × TopicParams) → Topic → TopicParams
 params_in topics t = unwrap_or (lookup (same_topic t) topics) default_topic_params
 
-abbrev pub factors_in : List (Topic × TopicParams) → Topic → TopicFactors × TopicWindows
+abbrev pub factors_in : List (Topic × TopicParams) → Topic → TopicFactors × TopicTiming
 factors_in topics t =
-    ((params_in topics t).factors, (params_in topics t).windows)
+    ((params_in topics t).factors, (params_in topics t).timing)
 
 abbrev pub rules_of : Params → Topic → TopicRules
 rules_of params t = record {
   factors = (params_in params.topics t).factors;
-  windows = (params_in params.topics t).windows;
+  timing = (params_in params.topics t).timing;
   decay_to_zero = params.factors.decay_to_zero;
 }
 
 -- how misbehaviour decays
-abbrev pub behaviour_decay : Params → Decay
-behaviour_decay params = record { factor = params.factors.p7_decay; floor = params.factors.decay_to_zero }
+abbrev pub misbehaviour_decay : Params → Decay
+misbehaviour_decay params = record { factor = params.factors.p7_decay; floor = params.factors.decay_to_zero }
 
 -- ---- what a neighbour has on topics
 

@@ -10,7 +10,7 @@ use Rattle.gs_score.specs.Standings.{Held}
 -- P1, time in mesh: one for each whole quantum in the mesh, up to a cap
 abbrev pub p1 : TopicRules → ℕ → Option Millis → ℕ
 p1 r now None = 0
-p1 r now (Some since) = min (1_000_000 * ((now - since.0) / r.windows.p1_quantum_ms)) r.factors.p1_cap
+p1 r now (Some since) = min (1_000_000 * ((now - since.0) / r.timing.p1_quantum_ms)) r.factors.p1_cap
 
 -- P2, first message deliveries
 abbrev pub p2 : Held → ℕ
@@ -19,7 +19,7 @@ p2 h = h.first
 -- in the mesh for as long as a new member has time
 abbrev pub is_active : TopicRules → ℕ → Option Millis → Bool
 is_active r now None = false
-is_active r now (Some since) = nat_le r.windows.p3_activation_ms (now - since.0)
+is_active r now (Some since) = nat_le r.timing.p3_activation_ms (now - since.0)
 
 -- P3, mesh message delivery rate: the square of what is missing to the threshold, of a member that is active
 abbrev pub p3 : TopicRules → ℕ → Held → ℕ
@@ -61,7 +61,7 @@ p6 threshold n = if nat_lt threshold n then squared (1_000_000 * (n - threshold)
 
 -- P7, behavioural penalty
 abbrev pub p7 : ℕ → ℕ
-p7 behaviour = squared behaviour
+p7 misbehaviour = squared misbehaviour
 
 -- at most the cap, where there is one
 abbrev pub capped : ℕ → ℤ → ℤ
@@ -70,8 +70,8 @@ capped cap x = if nat_lt 0 cap then int_min x (pos cap) else x
 -- the score of a neighbour with this sum over topics, this score of the application, so many neighbours at its address,
 -- and this misbehaviour
 unfoldable pub score_of : Factors → ℤ → ℤ → ℕ → ℕ → ℤ
-score_of f topics app n behaviour =
+score_of f topics app n misbehaviour =
     capped f.topic_cap topics
     +ℤ times f.w5 (p5 app)
     +ℤ times f.w6 (pos (p6 f.p6_threshold n))
-    +ℤ times f.w7 (pos (p7 behaviour))
+    +ℤ times f.w7 (pos (p7 misbehaviour))

@@ -12,16 +12,16 @@ use Rattle.gs_base.specs.Names.{same_peer, same_topic}
 use Rattle.gs_params.specs.declared.params.Params.{Params}
 use Rattle.gs_score.specs.declared.accounts.Account.{Account}
 use Rattle.gs_score.specs.declared.counter.Decay.{Decay}
-use Rattle.gs_score.specs.declared.places.Place.{Place}
+use Rattle.gs_score.specs.declared.addresses.AddressEntry.{AddressEntry}
 use Rattle.gs_score.specs.declared.rules.TopicRules.{TopicRules}
 use Rattle.gs_score.specs.declared.standing.Kind.{Kind}
 use Rattle.gs_score.specs.declared.standing.Kind.TheVariants.{First, Near, Deficit, Invalid}
 use Rattle.gs_score.specs.Counters.{decay_step, most_counted, raised, read_at}
 use Rattle.gs_score.specs.Standings.{Held, decayed_held, nothing_held, raised_held, raised_standing}
 use Rattle.gs_score.specs.Formula.{score_of}
-use Rattle.gs_score.specs.Accounts.{behaviour_decay, has_topic, held_in, rules_of, topic_sum}
-use Rattle.gs_score.specs.Places.{app_of, number_with, place_of, shut_out}
-use Rattle.gs_score.specs.Ledgers.{BlamesIn, has_room, Kept, PutsIn, behaviour_of, has_account, same_pair, standing_of, topics_of}
+use Rattle.gs_score.specs.Accounts.{has_topic, held_in, misbehaviour_decay, rules_of, topic_sum}
+use Rattle.gs_score.specs.Addresses.{address_entry_of, app_of, number_with, shut_out}
+use Rattle.gs_score.specs.Ledgers.{BlamesIn, has_room, Kept, PutsIn, misbehaviour_of, has_account, same_pair, standing_of, topics_of}
 
 -- ---- what marks raise
 
@@ -30,8 +30,8 @@ abbrev pub one : ℕ
 one = 1_000_000
 
 -- what a deficit adds: no counter holds more
-abbrev pub charge : ℤ → ℕ
-charge z = if int_lt z (pos 0) then 0 else min (unsigned_abs z) most_counted
+abbrev pub capped_deficit : ℤ → ℕ
+capped_deficit z = if int_lt z (pos 0) then 0 else min (unsigned_abs z) most_counted
 
 -- a counter of a neighbour on a topic, and by how much it is raised
 pub record Raise : Type 0 where
@@ -47,13 +47,13 @@ is_known accounts x = has_topic (topics_of accounts x.peer) x.topic
 abbrev pub raise_of : Mark → Option Raise
 raise_of (marks.First p t id) = Some (record { peer = p; topic = t; kind = First; by = one })
 raise_of (marks.Near p t id) = Some (record { peer = p; topic = t; kind = Near; by = one })
-raise_of (marks.Deficit p t z) = Some (record { peer = p; topic = t; kind = Deficit; by = charge z })
+raise_of (marks.Deficit p t z) = Some (record { peer = p; topic = t; kind = Deficit; by = capped_deficit z })
 raise_of (marks.Invalid p t) = Some (record { peer = p; topic = t; kind = Invalid; by = one })
 raise_of mark = None
 
 -- who misbehaved
 abbrev pub blamed : Mark → Option PeerNo
-blamed (marks.Behaviour p) = Some p
+blamed (marks.Misbehaviour p) = Some p
 blamed mark = None
 
 -- whom a mark concerns is a neighbour, with room for the topic
@@ -62,7 +62,7 @@ accepts accounts (marks.First p t id) = has_room accounts p t
 accepts accounts (marks.Near p t id) = has_room accounts p t
 accepts accounts (marks.Deficit p t z) = has_room accounts p t
 accepts accounts (marks.Invalid p t) = has_room accounts p t
-accepts accounts (marks.Behaviour p) = has_account accounts p
+accepts accounts (marks.Misbehaviour p) = has_account accounts p
 accepts accounts mark = true
 
 -- a counter of a neighbour on a topic is raised, as it is at the tick
@@ -74,11 +74,11 @@ RaisesIn old new p t kind by =
 abbrev pub Applies : Kept → Kept → Mark → Type 0
 Applies old new (marks.First p t id) = RaisesIn old new p t First one
 Applies old new (marks.Near p t id) = RaisesIn old new p t Near one
-Applies old new (marks.Deficit p t z) = RaisesIn old new p t Deficit (charge z)
+Applies old new (marks.Deficit p t z) = RaisesIn old new p t Deficit (capped_deficit z)
 Applies old new (marks.Invalid p t) = RaisesIn old new p t Invalid one
-Applies old new (marks.Behaviour p) =
+Applies old new (marks.Misbehaviour p) =
     BlamesIn old new p (record {
-      value = raised most_counted one (read_at (behaviour_decay old.params) old.tick (behaviour_of old.accounts p));
+      value = raised most_counted one (read_at (misbehaviour_decay old.params) old.tick (misbehaviour_of old.accounts p));
       tick = old.tick;
     })
 Applies old new mark = new ≡ old
@@ -145,14 +145,14 @@ misbehaved_after d q c x = x
 
 abbrev pub misbehaviour : Params → History → PeerNo → ℕ
 misbehaviour params [] q = 0
-misbehaviour params (c ∷ H) q = misbehaved_after (behaviour_decay params) q c (misbehaviour params H q)
+misbehaviour params (c ∷ H) q = misbehaved_after (misbehaviour_decay params) q c (misbehaviour params H q)
 
 -- ---- where neighbours are
 
-abbrev pub places_in : List Neighbour → History → List (PeerNo × Place)
-places_in neighbours [] = map place_of neighbours
-places_in neighbours (ShutOut p ∷ H) = shut_out p (places_in neighbours H)
-places_in neighbours (c ∷ H) = places_in neighbours H
+abbrev pub addresses_in : List Neighbour → History → List (PeerNo × AddressEntry)
+addresses_in neighbours [] = map address_entry_of neighbours
+addresses_in neighbours (ShutOut p ∷ H) = shut_out p (addresses_in neighbours H)
+addresses_in neighbours (c ∷ H) = addresses_in neighbours H
 
 -- ---- scores
 
@@ -166,8 +166,8 @@ abbrev pub score_in : Setting → ℕ → History → PeerNo → List Topic → 
 score_in setting now H q ts =
     score_of setting.params.factors
     (topic_sum setting.params now (held_by setting.params H q) ts)
-    (app_of (places_in setting.neighbours H) q)
-    (number_with (places_in setting.neighbours H) q)
+    (app_of (addresses_in setting.neighbours H) q)
+    (number_with (addresses_in setting.neighbours H) q)
     (misbehaviour setting.params H q)
 
 -- what is kept says what happened
@@ -181,8 +181,8 @@ pub record Agrees (setting : Setting) (k : Kept) (H : History) : Type 0 where
       → held_in setting.params k.tick (topics_of k.accounts q) t ≡ held_by setting.params H q t
   pub misbehaves
       : (q : PeerNo)
-      → read_at (behaviour_decay setting.params) k.tick (behaviour_of k.accounts q) ≡ misbehaviour setting.params H q
+      → read_at (misbehaviour_decay setting.params) k.tick (misbehaviour_of k.accounts q) ≡ misbehaviour setting.params H q
   -- it has something on the topics that are named, each once, and on no other
   pub knows : (q : PeerNo) (t : Topic) → has_topic (topics_of k.accounts q) t ≡ list_any (same_topic t) (named H q)
   pub counts : (q : PeerNo) → length (topics_of k.accounts q) ≡ length (named H q)
-  pub places : k.places ≡ places_in setting.neighbours H
+  pub addresses : k.addresses ≡ addresses_in setting.neighbours H

@@ -8,19 +8,19 @@ use Rattle.gs_base.specs.Names.{same_peer, same_topic, most_topics}
 use Rattle.gs_params.specs.declared.params.Params.{Params}
 use Rattle.gs_params.specs.Params.{AreInRange}
 use Rattle.gs_score.specs.declared.accounts.Account.{Account}
-use Rattle.gs_score.specs.declared.places.Place.{Place}
+use Rattle.gs_score.specs.declared.addresses.AddressEntry.{AddressEntry}
 use Rattle.gs_score.specs.declared.standing.Standing.{Standing}
 use Rattle.gs_score.specs.Counters.{Stored}
 use Rattle.gs_score.specs.Standings.{no_count}
 use Rattle.gs_score.specs.Accounts.{AddsTopic, KeepsTopics, has_topic, standing_in}
-use Rattle.gs_score.specs.Places.{app_of}
+use Rattle.gs_score.specs.Addresses.{app_of}
 use Rattle.gs_score.specs.Ranges.{IsUpTo}
 
 -- ---- by neighbour
 
 -- nothing yet
 abbrev pub nothing_counted : Account
-nothing_counted = record { topics = []; behaviour = no_count }
+nothing_counted = record { topics = []; misbehaviour = no_count }
 
 abbrev pub account_of : List (PeerNo × Account) → PeerNo → Account
 account_of accounts q = unwrap_or (lookup (same_peer q) accounts) nothing_counted
@@ -38,8 +38,8 @@ topics_of accounts q = (account_of accounts q).topics
 abbrev pub standing_of : List (PeerNo × Account) → PeerNo → Topic → Standing
 standing_of accounts q t = standing_in (topics_of accounts q) t
 
-abbrev pub behaviour_of : List (PeerNo × Account) → PeerNo → Stored
-behaviour_of accounts q = (account_of accounts q).behaviour
+abbrev pub misbehaviour_of : List (PeerNo × Account) → PeerNo → Stored
+misbehaviour_of accounts q = (account_of accounts q).misbehaviour
 
 -- a neighbour has something on a topic, or room for one more
 abbrev pub has_room : List (PeerNo × Account) → PeerNo → Topic → Bool
@@ -57,7 +57,7 @@ pub record Puts (old new : List (PeerNo × Account)) (p : PeerNo) (t : Topic) (s
   pub standings
       : (q : PeerNo) (u : Topic)
       → standing_of new q u ≡ (if same_pair p t q u then s else standing_of old q u)
-  pub behaviours : (q : PeerNo) → behaviour_of new q ≡ behaviour_of old q
+  pub misbehaviours : (q : PeerNo) → misbehaviour_of new q ≡ misbehaviour_of old q
   pub accounts : (q : PeerNo) → has_account new q ≡ has_account old q
 
 -- a neighbour has something on this topic now, and else each on those of before
@@ -72,7 +72,7 @@ Keeps old new = (q : PeerNo) → KeepsTopics (topics_of old q) (topics_of new q)
 -- a neighbour gets this as its misbehaviour, and all else stays
 pub record Blames (old new : List (PeerNo × Account)) (p : PeerNo) (c : Stored) : Type 0 where
   pub topics : (q : PeerNo) → topics_of new q ≡ topics_of old q
-  pub behaviours : (q : PeerNo) → behaviour_of new q ≡ (if same_peer p q then c else behaviour_of old q)
+  pub misbehaviours : (q : PeerNo) → misbehaviour_of new q ≡ (if same_peer p q then c else misbehaviour_of old q)
   pub accounts : (q : PeerNo) → has_account new q ≡ has_account old q
 
 -- ---- all that is kept
@@ -80,7 +80,7 @@ pub record Blames (old new : List (PeerNo × Account)) (p : PeerNo) (c : Stored)
 -- the parameters, where neighbours are, what each has, and how often it decayed
 pub record Kept : Type 0 where
   pub params : Params
-  pub places : List (PeerNo × Place)
+  pub addresses : List (PeerNo × AddressEntry)
   pub accounts : List (PeerNo × Account)
   pub tick : ℕ
 
@@ -90,9 +90,9 @@ pub record IsSound (k : Kept) : Type 0 where
   pub in_range : AreInRange k.params
   pub few : AreFew k.accounts
   pub standings : (q : PeerNo) (t : Topic) → IsUpTo k.tick (standing_of k.accounts q t)
-  pub behaviours : (q : PeerNo) → (behaviour_of k.accounts q).tick ≤ k.tick
-  pub apps : (q : PeerNo) → unsigned_abs (app_of k.places q) ≤ 10 ^ 12
-  pub places : length k.places ≤ 65_536
+  pub misbehaviours : (q : PeerNo) → (misbehaviour_of k.accounts q).tick ≤ k.tick
+  pub apps : (q : PeerNo) → unsigned_abs (app_of k.addresses q) ≤ 10 ^ 12
+  pub addresses : length k.addresses ≤ 65_536
 
 -- a neighbour gets this on a topic, and all else stays
 pub record PutsIn (old new : Kept) (p : PeerNo) (t : Topic) (s : Standing) : Type 0 where

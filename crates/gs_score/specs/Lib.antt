@@ -4,6 +4,6 @@ pub mod Standings
 pub mod Ranges
 pub mod Formula
 pub mod Accounts
-pub mod Places
+pub mod Addresses
 pub mod Ledgers
 pub mod Histories

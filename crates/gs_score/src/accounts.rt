@@ -7,13 +7,13 @@ ghost use Rattle.gs_base.specs.declared.neighbour.Neighbour.{Neighbour as Neighb
 ghost use Rattle.gs_params.specs.Params.{AreInRange};
 ghost use Rattle.gs_score.specs.Accounts.{Covers, has_topic, held_in, topic_sum};
 ghost use Rattle.gs_score.specs.Counters.{most_counted, raised, read_at};
-ghost use Rattle.gs_score.specs.Ledgers.{Adds, AreFew, Blames, Keeps, has_room, Puts, account_of, behaviour_of, has_account, nothing_counted, standing_of, topics_of};
+ghost use Rattle.gs_score.specs.Ledgers.{Adds, AreFew, Blames, Keeps, has_room, Puts, account_of, misbehaviour_of, has_account, nothing_counted, standing_of, topics_of};
 ghost use Rattle.gs_score.specs.Ranges.{RulesAreInRange};
 ghost use Rattle.gs_score.specs.Standings.{grafted, pruned, raised_by};
 
 use crate::counter::{Counter, Decay, MOST_COUNTED};
 use crate::standing::{Raise, Standing};
-use crate::topics::Topics;
+use crate::topic_standings::TopicStandings;
 use gs_base::{Millis, Neighbour, PeerNo, Topic};
 use gs_params::Params;
 use indexmap::IndexMap;
@@ -23,9 +23,9 @@ use std::alloc::{AllocError, Global};
 #[derive(Drop)]
 pub struct Account {
     /// What counts on single topics (P1 to P4).
-    pub topics: Topics,
+    pub topics: TopicStandings,
     /// How it misbehaved, whatever the topic (P7).
-    pub behaviour: Counter,
+    pub misbehaviour: Counter,
 }
 
 /// Nothing is counted of any neighbour yet.
@@ -45,8 +45,8 @@ pub(crate) fn open_accounts(
     let mut accounts = IndexMap::new(alloc);
     for neighbour in neighbours {
         let account = Account {
-            topics: Topics::new(alloc),
-            behaviour: Counter::new(),
+            topics: TopicStandings::new(alloc),
+            misbehaviour: Counter::new(),
         };
         accounts.insert(neighbour.peer, account)?;
     }
@@ -66,11 +66,11 @@ pub(crate) fn standing_of(
     }
 }
 
-pub(crate) fn behaviour_of(accounts: &IndexMap<PeerNo, Account>, peer: PeerNo) -> Counter
-    ensures { result ≡ behaviour_of accounts.now.entries peer }
+pub(crate) fn misbehaviour_of(accounts: &IndexMap<PeerNo, Account>, peer: PeerNo) -> Counter
+    ensures { result ≡ misbehaviour_of accounts.now.entries peer }
 {
     match accounts.get(&peer) {
-        Some(account) => account.behaviour,
+        Some(account) => account.misbehaviour,
         None => Counter::new(),
     }
 }
@@ -173,12 +173,12 @@ pub(crate) fn blame(
     requires known { has_account accounts.old.entries peer ≡ true }
     requires factor { decay.factor ≤ 10 ^ 6 }
     ensures { Blames accounts.old.entries accounts.new.entries peer (record {
-      value = raised most_counted by (read_at decay tick (behaviour_of accounts.old.entries peer));
+      value = raised most_counted by (read_at decay tick (misbehaviour_of accounts.old.entries peer));
       tick = tick;
     }) }
 {
     if let Some(account) = accounts.get_mut(&peer) {
-        account.behaviour.raise(by, MOST_COUNTED, decay, tick);
+        account.misbehaviour.raise(by, MOST_COUNTED, decay, tick);
     }
 }
 

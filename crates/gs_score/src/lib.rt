@@ -3,16 +3,17 @@
 #![tactic(auto)]
 
 mod accounts;
+mod addresses;
 mod counter;
 mod laws;
 mod millionths;
-mod places;
 mod rules;
 mod score;
 mod scores;
 mod standing;
-mod topics;
+mod topic_standings;
 
+pub use addresses::{AddressEntry, Addresses};
 pub use counter::{Counter, Decay, MOST_COUNTED};
 pub use laws::{
     a_later_read_decays_on, a_standing_decays_by_its_counters, changes_name_all_that_is_named,
@@ -20,9 +21,8 @@ pub use laws::{
     there_is_room_for_what_fits_a_list,
 };
 pub use millionths::{scaled, squared, times};
-pub use places::{Place, Places};
 pub use rules::TopicRules;
 pub use score::score_of;
 pub use scores::Scores;
 pub use standing::{Kind, Raise, Standing};
-pub use topics::Topics;
+pub use topic_standings::TopicStandings;

@@ -9,7 +9,7 @@ use crate::counter::{Decay, MOST_COUNTED};
 use crate::standing::Kind;
 use gs_base::{Millis, Topic};
 use gs_params::{
-    DEFAULT_TOPIC_FACTORS, DEFAULT_TOPIC_WINDOWS, Params, TopicFactors, TopicParams, TopicWindows,
+    DEFAULT_TOPIC_FACTORS, DEFAULT_TOPIC_TIMING, Params, TopicFactors, TopicParams, TopicTiming,
 };
 
 /// How a topic is scored (gossipsub v1.1, Peer Scoring, Topic Parameters).
@@ -18,7 +18,7 @@ pub struct TopicRules {
     /// Its weights, factors and caps.
     pub factors: TopicFactors,
     /// Its times, in milliseconds.
-    pub windows: TopicWindows,
+    pub timing: TopicTiming,
     /// A counter that decays below this becomes 0, in millionths: 0 to 10^12. It is the same for all topics.
     pub decay_to_zero: u64,
 }
@@ -31,10 +31,10 @@ impl TopicRules {
         ensures value { result ≡ rules_of params.now topic.now }
         ensures in_range { RulesAreInRange result }
     {
-        let (factors, windows) = factors_of(params.topics.as_slice(), topic);
+        let (factors, timing) = factors_of(params.topics.as_slice(), topic);
         TopicRules {
             factors,
-            windows,
+            timing,
             decay_to_zero: params.factors.decay_to_zero,
         }
     }
@@ -77,7 +77,7 @@ impl TopicRules {
         ensures { result ≡ is_active self.now now.0 since }
     {
         match since {
-            Some(since) => self.windows.p3_activation_ms <= now.0.saturating_sub(since.0),
+            Some(since) => self.timing.p3_activation_ms <= now.0.saturating_sub(since.0),
             None => false,
         }
     }
@@ -90,7 +90,7 @@ impl TopicRules {
     {
         match since {
             Some(since) => {
-                let quanta = now.0.saturating_sub(since.0) / self.windows.p1_quantum_ms;
+                let quanta = now.0.saturating_sub(since.0) / self.timing.p1_quantum_ms;
                 quanta.saturating_mul(1_000_000).min(self.factors.p1_cap)
             }
             None => 0,
@@ -99,13 +99,13 @@ impl TopicRules {
 }
 
 /// The factors and the times of a topic: those of its first parameters, and the defaults where it has none.
-fn factors_of(topics: &[(Topic, TopicParams)], topic: &Topic) -> (TopicFactors, TopicWindows)
+fn factors_of(topics: &[(Topic, TopicParams)], topic: &Topic) -> (TopicFactors, TopicTiming)
     ensures { result ≡ factors_in topics.now topic.now }
 {
     for (other, found) in topics {
         if topic == other {
-            return (found.factors, found.windows);
+            return (found.factors, found.timing);
         }
     }
-    (DEFAULT_TOPIC_FACTORS, DEFAULT_TOPIC_WINDOWS)
+    (DEFAULT_TOPIC_FACTORS, DEFAULT_TOPIC_TIMING)
 }

@@ -10,19 +10,19 @@ use gs_params::Factors;
 /// either way), how many neighbours are at its address (P6, at most 10^6) and its misbehaviour (P7, at most
 /// 10^12). It is at most 10^30 either way.
 #[tactic(auto, unfolding(crate::specs::Formula::score_of))]
-pub fn score_of(factors: &Factors, topics: i128, app: i128, number: u64, behaviour: u64) -> i128
+pub fn score_of(factors: &Factors, topics: i128, app: i128, number: u64, misbehaviour: u64) -> i128
     requires in_range { FactorsAreInRange factors.now }
     requires topics { unsigned_abs topics ≤ 10 ^ 29 }
     requires app { unsigned_abs app ≤ 10 ^ 12 }
     requires number { number ≤ 10 ^ 6 }
-    requires behaviour { behaviour ≤ 10 ^ 12 }
-    ensures value { result ≡ score_of factors.now topics app number behaviour }
+    requires misbehaviour { misbehaviour ≤ 10 ^ 12 }
+    ensures value { result ≡ score_of factors.now topics app number misbehaviour }
     ensures bound { unsigned_abs result ≤ 10 ^ 30 }
 {
     let held = capped(factors.topic_cap, topics);
     let given = weighed_sum(factors.w5, app);
     let crowded = weighed(factors.w6, crowd(factors.p6_threshold, number));
-    let misbehaved = weighed(factors.w7, squared(behaviour));
+    let misbehaved = weighed(factors.w7, squared(misbehaviour));
     sum_of_four(held, given, crowded, misbehaved)
 }
 

@@ -4,20 +4,20 @@ ghost use Rattle.gs_base.specs.declared.names.Topic.{Topic as TopicValue};
 ghost use Rattle.gs_base.specs.declared.neighbour.Neighbour.{Neighbour as NeighbourValue};
 ghost use Rattle.gs_params.specs.Params.{AreInRange, FactorsAreInRange};
 ghost use Rattle.gs_params.specs.Picks.{IsAscending};
-ghost use Rattle.gs_score.specs.Accounts.{Covers, behaviour_decay, has_topic, rules_of};
+ghost use Rattle.gs_score.specs.Accounts.{Covers, has_topic, misbehaviour_decay, rules_of};
 ghost use Rattle.gs_score.specs.Counters.{most_counted, raised, read_at};
 ghost use Rattle.gs_score.specs.Formula.{p3};
-ghost use Rattle.gs_score.specs.Histories.{Agrees, Applies, Decayed, Grafted, History, Left, Marked, Setting, ShutOut, accepts, charge, held_by, is_known, misbehaviour, one, raise_of, score_in};
-ghost use Rattle.gs_score.specs.Ledgers.{BlamesIn, PutsIn, ReplacesIn, behaviour_of, has_account, has_room, standing_of, topics_of};
-ghost use Rattle.gs_score.specs.Places.{shut_out};
+ghost use Rattle.gs_score.specs.Histories.{Agrees, Applies, Decayed, Grafted, History, Left, Marked, Setting, ShutOut, accepts, capped_deficit, held_by, is_known, misbehaviour, one, raise_of, score_in};
+ghost use Rattle.gs_score.specs.Ledgers.{BlamesIn, PutsIn, ReplacesIn, has_account, has_room, misbehaviour_of, standing_of, topics_of};
+ghost use Rattle.gs_score.specs.Addresses.{shut_out};
 ghost use Rattle.gs_score.specs.Standings.{count, grafted, pruned, raised_standing, stored};
 
 use crate::accounts::{
-    Account, behaviour_of, blame, graft_standing, has_account, has_room, open_accounts,
+    Account, blame, graft_standing, has_account, has_room, misbehaviour_of, open_accounts,
     prune_standing, raise_standing, standing_of, sum_of,
 };
+use crate::addresses::Addresses;
 use crate::counter::{Decay, MOST_COUNTED};
-use crate::places::Places;
 use crate::rules::TopicRules;
 use crate::score::score_of;
 use crate::standing::{Kind, Raise};
@@ -37,7 +37,7 @@ const ONE: u64 = 1_000_000;
 #[derive(Drop)]
 pub struct Scores {
     params: Params,
-    places: Places,
+    addresses: Addresses,
     accounts: IndexMap<PeerNo, Account>,
     tick: u64,
 }
@@ -49,14 +49,14 @@ impl Model for Scores {
 
     ghost view = { λ s. record {
       params = s.params;
-      places = s.places;
+      addresses = s.addresses;
       accounts = s.accounts.entries;
       tick = s.tick;
     } };
 
     ghost invariant = { λ s. IsSound (record {
       params = s.params;
-      places = s.places;
+      addresses = s.addresses;
       accounts = s.accounts.entries;
       tick = s.tick;
     }) };
@@ -79,13 +79,13 @@ impl Scores {
         ensures { IfOk result (λ scores.
             Agrees (record { params = params.now; neighbours = neighbours.now }) scores []) }
     {
-        count_numbers(neighbours);
-        let places = Places::new(alloc, neighbours)?;
+        prove_numbers_are_few(neighbours);
+        let addresses = Addresses::new(alloc, neighbours)?;
         let accounts = open_accounts(alloc, neighbours)?;
         let params = clone_of(params)?;
         Ok(Scores {
             params,
-            places,
+            addresses,
             accounts,
             tick: 0,
         })
@@ -108,7 +108,7 @@ impl Scores {
             Mark::Near(peer, topic, _id) => has_room(&self.accounts, *peer, topic),
             Mark::Deficit(peer, topic, _amount) => has_room(&self.accounts, *peer, topic),
             Mark::Invalid(peer, topic) => has_room(&self.accounts, *peer, topic),
-            Mark::Behaviour(peer) => has_account(&self.accounts, *peer),
+            Mark::Misbehaviour(peer) => has_account(&self.accounts, *peer),
             _ => true,
         }
     }
@@ -146,14 +146,14 @@ impl Scores {
                 Ok(())
             }
             Mark::Deficit(peer, topic, amount) => {
-                self.raise(*peer, topic, Kind::Deficit, charge(amount))?;
+                self.raise(*peer, topic, Kind::Deficit, capped_deficit(amount))?;
                 Ok(())
             }
             Mark::Invalid(peer, topic) => {
                 self.raise(*peer, topic, Kind::Invalid, ONE)?;
                 Ok(())
             }
-            Mark::Behaviour(peer) => {
+            Mark::Misbehaviour(peer) => {
                 self.blame(*peer);
                 Ok(())
             }
@@ -217,9 +217,9 @@ impl Scores {
     /// A neighbour went for good: it counts no more at its address. It takes no memory.
     pub fn shut_out(&mut self, peer: PeerNo)
         ensures agrees { (s : Setting) (H : History) → Agrees s self.old H → Agrees s self.new (ShutOut peer ∷ H) }
-        ensures keeps { self.new ≡ record self.old { places = shut_out peer self.old.places } }
+        ensures keeps { self.new ≡ record self.old { addresses = shut_out peer self.old.addresses } }
     {
-        self.places.shut_out(peer);
+        self.addresses.shut_out(peer);
     }
 
     /// A counter of a neighbour on a topic, in millionths: 0 to 10^12.
@@ -234,11 +234,11 @@ impl Scores {
     }
 
     /// How a neighbour misbehaved, whatever the topic, in millionths: 0 to 10^12.
-    pub fn behaviour(&self, peer: PeerNo) -> u64
+    pub fn misbehaviour(&self, peer: PeerNo) -> u64
         ensures value { (s : Setting) (H : History) → Agrees s self.now H → result ≡ misbehaviour s.params H peer }
         ensures most { result ≤ 10 ^ 12 }
     {
-        behaviour_of(&self.accounts, peer).read(behaviour_decay(&self.params), self.tick)
+        misbehaviour_of(&self.accounts, peer).read(misbehaviour_decay(&self.params), self.tick)
     }
 
     /// What is kept of a counter: a value in millionths, and the number of decays up to which it was decayed. Both
@@ -263,13 +263,13 @@ impl Scores {
             → result ≡ score_in s now.0 H peer topics }
     {
         let topics = sum_of(&self.accounts, peer, &self.params, self.tick, now);
-        let app = self.places.app(peer);
-        let number = self.places.number_with(peer);
-        let behaviour = behaviour_of(&self.accounts, peer).read(
-            behaviour_decay(&self.params),
+        let app = self.addresses.app(peer);
+        let number = self.addresses.number_with(peer);
+        let misbehaviour = misbehaviour_of(&self.accounts, peer).read(
+            misbehaviour_decay(&self.params),
             self.tick,
         );
-        score_of(&self.params.factors, topics, app, number, behaviour)
+        score_of(&self.params.factors, topics, app, number, misbehaviour)
     }
 
     /// Raises a counter of a neighbour on a topic.
@@ -300,19 +300,19 @@ impl Scores {
         requires known { has_account self.old.accounts peer ≡ true }
         ensures { BlamesIn self.old self.new peer (record {
           value = raised most_counted one
-              (read_at (behaviour_decay self.old.params) self.old.tick (behaviour_of self.old.accounts peer));
+              (read_at (misbehaviour_decay self.old.params) self.old.tick (misbehaviour_of self.old.accounts peer));
           tick = self.old.tick;
         }) }
     {
-        let decay = behaviour_decay(&self.params);
+        let decay = misbehaviour_decay(&self.params);
         blame(&mut self.accounts, peer, ONE, decay, self.tick);
     }
 }
 
 /// How misbehaviour decays.
-fn behaviour_decay(params: &Params) -> Decay
+fn misbehaviour_decay(params: &Params) -> Decay
     requires in_range { AreInRange params.now }
-    ensures value { result ≡ behaviour_decay params.now }
+    ensures value { result ≡ misbehaviour_decay params.now }
     ensures factor { result.factor ≤ 10 ^ 6 }
 {
     Decay {
@@ -322,8 +322,8 @@ fn behaviour_decay(params: &Params) -> Decay
 }
 
 /// What a deficit adds to a counter, which holds no more than 10^12.
-fn charge(amount: &i128) -> u64
-    ensures { result ≡ charge amount.now }
+fn capped_deficit(amount: &i128) -> u64
+    ensures { result ≡ capped_deficit amount.now }
 {
     if *amount < 0 {
         return 0;
@@ -332,16 +332,16 @@ fn charge(amount: &i128) -> u64
 }
 
 /// Neighbours with ascending numbers are at most 65,536, as numbers have 16 bits.
-fn count_numbers(neighbours: &[Neighbour])
+fn prove_numbers_are_few(neighbours: &[Neighbour])
     requires { IsAscending (peers_of neighbours.now) }
     ensures { length neighbours.now ≤ 65_536 }
 {
     if let Some(last) = neighbours.last() {
-        fits(last.peer.0);
+        prove_number_fits(last.peer.0);
     }
 }
 
 /// A number has 16 bits.
-fn fits(number: u16)
+fn prove_number_fits(number: u16)
     ensures { number < 65_536 }
 {}

@@ -17,7 +17,7 @@ impl fmt::Display for Broken {
             ParamFault::Degrees(check)
             | ParamFault::Thresholds(check)
             | ParamFault::Factor(check)
-            | ParamFault::Window(check) => check,
+            | ParamFault::Timing(check) => check,
         };
         match check {
             Check::Count(parameter, value, rule) => {

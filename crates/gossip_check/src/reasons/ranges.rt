@@ -1,8 +1,8 @@
 //! The ranges of parameters.
 use crate::reasons::params::key_of;
 use gs_params::{
-    Check, CountRule, DEFAULT_DEGREES, DEFAULT_FACTORS, DEFAULT_THRESHOLDS, DEFAULT_TOPIC_FACTORS,
-    DEFAULT_TOPIC_WINDOWS, DEFAULT_WINDOWS, ScoreRule,
+    Check, CountRule, DEFAULT_DEGREES, DEFAULT_FACTORS, DEFAULT_THRESHOLDS, DEFAULT_TIMING,
+    DEFAULT_TOPIC_FACTORS, DEFAULT_TOPIC_TIMING, ScoreRule,
 };
 
 /// The lowest and the highest number that a key can have, where it is a parameter's. Where its rule
@@ -25,9 +25,9 @@ fn own_range(key: &str) -> Option<(i64, i64)> {
     range_in(&DEFAULT_DEGREES.checks(), key)
         .or(range_in(&DEFAULT_THRESHOLDS.checks(), key))
         .or(range_in(&DEFAULT_FACTORS.checks(), key))
-        .or(range_in(&DEFAULT_WINDOWS.checks(), key))
+        .or(range_in(&DEFAULT_TIMING.checks(), key))
         .or(range_in(&DEFAULT_TOPIC_FACTORS.checks(0), key))
-        .or(range_in(&DEFAULT_TOPIC_WINDOWS.checks(0), key))
+        .or(range_in(&DEFAULT_TOPIC_TIMING.checks(0), key))
 }
 
 fn range_in(checks: &[Check], key: &str) -> Option<(i64, i64)> {

@@ -9,7 +9,7 @@ fn names<R: Wait + Drop>(
     faults: &[PeerFault],
     named: NetFault,
 ) -> Result<bool, AllocError> {
-    let mut results: Vec<Result<gs_peer::Finished<LinkEnds<R>>, PeerFault>> = Vec::new(alloc);
+    let mut results: Vec<Result<gs_peer::FinishedTask<LinkEnds<R>>, PeerFault>> = Vec::new(alloc);
     for fault in faults {
         results.push(Err(*fault))?;
     }

@@ -2,7 +2,7 @@ mod faults;
 mod ranges;
 
 use super::*;
-use crate::topic_params::{TopicFactors, TopicWindows};
+use crate::topic_params::{TopicFactors, TopicTiming};
 use bytes::Bytes;
 use std::alloc::AllocError;
 
@@ -33,7 +33,7 @@ const FACTORS: Factors = Factors {
     p6_threshold: 1,
 };
 
-const WINDOWS: Windows = Windows {
+const TIMING: Timing = Timing {
     heartbeat_ms: 1_000,
     decay_ms: 1_000,
     fanout_ttl_ms: 60_000,
@@ -67,7 +67,7 @@ const TOPIC_FACTORS: TopicFactors = TopicFactors {
     p3_threshold: 0,
 };
 
-const TOPIC_WINDOWS: TopicWindows = TopicWindows {
+const TOPIC_TIMING: TopicTiming = TopicTiming {
     p1_quantum_ms: 1_000,
     p3_window_ms: 10,
     p3_activation_ms: 5_000,
@@ -83,7 +83,7 @@ fn written_out(alloc: Global) -> Result<Params, AllocError> {
     for name in [b"news", b"talk"] {
         let params = TopicParams {
             factors: TOPIC_FACTORS,
-            windows: TOPIC_WINDOWS,
+            timing: TOPIC_TIMING,
             reject: Seq::new(alloc),
             ignore: Seq::new(alloc),
         };
@@ -93,7 +93,7 @@ fn written_out(alloc: Global) -> Result<Params, AllocError> {
         degrees: DEGREES,
         thresholds: THRESHOLDS,
         factors: FACTORS,
-        windows: WINDOWS,
+        timing: TIMING,
         flood_publish: true,
         topics,
     })
@@ -160,23 +160,23 @@ fn set_factor(factors: &mut Factors, name: &str, value: i64) -> bool {
     true
 }
 
-fn set_window(windows: &mut Windows, name: &str, value: i64) -> bool {
+fn set_timing(timing: &mut Timing, name: &str, value: i64) -> bool {
     let count = value.unsigned_abs();
     match name {
-        "heartbeat_ms" => windows.heartbeat_ms = count,
-        "decay_ms" => windows.decay_ms = count,
-        "fanout_ttl_ms" => windows.fanout_ttl_ms = count,
-        "seen_ttl_ms" => windows.seen_ttl_ms = count,
-        "iwant_followup_ms" => windows.iwant_followup_ms = count,
-        "prune_backoff_s" => windows.prune_backoff_s = count,
-        "unsubscribe_backoff_s" => windows.unsubscribe_backoff_s = count,
-        "mcache_len" => windows.mcache_len = count,
-        "mcache_gossip" => windows.mcache_gossip = count,
-        "opportunistic_ticks" => windows.opportunistic_ticks = count,
-        "opportunistic_peers" => windows.opportunistic_peers = count,
-        "max_ihave" => windows.max_ihave = count,
-        "max_ihave_ids" => windows.max_ihave_ids = count,
-        "gossip_retransmission" => windows.gossip_retransmission = count,
+        "heartbeat_ms" => timing.heartbeat_ms = count,
+        "decay_ms" => timing.decay_ms = count,
+        "fanout_ttl_ms" => timing.fanout_ttl_ms = count,
+        "seen_ttl_ms" => timing.seen_ttl_ms = count,
+        "iwant_followup_ms" => timing.iwant_followup_ms = count,
+        "prune_backoff_s" => timing.prune_backoff_s = count,
+        "unsubscribe_backoff_s" => timing.unsubscribe_backoff_s = count,
+        "mcache_len" => timing.mcache_len = count,
+        "mcache_gossip" => timing.mcache_gossip = count,
+        "opportunistic_ticks" => timing.opportunistic_ticks = count,
+        "opportunistic_peers" => timing.opportunistic_peers = count,
+        "max_ihave" => timing.max_ihave = count,
+        "max_ihave_ids" => timing.max_ihave_ids = count,
+        "gossip_retransmission" => timing.gossip_retransmission = count,
         _ => return false,
     }
     true
@@ -204,12 +204,12 @@ fn set_topic_factor(factors: &mut TopicFactors, name: &str, value: i64) -> bool 
     true
 }
 
-fn set_topic_window(windows: &mut TopicWindows, name: &str, value: i64) -> bool {
+fn set_topic_timing(timing: &mut TopicTiming, name: &str, value: i64) -> bool {
     let count = value.unsigned_abs();
     match name {
-        "p1_quantum_ms" => windows.p1_quantum_ms = count,
-        "p3_window_ms" => windows.p3_window_ms = count,
-        "p3_activation_ms" => windows.p3_activation_ms = count,
+        "p1_quantum_ms" => timing.p1_quantum_ms = count,
+        "p3_window_ms" => timing.p3_window_ms = count,
+        "p3_activation_ms" => timing.p3_activation_ms = count,
         _ => return false,
     }
     true
@@ -224,9 +224,9 @@ fn changed(alloc: Global, changes: &[(&str, i64)]) -> Result<Option<Params>, All
         let is_known = set_degree(&mut params.degrees, name, *value)
             || set_threshold(&mut params.thresholds, name, *value)
             || set_factor(&mut params.factors, name, *value)
-            || set_window(&mut params.windows, name, *value)
+            || set_timing(&mut params.timing, name, *value)
             || set_topic_factor(&mut second.factors, name, *value)
-            || set_topic_window(&mut second.windows, name, *value);
+            || set_topic_timing(&mut second.timing, name, *value);
         if !is_known {
             return Ok(None);
         }

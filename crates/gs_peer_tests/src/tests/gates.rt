@@ -15,7 +15,7 @@ struct Turns {
 }
 
 impl Gate for Turns {
-    fn turn(&self, worker: usize, round: u64) {
+    fn begin_round(&self, worker: usize, round: u64) {
         let turn = round.wrapping_add((worker as u64).wrapping_mul(10));
         let before = self.seen.load(Ordering::SeqCst);
         self.seen.store(

@@ -10,7 +10,7 @@ use futures::executor::block_on;
 use futures::future::join;
 use gs_ends::LinkEnds;
 use gs_link::{LinkRx, LinkTx, open_link};
-use gs_peer::{Finished, NoGate, PeerFault, PeerTask};
+use gs_peer::{FinishedTask, NoGate, PeerFault, PeerTask};
 use std::alloc::{AllocError, AllocGlobal};
 use std::io;
 use std::random::RandomSource;
@@ -49,7 +49,7 @@ fn side<R: Wait + AllocGlobal + Copy + Drop>(
 }
 
 /// Whether a side heard the other, and still has its ends.
-fn heard_all<R: Wait + Drop>(given: Result<Finished<LinkEnds<R>>, PeerFault>) -> bool {
+fn heard_all<R: Wait + Drop>(given: Result<FinishedTask<LinkEnds<R>>, PeerFault>) -> bool {
     match given {
         Ok(life) => made(&life.trace, &BOTH_PUBLISH) && life.ends.into_list().len() == 1,
         Err(_) => false,

@@ -6,7 +6,7 @@ ghost use Rattle.gs_rules.specs.Tables.{Entries};
 ghost use Rattle.gs_rules.specs.Membership.{is_negative, is_outbound};
 ghost use Rattle.gs_rules.specs.MeshRules.{asked_backoff, graft_rule, is_full_for, prune_rule, pruned_by, refusing};
 ghost use Rattle.gs_router.specs.Tables.{Agrees};
-ghost use Rattle.gs_router.specs.Meshes.{accepting, answered};
+ghost use Rattle.gs_router.specs.Meshes.{accepting_graft, answered};
 ghost use Rattle.gs_router.specs.Known.{Knows, peer_with};
 
 use crate::entries::membership;
@@ -82,7 +82,7 @@ fn refusing(
     ensures { IfOk result (λ entry. entry ≡ refusing (peer_with known.now.setup) now from graft charged) }
 {
     let topic = Topic::or_empty(&graft.topic)?;
-    let seconds = known.setup.params.windows.prune_backoff_s;
+    let seconds = known.setup.params.timing.prune_backoff_s;
     let rpc = Shared::new(known.alloc, Rpc::pruning(known.alloc, &topic, seconds)?)?;
     let sends = Seq::only(known.alloc, (from, rpc))?;
     let pairs = membership::each_on(known.alloc, &topic, &[from])?;
@@ -96,8 +96,13 @@ fn refusing(
 }
 
 /// The entry of a GRAFT whose sender comes into the mesh.
-fn accepting(alloc: Global, from: PeerNo, graft: Graft, now: Millis) -> Result<Entry, AllocError>
-    ensures { IfOk result (λ entry. entry ≡ accepting now from graft) }
+fn accepting_graft(
+    alloc: Global,
+    from: PeerNo,
+    graft: Graft,
+    now: Millis,
+) -> Result<Entry, AllocError>
+    ensures { IfOk result (λ entry. entry ≡ accepting_graft now from graft) }
 {
     let topic = Topic::or_empty(&graft.topic)?;
     let pairs = membership::each_on(alloc, &topic, &[from])?;
@@ -122,7 +127,7 @@ fn answered(
     match answer {
         GraftAnswer::PassedOver => Ok(bare(known.alloc, now, Event::GraftIn(from, graft))),
         GraftAnswer::TooSoon => {
-            let charged = Seq::only(known.alloc, Mark::Behaviour(from))?;
+            let charged = Seq::only(known.alloc, Mark::Misbehaviour(from))?;
             let entry = refusing(known, from, graft, charged, now)?;
             Ok(entry)
         }
@@ -131,7 +136,7 @@ fn answered(
             Ok(entry)
         }
         GraftAnswer::Accepted => {
-            let entry = accepting(known.alloc, from, graft, now)?;
+            let entry = accepting_graft(known.alloc, from, graft, now)?;
             Ok(entry)
         }
     }
@@ -192,7 +197,7 @@ fn pruned(
         → entry ≡ pruned_by (peer_with known.now.setup) L now from prune) }
 {
     let mut marks = Seq::new(known.alloc);
-    let seconds = asked_backoff(known.setup.params.windows.prune_backoff_s, prune.backoff);
+    let seconds = asked_backoff(known.setup.params.timing.prune_backoff_s, prune.backoff);
     let pairs = membership::each_on(known.alloc, &topic, &[from])?;
     let left = membership::meshes_with(known, from, &[topic])?;
     membership::leave(known, &mut marks, left.as_slice(), now)?;

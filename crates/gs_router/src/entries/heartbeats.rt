@@ -1,13 +1,13 @@
 //! Heartbeats: broken promises count against who made them, and neighbours are told what there is.
 ghost use Rattle.std.specs.Prelude.{◌≡◌, ◌++◌, ◌&&◌, ◌||◌, [], ◌∷◌, IfOk, OnOk, if◌then◌else◌, map, nat_le};
 ghost use Rattle.gs_base.specs.Names.{same_peer};
-ghost use Rattle.gs_base.specs.declared.mark.Mark.TheVariants.{Behaviour};
+ghost use Rattle.gs_base.specs.declared.mark.Mark.TheVariants.{Misbehaviour};
 ghost use Rattle.gs_rules.specs.Tables.{Entries};
 ghost use Rattle.gs_rules.specs.Gossip.{all_charges, charges, gossip_size};
 ghost use Rattle.gs_base.specs.declared.names.PeerNo.{PeerNo as PeerNoValue};
 ghost use Rattle.gs_mesh.specs.Peers.{is_among};
 ghost use Rattle.gs_rules.specs.Meshes.{fanout, mesh};
-ghost use Rattle.gs_rules.specs.Rules.{gossip_rule, promises_rule, telling, told, without};
+ghost use Rattle.gs_rules.specs.Rules.{beat_begin_rule, gossip_candidates, gossip_rule, gossiping, without};
 ghost use Rattle.gs_rules.specs.Modes.{Follows, exact};
 ghost use Rattle.gs_router.specs.Tables.{Agrees};
 ghost use Rattle.gs_router.specs.Known.{IsFit, Knows, peer_with};
@@ -25,15 +25,15 @@ use std::alloc::AllocError;
 // ---- promises
 
 /// The entry with which a heartbeat begins.
-pub fn promises(known: &Known, now: Millis) -> Result<Entry, AllocError>
+pub fn beat_begin(known: &Known, now: Millis) -> Result<Entry, AllocError>
     ensures { IfOk result (λ entry. (L : Entries)
         → Agrees known.now.tables L
-        → entry ≡ promises_rule (peer_with known.now.setup) L now) }
+        → entry ≡ beat_begin_rule (peer_with known.now.setup) L now) }
 {
     let marks = all_charges(known, now)?;
     Ok(Entry {
         marks,
-        ..bare(known.alloc, now, Event::Promises)
+        ..bare(known.alloc, now, Event::BeatBegin)
     })
 }
 
@@ -45,13 +45,18 @@ fn all_charges(known: &Known, now: Millis) -> Result<Seq<Mark>, AllocError>
 {
     let mut marks = Seq::new(known.alloc);
     for neighbour in &known.setup.neighbours {
-        charge(known, &mut marks, neighbour.peer, now)?;
+        charge_broken_promises(known, &mut marks, neighbour.peer, now)?;
     }
     Ok(marks)
 }
 
 /// Adds a mark for each broken promise of a neighbour, if that is up.
-fn charge(known: &Known, marks: &mut Seq<Mark>, peer: PeerNo, now: Millis) -> Result<(), AllocError>
+fn charge_broken_promises(
+    known: &Known,
+    marks: &mut Seq<Mark>,
+    peer: PeerNo,
+    now: Millis,
+) -> Result<(), AllocError>
     ensures { OnOk result ((L : Entries)
         → Agrees known.now.tables L
         → marks.new ≡ marks.old ++ charges L now.0 peer) }
@@ -75,11 +80,11 @@ fn charge_for(
     ensures { OnOk result (marks.new
         ≡ marks.old
         ++ (if same_peer promise.now.from peer && nat_le promise.now.until.0 now.0
-        then Behaviour peer ∷ []
+        then Misbehaviour peer ∷ []
         else [])) }
 {
     if promise.from == peer && promise.until.0 <= now.0 {
-        marks.push(Mark::Behaviour(peer))?;
+        marks.push(Mark::Misbehaviour(peer))?;
         return Ok(());
     }
     Ok(())
@@ -100,24 +105,24 @@ pub fn gossip<W: Words>(
         → Knows known.now now.0 L
         → Follows (exact W.word W.after) (gossip_rule (peer_with known.now.setup) L now topic) words.old entry words.new) }
 {
-    let told = told(known, &topic, now)?;
-    let size = gossip_size(&known.setup, told.len());
-    let chosen = pick(known.alloc, &told, size, words)?;
-    let entry = telling(known, topic, &chosen, now)?;
+    let gossip_candidates = gossip_candidates(known, &topic, now)?;
+    let size = gossip_size(&known.setup, gossip_candidates.len());
+    let chosen = pick(known.alloc, &gossip_candidates, size, words)?;
+    let entry = gossiping(known, topic, &chosen, now)?;
     Ok(entry)
 }
 
 /// The neighbours that may be told what there is on a topic.
-fn told(known: &Known, topic: &Topic, now: Millis) -> Result<Vec<PeerNo>, AllocError>
+fn gossip_candidates(known: &Known, topic: &Topic, now: Millis) -> Result<Vec<PeerNo>, AllocError>
     ensures { IfOk result (λ found. (L : Entries)
         → Knows known.now now.0 L
-        → found.items ≡ told (peer_with known.now.setup) L now.0 topic.now) }
+        → found.items ≡ gossip_candidates (peer_with known.now.setup) L now.0 topic.now) }
 {
     let listeners = listeners(known, topic)?;
     let outside = outside_mesh_and_fanout(known, topic, &listeners)?;
     let threshold = known.setup.params.thresholds.gossip_threshold;
-    let told = thresholds::not_below(known, threshold, &outside, now)?;
-    Ok(told)
+    let gossip_candidates = thresholds::not_below(known, threshold, &outside, now)?;
+    Ok(gossip_candidates)
 }
 
 /// Those of these neighbours that are neither in the mesh of a topic nor in its fanout.
@@ -159,10 +164,15 @@ fn gossip_size(setup: &Setup, count: usize) -> usize
 }
 
 /// The entry in which these neighbours are told what there is on a topic.
-fn telling(known: &Known, topic: Topic, chosen: &[PeerNo], now: Millis) -> Result<Entry, AllocError>
+fn gossiping(
+    known: &Known,
+    topic: Topic,
+    chosen: &[PeerNo],
+    now: Millis,
+) -> Result<Entry, AllocError>
     ensures { IfOk result (λ entry. (L : Entries)
         → Knows known.now now.0 L
-        → entry ≡ telling (peer_with known.now.setup) L now topic chosen.now) }
+        → entry ≡ gossiping (peer_with known.now.setup) L now topic chosen.now) }
 {
     // (listed here again, so that no list waits while other topics are gossiped)
     let ids = known.tables.messages.gossip_ids(&topic)?;

@@ -2,19 +2,19 @@
 //! "Heartbeat Maintenance", "Outbound Mesh Quotas" and "Opportunistic Grafting").
 ghost use Rattle.std.specs.Prelude.{◌≡◌, ◌++◌, IfOk};
 ghost use Rattle.gs_rules.specs.Tables.{Entries};
-ghost use Rattle.gs_rules.specs.BeatRules.{fan_beat_rule, fan_end, member_of, members_of, mending, mesh_beat_rule, receivers as receivers_of, refanning};
+ghost use Rattle.gs_rules.specs.BeatRules.{fan_beat_rule, fan_end, mending, mesh_beat_rule, receivers as receivers_of, refanning, scored_member, scored_members};
 ghost use Rattle.gs_rules.specs.Membership.{barring, each_on, leaving};
 ghost use Rattle.gs_rules.specs.Modes.{Follows, exact};
 ghost use Rattle.gs_router.specs.Tables.{Agrees};
 ghost use Rattle.gs_router.specs.Known.{IsFit, Knows, peer_with};
 
 use crate::entries::membership;
-use crate::entries::selection::{candidates, is_outbound, worthy_listeners};
+use crate::entries::selection::{candidates, is_outbound, listeners_not_passed_over};
 use crate::entries::sends::{bare, send_to_each, to_each};
 use crate::known::Known;
 use crate::peer_lists::{left_of, those_among, those_outside};
 use gs_base::{Mark, Millis, PeerNo, Rpc, Seq, Topic};
-use gs_mesh::{Choice, Heartbeat, Member, choose_heartbeat};
+use gs_mesh::{Heartbeat, Member, MeshChange, choose_heartbeat};
 use gs_params::{Words, pick};
 use gs_rules::{Entry, Event};
 use std::alloc::AllocError;
@@ -22,10 +22,10 @@ use std::alloc::AllocError;
 // ---- meshes
 
 /// A neighbour with its score, and with whether this side dialled it.
-fn member_of(known: &Known, peer: PeerNo, now: Millis) -> Member
+fn scored_member(known: &Known, peer: PeerNo, now: Millis) -> Member
     ensures { (L : Entries)
         → Knows known.now now.0 L
-        → result ≡ member_of (peer_with known.now.setup) L now.0 peer }
+        → result ≡ scored_member (peer_with known.now.setup) L now.0 peer }
 {
     Member {
         peer,
@@ -34,14 +34,14 @@ fn member_of(known: &Known, peer: PeerNo, now: Millis) -> Member
     }
 }
 
-fn members_of(known: &Known, peers: &[PeerNo], now: Millis) -> Result<Vec<Member>, AllocError>
+fn scored_members(known: &Known, peers: &[PeerNo], now: Millis) -> Result<Vec<Member>, AllocError>
     ensures { IfOk result (λ members. (L : Entries)
         → Knows known.now now.0 L
-        → members.items ≡ members_of (peer_with known.now.setup) L now.0 peers.now) }
+        → members.items ≡ scored_members (peer_with known.now.setup) L now.0 peers.now) }
 {
     let mut members = Vec::new(known.alloc);
     for peer in peers {
-        members.push(member_of(known, *peer, now))?;
+        members.push(scored_member(known, *peer, now))?;
     }
     Ok(members)
 }
@@ -57,10 +57,10 @@ fn parting(
         → Knows known.now now.0 L
         → marks
         ≡ leaving (peer_with known.now.setup) L now.0 (each_on topic.now pruned.now)
-        ++ barring now.0 known.now.setup.params.windows.prune_backoff_s (each_on topic.now pruned.now)) }
+        ++ barring now.0 known.now.setup.params.timing.prune_backoff_s (each_on topic.now pruned.now)) }
 {
     let pairs = membership::each_on(known.alloc, topic, pruned)?;
-    let seconds = known.setup.params.windows.prune_backoff_s;
+    let seconds = known.setup.params.timing.prune_backoff_s;
     let mut marks = Seq::new(known.alloc);
     membership::leave(known, &mut marks, pairs.as_slice(), now)?;
     membership::bar(&mut marks, pairs.as_slice(), seconds, now)?;
@@ -68,14 +68,19 @@ fn parting(
 }
 
 /// The entry in which some leave the mesh of a topic and others come into it.
-fn mending(known: &Known, topic: Topic, choice: &Choice, now: Millis) -> Result<Entry, AllocError>
+fn mending(
+    known: &Known,
+    topic: Topic,
+    change: &MeshChange,
+    now: Millis,
+) -> Result<Entry, AllocError>
     ensures { IfOk result (λ entry. (L : Entries)
         → Knows known.now now.0 L
-        → entry ≡ mending (peer_with known.now.setup) L now topic choice.now) }
+        → entry ≡ mending (peer_with known.now.setup) L now topic change.now) }
 {
-    let seconds = known.setup.params.windows.prune_backoff_s;
-    let pruned = choice.pruned.as_slice();
-    let grafted = choice.grafted.as_slice();
+    let seconds = known.setup.params.timing.prune_backoff_s;
+    let pruned = change.pruned.as_slice();
+    let grafted = change.grafted.as_slice();
     let mut sends = to_each(
         known.alloc,
         Rpc::pruning(known.alloc, &topic, seconds)?,
@@ -111,15 +116,15 @@ pub fn mesh_beat<W: Words>(
         → Follows (exact W.word W.after) (mesh_beat_rule (peer_with known.now.setup) L now topic)
         words.old entry words.new) }
 {
-    let mesh = members_of(known, known.tables.memberships.members(&topic), now)?;
+    let mesh = scored_members(known, known.tables.memberships.members(&topic), now)?;
     let near = candidates(known, &topic, now)?;
-    let candidates = members_of(known, &near, now)?;
+    let candidates = scored_members(known, &near, now)?;
     let heartbeat = Heartbeat {
         params: &known.setup.params,
         tick: known.tables.beats.count(),
     };
-    let choice = choose_heartbeat(known.alloc, heartbeat, &mesh, &candidates, words)?;
-    let entry = mending(known, topic, &choice, now)?;
+    let change = choose_heartbeat(known.alloc, heartbeat, &mesh, &candidates, words)?;
+    let entry = mending(known, topic, &change, now)?;
     Ok(entry)
 }
 
@@ -163,7 +168,7 @@ pub fn fan_beat<W: Words>(
         → Follows (exact W.word W.after) (fan_beat_rule (peer_with known.now.setup) L now topic)
         words.old entry words.new) }
 {
-    let receivers = worthy_listeners(known, &topic, now)?;
+    let receivers = listeners_not_passed_over(known, &topic, now)?;
     let fanout = known.tables.memberships.fanout(&topic);
     let stay = those_among(known.alloc, &receivers, fanout)?;
     let others = those_outside(known.alloc, fanout, &receivers)?;

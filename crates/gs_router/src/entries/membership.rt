@@ -5,7 +5,7 @@ ghost use Rattle.gs_base.specs.declared.names.PeerNo.{PeerNo as PeerNoValue};
 ghost use Rattle.gs_base.specs.declared.names.Topic.{Topic as TopicValue};
 ghost use Rattle.gs_base.specs.declared.mark.Mark.TheVariants.{Pruned};
 ghost use Rattle.gs_rules.specs.Tables.{Entries, last_millis};
-ghost use Rattle.gs_rules.specs.Membership.{barring, charge_of, each_on, entering, fanning, leaving, meshes_with, unfanning};
+ghost use Rattle.gs_rules.specs.Membership.{barring, deficit_marks, each_on, entering, fanning, leaving, meshes_with, unfanning};
 ghost use Rattle.gs_router.specs.Tables.{Agrees};
 ghost use Rattle.gs_router.specs.Known.{Knows, peer_with};
 
@@ -69,7 +69,7 @@ pub fn leave(
         → marks.new ≡ marks.old ++ leaving (peer_with known.now.setup) L now.0 pairs.now) }
 {
     prune(marks, pairs)?;
-    charge(known, marks, pairs, now)?;
+    charge_deficits(known, marks, pairs, now)?;
     Ok(())
 }
 
@@ -84,7 +84,7 @@ fn prune(marks: &mut Seq<Mark>, pairs: &[(PeerNo, Topic)]) -> Result<(), AllocEr
 }
 
 /// Each of these is charged with what is missing of its deliveries in a mesh.
-fn charge(
+fn charge_deficits(
     known: &Known,
     marks: &mut Seq<Mark>,
     pairs: &[(PeerNo, Topic)],
@@ -92,16 +92,16 @@ fn charge(
 ) -> Result<(), AllocError>
     ensures { OnOk result ((L : Entries)
         → Knows known.now now.0 L
-        → marks.new ≡ marks.old ++ flat_map (charge_of (peer_with known.now.setup) L now.0) pairs.now) }
+        → marks.new ≡ marks.old ++ flat_map (deficit_marks (peer_with known.now.setup) L now.0) pairs.now) }
 {
     for pair in pairs {
-        charge_one(known, marks, pair, now)?;
+        charge_deficit(known, marks, pair, now)?;
     }
     Ok(())
 }
 
 /// A neighbour is charged with what is missing of its deliveries in a mesh, if anything is.
-fn charge_one(
+fn charge_deficit(
     known: &Known,
     marks: &mut Seq<Mark>,
     pair: &(PeerNo, Topic),
@@ -109,7 +109,7 @@ fn charge_one(
 ) -> Result<(), AllocError>
     ensures { OnOk result ((L : Entries)
         → Knows known.now now.0 L
-        → marks.new ≡ marks.old ++ charge_of (peer_with known.now.setup) L now.0 pair.now) }
+        → marks.new ≡ marks.old ++ deficit_marks (peer_with known.now.setup) L now.0 pair.now) }
 {
     let missing = known.tables.standings.missing(pair.0, &pair.1, now);
     if missing == 0 {

@@ -56,7 +56,7 @@ fn counted(
     ensures { IfOk result (λ entry. entry ≡ counted now from offer) }
 {
     Ok(Entry {
-        marks: Seq::only(alloc, Mark::HeardHave(from))?,
+        marks: Seq::only(alloc, Mark::Offered(from))?,
         ..bare(alloc, now, Event::Have(from, offer))
     })
 }
@@ -109,12 +109,12 @@ fn wanted(
         add_wanted(known, &mut found, bytes, now)?;
     }
     found.truncate(room as usize);
-    let ids = listed(known.alloc, found.as_slice())?;
+    let ids = copied_ids(known.alloc, found.as_slice())?;
     Ok(ids)
 }
 
 /// These identifiers as a list of its own, which shares them.
-fn listed(alloc: Global, ids: &[Bytes]) -> Result<Seq<Bytes>, AllocError>
+fn copied_ids(alloc: Global, ids: &[Bytes]) -> Result<Seq<Bytes>, AllocError>
     ensures { IfOk result (λ list. list ≡ ids.now) }
 {
     let mut list = Seq::new(alloc);
@@ -169,13 +169,13 @@ fn asking(
 {
     let WantedOffer { from, offer, ids } = wanted;
     let alloc = known.alloc;
-    let followup = known.setup.params.windows.iwant_followup_ms;
+    let followup = known.setup.params.timing.iwant_followup_ms;
     let promise = Promise {
         from,
         id: MsgId::from_exact(ids.as_slice()[place].as_slice()),
         until: Millis(now.0.saturating_add(followup)),
     };
-    let mut marks = Seq::only(alloc, Mark::HeardHave(from))?;
+    let mut marks = Seq::only(alloc, Mark::Offered(from))?;
     marks.push(Mark::Asked(from, ids.len() as u32))?;
     let request = Shared::new(alloc, Rpc::requesting(alloc, ids)?)?;
     Ok(Entry {

@@ -18,7 +18,7 @@ ghost use Rattle.gs_router.specs.Meshes.{fanout_marks, filled_by, kept_by};
 ghost use Rattle.gs_router.specs.Known.{IsFit, Knows, peer_with};
 
 use crate::entries::membership;
-use crate::entries::selection::{worthy, worthy_listeners};
+use crate::entries::selection::{listeners_not_passed_over, not_passed_over};
 use crate::entries::sends::{bare, to_each};
 use crate::known::Known;
 use bytes::Bytes;
@@ -127,7 +127,7 @@ fn to_fanout(known: &Known, publishing: Publishing, now: Millis) -> Result<Entry
         (kept_by Kept publishing.topic)) }
 {
     let fanout = known.tables.memberships.fanout(&publishing.topic);
-    let receivers = worthy(known, fanout, now)?;
+    let receivers = not_passed_over(known, fanout, now)?;
     let entry = sending(known, publishing, &receivers, FanoutUse::Kept, now)?;
     Ok(entry)
 }
@@ -148,7 +148,7 @@ fn to_new_fanout<W: Words>(
         (fanout_publish (peer_with known.now.setup) L now publishing.topic publishing.payload [])
         words.old entry words.new) }
 {
-    let listeners = worthy_listeners(known, &publishing.topic, now)?;
+    let listeners = listeners_not_passed_over(known, &publishing.topic, now)?;
     let size = known.setup.params.degrees.d as usize;
     let chosen = pick(known.alloc, &listeners, size, words)?;
     let entry = sending(known, publishing, &chosen, FanoutUse::Filled, now)?;
@@ -188,13 +188,13 @@ pub fn publish<W: Words>(
         words.old entry words.new) }
 {
     if known.setup.params.flood_publish {
-        let receivers = worthy_listeners(known, &publishing.topic, now)?;
+        let receivers = listeners_not_passed_over(known, &publishing.topic, now)?;
         let entry = without_fanout(known, publishing, &receivers, now)?;
         return Ok(entry);
     }
     if known.tables.topics.is_joined(&publishing.topic) {
         let members = known.tables.memberships.members(&publishing.topic);
-        let receivers = worthy(known, members, now)?;
+        let receivers = not_passed_over(known, members, now)?;
         let entry = without_fanout(known, publishing, &receivers, now)?;
         return Ok(entry);
     }

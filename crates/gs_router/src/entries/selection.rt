@@ -62,7 +62,7 @@ fn up_among(known: &Known, set: &PeerSet) -> Result<Vec<PeerNo>, AllocError>
 }
 
 /// The neighbours on a topic that are not below the threshold.
-pub fn worthy_listeners(
+pub fn listeners_not_passed_over(
     known: &Known,
     topic: &Topic,
     now: Millis,
@@ -74,12 +74,16 @@ pub fn worthy_listeners(
         (listeners (peer_with known.now.setup) L topic.now)) }
 {
     let listeners = listeners(known, topic)?;
-    let receivers = worthy(known, &listeners, now)?;
+    let receivers = not_passed_over(known, &listeners, now)?;
     Ok(receivers)
 }
 
 /// Those of these neighbours that are not below the threshold.
-pub fn worthy(known: &Known, peers: &[PeerNo], now: Millis) -> Result<Vec<PeerNo>, AllocError>
+pub fn not_passed_over(
+    known: &Known,
+    peers: &[PeerNo],
+    now: Millis,
+) -> Result<Vec<PeerNo>, AllocError>
     ensures { IfOk result (λ receivers. (L : Entries)
         → Knows known.now now.0 L
         → receivers.items ≡ without (is_passed_over (peer_with known.now.setup) L now.0) peers.now) }

@@ -99,7 +99,7 @@ pub fn unsubscribe(known: &Known, topic: Topic, now: Millis) -> Result<Entry, Al
         → Knows known.now now.0 L
         → entry ≡ unsubscribe_rule (peer_with known.now.setup) L now topic) }
 {
-    let seconds = known.setup.params.windows.unsubscribe_backoff_s;
+    let seconds = known.setup.params.timing.unsubscribe_backoff_s;
     let members = known.tables.memberships.members(&topic);
     let mut sends = announced(known, false, &topic)?;
     send_to_each(

@@ -44,16 +44,16 @@ impl Router {
 
     /// The time from heartbeat to heartbeat, in milliseconds.
     pub fn heartbeat_ms(&self) -> u64
-        ensures { result ≡ self.now.peer.params.windows.heartbeat_ms }
+        ensures { result ≡ self.now.peer.params.timing.heartbeat_ms }
     {
-        self.state.known.setup.params.windows.heartbeat_ms
+        self.state.known.setup.params.timing.heartbeat_ms
     }
 
     /// The time from step to step of the decay of scores, in milliseconds.
     pub fn decay_ms(&self) -> u64
-        ensures { result ≡ self.now.peer.params.windows.decay_ms }
+        ensures { result ≡ self.now.peer.params.timing.decay_ms }
     {
-        self.state.known.setup.params.windows.decay_ms
+        self.state.known.setup.params.timing.decay_ms
     }
 
     /// The score of a neighbour at a moment, in millionths (gossipsub v1.1, Peer Scoring, The Score Function); of a peer

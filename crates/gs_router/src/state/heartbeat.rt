@@ -43,10 +43,10 @@ impl State {
     pub fn heartbeat<W: Words>(&mut self, now: Millis, words: &mut W) -> Result<(), AllocError>
         requires ready { IsReady self.old }
         requires time { last_moment self.old.trace ≤ now.0 }
-        requires may { MayOpen (peer_of self.old) self.old.trace now.0 events.Promises }
-        ensures { Ends (exact W.word W.after) events.Promises now self.old words.old result self.new words.new }
+        requires may { MayOpen (peer_of self.old) self.old.trace now.0 events.BeatBegin }
+        ensures { Ends (exact W.word W.after) events.BeatBegin now self.old words.old result self.new words.new }
     {
-        self.step(Event::Promises, now, words)?;
+        self.step(Event::BeatBegin, now, words)?;
         let own_topics = self.known.tables.topics.joined(self.known.alloc)?;
         for own in own_topics.as_slice() {
             self.mend_mesh(own, now, words)?;
@@ -148,11 +148,7 @@ impl State {
         let published = self.known.tables.memberships.last_published(topic);
         Ok(DueFanout {
             topic: clone_of(topic)?,
-            is_stale: is_stale(
-                self.known.setup.params.windows.fanout_ttl_ms,
-                now,
-                published,
-            ),
+            is_stale: is_stale(self.known.setup.params.timing.fanout_ttl_ms, now, published),
         })
     }
 

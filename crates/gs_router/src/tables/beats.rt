@@ -31,7 +31,7 @@ impl Beats {
         ensures { (L : Entries) → AgreesOnBeats self.old L → AgreesOnBeats self.new (entry.now ∷ L) }
     {
         match entry.event {
-            Event::Promises => self.count += 1,
+            Event::BeatBegin => self.count += 1,
             _ => {}
         }
     }

@@ -56,7 +56,7 @@ impl Budgets {
         ensures full { OnOk result (self.new.full ≡ self.old.full) }
     {
         match mark {
-            Mark::HeardHave(peer) => {
+            Mark::Offered(peer) => {
                 let before = self.of(*peer);
                 let budget = Budget {
                     offers: before.offers.saturating_sub(1),

@@ -3,7 +3,7 @@ ghost use Rattle.gs_base.specs.Names.{same_topic};
 ghost use Rattle.gs_base.specs.declared.names.Topic.{Topic as TopicValue};
 ghost use Rattle.gs_rules.specs.Tables.{Entries, after_marks, joined_after};
 ghost use Rattle.gs_rules.specs.Meshes.{mesh_topics};
-ghost use Rattle.gs_router.specs.Tables.{AgreesOnMeshTopics, HasTopics, dropped_by, fanned_by, uses_in};
+ghost use Rattle.gs_router.specs.Tables.{AgreesOnMeshTopics, HasTopics, dropped_by, fanned_by, mesh_or_fanout_in};
 
 use gs_base::{Mark, Topic, clone_of};
 use gs_rules::{Entry, Event};
@@ -12,7 +12,7 @@ use std::collections::BTreeMap;
 
 /// What a topic has.
 #[derive(Clone, Copy, Debug, PartialEq, Eq)]
-pub struct Uses {
+pub struct MeshOrFanout {
     /// A mesh: the router is subscribed to it.
     pub has_mesh: bool,
     /// A fanout: the router published on it without being subscribed.
@@ -22,7 +22,7 @@ pub struct Uses {
 /// The topics that have or had a mesh or a fanout, in the order of their bytes.
 #[derive(Drop)]
 pub struct MeshTopics {
-    topics: BTreeMap<Topic, Uses>,
+    topics: BTreeMap<Topic, MeshOrFanout>,
 }
 
 impl MeshTopics {
@@ -43,8 +43,8 @@ impl MeshTopics {
         ensures { IfOk result (λ list. (L : Entries) → AgreesOnMeshTopics self.now L → list.items ≡ mesh_topics L) }
     {
         let mut list = Vec::new(alloc);
-        for (topic, uses) in &self.topics {
-            if uses.has_mesh || uses.has_fanout {
+        for (topic, mesh_or_fanout) in &self.topics {
+            if mesh_or_fanout.has_mesh || mesh_or_fanout.has_fanout {
                 list.push(clone_of(topic)?)?;
             }
         }
@@ -74,7 +74,7 @@ impl MeshTopics {
             Event::Subscribe(topic) => {
                 self.put(
                     topic,
-                    Uses {
+                    MeshOrFanout {
                         has_mesh: true,
                         has_fanout: false,
                     },
@@ -82,10 +82,10 @@ impl MeshTopics {
                 Ok(())
             }
             Event::Unsubscribe(topic) => {
-                let has_fanout = self.uses(topic).has_fanout;
+                let has_fanout = self.mesh_or_fanout(topic).has_fanout;
                 self.put(
                     topic,
-                    Uses {
+                    MeshOrFanout {
                         has_mesh: false,
                         has_fanout,
                     },
@@ -93,10 +93,10 @@ impl MeshTopics {
                 Ok(())
             }
             Event::FanEnd(topic) => {
-                let has_mesh = self.uses(topic).has_mesh;
+                let has_mesh = self.mesh_or_fanout(topic).has_mesh;
                 self.put(
                     topic,
-                    Uses {
+                    MeshOrFanout {
                         has_mesh,
                         has_fanout: false,
                     },
@@ -125,10 +125,10 @@ impl MeshTopics {
     {
         match mark {
             Mark::Published(topic) => {
-                let has_mesh = self.uses(topic).has_mesh;
+                let has_mesh = self.mesh_or_fanout(topic).has_mesh;
                 self.put(
                     topic,
-                    Uses {
+                    MeshOrFanout {
                         has_mesh,
                         has_fanout: true,
                     },
@@ -139,23 +139,23 @@ impl MeshTopics {
         }
     }
 
-    fn uses(&self, topic: &Topic) -> Uses
-        ensures { result ≡ uses_in self.now topic.now }
+    fn mesh_or_fanout(&self, topic: &Topic) -> MeshOrFanout
+        ensures { result ≡ mesh_or_fanout_in self.now topic.now }
     {
         match self.topics.get(topic) {
-            Some(uses) => *uses,
-            None => Uses {
+            Some(mesh_or_fanout) => *mesh_or_fanout,
+            None => MeshOrFanout {
                 has_mesh: false,
                 has_fanout: false,
             },
         }
     }
 
-    fn put(&mut self, topic: &Topic, uses: Uses) -> Result<(), AllocError>
+    fn put(&mut self, topic: &Topic, mesh_or_fanout: MeshOrFanout) -> Result<(), AllocError>
         ensures { OnOk result ((t : TopicValue)
-            → uses_in self.new t ≡ (if same_topic topic.now t then uses else uses_in self.old t)) }
+            → mesh_or_fanout_in self.new t ≡ (if same_topic topic.now t then mesh_or_fanout else mesh_or_fanout_in self.old t)) }
     {
-        self.topics.insert(clone_of(topic)?, uses)?;
+        self.topics.insert(clone_of(topic)?, mesh_or_fanout)?;
         Ok(())
     }
 }

@@ -55,7 +55,7 @@ impl Promises {
         ensures { self.new.waiting.items ≡ ended_after event.now at.0 self.old.waiting.items }
     {
         match event {
-            Event::Promises => self.keep_until_after(at),
+            Event::BeatBegin => self.keep_until_after(at),
             _ => {}
         }
     }

@@ -4,7 +4,7 @@ ghost use Rattle.gs_base.specs.declared.names.PeerNo.{PeerNo as PeerNoValue};
 ghost use Rattle.gs_rules.specs.Tables.{Entries, last_moment, last_seen, seen};
 ghost use Rattle.gs_rules.specs.Meshes.{noted, notes};
 ghost use Rattle.gs_rules.specs.Outcomes.{is_soon};
-ghost use Rattle.gs_router.specs.Tables.{AgreesOnSightings, PassesOn, Sees, told, told_after, told_of};
+ghost use Rattle.gs_router.specs.Tables.{AgreesOnSightings, neighbour_sighting, neighbour_sighting_after, noted_if, PassesOn, Sees};
 
 use gs_base::{Mark, Millis, MsgId, PeerNo, Verdict};
 use gs_cache::SeenCache;
@@ -90,8 +90,8 @@ impl Sightings {
         requires { self.old.cache.moment ≤ at.0 }
         ensures marks { OnOk result ((id : MsgIdValue) (q : PeerNoValue) (now : ℕ)
             → self.new.cache.moment ≤ now
-            → told self.new id q now
-            ≡ told_after self.old.cache.ttl now id at.0 mark.now (told self.old id q now)) }
+            → neighbour_sighting self.new id q now
+            ≡ neighbour_sighting_after self.old.cache.ttl now id at.0 mark.now (neighbour_sighting self.old id q now)) }
         ensures moment { OnOk result ((self.old.cache.moment ≤ self.new.cache.moment) × (self.new.cache.moment ≤ at.0)) }
         ensures ttl { OnOk result (self.new.cache.ttl ≡ self.old.cache.ttl) }
     {
@@ -118,7 +118,7 @@ impl Sightings {
     fn note_neighbour(&mut self, mark: &Mark) -> Result<(), AllocError>
         ensures marks { OnOk result ((id : MsgIdValue) (q : PeerNoValue) (now : ℕ)
             → self.new.cache.moment ≤ now
-            → told self.new id q now ≡ told_of (notes id q mark.now) (told self.old id q now)) }
+            → neighbour_sighting self.new id q now ≡ noted_if (notes id q mark.now) (neighbour_sighting self.old id q now)) }
         ensures moment { OnOk result (self.new.cache.moment ≡ self.old.cache.moment) }
         ensures ttl { OnOk result (self.new.cache.ttl ≡ self.old.cache.ttl) }
     {

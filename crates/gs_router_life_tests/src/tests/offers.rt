@@ -1,10 +1,10 @@
 //! Offers and requests.
-use gs_params::{DEFAULT_WINDOWS, Windows};
+use gs_params::{DEFAULT_TIMING, Timing};
 use gs_router_calls::Act::{Hear, Heartbeat, Subscribe};
 use gs_router_calls::Id::{Of, ShortOf};
 use gs_router_calls::Said::{Have, Message, On, Want};
 use gs_router_calls::Seen::{
-    Accepted, Answered, Asked, Cached, Delivered, First, HeardHave, MeshBeat, Promised, Sent,
+    Accepted, Answered, Asked, Cached, Delivered, First, MeshBeat, Offered, Promised, Sent,
 };
 use gs_router_calls::{Act, Case, NOTHING, Seen};
 
@@ -15,7 +15,7 @@ const JOINED: &[Seen<'static>] = &[Sent(1, On("a")), Sent(2, On("a"))];
 const ASKS_0: &[Seen<'static>] = &[
     Sent(1, Want(&[Of(&[0])])),
     Promised(1, Of(&[0]), 3_000),
-    HeardHave(1),
+    Offered(1),
     Asked(1, 1),
 ];
 
@@ -53,7 +53,7 @@ pub static OFFERS: &[Case<'static>] = &[
                 &[
                     Sent(2, Want(&[Of(&[0])])),
                     Promised(2, Of(&[0]), 3_000),
-                    HeardHave(2),
+                    Offered(2),
                     Asked(2, 1),
                 ],
             ),
@@ -64,7 +64,7 @@ pub static OFFERS: &[Case<'static>] = &[
                 &[
                     Sent(1, Want(&[Of(&[0])])),
                     Promised(1, Of(&[0]), 4_000),
-                    HeardHave(1),
+                    Offered(1),
                     Asked(1, 1),
                 ],
             ),
@@ -76,13 +76,13 @@ pub static OFFERS: &[Case<'static>] = &[
     Case {
         name: "what is new is asked for once",
         steps: &[
-            (0, OFFER_0, &[HeardHave(1)]),
+            (0, OFFER_0, &[Offered(1)]),
             (0, Subscribe("a"), JOINED),
             (500, Hear(2, &[Message("a", &[1])]), ACCEPTS_1),
             (
                 600,
                 Hear(1, &[Have("a", &[Of(&[1]), ShortOf(&[2])])]),
-                &[HeardHave(1)],
+                &[Offered(1)],
             ),
             (
                 120_499,
@@ -93,7 +93,7 @@ pub static OFFERS: &[Case<'static>] = &[
                 &[
                     Sent(1, Want(&[Of(&[2])])),
                     Promised(1, Of(&[2]), 123_499),
-                    HeardHave(1),
+                    Offered(1),
                     Asked(1, 1),
                 ],
             ),
@@ -103,7 +103,7 @@ pub static OFFERS: &[Case<'static>] = &[
                 &[
                     Sent(1, Want(&[Of(&[1])])),
                     Promised(1, Of(&[1]), 123_500),
-                    HeardHave(1),
+                    Offered(1),
                     Asked(1, 1),
                 ],
             ),
@@ -112,9 +112,9 @@ pub static OFFERS: &[Case<'static>] = &[
     },
     Case {
         name: "no more is asked for than the budget has, until a heartbeat",
-        windows: Windows {
+        windows: Timing {
             max_ihave_ids: 3,
-            ..DEFAULT_WINDOWS
+            ..DEFAULT_TIMING
         },
         steps: &[
             (0, Subscribe("a"), JOINED),
@@ -125,7 +125,7 @@ pub static OFFERS: &[Case<'static>] = &[
                 &[
                     Sent(1, Want(&[Of(&[4])])),
                     Promised(1, Of(&[4]), 3_007),
-                    HeardHave(1),
+                    Offered(1),
                     Asked(1, 1),
                 ],
             ),
@@ -135,11 +135,11 @@ pub static OFFERS: &[Case<'static>] = &[
                 &[
                     Sent(1, Want(&[Of(&[5])])),
                     Promised(1, Of(&[5]), 3_008),
-                    HeardHave(1),
+                    Offered(1),
                     Asked(1, 1),
                 ],
             ),
-            (9, Hear(1, &[Have("a", &[Of(&[7])])]), &[HeardHave(1)]),
+            (9, Hear(1, &[Have("a", &[Of(&[7])])]), &[Offered(1)]),
             (999, Heartbeat, &[MeshBeat("a")]),
             (
                 999,
@@ -147,7 +147,7 @@ pub static OFFERS: &[Case<'static>] = &[
                 &[
                     Sent(1, Want(&[Of(&[3])])),
                     Promised(1, Of(&[3]), 3_999),
-                    HeardHave(1),
+                    Offered(1),
                     Asked(1, 1),
                 ],
             ),
@@ -168,7 +168,7 @@ pub static OFFERS: &[Case<'static>] = &[
                 &[
                     Sent(2, Want(&[Of(&[4]), Of(&[5]), Of(&[6])])),
                     Promised(2, Of(&[5]), 3_000),
-                    HeardHave(2),
+                    Offered(2),
                     Asked(2, 3),
                 ],
             ),

@@ -3,8 +3,8 @@ use gs_router_calls::Act::{Gone, Hear, Heartbeat, Publish, Subscribe};
 use gs_router_calls::Id::Of;
 use gs_router_calls::Said::{Have, Message, On, Want};
 use gs_router_calls::Seen::{
-    Accepted, Asked, Behaviour, Cached, Delivered, First, GossipBeat, HeardHave, Ignored, Invalid,
-    MeshBeat, Promised, Rejected, Sent,
+    Accepted, Asked, Cached, Delivered, First, GossipBeat, Ignored, Invalid, MeshBeat,
+    Misbehaviour, Offered, Promised, Rejected, Sent,
 };
 use gs_router_calls::{Case, NO_RULES, NOTHING, Rules, Seen};
 
@@ -30,7 +30,7 @@ pub static PROMISES: &[Case<'static>] = &[
                 &[
                     Sent(1, Want(&[Of(&[0])])),
                     Promised(1, Of(&[0]), 3_000),
-                    HeardHave(1),
+                    Offered(1),
                     Asked(1, 1),
                 ],
             ),
@@ -40,7 +40,7 @@ pub static PROMISES: &[Case<'static>] = &[
                 &[
                     Sent(1, Want(&[Of(&[0xff])])),
                     Promised(1, Of(&[0xff]), 3_000),
-                    HeardHave(1),
+                    Offered(1),
                     Asked(1, 1),
                 ],
             ),
@@ -50,7 +50,7 @@ pub static PROMISES: &[Case<'static>] = &[
                 &[
                     Sent(1, Want(&[Of(&[0xfe])])),
                     Promised(1, Of(&[0xfe]), 3_000),
-                    HeardHave(1),
+                    Offered(1),
                     Asked(1, 1),
                 ],
             ),
@@ -60,7 +60,7 @@ pub static PROMISES: &[Case<'static>] = &[
                 &[
                     Sent(1, Want(&[Of(&[2])])),
                     Promised(1, Of(&[2]), 3_000),
-                    HeardHave(1),
+                    Offered(1),
                     Asked(1, 1),
                 ],
             ),
@@ -70,7 +70,7 @@ pub static PROMISES: &[Case<'static>] = &[
                 &[
                     Sent(1, Want(&[Of(&[5])])),
                     Promised(1, Of(&[5]), 3_000),
-                    HeardHave(1),
+                    Offered(1),
                     Asked(1, 1),
                 ],
             ),
@@ -80,7 +80,7 @@ pub static PROMISES: &[Case<'static>] = &[
                 &[
                     Sent(1, Want(&[Of(&[3])])),
                     Promised(1, Of(&[3]), 3_000),
-                    HeardHave(1),
+                    Offered(1),
                     Asked(1, 1),
                 ],
             ),
@@ -90,7 +90,7 @@ pub static PROMISES: &[Case<'static>] = &[
                 &[
                     Sent(2, Want(&[Of(&[4])])),
                     Promised(2, Of(&[4]), 3_000),
-                    HeardHave(2),
+                    Offered(2),
                     Asked(2, 1),
                 ],
             ),
@@ -138,7 +138,7 @@ pub static PROMISES: &[Case<'static>] = &[
             (
                 3_000,
                 Heartbeat,
-                &[Behaviour(1), MeshBeat("a"), GossipBeat("a")],
+                &[Misbehaviour(1), MeshBeat("a"), GossipBeat("a")],
             ),
             (6_000, Heartbeat, &[MeshBeat("a"), GossipBeat("a")]),
             (9_000, Heartbeat, &[MeshBeat("a")]),
@@ -156,7 +156,7 @@ pub static PROMISES: &[Case<'static>] = &[
                 &[
                     Sent(1, Want(&[Of(&[1])])),
                     Promised(1, Of(&[1]), 3_000),
-                    HeardHave(1),
+                    Offered(1),
                     Asked(1, 1),
                 ],
             ),
@@ -166,7 +166,7 @@ pub static PROMISES: &[Case<'static>] = &[
                 &[
                     Sent(1, Want(&[Of(&[2])])),
                     Promised(1, Of(&[2]), 3_000),
-                    HeardHave(1),
+                    Offered(1),
                     Asked(1, 1),
                 ],
             ),
@@ -176,7 +176,7 @@ pub static PROMISES: &[Case<'static>] = &[
                 &[
                     Sent(2, Want(&[Of(&[1])])),
                     Promised(2, Of(&[1]), 3_000),
-                    HeardHave(2),
+                    Offered(2),
                     Asked(2, 1),
                 ],
             ),
@@ -186,16 +186,21 @@ pub static PROMISES: &[Case<'static>] = &[
                 &[
                     Sent(2, Want(&[Of(&[5])])),
                     Promised(2, Of(&[5]), 3_001),
-                    HeardHave(2),
+                    Offered(2),
                     Asked(2, 1),
                 ],
             ),
             (
                 3_000,
                 Heartbeat,
-                &[Behaviour(1), Behaviour(1), Behaviour(2), MeshBeat("a")],
+                &[
+                    Misbehaviour(1),
+                    Misbehaviour(1),
+                    Misbehaviour(2),
+                    MeshBeat("a"),
+                ],
             ),
-            (3_001, Heartbeat, &[Behaviour(2), MeshBeat("a")]),
+            (3_001, Heartbeat, &[Misbehaviour(2), MeshBeat("a")]),
             (3_002, Heartbeat, &[MeshBeat("a")]),
         ],
         ..NOTHING

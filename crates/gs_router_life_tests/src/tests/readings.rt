@@ -1,5 +1,5 @@
 //! What a router tells of itself.
-use gs_params::{DEFAULT_WINDOWS, Windows};
+use gs_params::{DEFAULT_TIMING, Timing};
 use gs_router_calls::Act::{Gone, Hear, HearEach, Heartbeat, Shut, Subscribe};
 use gs_router_calls::Said::{Graft, Message, On};
 use gs_router_calls::Seen::{
@@ -80,10 +80,10 @@ pub static READINGS: &[Case<'static>] = &[
     Case {
         name: "a router tells how often heartbeats and steps of decay come",
         asks: &[Ask::Times],
-        windows: Windows {
+        windows: Timing {
             heartbeat_ms: 700,
             decay_ms: 300,
-            ..DEFAULT_WINDOWS
+            ..DEFAULT_TIMING
         },
         steps: &[(
             0,

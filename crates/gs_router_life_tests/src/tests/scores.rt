@@ -4,8 +4,8 @@ use gs_router_calls::Act::{Decay, Gone, Hear, HearEach, Heartbeat, Publish, Shut
 use gs_router_calls::Id::Of;
 use gs_router_calls::Said::{Have, Message, On, Want};
 use gs_router_calls::Seen::{
-    Accepted, Answered, Asked, Behaviour, Cached, Delivered, First, GossipBeat, HeardHave, Invalid,
-    MeshBeat, Promised, Rejected, Score, Sent,
+    Accepted, Answered, Asked, Cached, Delivered, First, GossipBeat, Invalid, MeshBeat,
+    Misbehaviour, Offered, Promised, Rejected, Score, Sent,
 };
 use gs_router_calls::{Ask, Case, Kind, NO_RULES, NOTHING, Rules};
 
@@ -66,7 +66,7 @@ pub static SCORES: &[Case<'static>] = &[
                 &[
                     Sent(2, Want(&[Of(&[7])])),
                     Promised(2, Of(&[7]), 3_004),
-                    HeardHave(2),
+                    Offered(2),
                     Asked(2, 1),
                 ],
             ),
@@ -150,7 +150,7 @@ pub static SCORES: &[Case<'static>] = &[
                 4_000,
                 Heartbeat,
                 &[
-                    Behaviour(2),
+                    Misbehaviour(2),
                     MeshBeat("a"),
                     GossipBeat("a"),
                     Sent(1, Have("a", &[Of(&[1]), Of(&[5]), Of(&[9]), Of(&[6])])),

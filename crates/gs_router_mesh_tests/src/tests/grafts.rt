@@ -2,7 +2,7 @@
 use gs_params::{DEFAULT_DEGREES, DEFAULT_FACTORS, Degrees, Factors};
 use gs_router_calls::Act::{Hear, Subscribe, Unsubscribe};
 use gs_router_calls::Said::{Graft, Off, On, Prune};
-use gs_router_calls::Seen::{Backoff, Behaviour, Grafted, Members, Pruned, Sent};
+use gs_router_calls::Seen::{Backoff, Grafted, Members, Misbehaviour, Pruned, Sent};
 use gs_router_calls::{Act, Ask, Case, Kind, NOTHING, Seen};
 
 /// Neighbour 3 was dialled, and 4 scores -50.000001.
@@ -66,7 +66,7 @@ pub static GRAFTS: &[Case<'static>] = &[
                 GRAFT_1,
                 &[
                     Sent(1, Prune("a", Some(60))),
-                    Behaviour(1),
+                    Misbehaviour(1),
                     Backoff(1, "a", 60_999),
                 ],
             ),
@@ -103,7 +103,7 @@ pub static GRAFTS: &[Case<'static>] = &[
                 Hear(4, &[Graft("a")]),
                 &[
                     Sent(4, Prune("a", Some(60))),
-                    Behaviour(4),
+                    Misbehaviour(4),
                     Backoff(4, "a", 60_005),
                 ],
             ),
@@ -152,7 +152,7 @@ pub static GRAFTS: &[Case<'static>] = &[
                 GRAFT_1,
                 &[
                     Sent(1, Prune("a", Some(60))),
-                    Behaviour(1),
+                    Misbehaviour(1),
                     Backoff(1, "a", 120_000),
                 ],
             ),
@@ -162,7 +162,7 @@ pub static GRAFTS: &[Case<'static>] = &[
                 GRAFT_3,
                 &[
                     Sent(3, Prune("a", Some(60))),
-                    Behaviour(3),
+                    Misbehaviour(3),
                     Backoff(3, "a", 86_460_000),
                 ],
             ),

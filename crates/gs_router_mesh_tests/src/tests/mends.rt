@@ -1,6 +1,6 @@
 //! What heartbeats do to a mesh.
 use gs_params::{
-    DEFAULT_DEGREES, DEFAULT_TOPIC_FACTORS, DEFAULT_WINDOWS, Degrees, TopicFactors, Windows,
+    DEFAULT_DEGREES, DEFAULT_TIMING, DEFAULT_TOPIC_FACTORS, Degrees, Timing, TopicFactors,
 };
 use gs_router_calls::Act::{Hear, HearEach, Heartbeat, Subscribe};
 use gs_router_calls::Id::Of;
@@ -352,9 +352,9 @@ pub static MENDS: &[Case<'static>] = &[
             Kind::Praised,
         ],
         asks: OF_A,
-        windows: Windows {
+        windows: Timing {
             opportunistic_ticks: 2,
-            ..DEFAULT_WINDOWS
+            ..DEFAULT_TIMING
         },
         steps: &[
             (

@@ -2,7 +2,7 @@ ghost use Rattle.std.specs.Prelude.{◌≡◌, ◌≤◌, map, option_map, unwra
 ghost use Rattle.toml.specs.Data.{no_members};
 ghost use Rattle.toml.specs.View.{table_view};
 ghost use Rattle.gs_scenario.specs.Refusal.{GivesSame};
-ghost use Rattle.gs_scenario.specs.ParamsOf.{shared_in, shared_names, degrees_in, thresholds_in, factors_in, windows_in, params_of};
+ghost use Rattle.gs_scenario.specs.ParamsOf.{shared_in, shared_names, degrees_in, thresholds_in, factors_in, timing_in, params_of};
 ghost use Rattle.gs_scenario.specs.Kinds.{section_at};
 ghost use Rattle.gs_scenario.specs.PlanOf.{params_key};
 ghost use Rattle.gs_scenario.specs.Views.{section_of};
@@ -13,8 +13,8 @@ use crate::scenario::section::Section;
 use crate::scenario::tables::TableKind;
 use gs_base::{Seq, Topic};
 use gs_params::{
-    DEFAULT_DEGREES, DEFAULT_FACTORS, DEFAULT_FLOOD_PUBLISH, DEFAULT_THRESHOLDS, DEFAULT_WINDOWS,
-    Degrees, Factors, Params, Thresholds, TopicParams, Windows,
+    DEFAULT_DEGREES, DEFAULT_FACTORS, DEFAULT_FLOOD_PUBLISH, DEFAULT_THRESHOLDS, DEFAULT_TIMING,
+    Degrees, Factors, Params, Thresholds, Timing, TopicParams,
 };
 use std::alloc::Global;
 use toml::Table;
@@ -25,7 +25,7 @@ pub struct Shared {
     pub degrees: Degrees,
     pub thresholds: Thresholds,
     pub factors: Factors,
-    pub windows: Windows,
+    pub timing: Timing,
     pub flood_publish: bool,
 }
 
@@ -101,7 +101,7 @@ fn shared_in(section: &Section<'_>, round_ms: u64) -> Result<Shared, ScenarioFau
         degrees: degrees_in(section)?,
         thresholds: thresholds_in(section)?,
         factors: factors_in(section)?,
-        windows: windows_in(section, round_ms)?,
+        timing: timing_in(section, round_ms)?,
         flood_publish: section.truth_value("flood_publish", DEFAULT_FLOOD_PUBLISH)?,
     })
 }
@@ -154,13 +154,13 @@ fn factors_in(section: &Section<'_>) -> Result<Factors, ScenarioFault>
     })
 }
 
-#[tactic(auto, unfolding(crate::specs::ParamsOf::windows_in))]
-fn windows_in(section: &Section<'_>, round_ms: u64) -> Result<Windows, ScenarioFault>
+#[tactic(auto, unfolding(crate::specs::ParamsOf::timing_in))]
+fn timing_in(section: &Section<'_>, round_ms: u64) -> Result<Timing, ScenarioFault>
     requires { 1 ≤ round_ms }
-    ensures { GivesSame result (windows_in round_ms (section_of section.now)) }
+    ensures { GivesSame result (timing_in round_ms (section_of section.now)) }
 {
-    let default = DEFAULT_WINDOWS;
-    Ok(Windows {
+    let default = DEFAULT_TIMING;
+    Ok(Timing {
         heartbeat_ms: section.multiple("heartbeat_ms", default.heartbeat_ms, round_ms)?,
         decay_ms: section.multiple("decay_ms", default.decay_ms, round_ms)?,
         fanout_ttl_ms: section.count("fanout_ttl_ms", default.fanout_ttl_ms)?,
@@ -193,7 +193,7 @@ pub fn params_of(shared: Shared, topics: Seq<(Topic, TopicParams)>) -> Result<Pa
         degrees: shared.degrees,
         thresholds: shared.thresholds,
         factors: shared.factors,
-        windows: shared.windows,
+        timing: shared.timing,
         flood_publish: shared.flood_publish,
         topics,
     };

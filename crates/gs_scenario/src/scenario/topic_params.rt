@@ -1,12 +1,12 @@
 ghost use Rattle.std.specs.Prelude.{◌≡◌};
 ghost use Rattle.gs_scenario.specs.Refusal.{GivesSame};
-ghost use Rattle.gs_scenario.specs.TopicParamsOf.{topic_params_in, topic_factors_in, topic_weights_in, topic_counters_in, topic_windows_in, factors_of};
+ghost use Rattle.gs_scenario.specs.TopicParamsOf.{topic_params_in, topic_factors_in, topic_weights_in, topic_counters_in, topic_timing_in, factors_of};
 ghost use Rattle.gs_scenario.specs.Views.{section_of};
 
 use crate::fault::ScenarioFault;
 use crate::scenario::section::Section;
 use gs_params::{
-    DEFAULT_TOPIC_FACTORS, DEFAULT_TOPIC_WINDOWS, TopicFactors, TopicParams, TopicWindows,
+    DEFAULT_TOPIC_FACTORS, DEFAULT_TOPIC_TIMING, TopicFactors, TopicParams, TopicTiming,
 };
 
 /// The weights of a topic's part of the score.
@@ -40,7 +40,7 @@ pub fn topic_params_in(section: &Section<'_>) -> Result<TopicParams, ScenarioFau
 {
     Ok(TopicParams {
         factors: topic_factors_in(section)?,
-        windows: topic_windows_in(section)?,
+        timing: topic_timing_in(section)?,
         reject: section.prefixes("reject")?,
         ignore: section.prefixes("ignore")?,
     })
@@ -110,12 +110,12 @@ fn topic_counters_in(section: &Section<'_>) -> Result<TopicCounters, ScenarioFau
     })
 }
 
-#[tactic(auto, unfolding(crate::specs::TopicParamsOf::topic_windows_in))]
-fn topic_windows_in(section: &Section<'_>) -> Result<TopicWindows, ScenarioFault>
-    ensures { GivesSame result (topic_windows_in (section_of section.now)) }
+#[tactic(auto, unfolding(crate::specs::TopicParamsOf::topic_timing_in))]
+fn topic_timing_in(section: &Section<'_>) -> Result<TopicTiming, ScenarioFault>
+    ensures { GivesSame result (topic_timing_in (section_of section.now)) }
 {
-    let default = DEFAULT_TOPIC_WINDOWS;
-    Ok(TopicWindows {
+    let default = DEFAULT_TOPIC_TIMING;
+    Ok(TopicTiming {
         p1_quantum_ms: section.count("p1_quantum_ms", default.p1_quantum_ms)?,
         p3_window_ms: section.count("p3_window_ms", default.p3_window_ms)?,
         p3_activation_ms: section.count("p3_activation_ms", default.p3_activation_ms)?,

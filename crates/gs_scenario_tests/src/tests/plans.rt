@@ -132,7 +132,7 @@ pub const DEFAULT_TOPIC: &str = "TopicParams { \
 factors: TopicFactors { topic_weight: 1000000, w1: 0, w2: 0, w3: 0, w3b: 0, w4: 0, \
 p2_decay: 500000, p3_decay: 500000, p3b_decay: 500000, p4_decay: 500000, \
 p1_cap: 100000000, p2_cap: 100000000, p3_cap: 100000000, p3_threshold: 0 }, \
-windows: TopicWindows { p1_quantum_ms: 1000, p3_window_ms: 10, p3_activation_ms: 5000 }, \
+timing: TopicTiming { p1_quantum_ms: 1000, p3_window_ms: 10, p3_activation_ms: 5000 }, \
 reject: Seq { items: [] }, ignore: Seq { items: [] } }";
 
 /// All other parameters where nothing is said of them.
@@ -142,7 +142,7 @@ thresholds: Thresholds { gossip_threshold: -10000000, publish_threshold: -500000
 graylist_threshold: -80000000, opportunistic_threshold: 1000000 }, \
 factors: Factors { gossip_factor: 250000, p7_decay: 900000, w5: 1000000, w6: -5000000, \
 w7: -10000000, topic_cap: 0, decay_to_zero: 10000, p6_threshold: 1 }, \
-windows: Windows { heartbeat_ms: 1000, decay_ms: 1000, fanout_ttl_ms: 60000, \
+timing: Timing { heartbeat_ms: 1000, decay_ms: 1000, fanout_ttl_ms: 60000, \
 seen_ttl_ms: 120000, iwant_followup_ms: 3000, prune_backoff_s: 60, unsubscribe_backoff_s: 10, \
 mcache_len: 5, mcache_gossip: 3, opportunistic_ticks: 60, opportunistic_peers: 2, \
 max_ihave: 10, max_ihave_ids: 5000, gossip_retransmission: 3 }, flood_publish: true";
@@ -181,7 +181,7 @@ pub static PLANS: [(&str, &str); 3] = [
         graylist_threshold: -13, opportunistic_threshold: 14 }, \
         factors: Factors { gossip_factor: 15, p7_decay: 16, w5: 17, w6: -18, w7: -19, \
         topic_cap: 20, decay_to_zero: 21, p6_threshold: 22 }, \
-        windows: Windows { heartbeat_ms: 500, decay_ms: 750, fanout_ttl_ms: 23, seen_ttl_ms: 24, \
+        timing: Timing { heartbeat_ms: 500, decay_ms: 750, fanout_ttl_ms: 23, seen_ttl_ms: 24, \
         iwant_followup_ms: 25, prune_backoff_s: 26, unsubscribe_backoff_s: 27, mcache_len: 29, \
         mcache_gossip: 28, opportunistic_ticks: 30, opportunistic_peers: 31, max_ihave: 32, \
         max_ihave_ids: 33, gossip_retransmission: 34 }, flood_publish: false, \
@@ -189,7 +189,7 @@ pub static PLANS: [(&str, &str); 3] = [
         factors: TopicFactors { topic_weight: 41, w1: 42, w2: 43, w3: -44, w3b: -45, w4: -46, \
         p2_decay: 47, p3_decay: 48, p3b_decay: 49, p4_decay: 50, \
         p1_cap: 51, p2_cap: 52, p3_cap: 53, p3_threshold: 54 }, \
-        windows: TopicWindows { p1_quantum_ms: 55, p3_window_ms: 56, p3_activation_ms: 57 }, \
+        timing: TopicTiming { p1_quantum_ms: 55, p3_window_ms: 56, p3_activation_ms: 57 }, \
         reject: Seq { items: [b\"\\0\", b\"\\xff\\x01\"] }, \
         ignore: Seq { items: [b\"\", b\"abc\"] } }), \
         (Topic(b\"blog\"), DEFAULT_TOPIC)] } }, \

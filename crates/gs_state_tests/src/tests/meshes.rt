@@ -1,4 +1,4 @@
 //! Topics, their meshes and their fanouts.
 mod heartbeats;
-mod lists;
+mod peer_list;
 mod topics;

@@ -8,5 +8,5 @@ pub returns-then-tick-params-eq0 : goal.returns-then-tick-params-eq0
 returns-then-tick-params-eq0 c =
     let threshold : c.from-threshold.result ≡ pos c.args.params.now.thresholds.opportunistic_threshold = search rules in
     let fits : FitsSigned w128 c.from-threshold.result = record { sfits = c.from-threshold.type_inv } in
-    let due : nat_eq (c.args.tick % c.args.params.now.windows.opportunistic_ticks) 0 ≡ true = search rules in
+    let due : nat_eq (c.args.tick % c.args.params.now.timing.opportunistic_ticks) 0 ≡ true = search rules in
     c.median_is_below.ensures ∙ ap (median_is_below c.args.members.now) (to_z-of_z w128 c.from-threshold.result fits ∙ threshold) ∙ rw due refl

@@ -1,7 +1,7 @@
 use Rattle.std.proofs.Common.{◌≡◌, ◌++◌, [], ◌∷◌, ◌∙◌, ap, subst, rules}
 use Rattle.gs_base.specs.declared.names.PeerNo.{PeerNo}
 use Rattle.gs_plan.specs.declared.plan.Line.{Line}
-use Rattle.gs_dials.specs.Places.{list_at}
+use Rattle.gs_dials.specs.ListsByPeer.{list_at}
 use Rattle.gs_net.specs.Rounds.{lines_in}
 use Rattle.gs_net.proofs.OwnLines.{line_listed, put_own}
 use Rattle.gs_net.proofs.lines.lines_by_peer.Goals as goal

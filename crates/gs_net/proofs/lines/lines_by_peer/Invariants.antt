@@ -1,6 +1,6 @@
 use Rattle.std.proofs.Common.{◌≡◌, ◌<◌, ◌++◌, drop, length}
 use Rattle.gs_base.specs.declared.names.PeerNo.{PeerNo}
-use Rattle.gs_dials.specs.Places.{list_at}
+use Rattle.gs_dials.specs.ListsByPeer.{list_at}
 use Rattle.gs_net.specs.Rounds.{lines_in}
 use Rattle.gs_net.proofs.OwnLines.{own_from}
 use Rattle.gs_net.proofs.lines.lines_by_peer.Given as goal

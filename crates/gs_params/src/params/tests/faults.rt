@@ -122,7 +122,7 @@ static FAULTS: [(&[(&str, i64)], ParamFault); 28] = [
     ),
     (
         &[("heartbeat_ms", 0)],
-        ParamFault::Window(Check::Count(
+        ParamFault::Timing(Check::Count(
             Parameter::HeartbeatMs,
             0,
             CountRule::Range(1, 1_000_000_000),
@@ -130,7 +130,7 @@ static FAULTS: [(&[(&str, i64)], ParamFault); 28] = [
     ),
     (
         &[("prune_backoff_s", 86_401)],
-        ParamFault::Window(Check::Count(
+        ParamFault::Timing(Check::Count(
             Parameter::PruneBackoffS,
             86_401,
             CountRule::Range(1, 86_400),
@@ -138,11 +138,11 @@ static FAULTS: [(&[(&str, i64)], ParamFault); 28] = [
     ),
     (
         &[("mcache_len", 0)],
-        ParamFault::Window(Check::Count(Parameter::McacheLen, 0, CountRule::Range(1, 64))),
+        ParamFault::Timing(Check::Count(Parameter::McacheLen, 0, CountRule::Range(1, 64))),
     ),
     (
         &[("mcache_len", 2)],
-        ParamFault::Window(Check::Count(
+        ParamFault::Timing(Check::Count(
             Parameter::McacheGossip,
             3,
             CountRule::NotAbove(Parameter::McacheLen, 2),
@@ -150,11 +150,11 @@ static FAULTS: [(&[(&str, i64)], ParamFault); 28] = [
     ),
     (
         &[("mcache_gossip", 0)],
-        ParamFault::Window(Check::Count(Parameter::McacheGossip, 0, CountRule::AtLeast(1))),
+        ParamFault::Timing(Check::Count(Parameter::McacheGossip, 0, CountRule::AtLeast(1))),
     ),
     (
         &[("p3_window_ms", 1_000_000_001)],
-        ParamFault::Window(Check::Count(
+        ParamFault::Timing(Check::Count(
             Parameter::OfTopic(1, TopicParameter::P3WindowMs),
             1_000_000_001,
             CountRule::AtMost(1_000_000_000),
@@ -191,7 +191,7 @@ static FAULTS: [(&[(&str, i64)], ParamFault); 28] = [
     ),
     (
         &[("max_ihave", 0), ("decay_ms", 0)],
-        ParamFault::Window(Check::Count(Parameter::DecayMs, 0, CountRule::Range(1, 1_000_000_000))),
+        ParamFault::Timing(Check::Count(Parameter::DecayMs, 0, CountRule::Range(1, 1_000_000_000))),
     ),
 ];
 
@@ -224,7 +224,7 @@ static TEXTS: [(ParamFault, u8, &str); 4] = [
         "a factor, a weight or a cap is out of range",
     ),
     (
-        ParamFault::Window(A_CHECK),
+        ParamFault::Timing(A_CHECK),
         4,
         "a time or a budget is out of range",
     ),

@@ -10,7 +10,7 @@ pub returns-clause-words : goal.returns-clause-words
 returns-clause-words g c = λ p entries e t s u effects. moves (exact g.W.Words.word g.W.Words.after) (exact_is_free g.W.Words.word g.W.Words.after) p entries t e s u effects
 
 pub returns-clause-grafted : goal.returns-clause-grafted
-returns-clause-grafted g c = λ p entries at t choice step. grafts_candidates p entries at t choice step
+returns-clause-grafted g c = λ p entries at t change step. grafts_candidates p entries at t change step
 
 pub returns-clause-pruned : goal.returns-clause-pruned
-returns-clause-pruned g c = λ p entries at t choice step. prunes_members p entries at t choice step
+returns-clause-pruned g c = λ p entries at t change step. prunes_members p entries at t change step

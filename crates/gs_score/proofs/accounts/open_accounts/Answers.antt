@@ -16,7 +16,7 @@ loop-neighbour-preserved c =
     let new = c.insert.new.self.entries in
     let item : Neighbour = c.neighbour-item.result in
     let ns = c.args.neighbours.now in
-    let made : Account = record { topics = c.new.result; behaviour = c.new-in-loop-neighbour.result } in
+    let made : Account = record { topics = c.new.result; misbehaviour = c.new-in-loop-neighbour.result } in
     let same : made ≡ nothing_counted = rw (c.new.ensures, c.new-in-loop-neighbour.ensures) refl in
     let opens : Opens old new item.peer = λ q. c.in_ok-insert.ensures.updates.0 q ∙ ap (λ (a : Account). cond (same_peer item.peer q) (Some a) (lookup (same_peer q) old)) same in
     record {

@@ -16,7 +16,7 @@ pub returns-in_err-raise-in-Some-clause-few : goal.returns-in_err-raise-in-Some-
 returns-in_err-raise-in-Some-clause-few c =
     let old = c.args.accounts.now.entries in
     let was : Account = c.in-Some.account.now in
-    let is : Account = record { topics = c.raise.new.self; behaviour = was.behaviour } in
+    let is : Account = record { topics = c.raise.new.self; misbehaviour = was.misbehaviour } in
     let changed : Changed old (c.get_mut.follows.lender is).entries c.args.peer was is = (sym c.in-Some.ensures.value, ((c.get_mut.follows.holds is).3 (subst IsSome c.in-Some.ensures.value refl)).0) in
     few_stay old (c.get_mut.follows.lender is).entries c.args.peer was is changed
     (rw c.in_err-raise-in-Some.ensures.unchanged (few_of old c.args.peer was (sym c.in-Some.ensures.value) c.requires.few))
@@ -26,7 +26,7 @@ pub returns-in_err-raise-in-Some-clause-unchanged : goal.returns-in_err-raise-in
 returns-in_err-raise-in-Some-clause-unchanged c =
     let old = c.args.accounts.now.entries in
     let was : Account = c.in-Some.account.now in
-    let is : Account = record { topics = c.raise.new.self; behaviour = was.behaviour } in
+    let is : Account = record { topics = c.raise.new.self; misbehaviour = was.misbehaviour } in
     let same : is ≡ was = ap (λ topics. record was { topics = topics }) c.in_err-raise-in-Some.ensures.unchanged in
     let unchanged = (c.get_mut.follows.holds is).0 ∙ set_value_same (same_peer c.args.peer) old is (sym (rw same c.in-Some.ensures.value)) in
     on_err c.from_residual.result _ unchanged
@@ -35,7 +35,7 @@ pub returns-in_ok-raise-in-Some-clause-puts : goal.returns-in_ok-raise-in-Some-c
 returns-in_ok-raise-in-Some-clause-puts c =
     let old = c.args.accounts.now.entries in
     let was : Account = c.in-Some.account.now in
-    let is : Account = record { topics = c.raise.new.self; behaviour = was.behaviour } in
+    let is : Account = record { topics = c.raise.new.self; misbehaviour = was.misbehaviour } in
     let changed : Changed old (c.get_mut.follows.lender is).entries c.args.peer was is = (sym c.in-Some.ensures.value, ((c.get_mut.follows.holds is).3 (subst IsSome c.in-Some.ensures.value refl)).0) in
     is_stepped old (c.get_mut.follows.lender is).entries c.args.peer c.args.topic.now (raised_by c.args.raise) was is changed refl c.in_ok-raise-in-Some.ensures.puts
 
@@ -43,7 +43,7 @@ pub returns-in_ok-raise-in-Some-clause-adds : goal.returns-in_ok-raise-in-Some-c
 returns-in_ok-raise-in-Some-clause-adds c =
     let old = c.args.accounts.now.entries in
     let was : Account = c.in-Some.account.now in
-    let is : Account = record { topics = c.raise.new.self; behaviour = was.behaviour } in
+    let is : Account = record { topics = c.raise.new.self; misbehaviour = was.misbehaviour } in
     let changed : Changed old (c.get_mut.follows.lender is).entries c.args.peer was is = (sym c.in-Some.ensures.value, ((c.get_mut.follows.holds is).3 (subst IsSome c.in-Some.ensures.value refl)).0) in
     is_added old (c.get_mut.follows.lender is).entries c.args.peer c.args.topic.now was is changed c.in_ok-raise-in-Some.ensures.adds
 
@@ -51,7 +51,7 @@ pub returns-in_ok-raise-in-Some-clause-few : goal.returns-in_ok-raise-in-Some-cl
 returns-in_ok-raise-in-Some-clause-few c =
     let old = c.args.accounts.now.entries in
     let was : Account = c.in-Some.account.now in
-    let is : Account = record { topics = c.raise.new.self; behaviour = was.behaviour } in
+    let is : Account = record { topics = c.raise.new.self; misbehaviour = was.misbehaviour } in
     let changed : Changed old (c.get_mut.follows.lender is).entries c.args.peer was is = (sym c.in-Some.ensures.value, ((c.get_mut.follows.holds is).3 (subst IsSome c.in-Some.ensures.value refl)).0) in
     let here = account_was old c.args.peer was (sym c.in-Some.ensures.value) in
     few_stay old (c.get_mut.follows.lender is).entries c.args.peer was is changed

@@ -15,7 +15,7 @@ returns-clause-value c =
     = c.weighed_sum-given.ensures.value ∙ ap₂ times (reward_back f.w5 r.w5) (back c.args.app (10 ^ 12) c.requires.app (lit< tt)) in
     let e2 : c.weighed-crowded.result ≡ times f.w6 (pos (p6 f.p6_threshold c.args.number))
     = c.weighed-crowded.ensures.value ∙ ap₂ (λ w n. times w (pos n)) (penalty_back f.w6 r.w6) c.crowd.ensures.value in
-    let e3 : c.weighed-misbehaved.result ≡ times f.w7 (pos (p7 c.args.behaviour))
+    let e3 : c.weighed-misbehaved.result ≡ times f.w7 (pos (p7 c.args.misbehaviour))
     = c.weighed-misbehaved.ensures.value ∙ ap₂ (λ w n. times w (pos n)) (penalty_back f.w7 r.w7) c.squared.ensures.value in
     back _ (10 ^ 30) c.sum_of_four.ensures.bound (lit< tt)
     ∙ c.sum_of_four.ensures.value

@@ -6,8 +6,8 @@ ghost use Rattle.gs_params.specs.Params.{AreInRange};
 
 use gs_base::PeerNo;
 use gs_mesh::{
-    Choice, Heartbeat, Member, PeerList, a_choice_by_words_is_a_mesh_step, a_cut_by_words_is_a_cut,
-    choose_heartbeat,
+    Heartbeat, Member, MeshChange, PeerList, a_choice_by_words_is_a_mesh_step,
+    a_cut_by_words_is_a_cut, choose_heartbeat,
 };
 use gs_params::{DEFAULT_DEGREES, Degrees, ParamFault, Params, SeededWords, Words};
 use std::alloc::{AllocError, Global};
@@ -272,11 +272,11 @@ fn params_of(alloc: Global, case: &Case) -> Result<Params, ParamFault>
 {
     let mut params = Params::new(alloc);
     params.degrees = case.degrees;
-    params.windows.opportunistic_ticks = case.ticks;
+    params.timing.opportunistic_ticks = case.ticks;
     params.check()
 }
 
-fn members_of(alloc: Global, rows: &[Row]) -> Result<Vec<Member>, AllocError> {
+fn members_in(alloc: Global, rows: &[Row]) -> Result<Vec<Member>, AllocError> {
     let mut members = Vec::new(alloc);
     for (number, score, outbound) in rows {
         members.push(Member {
@@ -314,32 +314,32 @@ fn ascend(alloc: Global, members: &[Member]) -> Result<bool, AllocError>
 }
 
 /// The members that a case lists; where they do not ascend, the test fails.
-fn listed(alloc: Global, rows: &[Row]) -> Result<Vec<Member>, AllocError>
+fn ascending_members(alloc: Global, rows: &[Row]) -> Result<Vec<Member>, AllocError>
     ensures { IfOk result (λ members. IsAscending (peers_of members.items)) }
 {
-    let members = members_of(alloc, rows)?;
+    let members = members_in(alloc, rows)?;
     if !ascend(alloc, &members)? {
         return Err(AllocError);
     }
     Ok(members)
 }
 
-fn is_wanted(choice: &Choice, case: &Case) -> bool {
-    choice.pruned.as_slice() == case.pruned && choice.grafted.as_slice() == case.grafted
+fn is_wanted(change: &MeshChange, case: &Case) -> bool {
+    change.pruned.as_slice() == case.pruned && change.grafted.as_slice() == case.grafted
 }
 
 fn is_chosen(alloc: Global, case: &Case, params: &Params) -> Result<bool, AllocError>
     requires { AreInRange params.now }
 {
-    let mesh = listed(alloc, case.mesh)?;
-    let candidates = listed(alloc, case.candidates)?;
+    let mesh = ascending_members(alloc, case.mesh)?;
+    let candidates = ascending_members(alloc, case.candidates)?;
     let mut words = SeededWords::new(vec![in alloc; 7, 9, 11, 13, 15]?, 1, PeerNo(0));
     let heartbeat = Heartbeat {
         params,
         tick: case.tick,
     };
-    let choice = choose_heartbeat(alloc, heartbeat, &mesh, &candidates, &mut words)?;
-    Ok(is_wanted(&choice, case) && words.next_word() == case.next)
+    let change = choose_heartbeat(alloc, heartbeat, &mesh, &candidates, &mut words)?;
+    Ok(is_wanted(&change, case) && words.next_word() == case.next)
 }
 
 /// The number of the first case of which something else is chosen.

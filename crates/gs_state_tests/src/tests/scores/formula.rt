@@ -12,7 +12,7 @@ struct Case {
     app: i128,
     /// Neighbours at the address.
     number: u64,
-    behaviour: u64,
+    misbehaviour: u64,
     score: i128,
 }
 
@@ -22,7 +22,7 @@ static CASES: [Case; 7] = [
         topics: 0,
         app: 0,
         number: 1,
-        behaviour: 0,
+        misbehaviour: 0,
         score: 0,
     },
     Case {
@@ -30,7 +30,7 @@ static CASES: [Case; 7] = [
         topics: 9_000_000,
         app: 0,
         number: 1,
-        behaviour: 0,
+        misbehaviour: 0,
         score: 9_000_000,
     },
     Case {
@@ -38,7 +38,7 @@ static CASES: [Case; 7] = [
         topics: 9_000_000,
         app: 0,
         number: 1,
-        behaviour: 0,
+        misbehaviour: 0,
         score: 5_000_000,
     },
     Case {
@@ -46,7 +46,7 @@ static CASES: [Case; 7] = [
         topics: -9_000_000,
         app: 1,
         number: 0,
-        behaviour: 0,
+        misbehaviour: 0,
         score: -8_999_999,
     },
     // Two neighbours more than may be: -5 * 2 * 2.
@@ -55,7 +55,7 @@ static CASES: [Case; 7] = [
         topics: 0,
         app: 1_000_000,
         number: 3,
-        behaviour: 0,
+        misbehaviour: 0,
         score: -19_000_000,
     },
     // -10 * 2 * 2.
@@ -64,7 +64,7 @@ static CASES: [Case; 7] = [
         topics: 0,
         app: 0,
         number: 1,
-        behaviour: 2_000_000,
+        misbehaviour: 2_000_000,
         score: -40_000_000,
     },
     // All at their bounds: 10^12 - 5 * (10^6 - 1)^2 and - 10 * 10^6 * 10^6, with six digits each.
@@ -73,7 +73,7 @@ static CASES: [Case; 7] = [
         topics: 10_000_000_000_000_000_000_000_000_000,
         app: 1_000_000_000_000,
         number: 1_000_000,
-        behaviour: 1_000_000_000_000,
+        misbehaviour: 1_000_000_000_000,
         score: 5_000_000 + 1_000_000_000_000
             - 4_999_990_000_005_000_000
             - 10_000_000_000_000_000_000,
@@ -94,7 +94,11 @@ fn factors(capped: bool) -> Factors
 fn score(case: &Case) -> Option<i128> {
     let topics_fit = case.topics.unsigned_abs() <= 100_000_000_000_000_000_000_000_000_000;
     let app_fits = case.app.unsigned_abs() <= 1_000_000_000_000;
-    if !topics_fit || !app_fits || 1_000_000 < case.number || 1_000_000_000_000 < case.behaviour {
+    if !topics_fit
+        || !app_fits
+        || 1_000_000 < case.number
+        || 1_000_000_000_000 < case.misbehaviour
+    {
         return None;
     }
     Some(score_of(
@@ -102,7 +106,7 @@ fn score(case: &Case) -> Option<i128> {
         case.topics,
         case.app,
         case.number,
-        case.behaviour,
+        case.misbehaviour,
     ))
 }
 

@@ -13,7 +13,7 @@ enum Act {
     Near(u16, u8),
     Invalid(u16, u8),
     Deficit(u16, u8, i128),
-    Behaviour(u16),
+    Misbehaviour(u16),
     Seen,
     Asked(u16),
     Graft(u16, u8, u64),
@@ -29,7 +29,7 @@ struct Case {
     now: u64,
     /// Of first, near, missing and invalid deliveries.
     counts: [u64; 4],
-    behaviour: u64,
+    misbehaviour: u64,
     missing: u64,
     scores: [i128; 3],
 }
@@ -43,7 +43,7 @@ const NOTHING: Case = Case {
     acts: &[],
     now: 5_000,
     counts: [0; 4],
-    behaviour: 0,
+    misbehaviour: 0,
     missing: 0,
     scores: [0, SECOND, THIRD],
 };
@@ -121,14 +121,14 @@ static CASES: [Case; 16] = [
     },
     // -10 * 1 * 1, and after a step -10 * 0.9 * 0.9.
     Case {
-        acts: &[Act::Behaviour(1)],
-        behaviour: 1_000_000,
+        acts: &[Act::Misbehaviour(1)],
+        misbehaviour: 1_000_000,
         scores: [-10_000_000, SECOND, THIRD],
         ..NOTHING
     },
     Case {
-        acts: &[Act::Behaviour(1), Act::Decay(1)],
-        behaviour: 900_000,
+        acts: &[Act::Misbehaviour(1), Act::Decay(1)],
+        misbehaviour: 900_000,
         scores: [-8_100_000, SECOND, THIRD],
         ..NOTHING
     },
@@ -145,7 +145,7 @@ static CASES: [Case; 16] = [
             Act::Asked(1),
             Act::First(4, b't'),
             Act::Graft(4, b't', 0),
-            Act::Behaviour(4),
+            Act::Misbehaviour(4),
             Act::Prune(4, b't'),
             Act::ShutOut(4),
         ],
@@ -243,7 +243,7 @@ fn mark_of(alloc: Global, act: &Act) -> Result<Option<Mark>, AllocError> {
         Act::Deficit(peer, name, amount) => {
             Mark::Deficit(PeerNo(*peer), topic(alloc, *name)?, *amount)
         }
-        Act::Behaviour(peer) => Mark::Behaviour(PeerNo(*peer)),
+        Act::Misbehaviour(peer) => Mark::Misbehaviour(PeerNo(*peer)),
         Act::Seen => Mark::Seen(id, Verdict::Accept),
         Act::Asked(peer) => Mark::Asked(PeerNo(*peer), 1),
         _ => return Ok(None),
@@ -289,7 +289,7 @@ fn counted(scores: &Scores, topic: &Topic, now: Millis) -> ([u64; 4], u64, u64) 
     ];
     (
         counts,
-        scores.behaviour(peer),
+        scores.misbehaviour(peer),
         scores.missing(peer, topic, now),
     )
 }
@@ -309,7 +309,7 @@ fn holds(alloc: Global, case: &Case) -> Result<bool, AllocError> {
     };
     let now = Millis(case.now);
     let counted = counted(&scores, &topic(alloc, b't')?, now);
-    let is_counted = counted == (case.counts, case.behaviour, case.missing);
+    let is_counted = counted == (case.counts, case.misbehaviour, case.missing);
     Ok(is_counted && scored(&scores, now) == case.scores)
 }
 

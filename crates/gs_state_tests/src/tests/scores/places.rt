@@ -1,7 +1,7 @@
 //! Four neighbours, three of them at one address.
 use bytes::Bytes;
 use gs_base::{Neighbour, PeerNo};
-use gs_score::Places;
+use gs_score::Addresses;
 use std::alloc::{AllocError, Global};
 
 /// Each one's number, address and score by the application.
@@ -25,21 +25,21 @@ fn neighbour(alloc: Global, peer: u16, address: u8, app: i128) -> Result<Neighbo
     })
 }
 
-fn places(alloc: Global) -> Result<Places, AllocError> {
+fn addresses(alloc: Global) -> Result<Addresses, AllocError> {
     let mut neighbours = Vec::new(alloc);
     for (peer, address, app) in &NEIGHBOURS {
         neighbours.push(neighbour(alloc, *peer, *address, *app)?)?;
     }
-    Places::new(alloc, neighbours.as_slice())
+    Addresses::new(alloc, neighbours.as_slice())
 }
 
 /// How many count with each.
-fn numbers(places: &Places) -> [u64; 4] {
+fn numbers(addresses: &Addresses) -> [u64; 4] {
     [
-        places.number_with(PeerNo(1)),
-        places.number_with(PeerNo(2)),
-        places.number_with(PeerNo(3)),
-        places.number_with(PeerNo(4)),
+        addresses.number_with(PeerNo(1)),
+        addresses.number_with(PeerNo(2)),
+        addresses.number_with(PeerNo(3)),
+        addresses.number_with(PeerNo(4)),
     ]
 }
 
@@ -47,19 +47,19 @@ fn numbers(places: &Places) -> [u64; 4] {
 fn neighbours_count_at_their_addresses_until_they_are_shut_out(
     rt: HostRuntime,
 ) -> Result<(), AllocError> {
-    let mut places = places(rt.alloc())?;
-    assert_eq!(rt; numbers(&places), [3, 3, 3, 1]);
+    let mut addresses = addresses(rt.alloc())?;
+    assert_eq!(rt; numbers(&addresses), [3, 3, 3, 1]);
     assert_eq!(rt;
         (
-            places.app(PeerNo(2)),
-            places.app(PeerNo(4)),
-            places.app(PeerNo(9))
+            addresses.app(PeerNo(2)),
+            addresses.app(PeerNo(4)),
+            addresses.app(PeerNo(9))
         ),
         (5, -7, 0)
     );
     for (peer, wanted) in &SHUT_OUT {
-        places.shut_out(PeerNo(*peer));
-        assert_eq!(rt; numbers(&places), *wanted);
+        addresses.shut_out(PeerNo(*peer));
+        assert_eq!(rt; numbers(&addresses), *wanted);
     }
     Ok(())
 }

@@ -2,7 +2,7 @@
 ghost use Rattle.gs_score.specs.Ranges.{RulesAreInRange};
 
 use gs_base::Millis;
-use gs_params::{DEFAULT_TOPIC_FACTORS, DEFAULT_TOPIC_WINDOWS, TopicFactors};
+use gs_params::{DEFAULT_TOPIC_FACTORS, DEFAULT_TOPIC_TIMING, TopicFactors};
 use gs_score::{Kind, Raise, Standing, TopicRules};
 
 /// What is done to a standing.
@@ -162,7 +162,7 @@ fn rules(strict: bool) -> TopicRules
     };
     TopicRules {
         factors,
-        windows: DEFAULT_TOPIC_WINDOWS,
+        timing: DEFAULT_TOPIC_TIMING,
         decay_to_zero: 10_000,
     }
 }

@@ -4,7 +4,7 @@ ghost use Rattle.gs_params.specs.Params.{AreInRange};
 use bytes::Bytes;
 use gs_base::{Millis, Seq, Topic};
 use gs_params::{DEFAULT_TOPIC_FACTORS, Params, TopicFactors, TopicParams};
-use gs_score::{Kind, Raise, TopicRules, Topics};
+use gs_score::{Kind, Raise, TopicRules, TopicStandings};
 use std::alloc::{AllocError, Global};
 
 /// What is done on a topic, which is one byte.
@@ -94,7 +94,7 @@ fn params(alloc: Global) -> Result<Params, AllocError> {
 /// Does at a tick what is to be done, and gives the tick after it.
 fn perform(
     alloc: Global,
-    topics: &mut Topics,
+    topics: &mut TopicStandings,
     params: &Params,
     tick: u64,
     act: &Act,
@@ -125,7 +125,7 @@ fn held(alloc: Global, case: &Case) -> Result<Option<(usize, i128)>, AllocError>
     let Ok(params) = params(alloc)?.check() else {
         return Ok(None);
     };
-    let mut topics = Topics::new(alloc);
+    let mut topics = TopicStandings::new(alloc);
     let mut tick = 0;
     for act in case.acts {
         tick = perform(alloc, &mut topics, &params, tick, act)?;

@@ -7,11 +7,11 @@ use Rattle.gs_ends.specs.Lists.{as_slots}
 use Rattle.gs_ends.proofs.PairLists.{replaced, stands}
 use Rattle.gs_ends.proofs.list_ends.ListEnds.sent.Goals as goal
 
-pub place_of-place-requires : goal.place_of-place-requires
-place_of-place-requires c = record { known = stands c.as_slice.result.now c.args.to (subst (λ (l : List Pair). has (joints_of l) c.args.to ≡ true) (sym (c.as_slice.ensures.value ∙ c.self.view_is)) c.requires.known) }
+pub position_of-place-requires : goal.position_of-place-requires
+position_of-place-requires c = record { known = stands c.as_slice.result.now c.args.to (subst (λ (l : List Pair). has (joints_of l) c.args.to ≡ true) (sym (c.as_slice.ensures.value ∙ c.self.view_is)) c.requires.known) }
 
 pub returns : goal.returns
 returns c =
     let found : Pair = c.index-pair.result.now in
-    let change = replaced _ _ _ c.args.to _ found found _ c.self.view_is c.as_slice.ensures.value c.place_of-place.ensures.within c.place_of-place.ensures.first c.index-pair.ensures refl in
+    let change = replaced _ _ _ c.args.to _ found found _ c.self.view_is c.as_slice.ensures.value c.position_of-place.ensures.within c.position_of-place.ensures.first c.index-pair.ensures refl in
     subst (λ (l : List Slot). as_slots c.items.result.now (closes l) ≡ l) (sym (change.was (λ pair. pair.1.accepted))) c.items.ensures

@@ -5,15 +5,15 @@ use Rattle.gs_ends.specs.Pairs.{Pair, joint_of, joints_of}
 use Rattle.gs_ends.proofs.PairLists.{replaced, stands}
 use Rattle.gs_ends.proofs.list_ends.ListEndsEnds.take.Goals as goal
 
-pub place_of-place-requires : goal.place_of-place-requires
-place_of-place-requires c = record { known = stands c.as_slice.result.now c.args.from (subst (λ (l : List Pair). has (joints_of l) c.args.from ≡ true) (sym (c.as_slice.ensures.value ∙ c.self.view_is)) c.requires.known) }
+pub position_of-place-requires : goal.position_of-place-requires
+position_of-place-requires c = record { known = stands c.as_slice.result.now c.args.from (subst (λ (l : List Pair). has (joints_of l) c.args.from ≡ true) (sym (c.as_slice.ensures.value ∙ c.self.view_is)) c.requires.known) }
 
 pub returns-clause-joints : goal.returns-clause-joints
 returns-clause-joints c =
     let old : Pair = c.index_mut-pair.result.now in
     let new : Pair = (old.0, old.1, c.take.new.self) in
     let same : joint_of new ≡ joint_of old = ap (λ k. record { peer = old.0; to = old.1.link; from = k }) c.take.ensures.link in
-    let change = replaced _ _ _ c.args.from _ old new _ c.self.view_is c.as_slice.ensures.value c.place_of-place.ensures.within c.place_of-place.ensures.first c.index_mut-pair.ensures.value same in
+    let change = replaced _ _ _ c.args.from _ old new _ c.self.view_is c.as_slice.ensures.value c.position_of-place.ensures.within c.position_of-place.ensures.first c.index_mut-pair.ensures.value same in
     change.joints
 
 pub returns-clause-taken : goal.returns-clause-taken
@@ -21,7 +21,7 @@ returns-clause-taken c =
     let old : Pair = c.index_mut-pair.result.now in
     let new : Pair = (old.0, old.1, c.take.new.self) in
     let same : joint_of new ≡ joint_of old = ap (λ k. record { peer = old.0; to = old.1.link; from = k }) c.take.ensures.link in
-    let change = replaced _ _ _ c.args.from _ old new _ c.self.view_is c.as_slice.ensures.value c.place_of-place.ensures.within c.place_of-place.ensures.first c.index_mut-pair.ensures.value same in
+    let change = replaced _ _ _ c.args.from _ old new _ c.self.view_is c.as_slice.ensures.value c.position_of-place.ensures.within c.position_of-place.ensures.first c.index_mut-pair.ensures.value same in
     subst (λ (l : List Slot × List Slot). IsTaken l.0 l.1 c.take.result) (λ i. (sym (change.was (λ pair. pair.2.taken)) i, sym (change.is (λ pair. pair.2.taken)) i)) c.take.ensures.taken
 
 pub returns-clause-others : goal.returns-clause-others
@@ -29,7 +29,7 @@ returns-clause-others c =
     let old : Pair = c.index_mut-pair.result.now in
     let new : Pair = (old.0, old.1, c.take.new.self) in
     let same : joint_of new ≡ joint_of old = ap (λ k. record { peer = old.0; to = old.1.link; from = k }) c.take.ensures.link in
-    let change = replaced _ _ _ c.args.from _ old new _ c.self.view_is c.as_slice.ensures.value c.place_of-place.ensures.within c.place_of-place.ensures.first c.index_mut-pair.ensures.value same in
+    let change = replaced _ _ _ c.args.from _ old new _ c.self.view_is c.as_slice.ensures.value c.position_of-place.ensures.within c.position_of-place.ensures.first c.index_mut-pair.ensures.value same in
     change.others (λ pair. pair.2.taken)
 
 pub returns-clause-accepted : goal.returns-clause-accepted
@@ -37,5 +37,5 @@ returns-clause-accepted c =
     let old : Pair = c.index_mut-pair.result.now in
     let new : Pair = (old.0, old.1, c.take.new.self) in
     let same : joint_of new ≡ joint_of old = ap (λ k. record { peer = old.0; to = old.1.link; from = k }) c.take.ensures.link in
-    let change = replaced _ _ _ c.args.from _ old new _ c.self.view_is c.as_slice.ensures.value c.place_of-place.ensures.within c.place_of-place.ensures.first c.index_mut-pair.ensures.value same in
+    let change = replaced _ _ _ c.args.from _ old new _ c.self.view_is c.as_slice.ensures.value c.position_of-place.ensures.within c.position_of-place.ensures.first c.index_mut-pair.ensures.value same in
     change.kept (λ pair. pair.1.accepted) refl

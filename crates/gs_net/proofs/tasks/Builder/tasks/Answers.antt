@@ -3,7 +3,7 @@ use Rattle.std.specs.List.{AllZip, range_with_len}
 use Rattle.gs_base.specs.declared.names.PeerNo.{PeerNo}
 use Rattle.gs_ends.specs.Ends.{Joint}
 use Rattle.gs_ends.specs.Pairs.{joints_of, pair_ends}
-use Rattle.gs_dials.specs.Places.{list_at}
+use Rattle.gs_dials.specs.ListsByPeer.{list_at}
 use Rattle.gs_peer.specs.declared.task.PeerTask.{PeerTask}
 use Rattle.gs_net.specs.Rounds.{lines_in, peer_no}
 use Rattle.gs_net.specs.Tasks.{AreUsable, IsTask, IsTaskFor}

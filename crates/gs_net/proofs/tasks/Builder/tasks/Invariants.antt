@@ -1,7 +1,7 @@
 use Rattle.std.proofs.Common.{◌≡◌, ◌≤◌, ℕ, length, map}
 use Rattle.std.specs.List.{AllZip, range_with_len}
 use Rattle.gs_ends.specs.Pairs.{pair_ends}
-use Rattle.gs_dials.specs.Places.{list_at}
+use Rattle.gs_dials.specs.ListsByPeer.{list_at}
 use Rattle.gs_net.specs.Rounds.{peer_no}
 use Rattle.gs_net.specs.Tasks.{IsTaskFor}
 use Rattle.gs_net.proofs.tasks.Builder.tasks.Given as goal

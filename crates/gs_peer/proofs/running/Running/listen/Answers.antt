@@ -5,7 +5,7 @@ use Rattle.gs_ends.specs.Ends.{Joint, has}
 use Rattle.gs_peer.specs.Inboxes.{InboxView, is_full}
 use Rattle.gs_peer.specs.Kept.{InboxKept}
 use Rattle.gs_peer.specs.Life.{words_of}
-use Rattle.gs_peer.specs.Places.{place_of}
+use Rattle.gs_peer.specs.Phases.{phase_of}
 use Rattle.gs_peer.specs.Running.{seat_of}
 use Rattle.gs_peer.proofs.Grows.{grew_listened}
 use Rattle.gs_peer.proofs.Steps.{each_at, kept_listens, known_at, not_closed}
@@ -23,8 +23,8 @@ listen-requires-clause-open g c =
     let low : t.turn < length t.player.inboxes.items = search rules in
     let x = c.index_mut-inbox.result.now in
     let waits : is_full x ≡ false = search rules in
-    let one = each_at (λ (y : InboxView). InboxKept (seat_of t) (place_of t.place) t.player.router.trace (words_of (g.S.Ends.taken t.ends) y.peer) y) t.player.inboxes.items t.turn x low c.index_mut-inbox.ensures.value c.requires.kept.hears in
-    not_closed (seat_of t) (place_of t.place) t.player.router.trace (g.S.Ends.taken t.ends x.peer) x one waits
+    let one = each_at (λ (y : InboxView). InboxKept (seat_of t) (phase_of t.phase) t.player.router.trace (words_of (g.S.Ends.taken t.ends) y.peer) y) t.player.inboxes.items t.turn x low c.index_mut-inbox.ensures.value c.requires.kept.hears in
+    not_closed (seat_of t) (phase_of t.phase) t.player.router.trace (g.S.Ends.taken t.ends x.peer) x one waits
 
 pub returns-clause-goes : goal.returns-clause-goes
 returns-clause-goes g c =
@@ -37,7 +37,7 @@ returns-clause-goes g c =
       kept = record {
         small = c.requires.small;
         known = subst (λ (js : List Joint). AllByRecursion (λ q. has js q ≡ true) (links_of t.player.router.peer)) (sym e.joints) c.requires.known;
-        kept = kept_listens (seat_of t) (place_of t.place) t.outboxes t.player.router t.player.refused.items t.first.value t.player.words
+        kept = kept_listens (seat_of t) (phase_of t.phase) t.outboxes t.player.router t.player.refused.items t.first.value t.player.words
             (g.S.Ends.taken t.ends) (g.S.Ends.taken c.listen.new.ends) (g.S.Ends.accepted t.ends) (g.S.Ends.accepted c.listen.new.ends)
             t.player.inboxes.items t.turn x c.listen.new.self c.requires.kept low c.index_mut-inbox.ensures.value waits e.listened e.others e.accepted;
       };
@@ -50,4 +50,4 @@ pub returns-clause-taken : goal.returns-clause-taken
 returns-clause-taken g c =
     let t = c.args.self.now in
     let e = c.in_ok-listened.ensures in
-    grew_listened (place_of t.place) (g.S.Ends.taken t.ends) (g.S.Ends.taken c.listen.new.ends) c.index_mut-inbox.result.now c.listen.new.self e.listened e.others
+    grew_listened (phase_of t.phase) (g.S.Ends.taken t.ends) (g.S.Ends.taken c.listen.new.ends) c.index_mut-inbox.result.now c.listen.new.self e.listened e.others

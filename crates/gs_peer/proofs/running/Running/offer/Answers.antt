@@ -2,7 +2,7 @@ use Rattle.std.proofs.Common.{◌≡◌, ◌<◌, length, refl, rules, sym, subs
 use Rattle.std.specs.List.{AllByRecursion}
 use Rattle.gs_rules.specs.Peers.{links_of}
 use Rattle.gs_ends.specs.Ends.{Joint, has}
-use Rattle.gs_peer.specs.Places.{place_of}
+use Rattle.gs_peer.specs.Phases.{phase_of}
 use Rattle.gs_peer.specs.Running.{seat_of}
 use Rattle.gs_peer.proofs.Grows.{grew_accepted}
 use Rattle.gs_peer.proofs.Steps.{kept_offers, known_at}
@@ -22,7 +22,7 @@ returns-clause-goes g c =
       kept = record {
         small = c.requires.small;
         known = subst (λ (js : List Joint). AllByRecursion (λ q. has js q ≡ true) (links_of t.player.router.peer)) (sym c.offer.ensures.joints) c.requires.known;
-        kept = kept_offers (seat_of t) (place_of t.place) (g.S.Ends.taken t.ends) (g.S.Ends.taken c.offer.new.ends) (g.S.Ends.accepted t.ends) (g.S.Ends.accepted c.offer.new.ends)
+        kept = kept_offers (seat_of t) (phase_of t.phase) (g.S.Ends.taken t.ends) (g.S.Ends.taken c.offer.new.ends) (g.S.Ends.accepted t.ends) (g.S.Ends.accepted c.offer.new.ends)
             t.player.inboxes.items t.outboxes c.offer.new.self t.player.router t.player.refused.items t.first.value t.player.words c.peer-peer.result
             c.requires.kept e.says e.stays e.«open» e.others e.taken;
       };

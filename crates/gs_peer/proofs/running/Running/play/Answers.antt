@@ -14,14 +14,14 @@ pub play-requires-clause-running : goal.play-requires-clause-running
 play-requires-clause-running g c =
     let t = c.args.self.now in
     let r = c.args.round in
-    let k = at_round (seat_of t) (words_of (g.S.Ends.taken t.ends)) (words_of (g.S.Ends.accepted t.ends)) t.place r t.player.inboxes.items t.outboxes t.player.router t.player.refused.items t.first.value t.player.words c.requires.place c.requires.kept.kept in
+    let k = at_round (seat_of t) (words_of (g.S.Ends.taken t.ends)) (words_of (g.S.Ends.accepted t.ends)) t.phase r t.player.inboxes.items t.outboxes t.player.router t.player.refused.items t.first.value t.player.words c.requires.phase c.requires.kept.kept in
     runs_at (seat_of t) (words_of (g.S.Ends.taken t.ends)) (words_of (g.S.Ends.accepted t.ends)) (rounds.Playing r) t.player.inboxes.items t.outboxes t.player.router t.player.refused.items t.first.value t.player.words k
 
 pub play-requires-clause-fit : goal.play-requires-clause-fit
 play-requires-clause-fit g c =
     let t = c.args.self.now in
     let r = c.args.round in
-    let k = at_round (seat_of t) (words_of (g.S.Ends.taken t.ends)) (words_of (g.S.Ends.accepted t.ends)) t.place r t.player.inboxes.items t.outboxes t.player.router t.player.refused.items t.first.value t.player.words c.requires.place c.requires.kept.kept in
+    let k = at_round (seat_of t) (words_of (g.S.Ends.taken t.ends)) (words_of (g.S.Ends.accepted t.ends)) t.phase r t.player.inboxes.items t.outboxes t.player.router t.player.refused.items t.first.value t.player.words c.requires.phase c.requires.kept.kept in
     all_fit (seat_of t) (rounds.Playing r) t.player.router.trace (words_of (g.S.Ends.taken t.ends)) t.player.inboxes.items k.hears
 
 pub tell_since-requires-clause-known : goal.tell_since-requires-clause-known
@@ -40,7 +40,7 @@ returns-then-round-self-clause-goes g c =
     let sent = words_of (g.S.Ends.accepted t.ends) in
     let count = counted c.entries-told.result.now t.player.router.trace (c.entries-told.ensures ∙ c.trace.ensures) in
     goes_by g.S.Ends t _ refl refl refl e.runs.peer c.requires.kept
-    (plays_on (seat_of t) said sent t.place r (length c.entries-told.result.now) t.assignment.lines t.player c.play.new.self t.outboxes c.tell_since.new.outboxes t.first.value c.requires.kept.kept c.requires.place c.requires.full refl e count
+    (plays_on (seat_of t) said sent t.phase r (length c.entries-told.result.now) t.assignment.lines t.player c.play.new.self t.outboxes c.tell_since.new.outboxes t.first.value c.requires.kept.kept c.requires.phase c.requires.full refl e count
     (search rules) (search rules))
 
 pub tell_since-requires-2-clause-known : goal.tell_since-requires-2-clause-known
@@ -60,5 +60,5 @@ returns-clause-goes g c =
     let sent = words_of (g.S.Ends.accepted t.ends) in
     let count = counted c.entries-told.result.now t.player.router.trace (c.entries-told.ensures ∙ c.trace.ensures) in
     goes_by g.S.Ends t _ refl refl refl (c.in_ok-shut.ensures.runs.peer ∙ e.runs.peer) c.requires.kept
-    (plays_last (seat_of t) said sent t.place r (length c.entries-told.result.now) t.assignment.lines t.player c.play.new.self t.outboxes c.tell_since-2.new.outboxes t.first.value c.requires.kept.kept c.requires.place c.requires.full refl e count
+    (plays_last (seat_of t) said sent t.phase r (length c.entries-told.result.now) t.assignment.lines t.player c.play.new.self t.outboxes c.tell_since-2.new.outboxes t.first.value c.requires.kept.kept c.requires.phase c.requires.full refl e count
     c.shut.new.self (search rules) c.in_ok-shut.ensures.runs c.in_ok-shut.ensures.refused c.in_ok-shut.ensures.inboxes (search rules))

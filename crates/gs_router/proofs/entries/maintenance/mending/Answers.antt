@@ -17,7 +17,7 @@ returns c = λ L knows.
     let p = peer_with c.args.known.now.setup in
     let t = c.args.topic in
     let at = c.args.now.0 in
-    let seconds = p.params.windows.prune_backoff_s in
+    let seconds = p.params.timing.prune_backoff_s in
     let gone = c.as_slice-pruned.ensures in
     let come = c.as_slice-grafted.ensures in
     let sends = c.in_ok-send_to_each.ensures
@@ -26,6 +26,6 @@ returns c = λ L knows.
     let enter = ap entering (c.as_slice.ensures.value ∙ c.in_ok-entering.ensures ∙ ap (each_on t) come) in
     let marks = c.in_ok-enter.ensures
     ∙ ap₂ (λ (ms ns : List Mark). ms ++ ns) part enter
-    ∙ append_assoc (leaving p L at (each_on t c.args.choice.now.pruned)) (barring at seconds (each_on t c.args.choice.now.pruned)) (entering (each_on t c.args.choice.now.grafted)) in
+    ∙ append_assoc (leaving p L at (each_on t c.args.change.now.pruned)) (barring at seconds (each_on t c.args.change.now.pruned)) (entering (each_on t c.args.change.now.grafted)) in
     let whole = ap₂ (λ (ss : List (PeerNo × Rpc)) (ms : List Mark). record (bare c.args.now (MeshBeat t)) { sends = ss; marks = ms }) sends marks in
-    subst (λ (b : Entry). record { at = b.at; event = b.event; sends = c.send_to_each.new.sends; delivered = b.delivered; promise = b.promise; marks = c.enter.new.marks } ≡ mending p L c.args.now t c.args.choice.now) (sym c.bare.ensures) whole
+    subst (λ (b : Entry). record { at = b.at; event = b.event; sends = c.send_to_each.new.sends; delivered = b.delivered; promise = b.promise; marks = c.enter.new.marks } ≡ mending p L c.args.now t c.args.change.now) (sym c.bare.ensures) whole

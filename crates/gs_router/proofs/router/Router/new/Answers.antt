@@ -30,7 +30,7 @@ invariant_of-result c =
           made = c.in_ok-tables.ensures.made p refl;
           fit = record {
             ascending = c.requires.ascending;
-            ticks = c.requires.in_range.windows.opportunistic_ticks.0;
+            ticks = c.requires.in_range.timing.opportunistic_ticks.0;
             room = c.requires.in_range.degrees.best;
           };
         };

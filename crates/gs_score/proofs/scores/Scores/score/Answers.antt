@@ -1,10 +1,10 @@
 use Rattle.std.proofs.Common.{◌≡◌, ◌≤◌, ◌^◌, ◌*◌, unsigned_abs, lit<, refl, sym, subst, ◌∙◌, arith}
 use Rattle.gs_score.specs.Counters.{read_at}
-use Rattle.gs_score.specs.Accounts.{behaviour_decay}
+use Rattle.gs_score.specs.Accounts.{misbehaviour_decay}
 use Rattle.gs_score.specs.Formula.{score_of}
-use Rattle.gs_score.specs.Ledgers.{Kept, behaviour_of}
+use Rattle.gs_score.specs.Ledgers.{Kept, misbehaviour_of}
 use Rattle.gs_score.specs.Histories.{Agrees}
-use Rattle.gs_score.specs.Places.{app_of, number_with}
+use Rattle.gs_score.specs.Addresses.{app_of, number_with}
 use Rattle.gs_score.proofs.Bounds.{back, coded}
 use Rattle.gs_score.proofs.Keeping.{score_says}
 use Rattle.gs_score.proofs.Placing.{number_within}
@@ -12,22 +12,22 @@ use Rattle.gs_score.proofs.scores.Scores.score.Goals as goal
 
 pub score_of-requires-clause-number : goal.score_of-requires-clause-number
 score_of-requires-clause-number c =
-    omega (arith, c.number_with-number.ensures, number_within c.self.inside.places c.args.peer, c.self.invariant.places)
+    omega (arith, c.number_with-number.ensures, number_within c.self.inside.addresses c.args.peer, c.self.invariant.addresses)
 
 pub returns : goal.returns
 returns c = λ s H topics a covers.
     let old = c.self.inside in
-    let k : Kept = record { params = old.params; places = old.places; accounts = old.accounts.entries; tick = old.tick } in
+    let k : Kept = record { params = old.params; addresses = old.addresses; accounts = old.accounts.entries; tick = old.tick } in
     let p = c.args.peer in
     let agrees : Agrees s k H = subst (λ x. Agrees s x H) (sym c.self.view_is) a in
-    let behaviour : c.read-behaviour.result ≡ read_at (behaviour_decay k.params) k.tick (behaviour_of k.accounts p)
-    = c.read-behaviour.ensures.value ∙ rw (c.behaviour_decay.ensures.value, c.behaviour_of.ensures) refl in
-    let app : c.app-app.result ≡ app_of k.places p = c.app-app.ensures in
+    let misbehaviour : c.read-misbehaviour.result ≡ read_at (misbehaviour_decay k.params) k.tick (misbehaviour_of k.accounts p)
+    = c.read-misbehaviour.ensures.value ∙ rw (c.misbehaviour_decay.ensures.value, c.misbehaviour_of.ensures) refl in
+    let app : c.app-app.result ≡ app_of k.addresses p = c.app-app.ensures in
     let small : unsigned_abs c.app-app.result ≤ 10 ^ 12 = rw app (c.self.invariant.apps p) in
     let as_numbers
-    : score_of k.params.factors (coded c.sum_of-topics.result) (coded c.app-app.result) c.number_with-number.result c.read-behaviour.result
-    ≡ score_of k.params.factors c.sum_of-topics.result (app_of k.places p) (number_with k.places p) (read_at (behaviour_decay k.params) k.tick (behaviour_of k.accounts p))
-    = rw (back c.sum_of-topics.result (1_024 * 10 ^ 25) c.sum_of-topics.ensures.bound (lit< tt), back c.app-app.result (10 ^ 12) small (lit< tt), app, c.number_with-number.ensures, behaviour) refl in
+    : score_of k.params.factors (coded c.sum_of-topics.result) (coded c.app-app.result) c.number_with-number.result c.read-misbehaviour.result
+    ≡ score_of k.params.factors c.sum_of-topics.result (app_of k.addresses p) (number_with k.addresses p) (read_at (misbehaviour_decay k.params) k.tick (misbehaviour_of k.accounts p))
+    = rw (back c.sum_of-topics.result (1_024 * 10 ^ 25) c.sum_of-topics.ensures.bound (lit< tt), back c.app-app.result (10 ^ 12) small (lit< tt), app, c.number_with-number.ensures, misbehaviour) refl in
     back c.score_of.result (10 ^ 30) c.score_of.ensures.bound (lit< tt)
     ∙ c.score_of.ensures.value
     ∙ as_numbers

@@ -5,7 +5,7 @@ use Rattle.gs_mesh.specs.Cuts.{peers_of}
 use Rattle.gs_state_tests.proofs.tests.meshes.heartbeats.is_chosen.Goals as goal
 
 pub choose_heartbeat-requires-clause-ticks : goal.choose_heartbeat-requires-clause-ticks
-choose_heartbeat-requires-clause-ticks c = c.requires.windows.opportunistic_ticks.0
+choose_heartbeat-requires-clause-ticks c = c.requires.timing.opportunistic_ticks.0
 
 pub choose_heartbeat-requires-clause-members : goal.choose_heartbeat-requires-clause-members
 choose_heartbeat-requires-clause-members c =

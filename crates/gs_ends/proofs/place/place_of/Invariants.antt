@@ -1,7 +1,0 @@
-use Rattle.std.proofs.Common.{◌≡◌, ◌+◌, true, drop}
-use Rattle.std.specs.List.{list_any}
-use Rattle.gs_ends.specs.Pairs.{is_of, place_in}
-use Rattle.gs_ends.proofs.place.place_of.Given as goal
-
-abbrev pub invariant-loop-i : goal.invariant-loop-i
-invariant-loop-i g l = (list_any (is_of l.fn.who) (drop l.i l.list) ≡ true) × (place_in l.list l.fn.who ≡ l.i + place_in (drop l.i l.list) l.fn.who)

@@ -1,0 +1,16 @@
+-- Where a task is in its life, and how far its neighbours' rounds have come there.
+use Rattle.std.specs.Prelude.{ℕ, pred}
+use Rattle.gs_rules.specs.Rounds.{Seat}
+use Rattle.gs_rules.specs.Rounds as rounds
+use Rattle.gs_peer.specs.declared.phase.Phase.{Phase}
+use Rattle.gs_peer.specs.declared.phase.Phase.TheVariants.{Playing, Closing}
+
+-- the phase in the peer's rounds
+abbrev pub phase_of : Phase → rounds.Phase
+phase_of (Playing r) = rounds.Playing r
+phase_of Closing = rounds.Closing
+
+-- so many rounds of what a neighbour says have ended where a phase begins
+abbrev pub rounds_ended : Seat → rounds.Phase → ℕ
+rounds_ended seat (rounds.Playing r) = pred r
+rounds_ended seat rounds.Closing = seat.rounds

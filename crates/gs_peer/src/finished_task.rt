@@ -1,0 +1,52 @@
+ghost use Rattle.std.specs.Prelude.{◌≡◌};
+ghost use Rattle.gs_peer.specs.Faults.{number_of};
+
+use gs_base::{PeerNo, Seq, Topic};
+use gs_rules::{RefusedLine, Trace};
+
+/// What is left of a peer's life that has ended.
+#[derive(Drop)]
+pub struct FinishedTask<S: Drop> {
+    /// What it did, entry by entry.
+    pub trace: Trace,
+    /// What it could not follow, by moment and then by place in the script.
+    pub refused: Seq<RefusedLine>,
+    /// Who was in the meshes of its topics when it shut down, by topic and number.
+    pub meshes: Seq<(Topic, PeerNo)>,
+    /// What each neighbour scored when it shut down, by number, in millionths.
+    pub scores: Seq<(PeerNo, i128)>,
+    /// The ends of its links, by which the links are settled.
+    pub ends: S,
+}
+
+/// How a router stands when all is done.
+#[derive(Drop)]
+pub struct FinalState {
+    /// The members of the meshes of its topics, by topic and number.
+    pub meshes: Seq<(Topic, PeerNo)>,
+    /// What each neighbour scores, by number, in millionths.
+    pub scores: Seq<(PeerNo, i128)>,
+}
+
+/// Why a task gives no life.
+#[derive(Clone, Copy, Debug, PartialEq, Eq, thiserror::Error)]
+pub enum PeerFault {
+    /// There was no memory. The stop flag was set before this was given.
+    #[error("there was no memory")]
+    NoMemory,
+    /// The stop flag was set, or the task had given its result.
+    #[error("the task was stopped")]
+    Stopped,
+}
+
+impl PeerFault {
+    /// The number of the fault: 22 for want of memory, 23 where the task was stopped.
+    pub fn number(self) -> u8
+        ensures { result ≡ number_of self }
+    {
+        match self {
+            PeerFault::NoMemory => 22,
+            PeerFault::Stopped => 23,
+        }
+    }
+}

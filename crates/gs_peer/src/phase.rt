@@ -1,0 +1,8 @@
+/// Where a peer is in its life.
+#[derive(Clone, Copy, Debug, PartialEq, Eq)]
+pub enum Phase {
+    /// In a round.
+    Playing(u64),
+    /// Behind the last round: it has shut down.
+    Closing,
+}

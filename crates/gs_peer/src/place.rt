@@ -1,8 +1,0 @@
-/// Where a peer is in its life.
-#[derive(Clone, Copy, Debug, PartialEq, Eq)]
-pub enum Place {
-    /// In a round.
-    Playing(u64),
-    /// Behind the last round: it has shut down.
-    Closing,
-}

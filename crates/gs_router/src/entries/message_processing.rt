@@ -1,0 +1,335 @@
+//! What becomes of a message that a neighbour passed on (gossipsub v1.0, "Message Processing").
+ghost use Rattle.std.specs.Prelude.{◌≡◌, ◌++◌, [], ◌∷◌, Some, IfOk, is_some, true};
+ghost use Rattle.std.specs.Map.{lookup};
+ghost use Rattle.gs_base.specs.Names.{message_id, payload_of, same_topic, topic_of, topic_or_empty};
+ghost use Rattle.gs_base.specs.Rpcs.{passed_on};
+ghost use Rattle.gs_base.specs.declared.verdict.Verdict.TheVariants.{Accept, Reject};
+ghost use Rattle.gs_base.specs.declared.mark.Mark.TheVariants as marks;
+ghost use Rattle.gs_mesh.specs.Peers.{without as all_but};
+ghost use Rattle.gs_score.specs.Accounts.{params_in};
+ghost use Rattle.gs_rules.specs.declared.outcome.Outcome.TheVariants.{Accepted};
+ghost use Rattle.gs_rules.specs.Peers.{seen_ttl};
+ghost use Rattle.gs_rules.specs.Tables.{Entries, seen};
+ghost use Rattle.gs_rules.specs.Meshes.{mesh};
+ghost use Rattle.gs_rules.specs.Rules.{to_each};
+ghost use Rattle.gs_rules.specs.Outcomes.{again, begins_with_one, found_to_be, is_near, message_entry, message_rule, near_of, near_window, outcome, verdict_by, verdict_on};
+ghost use Rattle.gs_router.specs.Tables.{Agrees};
+ghost use Rattle.gs_router.specs.Known.{Knows, peer_with};
+
+use crate::entries::sends::{bare, to_each};
+use crate::known::Known;
+use crate::peer_lists::others;
+use bytes::Bytes;
+use gs_base::{Mark, Message, Millis, MsgId, PeerNo, Rpc, Seq, Shared, Topic, Verdict};
+use gs_cache::Payloads;
+use gs_params::{DEFAULT_TOPIC_TIMING, TopicParams};
+use gs_rules::{Entry, Event, Outcome};
+use std::alloc::{AllocError, Global};
+
+/// What becomes of a message.
+fn outcome_of(
+    known: &Known,
+    payloads: &mut Payloads,
+    from: PeerNo,
+    message: &Message,
+    now: Millis,
+) -> Outcome
+    ensures { (L : Entries)
+        → Knows known.now now.0 L
+        → result ≡ outcome (peer_with known.now.setup) L now.0 from message.now }
+{
+    if !known.tables.topics.is_joined_or_empty(&message.topic) {
+        return Outcome::Dropped;
+    }
+    if message.is_signed() {
+        return Outcome::Invalid;
+    }
+    let id = identifier_of(payloads, message);
+    match known.tables.sightings.verdict(&id, now) {
+        Some(Verdict::Accept) => repeated(known, from, message, id, now),
+        Some(Verdict::Reject) => Outcome::Invalid,
+        Some(Verdict::Ignore) => Outcome::Dropped,
+        None => unknown(known, message, id),
+    }
+}
+
+fn identifier_of(payloads: &mut Payloads, message: &Message) -> MsgId
+    ensures { result ≡ message_id (payload_of message.now) }
+{
+    match &message.payload {
+        Some(payload) => payloads.identifier(payload),
+        None => MsgId::of(&[]),
+    }
+}
+
+/// What becomes of a message with this identifier, which was accepted lately.
+fn repeated(known: &Known, from: PeerNo, message: &Message, id: MsgId, now: Millis) -> Outcome
+    ensures { (L : Entries)
+        → Knows known.now now.0 L
+        → is_some (seen (seen_ttl (peer_with known.now.setup)) L id now.0) ≡ true
+        → result ≡ again id (is_near (peer_with known.now.setup) L now.0 from (topic_of message.now) id) }
+{
+    if is_near(known, from, &message.topic, &id, now) {
+        return Outcome::Near(id);
+    }
+    Outcome::Dropped
+}
+
+/// Whether a neighbour is in the mesh of a topic that is named, passes on what was seen a moment ago, and did not do so
+/// before.
+fn is_near(known: &Known, from: PeerNo, topic: &Option<Topic>, id: &MsgId, now: Millis) -> bool
+    ensures { (L : Entries)
+        → Knows known.now now.0 L
+        → is_some (seen (seen_ttl (peer_with known.now.setup)) L id.now now.0) ≡ true
+        → result ≡ is_near (peer_with known.now.setup) L now.0 from (topic_or_empty topic.now) id.now }
+{
+    match topic {
+        Some(topic) => is_near_on(known, from, topic, id, now),
+        None => is_near_on(known, from, &Topic(Bytes::new()), id, now),
+    }
+}
+
+/// `is_near` on a topic that is there.
+fn is_near_on(known: &Known, from: PeerNo, topic: &Topic, id: &MsgId, now: Millis) -> bool
+    ensures { (L : Entries)
+        → Knows known.now now.0 L
+        → is_some (seen (seen_ttl (peer_with known.now.setup)) L id.now now.0) ≡ true
+        → result ≡ is_near (peer_with known.now.setup) L now.0 from topic.now id.now }
+{
+    known.tables.memberships.is_member(from, topic)
+        && known
+            .tables
+            .sightings
+            .is_near(id, from, now, near_window(known, topic))
+}
+
+/// For how long after the first delivery of a message on a topic another one counts.
+fn near_window(known: &Known, topic: &Topic) -> Millis
+    ensures { result.0 ≡ near_window (peer_with known.now.setup) topic.now }
+{
+    Millis(window_in(known.setup.params.topics.as_slice(), topic))
+}
+
+/// `near_window` by the parameters of topics: the first ones of the topic count, and a topic without any has the
+/// default.
+fn window_in(topics: &[(Topic, TopicParams)], topic: &Topic) -> u64
+    ensures { result ≡ (params_in topics.now topic.now).timing.p3_window_ms }
+{
+    for known in topics {
+        if *topic == known.0 {
+            return known.1.timing.p3_window_ms;
+        }
+    }
+    DEFAULT_TOPIC_TIMING.p3_window_ms
+}
+
+/// What becomes of a message with this identifier, which was not seen lately.
+fn unknown(known: &Known, message: &Message, id: MsgId) -> Outcome
+    ensures { result ≡ found_to_be id (verdict_on known.now.setup.params.topics message.now) }
+{
+    match verdict_of(known.setup.params.topics.as_slice(), message) {
+        Verdict::Accept => Outcome::Accepted(id),
+        Verdict::Reject => Outcome::Rejected(id),
+        Verdict::Ignore => Outcome::Ignored(id),
+    }
+}
+
+/// What a message is found to be, by the parameters of its topic.
+fn verdict_of(topics: &[(Topic, TopicParams)], message: &Message) -> Verdict
+    ensures { result ≡ verdict_on topics.now message.now }
+{
+    match &message.topic {
+        Some(topic) => verdict_by(topics, topic, message.payload_bytes()),
+        None => verdict_by(topics, &Topic(Bytes::new()), message.payload_bytes()),
+    }
+}
+
+/// What a payload on a topic is found to be: the first parameters of the topic count.
+fn verdict_by(topics: &[(Topic, TopicParams)], topic: &Topic, payload: &[u8]) -> Verdict
+    ensures { result ≡ verdict_by (lookup (same_topic topic.now) topics.now) payload.now }
+{
+    for known in topics {
+        if *topic == known.0 {
+            return verdict_with(&known.1, payload);
+        }
+    }
+    Verdict::Accept
+}
+
+/// What a payload is found to be by these parameters: to reject goes before to ignore.
+fn verdict_with(params: &TopicParams, payload: &[u8]) -> Verdict
+    ensures { result ≡ verdict_by (Some params.now) payload.now }
+{
+    if begins_with_one(params.reject.as_slice(), payload) {
+        return Verdict::Reject;
+    }
+    if begins_with_one(params.ignore.as_slice(), payload) {
+        return Verdict::Ignore;
+    }
+    Verdict::Accept
+}
+
+fn begins_with_one(prefixes: &[Bytes], payload: &[u8]) -> bool
+    ensures { result ≡ begins_with_one prefixes.now payload.now }
+{
+    prefixes
+        .iter()
+        .any(|prefix| payload.starts_with(prefix.as_slice()))
+}
+
+/// What is remembered of a message that a neighbour was the first to pass on, and that is accepted.
+fn accepted(
+    alloc: Global,
+    from: PeerNo,
+    id: MsgId,
+    message: &Message,
+    is_member: bool,
+) -> Result<Seq<Mark>, AllocError>
+    ensures { IfOk result (λ list. list
+        ≡ marks.Seen id Accept
+        ∷ marks.First from (topic_of message.now) id
+        ∷ (near_of is_member from (topic_of message.now) id ++ marks.Cached id (topic_of message.now) ∷ [])) }
+{
+    let mut marks = Seq::only(alloc, Mark::Seen(id, Verdict::Accept))?;
+    marks.push(Mark::First(from, message.topic_or_empty()?, id))?;
+    if is_member {
+        marks.push(Mark::Near(from, message.topic_or_empty()?, id))?;
+        marks.push(Mark::Cached(id, message.topic_or_empty()?))?;
+        return Ok(marks);
+    }
+    marks.push(Mark::Cached(id, message.topic_or_empty()?))?;
+    Ok(marks)
+}
+
+fn rejected(
+    alloc: Global,
+    from: PeerNo,
+    id: MsgId,
+    message: &Message,
+) -> Result<Seq<Mark>, AllocError>
+    ensures { IfOk result (λ list. list ≡ marks.Seen id Reject ∷ marks.Invalid from (topic_of message.now) ∷ []) }
+{
+    let mut marks = Seq::only(alloc, Mark::Seen(id, Verdict::Reject))?;
+    marks.push(Mark::Invalid(from, message.topic_or_empty()?))?;
+    Ok(marks)
+}
+
+/// A message by itself goes to each of these, but for whom it came from.
+fn passed_on(
+    alloc: Global,
+    from: PeerNo,
+    message: &Message,
+    members: &[PeerNo],
+) -> Result<Seq<(PeerNo, Shared<Rpc>)>, AllocError>
+    ensures { IfOk result (λ sends. sends ≡ to_each (passed_on message.now) (all_but from members.now)) }
+{
+    let receivers = others(alloc, from, members)?;
+    let sends = to_each(alloc, Rpc::passed_on(alloc, message)?, &receivers)?;
+    Ok(sends)
+}
+
+/// A message that is accepted, with its identifier.
+#[derive(Drop)]
+pub struct AcceptedMessage {
+    from: PeerNo,
+    message: Shared<Message>,
+    id: MsgId,
+}
+
+/// The entry of a message that is accepted, where these are in the mesh of its topic.
+fn accepting_message(
+    alloc: Global,
+    accepted_message: AcceptedMessage,
+    members: &[PeerNo],
+    now: Millis,
+) -> Result<Entry, AllocError>
+    ensures { IfOk result (λ entry. entry
+        ≡ message_entry members.now now accepted_message.from accepted_message.message (Accepted accepted_message.id)) }
+{
+    let AcceptedMessage { from, message, id } = accepted_message;
+    let told = message.get();
+    let delivery = (told.topic_or_empty()?, told.payload_or_empty()?);
+    let sends = passed_on(alloc, from, told, members)?;
+    let marks = accepted(alloc, from, id, told, members.contains(&from))?;
+    Ok(Entry {
+        at: now,
+        sends,
+        delivered: Seq::only(alloc, delivery)?,
+        promise: None,
+        marks,
+        event: Event::Msg(from, message),
+    })
+}
+
+/// The entry of a message of which this becomes.
+fn entry_with(
+    known: &Known,
+    from: PeerNo,
+    message: Shared<Message>,
+    outcome: Outcome,
+    now: Millis,
+) -> Result<Entry, AllocError>
+    ensures { IfOk result (λ entry. (L : Entries)
+        → Agrees known.now.tables L
+        → entry ≡ message_entry (mesh L (topic_of message)) now from message outcome) }
+{
+    let alloc = known.alloc;
+    match outcome {
+        Outcome::Dropped => Ok(bare(alloc, now, Event::Msg(from, message))),
+        Outcome::Invalid => {
+            let mark = Mark::Invalid(from, message.get().topic_or_empty()?);
+            Ok(Entry {
+                marks: Seq::only(alloc, mark)?,
+                ..bare(alloc, now, Event::Msg(from, message))
+            })
+        }
+        Outcome::Rejected(id) => Ok(Entry {
+            marks: rejected(alloc, from, id, message.get())?,
+            ..bare(alloc, now, Event::Msg(from, message))
+        }),
+        Outcome::Ignored(id) => Ok(Entry {
+            marks: Seq::only(alloc, Mark::Seen(id, Verdict::Ignore))?,
+            ..bare(alloc, now, Event::Msg(from, message))
+        }),
+        Outcome::Near(id) => {
+            let mark = Mark::Near(from, message.get().topic_or_empty()?, id);
+            Ok(Entry {
+                marks: Seq::only(alloc, mark)?,
+                ..bare(alloc, now, Event::Msg(from, message))
+            })
+        }
+        Outcome::Accepted(id) => {
+            let members = mesh_members(known, &message.get().topic);
+            let accepted_message = AcceptedMessage { from, message, id };
+            let entry = accepting_message(alloc, accepted_message, members, now)?;
+            Ok(entry)
+        }
+    }
+}
+
+/// Who is in the mesh of the topic that is named; an absent one is the empty one.
+fn mesh_members<'a>(known: &'a Known, topic: &Option<Topic>) -> &'a [PeerNo]
+    ensures { (L : Entries) → Agrees known.now.tables L → result.now ≡ mesh L (topic_or_empty topic.now) }
+{
+    match topic {
+        Some(topic) => known.tables.memberships.members(topic),
+        None => known.tables.memberships.members(&Topic(Bytes::new())),
+    }
+}
+
+/// The entry of a message that a neighbour passed on.
+pub fn entry_of(
+    known: &Known,
+    payloads: &mut Payloads,
+    from: PeerNo,
+    message: Shared<Message>,
+    now: Millis,
+) -> Result<Entry, AllocError>
+    ensures { IfOk result (λ entry. (L : Entries)
+        → Knows known.now now.0 L
+        → entry ≡ message_rule (peer_with known.now.setup) L now from message) }
+{
+    let outcome = outcome_of(known, payloads, from, message.get(), now);
+    let entry = entry_with(known, from, message, outcome, now)?;
+    Ok(entry)
+}

@@ -1,0 +1,184 @@
+ghost use Rattle.std.specs.Prelude.{◌≡◌, ℕ, max, List, [], ◌∷◌, OnOk, IfOk, IfSome, IfNone, Option, Some, option_map};
+ghost use Rattle.gs_base.specs.declared.names.MsgId.{MsgId as MsgIdValue};
+ghost use Rattle.gs_base.specs.declared.names.PeerNo.{PeerNo as PeerNoValue};
+ghost use Rattle.gs_rules.specs.declared.trace.Entry.{Entry as EntryValue};
+ghost use Rattle.gs_rules.specs.Peers.{Peer, windows};
+ghost use Rattle.gs_rules.specs.Tables.{Entries, Keeping, answered_after, kept, kept_after, message_in, order_after};
+ghost use Rattle.gs_rules.specs.Gossip.{gossip};
+ghost use Rattle.gs_router.specs.Tables.{AgreesOnMessages, HasKept, IsMadeAlike, answers_left, unmarked};
+
+use gs_base::{Mark, Message, MsgId, PeerNo, Seq, Shared, Topic, clone_of};
+use gs_cache::{Answer, MessageCache};
+use gs_rules::{Entry, Event};
+use std::alloc::{AllocError, Global};
+
+/// The messages that are kept, and how often each neighbour may still get one.
+#[derive(Drop)]
+pub struct Messages {
+    alloc: Global,
+    cache: MessageCache,
+}
+
+impl Messages {
+    /// No message is kept. One will be for so many heartbeats, be gossiped for so many, and be sent so many times
+    /// to each neighbour that asks for it. For 0 heartbeats means for one, as checked parameters say.
+    ///
+    /// # Errors
+    /// `AllocError` where there was no memory.
+    pub fn new(
+        alloc: Global,
+        len: usize,
+        gossip: usize,
+        answers: u64,
+    ) -> Result<Messages, AllocError>
+        ensures agrees { IfOk result (λ messages. AgreesOnMessages messages []) }
+        ensures len { IfOk result (λ messages. messages.cache.len ≡ max 1 len) }
+        ensures gossip { IfOk result (λ messages. messages.cache.gossip ≡ gossip) }
+        ensures answers { IfOk result (λ messages. messages.cache.answers ≡ answers) }
+    {
+        let cache = MessageCache::new(alloc, len.max(1), gossip, answers)?;
+        Ok(Messages { alloc, cache })
+    }
+
+    /// The message that is kept under an identifier and may go to a neighbour: none where none is kept, or the
+    /// neighbour got it as often as it may.
+    pub fn answer_for(&self, id: &MsgId, peer: PeerNo) -> Option<&Shared<Message>>
+        ensures some { IfSome result (λ message. (L : Entries)
+            → AgreesOnMessages self.now L
+            → option_map (λ (k : Keeping). k.message) (kept self.now.cache.len L id.now) ≡ Some message.now) }
+        ensures none { IfNone result ((L : Entries)
+            → AgreesOnMessages self.now L
+            → answers_left self.now.cache.answers self.now.cache.len L peer id.now ≡ 0) }
+    {
+        match self.cache.answer_for(id, peer) {
+            Answer::Given(message) => Some(message),
+            Answer::Spent => None,
+            Answer::Absent => None,
+        }
+    }
+
+    /// How often a neighbour may still get a message.
+    pub fn left_for(&self, id: &MsgId, peer: PeerNo) -> u64
+        ensures { (L : Entries)
+            → AgreesOnMessages self.now L
+            → result ≡ answers_left self.now.cache.answers self.now.cache.len L peer id.now }
+    {
+        self.cache.left_for(id, peer)
+    }
+
+    /// The identifiers of what is gossiped on a topic, the oldest first.
+    ///
+    /// # Errors
+    /// `AllocError` where there was no memory.
+    pub fn gossip_ids(&self, topic: &Topic) -> Result<Seq<MsgId>, AllocError>
+        ensures { IfOk result (λ ids. (p : Peer) (L : Entries)
+            → AgreesOnMessages self.now L
+            → self.now.cache.len ≡ windows p
+            → self.now.cache.gossip ≡ p.params.timing.mcache_gossip
+            → ids ≡ gossip p L topic.now) }
+    {
+        let ids = self.cache.gossip_ids(topic)?;
+        Ok(ids)
+    }
+
+    /// Notes that an event came: the end of a heartbeat makes all that is kept older. It takes no memory.
+    fn note_event(&mut self, event: &Event)
+        ensures agrees { (e : EntryValue) (L : Entries)
+            → e.event ≡ event.now
+            → AgreesOnMessages self.old L
+            → AgreesOnMessages self.new (unmarked e ∷ L) }
+        ensures alike { IsMadeAlike self.old self.new }
+    {
+        match event {
+            Event::BeatEnd => self.cache.shift(),
+            _ => {}
+        }
+    }
+
+    fn note_mark(&mut self, mark: &Mark, event: &Event) -> Result<(), AllocError>
+        ensures has { OnOk result ((last : MsgIdValue → Option Keeping)
+            (given : PeerNoValue → MsgIdValue → ℕ)
+            (order : List MsgIdValue)
+            → HasKept self.old last given order
+            → HasKept self.new
+            (λ id. kept_after id event.now mark.now (last id))
+            (λ q id. answered_after q id mark.now (given q id))
+            (order_after mark.now order)) }
+        ensures alike { OnOk result (IsMadeAlike self.old self.new) }
+    {
+        match mark {
+            Mark::Cached(id, topic) => {
+                let message = message_in(self.alloc, event)?;
+                self.cache.put(*id, clone_of(topic)?, message)?;
+                Ok(())
+            }
+            Mark::Answered(peer, id) => {
+                self.cache.count_answer(id, *peer)?;
+                Ok(())
+            }
+            _ => Ok(()),
+        }
+    }
+
+    /// Notes an entry: the message that its event brings is kept (`Cached`), answers are counted (`Answered`), and the
+    /// end of a heartbeat makes all that is kept older.
+    ///
+    /// # Errors
+    /// `AllocError` where there was no memory; some of its marks may then have been noted.
+    pub fn note(&mut self, entry: &Entry) -> Result<(), AllocError>
+        ensures agrees { OnOk result ((L : Entries)
+            → AgreesOnMessages self.old L
+            → AgreesOnMessages self.new (entry.now ∷ L)) }
+        ensures alike { OnOk result (IsMadeAlike self.old self.new) }
+    {
+        self.note_event(&entry.event);
+        self.note_marks(entry)?;
+        Ok(())
+    }
+
+    fn note_marks(&mut self, entry: &Entry) -> Result<(), AllocError>
+        ensures agrees { OnOk result ((L : Entries)
+            → AgreesOnMessages self.old (unmarked entry.now ∷ L)
+            → AgreesOnMessages self.new (entry.now ∷ L)) }
+        ensures alike { OnOk result (IsMadeAlike self.old self.new) }
+    {
+        for mark in entry.marks.as_slice() {
+            self.note_mark(mark, &entry.event)?;
+        }
+        Ok(())
+    }
+}
+
+/// The message that an event brings: its payload is shared.
+///
+/// # Errors
+/// `AllocError` where there was no memory.
+fn message_in(alloc: Global, event: &Event) -> Result<Shared<Message>, AllocError>
+    ensures { IfOk result (λ message. message ≡ message_in event.now) }
+{
+    match event {
+        Event::Msg(_, message) => clone_of(message),
+        Event::Publish(topic, payload) => {
+            let message = Message {
+                origin: None,
+                payload: Some(clone_of(payload)?),
+                seqno: None,
+                topic: Some(clone_of(topic)?),
+                signature: None,
+                key: None,
+            };
+            Shared::new(alloc, message)
+        }
+        _ => {
+            let message = Message {
+                origin: None,
+                payload: None,
+                seqno: None,
+                topic: None,
+                signature: None,
+                key: None,
+            };
+            Shared::new(alloc, message)
+        }
+    }
+}

@@ -1,8 +1,0 @@
-use Rattle.std.proofs.Common.{◌≡◌, drop, map, []}
-use Rattle.indexmap.specs.IndexMap.{insert_all}
-use Rattle.gs_base.specs.Names.{same_peer}
-use Rattle.gs_score.specs.Places.{place_of}
-use Rattle.gs_score.proofs.places.place_all.Given as goal
-
-abbrev pub invariant-loop-neighbour : goal.invariant-loop-neighbour
-invariant-loop-neighbour l = insert_all same_peer l.places.entries (map place_of (drop l.neighbour-index l.neighbours)) ≡ insert_all same_peer [] (map place_of l.neighbours)

@@ -1,0 +1,266 @@
+ghost use Rattle.std.specs.Prelude.{◌≡◌, ◌+◌, ◌≤◌, ◌<◌, ◌*◌, ◌^◌, ◌+ℤ◌, ◌||◌, nat_lt, true, if◌then◌else◌, [], List, drop, length, unsigned_abs, IsOk, OnOk, OnErr};
+ghost use Rattle.std.specs.List.{IsDistinct};
+ghost use Rattle.std.specs.Map.{keys_of};
+ghost use Rattle.gs_base.specs.Names.{most_topics, same_topic};
+ghost use Rattle.gs_base.specs.declared.names.Topic.{Topic as TopicValue};
+ghost use Rattle.gs_params.specs.Params.{AreInRange};
+ghost use Rattle.gs_score.specs.Accounts.{AddsTopic, Covers, KeepsTopics, has_topic, held_in, standing_in, topic_sum};
+ghost use Rattle.gs_score.specs.Ranges.{RulesAreInRange};
+ghost use Rattle.gs_score.specs.Standings.{grafted, pruned, raised_by};
+
+use crate::rules::TopicRules;
+use crate::standing::{Raise, Standing};
+use gs_base::{MOST_TOPICS, Millis, Topic, clone_of};
+use gs_params::Params;
+use indexmap::IndexMap;
+use std::alloc::{AllocError, Global};
+use std::marker::Model;
+
+/// What a neighbour has on topics, by topic. On all others it has nothing. How a topic is scored is looked up in the
+/// parameters: no copy is kept here that would have to stay alike.
+#[derive(Drop)]
+pub struct TopicStandings {
+    standings: IndexMap<Topic, Standing>,
+}
+
+impl Model for TopicStandings {
+    ghost use Rattle.std.specs.Prelude.{List};
+    ghost use Rattle.gs_base.specs.declared.names.Topic.{Topic};
+    ghost use Rattle.gs_score.specs.declared.standing.Standing.{Standing};
+
+    ghost Value = { List (Topic × Standing) };
+
+    ghost view = { λ t. t.standings.entries };
+}
+
+impl TopicStandings {
+    /// Nothing on any topic. It takes no memory.
+    pub fn new(alloc: Global) -> TopicStandings
+        ensures { result ≡ [] }
+    {
+        TopicStandings {
+            standings: IndexMap::new(alloc),
+        }
+    }
+
+    /// On how many topics it has something.
+    pub fn len(&self) -> usize
+        ensures { result ≡ length self.now }
+    {
+        self.standings.len()
+    }
+
+    /// What it has on a topic: nothing, and outside the mesh, where nothing was ever counted.
+    pub fn standing(&self, topic: &Topic) -> Standing
+        ensures { result ≡ standing_in self.now topic.now }
+    {
+        standing_at(&self.standings, topic)
+    }
+
+    /// Whether it has something on a topic, or something on fewer than 1,024 topics.
+    pub fn has_room(&self, topic: &Topic) -> bool
+        ensures { result ≡ (has_topic self.now topic.now || nat_lt (length self.now) most_topics) }
+    {
+        self.standings.get(topic).is_some() || self.standings.len() < MOST_TOPICS
+    }
+
+    /// Raises a counter on a topic, as it is at a tick, up to its cap. It takes memory only where it had nothing on the
+    /// topic.
+    ///
+    /// # Errors
+    /// `AllocError` where there was no memory; nothing is changed then.
+    pub fn raise(&mut self, topic: &Topic, raise: Raise<'_>) -> Result<(), AllocError>
+        requires in_range { RulesAreInRange raise.rules.now }
+        ensures puts { OnOk result ((t : TopicValue)
+            → standing_in self.new t
+            ≡ (if same_topic topic.now t
+            then raised_by raise.entry (standing_in self.old topic.now)
+            else standing_in self.old t)) }
+        ensures number { length self.new
+            ≤ (if has_topic self.old topic.now then length self.old else length self.old + 1) }
+        ensures adds { OnOk result (AddsTopic self.old self.new topic.now) }
+        ensures unchanged { OnErr result (self.new ≡ self.old) }
+        ensures succeeds { has_topic self.old topic.now ≡ true → IsOk result }
+    {
+        raise_at(&mut self.standings, topic, raise)?;
+        Ok(())
+    }
+
+    /// It comes into the mesh of a topic. It takes memory only where it had nothing on the topic.
+    ///
+    /// # Errors
+    /// `AllocError` where there was no memory; nothing is changed then.
+    pub fn graft(&mut self, topic: &Topic, now: Millis) -> Result<(), AllocError>
+        ensures puts { OnOk result ((t : TopicValue)
+            → standing_in self.new t
+            ≡ (if same_topic topic.now t
+            then grafted now (standing_in self.old topic.now)
+            else standing_in self.old t)) }
+        ensures number { length self.new
+            ≤ (if has_topic self.old topic.now then length self.old else length self.old + 1) }
+        ensures adds { OnOk result (AddsTopic self.old self.new topic.now) }
+        ensures unchanged { OnErr result (self.new ≡ self.old) }
+        ensures succeeds { has_topic self.old topic.now ≡ true → IsOk result }
+    {
+        graft_at(&mut self.standings, topic, now)?;
+        Ok(())
+    }
+
+    /// It leaves the mesh of a topic. It takes no memory.
+    pub fn prune(&mut self, topic: &Topic)
+        ensures prunes { (t : TopicValue)
+            → standing_in self.new t
+            ≡ (if same_topic topic.now t
+            then pruned (standing_in self.old topic.now)
+            else standing_in self.old t) }
+        ensures number { length self.new ≡ length self.old }
+        ensures keeps { KeepsTopics self.old self.new }
+    {
+        prune_at(&mut self.standings, topic);
+    }
+
+    /// The sum over topics of what each gives, in millionths: at most 1,024 * 10^25 either way.
+    pub fn sum(&self, params: &Params, tick: u64, now: Millis) -> i128
+        requires in_range { AreInRange params.now }
+        requires few { length self.now ≤ most_topics }
+        ensures value { (ts : List TopicValue)
+            → Covers (held_in params.now tick self.now) ts
+            → result ≡ topic_sum params.now now.0 (held_in params.now tick self.now) ts }
+        ensures bound { unsigned_abs result ≤ 1_024 * 10 ^ 25 }
+    {
+        sum_of(&self.standings, params, tick, now)
+    }
+}
+
+/// What is kept for a topic.
+fn standing_at(standings: &IndexMap<Topic, Standing>, topic: &Topic) -> Standing
+    ensures { result ≡ standing_in standings.now.entries topic.now }
+{
+    match standings.get(topic) {
+        Some(standing) => *standing,
+        None => Standing::new(),
+    }
+}
+
+/// Raises a counter in what is kept for a topic, where it lies. It takes memory only where nothing was kept.
+///
+/// # Errors
+/// `AllocError` where there was no memory; nothing is changed then.
+fn raise_at(
+    standings: &mut IndexMap<Topic, Standing>,
+    topic: &Topic,
+    raise: Raise<'_>,
+) -> Result<(), AllocError>
+    requires in_range { RulesAreInRange raise.rules.now }
+    ensures puts { OnOk result ((t : TopicValue)
+        → standing_in standings.new.entries t
+        ≡ (if same_topic topic.now t
+        then raised_by raise.entry (standing_in standings.old.entries topic.now)
+        else standing_in standings.old.entries t)) }
+    ensures number { length standings.new.entries
+        ≤ (if has_topic standings.old.entries topic.now
+        then length standings.old.entries
+        else length standings.old.entries + 1) }
+    ensures adds { OnOk result (AddsTopic standings.old.entries standings.new.entries topic.now) }
+    ensures unchanged { OnErr result (standings.new.entries ≡ standings.old.entries) }
+    ensures succeeds { has_topic standings.old.entries topic.now ≡ true → IsOk result }
+{
+    match standings.get_mut(topic) {
+        Some(place) => place.raise(raise),
+        None => {
+            let mut raised = Standing::new();
+            raised.raise(raise);
+            standings.insert(clone_of(topic)?, raised)?;
+        }
+    }
+    Ok(())
+}
+
+/// Puts what is kept for a topic into its mesh, where it lies. It takes memory only where nothing was kept.
+///
+/// # Errors
+/// `AllocError` where there was no memory; nothing is changed then.
+fn graft_at(
+    standings: &mut IndexMap<Topic, Standing>,
+    topic: &Topic,
+    now: Millis,
+) -> Result<(), AllocError>
+    ensures puts { OnOk result ((t : TopicValue)
+        → standing_in standings.new.entries t
+        ≡ (if same_topic topic.now t
+        then grafted now (standing_in standings.old.entries topic.now)
+        else standing_in standings.old.entries t)) }
+    ensures number { length standings.new.entries
+        ≤ (if has_topic standings.old.entries topic.now
+        then length standings.old.entries
+        else length standings.old.entries + 1) }
+    ensures adds { OnOk result (AddsTopic standings.old.entries standings.new.entries topic.now) }
+    ensures unchanged { OnErr result (standings.new.entries ≡ standings.old.entries) }
+    ensures succeeds { has_topic standings.old.entries topic.now ≡ true → IsOk result }
+{
+    match standings.get_mut(topic) {
+        Some(place) => place.graft(now),
+        None => {
+            let mut member = Standing::new();
+            member.graft(now);
+            standings.insert(clone_of(topic)?, member)?;
+        }
+    }
+    Ok(())
+}
+
+/// Takes what is kept for a topic out of its mesh, where it lies. Where nothing is kept, nothing is to be.
+fn prune_at(standings: &mut IndexMap<Topic, Standing>, topic: &Topic)
+    ensures prunes { (t : TopicValue)
+        → standing_in standings.new.entries t
+        ≡ (if same_topic topic.now t
+        then pruned (standing_in standings.old.entries topic.now)
+        else standing_in standings.old.entries t) }
+    ensures number { length standings.new.entries ≡ length standings.old.entries }
+    ensures keeps { KeepsTopics standings.old.entries standings.new.entries }
+{
+    match standings.get_mut(topic) {
+        Some(place) => place.prune(),
+        None => (),
+    }
+}
+
+/// The sum over topics, in their order.
+fn sum_of(standings: &IndexMap<Topic, Standing>, params: &Params, tick: u64, now: Millis) -> i128
+    requires in_range { AreInRange params.now }
+    requires few { length standings.now.entries ≤ most_topics }
+    ensures value { result
+        ≡ topic_sum params.now now.0 (held_in params.now tick standings.now.entries)
+        (keys_of standings.now.entries) }
+    ensures apart { IsDistinct same_topic (keys_of standings.now.entries) }
+    ensures bound { unsigned_abs result ≤ 1_024 * 10 ^ 25 }
+{
+    let mut sum = 0;
+    for place in 0..standings.len() {
+        sum += part_at(standings, params, tick, now, place);
+    }
+    sum
+}
+
+/// What the topic at a place gives.
+fn part_at(
+    standings: &IndexMap<Topic, Standing>,
+    params: &Params,
+    tick: u64,
+    now: Millis,
+    place: usize,
+) -> i128
+    requires in_range { AreInRange params.now }
+    requires within { place < length standings.now.entries }
+    ensures part { topic_sum params.now now.0 (held_in params.now tick standings.now.entries)
+        (keys_of (drop place standings.now.entries))
+        ≡ result
+        +ℤ topic_sum params.now now.0 (held_in params.now tick standings.now.entries)
+        (keys_of (drop (place + 1) standings.now.entries)) }
+    ensures bound { unsigned_abs result ≤ 10 ^ 25 }
+{
+    match standings.get_index(place) {
+        Some((topic, standing)) => standing.part(&TopicRules::of(params, topic), tick, now),
+        None => 0,
+    }
+}
