@@ -209,7 +209,7 @@ pub struct Case<'a> {
     pub kinds: &'a [Kind],
     pub degrees: Degrees,
     pub factors: Factors,
-    pub windows: Timing,
+    pub timing: Timing,
     pub flood_publish: bool,
     pub topics: &'a [Rules<'a>],
     /// The first words by which it chooses.

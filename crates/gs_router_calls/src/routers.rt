@@ -112,7 +112,7 @@ fn params_of(alloc: Global, case: &Case<'_>) -> Result<Params, AllocError>
     let mut params = Params::new(alloc);
     params.degrees = case.degrees;
     params.factors = case.factors;
-    params.timing = case.windows;
+    params.timing = case.timing;
     params.flood_publish = case.flood_publish;
     params.topics = topics(alloc, case.topics)?;
     match params.check() {

@@ -112,7 +112,7 @@ pub static OFFERS: &[Case<'static>] = &[
     },
     Case {
         name: "no more is asked for than the budget has, until a heartbeat",
-        windows: Timing {
+        timing: Timing {
             max_ihave_ids: 3,
             ..DEFAULT_TIMING
         },

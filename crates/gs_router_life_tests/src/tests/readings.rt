@@ -80,7 +80,7 @@ pub static READINGS: &[Case<'static>] = &[
     Case {
         name: "a router tells how often heartbeats and steps of decay come",
         asks: &[Ask::Times],
-        windows: Timing {
+        timing: Timing {
             heartbeat_ms: 700,
             decay_ms: 300,
             ..DEFAULT_TIMING

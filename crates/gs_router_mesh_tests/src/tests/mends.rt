@@ -352,7 +352,7 @@ pub static MENDS: &[Case<'static>] = &[
             Kind::Praised,
         ],
         asks: OF_A,
-        windows: Timing {
+        timing: Timing {
             opportunistic_ticks: 2,
             ..DEFAULT_TIMING
         },
