@@ -72,7 +72,7 @@ fn id_of_payload(bytes: &[u8], payload: &'static [u8]) -> Option<Id<'static>> {
     if bytes == id.as_slice() {
         return Some(Id::Of(payload));
     }
-    if bytes.len() == 31 && id.starts_with(bytes) {
+    if bytes.len() == 31 && id.as_slice().starts_with(bytes) {
         return Some(Id::ShortOf(payload));
     }
     None

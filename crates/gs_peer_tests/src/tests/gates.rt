@@ -1,5 +1,6 @@
 //! A gate that a task passes at each round.
-use crate::tests::items::{said, script};
+use crate::tests::cases::{SCRIPT, SUBSCRIBER};
+use crate::tests::items::{lines, said};
 use crate::tests::made::{ONE, lists, task_in};
 use futures::executor::block_on;
 use gs_peer::{Gate, Surroundings};
@@ -30,13 +31,13 @@ impl Gate for Turns {
 fn a_gate_is_told_of_each_round(rt: HostRuntime) -> Result<(), Fail> {
     let seen = Arc::new(rt.alloc(), AtomicU64::new(0))?;
     let surroundings = Surroundings {
-        ends: lists(rt.alloc(), said(rt.alloc(), 2)?, 10, 0)?,
+        ends: lists(rt.alloc(), said(rt.alloc(), SUBSCRIBER)?, 10, 0)?,
         gate: Turns {
             seen: seen.clone()?,
         },
         stop: Arc::new(rt.alloc(), StopFlag::new())?,
     };
-    let task = task_in(rt.alloc(), ONE, script(rt.alloc())?, 2, surroundings)?;
+    let task = task_in(rt.alloc(), ONE, lines(rt.alloc(), SCRIPT)?, 2, surroundings)?;
     assert!(rt; block_on(&rt, task)?.is_ok());
     assert_eq!(rt; seen.load(Ordering::SeqCst), 404142);
     Ok(())

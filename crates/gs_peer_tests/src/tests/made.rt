@@ -19,77 +19,9 @@ use gs_params::{Params, SeededWords};
 use gs_peer::{Agenda, Assignment, Gate, NoGate, PeerTask, Surroundings};
 use gs_plan::Line;
 use gs_router::Router;
-use gs_rules::{Event, Trace};
 use gs_workers::StopFlag;
 use std::alloc::{AllocError, Global};
 use std::sync::{Arc, Wait};
-
-/// What happened at a peer, without what it was about.
-#[derive(Clone, Copy, Debug, PartialEq, Eq)]
-pub enum Step {
-    Heard,
-    Late,
-    Sub,
-    Msg,
-    Have,
-    Want,
-    Graft,
-    Prune,
-    Subscribe,
-    Unsubscribe,
-    Publish,
-    BeatBegin,
-    Mesh,
-    Fanout,
-    Gossip,
-    BeatEnd,
-    Decay,
-    RoundEnd(u64),
-    Gone,
-    Fault,
-    Shut,
-}
-
-fn step_of(event: &Event) -> Step {
-    match event {
-        Event::Heard(_, _) => Step::Heard,
-        Event::Late(_, _) => Step::Late,
-        Event::Sub(_, _) => Step::Sub,
-        Event::Msg(_, _) => Step::Msg,
-        Event::Have(_, _) => Step::Have,
-        Event::Want(_, _) => Step::Want,
-        Event::GraftIn(_, _) => Step::Graft,
-        Event::PruneIn(_, _) => Step::Prune,
-        Event::Subscribe(_) => Step::Subscribe,
-        Event::Unsubscribe(_) => Step::Unsubscribe,
-        Event::Publish(_, _) => Step::Publish,
-        Event::BeatBegin => Step::BeatBegin,
-        Event::MeshBeat(_) => Step::Mesh,
-        Event::FanBeat(_) | Event::FanEnd(_) => Step::Fanout,
-        Event::GossipBeat(_) => Step::Gossip,
-        Event::BeatEnd => Step::BeatEnd,
-        Event::Decay => Step::Decay,
-        Event::RoundEnd(round) => Step::RoundEnd(*round),
-        Event::Gone(_) => Step::Gone,
-        Event::Fault(_) => Step::Fault,
-        Event::Shut => Step::Shut,
-    }
-}
-
-/// Whether just these steps were made, in order.
-pub fn made(trace: &Trace, steps: &[Step]) -> bool {
-    let mut left = steps;
-    for entry in trace.entries() {
-        let [first, rest @ ..] = left else {
-            return false;
-        };
-        if step_of(&entry.event) != *first {
-            return false;
-        }
-        left = rest;
-    }
-    left.is_empty()
-}
 
 /// A peer and its neighbour.
 #[derive(Clone, Copy)]

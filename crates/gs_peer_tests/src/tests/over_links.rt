@@ -4,33 +4,38 @@ ghost use Rattle.gs_link.specs.Items.{IsCapacity};
 ghost use Rattle.gs_ends.specs.Pairs.{pair_ends};
 ghost use Rattle.gs_peer.specs.Task.{CanPoll};
 
-use crate::tests::items::script;
-use crate::tests::made::{ONE, Pair, Step, TWO, links, made, task};
+use crate::tests::cases::SCRIPT;
+use crate::tests::items::lines;
+use crate::tests::made::{ONE, Pair, TWO, links, task};
 use futures::executor::block_on;
 use futures::future::join;
 use gs_ends::LinkEnds;
 use gs_link::{LinkRx, LinkTx, open_link};
 use gs_peer::{FinishedTask, NoGate, PeerFault, PeerTask};
-use std::alloc::{AllocError, AllocGlobal};
+use gs_router_calls::{Said, Seen, events_in, text_of_all};
+use std::alloc::{AllocError, AllocGlobal, Global};
 use std::io;
+use std::process::Abort;
 use std::random::RandomSource;
 use std::sync::Wait;
 use std::test::*;
 
-/// Both subscribe in round 0 and publish in round 1; what the one says in a round the other hears in
-/// the next. The message is one, so the second copy is not delivered again.
-const BOTH_PUBLISH: [Step; 10] = [
-    Step::Subscribe,
-    Step::RoundEnd(0),
-    Step::Heard,
-    Step::Sub,
-    Step::Publish,
-    Step::RoundEnd(1),
-    Step::Heard,
-    Step::Msg,
-    Step::RoundEnd(2),
-    Step::Shut,
-];
+/// The events of a peer that subscribes in round 0 and publishes in round 1, as its neighbour of this number does: what the
+/// one says in a round the other hears in the next. The message is one, so the second copy is not delivered again.
+const fn both_publish(other: u16) -> [Seen<'static>; 10] {
+    [
+        Seen::Subscribe("a"),
+        Seen::RoundEnd(0),
+        Seen::Heard(other, Said::On("a")),
+        Seen::Handled(other, Said::On("a")),
+        Seen::Publish("a", b"abc"),
+        Seen::RoundEnd(1),
+        Seen::Heard(other, Said::Message("a", b"abc")),
+        Seen::Handled(other, Said::Message("a", b"abc")),
+        Seen::RoundEnd(2),
+        Seen::Shut,
+    ]
+}
 
 /// A task with the script, which says to its neighbour what goes into the one link and hears what comes of the other.
 fn side<R: Wait + AllocGlobal + Copy + Drop>(
@@ -44,35 +49,50 @@ fn side<R: Wait + AllocGlobal + Copy + Drop>(
     ensures { IfOk result (λ task. CanPoll pair_ends task) }
 {
     let ends = links(rt, rt.alloc(), pair.other, tx, rx)?;
-    let lines = script(rt.alloc())?;
+    let lines = lines(rt.alloc(), SCRIPT)?;
     task(rt.alloc(), pair, lines, 2, ends)
 }
 
-/// Whether a side heard the other, and still has its ends.
-fn heard_all<R: Wait + Drop>(given: Result<FinishedTask<LinkEnds<R>>, PeerFault>) -> bool {
+/// What a side leaves: its events, as text, and how many ends.
+#[derive(Drop)]
+struct Left {
+    events: String,
+    ends: usize,
+}
+
+/// What a side leaves that gave this.
+fn left_by_side<R: Wait + Drop>(
+    alloc: Global,
+    given: Result<FinishedTask<LinkEnds<R>>, PeerFault>,
+) -> Result<Left, AllocError> {
     match given {
-        Ok(life) => made(&life.trace, &BOTH_PUBLISH) && life.ends.into_list().len() == 1,
-        Err(_) => false,
+        Ok(life) => Ok(Left {
+            events: events_in(alloc, &life.trace)?,
+            ends: life.ends.into_list().len(),
+        }),
+        Err(_) => Err(AllocError),
     }
 }
 
-/// Whether two sides hear each other.
+/// What two sides leave that hear each other.
 fn hear_each_other<R>(
     rt: R,
     first: PeerTask<NoGate, LinkEnds<R>>,
     second: PeerTask<NoGate, LinkEnds<R>>,
-) -> io::Result<bool>
+) -> io::Result<(Left, Left)>
 where
     R: Wait + RandomSource + AllocGlobal + Copy + Drop,
     requires first { CanPoll pair_ends first }
     requires second { CanPoll pair_ends second }
 {
     let (first, second) = block_on(&rt, join(first, second))?;
-    Ok(heard_all(first) && heard_all(second))
+    let first = left_by_side(rt.alloc(), first)?;
+    let second = left_by_side(rt.alloc(), second)?;
+    Ok((first, second))
 }
 
-/// Whether two sides hear each other over links of so many places.
-fn hear_over<R>(rt: R, capacity: usize) -> Result<bool, Fail>
+/// What two sides leave that hear each other over links of so many places.
+fn hear_over<R>(rt: R, capacity: usize) -> Result<(Left, Left), Fail>
 where
     R: Wait + RandomSource + AllocGlobal + Copy + Drop,
     requires { IsCapacity capacity }
@@ -84,11 +104,24 @@ where
     Ok(hear_each_other(rt, first, second)?)
 }
 
+/// Checks that a side leaves its ends and the events of one whose neighbour has this number.
+fn check_left<R>(rt: &R, left: &Left, other: u16, capacity: usize) -> Result<(), AllocError>
+where
+    R: AllocGlobal + Abort,
+{
+    let wanted = text_of_all(rt.alloc(), &both_publish(other))?;
+    assert_eq!(rt; left.events.as_str(), wanted.as_str(), "{capacity} places");
+    assert_eq!(rt; left.ends, 1, "{capacity} places");
+    Ok(())
+}
+
 /// The same script on both sides, over links of one place and of eight.
 #[test]
 fn two_tasks_hear_each_other_over_links(rt: HostRuntime) -> Result<(), Fail> {
     for capacity in [1, 8] {
-        assert!(rt; hear_over(rt, capacity)?);
+        let (first, second) = hear_over(rt, capacity)?;
+        check_left(&rt, &first, 2, capacity)?;
+        check_left(&rt, &second, 1, capacity)?;
     }
     Ok(())
 }
