@@ -7,7 +7,7 @@ use crate::fault::NetFault;
 use gs_ends::Ends;
 use gs_peer::{FinishedTask, Gate, PeerFault, PeerTask};
 use gs_workers::{StopFlag, run_all};
-use std::alloc::{AllocGlobal, Global};
+use std::alloc::AllocGlobal;
 use std::random::RandomSource;
 use std::sync::{Arc, Wait};
 use std::thread::Threads;
@@ -25,7 +25,6 @@ pub fn run_tasks<
     R: Threads + Wait + RandomSource + AllocGlobal + Sync,
 >(
     rt: &R,
-    alloc: Global,
     workers: usize,
     stop: &Arc<StopFlag>,
     tasks: Vec<PeerTask<G, S>>,
@@ -35,6 +34,6 @@ pub fn run_tasks<
     ensures given { IfOk result (λ results.
         AllZip (Gives S.Ends) tasks.items results.items) }
 {
-    let results = run_all(rt, alloc, workers, stop, tasks)?;
+    let results = run_all(rt, workers, stop, tasks)?;
     Ok(results)
 }

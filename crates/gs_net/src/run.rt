@@ -59,7 +59,7 @@ where
         stop: &stop,
     };
     let tasks = builder.tasks(lines, ends)?;
-    let results = run_tasks(rt, alloc, plan.workers as usize, &stop, tasks)?;
+    let results = run_tasks(rt, plan.workers as usize, &stop, tasks)?;
     let lives = lives_of(alloc, results)?;
     let settled = settle_all(rt, plan.dials.as_slice(), lives.ends);
     Ok(Report {

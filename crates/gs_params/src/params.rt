@@ -1,8 +1,7 @@
 //! The parameters of a gossipsub peer, their defaults and the ranges that they must be in.
 //!
-//! Scores, weights and factors are whole millionths: 1,000,000 is one. The sources are gossipsub
-//! v1.0, Parameters, and gossipsub v1.1, Peer Scoring and Overview of New Parameters; the ranges and
-//! the defaults are this project's own.
+//! Scores, weights and factors are whole millionths: 1,000,000 is one. The sources are gossipsub v1.0, Parameters, and
+//! gossipsub v1.1, Peer Scoring and Overview of New Parameters; the ranges and the defaults are this project's own.
 ghost use Rattle.std.specs.Prelude.{◌≡◌, IfOk};
 ghost use Rattle.gs_params.specs.declared.params.Params.{Params as ParamsValue};
 ghost use Rattle.gs_params.specs.Params.{AreInRange, default_params};
@@ -170,8 +169,7 @@ pub struct Params {
     pub timing: Timing,
     /// Whether an own message goes to all that are on its topic, and not to its mesh alone.
     pub flood_publish: bool,
-    /// The parameters of topics. The first of a topic counts, and a topic without any has the
-    /// defaults.
+    /// The parameters of topics. The first of a topic counts, and a topic without any has the defaults.
     pub topics: Seq<(Topic, TopicParams)>,
 }
 

@@ -82,7 +82,7 @@ where
     for number in 0..4u32 {
         guests.push(Guest { number, meeting })?;
     }
-    let met = run_all(rt, rt.alloc(), 4, &stop, guests)?;
+    let met = run_all(rt, 4, &stop, guests)?;
     Ok(met.as_slice() == [true; 4].as_slice())
 }
 

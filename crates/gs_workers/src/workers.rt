@@ -42,7 +42,6 @@ impl<F: Future<Output: Drop>> Promise<Driven<F, F::Output>> for OfGroup<F, F::Ou
 /// before the threads are joined that were started.
 pub fn run_all<F, R>(
     rt: &R,
-    alloc: Global,
     workers: usize,
     stop: &StopFlag,
     futures: Vec<F>,
@@ -61,7 +60,7 @@ where
             requires { (1 ≤ workers) × All F.can_poll futures.items }
             ensures { IfOk result (λ outputs. AllZip F.gives futures.items outputs.items) }
         {
-            let outputs = run_in(scope, rt, alloc, workers, stop, futures);
+            let outputs = run_in(scope, rt, workers, stop, futures);
             if outputs.is_err() {
                 stop.set();
             }
@@ -73,7 +72,6 @@ where
 fn run_in<'s, E, F, R>(
     scope: &Scope<'s, E>,
     rt: &'s R,
-    alloc: Global,
     workers: usize,
     stop: &'s StopFlag,
     futures: Vec<F>,
@@ -85,6 +83,7 @@ where
     requires ready { All F.can_poll futures.items }
     ensures given { IfOk result (λ outputs. AllZip F.gives futures.items outputs.items) }
 {
+    let alloc = rt.alloc();
     let groups = deal(alloc, workers, futures)?;
     let workers = start_all(scope, rt, alloc, stop, groups)?;
     let groups = join_all(rt, alloc, workers)?;

@@ -51,7 +51,7 @@ where
     requires { 1 ≤ workers }
 {
     let futures = first_numbers(rt.alloc(), count)?;
-    run_all(rt, rt.alloc(), workers, stop, futures)
+    run_all(rt, workers, stop, futures)
 }
 
 /// A place at which four futures wait for each other.
