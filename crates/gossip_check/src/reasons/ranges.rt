@@ -43,10 +43,15 @@ fn range_in(checks: &[Check], key: &str) -> Option<(i64, i64)> {
     None
 }
 
+/// A bound of counted values as a signed number, which holds each that a rule has.
+fn signed(bound: u64) -> i64 {
+    bound.min(i64::MAX as u64) as i64
+}
+
 fn count_range(rule: CountRule) -> Option<(i64, i64)> {
     match rule {
-        CountRule::AtMost(high) => Some((0, high as i64)),
-        CountRule::Range(low, high) => Some((low as i64, high as i64)),
+        CountRule::AtMost(high) => Some((0, signed(high))),
+        CountRule::Range(low, high) => Some((signed(low), signed(high))),
         _ => None,
     }
 }
