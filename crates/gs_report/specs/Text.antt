@@ -13,6 +13,8 @@ use Rattle.gs_rules.specs.declared.refusal.RefusedLine.{RefusedLine}
 use Rattle.gs_rules.specs.Refusals.{number_of}
 use Rattle.gs_report.specs.declared.finished.Finished.{Finished}
 use Rattle.gs_report.specs.declared.report.Report.{Report}
+use Rattle.gs_report.specs.declared.text.Section.{Section}
+use Rattle.gs_report.specs.declared.text.Section.TheVariants.{Delivered, Refused, Meshes, Scores}
 use Rattle.gs_plan.specs.Plans.{what_word}
 
 -- ---- words
@@ -93,6 +95,13 @@ mesh_lines plan x = flat_map (mesh_line plan (name_of plan x.0)) x.1.meshes
 -- what its neighbours scored
 abbrev pub score_lines : Plan → PeerNo × Finished → List ℕ
 score_lines plan x = flat_map (score_line plan (name_of plan x.0)) x.1.scores
+
+-- its lines of a section
+abbrev pub lines_of : Section → Plan → PeerNo × Finished → List ℕ
+lines_of Delivered = delivered_lines
+lines_of Refused = refused_lines
+lines_of Meshes = mesh_lines
+lines_of Scores = score_lines
 
 -- ---- the report
 

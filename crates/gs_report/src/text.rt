@@ -1,6 +1,6 @@
 ghost use Rattle.std.specs.Prelude.{◌≡◌, ◌++◌, ◌<◌, IfOk, OnOk, string_bytes};
 ghost use Rattle.std.specs.List.{flat_map};
-ghost use Rattle.gs_report.specs.Text.{delivered_line, delivered_lines, digit, entry_lines, links_line, mesh_line, mesh_lines, name_of, payload_text, refused_line, refused_lines, report_text, score_line, score_lines, score_text, word_of};
+ghost use Rattle.gs_report.specs.Text.{delivered_line, digit, entry_lines, lines_of, links_line, mesh_line, name_of, payload_text, refused_line, report_text, score_line, score_text, word_of};
 
 use crate::{Finished, Report};
 use bytes::Bytes;
@@ -20,27 +20,56 @@ pub fn report_text(alloc: Global, plan: &Plan, report: &Report) -> Result<Vec<u8
     ensures { IfOk result (λ text. text.items ≡ report_text plan.now report.now) }
 {
     let mut text = Vec::new(alloc);
-    push_delivered(alloc, &mut text, plan, &report.peers)?;
-    push_refused(alloc, &mut text, plan, &report.peers)?;
-    push_meshes(alloc, &mut text, plan, &report.peers)?;
-    push_scores(alloc, &mut text, plan, &report.peers)?;
+    push_section(alloc, &mut text, plan, Section::Delivered, &report.peers)?;
+    push_section(alloc, &mut text, plan, Section::Refused, &report.peers)?;
+    push_section(alloc, &mut text, plan, Section::Meshes, &report.peers)?;
+    push_section(alloc, &mut text, plan, Section::Scores, &report.peers)?;
     push_links(alloc, &mut text, report.settled)?;
     Ok(text)
 }
 
-fn push_delivered(
+/// A section of a report: lines of one kind, peer by peer.
+#[derive(Clone, Copy, Debug, PartialEq, Eq)]
+pub enum Section {
+    Delivered,
+    Refused,
+    Meshes,
+    Scores,
+}
+
+fn push_section(
     alloc: Global,
     text: &mut Vec<u8>,
     plan: &Plan,
+    section: Section,
     peers: &[(PeerNo, Finished)],
 ) -> Result<(), AllocError>
-    ensures { OnOk result (text.new.items
-        ≡ text.old.items ++ flat_map (delivered_lines plan.now) peers.now) }
+    ensures { OnOk result (text.new.items ≡ text.old.items ++ flat_map (lines_of section plan.now) peers.now) }
 {
-    for (number, life) in peers {
-        push_entries(alloc, text, name_of(plan, *number), life.trace.entries())?;
+    for peer in peers {
+        push_lines(alloc, text, plan, section, peer)?;
     }
     Ok(())
+}
+
+/// Adds a peer's lines of a section.
+fn push_lines(
+    alloc: Global,
+    text: &mut Vec<u8>,
+    plan: &Plan,
+    section: Section,
+    peer: &(PeerNo, Finished),
+) -> Result<(), AllocError>
+    ensures { OnOk result (text.new.items ≡ text.old.items ++ lines_of section plan.now peer.now) }
+{
+    let (number, life) = peer;
+    let name = name_of(plan, *number);
+    match section {
+        Section::Delivered => push_entries(alloc, text, name, life.trace.entries()),
+        Section::Refused => push_refusals(alloc, text, plan, name, life.refused.as_slice()),
+        Section::Meshes => push_members(alloc, text, plan, name, life.meshes.as_slice()),
+        Section::Scores => push_each_score(alloc, text, plan, name, life.scores.as_slice()),
+    }
 }
 
 fn push_entries(
@@ -93,27 +122,6 @@ fn push_delivery(
     text.extend_from_slice(b"\n")
 }
 
-fn push_refused(
-    alloc: Global,
-    text: &mut Vec<u8>,
-    plan: &Plan,
-    peers: &[(PeerNo, Finished)],
-) -> Result<(), AllocError>
-    ensures { OnOk result (text.new.items
-        ≡ text.old.items ++ flat_map (refused_lines plan.now) peers.now) }
-{
-    for (number, life) in peers {
-        push_refusals(
-            alloc,
-            text,
-            plan,
-            name_of(plan, *number),
-            life.refused.as_slice(),
-        )?;
-    }
-    Ok(())
-}
-
 fn push_refusals(
     alloc: Global,
     text: &mut Vec<u8>,
@@ -148,27 +156,6 @@ fn push_refusal(
     text.extend_from_slice(back.as_bytes())
 }
 
-fn push_meshes(
-    alloc: Global,
-    text: &mut Vec<u8>,
-    plan: &Plan,
-    peers: &[(PeerNo, Finished)],
-) -> Result<(), AllocError>
-    ensures { OnOk result (text.new.items
-        ≡ text.old.items ++ flat_map (mesh_lines plan.now) peers.now) }
-{
-    for (number, life) in peers {
-        push_members(
-            alloc,
-            text,
-            plan,
-            name_of(plan, *number),
-            life.meshes.as_slice(),
-        )?;
-    }
-    Ok(())
-}
-
 fn push_members(
     alloc: Global,
     text: &mut Vec<u8>,
@@ -200,27 +187,6 @@ fn push_member(
     text.extend_from_slice(front.as_bytes())?;
     text.extend_from_slice(&topic.0)?;
     text.extend_from_slice(back.as_bytes())
-}
-
-fn push_scores(
-    alloc: Global,
-    text: &mut Vec<u8>,
-    plan: &Plan,
-    peers: &[(PeerNo, Finished)],
-) -> Result<(), AllocError>
-    ensures { OnOk result (text.new.items
-        ≡ text.old.items ++ flat_map (score_lines plan.now) peers.now) }
-{
-    for (number, life) in peers {
-        push_each_score(
-            alloc,
-            text,
-            plan,
-            name_of(plan, *number),
-            life.scores.as_slice(),
-        )?;
-    }
-    Ok(())
 }
 
 fn push_each_score(
