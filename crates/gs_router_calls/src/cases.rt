@@ -98,7 +98,7 @@ pub enum Seen<'a> {
     Subscribe(&'a str),
     Unsubscribe(&'a str),
     Publish(&'a str, &'a [u8]),
-    Promises,
+    BeatBegin,
     MeshBeat(&'a str),
     FanBeat(&'a str),
     FanEnd(&'a str),

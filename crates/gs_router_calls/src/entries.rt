@@ -16,7 +16,7 @@ fn seen_of(event: &Event) -> Option<Seen<'_>> {
         Event::Subscribe(topic) => Seen::Subscribe(text_of(topic)),
         Event::Unsubscribe(topic) => Seen::Unsubscribe(text_of(topic)),
         Event::Publish(topic, payload) => Seen::Publish(text_of(topic), payload.as_slice()),
-        Event::BeatBegin => Seen::Promises,
+        Event::BeatBegin => Seen::BeatBegin,
         Event::MeshBeat(topic) => Seen::MeshBeat(text_of(topic)),
         Event::FanBeat(topic) => Seen::FanBeat(text_of(topic)),
         Event::FanEnd(topic) => Seen::FanEnd(text_of(topic)),
