@@ -225,29 +225,17 @@ pub static GOSSIP: &[Case<'static>] = &[
             (
                 1_000,
                 Subscribe("c"),
-                &[
-                    Seen::Subscribe("c"),
-                    Sent(1, On("c")),
-                    Sent(2, On("c")),
-                ],
+                &[Seen::Subscribe("c"), Sent(1, On("c")), Sent(2, On("c"))],
             ),
             (
                 1_000,
                 Subscribe("b"),
-                &[
-                    Seen::Subscribe("b"),
-                    Sent(1, On("b")),
-                    Sent(2, On("b")),
-                ],
+                &[Seen::Subscribe("b"), Sent(1, On("b")), Sent(2, On("b"))],
             ),
             (
                 1_000,
                 Subscribe("a"),
-                &[
-                    Seen::Subscribe("a"),
-                    Sent(1, On("a")),
-                    Sent(2, On("a")),
-                ],
+                &[Seen::Subscribe("a"), Sent(1, On("a")), Sent(2, On("a"))],
             ),
             (
                 1_000,
