@@ -30,7 +30,8 @@ use std::test::*;
 
 // ---- lives
 
-/// The life of a case over lists, where every so many puts are refused. None where it doesn't end within 10,000 polls.
+/// The life of a case over lists, where every so many puts are refused. None where it doesn't end within 10,000 polls; where
+/// it ends with a fault, the test fails.
 fn lives<R>(rt: &R, case: &Case<'_>, every: u64) -> io::Result<Option<FinishedTask<ListEnds>>>
 where
     R: Wait + RandomSource + AllocGlobal,
@@ -48,7 +49,8 @@ where
     };
     match block_on(rt, polled)? {
         Some(Ok(life)) => Ok(Some(life)),
-        _ => Ok(None),
+        Some(Err(_)) => Err(io::Error::from(AllocError)),
+        None => Ok(None),
     }
 }
 

@@ -1,9 +1,11 @@
 //! The mesh and the fanout of one topic, step by step.
+mod better;
 mod fanouts;
 mod grafts;
 mod mends;
 mod traffic;
 
+use crate::tests::better::BETTER;
 use crate::tests::fanouts::FANOUTS;
 use crate::tests::grafts::GRAFTS;
 use crate::tests::mends::MENDS;
@@ -44,4 +46,9 @@ fn messages_through_a_mesh_and_members_that_leave(rt: HostRuntime) -> Result<(),
 #[test]
 fn meshes_that_heartbeats_mend(rt: HostRuntime) -> Result<(), AllocError> {
     check(&rt, MENDS)
+}
+
+#[test]
+fn poor_meshes_that_get_better_members(rt: HostRuntime) -> Result<(), AllocError> {
+    check(&rt, BETTER)
 }

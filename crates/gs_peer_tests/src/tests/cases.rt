@@ -51,6 +51,8 @@ pub const SCRIPT: &[(usize, u64, Act<'static>)] = &[
 /// What a neighbour says that subscribes to `a` in the first of three rounds.
 pub const SUBSCRIBER: &[Word<'static>] = &[Word::Piece(SUBSCRIBES), Word::Rounds(0, 2)];
 
+/// The neighbour subscribes in round 0, which is heard in round 1, before `abc` is published. In round 2, at 200 milliseconds,
+/// the line at place 3 is refused, since the topic is joined.
 const SCRIPTED: Case<'static> = Case {
     name: "a script ends, however often a put is refused",
     script: SCRIPT,
@@ -83,7 +85,7 @@ const SCRIPTED: Case<'static> = Case {
 
 /// A step of decay and a heartbeat come each second but the first, behind the lines of their round: in rounds of 100
 /// milliseconds in rounds 10 and 20. The first heartbeat grafts the neighbour. It is pruned then, stays out of the mesh at
-/// the second one, and is offered what was published.
+/// the second one, and is offered what was published. What it says in a round is heard in the next.
 const WITH_HEARTBEATS: Case<'static> = Case {
     name: "a heartbeat grafts a neighbour, or offers it what is kept",
     script: &[
@@ -169,6 +171,7 @@ const AT_FAULT: Case<'static> = Case {
     ..NOTHING
 };
 
+/// The eighth byte of the frame is not there.
 const CUT: Case<'static> = Case {
     name: "a close within a frame is a fault",
     hears: &[Word::Piece(b"\x07\x0a\x05\x08\x01\x12\x01")],
@@ -202,8 +205,8 @@ const WHOLE_APART: Case<'static> = Case {
     ..WHOLE
 };
 
-/// What is malformed, with a frame behind it that is not handled: an eleventh byte of a length, a field 0, a group, and a
-/// length above the limit.
+/// What is malformed, with a frame behind it that is not handled: an eleventh byte of a length, a field 0, a group (wire type
+/// 3), and a length of 1,048,577, one above the limit.
 const ELEVENTH: &[u8] =
     b"\x80\x80\x80\x80\x80\x80\x80\x80\x80\x80\x00\x07\x0a\x05\x08\x01\x12\x01a";
 

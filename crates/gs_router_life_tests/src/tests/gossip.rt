@@ -3,8 +3,8 @@ use gs_router_calls::Act::{Hear, Heartbeat, Publish, Subscribe, Unsubscribe};
 use gs_router_calls::Id::Of;
 use gs_router_calls::Said::{Have, Message, Off, On, Prune, Want};
 use gs_router_calls::Seen::{
-    Accepted, Answered, Backoff, Cached, Delivered, FanBeat, First, GossipBeat, MeshBeat,
-    Published, Sent,
+    Accepted, Answered, Backoff, BeatBegin, BeatEnd, Cached, Delivered, FanBeat, First, GossipBeat,
+    MeshBeat, Published, Sent,
 };
 use gs_router_calls::{Case, NOTHING, Seen};
 
@@ -12,6 +12,8 @@ use gs_router_calls::{Case, NOTHING, Seen};
 const JOINED: &[Seen<'static>] = &[Sent(1, On("a")), Sent(2, On("a"))];
 
 pub static GOSSIP: &[Case<'static>] = &[
+    // Neighbour 1 is on the topic and barred from its mesh, so it is told. The first message comes before heartbeat 1, and is
+    // gossiped at 1 to 3 and kept until 5 have ended; the second one comes before heartbeat 3.
     Case {
         name: "what is kept is gossiped at three heartbeats, and gone behind five",
         steps: &[
@@ -113,7 +115,8 @@ pub static GOSSIP: &[Case<'static>] = &[
         ],
         ..NOTHING
     },
-    // What is published on a topic that is not joined, or was left, is not gossiped.
+    // What is published on a topic that is not joined, or was left, is not gossiped. Neighbour 1 alone is on a topic, `b`, and
+    // is barred from its mesh.
     Case {
         name: "topics on which there is something gossip in the order of their bytes",
         steps: &[
@@ -212,27 +215,49 @@ pub static GOSSIP: &[Case<'static>] = &[
         ],
         ..NOTHING
     },
+    // All entries of the heartbeat are seen. Without flood publishing a payload makes a fanout of a topic that is not joined,
+    // if only an empty one, and is gossiped on it, here to nobody.
     Case {
         name: "meshes are mended in order, and then fanouts",
         flood_publish: false,
+        events: true,
         steps: &[
-            (1_000, Subscribe("c"), &[Sent(1, On("c")), Sent(2, On("c"))]),
-            (1_000, Subscribe("b"), &[Sent(1, On("b")), Sent(2, On("b"))]),
-            (1_000, Subscribe("a"), JOINED),
+            (
+                1_000,
+                Subscribe("c"),
+                &[Seen::Subscribe("c"), Sent(1, On("c")), Sent(2, On("c"))],
+            ),
+            (
+                1_000,
+                Subscribe("b"),
+                &[Seen::Subscribe("b"), Sent(1, On("b")), Sent(2, On("b"))],
+            ),
+            (
+                1_000,
+                Subscribe("a"),
+                &[Seen::Subscribe("a"), Sent(1, On("a")), Sent(2, On("a"))],
+            ),
             (
                 1_000,
                 Publish("aa", &[1]),
-                &[Accepted(Of(&[1])), Cached(Of(&[1]), "aa"), Published("aa")],
+                &[
+                    Seen::Publish("aa", &[1]),
+                    Accepted(Of(&[1])),
+                    Cached(Of(&[1]), "aa"),
+                    Published("aa"),
+                ],
             ),
             (
                 1_000,
                 Heartbeat,
                 &[
+                    BeatBegin,
                     MeshBeat("a"),
                     MeshBeat("b"),
                     MeshBeat("c"),
                     FanBeat("aa"),
                     GossipBeat("aa"),
+                    BeatEnd,
                 ],
             ),
         ],

@@ -9,9 +9,9 @@ use gs_router_calls::{Ask, Case, NOTHING};
 
 pub static LISTENERS: &[Case<'static>] = &[
     // Of ten neighbours eight are on the topic: of 1 to 8 the places 0 and 7 are exchanged, 1 and 1, 2 and 4, 3 and 7, 4 and 6,
-    // 5 and 5, and the first six are then 8, 2, 5, 1, 7 and 6. One of these is gone and one leaves: the six that are left are told,
-    // and no word is drawn. Then one comes back: of 1, 2, 3, 4, 6, 7 and 8 each of the first six places is exchanged with the last
-    // one, and they are then 8, 1, 2, 3, 4 and 6.
+    // 5 and 5, and the first six are then 8, 2, 5, 1, 7 and 6. One of these is gone and one leaves: the six that are left are
+    // told, and no word is drawn. Then one comes back: of 1, 2, 3, 4, 6, 7 and 8 each of the first six places is exchanged with
+    // the last one, and they are then 8, 1, 2, 3, 4 and 6. A quarter of eight is two, so `d_lazy` counts, which is six.
     Case {
         name: "six of the listeners are told, which words choose",
         neighbours: 10,
@@ -98,8 +98,8 @@ pub static LISTENERS: &[Case<'static>] = &[
         ],
         ..NOTHING
     },
-    // On two topics, on that of lesser bytes first. With the first ten words each of the first ten places is exchanged with the
-    // last one, and with the others place i with place i + 10.
+    // Ten of forty, on two topics, on that of lesser bytes first. With the first ten words each of the first ten places is
+    // exchanged with the last one, and with the others place i with place i + 10.
     Case {
         name: "a quarter of the listeners is told, where that is more than six",
         neighbours: 40,
@@ -172,8 +172,8 @@ pub static LISTENERS: &[Case<'static>] = &[
         ],
         ..NOTHING
     },
-    // Of forty neighbours the first six come into the mesh, and of the other 34 eight are told, a quarter: with the words behind
-    // those of the mesh each of the first eight places is exchanged with the one behind it.
+    // Of forty neighbours the first six come into the mesh, and of the other 34 eight are told, a quarter: with the words
+    // behind those of the mesh each of the first eight places is exchanged with the one behind it.
     Case {
         name: "who is in the mesh is not told",
         neighbours: 40,

@@ -30,7 +30,8 @@ const ACCEPTS_1: &[Seen<'static>] = &[
 const OFFER_0: Act<'static> = Hear(1, &[Have("a", &[Of(&[0])])]);
 
 pub static OFFERS: &[Case<'static>] = &[
-    // The eleventh does not, on any topic. Another neighbour has a budget of its own.
+    // The eleventh does not, on any topic. Another neighbour has a budget of its own. A promise is due 3,000 milliseconds
+    // later.
     Case {
         name: "ten offers of a neighbour count from heartbeat to heartbeat",
         steps: &[
@@ -110,6 +111,7 @@ pub static OFFERS: &[Case<'static>] = &[
         ],
         ..NOTHING
     },
+    // One identifier is asked for at 0 and one at 7, so one of two at 8 and none at 9.
     Case {
         name: "no more is asked for than the budget has, until a heartbeat",
         timing: Timing {
@@ -154,11 +156,11 @@ pub static OFFERS: &[Case<'static>] = &[
         ],
         ..NOTHING
     },
-    // Of three identifiers the one at place 7 modulo 3 is promised. No word is drawn where nothing is chosen: where the router
-    // subscribes, and where there is one identifier alone.
+    // Of three identifiers the one at place 8 modulo 3, which is 2, is promised. No word is drawn where nothing is chosen:
+    // where the router subscribes, and where there is one identifier alone. The generator's first words would choose place 1.
     Case {
         name: "a word chooses the identifier that is promised",
-        words: &[7],
+        words: &[8],
         steps: &[
             (0, Subscribe("a"), JOINED),
             (0, OFFER_0, ASKS_0),
@@ -167,7 +169,7 @@ pub static OFFERS: &[Case<'static>] = &[
                 Hear(2, &[Have("a", &[Of(&[4]), Of(&[5]), Of(&[6])])]),
                 &[
                     Sent(2, Want(&[Of(&[4]), Of(&[5]), Of(&[6])])),
-                    Promised(2, Of(&[5]), 3_000),
+                    Promised(2, Of(&[6]), 3_000),
                     Offered(2),
                     Asked(2, 3),
                 ],
@@ -175,6 +177,8 @@ pub static OFFERS: &[Case<'static>] = &[
         ],
         ..NOTHING
     },
+    // Three times to each neighbour, also within one request, in which it has the order of the identifiers. A message that
+    // comes anew at 500 + 120,000 counts anew.
     Case {
         name: "a message is sent to who asks as often as it may, until it comes anew",
         steps: &[

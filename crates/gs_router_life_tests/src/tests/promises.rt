@@ -13,8 +13,9 @@ const JOINED: &[Seen<'static>] = &[Sent(1, On("a")), Sent(2, On("a"))];
 
 pub static PROMISES: &[Case<'static>] = &[
     // A promise is kept by a message of its maker or of another neighbour, by one that is rejected or ignored, and by one that
-    // the router publishes. It is not broken before its time, and a neighbour that is gone is not charged. What begins with `ff`
-    // is to reject, and with `fe` to ignore.
+    // the router publishes. It is not broken before its time, and a neighbour that is gone is not charged. What begins with
+    // `ff` is to reject, and with `fe` to ignore. So at 3,000 one promise alone is broken, of `03`. What is accepted is
+    // gossiped at three heartbeats, to nobody.
     Case {
         name: "a promise is kept by whatever is seen",
         topics: &[Rules {
@@ -145,7 +146,7 @@ pub static PROMISES: &[Case<'static>] = &[
         ],
         ..NOTHING
     },
-    // Whoever else made the same promise.
+    // Whoever else made the same promise. Of 3,000 are two of neighbour 1 and one of 2, and of 3,001 another one of 2.
     Case {
         name: "each broken promise counts once",
         steps: &[

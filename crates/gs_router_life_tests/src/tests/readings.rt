@@ -8,6 +8,7 @@ use gs_router_calls::Seen::{
 use gs_router_calls::{Ask, Case, NOTHING};
 
 pub static READINGS: &[Case<'static>] = &[
+    // Topics ascend by their bytes, and then members. `c` has none.
     Case {
         name: "a router tells the meshes of its topics in order",
         asks: &[Ask::Meshes],
@@ -45,6 +46,7 @@ pub static READINGS: &[Case<'static>] = &[
         ],
         ..NOTHING
     },
+    // A loss of who was lost, and a refused heartbeat, leave no entry.
     Case {
         name: "a router tells when its last entry was, and who is up",
         asks: &[Ask::LastMoment, Ask::IsUp(1), Ask::IsUp(2)],

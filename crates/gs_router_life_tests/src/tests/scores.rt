@@ -11,7 +11,7 @@ use gs_router_calls::{Ask, Case, Kind, NO_RULES, NOTHING, Rules};
 
 pub static SCORES: &[Case<'static>] = &[
     // On `a` a first delivery counts 1, and the square of what is invalid counts -10. What begins with `fd`, `fe` or `ff`
-    // is to reject. The thresholds are -10, -50 and -80.
+    // is to reject. The thresholds are -10, -50 and -80. So n invalid messages cost 10 * n * n: 10, 40 and 90.
     Case {
         name: "neighbours that score low lose one thing after the other",
         topics: &[Rules {
@@ -131,7 +131,7 @@ pub static SCORES: &[Case<'static>] = &[
                     Cached(Of(&[9]), "a"),
                 ],
             ),
-            // each counter is halved, and so each square is a quarter
+            // each counter is halved, and so each square is a quarter: 0.5 - 10 * 0.25, and -10 * 2.25
             (1_000, Decay, &[Score(1, -2_000_000), Score(2, -22_500_000)]),
             (
                 1_001,
@@ -145,7 +145,7 @@ pub static SCORES: &[Case<'static>] = &[
                     Score(2, -21_500_000),
                 ],
             ),
-            // neighbour 2 broke the promise that it made at 4
+            // neighbour 2 broke the promise that it made at 4, which costs 10
             (
                 4_000,
                 Heartbeat,
@@ -158,16 +158,17 @@ pub static SCORES: &[Case<'static>] = &[
                     Score(2, -31_500_000),
                 ],
             ),
-            // misbehaviour decays by a tenth, all else by half
+            // misbehaviour decays by a tenth, all else by half: 0.25 - 10 * 0.0625, and 0.5 - 10 * 0.5625 - 10 * 0.81
             (4_000, Decay, &[Score(1, -375_000), Score(2, -13_225_000)]),
             (4_001, Gone(2), &[]),
+            // 0.125 - 10 * 0.015625, and 0.25 - 10 * 0.140625 - 10 * 0.6561
             (5_000, Decay, &[Score(1, -31_250), Score(2, -7_717_250)]),
             (5_000, Shut, &[]),
         ],
         ..NOTHING
     },
-    // Two neighbours more than may be at an address cost 4 times 5 each, and the application gives 3. One that is gone counts no
-    // more, and still scores what the others at its address make.
+    // Two neighbours more than may be at an address cost 4 times 5 each, one more costs 5, and the application gives 3. One
+    // that is gone counts no more, and still scores what the others at its address make.
     Case {
         name: "neighbours count at their address until they are gone",
         neighbours: 3,

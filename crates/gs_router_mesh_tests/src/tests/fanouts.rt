@@ -35,7 +35,7 @@ const ON_4: Act<'static> = Hear(4, &[On("a")]);
 
 pub static FANOUTS: &[Case<'static>] = &[
     // Two of three listeners become the fanout: the words make them 3 and 2. One of them leaves, and with the other any one of
-    // the rest comes into the mesh: the first one, by the word behind these.
+    // the rest comes into the mesh: the first one, by the word behind these. Neighbour 4 is below -50, and is not published to.
     Case {
         name: "a fanout is kept, and comes into the mesh first",
         neighbours: 4,
@@ -101,6 +101,7 @@ pub static FANOUTS: &[Case<'static>] = &[
         ],
         ..NOTHING
     },
+    // Two listeners are fewer than six, so both become it, and no word is drawn.
     Case {
         name: "who is gone leaves the fanout",
         neighbours: 4,
@@ -145,8 +146,8 @@ pub static FANOUTS: &[Case<'static>] = &[
         ],
         ..NOTHING
     },
-    // It is filled at a heartbeat where a member has left, and ends a minute after the last payload. Another payload makes a new
-    // one, of the two that are still on the topic.
+    // It is filled at a heartbeat where a member has left, and ends a minute after the last payload. Another payload makes a
+    // new one, of the two that are still on the topic. Who is told is on the topic, outside the fanout and not below -10.
     Case {
         name: "a fanout is filled, and ends",
         neighbours: 4,
@@ -218,7 +219,8 @@ pub static FANOUTS: &[Case<'static>] = &[
         ],
         ..NOTHING
     },
-    // On `b` what begins with `ff` is rejected, and costs 60: who passes it on may be published to from 50 below on.
+    // On `b` what begins with `ff` is rejected, and costs 60: who passes it on is below -50, and the one listener that is left
+    // comes in its place. Neighbours 3 and 4 are below -10, so nobody is told.
     Case {
         name: "who falls below the threshold of publishing leaves the fanout",
         neighbours: 4,
@@ -294,7 +296,7 @@ pub static FANOUTS: &[Case<'static>] = &[
         ],
         ..NOTHING
     },
-    // Of 1, 2 and 3 the first two change places, and of 1 and 3 both.
+    // Of 1, 2 and 3 the first two change places, and of 1 and 3 both. Then 1 alone is on the topic outside the fanout.
     Case {
         name: "a word chooses who comes into a fanout, and another who follows",
         neighbours: 4,

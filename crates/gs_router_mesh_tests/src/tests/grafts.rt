@@ -43,8 +43,8 @@ const ON_3: Act<'static> = Hear(3, &[On("a")]);
 const ON_4: Act<'static> = Hear(4, &[On("a")]);
 
 pub static GRAFTS: &[Case<'static>] = &[
-    // Misbehaviour costs nothing. A GRAFT a millisecond before its backoff ends is charged and bars anew, and one at its end
-    // is accepted.
+    // Misbehaviour costs nothing. A GRAFT a millisecond before its backoff ends is charged and bars anew, for 60 seconds from
+    // then on, and one at its end is accepted.
     Case {
         name: "a GRAFT in backoff is charged and bars anew",
         neighbours: 4,
@@ -74,7 +74,8 @@ pub static GRAFTS: &[Case<'static>] = &[
         ],
         ..NOTHING
     },
-    // A mesh is full with one member. It needs no subscription to be grafted.
+    // A mesh is full with one member. It needs no subscription to be grafted. Neighbour 4 is below 0, and then in backoff, 2
+    // finds the mesh full, and 3 was dialled.
     Case {
         name: "a GRAFT is passed over, refused or accepted",
         neighbours: 4,
@@ -117,7 +118,7 @@ pub static GRAFTS: &[Case<'static>] = &[
         ..NOTHING
     },
     // Where it names no seconds, or 0, sixty count, and never more than a day. A later end stands where a shorter one is
-    // asked for.
+    // asked for: for neighbour 1 not that of 1,002, but that of 60,001.
     Case {
         name: "a PRUNE bars its sender for as long as it says",
         neighbours: 4,
@@ -169,7 +170,7 @@ pub static GRAFTS: &[Case<'static>] = &[
         ],
         ..NOTHING
     },
-    // Who is in backoff is left out until that ends: one that pruned, and then one that was pruned.
+    // Who is in backoff is left out until that ends: one that pruned, and then one that was pruned, for 10 seconds.
     Case {
         name: "who is in backoff is not grafted",
         neighbours: 4,
@@ -237,7 +238,7 @@ pub static GRAFTS: &[Case<'static>] = &[
         ],
         ..NOTHING
     },
-    // Of 1, 2 and 3 the places 0 and 2 are exchanged, and 1 and 1: the first two are then 3 and 2.
+    // Of 1, 2 and 3 the places 0 and 2 are exchanged, and 1 and 1: the first two are then 3 and 2. Neighbour 4 is below 0.
     Case {
         name: "words choose who of the candidates is grafted",
         neighbours: 4,
@@ -275,6 +276,7 @@ pub static GRAFTS: &[Case<'static>] = &[
         ],
         ..NOTHING
     },
+    // For `unsubscribe_backoff_s`, which is 10. Two candidates are fewer than six, so both are grafted.
     Case {
         name: "the end of a subscription prunes each member",
         neighbours: 4,

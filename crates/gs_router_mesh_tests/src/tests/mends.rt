@@ -1,7 +1,5 @@
 //! What heartbeats do to a mesh.
-use gs_params::{
-    DEFAULT_DEGREES, DEFAULT_TIMING, DEFAULT_TOPIC_FACTORS, Degrees, Timing, TopicFactors,
-};
+use gs_params::{DEFAULT_DEGREES, DEFAULT_TOPIC_FACTORS, Degrees, TopicFactors};
 use gs_router_calls::Act::{Hear, HearEach, Heartbeat, Subscribe};
 use gs_router_calls::Id::Of;
 use gs_router_calls::Said::{Graft, Message, On, Prune};
@@ -62,7 +60,7 @@ const ON_4: Act<'static> = Hear(4, &[On("a")]);
 
 pub static MENDS: &[Case<'static>] = &[
     // Fewer than four members are few, and then candidates come in, all of them where they are no more than there is room for.
-    // Whoever scores below 0 or is in backoff is none.
+    // Whoever scores below 0 or is in backoff is none. Neighbour 1 is barred for 5 seconds from 1,500 on.
     Case {
         name: "a mesh of few members gets candidates",
         neighbours: 4,
@@ -115,7 +113,7 @@ pub static MENDS: &[Case<'static>] = &[
         ],
         ..NOTHING
     },
-    // For as long as any that is put out.
+    // For as long as any that is put out, 60 seconds. One invalid message costs neighbour 1 60.
     Case {
         name: "who scores below nothing is put out",
         neighbours: 4,
@@ -158,8 +156,8 @@ pub static MENDS: &[Case<'static>] = &[
         ],
         ..NOTHING
     },
-    // Two deliveries should come of each member, and the square of what is missing counts. All who are put out are told before the
-    // one that comes in, whatever their numbers.
+    // Two deliveries should come of each member, and the square of what is missing counts: 4 from 5,000 milliseconds on. All
+    // who are put out are told before the one that comes in, whatever their numbers.
     Case {
         name: "who brings nothing is put out and charged",
         neighbours: 4,
@@ -192,7 +190,8 @@ pub static MENDS: &[Case<'static>] = &[
         ],
         ..NOTHING
     },
-    // More than two members are many, and are cut to two: of equal scores the lowest numbers are best.
+    // More than two members are many, and are cut to two: of equal scores the lowest numbers are best. Neighbour 3 comes into
+    // the full mesh since it was dialled.
     Case {
         name: "a mesh of many members is cut",
         neighbours: 4,
@@ -226,7 +225,7 @@ pub static MENDS: &[Case<'static>] = &[
         ],
         ..NOTHING
     },
-    // One is wanted: a mesh of enough members gets it, once it is a candidate.
+    // One is wanted: a mesh of enough members, two, gets it, once it is a candidate. Neighbour 3 alone was dialled.
     Case {
         name: "a mesh gets the outbound members that it lacks",
         neighbours: 4,
@@ -259,7 +258,8 @@ pub static MENDS: &[Case<'static>] = &[
         ],
         ..NOTHING
     },
-    // Of thirteen members, more than twelve, the best four by score and number stay, and two outbound ones.
+    // Of thirteen members, more than twelve, the best four by score and number stay, 1 to 4, and two outbound ones, 12 and 13.
+    // That makes six, so no word is drawn.
     Case {
         name: "a cut keeps the best members, and outbound ones",
         neighbours: 13,
@@ -335,56 +335,6 @@ pub static MENDS: &[Case<'static>] = &[
                     Backoff(10, "a", 61_000),
                     Backoff(11, "a", 61_000),
                     Members("a", &[1, 2, 3, 4, 12, 13]),
-                ],
-            ),
-        ],
-        ..NOTHING
-    },
-    // A mesh of four that score nothing gets the one neighbour that scores more, at every second heartbeat.
-    Case {
-        name: "a poor mesh gets a better member at every so many heartbeats",
-        neighbours: 6,
-        kinds: &[
-            Kind::Plain,
-            Kind::Plain,
-            Kind::Plain,
-            Kind::Plain,
-            Kind::Praised,
-        ],
-        asks: OF_A,
-        timing: Timing {
-            opportunistic_ticks: 2,
-            ..DEFAULT_TIMING
-        },
-        steps: &[
-            (
-                0,
-                Subscribe("a"),
-                &[
-                    Sent(1, On("a")),
-                    Sent(2, On("a")),
-                    Sent(3, On("a")),
-                    Sent(4, On("a")),
-                    Sent(5, On("a")),
-                    Sent(6, On("a")),
-                    Members("a", &[]),
-                ],
-            ),
-            (0, HearEach(1, 6, &[On("a")]), &[]),
-            (
-                0,
-                HearEach(1, 4, &[Graft("a")]),
-                &[Grafted(4, "a"), Members("a", &[1, 2, 3, 4])],
-            ),
-            (1_000, Heartbeat, &[MeshBeat("a")]),
-            (
-                2_000,
-                Heartbeat,
-                &[
-                    MeshBeat("a"),
-                    Sent(5, Graft("a")),
-                    Grafted(5, "a"),
-                    Members("a", &[1, 2, 3, 4, 5]),
                 ],
             ),
         ],

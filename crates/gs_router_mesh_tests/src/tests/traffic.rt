@@ -52,8 +52,8 @@ const GRAFT_2: Act<'static> = Hear(2, &[Graft("a")]);
 const GRAFT_3: Act<'static> = Hear(3, &[Graft("a")]);
 
 pub static TRAFFIC: &[Case<'static>] = &[
-    // It goes to all members but its sender. Another member that passes it on at most ten milliseconds later counts once; whoever
-    // passed it on first does not count again, nor does one that is no member.
+    // It goes to all members but its sender. Another member that passes it on at most ten milliseconds later counts once;
+    // whoever passed it on first does not count again, nor does one that is no member. What was seen at 1 is near up to 11.
     Case {
         name: "a message goes to the mesh, and counts for members",
         neighbours: 4,
@@ -123,7 +123,7 @@ pub static TRAFFIC: &[Case<'static>] = &[
         ..NOTHING
     },
     // Without flood publishing a payload goes to the mesh alone, but for a member that scores below the threshold: a rejected
-    // message costs it 60.
+    // message costs it 60, and the threshold is -50. Neighbour 3 is on the topic, and outside the mesh.
     Case {
         name: "what is published goes to the mesh above the threshold",
         neighbours: 4,
@@ -165,7 +165,7 @@ pub static TRAFFIC: &[Case<'static>] = &[
         ],
         ..NOTHING
     },
-    // Whoever leaves the topic, closes its link or is at fault.
+    // Whoever leaves the topic, closes its link or is at fault. Nothing is missing, since `p3_threshold` is 0.
     Case {
         name: "who is lost leaves the mesh, and is told nothing",
         neighbours: 4,
@@ -188,6 +188,7 @@ pub static TRAFFIC: &[Case<'static>] = &[
     },
     // One delivery of two that should be there, halved once: the square of the 1.5 that are missing is 2.25. It counts from
     // 5,000 milliseconds in the mesh on. Whoever is pruned then is charged with it, and that is halved in turn.
+    // The backoff is that of a PRUNE without seconds: 60 from 5,000 on.
     Case {
         name: "what is missing costs in the mesh and behind it, and a PRUNE charges it",
         neighbours: 4,

@@ -3,7 +3,7 @@ use crate::tests::check;
 use gs_router_calls::Act::{Publish, Shut, Subscribe, SubscribeEach, Unsubscribe};
 use gs_router_calls::Id::{Of, Unknown};
 use gs_router_calls::Said::{Off, On};
-use gs_router_calls::Seen::{Accepted, Cached, Refused, Sent};
+use gs_router_calls::Seen::{Accepted, Cached, Delivered, Refused, Sent};
 use gs_router_calls::{Case, NOTHING};
 use std::alloc::AllocError;
 use std::process::Abort;
@@ -32,6 +32,15 @@ fn check_topics<R: AllocGlobal + Abort>(
             // its length is looked at before what was seen
             (1, Publish(too_long, b"abc"), &[Refused(17)]),
             (1, Publish(longest, b"abc"), &[Refused(16)]),
+            (
+                1,
+                Publish(longest, b""),
+                &[
+                    Delivered(longest, b""),
+                    Accepted(Of(b"")),
+                    Cached(Of(b""), longest),
+                ],
+            ),
             (2, Shut, &[]),
             (2, Subscribe(too_long), &[Refused(21)]),
             (2, Publish(too_long, b"abc"), &[Refused(21)]),
@@ -57,7 +66,8 @@ fn check_topics<R: AllocGlobal + Abort>(
     check(rt, &[lengths, counts])
 }
 
-/// The body has 11 bytes more than the payload.
+/// The body has 11 bytes more than the payload: a key and a length of three bytes for the message, the same for the
+/// payload, and three bytes for the topic.
 fn check_bodies<R: AllocGlobal + Abort>(
     rt: &R,
     longest: &[u8],

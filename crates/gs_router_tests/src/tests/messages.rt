@@ -46,7 +46,7 @@ const IS_DELIVERED: &[Seen<'static>] = &[
 ];
 
 pub static MESSAGES: &[Case<'static>] = &[
-    // Neighbour 2 is on `a`, and neighbour 1 was.
+    // Neighbour 2 is on `a`, and neighbour 1 was. On `b` is nobody, and the router is not subscribed to it.
     Case {
         name: "a message goes to the neighbours on its topic, and to a subscribed user",
         events: true,
@@ -98,7 +98,7 @@ pub static MESSAGES: &[Case<'static>] = &[
         ],
         ..NOTHING
     },
-    // It has a field that StrictNoSign forbids, even an empty one.
+    // It has a field that StrictNoSign forbids, even an empty one. Where the topic is not joined, nothing is looked at.
     Case {
         name: "a signed message is invalid where its topic is joined, and is not marked as seen",
         events: true,
@@ -163,6 +163,8 @@ pub static MESSAGES: &[Case<'static>] = &[
         ],
         ..NOTHING
     },
+    // An absent `subscribe` is false, so neighbour 1 leaves `a` again, and `abc` goes to nobody. The absent topic is the empty
+    // one, and so is the absent payload: it is new again at 3 + 120,000.
     Case {
         name: "an RPC is heard part by part, and what is absent has a value",
         events: true,
@@ -224,6 +226,7 @@ pub static MESSAGES: &[Case<'static>] = &[
         ],
         ..NOTHING
     },
+    // What is marked as seen at 1,000 is seen up to 120,999, and what is marked anew at 121,000 up to 240,999.
     Case {
         name: "a message is delivered again where it was first seen 120,000 milliseconds ago",
         events: true,
@@ -257,6 +260,7 @@ pub static MESSAGES: &[Case<'static>] = &[
         ],
         ..NOTHING
     },
+    // It is new at its second coming, since the first one left no mark.
     Case {
         name: "a message on a topic that is not joined is dropped, and not seen",
         events: true,

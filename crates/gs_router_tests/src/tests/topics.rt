@@ -4,6 +4,7 @@ use gs_router_calls::Said::{Message, Off, On, Other, Parts, Sub};
 use gs_router_calls::{Act, Case, NO_FIELDS, NO_TOPIC, NOTHING, Seen};
 
 pub static TOPICS: &[Case<'static>] = &[
+    // Nobody is on a topic, so no mesh has members, and announcements are all that is sent.
     Case {
         name: "what is joined and left is told to each neighbour",
         events: true,
@@ -47,6 +48,7 @@ pub static TOPICS: &[Case<'static>] = &[
         ],
         ..NOTHING
     },
+    // 19 is not subscribed, 18 subscribed already, and 16 seen lately: of what was published at 2, up to 120,001.
     Case {
         name: "a refused call leaves the trace as it was",
         events: true,
@@ -96,6 +98,7 @@ pub static TOPICS: &[Case<'static>] = &[
         ],
         ..NOTHING
     },
+    // 21 goes before each other reason. Neighbours are not up any more, so all that they say is late, and no part is handled.
     Case {
         name: "after a shutdown all is refused, and what is heard is late",
         events: true,
@@ -154,6 +157,7 @@ pub static TOPICS: &[Case<'static>] = &[
         ],
         ..NOTHING
     },
+    // To lose a neighbour that is not up does nothing.
     Case {
         name: "a neighbour that is lost is not sent to, is lost once, and what it says is late",
         events: true,

@@ -20,6 +20,7 @@ const TWICE: &[Rules<'static>] = &[
 
 pub static VERDICTS: &[Case<'static>] = &[
     // What is rejected is invalid for whoever passes it on, and what is accepted on another topic is not judged again.
+    // To reject goes before to ignore. Nobody is in a mesh, so no delivery is near. At 120,000 `ff` is new again.
     Case {
         name: "a payload is judged by the prefixes of its topic",
         topics: TWICE,
@@ -85,6 +86,7 @@ pub static VERDICTS: &[Case<'static>] = &[
         ],
         ..NOTHING
     },
+    // It comes back as seen and accepted, of a neighbour that is in no mesh.
     Case {
         name: "what a router publishes is not judged, nor when it comes back",
         topics: TWICE,
@@ -103,6 +105,7 @@ pub static VERDICTS: &[Case<'static>] = &[
         ],
         ..NOTHING
     },
+    // An RPC with a message (field 2) of an origin (1) of no bytes, a payload (2) and a topic (4); then without the origin.
     Case {
         name: "a message with an empty origin is invalid as it is read",
         steps: &[
