@@ -44,7 +44,7 @@ fn range_in(checks: &[Check], key: &str) -> Option<(i64, i64)> {
 }
 
 /// A bound of counted values as a signed number, which holds each that a rule has.
-fn signed(bound: u64) -> i64 {
+pub fn signed(bound: u64) -> i64 {
     bound.min(i64::MAX as u64) as i64
 }
 

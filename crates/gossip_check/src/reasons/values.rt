@@ -1,6 +1,6 @@
 //! A value of a scenario that is not what it must be.
 use crate::reasons::keys::key_of;
-use crate::reasons::ranges::range_of;
+use crate::reasons::ranges::{range_of, signed};
 use crate::shown::{Quoted, Ticked};
 use gs_scenario::{Found, Wanted};
 use std::fmt;
@@ -55,7 +55,7 @@ impl<'a> Mismatch<'a> {
     /// The range of a parameter. What is wanted of it is no more than the range of all numbers.
     fn range_of_parameter(&self) -> Option<(i64, i64)> {
         let lowest = match self.wanted {
-            Wanted::Number(low, _) => low as i64,
+            Wanted::Number(low, _) => signed(low),
             Wanted::SignedNumber(low, _) => low,
             _ => return None,
         };
