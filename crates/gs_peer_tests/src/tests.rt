@@ -119,7 +119,7 @@ fn streams_are_heard_up_to_their_first_fault(rt: HostRuntime) -> Result<(), Fail
 }
 
 /// Checks that a frame is heard that comes byte by byte.
-fn check_long<R>(rt: &R, frame: &[u8], payload: &[u8]) -> Result<(), Fail>
+fn check_long<'a, R>(rt: &R, frame: &'a [u8], payload: &'a [u8]) -> Result<(), Fail>
 where
     R: Wait + RandomSource + AllocGlobal + Abort,
 {

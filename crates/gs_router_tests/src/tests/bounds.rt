@@ -9,10 +9,10 @@ use std::alloc::AllocError;
 use std::process::Abort;
 
 /// What a router takes of topics, of which one is as long as one may be, and one is longer.
-fn check_topics<R: AllocGlobal + Abort>(
+fn check_topics<'a, R: AllocGlobal + Abort>(
     rt: &R,
-    longest: &str,
-    too_long: &str,
+    longest: &'a str,
+    too_long: &'a str,
 ) -> Result<(), AllocError> {
     let lengths = Case {
         name: "a topic has at most 1,024 bytes",
@@ -68,10 +68,10 @@ fn check_topics<R: AllocGlobal + Abort>(
 
 /// The body has 11 bytes more than the payload: a key and a length of three bytes for the message, the same for the
 /// payload, and three bytes for the topic.
-fn check_bodies<R: AllocGlobal + Abort>(
+fn check_bodies<'a, R: AllocGlobal + Abort>(
     rt: &R,
-    longest: &[u8],
-    too_long: &[u8],
+    longest: &'a [u8],
+    too_long: &'a [u8],
 ) -> Result<(), AllocError> {
     let bodies = Case {
         name: "a body has at most 1,048,576 bytes",
