@@ -9,8 +9,8 @@ mod items;
 mod made;
 mod over_links;
 
-use crate::tests::cases::{Case, NOTHING, SCRIPT, SCRIPTS, STREAMS, SUBSCRIBER};
-use crate::tests::items::{Word, lines, long_frame, said};
+use crate::tests::cases::{Case, LONG, NOTHING, SCRIPT, SCRIPTS, STREAMS, SUBSCRIBER};
+use crate::tests::items::{Word, lines, said};
 use crate::tests::made::{AtMost, ONE, lists, task, task_in};
 use futures::executor::block_on;
 use gs_base::PeerNo;
@@ -118,34 +118,9 @@ fn streams_are_heard_up_to_their_first_fault(rt: HostRuntime) -> Result<(), Fail
     check(&rt, STREAMS)
 }
 
-/// Checks that a frame is heard that comes byte by byte.
-fn check_long<'a, R>(rt: &R, frame: &'a [u8], payload: &'a [u8]) -> Result<(), Fail>
-where
-    R: Wait + RandomSource + AllocGlobal + Abort,
-{
-    let message = Said::Message("a", payload);
-    let case = Case {
-        name: "a long frame comes in pieces of one byte",
-        hears: &[Word::Pieces(frame, 1)],
-        events: &[
-            Seen::RoundEnd(0),
-            Seen::Heard(2, message),
-            Seen::Handled(2, message),
-            Seen::Gone(2),
-            Seen::RoundEnd(1),
-            Seen::Shut,
-        ],
-        says: &[Word::Rounds(0, 0)],
-        ..NOTHING
-    };
-    check(rt, &[case])
-}
-
 #[test]
 fn a_long_frame_comes_in_pieces_of_one_byte(rt: HostRuntime) -> Result<(), Fail> {
-    let frame = long_frame(rt.alloc())?;
-    assert_eq!(rt; frame.len(), 1_000);
-    check_long(&rt, &frame, &[0; 989])
+    check(&rt, LONG)
 }
 
 /// Where a neighbour takes one item alone, the life never ends.

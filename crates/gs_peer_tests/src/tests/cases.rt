@@ -1,5 +1,7 @@
 //! Lives of a peer with one neighbour, over lists in memory, and what must be seen of them.
-use crate::tests::items::{GRAFTS, OFFERS, PRUNES, PUBLISHES, SUBSCRIBES, Word};
+use crate::tests::items::{
+    GRAFTS, LONG_FRAME, LONG_PAYLOAD, OFFERS, PRUNES, PUBLISHES, SUBSCRIBES, Word,
+};
 use gs_base::Millis;
 use gs_router_calls::{Act, Said, Seen};
 use gs_rules::{Refusal, RefusedLine};
@@ -262,3 +264,19 @@ pub static STREAMS: &[Case<'static>] = &[
         ..AT_FAULT
     },
 ];
+
+/// A frame of 1,000 bytes that comes in pieces of one byte.
+pub static LONG: &[Case<'static>] = &[Case {
+    name: "a long frame comes in pieces of one byte",
+    hears: &[Word::Pieces(LONG_FRAME, 1)],
+    events: &[
+        Seen::RoundEnd(0),
+        Seen::Heard(2, Said::Message("a", LONG_PAYLOAD)),
+        Seen::Handled(2, Said::Message("a", LONG_PAYLOAD)),
+        Seen::Gone(2),
+        Seen::RoundEnd(1),
+        Seen::Shut,
+    ],
+    says: &[Word::Rounds(0, 0)],
+    ..NOTHING
+}];

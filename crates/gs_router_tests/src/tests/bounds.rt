@@ -1,59 +1,85 @@
 //! How long topics and bodies may be, and how many topics a router takes.
 use crate::tests::check;
+use bytes::Bytes;
+use gs_base::{Millis, PeerNo, Topic};
+use gs_params::{Params, SeededWords};
+use gs_router::Router;
 use gs_router_calls::Act::{Publish, Shut, Subscribe, SubscribeEach, Unsubscribe};
-use gs_router_calls::Id::{Of, Unknown};
+use gs_router_calls::Id::Of;
 use gs_router_calls::Said::{Off, On};
 use gs_router_calls::Seen::{Accepted, Cached, Delivered, Refused, Sent};
 use gs_router_calls::{Case, NOTHING};
-use std::alloc::AllocError;
-use std::process::Abort;
+use std::alloc::{AllocError, Global};
 
-/// What a router takes of topics, of which one is as long as one may be, and one is longer.
-fn check_topics<'a, R: AllocGlobal + Abort>(
-    rt: &R,
-    longest: &'a str,
-    too_long: &'a str,
-) -> Result<(), AllocError> {
-    let lengths = Case {
+/// A topic of 1,024 bytes, which is as long as one may be.
+const LONGEST: &str =
+    "tttttttttttttttttttttttttttttttttttttttttttttttttttttttttttttttttttttttttttttttttttttttttttttttttttt\
+     tttttttttttttttttttttttttttttttttttttttttttttttttttttttttttttttttttttttttttttttttttttttttttttttttttt\
+     tttttttttttttttttttttttttttttttttttttttttttttttttttttttttttttttttttttttttttttttttttttttttttttttttttt\
+     tttttttttttttttttttttttttttttttttttttttttttttttttttttttttttttttttttttttttttttttttttttttttttttttttttt\
+     tttttttttttttttttttttttttttttttttttttttttttttttttttttttttttttttttttttttttttttttttttttttttttttttttttt\
+     tttttttttttttttttttttttttttttttttttttttttttttttttttttttttttttttttttttttttttttttttttttttttttttttttttt\
+     tttttttttttttttttttttttttttttttttttttttttttttttttttttttttttttttttttttttttttttttttttttttttttttttttttt\
+     tttttttttttttttttttttttttttttttttttttttttttttttttttttttttttttttttttttttttttttttttttttttttttttttttttt\
+     tttttttttttttttttttttttttttttttttttttttttttttttttttttttttttttttttttttttttttttttttttttttttttttttttttt\
+     tttttttttttttttttttttttttttttttttttttttttttttttttttttttttttttttttttttttttttttttttttttttttttttttttttt\
+     tttttttttttttttttttttttt";
+
+/// One of 1,025 bytes.
+const TOO_LONG: &str =
+    "tttttttttttttttttttttttttttttttttttttttttttttttttttttttttttttttttttttttttttttttttttttttttttttttttttt\
+     tttttttttttttttttttttttttttttttttttttttttttttttttttttttttttttttttttttttttttttttttttttttttttttttttttt\
+     tttttttttttttttttttttttttttttttttttttttttttttttttttttttttttttttttttttttttttttttttttttttttttttttttttt\
+     tttttttttttttttttttttttttttttttttttttttttttttttttttttttttttttttttttttttttttttttttttttttttttttttttttt\
+     tttttttttttttttttttttttttttttttttttttttttttttttttttttttttttttttttttttttttttttttttttttttttttttttttttt\
+     tttttttttttttttttttttttttttttttttttttttttttttttttttttttttttttttttttttttttttttttttttttttttttttttttttt\
+     tttttttttttttttttttttttttttttttttttttttttttttttttttttttttttttttttttttttttttttttttttttttttttttttttttt\
+     tttttttttttttttttttttttttttttttttttttttttttttttttttttttttttttttttttttttttttttttttttttttttttttttttttt\
+     tttttttttttttttttttttttttttttttttttttttttttttttttttttttttttttttttttttttttttttttttttttttttttttttttttt\
+     tttttttttttttttttttttttttttttttttttttttttttttttttttttttttttttttttttttttttttttttttttttttttttttttttttt\
+     ttttttttttttttttttttttttt";
+
+static TOPICS: [Case<'static>; 2] = [
+    Case {
         name: "a topic has at most 1,024 bytes",
         steps: &[
             (
                 0,
-                Subscribe(longest),
-                &[Sent(1, On(longest)), Sent(2, On(longest))],
+                Subscribe(LONGEST),
+                &[Sent(1, On(LONGEST)), Sent(2, On(LONGEST))],
             ),
-            (1, Subscribe(longest), &[Refused(18)]),
-            (1, Subscribe(too_long), &[Refused(17)]),
+            (1, Subscribe(LONGEST), &[Refused(18)]),
+            (1, Subscribe(TOO_LONG), &[Refused(17)]),
             (
                 1,
                 Publish("a", b"abc"),
                 &[Accepted(Of(b"abc")), Cached(Of(b"abc"), "a")],
             ),
             // its length is looked at before what was seen
-            (1, Publish(too_long, b"abc"), &[Refused(17)]),
-            (1, Publish(longest, b"abc"), &[Refused(16)]),
+            (1, Publish(TOO_LONG, b"abc"), &[Refused(17)]),
+            (1, Publish(LONGEST, b"abc"), &[Refused(16)]),
             (
                 1,
-                Publish(longest, b""),
+                Publish(LONGEST, b""),
                 &[
-                    Delivered(longest, b""),
+                    Delivered(LONGEST, b""),
                     Accepted(Of(b"")),
-                    Cached(Of(b""), longest),
+                    Cached(Of(b""), LONGEST),
                 ],
             ),
             (2, Shut, &[]),
-            (2, Subscribe(too_long), &[Refused(21)]),
-            (2, Publish(too_long, b"abc"), &[Refused(21)]),
+            (2, Subscribe(TOO_LONG), &[Refused(21)]),
+            (2, Publish(TOO_LONG, b"abc"), &[Refused(21)]),
         ],
         ..NOTHING
-    };
-    let counts = Case {
+    },
+    Case {
         name: "a topic counts among 1,024 even after it was left",
         steps: &[
             (0, SubscribeEach(1_024), &[]),
             // its length is looked at before their number
-            (0, Subscribe(too_long), &[Refused(17)]),
-            (0, Publish(too_long, b"abc"), &[Refused(17)]),
+            (0, Subscribe(TOO_LONG), &[Refused(17)]),
+            (0, Publish(TOO_LONG, b"abc"), &[Refused(17)]),
             (0, Subscribe("1024"), &[Refused(34)]),
             (0, Subscribe("7"), &[Refused(18)]),
             (0, Unsubscribe("7"), &[Sent(1, Off("7")), Sent(2, Off("7"))]),
@@ -62,42 +88,36 @@ fn check_topics<'a, R: AllocGlobal + Abort>(
             (0, Subscribe("1024"), &[Refused(34)]),
         ],
         ..NOTHING
-    };
-    check(rt, &[lengths, counts])
-}
+    },
+];
 
-/// The body has 11 bytes more than the payload: a key and a length of three bytes for the message, the same for the
-/// payload, and three bytes for the topic.
-fn check_bodies<'a, R: AllocGlobal + Abort>(
-    rt: &R,
-    longest: &'a [u8],
-    too_long: &'a [u8],
-) -> Result<(), AllocError> {
-    let bodies = Case {
-        name: "a body has at most 1,048,576 bytes",
-        steps: &[
-            (
-                0,
-                Publish("a", longest),
-                &[Accepted(Unknown), Cached(Unknown, "a")],
-            ),
-            (0, Publish("a", too_long), &[Refused(17)]),
-        ],
-        ..NOTHING
+/// How a new router answers a publication of so many zeros: 0, or the number of its refusal.
+fn answer_to(alloc: Global, length: usize) -> Result<u8, AllocError> {
+    let topic = Topic(Bytes::copy_from_slice(alloc, b"a")?);
+    let payload = Bytes::copy_from_slice(alloc, &vec![in alloc; 0u8; length]?)?;
+    let mut words = SeededWords::new(Vec::new(alloc), 1, PeerNo(0));
+    let Ok(params) = Params::new(alloc).check() else {
+        return Err(AllocError);
     };
-    check(rt, &[bodies])
+    let mut router = Router::new(alloc, params, Vec::new(alloc))?;
+    let answer = router.publish(topic, payload, Millis(0), &mut words);
+    drop(router);
+    match answer {
+        Ok(()) => Ok(0),
+        Err(fault) => Ok(fault.number()),
+    }
 }
 
 #[test]
 fn topics_are_bounded(rt: HostRuntime) -> Result<(), AllocError> {
-    let longest = "t".repeat(rt.alloc(), 1_024)?;
-    let too_long = "t".repeat(rt.alloc(), 1_025)?;
-    check_topics(&rt, longest.as_str(), too_long.as_str())
+    check(&rt, &TOPICS)
 }
 
+/// A body has at most 1,048,576 bytes, and 11 more than the payload: a key and a length of three bytes for the message,
+/// the same for the payload, and three bytes for the topic.
 #[test]
 fn bodies_are_bounded(rt: HostRuntime) -> Result<(), AllocError> {
-    let longest = vec![in rt.alloc(); 0u8; 1_048_565]?;
-    let too_long = vec![in rt.alloc(); 0u8; 1_048_566]?;
-    check_bodies(&rt, &longest, &too_long)
+    assert_eq!(rt; answer_to(rt.alloc(), 1_048_565)?, 0);
+    assert_eq!(rt; answer_to(rt.alloc(), 1_048_566)?, 17);
+    Ok(())
 }
