@@ -34,6 +34,7 @@ pub fn clone_of<T: ExactClone>(value: &T) -> Result<T, AllocError>
 ///
 /// # Errors
 /// `AllocError` where there was no memory for it.
+#[inline(always)]
 pub fn clone_option<T: ExactClone>(value: &Option<T>) -> Result<Option<T>, AllocError>
     ensures { IfOk result (λ copy. copy ≡ value.now) }
 {

@@ -68,6 +68,8 @@ pub struct Message {
 impl Clone for Message {
     ghost is_clone = { λ source copy. copy ≡ source };
 
+    // Each message that is heard is cloned: inlined, its fields are written once, where they belong.
+    #[inline(always)]
     fn clone(&self) -> Result<Message, AllocError> {
         Ok(Message {
             origin: clone_option(&self.origin)?,

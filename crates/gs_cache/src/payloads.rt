@@ -48,6 +48,7 @@ impl Payloads {
     }
 
     /// The identifier of a payload, which is known from now on, where there is memory for that.
+    #[inline(always)]
     pub fn identifier(&mut self, payload: &Bytes) -> MsgId
         ensures { result ≡ message_id payload.now }
     {

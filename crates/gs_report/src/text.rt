@@ -31,9 +31,13 @@ pub fn report_text(alloc: Global, plan: &Plan, report: &Report) -> Result<Vec<u8
 /// A section of a report: lines of one kind, peer by peer.
 #[derive(Clone, Copy, Debug, PartialEq, Eq)]
 pub enum Section {
+    /// What each peer delivered, in the order of its trace.
     Delivered,
+    /// Which lines of the script each peer refused.
     Refused,
+    /// Who was in the mesh of each topic at the end.
     Meshes,
+    /// What the neighbours of each peer scored at the end.
     Scores,
 }
 

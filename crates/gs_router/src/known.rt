@@ -6,7 +6,10 @@ use std::alloc::Global;
 /// What a router reads to decide what it does: what is given of it, and what its tables say of its trace.
 #[derive(Drop)]
 pub struct Known {
+    /// Where entries get their memory.
     pub alloc: Global,
+    /// The parameters and the neighbours, which never change.
     pub setup: Setup,
+    /// What the trace says, by look-up.
     pub tables: Tables,
 }

@@ -9,11 +9,17 @@ use gs_rules::Event;
 /// What a router's own user may wish, beside a heartbeat, which is more than one event.
 #[derive(Debug, Drop)]
 pub enum Wish {
+    /// To join a topic: at most 1,024 bytes, and 1,024 topics over the router's life.
     Subscribe(Topic),
+    /// To leave a topic.
     Unsubscribe(Topic),
+    /// To publish a payload on a topic.
     Publish(Topic, Bytes),
+    /// To lower the counters of scores by a step.
     Decay,
+    /// To end the round of this number.
     EndRound(u64),
+    /// To send nothing any more.
     Shut,
 }
 

@@ -23,27 +23,40 @@ static SENT: [(Sent, &str); 7] = [
     ),
     (
         Sent::PassedOn,
-        "Rpc { subs: Seq { items: [] }, publish: Seq { items: [Message { origin: None, payload: Some(b\"abc\"), seqno: None, topic: Some(Topic(b\"news\")), signature: None, key: None }] }, control: None }",
+        "Rpc { subs: Seq { items: [] }, publish: Seq { items: [Message { origin: None, payload: Some(b\"abc\"), \
+         seqno: None, topic: Some(Topic(b\"news\")), signature: None, key: None }] }, control: None }",
     ),
     (
         Sent::Offer,
-        "Rpc { subs: Seq { items: [] }, publish: Seq { items: [] }, control: Some(Control { ihave: Seq { items: [IHave { topic: Some(Topic(b\"news\")), ids: Seq { items: [b\"abcdefghijklmnopqrstuvwxyz012345\"] } }] }, iwant: Seq { items: [] }, graft: Seq { items: [] }, prune: Seq { items: [] } }) }",
+        "Rpc { subs: Seq { items: [] }, publish: Seq { items: [] }, \
+         control: Some(Control { ihave: Seq { items: [IHave { topic: Some(Topic(b\"news\")), \
+         ids: Seq { items: [b\"abcdefghijklmnopqrstuvwxyz012345\"] } }] }, iwant: Seq { items: [] }, \
+         graft: Seq { items: [] }, prune: Seq { items: [] } }) }",
     ),
     (
         Sent::Request,
-        "Rpc { subs: Seq { items: [] }, publish: Seq { items: [] }, control: Some(Control { ihave: Seq { items: [] }, iwant: Seq { items: [IWant { ids: Seq { items: [b\"abc\"] } }] }, graft: Seq { items: [] }, prune: Seq { items: [] } }) }",
+        "Rpc { subs: Seq { items: [] }, publish: Seq { items: [] }, \
+         control: Some(Control { ihave: Seq { items: [] }, \
+         iwant: Seq { items: [IWant { ids: Seq { items: [b\"abc\"] } }] }, graft: Seq { items: [] }, \
+         prune: Seq { items: [] } }) }",
     ),
     (
         Sent::Graft,
-        "Rpc { subs: Seq { items: [] }, publish: Seq { items: [] }, control: Some(Control { ihave: Seq { items: [] }, iwant: Seq { items: [] }, graft: Seq { items: [Graft { topic: Some(Topic(b\"news\")) }] }, prune: Seq { items: [] } }) }",
+        "Rpc { subs: Seq { items: [] }, publish: Seq { items: [] }, \
+         control: Some(Control { ihave: Seq { items: [] }, iwant: Seq { items: [] }, \
+         graft: Seq { items: [Graft { topic: Some(Topic(b\"news\")) }] }, prune: Seq { items: [] } }) }",
     ),
     (
         Sent::Prune(86_400),
-        "Rpc { subs: Seq { items: [] }, publish: Seq { items: [] }, control: Some(Control { ihave: Seq { items: [] }, iwant: Seq { items: [] }, graft: Seq { items: [] }, prune: Seq { items: [Prune { topic: Some(Topic(b\"news\")), backoff: Some(86400) }] } }) }",
+        "Rpc { subs: Seq { items: [] }, publish: Seq { items: [] }, \
+         control: Some(Control { ihave: Seq { items: [] }, iwant: Seq { items: [] }, graft: Seq { items: [] }, \
+         prune: Seq { items: [Prune { topic: Some(Topic(b\"news\")), backoff: Some(86400) }] } }) }",
     ),
     (
         Sent::Prune(86_401),
-        "Rpc { subs: Seq { items: [] }, publish: Seq { items: [] }, control: Some(Control { ihave: Seq { items: [] }, iwant: Seq { items: [] }, graft: Seq { items: [] }, prune: Seq { items: [Prune { topic: Some(Topic(b\"news\")), backoff: Some(86400) }] } }) }",
+        "Rpc { subs: Seq { items: [] }, publish: Seq { items: [] }, \
+         control: Some(Control { ihave: Seq { items: [] }, iwant: Seq { items: [] }, graft: Seq { items: [] }, \
+         prune: Seq { items: [Prune { topic: Some(Topic(b\"news\")), backoff: Some(86400) }] } }) }",
     ),
 ];
 
@@ -82,7 +95,8 @@ fn no_control_messages_are_no_control_messages(rt: HostRuntime) -> Result<(), Al
     let empty = format!(in rt.alloc(); "{:?}", Control::empty(rt.alloc()))?;
     assert_eq!(rt;
         empty.as_str(),
-        "Control { ihave: Seq { items: [] }, iwant: Seq { items: [] }, graft: Seq { items: [] }, prune: Seq { items: [] } }"
+        "Control { ihave: Seq { items: [] }, iwant: Seq { items: [] }, graft: Seq { items: [] }, \
+         prune: Seq { items: [] } }"
     );
     Ok(())
 }
