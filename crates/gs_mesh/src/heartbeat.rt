@@ -165,11 +165,15 @@ fn filled<W: Words>(
 // ---- the median (gossipsub v1.1, "Opportunistic Grafting")
 
 /// Whether the median score of the members lies below a score: more than half of them do, rounded down. Where there
-/// is no member, none does. No more is ever asked of the median, so nothing is sorted.
-fn median_is_below(members: &[Member], score: i128) -> bool
-    ensures { result ≡ median_is_below members.now score }
+/// is no member, none does. No more is ever asked of the median, so nothing is sorted. The score comes by reference: of
+/// a copied number a proof knows its bits alone.
+fn median_is_below(members: &[Member], score: &i128) -> bool
+    ensures { result ≡ median_is_below members.now score.now }
 {
-    let below = members.iter().filter(|member| member.score < score).count();
+    let below = members
+        .iter()
+        .filter(|member| member.score < *score)
+        .count();
     members.len() / 2 < below
 }
 
@@ -179,7 +183,7 @@ fn is_poor(params: &Params, tick: u64, members: &[Member]) -> bool
     ensures { result ≡ is_poor params.now tick members.now }
 {
     let threshold = i128::from(params.thresholds.opportunistic_threshold);
-    tick % params.timing.opportunistic_ticks == 0 && median_is_below(members, threshold)
+    tick % params.timing.opportunistic_ticks == 0 && median_is_below(members, &threshold)
 }
 
 fn above_median(
@@ -192,7 +196,7 @@ fn above_median(
     candidates
         .iter()
         .copied()
-        .filter(|candidate| median_is_below(members, candidate.score))
+        .filter(|candidate| median_is_below(members, &candidate.score))
         .collect(alloc)
 }
 

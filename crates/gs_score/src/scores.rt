@@ -146,7 +146,7 @@ impl Scores {
                 Ok(())
             }
             Mark::Deficit(peer, topic, amount) => {
-                self.raise(*peer, topic, Kind::Deficit, capped_deficit(*amount))?;
+                self.raise(*peer, topic, Kind::Deficit, capped_deficit(amount))?;
                 Ok(())
             }
             Mark::Invalid(peer, topic) => {
@@ -321,11 +321,12 @@ fn misbehaviour_decay(params: &Params) -> Decay
     }
 }
 
-/// What a deficit adds to a counter, which holds no more than 10^12.
-fn capped_deficit(amount: i128) -> u64
-    ensures { result ≡ capped_deficit amount }
+/// What a deficit adds to a counter, which holds no more than 10^12. The amount comes by reference: of a copied number a
+/// proof knows its bits alone.
+fn capped_deficit(amount: &i128) -> u64
+    ensures { result ≡ capped_deficit amount.now }
 {
-    if amount < 0 {
+    if *amount < 0 {
         return 0;
     }
     amount.unsigned_abs().min(MOST_COUNTED as u128) as u64
