@@ -10,7 +10,7 @@ ghost use Rattle.gs_score.specs.Formula.{p3};
 ghost use Rattle.gs_score.specs.Histories.{Agrees, Applies, Decayed, Grafted, History, Left, Marked, Setting, ShutOut, accepts, capped_deficit, held_by, is_known, misbehaviour, one, raise_of, score_in};
 ghost use Rattle.gs_score.specs.Ledgers.{BlamesIn, PutsIn, ReplacesIn, has_account, has_room, misbehaviour_of, standing_of, topics_of};
 ghost use Rattle.gs_score.specs.Addresses.{shut_out};
-ghost use Rattle.gs_score.specs.Standings.{count, grafted, pruned, raised_standing, stored};
+ghost use Rattle.gs_score.specs.Standings.{count, decay_of, grafted, pruned, raised_standing, stored};
 
 use crate::accounts::{
     Account, blame, graft_standing, has_account, has_room, misbehaviour_of, open_accounts,
@@ -222,20 +222,27 @@ impl Scores {
         self.addresses.shut_out(peer);
     }
 
-    /// A counter of a neighbour on a topic, in millionths: 0 to 10^12.
+    /// A counter of a neighbour on a topic, in millionths: 0 to 10^12. It is the value that `stored` gives, after the
+    /// steps of decay since its tick.
     pub fn counter(&self, peer: PeerNo, topic: &Topic, kind: Kind) -> u64
         ensures value { (s : Setting) (H : History)
             → Agrees s self.now H
             → result ≡ count kind (held_by s.params H peer topic.now) }
+        ensures decays { result
+            ≡ read_at (decay_of (rules_of self.now.params topic.now) kind) self.now.tick
+            (stored kind (standing_of self.now.accounts peer topic.now)) }
         ensures most { result ≤ 10 ^ 12 }
     {
         let rules = TopicRules::of(&self.params, topic);
         standing_of(&self.accounts, peer, topic).count(kind, &rules, self.tick)
     }
 
-    /// How a neighbour misbehaved, whatever the topic, in millionths: 0 to 10^12.
+    /// How a neighbour misbehaved, whatever the topic, in millionths: 0 to 10^12. It is the value that
+    /// `stored_misbehaviour` gives, after the steps of decay since its tick.
     pub fn misbehaviour(&self, peer: PeerNo) -> u64
         ensures value { (s : Setting) (H : History) → Agrees s self.now H → result ≡ misbehaviour s.params H peer }
+        ensures decays { result
+            ≡ read_at (misbehaviour_decay self.now.params) self.now.tick (misbehaviour_of self.now.accounts peer) }
         ensures most { result ≤ 10 ^ 12 }
     {
         misbehaviour_of(&self.accounts, peer).read(misbehaviour_decay(&self.params), self.tick)
@@ -253,6 +260,18 @@ impl Scores {
         standing_of(&self.accounts, peer, topic)
             .counter(kind)
             .stored()
+    }
+
+    /// What is kept of how a neighbour misbehaved: a value in millionths, and the number of decays up to which it was
+    /// decayed. Both are 0 where it never misbehaved, and where no neighbour has this number.
+    pub fn stored_misbehaviour(&self, peer: PeerNo) -> (u64, u64)
+        ensures { result
+            ≡ (
+              (misbehaviour_of self.now.accounts peer).value,
+              (misbehaviour_of self.now.accounts peer).tick,
+            ) }
+    {
+        misbehaviour_of(&self.accounts, peer).stored()
     }
 
     /// The score of a neighbour at a moment, in millionths (gossipsub v1.1, Peer Scoring, The Score Function).

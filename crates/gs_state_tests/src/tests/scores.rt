@@ -1,6 +1,7 @@
 //! Counters and scores, by hand.
 mod counters;
 mod formula;
+mod kept;
 mod neighbours;
 mod places;
 mod products;

@@ -8,7 +8,7 @@ use gs_score::{Kind, Scores};
 use std::alloc::{AllocError, Global};
 
 /// What is done, by the number of a neighbour and a topic, which is one byte.
-enum Act {
+pub(super) enum Act {
     First(u16, u8),
     Near(u16, u8),
     Invalid(u16, u8),
@@ -153,7 +153,7 @@ static CASES: [Case; 16] = [
     },
 ];
 
-fn topic(alloc: Global, name: u8) -> Result<Topic, AllocError> {
+pub(super) fn topic(alloc: Global, name: u8) -> Result<Topic, AllocError> {
     Ok(Topic(Bytes::copy_from_slice(alloc, &[name])?))
 }
 
@@ -268,7 +268,7 @@ fn perform(alloc: Global, scores: &mut Scores, act: &Act) -> Result<(), AllocErr
 }
 
 /// The scores after all that is done.
-fn after(alloc: Global, acts: &[Act]) -> Result<Option<Scores>, AllocError> {
+pub(super) fn after(alloc: Global, acts: &[Act]) -> Result<Option<Scores>, AllocError> {
     let Some(mut scores) = scores(alloc)? else {
         return Ok(None);
     };
@@ -317,62 +317,6 @@ fn holds(alloc: Global, case: &Case) -> Result<bool, AllocError> {
 fn neighbours_are_scored_by_hand(rt: HostRuntime) -> Result<(), AllocError> {
     for case in &CASES {
         assert!(rt; holds(rt.alloc(), case)?);
-    }
-    Ok(())
-}
-
-/// What is done, and what is then kept of the first deliveries of the first neighbour on a topic: a value, and the
-/// number of decays up to which it was decayed; and what is read of it.
-struct Lasting {
-    acts: &'static [Act],
-    topic: u8,
-    stored: (u64, u64),
-    count: u64,
-}
-
-static KEPT: [Lasting; 4] = [
-    Lasting {
-        acts: &[],
-        topic: b't',
-        stored: (0, 0),
-        count: 0,
-    },
-    Lasting {
-        acts: &[Act::First(1, b't'), Act::Decay(3)],
-        topic: b't',
-        stored: (1_000_000, 0),
-        count: 125_000,
-    },
-    Lasting {
-        acts: &[Act::First(1, b't'), Act::Decay(3), Act::First(1, b't')],
-        topic: b't',
-        stored: (1_125_000, 3),
-        count: 1_125_000,
-    },
-    Lasting {
-        acts: &[Act::First(1, b'k'), Act::Decay(100_000)],
-        topic: b'k',
-        stored: (1_000_000, 0),
-        count: 1_000_000,
-    },
-];
-
-/// What is kept and what is read, after all that is done.
-fn kept(alloc: Global, case: &Lasting) -> Result<Option<((u64, u64), u64)>, AllocError> {
-    let Some(scores) = after(alloc, case.acts)? else {
-        return Ok(None);
-    };
-    let topic = topic(alloc, case.topic)?;
-    let stored = scores.stored(PeerNo(1), &topic, Kind::First);
-    Ok(Some((stored, scores.counter(PeerNo(1), &topic, Kind::First))))
-}
-
-#[test]
-fn a_counter_decays_when_it_is_read_and_is_kept_as_it_was(
-    rt: HostRuntime,
-) -> Result<(), AllocError> {
-    for case in &KEPT {
-        assert_eq!(rt; kept(rt.alloc(), case)?, Some((case.stored, case.count)));
     }
     Ok(())
 }
