@@ -1,5 +1,5 @@
 -- Who is joined in a plan, the words for what a peer is told to do, and what is known of every plan that was read.
-use Rattle.std.specs.Prelude.{◌≡◌, ◌≤◌, ◌<◌, ◌≤ℤ◌, ◌%◌, ◌^◌, ◌&&◌, ◌||◌, ◌==◌, ℕ, nat_eq, ℤ, pos, neg_ℤ, Bool, true, false, codes, List, length, All, AllPairs, Ok}
+use Rattle.std.specs.Prelude.{◌≡◌, ◌≤◌, ◌<◌, ◌≤ℤ◌, ◌%◌, ◌^◌, ◌&&◌, ◌||◌, ◌==◌, ℕ, nat_eq, ℤ, pos, neg_ℤ, Bool, true, false, codes, List, length, All, AllPairs, Ok, Option, Some, None, IfSome}
 use Rattle.std.specs.List.{list_any}
 use Rattle.std.specs.Cmp.Lexicographic.{pointwise}
 use Rattle.gs_base.specs.Names.{same_peer, same_topic}
@@ -13,7 +13,7 @@ use Rattle.gs_plan.specs.declared.plan.Line.{Line}
 use Rattle.gs_plan.specs.declared.plan.Plan.{Plan}
 use Rattle.gs_plan.specs.declared.plan.PlannedPeer.{PlannedPeer}
 use Rattle.gs_plan.specs.declared.plan.What.{What}
-use Rattle.gs_plan.specs.declared.plan.What.TheVariants.{Subscribe, Unsubscribe, Publish}
+use Rattle.gs_plan.specs.declared.plan.What.TheVariants.{Subscribe, Unsubscribe, Publish, Raw, HangUp}
 
 -- ---- numbers
 
@@ -38,6 +38,10 @@ most_workers = 16
 -- the most items that a link holds
 abbrev pub highest_capacity : ℕ
 highest_capacity = 1_024
+
+-- the most bytes that a line puts on a link as they are
+abbrev pub longest_raw : ℕ
+longest_raw = 2_097_152
 
 -- in millionths: the lowest score is as far below 0
 abbrev pub highest_app_score : ℤ
@@ -71,11 +75,29 @@ are_of_the_same x y = (x.peer.0 == y.peer.0) && (x.about.0 == y.about.0)
 abbrev pub IsAppScore : ℤ → Type 0
 IsAppScore z = (neg_ℤ highest_app_score ≤ℤ z) × (z ≤ℤ highest_app_score)
 
--- the topic that something is done on
-abbrev pub topic_of : What → Topic
-topic_of (Subscribe topic) = topic
-topic_of (Unsubscribe topic) = topic
-topic_of (Publish topic payload) = topic
+-- the topic that something is done on, if it is on one
+abbrev pub topic_of : What → Option Topic
+topic_of (Subscribe topic) = Some topic
+topic_of (Unsubscribe topic) = Some topic
+topic_of (Publish topic payload) = Some topic
+topic_of (Raw to bytes) = None
+topic_of (HangUp to) = None
+
+-- the neighbour to whose link something is done, if it is done to a link
+abbrev pub neighbour_of : What → Option PeerNo
+neighbour_of (Subscribe topic) = None
+neighbour_of (Unsubscribe topic) = None
+neighbour_of (Publish topic payload) = None
+neighbour_of (Raw to bytes) = Some to
+neighbour_of (HangUp to) = Some to
+
+-- the bytes that are put on a link as they are, if any are
+abbrev pub raw_of : What → Option (List ℕ)
+raw_of (Subscribe topic) = None
+raw_of (Unsubscribe topic) = None
+raw_of (Publish topic payload) = None
+raw_of (Raw to bytes) = Some bytes
+raw_of (HangUp to) = None
 
 abbrev pub have_one_name : PlannedPeer → PlannedPeer → Bool
 have_one_name x y = pointwise nat_eq x.name y.name
@@ -91,6 +113,8 @@ abbrev pub what_word : What → List ℕ
 what_word (Subscribe topic) = codes "subscribe"
 what_word (Unsubscribe topic) = codes "unsubscribe"
 what_word (Publish topic payload) = codes "publish"
+what_word (Raw to bytes) = codes "raw"
+what_word (HangUp to) = codes "hang_up"
 
 -- ---- plans
 
@@ -127,7 +151,9 @@ pub record IsInRange (plan : Plan) : Type 0 where
   pub apps_about : All (λ (app : App). are_joined plan.dials app.peer app.about ≡ true) plan.apps
   pub app_values : All (λ (app : App). IsAppScore app.value) plan.apps
   pub apps_differ : AllPairs (λ x y. are_of_the_same y x ≡ false) plan.apps
-  -- a line of the script is of a peer of the plan, in one of its rounds, on one of its topics
+  -- a line of the script is of a peer of the plan, in one of its rounds: on one of its topics, or to a neighbour of the peer
   pub lines_of : All (λ (line : Line). IsOneOf plan.peers line.peer) plan.script
   pub lines_at : All (λ (line : Line). line.at ≤ plan.rounds) plan.script
-  pub lines_on : All (λ (line : Line). has_topic plan.params.topics (topic_of line.what) ≡ true) plan.script
+  pub lines_on : All (λ (line : Line). IfSome (topic_of line.what) (λ topic. has_topic plan.params.topics topic ≡ true)) plan.script
+  pub lines_to : All (λ (line : Line). IfSome (neighbour_of line.what) (λ to. are_joined plan.dials line.peer to ≡ true)) plan.script
+  pub lines_raw : All (λ (line : Line). IfSome (raw_of line.what) (λ bytes. length bytes ≤ longest_raw)) plan.script

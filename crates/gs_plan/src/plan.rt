@@ -1,5 +1,5 @@
 ghost use Rattle.std.specs.Prelude.{◌≡◌};
-ghost use Rattle.gs_plan.specs.Plans.{are_joined, highest_app_score, joins, longest_round, most_peers, most_rounds};
+ghost use Rattle.gs_plan.specs.Plans.{are_joined, highest_app_score, joins, longest_raw, longest_round, most_peers, most_rounds};
 
 use bytes::Bytes;
 use gs_base::{ExactClone, PeerNo, Seq, Text, Topic, clone_of};
@@ -14,6 +14,9 @@ pub const MOST_ROUNDS: u64 = 100_000;
 
 /// How many peers there are at most.
 pub const MOST_PEERS: usize = 64;
+
+/// How many bytes a line of the script puts on a link as they are, at most.
+pub const LONGEST_RAW: usize = 2_097_152;
 
 /// The highest score that an application gives, in millionths. The lowest is as far below 0.
 pub const HIGHEST_APP_SCORE: i64 = 1_000_000_000;
@@ -106,6 +109,10 @@ pub enum What {
     Unsubscribe(Topic),
     /// Publish a payload on a topic (gossipsub v1.0, "Message Processing").
     Publish(Topic, Bytes),
+    /// Put these bytes on the link to a neighbour as they are, whether they spell an RPC or not: at most 2,097,152.
+    Raw(PeerNo, Bytes),
+    /// Close the link to a neighbour.
+    HangUp(PeerNo),
 }
 
 impl Clone for What {
@@ -119,6 +126,8 @@ impl Clone for What {
                 clone_of(topic)?,
                 clone_of(payload)?,
             )),
+            What::Raw(to, bytes) => Ok(What::Raw(*to, clone_of(bytes)?)),
+            What::HangUp(to) => Ok(What::HangUp(*to)),
         }
     }
 }
@@ -145,5 +154,6 @@ pub fn limits_of_plans()
     ensures round { LONGEST_ROUND ≡ longest_round }
     ensures rounds { MOST_ROUNDS ≡ most_rounds }
     ensures peers { MOST_PEERS ≡ most_peers }
+    ensures raw { LONGEST_RAW ≡ longest_raw }
     ensures score { HIGHEST_APP_SCORE ≡ highest_app_score }
 {}

@@ -13,6 +13,12 @@ pub const UNSUBSCRIBE: &str = "unsubscribe";
 /// The word that tells a peer to publish.
 pub const PUBLISH: &str = "publish";
 
+/// The word that tells a peer to put bytes on a link as they are.
+pub const RAW: &str = "raw";
+
+/// The word that tells a peer to close the link to a neighbour.
+pub const HANG_UP: &str = "hang_up";
+
 /// The word for what a peer is told to do.
 pub fn what_word(what: &What) -> &'static str
     ensures { result.now ≡ what_word what.now }
@@ -21,5 +27,7 @@ pub fn what_word(what: &What) -> &'static str
         What::Subscribe(_) => SUBSCRIBE,
         What::Unsubscribe(_) => UNSUBSCRIBE,
         What::Publish(_, _) => PUBLISH,
+        What::Raw(_, _) => RAW,
+        What::HangUp(_) => HANG_UP,
     }
 }
