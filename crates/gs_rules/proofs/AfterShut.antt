@@ -1,5 +1,5 @@
 -- Nothing changes what scores are made of behind a shut, nor meshes, nor the peer's own topics.
-use Rattle.std.proofs.Common.{◌≡◌, ℕ, Bool, true, false, List, [], ◌∷◌, ◌++◌, filter, length, refl, sym, ap, subst, ◌∙◌}
+use Rattle.std.proofs.Common.{◌≡◌, ℕ, Bool, true, false, List, [], ◌∷◌, ◌++◌, Option, Some, None, filter, length, refl, sym, ap, subst, ◌∙◌}
 use Rattle.std.specs.List.{AllByRecursion}
 use Rattle.std.proofs.lemmas.List.{nil_from_length}
 use Rattle.std.proofs.lemmas.List.Sorted.{length_permutation}
@@ -8,16 +8,16 @@ use Rattle.gs_base.specs.declared.names.Topic.{Topic}
 use Rattle.gs_base.specs.declared.mark.Mark.{Mark}
 use Rattle.gs_score.specs.Histories.{History, named, score_in}
 use Rattle.gs_rules.specs.declared.trace.Event.{Event}
-use Rattle.gs_rules.specs.declared.trace.Event.TheVariants.{Heard, Late, Subscribe, Unsubscribe, Publish, BeatBegin, Decay, RoundEnd, Gone, Fault, Shut}
+use Rattle.gs_rules.specs.declared.trace.Event.TheVariants.{Heard, Late, Subscribe, Unsubscribe, Publish, BeatBegin, Decay, Raw, RoundEnd, Shut}
 use Rattle.gs_rules.specs.declared.trace.Entry.{Entry}
 use Rattle.gs_rules.specs.Peers.{Peer}
-use Rattle.gs_rules.specs.Tables.{Entries, after_marks, ascending, is_shut, is_shut_after, joined, joined_after, known, known_after, own_topics, up, up_after}
+use Rattle.gs_rules.specs.Tables.{Entries, after_marks, ascending, is_shut, is_shut_after, joined, joined_after, known, known_after, lost, own_topics, up, up_after}
 use Rattle.gs_rules.specs.Meshes.{mesh, mesh_after}
 use Rattle.gs_rules.specs.Scoring.{changed_after, history, marked_after, score, setting_of}
 use Rattle.gs_rules.specs.Owed.{Debt, nothing, owed, owes, owing, paid}
 use Rattle.gs_rules.specs.Rules.{bare, rule_of}
 use Rattle.gs_rules.specs.Modes.{SaysTheSame, Follows, free}
-use Rattle.gs_rules.specs.Legal.{IsNext, Legal, MayOpen}
+use Rattle.gs_rules.specs.Legal.{IsNext, Legal, MayLose, MayOpen}
 use Rattle.gs_rules.proofs.Owed.{IsOwed, no_event_is_nothing, owed_are_such}
 use Rattle.gs_rules.proofs.Legality.{legal_newest}
 
@@ -36,11 +36,15 @@ never : (b : Bool) → b ≡ true → b ≡ false → ⊥
 never true h k = absurd cc
 never false h k = absurd cc
 
+-- once all are down, none is lost
+none_to_lose : (L : Entries) (who : Option PeerNo) → ((q : PeerNo) → up L q ≡ false) → MayLose L who → ⊥
+none_to_lose L None down may = may
+none_to_lose L (Some q) down may = never (up L q) may (down q)
+
 late_alone : (p : Peer) (L : Entries) (at : ℕ) (event : Event) → is_shut L ≡ true → ((q : PeerNo) → up L q ≡ false) → MayOpen p L at event → IsLate event
 late_alone p L at (Late q rpc) shut down may = tt
 late_alone p L at (Heard q rpc) shut down may = absurd (never (up L q) may.is_up (down q))
-late_alone p L at (Gone q) shut down may = absurd (never (up L q) may (down q))
-late_alone p L at (Fault q) shut down may = absurd (never (up L q) may (down q))
+late_alone p L at (Raw q bytes) shut down may = absurd (never (up L q) may (down q))
 late_alone p L at (Subscribe t) shut down may = absurd (never (is_shut L) shut may.running)
 late_alone p L at (Unsubscribe t) shut down may = absurd (never (is_shut L) shut may.running)
 late_alone p L at (Publish t payload) shut down may = absurd (never (is_shut L) shut may.running)
@@ -48,7 +52,7 @@ late_alone p L at BeatBegin shut down may = absurd (never (is_shut L) shut may)
 late_alone p L at Decay shut down may = absurd (never (is_shut L) shut may)
 late_alone p L at (RoundEnd r) shut down may = absurd (never (is_shut L) shut may)
 late_alone p L at Shut shut down may = absurd (never (is_shut L) shut may)
-late_alone p L at other shut down may = absurd may
+late_alone p L at other shut down may = absurd (none_to_lose L (lost other) down may)
 
 next_is_late : (p : Peer) (L : Entries) (at : ℕ) (event : Event) → IsOver p L → IsNext p L at (owed p L).events event → IsLate event
 next_is_late p L at event over next = late_alone p L at event over.shut over.down (subst (λ (debt : Debt). IsNext p L at debt.events event) over.settled next)

@@ -1,5 +1,5 @@
 -- Each mark of a legal trace counts in the history that scores are made of.
-use Rattle.std.proofs.Common.{◌≡◌, ◌⊎◌, inl, inr, ◌≤◌, ◌<◌, ℕ, suc, Bool, true, false, ◌||◌, if◌then◌else◌, List, [], ◌∷◌, ◌++◌, length, map, reverse, refl, sym, ap, subst, ◌∙◌, append_assoc, arith}
+use Rattle.std.proofs.Common.{◌≡◌, ◌⊎◌, inl, inr, ◌≤◌, ◌<◌, ℕ, suc, Bool, true, false, ◌||◌, if◌then◌else◌, List, [], ◌∷◌, ◌++◌, length, map, reverse, Option, Some, None, refl, sym, ap, subst, ◌∙◌, append_assoc, arith}
 use Rattle.std.specs.Prelude.{nat_eq, nat_lt}
 use Rattle.std.specs.List.{AllByRecursion, list_any}
 use Rattle.std.proofs.lemmas.Bool.{and_parts, lt-ltb}
@@ -18,12 +18,12 @@ use Rattle.gs_score.specs.Standings.{Held}
 use Rattle.gs_score.proofs.Fitting.{apart_more, no_longer}
 use Rattle.gs_score.proofs.Naming.{named_apart, named_by_changes, named_covers}
 use Rattle.gs_rules.specs.declared.trace.Event.{Event}
-use Rattle.gs_rules.specs.declared.trace.Event.TheVariants.{Msg, GraftIn, Subscribe, MeshBeat, Decay, Gone, Fault}
+use Rattle.gs_rules.specs.declared.trace.Event.TheVariants.{Msg, GraftIn, Subscribe, MeshBeat, Decay}
 use Rattle.gs_rules.specs.declared.trace.Entry.{Entry}
 use Rattle.gs_rules.specs.Peers.{Peer}
-use Rattle.gs_rules.specs.Tables.{Entries, after_marks, joined, known, known_after}
+use Rattle.gs_rules.specs.Tables.{Entries, after_marks, joined, known, known_after, lost}
 use Rattle.gs_rules.specs.Membership.{missing}
-use Rattle.gs_rules.specs.Scoring.{IsFromNeighbour, change_of, changed_after, has_counters, history, is_counted, is_neighbour, marked_after}
+use Rattle.gs_rules.specs.Scoring.{IsFromNeighbour, change_of, changed_after, has_counters, history, is_counted, is_neighbour, marked_after, shut_out}
 use Rattle.gs_rules.specs.Owed.{owed}
 use Rattle.gs_rules.specs.Legal.{IsNext, Legal}
 use Rattle.gs_rules.proofs.Each.{each_weaker}
@@ -133,11 +133,13 @@ module _ (p : Peer) (q : PeerNo) (far : is_neighbour p q ≡ false) where
   marks_unnamed at [] H none = none
   marks_unnamed at (mark ∷ marks) H none = marks_unnamed at marks (marked_after p at mark H) (mark_unnamed at mark H none)
 
+  out_unnamed : (who : Option PeerNo) (H : History) → named H q ≡ [] → named (shut_out who H) q ≡ []
+  out_unnamed None H none = none
+  out_unnamed (Some r) H none = none
+
   event_unnamed : (event : Event) (H : History) → named H q ≡ [] → named (changed_after event H) q ≡ []
   event_unnamed Decay H none = none
-  event_unnamed (Gone r) H none = none
-  event_unnamed (Fault r) H none = none
-  event_unnamed other H none = none
+  event_unnamed other H none = out_unnamed (lost other) H none
 
   unnamed : (L : Entries) → named (history p L) q ≡ []
   unnamed [] = refl
@@ -209,11 +211,13 @@ mark_names ts q at (Invalid r t) is = one_named ts t (same_peer r q) is
 mark_names ts q at (Grafted r t) is = one_named ts t (same_peer r q) is
 mark_names ts q at other is = tt
 
+out_names : (ts : List Topic) (who : Option PeerNo) (H : History) → NamesOf ts H → NamesOf ts (shut_out who H)
+out_names ts None H names = names
+out_names ts (Some r) H names = λ q. (tt, names q)
+
 changed_names : (ts : List Topic) (event : Event) (H : History) → NamesOf ts H → NamesOf ts (changed_after event H)
 changed_names ts Decay H names = λ q. (tt, names q)
-changed_names ts (Gone r) H names = λ q. (tt, names q)
-changed_names ts (Fault r) H names = λ q. (tt, names q)
-changed_names ts other H names = names
+changed_names ts other H names = out_names ts (lost other) H names
 
 marks_name : (p : Peer) (ts : List Topic) (at : Millis) (marks : List Mark) (H : History) → AllByRecursion (IsOn ts) marks → NamesOf ts H → NamesOf ts (after_marks (marked_after p at) marks H)
 marks_name p ts at [] H all names = names

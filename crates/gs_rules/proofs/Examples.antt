@@ -16,13 +16,15 @@ use Rattle.gs_score.specs.Millionths.{times}
 use Rattle.gs_wire.specs.declared.frames.End.TheVariants as ends
 use Rattle.gs_wire.specs.Codec.{codec}
 use Rattle.gs_rules.specs.declared.trace.Event.{Event}
-use Rattle.gs_rules.specs.declared.trace.Event.TheVariants.{Sub, Msg, Have, Want, Publish, RoundEnd, Gone, Shut}
+use Rattle.gs_rules.specs.declared.trace.Event.TheVariants.{Sub, Msg, Have, Want, Publish, RoundEnd, Gone, HangUp, Raw, Shut}
 use Rattle.gs_rules.specs.declared.trace.Entry.{Entry}
 use Rattle.gs_rules.specs.Peers.{Peer}
 use Rattle.gs_rules.specs.Tables.{answered, kept, up}
 use Rattle.gs_base.specs.Rpcs.{unsigned}
 use Rattle.gs_rules.specs.Scoring.{score}
 use Rattle.gs_rules.specs.Owed.{parts}
+use Rattle.gs_rules.specs.declared.refusal.Refusal.TheVariants.{NotOpen, Stopped}
+use Rattle.gs_rules.specs.Refusals.{reasons, refusal}
 use Rattle.gs_rules.specs.Rules.{Gives, answers, bare, each_once, have_rule, ids_in, room_to_ask}
 use Rattle.gs_rules.specs.Saying.{Byte, EndOf, Close, out}
 use Rattle.gs_rules.specs.Hearing.{Inbound, after, bytes_before, said_in, silence}
@@ -75,6 +77,16 @@ nothing_follows_the_close = refl
 -- another is told on
 another_is_told_on : out codec (entry (RoundEnd 1) ∷ entry (Gone q) ∷ entry (RoundEnd 0) ∷ []) (record { 0 = 2 }) ≡ EndOf 0 ∷ EndOf 1 ∷ []
 another_is_told_on = refl
+
+nothing_follows_a_hang_up : out codec (entry (RoundEnd 1) ∷ entry (HangUp q) ∷ entry (RoundEnd 0) ∷ []) q ≡ EndOf 0 ∷ Close ∷ []
+nothing_follows_a_hang_up = refl
+
+-- bytes go as they are, behind what was said before; no bytes say nothing
+raw_bytes_go_as_they_are : out codec (entry (RoundEnd 1) ∷ entry (Raw q []) ∷ entry (Raw q (5 ∷ 10 ∷ [])) ∷ entry (RoundEnd 0) ∷ []) q ≡ EndOf 0 ∷ Byte 5 ∷ Byte 10 ∷ EndOf 1 ∷ []
+raw_bytes_go_as_they_are = refl
+
+nobody_else_is_told_them : out codec (entry (Raw q (5 ∷ 10 ∷ [])) ∷ []) (record { 0 = 2 }) ≡ []
+nobody_else_is_told_them = refl
 
 nobody_is_up_behind_the_shut : up (entry Shut ∷ []) q ≡ false
 nobody_is_up_behind_the_shut = refl
@@ -199,3 +211,17 @@ what_is_kept_anew_is_counted_anew = refl
 
 and_on_from_there : answered (given (Want q request) ∷ keeping ∷ given (Want q request) ∷ keeping ∷ []) q (id 1) ≡ 1
 and_on_from_there = refl
+
+-- ---- what is refused where a neighbour is not up
+
+a_neighbour_that_is_up_may_be_hung_up_on : reasons peer [] 0 (HangUp q) ≡ (false, Stopped) ∷ (false, NotOpen) ∷ []
+a_neighbour_that_is_up_may_be_hung_up_on = refl
+
+nobody_is_hung_up_on_twice : refusal peer (entry (HangUp q) ∷ []) 0 (HangUp q) ≡ Some NotOpen
+nobody_is_hung_up_on_twice = refl
+
+nothing_is_put_on_a_closed_link : refusal peer (entry (Gone q) ∷ []) 0 (Raw q (5 ∷ [])) ≡ Some NotOpen
+nothing_is_put_on_a_closed_link = refl
+
+who_has_shut_down_is_told_that_first : refusal peer (entry Shut ∷ []) 0 (Raw q (5 ∷ [])) ≡ Some Stopped
+who_has_shut_down_is_told_that_first = refl

@@ -11,7 +11,7 @@ use Rattle.gs_base.specs.Names.{same_peer}
 use Rattle.gs_params.specs.Picks.{IsAscending}
 use Rattle.gs_plan.specs.declared.plan.Line.{Line}
 use Rattle.gs_plan.specs.declared.plan.What.{What}
-use Rattle.gs_plan.specs.declared.plan.What.TheVariants.{Subscribe, Unsubscribe, Publish}
+use Rattle.gs_plan.specs.declared.plan.What.TheVariants.{Subscribe, Unsubscribe, Publish, Raw, HangUp}
 use Rattle.gs_params.proofs.Picking.{distinct_from_ascending}
 use Rattle.gs_wire.specs.declared.frames.End.TheVariants.{Waits}
 use Rattle.gs_wire.specs.Messages.{longest_body}
@@ -118,6 +118,8 @@ line_handles q what (Some why) = refl
 line_handles q (Subscribe t) None = refl
 line_handles q (Unsubscribe t) None = refl
 line_handles q (Publish t payload) None = refl
+line_handles q (Raw r bytes) None = refl
+line_handles q (HangUp r) None = refl
 
 opening_handles : (p : Peer) (q : PeerNo) (K : Entries) (at : Millis) (todo : Todo) → handled_if q (opening p K at todo) ≡ rpc_of q todo
 opening_handles p q K at (Hear r rpc) = either_way q r rpc (up K r)

@@ -14,6 +14,7 @@ pub mod Charged
 pub mod Gossiped
 pub mod Deliveries
 pub mod Handled
+pub mod Scripts
 pub mod Kept
 pub mod Fitting
 pub mod Spelled
@@ -22,6 +23,7 @@ pub mod UpMembers
 pub mod CameIn
 pub mod MeshMoves
 pub mod AfterShut
+pub mod Lost
 pub mod Examples
 pub mod GossipExamples
 pub mod ScoreExamples

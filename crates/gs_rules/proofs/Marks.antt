@@ -1,5 +1,5 @@
 -- Which marks an entry that follows its rule may have.
-use Rattle.std.proofs.Common.{◌≡◌, ◌⊎◌, inl, inr, ℕ, Bool, true, false, if◌then◌else◌, List, [], ◌∷◌, ◌++◌, map, pos, None, refl, ap}
+use Rattle.std.proofs.Common.{◌≡◌, ◌⊎◌, inl, inr, ℕ, Bool, true, false, if◌then◌else◌, List, [], ◌∷◌, ◌++◌, map, pos, Option, Some, None, refl, ap}
 use Rattle.std.specs.Prelude.{◌&&◌, filter, nat_eq, nat_le, not}
 use Rattle.std.specs.List.{AllByRecursion, flat_map, list_any}
 use Rattle.std.specs.Set.{is_member}
@@ -29,17 +29,17 @@ use Rattle.gs_mesh.specs.Peers.{is_among}
 use Rattle.gs_wire.proofs.RoundTrip.{all-append}
 use Rattle.gs_rules.specs.declared.trace.Promise.{Promise}
 use Rattle.gs_rules.specs.declared.trace.Event.{Event}
-use Rattle.gs_rules.specs.declared.trace.Event.TheVariants.{BeatBegin, FanBeat, FanEnd, Fault, Gone, GossipBeat, GraftIn, Have, MeshBeat, Msg, PruneIn, Publish, Sub, Subscribe, Unsubscribe, Want}
+use Rattle.gs_rules.specs.declared.trace.Event.TheVariants.{BeatBegin, FanBeat, FanEnd, GossipBeat, GraftIn, Have, MeshBeat, Msg, PruneIn, Publish, Sub, Subscribe, Unsubscribe, Want}
 use Rattle.gs_rules.specs.declared.trace.Entry.{Entry}
 use Rattle.gs_rules.specs.Peers.{Peer, links_of, seen_ttl}
-use Rattle.gs_rules.specs.Tables.{Entries, joined, joined_after, on, seen, up}
+use Rattle.gs_rules.specs.Tables.{Entries, joined, joined_after, lost, on, seen, up}
 use Rattle.gs_rules.specs.Meshes.{backoff, fanout, mesh, mesh_topics}
 use Rattle.gs_rules.specs.Membership.{barring, candidates, deficit_marks, each_on, entering, fanning, is_candidate, is_negative, leaving, meshes_with, missing, unfanning}
 use Rattle.gs_rules.specs.MeshRules.{asked_backoff, fanned_of, graft_rule, joining, prune_rule, publish_rule, publishing, sub_rule, subscribe_rule, those_among, those_outside, unsubscribe_rule}
 use Rattle.gs_rules.specs.BeatRules.{fan_end, mending, receivers, refanning, scored_member, scored_members}
 use Rattle.gs_rules.specs.Scoring.{is_neighbour}
 use Rattle.gs_rules.specs.Gossip.{charges, overdue}
-use Rattle.gs_rules.specs.Rules.{answers, asking, bare, counted, have_rule, ids_in, rule_of, want_rule, wanted}
+use Rattle.gs_rules.specs.Rules.{answers, asking, bare, counted, have_rule, ids_in, lost_or_bare, rule_of, want_rule, wanted}
 use Rattle.gs_rules.specs.Outcomes.{found_to_be, message_entry, message_rule, near_of}
 use Rattle.gs_rules.specs.Modes.{SaysTheSame, Follows, free}
 use Rattle.gs_rules.proofs.Each.{each_mapped, each_passing, each_weaker, of_each}
@@ -340,6 +340,11 @@ module _ (p : Peer) (L : Entries) where
       all-append (MayMark p L at.0 (FanBeat t)) (unfanning t out) (fanning t chosen)
       (unfanning_marks p L at.0 (FanBeat t) t out) (fanning_marks p L at.0 (FanBeat t) t chosen)
 
+  -- whoever is lost leaves; another event without a rule of its own has no mark
+  other_marks : (event : Event) (who : Option PeerNo) (e : Entry) → SaysTheSame e (lost_or_bare p L e.at event who) → AllByRecursion (MayMark p L e.at.0 event) e.marks
+  other_marks event None e same = same_marks _ e _ same tt
+  other_marks event (Some q) e same = same_marks _ e _ same (lost_marks p L e.at.0 event q)
+
   pub entry_marks : (event : Event) (e : Entry) → Follows free (rule_of p L e.at event) tt e tt → AllByRecursion (MayMark p L e.at.0 event) e.marks
   entry_marks (Msg q m) e effects = same_marks _ e _ effects.0 (message_marks e.at q m)
   entry_marks (Have q offer) e effects = offer_marks q offer e effects
@@ -349,8 +354,6 @@ module _ (p : Peer) (L : Entries) where
   entry_marks (Sub q sub) e effects = same_marks _ e _ effects.0 (sub_marks e.at q sub)
   entry_marks (GraftIn q graft) e effects = same_marks _ e _ effects.0 (graft_marks e.at q graft)
   entry_marks (PruneIn q prune) e effects = same_marks _ e _ effects.0 (prune_marks e.at q prune)
-  entry_marks (Gone q) e effects = same_marks _ e _ effects.0 (lost_marks p L e.at.0 (Gone q) q)
-  entry_marks (Fault q) e effects = same_marks _ e _ effects.0 (lost_marks p L e.at.0 (Fault q) q)
   entry_marks (Subscribe t) e effects = subscribe_marks t e effects
   entry_marks (Unsubscribe t) e effects = same_marks _ e _ effects.0 (unsubscribe_marks e.at t)
   entry_marks (Publish t payload) e effects = publish_marks t payload e effects
@@ -359,4 +362,4 @@ module _ (p : Peer) (L : Entries) where
   entry_marks (FanBeat t) e effects = same_marks _ e (refanning p L e.at t effects.0) effects.3.0 (refanning_marks e.at t effects.0)
   entry_marks (FanEnd t) e effects = same_marks _ e (fan_end L e.at t) effects.0 (unfanning_marks p L e.at.0 (FanEnd t) t (fanout L t))
   entry_marks (GossipBeat t) e effects = same_marks _ e _ effects.3.0 tt
-  entry_marks other e effects = same_marks _ e _ effects.0 tt
+  entry_marks other e effects = other_marks other (lost other) e effects.0

@@ -18,7 +18,7 @@ use Rattle.gs_score.specs.Formula.{score_of, topic_part}
 use Rattle.gs_score.specs.Millionths.{times}
 use Rattle.gs_base.specs.Rpcs.{passed_on}
 use Rattle.gs_rules.specs.declared.trace.Event.{Event}
-use Rattle.gs_rules.specs.declared.trace.Event.TheVariants.{Heard, Sub, Msg, Have, Want, Subscribe, BeatBegin, Decay, Gone, Fault, Shut}
+use Rattle.gs_rules.specs.declared.trace.Event.TheVariants.{Heard, Sub, Msg, Have, Want, Subscribe, BeatBegin, Decay, Gone, Fault, HangUp, Shut}
 use Rattle.gs_rules.specs.declared.trace.Entry.{Entry}
 use Rattle.gs_rules.specs.Peers.{Peer}
 use Rattle.gs_rules.specs.Tables.{Entries, blank}
@@ -185,6 +185,10 @@ who_is_elsewhere_pays_nothing = refl
 who_is_gone_counts_no_more : score together (entry (Gone other) ∷ []) 0 q ≡ pos 0
 unfolding score score_of topic_part times
 who_is_gone_counts_no_more = refl
+
+who_was_hung_up_on_counts_no_more : score together (entry (HangUp other) ∷ []) 0 q ≡ pos 0
+unfolding score score_of topic_part times
+who_was_hung_up_on_counts_no_more = refl
 
 who_is_at_fault_counts_no_more : score together (entry (Fault other) ∷ []) 0 q ≡ pos 0
 unfolding score score_of topic_part times

@@ -1,4 +1,5 @@
--- What a legal trace says to a neighbour are the frames of what it sends there; and nothing follows a close.
+-- What a legal trace says to a neighbour are the frames of what it sends there, where it puts no other bytes on the link;
+-- and nothing follows a close.
 use Rattle.std.proofs.Common.{◌≡◌, ℕ, Bool, true, false, if◌then◌else◌, List, [], ◌∷◌, ◌++◌, length, map, refl, sym, ap, ap₂, subst, ◌∙◌, append_assoc, append-nil, arith, ◌⊎◌, inl, inr, true≢false, ◌≤◌}
 use Rattle.std.specs.List.{flat_map, AllByRecursion}
 use Rattle.std.proofs.lemmas.Bool.Decides.{nat_tests}
@@ -13,13 +14,13 @@ use Rattle.gs_wire.specs.Codec.{codec}
 use Rattle.gs_wire.specs.Stream.{IsStream}
 use Rattle.gs_wire.proofs.FrameLists.{frame_read}
 use Rattle.gs_rules.specs.declared.trace.Event.{Event}
-use Rattle.gs_rules.specs.declared.trace.Event.TheVariants.{RoundEnd, Gone, Fault, Shut}
+use Rattle.gs_rules.specs.declared.trace.Event.TheVariants.{RoundEnd, Shut}
 use Rattle.gs_rules.specs.declared.trace.Entry.{Entry}
 use Rattle.gs_rules.specs.Peers.{Peer}
-use Rattle.gs_rules.specs.Tables.{Entries, up_after, up}
+use Rattle.gs_rules.specs.Tables.{Entries, cuts_off, is_lost, lost, up_after, up}
 use Rattle.gs_rules.specs.Modes.{sent_to}
 use Rattle.gs_rules.specs.Legal.{Legal}
-use Rattle.gs_rules.specs.Saying.{Byte, EndOf, Close, Said, bytes_of, sign, says, out, sent}
+use Rattle.gs_rules.specs.Saying.{Byte, EndOf, Close, Said, SaysFramesAlone, bytes_of, raw_to, sign, says, out, sent}
 use Rattle.gs_rules.specs.Hearing.{Spell, closes}
 use Rattle.gs_rules.proofs.Fitting.{IsWritten, SendsWritten, AllWritten, legal_written}
 
@@ -35,32 +36,35 @@ pub bytes_of_bytes : (bytes : List ℕ) → bytes_of (map Byte bytes) ≡ bytes
 bytes_of_bytes [] = refl
 bytes_of_bytes (b ∷ bytes) = ap (λ (bs : List ℕ). b ∷ bs) (bytes_of_bytes bytes)
 
-lost_silent : (lost : Bool) → bytes_of (if lost then Close ∷ [] else []) ≡ []
+lost_silent : (is : Bool) → bytes_of (if is then Close ∷ [] else []) ≡ []
 lost_silent true = refl
 lost_silent false = refl
 
 sign_silent : (q : PeerNo) (event : Event) → bytes_of (sign q event) ≡ []
 sign_silent q (RoundEnd r) = refl
-sign_silent q (Gone p) = lost_silent (same_peer p q)
-sign_silent q (Fault p) = lost_silent (same_peer p q)
 sign_silent q Shut = refl
-sign_silent q other = refl
+sign_silent q other = lost_silent (is_lost q (lost other))
 
-says_bytes : (codec : Codec) (q : PeerNo) (e : Entry) → bytes_of (says codec q e) ≡ flat_map codec.frame (sent_to q e.sends)
-says_bytes codec q e =
-    let mine : List ℕ = flat_map codec.frame (sent_to q e.sends) in
-    bytes_of_append (map Byte mine) (sign q e.event) ∙ ap₂ (λ (xs ys : List ℕ). xs ++ ys) (bytes_of_bytes mine) (sign_silent q e.event) ∙ append-nil mine
+says_bytes : (codec : Codec) (q : PeerNo) (e : Entry) → raw_to q e.event ≡ [] → bytes_of (says codec q e) ≡ flat_map codec.frame (sent_to q e.sends)
+says_bytes codec q e none =
+    let frames : List ℕ = flat_map codec.frame (sent_to q e.sends) in
+    let mine : List ℕ = frames ++ raw_to q e.event in
+    bytes_of_append (map Byte mine) (sign q e.event)
+    ∙ ap₂ (λ (xs ys : List ℕ). xs ++ ys) (bytes_of_bytes mine) (sign_silent q e.event)
+    ∙ append-nil mine
+    ∙ ap (λ (xs : List ℕ). frames ++ xs) none
+    ∙ append-nil frames
 
--- the bytes that are said are the frames of what is sent
-pub out_is_sent : (codec : Codec) (L : Entries) (q : PeerNo) → bytes_of (out codec L q) ≡ flat_map codec.frame (sent L q)
-out_is_sent codec [] q = refl
-out_is_sent codec (e ∷ L) q = by (up L q) (out_is_sent codec L q)
+-- the bytes that are said are the frames of what is sent, where no others are put on the link
+pub out_is_sent : (codec : Codec) (L : Entries) (q : PeerNo) → SaysFramesAlone q L → bytes_of (out codec L q) ≡ flat_map codec.frame (sent L q)
+out_is_sent codec [] q alone = refl
+out_is_sent codec (e ∷ L) q alone = by (up L q) (out_is_sent codec L q alone.1)
   where
     by : (is_up : Bool) → bytes_of (out codec L q) ≡ flat_map codec.frame (sent L q) → bytes_of (if is_up then out codec L q ++ says codec q e else out codec L q) ≡ flat_map codec.frame (if is_up then sent L q ++ sent_to q e.sends else sent L q)
     by false before = before
     by true before =
         bytes_of_append (out codec L q) (says codec q e)
-        ∙ ap₂ (λ (xs ys : List ℕ). xs ++ ys) before (says_bytes codec q e)
+        ∙ ap₂ (λ (xs ys : List ℕ). xs ++ ys) before (says_bytes codec q e alone.0)
         ∙ sym (flat_map-append codec.frame (sent L q) (sent_to q e.sends))
 
 -- ---- frames
@@ -99,11 +103,11 @@ sent_written (e ∷ L) q all = by (up L q) (sent_written L q all.1)
     by false before = before
     by true before = written_both (sent L q) (sent_to q e.sends) before (received_written q e.sends all.0)
 
-pub sent_stream : (L : Entries) (q : PeerNo) → AllWritten L → IsStream longest_body (bytes_of (out codec L q)) (sent L q) [] Waits
-sent_stream L q all = subst (λ (bytes : List ℕ). IsStream longest_body bytes (sent L q) [] Waits) (sym (out_is_sent codec L q)) (frames_spell (sent L q) (sent_written L q all))
+pub sent_stream : (L : Entries) (q : PeerNo) → AllWritten L → SaysFramesAlone q L → IsStream longest_body (bytes_of (out codec L q)) (sent L q) [] Waits
+sent_stream L q all alone = subst (λ (bytes : List ℕ). IsStream longest_body bytes (sent L q) [] Waits) (sym (out_is_sent codec L q alone)) (frames_spell (sent L q) (sent_written L q all))
 
-pub sent_is_spelled : (p : Peer) (L : Entries) (q : PeerNo) → Legal p L → Spell (bytes_of (out codec L q)) (sent L q)
-sent_is_spelled p L q legal = ([], Waits, sent_stream L q (legal_written p L legal))
+pub sent_is_spelled : (p : Peer) (L : Entries) (q : PeerNo) → Legal p L → SaysFramesAlone q L → Spell (bytes_of (out codec L q)) (sent L q)
+sent_is_spelled p L q legal alone = ([], Waits, sent_stream L q (legal_written p L legal) alone)
 
 -- ---- a close
 
@@ -151,26 +155,21 @@ record SaysInOrder (codec : Codec) (L : Entries) (q : PeerNo) : Type 0 where
 abbrev ClosesOrNot : PeerNo → Event → Type 0
 ClosesOrNot q event = ((sign q event ≡ Close ∷ []) × (up_after q event true ≡ false)) ⊎ (closes (sign q event) ≡ false)
 
-lost_closes : (lost : Bool) → (((if lost then Close ∷ [] else []) ≡ Close ∷ []) × ((if lost then false else true) ≡ false)) ⊎ (closes (if lost then Close ∷ [] else []) ≡ false)
+lost_closes : (is : Bool) → (((if is then Close ∷ [] else []) ≡ Close ∷ []) × ((if is then false else true) ≡ false)) ⊎ (closes (if is then Close ∷ [] else []) ≡ false)
 lost_closes true = inl (refl, refl)
 lost_closes false = inr refl
 
 closes_or_not : (q : PeerNo) (event : Event) → ClosesOrNot q event
 closes_or_not q (RoundEnd r) = inr refl
-closes_or_not q (Gone p) = lost_closes (same_peer p q)
-closes_or_not q (Fault p) = lost_closes (same_peer p q)
 closes_or_not q Shut = inl (refl, refl)
-closes_or_not q other = inr refl
+closes_or_not q other = lost_closes (is_lost q (lost other))
 
-lost_stays : (lost : Bool) → (if lost then false else false) ≡ false
-lost_stays true = refl
-lost_stays false = refl
+ended_stays : (is : Bool) → (if is then false else false) ≡ false
+ended_stays true = refl
+ended_stays false = refl
 
 down_stays : (q : PeerNo) (event : Event) → up_after q event false ≡ false
-down_stays q (Gone p) = lost_stays (same_peer p q)
-down_stays q (Fault p) = lost_stays (same_peer p q)
-down_stays q Shut = refl
-down_stays q other = refl
+down_stays q event = ended_stays (cuts_off q event)
 
 never : (b : Bool) → b ≡ false → b ≡ true → ⊥
 never true h k = absurd cc
@@ -186,9 +185,10 @@ in_order codec (e ∷ L) q = by (up L q) refl (in_order codec L q)
       ends = subst EndsByClose (sym (ap (λ (b : Bool). if b then out codec L q ++ says codec q e else out codec L q) h)) before.ends;
     }
     by true h before =
-        let mine : Said = map Byte (flat_map codec.frame (sent_to q e.sends)) in
+        let bytes : List ℕ = flat_map codec.frame (sent_to q e.sends) ++ raw_to q e.event in
+        let mine : Said = map Byte bytes in
         let all : out codec (e ∷ L) q ≡ out codec L q ++ (mine ++ sign q e.event) = ap (λ (b : Bool). if b then out codec L q ++ says codec q e else out codec L q) h in
-        let open_before : closes (out codec L q ++ mine) ≡ false = closes_append (out codec L q) mine (before.open_while_up h) ∙ bytes_open (flat_map codec.frame (sent_to q e.sends)) in
+        let open_before : closes (out codec L q ++ mine) ≡ false = closes_append (out codec L q) mine (before.open_while_up h) ∙ bytes_open bytes in
         let parted : out codec (e ∷ L) q ≡ (out codec L q ++ mine) ++ sign q e.event = all ∙ sym (append_assoc (out codec L q) mine (sign q e.event)) in
         elim (closes_or_not q e.event) [
           | inl closed ↦ record {

@@ -19,7 +19,7 @@ use Rattle.gs_base.specs.Names.{same_peer, same_topic}
 use Rattle.gs_params.specs.Picks.{IsAscending}
 use Rattle.gs_mesh.specs.Peers.{is_among, put_in, without}
 use Rattle.gs_rules.specs.declared.trace.Event.{Event}
-use Rattle.gs_rules.specs.declared.trace.Event.TheVariants.{BeatEnd, FanBeat, FanEnd, Fault, Gone, GossipBeat, GraftIn, Have, Heard, MeshBeat, Msg, PruneIn, Shut, Sub, Subscribe, Want}
+use Rattle.gs_rules.specs.declared.trace.Event.TheVariants.{BeatEnd, FanBeat, FanEnd, Fault, Gone, GossipBeat, GraftIn, HangUp, Have, Heard, MeshBeat, Msg, PruneIn, Shut, Sub, Subscribe, Want}
 use Rattle.gs_rules.specs.declared.trace.Entry.{Entry}
 use Rattle.gs_rules.specs.Peers.{Peer}
 use Rattle.gs_rules.specs.Tables.{Entries, after_marks, is_shut, is_shut_after, own_topics, up, up_after}
@@ -120,11 +120,14 @@ module _ (p : Peer) (L : Entries) (t : Topic) (legal : Legal p L) where
           absurd (never (list_any (prunes t r) e.marks) (lost_pruned event e r same member) (subst (λ (s : PeerNo). list_any (prunes t s) e.marks ≡ false) (sym itself) stays.1))
       by q stays false is = of_member (λ s. up L s ≡ true) (mesh L t) q before stays.0
 
+  lost_step : (event : Event) (e : Entry) (r : PeerNo) → ((q : PeerNo) → ¬ (GraftedBy p L event q)) → Follows free (rule_of p L e.at event) tt e tt → SaysTheSame e (lost_rule p L e.at r event) → AllByRecursion (λ q. up L q ≡ true) (mesh L t) → AllByRecursion (λ q. (if same_peer r q then false else up L q) ≡ true) (after_marks (mesh_after t) e.marks (mesh L t))
+  lost_step event e r none effects same before =
+      lost_up event e r same (each_weaker (MayMark p L e.at.0 event) GraftsNone (grafts_none_lost p L e.at.0 event none) e.marks (entry_marks p L event e effects)) before
+
   up_step : (event : Event) (e : Entry) → IsNext p L e.at.0 (owed p L).events event → Follows free (rule_of p L e.at event) tt e tt → is_shut_after event (is_shut L) ≡ false → (is_shut L ≡ false → AllByRecursion (λ q. up L q ≡ true) (mesh L t)) → AllByRecursion (λ q. up_after q event (up L q) ≡ true) (after_marks (mesh_after t) e.marks (mesh L t))
-  up_step (Gone r) e next effects running before =
-      lost_up (Gone r) e r effects.0 (each_weaker (MayMark p L e.at.0 (Gone r)) GraftsNone (grafts_none_lost p L e.at.0 (Gone r) (λ q h. h)) e.marks (entry_marks p L (Gone r) e effects)) (before running)
-  up_step (Fault r) e next effects running before =
-      lost_up (Fault r) e r effects.0 (each_weaker (MayMark p L e.at.0 (Fault r)) GraftsNone (grafts_none_lost p L e.at.0 (Fault r) (λ q h. h)) e.marks (entry_marks p L (Fault r) e effects)) (before running)
+  up_step (Gone r) e next effects running before = lost_step (Gone r) e r (λ q h. h) effects effects.0 (before running)
+  up_step (Fault r) e next effects running before = lost_step (Fault r) e r (λ q h. h) effects effects.0 (before running)
+  up_step (HangUp r) e next effects running before = lost_step (HangUp r) e r (λ q h. h) effects effects.0 (before running)
   up_step Shut e next effects running before = absurd cc
   up_step other e next effects running before =
       members_are (λ q. up L q ≡ true) t e.marks (mesh L t)

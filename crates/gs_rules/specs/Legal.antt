@@ -10,10 +10,10 @@ use Rattle.gs_base.specs.Names.{longest_topic, most_topics, same_topic, message_
 use Rattle.gs_base.specs.Rpcs.{publication}
 use Rattle.gs_wire.specs.Codec.{codec}
 use Rattle.gs_rules.specs.declared.trace.Event.{Event}
-use Rattle.gs_rules.specs.declared.trace.Event.TheVariants.{Heard, Late, Subscribe, Unsubscribe, Publish, BeatBegin, Decay, RoundEnd, Gone, Fault, Shut}
+use Rattle.gs_rules.specs.declared.trace.Event.TheVariants.{Heard, Late, Subscribe, Unsubscribe, Publish, BeatBegin, Decay, Raw, RoundEnd, Shut}
 use Rattle.gs_rules.specs.declared.trace.Entry.{Entry}
 use Rattle.gs_rules.specs.Peers.{Peer, seen_ttl}
-use Rattle.gs_rules.specs.Tables.{Entries, last_moment, is_shut, up, joined, known, seen}
+use Rattle.gs_rules.specs.Tables.{Entries, last_moment, is_shut, lost, up, joined, known, seen}
 use Rattle.gs_rules.specs.Owed.{owed, nothing}
 use Rattle.gs_rules.specs.Rules.{rule_of}
 use Rattle.gs_rules.specs.Modes.{Mode, Follows, free}
@@ -48,12 +48,15 @@ pub record MayPublish (p : Peer) (L : Entries) (at : ℕ) (t : Topic) (payload :
   pub fits : codec.fits (publication t payload) ≡ true
   pub unseen : seen (seen_ttl p) L (message_id payload) at ≡ None
 
--- the event may come at this moment, where nothing is owed: one that is not named here comes only where it is owed
+-- a neighbour is lost while it is up; an event that loses none, and is not named below, comes only where it is owed
+abbrev pub MayLose : Entries → Option PeerNo → Type 0
+MayLose L None = ⊥
+MayLose L (Some q) = up L q ≡ true
+
+-- the event may come at this moment, where nothing is owed
 abbrev pub MayOpen : Peer → Entries → ℕ → Event → Type 0
 MayOpen p L at (Heard q rpc) = MayHear L q rpc
 MayOpen p L at (Late q rpc) = up L q ≡ false
-MayOpen p L at (Gone q) = up L q ≡ true
-MayOpen p L at (Fault q) = up L q ≡ true
 MayOpen p L at (Subscribe t) = MaySubscribe L t
 MayOpen p L at (Unsubscribe t) = MayUnsubscribe L t
 MayOpen p L at (Publish t payload) = MayPublish p L at t payload
@@ -61,7 +64,8 @@ MayOpen p L at BeatBegin = is_shut L ≡ false
 MayOpen p L at Decay = is_shut L ≡ false
 MayOpen p L at (RoundEnd r) = is_shut L ≡ false
 MayOpen p L at Shut = is_shut L ≡ false
-MayOpen p L at other = ⊥
+MayOpen p L at (Raw q bytes) = up L q ≡ true
+MayOpen p L at other = MayLose L (lost other)
 
 -- ---- legal traces
 

@@ -5,11 +5,11 @@ use Rattle.gs_base.specs.Names.{longest_topic, message_id}
 use Rattle.gs_base.specs.Rpcs.{publication}
 use Rattle.gs_wire.specs.Codec.{codec}
 use Rattle.gs_rules.specs.declared.trace.Event.{Event}
-use Rattle.gs_rules.specs.declared.trace.Event.TheVariants.{Subscribe, Unsubscribe, Publish, BeatBegin, Decay, RoundEnd, Shut}
+use Rattle.gs_rules.specs.declared.trace.Event.TheVariants.{Subscribe, Unsubscribe, Publish, BeatBegin, Decay, HangUp, Raw, RoundEnd, Shut}
 use Rattle.gs_rules.specs.declared.refusal.Refusal.{Refusal}
-use Rattle.gs_rules.specs.declared.refusal.Refusal.TheVariants.{AlreadySeen, TooLong, Joined, NotJoined, Stopped, TooMany}
+use Rattle.gs_rules.specs.declared.refusal.Refusal.TheVariants.{AlreadySeen, TooLong, Joined, NotJoined, Stopped, NotOpen, TooMany}
 use Rattle.gs_rules.specs.Peers.{Peer, seen_ttl}
-use Rattle.gs_rules.specs.Tables.{Entries, is_shut, joined, seen}
+use Rattle.gs_rules.specs.Tables.{Entries, is_shut, joined, seen, up}
 use Rattle.gs_rules.specs.Legal.{has_room_for}
 
 -- the numbers of refusals, as docs/FORMATS.md lists them
@@ -19,6 +19,7 @@ number_of TooLong = 17
 number_of Joined = 18
 number_of NotJoined = 19
 number_of Stopped = 21
+number_of NotOpen = 33
 number_of TooMany = 34
 
 -- the first reason that holds
@@ -43,6 +44,8 @@ reasons p L at (Publish t payload) =
     ∷ (is_long t || not (codec.fits (publication t payload)), TooLong)
     ∷ (is_some (seen (seen_ttl p) L (message_id payload) at), AlreadySeen)
     ∷ []
+reasons p L at (HangUp q) = (is_shut L, Stopped) ∷ (not (up L q), NotOpen) ∷ []
+reasons p L at (Raw q bytes) = (is_shut L, Stopped) ∷ (not (up L q), NotOpen) ∷ []
 reasons p L at BeatBegin = (is_shut L, Stopped) ∷ []
 reasons p L at Decay = (is_shut L, Stopped) ∷ []
 reasons p L at (RoundEnd r) = (is_shut L, Stopped) ∷ []

@@ -1,12 +1,12 @@
 -- What a peer does, round by round, by what it is given and by what its neighbours say to it.
 use Rattle.std.specs.Prelude.{◌≡◌, ◌≤◌, ℕ, zero, suc, ◌*◌, ◌%◌, Bool, false, true, not, ◌&&◌, ◌||◌, nat_eq, nat_lt, if◌then◌else◌, List, [], ◌∷◌, ◌++◌, length, map, filter, Option, Some, None}
-use Rattle.std.specs.List.{flat_map, zip, AllZip}
+use Rattle.std.specs.List.{flat_map, zip, AllByRecursion, AllZip}
 use Rattle.gs_base.specs.declared.names.PeerNo.{PeerNo}
 use Rattle.gs_base.specs.declared.names.Millis.{Millis}
 use Rattle.gs_base.specs.declared.rpc.Rpc.{Rpc}
 use Rattle.gs_plan.specs.declared.plan.Line.{Line}
 use Rattle.gs_plan.specs.declared.plan.What.{What}
-use Rattle.gs_plan.specs.declared.plan.What.TheVariants.{Subscribe, Unsubscribe, Publish}
+use Rattle.gs_plan.specs.declared.plan.What.TheVariants.{Subscribe, Unsubscribe, Publish, Raw, HangUp}
 use Rattle.gs_wire.specs.declared.frames.End.{End}
 use Rattle.gs_wire.specs.declared.frames.End.TheVariants as ends
 use Rattle.gs_rules.specs.declared.trace.Event.{Event}
@@ -18,7 +18,7 @@ use Rattle.gs_rules.specs.Tables.{Entries}
 use Rattle.gs_rules.specs.Legal.{Comes, Legal, hearing, losing}
 use Rattle.gs_rules.specs.Refusals.{refusal}
 use Rattle.gs_wire.specs.Codec.{codec}
-use Rattle.gs_rules.specs.Saying.{Said, handled, out, sent}
+use Rattle.gs_rules.specs.Saying.{Said, SaysFramesAlone, handled, out, raw_to, sent}
 use Rattle.gs_rules.specs.Hearing.{Inbound, ComesIn, ComesAfter}
 
 -- ---- a seat
@@ -118,10 +118,16 @@ abbrev pub event_of : What → Event
 event_of (Subscribe t) = events.Subscribe t
 event_of (Unsubscribe t) = events.Unsubscribe t
 event_of (Publish t payload) = events.Publish t payload
+event_of (Raw q bytes) = events.Raw q bytes
+event_of (HangUp q) = events.HangUp q
 
 abbrev pub unless_refused : Event → Option Refusal → Option Event
 unless_refused event None = Some event
 unless_refused event (Some why) = None
+
+-- these lines put no bytes that are no frames on q's link; a line with no bytes does not either
+abbrev pub PutsNoBytes : PeerNo → List (ℕ × Line) → Type 0
+PutsNoBytes q lines = AllByRecursion (λ (x : ℕ × Line). raw_to q (event_of x.1.what) ≡ []) lines
 
 -- the event that it opens behind a trace, if any
 abbrev pub opening : Peer → Entries → Millis → Todo → Option Event
@@ -205,11 +211,13 @@ pub record KeepsSoFar (seat : Seat) (said : PeerNo → Said) (phase : Phase) (le
   pub part : PlaysInPart seat said phase left start L more
   pub all_refused : refused ≡ earlier ++ more
 
--- what was handled of q is what any legal trace sends that says this
+-- where what q says is what some legal trace says that puts frames alone on this link, what was handled of q is what
+-- that trace sends
 abbrev pub HandlesWhatIsSent : Seat → (PeerNo → Said) → Entries → PeerNo → Type 0
 HandlesWhatIsSent seat said L q =
     (other : Peer) (K : Entries)
     → Legal other K
+    → SaysFramesAlone seat.number K
     → said q ≡ out codec K seat.number
     → handled L q ≡ sent K seat.number
 

@@ -15,10 +15,10 @@ use Rattle.gs_base.specs.declared.mark.Mark.TheVariants.{Answered, Offered, Aske
 use Rattle.gs_mesh.specs.Peers.{is_among}
 use Rattle.gs_base.specs.Rpcs.{most_identifiers, offering, passed_on, requesting}
 use Rattle.gs_rules.specs.declared.trace.Event.{Event}
-use Rattle.gs_rules.specs.declared.trace.Event.TheVariants.{BeatBegin, FanBeat, FanEnd, Fault, Gone, GossipBeat, GraftIn, Have, MeshBeat, Msg, PruneIn, Publish, Sub, Subscribe, Unsubscribe, Want}
+use Rattle.gs_rules.specs.declared.trace.Event.TheVariants.{BeatBegin, FanBeat, FanEnd, GossipBeat, GraftIn, Have, MeshBeat, Msg, PruneIn, Publish, Sub, Subscribe, Unsubscribe, Want}
 use Rattle.gs_rules.specs.declared.trace.Entry.{Entry}
 use Rattle.gs_rules.specs.Peers.{Peer, seen_ttl, windows}
-use Rattle.gs_rules.specs.Tables.{Entries, Keeping, answered, asked, joined, kept, last_millis, offers, seen}
+use Rattle.gs_rules.specs.Tables.{Entries, Keeping, answered, asked, joined, kept, last_millis, lost, offers, seen}
 use Rattle.gs_rules.specs.Meshes.{fanout, mesh}
 use Rattle.gs_rules.specs.Scoring.{is_ignored}
 use Rattle.gs_rules.specs.Gossip.{all_charges, gossip, gossip_size}
@@ -150,7 +150,13 @@ gossip_rule p L at t =
 
 -- ---- all events
 
--- the rule of an event: where none is named, the event alone
+-- whoever is lost leaves every mesh and every fanout; of an event that loses none, and has no rule of its own, there is
+-- the event alone
+abbrev pub lost_or_bare : Peer → Entries → Millis → Event → Option PeerNo → Entry
+lost_or_bare p L at event None = bare at event
+lost_or_bare p L at event (Some q) = lost_rule p L at q event
+
+-- the rule of an event
 abbrev pub rule_of : Peer → Entries → Millis → Event → Rule
 rule_of p L at (Msg q m) = Gives (message_rule p L at q m)
 rule_of p L at (Have q offer) = have_rule p L at q offer
@@ -158,8 +164,6 @@ rule_of p L at (Want q request) = Gives (want_rule p L at q request)
 rule_of p L at (Sub q sub) = Gives (sub_rule p L at q sub)
 rule_of p L at (GraftIn q graft) = Gives (graft_rule p L at q graft)
 rule_of p L at (PruneIn q prune) = Gives (prune_rule p L at q prune)
-rule_of p L at (Gone q) = Gives (lost_rule p L at q (Gone q))
-rule_of p L at (Fault q) = Gives (lost_rule p L at q (Fault q))
 rule_of p L at (Subscribe t) = subscribe_rule p L at t
 rule_of p L at (Unsubscribe t) = Gives (unsubscribe_rule p L at t)
 rule_of p L at (Publish t payload) = publish_rule p L at t payload
@@ -168,4 +172,4 @@ rule_of p L at (MeshBeat t) = mesh_beat_rule p L at t
 rule_of p L at (FanBeat t) = fan_beat_rule p L at t
 rule_of p L at (FanEnd t) = Gives (fan_end L at t)
 rule_of p L at (GossipBeat t) = gossip_rule p L at t
-rule_of p L at other = Gives (bare at other)
+rule_of p L at other = Gives (lost_or_bare p L at other (lost other))

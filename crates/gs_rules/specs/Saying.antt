@@ -1,5 +1,5 @@
 -- What a peer says to a neighbour, as bytes, marks of the ends of rounds and a close; and what it has handled of one.
-use Rattle.std.specs.Prelude.{◌≡◌, true, if◌then◌else◌, List, [], ◌∷◌, ◌++◌, map}
+use Rattle.std.specs.Prelude.{◌≡◌, ℕ, true, if◌then◌else◌, List, [], ◌∷◌, ◌++◌, map}
 use Rattle.std.specs.List.{flat_map, AllByRecursion}
 use Rattle.gs_base.specs.declared.names.PeerNo.{PeerNo}
 use Rattle.gs_base.specs.declared.rpc.Rpc.{Rpc}
@@ -7,22 +7,29 @@ use Rattle.gs_base.specs.Names.{same_peer}
 use Rattle.gs_base.specs.Codecs.{Codec}
 pub use Rattle.gs_base.specs.Tokens.{Token, Byte, EndOf, Close, Said, bytes_of}
 use Rattle.gs_rules.specs.declared.trace.Event.{Event}
-use Rattle.gs_rules.specs.declared.trace.Event.TheVariants.{Heard, Late, RoundEnd, Gone, Fault, Shut}
+use Rattle.gs_rules.specs.declared.trace.Event.TheVariants.{Heard, Late, Raw, RoundEnd, Shut}
 use Rattle.gs_rules.specs.declared.trace.Entry.{Entry}
-use Rattle.gs_rules.specs.Tables.{Entries, up}
+use Rattle.gs_rules.specs.Tables.{Entries, is_lost, lost, up}
 use Rattle.gs_rules.specs.Modes.{sent_to}
 
 -- what an event puts behind what is sent with it: whoever is lost, or all where the peer shuts down, are told no more
 abbrev pub sign : PeerNo → Event → Said
 sign q (RoundEnd r) = EndOf r ∷ []
-sign q (Gone p) = if same_peer p q then Close ∷ [] else []
-sign q (Fault p) = if same_peer p q then Close ∷ [] else []
 sign q Shut = Close ∷ []
-sign q other = []
+sign q other = if is_lost q (lost other) then Close ∷ [] else []
 
--- what an entry says to q: the frames of its sends, and the event's sign
+-- the bytes that an event puts on q's link as they are
+abbrev pub raw_to : PeerNo → Event → List ℕ
+raw_to q (Raw p bytes) = if same_peer p q then bytes else []
+raw_to q other = []
+
+-- what an entry says to q: the frames of its sends, bytes as they are, and the event's sign
 abbrev pub says : Codec → PeerNo → Entry → Said
-says codec q e = map Byte (flat_map codec.frame (sent_to q e.sends)) ++ sign q e.event
+says codec q e = map Byte (flat_map codec.frame (sent_to q e.sends) ++ raw_to q e.event) ++ sign q e.event
+
+-- these entries put nothing on q's link but frames
+abbrev pub SaysFramesAlone : PeerNo → List Entry → Type 0
+SaysFramesAlone q entries = AllByRecursion (λ e. raw_to q e.event ≡ []) entries
 
 -- what a trace says to q, for as long as q is up
 abbrev pub out : Codec → Entries → PeerNo → Said

@@ -1,6 +1,6 @@
 -- The scores of a peer's neighbours (gossipsub v1.1, "Peer Scoring"): what a trace says of each, and what a neighbour of
 -- low standing loses.
-use Rattle.std.specs.Prelude.{◌≡◌, ℕ, ℤ, int_lt, Bool, true, ◌&&◌, ◌||◌, nat_lt, if◌then◌else◌, [], ◌∷◌, length}
+use Rattle.std.specs.Prelude.{◌≡◌, ℕ, ℤ, int_lt, Bool, true, ◌&&◌, ◌||◌, nat_lt, if◌then◌else◌, [], ◌∷◌, length, Option, Some, None}
 use Rattle.std.specs.List.{list_any}
 use Rattle.gs_base.specs.declared.names.PeerNo.{PeerNo}
 use Rattle.gs_base.specs.declared.names.Topic.{Topic}
@@ -12,9 +12,9 @@ use Rattle.gs_base.specs.Names.{most_topics, same_peer, same_topic}
 use Rattle.gs_score.specs.Histories.{Change, History, Marked, Decayed, Left, ShutOut, Setting, named, score_in}
 use Rattle.gs_score.specs.Histories as histories
 use Rattle.gs_rules.specs.declared.trace.Event.{Event}
-use Rattle.gs_rules.specs.declared.trace.Event.TheVariants.{Decay, Gone, Fault, GraftIn, Msg}
+use Rattle.gs_rules.specs.declared.trace.Event.TheVariants.{Decay, GraftIn, Msg}
 use Rattle.gs_rules.specs.Peers.{Peer}
-use Rattle.gs_rules.specs.Tables.{Entries, after_marks}
+use Rattle.gs_rules.specs.Tables.{Entries, after_marks, lost}
 
 -- ---- what happened to the neighbours
 
@@ -54,12 +54,15 @@ change_of at mark = Marked mark
 abbrev pub marked_after : Peer → Millis → Mark → History → History
 marked_after p at mark H = if is_counted p H mark then change_of at mark ∷ H else H
 
--- all counters decay by a step, and whoever is lost counts no more at its address
+-- whoever is lost counts no more at its address
+abbrev pub shut_out : Option PeerNo → History → History
+shut_out None H = H
+shut_out (Some q) H = ShutOut q ∷ H
+
+-- all counters decay by a step, and a neighbour may be lost
 abbrev pub changed_after : Event → History → History
 changed_after Decay H = Decayed ∷ H
-changed_after (Gone q) H = ShutOut q ∷ H
-changed_after (Fault q) H = ShutOut q ∷ H
-changed_after other H = H
+changed_after other H = shut_out (lost other) H
 
 -- what happened to the neighbours, the newest first
 abbrev pub history : Peer → Entries → History

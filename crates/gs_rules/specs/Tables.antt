@@ -1,7 +1,7 @@
 -- What a trace says of a peer. Its entries stand with the newest first, so each table is read off the newest entry
 -- and what the table said before it: a step by the entry's event, and where marks change it, a step by each mark. A
 -- new event or mark is one line in the tables that it changes.
-use Rattle.std.specs.Prelude.{ℕ, ◌+◌, ◌-◌, Bool, true, false, not, ◌&&◌, nat_lt, if◌then◌else◌, List, [], ◌∷◌, ◌++◌, filter, Option, Some, None, unwrap_or}
+use Rattle.std.specs.Prelude.{ℕ, ◌+◌, ◌-◌, Bool, true, false, not, ◌&&◌, ◌||◌, nat_lt, if◌then◌else◌, List, [], ◌∷◌, ◌++◌, filter, Option, Some, None, unwrap_or}
 use Rattle.std.specs.List.{list_any}
 use Rattle.std.specs.declared.cmp.Ordering.{Ordering}
 use Rattle.std.specs.Ordering.{nat_cmp}
@@ -17,7 +17,7 @@ use Rattle.gs_base.specs.declared.mark.Mark.{Mark}
 use Rattle.gs_base.specs.declared.rpc.Message.{Message}
 use Rattle.gs_base.specs.declared.mark.Mark.TheVariants.{Seen, Cached, Answered, Offered, Asked}
 use Rattle.gs_rules.specs.declared.trace.Event.{Event}
-use Rattle.gs_rules.specs.declared.trace.Event.TheVariants.{Sub, Msg, Subscribe, Unsubscribe, Publish, BeatBegin, BeatEnd, Gone, Fault, Shut}
+use Rattle.gs_rules.specs.declared.trace.Event.TheVariants.{Heard, Late, Sub, Msg, Have, Want, GraftIn, PruneIn, Subscribe, Unsubscribe, Publish, BeatBegin, MeshBeat, FanBeat, FanEnd, GossipBeat, BeatEnd, Decay, RoundEnd, Gone, Fault, HangUp, Raw, Shut}
 use Rattle.gs_rules.specs.declared.trace.Promise.{Promise}
 use Rattle.gs_rules.specs.declared.trace.Entry.{Entry}
 
@@ -50,12 +50,46 @@ abbrev pub is_shut : Entries → Bool
 is_shut [] = false
 is_shut (e ∷ L) = is_shut_after e.event (is_shut L)
 
--- whether a neighbour is heard and sent to: until it is gone or at fault, or the peer shuts down
+-- The neighbour that an event loses, if any: it closed its link, its bytes spelled no RPC or ended within one, or the
+-- peer hung up on it. Each event is named here, and whatever follows from such a loss reads this.
+abbrev pub lost : Event → Option PeerNo
+lost (Gone p) = Some p
+lost (Fault p) = Some p
+lost (HangUp p) = Some p
+lost (Heard q rpc) = None
+lost (Late q rpc) = None
+lost (Sub q sub) = None
+lost (Msg q message) = None
+lost (Have q offer) = None
+lost (Want q request) = None
+lost (GraftIn q graft) = None
+lost (PruneIn q prune) = None
+lost (Subscribe t) = None
+lost (Unsubscribe t) = None
+lost (Publish t payload) = None
+lost BeatBegin = None
+lost (MeshBeat t) = None
+lost (FanBeat t) = None
+lost (FanEnd t) = None
+lost (GossipBeat t) = None
+lost BeatEnd = None
+lost Decay = None
+lost (RoundEnd r) = None
+lost (Raw q bytes) = None
+lost Shut = None
+
+-- q is the one that is lost
+abbrev pub is_lost : PeerNo → Option PeerNo → Bool
+is_lost q None = false
+is_lost q (Some p) = same_peer p q
+
+-- an event behind which q is neither heard nor sent to: it loses q, or the peer shuts down
+abbrev pub cuts_off : PeerNo → Event → Bool
+cuts_off q event = is_shut_after event false || is_lost q (lost event)
+
+-- whether a neighbour is heard and sent to
 abbrev pub up_after : PeerNo → Event → Bool → Bool
-up_after q (Gone p) before = if same_peer p q then false else before
-up_after q (Fault p) before = if same_peer p q then false else before
-up_after q Shut before = false
-up_after q other before = before
+up_after q event before = if cuts_off q event then false else before
 
 abbrev pub up : Entries → PeerNo → Bool
 up [] q = true

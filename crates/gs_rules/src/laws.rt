@@ -1,5 +1,5 @@
 //! Laws of traces and rounds. Each holds of its definitions alone, and its function does nothing.
-ghost use Rattle.std.specs.Prelude.{ℕ, true, false, ◌≡◌, ◌<◌, ◌≤◌, ◌+◌, ◌∷◌, ◌++◌, []};
+ghost use Rattle.std.specs.Prelude.{ℕ, true, false, ◌≡◌, ◌<◌, ◌≤◌, ◌+◌, ◌∷◌, ◌++◌, ◌&&◌, []};
 ghost use Rattle.std.specs.Prelude.{List, None, Some, length, map, nat_le, reverse};
 ghost use Rattle.std.specs.List.{All, AllByRecursion, IsAmong, list_any};
 ghost use Rattle.std.specs.List.Sorted.{IsStrictlySortedBy};
@@ -14,6 +14,8 @@ ghost use Rattle.gs_params.specs.Picks.{IsAscending};
 ghost use Rattle.gs_mesh.specs.Peers.{is_among};
 ghost use Rattle.gs_mesh.specs.declared.heartbeat.MeshChange.{MeshChange};
 ghost use Rattle.gs_mesh.specs.MeshSteps.{IsMeshStep};
+ghost use Rattle.gs_score.specs.Addresses.{is_counted};
+ghost use Rattle.gs_score.specs.Histories.{addresses_in};
 ghost use Rattle.gs_wire.specs.Codec.{codec};
 ghost use Rattle.gs_rules.specs.declared.trace.Entry.{Entry};
 ghost use Rattle.gs_rules.specs.declared.trace.Promise.{Promise};
@@ -32,9 +34,9 @@ ghost use Rattle.gs_rules.specs.Owed.{FanBeats, Gossips, Group, MeshBeats, beats
 ghost use Rattle.gs_rules.specs.Rules.{Gives, Rule, rule_of};
 ghost use Rattle.gs_rules.specs.Modes.{Follows, SaysTheSame, choiceless, exact, free};
 ghost use Rattle.gs_rules.specs.Legal.{DeliversApart, Legal, LegalOn};
-ghost use Rattle.gs_rules.specs.Saying.{Close, Said, bytes_of, handled, handled_by, out, says, sent};
+ghost use Rattle.gs_rules.specs.Saying.{Close, Said, SaysFramesAlone, bytes_of, handled, handled_by, out, says, sent};
 ghost use Rattle.gs_rules.specs.Hearing.{Spell};
-ghost use Rattle.gs_rules.specs.Rounds.{HandlesWhatIsSent, KeepsRounds, Phase, Plays, PlaysInPart, Seat};
+ghost use Rattle.gs_rules.specs.Rounds.{HandlesWhatIsSent, KeepsRounds, Phase, Plays, PlaysInPart, PutsNoBytes, Seat};
 
 use gs_params::Words;
 
@@ -121,10 +123,11 @@ pub fn what_is_given_draws_no_word<W: Words>()
 {}
 
 /// The bytes that a legal trace says to a neighbour are the frames of what it sends there, whole and in
-/// order, and nothing else.
+/// order, and nothing else, where it puts no other bytes on that link.
 pub fn what_is_sent_is_spelled()
     ensures { (p : Peer) (entries : Entries) (q : PeerNoValue)
         → Legal p entries
+        → SaysFramesAlone q entries
         → Spell (bytes_of (out codec entries q)) (sent entries q) }
 {}
 
@@ -139,13 +142,22 @@ pub fn what_was_said_is_handled()
 {}
 
 /// A peer that keeps the rounds has handled of each neighbour the RPCs that the neighbour's legal trace
-/// sends to it, where that is what the neighbour says: whole, once and in order.
+/// sends to it, where that is what the neighbour says, and nothing but frames: whole, once and in order.
 pub fn what_was_sent_is_handled()
     ensures { (seat : Seat) (said : PeerNoValue → Said) (entries : Entries) (refused : List RefusedLine)
         → IsAscending (links_of seat.peer)
         → Legal seat.peer entries
         → KeepsRounds seat said entries refused
         → AllByRecursion (HandlesWhatIsSent seat said entries) (links_of seat.peer) }
+{}
+
+/// A peer that keeps the rounds, and whose script puts no other bytes on a link, says frames alone there.
+pub fn a_script_without_bytes_says_frames_alone()
+    ensures { (seat : Seat) (said : PeerNoValue → Said) (entries : Entries) (refused : List RefusedLine) (q : PeerNoValue)
+        → Legal seat.peer entries
+        → KeepsRounds seat said entries refused
+        → PutsNoBytes q seat.lines
+        → SaysFramesAlone q entries }
 {}
 
 /// A round of which nothing is left is a whole round.
@@ -294,6 +306,15 @@ pub fn each_mark_of_a_legal_trace_counts()
         → is_neighbour p q ≡ true
         → joined entries t ≡ true
         → has_counters p (history p entries) q t ≡ true }
+{}
+
+/// Until the peer shuts down, a neighbour that is lost counts no more at its address, by whatever event it was lost, and
+/// every other one counts there as at first.
+pub fn whoever_is_lost_counts_no_more_at_its_address()
+    ensures { (p : Peer) (entries : Entries) (q : PeerNoValue)
+        → is_shut entries ≡ false
+        → is_counted (addresses_in p.neighbours (history p entries)) q
+        ≡ (up entries q && is_counted (addresses_in p.neighbours []) q) }
 {}
 
 /// Once a peer has shut down, the scores of its neighbours at any one moment stay what they were before.

@@ -21,13 +21,16 @@ pub enum Refusal {
     /// The peer has shut down, or has met want of memory before.
     #[error("the peer has stopped")]
     Stopped,
+    /// The neighbour is lost: it closed its link, its bytes spelled no RPC or ended within one, or the peer hung up on it.
+    #[error("the link to the neighbour is not open")]
+    NotOpen,
     /// The peer was subscribed to `MOST_TOPICS` other topics.
     #[error("too many topics were joined")]
     TooMany,
 }
 
 impl Refusal {
-    /// The number of the refusal, as docs/FORMATS.md lists it: 16 to 19, 21 and 34.
+    /// The number of the refusal, as docs/FORMATS.md lists it: 16 to 19, 21, 33 and 34.
     pub fn number(self) -> u8
         ensures { result ≡ number_of self }
     {
@@ -37,6 +40,7 @@ impl Refusal {
             Refusal::Joined => 18,
             Refusal::NotJoined => 19,
             Refusal::Stopped => 21,
+            Refusal::NotOpen => 33,
             Refusal::TooMany => 34,
         }
     }

@@ -1,5 +1,6 @@
 //! What a peer did, entry by entry. docs/PROTOCOL.md says which entries may follow each other.
 ghost use Rattle.std.specs.Prelude.{◌≡◌, ◌<◌, ◌^◌, [], ◌∷◌, length, OnOk, OnErr};
+ghost use Rattle.gs_rules.specs.Tables.{lost};
 
 use bytes::Bytes;
 use gs_base::{
@@ -54,8 +55,46 @@ pub enum Event {
     Gone(PeerNo),
     /// A neighbour's bytes spelled no RPC, or ended within one.
     Fault(PeerNo),
+    /// The peer closed its link to a neighbour.
+    HangUp(PeerNo),
+    /// The peer put these bytes on the link to a neighbour, as they are.
+    Raw(PeerNo, Bytes),
     /// The peer shut down.
     Shut,
+}
+
+impl Event {
+    /// The neighbour that it loses, if any. Each event is named, so that none is forgotten.
+    pub fn lost(&self) -> Option<PeerNo>
+        ensures { result ≡ lost self.now }
+    {
+        match self {
+            Event::Gone(peer) => Some(*peer),
+            Event::Fault(peer) => Some(*peer),
+            Event::HangUp(peer) => Some(*peer),
+            Event::Heard(_, _) => None,
+            Event::Late(_, _) => None,
+            Event::Sub(_, _) => None,
+            Event::Msg(_, _) => None,
+            Event::Have(_, _) => None,
+            Event::Want(_, _) => None,
+            Event::GraftIn(_, _) => None,
+            Event::PruneIn(_, _) => None,
+            Event::Subscribe(_) => None,
+            Event::Unsubscribe(_) => None,
+            Event::Publish(_, _) => None,
+            Event::BeatBegin => None,
+            Event::MeshBeat(_) => None,
+            Event::FanBeat(_) => None,
+            Event::FanEnd(_) => None,
+            Event::GossipBeat(_) => None,
+            Event::BeatEnd => None,
+            Event::Decay => None,
+            Event::RoundEnd(_) => None,
+            Event::Raw(_, _) => None,
+            Event::Shut => None,
+        }
+    }
 }
 
 /// What a neighbour promised by its offer: one of the messages that it was asked for (gossipsub v1.1, "Spam

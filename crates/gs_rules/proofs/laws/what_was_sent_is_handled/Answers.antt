@@ -12,8 +12,8 @@ use Rattle.gs_rules.proofs.laws.what_was_sent_is_handled.Goals as goal
 
 -- bytes spell one list of RPCs
 one : (seat : Seat) (said : PeerNo → Said) (L : Entries) (q : PeerNo) → Spell (bytes_of (said q)) (handled L q) → HandlesWhatIsSent seat said L q
-one seat said L q spelled other K legal is =
-    spelled_once (bytes_of (said q)) (handled L q) (sent K seat.number) spelled (subst (λ (w : Said). Spell (bytes_of w) (sent K seat.number)) (sym is) (sent_is_spelled other K seat.number legal))
+one seat said L q spelled other K legal alone is =
+    spelled_once (bytes_of (said q)) (handled L q) (sent K seat.number) spelled (subst (λ (w : Said). Spell (bytes_of w) (sent K seat.number)) (sym is) (sent_is_spelled other K seat.number legal alone))
 
 each : (seat : Seat) (said : PeerNo → Said) (L : Entries) (qs : List PeerNo) → AllByRecursion (λ q. Spell (bytes_of (said q)) (handled L q)) qs → AllByRecursion (HandlesWhatIsSent seat said L) qs
 each seat said L [] h = tt
