@@ -1,5 +1,5 @@
 -- How calls of a router end.
-use Rattle.std.proofs.Common.{rules, ◌≡◌, ◌≤◌, ℕ, Bool, true, false, List, [], ◌∷◌, Option, None, Some, Ok, Err, refl, sym, ap, subst, ◌∙◌, if◌then◌else◌, is_some, length, Result}
+use Rattle.std.proofs.Common.{rules, ◌≡◌, ◌≤◌, ℕ, Bool, true, false, List, [], ◌∷◌, Option, None, Some, Ok, Err, refl, sym, ap, ap₂, subst, ◌∙◌, if◌then◌else◌, is_some, length, Result}
 use Rattle.std.specs.Prelude.{not, ◌||◌}
 use Rattle.std.specs.List.{AllByRecursion}
 use Rattle.gs_base.specs.declared.names.Millis.{Millis}
@@ -10,19 +10,18 @@ use Rattle.gs_base.specs.Names.{longest_topic, message_id}
 use Rattle.gs_base.specs.Rpcs.{publication}
 use Rattle.gs_wire.specs.Codec.{codec}
 use Rattle.gs_rules.specs.declared.trace.Event.{Event}
-use Rattle.gs_rules.specs.declared.trace.Event.TheVariants.{Heard, Late, Subscribe, Unsubscribe, Publish, BeatBegin, Decay, RoundEnd, Gone, Fault, Shut}
+use Rattle.gs_rules.specs.declared.trace.Event.TheVariants.{Heard, Late, Subscribe, Unsubscribe, Publish, BeatBegin, Decay, HangUp, Raw, RoundEnd, Gone, Fault, Shut}
 use Rattle.gs_rules.specs.declared.refusal.Refusal.{Refusal}
-use Rattle.gs_rules.specs.declared.refusal.Refusal.TheVariants.{Stopped}
+use Rattle.gs_rules.specs.declared.refusal.Refusal.TheVariants.{NotOpen, Stopped}
 use Rattle.gs_rules.specs.Peers.{Peer, seen_ttl}
-use Rattle.gs_rules.specs.Tables.{Entries, joined, seen, up}
+use Rattle.gs_rules.specs.Tables.{Entries, is_lost, is_shut, is_shut_after, joined, lost, seen, up}
 use Rattle.gs_rules.specs.Owed.{owes}
 use Rattle.gs_rules.specs.Modes.{Mode}
-use Rattle.gs_rules.specs.Legal.{Legal, MayOpen, MaySubscribe, MayUnsubscribe, MayPublish, has_room_for, hearing, losing}
+use Rattle.gs_rules.specs.Legal.{Legal, MayLose, MayOpen, MaySubscribe, MayUnsubscribe, MayPublish, has_room_for, hearing, losing}
 use Rattle.gs_rules.specs.Refusals.{first_of, is_long, reasons, refusal}
-use Rattle.gs_router.specs.declared.setup.Setup.{Setup}
 use Rattle.gs_router.specs.declared.state.State.{State}
 use Rattle.gs_router.specs.declared.fault.RouterFault.{RouterFault}
-use Rattle.gs_router.specs.declared.fault.RouterFault.TheVariants.{Refused, NoMemory}
+use Rattle.gs_router.specs.declared.fault.RouterFault.TheVariants.{Refused}
 use Rattle.gs_router.specs.Known.{peer_with}
 use Rattle.gs_router.specs.declared.wish.Wish.{Wish}
 use Rattle.gs_router.specs.declared.wish.Wish.TheVariants as wishes
@@ -136,11 +135,19 @@ may_publish p L at t payload free =
     let short = neither (is_long t) (codec.fits (publication t payload)) h.1.0 in
     record { running = h.0; short = is_short t short.0; fits = short.1; unseen = is_unseen (seen (seen_ttl p) L (message_id payload) at) h.1.1.0 }
 
+may_hang_up : (p : Peer) (L : Entries) (at : ℕ) (q : PeerNo) → refusal p L at (HangUp q) ≡ None → up L q ≡ true
+may_hang_up p L at q free = is_not (up L q) (none_holds (reasons p L at (HangUp q)) free).1.0
+
+may_put : (p : Peer) (L : Entries) (at : ℕ) (q : PeerNo) (bytes : List ℕ) → refusal p L at (Raw q bytes) ≡ None → up L q ≡ true
+may_put p L at q bytes free = is_not (up L q) (none_holds (reasons p L at (Raw q bytes)) free).1.0
+
 -- what its user wishes may come where it is not refused
 pub may_come_true : (p : Peer) (L : Entries) (at : ℕ) (wish : Wish) → refusal p L at (wished wish) ≡ None → MayOpen p L at (wished wish)
 may_come_true p L at (wishes.Subscribe t) free = may_subscribe p L at t free
 may_come_true p L at (wishes.Unsubscribe t) free = may_unsubscribe p L at t free
 may_come_true p L at (wishes.Publish t payload) free = may_publish p L at t payload free
+may_come_true p L at (wishes.HangUp q) free = may_hang_up p L at q free
+may_come_true p L at (wishes.Raw q bytes) free = may_put p L at q bytes free
 may_come_true p L at wishes.Decay free = (none_holds (reasons p L at Decay) free).0
 may_come_true p L at (wishes.EndRound r) free = (none_holds (reasons p L at (RoundEnd r)) free).0
 may_come_true p L at wishes.Shut free = (none_holds (reasons p L at Shut) free).0
@@ -154,6 +161,8 @@ pub owes_nothing : (p : Peer) (L : Entries) (at : ℕ) (wish : Wish) → owes p 
 owes_nothing p L at (wishes.Subscribe t) = refl
 owes_nothing p L at (wishes.Unsubscribe t) = refl
 owes_nothing p L at (wishes.Publish t payload) = refl
+owes_nothing p L at (wishes.HangUp q) = refl
+owes_nothing p L at (wishes.Raw q bytes) = refl
 owes_nothing p L at wishes.Decay = refl
 owes_nothing p L at (wishes.EndRound r) = refl
 owes_nothing p L at wishes.Shut = refl
@@ -170,18 +179,37 @@ hearing_free p L at q rpc = by (up L q)
 pub loses : (L : Entries) (q : PeerNo) (event : Event) → up L q ≡ true → losing L q event ≡ Some event
 loses L q event is_up = ap (λ (b : Bool). if b then Some event else None) is_up
 
+-- a peer that has a neighbour up has not shut down
+runs_on : (L : Entries) (q : PeerNo) → up L q ≡ true → is_shut L ≡ false
+runs_on [] q is_up = refl
+runs_on (e ∷ L) q is_up = by e.event (is_lost q (lost e.event)) (up L q) (is_shut L) (runs_on L q) is_up
+  where
+    by : (event : Event) (loses before shut : Bool) → (before ≡ true → shut ≡ false) → (if is_shut_after event false || loses then false else before) ≡ true → is_shut_after event shut ≡ false
+    by Shut loses before shut runs is = absurd cc
+    by event true before shut runs is = absurd cc
+    by event false before shut runs is = runs is
+
 -- it may be, it is not refused, and it owes nothing
 pub may_lose : (p : Peer) (L : Entries) (at : ℕ) (q : PeerNo) (event : Event) → IsLoss q event → up L q ≡ true → MayOpen p L at event
-may_lose p L at q (Gone r) same is_up = ap (up L) same ∙ is_up
-may_lose p L at q (Fault r) same is_up = ap (up L) same ∙ is_up
-may_lose p L at q other same is_up = absurd same
+may_lose p L at q event loss is_up = by event (subst (MayLose L) (sym loss) is_up)
+  where
+    by : (event : Event) → MayLose L (lost event) → MayOpen p L at event
+    by (Gone r) may = may
+    by (Fault r) may = may
+    by (HangUp r) may = may
+    by other may = absurd may
 
-pub loss_free : (p : Peer) (L : Entries) (at : ℕ) (q : PeerNo) (event : Event) → IsLoss q event → refusal p L at event ≡ None
-loss_free p L at q (Gone r) same = refl
-loss_free p L at q (Fault r) same = refl
-loss_free p L at q other same = absurd same
+pub loss_free : (p : Peer) (L : Entries) (at : ℕ) (q : PeerNo) (event : Event) → IsLoss q event → up L q ≡ true → refusal p L at event ≡ None
+loss_free p L at q event loss is_up = by event (subst (MayLose L) (sym loss) is_up)
+  where
+    by : (event : Event) → MayLose L (lost event) → refusal p L at event ≡ None
+    by (Gone r) may = refl
+    by (Fault r) may = refl
+    by (HangUp r) may = ap₂ (λ (shut is_open : Bool). if shut then Some Stopped else if not is_open then Some NotOpen else None) (runs_on L r may) may
+    by other may = absurd may
 
 pub loss_owes : (p : Peer) (L : Entries) (at : ℕ) (q : PeerNo) (event : Event) → IsLoss q event → owes p L at event ≡ []
-loss_owes p L at q (Gone r) same = refl
-loss_owes p L at q (Fault r) same = refl
-loss_owes p L at q other same = absurd same
+loss_owes p L at q (Gone r) loss = refl
+loss_owes p L at q (Fault r) loss = refl
+loss_owes p L at q (HangUp r) loss = refl
+loss_owes p L at q other loss = absurd cc

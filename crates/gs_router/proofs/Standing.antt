@@ -1,5 +1,5 @@
 -- The table of standings after one more entry.
-use Rattle.std.proofs.Common.{◌≡◌, ◌≤◌, ◌<◌, ◌+◌, ℕ, suc, arith, Bool, true, false, if◌then◌else◌, List, [], ◌∷◌, ◌++◌, length, take, get_or, refl, sym, ap, ap₂, subst, ◌∙◌}
+use Rattle.std.proofs.Common.{◌≡◌, ◌≤◌, ◌<◌, ◌+◌, ℕ, arith, Bool, true, false, if◌then◌else◌, List, [], ◌∷◌, ◌++◌, Option, None, Some, length, take, get_or, refl, sym, ap, ap₂, subst, ◌∙◌}
 use Rattle.std.specs.Prelude.{◌&&◌, ◌||◌, nat_lt}
 use Rattle.std.proofs.lemmas.List.{take_more}
 use Rattle.gs_base.specs.declared.names.PeerNo.{PeerNo}
@@ -12,11 +12,10 @@ use Rattle.gs_score.specs.Ledgers.{Kept, has_room}
 use Rattle.gs_score.specs.Histories.{Agrees, Change, History, Setting, Marked, Left, accepts, decays}
 use Rattle.gs_score.specs.Histories as histories
 use Rattle.gs_rules.specs.declared.trace.Event.{Event}
-use Rattle.gs_rules.specs.declared.trace.Event.TheVariants.{Decay, Gone, Fault}
-use Rattle.gs_rules.specs.declared.trace.Entry.{Entry}
+use Rattle.gs_rules.specs.declared.trace.Event.TheVariants.{Decay}
 use Rattle.gs_rules.specs.Peers.{Peer}
-use Rattle.gs_rules.specs.Tables.{Entries, after_marks}
-use Rattle.gs_rules.specs.Scoring.{change_of, changed_after, has_counters, history, is_counted, marked_after, setting_of}
+use Rattle.gs_rules.specs.Tables.{Entries, after_marks, lost}
+use Rattle.gs_rules.specs.Scoring.{change_of, changed_after, has_counters, history, is_counted, marked_after, setting_of, shut_out}
 use Rattle.gs_router.specs.declared.tables.standings.Standings.{Standings}
 use Rattle.gs_router.specs.Tables.{AgreesOnScores}
 use Rattle.gs_router.proofs.Keeping.{marks_more}
@@ -107,11 +106,13 @@ marks_lower_nothing p at (mark ∷ marks) H = marks_lower_nothing p at marks (ma
     by true = lowers_nothing at mark H
     by false = refl
 
+a_loss_lowers_nothing : (neighbour : Option PeerNo) (H : History) → decays (shut_out neighbour H) ≡ decays H
+a_loss_lowers_nothing None H = refl
+a_loss_lowers_nothing (Some q) H = refl
+
 an_event_lowers_once : (event : Event) (H : History) → decays (changed_after event H) ≤ decays H + 1
 an_event_lowers_once Decay H = omega arith
-an_event_lowers_once (Gone q) H = omega arith
-an_event_lowers_once (Fault q) H = omega arith
-an_event_lowers_once other H = omega arith
+an_event_lowers_once other H = let none = a_loss_lowers_nothing (lost other) H in omega (arith, none)
 
 -- no more often than there are entries
 decays_are_few : (p : Peer) (L : Entries) → decays (history p L) ≤ length L

@@ -1,7 +1,7 @@
 -- One more entry of a router's trace.
-use Rattle.std.proofs.Common.{◌≡◌, ◌≢◌, ◌≤◌, ◌<◌, ◌+◌, arith, ℕ, drop, get_or, length, Bool, true, false, if◌then◌else◌, List, [], ◌∷◌, ◌++◌, Result, Ok, Err, refl, sym, ap, ap₂, subst, subst₂, ◌∙◌, inl, inr}
+use Rattle.std.proofs.Common.{◌≡◌, ◌≢◌, ◌≤◌, ◌<◌, ◌+◌, arith, ℕ, drop, get_or, length, Bool, true, false, if◌then◌else◌, List, [], ◌∷◌, ◌++◌, Option, None, Some, Result, Ok, Err, refl, sym, ap, ap₂, subst, subst₂, ◌∙◌, inl, inr}
 use Rattle.std.proofs.lemmas.List.{drop_more}
-use Rattle.std.specs.Prelude.{not, nat_le, nat_lt, is_some, unwrap_or, OnOk, OnErr, IsErr}
+use Rattle.std.specs.Prelude.{not, nat_le, nat_lt, unwrap_or, OnOk, OnErr, IsErr}
 use Rattle.gs_base.specs.declared.names.PeerNo.{PeerNo}
 use Rattle.gs_base.specs.declared.names.Millis.{Millis}
 use Rattle.gs_base.specs.declared.rpc.Message.{Message}
@@ -16,11 +16,11 @@ use Rattle.gs_base.specs.declared.verdict.Verdict.{Verdict}
 use Rattle.gs_base.specs.declared.verdict.Verdict.TheVariants.{Accept, Reject, Ignore}
 use Rattle.gs_base.specs.declared.mark.Mark.TheVariants as marks
 use Rattle.gs_rules.specs.declared.trace.Event.{Event}
-use Rattle.gs_rules.specs.declared.trace.Event.TheVariants.{Heard, Sub, Msg, Have, Want, GraftIn, PruneIn, Subscribe, Publish, BeatBegin, MeshBeat, FanBeat, GossipBeat}
+use Rattle.gs_rules.specs.declared.trace.Event.TheVariants.{Heard, Sub, Msg, Have, Want, GraftIn, PruneIn, Subscribe, Unsubscribe, Publish, BeatBegin, MeshBeat, FanBeat, FanEnd, GossipBeat}
 use Rattle.gs_rules.specs.declared.trace.Entry.{Entry}
-use Rattle.gs_base.specs.Names.{topic_or_empty, topic_of, payload_of, message_id, is_signed}
-use Rattle.gs_rules.specs.Peers.{Peer, seen_ttl}
-use Rattle.gs_rules.specs.Tables.{Entries, heartbeats, last_moment, joined, offers, seen}
+use Rattle.gs_base.specs.Names.{topic_or_empty, topic_of, payload_of, message_id}
+use Rattle.gs_rules.specs.Peers.{Peer}
+use Rattle.gs_rules.specs.Tables.{Entries, heartbeats, last_moment, lost, joined, offers}
 use Rattle.gs_mesh.specs.Peers.{is_among}
 use Rattle.gs_rules.specs.Meshes.{backoff, fanout, mesh}
 use Rattle.gs_rules.specs.BeatRules.{mending, mesh_beat_rule, scored_members}
@@ -28,7 +28,7 @@ use Rattle.gs_rules.specs.Membership.{candidates, each_on, entering, is_negative
 use Rattle.gs_rules.specs.MeshRules.{fanout_publish, graft_rule, is_full_for, left_by, prune_rule, pruned_by, publish_rule, publishing, refusing, sub_rule}
 use Rattle.gs_rules.specs.Scoring.{is_graylisted, is_ignored, is_passed_over}
 use Rattle.gs_rules.specs.Owed.{Debt, Group, PartsOf, events_in, heartbeat_groups, held_or, nothing, owed, owes, owing, paid, parts, reached}
-use Rattle.gs_rules.specs.Rules.{Rule, Gives, AnyOf, CutOf, OneOf, answering, answers, asked_for, bare, counted, have_rule, ids_in, listeners, rule_of, want_rule, wanted, without}
+use Rattle.gs_rules.specs.Rules.{Rule, Gives, AnyOf, CutOf, OneOf, answering, answers, asked_for, bare, counted, have_rule, ids_in, listeners, lost_or_bare, rule_of, want_rule, wanted, without}
 use Rattle.gs_rules.specs.Outcomes.{found_to_be, message_entry, message_rule}
 use Rattle.gs_rules.specs.Modes.{Mode, Follows, free}
 use Rattle.gs_rules.specs.Legal.{Legal, LegalOn, IsAllowed, IsNext, MayOpen, Begins}
@@ -37,7 +37,6 @@ use Rattle.gs_rules.proofs.Owed.{owes_none}
 use Rattle.gs_rules.proofs.Legality.{Weakens, follows_weakly, legal_on, legal_one, legal_then, legal_weakly}
 use Rattle.gs_router.specs.declared.setup.Setup.{Setup}
 use Rattle.gs_router.specs.declared.state.State.{State}
-use Rattle.gs_router.specs.declared.tables.standings.Standings.{Standings}
 use Rattle.gs_router.specs.Tables.{Agrees, AgreesOnScores, AreMadeFor}
 use Rattle.gs_router.proofs.Maintaining.{of_stepped}
 use Rattle.gs_router.specs.Known.{IsFit, Knows, peer_with}
@@ -139,6 +138,10 @@ mesh_beat_tells p L at t =
     (λ change. Gives (mending p L at t change))
     (λ change. record { moment = refl; tells = refl })
 
+lost_tells : (p : Peer) (L : Entries) (at : Millis) (event : Event) (neighbour : Option PeerNo) → Tells at event (lost_or_bare p L at event neighbour)
+lost_tells p L at event None = record { moment = refl; tells = refl }
+lost_tells p L at event (Some q) = record { moment = refl; tells = refl }
+
 rule_tells : (p : Peer) (L : Entries) (at : Millis) (event : Event) → TellsOnly at event (rule_of p L at event)
 rule_tells p L at (Msg q m) = message_tells p L at q m
 rule_tells p L at (Have q offer) = have_tells p L at q offer
@@ -147,11 +150,14 @@ rule_tells p L at (Sub q sub) = sub_tells p L at q sub
 rule_tells p L at (GraftIn q graft) = graft_tells p L at q graft
 rule_tells p L at (PruneIn q prune) = prune_tells p L at q prune
 rule_tells p L at (Subscribe t) = λ first others. record { moment = refl; tells = refl }
+rule_tells p L at (Unsubscribe t) = record { moment = refl; tells = refl }
 rule_tells p L at (Publish t payload) = publish_tells p L at t payload
+rule_tells p L at BeatBegin = record { moment = refl; tells = refl }
 rule_tells p L at (MeshBeat t) = mesh_beat_tells p L at t
 rule_tells p L at (FanBeat t) = λ chosen. record { moment = refl; tells = refl }
+rule_tells p L at (FanEnd t) = record { moment = refl; tells = refl }
 rule_tells p L at (GossipBeat t) = λ chosen. record { moment = refl; tells = refl }
-rule_tells p L at other = record { moment = refl; tells = refl }
+rule_tells p L at other = lost_tells p L at other (lost other)
 
 follows_tells : (at : Millis) (event : Event) (r : Rule) (x : Entry) → TellsOnly at event r → Follows free r tt x tt → Tells at event x
 follows_tells at event (Gives y) x tells follows = record { moment = follows.0.at ∙ tells.moment; tells = follows.0.event ∙ tells.tells }

@@ -3,14 +3,13 @@ use Rattle.std.specs.Prelude.{◌≡◌, ℕ, Bool, true, false, if◌then◌els
 use Rattle.gs_base.specs.declared.names.PeerNo.{PeerNo}
 use Rattle.gs_base.specs.declared.names.Millis.{Millis}
 use Rattle.gs_rules.specs.declared.trace.Event.{Event}
-use Rattle.gs_rules.specs.declared.trace.Event.TheVariants.{Subscribe, Unsubscribe, Decay, RoundEnd, Gone, Fault, Shut}
 use Rattle.gs_rules.specs.declared.refusal.Refusal.{Refusal}
 use Rattle.gs_rules.specs.declared.refusal.Refusal.TheVariants.{Stopped}
 use Rattle.gs_rules.specs.Peers.{Peer, links_of}
 use Rattle.std.specs.List.{flat_map}
 use Rattle.gs_base.specs.declared.names.Topic.{Topic}
 use Rattle.gs_rules.specs.Meshes.{mesh}
-use Rattle.gs_rules.specs.Tables.{Entries, own_topics}
+use Rattle.gs_rules.specs.Tables.{Entries, lost, own_topics}
 use Rattle.gs_rules.specs.Scoring.{score}
 use Rattle.gs_rules.specs.Modes.{Mode}
 use Rattle.gs_rules.specs.Legal.{Legal, Comes}
@@ -61,9 +60,7 @@ meshes_of L = flat_map (λ t. map (λ q. (t, q)) (mesh L t)) (own_topics L)
 
 -- an event by which this neighbour is lost
 abbrev pub IsLoss : PeerNo → Event → Type 0
-IsLoss q (Gone p) = p ≡ q
-IsLoss q (Fault p) = p ≡ q
-IsLoss q other = ⊥
+IsLoss q event = lost event ≡ Some q
 
 -- ---- how a call ends
 

@@ -25,7 +25,6 @@ mod subscriptions;
 pub mod thresholds;
 
 use crate::entries::publishing::Publishing;
-use crate::entries::sends::bare;
 use crate::known::Known;
 use crate::wish::Wish;
 use gs_base::Millis;
@@ -57,8 +56,6 @@ pub fn entry_of<W: Words>(
         Event::Sub(from, sub) => departures::entry_of(known, from, sub, now),
         Event::GraftIn(from, graft) => grafts::graft(known, from, graft, now),
         Event::PruneIn(from, prune) => grafts::prune(known, from, prune, now),
-        Event::Gone(peer) => departures::lost(known, peer, Event::Gone(peer), now),
-        Event::Fault(peer) => departures::lost(known, peer, Event::Fault(peer), now),
         Event::Subscribe(topic) => subscriptions::subscribe(known, topic, now, words),
         Event::Unsubscribe(topic) => subscriptions::unsubscribe(known, topic, now),
         Event::Publish(topic, payload) => {
@@ -70,7 +67,7 @@ pub fn entry_of<W: Words>(
         Event::FanBeat(topic) => maintenance::fan_beat(known, topic, now, words),
         Event::FanEnd(topic) => maintenance::fan_end(known, topic, now),
         Event::GossipBeat(topic) => heartbeats::gossip(known, topic, now, words),
-        other => Ok(bare(known.alloc, now, other)),
+        other => departures::lost_or_bare(known, other, now),
     }
 }
 
@@ -102,6 +99,8 @@ pub fn refusal_of(
             let id = payloads.identifier(payload);
             publishing::refusal_of_publish(known, topic, payload, id, now)
         }
+        Wish::HangUp(peer) => departures::refusal_of_link(known, *peer),
+        Wish::Raw(peer, _) => departures::refusal_of_link(known, *peer),
         Wish::Decay => refusal_of_anything(known),
         Wish::EndRound(_) => refusal_of_anything(known),
         Wish::Shut => refusal_of_anything(known),

@@ -210,6 +210,45 @@ impl Router {
         self.obey(Wish::Publish(topic, payload), now, words)
     }
 
+    /// Closes the link to a neighbour, behind what was sent to it. The neighbour leaves every mesh and every fanout; what is
+    /// missing of its deliveries in those meshes is charged (gossipsub v1.1, "Peer Scoring", P3b), and it counts no more at
+    /// its address (P6). It is sent nothing any more, what still comes of it is late, and neither the end of its link nor
+    /// its faults make an entry.
+    ///
+    /// # Errors
+    /// `Stopped` and `NotOpen`, in this order, and `NoMemory`.
+    pub fn hang_up<W: Words>(
+        &mut self,
+        peer: PeerNo,
+        now: Millis,
+        words: &mut W,
+    ) -> Result<(), RouterFault>
+        requires { last_moment self.old.trace ≤ now.0 }
+        ensures { Calls (exact W.word W.after) (Some (events.HangUp peer)) now
+            self.old words.old result self.new words.new }
+    {
+        self.obey(Wish::HangUp(peer), now, words)
+    }
+
+    /// Puts any number of bytes on the link to a neighbour as they are, whether they spell an RPC or not, behind what was sent
+    /// to it and ahead of what is sent later. Nothing else changes.
+    ///
+    /// # Errors
+    /// `Stopped` and `NotOpen`, in this order, and `NoMemory`.
+    pub fn raw<W: Words>(
+        &mut self,
+        peer: PeerNo,
+        bytes: Bytes,
+        now: Millis,
+        words: &mut W,
+    ) -> Result<(), RouterFault>
+        requires { last_moment self.old.trace ≤ now.0 }
+        ensures { Calls (exact W.word W.after) (Some (events.Raw peer bytes)) now
+            self.old words.old result self.new words.new }
+    {
+        self.obey(Wish::Raw(peer, bytes), now, words)
+    }
+
     /// Has a heartbeat (gossipsub v1.0, Heartbeat): charges promises that were broken, mends each mesh, mends each fanout
     /// or ends it where nothing was published for `fanout_ttl_ms`, gossips on each topic on which there is something, and
     /// begins a new window of what is kept.

@@ -1,13 +1,16 @@
-//! Neighbours that leave a topic, and those that are lost.
-ghost use Rattle.std.specs.Prelude.{◌≡◌, ◌++◌, IfOk, OnOk, List, filter, map};
+//! Neighbours that leave a topic, and those that are lost; and what is refused where a link is not open.
+ghost use Rattle.std.specs.Prelude.{◌≡◌, [], ◌∷◌, ◌++◌, not, IfOk, OnOk, List, filter, map};
 ghost use Rattle.gs_base.specs.Names.{topic_or_empty};
 ghost use Rattle.gs_base.specs.declared.mark.Mark.TheVariants.{Unfanned};
 ghost use Rattle.gs_base.specs.declared.names.Topic.{Topic as TopicValue};
 ghost use Rattle.gs_mesh.specs.Peers.{is_among};
-ghost use Rattle.gs_rules.specs.Tables.{Entries};
+ghost use Rattle.gs_rules.specs.Tables.{Entries, is_shut, lost, up};
 ghost use Rattle.gs_rules.specs.Membership.{losing_marks};
 ghost use Rattle.gs_rules.specs.Meshes.{fanout};
 ghost use Rattle.gs_rules.specs.MeshRules.{fanned_of, left_by, lost_rule, sub_rule};
+ghost use Rattle.gs_rules.specs.Rules.{lost_or_bare};
+ghost use Rattle.gs_rules.specs.Refusals.{first_of};
+ghost use Rattle.gs_rules.specs.declared.refusal.Refusal.TheVariants as refusals;
 ghost use Rattle.gs_router.specs.Tables.{Agrees};
 ghost use Rattle.gs_router.specs.Known.{Knows, peer_with};
 
@@ -15,7 +18,7 @@ use crate::entries::membership;
 use crate::entries::sends::bare;
 use crate::known::Known;
 use gs_base::{Mark, Millis, PeerNo, Seq, SubOpt, Topic, clone_of};
-use gs_rules::{Entry, Event};
+use gs_rules::{Entry, Event, Refusal};
 use std::alloc::AllocError;
 
 /// The entry of a neighbour that subscribes to a topic, or leaves it.
@@ -62,8 +65,21 @@ fn fanned_of(known: &Known, topic: &Topic, peer: PeerNo) -> Result<Vec<PeerNo>, 
     Ok(found)
 }
 
+/// The entry of an event that has no rule of its own: where it loses a neighbour, that leaves every mesh and every fanout,
+/// and where it loses none, there is the event alone.
+pub fn lost_or_bare(known: &Known, event: Event, now: Millis) -> Result<Entry, AllocError>
+    ensures { IfOk result (λ entry. (L : Entries)
+        → Knows known.now now.0 L
+        → entry ≡ lost_or_bare (peer_with known.now.setup) L now event (lost event)) }
+{
+    match event.lost() {
+        Some(peer) => lost(known, peer, event, now),
+        None => Ok(bare(known.alloc, now, event)),
+    }
+}
+
 /// The entry of an event by which a neighbour is lost: it leaves every mesh and every fanout.
-pub fn lost(known: &Known, peer: PeerNo, event: Event, now: Millis) -> Result<Entry, AllocError>
+fn lost(known: &Known, peer: PeerNo, event: Event, now: Millis) -> Result<Entry, AllocError>
     ensures { IfOk result (λ entry. (L : Entries)
         → Knows known.now now.0 L
         → entry ≡ lost_rule (peer_with known.now.setup) L now peer event) }
@@ -107,4 +123,19 @@ fn unfan_everywhere(
         }
     }
     Ok(())
+}
+
+/// Why nothing may be done to a neighbour's link.
+pub fn refusal_of_link(known: &Known, peer: PeerNo) -> Option<Refusal>
+    ensures { (L : Entries)
+        → Agrees known.now.tables L
+        → result ≡ first_of ((is_shut L, refusals.Stopped) ∷ (not (up L peer), refusals.NotOpen) ∷ []) }
+{
+    if known.tables.neighbours.is_shut() {
+        return Some(Refusal::Stopped);
+    }
+    if !known.tables.neighbours.is_up(peer) {
+        return Some(Refusal::NotOpen);
+    }
+    None
 }

@@ -1,5 +1,5 @@
 ghost use Rattle.std.specs.Prelude.{◌≡◌, [], ◌∷◌, OnOk};
-ghost use Rattle.gs_rules.specs.Tables.{Entries, is_shut, up};
+ghost use Rattle.gs_rules.specs.Tables.{Entries, is_shut, is_shut_after, up};
 ghost use Rattle.gs_router.specs.Tables.{AgreesOnNeighbours};
 
 use crate::peer_set::PeerSet;
@@ -10,7 +10,6 @@ use std::alloc::{AllocError, Global};
 /// Which neighbours are heard and sent to: after `Shut` none.
 #[derive(Drop)]
 pub struct Neighbours {
-    /// Those that went or were at fault.
     lost: PeerSet,
     is_shut: bool,
 }
@@ -40,7 +39,7 @@ impl Neighbours {
         !(self.is_shut || self.lost.contains(peer))
     }
 
-    /// Notes who is lost (`Gone`, `Fault`), and that the router shuts down (`Shut`).
+    /// Notes who is lost (`Event::lost`), and that the router shuts down (`Shut`).
     ///
     /// # Errors
     /// `AllocError` where there was no memory.
@@ -49,20 +48,25 @@ impl Neighbours {
             → AgreesOnNeighbours self.old L
             → AgreesOnNeighbours self.new (entry.now ∷ L)) }
     {
-        match &entry.event {
-            Event::Gone(peer) => {
-                self.lost.put(*peer, true)?;
+        match entry.event.lost() {
+            Some(peer) => {
+                self.lost.put(peer, true)?;
                 Ok(())
             }
-            Event::Fault(peer) => {
-                self.lost.put(*peer, true)?;
+            None => {
+                self.note_shut(&entry.event);
                 Ok(())
             }
-            Event::Shut => {
-                self.is_shut = true;
-                Ok(())
-            }
-            _ => Ok(()),
+        }
+    }
+
+    fn note_shut(&mut self, event: &Event)
+        ensures shut { self.new.is_shut ≡ is_shut_after event.now self.old.is_shut }
+        ensures same { self.new.lost ≡ self.old.lost }
+    {
+        match event {
+            Event::Shut => self.is_shut = true,
+            _ => {}
         }
     }
 }

@@ -1,4 +1,4 @@
-ghost use Rattle.std.specs.Prelude.{◌≡◌, ◌≤◌, ◌<◌, ◌+◌, ◌^◌, [], ◌∷◌, unsigned_abs, All, IfOk, OnOk, if◌then◌else◌};
+ghost use Rattle.std.specs.Prelude.{◌≡◌, ◌≤◌, ◌<◌, ◌+◌, ◌^◌, [], ◌∷◌, unsigned_abs, All, None, IfOk, OnOk, if◌then◌else◌};
 ghost use Rattle.gs_base.specs.Names.{peers_of};
 ghost use Rattle.gs_base.specs.declared.neighbour.Neighbour.{Neighbour as NeighbourValue};
 ghost use Rattle.gs_params.specs.Params.{AreInRange};
@@ -7,7 +7,7 @@ ghost use Rattle.gs_score.specs.Accounts.{rules_of};
 ghost use Rattle.gs_score.specs.Formula.{p3};
 ghost use Rattle.gs_score.specs.Histories.{Agrees, History, Marked, held_by};
 ghost use Rattle.gs_rules.specs.Peers.{Peer};
-ghost use Rattle.gs_rules.specs.Tables.{Entries, after_marks};
+ghost use Rattle.gs_rules.specs.Tables.{Entries, after_marks, lost};
 ghost use Rattle.gs_rules.specs.Scoring.{changed_after, history, is_counted, marked_after, score, setting_of};
 ghost use Rattle.gs_router.specs.Tables.{AgreesOnScores};
 
@@ -82,10 +82,22 @@ impl Standings {
             → Agrees (setting_of p) self.old.scores H
             → Agrees (setting_of p) self.new.scores (changed_after event.now H) }
     {
+        match event.lost() {
+            Some(peer) => self.scores.shut_out(peer),
+            None => self.note_decay(event),
+        }
+    }
+
+    /// Notes an event that loses no neighbour.
+    fn note_decay(&mut self, event: &Event)
+        requires keeps { lost event.now ≡ None }
+        requires few { self.old.scores.tick < 2 ^ 63 }
+        ensures { (p : Peer) (H : History)
+            → Agrees (setting_of p) self.old.scores H
+            → Agrees (setting_of p) self.new.scores (changed_after event.now H) }
+    {
         match event {
             Event::Decay => self.scores.decay(),
-            Event::Gone(peer) => self.scores.shut_out(*peer),
-            Event::Fault(peer) => self.scores.shut_out(*peer),
             _ => {}
         }
     }

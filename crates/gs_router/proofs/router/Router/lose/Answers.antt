@@ -1,5 +1,6 @@
-use Rattle.std.proofs.Common.{◌∙◌, Option, refl, sym, subst}
+use Rattle.std.proofs.Common.{◌≡◌, ◌∙◌, Option, true, sym, subst}
 use Rattle.gs_rules.specs.declared.trace.Event.{Event}
+use Rattle.gs_rules.specs.Tables.{up}
 use Rattle.gs_rules.specs.Modes.{exact}
 use Rattle.gs_router.specs.Known.{peer_with}
 use Rattle.gs_router.specs.Router.{Calls, view_of}
@@ -26,5 +27,6 @@ returns g c =
     let s = c.self.inside.state in
     let ready = c.self.invariant.ready c.if-self.false in
     let event : Event = c.args.event in
-    let call = ends_call (exact g.W.Words.word g.W.Words.after) event c.args.now s c.open-done.new.self c.args.words.now c.open-done.new.words c.self.inside.is_stopped c.ended.new.is_stopped c.if-self.false c.open-done.result c.ended.result c.ended.ensures.answer c.ended.ensures.stopped (loss_free (peer_with s.known.setup) s.trace c.args.now.0 c.args.peer event c.requires.loss) c.open-done.ensures in
-    rw (← c.self.view_is) (subst (λ (o : Option Event). Calls (exact g.W.Words.word g.W.Words.after) o c.args.now (view_of s c.self.inside.is_stopped) c.args.words.now c.ended.result (view_of c.open-done.new.self c.ended.new.is_stopped) c.open-done.new.words) (sym (loses s.trace c.args.peer event (sym (c.is_up.ensures s.trace ready.current.agrees.neighbours) ∙ c.if-not-is_up.false))) call)
+    let is_up : up s.trace c.args.peer ≡ true = sym (c.is_up.ensures s.trace ready.current.agrees.neighbours) ∙ c.if-not-is_up.false in
+    let call = ends_call (exact g.W.Words.word g.W.Words.after) event c.args.now s c.open-done.new.self c.args.words.now c.open-done.new.words c.self.inside.is_stopped c.ended.new.is_stopped c.if-self.false c.open-done.result c.ended.result c.ended.ensures.answer c.ended.ensures.stopped (loss_free (peer_with s.known.setup) s.trace c.args.now.0 c.args.peer event c.requires.loss is_up) c.open-done.ensures in
+    rw (← c.self.view_is) (subst (λ (o : Option Event). Calls (exact g.W.Words.word g.W.Words.after) o c.args.now (view_of s c.self.inside.is_stopped) c.args.words.now c.ended.result (view_of c.open-done.new.self c.ended.new.is_stopped) c.open-done.new.words) (sym (loses s.trace c.args.peer event is_up)) call)
