@@ -108,6 +108,26 @@ fn wish(
     }
 }
 
+/// Has a router do what its user wishes of a link.
+fn use_link(
+    alloc: Global,
+    router: &mut Router,
+    now: Millis,
+    act: Act<'_>,
+    words: &mut SeededWords,
+) -> Result<Answer, AllocError>
+    requires { last_moment router.old.trace ≤ now.0 }
+{
+    match act {
+        Act::HangUp(peer) => Ok(router.hang_up(PeerNo(peer), now, words)),
+        Act::Raw(peer, bytes) => {
+            let bytes = Bytes::copy_from_slice(alloc, bytes)?;
+            Ok(router.raw(PeerNo(peer), bytes, now, words))
+        }
+        _ => Err(AllocError),
+    }
+}
+
 /// Has a router do what comes with time, or with the end of a link or of its life.
 fn turn(
     router: &mut Router,
@@ -144,6 +164,7 @@ pub fn once(
         Act::Subscribe(_) | Act::Unsubscribe(_) | Act::Publish(_, _) => {
             wish(alloc, router, now, act, words)
         }
+        Act::HangUp(_) | Act::Raw(_, _) => use_link(alloc, router, now, act, words),
         _ => turn(router, now, act, words),
     }
 }

@@ -8,6 +8,8 @@ use gs_params::{
 #[derive(Clone, Copy, Debug)]
 pub enum Id<'a> {
     Of(&'a [u8]),
+    /// By its bytes, in what a neighbour says. It is seen by its payload.
+    Is(&'a [u8]),
     /// All but its last byte.
     ShortOf(&'a [u8]),
     /// That of a payload of which `PAYLOADS` knows nothing.
@@ -74,6 +76,10 @@ pub enum Act<'a> {
     SubscribeEach(u16),
     Unsubscribe(&'a str),
     Publish(&'a str, &'a [u8]),
+    /// It hangs up on a neighbour.
+    HangUp(u16),
+    /// It puts these bytes on the link to a neighbour.
+    Raw(u16, &'a [u8]),
     Heartbeat,
     Decay,
     EndRound(u64),
@@ -108,6 +114,8 @@ pub enum Seen<'a> {
     RoundEnd(u64),
     Gone(u16),
     Fault(u16),
+    HangUp(u16),
+    Raw(u16, &'a [u8]),
     Shut,
     // what is done
     Sent(u16, Said<'a>),

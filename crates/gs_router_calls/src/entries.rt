@@ -5,7 +5,7 @@ use crate::shown::{
     text_of,
 };
 use gs_base::{Mark, Millis, MsgId, PeerNo, Verdict};
-use gs_rules::{Entry, Event, Promise};
+use gs_rules::{Entry, Event, Promise, Trace};
 use std::alloc::AllocError;
 
 // ---- events
@@ -26,6 +26,8 @@ fn seen_of(event: &Event) -> Option<Seen<'_>> {
         Event::RoundEnd(round) => Seen::RoundEnd(*round),
         Event::Gone(peer) => Seen::Gone(peer.0),
         Event::Fault(peer) => Seen::Fault(peer.0),
+        Event::HangUp(peer) => Seen::HangUp(peer.0),
+        Event::Raw(peer, bytes) => Seen::Raw(peer.0, bytes.as_slice()),
         Event::Shut => Seen::Shut,
         _ => return None,
     })
@@ -144,6 +146,17 @@ fn say_entry(
         say_event(shown, &entry.event)?;
     }
     say_effects(shown, entry)
+}
+
+/// Adds all entries of a trace with their events, each behind its moment where that is another than the one before, which
+/// is 0 at first.
+pub fn say_trace(shown: &mut Shown, trace: &Trace) -> Result<(), AllocError> {
+    let mut before = Millis(0);
+    for entry in trace.entries() {
+        say_entry(shown, entry, before, true)?;
+        before = entry.at;
+    }
+    Ok(())
 }
 
 /// Adds the entries of an act at this moment.

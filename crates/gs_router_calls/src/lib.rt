@@ -13,4 +13,4 @@ pub use cases::{
     Act, Ask, Case, Fields, Id, Kind, NO_FIELDS, NO_RULES, NO_TOPIC, NOTHING, Rules, Said, Seen,
     Step,
 };
-pub use play::{Outcome, events_in, left_by, played, text_of_all};
+pub use play::{Outcome, events_in, left_by, played, text_of_all, wanted_of};

@@ -1,7 +1,7 @@
 //! Cases, played step by step.
 use crate::calls::{Answer, all_but_last, once};
 use crate::cases::{Act, Ask, Case, Seen, Step};
-use crate::entries::{say_entries, say_event};
+use crate::entries::{say_entries, say_event, say_trace};
 use crate::routers::{router_of, topic_of};
 use crate::shown::{Shown, text_of};
 use gs_base::{Millis, PeerNo};
@@ -220,13 +220,59 @@ pub fn events_in(alloc: Global, trace: &Trace) -> Result<String, AllocError> {
     Ok(shown.text)
 }
 
-/// The events of the trace that the router of a case leaves.
+/// All entries of a trace, as text.
+fn text_of_trace(alloc: Global, trace: &Trace) -> Result<String, AllocError> {
+    let mut shown = nothing_shown(alloc);
+    say_trace(&mut shown, trace)?;
+    Ok(shown.text)
+}
+
+/// Whether this is seen of an entry: it is neither a refusal nor an answer.
+fn is_of_an_entry(seen: &Seen<'_>) -> bool {
+    match seen {
+        Seen::Refused(_) => false,
+        Seen::Members(_, _) | Seen::Member(_, _) | Seen::Score(_, _) | Seen::IsUp(_, _) => false,
+        Seen::LastMoment(_) | Seen::HeartbeatMs(_) | Seen::DecayMs(_) => false,
+        _ => true,
+    }
+}
+
+/// Adds what must be seen of entries at a moment, behind that moment where it is another than the one before.
+fn say_wanted(
+    shown: &mut Shown,
+    before: &mut u64,
+    at: u64,
+    list: &[Seen<'_>],
+) -> Result<(), AllocError> {
+    for seen in list {
+        if is_of_an_entry(seen) {
+            if at != *before {
+                shown.add(Seen::At(at))?;
+                *before = at;
+            }
+            shown.add(*seen)?;
+        }
+    }
+    Ok(())
+}
+
+/// All entries that must be seen of the steps of a case which sees all events, as text.
+pub fn wanted_of(alloc: Global, case: &Case<'_>) -> Result<String, AllocError> {
+    let mut shown = nothing_shown(alloc);
+    let mut before = 0u64;
+    for (at, _, list) in case.steps {
+        say_wanted(&mut shown, &mut before, *at, list)?;
+    }
+    Ok(shown.text)
+}
+
+/// All entries of the trace that the router of a case leaves, as text.
 pub fn left_by(alloc: Global, case: &Case<'_>) -> Result<String, AllocError> {
     let mut player = player_of(alloc, case)?;
     all_steps(&mut player, case)?;
     let Player { router, .. } = player;
     let trace = router.into_trace();
-    let events = events_in(alloc, &trace);
+    let text = text_of_trace(alloc, &trace);
     drop(trace);
-    events
+    text
 }

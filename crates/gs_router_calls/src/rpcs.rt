@@ -23,6 +23,7 @@ fn field(alloc: Global, bytes: Option<&[u8]>) -> Result<Option<Bytes>, AllocErro
 fn id_bytes(alloc: Global, id: Id<'_>) -> Result<Bytes, AllocError> {
     match id {
         Id::Of(payload) => Bytes::copy_from_slice(alloc, &MsgId::of(payload).0),
+        Id::Is(bytes) => Bytes::copy_from_slice(alloc, bytes),
         Id::ShortOf(payload) => Bytes::copy_from_slice(alloc, &MsgId::of(payload).0[..31]),
         Id::Unknown => Ok(Bytes::new()),
     }

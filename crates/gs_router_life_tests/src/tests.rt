@@ -5,6 +5,7 @@ mod offers;
 mod promises;
 mod readings;
 mod scores;
+mod ten_promises;
 
 use crate::tests::gossip::GOSSIP;
 use crate::tests::listeners::LISTENERS;
@@ -12,6 +13,7 @@ use crate::tests::offers::OFFERS;
 use crate::tests::promises::PROMISES;
 use crate::tests::readings::READINGS;
 use crate::tests::scores::SCORES;
+use crate::tests::ten_promises::TEN_PROMISES;
 use gs_router_calls::{Case, played};
 use std::alloc::AllocError;
 use std::process::Abort;
@@ -38,6 +40,11 @@ fn offers_and_requests(rt: HostRuntime) -> Result<(), AllocError> {
 #[test]
 fn promises_that_are_kept_and_broken(rt: HostRuntime) -> Result<(), AllocError> {
     check(&rt, PROMISES)
+}
+
+#[test]
+fn ten_promises_of_which_one_is_broken(rt: HostRuntime) -> Result<(), AllocError> {
+    check(&rt, TEN_PROMISES)
 }
 
 #[test]

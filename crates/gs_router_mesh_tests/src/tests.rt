@@ -1,13 +1,17 @@
 //! The mesh and the fanout of one topic, step by step.
 mod better;
+mod charges;
 mod fanouts;
 mod grafts;
+mod losses;
 mod mends;
 mod traffic;
 
 use crate::tests::better::BETTER;
+use crate::tests::charges::CHARGES;
 use crate::tests::fanouts::FANOUTS;
 use crate::tests::grafts::GRAFTS;
+use crate::tests::losses::LOSSES;
 use crate::tests::mends::MENDS;
 use crate::tests::traffic::TRAFFIC;
 use gs_router_calls::{Case, played};
@@ -41,6 +45,16 @@ fn fanouts_that_are_made_mended_and_ended(rt: HostRuntime) -> Result<(), AllocEr
 #[test]
 fn messages_through_a_mesh_and_members_that_leave(rt: HostRuntime) -> Result<(), AllocError> {
     check(&rt, TRAFFIC)
+}
+
+#[test]
+fn members_that_are_lost_and_charged(rt: HostRuntime) -> Result<(), AllocError> {
+    check(&rt, LOSSES)
+}
+
+#[test]
+fn charges_of_what_is_missing(rt: HostRuntime) -> Result<(), AllocError> {
+    check(&rt, CHARGES)
 }
 
 #[test]

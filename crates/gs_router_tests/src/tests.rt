@@ -1,14 +1,18 @@
 //! Routers with neighbours 1 and 2: what their calls answer, and the traces that are left.
 mod bounds;
+mod identifiers;
+mod links;
 mod messages;
 mod topics;
 mod verdicts;
 
+use crate::tests::identifiers::IDENTIFIERS;
+use crate::tests::links::LINKS;
 use crate::tests::messages::MESSAGES;
 use crate::tests::topics::TOPICS;
 use crate::tests::verdicts::VERDICTS;
 use gs_router::RouterFault;
-use gs_router_calls::{Act, Case, NOTHING, Said, Seen, left_by, played, text_of_all};
+use gs_router_calls::{Case, left_by, played, wanted_of};
 use gs_rules::Refusal;
 use std::alloc::AllocError;
 use std::process::Abort;
@@ -33,6 +37,11 @@ fn topics_that_are_joined_left_and_refused(rt: HostRuntime) -> Result<(), AllocE
 }
 
 #[test]
+fn links_that_the_user_closes_and_writes_to(rt: HostRuntime) -> Result<(), AllocError> {
+    check(&rt, LINKS)
+}
+
+#[test]
 fn messages_that_come_and_are_published(rt: HostRuntime) -> Result<(), AllocError> {
     check(&rt, MESSAGES)
 }
@@ -42,31 +51,25 @@ fn verdicts_of_payloads(rt: HostRuntime) -> Result<(), AllocError> {
     check(&rt, VERDICTS)
 }
 
-/// A router that subscribes, hears a neighbour subscribe, and shuts down.
-static SHORT: Case<'static> = Case {
-    name: "a short life",
-    steps: &[
-        (0, Act::Subscribe("a"), &[]),
-        (5, Act::Hear(1, &[Said::On("a")]), &[]),
-        (9, Act::Shut, &[]),
-    ],
-    ..NOTHING
-};
+#[test]
+fn identifiers_of_messages(rt: HostRuntime) -> Result<(), AllocError> {
+    check(&rt, IDENTIFIERS)
+}
 
-/// The events of that life.
-static SHORT_TRACE: &[Seen<'static>] = &[
-    Seen::Subscribe("a"),
-    Seen::Heard(1, Said::On("a")),
-    Seen::Handled(1, Said::On("a")),
-    Seen::Shut,
-];
+/// Checks that the router of each case leaves just the entries that are seen of its steps.
+fn check_left<R: AllocGlobal + Abort>(rt: &R, cases: &[Case<'_>]) -> Result<(), AllocError> {
+    for case in cases {
+        let left = left_by(rt.alloc(), case)?;
+        let wanted = wanted_of(rt.alloc(), case)?;
+        assert_eq!(rt; left.as_str(), wanted.as_str(), "{}", case.name);
+    }
+    Ok(())
+}
 
 #[test]
 fn a_router_leaves_its_whole_trace(rt: HostRuntime) -> Result<(), AllocError> {
-    let left = left_by(rt.alloc(), &SHORT)?;
-    let wanted = text_of_all(rt.alloc(), SHORT_TRACE)?;
-    assert_eq!(rt; left.as_str(), wanted.as_str(), "{}", SHORT.name);
-    Ok(())
+    check_left(&rt, TOPICS)?;
+    check_left(&rt, MESSAGES)
 }
 
 /// The numbers and the texts of faults.
@@ -80,6 +83,11 @@ static FAULTS: &[(RouterFault, u8, &str)] = &[
         RouterFault::Refused(Refusal::Stopped),
         21,
         "the peer has stopped",
+    ),
+    (
+        RouterFault::Refused(Refusal::NotOpen),
+        33,
+        "the link to the neighbour is not open",
     ),
     (RouterFault::NoMemory, 20, "there was no memory"),
 ];

@@ -1,15 +1,28 @@
 //! Promises, kept and broken.
-use gs_router_calls::Act::{Gone, Hear, Heartbeat, Publish, Subscribe};
+use gs_router_calls::Act::{Gone, HangUp, Hear, Heartbeat, Publish, Subscribe};
 use gs_router_calls::Id::Of;
 use gs_router_calls::Said::{Have, Message, On, Want};
 use gs_router_calls::Seen::{
     Accepted, Asked, Cached, Delivered, First, GossipBeat, Ignored, Invalid, MeshBeat,
-    Misbehaviour, Offered, Promised, Rejected, Sent,
+    Misbehaviour, Offered, Promised, Rejected, Score, Sent,
 };
-use gs_router_calls::{Case, NO_RULES, NOTHING, Rules, Seen};
+use gs_router_calls::{Ask, Case, Id, NO_RULES, NOTHING, Rules, Seen};
 
 /// All neighbours are told that the router subscribes.
 const JOINED: &[Seen<'static>] = &[Sent(1, On("a")), Sent(2, On("a"))];
+
+/// The identifiers of nine messages.
+const NINE: &[Id<'static>] = &[
+    Of(&[1]),
+    Of(&[2]),
+    Of(&[3]),
+    Of(&[4]),
+    Of(&[5]),
+    Of(&[6]),
+    Of(&[7]),
+    Of(&[8]),
+    Of(&[9]),
+];
 
 pub static PROMISES: &[Case<'static>] = &[
     // A promise is kept by a message of its maker or of another neighbour, by one that is rejected or ignored, and by one that
@@ -203,6 +216,92 @@ pub static PROMISES: &[Case<'static>] = &[
             ),
             (3_001, Heartbeat, &[Misbehaviour(2), MeshBeat("a")]),
             (3_002, Heartbeat, &[MeshBeat("a")]),
+        ],
+        ..NOTHING
+    },
+    // Of nine identifiers neighbour 1 promises the one at place 22 modulo 9, which is 4, and neighbour 2 the one at place 16
+    // modulo 9, which is 7. The latter alone comes, so neighbour 1 is charged, for one promise.
+    Case {
+        name: "of nine identifiers in one offer one is promised",
+        words: &[22, 16],
+        asks: &[Ask::Scores],
+        steps: &[
+            (
+                0,
+                Subscribe("a"),
+                &[Sent(1, On("a")), Sent(2, On("a")), Score(1, 0), Score(2, 0)],
+            ),
+            (
+                0,
+                Hear(1, &[Have("a", NINE)]),
+                &[
+                    Sent(1, Want(NINE)),
+                    Promised(1, Of(&[5]), 3_000),
+                    Offered(1),
+                    Asked(1, 9),
+                ],
+            ),
+            (
+                0,
+                Hear(2, &[Have("a", NINE)]),
+                &[
+                    Sent(2, Want(NINE)),
+                    Promised(2, Of(&[8]), 3_000),
+                    Offered(2),
+                    Asked(2, 9),
+                ],
+            ),
+            (
+                100,
+                Hear(2, &[Message("a", &[8])]),
+                &[
+                    Delivered("a", &[8]),
+                    Accepted(Of(&[8])),
+                    First(2, "a", Of(&[8])),
+                    Cached(Of(&[8]), "a"),
+                ],
+            ),
+            (
+                3_000,
+                Heartbeat,
+                &[
+                    Misbehaviour(1),
+                    MeshBeat("a"),
+                    GossipBeat("a"),
+                    Score(1, -10_000_000),
+                    Score(2, 0),
+                ],
+            ),
+            (4_000, Heartbeat, &[MeshBeat("a"), GossipBeat("a")]),
+        ],
+        ..NOTHING
+    },
+    Case {
+        name: "who was hung up on breaks no promise",
+        steps: &[
+            (0, Subscribe("a"), JOINED),
+            (
+                0,
+                Hear(1, &[Have("a", &[Of(&[1])])]),
+                &[
+                    Sent(1, Want(&[Of(&[1])])),
+                    Promised(1, Of(&[1]), 3_000),
+                    Offered(1),
+                    Asked(1, 1),
+                ],
+            ),
+            (
+                0,
+                Hear(2, &[Have("a", &[Of(&[2])])]),
+                &[
+                    Sent(2, Want(&[Of(&[2])])),
+                    Promised(2, Of(&[2]), 3_000),
+                    Offered(2),
+                    Asked(2, 1),
+                ],
+            ),
+            (2_999, HangUp(2), &[]),
+            (3_000, Heartbeat, &[Misbehaviour(1), MeshBeat("a")]),
         ],
         ..NOTHING
     },

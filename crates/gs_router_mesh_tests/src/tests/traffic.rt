@@ -1,11 +1,10 @@
-//! What goes through a mesh, who leaves it, and what that costs.
+//! What goes through a mesh, and who leaves it.
 use gs_params::{DEFAULT_TOPIC_FACTORS, TopicFactors};
-use gs_router_calls::Act::{Decay, Fault, Gone, Hear, Publish, Subscribe};
+use gs_router_calls::Act::{Fault, Gone, Hear, Publish, Subscribe};
 use gs_router_calls::Id::Of;
-use gs_router_calls::Said::{Graft, Message, Off, On, Prune};
+use gs_router_calls::Said::{Graft, Message, Off, On};
 use gs_router_calls::Seen::{
-    Accepted, Backoff, Cached, Deficit, Delivered, First, Grafted, Invalid, Members, Near, Pruned,
-    Rejected, Score, Sent,
+    Accepted, Cached, Delivered, First, Grafted, Invalid, Members, Near, Pruned, Rejected, Sent,
 };
 use gs_router_calls::{Act, Ask, Case, Kind, NO_RULES, NOTHING, Rules, Seen};
 
@@ -20,17 +19,6 @@ const JUDGING: Rules<'static> = Rules {
     reject: &[&[0xff]],
     factors: TopicFactors {
         w4: -60_000_000,
-        ..DEFAULT_TOPIC_FACTORS
-    },
-    ..NO_RULES
-};
-
-/// Two deliveries should be there, and what is missing costs its square.
-const DEMANDING: Rules<'static> = Rules {
-    factors: TopicFactors {
-        p3_threshold: 2_000_000,
-        w3: -1_000_000,
-        w3b: -1_000_000,
         ..DEFAULT_TOPIC_FACTORS
     },
     ..NO_RULES
@@ -183,66 +171,6 @@ pub static TRAFFIC: &[Case<'static>] = &[
             ),
             (2, Gone(2), &[Pruned(2, "a"), Members("a", &[3])]),
             (3, Fault(3), &[Pruned(3, "a"), Members("a", &[])]),
-        ],
-        ..NOTHING
-    },
-    // One delivery of two that should be there, halved once: the square of the 1.5 that are missing is 2.25. It counts from
-    // 5,000 milliseconds in the mesh on. Whoever is pruned then is charged with it, and that is halved in turn.
-    // The backoff is that of a PRUNE without seconds: 60 from 5,000 on.
-    Case {
-        name: "what is missing costs in the mesh and behind it, and a PRUNE charges it",
-        neighbours: 4,
-        kinds: FOUR,
-        asks: &[Ask::Members("a"), Ask::Score(1)],
-        topics: &[DEMANDING],
-        steps: &[
-            (
-                0,
-                Subscribe("a"),
-                &[
-                    Sent(1, On("a")),
-                    Sent(2, On("a")),
-                    Sent(3, On("a")),
-                    Sent(4, On("a")),
-                    Members("a", &[]),
-                    Score(1, 0),
-                ],
-            ),
-            (
-                0,
-                GRAFT_1,
-                &[Grafted(1, "a"), Members("a", &[1]), Score(1, 0)],
-            ),
-            (
-                1,
-                Hear(1, &[Message("a", &[5])]),
-                &[
-                    Delivered("a", &[5]),
-                    Accepted(Of(&[5])),
-                    First(1, "a", Of(&[5])),
-                    Near(1, "a", Of(&[5])),
-                    Cached(Of(&[5]), "a"),
-                ],
-            ),
-            (1_000, Decay, &[]),
-            (4_999, Hear(1, &[On("a")]), &[]),
-            (
-                5_000,
-                Hear(1, &[On("a")]),
-                &[Members("a", &[1]), Score(1, -2_250_000)],
-            ),
-            (
-                5_000,
-                Hear(1, &[Prune("a", None)]),
-                &[
-                    Pruned(1, "a"),
-                    Deficit(1, "a", 2_250_000),
-                    Backoff(1, "a", 65_000),
-                    Members("a", &[]),
-                    Score(1, -2_250_000),
-                ],
-            ),
-            (6_000, Decay, &[Members("a", &[]), Score(1, -1_125_000)]),
         ],
         ..NOTHING
     },

@@ -127,6 +127,8 @@ pub static TOPICS: &[Case<'static>] = &[
             (200, Act::Publish("a", b"abc"), &[Seen::Refused(21)]),
             (200, Act::Heartbeat, &[Seen::Refused(21)]),
             (200, Act::EndRound(2), &[Seen::Refused(21)]),
+            (200, Act::HangUp(1), &[Seen::Refused(21)]),
+            (200, Act::Raw(1, b"abc"), &[Seen::Refused(21)]),
             (200, Act::Shut, &[Seen::Refused(21)]),
             (
                 300,
