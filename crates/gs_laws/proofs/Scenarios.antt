@@ -102,7 +102,7 @@ rest_of top workers capacity = do
   peers ← read_each peer_in [] top.peers
   dials ← read_each (dial_in peers) [] top.dials
   apps ← read_each (app_in peers dials) [] top.apps
-  script ← read_each (line_in topics peers top.rounds) [] top.script
+  script ← read_each (line_in topics peers dials top.rounds) [] top.script
   params ← params_of shared topics
   Ok (record {
     round_ms = top.round_ms;
@@ -134,7 +134,7 @@ rests_alike top workers other capacity another =
     then_alike (read_each peer_in [] top.peers) _ _ (λ peers.
     then_alike (read_each (dial_in peers) [] top.dials) _ _ (λ dials.
     then_alike (read_each (app_in peers dials) [] top.apps) _ _ (λ apps.
-    then_alike (read_each (line_in topics peers top.rounds) [] top.script) _ _ (λ script.
+    then_alike (read_each (line_in topics peers dials top.rounds) [] top.script) _ _ (λ script.
     then_alike (params_of shared topics) _ _ (λ params. refl)))))))
 
 -- the top table of a plan, and the plan by that

@@ -4,19 +4,18 @@ use Rattle.std.specs.List.{flat_map}
 use Rattle.gs_base.specs.declared.names.PeerNo.{PeerNo}
 use Rattle.gs_base.specs.declared.names.Millis.{Millis}
 use Rattle.gs_base.specs.declared.rpc.Rpc.{Rpc}
-use Rattle.gs_base.specs.Names.{same_peer}
 use Rattle.gs_base.specs.Tokens.{Byte, EndOf, Close, Said}
 use Rattle.gs_wire.specs.Codec.{codec}
 use Rattle.gs_rules.specs.declared.trace.Event.{Event}
-use Rattle.gs_rules.specs.declared.trace.Event.TheVariants.{RoundEnd, Gone, Fault, Shut}
+use Rattle.gs_rules.specs.declared.trace.Event.TheVariants.{RoundEnd, Shut}
 use Rattle.gs_rules.specs.declared.trace.Entry.{Entry}
 use Rattle.gs_rules.specs.declared.refusal.RefusedLine.{RefusedLine}
 use Rattle.gs_rules.specs.Peers.{Peer, links_of}
-use Rattle.gs_rules.specs.Tables.{Entries, up, up_after}
+use Rattle.gs_rules.specs.Tables.{Entries, cuts_off, up, up_after}
 use Rattle.gs_rules.specs.Rules.{bare, rule_of}
 use Rattle.gs_rules.specs.Modes.{Follows, free, sent_to}
 use Rattle.gs_rules.specs.Legal.{Legal}
-use Rattle.gs_rules.specs.Saying.{out, says, sign}
+use Rattle.gs_rules.specs.Saying.{out, raw_to, says, sign}
 use Rattle.gs_rules.specs.Hearing.{Inbound, after}
 use Rattle.gs_rules.specs.Rounds.{Seat, Playing, Closing, Todo, EndRound, Does, Plays, AfterRounds, agenda, beats_in, decays_in, hears, lines_at, moment_of, noted}
 use Rattle.gs_rules.proofs.Deliveries.{legal_before}
@@ -51,15 +50,12 @@ one_whole r w h =
 
 -- ---- what is down stays down, and is told nothing more
 
-lost_stays : (lost : Bool) → (if lost then false else false) ≡ false
-lost_stays true = refl
-lost_stays false = refl
+never_up : (ends : Bool) → (if ends then false else false) ≡ false
+never_up true = refl
+never_up false = refl
 
 down_stays : (q : PeerNo) (event : Event) → up_after q event false ≡ false
-down_stays q (Gone p) = lost_stays (same_peer p q)
-down_stays q (Fault p) = lost_stays (same_peer p q)
-down_stays q Shut = refl
-down_stays q other = refl
+down_stays q event = never_up (cuts_off q event)
 
 stays_down : (q : PeerNo) (L : Entries) (entries : List Entry) → up L q ≡ false → up (entries ++ L) q ≡ false
 stays_down q L [] down = down
@@ -99,7 +95,7 @@ whole_on r q K L (entries, is) h =
 -- the end of a round is said where it comes
 end_said : (q : PeerNo) (r : ℕ) (M : Entries) (e : Entry) → e.event ≡ RoundEnd r → up M q ≡ true → (v : Said) × (out codec (e ∷ M) q ≡ (out codec M q ++ v) ++ EndOf r ∷ [])
 end_said q r M e is is_up =
-    let mine : Said = map Byte (flat_map codec.frame (sent_to q e.sends)) in (
+    let mine : Said = map Byte (flat_map codec.frame (sent_to q e.sends) ++ raw_to q e.event) in (
       mine,
       ap (λ (b : Bool). if b then out codec M q ++ says codec q e else out codec M q) is_up
           ∙ ap (λ (event : Event). out codec M q ++ (mine ++ sign q event)) is
@@ -196,7 +192,7 @@ all_said seat said K L refused q legal plays =
     let effects : Follows free (rule_of p K at Shut) tt e tt =
     subst₂ (λ (now : Millis) (event : Event). Follows free (rule_of p K now event) tt e tt) begun.moment begun.opened (legal_newest p e K legally).effects in
     let alike : says codec q e ≡ says codec q (bare at Shut) =
-    ap₂ (λ (rpcs : List Rpc) (event : Event). map Byte (flat_map codec.frame rpcs) ++ sign q event) (effects.0.sends q) effects.0.event in
+    ap₂ (λ (rpcs : List Rpc) (event : Event). map Byte (flat_map codec.frame rpcs ++ raw_to q event) ++ sign q event) (effects.0.sends q) effects.0.event in
     ap (λ (N : Entries). out codec N q) all
     ∙ told_no_more q (e ∷ K) (on.0 ++ begun.paid) down
     ∙ ap (λ (w : Said). if up K q then out codec K q ++ w else out codec K q) alike

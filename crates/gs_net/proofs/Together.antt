@@ -13,12 +13,13 @@ use Rattle.gs_ends.specs.Pairs.{Pair, accepted_for, taken_from}
 use Rattle.gs_rules.specs.Tables.{Entries}
 use Rattle.gs_rules.specs.Modes.{exact, free}
 use Rattle.gs_rules.specs.Legal.{Legal}
-use Rattle.gs_rules.specs.Saying.{handled, out, sent}
+use Rattle.gs_rules.specs.Saying.{SaysFramesAlone, handled, out, sent}
 use Rattle.gs_rules.specs.Hearing.{Spell}
-use Rattle.gs_rules.specs.Rounds.{Seat}
+use Rattle.gs_rules.specs.Rounds.{Seat, PutsNoBytes}
 use Rattle.gs_rules.proofs.Deliveries.{deliveries_apart}
 use Rattle.gs_rules.proofs.Handled.{spelled_once}
 use Rattle.gs_rules.proofs.Legality.{exact_is_free, legal_weakly}
+use Rattle.gs_rules.proofs.Scripts.{script_says_frames}
 use Rattle.gs_rules.proofs.Spelled.{sent_is_spelled}
 use Rattle.gs_peer.specs.Life.{words_of}
 use Rattle.gs_report.specs.declared.finished.Finished.{Finished}
@@ -65,12 +66,16 @@ taken_is_said plan givens p q f g mine theirs joined reaches =
     ∙ to_me
     ∙ ap (λ (L : Entries). out codec L p) (sym (trace_is givens q g theirs.at))
 
--- what the one handled of the other is what the other's trace sends to it
-handled_was_sent : (plan : Plan) (givens : List Given) (p q : PeerNo) (L : Entries) (g : Given) → Stands plan givens q g → Spell (bytes_of (said_to (map bare givens) p q)) (handled L q) → handled L q ≡ sent (trace_of (map bare givens) q) p
-handled_was_sent plan givens p q L g theirs spell =
+-- what the one handled of the other is what the other's trace sends to it, where its script puts no bytes on the link
+handled_was_sent : (plan : Plan) (givens : List Given) (p q : PeerNo) (L : Entries) (g : Given) → Stands plan givens q g → Spell (bytes_of (said_to (map bare givens) p q)) (handled L q) → PutsNoBytes p (seat_in plan q).lines → handled L q ≡ sent (trace_of (map bare givens) q) p
+handled_was_sent plan givens p q L g theirs spell quiet =
     let lives : List Finished = map bare givens in
-    let legal : Legal (peer_in plan q) (trace_of lives q) = subst (Legal (peer_in plan q)) (sym (trace_is givens q g theirs.at)) (legal_of plan q g theirs.life) in
-    spelled_once (bytes_of (said_to lives p q)) (handled L q) (sent (trace_of lives q) p) spell (sent_is_spelled (peer_in plan q) (trace_of lives q) p legal)
+    let theirs_is : trace_of lives q ≡ g.trace = trace_is givens q g theirs.at in
+    let before : Legal (peer_in plan q) g.trace = legal_of plan q g theirs.life in
+    let legal : Legal (peer_in plan q) (trace_of lives q) = subst (Legal (peer_in plan q)) (sym theirs_is) before in
+    let frames : SaysFramesAlone p (trace_of lives q) =
+    subst (SaysFramesAlone p) (sym theirs_is) (script_says_frames (seat_in plan q) (words_of (taken_from g.ends)) p g.trace g.refused theirs.life.keeps before quiet) in
+    spelled_once (bytes_of (said_to lives p q)) (handled L q) (sent (trace_of lives q) p) spell (sent_is_spelled (peer_in plan q) (trace_of lives q) p legal frames)
 
 -- ---- all peers
 
@@ -94,7 +99,7 @@ one_life plan givens p f all exchanged below mine =
       meshes = mine.life.meshes;
       scores = mine.life.scores;
       exchanged = spelled;
-      handled_is_sent = each_of_both (IsJoined plan p) (λ (q : PeerNo). Spell (bytes_of (said_to lives p q)) (handled f.trace q)) (λ (q : PeerNo). handled f.trace q ≡ sent (trace_of lives q) p) (λ q joined. handled_was_sent plan givens p q f.trace (all q joined.0).0 (all q joined.0).1) (neighbours plan p) (neighbours_joined plan p) spelled;
+      handled_is_sent = each_of_both (IsJoined plan p) (λ (q : PeerNo). Spell (bytes_of (said_to lives p q)) (handled f.trace q)) (λ (q : PeerNo). PutsNoBytes p (seat_in plan q).lines → handled f.trace q ≡ sent (trace_of lives q) p) (λ q joined. handled_was_sent plan givens p q f.trace (all q joined.0).0 (all q joined.0).1) (neighbours plan p) (neighbours_joined plan p) spelled;
       apart = deliveries_apart (peer_in plan p) f.trace legal;
     }
 

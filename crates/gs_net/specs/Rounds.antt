@@ -19,7 +19,7 @@ use Rattle.gs_rules.specs.Modes.{exact}
 use Rattle.gs_rules.specs.Legal.{Legal, LegalOn, DeliversApart}
 use Rattle.gs_rules.specs.Saying.{Said, bytes_of, out, handled, sent}
 use Rattle.gs_rules.specs.Hearing.{Spell}
-use Rattle.gs_rules.specs.Rounds.{Seat, KeepsRounds}
+use Rattle.gs_rules.specs.Rounds.{Seat, KeepsRounds, PutsNoBytes}
 use Rattle.gs_router.specs.Router.{meshes_of, scores_of}
 use Rattle.gs_report.specs.declared.finished.Finished.{Finished}
 
@@ -123,8 +123,11 @@ pub record IsLife (plan : Plan) (lives : List Finished) (p : PeerNo) (life : Fin
   pub scores : life.scores ≡ scores_of (peer_in plan p) life.trace (plan.rounds * plan.round_ms)
   -- what it handled of a neighbour is what the bytes spell that the neighbour's trace says to it
   pub exchanged : AllByRecursion (λ q. Spell (bytes_of (said_to lives p q)) (handled life.trace q)) (neighbours plan p)
-  -- and that is what the neighbour's trace sends to it: whole, once, in order
-  pub handled_is_sent : AllByRecursion (λ q. handled life.trace q ≡ sent (trace_of lives q) p) (neighbours plan p)
+  -- and where no line of the neighbour's script puts bytes on their link, that is what the neighbour sends to it: whole,
+  -- once, in order
+  pub handled_is_sent : AllByRecursion (λ q.
+      PutsNoBytes p (seat_in plan q).lines
+      → handled life.trace q ≡ sent (trace_of lives q) p) (neighbours plan p)
   -- no identifier is delivered twice while it counts as seen
   pub apart : DeliversApart (seen_ttl (peer_in plan p)) life.trace
 

@@ -146,14 +146,35 @@ sends_told c q may (x ∷ xs) =
     ∙ said_both may (cond (same_peer x.0 q) (map Byte (c.frame x.1)) []) (map Byte (flat_map c.frame (sent_to q xs)))
     ∙ ap (λ w. said_if may w) (sent_more c (same_peer x.0 q) x.1 (sent_to q xs))
 
--- the sends, and then the sign
-pub entry_told : (c : Codec) (q : PeerNo) (may still : Bool) (given sends : List (PeerNo × Rpc)) (sign old now new : Said) → given ≡ sends → now ≡ old ++ told_sends c q may given → still ≡ may → new ≡ now ++ said_if still sign → new ≡ old ++ said_if may (map Byte (flat_map c.frame (sent_to q sends)) ++ sign)
-entry_told c q may still given sends sign old now new are before same here =
+-- more is said behind what was said
+said_more : (may still : Bool) (old now new v w : Said) → now ≡ old ++ said_if may v → still ≡ may → new ≡ now ++ said_if still w → new ≡ old ++ said_if may (v ++ w)
+said_more may still old now new v w before same here =
     here
-    ∙ ap (λ v. v ++ said_if still sign) (before ∙ ap (λ v. old ++ v) (ap (told_sends c q may) are ∙ sends_told c q may sends))
-    ∙ append_assoc old (said_if may (map Byte (flat_map c.frame (sent_to q sends)))) (said_if still sign)
-    ∙ ap (λ (b : Bool). old ++ (said_if may (map Byte (flat_map c.frame (sent_to q sends))) ++ said_if b sign)) same
-    ∙ ap (λ v. old ++ v) (said_both may (map Byte (flat_map c.frame (sent_to q sends))) sign)
+    ∙ ap (λ (u : Said). u ++ said_if still w) before
+    ∙ append_assoc old (said_if may v) (said_if still w)
+    ∙ ap (λ (b : Bool). old ++ (said_if may v ++ said_if b w)) same
+    ∙ ap (λ (u : Said). old ++ u) (said_both may v w)
+
+-- the sends, bytes as they are, and then the sign
+pub entry_told : (c : Codec) (q : PeerNo) (may still there : Bool) (given sends : List (PeerNo × Rpc)) (raw : List ℕ) (sign old sent put new : Said)
+    → given ≡ sends
+    → sent ≡ old ++ told_sends c q may given
+    → still ≡ may
+    → put ≡ sent ++ said_if still (map Byte raw)
+    → there ≡ still
+    → new ≡ put ++ said_if there sign
+    → new ≡ old ++ said_if may (map Byte (flat_map c.frame (sent_to q sends) ++ raw) ++ sign)
+entry_told c q may still there given sends raw sign old sent put new are before same puts same_there here =
+    let frames : List ℕ = flat_map c.frame (sent_to q sends) in
+    let framed : sent ≡ old ++ said_if may (map Byte frames) = before ∙ ap (λ (v : Said). old ++ v) (ap (told_sends c q may) are ∙ sends_told c q may sends) in
+    let both : put ≡ old ++ said_if may (map Byte (frames ++ raw)) =
+    said_more may still old sent put (map Byte frames) (map Byte raw) framed same puts ∙ ap (λ (v : Said). old ++ said_if may v) (sym (map-append Byte frames raw)) in
+    said_more may there old put new (map Byte (frames ++ raw)) sign both (same_there ∙ same) here
+
+-- bytes as they are, to one of them
+pub raw_here : (here : Bool) (bytes : List ℕ) → cond here (map Byte bytes) [] ≡ map Byte (cond here bytes [])
+raw_here true bytes = refl
+raw_here false bytes = refl
 
 -- ---- one that is empty
 

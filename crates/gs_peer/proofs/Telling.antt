@@ -3,15 +3,13 @@ use Rattle.std.proofs.Common.{◌≡◌, ◌-◌, ℕ, Bool, true, false, if◌t
 use Rattle.std.specs.List.{AllByRecursion}
 use Rattle.std.proofs.lemmas.List.{reverse-append, reverse-reverse, length-reverse, drop_at}
 use Rattle.gs_base.specs.declared.names.PeerNo.{PeerNo}
-use Rattle.gs_base.specs.Names.{same_peer}
 use Rattle.gs_base.specs.Tokens.{Said}
 use Rattle.gs_wire.specs.Codec.{codec}
 use Rattle.gs_link.specs.Flat.{flat}
 use Rattle.gs_rules.specs.declared.trace.Entry.{Entry}
 use Rattle.gs_rules.specs.declared.trace.Event.{Event}
-use Rattle.gs_rules.specs.declared.trace.Event.TheVariants.{Gone, Fault, Shut}
 use Rattle.gs_rules.specs.Peers.{Peer}
-use Rattle.gs_rules.specs.Tables.{Entries, up, up_after}
+use Rattle.gs_rules.specs.Tables.{Entries, cuts_off, up, up_after}
 use Rattle.gs_rules.specs.Legal.{Legal}
 use Rattle.gs_rules.specs.Saying.{AllFit, out, says}
 use Rattle.gs_rules.proofs.Fitting.{legal_part_fits}
@@ -80,15 +78,12 @@ fits_since p told all L is legal =
 
 -- ---- behind the close
 
-lost_stays : (lost : Bool) → (if lost then false else false) ≡ false
-lost_stays true = refl
-lost_stays false = refl
+stays_down : (ends : Bool) → (if ends then false else false) ≡ false
+stays_down true = refl
+stays_down false = refl
 
 never_up : (q : PeerNo) (event : Event) → up_after q event false ≡ false
-never_up q (Gone r) = lost_stays (same_peer r q)
-never_up q (Fault r) = lost_stays (same_peer r q)
-never_up q Shut = refl
-never_up q other = refl
+never_up q event = stays_down (cuts_off q event)
 
 pub down_stays : (L : Entries) (q : PeerNo) (es : List Entry) → up L q ≡ false → up (es ++ L) q ≡ false
 down_stays L q [] is_down = is_down

@@ -153,6 +153,8 @@ fn tell(
         What::Publish(topic, payload) => {
             router.publish(clone_of(topic)?, clone_of(payload)?, now, words)
         }
+        What::Raw(to, bytes) => router.raw(*to, clone_of(bytes)?, now, words),
+        What::HangUp(to) => router.hang_up(*to, now, words),
     })
 }
 

@@ -33,7 +33,7 @@ impl Outbox {
         }
     }
 
-    /// Puts a frame at the back, if more may be said.
+    /// Puts a frame, or bytes as they are, at the back, if more may be said.
     pub(crate) fn send(&mut self, frame: Bytes) -> Result<(), AllocError>
         ensures told { OnOk result (flat self.new.slots
             ≡ flat self.old.slots ++ said_if self.old.is_open (map Byte frame)) }
@@ -73,8 +73,8 @@ impl Outbox {
         Ok(())
     }
 
-    /// Offers a neighbour what waits first: a mark, the close, or a piece of a frame. What is refused
-    /// waits on.
+    /// Offers a neighbour what waits first: a mark, the close, or a piece of what was put there whole. What is
+    /// refused waits on.
     pub(crate) fn offer<S: Ends>(&mut self, ends: &mut S, to: PeerNo) -> Result<bool, AllocError>
         requires { has (S.joints ends.old) to ≡ true }
         ensures joints { S.joints ends.new ≡ S.joints ends.old }

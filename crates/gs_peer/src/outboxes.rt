@@ -3,8 +3,8 @@ ghost use Rattle.std.specs.List.{AllByRecursion};
 ghost use Rattle.gs_base.specs.declared.names.PeerNo.{PeerNo as PeerNoValue};
 ghost use Rattle.gs_base.specs.Tokens.{Byte, Close, EndOf};
 ghost use Rattle.gs_wire.specs.Codec.{codec};
-ghost use Rattle.gs_rules.specs.Tables.{up_after};
-ghost use Rattle.gs_rules.specs.Saying.{AllFit, SendsFit, says, sign};
+ghost use Rattle.gs_rules.specs.Tables.{is_lost, up_after};
+ghost use Rattle.gs_rules.specs.Saying.{AllFit, SendsFit, raw_to, says, sign};
 ghost use Rattle.gs_link.specs.Flat.{flat};
 ghost use Rattle.gs_ends.specs.Ends.{OthersStay, has};
 ghost use Rattle.gs_peer.specs.Outboxes.{AcceptsOne, is_open, opens_behind, said_by_all, said_if, told_sends, waiting};
@@ -12,13 +12,13 @@ ghost use Rattle.gs_peer.specs.Outboxes.{AcceptsOne, is_open, opens_behind, said
 use crate::frames::frame_for;
 use crate::outbox::Outbox;
 use bytes::Bytes;
-use gs_base::{PeerNo, Rpc, Shared};
+use gs_base::{PeerNo, Rpc, Shared, clone_of};
 use gs_ends::Ends;
 use gs_rules::{Entry, Event};
 use std::alloc::{AllocError, Global};
 
 /// What waits to go to each neighbour, by its number: so a send searches nothing. A frame waits whole, shared by
-/// all whom it goes to, and is cut into pieces as it goes out.
+/// all whom it goes to, and is cut into pieces as it goes out. So do bytes that are put on a link as they are.
 #[derive(Drop)]
 pub struct Outboxes {
     boxes: Vec<Outbox>,
@@ -94,8 +94,25 @@ impl Outboxes {
             → is_open self.new q ≡ up_after q entry.now.event (is_open self.old q)) }
     {
         self.send_all(alloc, entry.sends.as_slice())?;
+        self.send_raw(&entry.event)?;
         self.sign(&entry.event)?;
         Ok(())
+    }
+
+    /// Puts the bytes of an event at the back of what waits, as they are.
+    fn send_raw(&mut self, event: &Event) -> Result<(), AllocError>
+        ensures told { OnOk result ((q : PeerNoValue)
+            → flat (waiting self.new q)
+            ≡ flat (waiting self.old q) ++ said_if (is_open self.old q) (map Byte (raw_to q event.now))) }
+        ensures open { OnOk result ((q : PeerNoValue) → is_open self.new q ≡ is_open self.old q) }
+    {
+        match event {
+            Event::Raw(to, bytes) => {
+                self.send(usize::from(to.0), clone_of(bytes)?)?;
+                Ok(())
+            }
+            _ => Ok(()),
+        }
     }
 
     /// Puts what an event says behind its sends.
@@ -108,10 +125,22 @@ impl Outboxes {
     {
         match event {
             Event::RoundEnd(round) => self.mark_all(*round),
-            Event::Gone(peer) => self.close(usize::from(peer.0)),
-            Event::Fault(peer) => self.close(usize::from(peer.0)),
             Event::Shut => self.close_all(),
-            _ => Ok(()),
+            other => self.close_lost(other.lost()),
+        }
+    }
+
+    /// Says nothing more to whoever is lost, but the close behind what waits.
+    fn close_lost(&mut self, lost: Option<PeerNo>) -> Result<(), AllocError>
+        ensures told { OnOk result ((q : PeerNoValue)
+            → flat (waiting self.new q) ≡ flat (waiting self.old q)
+            ++ said_if (is_open self.old q) (if is_lost q lost then Close ∷ [] else [])) }
+        ensures open { OnOk result ((q : PeerNoValue)
+            → is_open self.new q ≡ (if is_lost q lost then false else is_open self.old q)) }
+    {
+        match lost {
+            Some(peer) => self.close(usize::from(peer.0)),
+            None => Ok(()),
         }
     }
 
@@ -132,7 +161,7 @@ impl Outboxes {
         Ok(())
     }
 
-    /// Puts a frame at the back of what waits for the neighbour of this number.
+    /// Puts a frame, or bytes as they are, at the back of what waits for the neighbour of this number.
     fn send(&mut self, place: usize, frame: Bytes) -> Result<(), AllocError>
         ensures told { OnOk result ((q : PeerNoValue)
             → flat (waiting self.new q) ≡ flat (waiting self.old q)

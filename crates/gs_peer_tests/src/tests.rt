@@ -3,12 +3,15 @@ ghost use Rattle.std.specs.Prelude.{◌≡◌, IfOk, IfSome, true};
 ghost use Rattle.gs_ends.specs.Ends.{has};
 ghost use Rattle.gs_ends.specs.Pairs.{joints_of};
 
+mod breaking;
 mod cases;
 mod gates;
 mod items;
 mod made;
 mod over_links;
+mod sides;
 
+use crate::tests::breaking::{HANG_UPS, RAWS};
 use crate::tests::cases::{Case, LONG, NOTHING, SCRIPT, SCRIPTS, STREAMS, SUBSCRIBER};
 use crate::tests::items::{Word, lines, said};
 use crate::tests::made::{AtMost, ONE, lists, task, task_in};
@@ -121,6 +124,16 @@ fn streams_are_heard_up_to_their_first_fault(rt: HostRuntime) -> Result<(), Fail
 #[test]
 fn a_long_frame_comes_in_pieces_of_one_byte(rt: HostRuntime) -> Result<(), Fail> {
     check(&rt, LONG)
+}
+
+#[test]
+fn a_hang_up_closes_a_link_behind_what_was_sent(rt: HostRuntime) -> Result<(), Fail> {
+    check(&rt, HANG_UPS)
+}
+
+#[test]
+fn bytes_go_as_they_are_between_frames(rt: HostRuntime) -> Result<(), Fail> {
+    check(&rt, RAWS)
 }
 
 /// Where a neighbour takes one item alone, the life never ends.

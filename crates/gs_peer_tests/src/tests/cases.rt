@@ -159,7 +159,7 @@ pub static SCRIPTS: &[Case<'static>] = &[SCRIPTED, WITH_HEARTBEATS];
 // ---- streams
 
 /// The end of round 0 is all that is said to a neighbour which is lost in round 1.
-const ROUND_0: &[Word<'static>] = &[Word::Rounds(0, 0)];
+pub const ROUND_0: &[Word<'static>] = &[Word::Rounds(0, 0)];
 
 /// The first fault ends what is handled of a neighbour.
 const AT_FAULT: Case<'static> = Case {
@@ -212,7 +212,7 @@ const WHOLE_APART: Case<'static> = Case {
 const ELEVENTH: &[u8] =
     b"\x80\x80\x80\x80\x80\x80\x80\x80\x80\x80\x00\x07\x0a\x05\x08\x01\x12\x01a";
 
-const FIELD_0: &[u8] = b"\x02\x00\x00\x07\x0a\x05\x08\x01\x12\x01a";
+pub const FIELD_0: &[u8] = b"\x02\x00\x00\x07\x0a\x05\x08\x01\x12\x01a";
 
 const GROUP: &[u8] = b"\x01\x0b\x07\x0a\x05\x08\x01\x12\x01a";
 

@@ -86,6 +86,11 @@ fn what_of(alloc: Global, act: Act<'_>) -> Result<What, AllocError> {
             let topic = topic(alloc, name)?;
             Ok(What::Publish(topic, Bytes::copy_from_slice(alloc, payload)?))
         }
+        Act::Raw(to, bytes) => {
+            let bytes = Bytes::copy_from_slice(alloc, bytes)?;
+            Ok(What::Raw(PeerNo(to), bytes))
+        }
+        Act::HangUp(to) => Ok(What::HangUp(PeerNo(to))),
         _ => Err(AllocError),
     }
 }

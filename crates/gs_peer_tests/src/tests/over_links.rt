@@ -4,15 +4,15 @@ ghost use Rattle.gs_link.specs.Items.{IsCapacity};
 ghost use Rattle.gs_ends.specs.Pairs.{pair_ends};
 ghost use Rattle.gs_peer.specs.Task.{CanPoll};
 
-use crate::tests::cases::SCRIPT;
 use crate::tests::items::lines;
 use crate::tests::made::{ONE, Pair, TWO, links, task};
+use crate::tests::sides::{BOTH, Both, Side};
 use futures::executor::block_on;
 use futures::future::join;
 use gs_ends::LinkEnds;
 use gs_link::{LinkRx, LinkTx, open_link};
 use gs_peer::{FinishedTask, NoGate, PeerFault, PeerTask};
-use gs_router_calls::{Said, Seen, events_in, text_of_all};
+use gs_router_calls::{events_in, text_of_all};
 use std::alloc::{AllocError, AllocGlobal, Global};
 use std::io;
 use std::process::Abort;
@@ -20,27 +20,18 @@ use std::random::RandomSource;
 use std::sync::Wait;
 use std::test::*;
 
-/// The events of a peer that subscribes in round 0 and publishes in round 1, as its neighbour of this number does: what the
-/// one says in a round the other hears in the next. The message is one, so the second copy is not delivered again.
-const fn both_publish(other: u16) -> [Seen<'static>; 10] {
-    [
-        Seen::Subscribe("a"),
-        Seen::RoundEnd(0),
-        Seen::Heard(other, Said::On("a")),
-        Seen::Handled(other, Said::On("a")),
-        Seen::Publish("a", b"abc"),
-        Seen::RoundEnd(1),
-        Seen::Heard(other, Said::Message("a", b"abc")),
-        Seen::Handled(other, Said::Message("a", b"abc")),
-        Seen::RoundEnd(2),
-        Seen::Shut,
-    ]
+/// A peer of two, which says to the other what goes into the one link and hears what comes of the other.
+#[derive(Clone, Copy)]
+struct Talker<'a> {
+    pair: Pair,
+    side: Side<'a>,
+    rounds: u64,
 }
 
-/// A task with the script, which says to its neighbour what goes into the one link and hears what comes of the other.
-fn side<R: Wait + AllocGlobal + Copy + Drop>(
+/// The task of a peer of two.
+fn task_of<R: Wait + AllocGlobal + Copy + Drop>(
     rt: R,
-    pair: Pair,
+    talker: Talker<'_>,
     tx: LinkTx,
     rx: LinkRx,
 ) -> Result<PeerTask<NoGate, LinkEnds<R>>, AllocError>
@@ -48,9 +39,13 @@ fn side<R: Wait + AllocGlobal + Copy + Drop>(
     requires taken { rx.taken ≡ [] }
     ensures { IfOk result (λ task. CanPoll pair_ends task) }
 {
+    let Talker { pair, side, rounds } = talker;
+    if rounds > 100_000 {
+        return Err(AllocError);
+    }
     let ends = links(rt, rt.alloc(), pair.other, tx, rx)?;
-    let lines = lines(rt.alloc(), SCRIPT)?;
-    task(rt.alloc(), pair, lines, 2, ends)
+    let lines = lines(rt.alloc(), side.script)?;
+    task(rt.alloc(), pair, lines, rounds, ends)
 }
 
 /// What a side leaves: its events, as text, and how many ends.
@@ -91,37 +86,49 @@ where
     Ok((first, second))
 }
 
-/// What two sides leave that hear each other over links of so many places.
-fn hear_over<R>(rt: R, capacity: usize) -> Result<(Left, Left), Fail>
+/// What two peers leave that hear each other over links of so many places.
+fn hear_over<R>(rt: R, both: &Both<'_>, capacity: usize) -> Result<(Left, Left), Fail>
 where
     R: Wait + RandomSource + AllocGlobal + Copy + Drop,
     requires { IsCapacity capacity }
 {
     let (to_two, from_one) = open_link(rt.alloc(), capacity)?;
     let (to_one, from_two) = open_link(rt.alloc(), capacity)?;
-    let first = side(rt, ONE, to_two, from_two)?;
-    let second = side(rt, TWO, to_one, from_one)?;
+    let first = Talker {
+        pair: ONE,
+        side: both.first,
+        rounds: both.rounds,
+    };
+    let second = Talker {
+        pair: TWO,
+        side: both.second,
+        rounds: both.rounds,
+    };
+    let first = task_of(rt, first, to_two, from_two)?;
+    let second = task_of(rt, second, to_one, from_one)?;
     Ok(hear_each_other(rt, first, second)?)
 }
 
-/// Checks that a side leaves its ends and the events of one whose neighbour has this number.
-fn check_left<R>(rt: &R, left: &Left, other: u16, capacity: usize) -> Result<(), AllocError>
+/// Checks that a side leaves its ends and its events.
+fn check_left<R>(rt: &R, left: &Left, side: &Side<'_>, name: &str) -> Result<(), AllocError>
 where
     R: AllocGlobal + Abort,
 {
-    let wanted = text_of_all(rt.alloc(), &both_publish(other))?;
-    assert_eq!(rt; left.events.as_str(), wanted.as_str(), "{capacity} places");
-    assert_eq!(rt; left.ends, 1, "{capacity} places");
+    let wanted = text_of_all(rt.alloc(), side.events)?;
+    assert_eq!(rt; left.events.as_str(), wanted.as_str(), "{name}");
+    assert_eq!(rt; left.ends, 1, "{name}");
     Ok(())
 }
 
-/// The same script on both sides, over links of one place and of eight.
+/// Over links of one place and of eight.
 #[test]
 fn two_tasks_hear_each_other_over_links(rt: HostRuntime) -> Result<(), Fail> {
-    for capacity in [1, 8] {
-        let (first, second) = hear_over(rt, capacity)?;
-        check_left(&rt, &first, 2, capacity)?;
-        check_left(&rt, &second, 1, capacity)?;
+    for both in BOTH {
+        for capacity in [1, 8] {
+            let (first, second) = hear_over(rt, both, capacity)?;
+            check_left(&rt, &first, &both.first, both.name)?;
+            check_left(&rt, &second, &both.second, both.name)?;
+        }
     }
     Ok(())
 }
