@@ -5,7 +5,7 @@ mod values;
 
 use crate::answer::{NO_MEMORY_ANSWER, Verdict};
 use crate::program::{ExitStatus, run};
-use crate::tests::cases::{Case, FINE, KEYS, MISSING, NO_TOML, SCENARIO};
+use crate::tests::cases::{Case, FINE, KEYS, LINE, MISSING, NO_TOML, SCENARIO};
 use crate::tests::params::{BOUNDS, BOUNDS_OF_TOPIC, Bounds, OF_TOPIC, OutOfRange, PARAMS, SHARED};
 use crate::tests::values::{NAMES, VALUES};
 use gs_streams::fakes::{Broken, Narrow};
@@ -149,6 +149,28 @@ fn a_long_input_is_refused_whatever_it_is(rt: HostRuntime) -> Result<(), AllocEr
     let input = vec![in rt.alloc(); b'#'; 8_388_609]?;
     let said = said(rt.alloc(), &input);
     let answer = "29 input\n`input` is too long: a scenario has at most 8388608 bytes\n";
+    assert_eq!(rt; str::from_utf8(&said), Ok(answer));
+    Ok(())
+}
+
+/// The scenario with raw bytes in place of its payload, which are written with these digits.
+fn raw(alloc: Global, digits: &str) -> Result<String, AllocError> {
+    let line = format!(in alloc;
+        "what = 'raw'\nat = 2\npeer = 'b'\nto = 'a'\nhex = '{digits}'\n[[do]]\n{LINE}"
+    )?;
+    changed(alloc, LINE, line.as_str())
+}
+
+#[test]
+fn too_many_raw_bytes_are_refused_with_their_first_digits(
+    rt: HostRuntime,
+) -> Result<(), AllocError> {
+    let digits = vec![in rt.alloc(); b'7'; 4_194_306]?;
+    let scenario = raw(rt.alloc(), str::from_utf8(&digits).unwrap_or(""))?;
+    let said = said(rt.alloc(), scenario.as_bytes());
+    let answer = "29 do[1].hex\n\
+        `do[1].hex` is \"777777777777777777777777777777777777777777777777777777777777...\": \
+        a line has at most 2097152 raw bytes\n";
     assert_eq!(rt; str::from_utf8(&said), Ok(answer));
     Ok(())
 }

@@ -9,24 +9,24 @@ use Rattle.toml.specs.Data.{Data, Items}
 use Rattle.gs_base.specs.declared.names.PeerNo.{PeerNo}
 use Rattle.gs_base.specs.declared.names.Topic.{Topic}
 use Rattle.gs_base.specs.Names.{same_peer, same_topic}
-use Rattle.gs_plan.specs.Plans.{IsOneOf, IsAppScore, are_joined, are_of_the_same, has_topic, highest_app_score, have_one_name, join_the_same, topic_of}
+use Rattle.gs_plan.specs.Plans.{IsOneOf, IsAppScore, are_joined, are_of_the_same, has_topic, highest_app_score, have_one_name, join_the_same, longest_raw, neighbour_of, raw_of, topic_of}
 use Rattle.gs_params.specs.declared.topic_params.TopicParams.{TopicParams}
 use Rattle.gs_plan.specs.declared.plan.App.{App}
 use Rattle.gs_plan.specs.declared.plan.Dial.{Dial}
 use Rattle.gs_plan.specs.declared.plan.Line.{Line}
 use Rattle.gs_plan.specs.declared.plan.PlannedPeer.{PlannedPeer}
 use Rattle.gs_plan.specs.declared.plan.What.{What}
-use Rattle.gs_plan.specs.declared.plan.What.TheVariants.{Publish}
+use Rattle.gs_plan.specs.declared.plan.What.TheVariants.{HangUp, Publish, Raw, Subscribe, Unsubscribe}
 use Rattle.gs_scenario.specs.declared.scenario.script.Verb.{Verb}
 use Rattle.gs_scenario.specs.declared.scenario.script.Verb.TheVariants as verbs
 use Rattle.gs_scenario.specs.declared.reason.NameKind.TheVariants as names
 use Rattle.gs_scenario.specs.declared.scenario.tables.TableKind.TheVariants as kinds
 use Rattle.gs_scenario.specs.Refusal.{item_count}
-use Rattle.gs_scenario.specs.Keys.{Section, only, read_key, read_each}
-use Rattle.gs_scenario.specs.Kinds.{whole_number, signed_number, name_text, reference, new_name, element, table_at}
+use Rattle.gs_scenario.specs.Keys.{◌>>=◌, Section, only, read_key, read_each}
+use Rattle.gs_scenario.specs.Kinds.{whole_number, signed_number, name_text, short_hex, reference, new_name, element, table_at}
 use Rattle.gs_scenario.specs.TopicParamsOf.{topic_params_in}
-use Rattle.gs_scenario.specs.PlanOf.{from_key, to_key, dial_keys, topic_name_key, topic_keys, peer_name_key, address_key, words_key, peer_keys, peer_key, about_key, value_key, app_keys, at_key, topic_key, hex_key, topic_named, topic_in, peer_named, peer_in, other_peer, dial_in, neighbour, app_in, told_in, what_in, verb_in, line_in}
-use Rattle.gs_scenario.proofs.Ranges.{next, past, not_refused, at_required, number_is, signed_is, reference_is, not_failed, each_is, count_is, none_at, and_also, new_is, no_position, not_found, differ_push, no_pairs, same_bytes}
+use Rattle.gs_scenario.specs.PlanOf.{from_key, to_key, dial_keys, topic_name_key, topic_keys, peer_name_key, address_key, words_key, peer_keys, peer_key, about_key, value_key, app_keys, at_key, topic_key, hex_key, link_key, raw_key, topic_named, topic_in, peer_named, peer_in, other_peer, dial_in, neighbour, app_in, what_in, verb_in, line_in}
+use Rattle.gs_scenario.proofs.Ranges.{next, past, not_refused, at_required, number_is, signed_is, short_hex_is, reference_is, not_failed, each_is, count_is, none_at, and_also, new_is, no_position, not_found, differ_push, no_pairs, same_bytes}
 
 -- ---- names
 
@@ -213,46 +213,67 @@ apps_are peers dials ds = each_is (AppsAre peers dials) (app_in peers dials) (ap
 
 -- ---- the script
 
-pub record LinesAre (topics : List (Topic × TopicParams)) (peers : List PlannedPeer) (rounds : ℕ) (lines : List Line) : Type 0 where
+-- it is on one of the topics, or to a neighbour of the peer, with not too many bytes
+record IsFor (topics : List (Topic × TopicParams)) (dials : List Dial) (peer : PeerNo) (what : What) : Type 0 where
+  on : IfSome (topic_of what) (λ topic. has_topic topics topic ≡ true)
+  to : IfSome (neighbour_of what) (λ to. are_joined dials peer to ≡ true)
+  raw : IfSome (raw_of what) (λ bytes. length bytes ≤ longest_raw)
+
+pub record LinesAre (topics : List (Topic × TopicParams)) (peers : List PlannedPeer) (dials : List Dial) (rounds : ℕ) (lines : List Line) : Type 0 where
   pub of : All (λ (line : Line). IsOneOf peers line.peer) lines
   pub at : All (λ (line : Line). line.at ≤ rounds) lines
-  pub on : All (λ (line : Line). has_topic topics (topic_of line.what) ≡ true) lines
-
--- it is done on one of the topics
-abbrev IsOn : List (Topic × TopicParams) → What → Type 0
-IsOn topics what = has_topic topics (topic_of what) ≡ true
+  pub on : All (λ (line : Line). IfSome (topic_of line.what) (λ topic. has_topic topics topic ≡ true)) lines
+  pub to : All (λ (line : Line). IfSome (neighbour_of line.what) (λ to. are_joined dials line.peer to ≡ true)) lines
+  pub raw : All (λ (line : Line). IfSome (raw_of line.what) (λ bytes. length bytes ≤ longest_raw)) lines
 
 topic_at : (topics : List (Topic × TopicParams)) (section : Section) → IfOk (read_key section (topic_key topics)) (λ topic. has_topic topics topic ≡ true)
 topic_at topics section = at_required (λ topic. has_topic topics topic ≡ true) (topic_key topics).name (reference names.Topic (topic_named topics)) section (topic_is topics)
 
-told_is : (topics : List (Topic × TopicParams)) (section : Section) (topic : Topic) (verb : Verb) → has_topic topics topic ≡ true → IfOk (told_in section topic verb) (IsOn topics)
-told_is topics section topic verbs.Subscribe h = h
-told_is topics section topic verbs.Unsubscribe h = h
-told_is topics section topic verbs.Publish h = past (IsOn topics) (read_key section hex_key) (λ payload. Ok (Publish topic payload)) (λ payload. h)
+link_at : (peers : List PlannedPeer) (dials : List Dial) (peer : PeerNo) (section : Section) → IfOk (read_key section (link_key peers dials peer)) (λ to. are_joined dials peer to ≡ true)
+link_at peers dials peer section = at_required (λ to. are_joined dials peer to ≡ true) (link_key peers dials peer).name (neighbour peers dials peer) section (neighbour_is peers dials peer)
 
-what_is : (topics : List (Topic × TopicParams)) (section : Section) (verb : Verb) → IfOk (what_in topics section verb) (IsOn topics)
-unfolding what_in
-what_is topics section verb =
-    next (λ topic. has_topic topics topic ≡ true) (IsOn topics) (read_key section (topic_key topics)) _ (topic_at topics section)
-    (λ topic h. told_is topics section topic verb h)
+raw_at : (section : Section) → IfOk (read_key section raw_key) (λ bytes. length bytes ≤ longest_raw)
+raw_at section = at_required (λ bytes. length bytes ≤ longest_raw) raw_key.name (short_hex longest_raw) section (short_hex_is longest_raw)
 
-one_line_more : (topics : List (Topic × TopicParams)) (peers : List PlannedPeer) (rounds : ℕ) (earlier : List Line) (line : Line) → IsOneOf peers line.peer → line.at ≤ rounds → has_topic topics (topic_of line.what) ≡ true → LinesAre topics peers rounds earlier → LinesAre topics peers rounds (earlier ++ line ∷ [])
-one_line_more topics peers rounds earlier line of at on h = record {
+module _ (topics : List (Topic × TopicParams)) (peers : List PlannedPeer) (dials : List Dial) (section : Section) (peer : PeerNo) where
+  on_topic : (what : Topic → What) → ((topic : Topic) → has_topic topics topic ≡ true → IsFor topics dials peer (what topic)) → IfOk (read_key section (topic_key topics) >>= (λ topic. Ok (what topic))) (IsFor topics dials peer)
+  on_topic what h = next (λ topic. has_topic topics topic ≡ true) (IsFor topics dials peer) (read_key section (topic_key topics)) (λ topic. Ok (what topic)) (topic_at topics section) h
+
+  what_is : (verb : Verb) → IfOk (what_in topics peers dials section peer verb) (IsFor topics dials peer)
+  unfolding what_in
+  what_is verbs.Subscribe = on_topic Subscribe (λ topic h. record { on = h; to = tt; raw = tt })
+  what_is verbs.Unsubscribe = on_topic Unsubscribe (λ topic h. record { on = h; to = tt; raw = tt })
+  what_is verbs.Publish =
+      let P = IsFor topics dials peer in
+      next (λ topic. has_topic topics topic ≡ true) P (read_key section (topic_key topics)) _ (topic_at topics section)
+      (λ topic h. past P (read_key section hex_key) (λ payload. Ok (Publish topic payload)) (λ payload. record { on = h; to = tt; raw = tt }))
+  what_is verbs.Raw =
+      let P = IsFor topics dials peer in
+      next (λ to. are_joined dials peer to ≡ true) P (read_key section (link_key peers dials peer)) _ (link_at peers dials peer section)
+      (λ to h. next (λ bytes. length bytes ≤ longest_raw) P (read_key section raw_key) (λ bytes. Ok (Raw to bytes)) (raw_at section) (λ bytes k. record { on = tt; to = h; raw = k }))
+  what_is verbs.HangUp =
+      next (λ to. are_joined dials peer to ≡ true) (IsFor topics dials peer) (read_key section (link_key peers dials peer)) (λ to. Ok (HangUp to)) (link_at peers dials peer section)
+      (λ to h. record { on = tt; to = h; raw = tt })
+
+one_line_more : (topics : List (Topic × TopicParams)) (peers : List PlannedPeer) (dials : List Dial) (rounds : ℕ) (earlier : List Line) (line : Line) → IsOneOf peers line.peer → line.at ≤ rounds → IsFor topics dials line.peer line.what → LinesAre topics peers dials rounds earlier → LinesAre topics peers dials rounds (earlier ++ line ∷ [])
+one_line_more topics peers dials rounds earlier line of at is h = record {
   of = All-push (λ (x : Line). IsOneOf peers x.peer) earlier line h.of of;
   at = All-push (λ (x : Line). x.at ≤ rounds) earlier line h.at at;
-  on = All-push (λ (x : Line). has_topic topics (topic_of x.what) ≡ true) earlier line h.on on;
+  on = All-push (λ (x : Line). IfSome (topic_of x.what) (λ topic. has_topic topics topic ≡ true)) earlier line h.on is.on;
+  to = All-push (λ (x : Line). IfSome (neighbour_of x.what) (λ to. are_joined dials x.peer to ≡ true)) earlier line h.to is.to;
+  raw = All-push (λ (x : Line). IfSome (raw_of x.what) (λ bytes. length bytes ≤ longest_raw)) earlier line h.raw is.raw;
 }
 
-line_is : (topics : List (Topic × TopicParams)) (peers : List PlannedPeer) (rounds : ℕ) (earlier : List Line) (d : Data) → LinesAre topics peers rounds earlier → IfOk (line_in topics peers rounds earlier d) (λ line. LinesAre topics peers rounds (earlier ++ line ∷ []))
+line_is : (topics : List (Topic × TopicParams)) (peers : List PlannedPeer) (dials : List Dial) (rounds : ℕ) (earlier : List Line) (d : Data) → LinesAre topics peers dials rounds earlier → IfOk (line_in topics peers dials rounds earlier d) (λ line. LinesAre topics peers dials rounds (earlier ++ line ∷ []))
 unfolding line_in
-line_is topics peers rounds earlier d h =
-    let P = λ (line : Line). LinesAre topics peers rounds (earlier ++ line ∷ []) in
+line_is topics peers dials rounds earlier d h =
+    let P = λ (line : Line). LinesAre topics peers dials rounds (earlier ++ line ∷ []) in
     past P (table_at (element (codes "do") (length earlier)) d) _
     (λ section. past P (verb_in section) _
     (λ verb. next (λ n. (0 ≤ n) × (n ≤ rounds)) P (read_key section (at_key rounds)) _ (at_required (λ n. (0 ≤ n) × (n ≤ rounds)) (at_key rounds).name (whole_number 0 rounds) section (number_is 0 rounds))
     (λ round at. next (IsOneOf peers) P (read_key section (peer_key peers)) _ (at_required (IsOneOf peers) (peer_key peers).name (reference names.Peer (peer_named peers)) section (peer_is peers))
-    (λ peer of. next (IsOn topics) P (what_in topics section verb) (λ what. Ok (record { at = round; peer = peer; what = what })) (what_is topics section verb)
-    (λ what on. one_line_more topics peers rounds earlier (record { at = round; peer = peer; what = what }) of at.1 on h)))))
+    (λ peer of. next (IsFor topics dials peer) P (what_in topics peers dials section peer verb) (λ what. Ok (record { at = round; peer = peer; what = what })) (what_is topics peers dials section peer verb)
+    (λ what is. one_line_more topics peers dials rounds earlier (record { at = round; peer = peer; what = what }) of at.1 is h)))))
 
-pub lines_are : (topics : List (Topic × TopicParams)) (peers : List PlannedPeer) (rounds : ℕ) (ds : Items) → IfOk (read_each (line_in topics peers rounds) [] ds) (LinesAre topics peers rounds)
-lines_are topics peers rounds ds = each_is (LinesAre topics peers rounds) (line_in topics peers rounds) (line_is topics peers rounds) [] ds (record { of = All-nil _; at = All-nil _; on = All-nil _ })
+pub lines_are : (topics : List (Topic × TopicParams)) (peers : List PlannedPeer) (dials : List Dial) (rounds : ℕ) (ds : Items) → IfOk (read_each (line_in topics peers dials rounds) [] ds) (LinesAre topics peers dials rounds)
+lines_are topics peers dials rounds ds = each_is (LinesAre topics peers dials rounds) (line_in topics peers dials rounds) (line_is topics peers dials rounds) [] ds (record { of = All-nil _; at = All-nil _; on = All-nil _; to = All-nil _; raw = All-nil _ })

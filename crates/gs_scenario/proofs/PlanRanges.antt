@@ -1,6 +1,6 @@
 -- A plan that is read is in range.
 use Rattle.std.proofs.Common.{◌≡◌, ℕ, ◌≤◌, ◌<◌, ◌-◌, ◌^◌, ◌%◌, true, List, [], length, Option, Some, None, Result, Ok, Err, refl, subst, arith}
-use Rattle.std.specs.Prelude.{IfOk, All}
+use Rattle.std.specs.Prelude.{IfOk, IfSome, All}
 use Rattle.toml.specs.Data.{Members}
 use Rattle.toml.specs.Parse.{parse_document}
 use Rattle.gs_base.specs.declared.names.Topic.{Topic}
@@ -128,7 +128,7 @@ top_is section =
 -- ---- the plan
 
 module _ (top : Top) (shared : Shared) (topics : List (Topic × TopicParams)) (peers : List PlannedPeer) (dials : List Dial) (apps : List App) (script : List Line) (params : Params) where
-  all_in_range : TopIsInRange top → TakeRounds top.round_ms shared.timing → TopicsAre (item_count top.topics) topics → PeersAre (item_count top.peers) peers → DialsAre peers dials → AppsAre peers dials apps → LinesAre topics peers top.rounds script → AreChecked (with_topics shared topics) params → IsInRange (record { round_ms = top.round_ms; rounds = top.rounds; workers = top.workers; capacity = top.capacity; seed = top.seed; params = params; peers = peers; dials = dials; apps = apps; script = script })
+  all_in_range : TopIsInRange top → TakeRounds top.round_ms shared.timing → TopicsAre (item_count top.topics) topics → PeersAre (item_count top.peers) peers → DialsAre peers dials → AppsAre peers dials apps → LinesAre topics peers dials top.rounds script → AreChecked (with_topics shared topics) params → IsInRange (record { round_ms = top.round_ms; rounds = top.rounds; workers = top.workers; capacity = top.capacity; seed = top.seed; params = params; peers = peers; dials = dials; apps = apps; script = script })
   all_in_range t s m n d a l c = record {
     some_rounds = t.rounds.0;
     rounds = t.rounds.1;
@@ -158,7 +158,9 @@ module _ (top : Top) (shared : Shared) (topics : List (Topic × TopicParams)) (p
     apps_differ = a.differ;
     lines_of = l.of;
     lines_at = l.at;
-    lines_on = subst (λ (p : Params). All (λ (line : Line). has_topic p.topics (topic_of line.what) ≡ true) script) c.0 l.on;
+    lines_on = subst (λ (p : Params). All (λ (line : Line). IfSome (topic_of line.what) (λ topic. has_topic p.topics topic ≡ true)) script) c.0 l.on;
+    lines_to = l.to;
+    lines_raw = l.raw;
   }
 
 plan_is : (all : Members) → IfOk (plan_in all) IsInRange
@@ -171,7 +173,7 @@ plan_is all =
     next (PeersAre (item_count top.peers)) P (read_each peer_in [] top.peers) _ (peers_are top.peers) (λ peers n.
     next (DialsAre peers) P (read_each (dial_in peers) [] top.dials) _ (dials_are peers top.dials) (λ dials d.
     next (AppsAre peers dials) P (read_each (app_in peers dials) [] top.apps) _ (apps_are peers dials top.apps) (λ apps a.
-    next (LinesAre topics peers top.rounds) P (read_each (line_in topics peers top.rounds) [] top.script) _ (lines_are topics peers top.rounds top.script) (λ script l.
+    next (LinesAre topics peers dials top.rounds) P (read_each (line_in topics peers dials top.rounds) [] top.script) _ (lines_are topics peers dials top.rounds top.script) (λ script l.
     next (AreChecked (with_topics shared topics)) P (params_of shared topics) _ (params_are shared topics) (λ params c.
     all_in_range top shared topics peers dials apps script params t s m n d a l c))))))))
 

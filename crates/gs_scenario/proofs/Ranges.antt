@@ -15,7 +15,7 @@ use Rattle.gs_scenario.specs.declared.fault.ScenarioFault.{ScenarioFault}
 use Rattle.gs_scenario.specs.declared.reason.NameKind.{NameKind}
 use Rattle.gs_scenario.specs.Refusal.{item_count}
 use Rattle.gs_scenario.specs.Keys.{◌>>=◌, or_refuse, refuse_if, Kind, Section, reads_required, required, read_key, read_each}
-use Rattle.gs_scenario.specs.Kinds.{between, whole_number, int_between, signed_number, of_length, list_of, reference, new_name, name_text, is_multiple, reads_multiple, optional_multiple}
+use Rattle.gs_scenario.specs.Kinds.{between, whole_number, int_between, signed_number, of_length, list_of, hex_text, short_hex, reference, new_name, name_text, is_multiple, reads_multiple, optional_multiple}
 
 -- ---- steps
 
@@ -92,6 +92,14 @@ read_ints_between low high (Some z) = kept_if (λ y. (low ≤ℤ y) × (y ≤ℤ
 
 pub signed_is : (low high : ℤ) (place : List ℕ) (d : Data) → IfOk (signed_number low high place d) (λ z. (low ≤ℤ z) × (z ≤ℤ high))
 signed_is low high place d = allowed (λ z. (low ≤ℤ z) × (z ≤ℤ high)) _ _ (read_ints_between low high (as_integer d))
+
+not_above : (most n : ℕ) → nat_lt most n ≡ false → n ≤ most
+not_above most n e = grind (arith, nat_tests, e)
+
+pub short_hex_is : (most : ℕ) (place : List ℕ) (d : Data) → IfOk (short_hex most place d) (λ bytes. length bytes ≤ most)
+short_hex_is most place d =
+    past (λ bytes. length bytes ≤ most) (hex_text place d) _
+    (λ bytes. not_refused (λ x. length x ≤ most) (nat_lt most (length bytes)) _ bytes (not_above most (length bytes)))
 
 pub reference_is : {A : Type 0} (Q : A → Type 0) (kind : NameKind) (named : List ℕ → Option A) → ((text : List ℕ) → IfSome (named text) Q) → (place : List ℕ) (d : Data) → IfOk (reference kind named place d) Q
 reference_is Q kind named h place d = past Q (name_text place d) _ (λ text. allowed Q _ (named text) (h text))

@@ -1,5 +1,5 @@
 -- The kinds of values that a key of a scenario holds.
-use Rattle.std.specs.Prelude.{ℕ, ◌-◌, ◌^◌, ◌++◌, ◌&&◌, ◌||◌, ◌==◌, ◌%◌, Bool, not, nat_le, length, decimal, codes, List, [], Option, Some, None, option_and_then, is_some, Result, Ok, Err, if◌then◌else◌, ℤ, pos, negsuc}
+use Rattle.std.specs.Prelude.{ℕ, ◌-◌, ◌^◌, ◌++◌, ◌&&◌, ◌||◌, ◌==◌, ◌%◌, Bool, not, nat_le, nat_lt, length, decimal, codes, List, [], Option, Some, None, option_and_then, is_some, Result, Ok, Err, if◌then◌else◌, ℤ, pos, negsuc}
 use Rattle.std.specs.List.{list_all}
 use Rattle.toml.specs.Data.{Data, Items, as_integer, as_bool, as_str, as_table, as_array, Members}
 use Rattle.hex.specs.declared.error.FromHexError.{FromHexError}
@@ -76,6 +76,12 @@ ok_value (Err fault) = None
 
 abbrev pub hex_text : Kind (List ℕ)
 hex_text = kind_of wanted.Hex (λ d. option_and_then (λ text. ok_value (decode_of text)) (as_str d))
+
+-- hex digits for at most so many bytes
+abbrev pub short_hex : ℕ → Kind (List ℕ)
+short_hex most place d = do
+  bytes ← hex_text place d
+  refuse_if (nat_lt most (length bytes)) (out_of_range place d (wanted.ShortHex most)) bytes
 
 -- a name: 1 to 32 of `a` to `z`, `0` to `9`, `_` and `-`
 abbrev pub is_name_byte : ℕ → Bool

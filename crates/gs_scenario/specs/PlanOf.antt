@@ -19,12 +19,12 @@ use Rattle.gs_plan.specs.declared.plan.Dial.{Dial}
 use Rattle.gs_plan.specs.declared.plan.App.{App}
 use Rattle.gs_plan.specs.declared.plan.Line.{Line}
 use Rattle.gs_plan.specs.declared.plan.What.{What}
-use Rattle.gs_plan.specs.declared.plan.What.TheVariants.{Subscribe, Unsubscribe, Publish}
-use Rattle.gs_plan.specs.Plans.{are_joined, are_of_the_same, join_the_same, longest_round, most_rounds, most_workers, highest_capacity, most_peers, most_planned_topics, highest_app_score}
+use Rattle.gs_plan.specs.declared.plan.What.TheVariants.{Subscribe, Unsubscribe, Publish, Raw, HangUp}
+use Rattle.gs_plan.specs.Plans.{are_joined, are_of_the_same, join_the_same, longest_round, most_rounds, most_workers, highest_capacity, most_peers, most_planned_topics, highest_app_score, longest_raw}
 use Rattle.gs_scenario.specs.declared.scenario.script.Verb.{Verb}
 use Rattle.gs_scenario.specs.declared.scenario.script.Verb.TheVariants as verbs
 use Rattle.gs_scenario.specs.Keys.{Key, Kind, Section, ◌>>=◌, refuse_if, required, optional, read_key, only, read_each}
-use Rattle.gs_scenario.specs.Kinds.{whole_number, signed_number, list_of, any_list, any_table, any_text, words, name_text, hex_text, out_of_range, new_name, reference, word, element, section_at, table_at}
+use Rattle.gs_scenario.specs.Kinds.{whole_number, signed_number, list_of, any_list, any_table, any_text, words, name_text, hex_text, short_hex, out_of_range, new_name, reference, word, element, section_at, table_at}
 use Rattle.gs_scenario.specs.ParamsOf.{shared_names, shared_in, params_of}
 use Rattle.gs_scenario.specs.TopicParamsOf.{topic_param_names, topic_params_in}
 
@@ -146,6 +146,13 @@ topic_in earlier d = do
 abbrev pub peer_named : List PlannedPeer → List ℕ → Option PeerNo
 peer_named peers text = option_map (λ n. record { 0 = n }) (position (λ peer. pointwise nat_eq peer.name text) peers)
 
+-- a peer that has a name, and is a neighbour of another
+abbrev pub neighbour : List PlannedPeer → List Dial → PeerNo → Kind PeerNo
+neighbour peers dials one place d = do
+  text ← name_text place d
+  other ← reference names.Peer (peer_named peers) place d
+  refuse_if (not (are_joined dials one other)) (UnknownName place text names.Neighbour) other
+
 abbrev pub peer_name_key : List PlannedPeer → Key (List ℕ)
 peer_name_key earlier = required (codes "name") (new_name (peer_named earlier))
 
@@ -202,13 +209,6 @@ dial_in peers earlier d = do
 abbrev pub peer_key : List PlannedPeer → Key PeerNo
 peer_key peers = required (codes "peer") (reference names.Peer (peer_named peers))
 
--- a peer that has a name, and is a neighbour of another
-abbrev pub neighbour : List PlannedPeer → List Dial → PeerNo → Kind PeerNo
-neighbour peers dials one place d = do
-  text ← name_text place d
-  other ← reference names.Peer (peer_named peers) place d
-  refuse_if (not (are_joined dials one other)) (UnknownName place text names.Neighbour) other
-
 abbrev pub about_key : List PlannedPeer → List Dial → PeerNo → Key PeerNo
 about_key peers dials one = required (codes "about") (neighbour peers dials one)
 
@@ -238,6 +238,8 @@ verb_of text =
     if pointwise nat_eq text (codes "subscribe") then Some verbs.Subscribe
     else if pointwise nat_eq text (codes "unsubscribe") then Some verbs.Unsubscribe
     else if pointwise nat_eq text (codes "publish") then Some verbs.Publish
+    else if pointwise nat_eq text (codes "raw") then Some verbs.Raw
+    else if pointwise nat_eq text (codes "hang_up") then Some verbs.HangUp
     else None
 
 abbrev pub what_key : Key Verb
@@ -252,15 +254,28 @@ topic_key topics = required (codes "topic") (reference names.Topic (topic_named 
 abbrev pub hex_key : Key (List ℕ)
 hex_key = required (codes "hex") hex_text
 
--- the keys that every line has
+-- to whose link something is done
+abbrev pub link_key : List PlannedPeer → List Dial → PeerNo → Key PeerNo
+link_key peers dials one = required (codes "to") (neighbour peers dials one)
+
+abbrev pub raw_key : Key (List ℕ)
+raw_key = required (codes "hex") (short_hex longest_raw)
+
+-- the keys that every line has, and these others
 abbrev pub line_keys : List (List ℕ) → List (List ℕ)
-line_keys others = what_key.name ∷ (at_key 0).name ∷ (peer_key []).name ∷ (topic_key []).name ∷ others
+line_keys others = what_key.name ∷ (at_key 0).name ∷ (peer_key []).name ∷ others
+
+-- the keys of a line that is done to a link, and these others
+abbrev pub link_keys : List (List ℕ) → List (List ℕ)
+link_keys others = line_keys ((link_key [] [] (record { 0 = 0 })).name ∷ others)
 
 -- the table of a line that tells this
 abbrev pub line_kind : Verb → TableKind
 line_kind verbs.Subscribe = kinds.SubscriptionLine
 line_kind verbs.Unsubscribe = kinds.SubscriptionLine
 line_kind verbs.Publish = kinds.PublishLine
+line_kind verbs.Raw = kinds.RawLine
+line_kind verbs.HangUp = kinds.HangUpLine
 
 -- the keys that each table may have, in the order in which they are looked at
 abbrev pub known_keys : TableKind → List (List ℕ)
@@ -270,21 +285,31 @@ known_keys kinds.Topic = topic_keys
 known_keys kinds.Peer = peer_keys
 known_keys kinds.Dial = dial_keys
 known_keys kinds.App = app_keys
-known_keys kinds.SubscriptionLine = line_keys []
-known_keys kinds.PublishLine = line_keys (hex_key.name ∷ [])
+known_keys kinds.SubscriptionLine = line_keys ((topic_key []).name ∷ [])
+known_keys kinds.PublishLine = line_keys ((topic_key []).name ∷ hex_key.name ∷ [])
+known_keys kinds.RawLine = link_keys (raw_key.name ∷ [])
+known_keys kinds.HangUpLine = link_keys []
 
--- what a line with this word tells, of a topic
-abbrev pub told_in : Section → Topic → Verb → Result What ScenarioFault
-told_in section topic verbs.Subscribe = Ok (Subscribe topic)
-told_in section topic verbs.Unsubscribe = Ok (Unsubscribe topic)
-told_in section topic verbs.Publish = do
+-- what a line with this word tells a peer
+unfoldable pub what_in : List (Topic × TopicParams) → List PlannedPeer → List Dial → Section → PeerNo → Verb
+    → Result What ScenarioFault
+what_in topics peers dials section peer verbs.Subscribe = do
+  topic ← read_key section (topic_key topics)
+  Ok (Subscribe topic)
+what_in topics peers dials section peer verbs.Unsubscribe = do
+  topic ← read_key section (topic_key topics)
+  Ok (Unsubscribe topic)
+what_in topics peers dials section peer verbs.Publish = do
+  topic ← read_key section (topic_key topics)
   payload ← read_key section hex_key
   Ok (Publish topic payload)
-
-unfoldable pub what_in : List (Topic × TopicParams) → Section → Verb → Result What ScenarioFault
-what_in topics section verb = do
-  topic ← read_key section (topic_key topics)
-  told_in section topic verb
+what_in topics peers dials section peer verbs.Raw = do
+  to ← read_key section (link_key peers dials peer)
+  bytes ← read_key section raw_key
+  Ok (Raw to bytes)
+what_in topics peers dials section peer verbs.HangUp = do
+  to ← read_key section (link_key peers dials peer)
+  Ok (HangUp to)
 
 -- what a line tells, which has no other key than one that tells this may have
 unfoldable pub verb_in : Section → Result Verb ScenarioFault
@@ -293,14 +318,14 @@ verb_in section = do
   _ ← only (line_kind verb) (known_keys (line_kind verb)) section
   Ok verb
 
-unfoldable pub line_in : List (Topic × TopicParams) → List PlannedPeer → ℕ → List Line → Data
+unfoldable pub line_in : List (Topic × TopicParams) → List PlannedPeer → List Dial → ℕ → List Line → Data
     → Result Line ScenarioFault
-line_in topics peers rounds earlier d = do
+line_in topics peers dials rounds earlier d = do
   section ← table_at (element (codes "do") (length earlier)) d
   verb ← verb_in section
   round ← read_key section (at_key rounds)
   peer ← read_key section (peer_key peers)
-  what ← what_in topics section verb
+  what ← what_in topics peers dials section peer verb
   Ok (record { at = round; peer = peer; what = what })
 
 -- ---- the plan
@@ -315,7 +340,7 @@ plan_in members = do
   peers ← read_each peer_in [] top.peers
   dials ← read_each (dial_in peers) [] top.dials
   apps ← read_each (app_in peers dials) [] top.apps
-  script ← read_each (line_in topics peers top.rounds) [] top.script
+  script ← read_each (line_in topics peers dials top.rounds) [] top.script
   params ← params_of shared topics
   Ok (record {
     round_ms = top.round_ms;

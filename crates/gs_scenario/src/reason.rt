@@ -30,6 +30,8 @@ pub enum Wanted {
     Name,
     /// A text of hex digits, in either case and even in number.
     Hex,
+    /// A text of hex digits for at most so many bytes.
+    ShortHex(usize),
     /// A word that tells a peer what to do, as `subscribe`.
     Verb,
     /// The name of another peer than the one that dials.

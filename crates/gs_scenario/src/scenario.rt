@@ -71,6 +71,7 @@ fn plan_in(alloc: Global, table: &Table) -> Result<Plan, ScenarioFault>
     let known = Known {
         topics: topics.as_slice(),
         peers: peers.as_slice(),
+        dials: dials.as_slice(),
         rounds: top.rounds,
     };
     let script = lines_in(alloc, known, top.script)?;

@@ -2,6 +2,7 @@
 mod cases;
 mod joins;
 mod keys;
+mod links;
 mod order;
 mod plans;
 mod reasons;
@@ -14,7 +15,7 @@ use crate::tests::keys::{APPS, LINES, NO_NUMBERS, RANGES, Range, TABLES};
 use crate::tests::plans::{DEFAULT_PARAMS, DEFAULT_TOPIC, EDITED_PLANS, PLANS};
 use crate::tests::reasons::{KNOWN_KEYS, REASONS};
 use bytes::Bytes;
-use gs_base::{Text, Topic};
+use gs_base::{PeerNo, Text, Topic};
 use gs_params::{Check, ParamFault, Parameter, ScoreRule};
 use gs_plan::{What, what_word};
 use gs_scenario::{Found, ScenarioFault, TableKind, Wanted, read_plan};
@@ -322,6 +323,9 @@ fn what_is_told_has_its_word(rt: HostRuntime) -> Result<(), AllocError> {
         what_word(&What::Publish(topic(alloc)?, nothing)),
         "publish"
     );
+    let nothing = Bytes::copy_from_slice(alloc, b"")?;
+    assert_eq!(rt; what_word(&What::Raw(PeerNo(0), nothing)), "raw");
+    assert_eq!(rt; what_word(&What::HangUp(PeerNo(0))), "hang_up");
     Ok(())
 }
 

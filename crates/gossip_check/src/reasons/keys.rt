@@ -11,7 +11,7 @@ const LONGEST_NEAR: usize = 40;
 /// table), its name, and what it holds.
 type Required = (&'static str, &'static str, &'static str);
 
-static REQUIRED: [Required; 19] = [
+static REQUIRED: [Required; 20] = [
     (
         "",
         "round_ms",
@@ -54,11 +54,20 @@ static REQUIRED: [Required; 19] = [
         "value",
         "millionths, a whole number from -1000000000 to 1000000000",
     ),
-    ("do", "what", "`subscribe`, `unsubscribe` or `publish`"),
+    (
+        "do",
+        "what",
+        "`subscribe`, `unsubscribe`, `publish`, `raw` or `hang_up`",
+    ),
     ("do", "at", "the number of a round, from 0 to `rounds`"),
     ("do", "peer", "the name of a peer"),
     ("do", "topic", "the name of a topic"),
-    ("do", "hex", "the payload in pairs of hex digits"),
+    ("do", "to", "the name of a neighbour of that peer"),
+    (
+        "do",
+        "hex",
+        "the payload or the raw bytes, in pairs of hex digits",
+    ),
 ];
 
 /// The last part of a place: what stands behind its first point, or the whole of it.
@@ -115,6 +124,8 @@ fn table_words(kind: TableKind) -> &'static str {
         TableKind::App => "an `[[app]]`",
         TableKind::SubscriptionLine => "a `[[do]]` that subscribes or unsubscribes",
         TableKind::PublishLine => "a `[[do]]` that publishes",
+        TableKind::RawLine => "a `[[do]]` that sends raw bytes",
+        TableKind::HangUpLine => "a `[[do]]` that hangs up",
     }
 }
 

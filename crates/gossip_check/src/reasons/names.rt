@@ -2,7 +2,11 @@
 use crate::shown::{Quoted, Ticked};
 use gs_scenario::NameKind;
 use std::alloc::{AllocError, Global};
-use toml::Table;
+use std::fmt;
+use toml::{Table, Value};
+
+/// What is said of a peer that is no neighbour.
+const NO_DIAL: &str = "that peer is no neighbour, since no dial joins the two";
 
 /// That nothing has a name that may stand at a place of these bytes.
 pub fn unknown_name(
@@ -15,34 +19,107 @@ pub fn unknown_name(
     let why = match kind {
         NameKind::Topic => "no topic has that name",
         NameKind::Peer => "no peer has that name",
-        NameKind::Neighbour => why_no_neighbour(alloc, bytes, place, name)?,
+        NameKind::Neighbour => return no_neighbour(alloc, bytes, place, name),
     };
     let (place, name) = (Ticked(place), Quoted(name));
     format!(in alloc; "{place} is {name}: {why}\n")
 }
 
-/// Why the peer that a score is about is no neighbour. Whose score it is, the refusal doesn't say: that
+/// That a peer is no neighbour of the one that the same table names. Which one that is, the refusal doesn't say: it
 /// is read again.
-fn why_no_neighbour(
+fn no_neighbour(
     alloc: Global,
     bytes: &[u8],
     place: &str,
     name: &str,
-) -> Result<&'static str, AllocError> {
+) -> Result<String, AllocError> {
+    let (shown_place, shown_name) = (Ticked(place), Quoted(name));
     match toml::table_from_slice(alloc, bytes) {
-        Ok(top) if scorer(&top, place) == Some(name) => Ok("a peer does not score itself"),
+        Ok(top) => {
+            let why = NoNeighbour {
+                top: &top,
+                place,
+                name,
+            };
+            format!(in alloc; "{shown_place} is {shown_name}: {why}\n")
+        }
         Err(fault) if fault.is_memory() => Err(AllocError),
-        _ => Ok("that peer is no neighbour, since no dial joins the two"),
+        Err(_) => format!(in alloc; "{shown_place} is {shown_name}: {NO_DIAL}\n"),
     }
 }
 
-/// Who gives the score at a place such as `app[0].about`.
-fn scorer<'a>(top: &'a Table, place: &str) -> Option<&'a str> {
-    let (_, rest) = place.split_once('[')?;
+/// Why the peer with a name is no neighbour, and who is one.
+#[derive(Clone, Copy)]
+struct NoNeighbour<'a> {
+    top: &'a Table,
+    place: &'a str,
+    name: &'a str,
+}
+
+impl<'a> fmt::Display for NoNeighbour<'a> {
+    fn fmt<W: fmt::Write>(&self, f: &mut fmt::Formatter<W>) -> fmt::Result {
+        let Some(peer) = peer_at(self.top, self.place) else {
+            return f.write_str(NO_DIAL);
+        };
+        if peer != self.name {
+            write!(f, "{NO_DIAL}; {} has ", Quoted(peer))?;
+            write_neighbours(f, dials_of(self.top), peer)
+        } else if self.place.starts_with("app[") {
+            f.write_str("a peer does not score itself")
+        } else {
+            f.write_str("a peer has no link to itself")
+        }
+    }
+}
+
+/// The peer that is named beside a place such as `app[0].about` or `do[2].to`.
+fn peer_at<'a>(top: &'a Table, place: &str) -> Option<&'a str> {
+    let (list, rest) = place.split_once('[')?;
     let (digits, _) = rest.split_once(']')?;
     let index = digits.parse::<usize>().ok()?;
-    let app = top.get("app")?.get(index)?;
-    app.get("peer")?.as_str()
+    let table = top.get(list)?.get(index)?;
+    table.get("peer")?.as_str()
+}
+
+fn dials_of(top: &Table) -> &[Value] {
+    match top.get("dial").and_then(|dials| dials.as_array()) {
+        Some(dials) => dials.as_slice(),
+        None => &[],
+    }
+}
+
+/// Writes whom dials join a peer to, in their order.
+fn write_neighbours<W: fmt::Write>(
+    f: &mut fmt::Formatter<W>,
+    dials: &[Value],
+    peer: &str,
+) -> fmt::Result {
+    let joined = dials.iter().filter(|dial| other_end(dial, peer).is_some());
+    let mut before = match joined.count() {
+        0 => return f.write_str("no neighbours"),
+        1 => "the neighbour ",
+        _ => "the neighbours ",
+    };
+    for dial in dials {
+        if let Some(name) = other_end(dial, peer) {
+            write!(f, "{before}{}", Quoted(name))?;
+            before = ", ";
+        }
+    }
+    Ok(())
+}
+
+/// The other end of a dial, where a peer is at one.
+fn other_end<'a>(dial: &'a Value, peer: &str) -> Option<&'a str> {
+    let from = dial.get("from")?.as_str()?;
+    let to = dial.get("to")?.as_str()?;
+    if from == peer {
+        Some(to)
+    } else if to == peer {
+        Some(from)
+    } else {
+        None
+    }
 }
 
 /// That what stands at a place stands for the second time.

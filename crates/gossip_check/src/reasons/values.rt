@@ -80,6 +80,7 @@ impl<'a> Mismatch<'a> {
             Wanted::Elements(low, high) => {
                 write!(f, "it must be a list of {low} to {high} tables")
             }
+            Wanted::ShortHex(most) => write!(f, "a line has at most {most} raw bytes"),
             Wanted::ShortInput(most) => write!(f, "a scenario has at most {most} bytes"),
             _ => f.write_str(self.plain_rule()),
         }
@@ -93,8 +94,8 @@ impl<'a> Mismatch<'a> {
             Wanted::List => "it must be a list",
             Wanted::Text => "it must be a text",
             Wanted::Name => "a name has 1 to 32 of `a` to `z`, `0` to `9`, `_` and `-`",
-            Wanted::Hex => "a payload is written in pairs of hex digits",
-            Wanted::Verb => "it must be `subscribe`, `unsubscribe` or `publish`",
+            Wanted::Hex => "bytes are written in pairs of hex digits",
+            Wanted::Verb => "it must be `subscribe`, `unsubscribe`, `publish`, `raw` or `hang_up`",
             _ => "a peer does not dial itself",
         }
     }

@@ -42,11 +42,14 @@ topic = "news"
 hex = "616263"
 "#;
 
+/// What stands of its last line before the payload.
+pub const LINE: &str = "what = \"publish\"\nat = 2\npeer = \"b\"\ntopic = \"news\"\n";
+
 /// A case: its name, the text that is changed, what it becomes, and the whole answer.
 pub type Case = (&'static str, &'static str, &'static str, &'static str);
 
 /// Scenarios that are fine.
-pub static FINE: [Case; 4] = [
+pub static FINE: [Case; 5] = [
     (
         "as it stands",
         "",
@@ -75,6 +78,14 @@ pub static FINE: [Case; 4] = [
         "rounds = 99\n",
         "ok\n2 peers, 1 connection (2 links), 1 topic\n\
          100 rounds of 100 ms: 10 s of simulated time\n2 lines in the script\n",
+    ),
+    (
+        "raw bytes and a hang-up",
+        "[[do]]\n",
+        "[[do]]\nwhat = \"raw\"\nat = 3\npeer = \"b\"\nto = \"a\"\nhex = \"00fF\"\n\
+         [[do]]\nwhat = \"hang_up\"\nat = 3\npeer = \"a\"\nto = \"b\"\n[[do]]\n",
+        "ok\n2 peers, 1 connection (2 links), 1 topic\n\
+         11 rounds of 100 ms: 1.100 s of simulated time\n4 lines in the script\n",
     ),
 ];
 
@@ -140,7 +151,7 @@ pub static NO_TOML: [Case; 9] = [
 ];
 
 /// Keys that are not known.
-pub static KEYS: [Case; 11] = [
+pub static KEYS: [Case; 13] = [
     (
         "an unknown key that is near a known one",
         "seed = 1\n",
@@ -192,6 +203,18 @@ pub static KEYS: [Case; 11] = [
         "27 do[1].hexx\n`do[1].hexx` is no key of a `[[do]]` that publishes; did you mean `hex`?\n",
     ),
     (
+        "a topic where a peer sends raw bytes",
+        "what = \"publish\"",
+        "what = \"raw\"",
+        "27 do[1].topic\n`do[1].topic` is no key of a `[[do]]` that sends raw bytes\n",
+    ),
+    (
+        "an unknown key where a peer hangs up",
+        LINE,
+        "what = \"hang_up\"\nat = 2\npeer = \"b\"\ntoo = \"a\"\n[[do]]\n",
+        "27 do[1].too\n`do[1].too` is no key of a `[[do]]` that hangs up; did you mean `to`?\n",
+    ),
+    (
         "a key with a line's end, a tab and a quote",
         "seed = 1\n",
         "\"a\\nb\\t\\\"\" = 1\n",
@@ -214,7 +237,7 @@ pub static KEYS: [Case; 11] = [
 ];
 
 /// Keys that are missing, and what each must hold.
-pub static MISSING: [Case; 20] = [
+pub static MISSING: [Case; 22] = [
     (
         "no round length",
         "round_ms = 100\n",
@@ -320,7 +343,7 @@ pub static MISSING: [Case; 20] = [
         "what = \"subscribe\"\n",
         "",
         "28 do[0].what\n\
-         `do[0].what` is missing: it must be `subscribe`, `unsubscribe` or `publish`\n",
+         `do[0].what` is missing: it must be `subscribe`, `unsubscribe`, `publish`, `raw` or `hang_up`\n",
     ),
     (
         "a line at no round",
@@ -345,6 +368,19 @@ pub static MISSING: [Case; 20] = [
         "a payload is missing",
         "hex = \"616263\"\n",
         "",
-        "28 do[1].hex\n`do[1].hex` is missing: it must be the payload in pairs of hex digits\n",
+        "28 do[1].hex\n`do[1].hex` is missing: \
+         it must be the payload or the raw bytes, in pairs of hex digits\n",
+    ),
+    (
+        "raw bytes for nobody",
+        LINE,
+        "what = \"raw\"\nat = 2\npeer = \"b\"\n",
+        "28 do[1].to\n`do[1].to` is missing: it must be the name of a neighbour of that peer\n",
+    ),
+    (
+        "a hang-up on nobody",
+        LINE,
+        "what = \"hang_up\"\nat = 2\npeer = \"b\"\n[[do]]\n",
+        "28 do[1].to\n`do[1].to` is missing: it must be the name of a neighbour of that peer\n",
     ),
 ];

@@ -1,8 +1,8 @@
 //! Scenarios with values that are refused, and what is to be said of each.
-use crate::tests::cases::Case;
+use crate::tests::cases::{Case, LINE};
 
 /// Values that are not what they must be.
-pub static VALUES: [Case; 39] = [
+pub static VALUES: [Case; 41] = [
     (
         "a text in the place of a number",
         "rounds = 10",
@@ -181,7 +181,7 @@ pub static VALUES: [Case; 39] = [
         "name = \"news\"",
         "name = \"news\"\nreject = [\"61\", \"6\"]",
         "29 topic[0].reject\nan element of `topic[0].reject` is \"6\": \
-         a payload is written in pairs of hex digits\n",
+         bytes are written in pairs of hex digits\n",
     ),
     (
         "a text in the place of a list of texts",
@@ -213,13 +213,26 @@ pub static VALUES: [Case; 39] = [
         "what = \"publish\"",
         "what = \"publsh\"",
         "29 do[1].what\n\
-         `do[1].what` is \"publsh\": it must be `subscribe`, `unsubscribe` or `publish`\n",
+         `do[1].what` is \"publsh\": it must be `subscribe`, `unsubscribe`, `publish`, `raw` or `hang_up`\n",
     ),
     (
         "an odd number of digits to publish",
         "hex = \"616263\"",
         "hex = \"6\"",
-        "29 do[1].hex\n`do[1].hex` is \"6\": a payload is written in pairs of hex digits\n",
+        "29 do[1].hex\n`do[1].hex` is \"6\": bytes are written in pairs of hex digits\n",
+    ),
+    (
+        "an odd number of digits to put on a link",
+        LINE,
+        "what = \"raw\"\nat = 2\npeer = \"b\"\nto = \"a\"\nhex = \"6\"\n[[do]]\n",
+        "29 do[1].hex\n`do[1].hex` is \"6\": bytes are written in pairs of hex digits\n",
+    ),
+    (
+        "a neighbour that is a number",
+        LINE,
+        "what = \"hang_up\"\nat = 2\npeer = \"b\"\nto = 1\n[[do]]\n",
+        "29 do[1].to\n`do[1].to` is 1: \
+         a name has 1 to 32 of `a` to `z`, `0` to `9`, `_` and `-`, between quotes\n",
     ),
     (
         "a list of two numbers",
@@ -253,19 +266,19 @@ pub static VALUES: [Case; 39] = [
         "what = \"publish\"",
         "what = 5",
         "29 do[1].what\n`do[1].what` is 5: \
-         it must be `subscribe`, `unsubscribe` or `publish`, between quotes\n",
+         it must be `subscribe`, `unsubscribe`, `publish`, `raw` or `hang_up`, between quotes\n",
     ),
     (
         "a payload that is a number",
         "hex = \"616263\"",
         "hex = 616263",
         "29 do[1].hex\n`do[1].hex` is 616263: \
-         a payload is written in pairs of hex digits, between quotes\n",
+         bytes are written in pairs of hex digits, between quotes\n",
     ),
 ];
 
 /// Names that nothing has, and what stands twice.
-pub static NAMES: [Case; 10] = [
+pub static NAMES: [Case; 15] = [
     (
         "a dial to a peer that is not there",
         "to = \"b\"",
@@ -289,7 +302,45 @@ pub static NAMES: [Case; 10] = [
         "[[dial]]\nfrom = \"a\"\nto = \"b\"\n",
         "",
         "30 app[0].about\n\
-         `app[0].about` is \"b\": that peer is no neighbour, since no dial joins the two\n",
+         `app[0].about` is \"b\": that peer is no neighbour, since no dial joins the two; \
+         \"a\" has no neighbours\n",
+    ),
+    (
+        "raw bytes for a peer that is not there",
+        LINE,
+        "what = \"raw\"\nat = 2\npeer = \"b\"\nto = \"c\"\n",
+        "30 do[1].to\n`do[1].to` is \"c\": no peer has that name\n",
+    ),
+    (
+        "raw bytes for the peer itself",
+        LINE,
+        "what = \"raw\"\nat = 2\npeer = \"b\"\nto = \"b\"\n",
+        "30 do[1].to\n`do[1].to` is \"b\": a peer has no link to itself\n",
+    ),
+    (
+        "raw bytes for a peer that is no neighbour",
+        "[[do]]\n",
+        "[[peer]]\nname = \"c\"\n[[do]]\nwhat = \"raw\"\nat = 0\npeer = \"b\"\nto = \"c\"\n[[do]]\n",
+        "30 do[0].to\n\
+         `do[0].to` is \"c\": that peer is no neighbour, since no dial joins the two; \
+         \"b\" has the neighbour \"a\"\n",
+    ),
+    (
+        "a hang-up on a peer that is no neighbour",
+        "[[do]]\n",
+        "[[peer]]\nname = \"c\"\n[[peer]]\nname = \"d\"\n[[dial]]\nfrom = \"c\"\nto = \"a\"\n\
+         [[do]]\nwhat = \"hang_up\"\nat = 0\npeer = \"a\"\nto = \"d\"\n[[do]]\n",
+        "30 do[0].to\n\
+         `do[0].to` is \"d\": that peer is no neighbour, since no dial joins the two; \
+         \"a\" has the neighbours \"b\", \"c\"\n",
+    ),
+    (
+        "a hang-up of a peer without neighbours",
+        "[[do]]\n",
+        "[[peer]]\nname = \"c\"\n[[do]]\nwhat = \"hang_up\"\nat = 0\npeer = \"c\"\nto = \"a\"\n[[do]]\n",
+        "30 do[0].to\n\
+         `do[0].to` is \"a\": that peer is no neighbour, since no dial joins the two; \
+         \"c\" has no neighbours\n",
     ),
     (
         "a score of the peer itself",

@@ -5,18 +5,16 @@ ghost use Rattle.toml.specs.View.{view, items_view};
 ghost use Rattle.gs_scenario.specs.Refusal.{GivesSame};
 ghost use Rattle.gs_scenario.specs.Keys.{read_each};
 ghost use Rattle.gs_plan.specs.Plans.{are_of_the_same};
-ghost use Rattle.gs_scenario.specs.PlanOf.{app_in, app_keys, neighbour};
-ghost use Rattle.gs_scenario.specs.Views.{read_as};
+ghost use Rattle.gs_scenario.specs.PlanOf.{app_in, app_keys};
 
 use crate::fault::ScenarioFault;
-use crate::reason::NameKind;
 use crate::scenario::elements::read_each;
-use crate::scenario::field::{Field, table_of};
-use crate::scenario::peers::peer_of;
+use crate::scenario::field::table_of;
+use crate::scenario::peers::{neighbour_of, peer_of};
 use crate::scenario::place::{Element, Place};
 use crate::scenario::tables::TableKind;
-use gs_base::{PeerNo, Seq};
-use gs_plan::{App, Dial, HIGHEST_APP_SCORE, MOST_PEERS, PlannedPeer, are_joined};
+use gs_base::Seq;
+use gs_plan::{App, Dial, HIGHEST_APP_SCORE, MOST_PEERS, PlannedPeer};
 use std::alloc::Global;
 use toml::Value;
 
@@ -69,33 +67,13 @@ fn app_in(
     let section = table_of(alloc, element, value)?;
     section.only(TableKind::App)?;
     let peer = peer_of(peers, &section.required(PEER)?)?;
-    let field = section.required(ABOUT)?;
-    let about = neighbour_of(peers, dials, peer, &field)?;
+    let about = neighbour_of(peers, dials, peer, &section.required(ABOUT)?)?;
     let value = section.signed_number(VALUE, -HIGHEST_APP_SCORE, HIGHEST_APP_SCORE)?;
     let app = App { peer, about, value };
     if is_repeated(earlier, &app) {
         return Err(ScenarioFault::Repeated(Place::Element(element).to_text(alloc)?));
     }
     Ok(app)
-}
-
-/// The neighbour of a peer that a value names.
-fn neighbour_of(
-    peers: &[PlannedPeer],
-    dials: &[Dial],
-    peer: PeerNo,
-    field: &Field<'_>,
-) -> Result<PeerNo, ScenarioFault>
-    requires { length peers.now ≤ MOST_PEERS }
-    ensures { GivesSame result (read_as (neighbour peers.now dials.now peer) field.now) }
-{
-    let name = field.name()?;
-    let other = peer_of(peers, field)?;
-    if are_joined(dials, peer, other) {
-        Ok(other)
-    } else {
-        Err(field.unknown(name, NameKind::Neighbour)?)
-    }
 }
 
 /// Whether an earlier score is of the same neighbour of the same peer.

@@ -187,6 +187,17 @@ impl<'a> Field<'a> {
         Err(self.out_of_range(Wanted::Hex)?)
     }
 
+    /// The bytes of such a text, of which there may be so many.
+    pub fn short_hex(&self, most: usize) -> Result<Bytes, ScenarioFault>
+        ensures { GivesSame result (read_as (kinds.short_hex most) self.now) }
+    {
+        let bytes = self.hex()?;
+        if bytes.len() > most {
+            return Err(self.out_of_range(Wanted::ShortHex(most))?);
+        }
+        Ok(bytes)
+    }
+
     /// The bytes of each hex text of a list.
     #[tactic(auto, unfolding(crate::specs::Keys::read_each))]
     pub fn prefixes(&self) -> Result<Seq<Bytes>, ScenarioFault>

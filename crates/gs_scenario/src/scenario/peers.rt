@@ -7,7 +7,7 @@ ghost use Rattle.gs_scenario.specs.Refusal.{GivesSame};
 ghost use Rattle.gs_scenario.specs.Keys.{read_each};
 ghost use Rattle.gs_scenario.specs.Kinds.{reference};
 ghost use Rattle.gs_scenario.specs.Views.{read_as};
-ghost use Rattle.gs_scenario.specs.PlanOf.{peer_in, peer_keys, peer_named};
+ghost use Rattle.gs_scenario.specs.PlanOf.{neighbour, peer_in, peer_keys, peer_named};
 
 use crate::fault::ScenarioFault;
 use crate::reason::NameKind;
@@ -16,7 +16,7 @@ use crate::scenario::field::{Field, table_of};
 use crate::scenario::place::Element;
 use crate::scenario::tables::TableKind;
 use gs_base::{PeerNo, Seq, Text};
-use gs_plan::{MOST_PEERS, PlannedPeer};
+use gs_plan::{Dial, MOST_PEERS, PlannedPeer, are_joined};
 use std::alloc::Global;
 use toml::Value;
 
@@ -79,6 +79,25 @@ pub fn peer_of(peers: &[PlannedPeer], field: &Field<'_>) -> Result<PeerNo, Scena
     match peer_named(peers, name) {
         Some(peer) => Ok(peer),
         None => Err(field.unknown(name, NameKind::Peer)?),
+    }
+}
+
+/// The neighbour of a peer that a value names.
+pub fn neighbour_of(
+    peers: &[PlannedPeer],
+    dials: &[Dial],
+    peer: PeerNo,
+    field: &Field<'_>,
+) -> Result<PeerNo, ScenarioFault>
+    requires { length peers.now ≤ MOST_PEERS }
+    ensures { GivesSame result (read_as (neighbour peers.now dials.now peer) field.now) }
+{
+    let name = field.name()?;
+    let other = peer_of(peers, field)?;
+    if are_joined(dials, peer, other) {
+        Ok(other)
+    } else {
+        Err(field.unknown(name, NameKind::Neighbour)?)
     }
 }
 

@@ -5,20 +5,22 @@ ghost use Rattle.gs_scenario.specs.declared.scenario.tables.TableKind.TheVariant
 ghost use Rattle.gs_scenario.specs.Refusal.{GivesSame};
 ghost use Rattle.gs_scenario.specs.Keys.{read_each};
 ghost use Rattle.gs_scenario.specs.Kinds.{word};
-ghost use Rattle.gs_scenario.specs.Views.{read_as, section_of};
-ghost use Rattle.gs_scenario.specs.PlanOf.{line_in, what_in, verb_in, verb_of, line_kind, known_keys};
+ghost use Rattle.gs_scenario.specs.Views.{held_at, read_as, section_of};
+ghost use Rattle.gs_scenario.specs.PlanOf.{line_in, link_key, topic_key, what_in, verb_in, verb_of, line_kind, known_keys};
 
 use crate::fault::ScenarioFault;
 use crate::reason::Wanted;
-use crate::scenario::elements::read_each;
 use crate::scenario::field::{Field, table_of};
-use crate::scenario::peers::peer_of;
+use crate::scenario::peers::{neighbour_of, peer_of};
 use crate::scenario::place::Element;
 use crate::scenario::section::Section;
 use crate::scenario::tables::TableKind;
 use crate::scenario::topics::{TopicEntry, topic_of};
-use gs_base::Seq;
-use gs_plan::{Line, MOST_PEERS, PUBLISH, PlannedPeer, SUBSCRIBE, UNSUBSCRIBE, What};
+use gs_base::{PeerNo, Seq, Topic};
+use gs_plan::{
+    Dial, HANG_UP, LONGEST_RAW, Line, MOST_PEERS, PUBLISH, PlannedPeer, RAW, SUBSCRIBE,
+    UNSUBSCRIBE, What,
+};
 use std::alloc::Global;
 use toml::Value;
 
@@ -30,6 +32,8 @@ const PEER: &str = "peer";
 
 const TOPIC: &str = "topic";
 
+const TO: &str = "to";
+
 const HEX: &str = "hex";
 
 /// What the lines of a script may speak of.
@@ -37,6 +41,7 @@ const HEX: &str = "hex";
 pub struct Known<'a> {
     pub topics: &'a [TopicEntry],
     pub peers: &'a [PlannedPeer],
+    pub dials: &'a [Dial],
     /// The last round.
     pub rounds: u64,
 }
@@ -47,6 +52,8 @@ pub enum Verb {
     Subscribe,
     Unsubscribe,
     Publish,
+    Raw,
+    HangUp,
 }
 
 impl Verb {
@@ -56,6 +63,8 @@ impl Verb {
         match self {
             Verb::Subscribe | Verb::Unsubscribe => TableKind::SubscriptionLine,
             Verb::Publish => TableKind::PublishLine,
+            Verb::Raw => TableKind::RawLine,
+            Verb::HangUp => TableKind::HangUpLine,
         }
     }
 }
@@ -74,17 +83,34 @@ pub fn publish_keys() -> &'static [&'static str]
     &[WHAT, AT, PEER, TOPIC, HEX]
 }
 
+/// The keys of a line that tells a peer to put bytes on a link as they are.
+pub fn raw_keys() -> &'static [&'static str]
+    ensures { map (λ key. key.now) result.now ≡ known_keys kinds.RawLine }
+{
+    &[WHAT, AT, PEER, TO, HEX]
+}
+
+/// The keys of a line that tells a peer to close a link.
+pub fn hang_up_keys() -> &'static [&'static str]
+    ensures { map (λ key. key.now) result.now ≡ known_keys kinds.HangUpLine }
+{
+    &[WHAT, AT, PEER, TO]
+}
+
 /// The lines of a list, in its order.
+#[tactic(auto, unfolding(crate::specs::Keys::read_each))]
 pub fn lines_in(alloc: Global, known: Known<'_>, list: &[Value]) -> Result<Seq<Line>, ScenarioFault>
     requires { length known.peers.now ≤ MOST_PEERS }
-    ensures { let known = known.entry in GivesSame result
-        (read_each (line_in known.topics.now known.peers.now known.rounds) [] (items_view list.now)) }
+    ensures { let known = known.entry in GivesSame result (read_each
+        (line_in known.topics.now known.peers.now known.dials.now known.rounds) [] (items_view list.now)) }
 {
-    read_each(
-        alloc,
-        list,
-        move |earlier, value| line_in(alloc, known, earlier, value),
-    )
+    // Not by `read_each`: the prover takes no closure that holds three references.
+    let mut lines = Seq::new(alloc);
+    for value in list {
+        let line = line_in(alloc, known, lines.as_slice(), value)?;
+        lines.push(line)?;
+    }
+    Ok(lines)
 }
 
 /// The line that stands in the list after the earlier ones.
@@ -97,7 +123,7 @@ fn line_in(
 ) -> Result<Line, ScenarioFault>
     requires { length known.peers.now ≤ MOST_PEERS }
     ensures { let known = known.entry in GivesSame result
-        (line_in known.topics.now known.peers.now known.rounds earlier.now (view value.now)) }
+        (line_in known.topics.now known.peers.now known.dials.now known.rounds earlier.now (view value.now)) }
 {
     let element = Element {
         list: "do",
@@ -107,21 +133,55 @@ fn line_in(
     let verb = verb_in(&section)?;
     let at = section.number(AT, 0, known.rounds)?;
     let peer = peer_of(known.peers, &section.required(PEER)?)?;
-    let what = what_in(known.topics, &section, verb)?;
+    let what = what_in(known, &section, peer, verb)?;
     Ok(Line { at, peer, what })
 }
 
-/// What a peer is told to do by a line that begins with a word.
+/// What a line with a word tells a peer.
 #[tactic(auto, unfolding(crate::specs::PlanOf::what_in))]
-fn what_in(topics: &[TopicEntry], section: &Section<'_>, verb: Verb) -> Result<What, ScenarioFault>
-    ensures { GivesSame result (what_in topics.now (section_of section.now) verb) }
+fn what_in(
+    known: Known<'_>,
+    section: &Section<'_>,
+    peer: PeerNo,
+    verb: Verb,
+) -> Result<What, ScenarioFault>
+    requires { length known.peers.now ≤ MOST_PEERS }
+    ensures { let known = known.entry in GivesSame result
+        (what_in known.topics.now known.peers.now known.dials.now (section_of section.now) peer verb) }
 {
-    let topic = topic_of(topics, &section.required(TOPIC)?)?;
     match verb {
-        Verb::Subscribe => Ok(What::Subscribe(topic)),
-        Verb::Unsubscribe => Ok(What::Unsubscribe(topic)),
-        Verb::Publish => Ok(What::Publish(topic, section.hex(HEX)?)),
+        Verb::Subscribe => Ok(What::Subscribe(topic_in(known, section)?)),
+        Verb::Unsubscribe => Ok(What::Unsubscribe(topic_in(known, section)?)),
+        Verb::Publish => {
+            let topic = topic_in(known, section)?;
+            Ok(What::Publish(topic, section.hex(HEX)?))
+        }
+        Verb::Raw => {
+            let to = neighbour_in(known, section, peer)?;
+            Ok(What::Raw(to, section.short_hex(HEX, LONGEST_RAW)?))
+        }
+        Verb::HangUp => Ok(What::HangUp(neighbour_in(known, section, peer)?)),
     }
+}
+
+/// The topic that a line names.
+fn topic_in(known: Known<'_>, section: &Section<'_>) -> Result<Topic, ScenarioFault>
+    ensures { GivesSame result (held_at (topic_key known.entry.topics.now) section.now) }
+{
+    topic_of(known.topics, &section.required(TOPIC)?)
+}
+
+/// The neighbour of a peer that a line names.
+fn neighbour_in(
+    known: Known<'_>,
+    section: &Section<'_>,
+    peer: PeerNo,
+) -> Result<PeerNo, ScenarioFault>
+    requires { length known.peers.now ≤ MOST_PEERS }
+    ensures { let known = known.entry in GivesSame result
+        (held_at (link_key known.peers.now known.dials.now peer) section.now) }
+{
+    neighbour_of(known.peers, known.dials, peer, &section.required(TO)?)
 }
 
 /// What a line tells a peer, which has no other key than one that tells this may have.
@@ -152,6 +212,8 @@ fn verb_of(word: &str) -> Option<Verb>
         SUBSCRIBE => Some(Verb::Subscribe),
         UNSUBSCRIBE => Some(Verb::Unsubscribe),
         PUBLISH => Some(Verb::Publish),
+        RAW => Some(Verb::Raw),
+        HANG_UP => Some(Verb::HangUp),
         _ => None,
     }
 }

@@ -215,6 +215,13 @@ impl<'a> Section<'a> {
     {
         self.required(key)?.hex()
     }
+
+    /// The bytes of the hex text at a key that is required, of which there may be so many.
+    pub fn short_hex(&self, key: &'a str, most: usize) -> Result<Bytes, ScenarioFault>
+        ensures { GivesSame result (held_at (required key.now (kinds.short_hex most)) self.now) }
+    {
+        self.required(key)?.short_hex(most)
+    }
 }
 
 fn is_one_of(names: &[&str], name: &str) -> bool

@@ -22,6 +22,10 @@ pub enum TableKind {
     SubscriptionLine,
     /// An element of `do` that tells a peer to publish.
     PublishLine,
+    /// An element of `do` that tells a peer to put bytes on a link as they are.
+    RawLine,
+    /// An element of `do` that tells a peer to close a link.
+    HangUpLine,
 }
 
 impl TableKind {
@@ -38,6 +42,8 @@ impl TableKind {
             TableKind::App => apps::keys(),
             TableKind::SubscriptionLine => script::subscription_keys(),
             TableKind::PublishLine => script::publish_keys(),
+            TableKind::RawLine => script::raw_keys(),
+            TableKind::HangUpLine => script::hang_up_keys(),
         }
     }
 }

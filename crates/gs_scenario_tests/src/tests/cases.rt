@@ -221,11 +221,11 @@ pub static EDITS: [Case; 70] = [
         "what = \"unsubscribe\"\ntopic = \"blog\"\n",
         "30 do[0].topic",
     ),
-    ("what = \"publish\"\n", "what = \"raw\"\n", "29 do[2].what"),
+    ("what = \"publish\"\n", "what = \"raw\"\n", "27 do[2].topic"),
     (
         "what = \"publish\"\n",
         "what = \"hang_up\"\n",
-        "29 do[2].what",
+        "27 do[2].hex",
     ),
     (
         "what = \"publish\"\n",

@@ -57,5 +57,8 @@ fn a_line_equals_its_clone(rt: HostRuntime) -> Result<(), AllocError> {
     assert!(rt; is_cloned(&line_of(What::Unsubscribe(news(alloc)?)))?);
     let payload = Bytes::copy_from_slice(alloc, b"abc")?;
     assert!(rt; is_cloned(&line_of(What::Publish(news(alloc)?, payload)))?);
+    let bytes = Bytes::copy_from_slice(alloc, b"abc")?;
+    assert!(rt; is_cloned(&line_of(What::Raw(PeerNo(2), bytes)))?);
+    assert!(rt; is_cloned(&line_of(What::HangUp(PeerNo(2))))?);
     Ok(())
 }

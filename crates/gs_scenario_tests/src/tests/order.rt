@@ -269,12 +269,12 @@ fn what_a_line_says_comes_before_its_unknown_keys(rt: HostRuntime) -> Result<(),
         ),
         (
             "what = \"subscribe\"\n",
-            "colour = 1\nwhat = 'raw'\n",
+            "colour = 1\nwhat = 'Raw'\n",
             "29 do[0].what",
         ),
         (
             "what = \"subscribe\"\n",
-            "colour = 1\nwhat = 'hang_up'\n",
+            "colour = 1\nwhat = 'hang-up'\n",
             "29 do[0].what",
         ),
         (

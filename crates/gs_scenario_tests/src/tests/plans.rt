@@ -125,6 +125,19 @@ peer = \"c\"
 what = \"publish\"
 topic = \"blog\"
 hex = \"\"
+
+[[do]]
+at = 0
+peer = \"c\"
+what = \"raw\"
+to = \"a\"
+hex = \"00fF\"
+
+[[do]]
+at = 19
+peer = \"b\"
+what = \"hang_up\"
+to = \"a\"
 ";
 
 /// The parameters of a topic where nothing is said of them.
@@ -202,12 +215,15 @@ pub static PLANS: [(&str, &str); 3] = [
         apps: Seq { items: [App { peer: PeerNo(0), about: PeerNo(1), value: -1000000000 }, \
         App { peer: PeerNo(0), about: PeerNo(2), value: 1000000000 }, \
         App { peer: PeerNo(1), about: PeerNo(0), value: 0 }] }, \
-        script: Seq { items: [Line { at: 20, peer: PeerNo(2), what: Publish(Topic(b\"blog\"), b\"\") }] } }",
+        script: Seq { items: [\
+        Line { at: 20, peer: PeerNo(2), what: Publish(Topic(b\"blog\"), b\"\") }, \
+        Line { at: 0, peer: PeerNo(2), what: Raw(PeerNo(0), b\"\\0\\xff\") }, \
+        Line { at: 19, peer: PeerNo(1), what: HangUp(PeerNo(0)) }] } }",
     ),
 ];
 
 /// Edits of the first of these, and what they change in its plan.
-pub static EDITED_PLANS: [(&str, &str, &str, &str); 4] = [
+pub static EDITED_PLANS: [(&str, &str, &str, &str); 6] = [
     ("616263", "4A4b", "b\"abc\"", "b\"JK\""),
     ("616263", "", "b\"abc\"", "b\"\""),
     (
@@ -221,5 +237,17 @@ pub static EDITED_PLANS: [(&str, &str, &str, &str); 4] = [
         "hex = \"616263\"\n[[do]]\nat = 3\npeer = \"b\"\nwhat = \"unsubscribe\"\ntopic = \"news\"\n",
         "b\"abc\") }",
         "b\"abc\") }, Line { at: 3, peer: PeerNo(1), what: Unsubscribe(Topic(b\"news\")) }",
+    ),
+    (
+        "what = \"publish\"\ntopic = \"news\"\nhex = \"616263\"\n",
+        "what = \"raw\"\nto = \"b\"\nhex = \"\"\n",
+        "Publish(Topic(b\"news\"), b\"abc\")",
+        "Raw(PeerNo(1), b\"\")",
+    ),
+    (
+        "peer = \"a\"\nwhat = \"publish\"\ntopic = \"news\"\nhex = \"616263\"\n",
+        "peer = \"b\"\nwhat = \"hang_up\"\nto = \"a\"\n",
+        "PeerNo(0), what: Publish(Topic(b\"news\"), b\"abc\")",
+        "PeerNo(1), what: HangUp(PeerNo(0))",
     ),
 ];

@@ -2,7 +2,7 @@
 use gs_scenario::TableKind;
 
 /// Edits of the scenario that says something in each table, and the refusals as they are written.
-pub static REASONS: [(&str, &str, &str); 40] = [
+pub static REASONS: [(&str, &str, &str); 45] = [
     // What stands there.
     (
         "workers = 2",
@@ -132,8 +132,8 @@ pub static REASONS: [(&str, &str, &str); 40] = [
     ),
     (
         "value = 5\n",
-        "value = 5\n[[do]]\nwhat = 'raw'\n",
-        "Range(Text { text: \"do[0].what\" }, Text(Text { text: \"raw\" }), Verb)",
+        "value = 5\n[[do]]\nwhat = 'row'\n",
+        "Range(Text { text: \"do[0].what\" }, Text(Text { text: \"row\" }), Verb)",
     ),
     // Which name, and of what.
     (
@@ -155,6 +155,21 @@ pub static REASONS: [(&str, &str, &str); 40] = [
         "value = 5\n",
         "value = 5\n[[do]]\nwhat = 'subscribe'\nat = 0\npeer = 'a'\ntopic = 'blog'\n",
         "UnknownName(Text { text: \"do[0].topic\" }, Text { text: \"blog\" }, Topic)",
+    ),
+    (
+        "value = 5\n",
+        "value = 5\n[[do]]\nwhat = 'hang_up'\nat = 0\npeer = 'a'\nto = 'd'\n",
+        "UnknownName(Text { text: \"do[0].to\" }, Text { text: \"d\" }, Peer)",
+    ),
+    (
+        "value = 5\n",
+        "value = 5\n[[do]]\nwhat = 'hang_up'\nat = 0\npeer = 'a'\nto = 'c'\n",
+        "UnknownName(Text { text: \"do[0].to\" }, Text { text: \"c\" }, Neighbour)",
+    ),
+    (
+        "value = 5\n",
+        "value = 5\n[[do]]\nwhat = 'raw'\nat = 0\npeer = 'a'\nto = 'a'\n",
+        "UnknownName(Text { text: \"do[0].to\" }, Text { text: \"a\" }, Neighbour)",
     ),
     // Which table has no such key.
     (
@@ -197,6 +212,16 @@ pub static REASONS: [(&str, &str, &str); 40] = [
         "value = 5\n[[do]]\nwhat = 'publish'\nraw = ''\n",
         "UnknownKey(Text { text: \"do[0].raw\" }, PublishLine)",
     ),
+    (
+        "value = 5\n",
+        "value = 5\n[[do]]\nwhat = 'raw'\ntopic = ''\n",
+        "UnknownKey(Text { text: \"do[0].topic\" }, RawLine)",
+    ),
+    (
+        "value = 5\n",
+        "value = 5\n[[do]]\nwhat = 'hang_up'\nhex = ''\n",
+        "UnknownKey(Text { text: \"do[0].hex\" }, HangUpLine)",
+    ),
     // Which parameter is what it may not be.
     (
         "[params]",
@@ -211,7 +236,7 @@ pub static REASONS: [(&str, &str, &str); 40] = [
 ];
 
 /// The keys that a table may have, in the order in which they are looked at.
-pub static KNOWN_KEYS: [(TableKind, &str); 8] = [
+pub static KNOWN_KEYS: [(TableKind, &str); 10] = [
     (
         TableKind::Top,
         "round_ms rounds workers capacity seed params topic peer dial app do ",
@@ -234,4 +259,6 @@ pub static KNOWN_KEYS: [(TableKind, &str); 8] = [
     (TableKind::App, "peer about value "),
     (TableKind::SubscriptionLine, "what at peer topic "),
     (TableKind::PublishLine, "what at peer topic hex "),
+    (TableKind::RawLine, "what at peer to hex "),
+    (TableKind::HangUpLine, "what at peer to "),
 ];

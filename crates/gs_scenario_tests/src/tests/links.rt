@@ -1,0 +1,149 @@
+//! Lines of a script that are done to a neighbour's link.
+use crate::tests::keys::IN_APP;
+use crate::tests::{outcome_behind, repeated};
+use std::alloc::{AllocError, Global};
+use std::process::Abort;
+
+/// What a line of the script holds, and what it gives: of the peers `a`, `b` and `c`, a dial joins `a` and `b` alone.
+type Line = (&'static str, &'static str);
+
+/// What a line of the script gives that holds this.
+fn given(alloc: Global, line: &str) -> Result<String, AllocError> {
+    let table = format!(in alloc; "[[do]]\n{line}")?;
+    outcome_behind(alloc, IN_APP, table.as_str())
+}
+
+/// Checks that each line of the script gives what it must.
+fn check_links<T: AllocGlobal + Abort>(rt: &T, lines: &[Line]) -> Result<(), AllocError> {
+    for (line, want) in lines {
+        assert_eq!(rt; given(rt.alloc(), line)?.as_str(), *want, "{line}");
+    }
+    Ok(())
+}
+
+#[test]
+fn raw_bytes_go_to_a_neighbour(rt: HostRuntime) -> Result<(), AllocError> {
+    static LINES: [Line; 19] = [
+        ("what='raw'\nat=0\npeer='a'\nto='b'\nhex=''", "a plan"),
+        ("what='raw'\nat=10\npeer='b'\nto='a'\nhex='aF09'", "a plan"),
+        ("what='raw'\npeer='a'\nto='b'\nhex=''", "28 do[0].at"),
+        ("what='raw'\nat=11\npeer='a'\nto='b'\nhex=''", "29 do[0].at"),
+        ("what='raw'\nat=0\nto='b'\nhex=''", "28 do[0].peer"),
+        (
+            "what='raw'\nat=0\npeer='d'\nto='b'\nhex=''",
+            "30 do[0].peer",
+        ),
+        ("what='raw'\nat=0\npeer='a'\nhex=''", "28 do[0].to"),
+        ("what='raw'\nat=0\npeer='a'\nto=1\nhex=''", "29 do[0].to"),
+        ("what='raw'\nat=0\npeer='a'\nto=''\nhex=''", "29 do[0].to"),
+        ("what='raw'\nat=0\npeer='a'\nto='B'\nhex=''", "29 do[0].to"),
+        ("what='raw'\nat=0\npeer='a'\nto='d'\nhex=''", "30 do[0].to"),
+        ("what='raw'\nat=0\npeer='a'\nto='c'\nhex=''", "30 do[0].to"),
+        ("what='raw'\nat=0\npeer='a'\nto='a'\nhex=''", "30 do[0].to"),
+        ("what='raw'\nat=0\npeer='c'\nto='b'\nhex=''", "30 do[0].to"),
+        ("what='raw'\nat=0\npeer='a'\nto='b'", "28 do[0].hex"),
+        ("what='raw'\nat=0\npeer='a'\nto='b'\nhex=61", "29 do[0].hex"),
+        (
+            "what='raw'\nat=0\npeer='a'\nto='b'\nhex='6'",
+            "29 do[0].hex",
+        ),
+        (
+            "what='raw'\nat=0\npeer='a'\nto='b'\nhex='6g'",
+            "29 do[0].hex",
+        ),
+        (
+            "what='raw'\nat=0\npeer='a'\nto='b'\nhex=['61']",
+            "29 do[0].hex",
+        ),
+    ];
+    check_links(&rt, &LINES)
+}
+
+#[test]
+fn a_peer_hangs_up_on_a_neighbour(rt: HostRuntime) -> Result<(), AllocError> {
+    static LINES: [Line; 12] = [
+        ("what='hang_up'\nat=0\npeer='a'\nto='b'", "a plan"),
+        ("what='hang_up'\nat=10\npeer='b'\nto='a'", "a plan"),
+        ("what='hang_up'\npeer='a'\nto='b'", "28 do[0].at"),
+        ("what='hang_up'\nat=0\nto='b'", "28 do[0].peer"),
+        ("what='hang_up'\nat=0\npeer='a'", "28 do[0].to"),
+        ("what='hang_up'\nat=0\npeer='a'\nto=true", "29 do[0].to"),
+        ("what='hang_up'\nat=0\npeer='a'\nto='b.'", "29 do[0].to"),
+        ("what='hang_up'\nat=0\npeer='a'\nto='d'", "30 do[0].to"),
+        ("what='hang_up'\nat=0\npeer='a'\nto='c'", "30 do[0].to"),
+        ("what='hang_up'\nat=0\npeer='a'\nto='a'", "30 do[0].to"),
+        ("what='hang_up'\nat=0\npeer='b'\nto='c'", "30 do[0].to"),
+        ("what='hang_up'\nat=0\npeer='c'\nto='a'", "30 do[0].to"),
+    ];
+    check_links(&rt, &LINES)
+}
+
+#[test]
+fn a_line_has_the_keys_of_its_kind_alone(rt: HostRuntime) -> Result<(), AllocError> {
+    static LINES: [Line; 9] = [
+        ("what='raw'\ntopic='news'", "27 do[0].topic"),
+        (
+            "what='raw'\ntopic='news'\ncolour=1\nColour=1",
+            "27 do[0].Colour",
+        ),
+        ("what='hang_up'\nhex=''", "27 do[0].hex"),
+        ("what='hang_up'\ntopic='news'\nhex=''", "27 do[0].hex"),
+        (
+            "what='hang_up'\nat=0\npeer='a'\nto='b'\nhex='61'",
+            "27 do[0].hex",
+        ),
+        (
+            "what='hang_up'\nat=0\npeer='a'\nto='b'\ntopic='news'",
+            "27 do[0].topic",
+        ),
+        (
+            "what='subscribe'\nat=0\npeer='a'\ntopic='news'\nto='b'",
+            "27 do[0].to",
+        ),
+        (
+            "what='unsubscribe'\nat=0\npeer='a'\ntopic='news'\nto='b'",
+            "27 do[0].to",
+        ),
+        (
+            "what='publish'\nat=0\npeer='a'\ntopic='news'\nhex=''\nto='b'",
+            "27 do[0].to",
+        ),
+    ];
+    check_links(&rt, &LINES)
+}
+
+#[test]
+fn who_is_looked_at_before_what_is_sent(rt: HostRuntime) -> Result<(), AllocError> {
+    static LINES: [Line; 8] = [
+        ("at=11\npeer='d'\nto=1\nhex=1", "28 do[0].what"),
+        (
+            "what='Raw'\nat=11\npeer='d'\nto=1\nhex=1\ntopic=1",
+            "29 do[0].what",
+        ),
+        (
+            "what='raw'\nat=11\npeer='d'\nto=1\nhex=1\ntopic=1",
+            "27 do[0].topic",
+        ),
+        ("what='raw'\nat=11\npeer='d'\nto=1\nhex=1", "29 do[0].at"),
+        ("what='raw'\nat=0\npeer='d'\nto=1\nhex=1", "30 do[0].peer"),
+        ("what='raw'\nat=0\npeer='a'\nhex=1", "28 do[0].to"),
+        ("what='raw'\nat=0\npeer='a'\nto=1\nhex=1", "29 do[0].to"),
+        ("what='raw'\nat=0\npeer='a'\nto='c'", "30 do[0].to"),
+    ];
+    check_links(&rt, &LINES)
+}
+
+/// What a line gives that puts so many bytes on a link.
+fn given_of(alloc: Global, count: usize) -> Result<String, AllocError> {
+    let hex = repeated(alloc, "0f", count)?;
+    let line = format!(in alloc; "what='raw'\nat=0\npeer='a'\nto='b'\nhex='{hex}'")?;
+    given(alloc, line.as_str())
+}
+
+#[test]
+fn a_line_has_at_most_two_megabytes(rt: HostRuntime) -> Result<(), AllocError> {
+    let alloc = rt.alloc();
+    assert_eq!(rt; given_of(alloc, 2_097_152)?.as_str(), "a plan");
+    assert_eq!(rt; given_of(alloc, 2_097_153)?.as_str(), "29 do[0].hex");
+    Ok(())
+}
