@@ -1,4 +1,5 @@
 //! Whole runs, from a scenario to its report.
+mod breaking;
 mod choices;
 mod meshes;
 mod one_output;

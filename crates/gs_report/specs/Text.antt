@@ -1,11 +1,13 @@
 -- What a run's report says.
-use Rattle.std.specs.Prelude.{ℕ, ℤ, pos, ◌+◌, ◌/◌, ◌%◌, int_lt, unsigned_abs, if◌then◌else◌, List, [], ◌∷◌, ◌++◌, codes, decimal, map, option_map, unwrap_or, slice_get, reverse}
+use Rattle.std.specs.Prelude.{ℕ, ℤ, pos, ◌+◌, ◌/◌, ◌%◌, int_lt, unsigned_abs, if◌then◌else◌, List, [], ◌∷◌, ◌++◌, codes, decimal, map, Option, Some, None, option_map, unwrap_or, slice_get, reverse}
 use Rattle.std.specs.List.{flat_map}
 use Rattle.hex.specs.Hex.{encode_lower}
 use Rattle.gs_base.specs.declared.names.Millis.{Millis}
 use Rattle.gs_base.specs.declared.names.PeerNo.{PeerNo}
 use Rattle.gs_base.specs.declared.names.Topic.{Topic}
 use Rattle.gs_rules.specs.declared.trace.Entry.{Entry}
+use Rattle.gs_rules.specs.declared.trace.Event.{Event}
+use Rattle.gs_rules.specs.declared.trace.Event.TheVariants.{Heard, Late, Sub, Msg, Have, Want, GraftIn, PruneIn, Subscribe, Unsubscribe, Publish, BeatBegin, MeshBeat, FanBeat, FanEnd, GossipBeat, BeatEnd, Decay, RoundEnd, Gone, Fault, HangUp, Raw, Shut}
 use Rattle.gs_plan.specs.declared.plan.Plan.{Plan}
 use Rattle.gs_plan.specs.declared.plan.PlannedPeer.{PlannedPeer}
 use Rattle.gs_plan.specs.declared.plan.Line.{Line}
@@ -14,7 +16,7 @@ use Rattle.gs_rules.specs.Refusals.{number_of}
 use Rattle.gs_report.specs.declared.finished.Finished.{Finished}
 use Rattle.gs_report.specs.declared.report.Report.{Report}
 use Rattle.gs_report.specs.declared.text.Section.{Section}
-use Rattle.gs_report.specs.declared.text.Section.TheVariants.{Delivered, Refused, Meshes, Scores}
+use Rattle.gs_report.specs.declared.text.Section.TheVariants.{Delivered, Refused, Faults, Meshes, Scores}
 use Rattle.gs_plan.specs.Plans.{what_word}
 
 -- ---- words
@@ -64,6 +66,44 @@ refused_line plan name r =
     codes "refused " ++ name ++ codes " " ++ decimal r.at.0 ++ codes " " ++ word_of plan r.line
     ++ codes " " ++ decimal (number_of r.why) ++ codes "\n"
 
+-- The neighbour whose bytes, as an event found, spell no RPC or end within one, if any. Each event is named here, so that
+-- a new one is decided on.
+abbrev pub at_fault : Event → Option PeerNo
+at_fault (Fault p) = Some p
+at_fault (Gone p) = None
+at_fault (HangUp p) = None
+at_fault (Heard q rpc) = None
+at_fault (Late q rpc) = None
+at_fault (Sub q sub) = None
+at_fault (Msg q message) = None
+at_fault (Have q offer) = None
+at_fault (Want q request) = None
+at_fault (GraftIn q graft) = None
+at_fault (PruneIn q prune) = None
+at_fault (Subscribe t) = None
+at_fault (Unsubscribe t) = None
+at_fault (Publish t payload) = None
+at_fault BeatBegin = None
+at_fault (MeshBeat t) = None
+at_fault (FanBeat t) = None
+at_fault (FanEnd t) = None
+at_fault (GossipBeat t) = None
+at_fault BeatEnd = None
+at_fault Decay = None
+at_fault (RoundEnd r) = None
+at_fault (Raw q bytes) = None
+at_fault Shut = None
+
+-- `fault PEER MOMENT NEIGHBOUR` of a neighbour at fault, and no line where there is none
+abbrev pub fault_line : Plan → List ℕ → Millis → Option PeerNo → List ℕ
+fault_line plan name at None = []
+fault_line plan name at (Some q) =
+    codes "fault " ++ name ++ codes " " ++ decimal at.0 ++ codes " " ++ name_of plan q ++ codes "\n"
+
+-- the line of an entry by which a neighbour was found at fault
+abbrev pub entry_faults : Plan → List ℕ → Entry → List ℕ
+entry_faults plan name e = fault_line plan name e.at (at_fault e.event)
+
 -- `mesh PEER TOPIC MEMBER`
 abbrev pub mesh_line : Plan → List ℕ → Topic × PeerNo → List ℕ
 mesh_line plan name x =
@@ -88,6 +128,10 @@ delivered_lines plan x = flat_map (entry_lines (name_of plan x.0)) (reverse x.1.
 abbrev pub refused_lines : Plan → PeerNo × Finished → List ℕ
 refused_lines plan x = flat_map (refused_line plan (name_of plan x.0)) x.1.refused
 
+-- which neighbours it found at fault, the oldest entry first
+abbrev pub fault_lines : Plan → PeerNo × Finished → List ℕ
+fault_lines plan x = flat_map (entry_faults plan (name_of plan x.0)) (reverse x.1.trace)
+
 -- who was in its meshes
 abbrev pub mesh_lines : Plan → PeerNo × Finished → List ℕ
 mesh_lines plan x = flat_map (mesh_line plan (name_of plan x.0)) x.1.meshes
@@ -100,16 +144,18 @@ score_lines plan x = flat_map (score_line plan (name_of plan x.0)) x.1.scores
 abbrev pub lines_of : Section → Plan → PeerNo × Finished → List ℕ
 lines_of Delivered = delivered_lines
 lines_of Refused = refused_lines
+lines_of Faults = fault_lines
 lines_of Meshes = mesh_lines
 lines_of Scores = score_lines
 
 -- ---- the report
 
--- what was delivered, peer by peer, then what was refused, who was in meshes, what neighbours scored, and last how many
--- links were settled
+-- what was delivered, peer by peer, then what was refused, who was at fault, who was in meshes, what neighbours scored,
+-- and last how many links were settled
 abbrev pub report_text : Plan → Report → List ℕ
 report_text plan report =
     flat_map (delivered_lines plan) report.peers.items ++ flat_map (refused_lines plan) report.peers.items
+    ++ flat_map (fault_lines plan) report.peers.items
     ++ flat_map (mesh_lines plan) report.peers.items
     ++ flat_map (score_lines plan) report.peers.items
     ++ links_line report.settled

@@ -1,18 +1,18 @@
 ghost use Rattle.std.specs.Prelude.{◌≡◌, ◌++◌, ◌<◌, IfOk, OnOk, string_bytes};
 ghost use Rattle.std.specs.List.{flat_map};
-ghost use Rattle.gs_report.specs.Text.{delivered_line, digit, entry_lines, lines_of, links_line, mesh_line, name_of, payload_text, refused_line, report_text, score_line, score_text, word_of};
+ghost use Rattle.gs_report.specs.Text.{at_fault, delivered_line, digit, entry_faults, entry_lines, fault_line, lines_of, links_line, mesh_line, name_of, payload_text, refused_line, report_text, score_line, score_text, word_of};
 
 use crate::{Finished, Report};
 use bytes::Bytes;
 use gs_base::{Millis, PeerNo, Topic};
 use gs_plan::{Plan, what_word};
-use gs_rules::{Entry, RefusedLine};
+use gs_rules::{Entry, Event, RefusedLine};
 use std::alloc::{AllocError, Global};
 
 /// The text of a run's report, as docs/FORMATS.md lists its lines: first one for each message that was delivered,
 /// peer by peer in the order of its trace, then one for each refusal, peer by peer in the order of its list, then
-/// one for each member of a mesh, one for each score of a neighbour, and last the line of the links. A peer has the
-/// name that the plan gives its number.
+/// one for each fault of a neighbour, peer by peer in the order of its trace, then one for each member of a mesh, one
+/// for each score of a neighbour, and last the line of the links. A peer has the name that the plan gives its number.
 ///
 /// # Errors
 /// `AllocError` where there was no memory for it.
@@ -22,6 +22,7 @@ pub fn report_text(alloc: Global, plan: &Plan, report: &Report) -> Result<Vec<u8
     let mut text = Vec::new(alloc);
     push_section(alloc, &mut text, plan, Section::Delivered, &report.peers)?;
     push_section(alloc, &mut text, plan, Section::Refused, &report.peers)?;
+    push_section(alloc, &mut text, plan, Section::Faults, &report.peers)?;
     push_section(alloc, &mut text, plan, Section::Meshes, &report.peers)?;
     push_section(alloc, &mut text, plan, Section::Scores, &report.peers)?;
     push_links(alloc, &mut text, report.settled)?;
@@ -35,6 +36,8 @@ pub enum Section {
     Delivered,
     /// Which lines of the script each peer refused.
     Refused,
+    /// Whose bytes each peer found to be no RPC, in the order of its trace.
+    Faults,
     /// Who was in the mesh of each topic at the end.
     Meshes,
     /// What the neighbours of each peer scored at the end.
@@ -71,6 +74,7 @@ fn push_lines(
     match section {
         Section::Delivered => push_entries(alloc, text, name, life.trace.entries()),
         Section::Refused => push_refusals(alloc, text, plan, name, life.refused.as_slice()),
+        Section::Faults => push_faults(alloc, text, plan, name, life.trace.entries()),
         Section::Meshes => push_members(alloc, text, plan, name, life.meshes.as_slice()),
         Section::Scores => push_each_score(alloc, text, plan, name, life.scores.as_slice()),
     }
@@ -158,6 +162,74 @@ fn push_refusal(
     let back = format!(in alloc; "{word} {number}\n")?;
     text.extend_from_slice(front.as_bytes())?;
     text.extend_from_slice(back.as_bytes())
+}
+
+fn push_faults(
+    alloc: Global,
+    text: &mut Vec<u8>,
+    plan: &Plan,
+    name: &str,
+    trace: &[Entry],
+) -> Result<(), AllocError>
+    ensures { OnOk result (text.new.items ≡ text.old.items ++ flat_map (entry_faults plan.now name.now) trace.now) }
+{
+    for entry in trace {
+        push_fault(alloc, text, plan, name, entry)?;
+    }
+    Ok(())
+}
+
+/// Adds a line `fault PEER MOMENT NEIGHBOUR` of an entry by which a neighbour was found at fault, and of another none.
+fn push_fault(
+    alloc: Global,
+    text: &mut Vec<u8>,
+    plan: &Plan,
+    name: &str,
+    entry: &Entry,
+) -> Result<(), AllocError>
+    ensures { OnOk result (text.new.items ≡ text.old.items ++ entry_faults plan.now name.now entry.now) }
+{
+    match at_fault(&entry.event) {
+        Some(peer) => {
+            let moment = entry.at.0;
+            let neighbour = name_of(plan, peer);
+            let told = format!(in alloc; "fault {name} {moment} {neighbour}\n")?;
+            text.extend_from_slice(told.as_bytes())
+        }
+        None => Ok(()),
+    }
+}
+
+/// The neighbour whose bytes an event found to be no RPC, if any. Each event is named, so that a new one is decided on.
+fn at_fault(event: &Event) -> Option<PeerNo>
+    ensures { result ≡ at_fault event.now }
+{
+    match event {
+        Event::Fault(peer) => Some(*peer),
+        Event::Gone(_) => None,
+        Event::HangUp(_) => None,
+        Event::Heard(_, _) => None,
+        Event::Late(_, _) => None,
+        Event::Sub(_, _) => None,
+        Event::Msg(_, _) => None,
+        Event::Have(_, _) => None,
+        Event::Want(_, _) => None,
+        Event::GraftIn(_, _) => None,
+        Event::PruneIn(_, _) => None,
+        Event::Subscribe(_) => None,
+        Event::Unsubscribe(_) => None,
+        Event::Publish(_, _) => None,
+        Event::BeatBegin => None,
+        Event::MeshBeat(_) => None,
+        Event::FanBeat(_) => None,
+        Event::FanEnd(_) => None,
+        Event::GossipBeat(_) => None,
+        Event::BeatEnd => None,
+        Event::Decay => None,
+        Event::RoundEnd(_) => None,
+        Event::Raw(_, _) => None,
+        Event::Shut => None,
+    }
 }
 
 fn push_members(

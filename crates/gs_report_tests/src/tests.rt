@@ -18,7 +18,7 @@ fn topic(alloc: Global, name: &str) -> Result<Topic, AllocError> {
     Ok(Topic(bytes(alloc, name.as_bytes())?))
 }
 
-/// Peers `a` and `b`, who are told to subscribe, to unsubscribe and to publish.
+/// Peers `a` and `b`, of which `a` is told to do each thing that a peer can be told.
 fn plan(alloc: Global) -> Result<Plan, AllocError> {
     let mut peers = Seq::new(alloc);
     for name in ["a", "b"] {
@@ -33,6 +33,8 @@ fn plan(alloc: Global) -> Result<Plan, AllocError> {
         What::Subscribe(topic(alloc, "news")?),
         What::Unsubscribe(topic(alloc, "news")?),
         What::Publish(topic(alloc, "news")?, bytes(alloc, b"abc")?),
+        What::Raw(PeerNo(1), bytes(alloc, b"\xff")?),
+        What::HangUp(PeerNo(1)),
     ] {
         script.push(Line {
             at: 0,
@@ -61,12 +63,25 @@ fn plan(alloc: Global) -> Result<Plan, AllocError> {
     })
 }
 
+/// What an entry says.
+#[derive(Clone, Copy)]
+enum Did {
+    /// These payloads are delivered, on these topics.
+    Delivers(&'static [(&'static str, &'static [u8])]),
+    /// The bytes of a neighbour are no RPC.
+    Faults(u16),
+    /// A neighbour has closed its link.
+    Loses(u16),
+    /// The link to a neighbour is closed.
+    HangsUp(u16),
+}
+
 /// What is left of a peer.
 #[derive(Clone, Copy)]
 struct Life {
     peer: u16,
-    /// What each entry delivers, with its moment: topics and payloads.
-    delivered: &'static [(u64, &'static [(&'static str, &'static [u8])])],
+    /// What it did, with the moments.
+    trace: &'static [(u64, Did)],
     /// What it could not follow: moments, places and reasons.
     refused: &'static [(u64, usize, Refusal)],
     /// Topics, and who is in their meshes.
@@ -78,23 +93,37 @@ struct Life {
 /// A peer that did nothing.
 const SILENT: Life = Life {
     peer: 0,
-    delivered: &[],
+    trace: &[],
     refused: &[],
     meshes: &[],
     scores: &[],
 };
 
-/// An entry that delivers these payloads on these topics.
-fn entry(alloc: Global, at: u64, payloads: &[(&str, &[u8])]) -> Result<Entry, AllocError> {
-    let mut delivered = Seq::new(alloc);
-    for (name, payload) in payloads {
-        delivered.push((topic(alloc, name)?, bytes(alloc, payload)?))?;
+fn event_of(did: Did) -> Event {
+    match did {
+        Did::Delivers(_) => Event::RoundEnd(0),
+        Did::Faults(peer) => Event::Fault(PeerNo(peer)),
+        Did::Loses(peer) => Event::Gone(PeerNo(peer)),
+        Did::HangsUp(peer) => Event::HangUp(PeerNo(peer)),
     }
+}
+
+fn delivered_by(alloc: Global, did: Did) -> Result<Seq<(Topic, Bytes)>, AllocError> {
+    let mut delivered = Seq::new(alloc);
+    if let Did::Delivers(payloads) = did {
+        for (name, payload) in payloads {
+            delivered.push((topic(alloc, name)?, bytes(alloc, payload)?))?;
+        }
+    }
+    Ok(delivered)
+}
+
+fn entry(alloc: Global, at: u64, did: Did) -> Result<Entry, AllocError> {
     Ok(Entry {
         at: Millis(at),
-        event: Event::RoundEnd(0),
+        event: event_of(did),
         sends: Seq::new(alloc),
-        delivered,
+        delivered: delivered_by(alloc, did)?,
         promise: None,
         marks: Seq::new(alloc),
     })
@@ -102,8 +131,8 @@ fn entry(alloc: Global, at: u64, payloads: &[(&str, &[u8])]) -> Result<Entry, Al
 
 fn trace_of(alloc: Global, life: Life) -> Result<Trace, AllocError> {
     let mut trace = Trace::new(alloc);
-    for (at, payloads) in life.delivered {
-        trace.push(entry(alloc, *at, payloads)?)?;
+    for (at, did) in life.trace {
+        trace.push(entry(alloc, *at, *did)?)?;
     }
     Ok(trace)
 }
@@ -168,17 +197,17 @@ fn is_told(alloc: Global, lives: &[Life], settled: u64, text: &str) -> Result<bo
 
 static TWO_THAT_REFUSE: [Life; 2] = [
     Life {
-        delivered: &[
-            (200, &[("news", b"abc")]),
-            (300, &[]),
-            (300, &[("news", b""), ("blog", b"\x0f\xf0")]),
+        trace: &[
+            (200, Did::Delivers(&[("news", b"abc")])),
+            (300, Did::Delivers(&[])),
+            (300, Did::Delivers(&[("news", b""), ("blog", b"\x0f\xf0")])),
         ],
         refused: &[(0, 2, Refusal::AlreadySeen), (500, 1, Refusal::NotJoined)],
         ..SILENT
     },
     Life {
         peer: 1,
-        delivered: &[(300, &[("news", b"abc")])],
+        trace: &[(300, Did::Delivers(&[("news", b"abc")]))],
         refused: &[(400, 0, Refusal::TooMany)],
         ..SILENT
     },
@@ -204,12 +233,12 @@ fn refusals_come_after_all_deliveries(rt: HostRuntime) -> Result<(), AllocError>
 static SECOND_FIRST: [Life; 2] = [
     Life {
         peer: 1,
-        delivered: &[(200, &[("news", b"1")])],
+        trace: &[(200, Did::Delivers(&[("news", b"1")]))],
         refused: &[(400, 0, Refusal::Joined)],
         ..SILENT
     },
     Life {
-        delivered: &[(100, &[("blog", b"2")])],
+        trace: &[(100, Did::Delivers(&[("blog", b"2")]))],
         refused: &[(300, 1, Refusal::NotJoined)],
         ..SILENT
     },
@@ -223,17 +252,17 @@ fn a_peer_has_the_name_of_its_number(rt: HostRuntime) -> Result<(), AllocError> 
     Ok(())
 }
 
-/// There is no peer 2, and there are three lines.
+/// There is no peer 2, and there are five lines.
 static NO_PEER_AND_NO_LINES: [Life; 3] = [
     SILENT,
     Life {
         peer: 1,
-        refused: &[(1, 3, Refusal::TooLong), (2, usize::MAX, Refusal::Stopped)],
+        refused: &[(1, 5, Refusal::TooLong), (2, usize::MAX, Refusal::Stopped)],
         ..SILENT
     },
     Life {
         peer: 2,
-        delivered: &[(u64::MAX, &[("news", b"1")])],
+        trace: &[(u64::MAX, Did::Delivers(&[("news", b"1")]))],
         ..SILENT
     },
 ];
@@ -243,6 +272,74 @@ fn what_is_no_peer_or_no_line_has_the_empty_word(rt: HostRuntime) -> Result<(), 
     let report = "delivered  18446744073709551615 news 31\nrefused b 1  17\nrefused b 2  21\n\
         links 18446744073709551615 settled\n";
     assert!(rt; is_told(rt.alloc(), &NO_PEER_AND_NO_LINES, u64::MAX, report)?);
+    Ok(())
+}
+
+static RAW_AND_HANG_UP: [Life; 1] = [Life {
+    refused: &[(100, 3, Refusal::NotOpen), (200, 4, Refusal::NotOpen)],
+    ..SILENT
+}];
+
+#[test]
+fn bytes_and_a_hang_up_are_refused_on_a_closed_link(rt: HostRuntime) -> Result<(), AllocError> {
+    let report = "refused a 100 raw 33\nrefused a 200 hang_up 33\nlinks 2 settled\n";
+    assert!(rt; is_told(rt.alloc(), &RAW_AND_HANG_UP, 2, report)?);
+    Ok(())
+}
+
+/// There is no peer 2 or 3.
+static FAULTS: [Life; 3] = [
+    Life {
+        trace: &[
+            (200, Did::Delivers(&[("news", b"1")])),
+            (300, Did::Faults(1)),
+            (300, Did::Loses(2)),
+            (300, Did::Faults(3)),
+            (400, Did::Delivers(&[("news", b"2")])),
+            (500, Did::Faults(0)),
+        ],
+        meshes: &[("news", 1)],
+        ..SILENT
+    },
+    Life {
+        peer: 2,
+        trace: &[(100, Did::HangsUp(0)), (200, Did::Loses(1))],
+        ..SILENT
+    },
+    Life {
+        peer: 1,
+        trace: &[
+            (0, Did::HangsUp(0)),
+            (u64::MAX, Did::Faults(0)),
+            (u64::MAX, Did::Delivers(&[("blog", b"")])),
+        ],
+        refused: &[(400, 4, Refusal::NotOpen)],
+        meshes: &[("blog", 0)],
+        scores: &[(0, 0)],
+    },
+];
+
+const FAULTS_TOLD: &str = "\
+delivered a 200 news 31
+delivered a 400 news 32
+delivered b 18446744073709551615 blog -
+refused b 400 hang_up 33
+fault a 300 b
+fault a 300 
+fault a 500 a
+fault b 18446744073709551615 a
+mesh a news b
+mesh b blog a
+score b a 0.000000
+links 4 settled
+";
+
+/// A neighbour that closed its link, or on which a peer hung up, has no line.
+#[test]
+fn faults_are_told_by_peer_behind_refusals_and_ahead_of_members(
+    rt: HostRuntime,
+) -> Result<(), AllocError> {
+    assert!(rt; is_told(rt.alloc(), &FAULTS, 4, FAULTS_TOLD)?);
     Ok(())
 }
 
