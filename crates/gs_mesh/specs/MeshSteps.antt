@@ -84,14 +84,16 @@ module _ {R : Type 0} (any_of : ℕ → List PeerNo → (List PeerNo → R) → 
       any_of (degrees.d - length members) (peers_of candidates) (next (peers_of members))
   mended Many degrees members candidates next = cut_of degrees members (λ kept. next kept [])
   mended FewOutbound degrees members candidates next =
-      any_of (degrees.d_out - length (outbound_of members)) (peers_of (outbound_of candidates)) (next (peers_of members))
+      any_of (degrees.d_out - length (outbound_of members)) (peers_of (outbound_of candidates))
+      (next (peers_of members))
   mended Balanced degrees members candidates next = next (peers_of members) []
 
   -- the whole step
   abbrev pub stepped : Params → ℕ → List Member → List Member → (MeshChange → R) → R
   stepped params tick mesh candidates next =
       mended (condition_of params.degrees (not_negative mesh)) params.degrees (not_negative mesh) candidates (λ kept grafted.
-      opportunistic_grafts_then any_of params tick (mended_members (not_negative mesh) candidates kept grafted) candidates grafted (λ more.
+      opportunistic_grafts_then any_of params tick (mended_members (not_negative mesh) candidates kept grafted)
+      candidates grafted (λ more.
       next (mesh_change mesh candidates kept (grafted ++ more))))
 
 -- ---- the step by random words

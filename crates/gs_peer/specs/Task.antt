@@ -98,11 +98,14 @@ module _ {G S : Type 0} (seen : EndsOf S) where
 module _ {S : Type 0} (seen : EndsOf S) where
   -- over all neighbours at most so many slots were taken, and as many accepted
   abbrev pub BothGrew : ℕ → S → S → Type 0
-  BothGrew most before after = GrewBy most (seen.accepted before) (seen.accepted after) × GrewBy most (seen.taken before) (seen.taken after)
+  BothGrew most before after =
+      GrewBy most (seen.accepted before) (seen.accepted after)
+      × GrewBy most (seen.taken before) (seen.taken after)
 
   -- what a poll takes and has accepted
   abbrev pub Bounded : {G : Type 0} → ℕ → PeerTask G S → PeerTask G S → Poll (Result (FinishedTask S) PeerFault) → Type 0
-  Bounded {G} most old new (Ready (Ok f)) = (t : Running G S) → old.running ≡ Some t → BothGrew most t.ends f.ends
+  Bounded {G} most old new (Ready (Ok f)) =
+      (t : Running G S) → old.running ≡ Some t → BothGrew most t.ends f.ends
   Bounded {G} most old new (Ready (Err e)) = Unit {0}
   Bounded {G} most old new Pending =
       (t : Running G S)

@@ -154,6 +154,8 @@ pub record IsInRange (plan : Plan) : Type 0 where
   -- a line of the script is of a peer of the plan, in one of its rounds: on one of its topics, or to a neighbour of the peer
   pub lines_of : All (λ (line : Line). IsOneOf plan.peers line.peer) plan.script
   pub lines_at : All (λ (line : Line). line.at ≤ plan.rounds) plan.script
-  pub lines_on : All (λ (line : Line). IfSome (topic_of line.what) (λ topic. has_topic plan.params.topics topic ≡ true)) plan.script
-  pub lines_to : All (λ (line : Line). IfSome (neighbour_of line.what) (λ to. are_joined plan.dials line.peer to ≡ true)) plan.script
+  pub lines_on
+      : All (λ (line : Line). IfSome (topic_of line.what) (λ topic. has_topic plan.params.topics topic ≡ true)) plan.script
+  pub lines_to
+      : All (λ (line : Line). IfSome (neighbour_of line.what) (λ to. are_joined plan.dials line.peer to ≡ true)) plan.script
   pub lines_raw : All (λ (line : Line). IfSome (raw_of line.what) (λ bytes. length bytes ≤ longest_raw)) plan.script
