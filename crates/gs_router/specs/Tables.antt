@@ -112,7 +112,7 @@ pub record Sees (at : ℕ) (marks : List Mark) (old new : Sightings) : Type 0 wh
   pub tells
       : (id : MsgId) (q : PeerNo) (now : ℕ) → new.cache.moment ≤ now
       → neighbour_sighting new id q now
-          ≡ after_marks (neighbour_sighting_after old.cache.ttl now id at) marks (neighbour_sighting old id q now)
+      ≡ after_marks (neighbour_sighting_after old.cache.ttl now id at) marks (neighbour_sighting old id q now)
   pub later : old.cache.moment ≤ new.cache.moment
   pub moment : new.cache.moment ≤ at
   pub ttl : new.cache.ttl ≡ old.cache.ttl
