@@ -19,3 +19,6 @@ pub mod Shorter
 pub mod SentOn
 pub mod Readers
 pub mod EveryStream
+pub mod JoinedRpcs
+pub mod SectionTexts
+pub mod Gathering

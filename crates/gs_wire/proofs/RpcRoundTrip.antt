@@ -83,7 +83,7 @@ prune_spelled v fits small =
 
 -- ---- a control message
 
-values-append : (wanted : ℕ) (rs qs : List Record) → len_values wanted (rs ++ qs) ≡ len_values wanted rs ++ len_values wanted qs
+pub values-append : (wanted : ℕ) (rs qs : List Record) → len_values wanted (rs ++ qs) ≡ len_values wanted rs ++ len_values wanted qs
 values-append wanted rs qs = filter_map-append (λ r. len_in wanted r.field r.value) rs qs
 
 control_says : (v : Control) → IsControl v → length (records_text (control_records v)) < 2 ^ 64 → SaysControl (control_records v) v

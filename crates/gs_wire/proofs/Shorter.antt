@@ -76,11 +76,11 @@ records_shorter [] text h = omega arith
 records_shorter (r ∷ rs) text h =
     omega (arith, record_shorter r h.0 h.3, records_shorter rs h.1 h.4, ap length h.2, length-append h.0 h.1, length-append (record_text r) (records_text rs))
 
-sum_text : (rs qs : List Record) → length (records_text (rs ++ qs)) ≡ length (records_text rs) + length (records_text qs)
+pub sum_text : (rs qs : List Record) → length (records_text (rs ++ qs)) ≡ length (records_text rs) + length (records_text qs)
 sum_text rs qs = ap length (records_text-append rs qs) ∙ length-append (records_text rs) (records_text qs)
 
 -- a record of fewer bytes
-len_shorter : (field : ℕ) (a b : List ℕ) → length a ≤ length b → length (record_text (len_record field a)) ≤ length (record_text (len_record field b))
+pub len_shorter : (field : ℕ) (a b : List ℕ) → length a ≤ length b → length (record_text (len_record field a)) ≤ length (record_text (len_record field b))
 len_shorter field a b le =
     omega (arith, le, more_groups 9 (length a) (length b) le, length-append (varint (8 * field + 2)) (varint (length a) ++ a), length-append (varint (8 * field + 2)) (varint (length b) ++ b), length-append (varint (length a)) a, length-append (varint (length b)) b)
 
@@ -336,7 +336,7 @@ joined_shorter (bytes ∷ values) (rs ∷ lists) h =
     omega (arith, records_shorter rs bytes h.0, joined_shorter values lists h.1, sum_text rs (joined lists), length-append bytes (concat values))
 
 -- one record of all the bytes isn't longer than one of each value
-joined_record : (field : ℕ) (bytes : List ℕ) (values : List (List ℕ)) → length (record_text (len_record field (concat (bytes ∷ values)))) ≤ length (records_text (repeated_records field (bytes ∷ values)))
+pub joined_record : (field : ℕ) (bytes : List ℕ) (values : List (List ℕ)) → length (record_text (len_record field (concat (bytes ∷ values)))) ≤ length (records_text (repeated_records field (bytes ∷ values)))
 joined_record field bytes [] = omega (arith, len_shorter field (concat (bytes ∷ [])) bytes (omega (arith, ap length (append-nil bytes))), ap length (records_text-single (len_record field bytes)))
 joined_record field bytes (next ∷ values) =
     let tag = varint (8 * field + 2) in

@@ -13,6 +13,12 @@ AllZip-push R [] (z ∷ ys) x y h r = absurd h
 AllZip-push R (w ∷ xs) [] x y h r = absurd h
 AllZip-push R (w ∷ xs) (z ∷ ys) x y h r = (h.0, AllZip-push R xs ys x y h.1 r)
 
+pub AllZip-append : {A B : Type 0} (R : A → B → Type 0) (xs : List A) (ys : List B) (zs : List A) (ws : List B) → AllZip R xs ys → AllZip R zs ws → AllZip R (xs ++ zs) (ys ++ ws)
+AllZip-append R [] [] zs ws h k = k
+AllZip-append R [] (y ∷ ys) zs ws h k = absurd h
+AllZip-append R (x ∷ xs) [] zs ws h k = absurd h
+AllZip-append R (x ∷ xs) (y ∷ ys) zs ws h k = (h.0, AllZip-append R xs ys zs ws h.1 k)
+
 -- what stands in the middle has a partner
 AllZip-middle : {A B : Type 0} (R : A → B → Type 0) (xs : List A) (x : A) (more : List A) (ys : List B) → AllZip R (xs ++ x ∷ more) ys → (y : B) × R x y
 AllZip-middle R [] x more [] h = absurd h

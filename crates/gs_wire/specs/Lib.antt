@@ -8,3 +8,7 @@ pub mod Views
 pub mod Placed
 pub mod Stream
 pub mod Codec
+pub mod Joining
+pub mod Sections
+pub mod Standing
+pub mod Gathering

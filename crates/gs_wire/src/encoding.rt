@@ -109,7 +109,7 @@ pub(crate) fn parts_len<M: Encode>(parts: &[M]) -> usize
 }
 
 /// Writes the tag and the length of a record of `len` bytes, in a field whose tag is one byte.
-fn put_len(buffer: &mut Vec<u8>, field: u64, len: usize)
+pub(crate) fn put_len(buffer: &mut Vec<u8>, field: u64, len: usize)
     requires small { field < 16 }
     requires room { vec_len buffer.old + (1 + length (varint len)) ≤ vec_capacity buffer.old }
     ensures written { buffer.new.items ≡ buffer.old.items ++ (8 * field + 2) ∷ varint len }

@@ -1,5 +1,6 @@
 //! Laws of the wire format. Each holds of its definitions alone, and its function does nothing.
-ghost use Rattle.std.specs.Prelude.{[], ◌∷◌, ◌≡◌, ◌<◌, ◌≤◌, ◌^◌, ◌++◌, List, ℕ, length, Some};
+ghost use Rattle.std.specs.Prelude.{[], ◌∷◌, ◌≡◌, ◌<◌, ◌≤◌, ◌+◌, ◌^◌, ◌++◌, ◌↔◌, List, ℕ, length, Some, None};
+ghost use Rattle.gs_wire.specs.Joining.{joined_options, joined_rpc, joined_rpcs};
 ghost use Rattle.gs_base.specs.declared.names.Topic.{Topic};
 ghost use Rattle.gs_base.specs.declared.rpc.Message.{Message};
 ghost use Rattle.gs_base.specs.declared.rpc.Rpc.{Rpc};
@@ -128,4 +129,31 @@ pub fn a_prune_fits_a_frame()
     ensures { (topic : Topic) (seconds : ℕ)
         → length topic.0 ≤ longest_topic
         → length (body (pruning topic seconds)) ≤ longest_body }
+{}
+
+/// Two bodies behind each other spell the RPC that both are joined to.
+pub fn bodies_behind_each_other_spell_the_joined_rpc()
+    ensures spelled { (x y : List ℕ) (v w : Rpc)
+        → SpellsRpc x v
+        → SpellsRpc y w
+        → SpellsRpc (x ++ y) (joined_rpc v w) }
+    ensures written { (v w : Rpc) → IsInMemory v → IsInMemory w → SpellsRpc (body v ++ body w) (joined_rpc v w) }
+{}
+
+/// What is written for joined RPCs is no longer than what is written for both.
+pub fn a_joined_body_is_no_longer()
+    ensures { (v w : Rpc) → length (body (joined_rpc v w)) ≤ length (body v) + length (body w) }
+{}
+
+/// RPCs are joined in their order, and it does not matter which of three neighbours in it are joined first. Joined control
+/// messages are absent exactly where neither RPC has some, and joined RPCs are absent exactly where there are none.
+pub fn rpcs_are_joined_in_any_grouping()
+    ensures grouping { (u v w : Rpc) → joined_rpc (joined_rpc u v) w ≡ joined_rpc u (joined_rpc v w) }
+    ensures lists { (vs ws : List Rpc)
+        → joined_options (joined_rpcs vs) (joined_rpcs ws) ≡ joined_rpcs (vs ++ ws) }
+    ensures alone { (v : Rpc) → joined_rpcs (v ∷ []) ≡ Some v }
+    ensures pairs { (v w : Rpc) → joined_rpcs (v ∷ w ∷ []) ≡ Some (joined_rpc v w) }
+    ensures control { (v w : Rpc)
+        → ((joined_rpc v w).control ≡ None) ↔ ((v.control ≡ None) × (w.control ≡ None)) }
+    ensures absent { (vs : List Rpc) → (joined_rpcs vs ≡ None) ↔ (vs ≡ []) }
 {}

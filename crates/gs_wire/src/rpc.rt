@@ -100,7 +100,7 @@ pub fn decode(alloc: Global, body: &[u8]) -> Result<Rpc, WireFault>
 }
 
 /// The length of the control of an RPC, where it has one.
-fn control_len(rpc: &Rpc) -> Option<usize>
+pub(crate) fn control_len(rpc: &Rpc) -> Option<usize>
     ensures { result ≡ option_map (λ c. min usize.MAX (length (records_text (control_records c)))) rpc.now.control }
 {
     match &rpc.control {
@@ -110,7 +110,7 @@ fn control_len(rpc: &Rpc) -> Option<usize>
 }
 
 /// The length of the record of a control of this length, where there is one.
-fn control_record_len(len: Option<usize>) -> usize
+pub(crate) fn control_record_len(len: Option<usize>) -> usize
     ensures { (control : Option ControlValue)
         → len ≡ option_map (λ c. min usize.MAX (length (records_text (control_records c)))) control
         → result ≡ min usize.MAX (length (records_text (part_records control_records 3 (option_to_list control)))) }
@@ -122,7 +122,7 @@ fn control_record_len(len: Option<usize>) -> usize
 }
 
 /// The length of the body of an RPC, up to the largest `usize`.
-fn full_len(rpc: &Rpc, control: Option<usize>) -> usize
+pub(crate) fn full_len(rpc: &Rpc, control: Option<usize>) -> usize
     requires { control ≡ option_map (λ c. min usize.MAX (length (records_text (control_records c)))) rpc.now.control }
     ensures { result ≡ min usize.MAX (length (body rpc.now)) }
 {
@@ -132,7 +132,7 @@ fn full_len(rpc: &Rpc, control: Option<usize>) -> usize
 }
 
 /// The length of the body of an RPC, where that isn't too long.
-fn body_len(rpc: &Rpc, control: Option<usize>) -> Result<usize, WireFault>
+pub(crate) fn body_len(rpc: &Rpc, control: Option<usize>) -> Result<usize, WireFault>
     requires { control ≡ option_map (λ c. min usize.MAX (length (records_text (control_records c)))) rpc.now.control }
     ensures len { IfOk result (λ len. (len ≡ length (body rpc.now)) × (len ≤ longest_body)) }
     ensures too_long { IfErr result (λ fault. (fault ≡ WireFault.TooLong) × (longest_body < length (body rpc.now))) }

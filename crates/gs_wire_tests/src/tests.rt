@@ -1,4 +1,6 @@
 //! Bodies of RPCs and their frames, written by hand, and what spells no RPC.
+mod gathered;
+mod joining;
 mod proto;
 mod sizes;
 mod streams;
@@ -6,11 +8,13 @@ mod streams;
 use bytes::Bytes;
 use gs_base::{Control, Graft, Message, Rpc, Seq, SubOpt, Topic};
 use gs_wire::{
-    WireFault, a_body_spells_its_rpc, a_graft_fits_a_frame, a_message_by_itself_is_no_longer,
-    a_prune_fits_a_frame, a_reader_holds_the_unread_end, a_request_fits_a_frame, a_stream_is_one,
-    a_stream_may_be_cut_anywhere, a_written_frame_is_read_back, an_offer_fits_a_frame,
-    bytes_spell_one_list_of_records, bytes_spell_one_rpc, decode, encode, encode_frame,
-    every_list_of_bytes_is_a_stream, no_frame_begins_another, publish_len,
+    WireFault, a_body_spells_its_rpc, a_graft_fits_a_frame, a_joined_body_is_no_longer,
+    a_message_by_itself_is_no_longer, a_prune_fits_a_frame, a_reader_holds_the_unread_end,
+    a_request_fits_a_frame, a_stream_is_one, a_stream_may_be_cut_anywhere,
+    a_written_frame_is_read_back, an_offer_fits_a_frame,
+    bodies_behind_each_other_spell_the_joined_rpc, bytes_spell_one_list_of_records,
+    bytes_spell_one_rpc, decode, encode, encode_frame, every_list_of_bytes_is_a_stream,
+    no_frame_begins_another, publish_len, rpcs_are_joined_in_any_grouping,
     the_written_varint_is_shortest, what_was_read_fits_a_frame,
     what_was_read_is_no_longer_when_written,
 };
@@ -221,4 +225,7 @@ fn laws_can_be_called(_rt: HostRuntime) {
     a_request_fits_a_frame();
     a_graft_fits_a_frame();
     a_prune_fits_a_frame();
+    bodies_behind_each_other_spell_the_joined_rpc();
+    a_joined_body_is_no_longer();
+    rpcs_are_joined_in_any_grouping();
 }

@@ -24,7 +24,7 @@ fn add_varint(bytes: &mut Vec<u8>, number: usize) -> Result<(), AllocError> {
 }
 
 /// The frame of a message with this payload on the topic `t`, and its body.
-fn spelled(alloc: Global, payload: &[u8]) -> Result<(Vec<u8>, Vec<u8>), AllocError> {
+pub fn spelled(alloc: Global, payload: &[u8]) -> Result<(Vec<u8>, Vec<u8>), AllocError> {
     let mut message = vec![in alloc; 0x12u8]?;
     add_varint(&mut message, payload.len())?;
     message.extend_from_slice(payload)?;

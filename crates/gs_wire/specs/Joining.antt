@@ -1,0 +1,46 @@
+-- RPCs that are joined into one.
+use Rattle.std.specs.Prelude.{◌++◌, List, [], ◌∷◌, Option, Some, None}
+use Rattle.gs_base.specs.declared.control.Control.{Control}
+use Rattle.gs_base.specs.declared.rpc.Rpc.{Rpc}
+
+-- what both say of meshes and of messages, list by list
+abbrev pub joined_control : Control → Control → Control
+joined_control c d = record {
+  ihave = c.ihave ++ d.ihave;
+  iwant = c.iwant ++ d.iwant;
+  graft = c.graft ++ d.graft;
+  prune = c.prune ++ d.prune;
+}
+
+-- the control messages of both, which are absent where neither has any
+abbrev pub joined_controls : Option Control → Option Control → Option Control
+joined_controls None d = d
+joined_controls (Some c) None = Some c
+joined_controls (Some c) (Some d) = Some (joined_control c d)
+
+-- one RPC that says what both say, the first one's part first in each list
+abbrev pub joined_rpc : Rpc → Rpc → Rpc
+joined_rpc u v = record {
+  subs = u.subs ++ v.subs;
+  publish = u.publish ++ v.publish;
+  control = joined_controls u.control v.control;
+}
+
+-- what is held, and one RPC more
+abbrev pub joined_to : Option Rpc → Rpc → Rpc
+joined_to None v = v
+joined_to (Some u) v = joined_rpc u v
+
+-- both, where there are both
+abbrev pub joined_options : Option Rpc → Option Rpc → Option Rpc
+joined_options held None = held
+joined_options held (Some v) = Some (joined_to held v)
+
+-- what is held, and then all of these
+abbrev pub joined_onto : Option Rpc → List Rpc → Option Rpc
+joined_onto held [] = held
+joined_onto held (v ∷ vs) = joined_onto (Some (joined_to held v)) vs
+
+-- one RPC that says what all of them say, in order; none where there are none
+abbrev pub joined_rpcs : List Rpc → Option Rpc
+joined_rpcs vs = joined_onto None vs

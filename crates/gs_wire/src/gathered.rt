@@ -1,0 +1,170 @@
+//! RPCs that are gathered to go out as one.
+ghost use Rattle.std.specs.Prelude.{◌≡◌, ◌≤◌, ◌+◌, ◌++◌, None, Some, Ok, true, false, IfOk, IfSome, OnOk, OnErr, option_map, length, vec_len, vec_capacity};
+ghost use Rattle.gs_base.specs.declared.rpc.Rpc.{Rpc as RpcValue};
+ghost use Rattle.gs_wire.specs.Codec.{codec};
+ghost use Rattle.gs_wire.specs.Controls.{control_records};
+ghost use Rattle.gs_wire.specs.Gathering.{as_one};
+ghost use Rattle.gs_wire.specs.Joining.{joined_rpc, joined_rpcs, joined_to};
+ghost use Rattle.gs_wire.specs.Messages.{frame, longest_body};
+ghost use Rattle.gs_wire.specs.Records.{records_text};
+ghost use Rattle.gs_wire.specs.Sections.{control_length, control_of, control_part, section};
+
+use crate::encoding::put_len;
+use crate::field;
+use crate::rpc::{MAX_BODY, control_record_len};
+use crate::sections::{Section, WrittenRpc};
+use crate::varint::{put_varint, varint_len};
+use bytes::Bytes;
+use gs_base::{Shared, clone_of};
+use std::alloc::{AllocError, Global};
+use std::marker::Model;
+
+/// RPCs that go out as one. Contracts see the RPC that they are joined to, of which there is none where none was gathered.
+#[derive(Drop)]
+pub struct Gathered {
+    parts: Vec<Shared<WrittenRpc>>,
+    /// The length of what they say outside of their control messages.
+    plain: usize,
+    /// The length of all their control messages, where one has some.
+    control: Option<usize>,
+}
+
+impl Model for Gathered {
+    ghost use Rattle.std.specs.Prelude.{Option};
+    ghost use Rattle.gs_base.specs.declared.rpc.Rpc.{Rpc as RpcValue};
+    ghost use Rattle.gs_wire.specs.Joining.{joined_rpcs};
+    ghost use Rattle.gs_wire.specs.Gathering.{IsMeasured, as_one};
+
+    ghost Value = { Option RpcValue };
+
+    ghost view = { λ g. joined_rpcs g.parts.items };
+
+    ghost invariant = { λ g. IsMeasured (as_one (joined_rpcs g.parts.items)) g.plain g.control };
+}
+
+impl Gathered {
+    /// Of nothing. It takes no memory.
+    pub fn new(alloc: Global) -> Gathered
+        ensures { result ≡ None }
+    {
+        Gathered {
+            parts: Vec::new(alloc),
+            plain: 0,
+            control: None,
+        }
+    }
+
+    /// Joins one more RPC to them, if that fits a frame. False where it does not.
+    ///
+    /// # Errors
+    /// `AllocError` where there was no memory for it. Nothing changes then, nor where it is false.
+    pub fn gather(&mut self, part: &Shared<WrittenRpc>) -> Result<bool, AllocError>
+        ensures fits { IfOk result (λ fits. fits ≡ codec.fits (joined_to self.old part.now)) }
+        ensures joined { result ≡ Ok true → self.new ≡ Some (joined_to self.old part.now) }
+        ensures too_long { result ≡ Ok false → self.new ≡ self.old }
+        ensures kept { OnErr result (self.new ≡ self.old) }
+    {
+        let plain = self.plain + part.get().plain_len();
+        let control = both_lens(self.control, part.get().control_len());
+        if plain + control_record_len(control) > MAX_BODY {
+            return Ok(false);
+        }
+        self.parts.push(clone_of(part)?)?;
+        self.plain = plain;
+        self.control = control;
+        Ok(true)
+    }
+
+    /// Takes the frame of what was gathered, of which there is none where nothing was.
+    ///
+    /// # Errors
+    /// `AllocError` where there was no memory for it.
+    pub fn take_frame(&mut self, alloc: Global) -> Result<Option<Bytes>, AllocError>
+        ensures frame { IfOk result (λ text. text ≡ option_map frame self.old) }
+        ensures taken { OnOk result (self.new ≡ None) }
+        ensures kept { OnErr result (self.new ≡ self.old) }
+    {
+        let frame = self.frame(alloc)?;
+        self.parts.clear();
+        self.plain = 0;
+        self.control = None;
+        Ok(frame)
+    }
+
+    /// The frame: that of an RPC that is alone is shared, and sections that stand are copied where there are several.
+    fn frame(&self, alloc: Global) -> Result<Option<Bytes>, AllocError>
+        ensures { IfOk result (λ text. text ≡ option_map frame self.now) }
+    {
+        match self.parts.as_slice() {
+            [] => Ok(None),
+            [alone] => Ok(Some(alone.get().frame()?)),
+            _ => Ok(Some(self.joined_frame(alloc)?)),
+        }
+    }
+
+    fn joined_frame(&self, alloc: Global) -> Result<Bytes, AllocError>
+        ensures { IfOk result (λ text. text ≡ frame (as_one self.now)) }
+    {
+        let len = self.plain + control_record_len(self.control);
+        let mut frame = Vec::new(alloc);
+        frame.reserve(varint_len(len as u64) + len)?;
+        put_varint(&mut frame, len as u64);
+        copy_section(&mut frame, &self.parts, Section::Subscriptions);
+        copy_section(&mut frame, &self.parts, Section::Messages);
+        copy_control(&mut frame, &self.parts, self.control);
+        let shared = Bytes::from_vec(frame)?;
+        Ok(shared)
+    }
+}
+
+/// Copies what stands for a section in each of the parts.
+fn copy_section(buffer: &mut Vec<u8>, parts: &[Shared<WrittenRpc>], wanted: Section)
+    requires room { vec_len buffer.old + length (section wanted (as_one (joined_rpcs parts.now))) ≤ vec_capacity buffer.old }
+    ensures written { buffer.new.items ≡ buffer.old.items ++ section wanted (as_one (joined_rpcs parts.now)) }
+    ensures capacity { vec_capacity buffer.old ≤ vec_capacity buffer.new }
+{
+    for part in parts {
+        let _fits = buffer.extend_from_slice(part.get().section(wanted));
+    }
+}
+
+/// Writes the record of all their control messages, which are of this length where there are some.
+fn copy_control(buffer: &mut Vec<u8>, parts: &[Shared<WrittenRpc>], len: Option<usize>)
+    requires len { len ≡ control_length (as_one (joined_rpcs parts.now)) }
+    requires room { vec_len buffer.old + length (control_part (as_one (joined_rpcs parts.now)).control) ≤ vec_capacity buffer.old }
+    ensures { buffer.new.items ≡ buffer.old.items ++ control_part (as_one (joined_rpcs parts.now)).control }
+{
+    let Some(len) = len else {
+        return;
+    };
+    put_len(buffer, field::RPC_CONTROL, len);
+    copy_control_sections(buffer, parts);
+}
+
+fn copy_control_sections(buffer: &mut Vec<u8>, parts: &[Shared<WrittenRpc>])
+    requires { vec_len buffer.old + length (records_text (control_records (control_of (as_one (joined_rpcs parts.now)))))
+        ≤ vec_capacity buffer.old }
+    ensures { buffer.new.items ≡ buffer.old.items
+        ++ records_text (control_records (control_of (as_one (joined_rpcs parts.now)))) }
+{
+    copy_section(buffer, parts, Section::Offers);
+    copy_section(buffer, parts, Section::Requests);
+    copy_section(buffer, parts, Section::Grafts);
+    copy_section(buffer, parts, Section::Prunes);
+}
+
+/// The length of joined control messages, by the lengths of both: none where neither RPC has some.
+fn both_lens(first: Option<usize>, second: Option<usize>) -> Option<usize>
+    requires first_fits { IfSome first (λ len. len ≤ longest_body) }
+    requires second_fits { IfSome second (λ len. len ≤ longest_body) }
+    ensures { (u v : RpcValue)
+        → first ≡ control_length u
+        → second ≡ control_length v
+        → result ≡ control_length (joined_rpc u v) }
+{
+    match (first, second) {
+        (Some(first), Some(second)) => Some(first + second),
+        (Some(only), None) => Some(only),
+        (None, only) => only,
+    }
+}
