@@ -1,6 +1,5 @@
 -- What a peer has said by the end of a round stays as it is.
 use Rattle.std.proofs.Common.{◌≡◌, ℕ, zero, suc, Bool, true, false, nat_eq, ◌&&◌, if◌then◌else◌, List, [], ◌∷◌, ◌++◌, map, refl, sym, ap, ap₂, subst, subst₂, ◌∙◌, append_assoc, append-nil, true≢false, eq-eqb}
-use Rattle.std.specs.List.{flat_map}
 use Rattle.gs_base.specs.declared.names.PeerNo.{PeerNo}
 use Rattle.gs_base.specs.declared.names.Millis.{Millis}
 use Rattle.gs_base.specs.declared.rpc.Rpc.{Rpc}
@@ -11,16 +10,18 @@ use Rattle.gs_rules.specs.declared.trace.Event.TheVariants.{RoundEnd, Shut}
 use Rattle.gs_rules.specs.declared.trace.Entry.{Entry}
 use Rattle.gs_rules.specs.declared.refusal.RefusedLine.{RefusedLine}
 use Rattle.gs_rules.specs.Peers.{Peer, links_of}
-use Rattle.gs_rules.specs.Tables.{Entries, cuts_off, up, up_after}
+use Rattle.gs_rules.specs.Tables.{Entries, up, up_after}
 use Rattle.gs_rules.specs.Rules.{bare, rule_of}
 use Rattle.gs_rules.specs.Modes.{Follows, free, sent_to}
 use Rattle.gs_rules.specs.Legal.{Legal}
-use Rattle.gs_rules.specs.Saying.{out, raw_to, says, sign}
-use Rattle.gs_rules.specs.Hearing.{Inbound, after}
-use Rattle.gs_rules.specs.Rounds.{Seat, Playing, Closing, Todo, EndRound, Does, Plays, AfterRounds, agenda, beats_in, decays_in, hears, lines_at, moment_of, noted}
+use Rattle.gs_rules.specs.Saying.{Outgoing, behind_entry, behind_event, out, outgoing, sending_all, sign}
+use Rattle.gs_rules.specs.Hearing.{after}
+use Rattle.gs_rules.specs.Rounds.{Seat, Closing, Plays, AfterRounds, hears, moment_of}
 use Rattle.gs_rules.proofs.Deliveries.{legal_before}
 use Rattle.gs_rules.proofs.Handled.{GoesOn, does_on}
 use Rattle.gs_rules.proofs.Legality.{legal_newest}
+use Rattle.gs_rules.proofs.InOrder.{down_stays, entry_says, out_stays}
+use Rattle.gs_rules.proofs.RoundEnds.{has_ended}
 use Rattle.gs_peer.specs.Ended.{ends, whole}
 use Rattle.gs_peer.proofs.Words.{after_stays, said_in_stays, whole_before, whole_stays}
 use Rattle.gs_laws.specs.Fixed.{AllIsSaidByTheEnd, RoundsAreSaidByTheirEnd, first_rounds}
@@ -50,13 +51,6 @@ one_whole r w h =
 
 -- ---- what is down stays down, and is told nothing more
 
-never_up : (ends : Bool) → (if ends then false else false) ≡ false
-never_up true = refl
-never_up false = refl
-
-down_stays : (q : PeerNo) (event : Event) → up_after q event false ≡ false
-down_stays q event = never_up (cuts_off q event)
-
 stays_down : (q : PeerNo) (L : Entries) (entries : List Entry) → up L q ≡ false → up (entries ++ L) q ≡ false
 stays_down q L [] down = down
 stays_down q L (e ∷ entries) down = ap (up_after q e.event) (stays_down q L entries down) ∙ down_stays q e.event
@@ -71,20 +65,16 @@ was_up q L entries is_up = by (up L q) refl
 told_no_more : (q : PeerNo) (L : Entries) (entries : List Entry) → up L q ≡ false → out codec (entries ++ L) q ≡ out codec L q
 told_no_more q L [] down = refl
 told_no_more q L (e ∷ entries) down =
-    ap (λ (b : Bool). if b then out codec (entries ++ L) q ++ says codec q e else out codec (entries ++ L) q) (stays_down q L entries down)
+    ap (λ (b : Bool). (if b then behind_entry codec q (outgoing codec (entries ++ L) q) e else outgoing codec (entries ++ L) q).said) (stays_down q L entries down)
     ∙ told_no_more q L entries down
 
 -- ---- what is said goes on
-
-longer : (b : Bool) (w v : Said) → (u : Said) × ((if b then w ++ v else w) ≡ w ++ u)
-longer true w v = (v, refl)
-longer false w v = ([], sym (append-nil w))
 
 told_more : (q : PeerNo) (L : Entries) (entries : List Entry) → (v : Said) × (out codec (entries ++ L) q ≡ out codec L q ++ v)
 told_more q L [] = ([], sym (append-nil (out codec L q)))
 told_more q L (e ∷ entries) =
     let before = told_more q L entries in
-    let one = longer (up (entries ++ L) q) (out codec (entries ++ L) q) (says codec q e) in
+    let one = out_stays codec (entries ++ L) e q in
     (before.0 ++ one.0, one.1 ∙ ap (λ (w : Said). w ++ one.0) before.1 ∙ append_assoc (out codec L q) before.0 one.0)
 
 whole_on : (r : ℕ) (q : PeerNo) (K L : Entries) → GoesOn K L → whole r (out codec K q) ≡ true → whole r (out codec L q) ≡ true
@@ -95,77 +85,32 @@ whole_on r q K L (entries, is) h =
 -- the end of a round is said where it comes
 end_said : (q : PeerNo) (r : ℕ) (M : Entries) (e : Entry) → e.event ≡ RoundEnd r → up M q ≡ true → (v : Said) × (out codec (e ∷ M) q ≡ (out codec M q ++ v) ++ EndOf r ∷ [])
 end_said q r M e is is_up =
-    let mine : Said = map Byte (flat_map codec.frame (sent_to q e.sends) ++ raw_to q e.event) in (
+    let o : Outgoing = outgoing codec M q in
+    let says = entry_says codec q o e in
+    let mine : Said = map Byte says.0 in (
       mine,
-      ap (λ (b : Bool). if b then out codec M q ++ says codec q e else out codec M q) is_up
-          ∙ ap (λ (event : Event). out codec M q ++ (mine ++ sign q event)) is
-          ∙ sym (append_assoc (out codec M q) mine (EndOf r ∷ [])),
+      ap (λ (b : Bool). (if b then behind_entry codec q o e else o).said) is_up
+          ∙ says.1
+          ∙ ap (λ (event : Event). o.said ++ (mine ++ sign q event)) is
+          ∙ sym (append_assoc o.said mine (EndOf r ∷ [])),
     )
 
 -- ---- a round
-
--- the first of what is done, and then the rest
-pub does_parts : (p : Peer) (at : Millis) (xs ys : List Todo) (K L : Entries) (refused : List RefusedLine) → Does p at (xs ++ ys) K L refused → (M : Entries) × (first : List RefusedLine) × (more : List RefusedLine) × Does p at xs K M first × Does p at ys M L more
-does_parts p at [] ys K L refused h = (K, [], refused, (refl, refl), h)
-does_parts p at (x ∷ xs) ys K L refused (N, later, comes, does, is) =
-    let (M, first, more, before, behind) = does_parts p at xs ys N L later does in
-    (M, noted p K at x ++ first, more, (N, first, comes, before, refl), behind)
-
--- what there is to do in a round but for its end
-abbrev work : Seat → ℕ → List Inbound → List Todo
-work seat r xs =
-    hears (links_of seat.peer) xs
-    ++ (lines_at seat r ++ (decays_in seat.peer r (moment_of seat (Playing r)) ++ beats_in seat.peer r (moment_of seat (Playing r))))
-
-work_ends : (seat : Seat) (r : ℕ) (xs : List Inbound) → agenda seat (Playing r) xs ≡ work seat r xs ++ EndRound r ∷ []
-work_ends seat r xs =
-    let at : Millis = moment_of seat (Playing r) in
-    let heard : List Todo = hears (links_of seat.peer) xs in
-    let lines : List Todo = lines_at seat r in
-    let decays : List Todo = decays_in seat.peer r at in
-    let beats : List Todo = beats_in seat.peer r at in
-    let last : List Todo = EndRound r ∷ [] in
-    sym (append_assoc heard (lines ++ (decays ++ beats)) last ∙ ap (λ (todos : List Todo). heard ++ todos) (append_assoc lines (decays ++ beats) last ∙ ap (λ (todos : List Todo). lines ++ todos) (append_assoc decays beats last)))
-
--- a round's end came, and this is the trace before it
-record HasEnded (seat : Seat) (r : ℕ) (J K : Entries) : Type 0 where
-  before : Entries
-  end : Entry
-  later : List Entry
-  is_end : end.event ≡ RoundEnd r
-  goes_on : GoesOn J before
-  are : K ≡ later ++ end ∷ before
-
-has_ended : (seat : Seat) (said : PeerNo → Said) (r : ℕ) (J K : Entries) (refused : List RefusedLine) → Plays seat said (Playing r) J K refused → HasEnded seat r J K
-has_ended seat said r J K refused plays =
-    let p : Peer = seat.peer in
-    let at : Millis = moment_of seat (Playing r) in
-    let (M, first, more, before, behind) = does_parts p at (work seat r plays.inbound) (EndRound r ∷ []) J K refused (subst (λ (todos : List Todo). Does p at todos J K refused) (work_ends seat r plays.inbound) plays.does) in
-    let (N, later, opens, none, is) = behind in
-    let begun = opens.begun in
-    record {
-      before = M;
-      end = begun.first;
-      later = begun.paid;
-      is_end = begun.opened;
-      goes_on = does_on p at (work seat r plays.inbound) J M first before;
-      are = none.0 ∙ begun.entries;
-    }
 
 -- in what is said to q, that is up, so many rounds have ended
 rounds_whole : (seat : Seat) (said : PeerNo → Said) (r : ℕ) (K : Entries) (refused : List RefusedLine) (q : PeerNo) → AfterRounds seat said r K refused → up K q ≡ true → whole r (out codec K q) ≡ true
 rounds_whole seat said zero K refused q h is_up = refl
 rounds_whole seat said (suc r) K refused q (J, earlier, more, before, plays, is) is_up =
-    let ended = has_ended seat said r J K more plays in
+    let ended = has_ended seat said r J K earlier more before plays in
     let e : Entry = ended.end in
     let M : Entries = ended.before in
-    let up_behind : up (e ∷ M) q ≡ true = was_up q (e ∷ M) ended.later (subst (λ (L : Entries). up L q ≡ true) ended.are is_up) in
+    let up_behind : up (e ∷ M) q ≡ true = subst (λ (L : Entries). up L q ≡ true) ended.are is_up in
     let up_there : up M q ≡ true = was_up q M (e ∷ []) up_behind in
     let up_before : up J q ≡ true = was_up q J ended.goes_on.0 (subst (λ (L : Entries). up L q ≡ true) ended.goes_on.1 up_there) in
     let there : whole r (out codec M q) ≡ true = whole_on r q J M ended.goes_on (rounds_whole seat said r J earlier q before up_before) in
     let last = end_said q r M e ended.is_end up_there in
     let now : whole (suc r) (out codec (e ∷ M) q) ≡ true = ap (whole (suc r)) last.1 ∙ one_whole r (out codec M q ++ last.0) (whole_stays r (out codec M q) last.0 there) in
-    whole_on (suc r) q (e ∷ M) K (ended.later, ended.are) now
+    ap (λ (L : Entries). whole (suc r) (out codec L q)) ended.are ∙ now
 
 pub rounds_said : RoundsAreSaidByTheirEnd
 rounds_said seat said r L later refused q h = by (up L q) refl
@@ -191,8 +136,9 @@ all_said seat said K L refused q legal plays =
     let legally : Legal p (e ∷ K) = legal_before p (on.0 ++ begun.paid) (e ∷ K) (subst (Legal p) all legal) in
     let effects : Follows free (rule_of p K at Shut) tt e tt =
     subst₂ (λ (now : Millis) (event : Event). Follows free (rule_of p K now event) tt e tt) begun.moment begun.opened (legal_newest p e K legally).effects in
-    let alike : says codec q e ≡ says codec q (bare at Shut) =
-    ap₂ (λ (rpcs : List Rpc) (event : Event). map Byte (flat_map codec.frame rpcs ++ raw_to q event) ++ sign q event) (effects.0.sends q) effects.0.event in
+    let o : Outgoing = outgoing codec K q in
+    let alike : behind_entry codec q o e ≡ behind_entry codec q o (bare at Shut) =
+    ap₂ (λ (rpcs : List Rpc) (event : Event). behind_event codec q (sending_all codec o rpcs) event) (effects.0.sends q) effects.0.event in
     ap (λ (N : Entries). out codec N q) all
     ∙ told_no_more q (e ∷ K) (on.0 ++ begun.paid) down
-    ∙ ap (λ (w : Said). if up K q then out codec K q ++ w else out codec K q) alike
+    ∙ ap (λ (after : Outgoing). (if up K q then after else o).said) alike

@@ -1,5 +1,5 @@
 -- Lives whose links have carried all that was said are a run.
-use Rattle.std.proofs.Common.{◌≡◌, ◌<◌, List, [], length, map, Option, Some, sym, ap, subst, ◌∙◌}
+use Rattle.std.proofs.Common.{◌≡◌, ◌<◌, List, [], length, map, Option, Some, None, sym, ap, subst, ◌∙◌}
 use Rattle.std.specs.Prelude.{option_map, unwrap_or, slice_get}
 use Rattle.std.specs.List.{AllZip, AllByRecursion}
 use Rattle.std.proofs.lemmas.Option.{slice_get-map}
@@ -8,19 +8,19 @@ use Rattle.gs_base.specs.Tokens.{Said, bytes_of}
 use Rattle.gs_plan.specs.declared.plan.Plan.{Plan}
 use Rattle.gs_params.specs.Seeding.{seeded_after, seeded_word}
 use Rattle.gs_wire.specs.Codec.{codec}
+use Rattle.gs_wire.specs.Joining.{joined_rpcs}
 use Rattle.gs_link.specs.Flat.{flat}
 use Rattle.gs_ends.specs.Pairs.{Pair, accepted_for, taken_from}
 use Rattle.gs_rules.specs.Tables.{Entries}
 use Rattle.gs_rules.specs.Modes.{exact, free}
 use Rattle.gs_rules.specs.Legal.{Legal}
-use Rattle.gs_rules.specs.Saying.{SaysFramesAlone, handled, out, sent}
+use Rattle.gs_rules.specs.Saying.{SaysFramesAlone, gathered, handled, out, sent}
 use Rattle.gs_rules.specs.Hearing.{Spell}
 use Rattle.gs_rules.specs.Rounds.{Seat, PutsNoBytes}
 use Rattle.gs_rules.proofs.Deliveries.{deliveries_apart}
-use Rattle.gs_rules.proofs.Handled.{spelled_once}
 use Rattle.gs_rules.proofs.Legality.{exact_is_free, legal_weakly}
 use Rattle.gs_rules.proofs.Scripts.{script_says_frames}
-use Rattle.gs_rules.proofs.Spelled.{sent_is_spelled}
+use Rattle.gs_rules.proofs.Spelled.{handled_joined}
 use Rattle.gs_peer.specs.Life.{words_of}
 use Rattle.gs_report.specs.declared.finished.Finished.{Finished}
 use Rattle.gs_net.specs.Rounds.{IsLife, IsRun, first_words, neighbours, numbers, peer_in, said_to, seat_in, trace_of}
@@ -66,16 +66,19 @@ taken_is_said plan givens p q f g mine theirs joined reaches =
     ∙ to_me
     ∙ ap (λ (L : Entries). out codec L p) (sym (trace_is givens q g theirs.at))
 
--- what the one handled of the other is what the other's trace sends to it, where its script puts no bytes on the link
-handled_was_sent : (plan : Plan) (givens : List Given) (p q : PeerNo) (L : Entries) (g : Given) → Stands plan givens q g → Spell (bytes_of (said_to (map bare givens) p q)) (handled L q) → PutsNoBytes p (seat_in plan q).lines → handled L q ≡ sent (trace_of (map bare givens) q) p
-handled_was_sent plan givens p q L g theirs spell quiet =
+-- what the one handled of the other is, joined, what the other's trace sends to it, joined, where its script puts no bytes on the
+-- link
+handled_was_sent : (plan : Plan) (givens : List Given) (p q : PeerNo) (L : Entries) (g : Given) → Stands plan givens q g → IsJoined plan q p → Spell (bytes_of (said_to (map bare givens) p q)) (handled L q) → PutsNoBytes p (seat_in plan q).lines → joined_rpcs (handled L q) ≡ joined_rpcs (sent (trace_of (map bare givens) q) p)
+handled_was_sent plan givens p q L g theirs joined spell quiet =
     let lives : List Finished = map bare givens in
     let theirs_is : trace_of lives q ≡ g.trace = trace_is givens q g theirs.at in
-    let before : Legal (peer_in plan q) g.trace = legal_of plan q g theirs.life in
-    let legal : Legal (peer_in plan q) (trace_of lives q) = subst (Legal (peer_in plan q)) (sym theirs_is) before in
-    let frames : SaysFramesAlone p (trace_of lives q) =
-    subst (SaysFramesAlone p) (sym theirs_is) (script_says_frames (seat_in plan q) (words_of (taken_from g.ends)) p g.trace g.refused theirs.life.keeps before quiet) in
-    spelled_once (bytes_of (said_to lives p q)) (handled L q) (sent (trace_of lives q) p) spell (sent_is_spelled (peer_in plan q) (trace_of lives q) p legal frames)
+    let legal : Legal (peer_in plan q) g.trace = legal_of plan q g theirs.life in
+    let frames : SaysFramesAlone p g.trace = script_says_frames (seat_in plan q) (words_of (taken_from g.ends)) p g.trace g.refused theirs.life.keeps legal quiet in
+    let none : AllByRecursion (λ (r : PeerNo). gathered codec g.trace r ≡ None) (neighbours plan q) =
+    subst (AllByRecursion (λ (r : PeerNo). gathered codec g.trace r ≡ None)) (links_in plan q) theirs.life.none_gathered in
+    let spelled : Spell (bytes_of (out codec g.trace p)) (handled L q) = subst (λ (K : Entries). Spell (bytes_of (out codec K p)) (handled L q)) theirs_is spell in
+    handled_joined (peer_in plan q) g.trace p (handled L q) legal frames spelled (of_joined (λ (r : PeerNo). gathered codec g.trace r ≡ None) plan q p joined none)
+    ∙ ap (λ (K : Entries). joined_rpcs (sent K p)) (sym theirs_is)
 
 -- ---- all peers
 
@@ -99,7 +102,7 @@ one_life plan givens p f all exchanged below mine =
       meshes = mine.life.meshes;
       scores = mine.life.scores;
       exchanged = spelled;
-      handled_is_sent = each_of_both (IsJoined plan p) (λ (q : PeerNo). Spell (bytes_of (said_to lives p q)) (handled f.trace q)) (λ (q : PeerNo). PutsNoBytes p (seat_in plan q).lines → handled f.trace q ≡ sent (trace_of lives q) p) (λ q joined. handled_was_sent plan givens p q f.trace (all q joined.0).0 (all q joined.0).1) (neighbours plan p) (neighbours_joined plan p) spelled;
+      handled_is_sent = each_of_both (IsJoined plan p) (λ (q : PeerNo). Spell (bytes_of (said_to lives p q)) (handled f.trace q)) (λ (q : PeerNo). PutsNoBytes p (seat_in plan q).lines → joined_rpcs (handled f.trace q) ≡ joined_rpcs (sent (trace_of lives q) p)) (λ q joined. handled_was_sent plan givens p q f.trace (all q joined.0).0 (all q joined.0).1 (joined_back plan p q below joined)) (neighbours plan p) (neighbours_joined plan p) spelled;
       apart = deliveries_apart (peer_in plan p) f.trace legal;
     }
 

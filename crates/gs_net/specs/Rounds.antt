@@ -13,6 +13,7 @@ use Rattle.gs_plan.specs.declared.plan.PlannedPeer.{PlannedPeer}
 use Rattle.gs_plan.specs.Plans.{are_joined}
 use Rattle.gs_params.specs.Seeding.{SeededState, new_seeded, seeded_after, seeded_word}
 use Rattle.gs_wire.specs.Codec.{codec}
+use Rattle.gs_wire.specs.Joining.{joined_rpcs}
 use Rattle.gs_rules.specs.Peers.{Peer, seen_ttl}
 use Rattle.gs_rules.specs.Tables.{Entries}
 use Rattle.gs_rules.specs.Modes.{exact}
@@ -123,11 +124,11 @@ pub record IsLife (plan : Plan) (lives : List Finished) (p : PeerNo) (life : Fin
   pub scores : life.scores ≡ scores_of (peer_in plan p) life.trace (plan.rounds * plan.round_ms)
   -- what it handled of a neighbour is what the bytes spell that the neighbour's trace says to it
   pub exchanged : AllByRecursion (λ q. Spell (bytes_of (said_to lives p q)) (handled life.trace q)) (neighbours plan p)
-  -- and where no line of the neighbour's script puts bytes on their link, that is what the neighbour sends to it: whole,
-  -- once, in order
+  -- and where no line of the neighbour's script puts bytes on their link, it is, joined, what the neighbour sends to it,
+  -- joined: whole, once, in order
   pub handled_is_sent : AllByRecursion (λ q.
       PutsNoBytes p (seat_in plan q).lines
-      → handled life.trace q ≡ sent (trace_of lives q) p) (neighbours plan p)
+      → joined_rpcs (handled life.trace q) ≡ joined_rpcs (sent (trace_of lives q) p)) (neighbours plan p)
   -- no identifier is delivered twice while it counts as seen
   pub apart : DeliversApart (seen_ttl (peer_in plan p)) life.trace
 

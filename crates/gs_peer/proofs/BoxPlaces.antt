@@ -1,21 +1,22 @@
 -- What outboxes hold at a place, where one of them changes.
-use Rattle.std.proofs.Common.{◌≡◌, ℕ, zero, suc, ◌<◌, ◌≤◌, Bool, true, false, nat_eq, nat_lt, cond, List, [], ◌∷◌, ◌++◌, length, map, get_or, slice_set, refl, sym, ap, ◌∙◌, append-nil, append_assoc, arith}
+use Rattle.std.proofs.Common.{◌≡◌, ℕ, zero, suc, ◌<◌, ◌≤◌, Bool, true, false, nat_eq, nat_lt, cond, List, [], ◌∷◌, ◌++◌, length, get_or, slice_set, refl, sym, ap, ◌∙◌, arith}
+use Rattle.std.proofs.Math.Bool.{and-true}
 use Rattle.std.proofs.Math.Dec.{eqb-zero-suc, eqb-suc-zero, eqb-suc-suc}
 use Rattle.std.proofs.lemmas.Option.{slice_get_past}
-use Rattle.std.proofs.lemmas.List.{map-append, nil_from_length}
+use Rattle.std.proofs.lemmas.List.{nil_from_length}
 use Rattle.std.proofs.lemmas.Bool.{eqb-true, ltb-false}
-use Rattle.std.specs.Prelude.{◌==◌, option_map, unwrap_or, slice_get}
-use Rattle.std.specs.List.{flat_map}
+use Rattle.std.specs.Prelude.{◌==◌, ◌&&◌, if◌then◌else◌, Option, None, option_map, unwrap_or, slice_get}
 use Rattle.gs_base.specs.declared.names.PeerNo.{PeerNo}
 use Rattle.gs_base.specs.declared.rpc.Rpc.{Rpc}
 use Rattle.gs_base.specs.Names.{same_peer}
 use Rattle.gs_base.specs.Codecs.{Codec}
-use Rattle.gs_base.specs.Tokens.{Byte, Said}
+use Rattle.gs_rules.specs.declared.trace.Event.{Event}
 use Rattle.gs_rules.specs.Modes.{sent_to}
+use Rattle.gs_rules.specs.Saying.{Outgoing, behind_event, sending, sending_all}
 use Rattle.gs_link.specs.declared.item.Slot.{Slot}
 use Rattle.gs_link.specs.Flat.{flat}
 use Rattle.gs_peer.specs.declared.outbox.Outbox.{Outbox}
-use Rattle.gs_peer.specs.Outboxes.{said_if, told_sends}
+use Rattle.gs_peer.specs.Outboxes.{behind_sends, outgoing_of}
 
 -- ---- one place of a list
 
@@ -47,45 +48,69 @@ at_there f d (x ∷ xs) (suc place) old below there = at_there f d xs place old 
 pub at_past : {X Y : Type 0} (f : X → Y) (d : Y) (xs : List X) (k : ℕ) → length xs ≤ k → at f d xs k ≡ d
 at_past f d xs k past = ap (λ o. unwrap_or (option_map f o) d) (slice_get_past xs k past)
 
+-- one that is put behind them, of which f is what it is of none, changes nothing
+at_more : {X Y : Type 0} (f : X → Y) (d : Y) (xs : List X) (k : ℕ) (x : X) → f x ≡ d → at f d (xs ++ x ∷ []) k ≡ at f d xs k
+at_more f d [] zero x none = none
+at_more f d [] (suc k) x none = refl
+at_more f d (y ∷ ys) zero x none = refl
+at_more f d (y ∷ ys) (suc k) x none = at_more f d ys k x none
+
+pub at_pushed : {X Y : Type 0} (f : X → Y) (d : Y) (xs ys : List X) (k : ℕ) (x : X) → ys ≡ xs ++ x ∷ [] → f x ≡ d → at f d ys k ≡ at f d xs k
+at_pushed f d xs ys k x is none = ap (λ zs. at f d zs k) is ∙ at_more f d xs k x none
+
 -- ---- outboxes
 
 abbrev pub slots_at : List Outbox → ℕ → List Slot
 slots_at = at (λ (box : Outbox). box.slots) []
 
+abbrev pub gathered_at : List Outbox → ℕ → Option Rpc
+gathered_at = at (λ (box : Outbox). box.gathered) None
+
+abbrev pub outgoing_at : List Outbox → ℕ → Outgoing
+outgoing_at xs k = record { said = flat (slots_at xs k); gathered = gathered_at xs k }
+
 abbrev pub open_at : List Outbox → ℕ → Bool
 open_at = at (λ (box : Outbox). box.is_open) false
 
-pub said_none : (may : Bool) → said_if may [] ≡ []
-said_none true = refl
-said_none false = refl
+-- what f makes of what is to go out, where more may be said, and here
+abbrev pub told : (Outgoing → Outgoing) → Bool → Bool → Outgoing → Outgoing
+told f may here o = if may && here then f o else o
 
-pub says_none : (w : Said) (may : Bool) → w ≡ w ++ said_if may []
-says_none w may = sym (ap (λ v. w ++ v) (said_none may) ∙ append-nil w)
+told_here : (f : Outgoing → Outgoing) (may : Bool) (o : Outgoing) → (if may then f o else o) ≡ told f may true o
+told_here f true o = refl
+told_here f false o = refl
 
--- more is said to one of them
-pub told_at : (w : Said) (xs : List Outbox) (place k : ℕ) (old new : Outbox) → place < length xs → old ≡ get_or xs place old → flat new.slots ≡ flat old.slots ++ said_if old.is_open w → flat (slots_at (slice_set xs place new) k) ≡ flat (slots_at xs k) ++ said_if (open_at xs k) (cond (nat_eq place k) w [])
-told_at w [] place k old new below there is = absurd (omega (arith, below))
-told_at w (x ∷ xs) zero zero old new below there is = is ∙ ap (λ (o : Outbox). flat o.slots ++ said_if o.is_open w) there
-told_at w (x ∷ xs) zero (suc k) old new below there is =
-    says_none (flat (slots_at xs k)) (open_at xs k)
-    ∙ ap (λ (b : Bool). flat (slots_at xs k) ++ said_if (open_at xs k) (cond b w [])) (sym (eqb-zero-suc k))
-told_at w (x ∷ xs) (suc place) zero old new below there is =
-    says_none (flat x.slots) x.is_open
-    ∙ ap (λ (b : Bool). flat x.slots ++ said_if x.is_open (cond b w [])) (sym (eqb-suc-zero place))
-told_at w (x ∷ xs) (suc place) (suc k) old new below there is =
-    told_at w xs place k old new (omega (arith, below)) there is
-    ∙ ap (λ (b : Bool). flat (slots_at xs k) ++ said_if (open_at xs k) (cond b w [])) (sym (eqb-suc-suc place k))
+told_elsewhere : (f : Outgoing → Outgoing) (may : Bool) (o : Outgoing) → o ≡ told f may false o
+told_elsewhere f true o = refl
+told_elsewhere f false o = refl
+
+-- one of them is told
+pub told_at : (f : Outgoing → Outgoing) (xs : List Outbox) (place k : ℕ) (old new : Outbox) → place < length xs → old ≡ get_or xs place old → outgoing_of new ≡ (if old.is_open then f (outgoing_of old) else outgoing_of old) → outgoing_at (slice_set xs place new) k ≡ told f (open_at xs k) (nat_eq place k) (outgoing_at xs k)
+told_at f [] place k old new below there is = absurd (omega (arith, below))
+told_at f (x ∷ xs) zero zero old new below there is =
+    is
+    ∙ ap (λ (o : Outbox). if o.is_open then f (outgoing_of o) else outgoing_of o) there
+    ∙ told_here f x.is_open (outgoing_of x)
+told_at f (x ∷ xs) zero (suc k) old new below there is =
+    told_elsewhere f (open_at xs k) (outgoing_at xs k)
+    ∙ ap (λ (b : Bool). told f (open_at xs k) b (outgoing_at xs k)) (sym (eqb-zero-suc k))
+told_at f (x ∷ xs) (suc place) zero old new below there is =
+    told_elsewhere f x.is_open (outgoing_of x)
+    ∙ ap (λ (b : Bool). told f x.is_open b (outgoing_of x)) (sym (eqb-suc-zero place))
+told_at f (x ∷ xs) (suc place) (suc k) old new below there is =
+    told_at f xs place k old new (omega (arith, below)) there is
+    ∙ ap (λ (b : Bool). told f (open_at xs k) b (outgoing_at xs k)) (sym (eqb-suc-suc place k))
 
 -- there is none at this place
-pub told_past : (w : Said) (xs : List Outbox) (place k : ℕ) → length xs ≤ place → flat (slots_at xs k) ≡ flat (slots_at xs k) ++ said_if (open_at xs k) (cond (nat_eq place k) w [])
-told_past w [] place k past = refl
-told_past w (x ∷ xs) zero k past = absurd (omega (arith, past))
-told_past w (x ∷ xs) (suc place) zero past =
-    says_none (flat x.slots) x.is_open
-    ∙ ap (λ (b : Bool). flat x.slots ++ said_if x.is_open (cond b w [])) (sym (eqb-suc-zero place))
-told_past w (x ∷ xs) (suc place) (suc k) past =
-    told_past w xs place k (omega (arith, past))
-    ∙ ap (λ (b : Bool). flat (slots_at xs k) ++ said_if (open_at xs k) (cond b w [])) (sym (eqb-suc-suc place k))
+pub told_past : (f : Outgoing → Outgoing) (xs : List Outbox) (place k : ℕ) → length xs ≤ place → outgoing_at xs k ≡ told f (open_at xs k) (nat_eq place k) (outgoing_at xs k)
+told_past f [] place k past = refl
+told_past f (x ∷ xs) zero k past = absurd (omega (arith, past))
+told_past f (x ∷ xs) (suc place) zero past =
+    told_elsewhere f x.is_open (outgoing_of x)
+    ∙ ap (λ (b : Bool). told f x.is_open b (outgoing_of x)) (sym (eqb-suc-zero place))
+told_past f (x ∷ xs) (suc place) (suc k) past =
+    told_past f xs place k (omega (arith, past))
+    ∙ ap (λ (b : Bool). told f (open_at xs k) b (outgoing_at xs k)) (sym (eqb-suc-suc place k))
 
 pub both_false : (b : Bool) → false ≡ cond b false false
 both_false true = refl
@@ -106,14 +131,16 @@ open_set xs place k new below shut =
 
 -- ---- all places
 
-pub all_by : (xs : List Outbox) (k : ℕ) (w : Said) (b : Bool) → nat_lt k (length xs) ≡ b → said_if (open_at xs k) (cond b w []) ≡ said_if (open_at xs k) w
-all_by xs k w true is = refl
-all_by xs k w false is =
+open_below : (xs : List Outbox) (k : ℕ) (b : Bool) → nat_lt k (length xs) ≡ b → (open_at xs k && b) ≡ open_at xs k
+open_below xs k true is = and-true (open_at xs k)
+open_below xs k false is =
     let shut : open_at xs k ≡ false = at_past (λ (box : Outbox). box.is_open) false xs k (ltb-false k (length xs) is) in
-    ap (λ (o : Bool). said_if o []) shut ∙ sym (ap (λ (o : Bool). said_if o w) shut)
+    ap (λ (o : Bool). o && false) shut ∙ sym shut
 
-pub told_all : (xs : List Outbox) (k : ℕ) (w : Said) → said_if (open_at xs k) (cond (nat_lt k (length xs)) w []) ≡ said_if (open_at xs k) w
-told_all xs k w = all_by xs k w (nat_lt k (length xs)) refl
+pub told_to_end : (f : Outgoing → Outgoing) (xs : List Outbox) (k i : ℕ) (old now : Outgoing) → i ≡ length xs → now ≡ told f (open_at xs k) (nat_lt k i) old → now ≡ (if open_at xs k then f old else old)
+told_to_end f xs k i old now ends is =
+    is ∙ ap (λ (b : Bool). if b then f old else old)
+    (ap (λ (n : ℕ). open_at xs k && nat_lt k n) ends ∙ open_below xs k (nat_lt k (length xs)) refl)
 
 pub shut_by : (xs : List Outbox) (k : ℕ) (b : Bool) → nat_lt k (length xs) ≡ b → cond b false (open_at xs k) ≡ false
 shut_by xs k true is = refl
@@ -122,59 +149,41 @@ shut_by xs k false is = at_past (λ (box : Outbox). box.is_open) false xs k (ltb
 pub shut_all : (xs : List Outbox) (k : ℕ) → cond (nat_lt k (length xs)) false (open_at xs k) ≡ false
 shut_all xs k = shut_by xs k (nat_lt k (length xs)) refl
 
-pub told_to_end : (xs : List Outbox) (k i : ℕ) (w old now : Said) → i ≡ length xs → now ≡ old ++ said_if (open_at xs k) (cond (nat_lt k i) w []) → now ≡ old ++ said_if (open_at xs k) w
-told_to_end xs k i w old now ends is =
-    is ∙ ap (λ v. old ++ v) (ap (λ n. said_if (open_at xs k) (cond (nat_lt k n) w [])) ends ∙ told_all xs k w)
-
 pub shut_to_end : (xs : List Outbox) (k i : ℕ) (now : Bool) → i ≡ length xs → now ≡ cond (nat_lt k i) false (open_at xs k) → now ≡ false
 shut_to_end xs k i now ends is = is ∙ ap (λ n. cond (nat_lt k n) false (open_at xs k)) ends ∙ shut_all xs k
 
 -- ---- what an entry says
 
-pub said_both : (may : Bool) (v w : Said) → said_if may v ++ said_if may w ≡ said_if may (v ++ w)
-said_both true v w = refl
-said_both false v w = refl
+sent_more : (c : Codec) (o : Outgoing) (here : Bool) (rpc : Rpc) (rpcs : List Rpc) → sending_all c (if here then sending c o rpc else o) rpcs ≡ sending_all c o (if here then rpc ∷ rpcs else rpcs)
+sent_more c o true rpc rpcs = refl
+sent_more c o false rpc rpcs = refl
 
-pub sent_more : (c : Codec) (here : Bool) (rpc : Rpc) (rpcs : List Rpc) → cond here (map Byte (c.frame rpc)) [] ++ map Byte (flat_map c.frame rpcs) ≡ map Byte (flat_map c.frame (cond here (rpc ∷ rpcs) rpcs))
-sent_more c true rpc rpcs = sym (map-append Byte (c.frame rpc) (flat_map c.frame rpcs))
-sent_more c false rpc rpcs = refl
+-- of what is sent, q's part is gathered, where more may be said to it
+pub sends_told : (c : Codec) (q : PeerNo) (may : Bool) (o : Outgoing) (sends : List (PeerNo × Rpc)) → behind_sends c q may o sends ≡ (if may then sending_all c o (sent_to q sends) else o)
+sends_told c q true o [] = refl
+sends_told c q true o (x ∷ xs) =
+    sends_told c q true (if same_peer x.0 q then sending c o x.1 else o) xs
+    ∙ sent_more c o (same_peer x.0 q) x.1 (sent_to q xs)
+sends_told c q false o [] = refl
+sends_told c q false o (x ∷ xs) = sends_told c q false o xs
 
-pub sends_told : (c : Codec) (q : PeerNo) (may : Bool) (sends : List (PeerNo × Rpc)) → told_sends c q may sends ≡ said_if may (map Byte (flat_map c.frame (sent_to q sends)))
-sends_told c q may [] = sym (said_none may)
-sends_told c q may (x ∷ xs) =
-    ap (λ w. said_if may (cond (same_peer x.0 q) (map Byte (c.frame x.1)) []) ++ w) (sends_told c q may xs)
-    ∙ said_both may (cond (same_peer x.0 q) (map Byte (c.frame x.1)) []) (map Byte (flat_map c.frame (sent_to q xs)))
-    ∙ ap (λ w. said_if may w) (sent_more c (same_peer x.0 q) x.1 (sent_to q xs))
-
--- more is said behind what was said
-said_more : (may still : Bool) (old now new v w : Said) → now ≡ old ++ said_if may v → still ≡ may → new ≡ now ++ said_if still w → new ≡ old ++ said_if may (v ++ w)
-said_more may still old now new v w before same here =
-    here
-    ∙ ap (λ (u : Said). u ++ said_if still w) before
-    ∙ append_assoc old (said_if may v) (said_if still w)
-    ∙ ap (λ (b : Bool). old ++ (said_if may v ++ said_if b w)) same
-    ∙ ap (λ (u : Said). old ++ u) (said_both may v w)
-
--- the sends, bytes as they are, and then the sign
-pub entry_told : (c : Codec) (q : PeerNo) (may still there : Bool) (given sends : List (PeerNo × Rpc)) (raw : List ℕ) (sign old sent put new : Said)
+-- the sends, and then the event
+pub entry_told : (c : Codec) (q : PeerNo) (may still : Bool) (given sends : List (PeerNo × Rpc)) (event : Event) (old sent new : Outgoing)
     → given ≡ sends
-    → sent ≡ old ++ told_sends c q may given
+    → sent ≡ behind_sends c q may old given
     → still ≡ may
-    → put ≡ sent ++ said_if still (map Byte raw)
-    → there ≡ still
-    → new ≡ put ++ said_if there sign
-    → new ≡ old ++ said_if may (map Byte (flat_map c.frame (sent_to q sends) ++ raw) ++ sign)
-entry_told c q may still there given sends raw sign old sent put new are before same puts same_there here =
-    let frames : List ℕ = flat_map c.frame (sent_to q sends) in
-    let framed : sent ≡ old ++ said_if may (map Byte frames) = before ∙ ap (λ (v : Said). old ++ v) (ap (told_sends c q may) are ∙ sends_told c q may sends) in
-    let both : put ≡ old ++ said_if may (map Byte (frames ++ raw)) =
-    said_more may still old sent put (map Byte frames) (map Byte raw) framed same puts ∙ ap (λ (v : Said). old ++ said_if may v) (sym (map-append Byte frames raw)) in
-    said_more may there old put new (map Byte (frames ++ raw)) sign both (same_there ∙ same) here
-
--- bytes as they are, to one of them
-pub raw_here : (here : Bool) (bytes : List ℕ) → cond here (map Byte bytes) [] ≡ map Byte (cond here bytes [])
-raw_here true bytes = refl
-raw_here false bytes = refl
+    → new ≡ (if still then behind_event c q sent event else sent)
+    → new ≡ (if may then behind_event c q (sending_all c old (sent_to q sends)) event else old)
+entry_told c q true still given sends event old sent new are before same here =
+    here
+    ∙ ap (λ (b : Bool). if b then behind_event c q sent event else sent) same
+    ∙ ap (λ (o : Outgoing). behind_event c q o event) (before ∙ ap (behind_sends c q true old) are ∙ sends_told c q true old sends)
+entry_told c q false still given sends event old sent new are before same here =
+    here
+    ∙ ap (λ (b : Bool). if b then behind_event c q sent event else sent) same
+    ∙ before
+    ∙ ap (behind_sends c q false old) are
+    ∙ sends_told c q false old sends
 
 -- ---- one that is empty
 

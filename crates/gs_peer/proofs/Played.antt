@@ -1,5 +1,5 @@
 -- What a task keeps is kept when a round is played, and at the end it is a life.
-use Rattle.std.proofs.Common.{◌≡◌, ◌≤◌, ℕ, suc, true, false, List, [], ◌∷◌, ◌++◌, map, Some, refl, sym, ap, subst, ◌∙◌, append-nil, arith}
+use Rattle.std.proofs.Common.{◌≡◌, ◌≤◌, ℕ, suc, true, false, List, [], ◌∷◌, ◌++◌, map, Some, None, refl, sym, ap, subst, ◌∙◌, append-nil, arith}
 use Rattle.std.specs.List.{AllByRecursion, AllZip}
 use Rattle.std.proofs.Math.Nat.{suc-mul}
 use Rattle.gs_base.specs.declared.names.PeerNo.{PeerNo}
@@ -16,9 +16,10 @@ use Rattle.gs_rules.specs.Peers.{Peer, links_of}
 use Rattle.gs_rules.specs.Tables.{Entries, up, up_after}
 use Rattle.gs_rules.specs.Modes.{exact, free}
 use Rattle.gs_rules.specs.Legal.{Comes, Legal, LegalOn}
-use Rattle.gs_rules.specs.Saying.{handled, out}
+use Rattle.gs_rules.specs.Saying.{Outgoing, gathered, handled, out}
 use Rattle.gs_rules.specs.Hearing.{Spell, closes}
 use Rattle.gs_rules.specs.Rounds.{Seat, Phase, Playing, Closing, AfterRounds, ComesAt, Does, KeepsRounds, Stop, Todo, agenda, hears, moment_of}
+use Rattle.gs_rules.proofs.Gathered.{gathered_down}
 use Rattle.gs_rules.proofs.Handled.{does_handle, said_is_handled}
 use Rattle.gs_rules.proofs.Legality.{exact_is_free, legal_then, legal_weakly}
 use Rattle.gs_router.specs.Router.{RouterView}
@@ -124,7 +125,7 @@ kept_closed seat said sent boxes boxes' first xs v w y s t u refused more k full
 
 -- ---- the end
 
-shut_is_down : (seat : Seat) (K L : Entries) (q : PeerNo) → Comes seat.peer (moment_of seat Closing) (Some Shut) K L → up L q ≡ false
+pub shut_is_down : (seat : Seat) (K L : Entries) (q : PeerNo) → Comes seat.peer (moment_of seat Closing) (Some Shut) K L → up L q ≡ false
 shut_is_down seat K L q opens =
     let b = opens.begun in
     ap (λ (M : Entries). up M q) b.entries ∙ down_stays (b.first ∷ K) q b.paid (ap (λ (event : Event). up_after q event (up K q)) b.opened)
@@ -139,8 +140,19 @@ all_said : (seat : Seat) (K L M : Entries) (sent : PeerNo → Said) (boxes : Out
 all_said seat K L M sent boxes more [] stops is silent k = tt
 all_said seat K L M sent boxes more (q ∷ qs) stops is silent k = (
   sym (append-nil (sent q)) ∙ ap (λ (xs : List Slot). sent q ++ flat xs) (sym silent.0) ∙ k.0.says
-      ∙ sym (ap (λ (N : Entries). out codec N q) is ∙ out_no_more L q more (shut_is_down seat K L q stops)),
+      ∙ sym (ap (λ (N : Entries). out codec N q) is ∙ ap (λ (o : Outgoing). o.said) (out_no_more L q more (shut_is_down seat K L q stops))),
   all_said seat K L M sent boxes more qs stops is silent.1 k.1,
+)
+
+-- nothing is gathered that did not go out
+all_out : (seat : Seat) (K L M : Entries) (more : List _) (qs : List PeerNo)
+    → Comes seat.peer (moment_of seat Closing) (Some Shut) K L
+    → M ≡ more ++ L
+    → AllByRecursion (λ q. gathered codec M q ≡ None) qs
+all_out seat K L M more [] stops is = tt
+all_out seat K L M more (q ∷ qs) stops is = (
+  gathered_down codec M q (ap (λ (N : Entries). up N q) is ∙ down_stays L q more (shut_is_down seat K L q stops)),
+  all_out seat K L M more qs stops is,
 )
 
 silent_links : (boxes : Outboxes) (xs : List InboxView) → AllSilent boxes xs → AllByRecursion (λ q. waiting boxes q ≡ []) (peers_of xs)
@@ -160,6 +172,7 @@ pub record WholeLife (seat : Seat) (said sent : PeerNo → Said) (first : Seeded
   pub keeps : KeepsRounds seat said L refused
   pub handles : AllByRecursion (λ q. Spell (bytes_of (said q)) (handled L q)) (links_of seat.peer)
   pub says : AllByRecursion (λ q. sent q ≡ out codec L q) (links_of seat.peer)
+  pub none_gathered : AllByRecursion (λ q. gathered codec L q ≡ None) (links_of seat.peer)
   pub closed : AllByRecursion (λ q. closes (said q) ≡ true) (links_of seat.peer)
 
 pub life : (seat : Seat) (said sent : PeerNo → Said) (boxes : Outboxes) (first : SeededState) (xs : List InboxView) (v w : RouterView) (s t : SeededState) (refused : List RefusedLine)
@@ -188,6 +201,7 @@ life seat said sent boxes first xs v w s t refused k full silent runs =
       handles = said_is_handled seat said w.trace refused k.ascending free keeps;
       says = all_said seat K v.trace w.trace sent boxes runs.appended.entries (links_of seat.peer) stops runs.appended.are
           (subst (AllByRecursion (λ q. waiting boxes q ≡ [])) k.names (silent_links boxes xs silent)) k.says;
+      none_gathered = all_out seat K v.trace w.trace runs.appended.entries (links_of seat.peer) stops runs.appended.are;
       closed = subst (AllByRecursion (λ q. closes (said q) ≡ true)) k.names (all_closed seat v.trace said xs k.hears full);
     }
 

@@ -23,7 +23,7 @@ use Rattle.gs_peer.specs.declared.outboxes.Outboxes.{Outboxes}
 use Rattle.gs_peer.specs.Inboxes.{InboxView, Listens, Reads, is_full, peers_of}
 use Rattle.gs_peer.specs.Kept.{BoxKept, InboxKept, Kept}
 use Rattle.gs_peer.specs.Life.{words_of}
-use Rattle.gs_peer.specs.Outboxes.{is_open, waiting}
+use Rattle.gs_peer.specs.Outboxes.{gathered_in, is_open, waiting}
 use Rattle.gs_peer.specs.Phases.{rounds_ended}
 use Rattle.gs_peer.proofs.Grows.{all_stay, same_or}
 use Rattle.gs_peer.proofs.Growing.{GoesOn, begun_stays}
@@ -149,21 +149,23 @@ module _ (seat : Seat) (phase : Phase) (boxes : Outboxes) (v : RouterView) (refu
 boxes_offer : (L : Entries) (sent sent' : PeerNo → Said) (old new : Outboxes) (qs : List PeerNo)
     → ((q : PeerNo) → sent' q ++ flat (waiting new q) ≡ sent q ++ flat (waiting old q))
     → ((q : PeerNo) → is_open new q ≡ is_open old q)
+    → ((q : PeerNo) → gathered_in new q ≡ gathered_in old q)
     → AllByRecursion (λ q. BoxKept L (sent q) old q) qs
     → AllByRecursion (λ q. BoxKept L (sent' q) new q) qs
-boxes_offer L sent sent' old new [] says opens k = tt
-boxes_offer L sent sent' old new (q ∷ qs) says opens k =
-    (record { is_open = opens q ∙ k.0.is_open; says = says q ∙ k.0.says }, boxes_offer L sent sent' old new qs says opens k.1)
+boxes_offer L sent sent' old new [] says opens held k = tt
+boxes_offer L sent sent' old new (q ∷ qs) says opens held k =
+    (record { is_open = opens q ∙ k.0.is_open; says = says q ∙ k.0.says; gathers = held q ∙ k.0.gathers }, boxes_offer L sent sent' old new qs says opens held k.1)
 
 pub kept_offers : (seat : Seat) (phase : Phase) (tak tak' acc acc' : PeerNo → List Slot) (xs : List InboxView) (old new : Outboxes) (v : RouterView) (refused : List RefusedLine) (first words : SeededState) (p : PeerNo)
     → Kept seat (words_of tak) (words_of acc) phase xs old v refused first words
     → flat (acc' p) ++ flat (waiting new p) ≡ flat (acc p) ++ flat (waiting old p)
     → ((q : PeerNo) → q ≢ p → waiting new q ≡ waiting old q)
     → ((q : PeerNo) → is_open new q ≡ is_open old q)
+    → ((q : PeerNo) → gathered_in new q ≡ gathered_in old q)
     → OthersStay p acc acc'
     → ((q : PeerNo) → tak' q ≡ tak q)
     → Kept seat (words_of tak') (words_of acc') phase xs new v refused first words
-kept_offers seat phase tak tak' acc acc' xs old new v refused first words p k mine stays opens others same =
+kept_offers seat phase tak tak' acc acc' xs old new v refused first words p k mine stays opens held others same =
     let says : (q : PeerNo) → flat (acc' q) ++ flat (waiting new q) ≡ flat (acc q) ++ flat (waiting old q) = λ q. elim (same_or p q) [
       | inl y ↦ subst (λ (n : PeerNo). flat (acc' n) ++ flat (waiting new n) ≡ flat (acc n) ++ flat (waiting old n)) y.1 mine
       | inr n ↦ ap₂ (λ (ys zs : List Slot). flat ys ++ flat zs) (others q n.1) (stays q n.1)
@@ -178,7 +180,7 @@ kept_offers seat phase tak tak' acc acc' xs old new v refused first words p k mi
       legal = k.legal;
       begun = k.begun;
       hears = k.hears;
-      says = boxes_offer v.trace (words_of acc) (words_of acc') old new (links_of seat.peer) says opens k.says;
+      says = boxes_offer v.trace (words_of acc) (words_of acc') old new (links_of seat.peer) says opens held k.says;
     })
 
 -- ---- who may be asked

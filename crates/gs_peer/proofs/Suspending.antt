@@ -1,5 +1,5 @@
 -- What a task keeps says what it has done so far.
-use Rattle.std.proofs.Common.{◌≡◌, List, [], ◌∷◌, ◌++◌, refl, sym, subst, append-nil, true}
+use Rattle.std.proofs.Common.{◌≡◌, List, [], ◌∷◌, ◌++◌, None, refl, sym, subst, ◌∙◌, append-nil, true}
 use Rattle.std.specs.List.{AllByRecursion, AllZip}
 use Rattle.gs_base.specs.declared.names.PeerNo.{PeerNo}
 use Rattle.gs_base.specs.Tokens.{Said, bytes_of}
@@ -9,22 +9,24 @@ use Rattle.gs_link.specs.Flat.{flat}
 use Rattle.gs_rules.specs.declared.refusal.RefusedLine.{RefusedLine}
 use Rattle.gs_rules.specs.Peers.{links_of}
 use Rattle.gs_rules.specs.Tables.{Entries}
-use Rattle.gs_rules.specs.Saying.{handled, out}
+use Rattle.gs_rules.specs.Saying.{gathered, handled, out}
 use Rattle.gs_rules.specs.Hearing.{Spell, bytes_before}
 use Rattle.gs_rules.specs.Rounds.{Seat, Phase, Playing, Closing, ComesAt, KeepsSoFar, Stop, Todo, agenda, hears}
+use Rattle.gs_rules.proofs.Gathered.{gathered_after_rounds, gathered_down}
 use Rattle.gs_router.specs.Router.{RouterView}
 use Rattle.gs_ends.specs.declared.ends.Ends.{Ghosts as EndsOf}
 use Rattle.gs_peer.specs.declared.outboxes.Outboxes.{Outboxes}
 use Rattle.gs_peer.specs.declared.running.Running.{Running}
 use Rattle.gs_peer.specs.Ended.{whole}
 use Rattle.gs_peer.specs.Inboxes.{InboxView, peers_of}
-use Rattle.gs_peer.specs.Kept.{BoxKept, InboxKept, Kept}
+use Rattle.gs_peer.specs.Kept.{Begun, BoxKept, InboxKept, Kept}
 use Rattle.gs_peer.specs.Life.{words_of}
-use Rattle.gs_peer.specs.Outboxes.{waiting}
+use Rattle.gs_peer.specs.Outboxes.{gathered_in, waiting}
 use Rattle.gs_peer.specs.Phases.{phase_of, rounds_ended}
 use Rattle.gs_peer.specs.Running.{IsKept, seat_of}
 use Rattle.gs_peer.specs.Task.{SoFar}
 use Rattle.gs_peer.proofs.Inbound.{all_come}
+use Rattle.gs_peer.proofs.Played.{shut_is_down}
 
 keeps_so_far : (seat : Seat) (said sent : PeerNo → Said) (phase : Phase) (xs : List InboxView) (boxes : Outboxes) (v : RouterView) (refused : List RefusedLine) (first words : SeededState)
     → Kept seat said sent phase xs boxes v refused first words
@@ -82,6 +84,20 @@ each_said : (L : Entries) (sent : PeerNo → Said) (boxes : Outboxes) (qs : List
 each_said L sent boxes [] k = tt
 each_said L sent boxes (q ∷ qs) k = (k.0.says, each_said L sent boxes qs k.1)
 
+-- rounds are played whole, and behind the last one all neighbours are down
+none_by_trace : (seat : Seat) (said : PeerNo → Said) (phase : Phase) (L : Entries) (refused : List RefusedLine) (q : PeerNo)
+    → Begun seat said phase L refused
+    → gathered codec L q ≡ None
+none_by_trace seat said (Playing r) L refused q begun = gathered_after_rounds codec seat said r L refused q begun.1
+none_by_trace seat said Closing L refused q begun = gathered_down codec L q (shut_is_down seat begun.0 L q begun.2)
+
+each_out : (L : Entries) (sent : PeerNo → Said) (boxes : Outboxes) (qs : List PeerNo)
+    → ((q : PeerNo) → gathered codec L q ≡ None)
+    → AllByRecursion (λ q. BoxKept L (sent q) boxes q) qs
+    → AllByRecursion (λ q. (gathered_in boxes q ≡ None) × (gathered codec L q ≡ None)) qs
+each_out L sent boxes [] none k = tt
+each_out L sent boxes (q ∷ qs) none k = ((k.0.gathers ∙ none q, none q), each_out L sent boxes qs none k.1)
+
 module _ {G S : Type 0} (seen : EndsOf S) where
   pub suspended : (t : Running G S) → IsKept seen t → SoFar seen t
   suspended t k =
@@ -95,6 +111,8 @@ module _ {G S : Type 0} (seen : EndsOf S) where
         names = k.kept.names;
         hears = each_staged seat phase t.player.router.trace said t.player.inboxes.items k.kept.hears;
         says = each_said t.player.router.trace sent t.outboxes (links_of seat.peer) k.kept.says;
+        none_gathered = each_out t.player.router.trace sent t.outboxes (links_of seat.peer)
+            (λ q. none_by_trace seat said phase t.player.router.trace t.player.refused.items q k.kept.begun) k.kept.says;
         ended = subst (AllByRecursion (λ q. whole (rounds_ended seat phase) (said q) ≡ true)) k.kept.names
             (each_ended seat phase t.player.router.trace said t.player.inboxes.items k.kept.hears);
         rounds = subst (AllByRecursion (λ q. Spell (bytes_before (rounds_ended seat phase) (said q)) (handled t.player.router.trace q))) k.kept.names

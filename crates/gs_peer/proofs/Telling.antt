@@ -1,60 +1,104 @@
--- What entries say, as the outboxes are told it.
-use Rattle.std.proofs.Common.{◌≡◌, ◌-◌, ℕ, Bool, true, false, if◌then◌else◌, List, [], ◌∷◌, ◌++◌, length, take, drop, reverse, refl, sym, ap, ap₂, subst, ◌∙◌, append_assoc, append-nil}
+-- What is to go out behind entries, as the outboxes are told it.
+use Rattle.std.proofs.Common.{◌≡◌, ◌-◌, ℕ, Bool, true, false, if◌then◌else◌, List, [], ◌∷◌, ◌++◌, length, map, take, drop, reverse, Option, refl, sym, ap, ap₂, subst, ◌∙◌, append_assoc}
 use Rattle.std.specs.List.{AllByRecursion}
+use Rattle.std.specs.Prelude.{option_to_list}
 use Rattle.std.proofs.lemmas.List.{reverse-append, reverse-reverse, length-reverse, drop_at}
 use Rattle.gs_base.specs.declared.names.PeerNo.{PeerNo}
-use Rattle.gs_base.specs.Tokens.{Said}
+use Rattle.gs_base.specs.declared.rpc.Rpc.{Rpc}
+use Rattle.gs_base.specs.Codecs.{Codec}
+use Rattle.gs_base.specs.Tokens.{Byte, Said}
 use Rattle.gs_wire.specs.Codec.{codec}
-use Rattle.gs_link.specs.Flat.{flat}
 use Rattle.gs_rules.specs.declared.trace.Entry.{Entry}
 use Rattle.gs_rules.specs.declared.trace.Event.{Event}
+use Rattle.gs_rules.specs.Modes.{sent_to}
 use Rattle.gs_rules.specs.Peers.{Peer}
 use Rattle.gs_rules.specs.Tables.{Entries, cuts_off, up, up_after}
 use Rattle.gs_rules.specs.Legal.{Legal}
-use Rattle.gs_rules.specs.Saying.{AllFit, out, says}
+use Rattle.gs_rules.specs.Saying.{AllFit, Outgoing, behind_entry, behind_event, cut_out, frames_of, gather, is_cut, outgoing, raw_to, saying, sending, sending_all, sign}
 use Rattle.gs_rules.proofs.Fitting.{legal_part_fits}
 use Rattle.gs_peer.specs.declared.outboxes.Outboxes.{Outboxes}
 use Rattle.gs_peer.specs.Kept.{BoxKept}
-use Rattle.gs_peer.specs.Outboxes.{is_open, opens_behind, said_by_all, said_if, waiting}
+use Rattle.gs_peer.specs.Outboxes.{behind_entries, is_open, opens_behind, outgoing_in}
 
 -- ---- entries behind a trace
 
+next_first : (K : Entries) (e : Entry) (es : List Entry) → reverse (e ∷ es) ++ K ≡ reverse es ++ e ∷ K
+next_first K e es = ap (λ (xs : List Entry). xs ++ K) (reverse-append (e ∷ []) es) ∙ append_assoc (reverse es) (e ∷ []) K
+
 up_behind : (K : Entries) (q : PeerNo) (es : List Entry) → up (reverse es ++ K) q ≡ opens_behind q (up K q) es
 up_behind K q [] = refl
-up_behind K q (e ∷ es) =
-    ap (λ (L : Entries). up L q) (ap (λ (xs : List Entry). xs ++ K) (reverse-append (e ∷ []) es) ∙ append_assoc (reverse es) (e ∷ []) K)
-    ∙ up_behind (e ∷ K) q es
+up_behind K q (e ∷ es) = ap (λ (L : Entries). up L q) (next_first K e es) ∙ up_behind (e ∷ K) q es
 
-one_says : (may : Bool) (before more : Said) → (if may then before ++ more else before) ≡ before ++ said_if may more
-one_says true before more = refl
-one_says false before more = sym (append-nil before)
+outgoing_behind : (K : Entries) (q : PeerNo) (es : List Entry) → outgoing codec (reverse es ++ K) q ≡ behind_entries q (up K q) (outgoing codec K q) es
+outgoing_behind K q [] = refl
+outgoing_behind K q (e ∷ es) = ap (λ (L : Entries). outgoing codec L q) (next_first K e es) ∙ outgoing_behind (e ∷ K) q es
 
-out_behind : (K : Entries) (q : PeerNo) (es : List Entry) → out codec (reverse es ++ K) q ≡ out codec K q ++ said_by_all q (up K q) es
-out_behind K q [] = sym (append-nil (out codec K q))
-out_behind K q (e ∷ es) =
-    ap (λ (L : Entries). out codec L q) (ap (λ (xs : List Entry). xs ++ K) (reverse-append (e ∷ []) es) ∙ append_assoc (reverse es) (e ∷ []) K)
-    ∙ out_behind (e ∷ K) q es
-    ∙ ap (λ (w : Said). w ++ said_by_all q (up (e ∷ K) q) es) (one_says (up K q) (out codec K q) (says codec q e))
-    ∙ append_assoc (out codec K q) (said_if (up K q) (says codec q e)) (said_by_all q (up_after q e.event (up K q)) es)
+-- ---- what is said ahead of all
+
+-- the same, where this was said before
+abbrev pub ahead : Said → Outgoing → Outgoing
+ahead w o = record { said = w ++ o.said; gathered = o.gathered }
+
+abbrev with_said : Outgoing → Said → Outgoing
+with_said o v = record { said = v; gathered = o.gathered }
+
+saying_ahead : (w : Said) (o : Outgoing) (v : Said) → saying (ahead w o) v ≡ ahead w (saying o v)
+saying_ahead w o v = ap (with_said o) (append_assoc w o.said v)
+
+sending_ahead : (c : Codec) (w : Said) (o : Outgoing) (v : Rpc) → sending c (ahead w o) v ≡ ahead w (sending c o v)
+sending_ahead c w o v = ap (with_said (sending c o v)) (append_assoc w o.said (frames_of c (gather c o.gathered v).0))
+
+all_ahead : (c : Codec) (w : Said) (o : Outgoing) (vs : List Rpc) → sending_all c (ahead w o) vs ≡ ahead w (sending_all c o vs)
+all_ahead c w o [] = refl
+all_ahead c w o (v ∷ vs) = ap (λ (p : Outgoing). sending_all c p vs) (sending_ahead c w o v) ∙ all_ahead c w (sending c o v) vs
+
+cut_ahead : (c : Codec) (w : Said) (o : Outgoing) (cuts : Bool) → (if cuts then cut_out c (ahead w o) else ahead w o) ≡ ahead w (if cuts then cut_out c o else o)
+cut_ahead c w o true = ap (with_said (cut_out c o)) (append_assoc w o.said (frames_of c (option_to_list o.gathered)))
+cut_ahead c w o false = refl
+
+event_ahead : (c : Codec) (q : PeerNo) (w : Said) (o : Outgoing) (event : Event) → behind_event c q (ahead w o) event ≡ ahead w (behind_event c q o event)
+event_ahead c q w o event =
+    let v : Said = map Byte (raw_to q event) ++ sign q event in
+    ap (λ (p : Outgoing). saying p v) (cut_ahead c w o (is_cut q event))
+    ∙ saying_ahead w (if is_cut q event then cut_out c o else o) v
+
+entry_ahead : (q : PeerNo) (may : Bool) (w : Said) (o : Outgoing) (e : Entry) → (if may then behind_entry codec q (ahead w o) e else ahead w o) ≡ ahead w (if may then behind_entry codec q o e else o)
+entry_ahead q true w o e =
+    ap (λ (p : Outgoing). behind_event codec q p e.event) (all_ahead codec w o (sent_to q e.sends))
+    ∙ event_ahead codec q w (sending_all codec o (sent_to q e.sends)) e.event
+entry_ahead q false w o e = refl
+
+entries_ahead : (q : PeerNo) (may : Bool) (w : Said) (o : Outgoing) (es : List Entry) → behind_entries q may (ahead w o) es ≡ ahead w (behind_entries q may o es)
+entries_ahead q may w o [] = refl
+entries_ahead q may w o (e ∷ es) =
+    ap (λ (p : Outgoing). behind_entries q (up_after q e.event may) p es) (entry_ahead q may w o e)
+    ∙ entries_ahead q (up_after q e.event may) w (if may then behind_entry codec q o e else o) es
 
 -- ---- an outbox that is told them
 
+abbrev goes_out : Said → Option Rpc → Outgoing
+goes_out said held = record { said = said; gathered = held }
+
 box_told : (K : Entries) (q : PeerNo) (es : List Entry) (sent : Said) (old new : Outboxes)
     → BoxKept K sent old q
-    → flat (waiting new q) ≡ flat (waiting old q) ++ said_by_all q (is_open old q) es
+    → outgoing_in new q ≡ behind_entries q (is_open old q) (outgoing_in old q) es
     → is_open new q ≡ opens_behind q (is_open old q) es
     → BoxKept (reverse es ++ K) sent new q
-box_told K q es sent old new k told opens = record {
-  is_open = opens ∙ ap (λ (may : Bool). opens_behind q may es) k.is_open ∙ sym (up_behind K q es);
-  says = ap (λ (w : Said). sent ++ w) told
-      ∙ sym (append_assoc sent (flat (waiting old q)) (said_by_all q (is_open old q) es))
-      ∙ ap₂ (λ (w : Said) (may : Bool). w ++ said_by_all q may es) k.says k.is_open
-      ∙ sym (out_behind K q es);
-}
+box_told K q es sent old new k told opens =
+    let whole : ahead sent (outgoing_in new q) ≡ outgoing codec (reverse es ++ K) q =
+    ap (ahead sent) told
+    ∙ sym (entries_ahead q (is_open old q) sent (outgoing_in old q) es)
+    ∙ ap₂ (λ (may : Bool) (o : Outgoing). behind_entries q may o es) k.is_open (ap₂ goes_out k.says k.gathers)
+    ∙ sym (outgoing_behind K q es) in
+    record {
+      is_open = opens ∙ ap (λ (may : Bool). opens_behind q may es) k.is_open ∙ sym (up_behind K q es);
+      says = ap (λ (o : Outgoing). o.said) whole;
+      gathers = ap (λ (o : Outgoing). o.gathered) whole;
+    }
 
 pub boxes_told : (K L : Entries) (es : List Entry) (sent : PeerNo → Said) (old new : Outboxes) (qs : List PeerNo)
     → L ≡ reverse es ++ K
-    → ((q : PeerNo) → flat (waiting new q) ≡ flat (waiting old q) ++ said_by_all q (is_open old q) es)
+    → ((q : PeerNo) → outgoing_in new q ≡ behind_entries q (is_open old q) (outgoing_in old q) es)
     → ((q : PeerNo) → is_open new q ≡ opens_behind q (is_open old q) es)
     → AllByRecursion (λ q. BoxKept K (sent q) old q) qs
     → AllByRecursion (λ q. BoxKept L (sent q) new q) qs
@@ -89,11 +133,12 @@ pub down_stays : (L : Entries) (q : PeerNo) (es : List Entry) → up L q ≡ fal
 down_stays L q [] is_down = is_down
 down_stays L q (e ∷ es) is_down = ap (up_after q e.event) (down_stays L q es is_down) ∙ never_up q e.event
 
--- nothing is said to a neighbour that is down
-pub out_no_more : (L : Entries) (q : PeerNo) (es : List Entry) → up L q ≡ false → out codec (es ++ L) q ≡ out codec L q
+-- nothing more goes to a neighbour that is down
+pub out_no_more : (L : Entries) (q : PeerNo) (es : List Entry) → up L q ≡ false → outgoing codec (es ++ L) q ≡ outgoing codec L q
 out_no_more L q [] is_down = refl
 out_no_more L q (e ∷ es) is_down =
-    ap (λ (b : Bool). if b then out codec (es ++ L) q ++ says codec q e else out codec (es ++ L) q) (down_stays L q es is_down) ∙ out_no_more L q es is_down
+    ap (λ (b : Bool). if b then behind_entry codec q (outgoing codec (es ++ L) q) e else outgoing codec (es ++ L) q) (down_stays L q es is_down)
+    ∙ out_no_more L q es is_down
 
 -- ---- told by a router's trace
 
@@ -105,7 +150,7 @@ since told all es K L is added counted =
 pub tells : (told : ℕ) (all slice : List Entry) (L : Entries) (old new : Outboxes)
     → reverse all ≡ L
     → slice ≡ drop told all
-    → ((q : PeerNo) → flat (waiting new q) ≡ flat (waiting old q) ++ said_by_all q (is_open old q) slice)
+    → ((q : PeerNo) → outgoing_in new q ≡ behind_entries q (is_open old q) (outgoing_in old q) slice)
     → ((q : PeerNo) → is_open new q ≡ opens_behind q (is_open old q) slice)
     → (K : Entries) (sent : PeerNo → Said) (qs : List PeerNo)
     → length K ≡ told

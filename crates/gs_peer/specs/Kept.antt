@@ -15,7 +15,7 @@ use Rattle.gs_rules.specs.Peers.{links_of}
 use Rattle.gs_rules.specs.Tables.{Entries, last_moment, up}
 use Rattle.gs_rules.specs.Modes.{exact}
 use Rattle.gs_rules.specs.Legal.{Comes, LegalOn}
-use Rattle.gs_rules.specs.Saying.{handled, out}
+use Rattle.gs_rules.specs.Saying.{gathered, handled, out}
 use Rattle.gs_rules.specs.Hearing.{Spell, after, bytes_before, closes}
 use Rattle.gs_rules.specs.Rounds.{Seat, Phase, Playing, Closing, AfterRounds, moment_of}
 use Rattle.gs_router.specs.Router.{RouterView}
@@ -23,7 +23,7 @@ use Rattle.gs_peer.specs.declared.outboxes.Outboxes.{Outboxes}
 use Rattle.gs_peer.specs.Ended.{closes_in, whole}
 use Rattle.gs_peer.specs.Phases.{rounds_ended}
 use Rattle.gs_peer.specs.Inboxes.{InboxView, is_full, peers_of}
-use Rattle.gs_peer.specs.Outboxes.{is_open, waiting}
+use Rattle.gs_peer.specs.Outboxes.{gathered_in, is_open, waiting}
 
 -- ---- what comes from one neighbour
 
@@ -59,10 +59,12 @@ pub record InboxKept (seat : Seat) (phase : Phase) (L : Entries) (said : Said) (
 
 -- ---- what goes to one neighbour
 
--- What was accepted and what waits is what the trace says, and more may be said while the neighbour is up.
+-- What was accepted and what waits is what the trace says, what is gathered is what the trace has gathered, and more may be
+-- said while the neighbour is up.
 pub record BoxKept (L : Entries) (sent : Said) (boxes : Outboxes) (q : PeerNo) : Type 0 where
   pub is_open : is_open boxes q ≡ up L q
   pub says : sent ++ flat (waiting boxes q) ≡ out codec L q
+  pub gathers : gathered_in boxes q ≡ gathered codec L q
 
 -- ---- all of it
 

@@ -2,7 +2,6 @@ pub mod Ended
 pub mod Phases
 pub mod Inboxes
 pub mod Outboxes
-pub mod Framed
 pub mod Playing
 pub mod Agendas
 pub mod Players

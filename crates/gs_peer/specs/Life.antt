@@ -1,5 +1,5 @@
 -- What is known of a life that has ended.
-use Rattle.std.specs.Prelude.{◌≡◌, ◌*◌, true, List, []}
+use Rattle.std.specs.Prelude.{◌≡◌, ◌*◌, true, List, [], None}
 use Rattle.std.specs.List.{AllByRecursion}
 use Rattle.gs_base.specs.declared.names.PeerNo.{PeerNo}
 use Rattle.gs_base.specs.Tokens.{Said, bytes_of}
@@ -11,7 +11,7 @@ use Rattle.gs_ends.specs.declared.ends.Ends.{Ghosts as EndsOf}
 use Rattle.gs_rules.specs.Peers.{links_of}
 use Rattle.gs_rules.specs.Modes.{exact}
 use Rattle.gs_rules.specs.Legal.{LegalOn}
-use Rattle.gs_rules.specs.Saying.{handled, out}
+use Rattle.gs_rules.specs.Saying.{gathered, handled, out}
 use Rattle.gs_rules.specs.Hearing.{Spell, closes}
 use Rattle.gs_rules.specs.Rounds.{Seat, KeepsRounds}
 use Rattle.gs_router.specs.Router.{meshes_of, scores_of}
@@ -37,5 +37,7 @@ pub record IsLife {S : Type 0} (seen : EndsOf S) (seat : Seat) (first : SeededSt
       (links_of seat.peer)
   -- to each neighbour, all that the trace says was accepted
   pub says : AllByRecursion (λ q. words_of (seen.accepted f.ends) q ≡ out codec f.trace q) (links_of seat.peer)
+  -- nothing is gathered that did not go out
+  pub none_gathered : AllByRecursion (λ q. gathered codec f.trace q ≡ None) (links_of seat.peer)
   -- each neighbour has closed, so that nothing of what it said is left in its link
   pub closed : AllByRecursion (λ q. closes (words_of (seen.taken f.ends) q) ≡ true) (links_of seat.peer)

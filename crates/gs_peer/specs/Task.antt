@@ -10,7 +10,7 @@ use Rattle.gs_link.specs.Flat.{flat}
 use Rattle.gs_rules.specs.Peers.{links_of}
 use Rattle.gs_rules.specs.Modes.{exact}
 use Rattle.gs_rules.specs.Legal.{LegalOn}
-use Rattle.gs_rules.specs.Saying.{handled, out}
+use Rattle.gs_rules.specs.Saying.{gathered, handled, out}
 use Rattle.gs_rules.specs.Hearing.{Spell, bytes_before}
 use Rattle.gs_rules.specs.Rounds.{Seat, Todo, KeepsSoFar}
 use Rattle.gs_router.specs.Router.{RouterView}
@@ -24,7 +24,7 @@ use Rattle.gs_peer.specs.declared.task.PeerTask.{PeerTask}
 use Rattle.gs_peer.specs.Ended.{whole}
 use Rattle.gs_peer.specs.Inboxes.{InboxView, peers_of}
 use Rattle.gs_peer.specs.Life.{IsLife, words_of}
-use Rattle.gs_peer.specs.Outboxes.{waiting}
+use Rattle.gs_peer.specs.Outboxes.{gathered_in, waiting}
 use Rattle.gs_peer.specs.Phases.{phase_of, rounds_ended}
 use Rattle.gs_peer.specs.Running.{IsKept, seat_of, seat_with}
 
@@ -66,6 +66,10 @@ module _ {G S : Type 0} (seen : EndsOf S) where
     -- what was accepted for each neighbour, and what waits, is what the trace says to it
     pub says : AllByRecursion (λ q.
         words_of (seen.accepted t.ends) q ++ flat (waiting t.outboxes q) ≡ out codec t.player.router.trace q)
+        (links_of (seat_of t).peer)
+    -- nothing is gathered for any of them, neither here nor by the trace
+    pub none_gathered : AllByRecursion (λ q.
+        (gathered_in t.outboxes q ≡ None) × (gathered codec t.player.router.trace q ≡ None))
         (links_of (seat_of t).peer)
     -- the rounds that were heard have ended, in what was taken of each neighbour
     pub ended : AllByRecursion (λ q.

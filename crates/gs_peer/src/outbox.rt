@@ -1,23 +1,27 @@
-ghost use Rattle.std.specs.Prelude.{◌≡◌, ◌≤◌, ◌++◌, ◌∷◌, [], true, false, length, map, OnOk, IfOk};
+ghost use Rattle.std.specs.Prelude.{◌≡◌, ◌≤◌, ◌++◌, ◌∷◌, [], None, true, false, if◌then◌else◌, length, map, OnOk, IfOk};
 ghost use Rattle.gs_base.specs.declared.names.PeerNo.{PeerNo as PeerNoValue};
 ghost use Rattle.gs_base.specs.Tokens.{Byte, Close, EndOf};
 ghost use Rattle.gs_link.specs.Flat.{flat};
 ghost use Rattle.gs_link.specs.declared.item.Slot.TheVariants.{Piece, Close as Closing};
 ghost use Rattle.gs_link.specs.Items.{IsPiece, IsSendable, slot_of};
 ghost use Rattle.gs_ends.specs.Ends.{OthersStay, has};
-ghost use Rattle.gs_peer.specs.Outboxes.{AcceptsOne, said_if};
+ghost use Rattle.gs_peer.specs.Outboxes.{AcceptsOne, outgoing_of};
+ghost use Rattle.gs_rules.specs.Saying.{cut_out, saying, sending};
+ghost use Rattle.gs_wire.specs.Codec.{codec};
 
 use crate::queue::Queue;
 use bytes::Bytes;
-use gs_base::PeerNo;
+use gs_base::{PeerNo, Shared};
 use gs_ends::Ends;
 use gs_link::{Item, LONGEST_PIECE, SendRefused, Slot};
+use gs_wire::{Gathered, WrittenRpc};
 use std::alloc::{AllocError, Global};
 
-/// What waits to go to a neighbour, and whether more may be said to it.
+/// What waits to go to a neighbour, what is gathered to go out as one RPC behind it, and whether more may be said.
 #[derive(Drop)]
 pub struct Outbox {
     pub(crate) slots: Queue<Slot>,
+    pub(crate) gathered: Gathered,
     pub(crate) is_open: bool,
 }
 
@@ -25,52 +29,93 @@ impl Outbox {
     /// An outbox in which nothing waits, and to which nothing is said.
     pub(crate) fn closed(alloc: Global) -> Outbox
         ensures slots { result.slots ≡ [] }
+        ensures gathered { result.gathered ≡ None }
         ensures open { result.is_open ≡ false }
     {
         Outbox {
             slots: Queue::new(alloc),
+            gathered: Gathered::new(alloc),
             is_open: false,
         }
     }
 
-    /// Puts a frame, or bytes as they are, at the back, if more may be said.
-    pub(crate) fn send(&mut self, frame: Bytes) -> Result<(), AllocError>
-        ensures told { OnOk result (flat self.new.slots
-            ≡ flat self.old.slots ++ said_if self.old.is_open (map Byte frame)) }
+    /// Gathers an RPC, if more may be said. What was gathered goes out first where the two do not fit one frame.
+    pub(crate) fn send(&mut self, alloc: Global, rpc: &Shared<WrittenRpc>) -> Result<(), AllocError>
+        requires fits { codec.fits rpc.now ≡ true }
+        ensures told { OnOk result (outgoing_of self.new
+            ≡ (if self.old.is_open then sending codec (outgoing_of self.old) rpc.now else outgoing_of self.old)) }
         ensures open { OnOk result (self.new.is_open ≡ self.old.is_open) }
     {
         if !self.is_open {
             return Ok(());
         }
-        self.slots.push_back(Slot::Piece(frame))?;
+        if self.gathered.gather(rpc)? {
+            return Ok(());
+        }
+        self.put_out(alloc)?;
+        self.gathered.gather(rpc)?;
         Ok(())
     }
 
-    /// Ends a round, if more may be said.
-    pub(crate) fn mark(&mut self, round: u64) -> Result<(), AllocError>
-        ensures told { OnOk result (flat self.new.slots
-            ≡ flat self.old.slots ++ said_if self.old.is_open (EndOf round ∷ [])) }
+    /// Puts bytes as they are behind what is gathered, if more may be said.
+    pub(crate) fn put_raw(&mut self, alloc: Global, bytes: Bytes) -> Result<(), AllocError>
+        ensures told { OnOk result (outgoing_of self.new
+            ≡ (if self.old.is_open
+            then saying (cut_out codec (outgoing_of self.old)) (map Byte bytes)
+            else outgoing_of self.old)) }
         ensures open { OnOk result (self.new.is_open ≡ self.old.is_open) }
     {
         if !self.is_open {
             return Ok(());
         }
+        self.put_out(alloc)?;
+        self.slots.push_back(Slot::Piece(bytes))?;
+        Ok(())
+    }
+
+    /// Ends a round behind what is gathered, if more may be said.
+    pub(crate) fn mark(&mut self, alloc: Global, round: u64) -> Result<(), AllocError>
+        ensures told { OnOk result (outgoing_of self.new
+            ≡ (if self.old.is_open
+            then saying (cut_out codec (outgoing_of self.old)) (EndOf round ∷ [])
+            else outgoing_of self.old)) }
+        ensures open { OnOk result (self.new.is_open ≡ self.old.is_open) }
+    {
+        if !self.is_open {
+            return Ok(());
+        }
+        self.put_out(alloc)?;
         self.slots.push_back(Slot::Round(round))?;
         Ok(())
     }
 
-    /// Says nothing more but the close, if more might be said.
-    pub(crate) fn close(&mut self) -> Result<(), AllocError>
-        ensures told { OnOk result (flat self.new.slots
-            ≡ flat self.old.slots ++ said_if self.old.is_open (Close ∷ [])) }
+    /// Says nothing more but what is gathered and the close, if more might be said.
+    pub(crate) fn close(&mut self, alloc: Global) -> Result<(), AllocError>
+        ensures told { OnOk result (outgoing_of self.new
+            ≡ (if self.old.is_open then saying (cut_out codec (outgoing_of self.old)) (Close ∷ []) else outgoing_of self.old)) }
         ensures open { OnOk result (self.new.is_open ≡ false) }
     {
         if !self.is_open {
             return Ok(());
         }
+        self.put_out(alloc)?;
         self.slots.push_back(Slot::Close)?;
         self.is_open = false;
         Ok(())
+    }
+
+    /// Puts the frame of what is gathered at the back, where something is.
+    fn put_out(&mut self, alloc: Global) -> Result<(), AllocError>
+        ensures told { OnOk result (outgoing_of self.new ≡ cut_out codec (outgoing_of self.old)) }
+        ensures open { OnOk result (self.new.is_open ≡ self.old.is_open) }
+    {
+        match self.gathered.take_frame(alloc)? {
+            Some(frame) => {
+                self.slots.push_back(Slot::Piece(frame))?;
+                Ok(())
+            }
+            None => Ok(()),
+        }
     }
 
     /// Offers a neighbour what waits first: a mark, the close, or a piece of what was put there whole. What is
@@ -84,6 +129,7 @@ impl Outbox {
         ensures says { OnOk result (flat (S.accepted ends.new to) ++ flat self.new.slots
             ≡ flat (S.accepted ends.old to) ++ flat self.old.slots) }
         ensures open { OnOk result (self.new.is_open ≡ self.old.is_open) }
+        ensures gathered { OnOk result (self.new.gathered ≡ self.old.gathered) }
     {
         match self.slots.pop_front() {
             None => Ok(false),
@@ -108,6 +154,7 @@ impl Outbox {
         ensures says { OnOk result (flat (S.accepted ends.new to) ++ flat self.new.slots
             ≡ flat (S.accepted ends.old to) ++ (map Byte frame ++ flat self.old.slots)) }
         ensures open { OnOk result (self.new.is_open ≡ self.old.is_open) }
+        ensures gathered { OnOk result (self.new.gathered ≡ self.old.gathered) }
     {
         if frame.is_empty() {
             return Ok(true);
@@ -124,6 +171,7 @@ impl Outbox {
         ensures says { IfOk result (λ piece. flat (Piece piece ∷ self.new.slots)
             ≡ map Byte frame ++ flat self.old.slots) }
         ensures open { OnOk result (self.new.is_open ≡ self.old.is_open) }
+        ensures gathered { OnOk result (self.new.gathered ≡ self.old.gathered) }
     {
         let piece = frame.split_to(frame.len().min(LONGEST_PIECE))?;
         if frame.is_empty() {
@@ -149,6 +197,7 @@ impl Outbox {
         ensures says { OnOk result (flat (S.accepted ends.new to) ++ flat self.new.slots
             ≡ flat (S.accepted ends.old to) ++ flat (slot_of item ∷ self.old.slots)) }
         ensures open { OnOk result (self.new.is_open ≡ self.old.is_open) }
+        ensures gathered { OnOk result (self.new.gathered ≡ self.old.gathered) }
     {
         match ends.put(to, item) {
             Ok(()) => Ok(true),
@@ -173,6 +222,7 @@ impl Outbox {
         ensures says { OnOk result (flat (S.accepted ends.new to) ++ flat self.new.slots
             ≡ flat (S.accepted ends.old to) ++ flat (Closing ∷ self.old.slots)) }
         ensures open { OnOk result (self.new.is_open ≡ self.old.is_open) }
+        ensures gathered { OnOk result (self.new.gathered ≡ self.old.gathered) }
     {
         match ends.finish(to) {
             Ok(()) => Ok(true),
@@ -186,6 +236,7 @@ impl Outbox {
     fn put_back(&mut self, item: Item) -> Result<(), AllocError>
         ensures says { OnOk result (flat self.new.slots ≡ flat (slot_of item ∷ self.old.slots)) }
         ensures open { OnOk result (self.new.is_open ≡ self.old.is_open) }
+        ensures gathered { OnOk result (self.new.gathered ≡ self.old.gathered) }
     {
         match item {
             Item::Piece(piece) => self.slots.push_front(Slot::Piece(piece)),

@@ -1,37 +1,41 @@
-ghost use Rattle.std.specs.Prelude.{◌≡◌, ◌≢◌, ◌<◌, ◌++◌, ◌∷◌, [], true, false, nat_eq, length, map, if◌then◌else◌, OnOk, IfOk};
+ghost use Rattle.std.specs.Prelude.{◌≡◌, ◌≢◌, ◌<◌, ◌++◌, ◌∷◌, [], true, false, nat_eq, length, map, None, ◌&&◌, if◌then◌else◌, OnOk, IfOk};
 ghost use Rattle.std.specs.List.{AllByRecursion};
 ghost use Rattle.gs_base.specs.declared.names.PeerNo.{PeerNo as PeerNoValue};
 ghost use Rattle.gs_base.specs.Tokens.{Byte, Close, EndOf};
 ghost use Rattle.gs_wire.specs.Codec.{codec};
 ghost use Rattle.gs_rules.specs.Tables.{is_lost, up_after};
-ghost use Rattle.gs_rules.specs.Saying.{AllFit, SendsFit, raw_to, says, sign};
+ghost use Rattle.gs_rules.specs.Saying.{AllFit, SendsFit, behind_entry, behind_event, cut_out, saying, sending};
 ghost use Rattle.gs_link.specs.Flat.{flat};
 ghost use Rattle.gs_ends.specs.Ends.{OthersStay, has};
-ghost use Rattle.gs_peer.specs.Outboxes.{AcceptsOne, is_open, opens_behind, said_by_all, said_if, told_sends, waiting};
+ghost use Rattle.gs_peer.specs.Outboxes.{AcceptsOne, behind_entries, behind_sends, gathered_in, is_open, opens_behind, outgoing_in, waiting};
 
-use crate::frames::frame_for;
+use crate::frames::written_for;
 use crate::outbox::Outbox;
 use bytes::Bytes;
 use gs_base::{PeerNo, Rpc, Shared, clone_of};
 use gs_ends::Ends;
 use gs_rules::{Entry, Event};
+use gs_wire::WrittenRpc;
 use std::alloc::{AllocError, Global};
 
-/// What waits to go to each neighbour, by its number: so a send searches nothing. A frame waits whole, shared by
-/// all whom it goes to, and is cut into pieces as it goes out. So do bytes that are put on a link as they are.
+/// What waits to go to each neighbour, by its number: so a send searches nothing. What is sent is gathered, and waits as one
+/// frame from the next cut on: where a round ends, bytes go out as they are, the link is closed, or one more RPC does not
+/// fit. A frame waits whole and goes out in pieces, and so do bytes as they are. The frame of an RPC that is alone is shared
+/// by all whom it goes to.
 #[derive(Drop)]
 pub struct Outboxes {
     boxes: Vec<Outbox>,
 }
 
 impl Outboxes {
-    /// Outboxes of these neighbours, in which nothing waits.
+    /// Outboxes of these neighbours, in which nothing waits and nothing is gathered.
     ///
     /// # Errors
     /// `AllocError` where there was no memory for them.
     pub fn new(alloc: Global, neighbours: &[PeerNo]) -> Result<Outboxes, AllocError>
         ensures open { IfOk result (λ out. AllByRecursion (λ q. is_open out q ≡ true) neighbours.now) }
         ensures silent { IfOk result (λ out. (q : PeerNoValue) → waiting out q ≡ []) }
+        ensures nothing { IfOk result (λ out. (q : PeerNoValue) → gathered_in out q ≡ None) }
     {
         let mut out = Outboxes {
             boxes: Vec::new(alloc),
@@ -47,6 +51,7 @@ impl Outboxes {
         ensures opened { OnOk result (is_open self.new peer ≡ true) }
         ensures others { OnOk result ((q : PeerNoValue) → is_open self.old q ≡ true → is_open self.new q ≡ true) }
         ensures silent { OnOk result ((q : PeerNoValue) → waiting self.new q ≡ waiting self.old q) }
+        ensures gathered { OnOk result ((q : PeerNoValue) → gathered_in self.new q ≡ gathered_in self.old q) }
     {
         let place = usize::from(peer.0);
         self.reach(alloc, place)?;
@@ -59,6 +64,7 @@ impl Outboxes {
         ensures reached { OnOk result (place < length self.new.boxes.items) }
         ensures open { OnOk result ((q : PeerNoValue) → is_open self.new q ≡ is_open self.old q) }
         ensures silent { OnOk result ((q : PeerNoValue) → waiting self.new q ≡ waiting self.old q) }
+        ensures gathered { OnOk result ((q : PeerNoValue) → gathered_in self.new q ≡ gathered_in self.old q) }
     {
         while self.boxes.len() <= place {
             self.boxes.push(Outbox::closed(alloc))?;
@@ -73,8 +79,8 @@ impl Outboxes {
     pub fn tell_all(&mut self, alloc: Global, entries: &[Entry]) -> Result<(), AllocError>
         requires { AllFit codec entries.now }
         ensures told { OnOk result ((q : PeerNoValue)
-            → flat (waiting self.new q)
-            ≡ flat (waiting self.old q) ++ said_by_all q (is_open self.old q) entries.now) }
+            → outgoing_in self.new q
+            ≡ behind_entries q (is_open self.old q) (outgoing_in self.old q) entries.now) }
         ensures open { OnOk result ((q : PeerNoValue)
             → is_open self.new q ≡ opens_behind q (is_open self.old q) entries.now) }
     {
@@ -88,150 +94,167 @@ impl Outboxes {
     fn tell(&mut self, alloc: Global, entry: &Entry) -> Result<(), AllocError>
         requires { SendsFit codec entry.now.sends }
         ensures told { OnOk result ((q : PeerNoValue)
-            → flat (waiting self.new q)
-            ≡ flat (waiting self.old q) ++ said_if (is_open self.old q) (says codec q entry.now)) }
-        ensures open { OnOk result ((q : PeerNoValue)
-            → is_open self.new q ≡ up_after q entry.now.event (is_open self.old q)) }
+            → outgoing_in self.new q
+            ≡ (if is_open self.old q then behind_entry codec q (outgoing_in self.old q) entry.now else outgoing_in self.old q)) }
+        ensures open { OnOk result ((q : PeerNoValue) → is_open self.new q ≡ up_after q entry.now.event (is_open self.old q)) }
     {
         self.send_all(alloc, entry.sends.as_slice())?;
-        self.send_raw(&entry.event)?;
-        self.sign(&entry.event)?;
+        self.tell_event(alloc, &entry.event)?;
         Ok(())
     }
 
-    /// Puts the bytes of an event at the back of what waits, as they are.
-    fn send_raw(&mut self, event: &Event) -> Result<(), AllocError>
-        ensures told { OnOk result ((q : PeerNoValue)
-            → flat (waiting self.new q)
-            ≡ flat (waiting self.old q) ++ said_if (is_open self.old q) (map Byte (raw_to q event.now))) }
-        ensures open { OnOk result ((q : PeerNoValue) → is_open self.new q ≡ is_open self.old q) }
-    {
-        match event {
-            Event::Raw(to, bytes) => {
-                self.send(usize::from(to.0), clone_of(bytes)?)?;
-                Ok(())
-            }
-            _ => Ok(()),
-        }
-    }
-
-    /// Puts what an event says behind its sends.
-    fn sign(&mut self, event: &Event) -> Result<(), AllocError>
-        ensures told { OnOk result ((q : PeerNoValue)
-            → flat (waiting self.new q)
-            ≡ flat (waiting self.old q) ++ said_if (is_open self.old q) (sign q event.now)) }
-        ensures open { OnOk result ((q : PeerNoValue)
-            → is_open self.new q ≡ up_after q event.now (is_open self.old q)) }
-    {
-        match event {
-            Event::RoundEnd(round) => self.mark_all(*round),
-            Event::Shut => self.close_all(),
-            other => self.close_lost(other.lost()),
-        }
-    }
-
-    /// Says nothing more to whoever is lost, but the close behind what waits.
-    fn close_lost(&mut self, lost: Option<PeerNo>) -> Result<(), AllocError>
-        ensures told { OnOk result ((q : PeerNoValue)
-            → flat (waiting self.new q) ≡ flat (waiting self.old q)
-            ++ said_if (is_open self.old q) (if is_lost q lost then Close ∷ [] else [])) }
-        ensures open { OnOk result ((q : PeerNoValue)
-            → is_open self.new q ≡ (if is_lost q lost then false else is_open self.old q)) }
-    {
-        match lost {
-            Some(peer) => self.close(usize::from(peer.0)),
-            None => Ok(()),
-        }
-    }
-
-    /// Puts the frames of what an entry sends at the back of what waits. An RPC that goes to several
-    /// neighbours, one behind the other, is written once.
+    /// Gathers what an entry sends. An RPC that goes to several neighbours, one behind the other, is written once.
     fn send_all(&mut self, alloc: Global, sends: &[(PeerNo, Shared<Rpc>)]) -> Result<(), AllocError>
         requires { SendsFit codec sends.now }
         ensures told { OnOk result ((q : PeerNoValue)
-            → flat (waiting self.new q)
-            ≡ flat (waiting self.old q) ++ told_sends codec q (is_open self.old q) sends.now) }
+            → outgoing_in self.new q
+            ≡ behind_sends codec q (is_open self.old q) (outgoing_in self.old q) sends.now) }
         ensures open { OnOk result ((q : PeerNoValue) → is_open self.new q ≡ is_open self.old q) }
     {
         let mut last = None;
         for (to, rpc) in sends {
-            let frame = frame_for(alloc, &mut last, rpc)?;
-            self.send(usize::from(to.0), frame)?;
+            let written = written_for(alloc, &mut last, rpc)?;
+            self.send(alloc, usize::from(to.0), &written)?;
         }
         Ok(())
     }
 
-    /// Puts a frame, or bytes as they are, at the back of what waits for the neighbour of this number.
-    fn send(&mut self, place: usize, frame: Bytes) -> Result<(), AllocError>
+    /// Gathers an RPC for the neighbour of this number.
+    fn send(
+        &mut self,
+        alloc: Global,
+        place: usize,
+        rpc: &Shared<WrittenRpc>,
+    ) -> Result<(), AllocError>
+        requires { codec.fits rpc.now ≡ true }
         ensures told { OnOk result ((q : PeerNoValue)
-            → flat (waiting self.new q) ≡ flat (waiting self.old q)
-            ++ said_if (is_open self.old q) (if nat_eq place q.0 then map Byte frame else [])) }
+            → outgoing_in self.new q
+            ≡ (if is_open self.old q && nat_eq place q.0
+            then sending codec (outgoing_in self.old q) rpc.now
+            else outgoing_in self.old q)) }
         ensures open { OnOk result ((q : PeerNoValue) → is_open self.new q ≡ is_open self.old q) }
     {
         match self.boxes.get_mut(place) {
             Some(outbox) => {
-                outbox.send(frame)?;
+                outbox.send(alloc, rpc)?;
                 Ok(())
             }
+            None => Ok(()),
+        }
+    }
+
+    /// Puts what an event says behind what is gathered.
+    fn tell_event(&mut self, alloc: Global, event: &Event) -> Result<(), AllocError>
+        ensures told { OnOk result ((q : PeerNoValue)
+            → outgoing_in self.new q
+            ≡ (if is_open self.old q then behind_event codec q (outgoing_in self.old q) event.now else outgoing_in self.old q)) }
+        ensures open { OnOk result ((q : PeerNoValue) → is_open self.new q ≡ up_after q event.now (is_open self.old q)) }
+    {
+        match event {
+            Event::RoundEnd(round) => self.mark_all(alloc, *round),
+            Event::Shut => self.close_all(alloc),
+            Event::Raw(to, bytes) => self.put_raw(alloc, usize::from(to.0), clone_of(bytes)?),
+            other => self.close_lost(alloc, other.lost()),
+        }
+    }
+
+    /// Puts bytes as they are behind what is gathered for the neighbour of this number.
+    fn put_raw(&mut self, alloc: Global, place: usize, bytes: Bytes) -> Result<(), AllocError>
+        ensures told { OnOk result ((q : PeerNoValue)
+            → outgoing_in self.new q
+            ≡ (if is_open self.old q && nat_eq place q.0
+            then saying (cut_out codec (outgoing_in self.old q)) (map Byte bytes)
+            else outgoing_in self.old q)) }
+        ensures open { OnOk result ((q : PeerNoValue) → is_open self.new q ≡ is_open self.old q) }
+    {
+        match self.boxes.get_mut(place) {
+            Some(outbox) => {
+                outbox.put_raw(alloc, bytes)?;
+                Ok(())
+            }
+            None => Ok(()),
+        }
+    }
+
+    /// Says nothing more to whoever is lost, but what is gathered and the close behind what waits.
+    fn close_lost(&mut self, alloc: Global, lost: Option<PeerNo>) -> Result<(), AllocError>
+        ensures told { OnOk result ((q : PeerNoValue)
+            → outgoing_in self.new q
+            ≡ (if is_open self.old q && is_lost q lost
+            then saying (cut_out codec (outgoing_in self.old q)) (Close ∷ [])
+            else outgoing_in self.old q)) }
+        ensures open { OnOk result ((q : PeerNoValue)
+            → is_open self.new q ≡ (if is_lost q lost then false else is_open self.old q)) }
+    {
+        match lost {
+            Some(peer) => self.close(alloc, usize::from(peer.0)),
             None => Ok(()),
         }
     }
 
     /// Ends a round for each neighbour to which more may be said.
-    fn mark_all(&mut self, round: u64) -> Result<(), AllocError>
+    fn mark_all(&mut self, alloc: Global, round: u64) -> Result<(), AllocError>
         ensures told { OnOk result ((q : PeerNoValue)
-            → flat (waiting self.new q)
-            ≡ flat (waiting self.old q) ++ said_if (is_open self.old q) (EndOf round ∷ [])) }
+            → outgoing_in self.new q
+            ≡ (if is_open self.old q
+            then saying (cut_out codec (outgoing_in self.old q)) (EndOf round ∷ [])
+            else outgoing_in self.old q)) }
         ensures open { OnOk result ((q : PeerNoValue) → is_open self.new q ≡ is_open self.old q) }
     {
         for place in 0..self.boxes.len() {
-            self.mark(place, round)?;
+            self.mark(alloc, place, round)?;
         }
         Ok(())
     }
 
     /// Ends a round for the neighbour of this number.
-    fn mark(&mut self, place: usize, round: u64) -> Result<(), AllocError>
+    fn mark(&mut self, alloc: Global, place: usize, round: u64) -> Result<(), AllocError>
         ensures told { OnOk result ((q : PeerNoValue)
-            → flat (waiting self.new q) ≡ flat (waiting self.old q)
-            ++ said_if (is_open self.old q) (if nat_eq place q.0 then EndOf round ∷ [] else [])) }
+            → outgoing_in self.new q
+            ≡ (if is_open self.old q && nat_eq place q.0
+            then saying (cut_out codec (outgoing_in self.old q)) (EndOf round ∷ [])
+            else outgoing_in self.old q)) }
         ensures open { OnOk result ((q : PeerNoValue) → is_open self.new q ≡ is_open self.old q) }
     {
         match self.boxes.get_mut(place) {
             Some(outbox) => {
-                outbox.mark(round)?;
+                outbox.mark(alloc, round)?;
                 Ok(())
             }
             None => Ok(()),
         }
     }
 
-    /// Says nothing more to the neighbour of this number, but the close behind what waits.
-    fn close(&mut self, place: usize) -> Result<(), AllocError>
+    /// Says nothing more to the neighbour of this number, but what is gathered and the close behind what waits.
+    fn close(&mut self, alloc: Global, place: usize) -> Result<(), AllocError>
         ensures told { OnOk result ((q : PeerNoValue)
-            → flat (waiting self.new q) ≡ flat (waiting self.old q)
-            ++ said_if (is_open self.old q) (if nat_eq place q.0 then Close ∷ [] else [])) }
+            → outgoing_in self.new q
+            ≡ (if is_open self.old q && nat_eq place q.0
+            then saying (cut_out codec (outgoing_in self.old q)) (Close ∷ [])
+            else outgoing_in self.old q)) }
         ensures open { OnOk result ((q : PeerNoValue)
             → is_open self.new q ≡ (if nat_eq place q.0 then false else is_open self.old q)) }
     {
         match self.boxes.get_mut(place) {
             Some(outbox) => {
-                outbox.close()?;
+                outbox.close(alloc)?;
                 Ok(())
             }
             None => Ok(()),
         }
     }
 
-    /// Says nothing more to anyone, but the close behind what waits.
-    fn close_all(&mut self) -> Result<(), AllocError>
+    /// Says nothing more to anyone, but what is gathered and the close behind what waits.
+    fn close_all(&mut self, alloc: Global) -> Result<(), AllocError>
         ensures told { OnOk result ((q : PeerNoValue)
-            → flat (waiting self.new q)
-            ≡ flat (waiting self.old q) ++ said_if (is_open self.old q) (Close ∷ [])) }
+            → outgoing_in self.new q
+            ≡ (if is_open self.old q
+            then saying (cut_out codec (outgoing_in self.old q)) (Close ∷ [])
+            else outgoing_in self.old q)) }
         ensures open { OnOk result ((q : PeerNoValue) → is_open self.new q ≡ false) }
     {
         for place in 0..self.boxes.len() {
-            self.close(place)?;
+            self.close(alloc, place)?;
         }
         Ok(())
     }
@@ -252,6 +275,7 @@ impl Outboxes {
             flat (S.accepted ends.old to) ++ flat (waiting self.old to)) }
         ensures stays { OnOk result ((q : PeerNoValue) → q ≢ to → waiting self.new q ≡ waiting self.old q) }
         ensures open { OnOk result ((q : PeerNoValue) → is_open self.new q ≡ is_open self.old q) }
+        ensures gathered { OnOk result ((q : PeerNoValue) → gathered_in self.new q ≡ gathered_in self.old q) }
     {
         match self.boxes.get_mut(usize::from(to.0)) {
             Some(outbox) => {

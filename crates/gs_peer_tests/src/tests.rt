@@ -1,4 +1,4 @@
-//! Lives of a peer with one neighbour, over lists in memory: scripts, heartbeats, streams and faults.
+//! Lives of a peer with one neighbour, over lists in memory: scripts, heartbeats, streams, gathered frames and faults.
 ghost use Rattle.std.specs.Prelude.{◌≡◌, IfOk, IfSome, true};
 ghost use Rattle.gs_ends.specs.Ends.{has};
 ghost use Rattle.gs_ends.specs.Pairs.{joints_of};
@@ -6,6 +6,7 @@ ghost use Rattle.gs_ends.specs.Pairs.{joints_of};
 mod breaking;
 mod cases;
 mod gates;
+mod gathering;
 mod items;
 mod made;
 mod over_links;
@@ -13,6 +14,7 @@ mod sides;
 
 use crate::tests::breaking::{HANG_UPS, RAWS};
 use crate::tests::cases::{Case, LONG, NOTHING, SCRIPT, SCRIPTS, STREAMS, SUBSCRIBER};
+use crate::tests::gathering::GATHERED;
 use crate::tests::items::{Word, lines, said};
 use crate::tests::made::{AtMost, ONE, lists, task, task_in};
 use futures::executor::block_on;
@@ -134,6 +136,11 @@ fn a_hang_up_closes_a_link_behind_what_was_sent(rt: HostRuntime) -> Result<(), F
 #[test]
 fn bytes_go_as_they_are_between_frames(rt: HostRuntime) -> Result<(), Fail> {
     check(&rt, RAWS)
+}
+
+#[test]
+fn what_is_said_in_a_round_is_one_frame(rt: HostRuntime) -> Result<(), Fail> {
+    check(&rt, GATHERED)
 }
 
 /// Where a neighbour takes one item alone, the life never ends.

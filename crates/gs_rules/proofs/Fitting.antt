@@ -94,7 +94,7 @@ abbrev RpcsFit : List Rpc → Type 0
 RpcsFit rpcs = AllByRecursion IsWritten rpcs
 
 -- what fits a frame is short
-short_body : (rpc : Rpc) → codec.fits rpc ≡ true → length (body rpc) < 2 ^ 64
+pub short_body : (rpc : Rpc) → codec.fits rpc ≡ true → length (body rpc) < 2 ^ 64
 short_body rpc fits = grind (arith, nat_tests)
 
 announcement_written : (subscribes : Bool) (t : Topic) → length t.0 ≤ longest_topic → IsWritten (announcement subscribes t)

@@ -18,6 +18,9 @@ pub mod Scripts
 pub mod Kept
 pub mod Fitting
 pub mod Spelled
+pub mod InOrder
+pub mod RoundEnds
+pub mod Gathered
 pub mod Counted
 pub mod UpMembers
 pub mod CameIn
@@ -25,6 +28,7 @@ pub mod MeshMoves
 pub mod AfterShut
 pub mod Lost
 pub mod Examples
+pub mod GatheredExamples
 pub mod GossipExamples
 pub mod ScoreExamples
 pub mod MeshExamples

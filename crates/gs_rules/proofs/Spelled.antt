@@ -1,28 +1,33 @@
--- What a legal trace says to a neighbour are the frames of what it sends there, where it puts no other bytes on the link;
--- and nothing follows a close.
-use Rattle.std.proofs.Common.{◌≡◌, ℕ, Bool, true, false, if◌then◌else◌, List, [], ◌∷◌, ◌++◌, length, map, refl, sym, ap, ap₂, subst, ◌∙◌, append_assoc, append-nil, arith, ◌⊎◌, inl, inr, true≢false, ◌≤◌}
+-- What a legal trace says to a neighbour are frames, where it puts no other bytes on the link; joined with what is
+-- gathered behind them, they say what it sends there.
+use Rattle.std.proofs.Common.{◌≡◌, ℕ, Bool, true, false, if◌then◌else◌, List, [], ◌∷◌, ◌++◌, length, map, Option, Some, None, refl, sym, ap, ap₂, subst, ◌∙◌, append_assoc, append-nil, arith, inl, ◌≤◌}
+use Rattle.std.specs.Prelude.{IfSome, option_to_list}
 use Rattle.std.specs.List.{flat_map, AllByRecursion}
 use Rattle.std.proofs.lemmas.Bool.Decides.{nat_tests}
 use Rattle.std.proofs.lemmas.Grind.{flat_map-append}
 use Rattle.gs_base.specs.declared.names.PeerNo.{PeerNo}
 use Rattle.gs_base.specs.declared.rpc.Rpc.{Rpc}
+use Rattle.gs_base.specs.declared.control.Control.{Control}
 use Rattle.gs_base.specs.Names.{same_peer}
-use Rattle.gs_base.specs.Codecs.{Codec}
 use Rattle.gs_wire.specs.declared.frames.End.TheVariants.{Waits}
-use Rattle.gs_wire.specs.Messages.{body, longest_body}
+use Rattle.gs_wire.specs.Messages.{IsControl, IsPrune, body, longest_body}
 use Rattle.gs_wire.specs.Codec.{codec}
+use Rattle.gs_wire.specs.Joining.{joined_controls, joined_options, joined_rpc, joined_rpcs, joined_to}
 use Rattle.gs_wire.specs.Stream.{IsStream}
 use Rattle.gs_wire.proofs.FrameLists.{frame_read}
+use Rattle.gs_wire.proofs.RoundTrip.{all-append}
 use Rattle.gs_rules.specs.declared.trace.Event.{Event}
 use Rattle.gs_rules.specs.declared.trace.Event.TheVariants.{RoundEnd, Shut}
 use Rattle.gs_rules.specs.declared.trace.Entry.{Entry}
 use Rattle.gs_rules.specs.Peers.{Peer}
-use Rattle.gs_rules.specs.Tables.{Entries, cuts_off, is_lost, lost, up_after, up}
+use Rattle.gs_rules.specs.Tables.{Entries, is_lost, lost, up}
 use Rattle.gs_rules.specs.Modes.{sent_to}
 use Rattle.gs_rules.specs.Legal.{Legal}
-use Rattle.gs_rules.specs.Saying.{Byte, EndOf, Close, Said, SaysFramesAlone, bytes_of, raw_to, sign, says, out, sent}
-use Rattle.gs_rules.specs.Hearing.{Spell, closes}
-use Rattle.gs_rules.proofs.Fitting.{IsWritten, SendsWritten, AllWritten, legal_written}
+use Rattle.gs_rules.specs.Saying.{Byte, EndOf, Close, Said, SaysFramesAlone, Outgoing, bytes_of, behind_entry, cut_out, frames_of, gather, gathered, is_cut, out, outgoing, raw_to, sending, sending_all, sent, sign}
+use Rattle.gs_rules.specs.Hearing.{Spell}
+use Rattle.gs_rules.proofs.Fitting.{IsWritten, SendsWritten, AllWritten, legal_written, short_body}
+use Rattle.gs_rules.proofs.Handled.{spelled_once}
+use Rattle.gs_wire.proofs.JoinedRpcs.{onto_push, to_grouping}
 
 -- ---- bytes
 
@@ -44,28 +49,6 @@ sign_silent : (q : PeerNo) (event : Event) → bytes_of (sign q event) ≡ []
 sign_silent q (RoundEnd r) = refl
 sign_silent q Shut = refl
 sign_silent q other = lost_silent (is_lost q (lost other))
-
-says_bytes : (codec : Codec) (q : PeerNo) (e : Entry) → raw_to q e.event ≡ [] → bytes_of (says codec q e) ≡ flat_map codec.frame (sent_to q e.sends)
-says_bytes codec q e none =
-    let frames : List ℕ = flat_map codec.frame (sent_to q e.sends) in
-    let mine : List ℕ = frames ++ raw_to q e.event in
-    bytes_of_append (map Byte mine) (sign q e.event)
-    ∙ ap₂ (λ (xs ys : List ℕ). xs ++ ys) (bytes_of_bytes mine) (sign_silent q e.event)
-    ∙ append-nil mine
-    ∙ ap (λ (xs : List ℕ). frames ++ xs) none
-    ∙ append-nil frames
-
--- the bytes that are said are the frames of what is sent, where no others are put on the link
-pub out_is_sent : (codec : Codec) (L : Entries) (q : PeerNo) → SaysFramesAlone q L → bytes_of (out codec L q) ≡ flat_map codec.frame (sent L q)
-out_is_sent codec [] q alone = refl
-out_is_sent codec (e ∷ L) q alone = by (up L q) (out_is_sent codec L q alone.1)
-  where
-    by : (is_up : Bool) → bytes_of (out codec L q) ≡ flat_map codec.frame (sent L q) → bytes_of (if is_up then out codec L q ++ says codec q e else out codec L q) ≡ flat_map codec.frame (if is_up then sent L q ++ sent_to q e.sends else sent L q)
-    by false before = before
-    by true before =
-        bytes_of_append (out codec L q) (says codec q e)
-        ∙ ap₂ (λ (xs ys : List ℕ). xs ++ ys) before (says_bytes codec q e alone.0)
-        ∙ sym (flat_map-append codec.frame (sent L q) (sent_to q e.sends))
 
 -- ---- frames
 
@@ -91,113 +74,141 @@ received_written q (x ∷ sends) all = with_first (same_peer x.0 q) (received_wr
     with_first true rest = (all.0, rest)
     with_first false rest = rest
 
-written_both : (xs ys : List Rpc) → AllByRecursion IsWritten xs → AllByRecursion IsWritten ys → AllByRecursion IsWritten (xs ++ ys)
-written_both [] ys h k = k
-written_both (x ∷ xs) ys h k = (h.0, written_both xs ys h.1 k)
+one_more : (rpcs : List Rpc) (v : Rpc) → AllByRecursion IsWritten rpcs → IsWritten v → AllByRecursion IsWritten (rpcs ++ v ∷ [])
+one_more rpcs v all one = all-append IsWritten rpcs (v ∷ []) all (one, tt)
 
-pub sent_written : (L : Entries) (q : PeerNo) → AllWritten L → AllByRecursion IsWritten (sent L q)
-sent_written [] q all = tt
-sent_written (e ∷ L) q all = by (up L q) (sent_written L q all.1)
+controls_in_memory : (c d : Option Control) → IfSome c IsControl → IfSome d IsControl → IfSome (joined_controls c d) IsControl
+controls_in_memory None d h k = k
+controls_in_memory (Some c) None h k = h
+controls_in_memory (Some c) (Some d) h k = all-append IsPrune c.prune d.prune h k
+
+joined_written : (u v : Rpc) → IsWritten u → IsWritten v → codec.fits (joined_rpc u v) ≡ true → IsWritten (joined_rpc u v)
+joined_written u v h k fits =
+    (fits, record { body = short_body (joined_rpc u v) fits; control = controls_in_memory u.control v.control h.1.control k.1.control })
+
+-- ---- what is said and gathered
+
+-- What is said are frames of RPCs, and joined with the one that is gathered they say what all of these say.
+record AreSpelled (said : Said) (held : Option Rpc) (vs : List Rpc) : Type 0 where
+  rpcs : List Rpc
+  frames : bytes_of said ≡ flat_map codec.frame rpcs
+  written : AllByRecursion IsWritten rpcs
+  held_written : IfSome held IsWritten
+  all : joined_options (joined_rpcs rpcs) held ≡ joined_rpcs vs
+
+abbrev GoesOut : Outgoing → List Rpc → Type 0
+GoesOut o vs = AreSpelled o.said o.gathered vs
+
+-- more is said, of which no byte is one
+more_said : (said w : Said) (held : Option Rpc) (vs : List Rpc) → bytes_of w ≡ [] → AreSpelled said held vs → AreSpelled (said ++ w) held vs
+more_said said w held vs none before = record {
+  rpcs = before.rpcs;
+  frames = bytes_of_append said w ∙ ap (λ (bytes : List ℕ). bytes_of said ++ bytes) none ∙ append-nil (bytes_of said) ∙ before.frames;
+  written = before.written;
+  held_written = before.held_written;
+  all = before.all;
+}
+
+frame_bytes : (rpcs : List Rpc) → bytes_of (frames_of codec rpcs) ≡ flat_map codec.frame rpcs
+frame_bytes rpcs = bytes_of_bytes (flat_map codec.frame rpcs)
+
+-- the frame of what is gathered goes out
+one_frame : (said : Said) (u : Rpc) (rpcs : List Rpc) → bytes_of said ≡ flat_map codec.frame rpcs → bytes_of (said ++ frames_of codec (u ∷ [])) ≡ flat_map codec.frame (rpcs ++ u ∷ [])
+one_frame said u rpcs frames =
+    bytes_of_append said (frames_of codec (u ∷ []))
+    ∙ ap₂ (λ (xs ys : List ℕ). xs ++ ys) frames (frame_bytes (u ∷ []))
+    ∙ sym (flat_map-append codec.frame rpcs (u ∷ []))
+
+-- what the RPCs that are out say, and one more
+one_joined : (rpcs vs : List Rpc) (v : Rpc) → joined_rpcs rpcs ≡ joined_rpcs vs → Some (joined_to (joined_rpcs rpcs) v) ≡ joined_rpcs (vs ++ v ∷ [])
+one_joined rpcs vs v same = ap (λ (held : Option Rpc). Some (joined_to held v)) same ∙ sym (onto_push None vs v)
+
+abbrev gathered_if : Bool → Rpc → Rpc → List Rpc × Option Rpc
+gathered_if fits u v = if fits then ([], Some (joined_rpc u v)) else (u ∷ [], Some v)
+
+sends_one : (said : Said) (held : Option Rpc) (vs : List Rpc) (v : Rpc) → IsWritten v → AreSpelled said held vs → AreSpelled (said ++ frames_of codec (gather codec held v).0) (gather codec held v).1 (vs ++ v ∷ [])
+sends_one said None vs v one before = record {
+  rpcs = before.rpcs;
+  frames = ap bytes_of (append-nil said) ∙ before.frames;
+  written = before.written;
+  held_written = one;
+  all = one_joined before.rpcs vs v before.all;
+}
+sends_one said (Some u) vs v one before = by (codec.fits (joined_rpc u v)) refl
   where
-    by : (is_up : Bool) → AllByRecursion IsWritten (sent L q) → AllByRecursion IsWritten (if is_up then sent L q ++ sent_to q e.sends else sent L q)
-    by false before = before
-    by true before = written_both (sent L q) (sent_to q e.sends) before (received_written q e.sends all.0)
-
-pub sent_stream : (L : Entries) (q : PeerNo) → AllWritten L → SaysFramesAlone q L → IsStream longest_body (bytes_of (out codec L q)) (sent L q) [] Waits
-sent_stream L q all alone = subst (λ (bytes : List ℕ). IsStream longest_body bytes (sent L q) [] Waits) (sym (out_is_sent codec L q alone)) (frames_spell (sent L q) (sent_written L q all))
-
-pub sent_is_spelled : (p : Peer) (L : Entries) (q : PeerNo) → Legal p L → SaysFramesAlone q L → Spell (bytes_of (out codec L q)) (sent L q)
-sent_is_spelled p L q legal alone = ([], Waits, sent_stream L q (legal_written p L legal) alone)
-
--- ---- a close
-
-closes_append : (w v : Said) → closes w ≡ false → closes (w ++ v) ≡ closes v
-closes_append [] v h = refl
-closes_append (Byte b ∷ w) v h = closes_append w v h
-closes_append (EndOf r ∷ w) v h = closes_append w v h
-closes_append (Close ∷ w) v h = absurd cc
-
-bytes_open : (bytes : List ℕ) → closes (map Byte bytes) ≡ false
-bytes_open [] = refl
-bytes_open (b ∷ bytes) = bytes_open bytes
-
--- nothing stands behind a close
-abbrev EndsByClose : Said → Type 0
-EndsByClose w = (before behind : Said) → w ≡ before ++ Close ∷ behind → behind ≡ []
-
-split_closes : (before behind : Said) → closes (before ++ Close ∷ behind) ≡ true
-split_closes [] behind = refl
-split_closes (Byte b ∷ before) behind = split_closes before behind
-split_closes (EndOf r ∷ before) behind = split_closes before behind
-split_closes (Close ∷ before) behind = refl
-
--- without a close there is nothing to show
-open_ends : (w : Said) → closes w ≡ false → EndsByClose w
-open_ends w none before behind is = absurd (true≢false (sym (ap closes is ∙ split_closes before behind) ∙ none))
-
--- one close, and that last
-close_ends : (w : Said) → closes w ≡ false → EndsByClose (w ++ Close ∷ [])
-close_ends [] none [] behind is = cc
-close_ends [] none (t ∷ []) behind is = absurd cc
-close_ends [] none (t ∷ u ∷ before) behind is = absurd cc
-close_ends (Byte b ∷ w) none [] behind is = absurd cc
-close_ends (EndOf r ∷ w) none [] behind is = absurd cc
-close_ends (Close ∷ w) none before behind is = absurd cc
-close_ends (Byte b ∷ w) none (t ∷ before) behind is = close_ends w none before behind cc
-close_ends (EndOf r ∷ w) none (t ∷ before) behind is = close_ends w none before behind cc
-
--- what a trace says to q, by whether q is up
-record SaysInOrder (codec : Codec) (L : Entries) (q : PeerNo) : Type 0 where
-  open_while_up : up L q ≡ true → closes (out codec L q) ≡ false
-  ends : EndsByClose (out codec L q)
-
--- an event closes, and q isn't up behind it; or it doesn't close
-abbrev ClosesOrNot : PeerNo → Event → Type 0
-ClosesOrNot q event = ((sign q event ≡ Close ∷ []) × (up_after q event true ≡ false)) ⊎ (closes (sign q event) ≡ false)
-
-lost_closes : (is : Bool) → (((if is then Close ∷ [] else []) ≡ Close ∷ []) × ((if is then false else true) ≡ false)) ⊎ (closes (if is then Close ∷ [] else []) ≡ false)
-lost_closes true = inl (refl, refl)
-lost_closes false = inr refl
-
-closes_or_not : (q : PeerNo) (event : Event) → ClosesOrNot q event
-closes_or_not q (RoundEnd r) = inr refl
-closes_or_not q Shut = inl (refl, refl)
-closes_or_not q other = lost_closes (is_lost q (lost other))
-
-ended_stays : (is : Bool) → (if is then false else false) ≡ false
-ended_stays true = refl
-ended_stays false = refl
-
-down_stays : (q : PeerNo) (event : Event) → up_after q event false ≡ false
-down_stays q event = ended_stays (cuts_off q event)
-
-never : (b : Bool) → b ≡ false → b ≡ true → ⊥
-never true h k = absurd cc
-never false h k = absurd cc
-
-in_order : (codec : Codec) (L : Entries) (q : PeerNo) → SaysInOrder codec L q
-in_order codec [] q = record { open_while_up = λ h. refl; ends = open_ends [] refl }
-in_order codec (e ∷ L) q = by (up L q) refl (in_order codec L q)
-  where
-    by : (is_up : Bool) → up L q ≡ is_up → SaysInOrder codec L q → SaysInOrder codec (e ∷ L) q
-    by false h before = record {
-      open_while_up = λ k. absurd (never (up_after q e.event (up L q)) (ap (up_after q e.event) h ∙ down_stays q e.event) k);
-      ends = subst EndsByClose (sym (ap (λ (b : Bool). if b then out codec L q ++ says codec q e else out codec L q) h)) before.ends;
+    by : (fits : Bool) → codec.fits (joined_rpc u v) ≡ fits → AreSpelled (said ++ frames_of codec (gathered_if fits u v).0) (gathered_if fits u v).1 (vs ++ v ∷ [])
+    by true fits = record {
+      rpcs = before.rpcs;
+      frames = ap bytes_of (append-nil said) ∙ before.frames;
+      written = before.written;
+      held_written = joined_written u v before.held_written one fits;
+      all = ap Some (sym (to_grouping (joined_rpcs before.rpcs) u v))
+          ∙ ap (λ (held : Option Rpc). Some (joined_to held v)) before.all
+          ∙ sym (onto_push None vs v);
     }
-    by true h before =
-        let bytes : List ℕ = flat_map codec.frame (sent_to q e.sends) ++ raw_to q e.event in
-        let mine : Said = map Byte bytes in
-        let all : out codec (e ∷ L) q ≡ out codec L q ++ (mine ++ sign q e.event) = ap (λ (b : Bool). if b then out codec L q ++ says codec q e else out codec L q) h in
-        let open_before : closes (out codec L q ++ mine) ≡ false = closes_append (out codec L q) mine (before.open_while_up h) ∙ bytes_open bytes in
-        let parted : out codec (e ∷ L) q ≡ (out codec L q ++ mine) ++ sign q e.event = all ∙ sym (append_assoc (out codec L q) mine (sign q e.event)) in
-        elim (closes_or_not q e.event) [
-          | inl closed ↦ record {
-            open_while_up = λ k. absurd (never (up_after q e.event (up L q)) (ap (up_after q e.event) h ∙ closed.1) k);
-            ends = subst EndsByClose (sym (parted ∙ ap (λ (w : Said). (out codec L q ++ mine) ++ w) closed.0)) (close_ends (out codec L q ++ mine) open_before);
-          }
-          | inr still ↦ let whole : closes (out codec (e ∷ L) q) ≡ false = ap closes parted ∙ closes_append (out codec L q ++ mine) (sign q e.event) open_before ∙ still in
-              record { open_while_up = λ k. whole; ends = open_ends (out codec (e ∷ L) q) whole }
-        ]
+    by false fits = record {
+      rpcs = before.rpcs ++ u ∷ [];
+      frames = one_frame said u before.rpcs before.frames;
+      written = one_more before.rpcs u before.written before.held_written;
+      held_written = one;
+      all = one_joined (before.rpcs ++ u ∷ []) vs v (onto_push None before.rpcs u ∙ before.all);
+    }
 
-pub nothing_behind : (codec : Codec) (L : Entries) (q : PeerNo) (before behind : Said) → out codec L q ≡ before ++ Close ∷ behind → behind ≡ []
-nothing_behind codec L q before behind is = (in_order codec L q).ends before behind is
+sends_all : (o : Outgoing) (vs rpcs : List Rpc) → AllByRecursion IsWritten rpcs → GoesOut o vs → GoesOut (sending_all codec o rpcs) (vs ++ rpcs)
+sends_all o vs [] all before = subst (GoesOut o) (sym (append-nil vs)) before
+sends_all o vs (v ∷ rpcs) all before =
+    subst (GoesOut (sending_all codec o (v ∷ rpcs))) (append_assoc vs (v ∷ []) rpcs) (sends_all (sending codec o v) (vs ++ v ∷ []) rpcs all.1 (sends_one o.said o.gathered vs v all.0 before))
+
+cuts : (said : Said) (held : Option Rpc) (vs : List Rpc) → AreSpelled said held vs → AreSpelled (said ++ frames_of codec (option_to_list held)) None vs
+cuts said None vs before = more_said said [] None vs refl before
+cuts said (Some u) vs before = record {
+  rpcs = before.rpcs ++ u ∷ [];
+  frames = one_frame said u before.rpcs before.frames;
+  written = one_more before.rpcs u before.written before.held_written;
+  held_written = tt;
+  all = onto_push None before.rpcs u ∙ before.all;
+}
+
+cuts_if : (cut : Bool) (o : Outgoing) (vs : List Rpc) → GoesOut o vs → GoesOut (if cut then cut_out codec o else o) vs
+cuts_if true o vs before = cuts o.said o.gathered vs before
+cuts_if false o vs before = before
+
+signed : (q : PeerNo) (event : Event) → raw_to q event ≡ [] → bytes_of (map Byte (raw_to q event) ++ sign q event) ≡ []
+signed q event none =
+    bytes_of_append (map Byte (raw_to q event)) (sign q event)
+    ∙ ap₂ (λ (xs ys : List ℕ). xs ++ ys) (bytes_of_bytes (raw_to q event) ∙ none) (sign_silent q event)
+
+goes_behind : (q : PeerNo) (o : Outgoing) (vs : List Rpc) (e : Entry) → SendsWritten e.sends → raw_to q e.event ≡ [] → GoesOut o vs → GoesOut (behind_entry codec q o e) (vs ++ sent_to q e.sends)
+goes_behind q o vs e written none before =
+    let sent_now : Outgoing = sending_all codec o (sent_to q e.sends) in
+    let cut_now : Outgoing = if is_cut q e.event then cut_out codec sent_now else sent_now in
+    more_said cut_now.said (map Byte (raw_to q e.event) ++ sign q e.event) cut_now.gathered (vs ++ sent_to q e.sends) (signed q e.event none) (cuts_if (is_cut q e.event) sent_now (vs ++ sent_to q e.sends) (sends_all o vs (sent_to q e.sends) (received_written q e.sends written) before))
+
+goes_out : (L : Entries) (q : PeerNo) → AllWritten L → SaysFramesAlone q L → GoesOut (outgoing codec L q) (sent L q)
+goes_out [] q all alone = record { rpcs = []; frames = refl; written = tt; held_written = tt; all = refl }
+goes_out (e ∷ L) q all alone = by (up L q) (goes_out L q all.1 alone.1)
+  where
+    by : (is_up : Bool) → GoesOut (outgoing codec L q) (sent L q) → GoesOut (if is_up then behind_entry codec q (outgoing codec L q) e else outgoing codec L q) (if is_up then sent L q ++ sent_to q e.sends else sent L q)
+    by false before = before
+    by true before = goes_behind q (outgoing codec L q) (sent L q) e all.0 alone.0 before
+
+-- ---- what is sent is spelled
+
+-- these RPCs are spelled, and joined with what is gathered they are what is sent
+pub sent_is_spelled : (p : Peer) (L : Entries) (q : PeerNo) → Legal p L → SaysFramesAlone q L → (rpcs : List Rpc) × Spell (bytes_of (out codec L q)) rpcs × (joined_options (joined_rpcs rpcs) (gathered codec L q) ≡ joined_rpcs (sent L q))
+sent_is_spelled p L q legal alone =
+    let goes = goes_out L q (legal_written p L legal) alone in
+    let stream : IsStream longest_body (bytes_of (out codec L q)) goes.rpcs [] Waits =
+    subst (λ (bytes : List ℕ). IsStream longest_body bytes goes.rpcs [] Waits) (sym goes.frames) (frames_spell goes.rpcs goes.written) in
+    (goes.rpcs, ([], Waits, stream), goes.all)
+
+-- whatever RPCs are spelled
+pub spelled_joined : (p : Peer) (L : Entries) (q : PeerNo) (vs : List Rpc) → Legal p L → SaysFramesAlone q L → Spell (bytes_of (out codec L q)) vs → joined_options (joined_rpcs vs) (gathered codec L q) ≡ joined_rpcs (sent L q)
+spelled_joined p L q vs legal alone spell =
+    let (rpcs, are, all) = sent_is_spelled p L q legal alone in
+    ap (λ (us : List Rpc). joined_options (joined_rpcs us) (gathered codec L q)) (spelled_once (bytes_of (out codec L q)) vs rpcs spell are) ∙ all
+
+-- and nothing is left
+pub handled_joined : (p : Peer) (L : Entries) (q : PeerNo) (vs : List Rpc) → Legal p L → SaysFramesAlone q L → Spell (bytes_of (out codec L q)) vs → gathered codec L q ≡ None → joined_rpcs vs ≡ joined_rpcs (sent L q)
+handled_joined p L q vs legal alone spell none =
+    ap (joined_options (joined_rpcs vs)) (sym none) ∙ spelled_joined p L q vs legal alone spell

@@ -18,7 +18,8 @@ use Rattle.gs_rules.specs.Tables.{Entries}
 use Rattle.gs_rules.specs.Legal.{Comes, Legal, hearing, losing}
 use Rattle.gs_rules.specs.Refusals.{refusal}
 use Rattle.gs_wire.specs.Codec.{codec}
-use Rattle.gs_rules.specs.Saying.{Said, SaysFramesAlone, handled, out, raw_to, sent}
+use Rattle.gs_wire.specs.Joining.{joined_options, joined_rpcs}
+use Rattle.gs_rules.specs.Saying.{Said, SaysFramesAlone, gathered, handled, out, raw_to, sent}
 use Rattle.gs_rules.specs.Hearing.{Inbound, ComesIn, ComesAfter}
 
 -- ---- a seat
@@ -211,15 +212,15 @@ pub record KeepsSoFar (seat : Seat) (said : PeerNo → Said) (phase : Phase) (le
   pub part : PlaysInPart seat said phase left start L more
   pub all_refused : refused ≡ earlier ++ more
 
--- where what q says is what some legal trace says that puts frames alone on this link, what was handled of q is what
--- that trace sends
+-- where what q says is what some legal trace says that puts frames alone on this link, what was handled of q, joined, is
+-- what that trace sends, joined, but for what it has gathered and not yet put out
 abbrev pub HandlesWhatIsSent : Seat → (PeerNo → Said) → Entries → PeerNo → Type 0
 HandlesWhatIsSent seat said L q =
     (other : Peer) (K : Entries)
     → Legal other K
     → SaysFramesAlone seat.number K
     → said q ≡ out codec K seat.number
-    → handled L q ≡ sent K seat.number
+    → joined_options (joined_rpcs (handled L q)) (gathered codec K seat.number) ≡ joined_rpcs (sent K seat.number)
 
 -- A whole life: the rounds 0 to the last, and the close.
 pub record KeepsRounds (seat : Seat) (said : PeerNo → Said) (L : Entries) (refused : List RefusedLine) : Type 0 where

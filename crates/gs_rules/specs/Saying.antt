@@ -1,15 +1,16 @@
 -- What a peer says to a neighbour, as bytes, marks of the ends of rounds and a close; and what it has handled of one.
-use Rattle.std.specs.Prelude.{◌≡◌, ℕ, true, if◌then◌else◌, List, [], ◌∷◌, ◌++◌, map}
+use Rattle.std.specs.Prelude.{◌≡◌, ℕ, Bool, true, if◌then◌else◌, List, [], ◌∷◌, ◌++◌, map, Option, Some, None, option_to_list}
 use Rattle.std.specs.List.{flat_map, AllByRecursion}
 use Rattle.gs_base.specs.declared.names.PeerNo.{PeerNo}
 use Rattle.gs_base.specs.declared.rpc.Rpc.{Rpc}
 use Rattle.gs_base.specs.Names.{same_peer}
 use Rattle.gs_base.specs.Codecs.{Codec}
+use Rattle.gs_wire.specs.Joining.{joined_rpc}
 pub use Rattle.gs_base.specs.Tokens.{Token, Byte, EndOf, Close, Said, bytes_of}
 use Rattle.gs_rules.specs.declared.trace.Event.{Event}
 use Rattle.gs_rules.specs.declared.trace.Event.TheVariants.{Heard, Late, Raw, RoundEnd, Shut}
 use Rattle.gs_rules.specs.declared.trace.Entry.{Entry}
-use Rattle.gs_rules.specs.Tables.{Entries, is_lost, lost, up}
+use Rattle.gs_rules.specs.Tables.{Entries, cuts_off, is_lost, lost, up}
 use Rattle.gs_rules.specs.Modes.{sent_to}
 
 -- what an event puts behind what is sent with it: whoever is lost, or all where the peer shuts down, are told no more
@@ -23,18 +24,80 @@ abbrev pub raw_to : PeerNo → Event → List ℕ
 raw_to q (Raw p bytes) = if same_peer p q then bytes else []
 raw_to q other = []
 
--- what an entry says to q: the frames of its sends, bytes as they are, and the event's sign
-abbrev pub says : Codec → PeerNo → Entry → Said
-says codec q e = map Byte (flat_map codec.frame (sent_to q e.sends) ++ raw_to q e.event) ++ sign q e.event
-
 -- these entries put nothing on q's link but frames
 abbrev pub SaysFramesAlone : PeerNo → List Entry → Type 0
 SaysFramesAlone q entries = AllByRecursion (λ e. raw_to q e.event ≡ []) entries
 
--- what a trace says to q, for as long as q is up
+-- ---- what goes to a neighbour
+
+-- What goes to a neighbour: what is said to it so far, and the RPC that is gathered for it and is not yet out.
+pub record Outgoing : Type 0 where
+  pub said : Said
+  pub gathered : Option Rpc
+
+-- nothing yet
+abbrev pub nothing_outgoing : Outgoing
+nothing_outgoing = record { said = []; gathered = None }
+
+-- the RPCs that go out where one more is sent, and the RPC that is gathered then. What is sent is joined to what is
+-- gathered, where the two fit one frame. Else what is gathered goes out, and what is sent begins anew.
+abbrev pub gather : Codec → Option Rpc → Rpc → List Rpc × Option Rpc
+gather codec None v = ([], Some v)
+gather codec (Some u) v = if codec.fits (joined_rpc u v) then ([], Some (joined_rpc u v)) else (u ∷ [], Some v)
+
+-- frames of these RPCs
+abbrev pub frames_of : Codec → List Rpc → Said
+frames_of codec rpcs = map Byte (flat_map codec.frame rpcs)
+
+-- behind one RPC more
+abbrev pub sending : Codec → Outgoing → Rpc → Outgoing
+sending codec o v = record {
+  said = o.said ++ frames_of codec (gather codec o.gathered v).0;
+  gathered = (gather codec o.gathered v).1;
+}
+
+-- behind these RPCs, the first one first
+abbrev pub sending_all : Codec → Outgoing → List Rpc → Outgoing
+sending_all codec o [] = o
+sending_all codec o (v ∷ vs) = sending_all codec (sending codec o v) vs
+
+-- at a cut what is gathered goes out as one frame, and where nothing is gathered there is none
+abbrev pub cut_out : Codec → Outgoing → Outgoing
+cut_out codec o = record { said = o.said ++ frames_of codec (option_to_list o.gathered); gathered = None }
+
+-- what an event cuts for q: the end of a round, bytes as they are for q, and whatever cuts q off
+abbrev pub is_cut : PeerNo → Event → Bool
+is_cut q (RoundEnd r) = true
+is_cut q (Raw p bytes) = same_peer p q
+is_cut q other = cuts_off q other
+
+-- more is said
+abbrev pub saying : Outgoing → Said → Outgoing
+saying o w = record { said = o.said ++ w; gathered = o.gathered }
+
+-- behind an event: a cut, and then bytes as they are and the event's sign
+abbrev pub behind_event : Codec → PeerNo → Outgoing → Event → Outgoing
+behind_event codec q o event =
+    saying (if is_cut q event then cut_out codec o else o) (map Byte (raw_to q event) ++ sign q event)
+
+-- behind one entry more: its sends are gathered ahead of its event
+abbrev pub behind_entry : Codec → PeerNo → Outgoing → Entry → Outgoing
+behind_entry codec q o e = behind_event codec q (sending_all codec o (sent_to q e.sends)) e.event
+
+-- what goes to q by a trace, for as long as q is up
+abbrev pub outgoing : Codec → Entries → PeerNo → Outgoing
+outgoing codec [] q = nothing_outgoing
+outgoing codec (e ∷ L) q = if up L q then behind_entry codec q (outgoing codec L q) e else outgoing codec L q
+
+-- what a trace says to q
 abbrev pub out : Codec → Entries → PeerNo → Said
-out codec [] q = []
-out codec (e ∷ L) q = if up L q then out codec L q ++ says codec q e else out codec L q
+out codec L q = (outgoing codec L q).said
+
+-- the RPC that a trace has gathered for q, and that is not yet out
+abbrev pub gathered : Codec → Entries → PeerNo → Option Rpc
+gathered codec L q = (outgoing codec L q).gathered
+
+-- ---- what was sent and handled
 
 -- the RPCs that a trace sends to q, for as long as q is up
 abbrev pub sent : Entries → PeerNo → List Rpc

@@ -1,6 +1,5 @@
 //! Laws of traces and rounds. Each holds of its definitions alone, and its function does nothing.
-ghost use Rattle.std.specs.Prelude.{ℕ, true, false, ◌≡◌, ◌<◌, ◌≤◌, ◌+◌, ◌∷◌, ◌++◌, ◌&&◌, []};
-ghost use Rattle.std.specs.Prelude.{List, None, Some, length, map, nat_le, reverse};
+ghost use Rattle.std.specs.Prelude.{ℕ, true, false, ◌≡◌, ◌<◌, ◌≤◌, ◌+◌, ◌∷◌, ◌++◌, ◌&&◌, [], List, None, Some, length, map, nat_le, reverse};
 ghost use Rattle.std.specs.List.{All, AllByRecursion, IsAmong, list_any};
 ghost use Rattle.std.specs.List.Sorted.{IsStrictlySortedBy};
 ghost use Rattle.gs_base.specs.declared.names.PeerNo.{PeerNo as PeerNoValue};
@@ -8,6 +7,7 @@ ghost use Rattle.gs_base.specs.declared.names.Topic.{Topic};
 ghost use Rattle.gs_base.specs.declared.names.MsgId.{MsgId};
 ghost use Rattle.gs_base.specs.declared.mark.Mark.TheVariants.{Grafted, Misbehaviour};
 ghost use Rattle.gs_base.specs.Codecs.{Codec};
+ghost use Rattle.gs_base.specs.declared.rpc.Rpc.{Rpc as RpcValue};
 ghost use Rattle.gs_base.specs.Names.{same_id, same_topic};
 ghost use Rattle.gs_base.specs.Rpcs.{most_identifiers};
 ghost use Rattle.gs_params.specs.Picks.{IsAscending};
@@ -34,9 +34,10 @@ ghost use Rattle.gs_rules.specs.Owed.{FanBeats, Gossips, Group, MeshBeats, beats
 ghost use Rattle.gs_rules.specs.Rules.{Gives, Rule, rule_of};
 ghost use Rattle.gs_rules.specs.Modes.{Follows, SaysTheSame, choiceless, exact, free};
 ghost use Rattle.gs_rules.specs.Legal.{DeliversApart, Legal, LegalOn};
-ghost use Rattle.gs_rules.specs.Saying.{Close, Said, SaysFramesAlone, bytes_of, handled, handled_by, out, says, sent};
+ghost use Rattle.gs_rules.specs.Saying.{Close, Said, SaysFramesAlone, behind_entry, bytes_of, gathered, handled, handled_by, is_cut, out, outgoing, raw_to, sent, sign};
+ghost use Rattle.gs_wire.specs.Joining.{joined_options, joined_rpcs};
 ghost use Rattle.gs_rules.specs.Hearing.{Spell};
-ghost use Rattle.gs_rules.specs.Rounds.{HandlesWhatIsSent, KeepsRounds, Phase, Plays, PlaysInPart, PutsNoBytes, Seat};
+ghost use Rattle.gs_rules.specs.Rounds.{AfterRounds, HandlesWhatIsSent, KeepsRounds, Phase, Plays, PlaysInPart, PutsNoBytes, Seat};
 
 use gs_params::Words;
 
@@ -44,12 +45,33 @@ use gs_params::Words;
 pub fn one_more_entry()
     ensures says { (codec : Codec) (entries : List Entry) (e : Entry) (q : PeerNoValue)
         → up (reverse entries) q ≡ true
-        → out codec (reverse (entries ++ e ∷ [])) q ≡ out codec (reverse entries) q ++ says codec q e }
+        → outgoing codec (reverse (entries ++ e ∷ [])) q ≡ behind_entry codec q (outgoing codec (reverse entries) q) e }
     ensures silent { (codec : Codec) (entries : List Entry) (e : Entry) (q : PeerNoValue)
         → up (reverse entries) q ≡ false
-        → out codec (reverse (entries ++ e ∷ [])) q ≡ out codec (reverse entries) q }
+        → outgoing codec (reverse (entries ++ e ∷ [])) q ≡ outgoing codec (reverse entries) q }
+    ensures stays { (codec : Codec) (entries : List Entry) (e : Entry) (q : PeerNoValue)
+        → (more : Said) × (out codec (reverse (entries ++ e ∷ [])) q ≡ out codec (reverse entries) q ++ more) }
     ensures handles { (entries : List Entry) (e : Entry) (q : PeerNoValue)
         → handled (reverse (entries ++ e ∷ [])) q ≡ handled (reverse entries) q ++ handled_by q e.event }
+{}
+
+/// Right behind a cut nothing is gathered. So it is for a neighbour that is not up, and where the rounds so far are played to
+/// their ends.
+pub fn nothing_is_gathered_behind_a_cut()
+    ensures cut { (codec : Codec) (entries : Entries) (e : Entry) (q : PeerNoValue)
+        → is_cut q e.event ≡ true → gathered codec (e ∷ entries) q ≡ None }
+    ensures down { (codec : Codec) (entries : Entries) (q : PeerNoValue)
+        → up entries q ≡ false → gathered codec entries q ≡ None }
+    ensures rounds { (codec : Codec) (seat : Seat) (said : PeerNoValue → Said) (r : ℕ) (entries : Entries)
+        (refused : List RefusedLine) (q : PeerNoValue)
+        → AfterRounds seat said r entries refused → gathered codec entries q ≡ None }
+{}
+
+/// Only a cut says more than frames: bytes as they are, the end of a round, or a close. So none of these overtakes what is
+/// gathered.
+pub fn only_a_cut_says_more_than_frames()
+    ensures raw { (q : PeerNoValue) (event : Event) → is_cut q event ≡ false → raw_to q event ≡ [] }
+    ensures sign { (q : PeerNoValue) (event : Event) → is_cut q event ≡ false → sign q event ≡ [] }
 {}
 
 /// A close is the last that is said.
@@ -122,13 +144,15 @@ pub fn what_is_given_draws_no_word<W: Words>()
         → t ≡ s }
 {}
 
-/// The bytes that a legal trace says to a neighbour are the frames of what it sends there, whole and in
-/// order, and nothing else, where it puts no other bytes on that link.
+/// The bytes that a legal trace says to a neighbour spell RPCs, and nothing else, where it puts no other bytes on that link.
+/// Joined with what is gathered behind them, they are what the trace sends there, joined: whole, once and in order.
 pub fn what_is_sent_is_spelled()
     ensures { (p : Peer) (entries : Entries) (q : PeerNoValue)
         → Legal p entries
         → SaysFramesAlone q entries
-        → Spell (bytes_of (out codec entries q)) (sent entries q) }
+        → (rpcs : List RpcValue)
+        × Spell (bytes_of (out codec entries q)) rpcs
+        × (joined_options (joined_rpcs rpcs) (gathered codec entries q) ≡ joined_rpcs (sent entries q)) }
 {}
 
 /// A peer that keeps the rounds has handled of each neighbour what the bytes spell that the neighbour
@@ -141,8 +165,8 @@ pub fn what_was_said_is_handled()
         → AllByRecursion (λ q. Spell (bytes_of (said q)) (handled entries q)) (links_of seat.peer) }
 {}
 
-/// A peer that keeps the rounds has handled of each neighbour the RPCs that the neighbour's legal trace
-/// sends to it, where that is what the neighbour says, and nothing but frames: whole, once and in order.
+/// What a peer that keeps the rounds has handled of a neighbour is, joined, what the neighbour's legal trace sends to it,
+/// joined, where that is what the neighbour says, and nothing but frames: whole, once and in order.
 pub fn what_was_sent_is_handled()
     ensures { (seat : Seat) (said : PeerNoValue → Said) (entries : Entries) (refused : List RefusedLine)
         → IsAscending (links_of seat.peer)

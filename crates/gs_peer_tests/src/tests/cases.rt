@@ -1,6 +1,6 @@
 //! Lives of a peer with one neighbour, over lists in memory, and what must be seen of them.
 use crate::tests::items::{
-    GRAFTS, LONG_FRAME, LONG_PAYLOAD, OFFERS, PRUNES, PUBLISHES, SUBSCRIBES, Word,
+    LONG_FRAME, LONG_PAYLOAD, OFFERS, PRUNES, PUBLISHES, PUBLISHES_AND_GRAFTS, SUBSCRIBES, Word,
 };
 use gs_base::Millis;
 use gs_router_calls::{Act, Said, Seen};
@@ -86,8 +86,9 @@ const SCRIPTED: Case<'static> = Case {
 };
 
 /// A step of decay and a heartbeat come each second but the first, behind the lines of their round: in rounds of 100
-/// milliseconds in rounds 10 and 20. The first heartbeat grafts the neighbour. It is pruned then, stays out of the mesh at
-/// the second one, and is offered what was published. What it says in a round is heard in the next.
+/// milliseconds in rounds 10 and 20. The first heartbeat grafts the neighbour, in one frame with what is published in its
+/// round. It is pruned then, stays out of the mesh at the second one, and is offered what was published. What it says in a
+/// round is heard in the next.
 const WITH_HEARTBEATS: Case<'static> = Case {
     name: "a heartbeat grafts a neighbour, or offers it what is kept",
     script: &[
@@ -145,8 +146,7 @@ const WITH_HEARTBEATS: Case<'static> = Case {
     says: &[
         Word::Piece(SUBSCRIBES),
         Word::Rounds(0, 9),
-        Word::Piece(PUBLISHES),
-        Word::Piece(GRAFTS),
+        Word::Piece(PUBLISHES_AND_GRAFTS),
         Word::Rounds(10, 19),
         Word::Piece(OFFERS),
         Word::Rounds(20, 20),

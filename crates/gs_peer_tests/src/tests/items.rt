@@ -12,8 +12,9 @@ pub const SUBSCRIBES: &[u8] = b"\x07\x0a\x05\x08\x01\x12\x01a";
 /// The frame of the message `abc` on `a`.
 pub const PUBLISHES: &[u8] = b"\x0a\x12\x08\x12\x03abc\x22\x01a";
 
-/// The frame of a GRAFT of `a`.
-pub const GRAFTS: &[u8] = b"\x07\x1a\x05\x1a\x03\x0a\x01a";
+/// The frame of that message and of a GRAFT of `a`.
+pub const PUBLISHES_AND_GRAFTS: &[u8] =
+    b"\x11\x12\x08\x12\x03abc\x22\x01a\x1a\x05\x1a\x03\x0a\x01a";
 
 /// The frame that offers the message: an IHAVE of the topic and of one identifier, the SHA-256 of `abc`.
 pub const OFFERS: &[u8] = b"\x29\x1a\x27\x0a\x25\x0a\x01a\x12\x20\

@@ -1,14 +1,15 @@
 use Rattle.std.proofs.Common.{rules, [], ◌∷◌, length, ◌≡◌}
 use Rattle.gs_base.specs.Tokens.{Close}
-use Rattle.gs_link.specs.Flat.{flat}
-use Rattle.gs_peer.specs.Outboxes.{is_open, waiting}
+use Rattle.gs_wire.specs.Codec.{codec}
+use Rattle.gs_rules.specs.Saying.{Outgoing, cut_out, saying}
+use Rattle.gs_peer.specs.Outboxes.{is_open, outgoing_in}
 use Rattle.gs_peer.proofs.BoxPlaces.{shut_to_end, told_to_end}
 use Rattle.gs_peer.proofs.outboxes.Outboxes.close_all.Goals as goal
 
 pub returns-clause-told : goal.returns-clause-told
 returns-clause-told c =
     let ends : c.loop-place.place ≡ length c.args.self.now.boxes.items = search rules in
-    λ q. told_to_end c.args.self.now.boxes.items q.0 c.loop-place.place (Close ∷ []) (flat (waiting c.args.self.now q)) (flat (waiting c.loop-place.self q)) ends (c.loop-place.invariant.told q)
+    λ q. told_to_end (λ (o : Outgoing). saying (cut_out codec o) (Close ∷ [])) c.args.self.now.boxes.items q.0 c.loop-place.place (outgoing_in c.args.self.now q) (outgoing_in c.loop-place.self q) ends (c.loop-place.invariant.closed q)
 
 pub returns-clause-open : goal.returns-clause-open
 returns-clause-open c =

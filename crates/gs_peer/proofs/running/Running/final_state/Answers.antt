@@ -36,4 +36,4 @@ returns-clause-life g c =
     let same : t.player.refused.items ≡ c.hear.new.self.refused.items = search rules in
     let peers : scores_of c.hear.new.self.router.peer c.hear.new.self.router.trace (t.assignment.rounds * t.assignment.round_ms) ≡ scores_of t.player.router.peer c.hear.new.self.router.trace (t.assignment.rounds * t.assignment.round_ms) = ap (λ (p : Peer). scores_of p c.hear.new.self.router.trace (t.assignment.rounds * t.assignment.round_ms)) runs.peer in
     let all = subst (λ (rs : List RefusedLine). WholeLife (seat_of t) said sent t.first.value c.hear.new.self.router.trace rs) same w in
-    record { legal = all.legal; keeps = all.keeps; meshes = c.in_ok-meshes.ensures runs.runs_on.running; scores = c.in_ok-scores.ensures runs.runs_on.running ∙ peers; handles = all.handles; says = all.says; closed = all.closed }
+    record { legal = all.legal; keeps = all.keeps; meshes = c.in_ok-meshes.ensures runs.runs_on.running; scores = c.in_ok-scores.ensures runs.runs_on.running ∙ peers; handles = all.handles; says = all.says; none_gathered = all.none_gathered; closed = all.closed }

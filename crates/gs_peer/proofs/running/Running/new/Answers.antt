@@ -17,5 +17,5 @@ returns-clause-kept g c =
       known = h.known;
       kept = kept_new (seat_with c.args.assignment c.args.chooser.router.peer) (words_of (g.S.Ends.taken c.args.ends)) (words_of (g.S.Ends.accepted c.args.ends)) _ _ c.args.chooser.router _ _ c.args.chooser.words refl h.ascending h.fresh h.running (search rules)
           (λ q. ap flat (h.none_taken q)) (λ q. ap flat (h.none_accepted q)) (search rules)
-          opens (search rules) (search rules);
+          opens (search rules) (search rules) (search rules);
     }

@@ -24,7 +24,7 @@ returns-clause-goes g c =
         known = subst (λ (js : List Joint). AllByRecursion (λ q. has js q ≡ true) (links_of t.player.router.peer)) (sym c.offer.ensures.joints) c.requires.known;
         kept = kept_offers (seat_of t) (phase_of t.phase) (g.S.Ends.taken t.ends) (g.S.Ends.taken c.offer.new.ends) (g.S.Ends.accepted t.ends) (g.S.Ends.accepted c.offer.new.ends)
             t.player.inboxes.items t.outboxes c.offer.new.self t.player.router t.player.refused.items t.first.value t.player.words c.peer-peer.result
-            c.requires.kept e.says e.stays e.«open» e.others e.taken;
+            c.requires.kept e.says e.stays e.«open» e.gathered e.others e.taken;
       };
       seat = refl;
       first = refl;
