@@ -130,6 +130,14 @@ frames_more limit bytes taken count vs v r few p =
       frames = frames_push limit vs v r.front (take count rest) r.frames p;
     }
 
+-- one more RPC was added
+pub frames_pushed : (limit : ℕ) (bytes : List ℕ) (taken start end : ℕ) (vs : List Rpc) (before middle after : List Rpc) → ReadFrames limit bytes taken vs → middle ≡ before ++ vs → IsSpan limit (drop taken bytes) start end → end ≤ length (drop taken bytes) → ((v : Rpc) × SpellsRpc (take (end - start) (drop start (drop taken bytes))) v × (after ≡ middle ++ v ∷ [])) → (found : List Rpc) × ReadFrames limit bytes (taken + end) found × (after ≡ before ++ found)
+frames_pushed limit bytes taken start end vs before middle after read added span whole pushed = (
+  vs ++ pushed.0 ∷ [],
+  frames_more limit bytes taken end vs pushed.0 read whole (span_taken limit (drop taken bytes) start end pushed.0 span whole pushed.1),
+  pushed.2 ∙ ap (λ (t : List Rpc). t ++ pushed.0 ∷ []) added ∙ append_assoc before vs (pushed.0 ∷ []),
+)
+
 pub frames_end : (limit : ℕ) (bytes : List ℕ) (taken : ℕ) (vs : List Rpc) (end : End) → ReadFrames limit bytes taken vs → GoesOn limit (drop taken bytes) end → IsStream limit bytes vs (drop taken bytes) end
 frames_end limit bytes taken vs end r on = record { front = r.front; parts = r.parts; frames = r.frames; goes_on = on }
 

@@ -15,6 +15,7 @@ pub mod RoundTrip
 pub mod RpcRoundTrip
 pub mod Lengths
 pub mod FrameLists
+pub mod Feeding
 pub mod Shorter
 pub mod SentOn
 pub mod Readers

@@ -12,3 +12,4 @@ pub mod Joining
 pub mod Sections
 pub mod Standing
 pub mod Gathering
+pub mod Stores

@@ -10,6 +10,7 @@ mod field;
 mod frame_reader;
 mod frames;
 mod gathered;
+mod held;
 mod joining;
 mod laws;
 mod message;

@@ -1,4 +1,5 @@
 //! Streams of frames, whole and in pieces, and what is pending or refused in them.
+use gs_base::Rpc;
 use gs_wire::{FrameReader, MAX_BODY, WireFault, encode_frame};
 use std::alloc::{AllocError, Global};
 
@@ -128,5 +129,45 @@ fn a_reader_keeps_its_limit(rt: HostRuntime) -> Result<(), AllocError> {
     let refused = read_stream(alloc, 1, frame, 1)?;
     assert_eq!(rt; refused.fault, Some(WireFault::TooLong));
     assert_eq!(rt; refused.count, 0);
+    Ok(())
+}
+
+/// Feeds a piece, once more where there was no memory. Answers how many RPCs there are then, and
+/// how many bytes are pending.
+fn feed_piece(
+    alloc: Global,
+    reader: &mut FrameReader,
+    rpcs: &mut Vec<Rpc>,
+    piece: &[u8],
+) -> Result<(usize, usize), WireFault> {
+    if reader.feed(alloc, piece, rpcs) == Err(WireFault::NoMemory) {
+        reader.feed(alloc, piece, rpcs)?;
+    }
+    Ok((rpcs.len(), reader.pending()))
+}
+
+/// Feeds a subscription in three pieces. Behind its end the last one has a published message, and
+/// the front of a prune, of which the rest comes then.
+fn feed_four(
+    alloc: Global,
+    reader: &mut FrameReader,
+    rpcs: &mut Vec<Rpc>,
+) -> Result<[(usize, usize); 4], WireFault> {
+    let end = b"\x12\x01\x61\x0a\x12\x08\x12\x03\x61\x62\x63\x22\x01\x61\x09\x1a\x07";
+    Ok([
+        feed_piece(alloc, reader, rpcs, b"\x07\x0a\x05")?,
+        feed_piece(alloc, reader, rpcs, b"\x08\x01")?,
+        feed_piece(alloc, reader, rpcs, end)?,
+        feed_piece(alloc, reader, rpcs, b"\x22\x05\x0a\x01\x61\x18\x3c")?,
+    ])
+}
+
+#[test]
+fn a_piece_ends_a_body_and_goes_on(rt: HostRuntime) -> Result<(), WireFault> {
+    let alloc = rt.alloc();
+    let mut reader = FrameReader::new(alloc, MAX_BODY);
+    let mut rpcs = Vec::new(alloc);
+    let seen = feed_four(alloc, &mut reader, &mut rpcs)?;
+    assert_eq!(rt; seen, [(0, 3), (0, 5), (2, 3), (3, 0)]);
     Ok(())
 }
