@@ -2,3 +2,4 @@ pub mod Names
 pub mod Rpcs
 pub mod Codecs
 pub mod Tokens
+pub mod Neighbours

@@ -1,4 +1,5 @@
 ghost use Rattle.std.specs.Prelude.{◌≡◌};
+ghost use Rattle.gs_base.specs.Neighbours.{accepted_neighbour};
 
 use crate::exact::{ExactClone, clone_of};
 use crate::names::PeerNo;
@@ -17,6 +18,27 @@ pub struct Neighbour {
     pub address: Bytes,
     /// The score that the application gives it, in millionths (gossipsub v1.1, Peer Scoring, P5).
     pub app: i128,
+    /// Whether the peer has a peering agreement with it (gossipsub v1.1, Explicit Peering Agreements):
+    /// messages go to it while it is up and on their topic, it never enters a mesh or a fanout, and no
+    /// graylist cuts it off.
+    pub explicit: bool,
+}
+
+impl Neighbour {
+    /// A neighbour as it is where nothing else is said: it dialled, its application score is 0, and there
+    /// is no agreement to peer with it. `Neighbour { explicit: true, ..Neighbour::new(peer, address) }`
+    /// says what is different.
+    pub fn new(peer: PeerNo, address: Bytes) -> Neighbour
+        ensures { result ≡ accepted_neighbour peer address }
+    {
+        Neighbour {
+            peer,
+            outbound: false,
+            address,
+            app: 0,
+            explicit: false,
+        }
+    }
 }
 
 impl Clone for Neighbour {
@@ -28,6 +50,7 @@ impl Clone for Neighbour {
             outbound: self.outbound,
             address: clone_of(&self.address)?,
             app: self.app,
+            explicit: self.explicit,
         })
     }
 }

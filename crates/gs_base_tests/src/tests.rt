@@ -118,10 +118,9 @@ fn an_identifier_is_the_digest_of_the_payload(rt: HostRuntime) {
 /// A neighbour's clone is the neighbour, and one that was dialled is not one that dialled.
 fn compares_neighbours(alloc: Global) -> Result<bool, AllocError> {
     let dialled = Neighbour {
-        peer: PeerNo(1),
         outbound: true,
-        address: Bytes::copy_from_slice(alloc, b"a")?,
         app: -1,
+        ..Neighbour::new(PeerNo(1), Bytes::copy_from_slice(alloc, b"a")?)
     };
     let mut other = clone_of(&dialled)?;
     let is_same = other == dialled;
@@ -129,9 +128,35 @@ fn compares_neighbours(alloc: Global) -> Result<bool, AllocError> {
     Ok(is_same && other != dialled)
 }
 
+/// An explicit neighbour's clone is explicit, and one that is not is another.
+fn compares_explicit_neighbours(alloc: Global) -> Result<bool, AllocError> {
+    let explicit = Neighbour {
+        explicit: true,
+        ..Neighbour::new(PeerNo(1), Bytes::copy_from_slice(alloc, b"a")?)
+    };
+    let mut other = clone_of(&explicit)?;
+    let is_same = other == explicit;
+    other.explicit = false;
+    Ok(is_same && other != explicit)
+}
+
+/// A neighbour of which nothing else is said dialled, scores nothing by the application and is not explicit.
+fn makes_a_neighbour(alloc: Global) -> Result<bool, AllocError> {
+    let made = Neighbour::new(PeerNo(7), Bytes::copy_from_slice(alloc, b"a")?);
+    let is_named = made.peer == PeerNo(7) && made.address.as_slice() == b"a".as_slice();
+    Ok(is_named && !made.outbound && made.app == 0 && !made.explicit)
+}
+
+#[test]
+fn a_new_neighbour_dialled_and_is_not_explicit(rt: HostRuntime) -> Result<(), AllocError> {
+    assert!(rt; makes_a_neighbour(rt.alloc())?);
+    Ok(())
+}
+
 #[test]
 fn neighbours_are_equal_where_their_parts_are(rt: HostRuntime) -> Result<(), AllocError> {
     assert!(rt; compares_neighbours(rt.alloc())?);
+    assert!(rt; compares_explicit_neighbours(rt.alloc())?);
     Ok(())
 }
 

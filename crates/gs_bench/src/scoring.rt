@@ -44,12 +44,7 @@ fn neighbours() -> [Neighbour; 1]
     ensures ascending { IsAscending (peers_of result) }
     ensures apps { All (λ (n : NeighbourValue). unsigned_abs n.app ≤ 10 ^ 12) result }
 {
-    [Neighbour {
-        peer: PEER,
-        outbound: false,
-        address: Bytes::new(),
-        app: 0,
-    }]
+    [Neighbour::new(PEER, Bytes::new())]
 }
 
 /// The scores of the one neighbour.

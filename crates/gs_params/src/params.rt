@@ -57,9 +57,9 @@ pub const DEFAULT_DEGREES: Degrees = Degrees {
 pub struct Thresholds {
     /// With a lower score than this a neighbour gets and gives no gossip: below 0.
     pub gossip_threshold: i64,
-    /// With a lower score than this a neighbour is not published to: at most `gossip_threshold`.
+    /// With a lower score than this a neighbour that isn't explicit is not published to: at most `gossip_threshold`.
     pub publish_threshold: i64,
-    /// With a lower score than this a neighbour is not listened to: at most `publish_threshold`.
+    /// With a lower score than this a neighbour that isn't explicit is not listened to: at most `publish_threshold`.
     pub graylist_threshold: i64,
     /// With a lower median score than this a mesh gets better members: 0 to 10^12.
     pub opportunistic_threshold: u64,

@@ -9,6 +9,7 @@ use Rattle.gs_params.specs.Params.{checked}
 use Rattle.gs_params.specs.declared.topic_params.TopicParams.{TopicParams}
 use Rattle.gs_plan.specs.declared.plan.App.{App}
 use Rattle.gs_plan.specs.declared.plan.Dial.{Dial}
+use Rattle.gs_plan.specs.declared.plan.Explicit.{Explicit}
 use Rattle.gs_plan.specs.declared.plan.Line.{Line}
 use Rattle.gs_plan.specs.declared.plan.Plan.{Plan}
 use Rattle.gs_plan.specs.declared.plan.PlannedPeer.{PlannedPeer}
@@ -70,6 +71,10 @@ IsOneOf peers p = p.0 < length peers
 -- two scores are what the same peer thinks of the same neighbour
 abbrev pub are_of_the_same : App → App → Bool
 are_of_the_same x y = (x.peer.0 == y.peer.0) && (x.about.0 == y.about.0)
+
+-- two agreements name the same neighbour of the same peer
+abbrev pub are_one_pair : Explicit → Explicit → Bool
+are_one_pair x y = (x.peer.0 == y.peer.0) && (x.about.0 == y.about.0)
 
 -- a score in millionths that an application may give
 abbrev pub IsAppScore : ℤ → Type 0
@@ -151,6 +156,10 @@ pub record IsInRange (plan : Plan) : Type 0 where
   pub apps_about : All (λ (app : App). are_joined plan.dials app.peer app.about ≡ true) plan.apps
   pub app_values : All (λ (app : App). IsAppScore app.value) plan.apps
   pub apps_differ : AllPairs (λ x y. are_of_the_same y x ≡ false) plan.apps
+  -- a peering agreement is with a neighbour of its peer, and stands once
+  pub explicit_of : All (λ (agreement : Explicit). IsOneOf plan.peers agreement.peer) plan.explicit
+  pub explicit_about : All (λ (agreement : Explicit). are_joined plan.dials agreement.peer agreement.about ≡ true) plan.explicit
+  pub explicit_differ : AllPairs (λ x y. are_one_pair y x ≡ false) plan.explicit
   -- a line of the script is of a peer of the plan, in one of its rounds: on one of its topics, or to a neighbour of the peer
   pub lines_of : All (λ (line : Line). IsOneOf plan.peers line.peer) plan.script
   pub lines_at : All (λ (line : Line). line.at ≤ plan.rounds) plan.script

@@ -42,6 +42,8 @@ pub struct Plan {
     pub dials: Seq<Dial>,
     /// What the application thinks of a neighbour, in file order: each at most once.
     pub apps: Seq<App>,
+    /// Which neighbours are explicit, in file order: each pair at most once.
+    pub explicit: Seq<Explicit>,
     /// What the peers are told to do, in file order.
     pub script: Seq<Line>,
 }
@@ -71,6 +73,14 @@ pub struct App {
     pub about: PeerNo,
     /// In millionths: -10^9 to 10^9.
     pub value: i64,
+}
+
+/// A neighbour with which a peer has a peering agreement (gossipsub v1.1, Explicit Peering
+/// Agreements). The neighbour has one with the peer only where another agreement says so.
+#[derive(Clone, Copy, Debug, PartialEq, Eq)]
+pub struct Explicit {
+    pub peer: PeerNo,
+    pub about: PeerNo,
 }
 
 /// Something that a peer is told to do.

@@ -57,6 +57,7 @@ pub(crate) fn plan(alloc: Global) -> Result<Plan, AllocError> {
         peers,
         dials: Seq::new(alloc),
         apps: Seq::new(alloc),
+        explicit: Seq::new(alloc),
         script,
     })
 }

@@ -191,10 +191,8 @@ fn neighbour(alloc: Global, peer: u16, address: u8, app: i128) -> Result<Neighbo
     ensures app { IfOk result (λ n. n.app ≡ app) }
 {
     Ok(Neighbour {
-        peer: PeerNo(peer),
-        outbound: false,
-        address: Bytes::copy_from_slice(alloc, &[address])?,
         app,
+        ..Neighbour::new(PeerNo(peer), Bytes::copy_from_slice(alloc, &[address])?)
     })
 }
 

@@ -18,10 +18,8 @@ static SHUT_OUT: [(u16, [u64; 4]); 5] = [
 
 fn neighbour(alloc: Global, peer: u16, address: u8, app: i128) -> Result<Neighbour, AllocError> {
     Ok(Neighbour {
-        peer: PeerNo(peer),
-        outbound: false,
-        address: Bytes::copy_from_slice(alloc, &[address])?,
         app,
+        ..Neighbour::new(PeerNo(peer), Bytes::copy_from_slice(alloc, &[address])?)
     })
 }
 

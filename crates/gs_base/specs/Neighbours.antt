@@ -1,0 +1,15 @@
+-- A neighbour of which nothing particular is said.
+use Rattle.std.specs.Prelude.{pos, ℕ, false, List}
+use Rattle.gs_base.specs.declared.names.PeerNo.{PeerNo}
+use Rattle.gs_base.specs.declared.neighbour.Neighbour.{Neighbour}
+
+-- it dialled, the application thinks nothing of it, and no peering was agreed on (gossipsub v1.1, "Explicit Peering
+-- Agreements")
+abbrev pub accepted_neighbour : PeerNo → List ℕ → Neighbour
+accepted_neighbour peer address = record {
+  peer = peer;
+  outbound = false;
+  address = address;
+  app = pos 0;
+  explicit = false;
+}
