@@ -19,6 +19,7 @@ use Rattle.gs_rules.specs.Tables.{Entries, heartbeats}
 use Rattle.gs_rules.specs.Meshes.{fanout, fanout_topics, is_stale, last_published}
 use Rattle.gs_rules.specs.BeatRules.{fan_beat_rule, fan_end, mesh_beat_rule}
 use Rattle.gs_rules.specs.Scoring.{score}
+use Rattle.gs_base.specs.Neighbours.{accepted_neighbour}
 use Rattle.gs_rules.specs.Rules.{AnyOf, CutOf, Gives, OneOf, Rule, bare}
 
 -- ---- what is given
@@ -28,7 +29,7 @@ peer_of n = record { 0 = n }
 
 -- this side dialled the second neighbour, and the others dialled it
 abbrev linked : ℕ → Bool → Neighbour
-linked n outbound = record { peer = peer_of n; outbound = outbound; address = n ∷ []; app = pos 0 }
+linked n outbound = record (accepted_neighbour (peer_of n) (n ∷ [])) { outbound = outbound }
 
 abbrev news : Topic
 news = record { 0 = 110 ∷ [] }

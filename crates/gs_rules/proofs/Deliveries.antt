@@ -29,7 +29,7 @@ use Rattle.gs_rules.specs.Meshes.{mesh}
 use Rattle.gs_rules.specs.Membership.{candidates, fanning}
 use Rattle.gs_rules.specs.MeshRules.{graft_rule, joining, prune_rule, publish_rule, publishing, sub_rule, those_among}
 use Rattle.gs_rules.specs.BeatRules.{mending, refanning}
-use Rattle.gs_rules.specs.Rules.{rule_of, asking, bare, counted, have_rule, gossiping, want_rule, wanted}
+use Rattle.gs_rules.specs.Rules.{asking, bare, counted, explicit_listeners, gossiping, have_rule, rule_of, want_rule, wanted}
 use Rattle.gs_rules.specs.declared.outcome.Outcome.{Outcome}
 use Rattle.gs_rules.specs.declared.outcome.Outcome.TheVariants.{Accepted, Ignored, Invalid, Near, Rejected}
 use Rattle.gs_rules.specs.Outcomes.{found_to_be, message_entry, message_rule, near_of}
@@ -122,7 +122,7 @@ heard p L q m e id same delivers =
     same
   where
     becomes : Outcome → Entry
-    becomes found = message_entry (mesh L (topic_of m)) e.at q m found
+    becomes found = message_entry (mesh L (topic_of m)) (explicit_listeners p L (topic_of m)) e.at q m found
 
     near_says : (near : Bool) (rest : List Mark) → AllByRecursion (SaysSeen (message_id (payload_of m))) rest → AllByRecursion (SaysSeen (message_id (payload_of m))) (near_of near q (topic_of m) (message_id (payload_of m)) ++ rest)
     near_says true rest all = (tt, all)
@@ -142,17 +142,17 @@ fanning_says id t (q ∷ fanned) marks all = (tt, fanning_says id t fanned marks
 
 -- a message that the peer published, by whether it is subscribed
 module _ (p : Peer) (L : Entries) (t : Topic) (payload : List ℕ) (e : Entry) (id : MsgId) (may : MayPublish p L e.at.0 t payload) (delivers : Delivers e id) where
-  by_subscription : (receivers fanned : List PeerNo) (marks : List Mark) → AllByRecursion (SaysSeen (message_id payload)) marks → SaysTheSame e (publishing L e.at t payload receivers fanned marks) → (is_joined : Bool) → joined L t ≡ is_joined → IsFresh p L e id
-  by_subscription receivers fanned marks all same false j = delivers_none p L e (publishing L e.at t payload receivers fanned marks) id same (rw j refl) delivers
+  by_subscription : (receivers fanned : List PeerNo) (marks : List Mark) → AllByRecursion (SaysSeen (message_id payload)) marks → SaysTheSame e (publishing p L e.at t payload receivers fanned marks) → (is_joined : Bool) → joined L t ≡ is_joined → IsFresh p L e id
+  by_subscription receivers fanned marks all same false j = delivers_none p L e (publishing p L e.at t payload receivers fanned marks) id same (rw j refl) delivers
   by_subscription receivers fanned marks all same true j =
-      delivers_one p L e (publishing L e.at t payload receivers fanned marks) (t, payload) id same (rw j refl)
+      delivers_one p L e (publishing p L e.at t payload receivers fanned marks) (t, payload) id same (rw j refl)
       ((refl, refl), (tt, fanning_says (message_id payload) t fanned marks all)) refl may.unseen delivers
 
   published : Follows free (publish_rule p L e.at t payload) tt e tt → IsFresh p L e id
   published effects =
       what_is_published (IsFresh p L e id) p L t payload e
       (λ receivers same. by_subscription receivers [] [] tt same (joined L t) refl)
-      (λ receivers new same. by_subscription receivers new (Published t ∷ []) (tt, tt) same (joined L t) refl)
+      (λ receivers new ordinary same. by_subscription receivers new (Published t ∷ []) (tt, tt) same (joined L t) refl)
       effects
 
 -- an offer delivers nothing, whatever is chosen
@@ -178,7 +178,7 @@ by_event p L (Want q request) e id next effects delivers = requested p L q reque
 by_event p L (Sub q sub) e id next effects delivers =
     delivers_none p L e (sub_rule p L e.at q sub) id effects.0 (of_a_sub (λ (x : Entry). x.delivered ≡ []) p L e.at q sub refl refl) delivers
 by_event p L (GraftIn q graft) e id next effects delivers =
-    delivers_none p L e (graft_rule p L e.at q graft) id effects.0 (of_a_graft (λ (x : Entry). x.delivered ≡ []) p L e.at q graft refl (λ on. refl) (λ on. refl) (λ on late. refl)) delivers
+    delivers_none p L e (graft_rule p L e.at q graft) id effects.0 (of_a_graft (λ (x : Entry). x.delivered ≡ []) p L e.at q graft refl (λ on. refl) (λ on. refl) (λ on ordinary late. refl)) delivers
 by_event p L (PruneIn q prune) e id next effects delivers =
     delivers_none p L e (prune_rule p L e.at q prune) id effects.0 (of_a_prune (λ (x : Entry). x.delivered ≡ []) p L e.at q prune refl refl) delivers
 by_event p L (Subscribe t) e id next effects delivers =

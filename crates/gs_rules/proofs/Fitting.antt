@@ -38,7 +38,7 @@ use Rattle.gs_rules.specs.MeshRules.{graft_rule, joining, prune_rule, publishing
 use Rattle.gs_rules.specs.BeatRules.{mending, refanning}
 use Rattle.gs_rules.specs.Gossip.{gossip}
 use Rattle.gs_rules.specs.Owed.{owed}
-use Rattle.gs_rules.specs.Rules.{answers, asking, bare, counted, gossiping, have_rule, ids_in, rule_of, to_each, up_neighbours, want_rule, wanted}
+use Rattle.gs_rules.specs.Rules.{answers, asking, bare, counted, explicit_listeners, gossiping, have_rule, ids_in, rule_of, to_each, together_with, up_neighbours, want_rule, wanted}
 use Rattle.gs_rules.specs.Outcomes.{found_to_be, message_entry, message_rule}
 use Rattle.gs_rules.specs.Modes.{SaysTheSame, sent_to, Follows, free}
 use Rattle.gs_rules.specs.Legal.{MaySubscribe, MayUnsubscribe, MayPublish, IsNext, Legal}
@@ -167,15 +167,15 @@ same_fits e x same fit = sends_fit e.sends (λ q. subst RpcsFit (sym (same.sends
 message_fits : (p : Peer) (L : Entries) (at : Millis) (q : PeerNo) (m : Message) → FitsAlone m → SendsWritten (message_rule p L at q m).sends
 message_fits p L at q m fits = of_a_message (λ (e : Entry). SendsWritten e.sends) p L at q m tt tt tt (λ unseen. new_fits)
   where
-    new_fits : (v : Verdict) → SendsWritten (message_entry (mesh L (topic_of m)) at q m (found_to_be (message_id (payload_of m)) v)).sends
-    new_fits Accept = each_fits (passed_on m) (all_but q (mesh L (topic_of m))) (passed_on_written m fits)
+    new_fits : (v : Verdict) → SendsWritten (message_entry (mesh L (topic_of m)) (explicit_listeners p L (topic_of m)) at q m (found_to_be (message_id (payload_of m)) v)).sends
+    new_fits Accept = each_fits (passed_on m) (all_but q (together_with (explicit_listeners p L (topic_of m)) (mesh L (topic_of m)))) (passed_on_written m fits)
     new_fits Reject = tt
     new_fits Ignore = tt
 
 -- a GRAFT is refused on a topic that is joined
 refusal_fits : (p : Peer) (L : Entries) (at : Millis) (q : PeerNo) (graft : Graft) → Legal p L → SendsWritten (graft_rule p L at q graft).sends
 refusal_fits p L at q graft legal =
-    of_a_graft (λ (e : Entry). SendsWritten e.sends) p L at q graft tt (λ on. (told on, tt)) (λ on. (told on, tt)) (λ on late. tt)
+    of_a_graft (λ (e : Entry). SendsWritten e.sends) p L at q graft tt (λ on. (told on, tt)) (λ on. (told on, tt)) (λ on ordinary late. tt)
   where
     told : joined L (topic_or_empty graft.topic) ≡ true → IsWritten (pruning (topic_or_empty graft.topic) p.params.timing.prune_backoff_s)
     told on = prune_written (topic_or_empty graft.topic) p.params.timing.prune_backoff_s (joined_short p L (topic_or_empty graft.topic) legal on)
@@ -234,8 +234,8 @@ module _ (p : Peer) (L : Entries) (legal : Legal p L) where
       let may : MayPublish p L e.at.0 t payload = opens p L e.at.0 (Publish t payload) (λ h. h) next in
       let each = λ (receivers : List PeerNo). each_fits (publication t payload) receivers (publication_written t payload may.fits) in
       what_is_published (SendsWritten e.sends) p L t payload e
-      (λ receivers same. same_fits e (publishing L e.at t payload receivers [] []) same (each receivers))
-      (λ receivers new same. same_fits e (publishing L e.at t payload receivers new (Published t ∷ [])) same (each receivers))
+      (λ receivers same. same_fits e (publishing p L e.at t payload receivers [] []) same (each (together_with (explicit_listeners p L t) receivers)))
+      (λ receivers new ordinary same. same_fits e (publishing p L e.at t payload receivers new (Published t ∷ [])) same (each (together_with (explicit_listeners p L t) receivers)))
       effects
   by_event (MeshBeat t) e next effects =
       let short : length t.0 ≤ longest_topic = joined_short p L t legal (next_of_own p L e.at.0 (MeshBeat t) legal next) in

@@ -20,6 +20,7 @@ use Rattle.gs_rules.specs.Tables.{Entries, asked, blank, keeping_order, kept, of
 use Rattle.gs_rules.specs.Gossip.{IsOpen, all_charges, ends_promise, gossip, gossip_size, gossipable, keeps_promise}
 use Rattle.gs_rules.specs.Owed.{FanBeats, Gossips, owed}
 use Rattle.gs_rules.specs.Rules.{bare, gossiping}
+use Rattle.gs_base.specs.Neighbours.{accepted_neighbour}
 use Rattle.gs_rules.specs.Rounds.{Seat, DecayCounters, Beat, EndRound, Playing, agenda}
 
 -- ---- what is given
@@ -31,7 +32,7 @@ abbrev other : PeerNo
 other = record { 0 = 2 }
 
 abbrev linked : PeerNo → Neighbour
-linked r = record { peer = r; outbound = true; address = []; app = pos 0 }
+linked r = record (accepted_neighbour r []) { outbound = true }
 
 -- a peer that keeps a message for three heartbeats and gossips of it for two
 abbrev peer : Peer

@@ -17,20 +17,20 @@ use Rattle.gs_rules.specs.declared.outcome.Outcome.{Outcome}
 use Rattle.gs_rules.specs.declared.outcome.Outcome.TheVariants.{Dropped, Invalid, Near}
 use Rattle.gs_rules.specs.Meshes.{mesh}
 use Rattle.gs_rules.specs.Outcomes.{again, found_to_be, is_near, known_or_new, message_entry, message_rule, outcome, verdict_on}
-use Rattle.gs_rules.specs.Rules.{answering, answers, bare, ids_in, want_rule}
+use Rattle.gs_rules.specs.Rules.{answering, answers, bare, explicit_listeners, ids_in, want_rule}
 
 -- what holds of the bare entry, and on a topic that is joined of an invalid message, of one that counts for its sender
 -- and of a new one, whatever it is found to be, holds of its rule
 pub of_a_joined_message : (P : Entry → Type 0) (p : Peer) (L : Entries) (at : Millis) (q : PeerNo) (m : Message)
     → P (bare at (Msg q m))
-    → (joined L (topic_of m) ≡ true → P (message_entry (mesh L (topic_of m)) at q m Invalid))
-    → (joined L (topic_of m) ≡ true → P (message_entry (mesh L (topic_of m)) at q m (Near (message_id (payload_of m)))))
-    → (joined L (topic_of m) ≡ true → seen (seen_ttl p) L (message_id (payload_of m)) at.0 ≡ None → (v : Verdict) → P (message_entry (mesh L (topic_of m)) at q m (found_to_be (message_id (payload_of m)) v)))
+    → (joined L (topic_of m) ≡ true → P (message_entry (mesh L (topic_of m)) (explicit_listeners p L (topic_of m)) at q m Invalid))
+    → (joined L (topic_of m) ≡ true → P (message_entry (mesh L (topic_of m)) (explicit_listeners p L (topic_of m)) at q m (Near (message_id (payload_of m)))))
+    → (joined L (topic_of m) ≡ true → seen (seen_ttl p) L (message_id (payload_of m)) at.0 ≡ None → (v : Verdict) → P (message_entry (mesh L (topic_of m)) (explicit_listeners p L (topic_of m)) at q m (found_to_be (message_id (payload_of m)) v)))
     → P (message_rule p L at q m)
 of_a_joined_message P p L at q m dropped against near new = by (joined L (topic_of m)) (is_signed m) (seen (seen_ttl p) L (message_id (payload_of m)) at.0) refl refl
   where
     Holds : Outcome → Type 0
-    Holds found = P (message_entry (mesh L (topic_of m)) at q m found)
+    Holds found = P (message_entry (mesh L (topic_of m)) (explicit_listeners p L (topic_of m)) at q m found)
 
     repeated : joined L (topic_of m) ≡ true → (is_near : Bool) → Holds (again (message_id (payload_of m)) is_near)
     repeated on true = near on
@@ -48,9 +48,9 @@ of_a_joined_message P p L at q m dropped against near new = by (joined L (topic_
 -- what holds of each of these, whatever is joined
 pub of_a_message : (P : Entry → Type 0) (p : Peer) (L : Entries) (at : Millis) (q : PeerNo) (m : Message)
     → P (bare at (Msg q m))
-    → P (message_entry (mesh L (topic_of m)) at q m Invalid)
-    → P (message_entry (mesh L (topic_of m)) at q m (Near (message_id (payload_of m))))
-    → (seen (seen_ttl p) L (message_id (payload_of m)) at.0 ≡ None → (v : Verdict) → P (message_entry (mesh L (topic_of m)) at q m (found_to_be (message_id (payload_of m)) v)))
+    → P (message_entry (mesh L (topic_of m)) (explicit_listeners p L (topic_of m)) at q m Invalid)
+    → P (message_entry (mesh L (topic_of m)) (explicit_listeners p L (topic_of m)) at q m (Near (message_id (payload_of m))))
+    → (seen (seen_ttl p) L (message_id (payload_of m)) at.0 ≡ None → (v : Verdict) → P (message_entry (mesh L (topic_of m)) (explicit_listeners p L (topic_of m)) at q m (found_to_be (message_id (payload_of m)) v)))
     → P (message_rule p L at q m)
 of_a_message P p L at q m dropped against near new =
     of_a_joined_message P p L at q m dropped (λ on. against) (λ on. near) (λ on. new)

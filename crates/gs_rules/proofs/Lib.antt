@@ -33,3 +33,5 @@ pub mod GossipExamples
 pub mod ScoreExamples
 pub mod MeshExamples
 pub mod BeatExamples
+pub mod ExplicitExamples
+pub mod Ordinary

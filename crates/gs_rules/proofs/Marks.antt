@@ -1,5 +1,5 @@
 -- Which marks an entry that follows its rule may have.
-use Rattle.std.proofs.Common.{◌≡◌, ◌⊎◌, inl, inr, ℕ, Bool, true, false, if◌then◌else◌, List, [], ◌∷◌, ◌++◌, map, pos, Option, Some, None, refl, ap}
+use Rattle.std.proofs.Common.{◌≡◌, ◌⊎◌, inl, inr, ℕ, Bool, true, false, if◌then◌else◌, List, [], ◌∷◌, ◌++◌, ◌-◌, length, map, pos, Option, Some, None, refl, ap}
 use Rattle.std.specs.Prelude.{◌&&◌, filter, nat_eq, nat_le, not}
 use Rattle.std.specs.List.{AllByRecursion, flat_map, list_any}
 use Rattle.std.specs.Set.{is_member}
@@ -22,7 +22,7 @@ use Rattle.gs_base.specs.declared.control.Prune.{Prune}
 use Rattle.gs_base.specs.declared.verdict.Verdict.{Verdict}
 use Rattle.gs_base.specs.declared.verdict.Verdict.TheVariants.{Accept, Reject, Ignore}
 use Rattle.gs_base.specs.declared.mark.Mark.{Mark}
-use Rattle.gs_base.specs.declared.mark.Mark.TheVariants.{Answered, Cached, Deficit, First, Grafted, Invalid, Misbehaviour, Near, Pruned, Published, Unfanned}
+use Rattle.gs_base.specs.declared.mark.Mark.TheVariants.{Answered, Cached, Deficit, Fanned, First, Grafted, Invalid, Misbehaviour, Near, Pruned, Published, Unfanned}
 use Rattle.gs_base.specs.Names.{message_id, payload_of, peers_of, same_peer, topic_of, topic_or_empty, HasIdentifierLength}
 use Rattle.gs_mesh.specs.declared.members.Member.{Member}
 use Rattle.gs_mesh.specs.Peers.{is_among}
@@ -31,21 +31,21 @@ use Rattle.gs_rules.specs.declared.trace.Promise.{Promise}
 use Rattle.gs_rules.specs.declared.trace.Event.{Event}
 use Rattle.gs_rules.specs.declared.trace.Event.TheVariants.{BeatBegin, FanBeat, FanEnd, GossipBeat, GraftIn, Have, MeshBeat, Msg, PruneIn, Publish, Sub, Subscribe, Unsubscribe, Want}
 use Rattle.gs_rules.specs.declared.trace.Entry.{Entry}
-use Rattle.gs_rules.specs.Peers.{Peer, links_of, seen_ttl}
+use Rattle.gs_rules.specs.Peers.{Peer, is_explicit, links_of, seen_ttl}
 use Rattle.gs_rules.specs.Tables.{Entries, joined, joined_after, lost, on, seen, up}
 use Rattle.gs_rules.specs.Meshes.{backoff, fanout, mesh, mesh_topics}
 use Rattle.gs_rules.specs.Membership.{barring, candidates, deficit_marks, each_on, entering, fanning, is_candidate, is_negative, leaving, meshes_with, missing, unfanning}
-use Rattle.gs_rules.specs.MeshRules.{asked_backoff, fanned_of, graft_rule, joining, prune_rule, publish_rule, publishing, sub_rule, subscribe_rule, those_among, those_outside, unsubscribe_rule}
-use Rattle.gs_rules.specs.BeatRules.{fan_end, mending, receivers, refanning, scored_member, scored_members}
+use Rattle.gs_rules.specs.MeshRules.{asked_backoff, fanned_of, graft_rule, joining, prune_rule, publish_rule, publishing, receivers, sub_rule, subscribe_rule, those_among, those_outside, unsubscribe_rule}
+use Rattle.gs_rules.specs.BeatRules.{fan_end, mending, refanning, scored_member, scored_members}
 use Rattle.gs_rules.specs.Scoring.{is_neighbour}
 use Rattle.gs_rules.specs.Gossip.{charges, overdue}
-use Rattle.gs_rules.specs.Rules.{answers, asking, bare, counted, have_rule, ids_in, lost_or_bare, rule_of, want_rule, wanted}
+use Rattle.gs_rules.specs.Rules.{answers, asking, bare, counted, explicit_listeners, have_rule, ids_in, lost_or_bare, rule_of, want_rule, wanted}
 use Rattle.gs_rules.specs.Outcomes.{found_to_be, message_entry, message_rule, near_of}
 use Rattle.gs_rules.specs.Modes.{SaysTheSame, Follows, free}
 use Rattle.gs_rules.proofs.Each.{each_mapped, each_passing, each_weaker, of_each}
 use Rattle.gs_rules.proofs.Judged.{of_a_joined_message, of_a_request}
 use Rattle.gs_rules.proofs.Offers.{what_is_offered}
-use Rattle.gs_rules.proofs.Ruled.{mesh_change_at, of_a_graft, of_a_prune, of_a_sub, what_is_mended, what_is_published}
+use Rattle.gs_rules.proofs.Ruled.{each_chosen, mesh_change_at, of_a_graft, of_a_prune, of_a_sub, receivers_are_ordinary, was_not, what_is_mended, what_is_published}
 
 -- ---- what a mark says of the entry that makes it
 
@@ -75,6 +75,7 @@ ComesOnto L other t = joined_after t other (joined L t) ≡ true
 -- A neighbour may come into a mesh.
 pub record MayGraft (p : Peer) (L : Entries) (at : ℕ) (event : Event) (q : PeerNo) (t : Topic) : Type 0 where
   pub joins : ComesOnto L event t
+  pub ordinary : is_explicit p q ≡ false
   pub rested : nat_le (backoff L q t) at ≡ true
   pub who : GraftedBy p L event q
 
@@ -88,6 +89,7 @@ MayMark p L at event (Misbehaviour q) = ComesOf event q ⊎ (is_neighbour p q �
 MayMark p L at event (Cached id t) = HasIdentifierLength id.0
 MayMark p L at event (Grafted q t) = MayGraft p L at event q t
 MayMark p L at event (Published t) = Publishes event t
+MayMark p L at event (Fanned q t) = is_explicit p q ≡ false
 MayMark p L at event other = Unit {0}
 
 -- ---- lists
@@ -166,9 +168,8 @@ module _ (p : Peer) (L : Entries) (at : ℕ) (event : Event) where
   unfanned_marks q [] = tt
   unfanned_marks q (t ∷ ts) = (tt, unfanned_marks q ts)
 
-  fanning_marks : (t : Topic) (qs : List PeerNo) → Marks (fanning t qs)
-  fanning_marks t [] = tt
-  fanning_marks t (q ∷ qs) = (tt, fanning_marks t qs)
+  fanning_marks : (t : Topic) (qs : List PeerNo) → AllByRecursion (λ (q : PeerNo). is_explicit p q ≡ false) qs → Marks (fanning t qs)
+  fanning_marks t qs all = each_mapped (MayMark p L at event) (λ (q : PeerNo). Fanned q t) qs all
 
   lost_marks : (q : PeerNo) → Marks (leaving p L at (meshes_with L q (mesh_topics L)) ++ map (Unfanned q) (filter (λ (t : Topic). is_among (fanout L t) q) (mesh_topics L)))
   lost_marks q =
@@ -194,7 +195,7 @@ module _ (p : Peer) (L : Entries) where
       tt
       (λ on. (inl refl, (tt, tt)))
       (λ on. (tt, tt))
-      (λ on late. (record { joins = on; rested = le-leb (backoff L q (topic_or_empty graft.topic)) at.0 (ltb-false at.0 (backoff L q (topic_or_empty graft.topic)) late); who = refl }, tt))
+      (λ on ordinary late. (record { joins = on; ordinary = ordinary; rested = le-leb (backoff L q (topic_or_empty graft.topic)) at.0 (ltb-false at.0 (backoff L q (topic_or_empty graft.topic)) late); who = refl }, tt))
 
   prune_marks : (at : Millis) (q : PeerNo) (prune : Prune) → Marks p L at.0 (PruneIn q prune) (prune_rule p L at q prune).marks
   prune_marks at q prune =
@@ -223,11 +224,12 @@ module _ (p : Peer) (L : Entries) where
 
   enters : (at : ℕ) (event : Event) (t : Topic) (q : PeerNo) → LetsIn event t → Chosen at t q → MayGraft p L at event q t
   enters at event t q lets (may, near) =
-      let first = and_parts (up L q) (on L q t && (not (is_among (mesh L t) q) && (nat_le (backoff L q t) at && not (is_negative p L at q)))) may in
+      let other = and_parts (not (is_explicit p q)) (up L q && (on L q t && (not (is_among (mesh L t) q) && (nat_le (backoff L q t) at && not (is_negative p L at q))))) may in
+      let first = and_parts (up L q) (on L q t && (not (is_among (mesh L t) q) && (nat_le (backoff L q t) at && not (is_negative p L at q)))) other.1 in
       let second = and_parts (on L q t) (not (is_among (mesh L t) q) && (nat_le (backoff L q t) at && not (is_negative p L at q))) first.1 in
       let third = and_parts (not (is_among (mesh L t) q)) (nat_le (backoff L q t) at && not (is_negative p L at q)) second.1 in
       let fourth = and_parts (nat_le (backoff L q t) at) (not (is_negative p L at q)) third.1 in
-      record { joins = lets.0; rested = fourth.0; who = lets.1 q (near, first.0) }
+      record { joins = lets.0; ordinary = was_not (is_explicit p q) other.0; rested = fourth.0; who = lets.1 q (near, first.0) }
 
   entering_marks : (at : ℕ) (event : Event) (t : Topic) (chosen : List PeerNo) → LetsIn event t → AllByRecursion (Chosen at t) chosen → Marks p L at event (entering (each_on t chosen))
   entering_marks at event t [] lets all = tt
@@ -250,15 +252,15 @@ module _ (p : Peer) (L : Entries) where
       out_marks p L at.0 (Unsubscribe t) p.params.timing.unsubscribe_backoff_s (each_on t (mesh L t)) (each_on t (mesh L t))
       (each_mapped (λ (x : PeerNo × Topic). is_among (mesh L x.1) x.0 ≡ true) (λ (q : PeerNo). (q, t)) (mesh L t) (each_among (mesh L t)))
 
-  publishing_marks : (at : Millis) (t : Topic) (payload : List ℕ) (receivers fanned : List PeerNo) (marks : List Mark) → Marks p L at.0 (Publish t payload) marks → Marks p L at.0 (Publish t payload) (publishing L at t payload receivers fanned marks).marks
-  publishing_marks at t payload receivers fanned marks all =
-      (tt, (message_id_long payload, all-append (MayMark p L at.0 (Publish t payload)) (fanning t fanned) marks (fanning_marks p L at.0 (Publish t payload) t fanned) all))
+  publishing_marks : (at : Millis) (t : Topic) (payload : List ℕ) (receivers fanned : List PeerNo) (marks : List Mark) → AllByRecursion (λ (q : PeerNo). is_explicit p q ≡ false) fanned → Marks p L at.0 (Publish t payload) marks → Marks p L at.0 (Publish t payload) (publishing p L at t payload receivers fanned marks).marks
+  publishing_marks at t payload receivers fanned marks ordinary all =
+      (tt, (message_id_long payload, all-append (MayMark p L at.0 (Publish t payload)) (fanning t fanned) marks (fanning_marks p L at.0 (Publish t payload) t fanned ordinary) all))
 
   publish_marks : (t : Topic) (payload : List ℕ) (e : Entry) → Follows free (publish_rule p L e.at t payload) tt e tt → Marks p L e.at.0 (Publish t payload) e.marks
   publish_marks t payload e effects =
       what_is_published (Marks p L e.at.0 (Publish t payload) e.marks) p L t payload e
-      (λ receivers same. same_marks (MayMark p L e.at.0 (Publish t payload)) e _ same (publishing_marks e.at t payload receivers [] [] tt))
-      (λ receivers new same. same_marks (MayMark p L e.at.0 (Publish t payload)) e _ same (publishing_marks e.at t payload receivers new (Published t ∷ []) (refl, tt)))
+      (λ receivers same. same_marks (MayMark p L e.at.0 (Publish t payload)) e _ same (publishing_marks e.at t payload receivers [] [] tt tt))
+      (λ receivers new ordinary same. same_marks (MayMark p L e.at.0 (Publish t payload)) e _ same (publishing_marks e.at t payload receivers new (Published t ∷ []) ordinary (refl, tt)))
       effects
 
   -- a message counts on a topic that is joined
@@ -273,7 +275,7 @@ module _ (p : Peer) (L : Entries) where
       (λ on. ((refl, on), tt))
       new
     where
-      new : joined L (topic_of m) ≡ true → seen (seen_ttl p) L (message_id (payload_of m)) at.0 ≡ None → (v : Verdict) → Marks p L at.0 (Msg q m) (message_entry (mesh L (topic_of m)) at q m (found_to_be (message_id (payload_of m)) v)).marks
+      new : joined L (topic_of m) ≡ true → seen (seen_ttl p) L (message_id (payload_of m)) at.0 ≡ None → (v : Verdict) → Marks p L at.0 (Msg q m) (message_entry (mesh L (topic_of m)) (explicit_listeners p L (topic_of m)) at q m (found_to_be (message_id (payload_of m)) v)).marks
       new on unseen Accept =
           (tt, ((refl, on), near_marks at.0 q m (is_among (mesh L (topic_of m)) q) (Cached (message_id (payload_of m)) (topic_of m) ∷ []) on (message_id_long (payload_of m), tt)))
       new on unseen Reject = (tt, ((refl, on), tt))
@@ -334,11 +336,11 @@ module _ (p : Peer) (L : Entries) where
       (λ kept come same. same_marks (MayMark p L e.at.0 (MeshBeat t)) e (mending p L e.at t (mesh_change_at p L e.at.0 t kept come)) same (mending_marks e.at t kept come))
       effects
 
-  refanning_marks : (at : Millis) (t : Topic) (chosen : List PeerNo) → Marks p L at.0 (FanBeat t) (refanning p L at t chosen).marks
-  refanning_marks at t chosen =
+  refanning_marks : (at : Millis) (t : Topic) (chosen : List PeerNo) → AllByRecursion (λ (q : PeerNo). is_explicit p q ≡ false) chosen → Marks p L at.0 (FanBeat t) (refanning p L at t chosen).marks
+  refanning_marks at t chosen ordinary =
       let out : List PeerNo = those_outside (receivers p L at.0 t) (fanout L t) in
       all-append (MayMark p L at.0 (FanBeat t)) (unfanning t out) (fanning t chosen)
-      (unfanning_marks p L at.0 (FanBeat t) t out) (fanning_marks p L at.0 (FanBeat t) t chosen)
+      (unfanning_marks p L at.0 (FanBeat t) t out) (fanning_marks p L at.0 (FanBeat t) t chosen ordinary)
 
   -- whoever is lost leaves; another event without a rule of its own has no mark
   other_marks : (event : Event) (who : Option PeerNo) (e : Entry) → SaysTheSame e (lost_or_bare p L e.at event who) → AllByRecursion (MayMark p L e.at.0 event) e.marks
@@ -359,7 +361,11 @@ module _ (p : Peer) (L : Entries) where
   entry_marks (Publish t payload) e effects = publish_marks t payload e effects
   entry_marks BeatBegin e effects = same_marks _ e _ effects.0 (blaming_marks e.at.0 BeatBegin (links_of p) (linked_are p.neighbours))
   entry_marks (MeshBeat t) e effects = beat_marks t e effects
-  entry_marks (FanBeat t) e effects = same_marks _ e (refanning p L e.at t effects.0) effects.3.0 (refanning_marks e.at t effects.0)
+  entry_marks (FanBeat t) e effects = same_marks _ e (refanning p L e.at t effects.0) effects.3.0
+      (refanning_marks e.at t effects.0
+      (each_chosen (λ (q : PeerNo). is_explicit p q ≡ false) (p.params.degrees.d - length (those_among (receivers p L e.at.0 t) (fanout L t))) (those_outside (fanout L t) (receivers p L e.at.0 t)) effects.0
+      (each_passing (λ (q : PeerNo). is_explicit p q ≡ false) (λ (q : PeerNo). is_explicit p q ≡ false) (λ (q : PeerNo). not (is_among (fanout L t) q)) (λ q passes ordinary. ordinary) (receivers p L e.at.0 t) (receivers_are_ordinary p L e.at.0 t))
+      effects.2))
   entry_marks (FanEnd t) e effects = same_marks _ e (fan_end L e.at t) effects.0 (unfanning_marks p L e.at.0 (FanEnd t) t (fanout L t))
   entry_marks (GossipBeat t) e effects = same_marks _ e _ effects.3.0 tt
   entry_marks other e effects = other_marks other (lost other) e effects.0

@@ -24,6 +24,7 @@ use Rattle.gs_rules.specs.Meshes.{backoff, fanout, last_published, mesh, mesh_to
 use Rattle.gs_rules.specs.Membership.{candidates}
 use Rattle.gs_rules.specs.MeshRules.{graft_rule, lost_rule, prune_rule, publish_rule, sub_rule, unsubscribe_rule}
 use Rattle.gs_rules.specs.Scoring.{score}
+use Rattle.gs_base.specs.Neighbours.{accepted_neighbour}
 use Rattle.gs_rules.specs.Rules.{Gives, bare}
 
 -- ---- what is given
@@ -33,7 +34,7 @@ peer_of n = record { 0 = n }
 
 -- this side dialled the second neighbour, and the others dialled it
 abbrev linked : ℕ → Bool → Neighbour
-linked n outbound = record { peer = peer_of n; outbound = outbound; address = n ∷ []; app = pos 0 }
+linked n outbound = record (accepted_neighbour (peer_of n) (n ∷ [])) { outbound = outbound }
 
 abbrev news : Topic
 news = record { 0 = 110 ∷ [] }

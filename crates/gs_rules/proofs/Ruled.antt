@@ -1,6 +1,6 @@
 -- What the rules of meshes, of publishing and of what a heartbeat does to a mesh may give.
 use Rattle.std.proofs.Common.{◌≡◌, ℕ, Bool, true, false, not, if◌then◌else◌, List, [], ◌∷◌, ◌++◌, refl}
-use Rattle.std.specs.Prelude.{nat_lt, unwrap_or}
+use Rattle.std.specs.Prelude.{Contains, nat_lt, unwrap_or}
 use Rattle.gs_base.specs.declared.names.PeerNo.{PeerNo}
 use Rattle.gs_base.specs.declared.names.Topic.{Topic}
 use Rattle.gs_base.specs.declared.names.Millis.{Millis}
@@ -18,15 +18,19 @@ use Rattle.gs_mesh.specs.declared.heartbeat.MeshChange.{MeshChange}
 use Rattle.gs_mesh.specs.MeshSteps.{condition_of, is_poor, mended, mended_members, mesh_change, not_negative, opportunistic_grafts, opportunistic_grafts_then}
 use Rattle.gs_rules.specs.declared.trace.Event.TheVariants.{GraftIn, PruneIn, Sub}
 use Rattle.gs_rules.specs.declared.trace.Entry.{Entry}
-use Rattle.gs_rules.specs.Peers.{Peer}
+use Rattle.gs_rules.specs.Peers.{Peer, is_explicit}
 use Rattle.gs_rules.specs.Tables.{Entries, heartbeats, joined}
 use Rattle.gs_rules.specs.Meshes.{backoff, fanout, mesh}
 use Rattle.gs_rules.specs.Membership.{candidates, each_on, entering, is_negative}
-use Rattle.gs_rules.specs.MeshRules.{fanout_publish, graft_rule, is_full_for, left_by, prune_rule, pruned_by, publish_rule, publishing, refusing, sub_rule}
+use Rattle.gs_rules.specs.MeshRules.{fanout_publish, graft_rule, is_full_for, left_by, prune_rule, pruned_by, publish_rule, publishing, receivers, refusing, sub_rule}
 use Rattle.gs_rules.specs.Scoring.{is_passed_over}
 use Rattle.gs_rules.specs.BeatRules.{mending, mesh_beat_rule, scored_members}
-use Rattle.gs_rules.specs.Rules.{AnyOf, CutOf, Gives, Rule, bare, listeners, without}
+use Rattle.gs_rules.specs.Rules.{AnyOf, CutOf, Gives, Rule, bare, listeners, ordinary_listeners, without}
 use Rattle.gs_rules.specs.Modes.{SaysTheSame, Follows, free}
+use Rattle.gs_rules.proofs.Each.{each_passing, of_each}
+use Rattle.std.specs.List.{AllByRecursion}
+use Rattle.std.proofs.lemmas.List.Elements.{All-contains, All-from_recursion, All-weaker, recursion_from_All}
+use Rattle.gs_params.specs.Picks.{IsSample}
 
 -- a GRAFT that is taken
 abbrev pub taken : Millis → PeerNo → Graft → Entry
@@ -38,27 +42,29 @@ pub of_a_graft : (P : Entry → Type 0) (p : Peer) (L : Entries) (at : Millis) (
     → P (bare at (GraftIn q graft))
     → (joined L (topic_or_empty graft.topic) ≡ true → P (refusing p at q graft (Misbehaviour q ∷ [])))
     → (joined L (topic_or_empty graft.topic) ≡ true → P (refusing p at q graft []))
-    → (joined L (topic_or_empty graft.topic) ≡ true → nat_lt at.0 (backoff L q (topic_or_empty graft.topic)) ≡ false → P (taken at q graft))
+    → (joined L (topic_or_empty graft.topic) ≡ true → is_explicit p q ≡ false → nat_lt at.0 (backoff L q (topic_or_empty graft.topic)) ≡ false → P (taken at q graft))
     → P (graft_rule p L at q graft)
 of_a_graft P p L at q graft none blamed refused comes =
-    by (joined L t) (is_among (mesh L t) q) (nat_lt at.0 (backoff L q t)) (is_negative p L at.0 q) (is_full_for p L q t) refl refl
+    by (joined L t) (is_among (mesh L t) q) (is_explicit p q) (nat_lt at.0 (backoff L q t)) (is_negative p L at.0 q) (is_full_for p L q t) refl refl refl
   where
     t : Topic
     t = topic_or_empty graft.topic
 
-    by : (joins member soon negative full : Bool) → joined L t ≡ joins → nat_lt at.0 (backoff L q t) ≡ soon
+    by : (joins member explicit soon negative full : Bool) → joined L t ≡ joins → is_explicit p q ≡ explicit → nat_lt at.0 (backoff L q t) ≡ soon
         → P (if not joins then bare at (GraftIn q graft)
         else if member then bare at (GraftIn q graft)
+        else if explicit then refusing p at q graft []
         else if soon then refusing p at q graft (Misbehaviour q ∷ [])
         else if negative then refusing p at q graft []
         else if full then refusing p at q graft []
         else taken at q graft)
-    by false member soon negative full on late = none
-    by true true soon negative full on late = none
-    by true false true negative full on late = blamed on
-    by true false false true full on late = refused on
-    by true false false false true on late = refused on
-    by true false false false false on late = comes on late
+    by false member explicit soon negative full on ordinary late = none
+    by true true explicit soon negative full on ordinary late = none
+    by true false true soon negative full on ordinary late = refused on
+    by true false false true negative full on ordinary late = blamed on
+    by true false false false true full on ordinary late = refused on
+    by true false false false false true on ordinary late = refused on
+    by true false false false false false on ordinary late = comes on ordinary late
 
 -- what holds of the bare entry, and of one that takes the sender out, holds of the rule of a PRUNE
 pub of_a_prune : (P : Entry → Type 0) (p : Peer) (L : Entries) (at : Millis) (q : PeerNo) (prune : Prune)
@@ -82,20 +88,38 @@ of_a_sub P p L at q sub none out = by (unwrap_or sub.subscribe false)
     by true = none
     by false = out
 
--- What follows where a payload is published and nothing is kept of who gets it, and where that keeps a fanout, follows
--- of any entry of the rule.
-module _ (Q : Type 0) (p : Peer) (L : Entries) (t : Topic) (payload : List ℕ) (e : Entry) (plain : (receivers : List PeerNo) → SaysTheSame e (publishing L e.at t payload receivers [] []) → Q) (fanned : (receivers new : List PeerNo) → SaysTheSame e (publishing L e.at t payload receivers new (Published t ∷ [])) → Q) where
+pub was_not : (b : Bool) → not b ≡ true → b ≡ false
+was_not true is = absurd cc
+was_not false is = refl
+
+-- those that may be in a fanout are not explicit
+pub receivers_are_ordinary : (p : Peer) (L : Entries) (at : ℕ) (t : Topic) → AllByRecursion (λ (q : PeerNo). is_explicit p q ≡ false) (receivers p L at t)
+receivers_are_ordinary p L at t =
+    each_passing (λ (q : PeerNo). is_explicit p q ≡ false) (λ (q : PeerNo). is_explicit p q ≡ false) (λ (q : PeerNo). not (is_passed_over p L at q)) (λ q passes ordinary. ordinary) (ordinary_listeners p L t)
+    (each_passing (λ (q : PeerNo). Unit {0}) (λ (q : PeerNo). is_explicit p q ≡ false) (λ (q : PeerNo). not (is_explicit p q)) (λ q passes any. was_not (is_explicit p q) passes) (listeners p L t) (of_each (λ (q : PeerNo). Unit {0}) (λ q. tt) (listeners p L t)))
+
+-- what holds of each candidate holds of each that is chosen
+pub each_chosen : (P : PeerNo → Type 0) (k : ℕ) (candidates chosen : List PeerNo) → AllByRecursion P candidates → IsSample k candidates chosen → AllByRecursion P chosen
+each_chosen P k candidates chosen all sample =
+    recursion_from_All P chosen (All-weaker (Contains candidates) P (λ q has. All-contains P candidates q (All-from_recursion P candidates all) has) chosen sample.members)
+
+-- What follows where a payload is published and nothing is kept of who gets it, and where that keeps a fanout, which no
+-- explicit neighbour comes into, follows of any entry of the rule.
+module _ (Q : Type 0) (p : Peer) (L : Entries) (t : Topic) (payload : List ℕ) (e : Entry) (plain : (receivers : List PeerNo) → SaysTheSame e (publishing p L e.at t payload receivers [] []) → Q) (fanned : (receivers new : List PeerNo) → AllByRecursion (λ (q : PeerNo). is_explicit p q ≡ false) new → SaysTheSame e (publishing p L e.at t payload receivers new (Published t ∷ [])) → Q) where
   by_fanout : (out : List PeerNo) → Follows free (fanout_publish p L e.at t payload out) tt e tt → Q
-  by_fanout [] effects = fanned effects.0 effects.0 effects.3.0
-  by_fanout (q ∷ qs) effects = fanned (without (is_passed_over p L e.at.0) (q ∷ qs)) [] effects.0
+  by_fanout [] effects =
+      fanned effects.0 effects.0
+      (each_chosen (λ (q : PeerNo). is_explicit p q ≡ false) p.params.degrees.d (receivers p L e.at.0 t) effects.0 (receivers_are_ordinary p L e.at.0 t) effects.2)
+      effects.3.0
+  by_fanout (q ∷ qs) effects = fanned (without (is_passed_over p L e.at.0) (q ∷ qs)) [] tt effects.0
 
   by_tests : (floods is_joined : Bool)
       → Follows free
-      (if floods then Gives (publishing L e.at t payload (without (is_passed_over p L e.at.0) (listeners p L t)) [] [])
-      else if is_joined then Gives (publishing L e.at t payload (without (is_passed_over p L e.at.0) (mesh L t)) [] [])
+      (if floods then Gives (publishing p L e.at t payload (receivers p L e.at.0 t) [] [])
+      else if is_joined then Gives (publishing p L e.at t payload (without (is_passed_over p L e.at.0) (mesh L t)) [] [])
       else fanout_publish p L e.at t payload (fanout L t)) tt e tt
       → Q
-  by_tests true is_joined effects = plain (without (is_passed_over p L e.at.0) (listeners p L t)) effects.0
+  by_tests true is_joined effects = plain (receivers p L e.at.0 t) effects.0
   by_tests false true effects = plain (without (is_passed_over p L e.at.0) (mesh L t)) effects.0
   by_tests false false effects = by_fanout (fanout L t) effects
 

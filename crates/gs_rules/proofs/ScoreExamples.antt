@@ -25,6 +25,7 @@ use Rattle.gs_rules.specs.Tables.{Entries, blank}
 use Rattle.gs_rules.specs.Scoring.{history, is_graylisted, is_ignored, is_passed_over, score}
 use Rattle.gs_rules.specs.Owed.{nothing, owed}
 use Rattle.gs_rules.specs.MeshRules.{publish_rule, publishing}
+use Rattle.gs_base.specs.Neighbours.{accepted_neighbour}
 use Rattle.gs_rules.specs.Rules.{Gives, bare, gossip_candidates, have_rule, want_rule}
 
 -- ---- what is given
@@ -50,7 +51,7 @@ plain = record { 0 = 112 ∷ [] }
 
 -- three neighbours, each at an address of its own, and the application gives the third two and a half
 abbrev linked : PeerNo → List ℕ → ℤ → Neighbour
-linked r address app = record { peer = r; outbound = true; address = address; app = app }
+linked r address app = record (accepted_neighbour r address) { outbound = true; app = app }
 
 abbrev around : List Neighbour
 around = linked q (7 ∷ []) (pos 0) ∷ linked other (8 ∷ []) (pos 0) ∷ linked third (9 ∷ []) (pos 2_500_000) ∷ []
@@ -289,11 +290,11 @@ unfolding score score_of topic_part times
 and_not_to_who_is_ignored = refl
 
 -- who is ignored still gets what is published
-what_is_published_goes_to_who_is_ignored : publish_rule (scored 50_000_000) listening (record { 0 = 0 }) news (5 ∷ []) ≡ Gives (publishing listening (record { 0 = 0 }) news (5 ∷ []) (q ∷ other ∷ []) [] [])
+what_is_published_goes_to_who_is_ignored : publish_rule (scored 50_000_000) listening (record { 0 = 0 }) news (5 ∷ []) ≡ Gives (publishing (scored 50_000_000) listening (record { 0 = 0 }) news (5 ∷ []) (q ∷ other ∷ []) [] [])
 unfolding score score_of topic_part times
 what_is_published_goes_to_who_is_ignored = refl
 
-and_not_to_who_is_passed_over : publish_rule (scored 50_000_001) listening (record { 0 = 0 }) news (5 ∷ []) ≡ Gives (publishing listening (record { 0 = 0 }) news (5 ∷ []) (other ∷ []) [] [])
+and_not_to_who_is_passed_over : publish_rule (scored 50_000_001) listening (record { 0 = 0 }) news (5 ∷ []) ≡ Gives (publishing (scored 50_000_001) listening (record { 0 = 0 }) news (5 ∷ []) (other ∷ []) [] [])
 unfolding score score_of topic_part times
 and_not_to_who_is_passed_over = refl
 

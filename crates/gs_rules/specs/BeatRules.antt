@@ -16,9 +16,9 @@ use Rattle.gs_rules.specs.Peers.{Peer}
 use Rattle.gs_rules.specs.Tables.{Entries, heartbeats}
 use Rattle.gs_rules.specs.Meshes.{fanout, is_stale, last_published, mesh}
 use Rattle.gs_rules.specs.Membership.{barring, candidates, each_on, entering, fanning, is_outbound, leaving, unfanning}
-use Rattle.gs_rules.specs.Scoring.{is_passed_over, score}
-use Rattle.gs_rules.specs.Rule.{AnyOf, CutOf, Gives, Rule, bare, listeners, to_each, without}
-use Rattle.gs_rules.specs.MeshRules.{those_among, those_outside}
+use Rattle.gs_rules.specs.Scoring.{score}
+use Rattle.gs_rules.specs.Rule.{AnyOf, CutOf, Gives, Rule, bare, to_each}
+use Rattle.gs_rules.specs.MeshRules.{receivers, those_among, those_outside}
 
 -- ---- meshes
 
@@ -49,10 +49,6 @@ mesh_beat_rule p L at t =
     (λ change. Gives (mending p L at t change))
 
 -- ---- fanouts
-
--- the neighbours that may be in the fanout of a topic: those that are up, on it, and to whom the peer publishes
-abbrev pub receivers : Peer → Entries → ℕ → Topic → List PeerNo
-receivers p L at t = without (is_passed_over p L at) (listeners p L t)
 
 -- members that may not stay leave, and these come in
 abbrev pub refanning : Peer → Entries → Millis → Topic → List PeerNo → Entry

@@ -12,7 +12,7 @@ use Rattle.gs_mesh.specs.Peers.{is_among}
 use Rattle.gs_score.specs.Accounts.{rules_of}
 use Rattle.gs_score.specs.Formula.{p3}
 use Rattle.gs_score.specs.Histories.{held_by}
-use Rattle.gs_rules.specs.Peers.{Peer, links_of}
+use Rattle.gs_rules.specs.Peers.{Peer, is_explicit, links_of}
 use Rattle.gs_rules.specs.Tables.{Entries, last_millis, on, up}
 use Rattle.gs_rules.specs.Meshes.{backoff, fanout, mesh, mesh_topics}
 use Rattle.gs_rules.specs.Scoring.{history, score}
@@ -23,10 +23,12 @@ use Rattle.gs_rules.specs.Scoring.{history, score}
 abbrev pub is_negative : Peer → Entries → ℕ → PeerNo → Bool
 is_negative p L at q = int_lt (score p L at q) (pos 0)
 
--- a neighbour may be grafted that is up, on the topic, not in its mesh, not in backoff, and that doesn't score below 0
+-- a neighbour may be grafted that is not explicit, is up, on the topic, not in its mesh, not in backoff, and that doesn't
+-- score below 0
 abbrev pub is_candidate : Peer → Entries → ℕ → Topic → PeerNo → Bool
 is_candidate p L at t q =
-    up L q && (on L q t && (not (is_among (mesh L t) q) && (nat_le (backoff L q t) at && not (is_negative p L at q))))
+    not (is_explicit p q)
+    && (up L q && (on L q t && (not (is_among (mesh L t) q) && (nat_le (backoff L q t) at && not (is_negative p L at q)))))
 
 abbrev pub candidates : Peer → Entries → ℕ → Topic → List PeerNo
 candidates p L at t = filter (is_candidate p L at t) (links_of p)

@@ -15,12 +15,12 @@ use Rattle.gs_mesh.specs.Peers.{is_among}
 use Rattle.gs_rules.specs.declared.trace.Event.{Event}
 use Rattle.gs_rules.specs.declared.trace.Event.TheVariants.{GraftIn, PruneIn, Publish, Sub, Subscribe, Unsubscribe}
 use Rattle.gs_rules.specs.declared.trace.Entry.{Entry}
-use Rattle.gs_rules.specs.Peers.{Peer}
+use Rattle.gs_rules.specs.Peers.{Peer, is_explicit}
 use Rattle.gs_rules.specs.Tables.{Entries, joined}
 use Rattle.gs_rules.specs.Meshes.{backoff, fanout, mesh}
 use Rattle.gs_rules.specs.Membership.{barring, candidates, each_on, entering, fanning, is_negative, is_outbound, leaving, losing_marks, meshes_with, unfanning}
 use Rattle.gs_rules.specs.Scoring.{is_passed_over}
-use Rattle.gs_rules.specs.Rule.{AnyOf, Gives, Rule, bare, listeners, to_each, up_neighbours, without}
+use Rattle.gs_rules.specs.Rule.{AnyOf, Gives, Rule, bare, explicit_listeners, ordinary_listeners, to_each, together_with, up_neighbours, without}
 
 -- ---- what neighbours say of their meshes (gossipsub v1.0, "Control messages", GRAFT and PRUNE)
 
@@ -36,13 +36,14 @@ abbrev pub is_full_for : Peer → Entries → PeerNo → Topic → Bool
 is_full_for p L q t =
     if nat_le p.params.degrees.d_high (length (mesh L t)) then not (is_outbound p q) else false
 
--- A GRAFT on a topic that the peer isn't subscribed to, or of a member, is passed over. One that comes too soon is
--- refused, and counts against its sender; one of a neighbour that scores below 0, or for whom there is no room, is
--- refused.
+-- A GRAFT on a topic that the peer isn't subscribed to, or of a member, is passed over. One of an explicit neighbour is
+-- refused, whenever it comes. One that comes too soon is refused, and counts against its sender; one of a neighbour that
+-- scores below 0, or for whom there is no room, is refused.
 abbrev pub graft_rule : Peer → Entries → Millis → PeerNo → Graft → Entry
 graft_rule p L at q graft =
     if not (joined L (topic_or_empty graft.topic)) then bare at (GraftIn q graft)
     else if is_among (mesh L (topic_or_empty graft.topic)) q then bare at (GraftIn q graft)
+    else if is_explicit p q then refusing p at q graft []
     else if nat_lt at.0 (backoff L q (topic_or_empty graft.topic)) then refusing p at q graft (Misbehaviour q ∷ [])
     else if is_negative p L at.0 q then refusing p at q graft []
     else if is_full_for p L q (topic_or_empty graft.topic) then refusing p at q graft []
@@ -122,28 +123,36 @@ unsubscribe_rule p L at t = record (bare at (Unsubscribe t)) {
 
 -- ---- publishing
 
--- a payload is published to these, and these come into the fanout
-abbrev pub publishing : Entries → Millis → Topic → List ℕ → List PeerNo → List PeerNo → List Mark → Entry
-publishing L at t payload receivers fanned marks = record (bare at (Publish t payload)) {
-  sends = to_each (publication t payload) receivers;
+-- a payload is published to these and to the explicit neighbours on its topic, whatever they score; and these come into
+-- the fanout
+abbrev pub publishing : Peer → Entries → Millis → Topic → List ℕ → List PeerNo → List PeerNo → List Mark → Entry
+publishing p L at t payload chosen fanned marks = record (bare at (Publish t payload)) {
+  sends = to_each (publication t payload) (together_with (explicit_listeners p L t) chosen);
   delivered = if joined L t then (t, payload) ∷ [] else [];
   marks = Seen (message_id payload) Accept ∷ Cached (message_id payload) t ∷ (fanning t fanned ++ marks);
 }
 
--- Of a topic that the peer isn't subscribed to the fanout gets it; where that is empty, any d of the listeners become it.
+-- the neighbours that may be in the fanout of a topic: those that are up, on it, not explicit, and to whom the peer
+-- publishes
+abbrev pub receivers : Peer → Entries → ℕ → Topic → List PeerNo
+receivers p L at t = without (is_passed_over p L at) (ordinary_listeners p L t)
+
+-- Of a topic that the peer isn't subscribed to the fanout gets it; where that is empty, any d of those that may be in it
+-- become it.
 abbrev pub fanout_publish : Peer → Entries → Millis → Topic → List ℕ → List PeerNo → Rule
 fanout_publish p L at t payload [] =
-    AnyOf p.params.degrees.d (without (is_passed_over p L at.0) (listeners p L t)) (λ chosen.
-    Gives (publishing L at t payload chosen chosen (Published t ∷ [])))
+    AnyOf p.params.degrees.d (receivers p L at.0 t) (λ chosen.
+    Gives (publishing p L at t payload chosen chosen (Published t ∷ [])))
 fanout_publish p L at t payload (q ∷ qs) =
-    Gives (publishing L at t payload (without (is_passed_over p L at.0) (q ∷ qs)) [] (Published t ∷ []))
+    Gives (publishing p L at t payload (without (is_passed_over p L at.0) (q ∷ qs)) [] (Published t ∷ []))
 
--- Who is below the threshold gets nothing. By flood publishing (gossipsub v1.1) every other neighbour on the topic gets
--- it; else the topic's mesh, or its fanout, where the peer isn't subscribed.
+-- An explicit neighbour on the topic gets it whatever it scores. Any other that is below the threshold gets nothing. By
+-- flood publishing (gossipsub v1.1) every neighbour on the topic gets it; else the topic's mesh, or its fanout, where the
+-- peer isn't subscribed.
 abbrev pub publish_rule : Peer → Entries → Millis → Topic → List ℕ → Rule
 publish_rule p L at t payload =
     if p.params.flood_publish
-    then Gives (publishing L at t payload (without (is_passed_over p L at.0) (listeners p L t)) [] [])
+    then Gives (publishing p L at t payload (receivers p L at.0 t) [] [])
     else if joined L t
-    then Gives (publishing L at t payload (without (is_passed_over p L at.0) (mesh L t)) [] [])
+    then Gives (publishing p L at t payload (without (is_passed_over p L at.0) (mesh L t)) [] [])
     else fanout_publish p L at t payload (fanout L t)

@@ -24,7 +24,7 @@ use Rattle.gs_rules.specs.declared.trace.Entry.{Entry}
 use Rattle.gs_rules.specs.Peers.{Peer, seen_ttl}
 use Rattle.gs_rules.specs.Tables.{Entries, Sighting, joined, last_seen, seen}
 use Rattle.gs_rules.specs.Meshes.{mesh, noted}
-use Rattle.gs_rules.specs.Rule.{bare, to_each}
+use Rattle.gs_rules.specs.Rule.{bare, explicit_listeners, to_each, together_with}
 
 abbrev pub begins_with_one : List (List ℕ) → List ℕ → Bool
 begins_with_one prefixes payload = list_any (λ prefix. starts_with nat_eq payload prefix) prefixes
@@ -90,18 +90,19 @@ outcome p L at q m =
 abbrev pub near_of : Bool → PeerNo → Topic → MsgId → List Mark
 near_of is_member q t id = if is_member then marks.Near q t id ∷ [] else []
 
--- The entry of a message of which this becomes, where these are in the mesh of its topic. What is accepted goes to
--- them, but for whom it came from (gossipsub v1.0, "Message Processing").
-abbrev pub message_entry : List PeerNo → Millis → PeerNo → Message → Outcome → Entry
-message_entry members at q m Dropped = bare at (Msg q m)
-message_entry members at q m Invalid = record (bare at (Msg q m)) { marks = marks.Invalid q (topic_of m) ∷ [] }
-message_entry members at q m (Rejected id) = record (bare at (Msg q m)) {
+-- The entry of a message of which this becomes, where the first list is the mesh of its topic and the second the explicit
+-- neighbours on it. What is accepted goes to both, but for whom it came from (gossipsub v1.0, "Message Processing"; v1.1,
+-- "Explicit Peering Agreements").
+abbrev pub message_entry : List PeerNo → List PeerNo → Millis → PeerNo → Message → Outcome → Entry
+message_entry members explicit at q m Dropped = bare at (Msg q m)
+message_entry members explicit at q m Invalid = record (bare at (Msg q m)) { marks = marks.Invalid q (topic_of m) ∷ [] }
+message_entry members explicit at q m (Rejected id) = record (bare at (Msg q m)) {
   marks = marks.Seen id Reject ∷ marks.Invalid q (topic_of m) ∷ [];
 }
-message_entry members at q m (Ignored id) = record (bare at (Msg q m)) { marks = marks.Seen id Ignore ∷ [] }
-message_entry members at q m (Near id) = record (bare at (Msg q m)) { marks = marks.Near q (topic_of m) id ∷ [] }
-message_entry members at q m (Accepted id) = record (bare at (Msg q m)) {
-  sends = to_each (passed_on m) (all_but q members);
+message_entry members explicit at q m (Ignored id) = record (bare at (Msg q m)) { marks = marks.Seen id Ignore ∷ [] }
+message_entry members explicit at q m (Near id) = record (bare at (Msg q m)) { marks = marks.Near q (topic_of m) id ∷ [] }
+message_entry members explicit at q m (Accepted id) = record (bare at (Msg q m)) {
+  sends = to_each (passed_on m) (all_but q (together_with explicit members));
   delivered = (topic_of m, payload_of m) ∷ [];
   marks = marks.Seen id Accept
       ∷ marks.First q (topic_of m) id
@@ -109,4 +110,5 @@ message_entry members at q m (Accepted id) = record (bare at (Msg q m)) {
 }
 
 abbrev pub message_rule : Peer → Entries → Millis → PeerNo → Message → Entry
-message_rule p L at q m = message_entry (mesh L (topic_of m)) at q m (outcome p L at.0 q m)
+message_rule p L at q m =
+    message_entry (mesh L (topic_of m)) (explicit_listeners p L (topic_of m)) at q m (outcome p L at.0 q m)

@@ -1,8 +1,9 @@
-use Rattle.std.specs.Prelude.{ℕ, max, List}
+use Rattle.std.specs.Prelude.{ℕ, max, Bool, List, filter}
 use Rattle.gs_base.specs.declared.names.PeerNo.{PeerNo}
 use Rattle.gs_base.specs.declared.neighbour.Neighbour.{Neighbour}
 use Rattle.gs_base.specs.Names.{peers_of}
 use Rattle.gs_params.specs.declared.params.Params.{Params}
+use Rattle.gs_mesh.specs.Peers.{is_among}
 
 -- What is given of a peer, and stays as it is. No codec stands here: what is written on links is the codec's, and a
 -- trace holds RPCs as values. The rules name the one codec where it counts whether an RPC fits a frame.
@@ -14,6 +15,14 @@ pub record Peer : Type 0 where
 -- the numbers of its neighbours
 abbrev pub links_of : Peer → List PeerNo
 links_of p = peers_of p.neighbours
+
+-- its explicit neighbours, with which there is a peering agreement, ascending by number (gossipsub v1.1, "Explicit
+-- Peering Agreements")
+abbrev pub explicit_of : Peer → List PeerNo
+explicit_of p = peers_of (filter (λ (n : Neighbour). n.explicit) p.neighbours)
+
+abbrev pub is_explicit : Peer → PeerNo → Bool
+is_explicit p q = is_among (explicit_of p) q
 
 -- for how many milliseconds a message that was seen is not delivered again
 abbrev pub seen_ttl : Peer → ℕ

@@ -1,5 +1,5 @@
 -- What a rule says, and the entries that rules are made of.
-use Rattle.std.specs.Prelude.{ℕ, Bool, not, ◌&&◌, List, [], map, filter, None}
+use Rattle.std.specs.Prelude.{ℕ, Bool, not, ◌&&◌, List, [], map, filter, fold, None}
 use Rattle.gs_base.specs.declared.names.PeerNo.{PeerNo}
 use Rattle.gs_base.specs.declared.names.Topic.{Topic}
 use Rattle.gs_base.specs.declared.names.Millis.{Millis}
@@ -8,7 +8,8 @@ use Rattle.gs_params.specs.declared.params.Degrees.{Degrees}
 use Rattle.gs_mesh.specs.declared.members.Member.{Member}
 use Rattle.gs_rules.specs.declared.trace.Event.{Event}
 use Rattle.gs_rules.specs.declared.trace.Entry.{Entry}
-use Rattle.gs_rules.specs.Peers.{Peer, links_of}
+use Rattle.gs_mesh.specs.Peers.{put_in}
+use Rattle.gs_rules.specs.Peers.{Peer, explicit_of, is_explicit, links_of}
 use Rattle.gs_rules.specs.Tables.{Entries, on, up}
 
 -- ---- what rules say
@@ -36,10 +37,22 @@ to_each rpc qs = map (λ q. (q, rpc)) qs
 abbrev pub up_neighbours : Peer → Entries → List PeerNo
 up_neighbours p L = filter (up L) (links_of p)
 
+-- those of these whom a test does not leave out
+abbrev pub without : (PeerNo → Bool) → List PeerNo → List PeerNo
+without is_out qs = filter (λ q. not (is_out q)) qs
+
 -- the neighbours that are up and on the topic
 abbrev pub listeners : Peer → Entries → Topic → List PeerNo
 listeners p L t = filter (λ q. up L q && on L q t) (links_of p)
 
--- those of these whom a test does not leave out
-abbrev pub without : (PeerNo → Bool) → List PeerNo → List PeerNo
-without is_out qs = filter (λ q. not (is_out q)) qs
+-- the explicit ones of them, to which each message goes (gossipsub v1.1, "Explicit Peering Agreements")
+abbrev pub explicit_listeners : Peer → Entries → Topic → List PeerNo
+explicit_listeners p L t = filter (λ q. up L q && on L q t) (explicit_of p)
+
+-- the others, which meshes, fanouts and gossip are made of
+abbrev pub ordinary_listeners : Peer → Entries → Topic → List PeerNo
+ordinary_listeners p L t = without (is_explicit p) (listeners p L t)
+
+-- these peers, which ascend by number, and others among them, each at its place and once
+abbrev pub together_with : List PeerNo → List PeerNo → List PeerNo
+together_with others qs = fold (λ found q. put_in q found) qs others

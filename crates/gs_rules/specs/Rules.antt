@@ -22,7 +22,7 @@ use Rattle.gs_rules.specs.Tables.{Entries, Keeping, answered, asked, joined, kep
 use Rattle.gs_rules.specs.Meshes.{fanout, mesh}
 use Rattle.gs_rules.specs.Scoring.{is_ignored}
 use Rattle.gs_rules.specs.Gossip.{all_charges, gossip, gossip_size}
-pub use Rattle.gs_rules.specs.Rule.{AnyOf, CutOf, Gives, OneOf, Rule, bare, listeners, to_each, up_neighbours, without}
+pub use Rattle.gs_rules.specs.Rule.{AnyOf, CutOf, Gives, OneOf, Rule, bare, explicit_listeners, listeners, ordinary_listeners, to_each, together_with, up_neighbours, without}
 use Rattle.gs_rules.specs.Outcomes.{message_rule}
 use Rattle.gs_rules.specs.BeatRules.{fan_beat_rule, fan_end, mesh_beat_rule}
 use Rattle.gs_rules.specs.MeshRules.{graft_rule, lost_rule, prune_rule, publish_rule, sub_rule, subscribe_rule, unsubscribe_rule}
@@ -137,11 +137,11 @@ gossiping p L at t chosen = record (bare at (GossipBeat t)) {
   sends = to_each (offering t (map (λ (id : MsgId). id.0) (gossip p L t))) chosen;
 }
 
--- the neighbours that may be told what there is on a topic: those that are up, on it, outside its mesh and its fanout,
--- and not ignored
+-- the neighbours that may be told what there is on a topic: those that are up, on it, not explicit, outside its mesh and
+-- its fanout, and not ignored
 abbrev pub gossip_candidates : Peer → Entries → ℕ → Topic → List PeerNo
 gossip_candidates p L at t =
-    without (is_ignored p L at) (without (λ q. is_among (mesh L t) q || is_among (fanout L t) q) (listeners p L t))
+    without (is_ignored p L at) (without (λ q. is_among (mesh L t) q || is_among (fanout L t) q) (ordinary_listeners p L t))
 
 -- any of these are told
 abbrev pub gossip_rule : Peer → Entries → Millis → Topic → Rule

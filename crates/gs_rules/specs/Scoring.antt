@@ -1,6 +1,6 @@
 -- The scores of a peer's neighbours (gossipsub v1.1, "Peer Scoring"): what a trace says of each, and what a neighbour of
 -- low standing loses.
-use Rattle.std.specs.Prelude.{◌≡◌, ℕ, ℤ, int_lt, Bool, true, ◌&&◌, ◌||◌, nat_lt, if◌then◌else◌, [], ◌∷◌, length, Option, Some, None}
+use Rattle.std.specs.Prelude.{◌≡◌, ℕ, ℤ, int_lt, Bool, true, not, ◌&&◌, ◌||◌, nat_lt, if◌then◌else◌, [], ◌∷◌, length, Option, Some, None}
 use Rattle.std.specs.List.{list_any}
 use Rattle.gs_base.specs.declared.names.PeerNo.{PeerNo}
 use Rattle.gs_base.specs.declared.names.Topic.{Topic}
@@ -13,7 +13,7 @@ use Rattle.gs_score.specs.Histories.{Change, History, Marked, Decayed, Left, Shu
 use Rattle.gs_score.specs.Histories as histories
 use Rattle.gs_rules.specs.declared.trace.Event.{Event}
 use Rattle.gs_rules.specs.declared.trace.Event.TheVariants.{Decay, GraftIn, Msg}
-use Rattle.gs_rules.specs.Peers.{Peer}
+use Rattle.gs_rules.specs.Peers.{Peer, is_explicit}
 use Rattle.gs_rules.specs.Tables.{Entries, after_marks, lost}
 
 -- ---- what happened to the neighbours
@@ -86,10 +86,11 @@ is_below threshold x = int_lt x threshold
 abbrev pub is_ignored : Peer → Entries → ℕ → PeerNo → Bool
 is_ignored p L at q = is_below p.params.thresholds.gossip_threshold (score p L at q)
 
--- it gets nothing of what the peer publishes
+-- it gets nothing of what the peer publishes, unless it is explicit
 abbrev pub is_passed_over : Peer → Entries → ℕ → PeerNo → Bool
 is_passed_over p L at q = is_below p.params.thresholds.publish_threshold (score p L at q)
 
--- nothing that it sends counts
+-- nothing that it sends counts; the graylist holds no explicit neighbour
 abbrev pub is_graylisted : Peer → Entries → ℕ → PeerNo → Bool
-is_graylisted p L at q = is_below p.params.thresholds.graylist_threshold (score p L at q)
+is_graylisted p L at q =
+    not (is_explicit p q) && is_below p.params.thresholds.graylist_threshold (score p L at q)

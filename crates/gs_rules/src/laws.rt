@@ -5,7 +5,7 @@ ghost use Rattle.std.specs.List.Sorted.{IsStrictlySortedBy};
 ghost use Rattle.gs_base.specs.declared.names.PeerNo.{PeerNo as PeerNoValue};
 ghost use Rattle.gs_base.specs.declared.names.Topic.{Topic};
 ghost use Rattle.gs_base.specs.declared.names.MsgId.{MsgId};
-ghost use Rattle.gs_base.specs.declared.mark.Mark.TheVariants.{Grafted, Misbehaviour};
+ghost use Rattle.gs_base.specs.declared.mark.Mark.TheVariants.{Misbehaviour};
 ghost use Rattle.gs_base.specs.Codecs.{Codec};
 ghost use Rattle.gs_base.specs.declared.rpc.Rpc.{Rpc as RpcValue};
 ghost use Rattle.gs_base.specs.Names.{same_id, same_topic};
@@ -24,10 +24,9 @@ ghost use Rattle.gs_rules.specs.declared.trace.Event.TheVariants.{BeatBegin, Mes
 ghost use Rattle.gs_rules.specs.declared.refusal.RefusedLine.{RefusedLine};
 ghost use Rattle.gs_rules.specs.Peers.{Peer, links_of, seen_ttl};
 ghost use Rattle.gs_rules.specs.Tables.{Entries, Keeping, heartbeats, is_shut, joined, kept, keeping_order, own_topics, promises, topic_order, up};
-ghost use Rattle.gs_rules.specs.Meshes.{backoff, fanout_topics, mesh};
+ghost use Rattle.gs_rules.specs.Meshes.{fanout_topics, mesh};
 ghost use Rattle.gs_rules.specs.Membership.{candidates};
 ghost use Rattle.gs_rules.specs.BeatRules.{fan_event, mending, mesh_beat_rule, scored_members};
-ghost use Rattle.gs_rules.specs.Arrivals.{CameIn};
 ghost use Rattle.gs_rules.specs.Scoring.{IsFromNeighbour, change_of, changed_after, has_counters, history, is_neighbour, score};
 ghost use Rattle.gs_rules.specs.Gossip.{IsKeptOn, IsOpen, WasLeftOpen, charges, gossip, gossipable, overdue};
 ghost use Rattle.gs_rules.specs.Owed.{FanBeats, Gossips, Group, MeshBeats, beats, events_in, gossip_topics, heartbeat_groups, owed, owes, reached};
@@ -359,42 +358,4 @@ pub fn nothing_changes_a_mesh_behind_a_shut()
         → Legal p (later ++ e ∷ earlier)
         → e.event ≡ Shut
         → own_topics (later ++ e ∷ earlier) ≡ own_topics earlier }
-{}
-
-/// Each member of a mesh of a legal trace is up, until the peer shuts down; and it is a neighbour, where all GRAFTs that
-/// came, came of neighbours.
-pub fn mesh_members_are_up()
-    ensures up { (p : Peer) (entries : Entries) (q : PeerNoValue) (t : Topic)
-        → Legal p entries
-        → is_shut entries ≡ false
-        → is_among (mesh entries t) q ≡ true
-        → up entries q ≡ true }
-    ensures neighbour { (p : Peer) (entries : Entries) (q : PeerNoValue) (t : Topic)
-        → Legal p entries
-        → AllByRecursion (λ (e : Entry). IsFromNeighbour p e.event) entries
-        → is_among (mesh entries t) q ≡ true
-        → is_neighbour p q ≡ true }
-{}
-
-/// Each member of a mesh of a legal trace came into it by an entry, when it was not in backoff there, and no later entry
-/// says that it left. Nor was anybody else that an entry says came into a mesh.
-pub fn a_member_was_not_in_backoff()
-    ensures member { (p : Peer) (entries : Entries) (q : PeerNoValue) (t : Topic)
-        → Legal p entries
-        → is_among (mesh entries t) q ≡ true
-        → CameIn q t entries }
-    ensures anybody { (p : Peer) (later earlier : Entries) (e : Entry) (q : PeerNoValue) (t : Topic)
-        → Legal p (later ++ e ∷ earlier)
-        → IsAmong e.marks (Grafted q t)
-        → nat_le (backoff earlier q t) e.at.0 ≡ true }
-{}
-
-/// A topic that the peer is not subscribed to has no mesh members in a legal trace; and members stand once, ascending by
-/// number.
-pub fn meshes_are_of_own_topics()
-    ensures joined { (p : Peer) (entries : Entries) (t : Topic)
-        → Legal p entries
-        → joined entries t ≡ false
-        → mesh entries t ≡ [] }
-    ensures ascend { (entries : Entries) (t : Topic) → IsAscending (mesh entries t) }
 {}

@@ -3,21 +3,25 @@
 #![tactic(auto)]
 
 mod laws;
+mod member_laws;
 mod outcome;
 mod refusal;
 mod trace;
 
 pub use laws::{
     a_broken_promise_is_charged, a_delivery_is_not_repeated, a_heartbeat_mends_gossips_and_ends,
-    a_heartbeat_moves_a_mesh_a_step, a_member_was_not_in_backoff,
-    a_part_with_nothing_left_is_whole, a_promise_is_charged_once,
+    a_heartbeat_moves_a_mesh_a_step, a_part_with_nothing_left_is_whole, a_promise_is_charged_once,
     each_mark_of_a_legal_trace_counts, gossip_is_of_what_is_kept, legal_entries_compose,
-    mesh_members_are_up, meshes_are_of_own_topics, nothing_changes_a_mesh_behind_a_shut,
-    nothing_changes_a_score_behind_a_shut, nothing_is_gathered_behind_a_cut,
-    nothing_is_said_behind_a_close, one_more_entry, only_a_cut_says_more_than_frames,
-    own_topics_are_those_that_are_joined, what_is_given_draws_no_word, what_is_kept_is_gossiped,
-    what_is_sent_is_spelled, what_was_said_is_handled, what_was_sent_is_handled,
-    what_words_choose_is_legal, words_fix_the_next_entry, words_fix_what_follows_a_rule,
+    nothing_changes_a_mesh_behind_a_shut, nothing_changes_a_score_behind_a_shut,
+    nothing_is_gathered_behind_a_cut, nothing_is_said_behind_a_close, one_more_entry,
+    only_a_cut_says_more_than_frames, own_topics_are_those_that_are_joined,
+    what_is_given_draws_no_word, what_is_kept_is_gossiped, what_is_sent_is_spelled,
+    what_was_said_is_handled, what_was_sent_is_handled, what_words_choose_is_legal,
+    words_fix_the_next_entry, words_fix_what_follows_a_rule,
+};
+pub use member_laws::{
+    a_member_was_not_in_backoff, explicit_neighbours_stay_outside, mesh_members_are_up,
+    meshes_are_of_own_topics,
 };
 pub use outcome::Outcome;
 pub use refusal::{Refusal, RefusedLine};

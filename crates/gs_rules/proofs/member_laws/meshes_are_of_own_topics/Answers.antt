@@ -1,6 +1,6 @@
 use Rattle.gs_rules.proofs.Members.{mesh_of_own}
 use Rattle.gs_rules.proofs.UpMembers.{mesh_ascends}
-use Rattle.gs_rules.proofs.laws.meshes_are_of_own_topics.Goals as goal
+use Rattle.gs_rules.proofs.member_laws.meshes_are_of_own_topics.Goals as goal
 
 pub returns-clause-joined : goal.returns-clause-joined
 returns-clause-joined c = mesh_of_own

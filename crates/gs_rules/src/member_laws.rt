@@ -1,0 +1,65 @@
+//! Laws of who is in meshes and fanouts. Each holds of its definitions alone, and its function does nothing.
+ghost use Rattle.std.specs.Prelude.{true, false, ◌≡◌, ◌∷◌, ◌++◌, [], nat_le};
+ghost use Rattle.std.specs.List.{AllByRecursion, IsAmong};
+ghost use Rattle.gs_base.specs.declared.names.PeerNo.{PeerNo as PeerNoValue};
+ghost use Rattle.gs_base.specs.declared.names.Topic.{Topic};
+ghost use Rattle.gs_base.specs.declared.mark.Mark.TheVariants.{Grafted};
+ghost use Rattle.gs_params.specs.Picks.{IsAscending};
+ghost use Rattle.gs_mesh.specs.Peers.{is_among};
+ghost use Rattle.gs_rules.specs.declared.trace.Entry.{Entry};
+ghost use Rattle.gs_rules.specs.Peers.{Peer, is_explicit};
+ghost use Rattle.gs_rules.specs.Tables.{Entries, is_shut, joined, up};
+ghost use Rattle.gs_rules.specs.Meshes.{backoff, fanout, mesh};
+ghost use Rattle.gs_rules.specs.Arrivals.{CameIn};
+ghost use Rattle.gs_rules.specs.Scoring.{IsFromNeighbour, is_neighbour};
+ghost use Rattle.gs_rules.specs.Legal.{Legal};
+
+/// Each member of a mesh of a legal trace is up, until the peer shuts down; and it is a neighbour, where all GRAFTs that
+/// came, came of neighbours.
+pub fn mesh_members_are_up()
+    ensures up { (p : Peer) (entries : Entries) (q : PeerNoValue) (t : Topic)
+        → Legal p entries
+        → is_shut entries ≡ false
+        → is_among (mesh entries t) q ≡ true
+        → up entries q ≡ true }
+    ensures neighbour { (p : Peer) (entries : Entries) (q : PeerNoValue) (t : Topic)
+        → Legal p entries
+        → AllByRecursion (λ (e : Entry). IsFromNeighbour p e.event) entries
+        → is_among (mesh entries t) q ≡ true
+        → is_neighbour p q ≡ true }
+{}
+
+/// Each member of a mesh of a legal trace came into it by an entry, when it was not in backoff there, and no later entry
+/// says that it left. Nor was anybody else that an entry says came into a mesh.
+pub fn a_member_was_not_in_backoff()
+    ensures member { (p : Peer) (entries : Entries) (q : PeerNoValue) (t : Topic)
+        → Legal p entries
+        → is_among (mesh entries t) q ≡ true
+        → CameIn q t entries }
+    ensures anybody { (p : Peer) (later earlier : Entries) (e : Entry) (q : PeerNoValue) (t : Topic)
+        → Legal p (later ++ e ∷ earlier)
+        → IsAmong e.marks (Grafted q t)
+        → nat_le (backoff earlier q t) e.at.0 ≡ true }
+{}
+
+/// A topic that the peer is not subscribed to has no mesh members in a legal trace; and members stand once, ascending by
+/// number.
+pub fn meshes_are_of_own_topics()
+    ensures joined { (p : Peer) (entries : Entries) (t : Topic)
+        → Legal p entries
+        → joined entries t ≡ false
+        → mesh entries t ≡ [] }
+    ensures ascend { (entries : Entries) (t : Topic) → IsAscending (mesh entries t) }
+{}
+
+/// In a legal trace no explicit neighbour is in a mesh or in a fanout.
+pub fn explicit_neighbours_stay_outside()
+    ensures meshes { (p : Peer) (entries : Entries) (q : PeerNoValue) (t : Topic)
+        → Legal p entries
+        → is_explicit p q ≡ true
+        → is_among (mesh entries t) q ≡ false }
+    ensures fanouts { (p : Peer) (entries : Entries) (q : PeerNoValue) (t : Topic)
+        → Legal p entries
+        → is_explicit p q ≡ true
+        → is_among (fanout entries t) q ≡ false }
+{}
