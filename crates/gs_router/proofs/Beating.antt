@@ -1,6 +1,5 @@
 -- What a heartbeat does to fanouts, and how many heartbeats there were.
-use Rattle.std.proofs.Common.{◌≡◌, ◌≤◌, ◌+◌, arith, ℕ, Bool, true, false, if◌then◌else◌, List, [], ◌∷◌, length, refl}
-use Rattle.gs_base.specs.declared.names.Topic.{Topic}
+use Rattle.std.proofs.Common.{◌≡◌, ◌≤◌, ◌+◌, arith, ℕ, Bool, true, false, if◌then◌else◌, [], ◌∷◌, length, refl}
 use Rattle.gs_rules.specs.declared.trace.Event.{Event}
 use Rattle.gs_rules.specs.declared.trace.Event.TheVariants.{BeatBegin, FanBeat, FanEnd}
 use Rattle.gs_rules.specs.Peers.{Peer}

@@ -1,15 +1,15 @@
 -- What a heartbeat does to a mesh, by the words that choose it.
-use Rattle.std.proofs.Common.{◌≡◌, ◌+◌, ◌-◌, ◌≤◌, ◌++◌, ◌∙◌, ℕ, Bool, true, false, List, [], ◌∷◌, length, refl, sym, ap, ap₂, subst}
+use Rattle.std.proofs.Common.{◌≡◌, ◌+◌, ◌≤◌, ◌++◌, ℕ, Bool, true, false, List, [], ◌∷◌, refl, sym, ap, subst}
 use Rattle.gs_base.specs.declared.names.PeerNo.{PeerNo}
 use Rattle.gs_mesh.specs.declared.members.Member.{Member}
 use Rattle.gs_params.specs.declared.params.Degrees.{Degrees}
 use Rattle.gs_params.specs.declared.params.Params.{Params}
 use Rattle.gs_params.specs.Picks.{IsAscending}
-use Rattle.gs_mesh.specs.Cuts.{outbound_of, outside, peers_of}
+use Rattle.gs_mesh.specs.Cuts.{outside, peers_of}
 use Rattle.gs_mesh.specs.declared.heartbeat.MeshChange.{MeshChange}
 use Rattle.gs_mesh.specs.declared.condition.Condition.{Condition}
 use Rattle.gs_mesh.specs.declared.condition.Condition.TheVariants.{Few, Many, FewOutbound, Balanced}
-use Rattle.gs_mesh.specs.MeshSteps.{any_by_words, condition_of, cut_by_words, is_poor, mended, mended_members, mesh_change, not_negative, opportunistic_grafts, opportunistic_grafts_then, step_by_words, stepped}
+use Rattle.gs_mesh.specs.MeshSteps.{any_by_words, condition_of, cut_by_words, is_poor, mended, mended_members, mesh_change, not_negative, opportunistic_grafts, step_by_words, stepped}
 use Rattle.gs_mesh.proofs.MemberLists.{above_median_ascend, not_negative_ascend, outbound_ascend, outside_ascend}
 use Rattle.gs_rules.specs.declared.trace.Entry.{Entry}
 use Rattle.gs_rules.specs.Peers.{Peer}

@@ -10,17 +10,16 @@ use Rattle.std.proofs.lemmas.Map.Text.{is_eq-slice_cmp}
 use Rattle.std.proofs.lemmas.Slice.Eq.{bytes_eq-Decides}
 use Rattle.gs_base.specs.declared.names.PeerNo.{PeerNo}
 use Rattle.gs_base.specs.declared.names.Topic.{Topic}
-use Rattle.gs_base.specs.declared.rpc.SubOpt.{SubOpt}
-use Rattle.gs_base.specs.Names.{same_peer, same_topic, topic_or_empty}
+use Rattle.gs_base.specs.Names.{same_peer, same_topic}
 use Rattle.gs_rules.specs.declared.trace.Event.{Event}
-use Rattle.gs_rules.specs.declared.trace.Event.TheVariants.{Sub, Subscribe, Unsubscribe}
+use Rattle.gs_rules.specs.declared.trace.Event.TheVariants.{Subscribe, Unsubscribe}
 use Rattle.gs_rules.specs.declared.trace.Entry.{Entry}
-use Rattle.gs_rules.specs.Tables.{Entries, on, on_after, joined, joined_after, known, known_after, topic_order}
+use Rattle.gs_rules.specs.Tables.{Entries, joined, joined_after, known, known_after, topic_order}
 use Rattle.gs_router.specs.declared.peer_set.PeerSet.{PeerSet}
 use Rattle.gs_router.specs.declared.tables.own_topics.OwnTopics.{OwnTopics}
 use Rattle.gs_router.specs.declared.tables.listeners.Listeners.{Listeners}
 use Rattle.gs_router.specs.PeerSets.{has}
-use Rattle.gs_router.specs.Tables.{AgreesOnTopics, AgreesOnListeners, kept_topic, listens, is_in}
+use Rattle.gs_router.specs.Tables.{AgreesOnTopics, kept_topic, listens, is_in}
 
 -- ---- topics
 

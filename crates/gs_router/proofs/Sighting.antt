@@ -1,5 +1,5 @@
 -- The table of messages that were seen, after the marks of one entry.
-use Rattle.std.proofs.Common.{◌≡◌, ◌≤◌, ◌<◌, ◌+◌, arith, ℕ, Bool, true, false, if◌then◌else◌, List, [], ◌∷◌, ◌++◌, Option, Some, None, is_some, option_map, length, take, get_or, refl, sym, ap, ap₂, subst, ◌∙◌}
+use Rattle.std.proofs.Common.{◌≡◌, ◌≤◌, ◌<◌, ◌+◌, arith, ℕ, Bool, true, false, if◌then◌else◌, List, [], ◌∷◌, ◌++◌, Option, Some, None, is_some, option_map, length, take, get_or, refl, sym, ap, subst, ◌∙◌}
 use Rattle.std.specs.Prelude.{◌-◌, ◌||◌, ◌&&◌, not, nat_lt, nat_le}
 use Rattle.std.specs.List.{list_any}
 use Rattle.std.specs.Map.{lookup}
@@ -9,7 +9,7 @@ use Rattle.gs_base.specs.declared.names.PeerNo.{PeerNo}
 use Rattle.gs_base.specs.declared.names.MsgId.{MsgId}
 use Rattle.gs_base.specs.declared.names.Millis.{Millis}
 use Rattle.gs_base.specs.declared.mark.Mark.{Mark}
-use Rattle.gs_base.specs.declared.mark.Mark.TheVariants.{Seen, First, Near}
+use Rattle.gs_base.specs.declared.mark.Mark.TheVariants.{Seen}
 use Rattle.gs_base.specs.declared.verdict.Verdict.{Verdict}
 use Rattle.gs_base.specs.Names.{same_id, same_peer}
 use Rattle.gs_cache.specs.declared.seen.sighting.Sighting.{Sighting as Found}
@@ -20,7 +20,7 @@ use Rattle.gs_rules.specs.Tables.{Entries, Sighting, after_marks, counting, last
 use Rattle.gs_rules.specs.Meshes.{noted, notes, sees}
 use Rattle.gs_rules.specs.Outcomes.{is_soon}
 use Rattle.gs_router.specs.declared.tables.sightings.Sightings.{Sightings}
-use Rattle.gs_router.specs.Tables.{AgreesOnSightings, NeighbourSighting, PassesOn, Sees, neighbour_sighting, neighbour_sighting_after, neighbour_sighting_in, noted_if, sighting_noted, still, verdict_at}
+use Rattle.gs_router.specs.Tables.{AgreesOnSightings, NeighbourSighting, PassesOn, Sees, neighbour_sighting, neighbour_sighting_after, neighbour_sighting_in, noted_if, sighting_noted, still}
 use Rattle.gs_router.proofs.Keeping.{marks_more}
 use Rattle.gs_router.proofs.Meshing.{one_peer}
 use Rattle.gs_router.proofs.Noting.{or_false, or_true}

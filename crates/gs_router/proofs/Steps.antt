@@ -19,16 +19,16 @@ use Rattle.gs_rules.specs.declared.trace.Event.{Event}
 use Rattle.gs_rules.specs.declared.trace.Event.TheVariants.{Heard, Sub, Msg, Have, Want, GraftIn, PruneIn, Subscribe, Unsubscribe, Publish, BeatBegin, MeshBeat, FanBeat, FanEnd, GossipBeat}
 use Rattle.gs_rules.specs.declared.trace.Entry.{Entry}
 use Rattle.gs_base.specs.Names.{topic_or_empty, topic_of, payload_of, message_id}
-use Rattle.gs_rules.specs.Peers.{Peer}
+use Rattle.gs_rules.specs.Peers.{Peer, is_explicit}
 use Rattle.gs_rules.specs.Tables.{Entries, heartbeats, last_moment, lost, joined, offers}
 use Rattle.gs_mesh.specs.Peers.{is_among}
 use Rattle.gs_rules.specs.Meshes.{backoff, fanout, mesh}
 use Rattle.gs_rules.specs.BeatRules.{mending, mesh_beat_rule, scored_members}
 use Rattle.gs_rules.specs.Membership.{candidates, each_on, entering, is_negative}
-use Rattle.gs_rules.specs.MeshRules.{fanout_publish, graft_rule, is_full_for, left_by, prune_rule, pruned_by, publish_rule, publishing, refusing, sub_rule}
+use Rattle.gs_rules.specs.MeshRules.{fanout_publish, graft_rule, is_full_for, left_by, prune_rule, pruned_by, publish_rule, publishing, receivers, refusing, sub_rule}
 use Rattle.gs_rules.specs.Scoring.{is_graylisted, is_ignored, is_passed_over}
 use Rattle.gs_rules.specs.Owed.{Debt, Group, PartsOf, events_in, heartbeat_groups, held_or, nothing, owed, owes, owing, paid, parts, reached}
-use Rattle.gs_rules.specs.Rules.{Rule, Gives, AnyOf, CutOf, OneOf, answering, answers, asked_for, bare, counted, have_rule, ids_in, listeners, lost_or_bare, rule_of, want_rule, wanted, without}
+use Rattle.gs_rules.specs.Rules.{AnyOf, CutOf, Gives, OneOf, Rule, answering, answers, asked_for, bare, counted, explicit_listeners, have_rule, ids_in, lost_or_bare, rule_of, want_rule, wanted, without}
 use Rattle.gs_rules.specs.Outcomes.{found_to_be, message_entry, message_rule}
 use Rattle.gs_rules.specs.Modes.{Mode, Follows, free}
 use Rattle.gs_rules.specs.Legal.{Legal, LegalOn, IsAllowed, IsNext, MayOpen, Begins}
@@ -53,7 +53,7 @@ message_tells : (p : Peer) (L : Entries) (at : Millis) (q : PeerNo) (m : Message
 message_tells p L at q m =
     of_a_message (Tells at (Msg q m)) p L at q m (record { moment = refl; tells = refl }) (record { moment = refl; tells = refl }) (record { moment = refl; tells = refl }) (λ unseen. new_tells)
   where
-    new_tells : (v : Verdict) → Tells at (Msg q m) (message_entry (mesh L (topic_of m)) at q m (found_to_be (message_id (payload_of m)) v))
+    new_tells : (v : Verdict) → Tells at (Msg q m) (message_entry (mesh L (topic_of m)) (explicit_listeners p L (topic_of m)) at q m (found_to_be (message_id (payload_of m)) v))
     new_tells Accept = record { moment = refl; tells = refl }
     new_tells Reject = record { moment = refl; tells = refl }
     new_tells Ignore = record { moment = refl; tells = refl }
@@ -94,19 +94,20 @@ sub_tells p L at q sub = by (unwrap_or sub.subscribe false)
 
 graft_tells : (p : Peer) (L : Entries) (at : Millis) (q : PeerNo) (graft : Graft) → Tells at (GraftIn q graft) (graft_rule p L at q graft)
 graft_tells p L at q graft =
-    by (not (joined L t)) (is_among (mesh L t) q) (nat_lt at.0 (backoff L q t)) (is_negative p L at.0 q) (is_full_for p L q t)
+    by (not (joined L t)) (is_among (mesh L t) q) (is_explicit p q) (nat_lt at.0 (backoff L q t)) (is_negative p L at.0 q) (is_full_for p L q t)
   where
     t : Topic
     t = topic_or_empty graft.topic
 
-    by : (apart is_member soon negative full : Bool) → Tells at (GraftIn q graft)
-        (if apart then bare at (GraftIn q graft) else if is_member then bare at (GraftIn q graft) else if soon then refusing p at q graft (marks.Misbehaviour q ∷ []) else if negative then refusing p at q graft [] else if full then refusing p at q graft [] else record (bare at (GraftIn q graft)) { marks = entering (each_on t (q ∷ [])) })
-    by true is_member soon negative full = record { moment = refl; tells = refl }
-    by false true soon negative full = record { moment = refl; tells = refl }
-    by false false true negative full = record { moment = refl; tells = refl }
-    by false false false true full = record { moment = refl; tells = refl }
-    by false false false false true = record { moment = refl; tells = refl }
-    by false false false false false = record { moment = refl; tells = refl }
+    by : (apart is_member explicit soon negative full : Bool) → Tells at (GraftIn q graft)
+        (if apart then bare at (GraftIn q graft) else if is_member then bare at (GraftIn q graft) else if explicit then refusing p at q graft [] else if soon then refusing p at q graft (marks.Misbehaviour q ∷ []) else if negative then refusing p at q graft [] else if full then refusing p at q graft [] else record (bare at (GraftIn q graft)) { marks = entering (each_on t (q ∷ [])) })
+    by true is_member explicit soon negative full = record { moment = refl; tells = refl }
+    by false true explicit soon negative full = record { moment = refl; tells = refl }
+    by false false true soon negative full = record { moment = refl; tells = refl }
+    by false false false true negative full = record { moment = refl; tells = refl }
+    by false false false false true full = record { moment = refl; tells = refl }
+    by false false false false false true = record { moment = refl; tells = refl }
+    by false false false false false false = record { moment = refl; tells = refl }
 
 prune_tells : (p : Peer) (L : Entries) (at : Millis) (q : PeerNo) (prune : Prune) → Tells at (PruneIn q prune) (prune_rule p L at q prune)
 prune_tells p L at q prune = by (not (joined L (topic_or_empty prune.topic)))
@@ -123,8 +124,8 @@ publish_tells : (p : Peer) (L : Entries) (at : Millis) (t : Topic) (payload : Li
 publish_tells p L at t payload = by p.params.flood_publish (joined L t)
   where
     by : (floods joins : Bool) → TellsOnly at (Publish t payload)
-        (if floods then Gives (publishing L at t payload (without (is_passed_over p L at.0) (listeners p L t)) [] [])
-        else if joins then Gives (publishing L at t payload (without (is_passed_over p L at.0) (mesh L t)) [] [])
+        (if floods then Gives (publishing p L at t payload (receivers p L at.0 t) [] [])
+        else if joins then Gives (publishing p L at t payload (without (is_passed_over p L at.0) (mesh L t)) [] [])
         else fanout_publish p L at t payload (fanout L t))
     by true joins = record { moment = refl; tells = refl }
     by false true = record { moment = refl; tells = refl }
@@ -169,7 +170,7 @@ follows_tells at event (OneOf n rule) x tells follows = follows_tells at event (
 
 -- it knows its own trace
 pub knows : (s : State) (now : ℕ) → IsCurrent s → last_moment s.trace ≤ now → Knows s.known now s.trace
-knows s now current time = record { agrees = current.agrees; scores = current.scores; made = current.made; time = time }
+knows s now current time = record { agrees = current.agrees; scores = current.scores; made = current.made; time = time; explicit = current.fit.explicit }
 
 -- ---- steps
 

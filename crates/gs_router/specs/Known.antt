@@ -1,8 +1,8 @@
 -- What a router knows when it decides what it does.
-use Rattle.std.specs.Prelude.{◌≤◌, ◌+◌, ℕ}
+use Rattle.std.specs.Prelude.{◌≡◌, ◌≤◌, ◌+◌, ℕ}
 use Rattle.gs_base.specs.Names.{peers_of}
 use Rattle.gs_params.specs.Picks.{IsAscending}
-use Rattle.gs_rules.specs.Peers.{Peer}
+use Rattle.gs_rules.specs.Peers.{Peer, explicit_of}
 use Rattle.gs_rules.specs.Tables.{Entries, last_moment}
 use Rattle.gs_router.specs.declared.setup.Setup.{Setup}
 use Rattle.gs_router.specs.declared.known.Known.{Known}
@@ -12,12 +12,17 @@ use Rattle.gs_router.specs.Tables.{Agrees, AgreesOnScores, AreMadeFor}
 abbrev pub peer_with : Setup → Peer
 peer_with setup = record { params = setup.params; neighbours = setup.neighbours.items }
 
+-- its list of explicit neighbours has those that are
+abbrev pub ListsExplicit : Setup → Type 0
+ListsExplicit setup = setup.explicit.items ≡ explicit_of (peer_with setup)
+
 -- The neighbours are ascending. Heartbeats are counted by some number, and a mesh that is cut has room for its best and
 -- its outbound members.
 pub record IsFit (setup : Setup) : Type 0 where
   pub ascending : IsAscending (peers_of setup.neighbours.items)
   pub ticks : 1 ≤ setup.params.timing.opportunistic_ticks
   pub room : setup.params.degrees.d_score + setup.params.degrees.d_out ≤ setup.params.degrees.d
+  pub explicit : ListsExplicit setup
 
 -- the tables say what this trace says at a moment that is no earlier than its last
 pub record Knows (known : Known) (now : ℕ) (L : Entries) : Type 0 where
@@ -25,3 +30,4 @@ pub record Knows (known : Known) (now : ℕ) (L : Entries) : Type 0 where
   pub scores : AgreesOnScores (peer_with known.setup) known.tables.standings L
   pub made : AreMadeFor known.tables (peer_with known.setup)
   pub time : last_moment L ≤ now
+  pub explicit : ListsExplicit known.setup

@@ -1,4 +1,5 @@
 pub mod PeerSets
+pub mod PeerLists
 pub mod Tables
 pub mod Known
 pub mod State

@@ -1,8 +1,10 @@
 //! Lists of peers, in order.
-ghost use Rattle.std.specs.Prelude.{◌≡◌, ◌-◌, IfOk, length};
-ghost use Rattle.gs_mesh.specs.Peers.{is_among};
+ghost use Rattle.std.specs.Prelude.{◌≡◌, ◌≤◌, ◌-◌, ◌++◌, IfOk, OnOk, length, take, drop};
+ghost use Rattle.gs_mesh.specs.Peers.{is_among, put_in};
 ghost use Rattle.gs_mesh.specs.Peers.{without as all_but};
 ghost use Rattle.gs_rules.specs.MeshRules.{those_among, those_outside};
+ghost use Rattle.gs_rules.specs.Rules.{together_with};
+ghost use Rattle.gs_router.specs.PeerLists.{IsNotBelow};
 
 use gs_base::PeerNo;
 use std::alloc::{AllocError, Global};
@@ -45,6 +47,47 @@ pub fn those_outside(
         }
     }
     Ok(found)
+}
+
+/// These, which ascend by number, and others among them, each at its place and once.
+pub fn together_with(
+    alloc: Global,
+    others: &[PeerNo],
+    peers: &[PeerNo],
+) -> Result<Vec<PeerNo>, AllocError>
+    ensures { IfOk result (λ found. found.items ≡ together_with others.now peers.now) }
+{
+    let mut found = Vec::new(alloc);
+    found.extend_from_slice(peers)?;
+    for other in others {
+        put_in(&mut found, *other)?;
+    }
+    Ok(found)
+}
+
+/// Puts a peer in its place among others that ascend by number; where it stands there, it stays once.
+fn put_in(peers: &mut Vec<PeerNo>, peer: PeerNo) -> Result<(), AllocError>
+    ensures { OnOk result (peers.new.items ≡ put_in peer peers.old.items) }
+{
+    let place = place_of(peers.as_slice(), peer);
+    if peers.get(place) == Some(&peer) {
+        return Ok(());
+    }
+    peers.insert(place, peer)?;
+    Ok(())
+}
+
+/// How many of these peers stand ahead of the first one that isn't below a peer.
+fn place_of(peers: &[PeerNo], peer: PeerNo) -> usize
+    ensures within { result ≤ length peers.now }
+    ensures place { put_in peer peers.now ≡ take result peers.now ++ put_in peer (drop result peers.now) }
+    ensures first { IsNotBelow peer (drop result peers.now) }
+{
+    let mut place = 0;
+    while place < peers.len() && peers[place].0 < peer.0 {
+        place += 1;
+    }
+    place
 }
 
 /// How many of so many places these leave.

@@ -18,7 +18,7 @@ mod reading;
 use crate::entries;
 use crate::fault::RouterFault;
 use crate::known::Known;
-use crate::setup::Setup;
+use crate::setup::{Setup, explicit_among};
 use crate::state::State;
 use crate::tables::Tables;
 use crate::wish::Wish;
@@ -78,11 +78,16 @@ impl Router {
         }) }
     {
         let tables = Tables::new(alloc, &params, neighbours.as_slice())?;
+        let explicit = explicit_among(alloc, neighbours.as_slice())?;
         Ok(Router {
             state: State {
                 known: Known {
                     alloc,
-                    setup: Setup { params, neighbours },
+                    setup: Setup {
+                        params,
+                        neighbours,
+                        explicit,
+                    },
                     tables,
                 },
                 trace: Trace::new(alloc),
@@ -190,9 +195,9 @@ impl Router {
 
     /// Publishes a payload, which is delivered to the router's own user where that is subscribed to the topic. With
     /// `flood_publish` it goes to every neighbour that is up and on the topic; without, to the topic's mesh, or, where
-    /// the router isn't subscribed, to its fanout, which is filled where it is empty. Who scores below
-    /// `publish_threshold` gets nothing (gossipsub v1.0, "Message Processing"; v1.1, "Flood Publishing" and "Score
-    /// Thresholds").
+    /// the router isn't subscribed, to its fanout, which is filled where it is empty. An explicit neighbour that is up and on
+    /// the topic gets it whatever it scores. Any other that scores below `publish_threshold` gets nothing (gossipsub v1.0,
+    /// "Message Processing"; v1.1, "Flood Publishing", "Score Thresholds" and "Explicit Peering Agreements").
     ///
     /// # Errors
     /// `Stopped`, `TooLong` and `AlreadySeen`, in this order, and `NoMemory`.

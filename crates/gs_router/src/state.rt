@@ -122,12 +122,7 @@ impl State {
         if !self.known.tables.neighbours.is_up(from) {
             return self.open(payloads, Event::Late(from, rpc), now, words);
         }
-        if entries::thresholds::is_below(
-            &self.known,
-            self.known.setup.params.thresholds.graylist_threshold,
-            from,
-            now,
-        ) {
+        if entries::thresholds::is_graylisted(&self.known, from, now) {
             return self.open(payloads, Event::Heard(from, rpc), now, words);
         }
         self.hear_up(payloads, from, rpc, now, words)

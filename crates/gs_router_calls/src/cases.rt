@@ -184,6 +184,10 @@ pub enum Kind {
     Praised,
     /// It scores 3 by the application, and has one address with all of its kind.
     Crowded,
+    /// There is a peering agreement with it, and it scores -80.000001 by the application, below each threshold.
+    Explicit,
+    /// There is a peering agreement with it, and it scores 3 by the application.
+    ExplicitPraised,
 }
 
 /// The parameters of a topic: what payloads begin with that are rejected or ignored, and the factors of its score.

@@ -26,7 +26,8 @@ fn app_of(kind: Kind) -> i128
     match kind {
         Kind::Plain | Kind::Dialled => 0,
         Kind::Distrusted => -50_000_001,
-        Kind::Praised | Kind::Crowded => 3_000_000,
+        Kind::Explicit => -80_000_001,
+        Kind::Praised | Kind::Crowded | Kind::ExplicitPraised => 3_000_000,
     }
 }
 
@@ -34,7 +35,15 @@ fn app_of(kind: Kind) -> i128
 fn is_outbound(kind: Kind) -> bool {
     match kind {
         Kind::Dialled | Kind::Crowded => true,
-        Kind::Plain | Kind::Distrusted | Kind::Praised => false,
+        _ => false,
+    }
+}
+
+/// Whether there is a peering agreement with a neighbour.
+fn is_explicit(kind: Kind) -> bool {
+    match kind {
+        Kind::Explicit | Kind::ExplicitPraised => true,
+        _ => false,
     }
 }
 
@@ -50,11 +59,12 @@ fn neighbour_of(alloc: Global, number: u16, kind: Kind) -> Result<Neighbour, All
     ensures number { IfOk result (λ neighbour. neighbour.peer.0 ≡ number) }
     ensures app { IfOk result (λ neighbour. unsigned_abs neighbour.app ≤ 10 ^ 12) }
 {
+    let address = Bytes::copy_from_slice(alloc, &address_of(number, kind))?;
     Ok(Neighbour {
-        peer: PeerNo(number),
         outbound: is_outbound(kind),
-        address: Bytes::copy_from_slice(alloc, &address_of(number, kind))?,
         app: app_of(kind),
+        explicit: is_explicit(kind),
+        ..Neighbour::new(PeerNo(number), address)
     })
 }
 

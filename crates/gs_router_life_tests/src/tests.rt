@@ -1,4 +1,5 @@
 //! Routers moment by moment.
+mod explicit;
 mod gossip;
 mod listeners;
 mod offers;
@@ -7,6 +8,7 @@ mod readings;
 mod scores;
 mod ten_promises;
 
+use crate::tests::explicit::EXPLICIT;
 use crate::tests::gossip::GOSSIP;
 use crate::tests::listeners::LISTENERS;
 use crate::tests::offers::OFFERS;
@@ -55,6 +57,11 @@ fn gossip_of_what_is_kept(rt: HostRuntime) -> Result<(), AllocError> {
 #[test]
 fn listeners_that_are_told(rt: HostRuntime) -> Result<(), AllocError> {
     check(&rt, LISTENERS)
+}
+
+#[test]
+fn explicit_neighbours_are_heard_and_not_told(rt: HostRuntime) -> Result<(), AllocError> {
+    check(&rt, EXPLICIT)
 }
 
 #[test]

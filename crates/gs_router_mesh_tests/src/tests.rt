@@ -1,6 +1,8 @@
 //! The mesh and the fanout of one topic, step by step.
 mod better;
 mod charges;
+mod explicit;
+mod explicit_fanouts;
 mod fanouts;
 mod grafts;
 mod losses;
@@ -9,6 +11,8 @@ mod traffic;
 
 use crate::tests::better::BETTER;
 use crate::tests::charges::CHARGES;
+use crate::tests::explicit::EXPLICIT;
+use crate::tests::explicit_fanouts::EXPLICIT_FANOUTS;
 use crate::tests::fanouts::FANOUTS;
 use crate::tests::grafts::GRAFTS;
 use crate::tests::losses::LOSSES;
@@ -40,6 +44,16 @@ fn grafts_and_prunes(rt: HostRuntime) -> Result<(), AllocError> {
 #[test]
 fn fanouts_that_are_made_mended_and_ended(rt: HostRuntime) -> Result<(), AllocError> {
     check(&rt, FANOUTS)
+}
+
+#[test]
+fn explicit_neighbours_and_meshes(rt: HostRuntime) -> Result<(), AllocError> {
+    check(&rt, EXPLICIT)
+}
+
+#[test]
+fn explicit_neighbours_and_fanouts(rt: HostRuntime) -> Result<(), AllocError> {
+    check(&rt, EXPLICIT_FANOUTS)
 }
 
 #[test]

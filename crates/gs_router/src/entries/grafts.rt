@@ -10,7 +10,7 @@ ghost use Rattle.gs_router.specs.Meshes.{accepting_graft, answered};
 ghost use Rattle.gs_router.specs.Known.{Knows, peer_with};
 
 use crate::entries::membership;
-use crate::entries::selection::is_outbound;
+use crate::entries::selection::{is_explicit, is_outbound};
 use crate::entries::sends::bare;
 use crate::entries::thresholds::is_negative;
 use crate::known::Known;
@@ -39,7 +39,7 @@ pub enum GraftAnswer {
     PassedOver,
     /// It comes too soon: it counts against its sender, and is refused.
     TooSoon,
-    /// It is refused: its sender scores below 0, or there is no room for it.
+    /// It is refused: its sender is explicit, or scores below 0, or there is no room for it.
     Refused,
     /// Its sender comes into the mesh.
     Accepted,
@@ -58,6 +58,9 @@ fn answer_to(known: &Known, from: PeerNo, topic: &Topic, now: Millis) -> GraftAn
     }
     if known.tables.memberships.is_member(from, topic) {
         return GraftAnswer::PassedOver;
+    }
+    if is_explicit(known, from) {
+        return GraftAnswer::Refused;
     }
     if now.0 < known.tables.memberships.backoff_until(from, topic).0 {
         return GraftAnswer::TooSoon;

@@ -12,7 +12,7 @@ ghost use Rattle.gs_rules.specs.Modes.{Follows, exact};
 ghost use Rattle.gs_router.specs.Tables.{Agrees};
 ghost use Rattle.gs_router.specs.Known.{IsFit, Knows, peer_with};
 
-use crate::entries::selection::listeners;
+use crate::entries::selection::ordinary_listeners;
 use crate::entries::sends::{bare, to_each};
 use crate::entries::thresholds;
 use crate::known::Known;
@@ -118,7 +118,7 @@ fn gossip_candidates(known: &Known, topic: &Topic, now: Millis) -> Result<Vec<Pe
         → Knows known.now now.0 L
         → found.items ≡ gossip_candidates (peer_with known.now.setup) L now.0 topic.now) }
 {
-    let listeners = listeners(known, topic)?;
+    let listeners = ordinary_listeners(known, topic)?;
     let outside = outside_mesh_and_fanout(known, topic, &listeners)?;
     let threshold = known.setup.params.thresholds.gossip_threshold;
     let gossip_candidates = thresholds::not_below(known, threshold, &outside, now)?;

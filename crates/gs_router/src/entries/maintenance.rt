@@ -2,14 +2,15 @@
 //! "Heartbeat Maintenance", "Outbound Mesh Quotas" and "Opportunistic Grafting").
 ghost use Rattle.std.specs.Prelude.{◌≡◌, ◌++◌, IfOk};
 ghost use Rattle.gs_rules.specs.Tables.{Entries};
-ghost use Rattle.gs_rules.specs.BeatRules.{fan_beat_rule, fan_end, mending, mesh_beat_rule, receivers as receivers_of, refanning, scored_member, scored_members};
+ghost use Rattle.gs_rules.specs.BeatRules.{fan_beat_rule, fan_end, mending, mesh_beat_rule, refanning, scored_member, scored_members};
+ghost use Rattle.gs_rules.specs.MeshRules.{receivers as receivers_of};
 ghost use Rattle.gs_rules.specs.Membership.{barring, each_on, leaving};
 ghost use Rattle.gs_rules.specs.Modes.{Follows, exact};
 ghost use Rattle.gs_router.specs.Tables.{Agrees};
 ghost use Rattle.gs_router.specs.Known.{IsFit, Knows, peer_with};
 
 use crate::entries::membership;
-use crate::entries::selection::{candidates, is_outbound, listeners_not_passed_over};
+use crate::entries::selection::{candidates, is_outbound, receivers};
 use crate::entries::sends::{bare, send_to_each, to_each};
 use crate::known::Known;
 use crate::peer_lists::{left_of, those_among, those_outside};
@@ -168,7 +169,7 @@ pub fn fan_beat<W: Words>(
         → Follows (exact W.word W.after) (fan_beat_rule (peer_with known.now.setup) L now topic)
         words.old entry words.new) }
 {
-    let receivers = listeners_not_passed_over(known, &topic, now)?;
+    let receivers = receivers(known, &topic, now)?;
     let fanout = known.tables.memberships.fanout(&topic);
     let stay = those_among(known.alloc, &receivers, fanout)?;
     let others = those_outside(known.alloc, fanout, &receivers)?;

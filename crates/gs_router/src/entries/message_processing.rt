@@ -11,14 +11,15 @@ ghost use Rattle.gs_rules.specs.declared.outcome.Outcome.TheVariants.{Accepted};
 ghost use Rattle.gs_rules.specs.Peers.{seen_ttl};
 ghost use Rattle.gs_rules.specs.Tables.{Entries, seen};
 ghost use Rattle.gs_rules.specs.Meshes.{mesh};
-ghost use Rattle.gs_rules.specs.Rules.{to_each};
+ghost use Rattle.gs_rules.specs.Rules.{explicit_listeners, to_each, together_with};
 ghost use Rattle.gs_rules.specs.Outcomes.{again, begins_with_one, found_to_be, is_near, message_entry, message_rule, near_of, near_window, outcome, verdict_by, verdict_on};
 ghost use Rattle.gs_router.specs.Tables.{Agrees};
-ghost use Rattle.gs_router.specs.Known.{Knows, peer_with};
+ghost use Rattle.gs_router.specs.Known.{Knows, ListsExplicit, peer_with};
 
+use crate::entries::selection::explicit_listeners;
 use crate::entries::sends::{bare, to_each};
 use crate::known::Known;
-use crate::peer_lists::others;
+use crate::peer_lists::{others, together_with};
 use bytes::Bytes;
 use gs_base::{Mark, Message, Millis, MsgId, PeerNo, Rpc, Seq, Shared, Topic, Verdict};
 use gs_cache::Payloads;
@@ -228,6 +229,26 @@ fn passed_on(
     Ok(sends)
 }
 
+/// A message by itself goes to these and to these explicit neighbours, but for whom it came from.
+fn forwarded(
+    alloc: Global,
+    from: PeerNo,
+    message: &Message,
+    members: &[PeerNo],
+    explicit: &[PeerNo],
+) -> Result<Seq<(PeerNo, Shared<Rpc>)>, AllocError>
+    ensures { IfOk result (λ sends. sends
+        ≡ to_each (passed_on message.now) (all_but from (together_with explicit.now members.now))) }
+{
+    if explicit.is_empty() {
+        let sends = passed_on(alloc, from, message, members)?;
+        return Ok(sends);
+    }
+    let all = together_with(alloc, explicit, members)?;
+    let sends = passed_on(alloc, from, message, &all)?;
+    Ok(sends)
+}
+
 /// A message that is accepted, with its identifier.
 #[derive(Drop)]
 pub struct AcceptedMessage {
@@ -236,20 +257,22 @@ pub struct AcceptedMessage {
     id: MsgId,
 }
 
-/// The entry of a message that is accepted, where these are in the mesh of its topic.
+/// The entry of a message that is accepted, where these are in the mesh of its topic, and these explicit neighbours on it.
 fn accepting_message(
     alloc: Global,
     accepted_message: AcceptedMessage,
     members: &[PeerNo],
+    explicit: &[PeerNo],
     now: Millis,
 ) -> Result<Entry, AllocError>
     ensures { IfOk result (λ entry. entry
-        ≡ message_entry members.now now accepted_message.from accepted_message.message (Accepted accepted_message.id)) }
+        ≡ message_entry members.now explicit.now now accepted_message.from accepted_message.message
+        (Accepted accepted_message.id)) }
 {
     let AcceptedMessage { from, message, id } = accepted_message;
     let told = message.get();
     let delivery = (told.topic_or_empty()?, told.payload_or_empty()?);
-    let sends = passed_on(alloc, from, told, members)?;
+    let sends = forwarded(alloc, from, told, members, explicit)?;
     let marks = accepted(alloc, from, id, told, members.contains(&from))?;
     Ok(Entry {
         at: now,
@@ -271,7 +294,10 @@ fn entry_with(
 ) -> Result<Entry, AllocError>
     ensures { IfOk result (λ entry. (L : Entries)
         → Agrees known.now.tables L
-        → entry ≡ message_entry (mesh L (topic_of message)) now from message outcome) }
+        → ListsExplicit known.now.setup
+        → entry
+        ≡ message_entry (mesh L (topic_of message)) (explicit_listeners (peer_with known.now.setup) L (topic_of message))
+        now from message outcome) }
 {
     let alloc = known.alloc;
     match outcome {
@@ -300,8 +326,9 @@ fn entry_with(
         }
         Outcome::Accepted(id) => {
             let members = mesh_members(known, &message.get().topic);
+            let explicit = explicit_on(known, &message.get().topic)?;
             let accepted_message = AcceptedMessage { from, message, id };
-            let entry = accepting_message(alloc, accepted_message, members, now)?;
+            let entry = accepting_message(alloc, accepted_message, members, &explicit, now)?;
             Ok(entry)
         }
     }
@@ -314,6 +341,19 @@ fn mesh_members<'a>(known: &'a Known, topic: &Option<Topic>) -> &'a [PeerNo]
     match topic {
         Some(topic) => known.tables.memberships.members(topic),
         None => known.tables.memberships.members(&Topic(Bytes::new())),
+    }
+}
+
+/// The explicit neighbours on the topic that is named; an absent one is the empty one.
+fn explicit_on(known: &Known, topic: &Option<Topic>) -> Result<Vec<PeerNo>, AllocError>
+    ensures { IfOk result (λ found. (L : Entries)
+        → Agrees known.now.tables L
+        → ListsExplicit known.now.setup
+        → found.items ≡ explicit_listeners (peer_with known.now.setup) L (topic_or_empty topic.now)) }
+{
+    match topic {
+        Some(topic) => explicit_listeners(known, topic),
+        None => explicit_listeners(known, &Topic(Bytes::new())),
     }
 }
 

@@ -1,6 +1,7 @@
 //! Publishing: who gets what the router's own user publishes, and what is refused.
 ghost use Rattle.std.specs.Prelude.{◌≡◌, ◌++◌, [], ◌∷◌, IfOk, if◌then◌else◌};
 ghost use Rattle.gs_base.specs.Names.{message_id};
+ghost use Rattle.gs_base.specs.Rpcs.{publication};
 ghost use Rattle.gs_base.specs.declared.verdict.Verdict.TheVariants.{Accept};
 ghost use Rattle.gs_base.specs.declared.mark.Mark.TheVariants as marks;
 ghost use Rattle.gs_rules.specs.declared.trace.Event.TheVariants as events;
@@ -9,20 +10,23 @@ ghost use Rattle.gs_rules.specs.Meshes.{fanout};
 ghost use Rattle.gs_rules.specs.MeshRules.{fanout_publish, publish_rule};
 ghost use Rattle.gs_rules.specs.MeshRules.{publishing as going_to};
 ghost use Rattle.gs_rules.specs.Scoring.{is_passed_over};
-ghost use Rattle.gs_rules.specs.Rules.{without};
+ghost use Rattle.gs_rules.specs.Rules.{explicit_listeners, to_each, together_with, without};
 ghost use Rattle.gs_rules.specs.Modes.{Follows, exact};
 ghost use Rattle.gs_rules.specs.Refusals.{refusal};
 ghost use Rattle.gs_router.specs.declared.entries.publishing.FanoutUse.TheVariants.{Kept};
 ghost use Rattle.gs_router.specs.Tables.{Agrees};
 ghost use Rattle.gs_router.specs.Meshes.{fanout_marks, filled_by, kept_by};
-ghost use Rattle.gs_router.specs.Known.{IsFit, Knows, peer_with};
+ghost use Rattle.gs_router.specs.Known.{IsFit, Knows, ListsExplicit, peer_with};
 
 use crate::entries::membership;
-use crate::entries::selection::{listeners_not_passed_over, not_passed_over};
+use crate::entries::selection::{explicit_listeners, not_passed_over, receivers};
 use crate::entries::sends::{bare, to_each};
 use crate::known::Known;
+use crate::peer_lists::together_with;
 use bytes::Bytes;
-use gs_base::{LONGEST_TOPIC, Mark, Millis, MsgId, PeerNo, Rpc, Seq, Topic, Verdict, clone_of};
+use gs_base::{
+    LONGEST_TOPIC, Mark, Millis, MsgId, PeerNo, Rpc, Seq, Shared, Topic, Verdict, clone_of,
+};
 use gs_params::{Words, pick};
 use gs_rules::{Entry, Event, Refusal};
 use gs_wire::{MAX_BODY, publish_len};
@@ -89,7 +93,31 @@ fn published(
     }
 }
 
-/// The entry of a payload that goes to these.
+/// A payload goes to these, and to the explicit neighbours on its topic.
+fn publications(
+    known: &Known,
+    publishing: &Publishing,
+    chosen: &[PeerNo],
+) -> Result<Seq<(PeerNo, Shared<Rpc>)>, AllocError>
+    ensures { IfOk result (λ sends. (L : Entries)
+        → Agrees known.now.tables L
+        → ListsExplicit known.now.setup
+        → sends
+        ≡ to_each (publication publishing.now.topic publishing.now.payload)
+        (together_with (explicit_listeners (peer_with known.now.setup) L publishing.now.topic) chosen.now)) }
+{
+    let explicit = explicit_listeners(known, &publishing.topic)?;
+    let rpc = Rpc::publication(known.alloc, &publishing.topic, &publishing.payload)?;
+    if explicit.is_empty() {
+        let sends = to_each(known.alloc, rpc, chosen)?;
+        return Ok(sends);
+    }
+    let receivers = together_with(known.alloc, &explicit, chosen)?;
+    let sends = to_each(known.alloc, rpc, &receivers)?;
+    Ok(sends)
+}
+
+/// The entry of a payload that goes to these, and to the explicit neighbours on its topic.
 fn sending(
     known: &Known,
     publishing: Publishing,
@@ -100,11 +128,10 @@ fn sending(
     requires { publishing.id ≡ message_id publishing.payload }
     ensures { IfOk result (λ entry. (L : Entries)
         → Knows known.now now.0 L
-        → entry ≡ going_to L now publishing.topic publishing.payload receivers.now (filled_by fanout receivers.now)
-        (kept_by fanout publishing.topic)) }
+        → entry ≡ going_to (peer_with known.now.setup) L now publishing.topic publishing.payload receivers.now
+        (filled_by fanout receivers.now) (kept_by fanout publishing.topic)) }
 {
-    let rpc = Rpc::publication(known.alloc, &publishing.topic, &publishing.payload)?;
-    let sends = to_each(known.alloc, rpc, receivers)?;
+    let sends = publications(known, &publishing, receivers)?;
     let delivered = delivered(known, &publishing)?;
     let marks = published(known.alloc, &publishing, receivers, fanout)?;
     let Publishing { topic, payload, .. } = publishing;
@@ -121,7 +148,7 @@ fn to_fanout(known: &Known, publishing: Publishing, now: Millis) -> Result<Entry
     requires { publishing.id ≡ message_id publishing.payload }
     ensures { IfOk result (λ entry. (L : Entries)
         → Knows known.now now.0 L
-        → entry ≡ going_to L now publishing.topic publishing.payload
+        → entry ≡ going_to (peer_with known.now.setup) L now publishing.topic publishing.payload
         (without (is_passed_over (peer_with known.now.setup) L now.0) (fanout L publishing.topic))
         []
         (kept_by Kept publishing.topic)) }
@@ -132,7 +159,7 @@ fn to_fanout(known: &Known, publishing: Publishing, now: Millis) -> Result<Entry
     Ok(entry)
 }
 
-/// The entry of a payload that goes to some of the listeners, which become the fanout of its topic.
+/// The entry of a payload that goes to some of those that may be in the fanout of its topic, which become it.
 fn to_new_fanout<W: Words>(
     known: &Known,
     publishing: Publishing,
@@ -148,14 +175,14 @@ fn to_new_fanout<W: Words>(
         (fanout_publish (peer_with known.now.setup) L now publishing.topic publishing.payload [])
         words.old entry words.new) }
 {
-    let listeners = listeners_not_passed_over(known, &publishing.topic, now)?;
+    let receivers = receivers(known, &publishing.topic, now)?;
     let size = known.setup.params.degrees.d as usize;
-    let chosen = pick(known.alloc, &listeners, size, words)?;
+    let chosen = pick(known.alloc, &receivers, size, words)?;
     let entry = sending(known, publishing, &chosen, FanoutUse::Filled, now)?;
     Ok(entry)
 }
 
-/// The entry of a payload that goes to the listeners, or to the mesh of its topic.
+/// The entry of a payload that goes to the receivers, or to the mesh of its topic, and to explicit neighbours.
 fn without_fanout(
     known: &Known,
     publishing: Publishing,
@@ -165,7 +192,7 @@ fn without_fanout(
     requires { publishing.id ≡ message_id publishing.payload }
     ensures { IfOk result (λ entry. (L : Entries)
         → Knows known.now now.0 L
-        → entry ≡ going_to L now publishing.topic publishing.payload receivers.now [] []) }
+        → entry ≡ going_to (peer_with known.now.setup) L now publishing.topic publishing.payload receivers.now [] []) }
 {
     let entry = sending(known, publishing, receivers, FanoutUse::Unused, now)?;
     Ok(entry)
@@ -188,7 +215,7 @@ pub fn publish<W: Words>(
         words.old entry words.new) }
 {
     if known.setup.params.flood_publish {
-        let receivers = listeners_not_passed_over(known, &publishing.topic, now)?;
+        let receivers = receivers(known, &publishing.topic, now)?;
         let entry = without_fanout(known, publishing, &receivers, now)?;
         return Ok(entry);
     }

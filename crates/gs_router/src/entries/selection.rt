@@ -1,16 +1,18 @@
 //! Which neighbours may be sent to, and which may be grafted.
 ghost use Rattle.std.specs.Prelude.{◌≡◌, ◌&&◌, IfOk, filter};
-ghost use Rattle.gs_rules.specs.Peers.{links_of};
+ghost use Rattle.gs_rules.specs.Peers.{is_explicit, links_of};
 ghost use Rattle.gs_rules.specs.Tables.{Entries, up};
 ghost use Rattle.gs_rules.specs.Membership.{candidates, is_candidate, is_outbound};
-ghost use Rattle.gs_rules.specs.Rules.{listeners, up_neighbours, without};
+ghost use Rattle.gs_rules.specs.MeshRules.{receivers as receivers_of};
+ghost use Rattle.gs_rules.specs.Rules.{explicit_listeners, listeners, ordinary_listeners, up_neighbours, without};
 ghost use Rattle.gs_rules.specs.Scoring.{is_passed_over};
 ghost use Rattle.gs_router.specs.PeerSets.{has};
 ghost use Rattle.gs_router.specs.Tables.{Agrees};
-ghost use Rattle.gs_router.specs.Known.{Knows, peer_with};
+ghost use Rattle.gs_router.specs.Known.{Knows, ListsExplicit, peer_with};
 
 use crate::entries::thresholds;
 use crate::known::Known;
+use crate::peer_lists::those_outside;
 use crate::peer_set::PeerSet;
 use gs_base::{Millis, PeerNo, Topic};
 use std::alloc::AllocError;
@@ -61,19 +63,52 @@ fn up_among(known: &Known, set: &PeerSet) -> Result<Vec<PeerNo>, AllocError>
     Ok(receivers)
 }
 
-/// The neighbours on a topic that are not below the threshold.
-pub fn listeners_not_passed_over(
-    known: &Known,
-    topic: &Topic,
-    now: Millis,
-) -> Result<Vec<PeerNo>, AllocError>
-    ensures { IfOk result (λ receivers. (L : Entries)
-        → Knows known.now now.0 L
-        → receivers.items
-        ≡ without (is_passed_over (peer_with known.now.setup) L now.0)
-        (listeners (peer_with known.now.setup) L topic.now)) }
+/// Whether a neighbour is explicit (gossipsub v1.1, "Explicit Peering Agreements").
+pub fn is_explicit(known: &Known, peer: PeerNo) -> bool
+    ensures { ListsExplicit known.now.setup → result ≡ is_explicit (peer_with known.now.setup) peer }
+{
+    known.setup.explicit.contains(&peer)
+}
+
+/// The explicit neighbours that are up and on a topic.
+pub fn explicit_listeners(known: &Known, topic: &Topic) -> Result<Vec<PeerNo>, AllocError>
+    ensures { IfOk result (λ found. (L : Entries)
+        → Agrees known.now.tables L
+        → ListsExplicit known.now.setup
+        → found.items ≡ explicit_listeners (peer_with known.now.setup) L topic.now) }
+{
+    let mut found = Vec::new(known.alloc);
+    for peer in &known.setup.explicit {
+        if known.tables.neighbours.is_up(*peer) && known.tables.listeners.is_on(*peer, topic) {
+            found.push(*peer)?;
+        }
+    }
+    Ok(found)
+}
+
+/// The neighbours that are up and on a topic, without the explicit ones.
+pub fn ordinary_listeners(known: &Known, topic: &Topic) -> Result<Vec<PeerNo>, AllocError>
+    ensures { IfOk result (λ found. (L : Entries)
+        → Agrees known.now.tables L
+        → ListsExplicit known.now.setup
+        → found.items ≡ ordinary_listeners (peer_with known.now.setup) L topic.now) }
 {
     let listeners = listeners(known, topic)?;
+    let explicit = known.setup.explicit.as_slice();
+    if explicit.is_empty() {
+        return Ok(listeners);
+    }
+    let found = those_outside(known.alloc, explicit, &listeners)?;
+    Ok(found)
+}
+
+/// The neighbours that may be in the fanout of a topic.
+pub fn receivers(known: &Known, topic: &Topic, now: Millis) -> Result<Vec<PeerNo>, AllocError>
+    ensures { IfOk result (λ receivers. (L : Entries)
+        → Knows known.now now.0 L
+        → receivers.items ≡ receivers_of (peer_with known.now.setup) L now.0 topic.now) }
+{
+    let listeners = ordinary_listeners(known, topic)?;
     let receivers = not_passed_over(known, &listeners, now)?;
     Ok(receivers)
 }
@@ -112,7 +147,8 @@ fn is_candidate(known: &Known, peer: PeerNo, topic: &Topic, now: Millis) -> bool
         → Knows known.now now.0 L
         → result ≡ is_candidate (peer_with known.now.setup) L now.0 topic.now peer }
 {
-    known.tables.neighbours.is_up(peer)
+    !is_explicit(known, peer)
+        && known.tables.neighbours.is_up(peer)
         && known.tables.listeners.is_on(peer, topic)
         && !known.tables.memberships.is_member(peer, topic)
         && known.tables.memberships.backoff_until(peer, topic).0 <= now.0

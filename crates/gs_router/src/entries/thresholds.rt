@@ -3,10 +3,11 @@ ghost use Rattle.std.specs.Prelude.{◌≡◌, IfOk};
 ghost use Rattle.gs_base.specs.declared.names.PeerNo.{PeerNo as PeerNoValue};
 ghost use Rattle.gs_rules.specs.Tables.{Entries};
 ghost use Rattle.gs_rules.specs.Membership.{is_negative};
-ghost use Rattle.gs_rules.specs.Scoring.{is_below, is_ignored, score};
+ghost use Rattle.gs_rules.specs.Scoring.{is_below, is_graylisted, is_ignored, score};
 ghost use Rattle.gs_rules.specs.Rules.{without};
 ghost use Rattle.gs_router.specs.Known.{Knows, peer_with};
 
+use crate::entries::selection::is_explicit;
 use crate::known::Known;
 use gs_base::{Millis, PeerNo};
 use std::alloc::AllocError;
@@ -42,6 +43,22 @@ pub fn is_ignored(known: &Known, peer: PeerNo, now: Millis) -> bool
         peer,
         now,
     )
+}
+
+/// Whether nothing that a neighbour sends counts. The graylist holds no explicit neighbour (gossipsub v1.1, "Explicit
+/// Peering Agreements").
+pub fn is_graylisted(known: &Known, peer: PeerNo, now: Millis) -> bool
+    ensures { (L : Entries)
+        → Knows known.now now.0 L
+        → result ≡ is_graylisted (peer_with known.now.setup) L now.0 peer }
+{
+    !is_explicit(known, peer)
+        && is_below(
+            known,
+            known.setup.params.thresholds.graylist_threshold,
+            peer,
+            now,
+        )
 }
 
 /// Those of these neighbours whose scores are not below a threshold, in millionths.

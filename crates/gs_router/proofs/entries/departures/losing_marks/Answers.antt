@@ -1,11 +1,11 @@
-use Rattle.std.proofs.Common.{◌≡◌, ◌++◌, ◌∙◌, List, filter, map, ap, ap₂}
+use Rattle.std.proofs.Common.{◌++◌, ◌∙◌, List, filter, map, ap, ap₂}
 use Rattle.gs_base.specs.declared.names.PeerNo.{PeerNo}
 use Rattle.gs_base.specs.declared.names.Topic.{Topic}
 use Rattle.gs_base.specs.declared.mark.Mark.{Mark}
 use Rattle.gs_base.specs.declared.mark.Mark.TheVariants.{Unfanned}
 use Rattle.gs_mesh.specs.Peers.{is_among}
 use Rattle.gs_rules.specs.Membership.{leaving, meshes_with}
-use Rattle.gs_rules.specs.Meshes.{fanout, mesh_topics}
+use Rattle.gs_rules.specs.Meshes.{fanout}
 use Rattle.gs_router.specs.Known.{peer_with}
 use Rattle.gs_router.proofs.entries.departures.losing_marks.Goals as goal
 

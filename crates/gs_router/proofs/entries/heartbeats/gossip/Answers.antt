@@ -1,25 +1,24 @@
-use Rattle.std.proofs.Common.{◌≡◌, ◌<◌, ◌∙◌, ℕ, List, refl, sym, ap, subst, subst₂}
-use Rattle.std.specs.Prelude.{◌&&◌, ◌||◌, length, not}
+use Rattle.std.proofs.Common.{◌∙◌, ℕ, List, refl, sym, ap, subst, subst₂}
+use Rattle.std.specs.Prelude.{◌||◌, length}
 use Rattle.gs_base.specs.declared.names.PeerNo.{PeerNo}
 use Rattle.gs_base.specs.declared.names.Topic.{Topic}
-use Rattle.gs_base.specs.Names.{peers_of}
 use Rattle.gs_params.specs.Picks.{IsAscending}
 use Rattle.gs_rules.specs.Peers.{Peer, links_of}
-use Rattle.gs_rules.specs.Tables.{Entries, on, up}
+use Rattle.gs_rules.specs.Tables.{Entries}
 use Rattle.gs_rules.specs.Gossip.{gossip_size}
 use Rattle.gs_rules.specs.Scoring.{is_ignored}
 use Rattle.gs_mesh.specs.Peers.{is_among}
 use Rattle.gs_rules.specs.Meshes.{fanout, mesh}
-use Rattle.gs_rules.specs.Rules.{gossip_candidates, gossiping, listeners, without}
+use Rattle.gs_rules.specs.Rules.{gossip_candidates, gossiping, ordinary_listeners, without}
 use Rattle.gs_rules.specs.Modes.{IsPick}
 use Rattle.gs_router.specs.Known.{peer_with}
-use Rattle.gs_router.proofs.Choosing.{listeners_ascend, without_ascend}
+use Rattle.gs_router.proofs.Choosing.{ordinary_ascend, without_ascend}
 use Rattle.gs_router.proofs.entries.heartbeats.gossip.Goals as goal
 
 gossip_candidates_ascend : (p : Peer) (L : Entries) (at : ℕ) (t : Topic) → IsAscending (links_of p) → IsAscending (gossip_candidates p L at t)
 gossip_candidates_ascend p L at t ascending =
-    without_ascend (is_ignored p L at) (without (λ q. is_among (mesh L t) q || is_among (fanout L t) q) (listeners p L t))
-    (without_ascend (λ q. is_among (mesh L t) q || is_among (fanout L t) q) (listeners p L t) (listeners_ascend p L t ascending))
+    without_ascend (is_ignored p L at) (without (λ q. is_among (mesh L t) q || is_among (fanout L t) q) (ordinary_listeners p L t))
+    (without_ascend (λ q. is_among (mesh L t) q || is_among (fanout L t) q) (ordinary_listeners p L t) (ordinary_ascend p L t ascending))
 
 pub pick-requires : goal.pick-requires
 pick-requires g c =

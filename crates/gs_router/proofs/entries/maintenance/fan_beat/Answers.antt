@@ -1,15 +1,12 @@
-use Rattle.std.proofs.Common.{◌≡◌, ◌-◌, ◌∙◌, ℕ, List, length, refl, sym, ap, ap₂, subst, subst₂}
+use Rattle.std.proofs.Common.{◌-◌, ◌∙◌, ℕ, List, length, refl, sym, ap, ap₂, subst, subst₂}
 use Rattle.gs_base.specs.declared.names.PeerNo.{PeerNo}
 use Rattle.gs_params.specs.Picks.{IsAscending}
-use Rattle.gs_rules.specs.Tables.{Entries}
 use Rattle.gs_rules.specs.Meshes.{fanout}
-use Rattle.gs_rules.specs.MeshRules.{those_among, those_outside}
-use Rattle.gs_rules.specs.BeatRules.{receivers, refanning}
+use Rattle.gs_rules.specs.MeshRules.{receivers, those_among, those_outside}
+use Rattle.gs_rules.specs.BeatRules.{refanning}
 use Rattle.gs_rules.specs.Modes.{IsPick}
-use Rattle.gs_rules.specs.Rules.{listeners}
-use Rattle.gs_rules.specs.Scoring.{is_passed_over}
 use Rattle.gs_router.specs.Known.{peer_with}
-use Rattle.gs_router.proofs.Choosing.{listeners_ascend, outside_ascend, without_ascend}
+use Rattle.gs_router.proofs.Choosing.{outside_ascend, receivers_ascend}
 use Rattle.gs_router.proofs.entries.maintenance.fan_beat.Goals as goal
 
 pub pick-requires : goal.pick-requires
@@ -22,7 +19,7 @@ pick-requires g c =
     let fans = c.fanout-fanout.ensures L c.requires.knows.1.agrees.memberships in
     let found = c.deref-2.ensures.value ∙ c.in_ok-receivers.ensures L c.requires.knows.1 in
     let others = c.deref-4.ensures.value ∙ c.in_ok-others.ensures ∙ ap₂ those_outside fans found in
-    subst IsAscending (sym others) (outside_ascend (fanout L t) (receivers p L at t) (without_ascend (is_passed_over p L at) (listeners p L t) (listeners_ascend p L t c.requires.fit.ascending)))
+    subst IsAscending (sym others) (outside_ascend (fanout L t) (receivers p L at t) (receivers_ascend p L at t c.requires.fit.ascending))
 
 pub returns : goal.returns
 returns g c = λ L knows.
@@ -37,7 +34,7 @@ returns g c = λ L knows.
     let others = c.deref-4.ensures.value ∙ c.in_ok-others.ensures ∙ ap₂ those_outside fans (c.deref-2.ensures.value ∙ found) in
     let left = c.left_of-left.ensures ∙ ap (λ (qs : List PeerNo). d - length qs) (c.deref-3.ensures.value ∙ stay) in
     let chosen = c.in_ok-chosen.chosen.items in
-    let ascend = outside_ascend (fanout L t) (receivers p L at t) (without_ascend (is_passed_over p L at) (listeners p L t) (listeners_ascend p L t c.requires.fit.ascending)) in
+    let ascend = outside_ascend (fanout L t) (receivers p L at t) (receivers_ascend p L at t c.requires.fit.ascending) in
     let picks = subst₂ (λ (k : ℕ) (qs : List PeerNo). IsPick g.W.Words.word g.W.Words.after k qs c.args.words.now chosen c.pick.new.words) left others (record { ascending = subst IsAscending (sym others) ascend; chosen_are = c.in_ok-chosen.ensures.picked; words = c.in_ok-chosen.ensures.words }) in
     let entry = c.in_ok-entry.ensures L knows.agrees (c.deref-5.ensures.value ∙ found) ∙ ap (refanning p L c.args.now t) c.deref-6.ensures.value in
     (chosen, c.pick.new.words, picks, (entry, refl))

@@ -1,7 +1,6 @@
 use Rattle.std.proofs.Common.{◌≡◌, ◌++◌, ◌∙◌, List, sym, ap, ap₂, subst}
 use Rattle.std.proofs.lemmas.List.{append_assoc}
 use Rattle.gs_base.specs.declared.names.PeerNo.{PeerNo}
-use Rattle.gs_base.specs.declared.names.Topic.{Topic}
 use Rattle.gs_base.specs.declared.rpc.Rpc.{Rpc}
 use Rattle.gs_base.specs.declared.mark.Mark.{Mark}
 use Rattle.gs_rules.specs.declared.trace.Entry.{Entry}

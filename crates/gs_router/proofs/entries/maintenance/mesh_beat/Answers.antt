@@ -1,11 +1,10 @@
 use Rattle.std.proofs.Common.{◌≡◌, ◌∙◌, ℕ, List, sym, ap, subst, subst₂}
-use Rattle.gs_base.specs.declared.names.PeerNo.{PeerNo}
 use Rattle.gs_mesh.specs.declared.members.Member.{Member}
 use Rattle.gs_params.specs.Picks.{IsAscending}
 use Rattle.gs_mesh.specs.Cuts.{peers_of}
 use Rattle.gs_mesh.specs.MeshSteps.{step_by_words}
 use Rattle.gs_rules.specs.declared.trace.Entry.{Entry}
-use Rattle.gs_rules.specs.Tables.{Entries, heartbeats}
+use Rattle.gs_rules.specs.Tables.{heartbeats}
 use Rattle.gs_rules.specs.Meshes.{mesh}
 use Rattle.gs_rules.specs.Membership.{candidates}
 use Rattle.gs_rules.specs.BeatRules.{mending, mesh_beat_rule, scored_members}

@@ -1,7 +1,7 @@
 use Rattle.std.proofs.Common.{◌≡◌, ℕ, ◌-◌, ◌∙◌, sym, ap, ap₂, arith, option_map}
 use Rattle.gs_rules.specs.Rules.{times_in}
-use Rattle.gs_rules.specs.Tables.{Entries, Keeping, kept}
-use Rattle.gs_router.specs.Tables.{AreMadeFor, answers_left}
+use Rattle.gs_rules.specs.Tables.{Keeping, kept}
+use Rattle.gs_router.specs.Tables.{answers_left}
 use Rattle.gs_router.specs.Known.{peer_with}
 use Rattle.gs_router.proofs.Answering.{at_first, gives_none, gives_one}
 use Rattle.gs_router.proofs.entries.requests.answer.Goals as goal

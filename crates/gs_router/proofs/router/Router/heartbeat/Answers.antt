@@ -4,7 +4,6 @@ use Rattle.gs_rules.specs.Tables.{last_moment}
 use Rattle.gs_rules.specs.Modes.{exact}
 use Rattle.gs_router.specs.Known.{peer_with}
 use Rattle.gs_router.proofs.Calls.{ends_call, may_beat, refuses}
-use Rattle.gs_router.proofs.Steps.{knows}
 use Rattle.gs_router.proofs.router.Router.heartbeat.Goals as goal
 
 pub returns-in-Some : goal.returns-in-Some

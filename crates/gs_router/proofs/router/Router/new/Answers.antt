@@ -1,4 +1,4 @@
-use Rattle.std.proofs.Common.{◌≤◌, ◌^◌, unsigned_abs, List, [], refl, sym, ap, subst}
+use Rattle.std.proofs.Common.{◌≤◌, ◌^◌, ◌∙◌, unsigned_abs, List, filter, refl, sym, ap, subst}
 use Rattle.std.specs.Prelude.{All}
 use Rattle.gs_base.specs.declared.neighbour.Neighbour.{Neighbour}
 use Rattle.gs_base.specs.Names.{peers_of}
@@ -32,6 +32,7 @@ invariant_of-result c =
             ascending = c.requires.ascending;
             ticks = c.requires.in_range.timing.opportunistic_ticks.0;
             room = c.requires.in_range.degrees.best;
+            explicit = c.in_ok-explicit.ensures ∙ ap (λ (ns : List Neighbour). peers_of (filter (λ (n : Neighbour). n.explicit) ns)) c.as_slice-2.ensures.value;
           };
         };
         settled = ap (owed p) c.new-2.ensures;

@@ -1,4 +1,4 @@
-use Rattle.std.proofs.Common.{◌≡◌, ◌++◌, arith, filter, append-nil, List, sym, ap, ◌∙◌}
+use Rattle.std.proofs.Common.{◌++◌, arith, filter, append-nil, List, sym, ap, ◌∙◌}
 use Rattle.std.proofs.lemmas.List.{drop_all}
 use Rattle.gs_base.specs.declared.names.Topic.{Topic}
 use Rattle.gs_rules.specs.Meshes.{has_fanout}

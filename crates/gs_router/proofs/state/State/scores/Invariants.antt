@@ -4,7 +4,6 @@ use Rattle.gs_rules.specs.Tables.{Entries}
 use Rattle.gs_rules.specs.Scoring.{score}
 use Rattle.gs_router.specs.Tables.{AgreesOnScores}
 use Rattle.gs_router.specs.Known.{peer_with}
-use Rattle.gs_router.specs.Router.{scores_of}
 use Rattle.gs_router.proofs.state.State.scores.Given as goal
 
 abbrev pub invariant-loop-neighbour : goal.invariant-loop-neighbour

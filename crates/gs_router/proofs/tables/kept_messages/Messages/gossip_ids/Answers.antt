@@ -1,4 +1,4 @@
-use Rattle.std.proofs.Common.{◌∙◌, ℕ, List, ap, ap₂}
+use Rattle.std.proofs.Common.{◌∙◌, ℕ, ap, ap₂}
 use Rattle.std.specs.Prelude.{filter}
 use Rattle.gs_base.specs.declared.names.MsgId.{MsgId}
 use Rattle.gs_base.specs.Rpcs.{most_identifiers}

@@ -1,7 +1,6 @@
-use Rattle.std.proofs.Common.{◌∙◌, sym, ap, subst, ap₂}
+use Rattle.std.proofs.Common.{◌∙◌, sym, ap, subst}
 use Rattle.gs_base.specs.declared.mark.Mark.{Mark}
 use Rattle.gs_base.specs.declared.mark.Mark.TheVariants.{Cached}
-use Rattle.gs_base.specs.declared.names.Topic.{Topic}
 use Rattle.gs_rules.specs.Tables.{answered_after, kept_after, order_after}
 use Rattle.gs_router.specs.declared.tables.kept_messages.Messages.{Messages}
 use Rattle.gs_router.specs.Tables.{HasKept}

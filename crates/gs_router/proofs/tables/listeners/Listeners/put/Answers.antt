@@ -1,6 +1,5 @@
-use Rattle.std.proofs.Common.{◌∙◌, Bool, Option, cond, sym, ap, if◌then◌else◌, Some}
-use Rattle.std.specs.Map.{lookup}
-use Rattle.gs_base.specs.Names.{same_peer, same_topic}
+use Rattle.std.proofs.Common.{◌∙◌, Bool, ap, if◌then◌else◌}
+use Rattle.gs_base.specs.Names.{same_peer}
 use Rattle.gs_router.specs.declared.tables.listeners.Listeners.{Listeners}
 use Rattle.gs_router.proofs.Noting.{speaks_first}
 use Rattle.gs_router.proofs.tables.listeners.Listeners.put.Goals as goal

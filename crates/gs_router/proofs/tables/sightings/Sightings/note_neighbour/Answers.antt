@@ -1,9 +1,9 @@
-use Rattle.std.proofs.Common.{◌≡◌, ◌∙◌, sym, ap}
+use Rattle.std.proofs.Common.{◌∙◌, sym, ap}
 use Rattle.gs_base.specs.declared.mark.Mark.{Mark}
 use Rattle.gs_rules.specs.Meshes.{notes}
 use Rattle.gs_router.specs.declared.tables.sightings.Sightings.{Sightings}
 use Rattle.gs_router.specs.Tables.{neighbour_sighting, noted_if}
-use Rattle.gs_router.proofs.Sighting.{noted_nothing, passes}
+use Rattle.gs_router.proofs.Sighting.{passes}
 use Rattle.gs_router.proofs.tables.sightings.Sightings.note_neighbour.Goals as goal
 
 pub returns-in_ok-note-in-First-clause-marks : goal.returns-in_ok-note-in-First-clause-marks

@@ -1,4 +1,4 @@
-use Rattle.std.proofs.Common.{◌≡◌, ◌∙◌, sym, ap}
+use Rattle.std.proofs.Common.{◌∙◌, sym, ap}
 use Rattle.gs_base.specs.declared.mark.Mark.{Mark}
 use Rattle.gs_router.specs.declared.tables.sightings.Sightings.{Sightings}
 use Rattle.gs_router.specs.Tables.{neighbour_sighting, neighbour_sighting_after}

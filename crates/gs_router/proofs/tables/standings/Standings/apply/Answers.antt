@@ -1,6 +1,6 @@
-use Rattle.std.proofs.Common.{◌≡◌, true, false, rules}
+use Rattle.std.proofs.Common.{◌≡◌, true, rules}
 use Rattle.gs_score.specs.Histories.{accepts}
-use Rattle.gs_router.proofs.Standing.{counts, passes}
+use Rattle.gs_router.proofs.Standing.{counts}
 use Rattle.gs_router.proofs.tables.standings.Standings.apply.Goals as goal
 
 pub returns : goal.returns
