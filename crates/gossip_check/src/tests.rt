@@ -1,10 +1,12 @@
 //! Whole answers, and whole runs.
+mod agreements;
 mod cases;
 mod params;
 mod values;
 
 use crate::answer::{NO_MEMORY_ANSWER, Verdict};
 use crate::program::{ExitStatus, run};
+use crate::tests::agreements::AGREEMENTS;
 use crate::tests::cases::{Case, FINE, KEYS, LINE, MISSING, NO_TOML, SCENARIO};
 use crate::tests::params::{BOUNDS, BOUNDS_OF_TOPIC, Bounds, OF_TOPIC, OutOfRange, PARAMS, SHARED};
 use crate::tests::values::{NAMES, VALUES};
@@ -77,6 +79,11 @@ fn values_are_refused_with_what_they_must_be(rt: HostRuntime) -> Result<(), Allo
 #[test]
 fn names_are_refused_that_nothing_has_or_two_have(rt: HostRuntime) -> Result<(), AllocError> {
     answer_all(&rt, &NAMES)
+}
+
+#[test]
+fn agreements_are_refused_with_their_reasons(rt: HostRuntime) -> Result<(), AllocError> {
+    answer_all(&rt, &AGREEMENTS)
 }
 
 #[test]

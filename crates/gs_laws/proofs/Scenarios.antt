@@ -10,7 +10,7 @@ use Rattle.gs_scenario.specs.declared.scenario.tables.TableKind.TheVariants as k
 use Rattle.gs_scenario.specs.Keys.{◌>>=◌, Key, is_one_of, only, read_each, read_key}
 use Rattle.gs_scenario.specs.Kinds.{section_at}
 use Rattle.gs_scenario.specs.ParamsOf.{shared_in, params_of}
-use Rattle.gs_scenario.specs.PlanOf.{Top, app_in, apps_key, capacity_key, dial_in, dials_key, line_in, params_key, peer_in, peers_key, plan_in, plan_of, plan_of_document, round_ms_key, rounds_key, script_key, seed_key, top_in, top_keys, topic_in, topics_key, workers_key}
+use Rattle.gs_scenario.specs.PlanOf.{Top, agreement_in, app_in, apps_key, capacity_key, dial_in, dials_key, explicit_key, line_in, params_key, peer_in, peers_key, plan_in, plan_of, plan_of_document, round_ms_key, rounds_key, script_key, seed_key, top_in, top_keys, topic_in, topics_key, workers_key}
 use Rattle.gs_laws.specs.Runs.{AreAlike, however_run}
 use Rattle.gs_laws.specs.Scenarios.{DifferInRunning, TextsAreOne, but_for, running_keys}
 use Rattle.gs_laws.proofs.Reports.{reports_one}
@@ -89,8 +89,9 @@ module _ (text other : List ℕ) (differ : DifferInRunning text other) where
       then_read peers_key _ _ refl (λ peers.
       then_read dials_key _ _ refl (λ dials.
       then_read apps_key _ _ refl (λ apps.
+      then_read explicit_key _ _ refl (λ explicit.
       then_read script_key _ _ refl (λ script.
-      λ t u is is'. sym (ap but_running (got _ t is)) ∙ ap but_running (got _ u is')))))))))))))
+      λ t u is is'. sym (ap but_running (got _ t is)) ∙ ap but_running (got _ u is'))))))))))))))
 
 -- ---- the plan
 
@@ -102,6 +103,7 @@ rest_of top workers capacity = do
   peers ← read_each peer_in [] top.peers
   dials ← read_each (dial_in peers) [] top.dials
   apps ← read_each (app_in peers dials) [] top.apps
+  explicit ← read_each (agreement_in peers dials) [] top.explicit
   script ← read_each (line_in topics peers dials top.rounds) [] top.script
   params ← params_of shared topics
   Ok (record {
@@ -114,6 +116,7 @@ rest_of top workers capacity = do
     peers = peers;
     dials = dials;
     apps = apps;
+    explicit = explicit;
     script = script;
   })
 
@@ -134,8 +137,9 @@ rests_alike top workers other capacity another =
     then_alike (read_each peer_in [] top.peers) _ _ (λ peers.
     then_alike (read_each (dial_in peers) [] top.dials) _ _ (λ dials.
     then_alike (read_each (app_in peers dials) [] top.apps) _ _ (λ apps.
+    then_alike (read_each (agreement_in peers dials) [] top.explicit) _ _ (λ explicit.
     then_alike (read_each (line_in topics peers dials top.rounds) [] top.script) _ _ (λ script.
-    then_alike (params_of shared topics) _ _ (λ params. refl)))))))
+    then_alike (params_of shared topics) _ _ (λ params. refl))))))))
 
 -- the top table of a plan, and the plan by that
 record IsMadeOf (members : Members) (plan : Plan) : Type 0 where

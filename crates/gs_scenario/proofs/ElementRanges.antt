@@ -1,4 +1,4 @@
--- The peers, topics, dials, scores and lines of a plan that is read are in range.
+-- The peers, topics, dials, scores, agreements and lines of a plan that is read are in range.
 use Rattle.std.proofs.Common.{◌≡◌, ℕ, ◌≤◌, ◌<◌, nat_eq, Bool, true, false, cond, not, List, [], ◌∷◌, ◌++◌, length, codes, Option, Some, None, Ok, refl, arith}
 use Rattle.std.specs.Prelude.{◌||◌, ◌==◌, neg_ℤ, IfOk, IfSome, is_some, option_map, position, find, All, AllPairs}
 use Rattle.std.specs.List.{list_any}
@@ -9,10 +9,11 @@ use Rattle.toml.specs.Data.{Data, Items}
 use Rattle.gs_base.specs.declared.names.PeerNo.{PeerNo}
 use Rattle.gs_base.specs.declared.names.Topic.{Topic}
 use Rattle.gs_base.specs.Names.{same_peer, same_topic}
-use Rattle.gs_plan.specs.Plans.{IsOneOf, IsAppScore, are_joined, are_of_the_same, has_topic, highest_app_score, have_one_name, join_the_same, longest_raw, neighbour_of, raw_of, topic_of}
+use Rattle.gs_plan.specs.Plans.{IsOneOf, IsAppScore, are_joined, are_of_the_same, are_one_pair, has_topic, highest_app_score, have_one_name, join_the_same, longest_raw, neighbour_of, raw_of, topic_of}
 use Rattle.gs_params.specs.declared.topic_params.TopicParams.{TopicParams}
 use Rattle.gs_plan.specs.declared.plan.App.{App}
 use Rattle.gs_plan.specs.declared.plan.Dial.{Dial}
+use Rattle.gs_plan.specs.declared.plan.Explicit.{Explicit}
 use Rattle.gs_plan.specs.declared.plan.Line.{Line}
 use Rattle.gs_plan.specs.declared.plan.PlannedPeer.{PlannedPeer}
 use Rattle.gs_plan.specs.declared.plan.What.{What}
@@ -25,7 +26,7 @@ use Rattle.gs_scenario.specs.Refusal.{item_count}
 use Rattle.gs_scenario.specs.Keys.{◌>>=◌, Section, only, read_key, read_each}
 use Rattle.gs_scenario.specs.Kinds.{whole_number, signed_number, name_text, short_hex, reference, new_name, element, table_at}
 use Rattle.gs_scenario.specs.TopicParamsOf.{topic_params_in}
-use Rattle.gs_scenario.specs.PlanOf.{from_key, to_key, dial_keys, topic_name_key, topic_keys, peer_name_key, address_key, words_key, peer_keys, peer_key, about_key, value_key, app_keys, at_key, topic_key, hex_key, link_key, raw_key, topic_named, topic_in, peer_named, peer_in, other_peer, dial_in, neighbour, app_in, what_in, verb_in, line_in}
+use Rattle.gs_scenario.specs.PlanOf.{from_key, to_key, dial_keys, topic_name_key, topic_keys, peer_name_key, address_key, words_key, peer_keys, peer_key, about_key, value_key, app_keys, explicit_keys, at_key, topic_key, hex_key, link_key, raw_key, topic_named, topic_in, peer_named, peer_in, other_peer, dial_in, neighbour, pair_in, app_in, agreement_in, what_in, verb_in, line_in}
 use Rattle.gs_scenario.proofs.Ranges.{next, past, not_refused, at_required, number_is, signed_is, short_hex_is, reference_is, not_failed, each_is, count_is, none_at, and_also, new_is, no_position, not_found, differ_push, no_pairs, same_bytes}
 
 -- ---- names
@@ -172,13 +173,10 @@ dial_is peers earlier d h =
 pub dials_are : (peers : List PlannedPeer) (ds : Items) → IfOk (read_each (dial_in peers) [] ds) (DialsAre peers)
 dials_are peers ds = each_is (DialsAre peers) (dial_in peers) (dial_is peers) [] ds (record { from = All-nil _; to = All-nil _; others = All-nil _; differ = no_pairs (λ x y. join_the_same y x ≡ false) })
 
--- ---- scores
+-- ---- a peer and its neighbour
 
-pub record AppsAre (peers : List PlannedPeer) (dials : List Dial) (apps : List App) : Type 0 where
-  pub of : All (λ (app : App). IsOneOf peers app.peer) apps
-  pub about : All (λ (app : App). are_joined dials app.peer app.about ≡ true) apps
-  pub values : All (λ (app : App). IsAppScore app.value) apps
-  pub differ : AllPairs (λ x y. are_of_the_same y x ≡ false) apps
+abbrev IsPair : List PlannedPeer → List Dial → PeerNo × PeerNo → Type 0
+IsPair peers dials pair = IsOneOf peers pair.0 × (are_joined dials pair.0 pair.1 ≡ true)
 
 neighbour_is : (peers : List PlannedPeer) (dials : List Dial) (one : PeerNo) (place : List ℕ) (d : Data) → IfOk (neighbour peers dials one place d) (λ other. are_joined dials one other ≡ true)
 neighbour_is peers dials one place d =
@@ -186,6 +184,22 @@ neighbour_is peers dials one place d =
     past P (name_text place d) _
     (λ text. past P (reference names.Peer (peer_named peers) place d) _
     (λ other. not_refused P (not (are_joined dials one other)) _ other (not_failed (are_joined dials one other))))
+
+pair_is : (peers : List PlannedPeer) (dials : List Dial) (section : Section) → IfOk (pair_in peers dials section) (IsPair peers dials)
+unfolding pair_in
+pair_is peers dials section =
+    let P = IsPair peers dials in
+    next (IsOneOf peers) P (read_key section (peer_key peers)) _ (at_required (IsOneOf peers) (peer_key peers).name (reference names.Peer (peer_named peers)) section (peer_is peers))
+    (λ peer of. next (λ other. are_joined dials peer other ≡ true) P (read_key section (about_key peers dials peer)) _ (at_required (λ other. are_joined dials peer other ≡ true) (about_key peers dials peer).name (neighbour peers dials peer) section (neighbour_is peers dials peer))
+    (λ about joined. (of, joined)))
+
+-- ---- scores
+
+pub record AppsAre (peers : List PlannedPeer) (dials : List Dial) (apps : List App) : Type 0 where
+  pub of : All (λ (app : App). IsOneOf peers app.peer) apps
+  pub about : All (λ (app : App). are_joined dials app.peer app.about ≡ true) apps
+  pub values : All (λ (app : App). IsAppScore app.value) apps
+  pub differ : AllPairs (λ x y. are_of_the_same y x ≡ false) apps
 
 one_app_more : (peers : List PlannedPeer) (dials : List Dial) (earlier : List App) (app : App) → IsOneOf peers app.peer → are_joined dials app.peer app.about ≡ true → IsAppScore app.value → list_any (are_of_the_same app) earlier ≡ false → AppsAre peers dials earlier → AppsAre peers dials (earlier ++ app ∷ [])
 one_app_more peers dials earlier app of about value new h = record {
@@ -201,15 +215,42 @@ app_is peers dials earlier d h =
     let P = λ (app : App). AppsAre peers dials (earlier ++ app ∷ []) in
     past P (table_at (element (codes "app") (length earlier)) d) _
     (λ section. past P (only kinds.App app_keys section) _
-    (λ none. next (IsOneOf peers) P (read_key section (peer_key peers)) _ (at_required (IsOneOf peers) (peer_key peers).name (reference names.Peer (peer_named peers)) section (peer_is peers))
-    (λ peer of. next (λ other. are_joined dials peer other ≡ true) P (read_key section (about_key peers dials peer)) _ (at_required (λ other. are_joined dials peer other ≡ true) (about_key peers dials peer).name (neighbour peers dials peer) section (neighbour_is peers dials peer))
-    (λ about joined. next IsAppScore P (read_key section value_key) _ (at_required IsAppScore value_key.name (signed_number (neg_ℤ highest_app_score) highest_app_score) section (signed_is (neg_ℤ highest_app_score) highest_app_score))
+    (λ none. next (IsPair peers dials) P (pair_in peers dials section) _ (pair_is peers dials section)
+    (λ pair are. next IsAppScore P (read_key section value_key) _ (at_required IsAppScore value_key.name (signed_number (neg_ℤ highest_app_score) highest_app_score) section (signed_is (neg_ℤ highest_app_score) highest_app_score))
     (λ value is_score.
-    let app : App = record { peer = peer; about = about; value = value } in
-    not_refused P (list_any (are_of_the_same app) earlier) _ app (λ new. one_app_more peers dials earlier app of joined is_score new h))))))
+    let app : App = record { peer = pair.0; about = pair.1; value = value } in
+    not_refused P (list_any (are_of_the_same app) earlier) _ app (λ new. one_app_more peers dials earlier app are.0 are.1 is_score new h)))))
 
 pub apps_are : (peers : List PlannedPeer) (dials : List Dial) (ds : Items) → IfOk (read_each (app_in peers dials) [] ds) (AppsAre peers dials)
 apps_are peers dials ds = each_is (AppsAre peers dials) (app_in peers dials) (app_is peers dials) [] ds (record { of = All-nil _; about = All-nil _; values = All-nil _; differ = no_pairs (λ x y. are_of_the_same y x ≡ false) })
+
+-- ---- agreements
+
+pub record ExplicitAre (peers : List PlannedPeer) (dials : List Dial) (explicit : List Explicit) : Type 0 where
+  pub of : All (λ (line : Explicit). IsOneOf peers line.peer) explicit
+  pub about : All (λ (line : Explicit). are_joined dials line.peer line.about ≡ true) explicit
+  pub differ : AllPairs (λ x y. are_one_pair y x ≡ false) explicit
+
+one_agreement_more : (peers : List PlannedPeer) (dials : List Dial) (earlier : List Explicit) (line : Explicit) → IsPair peers dials (line.peer, line.about) → list_any (are_one_pair line) earlier ≡ false → ExplicitAre peers dials earlier → ExplicitAre peers dials (earlier ++ line ∷ [])
+one_agreement_more peers dials earlier line pair new h = record {
+  of = All-push (λ (x : Explicit). IsOneOf peers x.peer) earlier line h.of pair.0;
+  about = All-push (λ (x : Explicit). are_joined dials x.peer x.about ≡ true) earlier line h.about pair.1;
+  differ = differ_push are_one_pair earlier line h.differ new;
+}
+
+agreement_is : (peers : List PlannedPeer) (dials : List Dial) (earlier : List Explicit) (d : Data) → ExplicitAre peers dials earlier → IfOk (agreement_in peers dials earlier d) (λ line. ExplicitAre peers dials (earlier ++ line ∷ []))
+unfolding agreement_in
+agreement_is peers dials earlier d h =
+    let P = λ (line : Explicit). ExplicitAre peers dials (earlier ++ line ∷ []) in
+    past P (table_at (element (codes "explicit") (length earlier)) d) _
+    (λ section. past P (only kinds.Explicit explicit_keys section) _
+    (λ none. next (IsPair peers dials) P (pair_in peers dials section) _ (pair_is peers dials section)
+    (λ pair are.
+    let line : Explicit = record { peer = pair.0; about = pair.1 } in
+    not_refused P (list_any (are_one_pair line) earlier) _ line (λ new. one_agreement_more peers dials earlier line are new h))))
+
+pub explicit_are : (peers : List PlannedPeer) (dials : List Dial) (ds : Items) → IfOk (read_each (agreement_in peers dials) [] ds) (ExplicitAre peers dials)
+explicit_are peers dials ds = each_is (ExplicitAre peers dials) (agreement_in peers dials) (agreement_is peers dials) [] ds (record { of = All-nil _; about = All-nil _; differ = no_pairs (λ x y. are_one_pair y x ≡ false) })
 
 -- ---- the script
 

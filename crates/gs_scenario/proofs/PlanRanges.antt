@@ -12,6 +12,7 @@ use Rattle.gs_params.specs.declared.topic_params.TopicParams.{TopicParams}
 use Rattle.gs_params.specs.declared.param_fault.ParamFault.{ParamFault}
 use Rattle.gs_plan.specs.declared.plan.App.{App}
 use Rattle.gs_plan.specs.declared.plan.Dial.{Dial}
+use Rattle.gs_plan.specs.declared.plan.Explicit.{Explicit}
 use Rattle.gs_plan.specs.declared.plan.Line.{Line}
 use Rattle.gs_plan.specs.declared.plan.Plan.{Plan}
 use Rattle.gs_plan.specs.declared.plan.PlannedPeer.{PlannedPeer}
@@ -21,11 +22,11 @@ use Rattle.gs_scenario.specs.declared.scenario.tables.TableKind.TheVariants as k
 use Rattle.gs_scenario.specs.Keys.{Section, only, required, read_key, read_each}
 use Rattle.gs_scenario.specs.Kinds.{whole_number, list_of, section_at}
 use Rattle.gs_scenario.specs.ParamsOf.{highest_number, heartbeat_ms_key, decay_ms_key, fanout_ttl_ms_key, seen_ttl_ms_key, iwant_followup_ms_key, prune_backoff_s_key, unsubscribe_backoff_s_key, mcache_len_key, mcache_gossip_key, opportunistic_ticks_key, opportunistic_peers_key, max_ihave_key, max_ihave_ids_key, gossip_retransmission_key, degrees_in, thresholds_in, factors_in, timing_in, flood_publish_key, shared_names, shared_in, params_of, or_refuse_params, with_topics}
-use Rattle.gs_scenario.specs.PlanOf.{Top, round_ms_key, rounds_key, workers_key, capacity_key, seed_key, params_key, topics_key, peers_key, dials_key, apps_key, script_key, top_keys, top_in, topic_in, peer_in, dial_in, app_in, line_in, plan_in, plan_of_document, plan_of}
+use Rattle.gs_scenario.specs.PlanOf.{Top, round_ms_key, rounds_key, workers_key, capacity_key, seed_key, params_key, topics_key, peers_key, dials_key, apps_key, explicit_key, script_key, top_keys, top_in, topic_in, peer_in, dial_in, app_in, agreement_in, line_in, plan_in, plan_of_document, plan_of}
 use Rattle.gs_scenario.specs.Refusal.{GivesSame, item_count}
 use Rattle.gs_scenario.proofs.Checked.{same_of_checked, checked_again}
 use Rattle.gs_scenario.proofs.Ranges.{next, past, at_required, number_is, list_is, multiple_is}
-use Rattle.gs_scenario.proofs.ElementRanges.{PeersAre, peers_are, TopicsDiffer, TopicsAre, topics_are, DialsAre, dials_are, AppsAre, apps_are, LinesAre, lines_are}
+use Rattle.gs_scenario.proofs.ElementRanges.{PeersAre, peers_are, TopicsDiffer, TopicsAre, topics_are, DialsAre, dials_are, AppsAre, apps_are, ExplicitAre, explicit_are, LinesAre, lines_are}
 
 -- ---- parameters
 
@@ -122,14 +123,15 @@ top_is section =
     next (λ ds. (1 ≤ item_count ds) × (item_count ds ≤ most_peers)) P (read_key section peers_key) _ (list_at peers_key.name 1 most_peers section) (λ peers are_peers.
     past P (read_key section dials_key) _ (λ dials.
     past P (read_key section apps_key) _ (λ apps.
+    past P (read_key section explicit_key) _ (λ explicit.
     past P (read_key section script_key) _ (λ script.
-    top_from (record { round_ms = round_ms; rounds = rounds; workers = workers; capacity = capacity; seed = seed; params = params; topics = topics; peers = peers; dials = dials; apps = apps; script = script }) is_time are_rounds are_workers is_capacity is_seed are_topics are_peers))))))))))))
+    top_from (record { round_ms = round_ms; rounds = rounds; workers = workers; capacity = capacity; seed = seed; params = params; topics = topics; peers = peers; dials = dials; apps = apps; explicit = explicit; script = script }) is_time are_rounds are_workers is_capacity is_seed are_topics are_peers)))))))))))))
 
 -- ---- the plan
 
-module _ (top : Top) (shared : Shared) (topics : List (Topic × TopicParams)) (peers : List PlannedPeer) (dials : List Dial) (apps : List App) (script : List Line) (params : Params) where
-  all_in_range : TopIsInRange top → TakeRounds top.round_ms shared.timing → TopicsAre (item_count top.topics) topics → PeersAre (item_count top.peers) peers → DialsAre peers dials → AppsAre peers dials apps → LinesAre topics peers dials top.rounds script → AreChecked (with_topics shared topics) params → IsInRange (record { round_ms = top.round_ms; rounds = top.rounds; workers = top.workers; capacity = top.capacity; seed = top.seed; params = params; peers = peers; dials = dials; apps = apps; script = script })
-  all_in_range t s m n d a l c = record {
+module _ (top : Top) (shared : Shared) (topics : List (Topic × TopicParams)) (peers : List PlannedPeer) (dials : List Dial) (apps : List App) (explicit : List Explicit) (script : List Line) (params : Params) where
+  all_in_range : TopIsInRange top → TakeRounds top.round_ms shared.timing → TopicsAre (item_count top.topics) topics → PeersAre (item_count top.peers) peers → DialsAre peers dials → AppsAre peers dials apps → ExplicitAre peers dials explicit → LinesAre topics peers dials top.rounds script → AreChecked (with_topics shared topics) params → IsInRange (record { round_ms = top.round_ms; rounds = top.rounds; workers = top.workers; capacity = top.capacity; seed = top.seed; params = params; peers = peers; dials = dials; apps = apps; explicit = explicit; script = script })
+  all_in_range t s m n d a e l c = record {
     some_rounds = t.rounds.0;
     rounds = t.rounds.1;
     some_time = t.round_ms.0;
@@ -156,6 +158,9 @@ module _ (top : Top) (shared : Shared) (topics : List (Topic × TopicParams)) (p
     apps_about = a.about;
     app_values = a.values;
     apps_differ = a.differ;
+    explicit_of = e.of;
+    explicit_about = e.about;
+    explicit_differ = e.differ;
     lines_of = l.of;
     lines_at = l.at;
     lines_on = subst (λ (p : Params). All (λ (line : Line). IfSome (topic_of line.what) (λ topic. has_topic p.topics topic ≡ true)) script) c.0 l.on;
@@ -173,9 +178,10 @@ plan_is all =
     next (PeersAre (item_count top.peers)) P (read_each peer_in [] top.peers) _ (peers_are top.peers) (λ peers n.
     next (DialsAre peers) P (read_each (dial_in peers) [] top.dials) _ (dials_are peers top.dials) (λ dials d.
     next (AppsAre peers dials) P (read_each (app_in peers dials) [] top.apps) _ (apps_are peers dials top.apps) (λ apps a.
+    next (ExplicitAre peers dials) P (read_each (agreement_in peers dials) [] top.explicit) _ (explicit_are peers dials top.explicit) (λ explicit e.
     next (LinesAre topics peers dials top.rounds) P (read_each (line_in topics peers dials top.rounds) [] top.script) _ (lines_are topics peers dials top.rounds top.script) (λ script l.
     next (AreChecked (with_topics shared topics)) P (params_of shared topics) _ (params_are shared topics) (λ params c.
-    all_in_range top shared topics peers dials apps script params t s m n d a l c))))))))
+    all_in_range top shared topics peers dials apps explicit script params t s m n d a e l c)))))))))
 
 document_is : (found : Option Members) → IfOk (plan_of_document found) IsInRange
 document_is None = tt

@@ -17,10 +17,11 @@ use Rattle.gs_plan.specs.declared.plan.Plan.{Plan}
 use Rattle.gs_plan.specs.declared.plan.PlannedPeer.{PlannedPeer}
 use Rattle.gs_plan.specs.declared.plan.Dial.{Dial}
 use Rattle.gs_plan.specs.declared.plan.App.{App}
+use Rattle.gs_plan.specs.declared.plan.Explicit.{Explicit}
 use Rattle.gs_plan.specs.declared.plan.Line.{Line}
 use Rattle.gs_plan.specs.declared.plan.What.{What}
 use Rattle.gs_plan.specs.declared.plan.What.TheVariants.{Subscribe, Unsubscribe, Publish, Raw, HangUp}
-use Rattle.gs_plan.specs.Plans.{are_joined, are_of_the_same, join_the_same, longest_round, most_rounds, most_workers, highest_capacity, most_peers, most_planned_topics, highest_app_score, longest_raw}
+use Rattle.gs_plan.specs.Plans.{are_joined, are_of_the_same, are_one_pair, join_the_same, longest_round, most_rounds, most_workers, highest_capacity, most_peers, most_planned_topics, highest_app_score, longest_raw}
 use Rattle.gs_scenario.specs.declared.scenario.script.Verb.{Verb}
 use Rattle.gs_scenario.specs.declared.scenario.script.Verb.TheVariants as verbs
 use Rattle.gs_scenario.specs.Keys.{Key, Kind, Section, ◌>>=◌, refuse_if, required, optional, read_key, only, read_each}
@@ -60,6 +61,9 @@ dials_key = optional (codes "dial") any_list no_items
 abbrev pub apps_key : Key Items
 apps_key = optional (codes "app") any_list no_items
 
+abbrev pub explicit_key : Key Items
+explicit_key = optional (codes "explicit") any_list no_items
+
 abbrev pub script_key : Key Items
 script_key = optional (codes "do") any_list no_items
 
@@ -75,6 +79,7 @@ top_keys =
     ∷ peers_key.name
     ∷ dials_key.name
     ∷ apps_key.name
+    ∷ explicit_key.name
     ∷ script_key.name
     ∷ []
 
@@ -90,6 +95,7 @@ pub record Top : Type 0 where
   pub peers : Items
   pub dials : Items
   pub apps : Items
+  pub explicit : Items
   pub script : Items
 
 unfoldable pub top_in : Section → Result Top ScenarioFault
@@ -105,6 +111,7 @@ top_in top = do
   peers ← read_key top peers_key
   dials ← read_key top dials_key
   apps ← read_key top apps_key
+  explicit ← read_key top explicit_key
   script ← read_key top script_key
   Ok (record {
     round_ms = round_ms;
@@ -117,6 +124,7 @@ top_in top = do
     peers = peers;
     dials = dials;
     apps = apps;
+    explicit = explicit;
     script = script;
   })
 
@@ -212,6 +220,13 @@ peer_key peers = required (codes "peer") (reference names.Peer (peer_named peers
 abbrev pub about_key : List PlannedPeer → List Dial → PeerNo → Key PeerNo
 about_key peers dials one = required (codes "about") (neighbour peers dials one)
 
+-- a peer that a table speaks of, and a neighbour of it
+unfoldable pub pair_in : List PlannedPeer → List Dial → Section → Result (PeerNo × PeerNo) ScenarioFault
+pair_in peers dials section = do
+  peer ← read_key section (peer_key peers)
+  about ← read_key section (about_key peers dials peer)
+  Ok (peer, about)
+
 abbrev pub value_key : Key ℤ
 value_key = required (codes "value") (signed_number (neg_ℤ highest_app_score) highest_app_score)
 
@@ -225,10 +240,24 @@ unfoldable pub app_in : List PlannedPeer → List Dial → List App → Data →
 app_in peers dials earlier d = do
   section ← table_at (element (codes "app") (length earlier)) d
   _ ← only kinds.App app_keys section
-  peer ← read_key section (peer_key peers)
-  about ← read_key section (about_key peers dials peer)
+  pair ← pair_in peers dials section
   value ← read_key section value_key
-  new_app (element (codes "app") (length earlier)) earlier (record { peer = peer; about = about; value = value })
+  new_app (element (codes "app") (length earlier)) earlier (record { peer = pair.0; about = pair.1; value = value })
+
+-- ---- an agreement of a peer with a neighbour
+
+abbrev pub explicit_keys : List (List ℕ)
+explicit_keys = (peer_key []).name ∷ (about_key [] [] (record { 0 = 0 })).name ∷ []
+
+abbrev pub new_agreement : List ℕ → List Explicit → Explicit → Result Explicit ScenarioFault
+new_agreement place earlier one = refuse_if (list_any (are_one_pair one) earlier) (Repeated place) one
+
+unfoldable pub agreement_in : List PlannedPeer → List Dial → List Explicit → Data → Result Explicit ScenarioFault
+agreement_in peers dials earlier d = do
+  section ← table_at (element (codes "explicit") (length earlier)) d
+  _ ← only kinds.Explicit explicit_keys section
+  pair ← pair_in peers dials section
+  new_agreement (element (codes "explicit") (length earlier)) earlier (record { peer = pair.0; about = pair.1 })
 
 -- ---- a line of the script
 
@@ -285,6 +314,7 @@ known_keys kinds.Topic = topic_keys
 known_keys kinds.Peer = peer_keys
 known_keys kinds.Dial = dial_keys
 known_keys kinds.App = app_keys
+known_keys kinds.Explicit = explicit_keys
 known_keys kinds.SubscriptionLine = line_keys ((topic_key []).name ∷ [])
 known_keys kinds.PublishLine = line_keys ((topic_key []).name ∷ hex_key.name ∷ [])
 known_keys kinds.RawLine = link_keys (raw_key.name ∷ [])
@@ -340,6 +370,7 @@ plan_in members = do
   peers ← read_each peer_in [] top.peers
   dials ← read_each (dial_in peers) [] top.dials
   apps ← read_each (app_in peers dials) [] top.apps
+  explicit ← read_each (agreement_in peers dials) [] top.explicit
   script ← read_each (line_in topics peers dials top.rounds) [] top.script
   params ← params_of shared topics
   Ok (record {
@@ -352,6 +383,7 @@ plan_in members = do
     peers = peers;
     dials = dials;
     apps = apps;
+    explicit = explicit;
     script = script;
   })
 

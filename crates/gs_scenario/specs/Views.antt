@@ -56,6 +56,7 @@ top_view top = record {
   peers = items_view top.peers.now;
   dials = items_view top.dials.now;
   apps = items_view top.apps.now;
+  explicit = items_view top.explicit.now;
   script = items_view top.script.now;
 }
 

@@ -26,7 +26,7 @@ pub enum ScenarioFault {
     /// A name is well formed, and nothing of the kind that may stand there has it: the place, and
     /// the name.
     UnknownName(Text, Text, NameKind),
-    /// A name, a dial or the score of a neighbour stands for the second time.
+    /// A name, a dial, the score of a neighbour or a peering agreement stands for the second time.
     Repeated(Text),
     /// The parameters don't pass their checks.
     Params(ParamFault),

@@ -7,7 +7,9 @@ ghost use Rattle.gs_plan.specs.Plans.{IsInRange};
 mod apps;
 mod dials;
 mod elements;
+mod explicit;
 mod field;
+mod pairs;
 mod params;
 mod peers;
 mod place;
@@ -21,6 +23,7 @@ mod topics;
 use crate::fault::ScenarioFault;
 use crate::scenario::apps::apps_in;
 use crate::scenario::dials::dials_in;
+use crate::scenario::explicit::agreements_in;
 use crate::scenario::params::{params_of, shared_of};
 use crate::scenario::peers::peers_in;
 use crate::scenario::place::Path;
@@ -68,6 +71,7 @@ fn plan_in(alloc: Global, table: &Table) -> Result<Plan, ScenarioFault>
     let peers = peers_in(alloc, top.peers)?;
     let dials = dials_in(alloc, peers.as_slice(), top.dials)?;
     let apps = apps_in(alloc, peers.as_slice(), dials.as_slice(), top.apps)?;
+    let explicit = agreements_in(alloc, peers.as_slice(), dials.as_slice(), top.explicit)?;
     let known = Known {
         topics: topics.as_slice(),
         peers: peers.as_slice(),
@@ -86,6 +90,7 @@ fn plan_in(alloc: Global, table: &Table) -> Result<Plan, ScenarioFault>
         peers,
         dials,
         apps,
+        explicit,
         script,
     })
 }

@@ -1,5 +1,6 @@
 //! Scenarios with the plan or the refusal that each must give.
 mod cases;
+mod explicit;
 mod joins;
 mod keys;
 mod links;
@@ -163,7 +164,7 @@ fn check_wrong_types<T: AllocGlobal + Abort>(rt: &T, key: &str) -> Result<(), Al
 }
 
 #[test]
-fn four_keys_of_the_top_table_may_be_missing(rt: HostRuntime) -> Result<(), AllocError> {
+fn five_keys_of_the_top_table_may_be_missing(rt: HostRuntime) -> Result<(), AllocError> {
     let alloc = rt.alloc();
     for (key, _usual) in &TOP {
         let given = outcome_with(alloc, key, "")?;
@@ -175,7 +176,7 @@ fn four_keys_of_the_top_table_may_be_missing(rt: HostRuntime) -> Result<(), Allo
 
 /// What the top table must give without a key.
 fn wanted_without(alloc: Global, key: &str) -> Result<String, AllocError> {
-    if matches!(key, "params" | "dial" | "app" | "do") {
+    if matches!(key, "params" | "dial" | "app" | "explicit" | "do") {
         return String::from_str(alloc, "a plan");
     }
     format!(in alloc; "28 {key}")

@@ -11,7 +11,7 @@ const LONGEST_NEAR: usize = 40;
 /// table), its name, and what it holds.
 type Required = (&'static str, &'static str, &'static str);
 
-static REQUIRED: [Required; 20] = [
+static REQUIRED: [Required; 22] = [
     (
         "",
         "round_ms",
@@ -54,6 +54,8 @@ static REQUIRED: [Required; 20] = [
         "value",
         "millionths, a whole number from -1000000000 to 1000000000",
     ),
+    ("explicit", "peer", "the name of a peer"),
+    ("explicit", "about", "the name of a neighbour of that peer"),
     (
         "do",
         "what",
@@ -122,6 +124,7 @@ fn table_words(kind: TableKind) -> &'static str {
         TableKind::Peer => "a `[[peer]]`",
         TableKind::Dial => "a `[[dial]]`",
         TableKind::App => "an `[[app]]`",
+        TableKind::Explicit => "an `[[explicit]]`",
         TableKind::SubscriptionLine => "a `[[do]]` that subscribes or unsubscribes",
         TableKind::PublishLine => "a `[[do]]` that publishes",
         TableKind::RawLine => "a `[[do]]` that sends raw bytes",

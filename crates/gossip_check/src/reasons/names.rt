@@ -66,6 +66,8 @@ impl<'a> fmt::Display for NoNeighbour<'a> {
             write_neighbours(f, dials_of(self.top), peer)
         } else if self.place.starts_with("app[") {
             f.write_str("a peer does not score itself")
+        } else if self.place.starts_with("explicit[") {
+            f.write_str("a peer has no agreement with itself")
         } else {
             f.write_str("a peer has no link to itself")
         }
@@ -130,6 +132,8 @@ pub fn repeated(alloc: Global, place: &str) -> Result<String, AllocError> {
         "is the name of an earlier peer"
     } else if place.starts_with("dial[") {
         "joins two peers that an earlier dial joins"
+    } else if place.starts_with("explicit[") {
+        "is a second agreement of the same peer with the same neighbour"
     } else {
         "is a second value of the same peer for the same neighbour"
     };

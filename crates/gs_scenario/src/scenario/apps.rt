@@ -10,17 +10,13 @@ ghost use Rattle.gs_scenario.specs.PlanOf.{app_in, app_keys};
 use crate::fault::ScenarioFault;
 use crate::scenario::elements::read_each;
 use crate::scenario::field::table_of;
-use crate::scenario::peers::{neighbour_of, peer_of};
+use crate::scenario::pairs::{ABOUT, PEER, pair_in};
 use crate::scenario::place::{Element, Place};
 use crate::scenario::tables::TableKind;
 use gs_base::Seq;
 use gs_plan::{App, Dial, HIGHEST_APP_SCORE, MOST_PEERS, PlannedPeer};
 use std::alloc::Global;
 use toml::Value;
-
-const PEER: &str = "peer";
-
-const ABOUT: &str = "about";
 
 const VALUE: &str = "value";
 
@@ -66,10 +62,13 @@ fn app_in(
     };
     let section = table_of(alloc, element, value)?;
     section.only(TableKind::App)?;
-    let peer = peer_of(peers, &section.required(PEER)?)?;
-    let about = neighbour_of(peers, dials, peer, &section.required(ABOUT)?)?;
+    let pair = pair_in(peers, dials, &section)?;
     let value = section.signed_number(VALUE, -HIGHEST_APP_SCORE, HIGHEST_APP_SCORE)?;
-    let app = App { peer, about, value };
+    let app = App {
+        peer: pair.0,
+        about: pair.1,
+        value,
+    };
     if is_repeated(earlier, &app) {
         return Err(ScenarioFault::Repeated(Place::Element(element).to_text(alloc)?));
     }

@@ -1,7 +1,7 @@
 ghost use Rattle.std.specs.Prelude.{◌≡◌, map};
 ghost use Rattle.gs_scenario.specs.PlanOf.{known_keys};
 
-use crate::scenario::{apps, dials, params, peers, script, top, topics};
+use crate::scenario::{apps, dials, explicit, params, peers, script, top, topics};
 
 /// The tables of a scenario, by the keys that they may have.
 #[derive(Clone, Copy, Debug, PartialEq, Eq)]
@@ -18,6 +18,8 @@ pub enum TableKind {
     Dial,
     /// An element of `app`.
     App,
+    /// An element of `explicit`.
+    Explicit,
     /// An element of `do` that tells a peer to subscribe or to unsubscribe.
     SubscriptionLine,
     /// An element of `do` that tells a peer to publish.
@@ -40,6 +42,7 @@ impl TableKind {
             TableKind::Peer => peers::keys(),
             TableKind::Dial => dials::keys(),
             TableKind::App => apps::keys(),
+            TableKind::Explicit => explicit::keys(),
             TableKind::SubscriptionLine => script::subscription_keys(),
             TableKind::PublishLine => script::publish_keys(),
             TableKind::RawLine => script::raw_keys(),

@@ -30,6 +30,8 @@ const DIAL: &str = "dial";
 
 const APP: &str = "app";
 
+const EXPLICIT: &str = "explicit";
+
 const DO: &str = "do";
 
 /// The keys of the top table.
@@ -37,7 +39,7 @@ pub fn keys() -> &'static [&'static str]
     ensures { map (λ key. key.now) result.now ≡ spec.top_keys }
 {
     &[
-        ROUND_MS, ROUNDS, WORKERS, CAPACITY, SEED, PARAMS, TOPIC, PEER, DIAL, APP, DO,
+        ROUND_MS, ROUNDS, WORKERS, CAPACITY, SEED, PARAMS, TOPIC, PEER, DIAL, APP, EXPLICIT, DO,
     ]
 }
 
@@ -54,6 +56,7 @@ pub struct Top<'a> {
     pub peers: &'a [Value],
     pub dials: &'a [Value],
     pub apps: &'a [Value],
+    pub explicit: &'a [Value],
     pub script: &'a [Value],
 }
 
@@ -78,6 +81,7 @@ impl<'a> Top<'a> {
             peers: top.list(PEER, 1, MOST_PEERS)?,
             dials: top.optional_list(DIAL)?,
             apps: top.optional_list(APP)?,
+            explicit: top.optional_list(EXPLICIT)?,
             script: top.optional_list(DO)?,
         })
     }

@@ -297,7 +297,7 @@ pub static OTHER_LISTS: [Case; 12] = [
 ];
 
 /// The keys of the top table, and a value of each.
-pub static TOP: [(&str, &str); 11] = [
+pub static TOP: [(&str, &str); 12] = [
     ("round_ms", "100"),
     ("rounds", "10"),
     ("workers", "2"),
@@ -308,6 +308,7 @@ pub static TOP: [(&str, &str); 11] = [
     ("peer", "[{ name = 'a' }]"),
     ("dial", "[]"),
     ("app", "[]"),
+    ("explicit", "[]"),
     ("do", "[]"),
 ];
 
@@ -315,7 +316,7 @@ pub static TOP: [(&str, &str); 11] = [
 pub static WRONG: [&str; 6] = ["-1", "1.0", "nan", "true", "'1'", "1979-05-27"];
 
 /// Values of a key, and what they give.
-pub static BOUNDS: [(&str, &str, &str); 25] = [
+pub static BOUNDS: [(&str, &str, &str); 28] = [
     ("round_ms", "0", "29 round_ms"),
     ("round_ms", "1", "a plan"),
     ("round_ms", "1000", "a plan"),
@@ -337,6 +338,9 @@ pub static BOUNDS: [(&str, &str, &str); 25] = [
     ("topic", "{ a = 1 }", "29 topic"),
     ("app", "[1]", "29 app[0]"),
     ("app", "[{}]", "28 app[0].peer"),
+    ("explicit", "{ a = 1 }", "29 explicit"),
+    ("explicit", "[1]", "29 explicit[0]"),
+    ("explicit", "[{}]", "28 explicit[0].peer"),
     ("dial", "[1]", "29 dial[0]"),
     ("dial", "[{}]", "28 dial[0].from"),
     ("do", "[[]]", "29 do[0]"),
@@ -344,13 +348,14 @@ pub static BOUNDS: [(&str, &str, &str); 25] = [
 ];
 
 /// How many numbers stand in a list, and what that gives.
-pub static LENGTHS: [(&str, usize, &str); 6] = [
+pub static LENGTHS: [(&str, usize, &str); 7] = [
     ("topic", 32, "29 topic[0]"),
     ("topic", 33, "29 topic"),
     ("peer", 64, "29 peer[0]"),
     ("peer", 65, "29 peer"),
     ("dial", 1000, "29 dial[0]"),
     ("app", 1000, "29 app[0]"),
+    ("explicit", 1000, "29 explicit[0]"),
 ];
 
 /// How deep lists lie in lists, and what that gives as a seed.

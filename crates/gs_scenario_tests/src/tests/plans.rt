@@ -119,6 +119,14 @@ peer = \"b\"
 about = \"a\"
 value = 0
 
+[[explicit]]
+peer = \"a\"
+about = \"c\"
+
+[[explicit]]
+about = \"a\"
+peer = \"b\"
+
 [[do]]
 at = 20
 peer = \"c\"
@@ -132,6 +140,10 @@ peer = \"c\"
 what = \"raw\"
 to = \"a\"
 hex = \"00fF\"
+
+[[explicit]]
+peer = \"a\"
+about = \"b\"
 
 [[do]]
 at = 19
@@ -171,7 +183,7 @@ pub static PLANS: [(&str, &str); 3] = [
         PlannedPeer { name: Text { text: \"a\" }, address: Text { text: \"a\" }, words: Seq { items: [] } }, \
         PlannedPeer { name: Text { text: \"b\" }, address: Text { text: \"b\" }, words: Seq { items: [] } }] }, \
         dials: Seq { items: [Dial { from: PeerNo(0), to: PeerNo(1) }] }, apps: Seq { items: [] }, \
-        script: Seq { items: [\
+        explicit: Seq { items: [] }, script: Seq { items: [\
         Line { at: 0, peer: PeerNo(0), what: Subscribe(Topic(b\"news\")) }, \
         Line { at: 0, peer: PeerNo(1), what: Subscribe(Topic(b\"news\")) }, \
         Line { at: 2, peer: PeerNo(0), what: Publish(Topic(b\"news\"), b\"abc\") }] } }",
@@ -183,7 +195,8 @@ pub static PLANS: [(&str, &str); 3] = [
         topics: Seq { items: [(Topic(b\"news\"), DEFAULT_TOPIC)] } }, \
         peers: Seq { items: [\
         PlannedPeer { name: Text { text: \"a\" }, address: Text { text: \"a\" }, words: Seq { items: [] } }] }, \
-        dials: Seq { items: [] }, apps: Seq { items: [] }, script: Seq { items: [] } }",
+        dials: Seq { items: [] }, apps: Seq { items: [] }, explicit: Seq { items: [] }, \
+        script: Seq { items: [] } }",
     ),
     (
         EACH_KEY,
@@ -215,6 +228,8 @@ pub static PLANS: [(&str, &str); 3] = [
         apps: Seq { items: [App { peer: PeerNo(0), about: PeerNo(1), value: -1000000000 }, \
         App { peer: PeerNo(0), about: PeerNo(2), value: 1000000000 }, \
         App { peer: PeerNo(1), about: PeerNo(0), value: 0 }] }, \
+        explicit: Seq { items: [Explicit { peer: PeerNo(0), about: PeerNo(2) }, \
+        Explicit { peer: PeerNo(1), about: PeerNo(0) }, Explicit { peer: PeerNo(0), about: PeerNo(1) }] }, \
         script: Seq { items: [\
         Line { at: 20, peer: PeerNo(2), what: Publish(Topic(b\"blog\"), b\"\") }, \
         Line { at: 0, peer: PeerNo(2), what: Raw(PeerNo(0), b\"\\0\\xff\") }, \

@@ -2,7 +2,7 @@
 use gs_scenario::TableKind;
 
 /// Edits of the scenario that says something in each table, and the refusals as they are written.
-pub static REASONS: [(&str, &str, &str); 45] = [
+pub static REASONS: [(&str, &str, &str); 53] = [
     // What stands there.
     (
         "workers = 2",
@@ -132,6 +132,11 @@ pub static REASONS: [(&str, &str, &str); 45] = [
     ),
     (
         "value = 5\n",
+        "value = 5\n[[explicit]]\npeer = 'a'\nabout = 'B'\n",
+        "Range(Text { text: \"explicit[0].about\" }, Text(Text { text: \"B\" }), Name)",
+    ),
+    (
+        "value = 5\n",
         "value = 5\n[[do]]\nwhat = 'row'\n",
         "Range(Text { text: \"do[0].what\" }, Text(Text { text: \"row\" }), Verb)",
     ),
@@ -171,6 +176,37 @@ pub static REASONS: [(&str, &str, &str); 45] = [
         "value = 5\n[[do]]\nwhat = 'raw'\nat = 0\npeer = 'a'\nto = 'a'\n",
         "UnknownName(Text { text: \"do[0].to\" }, Text { text: \"a\" }, Neighbour)",
     ),
+    (
+        "value = 5\n",
+        "value = 5\n[[explicit]]\npeer = 'd'\nabout = 'b'\n",
+        "UnknownName(Text { text: \"explicit[0].peer\" }, Text { text: \"d\" }, Peer)",
+    ),
+    (
+        "value = 5\n",
+        "value = 5\n[[explicit]]\npeer = 'a'\nabout = 'd'\n",
+        "UnknownName(Text { text: \"explicit[0].about\" }, Text { text: \"d\" }, Peer)",
+    ),
+    (
+        "value = 5\n",
+        "value = 5\n[[explicit]]\npeer = 'a'\nabout = 'c'\n",
+        "UnknownName(Text { text: \"explicit[0].about\" }, Text { text: \"c\" }, Neighbour)",
+    ),
+    (
+        "value = 5\n",
+        "value = 5\n[[explicit]]\npeer = 'a'\nabout = 'a'\n",
+        "UnknownName(Text { text: \"explicit[0].about\" }, Text { text: \"a\" }, Neighbour)",
+    ),
+    // What stands for the second time.
+    (
+        "value = 5\n",
+        "value = 5\n[[app]]\npeer = 'a'\nabout = 'b'\nvalue = 6\n",
+        "Repeated(Text { text: \"app[1]\" })",
+    ),
+    (
+        "value = 5\n",
+        "value = 5\n[[explicit]]\npeer = 'a'\nabout = 'b'\n[[explicit]]\npeer = 'a'\nabout = 'b'\n",
+        "Repeated(Text { text: \"explicit[1]\" })",
+    ),
     // Which table has no such key.
     (
         "seed = 1",
@@ -201,6 +237,11 @@ pub static REASONS: [(&str, &str, &str); 45] = [
         "value = 5\n",
         "value = 5\nscore = 1\n",
         "UnknownKey(Text { text: \"app[0].score\" }, App)",
+    ),
+    (
+        "value = 5\n",
+        "value = 5\n[[explicit]]\nvalue = 1\n",
+        "UnknownKey(Text { text: \"explicit[0].value\" }, Explicit)",
     ),
     (
         "value = 5\n",
@@ -236,10 +277,10 @@ pub static REASONS: [(&str, &str, &str); 45] = [
 ];
 
 /// The keys that a table may have, in the order in which they are looked at.
-pub static KNOWN_KEYS: [(TableKind, &str); 10] = [
+pub static KNOWN_KEYS: [(TableKind, &str); 11] = [
     (
         TableKind::Top,
-        "round_ms rounds workers capacity seed params topic peer dial app do ",
+        "round_ms rounds workers capacity seed params topic peer dial app explicit do ",
     ),
     (
         TableKind::Params,
@@ -257,6 +298,7 @@ pub static KNOWN_KEYS: [(TableKind, &str); 10] = [
     (TableKind::Peer, "name address words "),
     (TableKind::Dial, "from to "),
     (TableKind::App, "peer about value "),
+    (TableKind::Explicit, "peer about "),
     (TableKind::SubscriptionLine, "what at peer topic "),
     (TableKind::PublishLine, "what at peer topic hex "),
     (TableKind::RawLine, "what at peer to hex "),

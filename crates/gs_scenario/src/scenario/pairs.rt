@@ -1,0 +1,32 @@
+//! A peer, and a neighbour of it, that a table speaks of.
+ghost use Rattle.std.specs.Prelude.{◌≤◌, length};
+ghost use Rattle.gs_scenario.specs.Refusal.{GivesSame};
+ghost use Rattle.gs_scenario.specs.PlanOf.{pair_in};
+ghost use Rattle.gs_scenario.specs.Views.{section_of};
+
+use crate::fault::ScenarioFault;
+use crate::scenario::peers::{neighbour_of, peer_of};
+use crate::scenario::section::Section;
+use gs_base::PeerNo;
+use gs_plan::{Dial, MOST_PEERS, PlannedPeer};
+
+/// The key of the peer.
+pub const PEER: &str = "peer";
+
+/// The key of its neighbour.
+pub const ABOUT: &str = "about";
+
+/// The peer of a table, and its neighbour.
+#[tactic(auto, unfolding(crate::specs::PlanOf::pair_in))]
+pub fn pair_in(
+    peers: &[PlannedPeer],
+    dials: &[Dial],
+    section: &Section<'_>,
+) -> Result<(PeerNo, PeerNo), ScenarioFault>
+    requires { length peers.now ≤ MOST_PEERS }
+    ensures { GivesSame result (pair_in peers.now dials.now (section_of section.now)) }
+{
+    let peer = peer_of(peers, &section.required(PEER)?)?;
+    let about = neighbour_of(peers, dials, peer, &section.required(ABOUT)?)?;
+    Ok((peer, about))
+}
