@@ -1,6 +1,7 @@
 //! Whole runs, from a scenario to its report.
 mod breaking;
 mod choices;
+mod explicit;
 mod meshes;
 mod one_output;
 mod standings;

@@ -7,6 +7,7 @@ use Rattle.gs_base.specs.declared.neighbour.Neighbour.{Neighbour}
 use Rattle.gs_base.specs.Names.{same_peer}
 use Rattle.gs_plan.specs.declared.plan.App.{App}
 use Rattle.gs_plan.specs.declared.plan.Dial.{Dial}
+use Rattle.gs_plan.specs.declared.plan.Explicit.{Explicit}
 use Rattle.gs_plan.specs.declared.plan.Line.{Line}
 use Rattle.gs_plan.specs.declared.plan.Plan.{Plan}
 use Rattle.gs_plan.specs.declared.plan.PlannedPeer.{PlannedPeer}
@@ -59,6 +60,10 @@ is_about p q app = same_peer app.peer p && same_peer app.about q
 abbrev pub app_of : Plan → PeerNo → PeerNo → ℤ
 app_of plan p q = unwrap_or (option_map (λ (app : App). app.value) (find (is_about p q) plan.apps)) (pos 0)
 
+-- the one has a peering agreement with the other, which says nothing of the other's with it
+abbrev pub is_agreed : PeerNo → PeerNo → Explicit → Bool
+is_agreed p q agreement = same_peer agreement.peer p && same_peer agreement.about q
+
 -- the one as a neighbour of the other
 abbrev pub neighbour_in : Plan → PeerNo → PeerNo → Neighbour
 neighbour_in plan p q = record {
@@ -66,6 +71,7 @@ neighbour_in plan p q = record {
   outbound = list_any (is_dial p q) plan.dials;
   address = address_of plan q;
   app = app_of plan p q;
+  explicit = list_any (is_agreed p q) plan.explicit;
 }
 
 abbrev pub neighbours_in : Plan → PeerNo → List Neighbour

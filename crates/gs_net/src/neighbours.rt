@@ -1,10 +1,10 @@
 ghost use Rattle.std.specs.Prelude.{◌≡◌, ◌≤◌, ◌<◌, IfOk, length};
 ghost use Rattle.std.specs.List.{list_any};
-ghost use Rattle.gs_net.specs.Rounds.{address_of, app_of, is_about, is_dial, neighbour_in, neighbours_in};
+ghost use Rattle.gs_net.specs.Rounds.{address_of, app_of, is_about, is_agreed, is_dial, neighbour_in, neighbours_in};
 
 use bytes::Bytes;
 use gs_base::{Neighbour, PeerNo};
-use gs_plan::{App, Dial, MOST_PEERS, Plan, are_joined};
+use gs_plan::{App, Dial, Explicit, MOST_PEERS, Plan, are_joined};
 use std::alloc::{AllocError, Global};
 
 /// The neighbours of a peer, ascending: whom it dials, and who dials it.
@@ -35,10 +35,10 @@ fn neighbour_of(
     ensures { IfOk result (λ neighbour. neighbour ≡ neighbour_in plan.now peer other) }
 {
     Ok(Neighbour {
-        peer: other,
         outbound: dials(plan.dials.as_slice(), peer, other),
-        address: address_of(alloc, plan, other)?,
         app: i128::from(app_of(plan, peer, other)),
+        explicit: agreed(plan.explicit.as_slice(), peer, other),
+        ..Neighbour::new(other, address_of(alloc, plan, other)?)
     })
 }
 
@@ -85,6 +85,20 @@ fn is_about(peer: PeerNo, about: PeerNo, app: &App) -> bool
     ensures { result ≡ is_about peer about app.now }
 {
     app.peer == peer && app.about == about
+}
+
+/// Whether the one peer has a peering agreement with the other.
+fn agreed(all: &[Explicit], peer: PeerNo, about: PeerNo) -> bool
+    ensures { result ≡ list_any (is_agreed peer about) all.now }
+{
+    all.iter()
+        .any(|agreement| is_agreed(peer, about, agreement))
+}
+
+fn is_agreed(peer: PeerNo, about: PeerNo, agreement: &Explicit) -> bool
+    ensures { result ≡ is_agreed peer about agreement.now }
+{
+    agreement.peer == peer && agreement.about == about
 }
 
 #[cfg(test)]

@@ -64,7 +64,7 @@ fn ends<T: Host, R: Read>(rt: &T, input: &mut R, status: u8, output: &str, error
         && err.as_slice() == errors.as_bytes()
 }
 
-fn is_refused<T: Host>(rt: &T, input: &[u8], line: &str) -> bool {
+pub fn is_refused<T: Host>(rt: &T, input: &[u8], line: &str) -> bool {
     ends(rt, &mut &input[..], 1, "", line)
 }
 

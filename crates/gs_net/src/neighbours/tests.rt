@@ -15,7 +15,8 @@ fn peer(alloc: Global, name: &str, address: &str) -> Result<PlannedPeer, AllocEr
     })
 }
 
-/// Peer 0 dials 1 and is dialled by 2; 0 and 1 are at one address; 0 and 1 think of each other.
+/// Peer 0 dials 1 and is dialled by 2; 0 and 1 are at one address, and think of each other; 0 has a peering agreement
+/// with 2, which has none with 0.
 fn plan(alloc: Global) -> Result<Plan, AllocError>
     ensures { IfOk result (λ plan. length plan.peers ≤ most) }
 {
@@ -38,6 +39,11 @@ fn plan(alloc: Global) -> Result<Plan, AllocError>
             value,
         })?;
     }
+    let mut explicit = Seq::new(alloc);
+    explicit.push(Explicit {
+        peer: PeerNo(0),
+        about: PeerNo(2),
+    })?;
     Ok(Plan {
         round_ms: 100,
         rounds: 5,
@@ -48,12 +54,13 @@ fn plan(alloc: Global) -> Result<Plan, AllocError>
         peers,
         dials,
         apps,
+        explicit,
         script: Seq::new(alloc),
     })
 }
 
-/// What is expected of a neighbour: its number, whether it was dialled, its address and its score.
-type Expected<'a> = (u16, bool, &'a str, i128);
+/// What is expected of a neighbour: its number, whether it was dialled, its address, its score and whether it is explicit.
+type Expected<'a> = (u16, bool, &'a str, i128, bool);
 
 /// Whether a peer of the plan has just these neighbours.
 fn has_neighbours(
@@ -62,12 +69,13 @@ fn has_neighbours(
     expected: &[Expected<'_>],
 ) -> Result<bool, AllocError> {
     let mut all = Vec::new(alloc);
-    for (other, outbound, address, app) in expected {
+    for (other, outbound, address, app, explicit) in expected {
+        let address = Bytes::copy_from_slice(alloc, address.as_bytes())?;
         all.push(Neighbour {
-            peer: PeerNo(*other),
             outbound: *outbound,
-            address: Bytes::copy_from_slice(alloc, address.as_bytes())?,
             app: *app,
+            explicit: *explicit,
+            ..Neighbour::new(PeerNo(*other), address)
         })?;
     }
     let found = neighbours_of(alloc, &plan(alloc)?, PeerNo(number))?;
@@ -78,10 +86,13 @@ fn has_neighbours(
 fn a_neighbour_has_its_address_and_score_and_is_outbound_where_it_was_dialled(
     rt: HostRuntime,
 ) -> Result<(), AllocError> {
-    let of_a: [Expected<'_>; 2] = [(1, true, "ten", 5_000_000), (2, false, "eleven", 0)];
+    let of_a: [Expected<'_>; 2] = [
+        (1, true, "ten", 5_000_000, false),
+        (2, false, "eleven", 0, true),
+    ];
     assert!(rt; has_neighbours(rt.alloc(), 0, &of_a)?);
-    assert!(rt; has_neighbours(rt.alloc(), 1, &[(0, false, "ten", -7)])?);
-    assert!(rt; has_neighbours(rt.alloc(), 2, &[(0, true, "ten", 0)])?);
+    assert!(rt; has_neighbours(rt.alloc(), 1, &[(0, false, "ten", -7, false)])?);
+    assert!(rt; has_neighbours(rt.alloc(), 2, &[(0, true, "ten", 0, false)])?);
     assert!(rt; has_neighbours(rt.alloc(), 3, &[])?);
     Ok(())
 }

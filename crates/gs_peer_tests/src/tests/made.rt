@@ -47,12 +47,7 @@ fn neighbour(peer: PeerNo) -> Neighbour
     ensures peer { result.peer ≡ peer }
     ensures app { result.app ≡ pos 0 }
 {
-    Neighbour {
-        peer,
-        outbound: false,
-        address: Bytes::new(),
-        app: 0,
-    }
+    Neighbour::new(peer, Bytes::new())
 }
 
 /// Parameters that pass their checks; with any others the test fails.
