@@ -1,11 +1,12 @@
 -- What outboxes hold at a place, where one of them changes.
-use Rattle.std.proofs.Common.{◌≡◌, ℕ, zero, suc, ◌<◌, ◌≤◌, Bool, true, false, nat_eq, nat_lt, cond, List, [], ◌∷◌, ◌++◌, length, get_or, slice_set, refl, sym, ap, ◌∙◌, arith}
+use Rattle.std.proofs.Common.{◌≡◌, ℕ, zero, suc, ◌<◌, ◌≤◌, Bool, true, false, nat_eq, nat_lt, cond, List, [], ◌∷◌, ◌++◌, length, get_or, slice_set, refl, sym, ap, ap₂, ◌∙◌, arith}
 use Rattle.std.proofs.Math.Bool.{and-true}
 use Rattle.std.proofs.Math.Dec.{eqb-zero-suc, eqb-suc-zero, eqb-suc-suc}
 use Rattle.std.proofs.lemmas.Option.{slice_get_past}
 use Rattle.std.proofs.lemmas.List.{nil_from_length}
+use Rattle.std.proofs.lemmas.List.Folds.{list_any-append}
 use Rattle.std.proofs.lemmas.Bool.{eqb-true, ltb-false}
-use Rattle.std.specs.Prelude.{◌==◌, ◌&&◌, if◌then◌else◌, Option, None, option_map, unwrap_or, slice_get}
+use Rattle.std.specs.Prelude.{◌==◌, ◌&&◌, ◌||◌, if◌then◌else◌, Option, None, option_map, unwrap_or, slice_get}
 use Rattle.gs_base.specs.declared.names.PeerNo.{PeerNo}
 use Rattle.gs_base.specs.declared.rpc.Rpc.{Rpc}
 use Rattle.gs_base.specs.Names.{same_peer}
@@ -16,7 +17,7 @@ use Rattle.gs_rules.specs.Saying.{Outgoing, behind_event, sending, sending_all}
 use Rattle.gs_link.specs.declared.item.Slot.{Slot}
 use Rattle.gs_link.specs.Flat.{flat}
 use Rattle.gs_peer.specs.declared.outbox.Outbox.{Outbox}
-use Rattle.gs_peer.specs.Outboxes.{behind_sends, outgoing_of}
+use Rattle.gs_peer.specs.Outboxes.{behind_sends, is_neighbour, outgoing_of}
 
 -- ---- one place of a list
 
@@ -129,6 +130,19 @@ open_set xs place k new below shut =
     at_set (λ (box : Outbox). box.is_open) false xs place k new below
     ∙ ap (λ (b : Bool). cond (nat_eq place k) b (open_at xs k)) shut
 
+-- one is opened
+pub opened_set : (xs : List Outbox) (place k : ℕ) (new : Outbox) (was : Bool) → place < length xs → new.is_open ≡ true → open_at xs k ≡ was → open_at (slice_set xs place new) k ≡ (was || nat_eq place k)
+opened_set xs place k new was below opens before =
+    at_set (λ (box : Outbox). box.is_open) false xs place k new below
+    ∙ ap₂ (λ (b c : Bool). cond (nat_eq place k) b c) opens before
+    ∙ either (nat_eq place k) was
+  where
+    either : (here b : Bool) → cond here true b ≡ (b || here)
+    either true true = refl
+    either true false = refl
+    either false true = refl
+    either false false = refl
+
 -- ---- all places
 
 open_below : (xs : List Outbox) (k : ℕ) (b : Bool) → nat_lt k (length xs) ≡ b → (open_at xs k && b) ≡ open_at xs k
@@ -199,3 +213,36 @@ silent_past xs ys place k lists places past =
     ap (λ zs. slots_at zs k) (sym lists)
     ∙ ap (λ i. slots_at ys i) (sym places)
     ∙ at_past (λ (b : Outbox). b.slots) [] ys place past
+
+-- whether nothing waits at a place
+pub empty_at : (xs ys : List Outbox) (place k : ℕ) (box : Outbox) (empty : Bool) → ys ≡ xs → place ≡ k → place < length ys → box ≡ get_or ys place box → empty ≡ (length box.slots == 0) → empty ≡ (length (slots_at xs k) == 0)
+empty_at xs ys place k box empty lists places below there is =
+    is
+    ∙ ap (λ (slots : List Slot). length slots == 0)
+    (sym (at_there (λ (b : Outbox). b.slots) [] ys place box below there)
+    ∙ ap (λ i. slots_at ys i) places
+    ∙ ap (λ zs. slots_at zs k) lists)
+
+pub empty_past : (xs ys : List Outbox) (place k : ℕ) → ys ≡ xs → place ≡ k → length ys ≤ place → true ≡ (length (slots_at xs k) == 0)
+empty_past xs ys place k lists places past =
+    ap (λ (slots : List Slot). length slots == 0) (sym (silent_past xs ys place k lists places past))
+
+-- ---- whose outboxes are open
+
+or_false : (b : Bool) → (b || false) ≡ b
+or_false true = refl
+or_false false = refl
+
+-- one neighbour more
+pub each_more : (was now : PeerNo → Bool) (p : PeerNo) (xs ys : List PeerNo)
+    → ys ≡ xs ++ p ∷ []
+    → ((q : PeerNo) → now q ≡ (was q || same_peer p q))
+    → ((q : PeerNo) → was q ≡ is_neighbour xs q)
+    → (q : PeerNo) → now q ≡ is_neighbour ys q
+each_more was now p xs ys more opens before q =
+    opens q
+    ∙ ap (λ (b : Bool). b || same_peer p q) (before q)
+    ∙ sym
+    (ap (λ (zs : List PeerNo). is_neighbour zs q) more
+    ∙ list_any-append (λ (n : PeerNo). same_peer n q) xs (p ∷ [])
+    ∙ ap (λ (b : Bool). is_neighbour xs q || b) (or_false (same_peer p q)))

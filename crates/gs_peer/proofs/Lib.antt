@@ -18,6 +18,7 @@ pub mod Tasks
 pub mod SameRpc
 pub mod Queues
 pub mod BoxPlaces
+pub mod Fullness
 pub mod Beginning
 pub mod Suspending
 pub mod Polls

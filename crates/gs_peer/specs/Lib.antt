@@ -2,11 +2,13 @@ pub mod Ended
 pub mod Phases
 pub mod Inboxes
 pub mod Outboxes
+pub mod Moved
 pub mod Playing
 pub mod Agendas
 pub mod Players
 pub mod Kept
 pub mod Life
 pub mod Running
+pub mod Moves
 pub mod Faults
 pub mod Task

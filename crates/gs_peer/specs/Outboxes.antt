@@ -1,5 +1,6 @@
 -- What waits to go to each neighbour.
 use Rattle.std.specs.Prelude.{◌≡◌, ◌⊎◌, Bool, false, ◌&&◌, List, [], ◌∷◌, ◌++◌, Option, None, slice_get, option_map, unwrap_or, if◌then◌else◌}
+use Rattle.std.specs.List.{list_any}
 use Rattle.gs_base.specs.declared.names.PeerNo.{PeerNo}
 use Rattle.gs_base.specs.declared.rpc.Rpc.{Rpc}
 use Rattle.gs_base.specs.Names.{same_peer}
@@ -32,6 +33,10 @@ outgoing_of box = record { said = flat box.slots; gathered = box.gathered }
 -- more may be said to a peer
 abbrev pub is_open : Outboxes → PeerNo → Bool
 is_open out q = unwrap_or (option_map (λ (box : Outbox). box.is_open) (slice_get out.boxes.items q.0)) false
+
+-- a peer stands among these neighbours
+abbrev pub is_neighbour : List PeerNo → PeerNo → Bool
+is_neighbour neighbours q = list_any (λ n. same_peer n q) neighbours
 
 -- whether more may be said behind these entries, the first one first
 abbrev pub opens_behind : PeerNo → Bool → List Entry → Bool

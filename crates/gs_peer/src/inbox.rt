@@ -1,8 +1,9 @@
-ghost use Rattle.std.specs.Prelude.{◌≡◌, false, true, OnOk};
+ghost use Rattle.std.specs.Prelude.{◌≡◌, false, true, IfOk, OnOk};
 ghost use Rattle.gs_base.specs.declared.names.PeerNo.{PeerNo as PeerNoValue};
 ghost use Rattle.gs_link.specs.Runs.{closes};
 ghost use Rattle.gs_ends.specs.Ends.{OthersStay, has};
 ghost use Rattle.gs_peer.specs.Inboxes.{FeedsPiece, Listens, in_next_phase, is_broken_off, is_full, is_mark, new_inbox};
+ghost use Rattle.gs_peer.specs.Moved.{GrewIf};
 ghost use Rattle.gs_peer.specs.Phases.{phase_of};
 
 use crate::phase::Phase;
@@ -114,6 +115,8 @@ impl Inbox {
         ensures joints { S.joints ends.new ≡ S.joints ends.old }
         ensures others { OthersStay self.old.peer (S.taken ends.old) (S.taken ends.new) }
         ensures accepted { (q : PeerNoValue) → S.accepted ends.new q ≡ S.accepted ends.old q }
+        ensures moved { IfOk result (λ moved.
+            GrewIf moved (S.taken ends.old self.old.peer) (S.taken ends.new self.old.peer)) }
     {
         match ends.take(self.peer) {
             Taken::Got(Item::Piece(piece)) => {

@@ -5,6 +5,7 @@ ghost use Rattle.gs_link.specs.Flat.{flat};
 ghost use Rattle.gs_link.specs.declared.item.Slot.TheVariants.{Piece, Close as Closing};
 ghost use Rattle.gs_link.specs.Items.{IsPiece, IsSendable, slot_of};
 ghost use Rattle.gs_ends.specs.Ends.{OthersStay, has};
+ghost use Rattle.gs_peer.specs.Moved.{GrewIf, MovesIf};
 ghost use Rattle.gs_peer.specs.Outboxes.{AcceptsOne, outgoing_of};
 ghost use Rattle.gs_rules.specs.Saying.{cut_out, saying, sending};
 ghost use Rattle.gs_wire.specs.Codec.{codec};
@@ -130,6 +131,8 @@ impl Outbox {
             ≡ flat (S.accepted ends.old to) ++ flat self.old.slots) }
         ensures open { OnOk result (self.new.is_open ≡ self.old.is_open) }
         ensures gathered { OnOk result (self.new.gathered ≡ self.old.gathered) }
+        ensures moved { IfOk result (λ moved.
+            MovesIf moved (S.accepted ends.old to) (S.accepted ends.new to) self.old.slots self.new.slots) }
     {
         match self.slots.pop_front() {
             None => Ok(false),
@@ -155,6 +158,9 @@ impl Outbox {
             ≡ flat (S.accepted ends.old to) ++ (map Byte frame ++ flat self.old.slots)) }
         ensures open { OnOk result (self.new.is_open ≡ self.old.is_open) }
         ensures gathered { OnOk result (self.new.gathered ≡ self.old.gathered) }
+        ensures moved { IfOk result (λ moved.
+            MovesIf moved (S.accepted ends.old to) (S.accepted ends.new to)
+            (Piece frame ∷ self.old.slots) self.new.slots) }
     {
         if frame.is_empty() {
             return Ok(true);
@@ -198,6 +204,7 @@ impl Outbox {
             ≡ flat (S.accepted ends.old to) ++ flat (slot_of item ∷ self.old.slots)) }
         ensures open { OnOk result (self.new.is_open ≡ self.old.is_open) }
         ensures gathered { OnOk result (self.new.gathered ≡ self.old.gathered) }
+        ensures moved { IfOk result (λ moved. GrewIf moved (S.accepted ends.old to) (S.accepted ends.new to)) }
     {
         match ends.put(to, item) {
             Ok(()) => Ok(true),
@@ -223,6 +230,7 @@ impl Outbox {
             ≡ flat (S.accepted ends.old to) ++ flat (Closing ∷ self.old.slots)) }
         ensures open { OnOk result (self.new.is_open ≡ self.old.is_open) }
         ensures gathered { OnOk result (self.new.gathered ≡ self.old.gathered) }
+        ensures moved { IfOk result (λ moved. GrewIf moved (S.accepted ends.old to) (S.accepted ends.new to)) }
     {
         match ends.finish(to) {
             Ok(()) => Ok(true),

@@ -1,13 +1,16 @@
-ghost use Rattle.std.specs.Prelude.{◌≡◌, ◌≢◌, ◌<◌, ◌++◌, ◌∷◌, [], true, false, nat_eq, length, map, None, ◌&&◌, if◌then◌else◌, OnOk, IfOk};
+ghost use Rattle.std.specs.Prelude.{◌≡◌, ◌≢◌, ◌<◌, ◌++◌, ◌∷◌, [], true, false, nat_eq, length, map, None, ◌&&◌, ◌||◌, if◌then◌else◌, OnOk, IfOk};
 ghost use Rattle.std.specs.List.{AllByRecursion};
 ghost use Rattle.gs_base.specs.declared.names.PeerNo.{PeerNo as PeerNoValue};
+ghost use Rattle.gs_base.specs.Names.{same_peer};
 ghost use Rattle.gs_base.specs.Tokens.{Byte, Close, EndOf};
 ghost use Rattle.gs_wire.specs.Codec.{codec};
 ghost use Rattle.gs_rules.specs.Tables.{is_lost, up_after};
 ghost use Rattle.gs_rules.specs.Saying.{AllFit, SendsFit, behind_entry, behind_event, cut_out, saying, sending};
 ghost use Rattle.gs_link.specs.Flat.{flat};
 ghost use Rattle.gs_ends.specs.Ends.{OthersStay, has};
-ghost use Rattle.gs_peer.specs.Outboxes.{AcceptsOne, behind_entries, behind_sends, gathered_in, is_open, opens_behind, outgoing_in, waiting};
+ghost use Rattle.gs_peer.specs.Moved.{MovesIf};
+ghost use Rattle.gs_peer.specs.Moves.{is_silent};
+ghost use Rattle.gs_peer.specs.Outboxes.{AcceptsOne, behind_entries, behind_sends, gathered_in, is_neighbour, is_open, opens_behind, outgoing_in, waiting};
 
 use crate::frames::written_for;
 use crate::outbox::Outbox;
@@ -34,6 +37,7 @@ impl Outboxes {
     /// `AllocError` where there was no memory for them.
     pub fn new(alloc: Global, neighbours: &[PeerNo]) -> Result<Outboxes, AllocError>
         ensures open { IfOk result (λ out. AllByRecursion (λ q. is_open out q ≡ true) neighbours.now) }
+        ensures alone { IfOk result (λ out. (q : PeerNoValue) → is_open out q ≡ is_neighbour neighbours.now q) }
         ensures silent { IfOk result (λ out. (q : PeerNoValue) → waiting out q ≡ []) }
         ensures nothing { IfOk result (λ out. (q : PeerNoValue) → gathered_in out q ≡ None) }
     {
@@ -50,6 +54,7 @@ impl Outboxes {
     fn open(&mut self, alloc: Global, peer: PeerNo) -> Result<(), AllocError>
         ensures opened { OnOk result (is_open self.new peer ≡ true) }
         ensures others { OnOk result ((q : PeerNoValue) → is_open self.old q ≡ true → is_open self.new q ≡ true) }
+        ensures alone { OnOk result ((q : PeerNoValue) → is_open self.new q ≡ (is_open self.old q || same_peer peer q)) }
         ensures silent { OnOk result ((q : PeerNoValue) → waiting self.new q ≡ waiting self.old q) }
         ensures gathered { OnOk result ((q : PeerNoValue) → gathered_in self.new q ≡ gathered_in self.old q) }
     {
@@ -276,6 +281,9 @@ impl Outboxes {
         ensures stays { OnOk result ((q : PeerNoValue) → q ≢ to → waiting self.new q ≡ waiting self.old q) }
         ensures open { OnOk result ((q : PeerNoValue) → is_open self.new q ≡ is_open self.old q) }
         ensures gathered { OnOk result ((q : PeerNoValue) → gathered_in self.new q ≡ gathered_in self.old q) }
+        ensures moved { IfOk result (λ moved.
+            MovesIf moved (S.accepted ends.old to) (S.accepted ends.new to)
+            (waiting self.old to) (waiting self.new to)) }
     {
         match self.boxes.get_mut(usize::from(to.0)) {
             Some(outbox) => {
@@ -288,7 +296,8 @@ impl Outboxes {
 
     /// Whether nothing waits for a neighbour.
     pub fn is_silent(&self, to: PeerNo) -> bool
-        ensures { result ≡ true → waiting self.now to ≡ [] }
+        ensures silent { result ≡ true → waiting self.now to ≡ [] }
+        ensures exact { result ≡ is_silent self.now to }
     {
         match self.boxes.get(usize::from(to.0)) {
             Some(outbox) => outbox.slots.is_empty(),

@@ -1,10 +1,11 @@
 //! A peer's life, step by step.
-ghost use Rattle.std.specs.Prelude.{◌≡◌, ◌<◌, ◌≤◌, ◌*◌, ◌^◌, true, length, IfOk, OnOk};
+ghost use Rattle.std.specs.Prelude.{◌≡◌, ◌<◌, ◌≤◌, ◌+◌, ◌-◌, ◌*◌, ◌^◌, ℕ, false, true, if◌then◌else◌, length, min, IfOk, OnOk};
 ghost use Rattle.gs_base.specs.declared.names.PeerNo.{PeerNo as PeerNoValue};
 ghost use Rattle.gs_rules.specs.Legal.{Legal};
 ghost use Rattle.gs_ends.specs.Ends.{GrewBy, has};
 ghost use Rattle.gs_peer.specs.declared.phase.Phase.TheVariants.{Playing};
 ghost use Rattle.gs_peer.specs.Life.{IsLife};
+ghost use Rattle.gs_peer.specs.Moves.{are_full, are_silent, has_more_now, is_full_at, is_over, turn_after};
 ghost use Rattle.gs_peer.specs.Running.{AllFull, AllSilent, Goes, IsFresh, IsKept, IsOver, MayBegin, TellsSince, left_of, seat_of};
 
 use crate::assignment::Assignment;
@@ -128,7 +129,9 @@ impl<G: Gate, S: Ends> Running<G, S> {
     }
 
     /// Whether more is to be taken of the neighbour whose turn it is, or waits for it.
-    fn has_more(&self) -> bool {
+    fn has_more(&self) -> bool
+        ensures { result ≡ has_more_now self.now }
+    {
         if self.turn >= self.player.inboxes.len() {
             return false;
         }
@@ -214,7 +217,8 @@ impl<G: Gate, S: Ends> Running<G, S> {
     /// Whether the life has ended, but for what still came: it has shut down, each neighbour has
     /// closed, and all that was said is accepted.
     fn is_over(&self) -> bool
-        ensures { result ≡ true → IsOver self.now }
+        ensures over { result ≡ true → IsOver self.now }
+        ensures exact { result ≡ is_over self.now }
     {
         let Phase::Closing = self.phase else {
             return false;
@@ -279,7 +283,8 @@ fn tell_since(
 /// Whether all is taken that is heard in a phase. It looks first at the neighbour of which
 /// that was not so last.
 fn is_due(inboxes: &[Inbox], last_not_full: &mut usize) -> bool
-    ensures { result ≡ true → AllFull inboxes.now }
+    ensures full { result ≡ true → AllFull inboxes.now }
+    ensures exact { result ≡ are_full inboxes.now }
 {
     *last_not_full = first_not_full(inboxes, *last_not_full);
     if *last_not_full < inboxes.len() {
@@ -290,7 +295,11 @@ fn is_due(inboxes: &[Inbox], last_not_full: &mut usize) -> bool
 }
 
 /// The first inbox, from this one on, of which not all is taken; or how many there are.
-fn first_not_full(inboxes: &[Inbox], from: usize) -> usize {
+fn first_not_full(inboxes: &[Inbox], from: usize) -> usize
+    ensures within { result ≤ length inboxes.now }
+    ensures found { result < length inboxes.now → is_full_at inboxes.now result ≡ false }
+    ensures first { (k : ℕ) → from ≤ k → k < result → is_full_at inboxes.now k ≡ true }
+{
     for place in from..inboxes.len() {
         if !inboxes[place].is_full() {
             return place;
@@ -300,7 +309,8 @@ fn first_not_full(inboxes: &[Inbox], from: usize) -> usize {
 }
 
 fn all_full(inboxes: &[Inbox]) -> bool
-    ensures { result ≡ true → AllFull inboxes.now }
+    ensures full { result ≡ true → AllFull inboxes.now }
+    ensures exact { result ≡ are_full inboxes.now }
 {
     for inbox in inboxes {
         if !inbox.is_full() {
@@ -311,7 +321,8 @@ fn all_full(inboxes: &[Inbox]) -> bool
 }
 
 fn all_silent(outboxes: &Outboxes, inboxes: &[Inbox]) -> bool
-    ensures { result ≡ true → AllSilent outboxes.now inboxes.now }
+    ensures silent { result ≡ true → AllSilent outboxes.now inboxes.now }
+    ensures exact { result ≡ are_silent outboxes.now inboxes.now }
 {
     for inbox in inboxes {
         if !outboxes.is_silent(inbox.peer()) {
@@ -322,12 +333,16 @@ fn all_silent(outboxes: &Outboxes, inboxes: &[Inbox]) -> bool
 }
 
 /// For how many steps nothing has moved.
-fn idle_after(idle: usize, moved: bool) -> usize {
+fn idle_after(idle: usize, moved: bool) -> usize
+    ensures { result ≡ (if moved then 0 else min (idle + 1) (2 ^ 64 - 1)) }
+{
     if moved { 0 } else { idle.saturating_add(1) }
 }
 
 /// Whose turn is next: the next one's, unless this one keeps it.
-fn next_turn(turn: usize, neighbours: usize, stays: bool) -> usize {
+fn next_turn(turn: usize, neighbours: usize, stays: bool) -> usize
+    ensures { result ≡ turn_after turn neighbours stays }
+{
     if stays {
         return turn;
     }

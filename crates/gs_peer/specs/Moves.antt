@@ -1,0 +1,51 @@
+-- Who has something to move, and whose turn comes then.
+use Rattle.std.specs.Prelude.{ℕ, suc, Bool, true, false, not, ◌&&◌, ◌||◌, ◌==◌, nat_lt, if◌then◌else◌, List, length, slice_get, option_map, unwrap_or}
+use Rattle.std.specs.List.{list_all}
+use Rattle.gs_base.specs.declared.names.PeerNo.{PeerNo}
+use Rattle.gs_peer.specs.declared.outboxes.Outboxes.{Outboxes}
+use Rattle.gs_peer.specs.declared.phase.Phase.{Phase}
+use Rattle.gs_peer.specs.declared.phase.Phase.TheVariants.{Playing, Closing}
+use Rattle.gs_peer.specs.declared.running.Running.{Running}
+use Rattle.gs_peer.specs.Inboxes.{InboxView, is_full}
+use Rattle.gs_peer.specs.Outboxes.{waiting}
+
+-- ---- who has something to move
+
+-- all is taken of each neighbour that is heard in this phase
+abbrev pub are_full : List InboxView → Bool
+are_full inboxes = list_all is_full inboxes
+
+-- all is taken that is heard of the neighbour at this place, or none is there
+abbrev pub is_full_at : List InboxView → ℕ → Bool
+is_full_at inboxes k = unwrap_or (option_map is_full (slice_get inboxes k)) true
+
+-- nothing waits for a peer
+abbrev pub is_silent : Outboxes → PeerNo → Bool
+is_silent out q = length (waiting out q) == 0
+
+-- nothing waits for any of these
+abbrev pub are_silent : Outboxes → List InboxView → Bool
+are_silent out inboxes = list_all (λ (x : InboxView). is_silent out x.peer) inboxes
+
+-- more is to be taken of this neighbour, or waits for it
+abbrev pub has_more : Outboxes → InboxView → Bool
+has_more out x = not (is_full x) || not (is_silent out x.peer)
+
+-- and of the neighbour whose turn it is, where there is one
+abbrev pub has_more_now : {G S : Type 0} → Running G S → Bool
+has_more_now t = unwrap_or (option_map (has_more t.outboxes) (slice_get t.player.inboxes.items t.turn)) false
+
+-- the peer has shut down
+abbrev pub is_closing : Phase → Bool
+is_closing (Playing r) = false
+is_closing Closing = true
+
+-- the peer has shut down, each neighbour has closed, and all that was said is accepted
+abbrev pub is_over : {G S : Type 0} → Running G S → Bool
+is_over t = is_closing t.phase && (are_full t.player.inboxes.items && are_silent t.outboxes t.player.inboxes.items)
+
+-- ---- turns
+
+-- whose turn is next, of so many neighbours: behind the last one a step looks at none, and then they come round
+abbrev pub turn_after : ℕ → ℕ → Bool → ℕ
+turn_after turn neighbours stays = if stays then turn else if nat_lt turn neighbours then suc turn else 0
