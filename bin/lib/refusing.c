@@ -1,8 +1,8 @@
-// Has one call of a program fail, for bin/refuse_each: of the calls that its own code makes, and not those of the C library.
-// It is loaded before the C library. REFUSE names what is counted: `growth`, `thread`, `random`, `read` or `write`.
-// REFUSE_AT is the call, and REFUSE_HOW what becomes of it: `fail`, `interrupt`, `short` (one byte is moved), `none` (no
-// byte is), or `all`, where this call and all behind it fail. REFUSE_STEP is the most that a read or a write moves.
-// A byte is written to descriptor REFUSE_TELL once the call was met.
+// Has one call of a program fail, for bin/refuse_each: of the calls that its own code makes, and not of those of the C
+// library. It is loaded before the C library. REFUSE names what is counted: `growth`, `thread`, `random`, `read` or
+// `write`. REFUSE_AT is the call, and REFUSE_HOW what becomes of it: `fail`, `interrupt`, `short` (one byte is moved),
+// `none` (no byte is), or `all`, where this call and all behind it fail. REFUSE_STEP is the most that a read or a write
+// moves. A byte is written to descriptor REFUSE_TELL once the call was met.
 // (There are no headers, so that the kit's own compiler compiles it.)
 typedef unsigned long size;
 
