@@ -1,0 +1,33 @@
+//! Makes each call that can want memory, of the caches, scores, meshes, codec and reader. For each of them it writes a
+//! line, `right` where all that is seen is allowed. It is run with one growth of its memory refused after the other.
+#![tactic(auto)]
+
+mod frames;
+mod meshes;
+mod messages;
+mod seen;
+mod sightings;
+mod standings;
+
+use crate::frames::{try_codec, try_reader};
+use crate::meshes::try_meshes;
+use crate::messages::try_messages;
+use crate::sightings::try_sightings;
+use crate::standings::try_standings;
+use std::alloc::Global;
+use std::io::Write;
+
+/// Tries what a router stands on.
+fn tell_parts<W: Write>(alloc: Global, output: &mut W) {
+    try_codec(alloc).tell(output, "a body that is read and written");
+    try_reader(alloc).tell(output, "a stream that is read");
+    try_sightings(alloc).tell(output, "a cache of what was seen");
+    try_messages(alloc).tell(output, "a cache of messages");
+    try_standings(alloc).tell(output, "scores");
+    try_meshes(alloc).tell(output, "meshes");
+}
+
+fn main(rt: HostRuntime) {
+    let mut output = rt.stdout();
+    tell_parts(rt.alloc(), &mut output);
+}

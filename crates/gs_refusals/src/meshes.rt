@@ -1,0 +1,94 @@
+//! The meshes of a topic.
+use crate::seen::Seen;
+use bytes::Bytes;
+use gs_base::{Millis, PeerNo, Topic};
+use gs_mesh::Meshes;
+use std::alloc::{AllocError, Global};
+
+enum Act {
+    Join,
+    Graft(u16),
+    Backoff(u16, u64),
+    Fan(u16),
+    Publish(u64),
+}
+
+static ACTS: [Act; 9] = [
+    Act::Fan(2),
+    Act::Fan(1),
+    Act::Publish(500),
+    Act::Join,
+    Act::Backoff(1, 900),
+    Act::Graft(2),
+    Act::Graft(1),
+    Act::Backoff(2, 900),
+    Act::Backoff(1, 950),
+];
+
+/// What meshes tell of a topic and two neighbours.
+#[derive(Clone, Copy, Debug, PartialEq, Eq)]
+struct Reading {
+    is_joined: bool,
+    members: (usize, bool, bool),
+    fanout: (usize, bool, bool),
+    last_published: Option<Millis>,
+    backoffs: (Millis, Millis),
+}
+
+/// How many are in a list, and whether two neighbours are.
+fn who_is_in(list: &[PeerNo]) -> (usize, bool, bool) {
+    (
+        list.len(),
+        list.contains(&PeerNo(1)),
+        list.contains(&PeerNo(2)),
+    )
+}
+
+fn told(meshes: &Meshes, topic: &Topic) -> Reading {
+    Reading {
+        is_joined: meshes.is_joined(topic),
+        members: who_is_in(meshes.members(topic)),
+        fanout: who_is_in(meshes.fanout(topic)),
+        last_published: meshes.last_published(topic),
+        backoffs: (
+            meshes.backoff_until(PeerNo(1), topic),
+            meshes.backoff_until(PeerNo(2), topic),
+        ),
+    }
+}
+
+fn perform(meshes: &mut Meshes, topic: &Topic, act: &Act) -> Result<(), AllocError> {
+    match act {
+        Act::Join => meshes.join(topic),
+        Act::Graft(peer) => meshes.graft(PeerNo(*peer), topic),
+        Act::Backoff(peer, end) => meshes.note_backoff(PeerNo(*peer), topic, Millis(*end)),
+        Act::Fan(peer) => meshes.fan(PeerNo(*peer), topic),
+        Act::Publish(at) => meshes.publish_at(topic, Millis(*at)),
+    }
+}
+
+fn try_one(meshes: &mut Meshes, topic: &Topic, act: &Act) -> Seen {
+    let before = told(meshes, topic);
+    match perform(meshes, topic, act) {
+        Ok(()) => Seen::Whole,
+        Err(_) => Seen::after(told(meshes, topic) == before),
+    }
+}
+
+fn try_all(meshes: &mut Meshes, topic: &Topic) -> Seen {
+    let mut seen = Seen::Whole;
+    for act in &ACTS {
+        seen = seen.and(try_one(meshes, topic, act));
+    }
+    seen
+}
+
+/// Tries each call of meshes that wants memory.
+pub fn try_meshes(alloc: Global) -> Seen {
+    let Ok(name) = Bytes::copy_from_slice(alloc, b"a") else {
+        return Seen::NoMemory;
+    };
+    let topic = Topic(name);
+    let mut meshes = Meshes::new(alloc);
+    try_all(&mut meshes, &topic)
+}

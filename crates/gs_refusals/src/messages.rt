@@ -1,0 +1,135 @@
+//! Which messages are kept.
+use crate::seen::Seen;
+use bytes::Bytes;
+use gs_base::{Message, MsgId, PeerNo, Shared, Topic};
+use gs_cache::{Answer, MessageCache};
+use std::alloc::{AllocError, Global};
+
+enum Act {
+    Put(u8),
+    Count(u8, u16),
+    Shift,
+}
+
+static ACTS: [Act; 9] = [
+    Act::Put(1),
+    Act::Count(1, 1),
+    Act::Put(2),
+    Act::Shift,
+    Act::Put(3),
+    Act::Count(1, 2),
+    Act::Count(3, 1),
+    Act::Put(1),
+    Act::Count(1, 1),
+];
+
+/// What a cache tells of a message and a neighbour: whether it is kept, and how many answers are left.
+type Kept = (bool, u64);
+
+/// What a cache tells of three messages and two neighbours.
+#[derive(Clone, Copy, Debug, PartialEq, Eq)]
+struct Reading {
+    first: (Kept, Kept),
+    second: (Kept, Kept),
+    third: (Kept, Kept),
+    /// How many are announced, and the first and the last of them.
+    announced: (usize, Option<MsgId>, Option<MsgId>),
+}
+
+fn id(number: u8) -> MsgId {
+    MsgId([number; 32])
+}
+
+fn kept(cache: &MessageCache, number: u8, peer: u16) -> Kept {
+    let is_kept = match cache.answer_for(&id(number), PeerNo(peer)) {
+        Answer::Absent => false,
+        _ => true,
+    };
+    (is_kept, cache.left_for(&id(number), PeerNo(peer)))
+}
+
+fn kept_for_both(cache: &MessageCache, number: u8) -> (Kept, Kept) {
+    (kept(cache, number, 1), kept(cache, number, 2))
+}
+
+fn told(cache: &MessageCache, topic: &Topic) -> Result<Reading, AllocError> {
+    let ids = cache.gossip_ids(topic)?;
+    let list = ids.as_slice();
+    Ok(Reading {
+        first: kept_for_both(cache, 1),
+        second: kept_for_both(cache, 2),
+        third: kept_for_both(cache, 3),
+        announced: (list.len(), list.first().copied(), list.last().copied()),
+    })
+}
+
+fn topic(alloc: Global) -> Result<Topic, AllocError> {
+    Ok(Topic(Bytes::copy_from_slice(alloc, b"a")?))
+}
+
+fn message(alloc: Global, number: u8) -> Result<Shared<Message>, AllocError> {
+    let message = Message {
+        origin: None,
+        payload: Some(Bytes::copy_from_slice(alloc, &[number])?),
+        seqno: None,
+        topic: None,
+        signature: None,
+        key: None,
+    };
+    Shared::new(alloc, message)
+}
+
+/// Does an act, and tells whether memory was wanting for the cache.
+fn perform(alloc: Global, cache: &mut MessageCache, act: &Act) -> Result<Seen, AllocError> {
+    let answer = match act {
+        Act::Put(number) => {
+            let topic = topic(alloc)?;
+            let message = message(alloc, *number)?;
+            cache.put(id(*number), topic, message)
+        }
+        Act::Count(number, peer) => cache.count_answer(&id(*number), PeerNo(*peer)),
+        Act::Shift => {
+            cache.shift();
+            Ok(())
+        }
+    };
+    match answer {
+        Ok(()) => Ok(Seen::Whole),
+        Err(_) => Ok(Seen::Refused),
+    }
+}
+
+fn try_one(
+    alloc: Global,
+    cache: &mut MessageCache,
+    topic: &Topic,
+    act: &Act,
+) -> Result<Seen, AllocError> {
+    let before = told(cache, topic)?;
+    match perform(alloc, cache, act)? {
+        Seen::Refused => Ok(Seen::after(told(cache, topic)? == before)),
+        seen => Ok(seen),
+    }
+}
+
+fn try_all(alloc: Global, cache: &mut MessageCache, topic: &Topic) -> Seen {
+    let mut seen = Seen::Whole;
+    for act in &ACTS {
+        seen = seen.and(match try_one(alloc, cache, topic, act) {
+            Ok(seen) => seen,
+            Err(_) => Seen::NoMemory,
+        });
+    }
+    seen
+}
+
+/// Tries each call of a cache of messages that wants memory.
+pub fn try_messages(alloc: Global) -> Seen {
+    let Ok(topic) = topic(alloc) else {
+        return Seen::NoMemory;
+    };
+    match MessageCache::new(alloc, 3, 2, 2) {
+        Ok(mut cache) => try_all(alloc, &mut cache, &topic),
+        Err(_) => Seen::NoMemory,
+    }
+}

@@ -1,0 +1,88 @@
+//! Which messages were seen.
+ghost use Rattle.std.specs.Prelude.{◌≡◌};
+
+use crate::seen::Seen;
+use gs_base::{Millis, MsgId, PeerNo, Verdict};
+use gs_cache::SeenCache;
+use std::alloc::{AllocError, Global};
+
+/// Marks and notes of messages, by a number, at the moment 0.
+enum Act {
+    Mark(u8, Verdict),
+    Note(u8, u16),
+}
+
+static ACTS: [Act; 7] = [
+    Act::Mark(1, Verdict::Accept),
+    Act::Note(1, 1),
+    Act::Mark(2, Verdict::Reject),
+    Act::Mark(3, Verdict::Ignore),
+    Act::Note(2, 1),
+    Act::Note(1, 2),
+    Act::Mark(1, Verdict::Ignore),
+];
+
+/// What a cache tells of three messages and two neighbours.
+#[derive(Clone, Copy, Debug, PartialEq, Eq)]
+struct Reading {
+    held: usize,
+    verdicts: (Option<Verdict>, Option<Verdict>, Option<Verdict>),
+    is_first_near: (bool, bool),
+    is_second_near: (bool, bool),
+}
+
+fn id(number: u8) -> MsgId {
+    MsgId([number; 32])
+}
+
+/// For whom a delivery of a message is near.
+fn near(cache: &SeenCache, number: u8) -> (bool, bool) {
+    (
+        cache.is_near(&id(number), PeerNo(1), Millis(5), Millis(10)),
+        cache.is_near(&id(number), PeerNo(2), Millis(5), Millis(10)),
+    )
+}
+
+fn told(cache: &SeenCache) -> Reading {
+    Reading {
+        held: cache.held(),
+        verdicts: (
+            cache.seen(&id(1), Millis(5)),
+            cache.seen(&id(2), Millis(5)),
+            cache.seen(&id(3), Millis(5)),
+        ),
+        is_first_near: near(cache, 1),
+        is_second_near: near(cache, 2),
+    }
+}
+
+fn perform(cache: &mut SeenCache, act: &Act) -> Result<(), AllocError>
+    requires early { cache.old.moment ≡ 0 }
+    ensures { cache.new.moment ≡ 0 }
+{
+    match act {
+        Act::Mark(number, verdict) => cache.mark(id(*number), Millis(0), *verdict),
+        Act::Note(number, peer) => cache.note(&id(*number), PeerNo(*peer)),
+    }
+}
+
+fn try_one(cache: &mut SeenCache, act: &Act) -> Seen
+    requires early { cache.old.moment ≡ 0 }
+    ensures { cache.new.moment ≡ 0 }
+{
+    let before = told(cache);
+    match perform(cache, act) {
+        Ok(()) => Seen::Whole,
+        Err(_) => Seen::after(told(cache) == before),
+    }
+}
+
+/// Tries each call of a cache of what was seen that wants memory.
+pub fn try_sightings(alloc: Global) -> Seen {
+    let mut cache = SeenCache::new(alloc, Millis(1_000));
+    let mut seen = Seen::Whole;
+    for act in &ACTS {
+        seen = seen.and(try_one(&mut cache, act));
+    }
+    seen
+}
