@@ -15,7 +15,7 @@ use Rattle.gs_plan.specs.declared.plan.Plan.{Plan}
 use Rattle.gs_plan.specs.Plans.{IsInRange}
 use Rattle.gs_link.specs.declared.item.Slot.{Slot}
 use Rattle.gs_link.specs.Runs.{closes}
-use Rattle.gs_ends.specs.Ends.{Joint, has}
+use Rattle.gs_ends.specs.Ends.{Joint, has, linked}
 use Rattle.gs_ends.specs.Pairs.{Pair, accepted_for, joints_of, peers_in, slots_with, taken_from}
 use Rattle.gs_dials.specs.ListsByPeer.{list_at}
 use Rattle.gs_dials.specs.Dials.{AreWired, AtEach, Dialled, HasCapacity, HasReached, IsClosed, IsExchanged, IsFresh, JoinsTwoOf, assigned, gives}
@@ -39,7 +39,7 @@ dials_join plan range = λ k d within. (range.dials_from k d within, range.dials
 gives_partner : (d : Dialled) (p : PeerNo) → map (λ (joint : Joint). joint.peer) (gives d p) ≡ partners_of p d.dial
 gives_partner d p = by (same_peer d.dial.from p) (same_peer d.dial.to p)
   where
-    by : (a b : Bool) → map (λ (joint : Joint). joint.peer) (if a then record { peer = d.dial.to; to = d.there; from = d.back } ∷ [] else (if b then record { peer = d.dial.from; to = d.back; from = d.there } ∷ [] else [])) ≡ (if a then d.dial.to ∷ [] else (if b then d.dial.from ∷ [] else []))
+    by : (a b : Bool) → map (λ (joint : Joint). joint.peer) (if a then linked d.dial.to d.there d.back ∷ [] else (if b then linked d.dial.from d.back d.there ∷ [] else [])) ≡ (if a then d.dial.to ∷ [] else (if b then d.dial.from ∷ [] else []))
     by true b = refl
     by false true = refl
     by false false = refl

@@ -17,7 +17,7 @@ pub record IsTakenApart (givens : List Given) (lives : Lives) : Type 0 where
 -- a task met want of memory
 abbrev pub wants_memory : {A : Type 0} → Result A PeerFault → Bool
 wants_memory (Ok life) = false
-wants_memory (Err NoMemory) = true
+wants_memory (Err (NoMemory raised)) = true
 wants_memory (Err Stopped) = false
 
 -- the lowest peer whose task did

@@ -1,10 +1,11 @@
 -- Which ends a task may be built with, and what is known of it then.
-use Rattle.std.specs.Prelude.{◌≡◌, ◌%◌, true, false, List, [], Some}
-use Rattle.std.specs.List.{AllByRecursion, IsDistinct}
+use Rattle.std.specs.Prelude.{◌≡◌, ◌<◌, ◌%◌, ℕ, true, false, List, [], Some, length, map}
+use Rattle.std.specs.List.{AllByRecursion, IsDistinct, range_with_len}
 use Rattle.std.specs.declared.vec.Vec.{Vec}
 use Rattle.std.specs.declared.alloc.Global.{Global}
 use Rattle.gs_base.specs.declared.names.PeerNo.{PeerNo}
 use Rattle.gs_base.specs.Names.{same_peer}
+use Rattle.gs_plan.specs.declared.plan.Line.{Line}
 use Rattle.gs_plan.specs.declared.plan.Plan.{Plan}
 use Rattle.gs_ends.specs.Ends.{Joint, has}
 use Rattle.gs_ends.specs.declared.ends.Ends.{Ghosts as EndsOf}
@@ -15,7 +16,7 @@ use Rattle.gs_peer.specs.declared.task.PeerTask.{PeerTask}
 use Rattle.gs_peer.specs.Task.{CanPoll, given_of}
 use Rattle.gs_dials.specs.ListsByPeer.{list_at}
 use Rattle.gs_dials.specs.Dials.{HasCapacity, IsFresh}
-use Rattle.gs_net.specs.Rounds.{first_words, lines_in, neighbours, peer_in, seat_in}
+use Rattle.gs_net.specs.Rounds.{first_words, lines_in, neighbours, peer_in, peer_no, seat_in}
 
 -- There are ends to and from each neighbour, to none of them twice, of links of the plan's capacity, and nothing has gone
 -- over them.
@@ -24,6 +25,17 @@ pub record AreUsable (plan : Plan) (p : PeerNo) (pairs : List Pair) : Type 0 whe
   pub apart : IsDistinct same_peer (peers_in pairs)
   pub sized : AllByRecursion (HasCapacity plan.capacity) pairs
   pub fresh : AllByRecursion IsFresh pairs
+
+-- the lowest numbers of peers, so many of them
+abbrev pub first_numbers : ℕ → List PeerNo
+first_numbers count = map peer_no (range_with_len 0 count)
+
+-- There are lines and ends for each peer of the plan: those of its script, and ends that it may use.
+pub record AreParts (plan : Plan) (lines : List (Vec (ℕ × Line) Global)) (ends : List (Vec Pair Global)) : Type 0 where
+  pub lists_of_lines : length lines ≡ length plan.peers
+  pub own : (p : PeerNo) → p.0 < length plan.peers → list_at lines p.0 ≡ lines_in plan p
+  pub lists_of_ends : length ends ≡ length plan.peers
+  pub usable : (p : PeerNo) → p.0 < length plan.peers → AreUsable plan p (list_at ends p.0)
 
 -- What a peer of the plan is given.
 pub record IsAssignedIn (plan : Plan) (p : PeerNo) (a : Assignment) : Type 0 where

@@ -1,20 +1,22 @@
 //! Peers' tasks, driven by workers.
-ghost use Rattle.std.specs.Prelude.{◌≤◌, IfOk};
+ghost use Rattle.std.specs.Prelude.{◌≡◌, ◌≤◌, IfErr, IfOk};
 ghost use Rattle.std.specs.List.{All, AllZip};
+ghost use Rattle.gs_workers.specs.declared.fault.WorkerFault.{WorkerFault as WorkerFaultValue};
 ghost use Rattle.gs_peer.specs.Task.{CanPoll, Gives};
+ghost use Rattle.gs_net.specs.Faults.{of_workers};
 
 use crate::fault::NetFault;
 use gs_ends::Ends;
 use gs_peer::{FinishedTask, Gate, PeerFault, PeerTask};
-use gs_workers::{StopFlag, run_all};
+use gs_workers::{Ran, StopFlag, run_all};
 use std::alloc::AllocGlobal;
 use std::random::RandomSource;
 use std::sync::{Arc, Wait};
 use std::thread::Threads;
 
-/// Runs the tasks on so many worker threads to their ends, and gives what each of them gave, in the
-/// order of the tasks. The task at place i runs on worker i mod `workers`. The workers have ended when
-/// it returns.
+/// Runs the tasks on so many worker threads to their ends. Gives what each of them gave, in the order
+/// of the tasks, and the number of threads. The task at place i runs on worker i mod `workers`. The
+/// workers have ended when it returns.
 ///
 /// # Errors
 /// `NoMemory`, of no peer; and `NoThread` where a thread could not be started or could not wait. The
@@ -28,12 +30,15 @@ pub fn run_tasks<
     workers: usize,
     stop: &Arc<StopFlag>,
     tasks: Vec<PeerTask<G, S>>,
-) -> Result<Vec<Result<FinishedTask<S>, PeerFault>>, NetFault>
+) -> Result<Ran<Result<FinishedTask<S>, PeerFault>>, NetFault>
     requires workers { 1 ≤ workers }
     requires ready { All (CanPoll S.Ends) tasks.items }
-    ensures given { IfOk result (λ results.
-        AllZip (Gives S.Ends) tasks.items results.items) }
+    ensures given { IfOk result (λ ran. AllZip (Gives S.Ends) tasks.items ran.outputs.items) }
+    ensures threads { IfOk result (λ ran. ran.threads ≡ workers) }
+    ensures fault { IfErr result (λ fault. (why : WorkerFaultValue) × (fault ≡ of_workers why)) }
 {
-    let results = run_all(rt, workers, stop, tasks)?;
-    Ok(results)
+    match run_all(rt, workers, stop, tasks) {
+        Ok(ran) => Ok(ran),
+        Err(fault) => Err(NetFault::from(fault)),
+    }
 }

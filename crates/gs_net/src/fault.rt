@@ -1,6 +1,6 @@
 //! Why a run gives no report.
-ghost use Rattle.std.specs.Prelude.{◌≡◌};
-ghost use Rattle.gs_net.specs.Faults.{number_of};
+ghost use Rattle.std.specs.Prelude.{◌≡◌, None};
+ghost use Rattle.gs_net.specs.Faults.{number_of, of_workers};
 
 use gs_base::PeerNo;
 use gs_workers::WorkerFault;
@@ -30,22 +30,28 @@ impl NetFault {
 }
 
 impl From<AllocError> for NetFault {
-    fn from(_: AllocError) -> NetFault {
+    fn from(_: AllocError) -> NetFault
+        ensures { result ≡ NetFault.NoMemory None }
+    {
         NetFault::NoMemory(None)
     }
 }
 
 impl<T: Drop> From<AllocFailed<T>> for NetFault {
-    fn from(_: AllocFailed<T>) -> NetFault {
+    fn from(_: AllocFailed<T>) -> NetFault
+        ensures { result ≡ NetFault.NoMemory None }
+    {
         NetFault::NoMemory(None)
     }
 }
 
 impl From<WorkerFault> for NetFault {
-    fn from(fault: WorkerFault) -> NetFault {
+    fn from(fault: WorkerFault) -> NetFault
+        ensures { result ≡ of_workers fault }
+    {
         match fault {
-            WorkerFault::NoMemory => NetFault::NoMemory(None),
-            WorkerFault::NoThread => NetFault::NoThread,
+            WorkerFault::NoMemory(_) => NetFault::NoMemory(None),
+            WorkerFault::NoThread(_) => NetFault::NoThread,
         }
     }
 }

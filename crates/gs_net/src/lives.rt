@@ -95,7 +95,7 @@ fn wants_memory<R: Wait + Drop>(
     ensures { result ≡ wants_memory given.now }
 {
     match given {
-        Err(PeerFault::NoMemory) => true,
+        Err(PeerFault::NoMemory(_)) => true,
         Err(PeerFault::Stopped) => false,
         Ok(_) => false,
     }

@@ -1,5 +1,7 @@
-ghost use Rattle.std.specs.Prelude.{◌≡◌, ◌*◌, IfOk, length, map};
+ghost use Rattle.std.specs.Prelude.{◌≡◌, ◌≤◌, ◌*◌, IfOk, length, map};
+ghost use Rattle.std.specs.List.{All, AllZip};
 ghost use Rattle.gs_plan.specs.Plans.{IsInRange};
+ghost use Rattle.gs_peer.specs.Task.{CanPoll, Gives};
 ghost use Rattle.gs_net.specs.Reports.{IsReport};
 
 use crate::driving::run_tasks;
@@ -8,10 +10,11 @@ use crate::lines::lines_by_peer;
 use crate::lives::lives_of;
 use crate::tasks::Builder;
 use gs_dials::{settle_all, wire_all};
-use gs_peer::Gate;
+use gs_ends::Ends;
+use gs_peer::{FinishedTask, Gate, PeerFault, PeerTask};
 use gs_plan::Plan;
 use gs_report::Report;
-use gs_workers::StopFlag;
+use gs_workers::{Ran, StopFlag};
 use std::alloc::{AllocError, AllocGlobal, Global};
 use std::random::RandomSource;
 use std::sync::{Arc, Wait};
@@ -59,13 +62,32 @@ where
         stop: &stop,
     };
     let tasks = builder.tasks(lines, ends)?;
-    let results = run_tasks(rt, plan.workers as usize, &stop, tasks)?;
-    let lives = lives_of(alloc, results)?;
+    let ran = drive(rt, plan, &stop, tasks)?;
+    let lives = lives_of(alloc, ran.outputs)?;
     let settled = settle_all(rt, plan.dials.as_slice(), lives.ends);
     Ok(Report {
         peers: lives.peers,
         settled,
     })
+}
+
+/// Drives the tasks on as many threads as the plan says.
+fn drive<G, S, R>(
+    rt: &R,
+    plan: &Plan,
+    stop: &Arc<StopFlag>,
+    tasks: Vec<PeerTask<G, S>>,
+) -> Result<Ran<Result<FinishedTask<S>, PeerFault>>, NetFault>
+where
+    G: Gate + Send,
+    S: Ends + Send,
+    R: Threads + Wait + RandomSource + AllocGlobal + Sync,
+    requires workers { 1 ≤ plan.now.workers }
+    requires ready { All (CanPoll S.Ends) tasks.items }
+    ensures given { IfOk result (λ ran. AllZip (Gives S.Ends) tasks.items ran.outputs.items) }
+    ensures threads { IfOk result (λ ran. ran.threads ≡ plan.now.workers) }
+{
+    run_tasks(rt, plan.workers as usize, stop, tasks)
 }
 
 fn flag(alloc: Global) -> Result<Arc<StopFlag>, AllocError> {

@@ -1,12 +1,10 @@
-ghost use Rattle.std.specs.Prelude.{◌≡◌, ◌<◌, ℕ, true, IfOk, Some, length};
+ghost use Rattle.std.specs.Prelude.{◌≡◌, true, IfErr, IfOk, OnOk, [], Some, length};
 ghost use Rattle.std.specs.List.{AllByRecursion, AllZip, IsDistinct};
-ghost use Rattle.gs_base.specs.declared.names.PeerNo.{PeerNo as PeerNoValue};
 ghost use Rattle.gs_base.specs.Names.{peers_of, same_peer};
 ghost use Rattle.gs_plan.specs.Plans.{IsInRange};
 ghost use Rattle.gs_ends.specs.Pairs.{joints_of, peers_in};
-ghost use Rattle.gs_dials.specs.ListsByPeer.{list_at};
-ghost use Rattle.gs_net.specs.Rounds.{first_words, lines_in, neighbours_in, numbers, words_of};
-ghost use Rattle.gs_net.specs.Tasks.{AreUsable, IsAssignedIn, IsTask, IsTaskFor, new_router};
+ghost use Rattle.gs_net.specs.Rounds.{first_words, lines_in, neighbours_in, numbers, peer_no, words_of};
+ghost use Rattle.gs_net.specs.Tasks.{AreParts, AreUsable, IsAssignedIn, IsTask, IsTaskFor, first_numbers, new_router};
 
 use crate::fault::NetFault;
 use crate::neighbours::neighbours_of;
@@ -36,26 +34,44 @@ impl<'p, G: Gate + Copy, R: Wait + Drop + Copy> Builder<'p, G, R> {
     /// The tasks of all peers, by number. Each is given the list of its lines and that of its ends.
     ///
     /// # Errors
-    /// `NoMemory` with the peer for whose task there was none.
+    /// `NoMemory` with the lowest peer for whose task there was none.
     pub fn tasks(
         &self,
         lines: Vec<Vec<(usize, Line)>>,
         ends: Vec<Vec<(PeerNo, LinkTx, LinkRx)>>,
     ) -> Result<Vec<PeerTask<G, LinkEnds<R>>>, NetFault>
         requires range { IsInRange self.now.plan.now }
-        requires lines { length lines.items ≡ length self.now.plan.now.peers }
-        requires own { (p : PeerNoValue) → p.0 < length self.now.plan.now.peers
-            → list_at lines.items p.0 ≡ lines_in self.now.plan.now p }
-        requires ends { length ends.items ≡ length self.now.plan.now.peers }
-        requires usable { (p : PeerNoValue) → p.0 < length self.now.plan.now.peers
-            → AreUsable self.now.plan.now p (list_at ends.items p.0) }
+        requires parts { AreParts self.now.plan.now lines.items ends.items }
         ensures { IfOk result (λ tasks. AllZip
             (IsTaskFor ⟦<LinkEnds<R> as Ends>⟧ self.now.plan.now ends.items)
             (numbers self.now.plan.now) tasks.items) }
     {
+        let mut tasks = Vec::new(self.alloc);
+        self.build_all(lines, ends, &mut tasks)?;
+        Ok(tasks)
+    }
+
+    /// Builds the tasks of all peers, by number, as long as there is memory.
+    ///
+    /// # Errors
+    /// `NoMemory` with the lowest peer whose task was not built.
+    fn build_all(
+        &self,
+        lines: Vec<Vec<(usize, Line)>>,
+        ends: Vec<Vec<(PeerNo, LinkTx, LinkRx)>>,
+        tasks: &mut Vec<PeerTask<G, LinkEnds<R>>>,
+    ) -> Result<(), NetFault>
+        requires range { IsInRange self.now.plan.now }
+        requires parts { AreParts self.now.plan.now lines.items ends.items }
+        requires none { tasks.old.items ≡ [] }
+        ensures built { AllZip (IsTaskFor ⟦<LinkEnds<R> as Ends>⟧ self.now.plan.now ends.items)
+            (first_numbers (length tasks.new.items)) tasks.new.items }
+        ensures all { OnOk result (length tasks.new.items ≡ length self.now.plan.now.peers) }
+        ensures fault { IfErr result (λ fault.
+            fault ≡ NetFault.NoMemory (Some (peer_no (length tasks.new.items)))) }
+    {
         let mut lines = lines;
         let mut ends = ends;
-        let mut tasks = Vec::new(self.alloc);
         let count = self.plan.peers.len() as u16;
         for number in 0..count {
             let peer = PeerNo(number);
@@ -68,7 +84,7 @@ impl<'p, G: Gate + Copy, R: Wait + Drop + Copy> Builder<'p, G, R> {
                 return Err(NetFault::NoMemory(Some(peer)));
             };
         }
-        Ok(tasks)
+        Ok(())
     }
 
     fn task(

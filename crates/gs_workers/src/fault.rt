@@ -1,25 +1,43 @@
 //! Why workers give no outputs.
+ghost use Rattle.std.specs.Prelude.{◌≡◌};
+
+use crate::stop_flag::Raised;
 use std::alloc::{AllocError, AllocFailed};
 
-/// Why workers give no outputs.
+/// Why workers give no outputs. Each fault has the evidence that the stop flag was set.
 #[derive(Clone, Copy, Debug, PartialEq, Eq, thiserror::Error)]
 pub enum WorkerFault {
     /// There was no memory.
     #[error("there was no memory")]
-    NoMemory,
+    NoMemory(Raised),
     /// A worker thread could not be started, or could not wait.
     #[error("a worker thread was wanting")]
-    NoThread,
+    NoThread(Raised),
 }
 
-impl From<AllocError> for WorkerFault {
-    fn from(_: AllocError) -> WorkerFault {
-        WorkerFault::NoMemory
+/// What was wanting while futures ran. The flag is set where a thread was, and not yet where memory was.
+#[derive(Clone, Copy)]
+pub enum Want {
+    Memory,
+    Thread(Raised),
+}
+
+impl From<AllocError> for Want {
+    fn from(_: AllocError) -> Want {
+        Want::Memory
     }
 }
 
-impl<T: Drop> From<AllocFailed<T>> for WorkerFault {
-    fn from(_: AllocFailed<T>) -> WorkerFault {
-        WorkerFault::NoMemory
+impl<T: Drop> From<AllocFailed<T>> for Want {
+    fn from(_: AllocFailed<T>) -> Want {
+        Want::Memory
+    }
+}
+
+impl From<Raised> for Want {
+    fn from(raised: Raised) -> Want
+        ensures { result ≡ Want.Thread raised }
+    {
+        Want::Thread(raised)
     }
 }

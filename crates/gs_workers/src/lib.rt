@@ -8,8 +8,8 @@ mod stop_flag;
 mod workers;
 
 pub use fault::WorkerFault;
-pub use stop_flag::StopFlag;
-pub use workers::run_all;
+pub use stop_flag::{Raised, StopFlag};
+pub use workers::{Ran, run_all};
 
 #[cfg(test)]
 mod tests;

@@ -6,6 +6,11 @@ pub struct StopFlag {
     is_set: AtomicBool,
 }
 
+/// Evidence that a stop flag was set: `StopFlag::set` alone makes it. A fault that carries it is told
+/// no earlier than tasks can see that they are to stop.
+#[derive(Clone, Copy, Debug, PartialEq, Eq)]
+pub struct Raised(());
+
 impl StopFlag {
     /// A flag that is not set. It takes no memory.
     pub fn new() -> StopFlag {
@@ -14,9 +19,10 @@ impl StopFlag {
         }
     }
 
-    /// Sets the flag.
-    pub fn set(&self) {
+    /// Sets the flag, and gives evidence of that.
+    pub fn set(&self) -> Raised {
         self.is_set.store(true, Ordering::SeqCst);
+        Raised(())
     }
 
     /// Whether the flag is set.

@@ -1,19 +1,21 @@
 //! Futures that are run on worker threads.
 ghost use Rattle.std.specs.Prelude.{◌≤◌};
 
+mod faults;
 mod made;
 
 use crate::deal::deal;
 use crate::tests::made::{Guest, Meeting, first_numbers, given};
 use crate::{StopFlag, WorkerFault, run_all};
 use futures::future::MaybeDone;
-use std::alloc::{AllocError, AllocGlobal};
+use std::alloc::{AllocError, AllocGlobal, Global};
 use std::random::RandomSource;
 use std::sync::Wait;
 use std::test::*;
 use std::thread::Threads;
 
-/// Whether so many futures on so many workers give these numbers, and leave the flag as it is.
+/// Whether so many futures on so many workers give these numbers on so many threads, and leave the
+/// flag as it is.
 fn gives<R>(rt: &R, workers: usize, count: u8, numbers: &[u16]) -> bool
 where
     R: Threads + Wait + RandomSource + AllocGlobal + Sync,
@@ -21,7 +23,7 @@ where
 {
     let stop = StopFlag::new();
     match given(rt, workers, count, &stop) {
-        Ok(found) => found.as_slice() == numbers && !stop.is_set(),
+        Ok(ran) => { ran.outputs.as_slice() == numbers && ran.threads == workers && !stop.is_set() }
         Err(_) => false,
     }
 }
@@ -45,8 +47,9 @@ fn no_futures_give_no_outputs(rt: HostRuntime) {
 #[test]
 fn too_many_workers_are_want_of_memory(rt: HostRuntime) {
     let stop = StopFlag::new();
-    assert!(rt; given(&rt, usize::MAX, 1, &stop) == Err(WorkerFault::NoMemory));
+    let ran = given(&rt, usize::MAX, 1, &stop);
     assert!(rt; stop.is_set());
+    assert!(rt; ran.err() == Some(WorkerFault::NoMemory(stop.set())));
 }
 
 #[test]
@@ -57,19 +60,26 @@ fn a_flag_is_set_once_it_was_set(rt: HostRuntime) {
     assert!(rt; stop.is_set());
 }
 
-/// The texts of faults.
-static FAULTS: [(WorkerFault, &str); 2] = [
-    (WorkerFault::NoMemory, "there was no memory"),
-    (WorkerFault::NoThread, "a worker thread was wanting"),
-];
-
 #[test]
 fn each_fault_has_its_text(rt: HostRuntime) -> Result<(), AllocError> {
-    for (fault, text) in &FAULTS {
+    let raised = StopFlag::new().set();
+    let faults = [
+        (WorkerFault::NoMemory(raised), "there was no memory"),
+        (WorkerFault::NoThread(raised), "a worker thread was wanting"),
+    ];
+    for (fault, text) in &faults {
         let shown = format!(in rt.alloc(); "{fault}")?;
         assert_eq!(rt; shown.as_str(), *text);
     }
     Ok(())
+}
+
+fn four_guests<'m>(alloc: Global, meeting: &'m Meeting) -> Result<Vec<Guest<'m>>, AllocError> {
+    let mut guests = Vec::new(alloc);
+    for number in 0..4u32 {
+        guests.push(Guest { number, meeting })?;
+    }
+    Ok(guests)
 }
 
 /// Whether four futures on four workers all meet.
@@ -78,12 +88,11 @@ where
     R: Threads + Wait + RandomSource + AllocGlobal + Sync,
 {
     let stop = StopFlag::new();
-    let mut guests = Vec::new(rt.alloc());
-    for number in 0..4u32 {
-        guests.push(Guest { number, meeting })?;
-    }
-    let met = run_all(rt, 4, &stop, guests)?;
-    Ok(met.as_slice() == [true; 4].as_slice())
+    let Ok(guests) = four_guests(rt.alloc(), meeting) else {
+        return Err(WorkerFault::NoMemory(stop.set()));
+    };
+    let ran = run_all(rt, 4, &stop, guests)?;
+    Ok(ran.outputs.as_slice() == [true; 4].as_slice())
 }
 
 /// Each of four workers drives its future while the others drive theirs.

@@ -1,13 +1,15 @@
 //! Worker threads, each of which drives a group of futures.
-ghost use Rattle.std.specs.Prelude.{◌≡◌, ◌≤◌, IfOk, map};
+ghost use Rattle.std.specs.Prelude.{◌≡◌, ◌≤◌, IfOk, [], length, map, vec_capacity};
 ghost use Rattle.std.specs.List.{All, AllByRecursion, AllZip};
-ghost use Rattle.gs_workers.specs.Deals.{lists_of};
-ghost use Rattle.gs_workers.specs.Groups.{AllEnd, AllLive};
+ghost use Rattle.std.specs.VecDeque.{deque_len};
+ghost use Rattle.futures.specs.declared.future.made.maybe_done.MaybeDone.TheVariants.{Future as FutureValue};
+ghost use Rattle.gs_workers.specs.Deals.{IsDealt, lists_of};
+ghost use Rattle.gs_workers.specs.Groups.{AllEnd, AllLive, EndsAs};
 
 use crate::deal::{Groups, deal, gather};
-use crate::fault::WorkerFault;
+use crate::fault::{Want, WorkerFault};
 use crate::group::Group;
-use crate::stop_flag::StopFlag;
+use crate::stop_flag::{Raised, StopFlag};
 use futures::Future;
 use futures::executor::block_on;
 use futures::future::MaybeDone;
@@ -19,8 +21,8 @@ use std::sync::Wait;
 use std::thread;
 use std::thread::{Promise, PromisedHandle, Scope, Threads};
 
-/// A group of which each future is done, or why there is none.
-type Driven<F, T> = Result<Vec<MaybeDone<F, T>>, WorkerFault>;
+/// A group of which each future is done. Where its thread could not wait there is none, and the flag is set.
+type Driven<F, T> = Result<Vec<MaybeDone<F, T>>, Raised>;
 
 /// A worker that is still to be joined.
 type Worker<F, T> = PromisedHandle<Driven<F, T>, OfGroup<F, T>>;
@@ -34,6 +36,15 @@ impl<F: Future<Output: Drop>> Promise<Driven<F, F::Output>> for OfGroup<F, F::Ou
         AllEnd F.gives promise.0.value.items ended.items) };
 }
 
+/// What futures gave, and on how many threads they ran.
+#[derive(Drop)]
+pub struct Ran<T> {
+    /// The outputs, in the order of the futures.
+    pub outputs: Vec<T>,
+    /// How many threads drove the futures, and were joined.
+    pub threads: usize,
+}
+
 /// Runs the futures on so many threads to their ends, and gives their outputs in order. The one at
 /// place i runs on thread i mod `workers`. No thread runs on behind the call.
 ///
@@ -45,74 +56,108 @@ pub fn run_all<F, R>(
     workers: usize,
     stop: &StopFlag,
     futures: Vec<F>,
-) -> Result<Vec<F::Output>, WorkerFault>
+) -> Result<Ran<F::Output>, WorkerFault>
 where
     F: Future<Output: Send + Drop> + Send,
     R: Threads + Wait + RandomSource + AllocGlobal + Sync,
     requires workers { 1 ≤ workers }
     requires ready { All F.can_poll futures.items }
-    ensures given { IfOk result (λ outputs. AllZip F.gives futures.items outputs.items) }
+    ensures given { IfOk result (λ ran. AllZip F.gives futures.items ran.outputs.items) }
+    ensures threads { IfOk result (λ ran. ran.threads ≡ workers) }
 {
     thread::scope(
         thread::scope_env(),
         rt,
-        move |scope| -> Result<Vec<F::Output>, WorkerFault>
+        move |scope| -> Result<Ran<F::Output>, WorkerFault>
             requires { (1 ≤ workers) × All F.can_poll futures.items }
-            ensures { IfOk result (λ outputs. AllZip F.gives futures.items outputs.items) }
+            ensures { IfOk result (λ ran.
+                AllZip F.gives futures.items ran.outputs.items × (ran.threads ≡ workers)) }
         {
-            let outputs = run_in(scope, rt, workers, stop, futures);
-            if outputs.is_err() {
-                stop.set();
+            match run_in(scope, rt, workers, stop, futures) {
+                Ok(ran) => Ok(ran),
+                Err(Want::Memory) => Err(WorkerFault::NoMemory(stop.set())),
+                Err(Want::Thread(raised)) => Err(WorkerFault::NoThread(raised)),
             }
-            outputs
         },
     )
 }
 
+/// `run_all` within a scope, which joins what is not joined here.
 fn run_in<'s, E, F, R>(
     scope: &Scope<'s, E>,
     rt: &'s R,
     workers: usize,
     stop: &'s StopFlag,
     futures: Vec<F>,
-) -> Result<Vec<F::Output>, WorkerFault>
+) -> Result<Ran<F::Output>, Want>
 where
     F: Future<Output: Send + Drop + 's> + Send + 's,
     R: Threads + Wait + RandomSource + AllocGlobal + Sync,
     requires workers { 1 ≤ workers }
     requires ready { All F.can_poll futures.items }
-    ensures given { IfOk result (λ outputs. AllZip F.gives futures.items outputs.items) }
+    ensures given { IfOk result (λ ran. AllZip F.gives futures.items ran.outputs.items) }
+    ensures threads { IfOk result (λ ran. ran.threads ≡ workers) }
+{
+    let groups = drive_all(scope, rt, workers, stop, futures)?;
+    let threads = groups.len();
+    let outputs = gather(rt.alloc(), groups)?;
+    Ok(Ran { outputs, threads })
+}
+
+/// Deals the futures to so many groups, and drives each group to its end on a worker of its own.
+fn drive_all<'s, E, F, R>(
+    scope: &Scope<'s, E>,
+    rt: &'s R,
+    workers: usize,
+    stop: &'s StopFlag,
+    futures: Vec<F>,
+) -> Result<Groups<F, F::Output>, Want>
+where
+    F: Future<Output: Send + Drop + 's> + Send + 's,
+    R: Threads + Wait + RandomSource + AllocGlobal + Sync,
+    requires workers { 1 ≤ workers }
+    requires ready { All F.can_poll futures.items }
+    ensures threads { IfOk result (λ groups. deque_len groups ≡ workers) }
+    ensures dealt { IfOk result (λ groups. IsDealt
+        (λ future member. EndsAs F.gives (FutureValue future) member) futures.items (lists_of groups.items)) }
 {
     let alloc = rt.alloc();
     let groups = deal(alloc, workers, futures)?;
-    let workers = start_all(scope, rt, alloc, stop, groups)?;
-    let groups = join_all(rt, alloc, workers)?;
-    let outputs = gather(alloc, groups)?;
-    Ok(outputs)
+    let room = Vec::with_capacity(alloc, workers)?;
+    let started = start_all(scope, rt, stop, groups, room)?;
+    let ended = join_all(rt, alloc, started)?;
+    Ok(ended)
 }
 
-/// Starts a worker for each group.
+/// Starts a worker for each group, in a list that has room for them.
+///
+/// # Errors
+/// `Raised` where a thread could not be started.
 fn start_all<'s, E, F, R>(
     scope: &Scope<'s, E>,
     rt: &'s R,
-    alloc: Global,
     stop: &'s StopFlag,
     mut groups: Groups<F, F::Output>,
-) -> Result<Vec<Worker<F, F::Output>>, WorkerFault>
+    mut workers: Vec<Worker<F, F::Output>>,
+) -> Result<Vec<Worker<F, F::Output>>, Raised>
 where
     F: Future<Output: Send + Drop + 's> + Send + 's,
     R: Wait + RandomSource + AllocGlobal + Sync,
-    requires { AllByRecursion (AllLive F.can_poll) (lists_of groups.items) }
-    ensures { IfOk result (λ workers.
-        map (λ worker. worker.promise.0.value.items) workers.items ≡ lists_of groups.items) }
+    requires live { AllByRecursion (AllLive F.can_poll) (lists_of groups.items) }
+    requires none { workers.items ≡ [] }
+    requires room { deque_len groups ≤ vec_capacity workers }
+    ensures count { IfOk result (λ started. length started.items ≡ deque_len groups) }
+    ensures each { IfOk result (λ started.
+        map (λ worker. worker.promise.0.value.items) started.items ≡ lists_of groups.items) }
 {
-    let mut workers = Vec::new(alloc);
     while let Some(group) = groups.pop_front() {
         let promise = OfGroup(Snapshot::of(&group));
         let Ok(worker) = scope.spawn_with(promise, move || drive(rt, stop, group)) else {
-            return Err(WorkerFault::NoThread);
+            return Err(stop.set());
         };
-        workers.push(worker)?;
+        let Ok(()) = workers.push(worker) else {
+            unreachable!()
+        };
     }
     Ok(workers)
 }
@@ -120,7 +165,7 @@ where
 /// Drives a group to its end on this thread.
 ///
 /// # Errors
-/// `NoThread` where the thread could not wait; the flag is set then.
+/// `Raised` where the thread could not wait.
 fn drive<F, R>(
     rt: &R,
     stop: &StopFlag,
@@ -134,10 +179,7 @@ where
 {
     match block_on(rt, Group { members }) {
         Ok(ended) => Ok(ended),
-        Err(_) => {
-            stop.set();
-            Err(WorkerFault::NoThread)
-        }
+        Err(_) => Err(stop.set()),
     }
 }
 
@@ -146,11 +188,12 @@ fn join_all<F, R>(
     rt: &R,
     alloc: Global,
     workers: Vec<Worker<F, F::Output>>,
-) -> Result<Groups<F, F::Output>, WorkerFault>
+) -> Result<Groups<F, F::Output>, Want>
 where
     F: Future<Output: Drop>,
     R: Threads,
-    ensures { IfOk result (λ groups. AllZip (AllEnd F.gives)
+    ensures count { IfOk result (λ groups. deque_len groups ≡ length workers.items) }
+    ensures each { IfOk result (λ groups. AllZip (AllEnd F.gives)
         (map (λ worker. worker.promise.0.value.items) workers.items) (lists_of groups.items)) }
 {
     let mut groups = VecDeque::with_capacity(alloc, workers.len())?;

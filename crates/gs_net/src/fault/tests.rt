@@ -1,4 +1,5 @@
 use super::*;
+use gs_workers::StopFlag;
 
 /// The numbers and the texts of faults.
 static FAULTS: [(NetFault, u8, &str); 3] = [
@@ -23,6 +24,7 @@ fn each_fault_has_its_number_and_text(rt: HostRuntime) -> Result<(), AllocError>
 
 #[test]
 fn a_fault_of_workers_is_one_of_the_run(rt: HostRuntime) {
-    assert!(rt; NetFault::from(WorkerFault::NoMemory) == NetFault::NoMemory(None));
-    assert!(rt; NetFault::from(WorkerFault::NoThread) == NetFault::NoThread);
+    let raised = StopFlag::new().set();
+    assert!(rt; NetFault::from(WorkerFault::NoMemory(raised)) == NetFault::NoMemory(None));
+    assert!(rt; NetFault::from(WorkerFault::NoThread(raised)) == NetFault::NoThread);
 }

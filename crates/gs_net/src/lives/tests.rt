@@ -1,5 +1,6 @@
 //! Which peer a fault names.
 use super::*;
+use gs_workers::StopFlag;
 use std::alloc::AllocError;
 
 /// Whether tasks that gave these faults have this fault named.
@@ -25,14 +26,15 @@ fn names<R: Wait + Drop>(
 #[test]
 fn the_lowest_peer_that_met_want_of_memory_is_named(rt: HostRuntime) -> Result<(), AllocError> {
     let alloc = rt.alloc();
-    let first = [PeerFault::Stopped, PeerFault::NoMemory, PeerFault::NoMemory];
+    let no_memory = PeerFault::NoMemory(StopFlag::new().set());
+    let first = [PeerFault::Stopped, no_memory, no_memory];
     assert!(rt; names(&rt, alloc, &first, NetFault::NoMemory(Some(PeerNo(1))))?);
     assert!(rt; names(&rt, alloc, &[PeerFault::Stopped], NetFault::NoMemory(None))?);
     assert!(rt;
         names(
             &rt,
             alloc,
-            &[PeerFault::NoMemory],
+            &[no_memory],
             NetFault::NoMemory(Some(PeerNo(0)))
         )?
     );

@@ -1,7 +1,7 @@
 //! Futures that give their numbers, and futures that meet.
 ghost use Rattle.std.specs.Prelude.{◌≡◌, ◌≤◌};
 
-use crate::{StopFlag, WorkerFault, run_all};
+use crate::{Ran, StopFlag, WorkerFault, run_all};
 use futures::Future;
 use futures::task::{Context, Poll};
 use std::alloc::{AllocError, AllocGlobal, Global};
@@ -44,13 +44,15 @@ pub fn first_numbers(alloc: Global, count: u8) -> Result<Vec<Numbered>, AllocErr
     Ok(futures)
 }
 
-/// What so many futures give on so many workers.
-pub fn given<R>(rt: &R, workers: usize, count: u8, stop: &StopFlag) -> Result<Vec<u16>, WorkerFault>
+/// What so many futures give on so many workers, and on how many threads they ran.
+pub fn given<R>(rt: &R, workers: usize, count: u8, stop: &StopFlag) -> Result<Ran<u16>, WorkerFault>
 where
     R: Threads + Wait + RandomSource + AllocGlobal + Sync,
     requires { 1 ≤ workers }
 {
-    let futures = first_numbers(rt.alloc(), count)?;
+    let Ok(futures) = first_numbers(rt.alloc(), count) else {
+        return Err(WorkerFault::NoMemory(stop.set()));
+    };
     run_all(rt, workers, stop, futures)
 }
 

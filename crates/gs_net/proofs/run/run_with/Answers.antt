@@ -23,18 +23,20 @@ tasks-requires g c =
     let wired = subst (λ (dials : List Dial). AreWired dials c.in_ok-ends.ends.items) c.as_slice.ensures c.in_ok-ends.ensures.wired in
     record {
       range = c.requires;
-      lines = c.in_ok-lines.ensures.count;
-      own = c.in_ok-lines.ensures.own;
-      ends = c.in_ok-ends.ensures.count ∙ c.len.ensures;
-      usable = λ p within. usable plan c.in_ok-ends.ends.items p c.requires wired c.in_ok-ends.ensures.sized c.in_ok-ends.ensures.fresh;
+      parts = record {
+        lists_of_lines = c.in_ok-lines.ensures.count;
+        own = c.in_ok-lines.ensures.own;
+        lists_of_ends = c.in_ok-ends.ensures.count ∙ c.len.ensures;
+        usable = λ p within. usable plan c.in_ok-ends.ends.items p c.requires wired c.in_ok-ends.ensures.sized c.in_ok-ends.ensures.fresh;
+      };
     }
 
-pub run_tasks-requires-clause-ready : goal.run_tasks-requires-clause-ready
-run_tasks-requires-clause-ready g c κs lives = All-from_recursion _ _ (can_all c.args.plan.now c.in_ok-ends.ends.items c.in_ok-tasks.tasks.items c.in_ok-tasks.ensures)
+pub drive-requires-clause-ready : goal.drive-requires-clause-ready
+drive-requires-clause-ready g c κs lives = All-from_recursion _ _ (can_all c.args.plan.now c.in_ok-ends.ends.items c.in_ok-tasks.tasks.items c.in_ok-tasks.ensures)
 
 pub lives_of-requires : goal.lives_of-requires
 lives_of-requires g c =
-    omega (arith, as_long _ c.in_ok-tasks.tasks.items c.in_ok-results.results.items c.in_ok-results.ensures.given, as_many _ c.args.plan.now c.in_ok-tasks.tasks.items c.in_ok-tasks.ensures, c.requires.peers)
+    omega (arith, as_long _ c.in_ok-tasks.tasks.items c.in_ok-ran.ran.outputs.items c.in_ok-ran.ensures.given, as_many _ c.args.plan.now c.in_ok-tasks.tasks.items c.in_ok-tasks.ensures, c.requires.peers)
 
 -- ---- once the tasks have given their lives
 
@@ -43,7 +45,7 @@ wired_behind g c =
     let plan = c.args.plan.now in
     let ends = c.in_ok-ends.ends.items in
     let (givens, are, apart) = c.in_ok-lives.ensures.lives in
-    let all = gave plan ends c.in_ok-tasks.tasks.items c.in_ok-results.results.items givens c.in_ok-tasks.ensures c.in_ok-results.ensures.given are in
+    let all = gave plan ends c.in_ok-tasks.tasks.items c.in_ok-ran.ran.outputs.items givens c.in_ok-tasks.ensures c.in_ok-ran.ensures.given are in
     still_wired plan.dials ends c.in_ok-lives.lives.ends.items (subst (λ (dials : List Dial). AreWired dials ends) c.as_slice.ensures c.in_ok-ends.ensures.wired) (same_joints plan ends givens _ (c.in_ok-ends.ensures.count ∙ c.len.ensures) all apart)
 
 pub settle_all-settled-requires-clause-named : goal.settle_all-settled-requires-clause-named
@@ -51,7 +53,7 @@ settle_all-settled-requires-clause-named g c =
     let plan = c.args.plan.now in
     let ends = c.in_ok-ends.ends.items in
     let (givens, are, apart) = c.in_ok-lives.ensures.lives in
-    let all = gave plan ends c.in_ok-tasks.tasks.items c.in_ok-results.results.items givens c.in_ok-tasks.ensures c.in_ok-results.ensures.given are in
+    let all = gave plan ends c.in_ok-tasks.tasks.items c.in_ok-ran.ran.outputs.items givens c.in_ok-tasks.ensures c.in_ok-ran.ensures.given are in
     rw (c.as_slice-2.ensures, ends_as_many givens _ apart, as_many _ plan givens all) (dials_join plan c.requires)
 
 pub settle_all-settled-requires-clause-wired : goal.settle_all-settled-requires-clause-wired
@@ -65,7 +67,7 @@ settle_all-settled-requires-clause-closed g c =
     let plan = c.args.plan.now in
     let ends = c.in_ok-ends.ends.items in
     let (givens, are, apart) = c.in_ok-lives.ensures.lives in
-    let all = gave plan ends c.in_ok-tasks.tasks.items c.in_ok-results.results.items givens c.in_ok-tasks.ensures c.in_ok-results.ensures.given are in
+    let all = gave plan ends c.in_ok-tasks.tasks.items c.in_ok-ran.ran.outputs.items givens c.in_ok-tasks.ensures c.in_ok-ran.ensures.given are in
     ends_closed plan givens c.in_ok-lives.lives.ends.items c.requires (lives_each plan ends (numbers plan) givens all) (ends_left givens _ apart) (wired_behind g c)
 
 pub settle_all-settled-requires-clause-few : goal.settle_all-settled-requires-clause-few
@@ -76,7 +78,7 @@ returns g c =
     let plan = c.args.plan.now in
     let ends = c.in_ok-ends.ends.items in
     let (givens, are, apart) = c.in_ok-lives.ensures.lives in
-    let all = gave plan ends c.in_ok-tasks.tasks.items c.in_ok-results.results.items givens c.in_ok-tasks.ensures c.in_ok-results.ensures.given are in
+    let all = gave plan ends c.in_ok-tasks.tasks.items c.in_ok-ran.ran.outputs.items givens c.in_ok-tasks.ensures c.in_ok-ran.ensures.given are in
     let exchanged = ends_exchanged givens c.in_ok-lives.lives.ends.items plan.dials (ends_left givens _ apart) (subst (λ (dials : List Dial). AllByRecursion (IsExchanged c.in_ok-lives.lives.ends.items) dials) c.as_slice-2.ensures c.settle_all-settled.ensures.exchanged) in
     record {
       numbers_are = apart.numbers ∙ ap (λ (n : ℕ). map peer_no (range_with_len 0 n)) (as_many _ plan givens all);
