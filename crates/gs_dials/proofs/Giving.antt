@@ -5,6 +5,7 @@ use Rattle.std.proofs.lemmas.Bool.Decides.{eqb_tells}
 use Rattle.gs_base.specs.declared.names.PeerNo.{PeerNo}
 use Rattle.gs_base.specs.Names.{same_peer}
 use Rattle.gs_plan.specs.declared.plan.Dial.{Dial}
+use Rattle.gs_ends.specs.Ends.{linked}
 use Rattle.gs_dials.specs.Dials.{Dialled, gives, assigned}
 
 -- ---- peers
@@ -25,10 +26,10 @@ numbers_apart p q is e = true≢false (sym (eq-eqb p.0 q.0 e) ∙ is)
 
 -- ---- what a dial gives
 
-pub gives_from : (d : Dialled) → gives d d.dial.from ≡ record { peer = d.dial.to; to = d.there; from = d.back } ∷ []
+pub gives_from : (d : Dialled) → gives d d.dial.from ≡ linked d.dial.to d.there d.back ∷ []
 gives_from d = rw (same_itself d.dial.from) refl
 
-pub gives_to : (d : Dialled) → d.dial.from.0 ≢ d.dial.to.0 → gives d d.dial.to ≡ record { peer = d.dial.from; to = d.back; from = d.there } ∷ []
+pub gives_to : (d : Dialled) → d.dial.from.0 ≢ d.dial.to.0 → gives d d.dial.to ≡ linked d.dial.from d.back d.there ∷ []
 gives_to d apart = rw (ne_eqb d.dial.from.0 d.dial.to.0 apart, same_itself d.dial.to) refl
 
 pub gives_none : (d : Dialled) (p : PeerNo) → p.0 ≢ d.dial.from.0 → p.0 ≢ d.dial.to.0 → gives d p ≡ []

@@ -14,7 +14,7 @@ use Rattle.gs_base.specs.declared.names.PeerNo.{PeerNo}
 use Rattle.gs_base.specs.Names.{same_peer}
 use Rattle.gs_plan.specs.declared.plan.Dial.{Dial}
 use Rattle.gs_plan.specs.Plans.{are_joined, join_the_same, joins}
-use Rattle.gs_ends.specs.Ends.{Joint, has, is_joint_of}
+use Rattle.gs_ends.specs.Ends.{Joint, has, is_joint_of, linked}
 use Rattle.gs_ends.specs.Pairs.{Pair, joints_of, peers_in}
 use Rattle.gs_dials.specs.ListsByPeer.{list_at}
 use Rattle.gs_dials.specs.Dials.{AreWired, Dialled, JoinsTwoOf, assigned, gives}
@@ -70,7 +70,7 @@ as_joins false b false true h = refl
 as_joins false b false false h = refl
 
 has_given : (d : Dialled) (p q : PeerNo) → has (gives d p) q ≡ joins p q d.dial
-has_given d p q = joint_in (same_peer d.dial.from p) (same_peer d.dial.to p) (record { peer = d.dial.to; to = d.there; from = d.back }) (record { peer = d.dial.from; to = d.back; from = d.there }) q
+has_given d p q = joint_in (same_peer d.dial.from p) (same_peer d.dial.to p) (linked d.dial.to d.there d.back) (linked d.dial.from d.back d.there) q
     ∙ as_joins (same_peer d.dial.from p) (same_peer d.dial.to q) (same_peer d.dial.from q) (same_peer d.dial.to p)
     (λ a c e. eq-eqb d.dial.to.0 q.0 (same_number d.dial.to p e ∙ sym (same_number d.dial.from p a) ∙ same_number d.dial.from q c))
 

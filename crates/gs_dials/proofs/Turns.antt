@@ -9,7 +9,7 @@ use Rattle.gs_base.specs.declared.names.PeerNo.{PeerNo}
 use Rattle.gs_base.specs.Names.{same_peer}
 use Rattle.gs_plan.specs.declared.plan.Dial.{Dial}
 use Rattle.gs_link.specs.Runs.{closes}
-use Rattle.gs_ends.specs.Ends.{Joint}
+use Rattle.gs_ends.specs.Ends.{Joint, linked}
 use Rattle.gs_ends.specs.Pairs.{Pair, accepted_for, joint_of, joints_of, peers_in, taken_from}
 use Rattle.gs_dials.specs.ListsByPeer.{list_at}
 use Rattle.gs_dials.specs.Dials.{Dialled, gives, assigned, AreWired, AtEach, IsClosed, IsExchanged, JoinsTwoOf}
@@ -63,16 +63,16 @@ module _ (all todo rest : List Dial) (dial : Dial) (whole lists : List (Vec Pair
   differ = numbers_apart dial.from dial.to ranges.1.2
 
   abbrev from_joint : Joint
-  from_joint = record { peer = dial.to; to = split.1.there; from = split.1.back }
+  from_joint = linked dial.to split.1.there split.1.back
 
   abbrev to_joint : Joint
-  to_joint = record { peer = dial.from; to = split.1.back; from = split.1.there }
+  to_joint = linked dial.from split.1.back split.1.there
 
   from_gives : gives split.1 dial.from ≡ from_joint ∷ []
-  from_gives = subst (λ (x : Dial). gives split.1 x.from ≡ record { peer = x.to; to = split.1.there; from = split.1.back } ∷ []) split.4 (gives_from split.1)
+  from_gives = subst (λ (x : Dial). gives split.1 x.from ≡ linked x.to split.1.there split.1.back ∷ []) split.4 (gives_from split.1)
 
   to_gives : gives split.1 dial.to ≡ to_joint ∷ []
-  to_gives = subst (λ (x : Dial). gives split.1 x.to ≡ record { peer = x.from; to = split.1.back; from = split.1.there } ∷ []) split.4 (gives_to split.1 (subst (λ (x : Dial). x.from.0 ≢ x.to.0) (sym split.4) differ))
+  to_gives = subst (λ (x : Dial). gives split.1 x.to ≡ linked x.from split.1.back split.1.there ∷ []) split.4 (gives_to split.1 (subst (λ (x : Dial). x.from.0 ≢ x.to.0) (sym split.4) differ))
 
   none_gives : (r : PeerNo) → r.0 ≢ dial.from.0 → r.0 ≢ dial.to.0 → gives split.1 r ≡ []
   none_gives r a b = gives_none split.1 r (λ e. a (e ∙ ap (λ (x : Dial). x.from.0) split.4)) (λ e. b (e ∙ ap (λ (x : Dial). x.to.0) split.4))

@@ -5,6 +5,7 @@ use Rattle.std.proofs.lemmas.List.{map-append}
 use Rattle.std.specs.declared.alloc.Global.{Global}
 use Rattle.gs_base.specs.declared.names.PeerNo.{PeerNo}
 use Rattle.gs_plan.specs.declared.plan.Dial.{Dial}
+use Rattle.gs_ends.specs.Ends.{linked}
 use Rattle.gs_ends.specs.Pairs.{Pair, joint_of, joints_of}
 use Rattle.gs_dials.specs.ListsByPeer.{list_at}
 use Rattle.gs_dials.specs.Dials.{Dialled, gives, assigned, AreWired, AtEach, HasCapacity, IsFresh, IsWiredOn}
@@ -47,8 +48,8 @@ module _ (dial : Dial) (old mid new : List (Vec Pair Global)) (one other : Pair)
     dialled = by dial one;
     of_dial = refl;
     joints = at_each (λ r. joints_of (list_at new r.0) ≡ joints_of (list_at old r.0) ++ gives (by dial one) r) dial
-        (grown _ _ one at_from ∙ ap (λ q. joints_of (list_at old dial.from.0) ++ record { peer = q; to = one.1.link; from = one.2.link } ∷ []) one_is ∙ ap (λ l. joints_of (list_at old dial.from.0) ++ l) (sym (gives_from (by dial one))))
-        (grown _ _ other at_to ∙ (λ i. joints_of (list_at old dial.to.0) ++ record { peer = other_is i; to = sym back i; from = there i } ∷ []) ∙ ap (λ l. joints_of (list_at old dial.to.0) ++ l) (sym (gives_to (by dial one) apart)))
+        (grown _ _ one at_from ∙ ap (λ q. joints_of (list_at old dial.from.0) ++ linked q one.1.link one.2.link ∷ []) one_is ∙ ap (λ l. joints_of (list_at old dial.from.0) ++ l) (sym (gives_from (by dial one))))
+        (grown _ _ other at_to ∙ (λ i. joints_of (list_at old dial.to.0) ++ linked (other_is i) (sym back i) (there i) ∷ []) ∙ ap (λ l. joints_of (list_at old dial.to.0) ++ l) (sym (gives_to (by dial one) apart)))
         (λ r a b. ap joints_of (at_other r a b) ∙ sym (ap (λ l. joints_of (list_at old r.0) ++ l) (gives_none (by dial one) r a b) ∙ append-nil (joints_of (list_at old r.0))));
     sized = holds_on (HasCapacity capacity) one_sized other_sized;
     fresh = holds_on IsFresh one_fresh other_fresh;

@@ -7,7 +7,7 @@ use Rattle.gs_base.specs.Names.{same_peer}
 use Rattle.gs_plan.specs.declared.plan.Dial.{Dial}
 use Rattle.gs_link.specs.Ends.{LinkId}
 use Rattle.gs_link.specs.Runs.{closes}
-use Rattle.gs_ends.specs.Ends.{Joint}
+use Rattle.gs_ends.specs.Ends.{Joint, linked}
 use Rattle.gs_ends.specs.Pairs.{Pair, accepted_for, joints_of, taken_from}
 use Rattle.gs_dials.specs.ListsByPeer.{list_at}
 
@@ -26,8 +26,8 @@ pub record Dialled : Type 0 where
 -- what a dial gives a peer: the one that dials sends there and takes from the link back, the other sends back
 abbrev pub gives : Dialled → PeerNo → List Joint
 gives d p =
-    if same_peer d.dial.from p then record { peer = d.dial.to; to = d.there; from = d.back } ∷ []
-    else (if same_peer d.dial.to p then record { peer = d.dial.from; to = d.back; from = d.there } ∷ [] else [])
+    if same_peer d.dial.from p then linked d.dial.to d.there d.back ∷ []
+    else (if same_peer d.dial.to p then linked d.dial.from d.back d.there ∷ [] else [])
 
 -- all that a peer is given, in the order of the dials
 abbrev pub assigned : List Dialled → PeerNo → List Joint

@@ -18,3 +18,7 @@ two_apart xs x y is apart = subst (λ l. IsDistinct same_peer (peers_in l)) (sym
 pub two_sources : (xs : List Source) (x y : Source) → xs ≡ x ∷ y ∷ [] → same_peer x.0 y.0 ≡ false → IsDistinct same_peer (senders_of xs)
 unfolding IsDistinct
 two_sources xs x y is apart = subst (λ l. IsDistinct same_peer (senders_of l)) (sym is) (IsDistinct-cons same_peer x.0 (y.0 ∷ []) (apart, tt) (IsDistinct-cons same_peer y.0 [] tt tt))
+
+pub three_sources : (xs : List Source) (x y z : Source) → xs ≡ x ∷ y ∷ z ∷ [] → same_peer x.0 y.0 ≡ false → same_peer x.0 z.0 ≡ false → same_peer y.0 z.0 ≡ false → IsDistinct same_peer (senders_of xs)
+unfolding IsDistinct
+three_sources xs x y z is first second third = subst (λ l. IsDistinct same_peer (senders_of l)) (sym is) (IsDistinct-cons same_peer x.0 (y.0 ∷ z.0 ∷ []) (first, (second, tt)) (IsDistinct-cons same_peer y.0 (z.0 ∷ []) (third, tt) (IsDistinct-cons same_peer z.0 [] tt tt)))

@@ -3,3 +3,4 @@ pub mod Calls
 pub mod SlotLists
 pub mod Fresh
 pub mod Apart
+pub mod InOrder

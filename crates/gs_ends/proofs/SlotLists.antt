@@ -1,11 +1,11 @@
 -- Items as they lie in a link, one more at the back, and what is left of a list of items.
-use Rattle.std.proofs.Common.{◌≡◌, ℕ, zero, suc, ◌+◌, Bool, true, false, List, [], ◌∷◌, ◌++◌, refl, sym, ap, ◌∙◌, length, take, drop, arith, subst}
+use Rattle.std.proofs.Common.{◌≡◌, ℕ, zero, suc, ◌+◌, Bool, true, false, List, [], ◌∷◌, ◌++◌, refl, sym, ap, ◌∙◌, length, take, drop, ◌≤◌, if◌then◌else◌, arith, subst}
 use Rattle.gs_link.specs.declared.item.Item.{Item}
 use Rattle.gs_link.specs.declared.item.Item.TheVariants as item
-use Rattle.gs_link.specs.declared.item.Slot.{Slot}
 use Rattle.gs_link.specs.declared.item.Slot.TheVariants.{Close}
 use Rattle.gs_link.specs.Items.{slot_of}
 use Rattle.gs_link.specs.Runs.{closes}
+use Rattle.gs_link.specs.Ends.{with_close}
 use Rattle.gs_ends.specs.Lists.{as_slots}
 
 pub closes_as_slots : (items : List Item) (closed : Bool) → closes (as_slots items closed) ≡ closed
@@ -44,9 +44,40 @@ take_more n all x rest is = let next : suc n ≡ n + 1 = omega arith in subst (�
 pub rest_more : (n : ℕ) (all : List Item) (x : Item) (rest : List Item) → x ∷ rest ≡ drop n all → rest ≡ drop (n + 1) all
 rest_more n all x rest is = (take_more n all x rest is).1
 
-pub got : (n : ℕ) (all : List Item) (x : Item) (rest : List Item) (closed : Bool) (before : List Slot) → x ∷ rest ≡ drop n all → closed ≡ false → as_slots (take n all) closed ≡ before → (closes before ≡ false) × (as_slots (take (n + 1) all) closed ≡ before ++ slot_of x ∷ [])
-got n all x rest closed before is open_still view =
-    let more = take_more n all x rest is in (
-      ap closes (sym view) ∙ closes_as_slots (take n all) closed ∙ open_still,
-      (λ i. as_slots (more.0 i) (open_still i)) ∙ as_slots_snoc (take n all) x ∙ ap (λ l. l ++ slot_of x ∷ []) ((λ i. as_slots (take n all) (sym open_still i)) ∙ view),
+-- the front of what comes that leaves out the close
+take_within : (n : ℕ) (items : List Item) → n ≤ length items → take n (as_slots items true) ≡ as_slots (take n items) false
+take_within zero items within = refl
+take_within (suc n) [] within = absurd (omega arith)
+take_within (suc n) (x ∷ items) within = ap (λ l. slot_of x ∷ l) (take_within n items (omega arith))
+
+-- and with the close it is all that comes
+take_whole : (items : List Item) → take (suc (length items)) (as_slots items true) ≡ as_slots items true
+take_whole [] = refl
+take_whole (x ∷ items) = ap (λ l. slot_of x ∷ l) (take_whole items)
+
+take_count : (items : List Item) → take (length items) items ≡ items
+take_count [] = refl
+take_count (x ∷ items) = ap (λ l. x ∷ l) (take_count items)
+
+-- an item is taken
+pub got : (n : ℕ) (all : List Item) (x : Item) (rest : List Item) → x ∷ rest ≡ drop n all → n + length (x ∷ rest) ≡ length all → (closes (take n (as_slots all true)) ≡ false) × (take (n + 1) (as_slots all true) ≡ take n (as_slots all true) ++ slot_of x ∷ [])
+got n all x rest is count =
+    let more = take_more n all x rest is in
+    let before : take n (as_slots all true) ≡ as_slots (take n all) false = take_within n all (omega (arith, count)) in (
+      ap closes before ∙ closes_as_slots (take n all) false,
+      take_within (n + 1) all (omega (arith, count)) ∙ ap (λ l. as_slots l false) more.0 ∙ as_slots_snoc (take n all) x ∙ ap (λ l. l ++ slot_of x ∷ []) (sym before),
     )
+
+-- the close is taken, behind the last item
+pub closed_now : (n : ℕ) (all : List Item) → n ≡ length all → take (suc n) (as_slots all true) ≡ with_close (take n (as_slots all true))
+closed_now n all is =
+    let before : take n (as_slots all true) ≡ as_slots all false = take_within n all (omega (arith, is)) ∙ ap (λ k. as_slots (take k all) false) is ∙ ap (λ l. as_slots l false) (take_count all) in
+    ap (λ k. take (suc k) (as_slots all true)) is ∙ take_whole all ∙ as_slots_close all
+    ∙ ap (λ b. if b then as_slots all false else as_slots all false ++ Close ∷ []) (sym (closes_as_slots all false))
+    ∙ ap with_close (sym before)
+
+-- the close was taken before
+pub closed_before : (n : ℕ) (all : List Item) → n ≡ length all → take (suc n) (as_slots all true) ≡ with_close (take (suc n) (as_slots all true))
+closed_before n all is =
+    let whole : take (suc n) (as_slots all true) ≡ as_slots all true = ap (λ k. take (suc k) (as_slots all true)) is ∙ take_whole all in
+    whole ∙ ap (λ b. if b then as_slots all true else as_slots all true ++ Close ∷ []) (sym (closes_as_slots all true)) ∙ ap with_close (sym whole)

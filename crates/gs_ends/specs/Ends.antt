@@ -1,5 +1,5 @@
 -- Which links a peer's ends belong to, and what a call of them does to the lists of a neighbour.
-use Rattle.std.specs.Prelude.{◌≡◌, ◌≢◌, ◌≤◌, ℕ, Bool, true, false, if◌then◌else◌, List, [], ◌∷◌, ◌++◌, length, Result, Ok, Err}
+use Rattle.std.specs.Prelude.{◌≡◌, ◌≢◌, ◌≤◌, ℕ, Bool, true, false, if◌then◌else◌, List, [], ◌∷◌, ◌++◌, length, Option, Some, None, IfSome, Result, Ok, Err}
 use Rattle.std.specs.List.{list_any}
 use Rattle.gs_base.specs.declared.names.PeerNo.{PeerNo}
 use Rattle.gs_base.specs.Names.{same_peer}
@@ -18,11 +18,16 @@ use Rattle.gs_link.specs.Ends.{LinkId, with_close}
 
 -- ---- which ends there are
 
--- A neighbour, the link to it and the link from it.
+-- A neighbour, the link to it, the link from it, and all that comes from it, where that is settled beforehand.
 pub record Joint : Type 0 where
   pub peer : PeerNo
   pub to : LinkId
   pub from : LinkId
+  pub comes : Option (List Slot)
+
+-- a neighbour with two links: nobody knows beforehand what comes from it
+abbrev pub linked : PeerNo → LinkId → LinkId → Joint
+linked q to from = record { peer = q; to = to; from = from; comes = None }
 
 abbrev pub is_joint_of : PeerNo → Joint → Bool
 is_joint_of q joint = same_peer joint.peer q
@@ -30,6 +35,23 @@ is_joint_of q joint = same_peer joint.peer q
 -- there are ends to and from this neighbour
 abbrev pub has : List Joint → PeerNo → Bool
 has joints q = list_any (is_joint_of q) joints
+
+-- all that comes from this neighbour, where that is settled beforehand
+abbrev pub comes_from : List Joint → PeerNo → Option (List Slot)
+comes_from [] q = None
+comes_from (joint ∷ joints) q = if is_joint_of q joint then joint.comes else comes_from joints q
+
+-- the slots are the first of all of them, in order
+abbrev pub IsFront : List Slot → List Slot → Type 0
+IsFront slots all = (rest : List Slot) × (slots ++ rest ≡ all)
+
+-- where it is settled what comes from a neighbour, the first of that were taken
+abbrev pub TakesFront : List Joint → (PeerNo → List Slot) → PeerNo → Type 0
+TakesFront joints taken q = IfSome (comes_from joints q) (λ all. IsFront (taken q) all)
+
+-- where the close of a neighbour was taken, all was that comes from it
+abbrev pub TakesAll : List Joint → (PeerNo → List Slot) → PeerNo → Type 0
+TakesAll joints taken q = closes (taken q) ≡ true → comes_from joints q ≡ Some (taken q)
 
 -- ---- how a call changes the lists
 

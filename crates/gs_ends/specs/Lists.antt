@@ -1,5 +1,5 @@
 -- Ends that are lists in memory: what lies in them, and how they stand in a list of neighbours.
-use Rattle.std.specs.Prelude.{ℕ, ◌+◌, Bool, true, false, nat_eq, nat_le, if◌then◌else◌, List, [], ◌∷◌, length, drop, ◌≡◌, ◌<◌, ◌^◌, map}
+use Rattle.std.specs.Prelude.{ℕ, suc, ◌+◌, Bool, true, false, nat_eq, nat_le, if◌then◌else◌, List, [], ◌∷◌, length, take, drop, Some, ◌≡◌, ◌<◌, ◌^◌, map}
 use Rattle.std.specs.declared.vec.Vec.{Vec}
 use Rattle.std.specs.declared.alloc.Global.{Global}
 use Rattle.gs_base.specs.declared.names.PeerNo.{PeerNo}
@@ -8,17 +8,14 @@ use Rattle.gs_link.specs.declared.item.Slot.{Slot}
 use Rattle.gs_link.specs.declared.item.Slot.TheVariants.{Close}
 use Rattle.std.specs.List.{All}
 use Rattle.gs_link.specs.Items.{IsSendable, slot_of}
-use Rattle.gs_link.specs.Ends.{LinkId, SendingEnd, TakingEnd}
+use Rattle.gs_link.specs.Ends.{LinkId, SendingEnd}
 use Rattle.gs_ends.specs.Ends.{Joint}
-use Rattle.gs_ends.specs.Pairs.{Pair}
+use Rattle.gs_ends.specs.Pairs.{accepted_for, slots_with}
+use Rattle.gs_ends.specs.declared.ends.Ends.{Ghosts as EndsOf}
 
 -- the identity that stands for no link
 abbrev pub no_link : LinkId
 no_link = record { words = 0; slots = 0; views_name = 0; atom = 0; block = 0; offset = 0; slot_names = [] }
-
--- a neighbour whose ends are lists
-abbrev pub listed_joint : PeerNo → Joint
-listed_joint q = record { peer = q; to = no_link; from = no_link }
 
 -- items as they lie in a link, and behind them the close where there is one
 abbrev pub as_slots : List Item → Bool → List Slot
@@ -29,17 +26,35 @@ as_slots (item ∷ items) closed = slot_of item ∷ as_slots items closed
 abbrev pub listed_sender : ℕ → List Item → Bool → SendingEnd
 listed_sender room items closed = record { link = no_link; capacity = room; accepted = as_slots items closed }
 
--- an end from which so many items come, by those that were taken
-abbrev pub listed_taker : ℕ → List Item → Bool → TakingEnd
-listed_taker count items closed = record { link = no_link; capacity = count; taken = as_slots items closed }
+-- What comes from a neighbour: the items that were given for it, and how many slots were taken.
+pub record Incoming : Type 0 where
+  pub given : List Item
+  pub count : ℕ
+
+-- all that comes: the items that were given, in order, and then the close
+abbrev pub all_of : Incoming → List Slot
+all_of incoming = as_slots incoming.given true
+
+-- the slots that were taken
+abbrev pub taken_of : Incoming → List Slot
+taken_of incoming = take incoming.count (all_of incoming)
+
+-- a neighbour with an end that sends to it, and what comes from it
+abbrev pub Listed : Type 0
+Listed = PeerNo × SendingEnd × Incoming
 
 -- a neighbour and the items that come from it
 abbrev pub Source : Type 0
 Source = PeerNo × Vec Item Global
 
 -- its ends, before any call
-abbrev pub fresh_pair : ℕ → Source → Pair
-fresh_pair room source = (source.0, listed_sender room [] false, listed_taker (length source.1.items) [] false)
+abbrev pub fresh_ends : ℕ → Source → Listed
+fresh_ends room source = (source.0, listed_sender room [] false, record { given = source.1.items; count = 0 })
+
+-- a neighbour whose ends are lists: its items come, in order, and then the close
+abbrev pub listed_joint : Source → Joint
+listed_joint source =
+    record { peer = source.0; to = no_link; from = no_link; comes = Some (as_slots source.1.items true) }
 
 -- the neighbours from which items come, in order
 abbrev pub senders_of : List Source → List PeerNo
@@ -48,6 +63,23 @@ senders_of sources = map (λ source. source.0) sources
 -- what comes from a neighbour may be sent
 abbrev pub BringsSendable : Source → Type 0
 BringsSendable source = All IsSendable source.1.items
+
+-- ---- what the ends are known for
+
+abbrev pub joint_in_lists : Listed → Joint
+joint_in_lists ends = record { peer = ends.0; to = ends.1.link; from = no_link; comes = Some (all_of ends.2) }
+
+-- which neighbours there are, and what comes from each
+abbrev pub joints_in_lists : List Listed → List Joint
+joints_in_lists lists = map joint_in_lists lists
+
+-- all that was taken from a neighbour
+abbrev pub taken_in_lists : List Listed → PeerNo → List Slot
+taken_in_lists lists q = slots_with (λ ends. taken_of ends.2) lists q
+
+-- all three, as contracts see them of any ends
+abbrev pub list_ends : EndsOf (List Listed)
+list_ends = record { joints = joints_in_lists; accepted = accepted_for; taken = taken_in_lists }
 
 -- ---- which puts are refused for their count
 
@@ -58,9 +90,14 @@ counted every count =
 
 -- ---- what is left of the items that come from a neighbour
 
--- As many as `taken` were taken of all items, and the rest is left, each within its size.
-pub record IsRest (taken : ℕ) (all left : List Item) : Type 0 where
+-- how many slots were taken, by how many items were, and whether the close was
+abbrev pub slots_taken : ℕ → Bool → ℕ
+slots_taken items closed = if closed then suc items else items
+
+-- As many as `taken` were taken of all items, and the rest is left, each within its size. The close comes last.
+pub record IsRest (taken : ℕ) (closed : Bool) (all left : List Item) : Type 0 where
   pub rest : left ≡ drop taken all
   pub count : taken + length left ≡ length all
   pub bounded : length all < 2 ^ 64
   pub sized : All IsSendable left
+  pub last : closed ≡ true → left ≡ []

@@ -4,7 +4,7 @@ use Rattle.gs_base.specs.declared.names.PeerNo.{PeerNo}
 use Rattle.gs_base.specs.Names.{same_peer}
 use Rattle.gs_link.specs.declared.item.Slot.{Slot}
 use Rattle.gs_link.specs.Ends.{SendingEnd, TakingEnd}
-use Rattle.gs_ends.specs.Ends.{Joint}
+use Rattle.gs_ends.specs.Ends.{Joint, linked}
 use Rattle.gs_ends.specs.declared.ends.Ends.{Ghosts as EndsOf}
 
 abbrev pub Pair : Type 0
@@ -29,18 +29,19 @@ peers_in xs = map (λ x. x.0) xs
 
 -- which links the ends of each neighbour belong to
 abbrev pub joint_of : Pair → Joint
-joint_of pair = record { peer = pair.0; to = pair.1.link; from = pair.2.link }
+joint_of pair = linked pair.0 pair.1.link pair.2.link
 
 abbrev pub joints_of : List Pair → List Joint
 joints_of pairs = map joint_of pairs
 
 -- the list that an end of a neighbour has, and none where there is no such neighbour
-abbrev pub slots_with : (Pair → List Slot) → List Pair → PeerNo → List Slot
+abbrev pub slots_with : {A B : Type 0} → (PeerNo × A × B → List Slot)
+    → List (PeerNo × A × B) → PeerNo → List Slot
 slots_with list [] q = []
-slots_with list (pair ∷ pairs) q = if is_of q pair then list pair else slots_with list pairs q
+slots_with list (x ∷ xs) q = if is_of q x then list x else slots_with list xs q
 
 -- all that the end to a neighbour accepted
-abbrev pub accepted_for : List Pair → PeerNo → List Slot
+abbrev pub accepted_for : {B : Type 0} → List (PeerNo × SendingEnd × B) → PeerNo → List Slot
 accepted_for pairs q = slots_with (λ pair. pair.1.accepted) pairs q
 
 -- all that the end from a neighbour took

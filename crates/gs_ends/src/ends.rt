@@ -1,18 +1,19 @@
-ghost use Rattle.std.specs.Prelude.{◌≡◌, List, true};
+ghost use Rattle.std.specs.Prelude.{◌≡◌, IsTrue, List, None, true};
 ghost use Rattle.gs_base.specs.declared.names.PeerNo.{PeerNo as PeerNoValue};
 ghost use Rattle.gs_link.specs.declared.item.Slot.{Slot};
 ghost use Rattle.gs_link.specs.Items.{IsSendable};
-ghost use Rattle.gs_link.specs.Ends.{IfGot};
-ghost use Rattle.gs_ends.specs.Ends.{IsFinished, IsPut, IsTaken, Joint, OthersStay, has};
+ghost use Rattle.gs_link.specs.Ends.{IfGot, take_found_empty};
+ghost use Rattle.gs_ends.specs.Ends.{IsFinished, IsPut, IsTaken, Joint, OthersStay, comes_from, has};
 
 use gs_base::PeerNo;
 use gs_link::{CloseRefused, Item, SendRefused, Taken};
 
 /// The ends of a peer's links: to each neighbour one that sends and one that takes. Contracts see
 /// which link each end belongs to, and for each neighbour the list of all that was accepted for it
-/// and the list of all that was taken from it. No call takes memory.
+/// and the list of all that was taken from it. Where it is settled beforehand what comes from a
+/// neighbour, they see that, too, and no call changes it. No call takes memory.
 pub trait Ends: Drop {
-    // Which neighbours there are, and the links to and from each.
+    // Which neighbours there are, the links to and from each, and what comes, where that is settled.
     ghost joints: { Self → List Joint };
 
     // What was accepted for a neighbour.
@@ -45,7 +46,8 @@ pub trait Ends: Drop {
         ensures others { OthersStay to (accepted self.old) (accepted self.new) }
         ensures taken { (q : PeerNoValue) → taken self.new q ≡ taken self.old q };
 
-    /// Takes what came first from a neighbour, of what was not taken. Behind the close it answers
+    /// Takes what came first from a neighbour, of what was not taken. It answers `Empty` where
+    /// nothing waits, which is never so where it is settled what comes. Behind the close it answers
     /// `Closed` again.
     fn take(&mut self, from: PeerNo) -> Taken
         requires known { has (joints self.old) from ≡ true }
@@ -53,5 +55,6 @@ pub trait Ends: Drop {
         ensures taken { IsTaken (taken self.old from) (taken self.new from) result }
         ensures others { OthersStay from (taken self.old) (taken self.new) }
         ensures accepted { (q : PeerNoValue) → accepted self.new q ≡ accepted self.old q }
-        ensures size { IfGot result IsSendable };
+        ensures size { IfGot result IsSendable }
+        ensures settled { IsTrue (take_found_empty result) → comes_from (joints self.old) from ≡ None };
 }

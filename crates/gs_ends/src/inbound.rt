@@ -1,10 +1,10 @@
 //! An end that takes, as a list in memory.
-ghost use Rattle.std.specs.Prelude.{◌≡◌, [], false, length};
+ghost use Rattle.std.specs.Prelude.{◌≡◌, false};
 ghost use Rattle.std.specs.List.{All};
 ghost use Rattle.gs_link.specs.Items.{IsSendable};
-ghost use Rattle.gs_link.specs.Ends.{IfGot};
+ghost use Rattle.gs_link.specs.Ends.{IfGot, take_found_empty};
 ghost use Rattle.gs_ends.specs.Ends.{IsTaken};
-ghost use Rattle.gs_ends.specs.Lists.{listed_taker};
+ghost use Rattle.gs_ends.specs.Lists.{taken_of};
 
 use gs_link::{Item, Taken};
 use std::collections::VecDeque;
@@ -21,22 +21,20 @@ pub(crate) struct Inbound {
 }
 
 impl Model for Inbound {
-    ghost use Rattle.std.specs.Prelude.{length, take};
-    ghost use Rattle.gs_link.specs.Ends.{TakingEnd};
-    ghost use Rattle.gs_ends.specs.Lists.{IsRest, listed_taker};
+    ghost use Rattle.gs_ends.specs.Lists.{Incoming, IsRest, slots_taken};
 
-    ghost Value = { TakingEnd };
+    ghost Value = { Incoming };
 
-    ghost view = { λ s. listed_taker (length s.all.value.items) (take s.next s.all.value.items) s.closed };
+    ghost view = { λ s. record { given = s.all.value.items; count = slots_taken s.next s.closed } };
 
-    ghost invariant = { λ s. IsRest s.next s.all.value.items s.left.items };
+    ghost invariant = { λ s. IsRest s.next s.closed s.all.value.items s.left.items };
 }
 
 impl Inbound {
     /// An end from which these items come, in this order.
     pub(crate) fn new(items: Vec<Item>) -> Inbound
         requires size { All IsSendable items.items }
-        ensures { result ≡ listed_taker (length items.items) [] false }
+        ensures { result ≡ record { given = items.items; count = 0 } }
     {
         let all = Snapshot::of(&items);
         // Its length is below 2^64, and so is what was taken of it.
@@ -49,12 +47,13 @@ impl Inbound {
         }
     }
 
-    /// Takes the first item of those that are left, and then the close, again and again.
-    #[tactic(auto, using(crate::proofs::SlotLists::closes_as_slots, crate::proofs::SlotLists::as_slots_close))]
+    /// Takes the first item of those that are left. Behind the last one it takes the close, and answers
+    /// that again and again.
     pub(crate) fn take(&mut self) -> Taken
-        ensures link { self.new.link ≡ self.old.link }
-        ensures taken { IsTaken self.old.taken self.new.taken result }
+        ensures given { self.new.given ≡ self.old.given }
+        ensures taken { IsTaken (taken_of self.old) (taken_of self.new) result }
         ensures size { IfGot result IsSendable }
+        ensures comes { take_found_empty result ≡ false }
     {
         if self.closed {
             return Taken::Closed;

@@ -1,9 +1,10 @@
-ghost use Rattle.std.specs.Prelude.{◌≡◌};
+ghost use Rattle.std.specs.Prelude.{◌≡◌, IsTrue, None};
 ghost use Rattle.std.specs.List.{IsDistinct};
 ghost use Rattle.gs_base.specs.Names.{same_peer};
 ghost use Rattle.gs_base.specs.declared.names.PeerNo.{PeerNo as PeerNoValue};
 ghost use Rattle.gs_link.specs.declared.item.Slot.{Slot};
-ghost use Rattle.gs_ends.specs.Ends.{IsFinished, IsPut, IsTaken, Joint, OthersStay, has};
+ghost use Rattle.gs_link.specs.Ends.{take_found_empty};
+ghost use Rattle.gs_ends.specs.Ends.{IsFinished, IsPut, IsTaken, Joint, OthersStay, comes_from, has};
 ghost use Rattle.gs_ends.specs.Pairs.{accepted_for, joints_of, peers_in, taken_from};
 
 use crate::ends::Ends;

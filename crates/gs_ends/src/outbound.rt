@@ -43,7 +43,7 @@ impl Outbound {
     }
 
     /// Puts the item at the back, where there is room and `refused` is not set.
-    #[tactic(auto, using(crate::proofs::SlotLists::closes_as_slots, crate::proofs::SlotLists::as_slots_snoc, crate::proofs::SlotLists::as_slots_close))]
+    #[tactic(auto, using(crate::proofs::SlotLists::closes_as_slots, crate::proofs::SlotLists::as_slots_snoc))]
     pub(crate) fn put(&mut self, item: Item, refused: bool) -> Result<(), SendRefused>
         ensures link { self.new.link ≡ self.old.link }
         ensures capacity { self.new.capacity ≡ self.old.capacity }
@@ -62,7 +62,7 @@ impl Outbound {
     }
 
     /// Puts the close at the back, where there is room and `refused` is not set.
-    #[tactic(auto, using(crate::proofs::SlotLists::closes_as_slots, crate::proofs::SlotLists::as_slots_snoc, crate::proofs::SlotLists::as_slots_close))]
+    #[tactic(auto, using(crate::proofs::SlotLists::closes_as_slots, crate::proofs::SlotLists::as_slots_close))]
     pub(crate) fn finish(&mut self, refused: bool) -> Result<(), CloseRefused>
         ensures link { self.new.link ≡ self.old.link }
         ensures capacity { self.new.capacity ≡ self.old.capacity }

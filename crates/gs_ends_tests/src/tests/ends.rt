@@ -1,10 +1,10 @@
 //! The ends of the links to and from each neighbour.
-ghost use Rattle.std.specs.Prelude.{◌≡◌, ◌≤◌, ◌∷◌, [], IfOk, length, map, true};
+ghost use Rattle.std.specs.Prelude.{◌≡◌, ◌≤◌, IfOk, length, true};
 ghost use Rattle.gs_base.specs.declared.names.PeerNo.{PeerNo as PeerNoValue};
 ghost use Rattle.gs_link.specs.Items.{IsSendable};
 ghost use Rattle.gs_ends.specs.Pairs.{joints_of};
 ghost use Rattle.gs_ends.specs.Ends.{has};
-ghost use Rattle.gs_ends.specs.Lists.{listed_joint};
+ghost use Rattle.gs_ends.specs.Lists.{joints_in_lists};
 
 use bytes::Bytes;
 use gs_base::PeerNo;
@@ -14,7 +14,8 @@ use std::alloc::{AllocError, Global};
 use std::sync::Wait;
 use std::test::*;
 
-fn piece(alloc: Global, bytes: &[u8]) -> Result<Item, AllocError>
+/// A piece of these bytes.
+pub fn piece(alloc: Global, bytes: &[u8]) -> Result<Item, AllocError>
     requires { (1 ≤ length bytes.now) × (length bytes.now ≤ 64) }
     ensures { IfOk result IsSendable }
 {
@@ -174,7 +175,8 @@ fn the_ends_come_back_in_their_order(rt: HostRuntime) -> Result<(), Fail> {
 
 /// Ends to two neighbours. From the first come two marks, from the second nothing.
 fn two(alloc: Global, room: usize, every: u64) -> Result<ListEnds, AllocError>
-    ensures { IfOk result (λ ends. joints_of ends ≡ map listed_joint (record { 0 = 5 } ∷ record { 0 = 3 } ∷ [])) }
+    ensures five { IfOk result (λ ends. has (joints_in_lists ends) (record { 0 = 5 }) ≡ true) }
+    ensures three { IfOk result (λ ends. has (joints_in_lists ends) (record { 0 = 3 }) ≡ true) }
 {
     let from_five = vec![in alloc; Item::Round(1), Item::Round(2)]?;
     let from_three = Vec::new(alloc);
@@ -185,7 +187,8 @@ fn two(alloc: Global, room: usize, every: u64) -> Result<ListEnds, AllocError>
 
 /// The first one's marks are taken in order, and then the close, again and again.
 fn gives_two_and_the_close(ends: &mut ListEnds) -> bool
-    requires two { joints_of ends.old ≡ map listed_joint (record { 0 = 5 } ∷ record { 0 = 3 } ∷ []) }
+    requires five { has (joints_in_lists ends.old) (record { 0 = 5 }) ≡ true }
+    requires three { has (joints_in_lists ends.old) (record { 0 = 3 }) ≡ true }
 {
     let first = ends.take(PeerNo(5)) == Taken::Got(Item::Round(1));
     let other = ends.take(PeerNo(3)) == Taken::Closed;
@@ -203,9 +206,10 @@ fn what_comes_is_taken_in_order_and_then_the_close(rt: HostRuntime) -> Result<()
 }
 
 fn puts_in_turns(ends: &mut ListEnds, piece: Item) -> bool
-    requires two { joints_of ends.old ≡ map listed_joint (record { 0 = 5 } ∷ record { 0 = 3 } ∷ []) }
+    requires five { has (joints_in_lists ends.old) (record { 0 = 5 }) ≡ true }
+    requires three { has (joints_in_lists ends.old) (record { 0 = 3 }) ≡ true }
     requires piece { IsSendable piece }
-    ensures same { joints_of ends.new ≡ joints_of ends.old }
+    ensures same { joints_in_lists ends.new ≡ joints_in_lists ends.old }
 {
     let piece = ends.put(PeerNo(3), piece).is_ok();
     let seventh = ends.put(PeerNo(5), Item::Round(7)).is_ok();
@@ -217,7 +221,7 @@ fn puts_in_turns(ends: &mut ListEnds, piece: Item) -> bool
 
 /// Whether these went to a neighbour.
 fn went(ends: &ListEnds, to: PeerNo, items: &[Item]) -> bool
-    requires known { has (joints_of ends.now) to ≡ true }
+    requires known { has (joints_in_lists ends.now) to ≡ true }
 {
     ends.sent(to) == items
 }
@@ -236,7 +240,8 @@ fn each_neighbour_has_its_own_items(rt: HostRuntime) -> Result<(), Fail> {
 /// Behind the close of the second one its items are closed, and are not counted among those of which every second is
 /// refused.
 fn counts_none_behind_the_close(ends: &mut ListEnds) -> bool
-    requires two { joints_of ends.old ≡ map listed_joint (record { 0 = 5 } ∷ record { 0 = 3 } ∷ []) }
+    requires five { has (joints_in_lists ends.old) (record { 0 = 5 }) ≡ true }
+    requires three { has (joints_in_lists ends.old) (record { 0 = 3 }) ≡ true }
 {
     let end = ends.finish(PeerNo(3)).is_ok();
     let closed = ends.put(PeerNo(3), Item::Round(0)) == Err(SendRefused::Closed(Item::Round(0)));
@@ -253,7 +258,8 @@ fn behind_the_close_all_is_closed_and_not_counted(rt: HostRuntime) -> Result<(),
 }
 
 fn refuses_each_third(ends: &mut ListEnds) -> bool
-    requires two { joints_of ends.old ≡ map listed_joint (record { 0 = 5 } ∷ record { 0 = 3 } ∷ []) }
+    requires five { has (joints_in_lists ends.old) (record { 0 = 5 }) ≡ true }
+    requires three { has (joints_in_lists ends.old) (record { 0 = 3 }) ≡ true }
 {
     let first = ends.put(PeerNo(3), Item::Round(1)).is_ok();
     let second = ends.put(PeerNo(5), Item::Round(2)).is_ok();
@@ -273,7 +279,8 @@ fn every_third_is_refused_over_all_neighbours(rt: HostRuntime) -> Result<(), Fai
 }
 
 fn refuses_each_second(ends: &mut ListEnds) -> bool
-    requires two { joints_of ends.old ≡ map listed_joint (record { 0 = 5 } ∷ record { 0 = 3 } ∷ []) }
+    requires five { has (joints_in_lists ends.old) (record { 0 = 5 }) ≡ true }
+    requires three { has (joints_in_lists ends.old) (record { 0 = 3 }) ≡ true }
 {
     let first = ends.put(PeerNo(3), Item::Round(1)).is_ok();
     let second = ends.put(PeerNo(3), Item::Round(2)) == Err(SendRefused::Full(Item::Round(2)));
@@ -291,7 +298,8 @@ fn every_second_is_refused(rt: HostRuntime) -> Result<(), Fail> {
 
 /// There is room for one, and the close takes it.
 fn has_room_for_one(ends: &mut ListEnds) -> bool
-    requires two { joints_of ends.old ≡ map listed_joint (record { 0 = 5 } ∷ record { 0 = 3 } ∷ []) }
+    requires five { has (joints_in_lists ends.old) (record { 0 = 5 }) ≡ true }
+    requires three { has (joints_in_lists ends.old) (record { 0 = 3 }) ≡ true }
 {
     let first = ends.put(PeerNo(3), Item::Round(1)).is_ok();
     let second = ends.put(PeerNo(3), Item::Round(2)) == Err(SendRefused::Full(Item::Round(2)));
