@@ -17,7 +17,7 @@ use Rattle.gs_rules.specs.Saying.{Outgoing, behind_event, sending, sending_all}
 use Rattle.gs_link.specs.declared.item.Slot.{Slot}
 use Rattle.gs_link.specs.Flat.{flat}
 use Rattle.gs_peer.specs.declared.outbox.Outbox.{Outbox}
-use Rattle.gs_peer.specs.Outboxes.{behind_sends, is_neighbour, outgoing_of}
+use Rattle.gs_peer.specs.Outboxes.{is_neighbour, outgoing_of}
 
 -- ---- one place of a list
 
@@ -168,6 +168,11 @@ shut_to_end xs k i now ends is = is ∙ ap (λ n. cond (nat_lt k n) false (open_
 
 -- ---- what an entry says
 
+-- what is to go to q behind these sends, the first one first
+abbrev pub behind_sends : Codec → PeerNo → Bool → Outgoing → List (PeerNo × Rpc) → Outgoing
+behind_sends c q may o [] = o
+behind_sends c q may o (x ∷ xs) = behind_sends c q may (if may && same_peer x.0 q then sending c o x.1 else o) xs
+
 sent_more : (c : Codec) (o : Outgoing) (here : Bool) (rpc : Rpc) (rpcs : List Rpc) → sending_all c (if here then sending c o rpc else o) rpcs ≡ sending_all c o (if here then rpc ∷ rpcs else rpcs)
 sent_more c o true rpc rpcs = refl
 sent_more c o false rpc rpcs = refl
@@ -184,20 +189,18 @@ sends_told c q false o (x ∷ xs) = sends_told c q false o xs
 -- the sends, and then the event
 pub entry_told : (c : Codec) (q : PeerNo) (may still : Bool) (given sends : List (PeerNo × Rpc)) (event : Event) (old sent new : Outgoing)
     → given ≡ sends
-    → sent ≡ behind_sends c q may old given
+    → sent ≡ (if may then sending_all c old (sent_to q given) else old)
     → still ≡ may
     → new ≡ (if still then behind_event c q sent event else sent)
     → new ≡ (if may then behind_event c q (sending_all c old (sent_to q sends)) event else old)
 entry_told c q true still given sends event old sent new are before same here =
     here
     ∙ ap (λ (b : Bool). if b then behind_event c q sent event else sent) same
-    ∙ ap (λ (o : Outgoing). behind_event c q o event) (before ∙ ap (behind_sends c q true old) are ∙ sends_told c q true old sends)
+    ∙ ap (λ (o : Outgoing). behind_event c q o event) (before ∙ ap (λ (xs : List (PeerNo × Rpc)). sending_all c old (sent_to q xs)) are)
 entry_told c q false still given sends event old sent new are before same here =
     here
     ∙ ap (λ (b : Bool). if b then behind_event c q sent event else sent) same
     ∙ before
-    ∙ ap (behind_sends c q false old) are
-    ∙ sends_told c q false old sends
 
 -- ---- one that is empty
 

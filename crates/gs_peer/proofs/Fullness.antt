@@ -1,10 +1,29 @@
--- Of whom not all is taken.
-use Rattle.std.proofs.Common.{◌≡◌, ◌⊎◌, ⊎_elim, ℕ, zero, suc, ◌+◌, ◌≤◌, ◌<◌, Bool, true, false, List, [], ◌∷◌, length, get_or, refl, ap, ◌∙◌, true≢false, arith}
+-- Of whom all is taken, and for whom nothing waits.
+use Rattle.std.proofs.Common.{◌≡◌, ◌⊎◌, ⊎_elim, ℕ, zero, suc, ◌+◌, ◌≤◌, ◌<◌, Bool, true, false, List, [], ◌∷◌, length, get_or, refl, sym, ap, ◌∙◌, true≢false, arith}
 use Rattle.std.specs.Prelude.{◌&&◌}
-use Rattle.std.proofs.lemmas.Bool.{cases_lt}
+use Rattle.std.proofs.lemmas.Bool.{cases_lt, eqb-true}
+use Rattle.std.proofs.lemmas.List.{nil_from_length}
+use Rattle.gs_peer.specs.declared.outboxes.Outboxes.{Outboxes}
+use Rattle.gs_peer.specs.declared.phase.Phase.{Phase}
+use Rattle.gs_peer.specs.declared.phase.Phase.TheVariants.{Playing, Closing}
+use Rattle.gs_peer.specs.declared.running.Running.{Running}
 use Rattle.gs_peer.specs.Inboxes.{InboxView, is_full}
-use Rattle.gs_peer.specs.Moves.{are_full, is_full_at}
+use Rattle.gs_peer.specs.Moves.{are_full, are_silent, is_closing, is_full_at, is_over, is_silent}
+use Rattle.gs_peer.specs.Outboxes.{waiting}
+use Rattle.gs_peer.specs.Running.{AllFull, AllSilent, IsOver}
 use Rattle.gs_peer.proofs.BoxPlaces.{at_there}
+
+-- ---- both of two
+
+pub left_true : (a b : Bool) → (a && b) ≡ true → a ≡ true
+left_true true b h = refl
+left_true false b h = absurd (true≢false (sym h))
+
+pub right_true : (a b : Bool) → (a && b) ≡ true → b ≡ true
+right_true true b h = h
+right_true false b h = absurd (true≢false (sym h))
+
+-- ---- one of them
 
 both_false : (b : Bool) → (b && false) ≡ false
 both_false true = refl
@@ -29,3 +48,40 @@ full_more xs from place x below there is before k low high =
     ⊎_elim (λ h. before k low h)
     (λ h. let same : k ≡ place = omega (arith, h, high) in ap (is_full_at xs) same ∙ full_there xs place x true below there is)
     either
+
+-- ---- all of them
+
+-- where all is taken of each, it is at each place
+pub all_there : (xs : List InboxView) (k : ℕ) → are_full xs ≡ true → is_full_at xs k ≡ true
+all_there xs k all = by (is_full_at xs k) refl
+  where
+    by : (b : Bool) → is_full_at xs k ≡ b → is_full_at xs k ≡ true
+    by true is = is
+    by false is = absurd (true≢false (sym all ∙ not_all xs k is))
+
+pub each_full : (xs : List InboxView) → are_full xs ≡ true → AllFull xs
+each_full [] h = tt
+each_full (x ∷ xs) h = (left_true (is_full x) (are_full xs) h, each_full xs (right_true (is_full x) (are_full xs) h))
+
+each_silent : (out : Outboxes) (xs : List InboxView) → are_silent out xs ≡ true → AllSilent out xs
+each_silent out [] h = tt
+each_silent out (x ∷ xs) h = (
+  nil_from_length (waiting out x.peer) (eqb-true (length (waiting out x.peer)) 0 (left_true (is_silent out x.peer) (are_silent out xs) h)),
+  each_silent out xs (right_true (is_silent out x.peer) (are_silent out xs) h),
+)
+
+closes : (phase : Phase) → is_closing phase ≡ true → phase ≡ Closing
+closes (Playing r) h = absurd (true≢false (sym h))
+closes Closing h = refl
+
+-- a life that is over is
+pub over_is : {G S : Type 0} (t : Running G S) → is_over t ≡ true → IsOver t
+over_is t h =
+    let full : Bool = are_full t.player.inboxes.items in
+    let silent : Bool = are_silent t.outboxes t.player.inboxes.items in
+    let both : (full && silent) ≡ true = right_true (is_closing t.phase) (full && silent) h in
+    record {
+      phase = closes t.phase (left_true (is_closing t.phase) (full && silent) h);
+      full = each_full t.player.inboxes.items (left_true full silent both);
+      silent = each_silent t.outboxes t.player.inboxes.items (right_true full silent both);
+    }

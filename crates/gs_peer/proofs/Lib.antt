@@ -19,6 +19,7 @@ pub mod SameRpc
 pub mod Queues
 pub mod BoxPlaces
 pub mod Fullness
+pub mod Stepping
 pub mod Beginning
 pub mod Suspending
 pub mod Polls

@@ -1,5 +1,8 @@
 -- What a poll gives, and how far it goes.
-use Rattle.std.proofs.Common.{◌≡◌, ℕ, Option, Some, None, Result, Ok, Err, IfOk, sym, ap, subst, ◌∙◌}
+use Rattle.std.proofs.Common.{◌≡◌, ℕ, false, List, Option, Some, None, Result, Ok, Err, IfOk, sym, ap, subst, ◌∙◌}
+use Rattle.gs_params.specs.Seeding.{SeededState}
+use Rattle.gs_rules.specs.Rounds.{Seat}
+use Rattle.gs_ends.specs.Ends.{Joint}
 use Rattle.futures.specs.Poll.{OnPending}
 use Rattle.futures.specs.declared.task.Poll.{Poll}
 use Rattle.futures.specs.declared.task.Poll.TheVariants.{Ready, Pending}
@@ -8,7 +11,11 @@ use Rattle.gs_peer.specs.declared.finished_task.FinishedTask.{FinishedTask}
 use Rattle.gs_peer.specs.declared.finished_task.PeerFault.{PeerFault}
 use Rattle.gs_peer.specs.declared.running.Running.{Running}
 use Rattle.gs_peer.specs.declared.task.PeerTask.{PeerTask}
-use Rattle.gs_peer.specs.Task.{BothGrew, Bounded}
+use Rattle.gs_peer.specs.Life.{IsLife}
+use Rattle.gs_peer.specs.Running.{Goes, seat_of}
+use Rattle.gs_peer.specs.Moves.{is_over}
+use Rattle.gs_peer.specs.Stepping.{Polls}
+use Rattle.gs_peer.specs.Task.{BothGrew, Bounded, Gives, given_of}
 
 some_same : {A : Type 0} (a b : A) → Some a ≡ Some b → a ≡ b
 some_same a b e = ap (λ o. elim o [ None ↦ a | Some x ↦ x ]) e
@@ -23,9 +30,13 @@ module _ {G S : Type 0} (seen : EndsOf S) where
       → old.running ≡ Some t
       → new.running ≡ Some u
       → BothGrew seen most t.ends u.ends
+      → Polls seen most t u
+      → is_over u ≡ false
       → Bounded seen most old new result
-  bounded_pending most old new t u result waits is now h =
-      subst (Bounded seen most old new) (sym waits) (λ v was. (u, now, subst (λ (x : Running G S). BothGrew seen most x.ends u.ends) (some_same t v (sym is ∙ was)) h))
+  bounded_pending most old new t u result waits is now h polls alive =
+      subst (Bounded seen most old new) (sym waits) (λ v was.
+      let same = some_same t v (sym is ∙ was) in
+      (u, now, subst (λ (x : Running G S). BothGrew seen most x.ends u.ends) same h, subst (λ (x : Running G S). Polls seen most x u) same polls, alive))
 
   -- what it gives has the ends of the task that ran
   pub ended : (most : ℕ) (old new : PeerTask G S) (t u : Running G S) (given : Result (FinishedTask S) PeerFault)
@@ -35,6 +46,21 @@ module _ {G S : Type 0} (seen : EndsOf S) where
       → Bounded seen most old new (Ready given)
   ended most old new t u (Ok f) is h same = λ v was. subst (λ (x : Running G S). BothGrew seen most x.ends f.ends) (some_same t v (sym is ∙ was)) (subst (λ (e : S). BothGrew seen most t.ends e) (sym same) h)
   ended most old new t u (Err e) is h same = tt
+
+  -- and is a life at its seat
+  pub gives_life : (task : PeerTask G S) (t u : Running G S) (given : Result (FinishedTask S) PeerFault)
+      → task.running ≡ Some t
+      → Goes seen t u
+      → IfOk given (λ f. IsLife seen (seat_of u) u.first.value f)
+      → IfOk given (λ f. f.ends ≡ u.ends)
+      → Gives seen task given
+  gives_life task t u (Ok f) is goes life same =
+      let was : given_of seen.joints task ≡ Some (seat_of t, t.first.value, seen.joints t.ends) = ap (λ (o : Option (Running G S)). given_of seen.joints (record task { running = o })) is in
+      let seats : Some (seat_of t, t.first.value, seen.joints t.ends) ≡ Some (seat_of u, t.first.value, seen.joints t.ends) = ap (λ (s : Seat). Some (s, t.first.value, seen.joints t.ends)) (sym goes.seat) in
+      let firsts : Some (seat_of u, t.first.value, seen.joints t.ends) ≡ Some (seat_of u, u.first.value, seen.joints t.ends) = ap (λ (w : SeededState). Some (seat_of u, w, seen.joints t.ends)) (sym goes.first) in
+      let ends : Some (seat_of u, u.first.value, seen.joints t.ends) ≡ Some (seat_of u, u.first.value, seen.joints f.ends) = ap (λ (js : List Joint). Some (seat_of u, u.first.value, js)) (sym (ap seen.joints same ∙ goes.same_ends)) in
+      (seat_of u, u.first.value, was ∙ seats ∙ firsts ∙ ends, life)
+  gives_life task t u (Err e) is goes life same = tt
 
 -- the ends that a life gives are of the task's links
 pub joints_kept : {A B J : Type 0} (given : Option (A × B × J)) (a c : A) (b d : B) (of now : J) → given ≡ Some (a, b, of) → given ≡ Some (c, d, now) → now ≡ of

@@ -10,5 +10,6 @@ pub mod Kept
 pub mod Life
 pub mod Running
 pub mod Moves
+pub mod Stepping
 pub mod Faults
 pub mod Task

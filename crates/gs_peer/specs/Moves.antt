@@ -1,5 +1,5 @@
 -- Who has something to move, and whose turn comes then.
-use Rattle.std.specs.Prelude.{ℕ, suc, Bool, true, false, not, ◌&&◌, ◌||◌, ◌==◌, nat_lt, if◌then◌else◌, List, length, slice_get, option_map, unwrap_or}
+use Rattle.std.specs.Prelude.{ℕ, suc, Bool, true, false, not, ◌&&◌, ◌||◌, ◌==◌, ◌+◌, nat_lt, if◌then◌else◌, List, length, Option, slice_get, option_map, unwrap_or}
 use Rattle.std.specs.List.{list_all}
 use Rattle.gs_base.specs.declared.names.PeerNo.{PeerNo}
 use Rattle.gs_peer.specs.declared.outboxes.Outboxes.{Outboxes}
@@ -31,20 +31,37 @@ are_silent out inboxes = list_all (λ (x : InboxView). is_silent out x.peer) inb
 abbrev pub has_more : Outboxes → InboxView → Bool
 has_more out x = not (is_full x) || not (is_silent out x.peer)
 
--- and of the neighbour whose turn it is, where there is one
-abbrev pub has_more_now : {G S : Type 0} → Running G S → Bool
-has_more_now t = unwrap_or (option_map (has_more t.outboxes) (slice_get t.player.inboxes.items t.turn)) false
+-- and of the neighbour at this place, where there is one
+abbrev pub has_more_at : {G S : Type 0} → Running G S → ℕ → Bool
+has_more_at t place = unwrap_or (option_map (has_more t.outboxes) (slice_get t.player.inboxes.items place)) false
 
 -- the peer has shut down
 abbrev pub is_closing : Phase → Bool
 is_closing (Playing r) = false
 is_closing Closing = true
 
+-- a round is due: the peer is in it, and all is taken that is heard in it
+abbrev pub is_due : {G S : Type 0} → Running G S → Bool
+is_due t = not (is_closing t.phase) && are_full t.player.inboxes.items
+
+-- what comes behind a phase, where this is the last round: the next round, or the peer shuts down
+abbrev pub phase_behind : ℕ → Phase → Phase
+phase_behind last (Playing r) = if nat_lt r last then Playing (r + 1) else Closing
+phase_behind last Closing = Closing
+
 -- the peer has shut down, each neighbour has closed, and all that was said is accepted
 abbrev pub is_over : {G S : Type 0} → Running G S → Bool
 is_over t = is_closing t.phase && (are_full t.player.inboxes.items && are_silent t.outboxes t.player.inboxes.items)
 
 -- ---- turns
+
+-- which neighbour stands at this place, if any does
+abbrev pub peer_at : List InboxView → ℕ → Option PeerNo
+peer_at inboxes place = option_map (λ (x : InboxView). x.peer) (slice_get inboxes place)
+
+-- whose turn it is, if it is a neighbour's
+abbrev pub whose_turn : {G S : Type 0} → Running G S → Option PeerNo
+whose_turn t = peer_at t.player.inboxes.items t.turn
 
 -- whose turn is next, of so many neighbours: behind the last one a step looks at none, and then they come round
 abbrev pub turn_after : ℕ → ℕ → Bool → ℕ

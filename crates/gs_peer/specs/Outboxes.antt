@@ -1,14 +1,13 @@
 -- What waits to go to each neighbour.
-use Rattle.std.specs.Prelude.{◌≡◌, ◌⊎◌, Bool, false, ◌&&◌, List, [], ◌∷◌, ◌++◌, Option, None, slice_get, option_map, unwrap_or, if◌then◌else◌}
+use Rattle.std.specs.Prelude.{◌≡◌, ◌⊎◌, Bool, false, List, [], ◌∷◌, ◌++◌, Option, None, slice_get, option_map, unwrap_or, if◌then◌else◌}
 use Rattle.std.specs.List.{list_any}
 use Rattle.gs_base.specs.declared.names.PeerNo.{PeerNo}
 use Rattle.gs_base.specs.declared.rpc.Rpc.{Rpc}
 use Rattle.gs_base.specs.Names.{same_peer}
-use Rattle.gs_base.specs.Codecs.{Codec}
 use Rattle.gs_wire.specs.Codec.{codec}
 use Rattle.gs_rules.specs.declared.trace.Entry.{Entry}
 use Rattle.gs_rules.specs.Tables.{up_after}
-use Rattle.gs_rules.specs.Saying.{Outgoing, behind_entry, sending}
+use Rattle.gs_rules.specs.Saying.{Outgoing, behind_entry}
 use Rattle.gs_link.specs.Flat.{flat}
 use Rattle.gs_link.specs.declared.item.Slot.{Slot}
 use Rattle.gs_peer.specs.declared.outbox.Outbox.{Outbox}
@@ -51,8 +50,3 @@ behind_entries q may o (e ∷ es) = behind_entries q (up_after q e.event may) (i
 -- nothing more is accepted, or one slot
 abbrev pub AcceptsOne : List Slot → List Slot → Type 0
 AcceptsOne before after = (after ≡ before) ⊎ ((slot : Slot) × (after ≡ before ++ slot ∷ []))
-
--- what is to go to q behind these sends, the first one first
-abbrev pub behind_sends : Codec → PeerNo → Bool → Outgoing → List (PeerNo × Rpc) → Outgoing
-behind_sends c q may o [] = o
-behind_sends c q may o (x ∷ xs) = behind_sends c q may (if may && same_peer x.0 q then sending c o x.1 else o) xs

@@ -1,5 +1,5 @@
 -- What is known of a peer's task, wherever it may be suspended, and of what it gives.
-use Rattle.std.specs.Prelude.{◌≡◌, true, ◌++◌, ℕ, List, [], Option, Some, None, Result, Ok, Err, IfOk, MatchOption, ⊤}
+use Rattle.std.specs.Prelude.{◌≡◌, true, false, ◌++◌, ℕ, List, [], Option, Some, None, Result, Ok, Err, IfOk, MatchOption, ⊤}
 use Rattle.std.specs.List.{AllByRecursion}
 use Rattle.futures.specs.declared.task.Poll.{Poll}
 use Rattle.futures.specs.declared.task.Poll.TheVariants.{Ready, Pending}
@@ -24,9 +24,11 @@ use Rattle.gs_peer.specs.declared.task.PeerTask.{PeerTask}
 use Rattle.gs_peer.specs.Ended.{whole}
 use Rattle.gs_peer.specs.Inboxes.{InboxView, peers_of}
 use Rattle.gs_peer.specs.Life.{IsLife, words_of}
+use Rattle.gs_peer.specs.Moves.{is_over}
 use Rattle.gs_peer.specs.Outboxes.{gathered_in, waiting}
 use Rattle.gs_peer.specs.Phases.{phase_of, rounds_ended}
 use Rattle.gs_peer.specs.Running.{IsKept, seat_of, seat_with}
+use Rattle.gs_peer.specs.Stepping.{Polls}
 
 -- ---- what stays
 
@@ -106,12 +108,18 @@ module _ {S : Type 0} (seen : EndsOf S) where
       GrewBy most (seen.accepted before) (seen.accepted after)
       × GrewBy most (seen.taken before) (seen.taken after)
 
-  -- what a poll takes and has accepted
-  abbrev pub Bounded : {G : Type 0} → ℕ → PeerTask G S → PeerTask G S → Poll (Result (FinishedTask S) PeerFault) → Type 0
+  -- What a poll takes and has accepted. Where it is to be polled again, its steps are those of a poll, and its life is not
+  -- over.
+  abbrev pub Bounded : {G : Type 0}
+      → ℕ → PeerTask G S → PeerTask G S → Poll (Result (FinishedTask S) PeerFault) → Type 0
   Bounded {G} most old new (Ready (Ok f)) =
       (t : Running G S) → old.running ≡ Some t → BothGrew most t.ends f.ends
   Bounded {G} most old new (Ready (Err e)) = Unit {0}
   Bounded {G} most old new Pending =
       (t : Running G S)
       → old.running ≡ Some t
-      → (u : Running G S) × (new.running ≡ Some u) × BothGrew most t.ends u.ends
+      → (u : Running G S)
+      × (new.running ≡ Some u)
+      × BothGrew most t.ends u.ends
+      × Polls seen most t u
+      × (is_over u ≡ false)

@@ -3,6 +3,7 @@ ghost use Rattle.gs_peer.specs.Faults.{number_of};
 
 use gs_base::{PeerNo, Seq, Topic};
 use gs_rules::{RefusedLine, Trace};
+use gs_workers::Raised;
 
 /// What is left of a peer's life that has ended.
 #[derive(Drop)]
@@ -31,9 +32,9 @@ pub struct FinalState {
 /// Why a task gives no life.
 #[derive(Clone, Copy, Debug, PartialEq, Eq, thiserror::Error)]
 pub enum PeerFault {
-    /// There was no memory. The stop flag was set before this was given.
+    /// There was no memory. The stop flag was set before this was given, of which this is evidence.
     #[error("there was no memory")]
-    NoMemory,
+    NoMemory(Raised),
     /// The stop flag was set, or the task had given its result.
     #[error("the task was stopped")]
     Stopped,
@@ -45,7 +46,7 @@ impl PeerFault {
         ensures { result ≡ number_of self }
     {
         match self {
-            PeerFault::NoMemory => 22,
+            PeerFault::NoMemory(_) => 22,
             PeerFault::Stopped => 23,
         }
     }

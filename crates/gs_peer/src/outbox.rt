@@ -93,7 +93,9 @@ impl Outbox {
     /// Says nothing more but what is gathered and the close, if more might be said.
     pub(crate) fn close(&mut self, alloc: Global) -> Result<(), AllocError>
         ensures told { OnOk result (outgoing_of self.new
-            ≡ (if self.old.is_open then saying (cut_out codec (outgoing_of self.old)) (Close ∷ []) else outgoing_of self.old)) }
+            ≡ (if self.old.is_open
+            then saying (cut_out codec (outgoing_of self.old)) (Close ∷ [])
+            else outgoing_of self.old)) }
         ensures open { OnOk result (self.new.is_open ≡ false) }
     {
         if !self.is_open {

@@ -5,12 +5,13 @@ ghost use Rattle.gs_base.specs.Names.{same_peer};
 ghost use Rattle.gs_base.specs.Tokens.{Byte, Close, EndOf};
 ghost use Rattle.gs_wire.specs.Codec.{codec};
 ghost use Rattle.gs_rules.specs.Tables.{is_lost, up_after};
-ghost use Rattle.gs_rules.specs.Saying.{AllFit, SendsFit, behind_entry, behind_event, cut_out, saying, sending};
+ghost use Rattle.gs_rules.specs.Modes.{sent_to};
+ghost use Rattle.gs_rules.specs.Saying.{AllFit, SendsFit, behind_entry, behind_event, cut_out, saying, sending, sending_all};
 ghost use Rattle.gs_link.specs.Flat.{flat};
 ghost use Rattle.gs_ends.specs.Ends.{OthersStay, has};
 ghost use Rattle.gs_peer.specs.Moved.{MovesIf};
 ghost use Rattle.gs_peer.specs.Moves.{is_silent};
-ghost use Rattle.gs_peer.specs.Outboxes.{AcceptsOne, behind_entries, behind_sends, gathered_in, is_neighbour, is_open, opens_behind, outgoing_in, waiting};
+ghost use Rattle.gs_peer.specs.Outboxes.{AcceptsOne, behind_entries, gathered_in, is_neighbour, is_open, opens_behind, outgoing_in, waiting};
 
 use crate::frames::written_for;
 use crate::outbox::Outbox;
@@ -113,7 +114,9 @@ impl Outboxes {
         requires { SendsFit codec sends.now }
         ensures told { OnOk result ((q : PeerNoValue)
             → outgoing_in self.new q
-            ≡ behind_sends codec q (is_open self.old q) (outgoing_in self.old q) sends.now) }
+            ≡ (if is_open self.old q
+            then sending_all codec (outgoing_in self.old q) (sent_to q sends.now)
+            else outgoing_in self.old q)) }
         ensures open { OnOk result ((q : PeerNoValue) → is_open self.new q ≡ is_open self.old q) }
     {
         let mut last = None;

@@ -1,12 +1,16 @@
 //! A peer's life, step by step.
-ghost use Rattle.std.specs.Prelude.{◌≡◌, ◌<◌, ◌≤◌, ◌+◌, ◌-◌, ◌*◌, ◌^◌, ℕ, false, true, if◌then◌else◌, length, min, IfOk, OnOk};
+ghost use Rattle.std.specs.Prelude.{◌≡◌, ◌<◌, ◌≤◌, ◌+◌, ◌-◌, ◌*◌, ◌^◌, ℕ, false, true, ◌&&◌, ◌||◌, if◌then◌else◌, length, min, IfOk, OnOk};
 ghost use Rattle.gs_base.specs.declared.names.PeerNo.{PeerNo as PeerNoValue};
 ghost use Rattle.gs_rules.specs.Legal.{Legal};
 ghost use Rattle.gs_ends.specs.Ends.{GrewBy, has};
+ghost use Rattle.gs_link.specs.Flat.{flat};
 ghost use Rattle.gs_peer.specs.declared.phase.Phase.TheVariants.{Playing};
 ghost use Rattle.gs_peer.specs.Life.{IsLife};
-ghost use Rattle.gs_peer.specs.Moves.{are_full, are_silent, has_more_now, is_full_at, is_over, turn_after};
-ghost use Rattle.gs_peer.specs.Running.{AllFull, AllSilent, Goes, IsFresh, IsKept, IsOver, MayBegin, TellsSince, left_of, seat_of};
+ghost use Rattle.gs_peer.specs.Moved.{GrewAt, MovesAt};
+ghost use Rattle.gs_peer.specs.Moves.{are_full, are_silent, has_more_at, is_due, is_full_at, is_over, phase_behind, turn_after, whose_turn};
+ghost use Rattle.gs_peer.specs.Outboxes.{waiting};
+ghost use Rattle.gs_peer.specs.Running.{AllFull, Goes, IsFresh, IsKept, IsOver, MayBegin, TellsSince, left_of, seat_of};
+ghost use Rattle.gs_peer.specs.Stepping.{ListensAlone, LooksAlone, OffersAlone, Polls, StepsTo};
 
 use crate::assignment::Assignment;
 use crate::boxes::{Boxes, boxes_of};
@@ -86,7 +90,7 @@ impl<G: Gate, S: Ends> Running<G, S> {
         })
     }
 
-    /// Steps, at most 64 of them, until no neighbour moves anything. True where the life has ended.
+    /// Steps, 64 of them, or fewer where nothing moves while it looks at each neighbour. True where the life has ended.
     ///
     /// # Errors
     /// `AllocError` where there was no memory.
@@ -95,7 +99,8 @@ impl<G: Gate, S: Ends> Running<G, S> {
         ensures goes { OnOk result (Goes S.Ends self.old self.new) }
         ensures taken { OnOk result (GrewBy 64 (S.taken self.old.ends) (S.taken self.new.ends)) }
         ensures accepted { OnOk result (GrewBy 64 (S.accepted self.old.ends) (S.accepted self.new.ends)) }
-        ensures over { IfOk result (λ over. over ≡ true → IsOver self.new) }
+        ensures polls { OnOk result (Polls S.Ends 64 self.old self.new) }
+        ensures over { IfOk result (λ over. over ≡ is_over self.new) }
     {
         let mut idle = 0;
         for _ in 0..64u8 {
@@ -118,19 +123,20 @@ impl<G: Gate, S: Ends> Running<G, S> {
         ensures goes { OnOk result (Goes S.Ends self.old self.new) }
         ensures taken { OnOk result (GrewBy 1 (S.taken self.old.ends) (S.taken self.new.ends)) }
         ensures accepted { OnOk result (GrewBy 1 (S.accepted self.old.ends) (S.accepted self.new.ends)) }
+        ensures steps { IfOk result (λ moved. StepsTo S.Ends moved self.old self.new) }
     {
         let listened = self.listen()?;
         let played = self.play_if_due()?;
         let offered = self.offer()?;
-        let moved = listened || played || offered;
-        let stays = moved && self.has_more();
-        self.turn = next_turn(self.turn, self.player.inboxes.len(), stays);
+        let moved = is_any(listened, played, offered);
+        let more = self.has_more();
+        self.turn = next_turn(self.turn, self.player.inboxes.len(), moved, more);
         Ok(moved)
     }
 
     /// Whether more is to be taken of the neighbour whose turn it is, or waits for it.
     fn has_more(&self) -> bool
-        ensures { result ≡ has_more_now self.now }
+        ensures { result ≡ has_more_at self.now self.now.turn }
     {
         if self.turn >= self.player.inboxes.len() {
             return false;
@@ -146,6 +152,13 @@ impl<G: Gate, S: Ends> Running<G, S> {
         ensures goes { OnOk result (Goes S.Ends self.old self.new) }
         ensures taken { OnOk result (GrewBy 1 (S.taken self.old.ends) (S.taken self.new.ends)) }
         ensures accepted { (q : PeerNoValue) → S.accepted self.new.ends q ≡ S.accepted self.old.ends q }
+        ensures moved { IfOk result (λ moved.
+            GrewAt (whose_turn self.old) moved (S.taken self.old.ends) (S.taken self.new.ends)) }
+        ensures full { IfOk result (λ moved.
+            is_full_at self.old.player.inboxes.items self.old.turn ≡ true → moved ≡ false) }
+        ensures still { IfOk result (λ moved.
+            moved ≡ false → self.new.player.inboxes.items ≡ self.old.player.inboxes.items) }
+        ensures alone { OnOk result (ListensAlone self.old self.new) }
     {
         if self.turn >= self.player.inboxes.len() {
             return Ok(false);
@@ -164,6 +177,13 @@ impl<G: Gate, S: Ends> Running<G, S> {
         ensures goes { OnOk result (Goes S.Ends self.old self.new) }
         ensures accepted { OnOk result (GrewBy 1 (S.accepted self.old.ends) (S.accepted self.new.ends)) }
         ensures taken { (q : PeerNoValue) → S.taken self.new.ends q ≡ S.taken self.old.ends q }
+        ensures moved { IfOk result (λ moved.
+            MovesAt (whose_turn self.old) moved (S.accepted self.old.ends) (S.accepted self.new.ends)
+            (waiting self.old.outboxes) (waiting self.new.outboxes)) }
+        ensures waits { IfOk result (λ moved. moved ≡ false
+            → (q : PeerNoValue)
+            → flat (waiting self.new.outboxes q) ≡ flat (waiting self.old.outboxes q)) }
+        ensures alone { OnOk result (OffersAlone self.old self.new) }
     {
         if self.turn >= self.player.inboxes.len() {
             return Ok(false);
@@ -178,6 +198,11 @@ impl<G: Gate, S: Ends> Running<G, S> {
         requires { IsKept S.Ends self.old }
         ensures goes { OnOk result (Goes S.Ends self.old self.new) }
         ensures ends { self.new.ends ≡ self.old.ends }
+        ensures turn { OnOk result (self.new.turn ≡ self.old.turn) }
+        ensures due { IfOk result (λ played. played ≡ is_due self.old) }
+        ensures still { IfOk result (λ played. played ≡ false → LooksAlone self.old self.new) }
+        ensures phase { IfOk result (λ played.
+            played ≡ true → self.new.phase ≡ phase_behind self.old.assignment.rounds self.old.phase) }
     {
         let Phase::Playing(round) = self.phase else {
             return Ok(false);
@@ -197,6 +222,8 @@ impl<G: Gate, S: Ends> Running<G, S> {
         requires phase { self.old.phase ≡ Playing round }
         ensures goes { OnOk result (Goes S.Ends self.old self.new) }
         ensures ends { self.new.ends ≡ self.old.ends }
+        ensures turn { OnOk result (self.new.turn ≡ self.old.turn) }
+        ensures phase { OnOk result (self.new.phase ≡ phase_behind self.old.assignment.rounds self.old.phase) }
     {
         self.gate.begin_round(self.assignment.worker, round);
         let now = Millis(round * self.assignment.round_ms);
@@ -217,8 +244,7 @@ impl<G: Gate, S: Ends> Running<G, S> {
     /// Whether the life has ended, but for what still came: it has shut down, each neighbour has
     /// closed, and all that was said is accepted.
     fn is_over(&self) -> bool
-        ensures over { result ≡ true → IsOver self.now }
-        ensures exact { result ≡ is_over self.now }
+        ensures { result ≡ is_over self.now }
     {
         let Phase::Closing = self.phase else {
             return false;
@@ -283,8 +309,7 @@ fn tell_since(
 /// Whether all is taken that is heard in a phase. It looks first at the neighbour of which
 /// that was not so last.
 fn is_due(inboxes: &[Inbox], last_not_full: &mut usize) -> bool
-    ensures full { result ≡ true → AllFull inboxes.now }
-    ensures exact { result ≡ are_full inboxes.now }
+    ensures { result ≡ are_full inboxes.now }
 {
     *last_not_full = first_not_full(inboxes, *last_not_full);
     if *last_not_full < inboxes.len() {
@@ -309,8 +334,7 @@ fn first_not_full(inboxes: &[Inbox], from: usize) -> usize
 }
 
 fn all_full(inboxes: &[Inbox]) -> bool
-    ensures full { result ≡ true → AllFull inboxes.now }
-    ensures exact { result ≡ are_full inboxes.now }
+    ensures { result ≡ are_full inboxes.now }
 {
     for inbox in inboxes {
         if !inbox.is_full() {
@@ -321,8 +345,7 @@ fn all_full(inboxes: &[Inbox]) -> bool
 }
 
 fn all_silent(outboxes: &Outboxes, inboxes: &[Inbox]) -> bool
-    ensures silent { result ≡ true → AllSilent outboxes.now inboxes.now }
-    ensures exact { result ≡ are_silent outboxes.now inboxes.now }
+    ensures { result ≡ are_silent outboxes.now inboxes.now }
 {
     for inbox in inboxes {
         if !outboxes.is_silent(inbox.peer()) {
@@ -339,11 +362,18 @@ fn idle_after(idle: usize, moved: bool) -> usize
     if moved { 0 } else { idle.saturating_add(1) }
 }
 
-/// Whose turn is next: the next one's, unless this one keeps it.
-fn next_turn(turn: usize, neighbours: usize, stays: bool) -> usize
-    ensures { result ≡ turn_after turn neighbours stays }
+/// Whether any of these moved something.
+fn is_any(listened: bool, played: bool, offered: bool) -> bool
+    ensures { result ≡ ((listened || played) || offered) }
 {
-    if stays {
+    listened || played || offered
+}
+
+/// Whose turn is next: the next one's, unless something moved and more may move.
+fn next_turn(turn: usize, neighbours: usize, moved: bool, more: bool) -> usize
+    ensures { result ≡ turn_after turn neighbours (moved && more) }
+{
+    if moved && more {
         return turn;
     }
     if turn < neighbours { turn + 1 } else { 0 }

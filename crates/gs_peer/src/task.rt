@@ -1,9 +1,12 @@
-ghost use Rattle.std.specs.Prelude.{◌≡◌, None, Err, IfOk, IfSome, OnOk, true};
+ghost use Rattle.std.specs.Prelude.{◌≡◌, None, Err, IfErr, IfOk, IfSome, OnOk, true};
 ghost use Rattle.futures.specs.Poll.{IfReady, OnPending};
 ghost use Rattle.futures.specs.Task.{Covers, Keeps};
 ghost use Rattle.gs_ends.specs.Ends.{GrewBy};
+ghost use Rattle.gs_peer.specs.Faults.{number_of};
 ghost use Rattle.gs_peer.specs.Life.{IsLife};
+ghost use Rattle.gs_peer.specs.Moves.{is_over};
 ghost use Rattle.gs_peer.specs.Running.{Goes, IsKept, IsOver, MayBegin, seat_of};
+ghost use Rattle.gs_peer.specs.Stepping.{Polls};
 ghost use Rattle.gs_peer.specs.Task.{Bounded, CanPoll, Gives, HasEnds, IsSuspended, IsTaskOf, given_of};
 
 use crate::assignment::Assignment;
@@ -60,6 +63,7 @@ impl<G: Gate, S: Ends> PeerTask<G, S> {
         ensures is { IfOk result (λ task. IsTaskOf S.joints assignment router words surroundings.ends task) }
         ensures ends { IfOk result (λ task. HasEnds surroundings.ends task) }
         ensures suspended { IfOk result (λ task. IsSuspended S.Ends task) }
+        ensures memory { IfErr result (λ fault. number_of fault ≡ 22) }
     {
         let Surroundings { ends, gate, stop } = surroundings;
         let chooser = Chooser { router, words };
@@ -68,10 +72,7 @@ impl<G: Gate, S: Ends> PeerTask<G, S> {
                 running: Some(running),
                 stop,
             }),
-            Err(_) => {
-                stop.set();
-                Err(PeerFault::NoMemory)
-            }
+            Err(_) => Err(PeerFault::NoMemory(stop.set())),
         }
     }
 }
@@ -117,23 +118,21 @@ impl<G: Gate, S: Ends> Future for PeerTask<G, S> {
     }
 }
 
-/// Goes on with a life, until nothing moves. True where it has ended. Where there is no memory the flag is set first.
+/// Goes on with a life by the steps of a poll. True where it has ended. Where there is no memory the flag is set first.
 fn go_on<G: Gate, S: Ends>(stop: &StopFlag, running: &mut Running<G, S>) -> Result<bool, PeerFault>
     requires { IsKept S.Ends running.old }
     ensures goes { OnOk result (Goes S.Ends running.old running.new) }
     ensures taken { OnOk result (GrewBy 64 (S.taken running.old.ends) (S.taken running.new.ends)) }
     ensures accepted { OnOk result (GrewBy 64 (S.accepted running.old.ends) (S.accepted running.new.ends)) }
-    ensures over { IfOk result (λ over. over ≡ true → IsOver running.new) }
+    ensures polls { OnOk result (Polls S.Ends 64 running.old running.new) }
+    ensures over { IfOk result (λ over. over ≡ is_over running.new) }
 {
     if stop.is_set() {
         return Err(PeerFault::Stopped);
     }
     match running.run() {
         Ok(over) => Ok(over),
-        Err(_) => {
-            stop.set();
-            Err(PeerFault::NoMemory)
-        }
+        Err(_) => Err(PeerFault::NoMemory(stop.set())),
     }
 }
 
@@ -147,15 +146,13 @@ fn finish<G: Gate, S: Ends>(
     ensures life { IfSome running.old (λ t. IfOk result (λ f. IsLife S.Ends (seat_of t) t.first.value f)) }
     ensures ends { IfSome running.old (λ t. IfOk result (λ f. f.ends ≡ t.ends)) }
     ensures taken { running.new ≡ None }
+    ensures memory { IfSome running.old (λ t. IfErr result (λ fault. number_of fault ≡ 22)) }
 {
     let Some(mut life) = running.take() else {
         return Err(PeerFault::Stopped);
     };
     match life.final_state() {
         Ok(state) => Ok(life.finish(state)),
-        Err(_) => {
-            stop.set();
-            Err(PeerFault::NoMemory)
-        }
+        Err(_) => Err(PeerFault::NoMemory(stop.set())),
     }
 }

@@ -1,15 +1,17 @@
 //! Lives of a peer with one neighbour, over lists in memory: scripts, heartbeats, streams, gathered frames and faults.
 ghost use Rattle.std.specs.Prelude.{◌≡◌, IfOk, IfSome, true};
 ghost use Rattle.gs_ends.specs.Ends.{has};
-ghost use Rattle.gs_ends.specs.Pairs.{joints_of};
+ghost use Rattle.gs_ends.specs.Lists.{joints_in_lists};
 
 mod breaking;
 mod cases;
+mod crowds;
 mod gates;
 mod gathering;
 mod items;
 mod made;
 mod over_links;
+mod over_lists;
 mod sides;
 
 use crate::tests::breaking::{HANG_UPS, RAWS};
@@ -17,6 +19,7 @@ use crate::tests::cases::{Case, LONG, NOTHING, SCRIPT, SCRIPTS, STREAMS, SUBSCRI
 use crate::tests::gathering::GATHERED;
 use crate::tests::items::{Word, lines, said};
 use crate::tests::made::{AtMost, ONE, lists, task, task_in};
+use crate::tests::over_lists::{NEWS, report_of};
 use futures::executor::block_on;
 use gs_base::PeerNo;
 use gs_ends::ListEnds;
@@ -40,14 +43,15 @@ use std::test::*;
 fn lives<R>(rt: &R, case: &Case<'_>, every: u64) -> io::Result<Option<FinishedTask<ListEnds>>>
 where
     R: Wait + RandomSource + AllocGlobal,
-    ensures { IfOk result (λ ended. IfSome ended (λ life. has (joints_of life.ends) (record { 0 = 2 }) ≡ true)) }
+    ensures { IfOk result (λ ended. IfSome ended (λ life. has (joints_in_lists life.ends) case.now.pair.other ≡ true)) }
 {
     if case.rounds > 100_000 {
         return Ok(None);
     }
     let lines = lines(rt.alloc(), case.script)?;
-    let ends = lists(rt.alloc(), said(rt.alloc(), case.hears)?, case.room, every)?;
-    let task = task(rt.alloc(), ONE, lines, case.rounds, ends)?;
+    let hears = said(rt.alloc(), case.hears)?;
+    let ends = lists(rt.alloc(), case.pair.other, hears, case.room, every)?;
+    let task = task(rt.alloc(), case.pair, lines, case.rounds, ends)?;
     let polled = AtMost {
         inner: task,
         left: 10_000,
@@ -69,12 +73,12 @@ fn text(
     format!(in alloc; "{events}{refused:?} {says:?}")
 }
 
-/// What came of a life: its events, the lines that it could not follow, and what it said.
-fn came(alloc: Global, life: &FinishedTask<ListEnds>) -> Result<String, AllocError>
-    requires { has (joints_of life.now.ends) (record { 0 = 2 }) ≡ true }
+/// What came of a life: its events, the lines that it could not follow, and what it said to its neighbour.
+fn came(alloc: Global, other: PeerNo, life: &FinishedTask<ListEnds>) -> Result<String, AllocError>
+    requires { has (joints_in_lists life.now.ends) other ≡ true }
 {
     let events = events_in(alloc, &life.trace)?;
-    let says = life.ends.sent(PeerNo(2));
+    let says = life.ends.sent(other);
     text(alloc, events.as_str(), life.refused.as_slice(), says)
 }
 
@@ -93,7 +97,7 @@ where
     R: Wait + RandomSource + AllocGlobal,
 {
     match lives(rt, case, every)? {
-        Some(life) => Ok(came(rt.alloc(), &life)?),
+        Some(life) => Ok(came(rt.alloc(), case.pair.other, &life)?),
         None => Ok(String::from_str(rt.alloc(), ENDLESS)?),
     }
 }
@@ -143,6 +147,40 @@ fn what_is_said_in_a_round_is_one_frame(rt: HostRuntime) -> Result<(), Fail> {
     check(&rt, GATHERED)
 }
 
+/// What is reported of a case, where every so many puts are refused.
+fn reported<R>(rt: &R, case: &Case<'_>, every: u64) -> io::Result<String>
+where
+    R: Wait + RandomSource + AllocGlobal,
+{
+    match lives(rt, case, every)? {
+        Some(life) => {
+            let report = report_of(rt.alloc(), &life);
+            drop(life);
+            Ok(report?)
+        }
+        None => Ok(String::from_str(rt.alloc(), ENDLESS)?),
+    }
+}
+
+/// The same two peers hear each other over links in `two_tasks_hear_each_other_over_links`, with the same events.
+#[test]
+fn two_peers_do_over_lists_what_they_do_over_links(rt: HostRuntime) -> Result<(), Fail> {
+    for news in NEWS {
+        check(&rt, &[news.case])?;
+        let wanted = text_of_all(rt.alloc(), news.report)?;
+        for every in news.case.refusals {
+            let came = reported(&rt, &news.case, *every)?;
+            assert_eq!(rt;
+                came.as_str(),
+                wanted.as_str(),
+                "{}, {every}",
+                news.case.name
+            );
+        }
+    }
+    Ok(())
+}
+
 /// Where a neighbour takes one item alone, the life never ends.
 #[test]
 fn what_is_never_accepted_keeps_a_task_pending(rt: HostRuntime) -> Result<(), Fail> {
@@ -167,7 +205,7 @@ where
     let stop = Arc::new(rt.alloc(), StopFlag::new())?;
     stop.set();
     let surroundings = Surroundings {
-        ends: lists(rt.alloc(), said(rt.alloc(), SUBSCRIBER)?, 10, 0)?,
+        ends: lists(rt.alloc(), ONE.other, said(rt.alloc(), SUBSCRIBER)?, 10, 0)?,
         gate: NoGate,
         stop,
     };
@@ -185,15 +223,17 @@ fn a_flag_stops_a_task(rt: HostRuntime) -> Result<(), Fail> {
     Ok(())
 }
 
-/// The numbers and the texts of faults.
-static FAULTS: &[(PeerFault, u8, &str)] = &[
-    (PeerFault::NoMemory, 22, "there was no memory"),
-    (PeerFault::Stopped, 23, "the task was stopped"),
-];
-
 #[test]
 fn each_fault_has_its_number_and_text(rt: HostRuntime) -> Result<(), AllocError> {
-    for (fault, number, text) in FAULTS {
+    let faults = [
+        (
+            PeerFault::NoMemory(StopFlag::new().set()),
+            22,
+            "there was no memory",
+        ),
+        (PeerFault::Stopped, 23, "the task was stopped"),
+    ];
+    for (fault, number, text) in &faults {
         let shown = format!(in rt.alloc(); "{fault}")?;
         assert_eq!(rt; (fault.number(), shown.as_str()), (*number, *text));
     }

@@ -2,6 +2,7 @@
 use crate::tests::items::{
     LONG_FRAME, LONG_PAYLOAD, OFFERS, PRUNES, PUBLISHES, PUBLISHES_AND_GRAFTS, SUBSCRIBES, Word,
 };
+use crate::tests::made::{ONE, Pair};
 use gs_base::Millis;
 use gs_router_calls::{Act, Said, Seen};
 use gs_rules::{Refusal, RefusedLine};
@@ -10,6 +11,8 @@ use gs_rules::{Refusal, RefusedLine};
 #[derive(Clone, Copy, Debug)]
 pub struct Case<'a> {
     pub name: &'a str,
+    /// Who lives, and its neighbour.
+    pub pair: Pair,
     /// Its lines, each with its place in the plan and its round.
     pub script: &'a [(usize, u64, Act<'a>)],
     /// What its neighbour says, and then closes its link.
@@ -28,9 +31,10 @@ pub struct Case<'a> {
     pub says: &'a [Word<'a>],
 }
 
-/// A peer without a script, in two rounds.
+/// Peer 1 without a script, in two rounds.
 pub const NOTHING: Case<'static> = Case {
     name: "",
+    pair: ONE,
     script: &[],
     hears: &[],
     rounds: 1,

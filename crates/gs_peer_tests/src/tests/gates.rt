@@ -11,8 +11,8 @@ use std::test::*;
 
 /// The workers and rounds of all turns so far, two digits each.
 #[derive(Drop)]
-struct Turns {
-    seen: Arc<AtomicU64>,
+pub struct Turns {
+    pub seen: Arc<AtomicU64>,
 }
 
 impl Gate for Turns {
@@ -31,7 +31,7 @@ impl Gate for Turns {
 fn a_gate_is_told_of_each_round(rt: HostRuntime) -> Result<(), Fail> {
     let seen = Arc::new(rt.alloc(), AtomicU64::new(0))?;
     let surroundings = Surroundings {
-        ends: lists(rt.alloc(), said(rt.alloc(), SUBSCRIBER)?, 10, 0)?,
+        ends: lists(rt.alloc(), ONE.other, said(rt.alloc(), SUBSCRIBER)?, 10, 0)?,
         gate: Turns {
             seen: seen.clone()?,
         },

@@ -1,11 +1,15 @@
 //! Peers with one neighbour, and ends to it.
-ghost use Rattle.std.specs.Prelude.{◌≡◌, ◌≤◌, pos, [], ◌∷◌, IfOk, IfSome, true, false};
-ghost use Rattle.std.specs.List.{All};
+ghost use Rattle.std.specs.Prelude.{◌≡◌, ◌≤◌, ◌<◌, ◌*◌, ◌^◌, unsigned_abs, pos, [], ◌∷◌, IfOk, IfSome, true, false};
+ghost use Rattle.std.specs.List.{All, AllByRecursion};
+ghost use Rattle.gs_base.specs.Names.{peers_of};
 ghost use Rattle.gs_base.specs.declared.names.PeerNo.{PeerNo as PeerNoValue};
+ghost use Rattle.gs_base.specs.declared.neighbour.Neighbour.{Neighbour as NeighbourValue};
 ghost use Rattle.gs_params.specs.Params.{AreInRange};
+ghost use Rattle.gs_params.specs.Picks.{IsAscending};
 ghost use Rattle.gs_link.specs.Items.{IsSendable};
 ghost use Rattle.gs_ends.specs.Ends.{has};
 ghost use Rattle.gs_ends.specs.Pairs.{accepted_for, joints_of, taken_from};
+ghost use Rattle.gs_ends.specs.Lists.{joints_in_lists, taken_in_lists};
 ghost use Rattle.gs_rules.specs.Peers.{links_of};
 ghost use Rattle.gs_peer.specs.Task.{CanPoll, HasJoints};
 
@@ -24,7 +28,7 @@ use std::alloc::{AllocError, Global};
 use std::sync::{Arc, Wait};
 
 /// A peer and its neighbour.
-#[derive(Clone, Copy)]
+#[derive(Clone, Copy, Debug)]
 pub struct Pair {
     pub me: PeerNo,
     pub other: PeerNo,
@@ -60,14 +64,75 @@ fn checked(params: Params) -> Result<Params, AllocError>
     }
 }
 
-/// A router with this neighbour alone that has done nothing.
-fn router(alloc: Global, other: PeerNo) -> Result<Router, AllocError>
-    ensures links { IfOk result (λ router. links_of router.peer ≡ other ∷ []) }
+/// Neighbours of these numbers.
+fn neighbours(alloc: Global, numbers: &[PeerNo]) -> Result<Vec<Neighbour>, AllocError>
+    ensures peers { IfOk result (λ list. peers_of list.items ≡ numbers.now) }
+    ensures apps { IfOk result (λ list. All (λ (n : NeighbourValue). unsigned_abs n.app ≤ 10 ^ 12) list.items) }
+{
+    let mut list = Vec::new(alloc);
+    for number in numbers {
+        let one = neighbour(*number);
+        list.push(one)?;
+    }
+    Ok(list)
+}
+
+/// A router with these neighbours that has done nothing.
+fn router(alloc: Global, numbers: &[PeerNo]) -> Result<Router, AllocError>
+    requires { IsAscending numbers.now }
+    ensures links { IfOk result (λ router. links_of router.peer ≡ numbers.now) }
     ensures trace { IfOk result (λ router. router.trace ≡ []) }
     ensures runs { IfOk result (λ router. router.is_stopped ≡ false) }
 {
-    let neighbours = vec![in alloc; neighbour(other)]?;
-    Router::new(alloc, checked(Params::new(alloc))?, neighbours)
+    let params = checked(Params::new(alloc))?;
+    let list = neighbours(alloc, numbers)?;
+    Router::new(alloc, params, list)
+}
+
+/// What a peer on worker 4 is given with these neighbours and lines, in rounds of 100 milliseconds up to this one.
+pub fn assignment(
+    alloc: Global,
+    number: PeerNo,
+    neighbours: Vec<PeerNo>,
+    lines: Vec<(usize, Line)>,
+    rounds: u64,
+) -> Result<Assignment, AllocError>
+    ensures neighbours { IfOk result (λ assignment. assignment.neighbours ≡ neighbours) }
+    ensures rounds { IfOk result (λ assignment. assignment.rounds ≡ rounds) }
+    ensures length { IfOk result (λ assignment. assignment.round_ms ≡ 100) }
+{
+    let lines = Agenda::of(alloc, lines)?;
+    Ok(Assignment {
+        number,
+        neighbours,
+        lines,
+        round_ms: 100,
+        rounds,
+        worker: 4,
+    })
+}
+
+/// A peer that is given this.
+pub fn task_given<G: Gate, S: Ends>(
+    alloc: Global,
+    assignment: Assignment,
+    surroundings: Surroundings<G, S>,
+) -> Result<PeerTask<G, S>, AllocError>
+    requires small { assignment.rounds * assignment.round_ms < 2 ^ 64 }
+    requires ascending { IsAscending assignment.neighbours.items }
+    requires known { AllByRecursion (λ q. has (S.joints surroundings.ends) q ≡ true) assignment.neighbours.items }
+    requires accepted { (q : PeerNoValue) → S.accepted surroundings.ends q ≡ [] }
+    requires taken { (q : PeerNoValue) → S.taken surroundings.ends q ≡ [] }
+    ensures can { IfOk result (λ task. CanPoll S.Ends task) }
+    ensures ends { IfOk result (λ task. HasJoints S.joints (S.joints surroundings.ends) task) }
+{
+    let words = SeededWords::new(Vec::new(alloc), 1, assignment.number);
+    // (last, so that no exit has a router to drop)
+    let router = router(alloc, &assignment.neighbours)?;
+    match PeerTask::new(alloc, assignment, router, words, surroundings) {
+        Ok(task) => Ok(task),
+        Err(_) => Err(AllocError),
+    }
 }
 
 /// A peer on worker 4 with one neighbour and these lines, in rounds of 100 milliseconds up to this one.
@@ -86,21 +151,9 @@ pub fn task_in<G: Gate, S: Ends>(
     ensures ends { IfOk result (λ task. HasJoints S.joints (S.joints surroundings.ends) task) }
 {
     let neighbours = vec![in alloc; pair.other]?;
-    let assignment = Assignment {
-        number: pair.me,
-        neighbours,
-        lines: Agenda::of(alloc, lines)?,
-        round_ms: 100,
-        rounds,
-        worker: 4,
-    };
-    let words = SeededWords::new(Vec::new(alloc), 1, pair.me);
-    // (last, so that no exit has a router to drop)
-    let router = router(alloc, pair.other)?;
-    match PeerTask::new(alloc, assignment, router, words, surroundings) {
-        Ok(task) => Ok(task),
-        Err(_) => Err(AllocError),
-    }
+    let given = assignment(alloc, pair.me, neighbours, lines, rounds)?;
+    let task = task_given(alloc, given, surroundings)?;
+    Ok(task)
 }
 
 /// `task_in` with a gate that does nothing and a flag that nobody sets.
@@ -127,7 +180,7 @@ pub fn task<S: Ends>(
 }
 
 /// Whether each of these items may be sent.
-fn are_sendable(items: &[Item]) -> bool
+pub fn are_sendable(items: &[Item]) -> bool
     ensures { result ≡ true → All IsSendable items.now }
 {
     for item in items {
@@ -138,21 +191,22 @@ fn are_sendable(items: &[Item]) -> bool
     true
 }
 
-/// Ends to neighbour 2, from which these items come.
+/// Ends to a neighbour, from which these items come.
 pub fn lists(
     alloc: Global,
+    other: PeerNo,
     items: Vec<Item>,
     room: usize,
     every: u64,
 ) -> Result<ListEnds, AllocError>
-    ensures known { IfOk result (λ ends. has (joints_of ends) (record { 0 = 2 }) ≡ true) }
+    ensures known { IfOk result (λ ends. has (joints_in_lists ends) other ≡ true) }
     ensures accepted { IfOk result (λ ends. (q : PeerNoValue) → accepted_for ends q ≡ []) }
-    ensures taken { IfOk result (λ ends. (q : PeerNoValue) → taken_from ends q ≡ []) }
+    ensures taken { IfOk result (λ ends. (q : PeerNoValue) → taken_in_lists ends q ≡ []) }
 {
     if !are_sendable(&items) {
         return Err(AllocError);
     }
-    let inbound = vec![in alloc; (PeerNo(2), items)]?;
+    let inbound = vec![in alloc; (other, items)]?;
     let ends = ListEnds::new(alloc, inbound, room, every)?;
     Ok(ends)
 }

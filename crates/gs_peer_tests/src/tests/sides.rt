@@ -1,5 +1,6 @@
 //! Lives of two peers that hear each other, and what must be seen of them.
 use crate::tests::cases::SCRIPT;
+use crate::tests::over_lists::NEWS_OVER_LINKS;
 use gs_router_calls::{Act, Said, Seen};
 
 /// What a peer does that another hears.
@@ -160,4 +161,4 @@ const RAW: Both<'static> = Both {
     },
 };
 
-pub static BOTH: &[Both<'static>] = &[PUBLISH, HANG_UP, RAW];
+pub static BOTH: &[Both<'static>] = &[PUBLISH, HANG_UP, RAW, NEWS_OVER_LINKS];

@@ -2,10 +2,12 @@ use Rattle.std.proofs.Common.{◌≡◌, ◌<◌, length, refl, rules, sym, subs
 use Rattle.std.specs.List.{AllByRecursion}
 use Rattle.gs_rules.specs.Peers.{links_of}
 use Rattle.gs_ends.specs.Ends.{Joint, has}
+use Rattle.gs_peer.specs.Outboxes.{waiting}
 use Rattle.gs_peer.specs.Phases.{phase_of}
 use Rattle.gs_peer.specs.Running.{seat_of}
 use Rattle.gs_peer.proofs.Grows.{grew_accepted}
 use Rattle.gs_peer.proofs.Steps.{kept_offers, known_at}
+use Rattle.gs_peer.proofs.Stepping.{says_still}
 use Rattle.gs_peer.proofs.running.Running.offer.Goals as goal
 
 pub offer-requires : goal.offer-requires
@@ -34,3 +36,8 @@ returns-clause-goes g c =
 pub returns-clause-accepted : goal.returns-clause-accepted
 returns-clause-accepted g c =
     grew_accepted c.peer-peer.result (g.S.Ends.accepted c.args.self.now.ends) (g.S.Ends.accepted c.offer.new.ends) c.in_ok-offered.ensures.grew c.in_ok-offered.ensures.others
+
+pub returns-clause-waits : goal.returns-clause-waits
+returns-clause-waits g c =
+    let e = c.in_ok-offered.ensures in
+    says_still c.peer-peer.result c.in_ok-offered.offered (g.S.Ends.accepted c.args.self.now.ends) (g.S.Ends.accepted c.offer.new.ends) (waiting c.args.self.now.outboxes) (waiting c.offer.new.self) e.moved e.says e.stays
