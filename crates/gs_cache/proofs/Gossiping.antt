@@ -1,11 +1,11 @@
 -- Which messages are announced, window by window.
-use Rattle.std.proofs.Common.{◌≡◌, ℕ, suc, ◌+◌, ◌-◌, ◌<◌, ◌≤◌, min, nat_lt, nat_le, Bool, true, false, cond, List, [], ◌∷◌, ◌++◌, length, take, drop, get_or, Option, None, Some, option_map, is_some, if◌then◌else◌, refl, sym, ap, ap₂, ◌∙◌, arith, rules}
-use Rattle.std.specs.Prelude.{not, ◌&&◌, ◌||◌, filter}
+use Rattle.std.proofs.Common.{◌≡◌, ℕ, suc, ◌+◌, ◌-◌, ◌<◌, ◌≤◌, min, nat_lt, nat_le, Bool, true, false, cond, List, [], ◌∷◌, ◌++◌, append-nil, length, take, drop, get_or, Option, None, Some, option_map, is_some, if◌then◌else◌, refl, sym, ap, ap₂, ◌∙◌, arith, rules}
+use Rattle.std.specs.Prelude.{not, ◌==◌, ◌&&◌, ◌||◌, filter}
 use Rattle.std.specs.Option.{option_or}
 use Rattle.std.specs.List.{list_any}
 use Rattle.std.specs.Map.{lookup}
 use Rattle.std.proofs.Math.Seq.{drop-cons, take-suc}
-use Rattle.std.proofs.lemmas.List.{drop_all}
+use Rattle.std.proofs.lemmas.List.{drop_all, length-drop}
 use Rattle.std.proofs.lemmas.List.Elements.{filter-append}
 use Rattle.std.proofs.lemmas.List.Folds.{list_any-append}
 use Rattle.gs_base.specs.declared.names.MsgId.{MsgId}
@@ -13,7 +13,7 @@ use Rattle.gs_base.specs.declared.names.Topic.{Topic}
 use Rattle.gs_base.specs.Names.{same_id, same_topic}
 use Rattle.gs_cache.specs.declared.message_cache.window.Kept.{Kept}
 use Rattle.gs_cache.specs.declared.message_cache.window.Window.{Window}
-use Rattle.gs_cache.specs.CachedMessages.{Cached, Put, is_announced}
+use Rattle.gs_cache.specs.CachedMessages.{Cached, Put, is_announced, last_of, most_announced}
 use Rattle.gs_cache.specs.Windows.{announced_in, has, ids_of, is_on, is_placed, kept_at, listed, order_of, placed, put_of}
 use Rattle.gs_cache.proofs.Lists.{filter_alike, filter_all, filter_both, filter_twice, map_map, map_or}
 use Rattle.gs_cache.proofs.Finding.{cached_in, put_first, put_in}
@@ -167,3 +167,44 @@ next_window gossip topic ws end done age w ids ids' all more at is before added 
 -- once all windows are done
 pub all_done : (gossip : ℕ) (topic : Topic) (ws : List Window) → behind ws gossip topic 0 ≡ announced_in 0 gossip topic ws
 all_done gossip topic ws = filter_all (λ id. not (list_any (λ n. has n id) [])) (λ id. refl) (announced_in 0 gossip topic ws)
+
+-- ---- whether there is any
+
+pub more_than_none : (n : ℕ) → not (suc n == 0) ≡ true
+more_than_none n = search rules
+
+nothing_in : {A : Type 0} (xs : List A) → not (length xs == 0) ≡ false → xs ≡ []
+nothing_in [] is = refl
+nothing_in (x ∷ xs) is = let both : true ≡ false = sym (more_than_none (length xs)) ∙ is in absurd cc
+
+-- the last ones of a list are some where it has some
+pub last_few : (ids : List MsgId) → not (length ids == 0) ≡ not (length (last_of most_announced ids) == 0)
+last_few [] = refl
+last_few (id ∷ ids) =
+    let some : 0 < length (last_of most_announced (id ∷ ids)) = omega (arith, length-drop (length (id ∷ ids) - most_announced) (id ∷ ids)) in
+    more_than_none (length ids) ∙ sym (by (last_of most_announced (id ∷ ids)) some)
+  where
+    by : (xs : List MsgId) → 0 < length xs → not (length xs == 0) ≡ true
+    by [] some = absurd (omega (arith, some))
+    by (x ∷ xs) some = more_than_none (length xs)
+
+-- a window that announces nothing is passed over
+pub silent_here : (gossip : ℕ) (topic : Topic) (ws : List Window) (k : ℕ) (w : Window) → k < length ws → k < gossip → get_or ws k w ≡ w
+    → not (length (listed (take k ws) w topic) == 0) ≡ false → behind ws gossip topic k ≡ behind ws gossip topic (k + 1)
+silent_here gossip topic ws k w within new is silent =
+    let next : suc k ≡ k + 1 = omega arith in
+    sym (one_more gossip topic ws k w within new is)
+    ∙ ap (λ (xs : List MsgId). behind ws gossip topic (suc k) ++ xs) (nothing_in (listed (take k ws) w topic) silent)
+    ∙ append-nil (behind ws gossip topic (suc k))
+    ∙ ap (behind ws gossip topic) next
+
+some_behind : (xs ys : List MsgId) → not (length ys == 0) ≡ true → not (length (xs ++ ys) == 0) ≡ true
+some_behind [] ys is = is
+some_behind (x ∷ xs) ys is = more_than_none (length (xs ++ ys))
+
+-- one that announces something is enough
+pub heard_here : (gossip : ℕ) (topic : Topic) (ws : List Window) (k : ℕ) (w : Window) → k < length ws → k < gossip → get_or ws k w ≡ w
+    → not (length (listed (take k ws) w topic) == 0) ≡ true → not (length (behind ws gossip topic k) == 0) ≡ true
+heard_here gossip topic ws k w within new is some =
+    ap (λ (xs : List MsgId). not (length xs == 0)) (sym (one_more gossip topic ws k w within new is))
+    ∙ some_behind (behind ws gossip topic (suc k)) (listed (take k ws) w topic) some

@@ -2,12 +2,12 @@ mod announcing;
 mod tally;
 mod window;
 
-ghost use Rattle.std.specs.Prelude.{◌≡◌, ◌<◌, if◌then◌else◌, filter, is_some, unwrap_or, [], None, OnOk, OnErr, IfOk};
+ghost use Rattle.std.specs.Prelude.{◌≡◌, ◌<◌, ◌==◌, if◌then◌else◌, filter, is_some, length, not, unwrap_or, [], None, OnOk, OnErr, IfOk};
 ghost use Rattle.gs_base.specs.declared.names.MsgId.{MsgId as MsgIdValue};
 ghost use Rattle.gs_base.specs.declared.names.PeerNo.{PeerNo as PeerNoValue};
 ghost use Rattle.gs_cache.specs.CachedMessages.{IsAnswer, IsSetUpAlike, aged, all_left, announced, cached, left, one_less, put_anew, put_last};
 
-use crate::message_cache::announcing::announce;
+use crate::message_cache::announcing::{announce, announces_any};
 use crate::message_cache::window::{Window, age_of, find};
 pub use announcing::MOST_ANNOUNCED;
 use gs_base::{Message, MsgId, PeerNo, Seq, Shared, Topic};
@@ -174,6 +174,14 @@ impl MessageCache {
     {
         let ids = announce(self.alloc, self.windows.as_slice(), self.gossip, topic)?;
         Ok(Seq::from(ids))
+    }
+
+    /// Whether `gossip_ids` has any identifier of a topic. It takes no memory, and looks no further than to the first
+    /// one that it finds.
+    pub fn has_gossip(&self, topic: &Topic) -> bool
+        ensures { result ≡ not (length (announced self.now topic.now) == 0) }
+    {
+        announces_any(self.windows.as_slice(), self.gossip, topic)
     }
 
     /// Shifts the windows, as each heartbeat does: the puts of the oldest window are lost (gossipsub v1.0, "Message

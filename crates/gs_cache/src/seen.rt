@@ -131,8 +131,9 @@ impl SeenCache {
         Ok(())
     }
 
-    /// The last sighting of a message, where it counts at a moment.
-    fn counting(&self, id: &MsgId, now: Millis) -> Option<&Sighting>
+    /// The last sighting of a message, where it was marked as seen less than the time ago. It says in one look-up what
+    /// `seen` and `is_near` say.
+    pub fn counting(&self, id: &MsgId, now: Millis) -> Option<&Sighting>
         ensures { option_copied result ≡ what_counts self.now id.now now.0 }
     {
         let sighting = self.last(id)?;

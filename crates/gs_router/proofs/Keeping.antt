@@ -1,6 +1,6 @@
 -- The table of kept messages, after a mark and after a heartbeat.
 use Rattle.std.proofs.Common.{◌≡◌, ℕ, ◌+◌, ◌-◌, ◌<◌, arith, Bool, true, false, if◌then◌else◌, cond, List, [], ◌∷◌, ◌++◌, Option, Some, None, option_map, is_some, refl, sym, ap, ap₂, subst, ◌∙◌, filter, length, take, get_or}
-use Rattle.std.specs.Prelude.{◌&&◌, not, nat_lt}
+use Rattle.std.specs.Prelude.{◌&&◌, ◌==◌, not, nat_lt}
 use Rattle.std.proofs.lemmas.Bool.Decides.{nat_tests}
 use Rattle.std.proofs.lemmas.List.{take_more}
 use Rattle.std.proofs.lemmas.List.Elements.{filter-append}
@@ -12,11 +12,15 @@ use Rattle.gs_base.specs.declared.rpc.Message.{Message}
 use Rattle.gs_base.specs.declared.mark.Mark.{Mark}
 use Rattle.gs_base.specs.declared.mark.Mark.TheVariants.{Cached, Answered}
 use Rattle.gs_base.specs.Names.{same_id, same_peer}
+use Rattle.gs_base.specs.Rpcs.{most_identifiers}
 use Rattle.gs_cache.specs.CachedMessages as cache
+use Rattle.gs_cache.proofs.Gossiping.{more_than_none}
 use Rattle.gs_rules.specs.declared.trace.Event.{Event}
 use Rattle.gs_rules.specs.declared.trace.Entry.{Entry}
 use Rattle.gs_rules.specs.Tables.{Entries, Keeping, after_marks, answered, answered_after, keeping, keeping_order, kept_after, last_kept, message_in, older, order_after}
-use Rattle.gs_rules.specs.Gossip.{is_gossiped}
+use Rattle.gs_rules.specs.Gossip.{gossip, is_gossiped, last_of}
+use Rattle.gs_rules.specs.Owed.{is_some_list}
+use Rattle.gs_rules.specs.Peers.{Peer, windows}
 use Rattle.gs_router.specs.declared.tables.kept_messages.Messages.{Messages}
 use Rattle.gs_router.specs.Tables.{AgreesOnMessages, HasKept, IsMadeAlike, keeping_in, left_of, unmarked}
 
@@ -277,8 +281,18 @@ gossiped_is_kept most t None is = absurd cc
 gossiped_is_kept most t (Some k) is = refl
 
 -- what the cache announces is what of all that was ever kept is gossiped
-pub announced_so : (table : Messages) (t : Topic) (last : MsgId → Option Keeping) (given : PeerNo → MsgId → ℕ) (order : List MsgId) → HasKept table last given order
+announced_so : (table : Messages) (t : Topic) (last : MsgId → Option Keeping) (given : PeerNo → MsgId → ℕ) (order : List MsgId) → HasKept table last given order
     → filter (λ id. cache.is_announced table.cache.gossip t (cache.cached table.cache id)) table.cache.order ≡ filter (λ id. is_gossiped table.cache.gossip t (keeping table.cache.len (last id))) order
 announced_so table t last given order has =
     (λ i. filter (λ id. (gossiped_so table.cache.gossip t (cache.cached table.cache id) ∙ ap (is_gossiped table.cache.gossip t) (has.keeps id)) i) (has.orders i))
     ∙ filter_stronger (λ id. is_gossiped table.cache.gossip t (keeping table.cache.len (last id))) (λ id. is_some (keeping table.cache.len (last id))) order (λ id is. gossiped_is_kept table.cache.gossip t (keeping table.cache.len (last id)) is)
+
+pub gossip_so : (table : Messages) (t : Topic) (p : Peer) (L : Entries) → AgreesOnMessages table L → table.cache.len ≡ windows p → table.cache.gossip ≡ p.params.timing.mcache_gossip
+    → cache.announced table.cache t ≡ gossip p L t
+gossip_so table t p L agrees len most =
+    ap (last_of most_identifiers) (announced_so table t (last_kept L) (answered L) (keeping_order L) agrees)
+    ∙ ap₂ (λ (most len : ℕ). last_of most_identifiers (filter (λ (id : MsgId). is_gossiped most t (keeping len (last_kept L id))) (keeping_order L))) most len
+
+pub some_listed : (ids : List MsgId) → not (length ids == 0) ≡ is_some_list ids
+some_listed [] = refl
+some_listed (id ∷ ids) = more_than_none (length ids)

@@ -260,9 +260,16 @@ near_so ttl now window noted (Some s) is = by (nat_lt (now - s.at) ttl) is
     by true is = refl
     by false is = absurd cc
 
-pub nears : (kept : Sightings) (L : Entries) (id : MsgId) (q : PeerNo) (now window : ℕ) → AgreesOnSightings kept L → last_moment L ≤ now → is_some (seen kept.cache.ttl L id now) ≡ true
+nears : (kept : Sightings) (L : Entries) (id : MsgId) (q : PeerNo) (now window : ℕ) → AgreesOnSightings kept L → last_moment L ≤ now → is_some (seen kept.cache.ttl L id now) ≡ true
     → is_near_in q now window (what_counts kept.cache id now) ≡ (is_soon window now (last_seen L id) && not (noted L id q))
 nears kept L id q now window agrees below is =
     near_from q now window (what_counts kept.cache id now)
     ∙ ap (near_told now window) (agrees.tells id q now (omega (arith, agrees.past, below)))
     ∙ near_so kept.cache.ttl now window (noted L id q) (last_seen L id) is
+
+-- what counts of a message, as a look-up gave it
+pub nears_so : (kept : Sightings) (L : Entries) (id : MsgId) (q : PeerNo) (now window : ℕ) (s : Found) → AgreesOnSightings kept L → last_moment L ≤ now → what_counts kept.cache id now ≡ Some s
+    → is_near_in q now window (Some s) ≡ (is_soon window now (last_seen L id) && not (noted L id q))
+nears_so kept L id q now window s agrees below is =
+    ap (is_near_in q now window) (sym is)
+    ∙ nears kept L id q now window agrees below (ap is_some (sym (agrees.sees id now (omega (arith, agrees.past, below))) ∙ ap verdict_in is))

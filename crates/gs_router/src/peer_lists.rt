@@ -101,7 +101,7 @@ pub fn left_of(size: usize, peers: &[PeerNo]) -> usize
 pub fn others(alloc: Global, from: PeerNo, members: &[PeerNo]) -> Result<Vec<PeerNo>, AllocError>
     ensures { IfOk result (λ found. found.items ≡ all_but from members.now) }
 {
-    let mut others = Vec::new(alloc);
+    let mut others = Vec::with_capacity(alloc, members.len())?;
     for member in members {
         if from != *member {
             others.push(*member)?;

@@ -11,7 +11,7 @@ use Rattle.gs_params.specs.Params.{AreInRange, TopicFactorsAreInRange, TopicTimi
 use Rattle.gs_score.specs.Ranges.{RulesAreInRange}
 use Rattle.gs_score.specs.Accounts.{rules_of}
 
-found_or : {A : Type 0} (P : A → Type 0) (o : Option A) (d : A) → IfSome o P → P d → P (unwrap_or o d)
+pub found_or : {A : Type 0} (P : A → Type 0) (o : Option A) (d : A) → IfSome o P → P d → P (unwrap_or o d)
 found_or P None d found default = default
 found_or P (Some x) d found default = found
 

@@ -50,7 +50,7 @@ either_false false false h = (refl, refl)
 either_false true b h = cc
 either_false false true h = cc
 
-zeros : {A : Type 0} (f : A → ℤ) → ((t : A) → f t ≡ pos 0) → (ys : List A) → total (map f ys) ≡ pos 0
+pub zeros : {A : Type 0} (f : A → ℤ) → ((t : A) → f t ≡ pos 0) → (ys : List A) → total (map f ys) ≡ pos 0
 zeros f h [] = refl
 zeros f h (y ∷ ys) = rw (h y, zeros f h ys) refl
 
@@ -113,7 +113,7 @@ topic_cases x y (inr p) = inr (p.0, λ e. p.1 (ap (λ (t : Topic). t.0) e))
 pub topics_tell : Tells same_topic
 topics_tell x y = topic_cases x y (from_decides (same_topic x y) (slice_eq-Decides Decides-eqb x.0 y.0 (same_topic x y) refl))
 
-times_nothing : (a : ℤ) → times a (pos 0) ≡ pos 0
+pub times_nothing : (a : ℤ) → times a (pos 0) ≡ pos 0
 unfolding times
 times_nothing (pos a) = let e : a * 0 ≡ 0 = omega arith in rw e refl
 times_nothing (negsuc a) = let e : suc a * 0 ≡ 0 = omega arith in rw e refl

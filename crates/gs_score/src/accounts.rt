@@ -5,7 +5,7 @@ ghost use Rattle.gs_base.specs.declared.names.PeerNo.{PeerNo as PeerNoValue};
 ghost use Rattle.gs_base.specs.declared.names.Topic.{Topic as TopicValue};
 ghost use Rattle.gs_base.specs.declared.neighbour.Neighbour.{Neighbour as NeighbourValue};
 ghost use Rattle.gs_params.specs.Params.{AreInRange};
-ghost use Rattle.gs_score.specs.Accounts.{Covers, has_topic, held_in, topic_sum};
+ghost use Rattle.gs_score.specs.Accounts.{Covers, has_topic, held_in, misbehaviour_decay, topic_sum};
 ghost use Rattle.gs_score.specs.Counters.{most_counted, raised, read_at};
 ghost use Rattle.gs_score.specs.Ledgers.{Adds, AreFew, Blames, Keeps, has_room, Puts, account_of, misbehaviour_of, has_account, nothing_counted, standing_of, topics_of};
 ghost use Rattle.gs_score.specs.Ranges.{RulesAreInRange};
@@ -182,23 +182,43 @@ pub(crate) fn blame(
     }
 }
 
-/// The sum over topics of what each gives a neighbour, in millionths: at most 1,024 * 10^25 either way.
-pub(crate) fn sum_of(
+/// What the topics of a neighbour give together, in millionths, at most 1,024 * 10^25 either way, and how it misbehaved,
+/// in millionths: 0 to 10^12. It is looked up once.
+pub(crate) fn counts_of(
     accounts: &IndexMap<PeerNo, Account>,
     peer: PeerNo,
     params: &Params,
     tick: u64,
     now: Millis,
-) -> i128
+) -> (i128, u64)
     requires in_range { AreInRange params.now }
     requires few { AreFew accounts.now.entries }
-    ensures value { (ts : List TopicValue)
+    ensures topics { (ts : List TopicValue)
         → Covers (held_in params.now tick (topics_of accounts.now.entries peer)) ts
-        → result ≡ topic_sum params.now now.0 (held_in params.now tick (topics_of accounts.now.entries peer)) ts }
-    ensures bound { unsigned_abs result ≤ 1_024 * 10 ^ 25 }
+        → result.0 ≡ topic_sum params.now now.0 (held_in params.now tick (topics_of accounts.now.entries peer)) ts }
+    ensures bound { unsigned_abs result.0 ≤ 1_024 * 10 ^ 25 }
+    ensures misbehaviour { result.1
+        ≡ read_at (misbehaviour_decay params.now) tick (misbehaviour_of accounts.now.entries peer) }
+    ensures most { result.1 ≤ 10 ^ 12 }
 {
+    let decay = misbehaviour_decay(params);
     match accounts.get(&peer) {
-        Some(account) => account.topics.sum(params, tick, now),
-        None => 0,
+        Some(account) => {
+            let topics = account.topics.sum(params, tick, now);
+            (topics, account.misbehaviour.read(decay, tick))
+        }
+        None => (0, Counter::new().read(decay, tick)),
+    }
+}
+
+/// How misbehaviour decays.
+pub(crate) fn misbehaviour_decay(params: &Params) -> Decay
+    requires in_range { AreInRange params.now }
+    ensures value { result ≡ misbehaviour_decay params.now }
+    ensures factor { result.factor ≤ 10 ^ 6 }
+{
+    Decay {
+        factor: params.factors.p7_decay,
+        floor: params.factors.decay_to_zero,
     }
 }

@@ -74,6 +74,17 @@ impl Addresses {
         }
     }
 
+    /// Both, where the neighbour is looked up once.
+    pub(crate) fn app_and_number(&self, peer: PeerNo) -> (i128, u64)
+        ensures app { result.0 ≡ app_of self.now peer }
+        ensures number { result.1 ≡ number_with self.now peer }
+    {
+        match self.addresses.get(&peer) {
+            Some(entry) => (entry.app, number_of(&self.numbers, &entry.address)),
+            None => (0, 0),
+        }
+    }
+
     /// A neighbour counts no more at its address. It takes no memory.
     pub fn shut_out(&mut self, peer: PeerNo)
         ensures { self.new ≡ shut_out peer self.old }

@@ -1,9 +1,12 @@
-ghost use Rattle.std.specs.Prelude.{◌≡◌, ◌≤◌, ◌^◌};
-ghost use Rattle.gs_params.specs.Params.{AreInRange};
+ghost use Rattle.std.specs.Prelude.{◌≡◌, ◌≤◌, ◌^◌, ℕ, pos, false};
+ghost use Rattle.gs_base.specs.declared.names.Topic.{Topic as TopicValue};
+ghost use Rattle.gs_params.specs.Params.{AreInRange, TopicFactorsAreInRange};
+ghost use Rattle.gs_params.specs.declared.params.Params.{Params as ParamsValue};
 ghost use Rattle.gs_score.specs.Accounts.{factors_in, rules_of};
-ghost use Rattle.gs_score.specs.Formula.{is_active, p1};
+ghost use Rattle.gs_score.specs.Formula.{is_active, p1, topic_part};
 ghost use Rattle.gs_score.specs.Ranges.{RulesAreInRange};
-ghost use Rattle.gs_score.specs.Standings.{cap_of, decay_of};
+ghost use Rattle.gs_score.specs.Standings.{Held, cap_of, decay_of};
+ghost use Rattle.gs_score.specs.declared.rules.TopicRules.{TopicRules as TopicRulesValue};
 
 use crate::counter::{Decay, MOST_COUNTED};
 use crate::standing::Kind;
@@ -108,4 +111,50 @@ fn factors_of(topics: &[(Topic, TopicParams)], topic: &Topic) -> (TopicFactors, 
         }
     }
     (DEFAULT_TOPIC_FACTORS, DEFAULT_TOPIC_TIMING)
+}
+
+/// Whether what is counted on some topic weighs, by the parameters of topics. The defaults of others weigh nothing.
+pub(crate) fn any_weighs(topics: &[(Topic, TopicParams)]) -> bool
+    ensures { result ≡ false
+        → (params : ParamsValue)
+        → AreInRange params
+        → params.topics ≡ topics.now
+        → (t : TopicValue) (now : ℕ) (h : Held)
+        → topic_part (rules_of params t) now h ≡ pos 0 }
+{
+    for entry in topics {
+        if weighs(&entry.1.factors) {
+            return true;
+        }
+    }
+    false
+}
+
+/// Whether what is counted on a topic weighs: it does not under a weight of 0, nor where each counter has such a one.
+fn weighs(factors: &TopicFactors) -> bool
+    ensures { result ≡ false
+        → TopicFactorsAreInRange factors.now
+        → (r : TopicRulesValue) (now : ℕ) (h : Held)
+        → r.factors ≡ factors.now
+        → topic_part r now h ≡ pos 0 }
+{
+    if factors.topic_weight == 0 {
+        return false;
+    }
+    if factors.w1 != 0 {
+        return true;
+    }
+    if factors.w2 != 0 {
+        return true;
+    }
+    if factors.w3 != 0 {
+        return true;
+    }
+    if factors.w3b != 0 {
+        return true;
+    }
+    if factors.w4 != 0 {
+        return true;
+    }
+    false
 }

@@ -13,11 +13,11 @@ ghost use Rattle.gs_score.specs.Addresses.{shut_out};
 ghost use Rattle.gs_score.specs.Standings.{count, decay_of, grafted, pruned, raised_standing, stored};
 
 use crate::accounts::{
-    Account, blame, graft_standing, has_account, has_room, misbehaviour_of, open_accounts,
-    prune_standing, raise_standing, standing_of, sum_of,
+    Account, blame, counts_of, graft_standing, has_account, has_room, misbehaviour_decay,
+    misbehaviour_of, open_accounts, prune_standing, raise_standing, standing_of,
 };
 use crate::addresses::Addresses;
-use crate::counter::{Decay, MOST_COUNTED};
+use crate::counter::MOST_COUNTED;
 use crate::rules::TopicRules;
 use crate::score::score_of;
 use crate::standing::{Kind, Raise};
@@ -281,13 +281,8 @@ impl Scores {
             → Covers (held_by s.params H peer) topics
             → result ≡ score_in s now.0 H peer topics }
     {
-        let topics = sum_of(&self.accounts, peer, &self.params, self.tick, now);
-        let app = self.addresses.app(peer);
-        let number = self.addresses.number_with(peer);
-        let misbehaviour = misbehaviour_of(&self.accounts, peer).read(
-            misbehaviour_decay(&self.params),
-            self.tick,
-        );
+        let (topics, misbehaviour) = counts_of(&self.accounts, peer, &self.params, self.tick, now);
+        let (app, number) = self.addresses.app_and_number(peer);
         score_of(&self.params.factors, topics, app, number, misbehaviour)
     }
 
@@ -325,18 +320,6 @@ impl Scores {
     {
         let decay = misbehaviour_decay(&self.params);
         blame(&mut self.accounts, peer, ONE, decay, self.tick);
-    }
-}
-
-/// How misbehaviour decays.
-fn misbehaviour_decay(params: &Params) -> Decay
-    requires in_range { AreInRange params.now }
-    ensures value { result ≡ misbehaviour_decay params.now }
-    ensures factor { result.factor ≤ 10 ^ 6 }
-{
-    Decay {
-        factor: params.factors.p7_decay,
-        floor: params.factors.decay_to_zero,
     }
 }
 

@@ -8,7 +8,7 @@ ghost use Rattle.gs_score.specs.Accounts.{AddsTopic, Covers, KeepsTopics, has_to
 ghost use Rattle.gs_score.specs.Ranges.{RulesAreInRange};
 ghost use Rattle.gs_score.specs.Standings.{grafted, pruned, raised_by};
 
-use crate::rules::TopicRules;
+use crate::rules::{TopicRules, any_weighs};
 use crate::standing::{Raise, Standing};
 use gs_base::{MOST_TOPICS, Millis, Topic, clone_of};
 use gs_params::Params;
@@ -61,7 +61,8 @@ impl TopicStandings {
     pub fn has_room(&self, topic: &Topic) -> bool
         ensures { result ≡ (has_topic self.now topic.now || nat_lt (length self.now) most_topics) }
     {
-        self.standings.get(topic).is_some() || self.standings.len() < MOST_TOPICS
+        let has_few = self.standings.len() < MOST_TOPICS;
+        has_few || self.standings.get(topic).is_some()
     }
 
     /// Raises a counter on a topic, as it is at a tick, up to its cap. It takes memory only where it had nothing on the
@@ -128,6 +129,9 @@ impl TopicStandings {
             → result ≡ topic_sum params.now now.0 (held_in params.now tick self.now) ts }
         ensures bound { unsigned_abs result ≤ 1_024 * 10 ^ 25 }
     {
+        if !any_weighs(params.topics.as_slice()) {
+            return 0;
+        }
         sum_of(&self.standings, params, tick, now)
     }
 }

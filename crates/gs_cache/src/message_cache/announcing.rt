@@ -1,5 +1,5 @@
 //! Which messages are announced.
-ghost use Rattle.std.specs.Prelude.{◌≡◌, ◌++◌, [], ◌∷◌, filter, OnOk, IfOk};
+ghost use Rattle.std.specs.Prelude.{◌≡◌, ◌==◌, ◌++◌, [], ◌∷◌, filter, if◌then◌else◌, length, not, OnOk, IfOk};
 ghost use Rattle.std.specs.List.{list_any};
 ghost use Rattle.gs_cache.specs.CachedMessages.{last_of, most_announced};
 ghost use Rattle.gs_cache.specs.Windows.{announced_in, has, is_listed, is_listed_at, listed, placed};
@@ -57,6 +57,37 @@ fn keep_last(ids: &mut Vec<MsgId>)
     ids.truncate(kept);
 }
 
+/// Whether anything of the newest so many windows is announced on a topic.
+pub fn announces_any(windows: &[Window], gossip: usize, topic: &Topic) -> bool
+    ensures { result ≡ not (length (announced_in 0 gossip topic.now windows.now) == 0) }
+{
+    let end = gossip.min(windows.len());
+    for age in 0..end {
+        let listing = Listing {
+            window: &windows[age],
+            newer: &windows[..age],
+            topic,
+        };
+        if lists_any(listing) {
+            return true;
+        }
+    }
+    false
+}
+
+/// Whether any identifier of a window is announced.
+fn lists_any(listing: Listing<'_>) -> bool
+    ensures { result
+        ≡ not (length (listed listing.entry.newer.now listing.entry.window.now listing.entry.topic.now) == 0) }
+{
+    for place in 0..listing.window.order.len() {
+        if lists(listing, place, &listing.window.order[place]) {
+            return true;
+        }
+    }
+    false
+}
+
 /// Lists the identifiers of a window that are announced.
 ///
 /// # Errors
@@ -86,14 +117,20 @@ fn list_one(
         ++ filter (is_listed listing.entry.newer.now listing.entry.window.now listing.entry.topic.now)
         (placed listing.entry.window.now.puts.entries place (id.now ∷ []))) }
 {
-    if !is_placed_on(listing.window, listing.topic, place, id) {
+    if lists(listing, place, id) {
+        ids.push(*id)?;
         return Ok(());
     }
-    if any_has(listing.newer, id) {
-        return Ok(());
-    }
-    ids.push(*id)?;
     Ok(())
+}
+
+/// Whether an identifier that stands at a place of a window is announced.
+fn lists(listing: Listing<'_>, place: usize, id: &MsgId) -> bool
+    ensures { filter (is_listed listing.entry.newer.now listing.entry.window.now listing.entry.topic.now)
+        (placed listing.entry.window.now.puts.entries place (id.now ∷ []))
+        ≡ (if result then id.now ∷ [] else []) }
+{
+    is_placed_on(listing.window, listing.topic, place, id) && !any_has(listing.newer, id)
 }
 
 /// Whether the last put of a message in a window was at a place, and on a topic.

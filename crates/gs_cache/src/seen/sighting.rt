@@ -17,7 +17,7 @@ pub struct Sighting {
 
 impl Sighting {
     /// Whether it is at most `window` milliseconds old, and the neighbour was not noted since.
-    pub(crate) fn is_near(&self, peer: PeerNo, now: Millis, window: Millis) -> bool
+    pub fn is_near(&self, peer: PeerNo, now: Millis, window: Millis) -> bool
         ensures { result ≡ is_near_in peer now.0 window.0 (Some self.now) }
     {
         now.0.saturating_sub(self.at.0) <= window.0 && !self.noted.as_slice().contains(&peer)

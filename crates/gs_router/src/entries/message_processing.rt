@@ -1,15 +1,16 @@
 //! What becomes of a message that a neighbour passed on (gossipsub v1.0, "Message Processing").
-ghost use Rattle.std.specs.Prelude.{◌≡◌, ◌++◌, [], ◌∷◌, Some, IfOk, is_some, true};
+ghost use Rattle.std.specs.Prelude.{◌≡◌, ◌++◌, [], ◌∷◌, Some, IfOk};
 ghost use Rattle.std.specs.Map.{lookup};
+ghost use Rattle.gs_base.specs.declared.names.MsgId.{MsgId as MsgIdValue};
 ghost use Rattle.gs_base.specs.Names.{message_id, payload_of, same_topic, topic_of, topic_or_empty};
 ghost use Rattle.gs_base.specs.Rpcs.{passed_on};
 ghost use Rattle.gs_base.specs.declared.verdict.Verdict.TheVariants.{Accept, Reject};
 ghost use Rattle.gs_base.specs.declared.mark.Mark.TheVariants as marks;
+ghost use Rattle.gs_cache.specs.Sightings.{what_counts};
 ghost use Rattle.gs_mesh.specs.Peers.{without as all_but};
 ghost use Rattle.gs_score.specs.Accounts.{params_in};
 ghost use Rattle.gs_rules.specs.declared.outcome.Outcome.TheVariants.{Accepted};
-ghost use Rattle.gs_rules.specs.Peers.{seen_ttl};
-ghost use Rattle.gs_rules.specs.Tables.{Entries, seen};
+ghost use Rattle.gs_rules.specs.Tables.{Entries};
 ghost use Rattle.gs_rules.specs.Meshes.{mesh};
 ghost use Rattle.gs_rules.specs.Rules.{explicit_listeners, to_each, together_with};
 ghost use Rattle.gs_rules.specs.Outcomes.{again, begins_with_one, found_to_be, is_near, message_entry, message_rule, near_of, near_window, outcome, verdict_by, verdict_on};
@@ -22,7 +23,7 @@ use crate::known::Known;
 use crate::peer_lists::{others, together_with};
 use bytes::Bytes;
 use gs_base::{Mark, Message, Millis, MsgId, PeerNo, Rpc, Seq, Shared, Topic, Verdict};
-use gs_cache::Payloads;
+use gs_cache::{Payloads, Sighting};
 use gs_params::{DEFAULT_TOPIC_TIMING, TopicParams};
 use gs_rules::{Entry, Event, Outcome};
 use std::alloc::{AllocError, Global};
@@ -46,10 +47,12 @@ fn outcome_of(
         return Outcome::Invalid;
     }
     let id = identifier_of(payloads, message);
-    match known.tables.sightings.verdict(&id, now) {
-        Some(Verdict::Accept) => repeated(known, from, message, id, now),
-        Some(Verdict::Reject) => Outcome::Invalid,
-        Some(Verdict::Ignore) => Outcome::Dropped,
+    match known.tables.sightings.lately(&id, now) {
+        Some(sighting) => match sighting.verdict {
+            Verdict::Accept => again(id, is_near(known, from, &message.topic, sighting, now)),
+            Verdict::Reject => Outcome::Invalid,
+            Verdict::Ignore => Outcome::Dropped,
+        },
         None => unknown(known, message, id),
     }
 }
@@ -63,14 +66,11 @@ fn identifier_of(payloads: &mut Payloads, message: &Message) -> MsgId
     }
 }
 
-/// What becomes of a message with this identifier, which was accepted lately.
-fn repeated(known: &Known, from: PeerNo, message: &Message, id: MsgId, now: Millis) -> Outcome
-    ensures { (L : Entries)
-        → Knows known.now now.0 L
-        → is_some (seen (seen_ttl (peer_with known.now.setup)) L id now.0) ≡ true
-        → result ≡ again id (is_near (peer_with known.now.setup) L now.0 from (topic_of message.now) id) }
+/// What becomes of a message with this identifier, which was accepted lately and is near or is not.
+fn again(id: MsgId, is_near: bool) -> Outcome
+    ensures { result ≡ again id is_near }
 {
-    if is_near(known, from, &message.topic, &id, now) {
+    if is_near {
         return Outcome::Near(id);
     }
     Outcome::Dropped
@@ -78,30 +78,36 @@ fn repeated(known: &Known, from: PeerNo, message: &Message, id: MsgId, now: Mill
 
 /// Whether a neighbour is in the mesh of a topic that is named, passes on what was seen a moment ago, and did not do so
 /// before.
-fn is_near(known: &Known, from: PeerNo, topic: &Option<Topic>, id: &MsgId, now: Millis) -> bool
-    ensures { (L : Entries)
+fn is_near(
+    known: &Known,
+    from: PeerNo,
+    topic: &Option<Topic>,
+    sighting: &Sighting,
+    now: Millis,
+) -> bool
+    ensures { (L : Entries) (id : MsgIdValue)
         → Knows known.now now.0 L
-        → is_some (seen (seen_ttl (peer_with known.now.setup)) L id.now now.0) ≡ true
-        → result ≡ is_near (peer_with known.now.setup) L now.0 from (topic_or_empty topic.now) id.now }
+        → what_counts known.now.tables.sightings.cache id now.0 ≡ Some sighting.now
+        → result ≡ is_near (peer_with known.now.setup) L now.0 from (topic_or_empty topic.now) id }
 {
     match topic {
-        Some(topic) => is_near_on(known, from, topic, id, now),
-        None => is_near_on(known, from, &Topic(Bytes::new()), id, now),
+        Some(topic) => is_near_on(known, from, topic, sighting, now),
+        None => is_near_on(known, from, &Topic(Bytes::new()), sighting, now),
     }
 }
 
 /// `is_near` on a topic that is there.
-fn is_near_on(known: &Known, from: PeerNo, topic: &Topic, id: &MsgId, now: Millis) -> bool
-    ensures { (L : Entries)
+fn is_near_on(known: &Known, from: PeerNo, topic: &Topic, sighting: &Sighting, now: Millis) -> bool
+    ensures { (L : Entries) (id : MsgIdValue)
         → Knows known.now now.0 L
-        → is_some (seen (seen_ttl (peer_with known.now.setup)) L id.now now.0) ≡ true
-        → result ≡ is_near (peer_with known.now.setup) L now.0 from topic.now id.now }
+        → what_counts known.now.tables.sightings.cache id now.0 ≡ Some sighting.now
+        → result ≡ is_near (peer_with known.now.setup) L now.0 from topic.now id }
 {
     known.tables.memberships.is_member(from, topic)
         && known
             .tables
             .sightings
-            .is_near(id, from, now, near_window(known, topic))
+            .is_near(sighting, from, now, near_window(known, topic))
 }
 
 /// For how long after the first delivery of a message on a topic another one counts.

@@ -177,21 +177,18 @@ impl State {
         let all = self.known.tables.mesh_topics.list(self.known.alloc)?;
         let mut topics = Vec::new(self.known.alloc);
         for topic in all.as_slice() {
-            if self.has_gossip(topic)? {
+            if self.has_gossip(topic) {
                 topics.push(clone_of(topic)?)?;
             }
         }
         Ok(topics)
     }
 
-    /// Whether there is something to gossip on a topic. It is listed again when its turn comes, so that no list of
-    /// identifiers waits meanwhile.
-    fn has_gossip(&self, topic: &Topic) -> Result<bool, AllocError>
+    /// Whether there is something to gossip on a topic, which is listed when its turn comes.
+    fn has_gossip(&self, topic: &Topic) -> bool
         requires { IsCurrent self.now }
-        ensures { IfOk result (λ some. some
-            ≡ is_some_list (gossip (peer_of self.now) self.now.trace topic.now)) }
+        ensures { result ≡ is_some_list (gossip (peer_of self.now) self.now.trace topic.now) }
     {
-        let ids = self.known.tables.messages.gossip_ids(topic)?;
-        Ok(!ids.is_empty())
+        self.known.tables.messages.has_gossip(topic)
     }
 }

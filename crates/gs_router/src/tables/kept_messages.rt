@@ -5,6 +5,7 @@ ghost use Rattle.gs_rules.specs.declared.trace.Entry.{Entry as EntryValue};
 ghost use Rattle.gs_rules.specs.Peers.{Peer, windows};
 ghost use Rattle.gs_rules.specs.Tables.{Entries, Keeping, answered_after, kept, kept_after, message_in, order_after};
 ghost use Rattle.gs_rules.specs.Gossip.{gossip};
+ghost use Rattle.gs_rules.specs.Owed.{is_some_list};
 ghost use Rattle.gs_router.specs.Tables.{AgreesOnMessages, HasKept, IsMadeAlike, answers_left, unmarked};
 
 use gs_base::{Mark, Message, MsgId, PeerNo, Seq, Shared, Topic, clone_of};
@@ -79,6 +80,17 @@ impl Messages {
     {
         let ids = self.cache.gossip_ids(topic)?;
         Ok(ids)
+    }
+
+    /// Whether anything is gossiped on a topic. It takes no memory.
+    pub fn has_gossip(&self, topic: &Topic) -> bool
+        ensures { (p : Peer) (L : Entries)
+            → AgreesOnMessages self.now L
+            → self.now.cache.len ≡ windows p
+            → self.now.cache.gossip ≡ p.params.timing.mcache_gossip
+            → result ≡ is_some_list (gossip p L topic.now) }
+    {
+        self.cache.has_gossip(topic)
     }
 
     /// Notes that an event came: the end of a heartbeat makes all that is kept older. It takes no memory.

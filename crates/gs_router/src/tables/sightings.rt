@@ -1,13 +1,15 @@
-ghost use Rattle.std.specs.Prelude.{◌≡◌, ◌≤◌, ℕ, true, not, ◌&&◌, [], ◌∷◌, OnOk, is_some};
+ghost use Rattle.std.specs.Prelude.{◌≡◌, ◌≤◌, ℕ, not, ◌&&◌, [], ◌∷◌, Some, OnOk, is_some};
+ghost use Rattle.std.specs.Option.{option_copied};
 ghost use Rattle.gs_base.specs.declared.names.MsgId.{MsgId as MsgIdValue};
 ghost use Rattle.gs_base.specs.declared.names.PeerNo.{PeerNo as PeerNoValue};
+ghost use Rattle.gs_cache.specs.Sightings.{verdict_in, what_counts};
 ghost use Rattle.gs_rules.specs.Tables.{Entries, last_moment, last_seen, seen};
 ghost use Rattle.gs_rules.specs.Meshes.{noted, notes};
 ghost use Rattle.gs_rules.specs.Outcomes.{is_soon};
 ghost use Rattle.gs_router.specs.Tables.{AgreesOnSightings, neighbour_sighting, neighbour_sighting_after, noted_if, PassesOn, Sees};
 
-use gs_base::{Mark, Millis, MsgId, PeerNo, Verdict};
-use gs_cache::SeenCache;
+use gs_base::{Mark, Millis, MsgId, PeerNo};
+use gs_cache::{SeenCache, Sighting};
 use gs_rules::Entry;
 use std::alloc::{AllocError, Global};
 
@@ -38,26 +40,28 @@ impl Sightings {
         self.cache.seen(id, now).is_some()
     }
 
-    /// What a message was found to be, where it was seen lately.
-    pub fn verdict(&self, id: &MsgId, now: Millis) -> Option<Verdict>
-        ensures { (L : Entries)
+    /// The last sighting of a message, where it was seen lately. One look-up says what the message was found to be,
+    /// and whether it is near.
+    pub fn lately(&self, id: &MsgId, now: Millis) -> Option<&Sighting>
+        ensures counts { option_copied result ≡ what_counts self.now.cache id.now now.0 }
+        ensures sees { (L : Entries)
             → AgreesOnSightings self.now L
             → last_moment L ≤ now.0
-            → result ≡ seen self.now.cache.ttl L id.now now.0 }
+            → verdict_in (option_copied result) ≡ seen self.now.cache.ttl L id.now now.0 }
     {
-        self.cache.seen(id, now)
+        self.cache.counting(id, now)
     }
 
-    /// Whether a message that was seen lately was first seen at most so many milliseconds ago, and a neighbour was not
-    /// noted for it since.
-    pub fn is_near(&self, id: &MsgId, peer: PeerNo, now: Millis, window: Millis) -> bool
-        ensures { (L : Entries)
+    /// Whether a sighting that counts is at most so many milliseconds old, and a neighbour was not noted for its
+    /// message since.
+    pub fn is_near(&self, sighting: &Sighting, peer: PeerNo, now: Millis, window: Millis) -> bool
+        ensures { (L : Entries) (id : MsgIdValue)
             → AgreesOnSightings self.now L
             → last_moment L ≤ now.0
-            → is_some (seen self.now.cache.ttl L id.now now.0) ≡ true
-            → result ≡ (is_soon window.0 now.0 (last_seen L id.now) && not (noted L id.now peer)) }
+            → what_counts self.now.cache id now.0 ≡ Some sighting.now
+            → result ≡ (is_soon window.0 now.0 (last_seen L id) && not (noted L id peer)) }
     {
-        self.cache.is_near(id, peer, now, window)
+        sighting.is_near(peer, now, window)
     }
 
     /// Notes an entry, which comes no earlier than those before it. Whichever order its marks have, neighbours are noted

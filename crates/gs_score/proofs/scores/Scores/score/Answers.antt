@@ -12,7 +12,7 @@ use Rattle.gs_score.proofs.scores.Scores.score.Goals as goal
 
 pub score_of-requires-clause-number : goal.score_of-requires-clause-number
 score_of-requires-clause-number c =
-    omega (arith, c.number_with-number.ensures, number_within c.self.inside.addresses c.args.peer, c.self.invariant.addresses)
+    omega (arith, c.app_and_number-app.ensures.number, number_within c.self.inside.addresses c.args.peer, c.self.invariant.addresses)
 
 pub returns : goal.returns
 returns c = λ s H topics a covers.
@@ -20,15 +20,14 @@ returns c = λ s H topics a covers.
     let k : Kept = record { params = old.params; addresses = old.addresses; accounts = old.accounts.entries; tick = old.tick } in
     let p = c.args.peer in
     let agrees : Agrees s k H = subst (λ x. Agrees s x H) (sym c.self.view_is) a in
-    let misbehaviour : c.read-misbehaviour.result ≡ read_at (misbehaviour_decay k.params) k.tick (misbehaviour_of k.accounts p)
-    = c.read-misbehaviour.ensures.value ∙ rw (c.misbehaviour_decay.ensures.value, c.misbehaviour_of.ensures) refl in
-    let app : c.app-app.result ≡ app_of k.addresses p = c.app-app.ensures in
-    let small : unsigned_abs c.app-app.result ≤ 10 ^ 12 = rw app (c.self.invariant.apps p) in
+    let misbehaviour : c.counts_of-topics.result.1 ≡ read_at (misbehaviour_decay k.params) k.tick (misbehaviour_of k.accounts p) = c.counts_of-topics.ensures.misbehaviour in
+    let app : c.app_and_number-app.result.0 ≡ app_of k.addresses p = c.app_and_number-app.ensures.app in
+    let small : unsigned_abs c.app_and_number-app.result.0 ≤ 10 ^ 12 = rw app (c.self.invariant.apps p) in
     let as_numbers
-    : score_of k.params.factors (coded c.sum_of-topics.result) (coded c.app-app.result) c.number_with-number.result c.read-misbehaviour.result
-    ≡ score_of k.params.factors c.sum_of-topics.result (app_of k.addresses p) (number_with k.addresses p) (read_at (misbehaviour_decay k.params) k.tick (misbehaviour_of k.accounts p))
-    = rw (back c.sum_of-topics.result (1_024 * 10 ^ 25) c.sum_of-topics.ensures.bound (lit< tt), back c.app-app.result (10 ^ 12) small (lit< tt), app, c.number_with-number.ensures, misbehaviour) refl in
+    : score_of k.params.factors (coded c.counts_of-topics.result.0) (coded c.app_and_number-app.result.0) c.app_and_number-app.result.1 c.counts_of-topics.result.1
+    ≡ score_of k.params.factors c.counts_of-topics.result.0 (app_of k.addresses p) (number_with k.addresses p) (read_at (misbehaviour_decay k.params) k.tick (misbehaviour_of k.accounts p))
+    = rw (back c.counts_of-topics.result.0 (1_024 * 10 ^ 25) c.counts_of-topics.ensures.bound (lit< tt), back c.app_and_number-app.result.0 (10 ^ 12) small (lit< tt), app, c.app_and_number-app.ensures.number, misbehaviour) refl in
     back c.score_of.result (10 ^ 30) c.score_of.ensures.bound (lit< tt)
     ∙ c.score_of.ensures.value
     ∙ as_numbers
-    ∙ score_says s k H p c.args.now.0 topics c.sum_of-topics.result agrees covers c.sum_of-topics.ensures.value
+    ∙ score_says s k H p c.args.now.0 topics c.counts_of-topics.result.0 agrees covers c.counts_of-topics.ensures.topics

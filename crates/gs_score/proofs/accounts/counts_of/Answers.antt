@@ -6,13 +6,13 @@ use Rattle.gs_score.specs.declared.standing.Standing.{Standing}
 use Rattle.gs_score.specs.Accounts.{Covers, held_in, topic_sum}
 use Rattle.gs_score.specs.Ledgers.{nothing_counted, topics_of}
 use Rattle.gs_score.proofs.Accounting.{few_of, sum_of_none}
-use Rattle.gs_score.proofs.accounts.sum_of.Goals as goal
+use Rattle.gs_score.proofs.accounts.counts_of.Goals as goal
 
-pub sum-requires-clause-few : goal.sum-requires-clause-few
-sum-requires-clause-few c = few_of c.args.accounts.now.entries c.args.peer c.in-Some.account.now (sym c.in-Some.ensures.value) c.requires.few
+pub sum-topics-requires-clause-few : goal.sum-topics-requires-clause-few
+sum-topics-requires-clause-few c = few_of c.args.accounts.now.entries c.args.peer c.in-Some.account.now (sym c.in-Some.ensures.value) c.requires.few
 
-pub returns-in-None-clause-value : goal.returns-in-None-clause-value
-returns-in-None-clause-value c =
+pub returns-in-None-clause-topics : goal.returns-in-None-clause-topics
+returns-in-None-clause-topics c =
     let params = c.args.params.now in
     let none : topics_of c.args.accounts.now.entries c.args.peer ≡ [] = ap (λ (o : Option Account). (unwrap_or o nothing_counted).topics) (sym c.in-None.ensures.value) in
     subst
