@@ -1,10 +1,13 @@
-//! Makes each call that can want memory, of the caches, scores, meshes, codec and reader. For each of them it writes a
-//! line, `right` where all that is seen is allowed. It is run with one growth of its memory refused after the other.
+//! Makes each call that can want memory, of the caches, scores, meshes, codec and reader, and has routers do what they do
+//! at some moments. For each of these it writes a line, `right` where all that is seen is allowed. It is run with one growth
+//! of its memory refused after the other.
 #![tactic(auto)]
 
 mod frames;
 mod meshes;
 mod messages;
+mod moments;
+mod routers;
 mod seen;
 mod sightings;
 mod standings;
@@ -12,6 +15,8 @@ mod standings;
 use crate::frames::{try_codec, try_reader};
 use crate::meshes::try_meshes;
 use crate::messages::try_messages;
+use crate::moments::{A_BACKOFF, GRAFTS, Moment, OFFERS};
+use crate::routers::try_moment;
 use crate::sightings::try_sightings;
 use crate::standings::try_standings;
 use std::alloc::Global;
@@ -27,7 +32,16 @@ fn tell_parts<W: Write>(alloc: Global, output: &mut W) {
     try_meshes(alloc).tell(output, "meshes");
 }
 
+/// Tries routers.
+fn tell_routers<W: Write>(alloc: Global, output: &mut W) {
+    let moments: [&Moment; 3] = [&A_BACKOFF, &OFFERS, &GRAFTS];
+    for moment in moments {
+        try_moment(alloc, moment).tell(output, moment.name);
+    }
+}
+
 fn main(rt: HostRuntime) {
     let mut output = rt.stdout();
     tell_parts(rt.alloc(), &mut output);
+    tell_routers(rt.alloc(), &mut output);
 }

@@ -13,42 +13,49 @@ enum Act {
     Publish(u64),
 }
 
-static ACTS: [Act; 9] = [
+/// Each list grows while the others hold something.
+static ACTS: [Act; 15] = [
     Act::Fan(2),
     Act::Fan(1),
     Act::Publish(500),
     Act::Join,
-    Act::Backoff(1, 900),
     Act::Graft(2),
-    Act::Graft(1),
     Act::Backoff(2, 900),
-    Act::Backoff(1, 950),
+    Act::Graft(1),
+    Act::Backoff(1, 900),
+    Act::Backoff(2, 950),
+    Act::Graft(3),
+    Act::Graft(4),
+    Act::Graft(5),
+    Act::Fan(3),
+    Act::Fan(4),
+    Act::Fan(5),
 ];
 
-/// What meshes tell of a topic and two neighbours.
+/// What meshes tell of a topic, and of the two neighbours that have backoffs.
 #[derive(Clone, Copy, Debug, PartialEq, Eq)]
 struct Reading {
     is_joined: bool,
-    members: (usize, bool, bool),
-    fanout: (usize, bool, bool),
+    members: u64,
+    fanout: u64,
     last_published: Option<Millis>,
     backoffs: (Millis, Millis),
 }
 
-/// How many are in a list, and whether two neighbours are.
-fn who_is_in(list: &[PeerNo]) -> (usize, bool, bool) {
-    (
-        list.len(),
-        list.contains(&PeerNo(1)),
-        list.contains(&PeerNo(2)),
-    )
+/// The numbers of a list, in order, as the digits of one number: each is below 10.
+fn digits_of(list: &[PeerNo]) -> u64 {
+    let mut digits = 0u64;
+    for peer in list {
+        digits = digits.wrapping_mul(10).wrapping_add(u64::from(peer.0));
+    }
+    digits
 }
 
 fn told(meshes: &Meshes, topic: &Topic) -> Reading {
     Reading {
         is_joined: meshes.is_joined(topic),
-        members: who_is_in(meshes.members(topic)),
-        fanout: who_is_in(meshes.fanout(topic)),
+        members: digits_of(meshes.members(topic)),
+        fanout: digits_of(meshes.fanout(topic)),
         last_published: meshes.last_published(topic),
         backoffs: (
             meshes.backoff_until(PeerNo(1), topic),

@@ -1,7 +1,7 @@
 //! Which messages are kept.
 use crate::seen::Seen;
 use bytes::Bytes;
-use gs_base::{Message, MsgId, PeerNo, Shared, Topic};
+use gs_base::{Message, MsgId, PeerNo, Seq, Shared, Topic};
 use gs_cache::{Answer, MessageCache};
 use std::alloc::{AllocError, Global};
 
@@ -26,14 +26,13 @@ static ACTS: [Act; 9] = [
 /// What a cache tells of a message and a neighbour: whether it is kept, and how many answers are left.
 type Kept = (bool, u64);
 
-/// What a cache tells of three messages and two neighbours.
-#[derive(Clone, Copy, Debug, PartialEq, Eq)]
+/// What a cache tells of three messages and two neighbours, and what it announces.
+#[derive(Debug, Drop, PartialEq, Eq)]
 struct Reading {
     first: (Kept, Kept),
     second: (Kept, Kept),
     third: (Kept, Kept),
-    /// How many are announced, and the first and the last of them.
-    announced: (usize, Option<MsgId>, Option<MsgId>),
+    announced: Seq<MsgId>,
 }
 
 fn id(number: u8) -> MsgId {
@@ -53,13 +52,12 @@ fn kept_for_both(cache: &MessageCache, number: u8) -> (Kept, Kept) {
 }
 
 fn told(cache: &MessageCache, topic: &Topic) -> Result<Reading, AllocError> {
-    let ids = cache.gossip_ids(topic)?;
-    let list = ids.as_slice();
+    let announced = cache.gossip_ids(topic)?;
     Ok(Reading {
         first: kept_for_both(cache, 1),
         second: kept_for_both(cache, 2),
         third: kept_for_both(cache, 3),
-        announced: (list.len(), list.first().copied(), list.last().copied()),
+        announced,
     })
 }
 

@@ -7,18 +7,22 @@ use gs_cache::SeenCache;
 use std::alloc::{AllocError, Global};
 
 /// Marks and notes of messages, by a number, at the moment 0.
+#[derive(Clone, Copy)]
 enum Act {
     Mark(u8, Verdict),
     Note(u8, u16),
 }
 
-static ACTS: [Act; 7] = [
+static ACTS: [Act; 10] = [
     Act::Mark(1, Verdict::Accept),
     Act::Note(1, 1),
     Act::Mark(2, Verdict::Reject),
     Act::Mark(3, Verdict::Ignore),
     Act::Note(2, 1),
     Act::Note(1, 2),
+    Act::Note(1, 3),
+    Act::Note(1, 4),
+    Act::Note(1, 5),
     Act::Mark(1, Verdict::Ignore),
 ];
 
@@ -83,6 +87,10 @@ pub fn try_sightings(alloc: Global) -> Seen {
     let mut seen = Seen::Whole;
     for act in &ACTS {
         seen = seen.and(try_one(&mut cache, act));
+    }
+    // (so many that the table grows while it holds the first ones)
+    for number in 4..100u8 {
+        seen = seen.and(try_one(&mut cache, &Act::Mark(number, Verdict::Accept)));
     }
     seen
 }

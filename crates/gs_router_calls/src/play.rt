@@ -83,21 +83,11 @@ fn answers(
 
 /// A router of a case, the words by which it chooses, and what it answered last.
 #[derive(Drop)]
-struct Player {
+pub struct Player {
     alloc: Global,
     router: Router,
     words: SeededWords,
     answered: String,
-}
-
-fn player_of(alloc: Global, case: &Case<'_>) -> Result<Player, AllocError> {
-    let words = SeededWords::new(case.words.to_vec(alloc)?, 1, PeerNo(0));
-    Ok(Player {
-        alloc,
-        router: router_of(alloc, case)?,
-        words,
-        answered: String::new(alloc),
-    })
 }
 
 /// Adds the number with which a call was refused, if it was.
@@ -109,9 +99,32 @@ fn say_refusal(shown: &mut Shown, answer: Answer) -> Result<(), AllocError> {
 }
 
 impl Player {
+    /// One that has done nothing.
+    pub fn new(alloc: Global, case: &Case<'_>) -> Result<Player, AllocError> {
+        let words = SeededWords::new(case.words.to_vec(alloc)?, 1, PeerNo(0));
+        Ok(Player {
+            alloc,
+            router: router_of(alloc, case)?,
+            words,
+            answered: String::new(alloc),
+        })
+    }
+
+    pub fn router(&self) -> &Router {
+        &self.router
+    }
+
+    /// Has the router do an act that is one call, and gives what that answers.
+    ///
+    /// # Errors
+    /// `AllocError` where there was no memory for what the call takes, or the act is no call that may come now.
+    pub fn answer(&mut self, now: Millis, act: Act<'_>) -> Result<Answer, AllocError> {
+        once(self.alloc, &mut self.router, now, act, &mut self.words)
+    }
+
     /// Has the router do this, and adds what is refused.
     fn call(&mut self, shown: &mut Shown, now: Millis, act: Act<'_>) -> Result<(), AllocError> {
-        let answer = once(self.alloc, &mut self.router, now, act, &mut self.words)?;
+        let answer = self.answer(now, act)?;
         say_refusal(shown, answer)
     }
 
@@ -198,7 +211,7 @@ fn differing(alloc: Global, place: usize, came: &str, wanted: &str) -> Result<Ou
 /// Plays a case up to the first step of which something else is seen: what was seen of it, and what was to be seen. Both are
 /// empty where there is none.
 pub fn played(alloc: Global, case: &Case<'_>) -> Result<Outcome, AllocError> {
-    let mut player = player_of(alloc, case)?;
+    let mut player = Player::new(alloc, case)?;
     let outcome = first_wrong(&mut player, case);
     drop(player);
     outcome
@@ -268,7 +281,7 @@ pub fn wanted_of(alloc: Global, case: &Case<'_>) -> Result<String, AllocError> {
 
 /// All entries of the trace that the router of a case leaves, as text.
 pub fn left_by(alloc: Global, case: &Case<'_>) -> Result<String, AllocError> {
-    let mut player = player_of(alloc, case)?;
+    let mut player = Player::new(alloc, case)?;
     all_steps(&mut player, case)?;
     let Player { router, .. } = player;
     let trace = router.into_trace();

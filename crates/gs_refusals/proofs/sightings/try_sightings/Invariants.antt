@@ -3,3 +3,6 @@ use Rattle.gs_refusals.proofs.sightings.try_sightings.Given as goal
 
 abbrev pub invariant-loop-act : goal.invariant-loop-act
 invariant-loop-act l = l.cache.moment ≡ 0
+
+abbrev pub invariant-loop-number : goal.invariant-loop-number
+invariant-loop-number l = l.cache.moment ≡ 0

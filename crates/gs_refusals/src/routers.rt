@@ -1,0 +1,221 @@
+//! Routers: two that do the same, of whom the second may be short of memory.
+use crate::moments::{Ends, Moment};
+use crate::seen::Seen;
+use gs_base::{Mark, Millis, PeerNo, Seq, Topic};
+use gs_router::{Router, RouterFault};
+use gs_router_calls::Act::{
+    Decay, EndRound, Fault, Gone, HangUp, Hear, Heartbeat, Publish, Raw, Shut, Subscribe,
+    Unsubscribe,
+};
+use gs_router_calls::{Act, Case, Player, Said};
+use gs_rules::{Entry, Refusal};
+use std::alloc::{AllocError, Global};
+
+/// Each call of a router; some of them may also be refused for another reason, and some have nothing to do.
+static CALLS: [Act<'static>; 15] = [
+    Hear(1, &[Said::On("a")]),
+    Hear(99, &[Said::On("a")]),
+    Subscribe("b"),
+    Subscribe("a"),
+    Unsubscribe("a"),
+    Publish("a", b"xyz"),
+    HangUp(1),
+    HangUp(99),
+    Raw(1, &[0]),
+    Gone(1),
+    Fault(1),
+    Heartbeat,
+    Decay,
+    EndRound(0),
+    Shut,
+];
+
+/// The most neighbours that a case has.
+static NEIGHBOURS: [u16; 13] = [1, 2, 3, 4, 5, 6, 7, 8, 9, 10, 11, 12, 13];
+
+// ---- what a router tells
+
+/// What a router tells of itself, beside its entries.
+#[derive(Debug, Drop, PartialEq, Eq)]
+struct Reading {
+    entries: usize,
+    last_moment: Millis,
+    ups: u64,
+    scores: Seq<(PeerNo, i128)>,
+    meshes: Seq<(Topic, PeerNo)>,
+}
+
+/// Which neighbours are up, as the digits of a number.
+fn ups_of(router: &Router) -> u64 {
+    let mut digits = 0u64;
+    for number in &NEIGHBOURS {
+        digits = digits
+            .wrapping_mul(2)
+            .wrapping_add(u64::from(router.is_up(PeerNo(*number))));
+    }
+    digits
+}
+
+fn told(router: &Router, now: Millis) -> Result<Reading, AllocError> {
+    Ok(Reading {
+        entries: router.trace().entries().len(),
+        last_moment: router.last_moment(),
+        ups: ups_of(router),
+        scores: router.scores(now)?,
+        meshes: router.meshes()?,
+    })
+}
+
+/// How many RPCs entries send.
+fn sends_in(entries: &[Entry]) -> usize {
+    let mut count = 0usize;
+    for entry in entries {
+        count = count.saturating_add(entry.sends.len());
+    }
+    count
+}
+
+/// How often an entry charges a neighbour for its behaviour.
+fn charges_of(entry: &Entry) -> usize {
+    let mut count = 0usize;
+    for mark in entry.marks.as_slice() {
+        if let Mark::Misbehaviour(_) = mark {
+            count = count.saturating_add(1);
+        }
+    }
+    count
+}
+
+fn charges_in(entries: &[Entry]) -> usize {
+    let mut count = 0usize;
+    for entry in entries {
+        count = count.saturating_add(charges_of(entry));
+    }
+    count
+}
+
+/// Whether these are the members of meshes, in order.
+fn are_members(meshes: &[(Topic, PeerNo)], numbers: &[u16]) -> bool {
+    let pairs = meshes.iter().zip(numbers);
+    let mut are = meshes.len() == numbers.len();
+    for ((_, peer), number) in pairs {
+        are = are && peer.0 == *number;
+    }
+    are
+}
+
+fn has_ended(router: &Router, ends: &Ends) -> Result<bool, AllocError> {
+    let entries = router.trace().entries();
+    let meshes = router.meshes()?;
+    let are_sent = sends_in(entries) == ends.sends && charges_in(entries) == ends.charges;
+    Ok(entries.len() == ends.entries && are_sent && are_members(meshes.as_slice(), ends.members))
+}
+
+// ---- two routers
+
+/// Two routers of a case. The first one shows what the second one must leave.
+#[derive(Drop)]
+struct Pair {
+    whole: Player,
+    tried: Player,
+}
+
+fn pair_of(alloc: Global, case: &Case<'_>) -> Result<Pair, AllocError> {
+    let whole = Player::new(alloc, case)?;
+    let tried = Player::new(alloc, case)?;
+    Ok(Pair { whole, tried })
+}
+
+impl Pair {
+    /// Whether the second one's entries are the first of the first one's.
+    fn is_front(&self) -> bool {
+        let whole = self.whole.router().trace().entries();
+        whole.starts_with(self.tried.router().trace().entries())
+    }
+
+    /// Whether the second one, which had these many entries, was left with a front of what the first one has, where the
+    /// call that it broke off is not whole.
+    fn is_broken_off(&self, before: usize) -> bool {
+        let left = self.tried.router().trace().entries().len();
+        let whole = self.whole.router().trace().entries().len();
+        before <= left && left < whole && self.is_front()
+    }
+
+    /// Whether the second one, of whom this is told, refuses a call as stopped and does nothing.
+    fn refuses(&mut self, before: &Reading, now: Millis, act: Act<'_>) -> Result<bool, AllocError> {
+        match self.tried.answer(now, act)? {
+            Err(RouterFault::Refused(Refusal::Stopped)) => {}
+            _ => return Ok(false),
+        }
+        let after = told(self.tried.router(), now)?;
+        Ok(after == *before && self.is_front())
+    }
+
+    /// Whether the second one refuses each further call.
+    fn refuses_all(&mut self, now: Millis) -> Result<bool, AllocError> {
+        let before = told(self.tried.router(), now)?;
+        for act in &CALLS {
+            if !self.refuses(&before, now, *act)? {
+                return Ok(false);
+            }
+        }
+        Ok(true)
+    }
+
+    /// What is seen of the second one, which had these many entries and met want of memory.
+    fn seen_broken_off(&mut self, before: usize, now: Millis) -> Result<Seen, AllocError> {
+        if !self.is_broken_off(before) {
+            return Ok(Seen::Wrong);
+        }
+        Ok(Seen::after(self.refuses_all(now)?))
+    }
+
+    /// Has both do this.
+    fn step(&mut self, now: Millis, act: Act<'_>) -> Result<Seen, AllocError> {
+        match self.whole.answer(now, act)? {
+            Ok(()) => {}
+            Err(RouterFault::NoMemory) => return Ok(Seen::NoMemory),
+            Err(_) => return Ok(Seen::Wrong),
+        }
+        let before = self.tried.router().trace().entries().len();
+        match self.tried.answer(now, act)? {
+            Ok(()) => Ok(Seen::Whole),
+            Err(RouterFault::NoMemory) => self.seen_broken_off(before, now),
+            Err(_) => Ok(Seen::Wrong),
+        }
+    }
+
+    /// What is seen of both in the end.
+    fn end(&self, moment: &Moment) -> Result<Seen, AllocError> {
+        let now = self.whole.router().last_moment();
+        let are_same = told(self.whole.router(), now)? == told(self.tried.router(), now)?;
+        let has_ended = has_ended(self.whole.router(), &moment.ends)?;
+        Ok(match are_same && has_ended && self.is_front() {
+            true => Seen::Whole,
+            false => Seen::Wrong,
+        })
+    }
+
+    fn play(&mut self, moment: &Moment) -> Result<Seen, AllocError> {
+        for (at, act) in moment.acts {
+            let seen = self.step(Millis(*at), *act)?;
+            if seen != Seen::Whole {
+                return Ok(seen);
+            }
+        }
+        self.end(moment)
+    }
+}
+
+/// Tries each call of a moment of a router.
+pub fn try_moment(alloc: Global, moment: &Moment) -> Seen {
+    let Ok(mut pair) = pair_of(alloc, &moment.case) else {
+        return Seen::NoMemory;
+    };
+    let seen = pair.play(moment);
+    drop(pair);
+    match seen {
+        Ok(seen) => seen,
+        Err(_) => Seen::NoMemory,
+    }
+}
