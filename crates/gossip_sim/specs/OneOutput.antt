@@ -4,8 +4,8 @@ use Rattle.std.specs.Io.KnownBytes.{Appends}
 use Rattle.gs_report.specs.Text.{report_text}
 use Rattle.gs_laws.specs.Runs.{AreAlike}
 use Rattle.gs_laws.specs.Scenarios.{DifferInRunning}
-use Rattle.gossip_sim.specs.declared.program.ExitStatus.TheVariants as ends
-use Rattle.gossip_sim.specs.Program.{EndsAs, Reported}
+use Rattle.gs_program.specs.declared.program.ExitStatus.TheVariants as ends
+use Rattle.gs_program.specs.Program.{EndsAs, Reported}
 
 -- Two runs add the same bytes to their outputs. Of an output whose bytes are not known, as of a process's own, this says
 -- nothing.
@@ -18,8 +18,8 @@ abbrev pub AlikePlansWriteTheSame : Type 0
 AlikePlansWriteTheSame =
     (input input' output output' errors errors' : Option (List ℕ))
     (more more' other other' faults faults' : Option (List ℕ))
-    (mine : Reported input input' output output' errors errors')
-    (theirs : Reported more more' other other' faults faults')
+    (mine : Reported report_text input input' output output' errors errors')
+    (theirs : Reported report_text more more' other other' faults faults')
     → AreAlike mine.plan theirs.plan
     → (report_text mine.plan mine.report ≡ report_text theirs.plan theirs.report)
     × AddTheSame output output' other other'
@@ -30,8 +30,8 @@ abbrev pub AlikeScenariosWriteTheSame : Type 0
 AlikeScenariosWriteTheSame =
     (input input' output output' errors errors' : Option (List ℕ))
     (more more' other other' faults faults' : Option (List ℕ))
-    (mine : EndsAs ends.Reported input input' output output' errors errors')
-    (theirs : EndsAs ends.Reported more more' other other' faults faults')
+    (mine : EndsAs report_text ends.Reported input input' output output' errors errors')
+    (theirs : EndsAs report_text ends.Reported more more' other other' faults faults')
     → DifferInRunning mine.scenario.text theirs.scenario.text
     → (report_text mine.plan mine.report ≡ report_text theirs.plan theirs.report)
     × AddTheSame output output' other other'

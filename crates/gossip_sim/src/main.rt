@@ -8,14 +8,13 @@ use gs_peer::NoGate;
 use std::process::ExitCode;
 
 fn main(rt: HostRuntime) -> ExitCode {
-    let status = program::run(
+    program::ended(
         &rt,
         &NoGate,
         &mut rt.stdin(),
         &mut rt.stdout(),
         &mut rt.stderr(),
-    );
-    ExitCode::from(status)
+    )
 }
 
 #[cfg(test)]

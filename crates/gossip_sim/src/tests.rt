@@ -6,9 +6,10 @@ mod meshes;
 mod one_output;
 mod standings;
 
+use crate::program::run;
 use crate::program::tests::Host;
-use crate::program::{ExitStatus, run};
 use gs_peer::{Gate, NoGate};
+use gs_program::ExitStatus;
 use std::alloc::{AllocError, Global};
 use std::sync::atomic::{AtomicU64, Ordering};
 use std::thread;

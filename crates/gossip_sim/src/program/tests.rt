@@ -1,6 +1,5 @@
 use super::*;
 use gs_peer::NoGate;
-use gs_scenario::read_plan;
 use gs_streams::LONGEST_INPUT;
 use gs_streams::fakes::{Broken, Narrow};
 use std::io;
@@ -58,8 +57,7 @@ impl<T: Threads + Wait + RandomSource + AllocGlobal + Sync + Send + Copy> Host f
 fn ends<T: Host, R: Read>(rt: &T, input: &mut R, status: u8, output: &str, errors: &str) -> bool {
     let mut out = Vec::new(rt.alloc());
     let mut err = Vec::new(rt.alloc());
-    let ended = run(rt, &NoGate, input, &mut out, &mut err);
-    ExitCode::from(ended) == ExitCode::from(status)
+    ended(rt, &NoGate, input, &mut out, &mut err) == ExitCode::from(status)
         && out.as_slice() == output.as_bytes()
         && err.as_slice() == errors.as_bytes()
 }
@@ -82,43 +80,55 @@ fn narrow(alloc: Global, step: usize, room: usize, fails: bool) -> Narrow {
 fn writes_front<T: Host>(rt: &T, room: usize, fails: bool, status: u8, errors: &str) -> bool {
     let mut output = narrow(rt.alloc(), 3, room, fails);
     let mut err = Vec::new(rt.alloc());
-    let ended = run(rt, &NoGate, &mut SCENARIO.as_bytes(), &mut output, &mut err);
+    let code = ended(rt, &NoGate, &mut SCENARIO.as_bytes(), &mut output, &mut err);
     let front = REPORT.len().min(room);
-    ExitCode::from(ended) == ExitCode::from(status)
+    code == ExitCode::from(status)
         && output.taken.as_slice() == &REPORT.as_bytes()[..front]
         && err.as_slice() == errors.as_bytes()
 }
 
-/// Whether an input is refused where `errors` has so much room, with a front of the line.
-fn tells_front<T: Host>(rt: &T, room: usize) -> bool {
-    let line = b"scenario refused: 28 rounds\n";
-    let mut out = Vec::new(rt.alloc());
-    let mut errors = narrow(rt.alloc(), 2, room, true);
-    let ended = run(
-        rt,
-        &NoGate,
-        &mut b"round_ms = 100\n".as_slice(),
-        &mut out,
-        &mut errors,
-    );
-    ended == ExitStatus::ScenarioRefused
-        && out.is_empty()
-        && errors.taken.as_slice() == &line[..line.len().min(room)]
+/// How a run without a report ends: its status, and its line.
+struct End {
+    status: u8,
+    line: &'static str,
 }
 
-/// Whether a fault of a run of the scenario is told by such a line, or by a front of it where
-/// there is room for no more.
-fn tells(alloc: Global, fault: NetFault, line: &str) -> bool {
-    let Ok(plan) = read_plan(alloc, SCENARIO) else {
-        return false;
-    };
-    let mut errors = Vec::new(alloc);
-    tell_fault(alloc, &mut errors, &plan, fault);
-    let mut short = narrow(alloc, 1, 10, true);
-    tell_fault(alloc, &mut short, &plan, fault);
-    errors.as_slice() == line.as_bytes()
-        && short.taken.len() == 10
-        && line.as_bytes().starts_with(&short.taken)
+static REFUSED: End = End {
+    status: 1,
+    line: "scenario refused: 28 rounds\n",
+};
+
+static NO_THREAD: End = End {
+    status: 2,
+    line: "run refused: 25\n",
+};
+
+static NO_INPUT: End = End {
+    status: 3,
+    line: "input failed\n",
+};
+
+static NO_OUTPUT: End = End {
+    status: 3,
+    line: "output failed\n",
+};
+
+/// Whether a run whose output takes nothing ends so, with a front of its line where `errors` has so much room, and fails
+/// or takes nothing behind that.
+fn tells_front<T: Host, R: Read>(
+    rt: &T,
+    input: &mut R,
+    room: usize,
+    fails: bool,
+    end: &End,
+) -> bool {
+    let mut output = narrow(rt.alloc(), 1, 0, true);
+    let mut errors = narrow(rt.alloc(), 2, room, fails);
+    let code = ended(rt, &NoGate, input, &mut output, &mut errors);
+    let front = end.line.len().min(room);
+    code == ExitCode::from(end.status)
+        && output.taken.is_empty()
+        && errors.taken.as_slice() == &end.line.as_bytes()[..front]
 }
 
 #[test]
@@ -179,44 +189,21 @@ fn an_output_that_fails_has_a_front_of_the_report(rt: HostRuntime) {
         assert!(rt; writes_front(&rt, room, false, 3, "output failed\n"));
         assert!(rt; writes_front(&rt, room, true, 3, "output failed\n"));
     }
+    assert!(rt; writes_front(&rt, REPORT.len(), true, 0, ""));
 }
 
 #[test]
-fn a_failing_error_output_changes_no_status(rt: HostRuntime) {
-    let alloc = rt.alloc();
+fn errors_that_fail_at_any_byte_change_no_status(rt: HostRuntime) {
+    let refused = b"round_ms = 100\n".as_slice();
+    let text = SCENARIO.as_bytes();
     for room in 0..30 {
-        assert!(rt; tells_front(&rt, room));
+        for fails in [false, true] {
+            assert!(rt; tells_front(&rt, &mut &refused[..], room, fails, &REFUSED));
+            assert!(rt; tells_front(&Unseeded(rt), &mut &text[..], room, fails, &NO_THREAD));
+            assert!(rt; tells_front(&rt, &mut Broken { rest: b"" }, room, fails, &NO_INPUT));
+            assert!(rt; tells_front(&rt, &mut &text[..], room, fails, &NO_OUTPUT));
+        }
     }
-    let mut out = Vec::new(alloc);
-    let mut errors = narrow(alloc, 1, 0, true);
-    let ended = run(
-        &rt,
-        &NoGate,
-        &mut Broken { rest: b"" },
-        &mut out,
-        &mut errors,
-    );
-    assert!(rt; ended == ExitStatus::InputFailed && errors.taken.is_empty());
-    let mut output = narrow(alloc, 1, 0, true);
-    let ended = run(
-        &rt,
-        &NoGate,
-        &mut SCENARIO.as_bytes(),
-        &mut output,
-        &mut errors,
-    );
-    assert!(rt; ended == ExitStatus::OutputFailed && errors.taken.is_empty());
-}
-
-#[test]
-fn a_fault_of_a_run_is_told_with_its_number_and_peer(rt: HostRuntime) {
-    let alloc = rt.alloc();
-    let no_memory = |number| NetFault::NoMemory(Some(PeerNo(number)));
-    assert!(rt; tells(alloc, no_memory(0), "run refused: 24 a\n"));
-    assert!(rt; tells(alloc, no_memory(1), "run refused: 24 b\n"));
-    assert!(rt; tells(alloc, no_memory(2), "run refused: 24 \n"));
-    assert!(rt; tells(alloc, NetFault::NoMemory(None), "run refused: 24\n"));
-    assert!(rt; tells(alloc, NetFault::NoThread, "run refused: 25\n"));
 }
 
 /// A runtime without random bytes, which a thread needs before it drives its peers.

@@ -1,11 +1,13 @@
 //! Two runs of one scenario, which are proved to write the same bytes.
 ghost use Rattle.std.specs.Prelude.{◌≡◌, IfSome, List, Option, Some, ℕ, []};
-ghost use Rattle.gossip_sim.specs.Program.{Reported};
+ghost use Rattle.gs_program.specs.Program.{Reported};
+ghost use Rattle.gs_report.specs.Text.{report_text};
 
 use crate::laws::two_runs_write_the_same;
+use crate::program::run;
 use crate::program::tests::Host;
-use crate::program::{ExitStatus, run};
 use gs_peer::NoGate;
+use gs_program::ExitStatus;
 
 /// `b` subscribes and `a` publishes, by one worker, over links that hold one item.
 const BY_ONE: &str = "round_ms = 100\nrounds = 3\nworkers = 1\ncapacity = 1\nseed = 1\n\
@@ -29,7 +31,7 @@ const REPORT: &str = "delivered b 300 news 616263\n\
 /// What a run of a scenario writes, where it reports.
 pub(super) fn output_of<T: Host>(rt: &T, text: &str) -> Option<Vec<u8>>
     ensures { IfSome result (λ output. (rest : Option (List ℕ)) × (told : Option (List ℕ)) × (told' : Option (List ℕ))
-        × Reported (Some text.now) rest (Some []) (Some output.items) told told') }
+        × Reported report_text (Some text.now) rest (Some []) (Some output.items) told told') }
 {
     let mut output = Vec::new(rt.alloc());
     let mut errors = Vec::new(rt.alloc());

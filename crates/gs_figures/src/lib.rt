@@ -1,0 +1,25 @@
+//! Figures of a run: what each peer heard and sent, how far each publication came, and their texts.
+#![tactic(auto)]
+
+mod counts;
+mod fate;
+mod figures;
+mod laws;
+mod listed;
+mod peers;
+mod publications;
+mod ranks;
+mod span;
+mod text;
+mod values;
+
+pub use counts::{Counts, Fates, Parts};
+pub use fate::Fate;
+pub use figures::{Figures, figures_of};
+pub use laws::subscribed_topics_are_joined;
+pub use listed::Appearance;
+pub use peers::{PeerFigures, all_figures, counts_of_all};
+pub use publications::{PublicationFigures, all_publications};
+pub use ranks::Spread;
+pub use span::Span;
+pub use text::{Form, figures_csv, figures_json};

@@ -1,0 +1,4 @@
+mod made;
+mod peers;
+mod publications;
+mod texts;

@@ -1,0 +1,383 @@
+//! Traces that are made by hand.
+use bytes::Bytes;
+use gs_base::{
+    Control, Graft, IHave, IWant, Mark, Message, Millis, MsgId, PeerNo, Prune, Rpc, Seq, Shared,
+    SubOpt, Topic, Verdict,
+};
+use gs_report::Finished;
+use gs_rules::{Entry, Event, Refusal, RefusedLine, Trace};
+use std::alloc::{AllocError, Global};
+
+/// What becomes of a message, by the marks of its entry.
+#[derive(Clone, Copy)]
+pub(crate) enum Comes {
+    New,
+    Again,
+    Near,
+    Invalid,
+    Rejected,
+    Ignored,
+}
+
+/// What an entry is.
+#[derive(Clone, Copy)]
+pub(crate) enum Did {
+    /// An RPC comes of a neighbour.
+    Hears(u16),
+    /// An RPC comes of a neighbour that is not heard any more.
+    HearsLate(u16),
+    /// A message comes of a neighbour.
+    Message(u16, Comes),
+    Offer(u16),
+    Request(u16),
+    Graft(u16),
+    /// A GRAFT comes that counts as misbehaviour.
+    EarlyGraft(u16),
+    Prune(u16),
+    /// A heartbeat begins, and so many promises were broken.
+    Beat(usize),
+    Subscribes(&'static str),
+    Leaves(&'static str),
+    /// A payload is published on a topic, and delivered to the publisher.
+    Publishes(&'static str, &'static [u8]),
+    /// A payload is published on a topic that the peer is not subscribed to.
+    PublishesOutside(&'static str, &'static [u8]),
+    /// A payload on a topic is delivered: a new message of a neighbour.
+    Delivers(&'static str, &'static [u8]),
+    /// A round ends, and this goes to these neighbours: subscriptions, messages, IHAVE, IWANT, GRAFT and PRUNE.
+    Sends([usize; 6], &'static [u16]),
+}
+
+/// What is left of a peer.
+#[derive(Clone, Copy)]
+pub(crate) struct Life {
+    pub peer: u16,
+    /// What it did, with the moments.
+    pub trace: &'static [(u64, Did)],
+    /// How many lines it refused.
+    pub refused: usize,
+    /// Topics, and who is in their meshes.
+    pub meshes: &'static [(&'static str, u16)],
+    /// What its neighbours score, in millionths.
+    pub scores: &'static [(u16, i128)],
+}
+
+/// A peer that did nothing.
+pub(crate) const SILENT: Life = Life {
+    peer: 0,
+    trace: &[],
+    refused: 0,
+    meshes: &[],
+    scores: &[],
+};
+
+const ID: MsgId = MsgId([7; 32]);
+
+pub(crate) fn bytes(alloc: Global, text: &[u8]) -> Result<Bytes, AllocError> {
+    Bytes::copy_from_slice(alloc, text)
+}
+
+pub(crate) fn topic(alloc: Global, name: &str) -> Result<Topic, AllocError> {
+    Ok(Topic(bytes(alloc, name.as_bytes())?))
+}
+
+fn blank() -> Message {
+    Message {
+        origin: None,
+        payload: None,
+        seqno: None,
+        topic: None,
+        signature: None,
+        key: None,
+    }
+}
+
+fn empty_rpc(alloc: Global) -> Rpc {
+    Rpc {
+        subs: Seq::new(alloc),
+        publish: Seq::new(alloc),
+        control: None,
+    }
+}
+
+fn event_of(alloc: Global, did: Did) -> Result<Event, AllocError> {
+    match did {
+        Did::Hears(q) => Ok(Event::Heard(PeerNo(q), Shared::new(alloc, empty_rpc(alloc))?)),
+        Did::HearsLate(q) => Ok(Event::Late(PeerNo(q), Shared::new(alloc, empty_rpc(alloc))?)),
+        Did::Message(q, _) => Ok(Event::Msg(PeerNo(q), Shared::new(alloc, blank())?)),
+        Did::Offer(q) => offer(alloc, q),
+        Did::Request(q) => request(alloc, q),
+        Did::Graft(q) => Ok(Event::GraftIn(PeerNo(q), Graft { topic: None })),
+        Did::EarlyGraft(q) => Ok(Event::GraftIn(PeerNo(q), Graft { topic: None })),
+        Did::Prune(q) => Ok(Event::PruneIn(
+            PeerNo(q),
+            Prune {
+                topic: None,
+                backoff: None,
+            },
+        )),
+        Did::Beat(_) => Ok(Event::BeatBegin),
+        Did::Subscribes(name) => Ok(Event::Subscribe(topic(alloc, name)?)),
+        Did::Leaves(name) => Ok(Event::Unsubscribe(topic(alloc, name)?)),
+        Did::Publishes(name, payload) => publish(alloc, name, payload),
+        Did::PublishesOutside(name, payload) => publish(alloc, name, payload),
+        Did::Delivers(_, _) => Ok(Event::Msg(PeerNo(0), Shared::new(alloc, blank())?)),
+        Did::Sends(_, _) => Ok(Event::RoundEnd(0)),
+    }
+}
+
+fn offer(alloc: Global, q: u16) -> Result<Event, AllocError> {
+    let offer = IHave {
+        topic: None,
+        ids: Seq::new(alloc),
+    };
+    Ok(Event::Have(PeerNo(q), Shared::new(alloc, offer)?))
+}
+
+fn request(alloc: Global, q: u16) -> Result<Event, AllocError> {
+    let request = IWant {
+        ids: Seq::new(alloc),
+    };
+    Ok(Event::Want(PeerNo(q), Shared::new(alloc, request)?))
+}
+
+fn publish(alloc: Global, name: &str, payload: &[u8]) -> Result<Event, AllocError> {
+    let topic = topic(alloc, name)?;
+    Ok(Event::Publish(topic, bytes(alloc, payload)?))
+}
+
+fn push_marks(alloc: Global, marks: &mut Seq<Mark>, did: Did) -> Result<(), AllocError> {
+    match did {
+        Did::Message(q, comes) => push_fate(alloc, marks, PeerNo(q), comes),
+        Did::EarlyGraft(q) => marks.push(Mark::Misbehaviour(PeerNo(q))),
+        Did::Beat(broken) => push_charges(marks, broken),
+        Did::Delivers(_, _) => push_new(alloc, marks, PeerNo(0)),
+        _ => Ok(()),
+    }
+}
+
+fn push_charges(marks: &mut Seq<Mark>, broken: usize) -> Result<(), AllocError> {
+    for _ in 0..broken {
+        marks.push(Mark::Misbehaviour(PeerNo(1)))?;
+    }
+    Ok(())
+}
+
+fn push_fate(
+    alloc: Global,
+    marks: &mut Seq<Mark>,
+    q: PeerNo,
+    comes: Comes,
+) -> Result<(), AllocError> {
+    match comes {
+        Comes::New => push_new(alloc, marks, q),
+        Comes::Again => Ok(()),
+        Comes::Near => marks.push(Mark::Near(q, topic(alloc, "news")?, ID)),
+        Comes::Invalid => marks.push(Mark::Invalid(q, topic(alloc, "news")?)),
+        Comes::Rejected => push_rejected(alloc, marks, q),
+        Comes::Ignored => marks.push(Mark::Seen(ID, Verdict::Ignore)),
+    }
+}
+
+fn push_new(alloc: Global, marks: &mut Seq<Mark>, q: PeerNo) -> Result<(), AllocError> {
+    marks.push(Mark::Seen(ID, Verdict::Accept))?;
+    marks.push(Mark::First(q, topic(alloc, "news")?, ID))
+}
+
+fn push_rejected(alloc: Global, marks: &mut Seq<Mark>, q: PeerNo) -> Result<(), AllocError> {
+    marks.push(Mark::Seen(ID, Verdict::Reject))?;
+    marks.push(Mark::Invalid(q, topic(alloc, "news")?))
+}
+
+fn delivered_by(alloc: Global, did: Did) -> Result<Seq<(Topic, Bytes)>, AllocError> {
+    match did {
+        Did::Publishes(name, payload) => one_delivery(alloc, name, payload),
+        Did::Delivers(name, payload) => one_delivery(alloc, name, payload),
+        _ => Ok(Seq::new(alloc)),
+    }
+}
+
+fn one_delivery(
+    alloc: Global,
+    name: &str,
+    payload: &[u8],
+) -> Result<Seq<(Topic, Bytes)>, AllocError> {
+    let topic = topic(alloc, name)?;
+    Seq::only(alloc, (topic, bytes(alloc, payload)?))
+}
+
+/// An RPC of so many subscriptions, messages, IHAVE, IWANT, GRAFT and PRUNE.
+fn rpc(alloc: Global, parts: [usize; 6]) -> Result<Rpc, AllocError> {
+    let mut rpc = Rpc {
+        subs: Seq::new(alloc),
+        publish: Seq::new(alloc),
+        control: None,
+    };
+    for _ in 0..parts[0] {
+        rpc.subs.push(SubOpt {
+            subscribe: None,
+            topic: None,
+        })?;
+    }
+    for _ in 0..parts[1] {
+        rpc.publish.push(blank())?;
+    }
+    if parts[2..] != [0, 0, 0, 0] {
+        rpc.control = Some(control(alloc, parts)?);
+    }
+    Ok(rpc)
+}
+
+fn control(alloc: Global, parts: [usize; 6]) -> Result<Control, AllocError> {
+    let mut control = Control {
+        ihave: Seq::new(alloc),
+        iwant: Seq::new(alloc),
+        graft: Seq::new(alloc),
+        prune: Seq::new(alloc),
+    };
+    for _ in 0..parts[2] {
+        control.ihave.push(IHave {
+            topic: None,
+            ids: Seq::new(alloc),
+        })?;
+    }
+    for _ in 0..parts[3] {
+        control.iwant.push(IWant {
+            ids: Seq::new(alloc),
+        })?;
+    }
+    for _ in 0..parts[4] {
+        control.graft.push(Graft { topic: None })?;
+    }
+    for _ in 0..parts[5] {
+        control.prune.push(Prune {
+            topic: None,
+            backoff: None,
+        })?;
+    }
+    Ok(control)
+}
+
+fn sends_of(alloc: Global, did: Did) -> Result<Seq<(PeerNo, Shared<Rpc>)>, AllocError> {
+    let mut sends = Seq::new(alloc);
+    if let Did::Sends(parts, neighbours) = did {
+        for q in neighbours {
+            let rpc = rpc(alloc, parts)?;
+            sends.push((PeerNo(*q), Shared::new(alloc, rpc)?))?;
+        }
+    }
+    Ok(sends)
+}
+
+fn entry(alloc: Global, at: u64, did: Did) -> Result<Entry, AllocError> {
+    let mut marks = Seq::new(alloc);
+    push_marks(alloc, &mut marks, did)?;
+    let sends = sends_of(alloc, did)?;
+    let delivered = delivered_by(alloc, did)?;
+    Ok(Entry {
+        at: Millis(at),
+        event: event_of(alloc, did)?,
+        sends,
+        delivered,
+        promise: None,
+        marks,
+    })
+}
+
+fn trace_of(alloc: Global, life: Life) -> Result<Trace, AllocError> {
+    let mut trace = Trace::new(alloc);
+    for (at, did) in life.trace {
+        trace.push(entry(alloc, *at, *did)?)?;
+    }
+    Ok(trace)
+}
+
+fn refused_of(alloc: Global, life: Life) -> Result<Seq<RefusedLine>, AllocError> {
+    let mut refused = Seq::new(alloc);
+    for line in 0..life.refused {
+        refused.push(RefusedLine {
+            at: Millis(0),
+            line,
+            why: Refusal::Joined,
+        })?;
+    }
+    Ok(refused)
+}
+
+fn meshes_of(alloc: Global, life: Life) -> Result<Seq<(Topic, PeerNo)>, AllocError> {
+    let mut meshes = Seq::new(alloc);
+    for (name, member) in life.meshes {
+        meshes.push((topic(alloc, name)?, PeerNo(*member)))?;
+    }
+    Ok(meshes)
+}
+
+fn scores_of(alloc: Global, life: Life) -> Result<Seq<(PeerNo, i128)>, AllocError> {
+    let mut scores = Seq::new(alloc);
+    for (peer, score) in life.scores {
+        scores.push((PeerNo(*peer), *score))?;
+    }
+    Ok(scores)
+}
+
+fn finished(alloc: Global, life: Life) -> Result<Finished, AllocError> {
+    let scores = scores_of(alloc, life)?;
+    let meshes = meshes_of(alloc, life)?;
+    let refused = refused_of(alloc, life)?;
+    Ok(Finished {
+        trace: trace_of(alloc, life)?,
+        refused,
+        meshes,
+        scores,
+    })
+}
+
+/// What is left of these peers.
+pub(crate) fn peers_of(
+    alloc: Global,
+    lives: &[Life],
+) -> Result<Vec<(PeerNo, Finished)>, AllocError> {
+    let mut peers = Vec::new(alloc);
+    for life in lives {
+        peers.push((PeerNo(life.peer), finished(alloc, *life)?))?;
+    }
+    Ok(peers)
+}
+
+/// So many peers, of which each delivers the same payload, the last one at once, and each one before it a round later; and
+/// one more that publishes it.
+pub(crate) fn delivering(alloc: Global, count: u16) -> Result<Vec<(PeerNo, Finished)>, AllocError> {
+    let mut peers = Vec::new(alloc);
+    for number in 0..count {
+        let moment = u64::from(count - 1 - number) * 100;
+        push_peer(
+            alloc,
+            &mut peers,
+            number,
+            moment,
+            Did::Delivers("news", b"abc"),
+        )?;
+    }
+    push_peer(
+        alloc,
+        &mut peers,
+        count,
+        0,
+        Did::PublishesOutside("news", b"abc"),
+    )?;
+    Ok(peers)
+}
+
+/// Adds a peer that does one thing.
+fn push_peer(
+    alloc: Global,
+    peers: &mut Vec<(PeerNo, Finished)>,
+    number: u16,
+    moment: u64,
+    did: Did,
+) -> Result<(), AllocError> {
+    let mut life = finished(alloc, SILENT)?;
+    life.trace.push(entry(alloc, moment, did)?)?;
+    peers.push((PeerNo(number), life))?;
+    Ok(())
+}

@@ -1,0 +1,124 @@
+-- How a run of a program ends, and what it has then written.
+use Rattle.std.specs.Prelude.{◌≡◌, ◌++◌, ℕ, List, [], codes, decimal, Option, Some, None, IfSome, ◌⊎◌}
+use Rattle.std.specs.Io.KnownBytes.{Appends, IsAtEnd, Keeps}
+use Rattle.gs_scenario.specs.declared.fault.ScenarioFault.{ScenarioFault}
+use Rattle.gs_scenario.specs.declared.fault.ScenarioFault.TheVariants.{NoMemory}
+use Rattle.gs_base.specs.declared.names.PeerNo.{PeerNo}
+use Rattle.gs_plan.specs.declared.plan.Plan.{Plan}
+use Rattle.gs_net.specs.declared.fault.NetFault.{NetFault}
+use Rattle.gs_net.specs.declared.fault.NetFault.TheVariants as faults
+use Rattle.gs_report.specs.declared.report.Report.{Report}
+use Rattle.gs_program.specs.declared.program.ExitStatus.{ExitStatus}
+use Rattle.gs_program.specs.declared.program.ExitStatus.TheVariants as ends
+use Rattle.gs_scenario.specs.Refusal.{refusal_text}
+use Rattle.gs_net.specs.Faults.{number_of}
+use Rattle.gs_report.specs.Text.{name_of}
+use Rattle.gs_net.specs.Reports.{IsReport}
+use Rattle.gs_streams.specs.Inputs.{IsRefusal, IsScenario}
+use Rattle.gs_streams.specs.Streams.{AppendsFront}
+
+abbrev pub refusal_line : ScenarioFault → List ℕ
+refusal_line fault = codes "scenario refused: " ++ refusal_text fault ++ codes "\n"
+
+-- the line of the refusal was added to errors, or a front of it; of want of memory, where there was
+-- none for the line
+pub record TellsRefusal (fault : ScenarioFault) (errors errors' : Option (List ℕ)) : Type 0 where
+  pub told : ScenarioFault
+  pub which : (told ≡ fault) ⊎ (told ≡ NoMemory)
+  pub line : AppendsFront errors errors' (refusal_line told)
+
+-- the peer that a fault of a run names
+abbrev pub peer_of : NetFault → Option PeerNo
+peer_of (faults.NoMemory peer) = peer
+peer_of faults.NoThread = None
+
+-- the name of a peer behind a space
+abbrev pub spaced_name : Plan → Option PeerNo → List ℕ
+spaced_name plan None = []
+spaced_name plan (Some p) = codes " " ++ name_of plan p
+
+-- `run refused: NUMBER`, and the name of the peer where the fault names one
+abbrev pub run_refusal_line : Plan → NetFault → List ℕ
+run_refusal_line plan fault =
+    codes "run refused: " ++ decimal (number_of fault) ++ spaced_name plan (peer_of fault) ++ codes "\n"
+
+-- the same fault, of no peer
+abbrev pub nameless : NetFault → NetFault
+nameless (faults.NoMemory peer) = faults.NoMemory None
+nameless faults.NoThread = faults.NoThread
+
+-- the line of the fault was added to errors, or a front of it; with its number and no name, where there was no memory for
+-- the line
+pub record TellsFault (plan : Plan) (fault : NetFault) (errors errors' : Option (List ℕ)) : Type 0 where
+  pub told : NetFault
+  pub which : (told ≡ fault) ⊎ (told ≡ nameless fault)
+  pub line : AppendsFront errors errors' (run_refusal_line plan told)
+
+-- Of each end: the reader had the first left to read and then the second, and each writer held the first and then the
+-- second.
+
+-- the line of the scenario's refusal is on errors, or a front of it, and nothing more on the output
+pub record ScenarioRefused (input output output' errors errors' : Option (List ℕ)) : Type 0 where
+  pub fault : ScenarioFault
+  pub refused : IfSome input (λ bytes. IsRefusal bytes fault)
+  pub line : AppendsFront errors errors' (refusal_line fault)
+  pub silent : Keeps output output'
+
+-- a run of the scenario met a fault, or there was no memory to report on it: errors has the line of
+-- that, or a front of it, and the output has nothing more
+pub record RunRefused (input output output' errors errors' : Option (List ℕ)) : Type 0 where
+  pub plan : Plan
+  pub scenario : IsScenario input plan
+  pub fault : NetFault
+  pub tells : TellsFault plan fault errors errors'
+  pub silent : Keeps output output'
+
+-- a read of the input failed, or the reads ran out
+pub record InputFailed (output output' errors errors' : Option (List ℕ)) : Type 0 where
+  pub line : AppendsFront errors errors' (codes "input failed\n")
+  pub silent : Keeps output output'
+
+-- the status that the process ends with
+abbrev pub status_of : ExitStatus → ℕ
+status_of ends.Reported = 0
+status_of ends.ScenarioRefused = 1
+status_of ends.RunRefused = 2
+status_of ends.InputFailed = 3
+status_of ends.OutputFailed = 3
+
+-- of a program that writes this text of a report
+module _ (text_of : Plan → Report → List ℕ) where
+  -- the whole text of a run of the scenario, of which nothing is left to read, is on the output, and nothing more on
+  -- errors
+  pub record Reported (input input' output output' errors errors' : Option (List ℕ)) : Type 0 where
+    pub plan : Plan
+    pub scenario : IsScenario input plan
+    pub at_end : IsAtEnd input'
+    pub report : Report
+    pub run : IsReport plan report
+    pub text : Appends output output' (text_of plan report)
+    pub silent : Keeps errors errors'
+
+  -- a front of the text of a run of the scenario is on the output, which failed then
+  pub record OutputFailed (input output output' errors errors' : Option (List ℕ)) : Type 0 where
+    pub plan : Plan
+    pub scenario : IsScenario input plan
+    pub report : Report
+    pub run : IsReport plan report
+    pub text : AppendsFront output output' (text_of plan report)
+    pub line : AppendsFront errors errors' (codes "output failed\n")
+
+  -- what each status says
+  abbrev pub EndsAs : ExitStatus → (input input' output output' errors errors' : Option (List ℕ)) → Type 0
+  EndsAs ends.Reported input input' output output' errors errors' = Reported input input' output output' errors errors'
+  EndsAs ends.ScenarioRefused input input' output output' errors errors' =
+      ScenarioRefused input output output' errors errors'
+  EndsAs ends.RunRefused input input' output output' errors errors' = RunRefused input output output' errors errors'
+  EndsAs ends.InputFailed input input' output output' errors errors' = InputFailed output output' errors errors'
+  EndsAs ends.OutputFailed input input' output output' errors errors' = OutputFailed input output output' errors errors'
+
+  -- the status is that of an end which the streams show
+  pub record EndsWith (status : ℕ) (input input' output output' errors errors' : Option (List ℕ)) : Type 0 where
+    pub ended : ExitStatus
+    pub ends : EndsAs ended input input' output output' errors errors'
+    pub status_is : status ≡ status_of ended

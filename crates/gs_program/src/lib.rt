@@ -1,0 +1,9 @@
+//! The programs that read a scenario, run it and write a text of what the run leaves.
+#![tactic(auto)]
+
+mod printer;
+mod program;
+mod telling;
+
+pub use printer::Printer;
+pub use program::{ExitStatus, Program};
