@@ -26,10 +26,12 @@ pub(crate) enum Kind {
     Apply(u8),
     /// The score of such a neighbour.
     Score(u8),
+    /// The score of one with a counter on a topic, which lost a millionth in each of so many decays.
+    Decayed(u32),
 }
 
 /// The word for each kind.
-static KINDS: [(&str, Kind); 15] = [
+static KINDS: [(&str, Kind); 16] = [
     ("decode-s", Kind::Decode(Sample::Subscription)),
     ("decode-m", Kind::Decode(Sample::Message)),
     ("decode-c", Kind::Decode(Sample::Control)),
@@ -45,6 +47,7 @@ static KINDS: [(&str, Kind); 15] = [
     ("apply-32", Kind::Apply(32)),
     ("score-1", Kind::Score(1)),
     ("score-32", Kind::Score(32)),
+    ("score-decayed", Kind::Decayed(100_000)),
 ];
 
 impl Kind {

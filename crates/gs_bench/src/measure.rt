@@ -27,7 +27,8 @@ pub(crate) fn checksum<R: Wait>(
         Kind::Link => link_all(rt, alloc, count),
         Kind::Queue => queue_all(rt, alloc, count),
         Kind::Apply(topics) => work_all(alloc, topics, Work::Apply, count),
-        Kind::Score(topics) => work_all(alloc, topics, Work::Score, count),
+        Kind::Score(topics) => work_all(alloc, topics, Work::Score(0), count),
+        Kind::Decayed(decays) => work_all(alloc, 1, Work::Score(decays), count),
     }
 }
 

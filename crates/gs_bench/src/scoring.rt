@@ -22,6 +22,7 @@ fn add_topic(alloc: Global, number: u8, params: &mut Params) -> Result<(), Alloc
     let topic = topic(alloc, number)?;
     let mut one = TopicParams::new(alloc);
     one.factors.w2 = 1_000_000;
+    one.factors.p2_decay = 999_999;
     params.topics.push((topic, one))
 }
 
@@ -103,10 +104,24 @@ fn apply_each(scores: &mut Scores, marks: &[Mark], count: u32) -> Result<u32, Be
     Ok(counted(scores, marks))
 }
 
-/// Applies each mark, and makes a score so many times.
-fn score_each(scores: &mut Scores, marks: &[Mark], count: u32) -> Result<u32, BenchFault> {
+fn decay(scores: &mut Scores) {
+    if scores.decays() < 1 << 63 {
+        scores.decay();
+    }
+}
+
+/// Applies each mark, and makes a score so many times, so many decays later.
+fn score_each(
+    scores: &mut Scores,
+    marks: &[Mark],
+    decays: u32,
+    count: u32,
+) -> Result<u32, BenchFault> {
     for mark in marks {
         apply(scores, mark)?;
+    }
+    for _ in 0..decays {
+        decay(scores);
     }
     let mut sum: u32 = 0;
     for _ in 0..count {
@@ -121,8 +136,8 @@ fn score_each(scores: &mut Scores, marks: &[Mark], count: u32) -> Result<u32, Be
 pub(crate) enum Work {
     /// Marks are applied.
     Apply,
-    /// A score is made over all topics.
-    Score,
+    /// A score is made over all topics, so many decays after the marks.
+    Score(u32),
 }
 
 /// Does so much work over so many topics with these scores.
@@ -136,7 +151,7 @@ fn work_on(
     let marks = firsts(alloc, topics)?;
     match work {
         Work::Apply => apply_each(scores, &marks, count),
-        Work::Score => score_each(scores, &marks, count),
+        Work::Score(decays) => score_each(scores, &marks, decays, count),
     }
 }
 

@@ -30,13 +30,97 @@ impl Decay {
         }
         left
     }
+
+    /// What so many steps leave of a value. It ends where a step changes nothing, or leaves nothing, and makes steps
+    /// at once that take the same: a counter that was not looked at for long costs no more than the ways in which a
+    /// step changes it.
+    fn after(self, value: u64, steps: u64) -> u64
+        requires factor { self.factor ≤ 10 ^ 6 }
+        requires value { value ≤ 10 ^ 12 }
+        ensures value { result ≡ decayed self steps value }
+        ensures falls { result ≤ value }
+    {
+        let mut held = value;
+        let mut left = steps;
+        while 0 < left {
+            let next = self.step(held);
+            if next == held {
+                return held;
+            }
+            if next == 0 {
+                return 0;
+            }
+            let (taken, rest) = self.stride(held, next, left);
+            held = rest;
+            left -= taken;
+        }
+        held
+    }
+
+    /// As many of the next steps as take the same of a value, at most so many, and what they leave of it: the next
+    /// one alone where looking for more would cost more.
+    fn stride(self, value: u64, next: u64, most: u64) -> (u64, u64)
+        requires factor { self.factor ≤ 10 ^ 6 }
+        requires value { value ≤ 10 ^ 12 }
+        requires next { next ≡ decay_step self value }
+        requires some { 0 < next }
+        requires falls { next < value }
+        requires most { 0 < most }
+        ensures some { 0 < result.0 }
+        ensures most { result.0 ≤ most }
+        ensures value { decayed self result.0 value ≡ result.1 }
+        ensures falls { result.1 ≤ value }
+    {
+        if most < FEW_STEPS {
+            return (1, next);
+        }
+        let fall = value - next;
+        let steps = self.even_steps(value, fall).min(most);
+        if steps == 1 {
+            return (1, next);
+        }
+        let taken = steps.saturating_mul(fall);
+        if value < taken {
+            return (1, next);
+        }
+        let rest = value - taken;
+        if rest < self.floor {
+            return (1, next);
+        }
+        // The first of them and the last take the same, and so do those between them.
+        if scaled(self.factor, rest + fall) != rest {
+            return (1, next);
+        }
+        (steps, rest)
+    }
+
+    /// How many steps in a row take the same of a value as the first. That is a share of it, rounded up: it stays
+    /// while the product does not fall to the next whole number, and while the floor is not passed. Of few steps it
+    /// is 1.
+    fn even_steps(self, value: u64, fall: u64) -> u64
+        ensures { 0 < result }
+    {
+        let share = 1_000_000_u64.saturating_sub(self.factor);
+        let pace = share.saturating_mul(fall);
+        if STEEP < pace {
+            return 1;
+        }
+        let room = share.saturating_mul(value).saturating_sub(1) % 1_000_000;
+        let above = value.saturating_sub(self.floor) / fall.max(1);
+        (room / pace.max(1)).saturating_add(1).min(above).max(1)
+    }
 }
+
+/// Fewer steps than these are made one by one.
+const FEW_STEPS: u64 = 8;
+
+/// Steps that fall faster take the same a few times in a row at most: by this many millionths of a millionth.
+const STEEP: u64 = 250_000;
 
 /// A counter that decays by steps, which are numbered by ticks from 1 on.
 ///
 /// It keeps a value and the tick up to which that was decayed. A read applies the steps that are missing and
-/// keeps nothing of them; a raise applies them too, and keeps what it makes. The steps stop where one changes
-/// nothing, so that a counter that was not looked at for long costs no more than its way to 0.
+/// keeps nothing of them; a raise applies them too, and keeps what it makes.
 #[derive(Clone, Copy, Debug, PartialEq, Eq)]
 pub struct Counter {
     value: u64,
@@ -71,15 +155,11 @@ impl Counter {
         ensures value { result ≡ read_at decay tick self.now }
         ensures most { result ≤ 10 ^ 12 }
     {
-        let mut value = self.value;
-        for _step in 0..tick.saturating_sub(self.tick) {
-            let next = decay.step(value);
-            if next == value {
-                return value;
-            }
-            value = next;
+        let missing = tick.saturating_sub(self.tick);
+        if missing == 0 {
+            return self.value;
         }
-        value
+        decay.after(self.value, missing)
     }
 
     /// Raises the value that it has at a tick by an amount, up to a cap, in millionths.

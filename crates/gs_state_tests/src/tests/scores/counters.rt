@@ -25,7 +25,7 @@ const CAP: u64 = 100_000_000;
 const ONE: Act = Act::Raise(1_000_000, CAP);
 
 /// A factor of a half, and cases in which it is one.
-static CASES: [Case; 11] = [
+static CASES: [Case; 21] = [
     Case {
         factor: 500_000,
         acts: &[],
@@ -80,6 +80,69 @@ static CASES: [Case; 11] = [
         factor: 500_000,
         acts: &[ONE, Act::Steps(1 << 63)],
         stored: (1_000_000, 0),
+        read: 0,
+    },
+    // Each step takes a millionth, rounded up: 1 of up to a million, 5 of more than four and up to five.
+    Case {
+        factor: 999_999,
+        acts: &[ONE, Act::Steps(100_000)],
+        stored: (1_000_000, 0),
+        read: 900_000,
+    },
+    Case {
+        factor: 999_999,
+        acts: &[ONE, Act::Steps(990_000)],
+        stored: (1_000_000, 0),
+        read: 10_000,
+    },
+    Case {
+        factor: 999_999,
+        acts: &[ONE, Act::Steps(990_001)],
+        stored: (1_000_000, 0),
+        read: 0,
+    },
+    Case {
+        factor: 999_999,
+        acts: &[Act::Raise(5_000_000, CAP), Act::Steps(200_000)],
+        stored: (5_000_000, 0),
+        read: 4_000_000,
+    },
+    Case {
+        factor: 999_999,
+        acts: &[Act::Raise(5_000_000, CAP), Act::Steps(200_001)],
+        stored: (5_000_000, 0),
+        read: 3_999_996,
+    },
+    Case {
+        factor: 999_999,
+        acts: &[Act::Raise(5_000_000, CAP), Act::Steps(300_000), ONE],
+        stored: (4_600_000, 300_000),
+        read: 4_600_000,
+    },
+    // A thousandth: 50 steps of 20, then steps of 19.
+    Case {
+        factor: 999_000,
+        acts: &[Act::Raise(20_000, CAP), Act::Steps(50)],
+        stored: (20_000, 0),
+        read: 19_000,
+    },
+    Case {
+        factor: 999_000,
+        acts: &[Act::Raise(20_000, CAP), Act::Steps(60)],
+        stored: (20_000, 0),
+        read: 18_810,
+    },
+    // Steps of 11: the tenth would leave 9,990, which is below the floor.
+    Case {
+        factor: 999_000,
+        acts: &[Act::Raise(10_100, CAP), Act::Steps(9)],
+        stored: (10_100, 0),
+        read: 10_001,
+    },
+    Case {
+        factor: 999_000,
+        acts: &[Act::Raise(10_100, CAP), Act::Steps(10)],
+        stored: (10_100, 0),
         read: 0,
     },
     // The cap holds for the sum.
