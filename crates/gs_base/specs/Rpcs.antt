@@ -1,9 +1,13 @@
 -- The RPCs that a router sends.
-use Rattle.std.specs.Prelude.{ℕ, min, Bool, List, [], ◌∷◌, None, Some}
+use Rattle.std.specs.Prelude.{ℕ, min, Bool, List, [], ◌∷◌, Option, None, Some, slice_get, unwrap_or}
 use Rattle.gs_base.specs.declared.names.Topic.{Topic}
 use Rattle.gs_base.specs.declared.rpc.Message.{Message}
 use Rattle.gs_base.specs.declared.rpc.Rpc.{Rpc}
 use Rattle.gs_base.specs.declared.control.Control.{Control}
+use Rattle.gs_base.specs.declared.control.IHave.{IHave}
+use Rattle.gs_base.specs.declared.control.IWant.{IWant}
+use Rattle.gs_base.specs.declared.control.Graft.{Graft}
+use Rattle.gs_base.specs.declared.control.Prune.{Prune}
 
 -- the longest backoff that is asked for, or heeded, in seconds
 abbrev pub longest_backoff : ℕ
@@ -37,6 +41,30 @@ unsigned topic payload = record {
   signature = None;
   key = None;
 }
+
+-- what a list has at a place, counted from 0, and what counts as that where it has nothing there
+abbrev pub part_at : {P : Type 0} → P → List P → ℕ → P
+part_at bare parts place = unwrap_or (slice_get parts place) bare
+
+-- the offers among control messages
+abbrev pub offers_in : Option Control → List IHave
+offers_in None = []
+offers_in (Some control) = control.ihave
+
+-- the requests
+abbrev pub requests_in : Option Control → List IWant
+requests_in None = []
+requests_in (Some control) = control.iwant
+
+-- the grafts
+abbrev pub grafts_in : Option Control → List Graft
+grafts_in None = []
+grafts_in (Some control) = control.graft
+
+-- the prunes
+abbrev pub prunes_in : Option Control → List Prune
+prunes_in None = []
+prunes_in (Some control) = control.prune
 
 -- a message by itself, as it was heard
 abbrev pub passed_on : Message → Rpc

@@ -8,6 +8,7 @@ use crate::control::Control;
 use crate::exact::{ExactClone, clone_of, clone_option};
 use crate::names::Topic;
 use crate::seq::Seq;
+use crate::shared::Shared;
 use bytes::Bytes;
 pub use sent::{LONGEST_BACKOFF, MOST_IDENTIFIERS, limits_of_rpcs};
 use std::alloc::AllocError;
@@ -51,18 +52,18 @@ impl ExactClone for SubOpt {
 /// A published message (`Message`). Under StrictNoSign only `payload` and `topic` are present.
 #[derive(Debug, Drop, PartialEq, Eq)]
 pub struct Message {
-    /// The author (`from`).
-    pub origin: Option<Bytes>,
+    /// The author (`from`). This field and the others that StrictNoSign forbids stand apart, so that a message is small.
+    pub origin: Option<Shared<Bytes>>,
     /// What is published (`data`).
     pub payload: Option<Bytes>,
     /// The author's number of the message (`seqno`).
-    pub seqno: Option<Bytes>,
+    pub seqno: Option<Shared<Bytes>>,
     /// The topic that it is published on.
     pub topic: Option<Topic>,
     /// The author's signature.
-    pub signature: Option<Bytes>,
+    pub signature: Option<Shared<Bytes>>,
     /// The author's public key.
-    pub key: Option<Bytes>,
+    pub key: Option<Shared<Bytes>>,
 }
 
 impl Clone for Message {

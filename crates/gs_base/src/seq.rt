@@ -86,6 +86,15 @@ impl<T: Drop> Seq<T> {
     }
 }
 
+impl<T: Drop> Seq<T> {
+    /// Gives back the memory for elements to come.
+    pub fn shrink_to_fit(&mut self)
+        ensures { self.new ≡ self.old }
+    {
+        self.items.shrink_to_fit();
+    }
+}
+
 impl<T> From<Vec<T>> for Seq<T> {
     ghost from_gives = { λ items list. list ≡ items.items };
 

@@ -6,6 +6,7 @@ use gs_base::{
 };
 use std::alloc::{AllocError, Global};
 
+mod parts;
 mod sent;
 
 fn topic(alloc: Global) -> Result<Topic, AllocError> {
@@ -208,11 +209,12 @@ fn what_is_absent_in_a_message_is_empty(rt: HostRuntime) -> Result<(), AllocErro
 fn is_signed_by(alloc: Global, field: u8) -> Result<bool, AllocError> {
     let mut message = message(alloc, b"abc")?;
     let is_plain = !message.is_signed();
+    let empty = Some(Shared::new(alloc, Bytes::new())?);
     match field {
-        0 => message.origin = Some(Bytes::new()),
-        1 => message.seqno = Some(Bytes::new()),
-        2 => message.signature = Some(Bytes::new()),
-        _ => message.key = Some(Bytes::new()),
+        0 => message.origin = empty,
+        1 => message.seqno = empty,
+        2 => message.signature = empty,
+        _ => message.key = empty,
     }
     Ok(is_plain && message.is_signed())
 }

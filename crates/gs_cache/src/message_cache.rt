@@ -10,7 +10,7 @@ ghost use Rattle.gs_cache.specs.CachedMessages.{IsAnswer, IsSetUpAlike, aged, al
 use crate::message_cache::announcing::{announce, announces_any};
 use crate::message_cache::window::{Window, age_of, find};
 pub use announcing::MOST_ANNOUNCED;
-use gs_base::{Message, MsgId, PeerNo, Seq, Shared, Topic};
+use gs_base::{Message, MsgId, PeerNo, Seq, SharedPart, Topic};
 use std::alloc::{AllocError, Global};
 use std::marker::Model;
 
@@ -18,7 +18,7 @@ use std::marker::Model;
 #[derive(Debug, Drop)]
 pub enum Answer<'a> {
     /// The message, of which the neighbour has answers left.
-    Given(&'a Shared<Message>),
+    Given(&'a SharedPart<Message>),
     /// Nothing: it got the message as often as it may since the last put.
     Spent,
     /// Nothing: the message is not held.
@@ -101,7 +101,7 @@ impl MessageCache {
         &mut self,
         id: MsgId,
         topic: Topic,
-        message: Shared<Message>,
+        message: SharedPart<Message>,
     ) -> Result<(), AllocError>
         ensures holds { OnOk result ((other : MsgIdValue)
             → cached self.new other ≡ put_anew id topic message other (cached self.old other)) }

@@ -4,7 +4,7 @@ ghost use Rattle.gs_figures.specs.Counts.{counts_by, counts_in, counts_of, count
 
 use crate::fate::{Fate, fate_by};
 use gs_base::{Control, Mark, PeerNo, Rpc, Shared};
-use gs_rules::{Entry, Event};
+use gs_rules::{Event, StoredEntry};
 
 /// How many parts RPCs have of each kind, beside changes of subscriptions.
 #[derive(Clone, Copy, Debug, PartialEq, Eq)]
@@ -148,7 +148,7 @@ impl Counts {
 }
 
 /// What these entries count for together.
-pub(crate) fn counts_in(entries: &[Entry]) -> Counts
+pub(crate) fn counts_in(entries: &[StoredEntry]) -> Counts
     ensures { result ≡ counts_in entries.now }
 {
     let mut sum = no_counts();
@@ -158,12 +158,12 @@ pub(crate) fn counts_in(entries: &[Entry]) -> Counts
     sum
 }
 
-fn counts_of(entry: &Entry) -> Counts
+fn counts_of(entry: &StoredEntry) -> Counts
     ensures { result ≡ counts_of entry.now }
 {
     Counts {
-        sent: parts_sent(entry.sends.as_slice()),
-        ..counts_by(&entry.event, entry.marks.as_slice())
+        sent: parts_sent(entry.sends()),
+        ..counts_by(entry.event(), entry.marks())
     }
 }
 

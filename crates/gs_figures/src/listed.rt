@@ -6,7 +6,7 @@ ghost use Rattle.gs_figures.specs.Publications.{changed_at, changed_by, delivere
 use bytes::Bytes;
 use gs_base::{ExactClone, Millis, PeerNo, Seq, Topic, clone_of};
 use gs_report::Finished;
-use gs_rules::{Entry, Event};
+use gs_rules::{Event, StoredEntry};
 use std::alloc::{AllocError, Global};
 
 /// A payload on a topic that a peer published, or that was delivered to its user.
@@ -106,12 +106,12 @@ fn changes(alloc: Global, peers: &[(PeerNo, Finished)]) -> Result<Seq<Change>, A
 fn list_publications(
     list: &mut Seq<Appearance>,
     peer: PeerNo,
-    entries: &[Entry],
+    entries: &[StoredEntry],
 ) -> Result<(), AllocError>
     ensures { OnOk result (list.new ≡ list.old ++ flat_map (λ e. published_by peer e.at e.event) entries.now) }
 {
     for entry in entries {
-        list_publication(list, peer, entry.at, &entry.event)?;
+        list_publication(list, peer, entry.at(), entry.event())?;
     }
     Ok(())
 }
@@ -119,21 +119,25 @@ fn list_publications(
 fn list_deliveries(
     list: &mut Seq<Appearance>,
     peer: PeerNo,
-    entries: &[Entry],
+    entries: &[StoredEntry],
 ) -> Result<(), AllocError>
     ensures { OnOk result (list.new ≡ list.old ++ flat_map (λ e. delivered_by peer e.at e.delivered) entries.now) }
 {
     for entry in entries {
-        list_delivered(list, peer, entry.at, entry.delivered.as_slice())?;
+        list_delivered(list, peer, entry.at(), entry.delivered())?;
     }
     Ok(())
 }
 
-fn list_changes(list: &mut Seq<Change>, peer: PeerNo, entries: &[Entry]) -> Result<(), AllocError>
+fn list_changes(
+    list: &mut Seq<Change>,
+    peer: PeerNo,
+    entries: &[StoredEntry],
+) -> Result<(), AllocError>
     ensures { OnOk result (list.new ≡ list.old ++ flat_map (λ e. changed_by peer e.at e.event) entries.now) }
 {
     for entry in entries {
-        list_changed(list, peer, entry.at, &entry.event)?;
+        list_changed(list, peer, entry.at(), entry.event())?;
     }
     Ok(())
 }

@@ -8,7 +8,7 @@ use crate::counts::{Counts, counts_in, no_counts};
 use crate::span::{Span, widened};
 use gs_base::{PeerNo, Seq, Topic, clone_of};
 use gs_report::Finished;
-use gs_rules::{Entry, Event};
+use gs_rules::{Event, StoredEntry};
 use std::alloc::{AllocError, Global};
 
 /// What a run's report says of a peer.
@@ -133,12 +133,12 @@ fn members_in(members: &[(Topic, PeerNo)], topic: &Topic) -> u64
 }
 
 /// The topics that a peer is subscribed to behind these entries.
-fn subscribed(alloc: Global, entries: &[Entry]) -> Result<Vec<Topic>, AllocError>
+fn subscribed(alloc: Global, entries: &[StoredEntry]) -> Result<Vec<Topic>, AllocError>
     ensures { IfOk result (λ topics. topics.items ≡ subscribed (reverse entries.now)) }
 {
     let mut topics = Vec::new(alloc);
     for entry in entries {
-        note(&mut topics, &entry.event)?;
+        note(&mut topics, entry.event())?;
     }
     Ok(topics)
 }

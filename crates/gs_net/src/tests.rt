@@ -32,13 +32,13 @@ const SCRIPT: &str = "\
 fn delivered(life: &Finished, moments: &[u64]) -> bool {
     let mut left = moments;
     for entry in life.trace.entries() {
-        for (topic, payload) in entry.delivered.as_slice() {
+        for (topic, payload) in entry.delivered() {
             let [first, rest @ ..] = left else {
                 return false;
             };
             let is_abc = topic.0.as_slice() == b"news".as_slice()
                 && payload.as_slice() == b"abc".as_slice();
-            if entry.at.0 != *first || !is_abc {
+            if entry.at().0 != *first || !is_abc {
                 return false;
             }
             left = rest;

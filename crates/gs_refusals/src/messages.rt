@@ -1,7 +1,7 @@
 //! Which messages are kept.
 use crate::seen::Seen;
 use bytes::Bytes;
-use gs_base::{Message, MsgId, PeerNo, Seq, Shared, Topic};
+use gs_base::{Message, MsgId, PeerNo, Seq, SharedPart, Topic};
 use gs_cache::{Answer, MessageCache};
 use std::alloc::{AllocError, Global};
 
@@ -65,7 +65,7 @@ fn topic(alloc: Global) -> Result<Topic, AllocError> {
     Ok(Topic(Bytes::copy_from_slice(alloc, b"a")?))
 }
 
-fn message(alloc: Global, number: u8) -> Result<Shared<Message>, AllocError> {
+fn message(alloc: Global, number: u8) -> Result<SharedPart<Message>, AllocError> {
     let message = Message {
         origin: None,
         payload: Some(Bytes::copy_from_slice(alloc, &[number])?),
@@ -74,7 +74,7 @@ fn message(alloc: Global, number: u8) -> Result<Shared<Message>, AllocError> {
         signature: None,
         key: None,
     };
-    Shared::new(alloc, message)
+    message.share(alloc)
 }
 
 /// Does an act, and tells whether memory was wanting for the cache.

@@ -8,7 +8,7 @@ use gs_router_calls::Act::{
     Unsubscribe,
 };
 use gs_router_calls::{Act, Case, Player, Said};
-use gs_rules::{Entry, Refusal};
+use gs_rules::{Refusal, StoredEntry};
 use std::alloc::{AllocError, Global};
 
 /// Each call of a router; some of them may also be refused for another reason, and some have nothing to do.
@@ -67,18 +67,18 @@ fn told(router: &Router, now: Millis) -> Result<Reading, AllocError> {
 }
 
 /// How many RPCs entries send.
-fn sends_in(entries: &[Entry]) -> usize {
+fn sends_in(entries: &[StoredEntry]) -> usize {
     let mut count = 0usize;
     for entry in entries {
-        count = count.saturating_add(entry.sends.len());
+        count = count.saturating_add(entry.sends().len());
     }
     count
 }
 
 /// How often an entry charges a neighbour for its behaviour.
-fn charges_of(entry: &Entry) -> usize {
+fn charges_of(entry: &StoredEntry) -> usize {
     let mut count = 0usize;
-    for mark in entry.marks.as_slice() {
+    for mark in entry.marks() {
         if let Mark::Misbehaviour(_) = mark {
             count = count.saturating_add(1);
         }
@@ -86,12 +86,19 @@ fn charges_of(entry: &Entry) -> usize {
     count
 }
 
-fn charges_in(entries: &[Entry]) -> usize {
+fn charges_in(entries: &[StoredEntry]) -> usize {
     let mut count = 0usize;
     for entry in entries {
         count = count.saturating_add(charges_of(entry));
     }
     count
+}
+
+/// Whether two entries say the same.
+fn are_one(entry: &StoredEntry, other: &StoredEntry) -> bool {
+    let is_event = entry.at() == other.at() && entry.event() == other.event();
+    let is_told = entry.sends() == other.sends() && entry.delivered() == other.delivered();
+    is_event && is_told && entry.promise() == other.promise() && entry.marks() == other.marks()
 }
 
 /// Whether these are the members of meshes, in order.
@@ -130,7 +137,12 @@ impl Pair {
     /// Whether the second one's entries are the first of the first one's.
     fn is_front(&self) -> bool {
         let whole = self.whole.router().trace().entries();
-        whole.starts_with(self.tried.router().trace().entries())
+        let tried = self.tried.router().trace().entries();
+        let mut is_front = tried.len() <= whole.len();
+        for (entry, other) in tried.iter().zip(whole) {
+            is_front = is_front && are_one(entry, other);
+        }
+        is_front
     }
 
     /// Whether the second one, which had these many entries, was left with a front of what the first one has, where the

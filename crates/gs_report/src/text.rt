@@ -6,7 +6,7 @@ use crate::{Finished, Report};
 use bytes::Bytes;
 use gs_base::{Millis, PeerNo, Topic};
 use gs_plan::{Plan, what_word};
-use gs_rules::{Entry, Event, RefusedLine};
+use gs_rules::{Event, RefusedLine, StoredEntry};
 use std::alloc::{AllocError, Global};
 
 /// The text of a run's report, as docs/FORMATS.md lists its lines: first one for each message that was delivered,
@@ -84,12 +84,12 @@ fn push_entries(
     alloc: Global,
     text: &mut Vec<u8>,
     name: &str,
-    entries: &[Entry],
+    entries: &[StoredEntry],
 ) -> Result<(), AllocError>
     ensures { OnOk result (text.new.items ≡ text.old.items ++ flat_map (entry_lines name.now) entries.now) }
 {
     for entry in entries {
-        push_deliveries(alloc, text, name, entry.at, entry.delivered.as_slice())?;
+        push_deliveries(alloc, text, name, entry.at(), entry.delivered())?;
     }
     Ok(())
 }
@@ -169,7 +169,7 @@ fn push_faults(
     text: &mut Vec<u8>,
     plan: &Plan,
     name: &str,
-    trace: &[Entry],
+    trace: &[StoredEntry],
 ) -> Result<(), AllocError>
     ensures { OnOk result (text.new.items ≡ text.old.items ++ flat_map (entry_faults plan.now name.now) trace.now) }
 {
@@ -185,13 +185,13 @@ fn push_fault(
     text: &mut Vec<u8>,
     plan: &Plan,
     name: &str,
-    entry: &Entry,
+    entry: &StoredEntry,
 ) -> Result<(), AllocError>
     ensures { OnOk result (text.new.items ≡ text.old.items ++ entry_faults plan.now name.now entry.now) }
 {
-    match at_fault(&entry.event) {
+    match at_fault(entry.event()) {
         Some(peer) => {
-            let moment = entry.at.0;
+            let moment = entry.at().0;
             let neighbour = name_of(plan, peer);
             let told = format!(in alloc; "fault {name} {moment} {neighbour}\n")?;
             text.extend_from_slice(told.as_bytes())

@@ -4,7 +4,7 @@ use Rattle.gs_base.specs.declared.names.PeerNo.{PeerNo}
 use Rattle.gs_base.specs.declared.rpc.Rpc.{Rpc}
 use Rattle.gs_rules.specs.declared.trace.Event.{Event}
 use Rattle.gs_rules.specs.declared.trace.Event.TheVariants.{Msg, Have, Want, GraftIn, PruneIn}
-use Rattle.gs_rules.specs.Owed.{grafts_in, offers_in, prunes_in, requests_in}
+use Rattle.gs_base.specs.Rpcs.{grafts_in, offers_in, prunes_in, requests_in}
 
 abbrev pub behind_grafts : PeerNo → Rpc → List Event
 behind_grafts q rpc = map (PruneIn q) (prunes_in rpc.control)

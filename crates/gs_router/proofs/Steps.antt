@@ -1,6 +1,8 @@
 -- One more entry of a router's trace.
 use Rattle.std.proofs.Common.{◌≡◌, ◌≢◌, ◌≤◌, ◌<◌, ◌+◌, arith, ℕ, drop, get_or, length, Bool, true, false, if◌then◌else◌, List, [], ◌∷◌, ◌++◌, Option, None, Some, Result, Ok, Err, refl, sym, ap, ap₂, subst, subst₂, ◌∙◌, inl, inr}
 use Rattle.std.proofs.lemmas.List.{drop_more}
+use Rattle.std.proofs.lemmas.Option.{unwrap_or-slice_get}
+use Rattle.gs_base.specs.Rpcs.{part_at}
 use Rattle.std.specs.Prelude.{not, nat_le, nat_lt, unwrap_or, OnOk, OnErr, IsErr}
 use Rattle.gs_base.specs.declared.names.PeerNo.{PeerNo}
 use Rattle.gs_base.specs.declared.names.Millis.{Millis}
@@ -264,6 +266,11 @@ next_opens p L at event settled may = subst (λ (debt : Debt). IsNext p L at deb
 -- what is left of a list, with the next in front
 pub next_left : {X : Type 0} (xs : List X) (place : ℕ) (x : X) → place < length xs → x ≡ get_or xs place x → drop place xs ≡ x ∷ drop (place + 1) xs
 next_left xs place x below there = drop_more xs place x below ∙ ap (λ y. y ∷ drop (place + 1) xs) (sym there)
+
+-- the part at a place comes next of those from there on
+pub next_part : {X : Type 0} (bare : X) (parts : List X) (place : ℕ) (x : X) → place < length parts → x ≡ part_at bare parts place → drop place parts ≡ x ∷ drop (place + 1) parts
+next_part bare parts place x below there =
+    drop_more parts place bare below ∙ ap (λ y. y ∷ drop (place + 1) parts) (sym (there ∙ unwrap_or-slice_get parts place bare))
 
 -- these events are left of the group that was reached, and these groups are behind it
 abbrev pub left_with : Peer → Entries → List Event → List Group → Debt

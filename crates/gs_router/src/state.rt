@@ -1,9 +1,10 @@
 //! What a router knows, and how it takes a step.
-ghost use Rattle.std.specs.Prelude.{◌≡◌, ◌≤◌, [], ◌∷◌, length, OnOk, OnErr, true, false};
+ghost use Rattle.std.specs.Prelude.{◌≡◌, ◌<◌, ◌≤◌, [], ◌∷◌, length, IfOk, OnOk, OnErr, true, false};
+ghost use Rattle.gs_base.specs.Rpcs.{part_at};
 ghost use Rattle.gs_wire.specs.Codec.{codec};
 ghost use Rattle.gs_rules.specs.declared.trace.Event.TheVariants as events;
 ghost use Rattle.gs_rules.specs.Tables.{Entries, last_moment, up};
-ghost use Rattle.gs_rules.specs.Owed.{grafts_in, offers_in, owes, prunes_in, requests_in};
+ghost use Rattle.gs_rules.specs.Owed.{owes};
 ghost use Rattle.gs_rules.specs.Modes.{exact};
 ghost use Rattle.gs_rules.specs.Legal.{MayHear, MayOpen, hearing};
 ghost use Rattle.gs_rules.specs.Peers.{Peer};
@@ -18,7 +19,8 @@ mod scores;
 use crate::entries;
 use crate::known::Known;
 use gs_base::{
-    Control, Graft, IHave, IWant, Message, Millis, PeerNo, Prune, Rpc, Shared, SubOpt, clone_of,
+    Graft, IHave, IWant, Message, Millis, Part, PeerNo, Prune, Rpc, Shared, SharedPart, SubOpt,
+    clone_of,
 };
 use gs_cache::Payloads;
 use gs_params::Words;
@@ -118,6 +120,8 @@ impl State {
         ensures { Ends (exact W.word W.after) (hearing self.old.trace from rpc) now
             self.old words.old result self.new words.new }
     {
+        let mut rpc = rpc;
+        rpc.publish.shrink_to_fit();
         let rpc = Shared::new(self.known.alloc, rpc)?;
         if !self.known.tables.neighbours.is_up(from) {
             return self.open(payloads, Event::Late(from, rpc), now, words);
@@ -145,23 +149,28 @@ impl State {
     {
         let heard = clone_of(&rpc)?;
         self.step(Event::Heard(from, heard), now, words)?;
-        let parts = rpc.get();
-        for sub in parts.subs.as_slice() {
+        for sub_place in 0..SubOpt::parts_of(rpc.get()).len() {
+            let sub = part_at(&rpc, sub_place)?;
             self.hear_sub(from, sub, now, words)?;
         }
-        for message in parts.publish.as_slice() {
+        for message_place in 0..Message::parts_of(rpc.get()).len() {
+            let message = part_at(&rpc, message_place)?;
             self.hear_message(payloads, from, message, now, words)?;
         }
-        for offer in offers_in(&parts.control) {
+        for offer_place in 0..IHave::parts_of(rpc.get()).len() {
+            let offer = part_at(&rpc, offer_place)?;
             self.hear_offer(from, offer, now, words)?;
         }
-        for request in requests_in(&parts.control) {
+        for request_place in 0..IWant::parts_of(rpc.get()).len() {
+            let request = part_at(&rpc, request_place)?;
             self.hear_request(from, request, now, words)?;
         }
-        for graft in grafts_in(&parts.control) {
+        for graft_place in 0..Graft::parts_of(rpc.get()).len() {
+            let graft = part_at(&rpc, graft_place)?;
             self.hear_graft(from, graft, now, words)?;
         }
-        for prune in prunes_in(&parts.control) {
+        for prune_place in 0..Prune::parts_of(rpc.get()).len() {
+            let prune = part_at(&rpc, prune_place)?;
             self.hear_prune(from, prune, now, words)?;
         }
         Ok(())
@@ -171,16 +180,15 @@ impl State {
     fn hear_sub<W: Words>(
         &mut self,
         from: PeerNo,
-        sub: &SubOpt,
+        sub: SharedPart<SubOpt>,
         now: Millis,
         words: &mut W,
     ) -> Result<(), AllocError>
         requires current { IsCurrent self.old }
         requires time { last_moment self.old.trace ≤ now.0 }
-        requires next { IsDue self.old now (events.Sub from sub.now) }
-        ensures { Steps (exact W.word W.after) (events.Sub from sub.now) now self.old words.old result self.new words.new }
+        requires next { IsDue self.old now (events.Sub from sub) }
+        ensures { Steps (exact W.word W.after) (events.Sub from sub) now self.old words.old result self.new words.new }
     {
-        let sub = clone_of(sub)?;
         self.step(Event::Sub(from, sub), now, words)
     }
 
@@ -189,16 +197,15 @@ impl State {
         &mut self,
         payloads: &mut Payloads,
         from: PeerNo,
-        message: &Message,
+        message: SharedPart<Message>,
         now: Millis,
         words: &mut W,
     ) -> Result<(), AllocError>
         requires current { IsCurrent self.old }
         requires time { last_moment self.old.trace ≤ now.0 }
-        requires next { IsDue self.old now (events.Msg from message.now) }
-        ensures { Steps (exact W.word W.after) (events.Msg from message.now) now self.old words.old result self.new words.new }
+        requires next { IsDue self.old now (events.Msg from message) }
+        ensures { Steps (exact W.word W.after) (events.Msg from message) now self.old words.old result self.new words.new }
     {
-        let message = Shared::new(self.known.alloc, clone_of(message)?)?;
         self.step_with(payloads, Event::Msg(from, message), now, words)
     }
 
@@ -206,16 +213,15 @@ impl State {
     fn hear_offer<W: Words>(
         &mut self,
         from: PeerNo,
-        offer: &IHave,
+        offer: SharedPart<IHave>,
         now: Millis,
         words: &mut W,
     ) -> Result<(), AllocError>
         requires current { IsCurrent self.old }
         requires time { last_moment self.old.trace ≤ now.0 }
-        requires next { IsDue self.old now (events.Have from offer.now) }
-        ensures { Steps (exact W.word W.after) (events.Have from offer.now) now self.old words.old result self.new words.new }
+        requires next { IsDue self.old now (events.Have from offer) }
+        ensures { Steps (exact W.word W.after) (events.Have from offer) now self.old words.old result self.new words.new }
     {
-        let offer = Shared::new(self.known.alloc, clone_of(offer)?)?;
         self.step(Event::Have(from, offer), now, words)
     }
 
@@ -223,16 +229,15 @@ impl State {
     fn hear_request<W: Words>(
         &mut self,
         from: PeerNo,
-        request: &IWant,
+        request: SharedPart<IWant>,
         now: Millis,
         words: &mut W,
     ) -> Result<(), AllocError>
         requires current { IsCurrent self.old }
         requires time { last_moment self.old.trace ≤ now.0 }
-        requires next { IsDue self.old now (events.Want from request.now) }
-        ensures { Steps (exact W.word W.after) (events.Want from request.now) now self.old words.old result self.new words.new }
+        requires next { IsDue self.old now (events.Want from request) }
+        ensures { Steps (exact W.word W.after) (events.Want from request) now self.old words.old result self.new words.new }
     {
-        let request = Shared::new(self.known.alloc, clone_of(request)?)?;
         self.step(Event::Want(from, request), now, words)
     }
 
@@ -240,17 +245,16 @@ impl State {
     fn hear_graft<W: Words>(
         &mut self,
         from: PeerNo,
-        graft: &Graft,
+        graft: SharedPart<Graft>,
         now: Millis,
         words: &mut W,
     ) -> Result<(), AllocError>
         requires current { IsCurrent self.old }
         requires time { last_moment self.old.trace ≤ now.0 }
-        requires next { IsDue self.old now (events.GraftIn from graft.now) }
-        ensures { Steps (exact W.word W.after) (events.GraftIn from graft.now) now
+        requires next { IsDue self.old now (events.GraftIn from graft) }
+        ensures { Steps (exact W.word W.after) (events.GraftIn from graft) now
             self.old words.old result self.new words.new }
     {
-        let graft = clone_of(graft)?;
         self.step(Event::GraftIn(from, graft), now, words)
     }
 
@@ -258,53 +262,24 @@ impl State {
     fn hear_prune<W: Words>(
         &mut self,
         from: PeerNo,
-        prune: &Prune,
+        prune: SharedPart<Prune>,
         now: Millis,
         words: &mut W,
     ) -> Result<(), AllocError>
         requires current { IsCurrent self.old }
         requires time { last_moment self.old.trace ≤ now.0 }
-        requires next { IsDue self.old now (events.PruneIn from prune.now) }
-        ensures { Steps (exact W.word W.after) (events.PruneIn from prune.now) now
+        requires next { IsDue self.old now (events.PruneIn from prune) }
+        ensures { Steps (exact W.word W.after) (events.PruneIn from prune) now
             self.old words.old result self.new words.new }
     {
-        let prune = clone_of(prune)?;
         self.step(Event::PruneIn(from, prune), now, words)
     }
 }
 
-fn grafts_in(control: &Option<Control>) -> &[Graft]
-    ensures { result.now ≡ grafts_in control.now }
+/// The part at a place of a shared RPC's list.
+fn part_at<P: Part>(rpc: &Shared<Rpc>, place: usize) -> Result<SharedPart<P>, AllocError>
+    requires { place < length (P.parts rpc.now) }
+    ensures { IfOk result (λ part. part ≡ part_at P.bare (P.parts rpc.now) place) }
 {
-    match control {
-        Some(control) => control.graft.as_slice(),
-        None => &[],
-    }
-}
-
-fn prunes_in(control: &Option<Control>) -> &[Prune]
-    ensures { result.now ≡ prunes_in control.now }
-{
-    match control {
-        Some(control) => control.prune.as_slice(),
-        None => &[],
-    }
-}
-
-fn offers_in(control: &Option<Control>) -> &[IHave]
-    ensures { result.now ≡ offers_in control.now }
-{
-    match control {
-        Some(control) => control.ihave.as_slice(),
-        None => &[],
-    }
-}
-
-fn requests_in(control: &Option<Control>) -> &[IWant]
-    ensures { result.now ≡ requests_in control.now }
-{
-    match control {
-        Some(control) => control.iwant.as_slice(),
-        None => &[],
-    }
+    Ok(SharedPart::at(clone_of(rpc)?, place))
 }

@@ -5,7 +5,7 @@ use crate::shown::{
     text_of,
 };
 use gs_base::{Mark, Millis, MsgId, PeerNo, Verdict};
-use gs_rules::{Entry, Event, Promise, Trace};
+use gs_rules::{Event, Promise, StoredEntry, Trace};
 use std::alloc::AllocError;
 
 // ---- events
@@ -37,7 +37,7 @@ fn seen_of(event: &Event) -> Option<Seen<'_>> {
 fn say_handled(shown: &mut Shown, event: &Event) -> Result<(), AllocError> {
     let way = Way::Handled;
     match event {
-        Event::Sub(peer, sub) => shown.add(on_way(way, *peer, said_of_sub(sub))),
+        Event::Sub(peer, sub) => shown.add(on_way(way, *peer, said_of_sub(sub.get()))),
         Event::Msg(peer, message) => {
             shown.add(on_way(way, *peer, said_of_message(message.get())))
         }
@@ -47,9 +47,10 @@ fn say_handled(shown: &mut Shown, event: &Event) -> Result<(), AllocError> {
         }
         Event::Want(peer, request) => say_want(shown, way, *peer, request.get().ids.as_slice()),
         Event::GraftIn(peer, graft) => {
-            shown.add(on_way(way, *peer, Said::Graft(name_of(&graft.topic))))
+            shown.add(on_way(way, *peer, Said::Graft(name_of(&graft.get().topic))))
         }
         Event::PruneIn(peer, prune) => {
+            let prune = prune.get();
             let said = Said::Prune(name_of(&prune.topic), prune.backoff);
             shown.add(on_way(way, *peer, said))
         }
@@ -116,17 +117,17 @@ fn promised(promise: &Promise) -> Seen<'static> {
 }
 
 /// Adds what an entry sends, delivers, promises and marks.
-fn say_effects(shown: &mut Shown, entry: &Entry) -> Result<(), AllocError> {
-    for (peer, rpc) in entry.sends.as_slice() {
+fn say_effects(shown: &mut Shown, entry: &StoredEntry) -> Result<(), AllocError> {
+    for (peer, rpc) in entry.sends() {
         say_rpc(shown, Way::Sent, *peer, rpc.get())?;
     }
-    for (topic, payload) in entry.delivered.as_slice() {
+    for (topic, payload) in entry.delivered() {
         shown.add(Seen::Delivered(text_of(topic), payload.as_slice()))?;
     }
-    if let Some(promise) = &entry.promise {
-        shown.add(promised(promise.get()))?;
+    if let Some(promise) = entry.promise() {
+        shown.add(promised(promise))?;
     }
-    for mark in entry.marks.as_slice() {
+    for mark in entry.marks() {
         shown.add(said_by(mark))?;
     }
     Ok(())
@@ -135,15 +136,15 @@ fn say_effects(shown: &mut Shown, entry: &Entry) -> Result<(), AllocError> {
 /// Adds an entry of an act at this moment, with its event if all events are seen.
 fn say_entry(
     shown: &mut Shown,
-    entry: &Entry,
+    entry: &StoredEntry,
     now: Millis,
     events: bool,
 ) -> Result<(), AllocError> {
-    if entry.at != now {
-        shown.add(Seen::At(entry.at.0))?;
+    if entry.at() != now {
+        shown.add(Seen::At(entry.at().0))?;
     }
-    if events || is_of_a_beat(&entry.event) {
-        say_event(shown, &entry.event)?;
+    if events || is_of_a_beat(entry.event()) {
+        say_event(shown, entry.event())?;
     }
     say_effects(shown, entry)
 }
@@ -154,7 +155,7 @@ pub fn say_trace(shown: &mut Shown, trace: &Trace) -> Result<(), AllocError> {
     let mut before = Millis(0);
     for entry in trace.entries() {
         say_entry(shown, entry, before, true)?;
-        before = entry.at;
+        before = entry.at();
     }
     Ok(())
 }
@@ -162,7 +163,7 @@ pub fn say_trace(shown: &mut Shown, trace: &Trace) -> Result<(), AllocError> {
 /// Adds the entries of an act at this moment.
 pub fn say_entries(
     shown: &mut Shown,
-    entries: &[Entry],
+    entries: &[StoredEntry],
     now: Millis,
     events: bool,
 ) -> Result<(), AllocError> {

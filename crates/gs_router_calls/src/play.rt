@@ -228,7 +228,7 @@ fn all_steps(player: &mut Player, case: &Case<'_>) -> Result<(), AllocError> {
 pub fn events_in(alloc: Global, trace: &Trace) -> Result<String, AllocError> {
     let mut shown = nothing_shown(alloc);
     for entry in trace.entries() {
-        say_event(&mut shown, &entry.event)?;
+        say_event(&mut shown, entry.event())?;
     }
     Ok(shown.text)
 }

@@ -2,7 +2,9 @@
 use crate::cases::{Fields, Id, NO_FIELDS, NO_TOPIC, Said};
 use crate::routers::topic_of;
 use bytes::Bytes;
-use gs_base::{Control, Graft, IHave, IWant, Message, MsgId, Prune, Rpc, Seq, SubOpt, Topic};
+use gs_base::{
+    Control, Graft, IHave, IWant, Message, MsgId, Prune, Rpc, Seq, Shared, SubOpt, Topic,
+};
 use std::alloc::{AllocError, Global};
 
 /// The topic of this name, if it names one.
@@ -16,6 +18,13 @@ fn named(alloc: Global, name: &str) -> Result<Option<Topic>, AllocError> {
 fn field(alloc: Global, bytes: Option<&[u8]>) -> Result<Option<Bytes>, AllocError> {
     match bytes {
         Some(bytes) => Ok(Some(Bytes::copy_from_slice(alloc, bytes)?)),
+        None => Ok(None),
+    }
+}
+
+fn seldom_field(alloc: Global, bytes: Option<&[u8]>) -> Result<Option<Shared<Bytes>>, AllocError> {
+    match field(alloc, bytes)? {
+        Some(bytes) => Ok(Some(Shared::new(alloc, bytes)?)),
         None => Ok(None),
     }
 }
@@ -48,10 +57,10 @@ fn sub_of(alloc: Global, subscribe: Option<bool>, name: &str) -> Result<SubOpt, 
 fn fill(alloc: Global, message: &mut Message, fields: Fields<'_>) -> Result<(), AllocError> {
     message.topic = named(alloc, fields.topic)?;
     message.payload = field(alloc, fields.payload)?;
-    message.origin = field(alloc, fields.origin)?;
-    message.seqno = field(alloc, fields.seqno)?;
-    message.signature = field(alloc, fields.signature)?;
-    message.key = field(alloc, fields.key)?;
+    message.origin = seldom_field(alloc, fields.origin)?;
+    message.seqno = seldom_field(alloc, fields.seqno)?;
+    message.signature = seldom_field(alloc, fields.signature)?;
+    message.key = seldom_field(alloc, fields.key)?;
     Ok(())
 }
 

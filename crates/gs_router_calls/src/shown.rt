@@ -1,7 +1,7 @@
 //! What is seen of a router, as text.
 use crate::cases::{Fields, Id, NO_TOPIC, Said, Seen};
 use bytes::Bytes;
-use gs_base::{Control, Message, MsgId, PeerNo, Rpc, SubOpt, Topic};
+use gs_base::{Control, Message, MsgId, PeerNo, Rpc, Shared, SubOpt, Topic};
 use std::alloc::{AllocError, Global};
 
 /// The payloads by which identifiers are shown.
@@ -131,14 +131,21 @@ fn slice_of(bytes: &Option<Bytes>) -> Option<&[u8]> {
     }
 }
 
+fn slice_of_shared(bytes: &Option<Shared<Bytes>>) -> Option<&[u8]> {
+    match bytes {
+        Some(bytes) => Some(bytes.get().as_slice()),
+        None => None,
+    }
+}
+
 fn fields_of(message: &Message) -> Fields<'_> {
     Fields {
         topic: name_of(&message.topic),
         payload: slice_of(&message.payload),
-        origin: slice_of(&message.origin),
-        seqno: slice_of(&message.seqno),
-        signature: slice_of(&message.signature),
-        key: slice_of(&message.key),
+        origin: slice_of_shared(&message.origin),
+        seqno: slice_of_shared(&message.seqno),
+        signature: slice_of_shared(&message.signature),
+        key: slice_of_shared(&message.key),
     }
 }
 

@@ -14,7 +14,6 @@ use Rattle.gs_base.specs.declared.rpc.Rpc.{Rpc}
 use Rattle.gs_base.specs.Names.{same_id}
 use Rattle.gs_wire.specs.Codec.{codec}
 use Rattle.gs_wire.specs.Messages.{body, longest_body}
-use Rattle.gs_base.specs.Rpcs.{passed_on}
 use Rattle.gs_wire.specs.Fields.{len_record}
 use Rattle.gs_wire.proofs.RoundTrip.{all-append}
 use Rattle.gs_wire.proofs.SentOn.{passed_on_shorter}
@@ -24,7 +23,8 @@ use Rattle.gs_rules.specs.declared.trace.Event.TheVariants.{Heard, Sub, Msg, Hav
 use Rattle.gs_rules.specs.declared.trace.Entry.{Entry}
 use Rattle.gs_rules.specs.Peers.{Peer, windows}
 use Rattle.gs_rules.specs.Tables.{Entries, Keeping, after_marks, aged_after, blank, keeping, kept, kept_after, last_kept, message_in, older, own_topics}
-use Rattle.gs_rules.specs.Owed.{gossip_topics, grafts_in, heartbeat_groups, offers_in, owed, parts, prunes_in, requests_in}
+use Rattle.gs_base.specs.Rpcs.{grafts_in, offers_in, passed_on, prunes_in, requests_in}
+use Rattle.gs_rules.specs.Owed.{gossip_topics, heartbeat_groups, owed, parts}
 use Rattle.gs_rules.specs.Rules.{answer, answers, times_in, with_message}
 use Rattle.gs_rules.specs.Legal.{IsNext, Legal}
 use Rattle.gs_rules.proofs.Legality.{legal_newest}

@@ -18,7 +18,8 @@ use Rattle.gs_rules.specs.Tables.{Entries, own_topics}
 use Rattle.gs_rules.specs.Meshes.{fanout_topics, is_stale, last_published}
 use Rattle.gs_rules.specs.BeatRules.{fan_event}
 use Rattle.gs_rules.specs.Scoring.{is_graylisted}
-use Rattle.gs_rules.specs.Owed.{Group, PartsOf, Gossips, Debt, beats, events_in, gossip_topics, grafts_in, heartbeat_groups, held_or, nothing, offers_in, owes, owing, owed, paid, parts, prunes_in, reached, requests_in}
+use Rattle.gs_base.specs.Rpcs.{grafts_in, offers_in, prunes_in, requests_in}
+use Rattle.gs_rules.specs.Owed.{Group, PartsOf, Gossips, Debt, beats, events_in, gossip_topics, heartbeat_groups, held_or, nothing, owes, owing, owed, paid, parts, reached}
 use Rattle.gs_rules.specs.Legal.{IsNext, Legal, MayOpen}
 use Rattle.gs_rules.proofs.Each.{each_mapped, each_weaker, of_each}
 use Rattle.gs_rules.proofs.Legality.{legal_newest}

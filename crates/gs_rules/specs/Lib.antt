@@ -1,5 +1,6 @@
 pub mod Peers
 pub mod Tables
+pub mod Stored
 pub mod Meshes
 pub mod Arrivals
 pub mod Scoring

@@ -1,15 +1,11 @@
 -- What must come next. An event may owe others: after an RPC was heard, its parts follow, and a heartbeat mends the meshes
 -- and the fanouts, gossips and ends. What is owed comes in groups, and a group holds what there is when it is reached.
-use Rattle.std.specs.Prelude.{ℕ, Bool, true, false, if◌then◌else◌, List, [], ◌∷◌, ◌++◌, drop, filter, map, Option, Some, None}
+use Rattle.std.specs.Prelude.{ℕ, Bool, true, false, if◌then◌else◌, List, [], ◌∷◌, ◌++◌, drop, filter, map}
 use Rattle.gs_base.specs.declared.names.PeerNo.{PeerNo}
 use Rattle.gs_base.specs.declared.names.Topic.{Topic}
 use Rattle.gs_base.specs.declared.names.MsgId.{MsgId}
 use Rattle.gs_base.specs.declared.rpc.Rpc.{Rpc}
-use Rattle.gs_base.specs.declared.control.Control.{Control}
-use Rattle.gs_base.specs.declared.control.IHave.{IHave}
-use Rattle.gs_base.specs.declared.control.IWant.{IWant}
-use Rattle.gs_base.specs.declared.control.Graft.{Graft}
-use Rattle.gs_base.specs.declared.control.Prune.{Prune}
+use Rattle.gs_base.specs.Rpcs.{grafts_in, offers_in, prunes_in, requests_in}
 use Rattle.gs_rules.specs.declared.trace.Event.{Event}
 use Rattle.gs_rules.specs.declared.trace.Event.TheVariants.{Heard, Sub, Msg, Have, Want, GraftIn, PruneIn, BeatBegin, MeshBeat, GossipBeat, BeatEnd}
 use Rattle.gs_rules.specs.declared.trace.Entry.{Entry}
@@ -32,23 +28,6 @@ pub data Group : Type 0 where
   FanBeats : ℕ → Group
   -- the gossip of a heartbeat, and its end
   Gossips : Group
-
--- the offers, the requests, the grafts and the prunes of an RPC: where it has no control, there are none
-abbrev pub offers_in : Option Control → List IHave
-offers_in None = []
-offers_in (Some control) = control.ihave
-
-abbrev pub requests_in : Option Control → List IWant
-requests_in None = []
-requests_in (Some control) = control.iwant
-
-abbrev pub grafts_in : Option Control → List Graft
-grafts_in None = []
-grafts_in (Some control) = control.graft
-
-abbrev pub prunes_in : Option Control → List Prune
-prunes_in None = []
-prunes_in (Some control) = control.prune
 
 -- the parts of an RPC: its subscriptions, messages, offers, requests, grafts and prunes, each as they stand in it
 abbrev pub parts : PeerNo → Rpc → List Event

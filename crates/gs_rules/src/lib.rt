@@ -6,6 +6,7 @@ mod laws;
 mod member_laws;
 mod outcome;
 mod refusal;
+mod stored;
 mod trace;
 
 pub use laws::{
@@ -25,4 +26,5 @@ pub use member_laws::{
 };
 pub use outcome::Outcome;
 pub use refusal::{Refusal, RefusedLine};
+pub use stored::StoredEntry;
 pub use trace::{Entry, Event, Promise, Trace};

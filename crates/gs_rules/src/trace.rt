@@ -2,10 +2,11 @@
 ghost use Rattle.std.specs.Prelude.{◌≡◌, ◌<◌, ◌^◌, [], ◌∷◌, length, OnOk, OnErr};
 ghost use Rattle.gs_rules.specs.Tables.{lost};
 
+use crate::stored::StoredEntry;
 use bytes::Bytes;
 use gs_base::{
-    Graft, IHave, IWant, Mark, Message, Millis, MsgId, PeerNo, Prune, Rpc, Seq, Shared, SubOpt,
-    Topic,
+    Graft, IHave, IWant, Mark, Message, Millis, MsgId, PeerNo, Prune, Rpc, Seq, Shared, SharedPart,
+    SubOpt, Topic,
 };
 use std::alloc::{AllocError, Global};
 use std::marker::Model;
@@ -18,17 +19,17 @@ pub enum Event {
     /// An RPC came of a neighbour that is not heard any more.
     Late(PeerNo, Shared<Rpc>),
     /// A neighbour subscribed to a topic or left it.
-    Sub(PeerNo, SubOpt),
+    Sub(PeerNo, SharedPart<SubOpt>),
     /// A neighbour passed on a message (gossipsub v1.0, "Message Processing").
-    Msg(PeerNo, Shared<Message>),
+    Msg(PeerNo, SharedPart<Message>),
     /// A neighbour offered messages (gossipsub v1.0, "Control Messages", IHAVE).
-    Have(PeerNo, Shared<IHave>),
+    Have(PeerNo, SharedPart<IHave>),
     /// A neighbour asked for messages (IWANT).
-    Want(PeerNo, Shared<IWant>),
+    Want(PeerNo, SharedPart<IWant>),
     /// A neighbour said that it put the peer into a mesh (GRAFT).
-    GraftIn(PeerNo, Graft),
+    GraftIn(PeerNo, SharedPart<Graft>),
     /// A neighbour said that it took the peer out of a mesh (PRUNE).
-    PruneIn(PeerNo, Prune),
+    PruneIn(PeerNo, SharedPart<Prune>),
     /// The peer subscribed to a topic (gossipsub v1.0, "Topic Membership", JOIN).
     Subscribe(Topic),
     /// The peer left a topic (LEAVE).
@@ -129,7 +130,7 @@ pub struct Entry {
 /// What a peer did so far. Contracts see its entries with the newest first.
 #[derive(Debug, Drop)]
 pub struct Trace {
-    entries: Vec<Entry>,
+    entries: Vec<StoredEntry>,
 }
 
 impl Model for Trace {
@@ -155,7 +156,7 @@ impl Trace {
     }
 
     /// The entries, the oldest first.
-    pub fn entries(&self) -> &[Entry]
+    pub fn entries(&self) -> &[StoredEntry]
         ensures { reverse result.now ≡ self.now }
     {
         self.entries.as_slice()
@@ -166,7 +167,7 @@ impl Trace {
         ensures { result.0 ≡ last_moment self.now }
     {
         match self.entries.last() {
-            Some(entry) => entry.at,
+            Some(entry) => entry.at(),
             None => Millis(0),
         }
     }
@@ -186,7 +187,8 @@ impl Trace {
         ensures ok { OnOk result (self.new ≡ entry ∷ self.old) }
         ensures err { OnErr result (self.new ≡ self.old) }
     {
-        self.entries.push(entry)?;
+        let stored = StoredEntry::new(*self.entries.allocator(), entry)?;
+        self.entries.push(stored)?;
         Ok(())
     }
 }

@@ -1,11 +1,12 @@
 //! Traces keep their entries, entries compare, and laws can be called.
 use bytes::Bytes;
-use gs_base::{Mark, Message, Millis, MsgId, PeerNo, Rpc, Seq, Shared, Topic, Verdict};
+use gs_base::{Mark, Message, Millis, MsgId, PeerNo, Rpc, Seq, Shared, SharedPart, Topic, Verdict};
 use gs_params::SeededWords;
 use gs_rules::{
-    Entry, Event, Refusal, Trace, a_broken_promise_is_charged, a_delivery_is_not_repeated,
-    a_heartbeat_mends_gossips_and_ends, a_heartbeat_moves_a_mesh_a_step,
-    a_member_was_not_in_backoff, a_part_with_nothing_left_is_whole, a_promise_is_charged_once,
+    Entry, Event, Refusal, StoredEntry, Trace, a_broken_promise_is_charged,
+    a_delivery_is_not_repeated, a_heartbeat_mends_gossips_and_ends,
+    a_heartbeat_moves_a_mesh_a_step, a_member_was_not_in_backoff,
+    a_part_with_nothing_left_is_whole, a_promise_is_charged_once,
     each_mark_of_a_legal_trace_counts, gossip_is_of_what_is_kept, legal_entries_compose,
     mesh_members_are_up, meshes_are_of_own_topics, nothing_changes_a_mesh_behind_a_shut,
     nothing_changes_a_score_behind_a_shut, nothing_is_gathered_behind_a_cut,
@@ -57,7 +58,7 @@ fn delivery(alloc: Global, at: u64, payload: &[u8]) -> Result<Entry, AllocError>
     marks.push(Mark::Seen(MsgId::of(payload), Verdict::Accept))?;
     Ok(Entry {
         at: Millis(at),
-        event: Event::Msg(PeerNo(2), Shared::new(alloc, message(alloc, payload)?)?),
+        event: Event::Msg(PeerNo(2), message(alloc, payload)?.share(alloc)?),
         sends: Seq::new(alloc),
         delivered,
         promise: None,
@@ -89,20 +90,28 @@ fn trace_of_two(alloc: Global) -> Result<Trace, AllocError> {
     Ok(trace)
 }
 
+/// Whether an entry was stored as it is.
+fn are_one(stored: &StoredEntry, entry: &Entry) -> bool {
+    let is_event = stored.at() == entry.at && *stored.event() == entry.event;
+    let is_told = stored.sends() == entry.sends.as_slice()
+        && stored.delivered() == entry.delivered.as_slice();
+    is_event && is_told && stored.promise().is_none() && stored.marks() == entry.marks.as_slice()
+}
+
 /// Whether this is the first entry of the trace of two.
-fn is_first(alloc: Global, entry: &Entry) -> Result<bool, AllocError> {
+fn is_first(alloc: Global, entry: &StoredEntry) -> Result<bool, AllocError> {
     let first = publishing(alloc, 5, b"first")?;
-    Ok(*entry == first)
+    Ok(are_one(entry, &first))
 }
 
 /// Whether this is the second entry of the trace of two.
-fn is_second(alloc: Global, entry: &Entry) -> Result<bool, AllocError> {
+fn is_second(alloc: Global, entry: &StoredEntry) -> Result<bool, AllocError> {
     let second = delivery(alloc, 7, b"second")?;
-    Ok(*entry == second)
+    Ok(are_one(entry, &second))
 }
 
 /// Whether these are the two, in order.
-fn are_the_two(alloc: Global, entries: &[Entry]) -> Result<bool, AllocError> {
+fn are_the_two(alloc: Global, entries: &[StoredEntry]) -> Result<bool, AllocError> {
     match entries {
         [older, newer] => Ok(is_first(alloc, older)? && is_second(alloc, newer)?),
         _ => Ok(false),
@@ -115,6 +124,37 @@ fn keeps_its_entries(alloc: Global) -> Result<bool, AllocError> {
         return Ok(false);
     }
     are_the_two(alloc, trace_of_two(alloc)?.entries())
+}
+
+/// An entry with these marks, in which nothing else was done.
+fn marking(alloc: Global, marks: Seq<Mark>) -> Entry {
+    Entry {
+        at: Millis(9),
+        event: Event::Decay,
+        sends: Seq::new(alloc),
+        delivered: Seq::new(alloc),
+        promise: None,
+        marks,
+    }
+}
+
+/// Whether an entry with these marks is stored as it is.
+fn is_stored(alloc: Global, marks: Seq<Mark>, same: Seq<Mark>) -> Result<bool, AllocError> {
+    let stored = StoredEntry::new(alloc, marking(alloc, marks))?;
+    Ok(are_one(&stored, &marking(alloc, same)))
+}
+
+fn charge(alloc: Global) -> Result<Seq<Mark>, AllocError> {
+    Seq::only(alloc, Mark::Misbehaviour(PeerNo(2)))
+}
+
+#[test]
+fn an_entry_is_stored_as_it_is(rt: HostRuntime) -> Result<(), AllocError> {
+    let alloc = rt.alloc();
+    assert!(rt; is_stored(alloc, Seq::new(alloc), Seq::new(alloc))?);
+    assert!(rt; is_stored(alloc, charge(alloc)?, charge(alloc)?)?);
+    assert!(rt; !is_stored(alloc, charge(alloc)?, Seq::new(alloc))?);
+    Ok(())
 }
 
 #[test]

@@ -7,7 +7,7 @@ ghost use Rattle.gs_wire.specs.Fields.{bool_number, number_records, bytes_record
 
 use crate::varint::{put_varint, varint_len};
 use bytes::Bytes;
-use gs_base::Topic;
+use gs_base::{Shared, Topic};
 
 /// A message as records.
 pub(crate) trait Encode {
@@ -30,6 +30,15 @@ pub(crate) fn bytes_of(value: &Option<Bytes>) -> Option<&[u8]>
 {
     match value {
         Some(bytes) => Some(bytes.as_slice()),
+        None => None,
+    }
+}
+
+pub(crate) fn shared_bytes_of(value: &Option<Shared<Bytes>>) -> Option<&[u8]>
+    ensures { option_copied result ≡ value.now }
+{
+    match value {
+        Some(bytes) => Some(bytes.get().as_slice()),
         None => None,
     }
 }

@@ -3,7 +3,7 @@ ghost use Rattle.std.specs.Option.{option_copied};
 ghost use Rattle.gs_cache.specs.Windows.{Counts, HasSame, Puts, has, kept_in};
 
 use crate::message_cache::tally::Tally;
-use gs_base::{Message, MsgId, PeerNo, Shared, Topic};
+use gs_base::{Message, MsgId, PeerNo, SharedPart, Topic};
 use indexmap::IndexMap;
 use std::alloc::{AllocError, Global};
 
@@ -13,7 +13,7 @@ pub struct Kept {
     /// Its place in the order of the puts.
     pub place: usize,
     pub topic: Topic,
-    pub message: Shared<Message>,
+    pub message: SharedPart<Message>,
     pub left: Tally,
 }
 
@@ -54,7 +54,7 @@ impl Window {
         alloc: Global,
         id: MsgId,
         topic: Topic,
-        message: Shared<Message>,
+        message: SharedPart<Message>,
     ) -> Result<(), AllocError>
         ensures puts { OnOk result (Puts id topic message self.old self.new) }
         ensures err { OnErr result (HasSame self.old self.new) }

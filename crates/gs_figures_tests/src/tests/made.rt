@@ -1,8 +1,11 @@
 //! Traces that are made by hand.
+ghost use Rattle.std.specs.Prelude.{◌<◌, length, IfOk};
+ghost use Rattle.gs_base.specs.Rpcs.{grafts_in, offers_in, prunes_in, requests_in};
+
 use bytes::Bytes;
 use gs_base::{
     Control, Graft, IHave, IWant, Mark, Message, Millis, MsgId, PeerNo, Prune, Rpc, Seq, Shared,
-    SubOpt, Topic, Verdict,
+    SharedPart, SubOpt, Topic, Verdict,
 };
 use gs_report::Finished;
 use gs_rules::{Entry, Event, Refusal, RefusedLine, Trace};
@@ -92,53 +95,65 @@ fn blank() -> Message {
     }
 }
 
-fn empty_rpc(alloc: Global) -> Rpc {
-    Rpc {
-        subs: Seq::new(alloc),
-        publish: Seq::new(alloc),
-        control: None,
-    }
+fn each_control(alloc: Global) -> Result<Control, AllocError>
+    ensures offer { IfOk result (λ control. 0 < length control.ihave) }
+    ensures request { IfOk result (λ control. 0 < length control.iwant) }
+    ensures graft { IfOk result (λ control. 0 < length control.graft) }
+    ensures prune { IfOk result (λ control. 0 < length control.prune) }
+{
+    let offer = IHave {
+        topic: None,
+        ids: Seq::new(alloc),
+    };
+    let request = IWant {
+        ids: Seq::new(alloc),
+    };
+    let prune = Prune {
+        topic: None,
+        backoff: None,
+    };
+    Ok(Control {
+        ihave: Seq::only(alloc, offer)?,
+        iwant: Seq::only(alloc, request)?,
+        graft: Seq::only(alloc, Graft { topic: None })?,
+        prune: Seq::only(alloc, prune)?,
+    })
+}
+
+/// An RPC with one part of each kind that an event may bring, without any field.
+fn each_part(alloc: Global) -> Result<Shared<Rpc>, AllocError>
+    ensures message { IfOk result (λ rpc. 0 < length rpc.publish) }
+    ensures offer { IfOk result (λ rpc. 0 < length (offers_in rpc.control)) }
+    ensures request { IfOk result (λ rpc. 0 < length (requests_in rpc.control)) }
+    ensures graft { IfOk result (λ rpc. 0 < length (grafts_in rpc.control)) }
+    ensures prune { IfOk result (λ rpc. 0 < length (prunes_in rpc.control)) }
+{
+    let rpc = Rpc {
+        publish: Seq::only(alloc, blank())?,
+        control: Some(each_control(alloc)?),
+        ..Rpc::empty(alloc)
+    };
+    Shared::new(alloc, rpc)
 }
 
 fn event_of(alloc: Global, did: Did) -> Result<Event, AllocError> {
     match did {
-        Did::Hears(q) => Ok(Event::Heard(PeerNo(q), Shared::new(alloc, empty_rpc(alloc))?)),
-        Did::HearsLate(q) => Ok(Event::Late(PeerNo(q), Shared::new(alloc, empty_rpc(alloc))?)),
-        Did::Message(q, _) => Ok(Event::Msg(PeerNo(q), Shared::new(alloc, blank())?)),
-        Did::Offer(q) => offer(alloc, q),
-        Did::Request(q) => request(alloc, q),
-        Did::Graft(q) => Ok(Event::GraftIn(PeerNo(q), Graft { topic: None })),
-        Did::EarlyGraft(q) => Ok(Event::GraftIn(PeerNo(q), Graft { topic: None })),
-        Did::Prune(q) => Ok(Event::PruneIn(
-            PeerNo(q),
-            Prune {
-                topic: None,
-                backoff: None,
-            },
-        )),
+        Did::Hears(q) => Ok(Event::Heard(PeerNo(q), Shared::new(alloc, Rpc::empty(alloc))?)),
+        Did::HearsLate(q) => Ok(Event::Late(PeerNo(q), Shared::new(alloc, Rpc::empty(alloc))?)),
+        Did::Message(q, _) => Ok(Event::Msg(PeerNo(q), SharedPart::at(each_part(alloc)?, 0))),
+        Did::Offer(q) => Ok(Event::Have(PeerNo(q), SharedPart::at(each_part(alloc)?, 0))),
+        Did::Request(q) => Ok(Event::Want(PeerNo(q), SharedPart::at(each_part(alloc)?, 0))),
+        Did::Graft(q) => Ok(Event::GraftIn(PeerNo(q), SharedPart::at(each_part(alloc)?, 0))),
+        Did::EarlyGraft(q) => Ok(Event::GraftIn(PeerNo(q), SharedPart::at(each_part(alloc)?, 0))),
+        Did::Prune(q) => Ok(Event::PruneIn(PeerNo(q), SharedPart::at(each_part(alloc)?, 0))),
         Did::Beat(_) => Ok(Event::BeatBegin),
         Did::Subscribes(name) => Ok(Event::Subscribe(topic(alloc, name)?)),
         Did::Leaves(name) => Ok(Event::Unsubscribe(topic(alloc, name)?)),
         Did::Publishes(name, payload) => publish(alloc, name, payload),
         Did::PublishesOutside(name, payload) => publish(alloc, name, payload),
-        Did::Delivers(_, _) => Ok(Event::Msg(PeerNo(0), Shared::new(alloc, blank())?)),
+        Did::Delivers(_, _) => Ok(Event::Msg(PeerNo(0), SharedPart::at(each_part(alloc)?, 0))),
         Did::Sends(_, _) => Ok(Event::RoundEnd(0)),
     }
-}
-
-fn offer(alloc: Global, q: u16) -> Result<Event, AllocError> {
-    let offer = IHave {
-        topic: None,
-        ids: Seq::new(alloc),
-    };
-    Ok(Event::Have(PeerNo(q), Shared::new(alloc, offer)?))
-}
-
-fn request(alloc: Global, q: u16) -> Result<Event, AllocError> {
-    let request = IWant {
-        ids: Seq::new(alloc),
-    };
-    Ok(Event::Want(PeerNo(q), Shared::new(alloc, request)?))
 }
 
 fn publish(alloc: Global, name: &str, payload: &[u8]) -> Result<Event, AllocError> {
@@ -208,11 +223,7 @@ fn one_delivery(
 
 /// An RPC of so many subscriptions, messages, IHAVE, IWANT, GRAFT and PRUNE.
 fn rpc(alloc: Global, parts: [usize; 6]) -> Result<Rpc, AllocError> {
-    let mut rpc = Rpc {
-        subs: Seq::new(alloc),
-        publish: Seq::new(alloc),
-        control: None,
-    };
+    let mut rpc = Rpc::empty(alloc);
     for _ in 0..parts[0] {
         rpc.subs.push(SubOpt {
             subscribe: None,

@@ -179,8 +179,8 @@ fn add_deliveries<S: Drop>(
     life: &FinishedTask<S>,
 ) -> Result<(), AllocError> {
     for entry in life.trace.entries() {
-        for (topic, payload) in entry.delivered.as_slice() {
-            add(alloc, text, Seen::At(entry.at.0))?;
+        for (topic, payload) in entry.delivered() {
+            add(alloc, text, Seen::At(entry.at().0))?;
             add(
                 alloc,
                 text,

@@ -17,17 +17,22 @@ ghost use Rattle.gs_router.specs.Known.{Knows, peer_with};
 use crate::entries::membership;
 use crate::entries::sends::bare;
 use crate::known::Known;
-use gs_base::{Mark, Millis, PeerNo, Seq, SubOpt, Topic, clone_of};
+use gs_base::{Mark, Millis, PeerNo, Seq, SharedPart, SubOpt, Topic, clone_of};
 use gs_rules::{Entry, Event, Refusal};
 use std::alloc::AllocError;
 
 /// The entry of a neighbour that subscribes to a topic, or leaves it.
-pub fn entry_of(known: &Known, from: PeerNo, sub: SubOpt, now: Millis) -> Result<Entry, AllocError>
+pub fn entry_of(
+    known: &Known,
+    from: PeerNo,
+    sub: SharedPart<SubOpt>,
+    now: Millis,
+) -> Result<Entry, AllocError>
     ensures { IfOk result (λ entry. (L : Entries)
         → Knows known.now now.0 L
         → entry ≡ sub_rule (peer_with known.now.setup) L now from sub) }
 {
-    if sub.subscribe.unwrap_or(false) {
+    if sub.get().subscribe.unwrap_or(false) {
         return Ok(bare(known.alloc, now, Event::Sub(from, sub)));
     }
     let entry = leaving(known, from, sub, now)?;
@@ -35,12 +40,17 @@ pub fn entry_of(known: &Known, from: PeerNo, sub: SubOpt, now: Millis) -> Result
 }
 
 /// The entry of a neighbour that leaves a topic: it leaves the mesh and the fanout.
-fn leaving(known: &Known, from: PeerNo, sub: SubOpt, now: Millis) -> Result<Entry, AllocError>
+fn leaving(
+    known: &Known,
+    from: PeerNo,
+    sub: SharedPart<SubOpt>,
+    now: Millis,
+) -> Result<Entry, AllocError>
     ensures { IfOk result (λ entry. (L : Entries)
         → Knows known.now now.0 L
         → entry ≡ left_by (peer_with known.now.setup) L now from sub) }
 {
-    let topic = sub.topic_or_empty()?;
+    let topic = sub.get().topic_or_empty()?;
     let mut marks = Seq::new(known.alloc);
     let left = membership::meshes_with(known, from, &[clone_of(&topic)?])?;
     membership::leave(known, &mut marks, left.as_slice(), now)?;

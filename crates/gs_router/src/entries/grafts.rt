@@ -14,7 +14,9 @@ use crate::entries::selection::{is_explicit, is_outbound};
 use crate::entries::sends::bare;
 use crate::entries::thresholds::is_negative;
 use crate::known::Known;
-use gs_base::{Graft, LONGEST_BACKOFF, Mark, Millis, PeerNo, Prune, Rpc, Seq, Shared, Topic};
+use gs_base::{
+    Graft, LONGEST_BACKOFF, Mark, Millis, PeerNo, Prune, Rpc, Seq, Shared, SharedPart, Topic,
+};
 use gs_rules::{Entry, Event};
 use std::alloc::{AllocError, Global};
 
@@ -78,13 +80,13 @@ fn answer_to(known: &Known, from: PeerNo, topic: &Topic, now: Millis) -> GraftAn
 fn refusing(
     known: &Known,
     from: PeerNo,
-    graft: Graft,
+    graft: SharedPart<Graft>,
     charged: Seq<Mark>,
     now: Millis,
 ) -> Result<Entry, AllocError>
     ensures { IfOk result (λ entry. entry ≡ refusing (peer_with known.now.setup) now from graft charged) }
 {
-    let topic = Topic::or_empty(&graft.topic)?;
+    let topic = Topic::or_empty(&graft.get().topic)?;
     let seconds = known.setup.params.timing.prune_backoff_s;
     let rpc = Shared::new(known.alloc, Rpc::pruning(known.alloc, &topic, seconds)?)?;
     let sends = Seq::only(known.alloc, (from, rpc))?;
@@ -102,12 +104,12 @@ fn refusing(
 fn accepting_graft(
     alloc: Global,
     from: PeerNo,
-    graft: Graft,
+    graft: SharedPart<Graft>,
     now: Millis,
 ) -> Result<Entry, AllocError>
     ensures { IfOk result (λ entry. entry ≡ accepting_graft now from graft) }
 {
-    let topic = Topic::or_empty(&graft.topic)?;
+    let topic = Topic::or_empty(&graft.get().topic)?;
     let pairs = membership::each_on(alloc, &topic, &[from])?;
     let mut marks = Seq::new(alloc);
     membership::enter(&mut marks, pairs.as_slice())?;
@@ -121,7 +123,7 @@ fn accepting_graft(
 fn answered(
     known: &Known,
     from: PeerNo,
-    graft: Graft,
+    graft: SharedPart<Graft>,
     answer: GraftAnswer,
     now: Millis,
 ) -> Result<Entry, AllocError>
@@ -146,12 +148,17 @@ fn answered(
 }
 
 /// The entry of a GRAFT: it may come too soon, be refused, be passed over, or bring its sender into the mesh.
-pub fn graft(known: &Known, from: PeerNo, graft: Graft, now: Millis) -> Result<Entry, AllocError>
+pub fn graft(
+    known: &Known,
+    from: PeerNo,
+    graft: SharedPart<Graft>,
+    now: Millis,
+) -> Result<Entry, AllocError>
     ensures { IfOk result (λ entry. (L : Entries)
         → Knows known.now now.0 L
         → entry ≡ graft_rule (peer_with known.now.setup) L now from graft) }
 {
-    let topic = Topic::or_empty(&graft.topic)?;
+    let topic = Topic::or_empty(&graft.get().topic)?;
     let answer = answer_to(known, from, &topic, now);
     let entry = answered(known, from, graft, answer, now)?;
     Ok(entry)
@@ -173,12 +180,17 @@ fn asked_backoff(otherwise: u64, asked: Option<u64>) -> u64
 
 /// The entry of a PRUNE: where the router is subscribed, its sender leaves the mesh, and is not to be grafted for a
 /// while.
-pub fn prune(known: &Known, from: PeerNo, prune: Prune, now: Millis) -> Result<Entry, AllocError>
+pub fn prune(
+    known: &Known,
+    from: PeerNo,
+    prune: SharedPart<Prune>,
+    now: Millis,
+) -> Result<Entry, AllocError>
     ensures { IfOk result (λ entry. (L : Entries)
         → Knows known.now now.0 L
         → entry ≡ prune_rule (peer_with known.now.setup) L now from prune) }
 {
-    let topic = Topic::or_empty(&prune.topic)?;
+    let topic = Topic::or_empty(&prune.get().topic)?;
     if !known.tables.topics.is_joined(&topic) {
         return Ok(bare(known.alloc, now, Event::PruneIn(from, prune)));
     }
@@ -190,7 +202,7 @@ pub fn prune(known: &Known, from: PeerNo, prune: Prune, now: Millis) -> Result<E
 fn pruned(
     known: &Known,
     from: PeerNo,
-    prune: Prune,
+    prune: SharedPart<Prune>,
     topic: Topic,
     now: Millis,
 ) -> Result<Entry, AllocError>
@@ -200,7 +212,10 @@ fn pruned(
         → entry ≡ pruned_by (peer_with known.now.setup) L now from prune) }
 {
     let mut marks = Seq::new(known.alloc);
-    let seconds = asked_backoff(known.setup.params.timing.prune_backoff_s, prune.backoff);
+    let seconds = asked_backoff(
+        known.setup.params.timing.prune_backoff_s,
+        prune.get().backoff,
+    );
     let pairs = membership::each_on(known.alloc, &topic, &[from])?;
     let left = membership::meshes_with(known, from, &[topic])?;
     membership::leave(known, &mut marks, left.as_slice(), now)?;

@@ -22,7 +22,7 @@ use crate::entries::sends::{bare, to_each};
 use crate::known::Known;
 use crate::peer_lists::{others, together_with};
 use bytes::Bytes;
-use gs_base::{Mark, Message, Millis, MsgId, PeerNo, Rpc, Seq, Shared, Topic, Verdict};
+use gs_base::{Mark, Message, Millis, MsgId, PeerNo, Rpc, Seq, Shared, SharedPart, Topic, Verdict};
 use gs_cache::{Payloads, Sighting};
 use gs_params::{DEFAULT_TOPIC_TIMING, TopicParams};
 use gs_rules::{Entry, Event, Outcome};
@@ -259,7 +259,7 @@ fn forwarded(
 #[derive(Drop)]
 pub struct AcceptedMessage {
     from: PeerNo,
-    message: Shared<Message>,
+    message: SharedPart<Message>,
     id: MsgId,
 }
 
@@ -294,7 +294,7 @@ fn accepting_message(
 fn entry_with(
     known: &Known,
     from: PeerNo,
-    message: Shared<Message>,
+    message: SharedPart<Message>,
     outcome: Outcome,
     now: Millis,
 ) -> Result<Entry, AllocError>
@@ -368,7 +368,7 @@ pub fn entry_of(
     known: &Known,
     payloads: &mut Payloads,
     from: PeerNo,
-    message: Shared<Message>,
+    message: SharedPart<Message>,
     now: Millis,
 ) -> Result<Entry, AllocError>
     ensures { IfOk result (λ entry. (L : Entries)

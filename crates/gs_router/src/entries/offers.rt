@@ -13,7 +13,7 @@ use crate::entries::sends::bare;
 use crate::entries::thresholds;
 use crate::known::Known;
 use bytes::Bytes;
-use gs_base::{IHave, Mark, Millis, MsgId, PeerNo, Rpc, Seq, Shared, clone_of};
+use gs_base::{IHave, Mark, Millis, MsgId, PeerNo, Rpc, Seq, Shared, SharedPart, clone_of};
 use gs_params::{Words, pick_one};
 use gs_rules::{Entry, Event, Promise};
 use indexmap::IndexSet;
@@ -23,7 +23,7 @@ use std::alloc::{AllocError, Global};
 pub fn entry_of<W: Words>(
     known: &Known,
     from: PeerNo,
-    offer: Shared<IHave>,
+    offer: SharedPart<IHave>,
     now: Millis,
     words: &mut W,
 ) -> Result<Entry, AllocError>
@@ -50,7 +50,7 @@ pub fn entry_of<W: Words>(
 fn counted(
     alloc: Global,
     from: PeerNo,
-    offer: Shared<IHave>,
+    offer: SharedPart<IHave>,
     now: Millis,
 ) -> Result<Entry, AllocError>
     ensures { IfOk result (λ entry. entry ≡ counted now from offer) }
@@ -130,7 +130,7 @@ fn copied_ids(alloc: Global, ids: &[Bytes]) -> Result<Seq<Bytes>, AllocError>
 #[derive(Drop)]
 pub struct WantedOffer {
     from: PeerNo,
-    offer: Shared<IHave>,
+    offer: SharedPart<IHave>,
     ids: Seq<Bytes>,
 }
 

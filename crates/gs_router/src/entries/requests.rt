@@ -16,7 +16,9 @@ use crate::entries::sends::bare;
 use crate::entries::thresholds;
 use crate::known::Known;
 use bytes::Bytes;
-use gs_base::{IWant, Mark, Message, Millis, MsgId, PeerNo, Rpc, Seq, Shared, clone_of};
+use gs_base::{
+    IWant, Mark, Message, Millis, MsgId, PeerNo, Rpc, Seq, Shared, SharedPart, clone_of,
+};
 use gs_rules::{Entry, Event};
 use indexmap::IndexMap;
 use std::alloc::{AllocError, Global};
@@ -25,7 +27,7 @@ use std::alloc::{AllocError, Global};
 pub fn entry_of(
     known: &Known,
     from: PeerNo,
-    request: Shared<IWant>,
+    request: SharedPart<IWant>,
     now: Millis,
 ) -> Result<Entry, AllocError>
     ensures { IfOk result (λ entry. (L : Entries)
@@ -43,7 +45,7 @@ pub fn entry_of(
 fn answering(
     known: &Known,
     from: PeerNo,
-    request: Shared<IWant>,
+    request: SharedPart<IWant>,
     now: Millis,
 ) -> Result<Entry, AllocError>
     ensures { IfOk result (λ entry. (L : Entries)
@@ -99,7 +101,7 @@ impl Reply {
         alloc: Global,
         from: PeerNo,
         id: MsgId,
-        message: &Shared<Message>,
+        message: &SharedPart<Message>,
         left: u64,
     ) -> Result<(), AllocError>
         ensures sends { OnOk result (self.new.sends ≡ self.old.sends ++ (from, passed_on message.now) ∷ []) }

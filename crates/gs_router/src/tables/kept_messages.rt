@@ -8,7 +8,7 @@ ghost use Rattle.gs_rules.specs.Gossip.{gossip};
 ghost use Rattle.gs_rules.specs.Owed.{is_some_list};
 ghost use Rattle.gs_router.specs.Tables.{AgreesOnMessages, HasKept, IsMadeAlike, answers_left, unmarked};
 
-use gs_base::{Mark, Message, MsgId, PeerNo, Seq, Shared, Topic, clone_of};
+use gs_base::{Mark, Message, MsgId, PeerNo, Seq, SharedPart, Topic, clone_of};
 use gs_cache::{Answer, MessageCache};
 use gs_rules::{Entry, Event};
 use std::alloc::{AllocError, Global};
@@ -43,7 +43,7 @@ impl Messages {
 
     /// The message that is kept under an identifier and may go to a neighbour: none where none is kept, or the
     /// neighbour got it as often as it may.
-    pub fn answer_for(&self, id: &MsgId, peer: PeerNo) -> Option<&Shared<Message>>
+    pub fn answer_for(&self, id: &MsgId, peer: PeerNo) -> Option<&SharedPart<Message>>
         ensures some { IfSome result (λ message. (L : Entries)
             → AgreesOnMessages self.now L
             → option_map (λ (k : Keeping). k.message) (kept self.now.cache.len L id.now) ≡ Some message.now) }
@@ -165,7 +165,7 @@ impl Messages {
 ///
 /// # Errors
 /// `AllocError` where there was no memory.
-fn message_in(alloc: Global, event: &Event) -> Result<Shared<Message>, AllocError>
+fn message_in(alloc: Global, event: &Event) -> Result<SharedPart<Message>, AllocError>
     ensures { IfOk result (λ message. message ≡ message_in event.now) }
 {
     match event {
@@ -179,7 +179,7 @@ fn message_in(alloc: Global, event: &Event) -> Result<Shared<Message>, AllocErro
                 signature: None,
                 key: None,
             };
-            Shared::new(alloc, message)
+            message.share(alloc)
         }
         _ => {
             let message = Message {
@@ -190,7 +190,7 @@ fn message_in(alloc: Global, event: &Event) -> Result<Shared<Message>, AllocErro
                 signature: None,
                 key: None,
             };
-            Shared::new(alloc, message)
+            message.share(alloc)
         }
     }
 }

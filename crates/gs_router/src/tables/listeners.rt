@@ -65,6 +65,7 @@ impl Listeners {
     {
         match &entry.event {
             Event::Sub(peer, sub) => {
+                let sub = sub.get();
                 let topic = sub.topic_or_empty()?;
                 self.put(topic, *peer, sub.subscribe.unwrap_or(false))?;
                 Ok(())

@@ -2,7 +2,7 @@
 //! with each of its fields, as a frame that was written by hand from that definition: the numbers of
 //! the fields are those of peers of any make.
 use bytes::Bytes;
-use gs_base::{Control, Message, Rpc, Seq, SubOpt, Topic};
+use gs_base::{Control, Message, Rpc, Seq, Shared, SubOpt, Topic};
 use gs_wire::{decode, encode_frame};
 use std::alloc::Global;
 
@@ -83,6 +83,13 @@ fn is(field: &Option<Bytes>, bytes: &[u8]) -> bool {
     }
 }
 
+fn is_seldom(field: &Option<Shared<Bytes>>, bytes: &[u8]) -> bool {
+    match field {
+        Some(field) => field.get().as_slice() == bytes,
+        None => false,
+    }
+}
+
 fn is_news(topic: &Option<Topic>) -> bool {
     match topic {
         Some(topic) => topic.0.as_slice() == b"news".as_slice(),
@@ -107,10 +114,10 @@ fn is_unsigned_part(message: &Message) -> bool {
 }
 
 fn is_signed_part(message: &Message) -> bool {
-    is(&message.origin, b"A")
-        && is(&message.seqno, b"NNN")
-        && is(&message.signature, b"SSSSS")
-        && is(&message.key, b"KEYKEY")
+    is_seldom(&message.origin, b"A")
+        && is_seldom(&message.seqno, b"NNN")
+        && is_seldom(&message.signature, b"SSSSS")
+        && is_seldom(&message.key, b"KEYKEY")
 }
 
 /// What a control says, where it is one record.

@@ -1,7 +1,7 @@
 //! A cache that holds messages for three shifts, announces them for two and gives each neighbour two answers.
 use crate::tests::caches::id;
 use bytes::Bytes;
-use gs_base::{Message, MsgId, PeerNo, Shared, Topic};
+use gs_base::{Message, MsgId, PeerNo, SharedPart, Topic};
 use gs_cache::{Answer, MessageCache};
 use std::alloc::{AllocError, Global};
 
@@ -14,7 +14,7 @@ fn topic(alloc: Global, name: &[u8]) -> Result<Topic, AllocError> {
 }
 
 /// A message whose payload is a number.
-fn message(alloc: Global, number: u64) -> Result<Shared<Message>, AllocError> {
+fn message(alloc: Global, number: u64) -> Result<SharedPart<Message>, AllocError> {
     let message = Message {
         origin: None,
         payload: Some(Bytes::copy_from_slice(alloc, &number.to_le_bytes())?),
@@ -23,7 +23,7 @@ fn message(alloc: Global, number: u64) -> Result<Shared<Message>, AllocError> {
         signature: None,
         key: None,
     };
-    Shared::new(alloc, message)
+    message.share(alloc)
 }
 
 fn cache(alloc: Global) -> Result<MessageCache, AllocError> {

@@ -1,0 +1,194 @@
+//! What RPCs have lists of, and one of them in an RPC that is shared.
+ghost use Rattle.std.specs.Prelude.{◌≡◌, ◌<◌, List, [], length, None, IfOk};
+ghost use Rattle.gs_base.specs.declared.rpc.Rpc.{Rpc as RpcValue};
+ghost use Rattle.gs_base.specs.Rpcs.{grafts_in, offers_in, part_at, prunes_in, requests_in};
+
+use crate::control::{Graft, IHave, IWant, Prune};
+use crate::exact::{ExactClone, clone_of};
+use crate::rpc::{Message, Rpc, SubOpt};
+use crate::seq::Seq;
+use crate::shared::Shared;
+use std::alloc::{AllocError, Global};
+use std::fmt::{Debug, Error, Formatter, Write};
+use std::marker::{Model, PhantomData};
+
+/// What an RPC has a list of: changes of subscription, messages, and four kinds of control messages.
+pub trait Part: Drop {
+    /// The list of an RPC.
+    ghost parts: { RpcValue → List Self };
+
+    /// One without any field: where a list has none at a place, it counts as this.
+    ghost bare: { Self };
+
+    /// The list of an RPC.
+    fn parts_of(rpc: &Rpc) -> &[Self]
+        ensures { result.now ≡ parts rpc.now };
+}
+
+impl Part for SubOpt {
+    ghost parts = { λ rpc. rpc.subs };
+
+    ghost bare = { record { subscribe = None; topic = None } };
+
+    fn parts_of(rpc: &Rpc) -> &[SubOpt] {
+        rpc.subs.as_slice()
+    }
+}
+
+impl Part for Message {
+    ghost parts = { λ rpc. rpc.publish };
+
+    ghost bare = { record { origin = None; payload = None; seqno = None; topic = None; signature = None; key = None } };
+
+    fn parts_of(rpc: &Rpc) -> &[Message] {
+        rpc.publish.as_slice()
+    }
+}
+
+impl Part for IHave {
+    ghost parts = { λ rpc. offers_in rpc.control };
+
+    ghost bare = { record { topic = None; ids = [] } };
+
+    fn parts_of(rpc: &Rpc) -> &[IHave] {
+        match &rpc.control {
+            Some(control) => control.ihave.as_slice(),
+            None => &[],
+        }
+    }
+}
+
+impl Part for IWant {
+    ghost parts = { λ rpc. requests_in rpc.control };
+
+    ghost bare = { record { ids = [] } };
+
+    fn parts_of(rpc: &Rpc) -> &[IWant] {
+        match &rpc.control {
+            Some(control) => control.iwant.as_slice(),
+            None => &[],
+        }
+    }
+}
+
+impl Part for Graft {
+    ghost parts = { λ rpc. grafts_in rpc.control };
+
+    ghost bare = { record { topic = None } };
+
+    fn parts_of(rpc: &Rpc) -> &[Graft] {
+        match &rpc.control {
+            Some(control) => control.graft.as_slice(),
+            None => &[],
+        }
+    }
+}
+
+impl Part for Prune {
+    ghost parts = { λ rpc. prunes_in rpc.control };
+
+    ghost bare = { record { topic = None; backoff = None } };
+
+    fn parts_of(rpc: &Rpc) -> &[Prune] {
+        match &rpc.control {
+            Some(control) => control.prune.as_slice(),
+            None => &[],
+        }
+    }
+}
+
+/// One part of an RPC that its owners share: whoever holds it holds the RPC, and a clone copies nothing. Contracts see the
+/// part, and neither the RPC nor its place there.
+#[derive(Drop)]
+pub struct SharedPart<P: Part> {
+    rpc: Shared<Rpc>,
+    place: usize,
+    kind: PhantomData<P>,
+}
+
+impl<P: Part> Model for SharedPart<P> {
+    ghost use Rattle.std.specs.Prelude.{◌<◌, length};
+    ghost use Rattle.gs_base.specs.Rpcs.{part_at};
+
+    ghost Value = { P };
+
+    ghost coded = { P.code };
+
+    ghost view = { λ s. part_at P.bare (P.parts s.rpc) s.place };
+
+    ghost invariant = { λ s. s.place < length (P.parts s.rpc) };
+}
+
+impl<P: Part> SharedPart<P> {
+    /// The part at a place of an RPC's list, counted from 0.
+    pub fn at(rpc: Shared<Rpc>, place: usize) -> SharedPart<P>
+        requires { place < length (P.parts rpc) }
+        ensures { result ≡ part_at P.bare (P.parts rpc) place }
+    {
+        SharedPart {
+            rpc,
+            place,
+            kind: PhantomData,
+        }
+    }
+
+    /// The part.
+    pub fn get(&self) -> &P
+        ensures { result.now ≡ self.now }
+    {
+        &P::parts_of(self.rpc.get())[self.place]
+    }
+}
+
+impl Message {
+    /// The message by itself, shared.
+    ///
+    /// # Errors
+    /// `AllocError` where there was no memory for it.
+    pub fn share(self, alloc: Global) -> Result<SharedPart<Message>, AllocError>
+        ensures { IfOk result (λ shared. shared ≡ self) }
+    {
+        let rpc = Rpc {
+            publish: Seq::only(alloc, self)?,
+            ..Rpc::empty(alloc)
+        };
+        Ok(SharedPart::at(Shared::new(alloc, rpc)?, 0))
+    }
+}
+
+impl<P: Part> Clone for SharedPart<P> {
+    ghost is_clone = { λ source copy. copy ≡ source };
+
+    fn clone(&self) -> Result<SharedPart<P>, AllocError> {
+        Ok(SharedPart {
+            rpc: clone_of(&self.rpc)?,
+            place: self.place,
+            kind: PhantomData,
+        })
+    }
+}
+
+impl<P: Part> ExactClone for SharedPart<P> {
+    ghost exact = { λ source copy same. same };
+}
+
+impl<P: Part + PartialEq> PartialEq for SharedPart<P> {
+    ghost eq = { P.eq };
+
+    ghost laws = { P.laws };
+
+    fn eq(&self, other: &SharedPart<P>) -> bool {
+        self.get() == other.get()
+    }
+}
+
+impl<P: Part + Eq> Eq for SharedPart<P> {
+    ghost laws = { P.Eq.laws };
+}
+
+/// It is shown as the part.
+impl<P: Part + Debug> Debug for SharedPart<P> {
+    fn fmt<W: Write>(&self, formatter: &mut Formatter<W>) -> Result<(), Error> {
+        self.get().fmt(formatter)
+    }
+}

@@ -1,0 +1,132 @@
+//! Entries as a trace stores them.
+ghost use Rattle.std.specs.Prelude.{◌≡◌, [], IfOk};
+ghost use Rattle.std.specs.Option.{option_copied};
+ghost use Rattle.gs_rules.specs.Stored.{nothing_done};
+
+use crate::trace::{Entry, Event, Promise};
+use bytes::Bytes;
+use gs_base::{Mark, Millis, PeerNo, Rpc, Seq, Shared, Topic};
+use std::alloc::{AllocError, Global};
+use std::marker::Model;
+
+/// What a peer did about an event.
+#[derive(Debug, Drop)]
+struct Done {
+    sends: Seq<(PeerNo, Shared<Rpc>)>,
+    delivered: Seq<(Topic, Bytes)>,
+    promise: Option<Shared<Promise>>,
+    marks: Seq<Mark>,
+}
+
+/// An entry as a trace stores it. What was done stands apart, since nothing is done about most events: each message that was
+/// heard before is one. Contracts see the entry.
+#[derive(Debug, Drop)]
+pub struct StoredEntry {
+    at: Millis,
+    event: Event,
+    done: Option<Shared<Done>>,
+}
+
+impl Model for StoredEntry {
+    ghost use Rattle.gs_rules.specs.declared.trace.Entry.{Entry as EntryValue};
+    ghost use Rattle.gs_rules.specs.Stored.{entry_of};
+
+    ghost Value = { EntryValue };
+
+    ghost view = { λ k. entry_of k.at k.event k.done };
+}
+
+impl StoredEntry {
+    /// The entry as it is stored.
+    ///
+    /// # Errors
+    /// `AllocError` where there was no memory for what was done.
+    pub fn new(alloc: Global, entry: Entry) -> Result<StoredEntry, AllocError>
+        ensures { IfOk result (λ stored. stored ≡ entry) }
+    {
+        let Entry {
+            at,
+            event,
+            sends,
+            delivered,
+            promise,
+            marks,
+        } = entry;
+        if sends.is_empty() && delivered.is_empty() && promise.is_none() && marks.is_empty() {
+            return Ok(StoredEntry {
+                at,
+                event,
+                done: None,
+            });
+        }
+        let done = Done {
+            sends,
+            delivered,
+            promise,
+            marks,
+        };
+        let done = Shared::new(alloc, done)?;
+        Ok(StoredEntry {
+            at,
+            event,
+            done: Some(done),
+        })
+    }
+
+    /// The moment of the event.
+    pub fn at(&self) -> Millis
+        ensures { result ≡ self.now.at }
+    {
+        self.at
+    }
+
+    /// What happened.
+    pub fn event(&self) -> &Event
+        ensures { result.now ≡ self.now.event }
+    {
+        &self.event
+    }
+
+    /// What was sent to whom, in order.
+    pub fn sends(&self) -> &[(PeerNo, Shared<Rpc>)]
+        ensures { result.now ≡ self.now.sends }
+    {
+        match &self.done {
+            Some(done) => done.get().sends.as_slice(),
+            None => &[],
+        }
+    }
+
+    /// The topics and payloads of what was delivered to the peer's own user.
+    pub fn delivered(&self) -> &[(Topic, Bytes)]
+        ensures { result.now ≡ self.now.delivered }
+    {
+        match &self.done {
+            Some(done) => done.get().delivered.as_slice(),
+            None => &[],
+        }
+    }
+
+    /// What a neighbour promised, where it was asked for something.
+    pub fn promise(&self) -> Option<&Promise>
+        ensures { option_copied result ≡ self.now.promise }
+    {
+        match &self.done {
+            Some(done) => match &done.get().promise {
+                Some(promise) => Some(promise.get()),
+                None => None,
+            },
+            None => None,
+        }
+    }
+
+    /// What is to be remembered.
+    pub fn marks(&self) -> &[Mark]
+        ensures { result.now ≡ self.now.marks }
+    {
+        match &self.done {
+            Some(done) => done.get().marks.as_slice(),
+            None => &[],
+        }
+    }
+}
