@@ -1,13 +1,13 @@
 -- One pair of a list is replaced by another of the same neighbour and the same links.
 use Rattle.std.proofs.Common.{◌≡◌, ◌≢◌, ℕ, zero, suc, ◌<◌, true, false, eqb, ◌||◌, ◌⊎◌, ⊎_elim, List, [], ◌∷◌, length, map, set, get_or, refl, sym, ap, ◌∙◌, subst, arith, if◌then◌else◌}
-use Rattle.std.specs.List.{list_any}
+use Rattle.std.specs.List.{AllByRecursion, IsDistinct, list_any}
 use Rattle.std.proofs.lemmas.Bool.{ne_eqb}
 use Rattle.std.proofs.lemmas.Bool.Decides.{eqb_tells}
 use Rattle.gs_base.specs.declared.names.PeerNo.{PeerNo}
 use Rattle.gs_base.specs.Names.{same_peer}
 use Rattle.gs_link.specs.declared.item.Slot.{Slot}
 use Rattle.gs_ends.specs.Ends.{Joint, has}
-use Rattle.gs_ends.specs.Pairs.{is_of, position_in, slots_with}
+use Rattle.gs_ends.specs.Pairs.{is_of, peers_in, position_in, slots_with}
 
 -- ---- neighbours
 
@@ -17,6 +17,25 @@ of_number p q e = ap (λ (n : ℕ). let r : PeerNo = record { 0 = n } in r) e
 -- it is this neighbour, or another one
 same_or_not : (p q : PeerNo) → ((same_peer p q ≡ true) × (p.0 ≡ q.0)) ⊎ ((same_peer p q ≡ false) × (p.0 ≢ q.0))
 same_or_not p q = eqb_tells p.0 q.0
+
+-- ---- a list in which no neighbour stands twice
+
+module _ {A B : Type 0} where
+  differs : (xs : List (PeerNo × A × B)) (p : PeerNo) (i : ℕ) (other : PeerNo × A × B) → AllByRecursion (λ r. same_peer p r ≡ false) (peers_in xs) → i < length xs → same_peer p (get_or xs i other).0 ≡ false
+  differs [] p i other all inside = absurd (omega arith)
+  differs (x ∷ xs) p zero other all inside = all.0
+  differs (x ∷ xs) p (suc i) other all inside = differs xs p i other all.1 (omega arith)
+
+  -- where a neighbour stands is the first place where it does
+  pub place_alone : (xs : List (PeerNo × A × B)) (i : ℕ) (q : PeerNo) (other : PeerNo × A × B) → IsDistinct same_peer (peers_in xs) → i < length xs → (get_or xs i other).0.0 ≡ q.0 → i ≡ position_in xs q
+  unfolding IsDistinct
+  place_alone [] i q other apart inside is = absurd (omega arith)
+  place_alone (x ∷ xs) zero q other apart inside is = ⊎_elim
+      (λ (y : (same_peer x.0 q ≡ true) × (x.0.0 ≡ q.0)). rw y.0 refl)
+      (λ (n : (same_peer x.0 q ≡ false) × (x.0.0 ≢ q.0)). absurd (n.1 is)) (same_or_not x.0 q)
+  place_alone (x ∷ xs) (suc i) q other apart inside is =
+      let not_here : same_peer x.0 q ≡ false = ap (λ (n : ℕ). eqb x.0.0 n) (sym is) ∙ differs xs x.0 i other apart.0 (omega arith) in
+      rw not_here (ap suc (place_alone xs i q other apart.1 (omega arith) is))
 
 -- ---- a list of neighbours with their ends, each known for a joint of this neighbour
 
@@ -28,6 +47,16 @@ module _ {A B : Type 0} (joint : PeerNo × A × B → Joint) (named : (x : PeerN
       is_same : (xs : List (PeerNo × A × B)) → list_any (is_of q) xs ≡ has (map joint xs) q
       is_same [] = refl
       is_same (x ∷ xs) = (λ i. same_peer (sym (named x) i) q || is_same xs i)
+
+  peers_in_joints : (xs : List (PeerNo × A × B)) → map (λ (j : Joint). j.peer) (map joint xs) ≡ peers_in xs
+  peers_in_joints [] = refl
+  peers_in_joints (x ∷ xs) = λ i. named x i ∷ peers_in_joints xs i
+
+  -- where the joints stay, no neighbour stands twice that did not before
+  pub stay_apart : (before after : List (PeerNo × A × B)) → map joint after ≡ map joint before → IsDistinct same_peer (peers_in before) → IsDistinct same_peer (peers_in after)
+  stay_apart before after same apart =
+      subst (λ (l : List PeerNo). IsDistinct same_peer l)
+      (sym (peers_in_joints before) ∙ ap (map (λ (j : Joint). j.peer)) (sym same) ∙ peers_in_joints after) apart
 
   joints_set : (xs : List (PeerNo × A × B)) (i : ℕ) (new other : PeerNo × A × B) → i < length xs → joint new ≡ joint (get_or xs i other) → map joint (set xs i new) ≡ map joint xs
   joints_set [] i new other inside same = refl

@@ -8,28 +8,34 @@ ghost use Rattle.gs_ends.specs.Ends.{IsFinished, IsPut, IsTaken, Joint, OthersSt
 ghost use Rattle.gs_ends.specs.Pairs.{accepted_for, joints_of, peers_in, taken_from};
 
 use crate::ends::Ends;
-use crate::position::position_of;
+use crate::position::position_near;
 use gs_base::PeerNo;
 use gs_link::{CloseRefused, Item, LinkRx, LinkTx, SendRefused, Taken};
 use std::marker::Model;
 use std::sync::Wait;
 
 /// The ends of links, by neighbour. Contracts see them as the list of the neighbours, each with the
-/// end that sends to it and the end that takes from it. A neighbour is looked for one after the
-/// other.
+/// end that sends to it and the end that takes from it. A neighbour is looked for from where one was
+/// found last.
 #[derive(Drop)]
 pub struct LinkEnds<R: Wait + Drop> {
     rt: R,
     list: Vec<(PeerNo, LinkTx, LinkRx)>,
+    /// Where a neighbour was found last.
+    last: usize,
 }
 
 impl<R: Wait + Drop> Model for LinkEnds<R> {
     ghost use Rattle.std.specs.Prelude.{List};
-    ghost use Rattle.gs_ends.specs.Pairs.{Pair};
+    ghost use Rattle.std.specs.List.{IsDistinct};
+    ghost use Rattle.gs_base.specs.Names.{same_peer};
+    ghost use Rattle.gs_ends.specs.Pairs.{Pair, peers_in};
 
     ghost Value = { List Pair };
 
     ghost view = { λ s. s.list.items };
+
+    ghost invariant = { λ s. IsDistinct same_peer (peers_in s.list.items) };
 }
 
 impl<R: Wait + Drop> LinkEnds<R> {
@@ -38,14 +44,14 @@ impl<R: Wait + Drop> LinkEnds<R> {
         requires apart { IsDistinct same_peer (peers_in list.items) }
         ensures ends { result ≡ list.items }
     {
-        LinkEnds { rt, list }
+        LinkEnds { rt, list, last: 0 }
     }
 
     /// Gives the ends back, in the order in which they were given.
     pub fn into_list(self) -> Vec<(PeerNo, LinkTx, LinkRx)>
         ensures ends { result.items ≡ self }
     {
-        let LinkEnds { rt: _, list } = self;
+        let LinkEnds { list, .. } = self;
         list
     }
 }
@@ -57,20 +63,25 @@ impl<R: Wait + Drop> Ends for LinkEnds<R> {
 
     ghost taken = { λ s q. taken_from s q };
 
+    // Each item goes through here: inlined, it is moved once less.
+    #[inline(always)]
     fn put(&mut self, to: PeerNo, item: Item) -> Result<(), SendRefused> {
-        let place = position_of(self.list.as_slice(), to);
+        let place = position_near(self.list.as_slice(), self.last, to);
+        self.last = place;
         let pair = &mut self.list[place];
         pair.1.send(&self.rt, item)
     }
 
     fn finish(&mut self, to: PeerNo) -> Result<(), CloseRefused> {
-        let place = position_of(self.list.as_slice(), to);
+        let place = position_near(self.list.as_slice(), self.last, to);
+        self.last = place;
         let pair = &mut self.list[place];
         pair.1.close(&self.rt)
     }
 
     fn take(&mut self, from: PeerNo) -> Taken {
-        let place = position_of(self.list.as_slice(), from);
+        let place = position_near(self.list.as_slice(), self.last, from);
+        self.last = place;
         let pair = &mut self.list[place];
         pair.2.take(&self.rt)
     }

@@ -1,6 +1,7 @@
 ghost use Rattle.std.specs.Prelude.{◌≡◌, ◌<◌, length, true};
-ghost use Rattle.std.specs.List.{list_any};
-ghost use Rattle.gs_ends.specs.Pairs.{is_of, position_in};
+ghost use Rattle.std.specs.List.{IsDistinct, list_any};
+ghost use Rattle.gs_base.specs.Names.{same_peer};
+ghost use Rattle.gs_ends.specs.Pairs.{is_of, peers_in, position_in};
 
 use gs_base::PeerNo;
 
@@ -16,4 +17,20 @@ pub(crate) fn position_of<T, U>(list: &[(PeerNo, T, U)], who: PeerNo) -> usize
         }
     }
     unreachable!()
+}
+
+/// The same in a list in which no neighbour stands twice. It looks first where one was found last, and behind that: a peer
+/// goes through its neighbours in their order.
+pub(crate) fn position_near<T, U>(list: &[(PeerNo, T, U)], last: usize, who: PeerNo) -> usize
+    requires known { list_any (is_of who) list.now ≡ true }
+    requires apart { IsDistinct same_peer (peers_in list.now) }
+    ensures within { result < length list.now }
+    ensures first { result ≡ position_in list.now who }
+{
+    for place in last..list.len() {
+        if list[place].0.0 == who.0 {
+            return place;
+        }
+    }
+    position_of(list, who)
 }

@@ -1,6 +1,7 @@
 pub mod Ended
 pub mod Phases
 pub mod Inboxes
+pub mod Queue
 pub mod Outboxes
 pub mod Moved
 pub mod Playing

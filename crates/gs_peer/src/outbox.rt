@@ -10,7 +10,7 @@ ghost use Rattle.gs_peer.specs.Outboxes.{AcceptsOne, outgoing_of};
 ghost use Rattle.gs_rules.specs.Saying.{cut_out, saying, sending};
 ghost use Rattle.gs_wire.specs.Codec.{codec};
 
-use crate::queue::Queue;
+use crate::queue::SlotQueue;
 use bytes::Bytes;
 use gs_base::{PeerNo, Shared};
 use gs_ends::Ends;
@@ -21,7 +21,7 @@ use std::alloc::{AllocError, Global};
 /// What waits to go to a neighbour, what is gathered to go out as one RPC behind it, and whether more may be said.
 #[derive(Drop)]
 pub struct Outbox {
-    pub(crate) slots: Queue<Slot>,
+    pub(crate) slots: SlotQueue,
     pub(crate) gathered: Gathered,
     pub(crate) is_open: bool,
 }
@@ -34,7 +34,7 @@ impl Outbox {
         ensures open { result.is_open ≡ false }
     {
         Outbox {
-            slots: Queue::new(alloc),
+            slots: SlotQueue::new(alloc),
             gathered: Gathered::new(alloc),
             is_open: false,
         }
@@ -185,11 +185,13 @@ impl Outbox {
         if frame.is_empty() {
             return Ok(piece);
         }
-        self.slots.push_front(Slot::Piece(frame))?;
+        self.slots.push_rest(frame)?;
         Ok(piece)
     }
 
     /// Offers an item that was taken off the front. It goes back where it is refused.
+    // Each piece goes out here: inlined, it is moved once less.
+    #[inline(always)]
     fn offer_item<S: Ends>(
         &mut self,
         ends: &mut S,
@@ -243,6 +245,8 @@ impl Outbox {
         }
     }
 
+    // A link is seldom full.
+    #[inline(never)]
     fn put_back(&mut self, item: Item) -> Result<(), AllocError>
         ensures says { OnOk result (flat self.new.slots ≡ flat (slot_of item ∷ self.old.slots)) }
         ensures open { OnOk result (self.new.is_open ≡ self.old.is_open) }

@@ -18,7 +18,7 @@ use crate::outbox::Outbox;
 use bytes::Bytes;
 use gs_base::{PeerNo, Rpc, Shared, clone_of};
 use gs_ends::Ends;
-use gs_rules::{Entry, Event};
+use gs_rules::{Event, StoredEntry};
 use gs_wire::WrittenRpc;
 use std::alloc::{AllocError, Global};
 
@@ -82,7 +82,7 @@ impl Outboxes {
     ///
     /// # Errors
     /// `AllocError` where there was no memory for it.
-    pub fn tell_all(&mut self, alloc: Global, entries: &[Entry]) -> Result<(), AllocError>
+    pub fn tell_all(&mut self, alloc: Global, entries: &[StoredEntry]) -> Result<(), AllocError>
         requires { AllFit codec entries.now }
         ensures told { OnOk result ((q : PeerNoValue)
             → outgoing_in self.new q
@@ -97,15 +97,15 @@ impl Outboxes {
     }
 
     /// Tells the neighbours what an entry says.
-    fn tell(&mut self, alloc: Global, entry: &Entry) -> Result<(), AllocError>
+    fn tell(&mut self, alloc: Global, entry: &StoredEntry) -> Result<(), AllocError>
         requires { SendsFit codec entry.now.sends }
         ensures told { OnOk result ((q : PeerNoValue)
             → outgoing_in self.new q
             ≡ (if is_open self.old q then behind_entry codec q (outgoing_in self.old q) entry.now else outgoing_in self.old q)) }
         ensures open { OnOk result ((q : PeerNoValue) → is_open self.new q ≡ up_after q entry.now.event (is_open self.old q)) }
     {
-        self.send_all(alloc, entry.sends.as_slice())?;
-        self.tell_event(alloc, &entry.event)?;
+        self.send_all(alloc, entry.sends())?;
+        self.tell_event(alloc, entry.event())?;
         Ok(())
     }
 

@@ -1,29 +1,40 @@
-ghost use Rattle.std.specs.Prelude.{◌≡◌, ◌==◌, [], ◌∷◌, ◌++◌, length, OnOk, OnErr, MatchOption};
+ghost use Rattle.std.specs.Prelude.{◌≡◌, ◌≤◌, ◌==◌, [], ◌∷◌, ◌++◌, length, OnOk, OnErr, MatchOption};
+ghost use Rattle.gs_link.specs.declared.item.Slot.TheVariants.{Piece};
+ghost use Rattle.gs_peer.specs.Queue.{ahead};
 
+use bytes::Bytes;
+use gs_link::Slot;
 use std::alloc::{AllocError, Global};
 use std::collections::VecDeque;
 use std::marker::Model;
+use std::mem;
 
-/// A queue. Contracts see its elements, the front first.
-#[derive(Debug, Drop)]
-pub struct Queue<T> {
-    items: VecDeque<T>,
+/// What waits to go to a neighbour. Contracts see the slots, the front first.
+#[derive(Drop)]
+pub struct SlotQueue {
+    /// What is left of the frame that goes out, ahead of the others. It stands apart, so that a piece that is cut off
+    /// moves nothing in the queue.
+    rest: Bytes,
+    items: VecDeque<Slot>,
 }
 
-impl<T> Model for Queue<T> {
+impl Model for SlotQueue {
     ghost use Rattle.std.specs.Prelude.{List};
+    ghost use Rattle.gs_link.specs.declared.item.Slot.{Slot as SlotValue};
+    ghost use Rattle.gs_peer.specs.Queue.{ahead};
 
-    ghost Value = { List T };
+    ghost Value = { List SlotValue };
 
-    ghost view = { λ q. q.items.items };
+    ghost view = { λ q. ahead q.rest q.items.items };
 }
 
-impl<T> Queue<T> {
+impl SlotQueue {
     /// The empty queue. It takes no memory.
-    pub fn new(alloc: Global) -> Queue<T>
+    pub fn new(alloc: Global) -> SlotQueue
         ensures { result ≡ [] }
     {
-        Queue {
+        SlotQueue {
+            rest: Bytes::new(),
             items: VecDeque::new(alloc),
         }
     }
@@ -32,39 +43,68 @@ impl<T> Queue<T> {
     pub fn is_empty(&self) -> bool
         ensures { result ≡ (length self.now == 0) }
     {
-        self.items.is_empty()
+        self.rest.is_empty() && self.items.is_empty()
     }
 
     /// Takes the front.
-    pub fn pop_front(&mut self) -> Option<T>
+    #[inline(always)]
+    pub fn pop_front(&mut self) -> Option<Slot>
         ensures { MatchOption result ((self.old ≡ []) × (self.new ≡ [])) (λ item. self.old ≡ item ∷ self.new) }
     {
-        self.items.pop_front()
+        if self.rest.is_empty() {
+            return self.items.pop_front();
+        }
+        Some(Slot::Piece(mem::replace(&mut self.rest, Bytes::new())))
+    }
+
+    /// Adds a slot at the back.
+    ///
+    /// # Errors
+    /// `AllocError` where there was no memory; the queue is then as it was.
+    pub fn push_back(&mut self, slot: Slot) -> Result<(), AllocError>
+        ensures ok { OnOk result (self.new ≡ self.old ++ slot ∷ []) }
+        ensures err { OnErr result (self.new ≡ self.old) }
+    {
+        self.items.push_back(slot)?;
+        Ok(())
+    }
+
+    /// Puts what is left of a frame to the front.
+    ///
+    /// # Errors
+    /// `AllocError` where there was no memory.
+    #[inline(always)]
+    pub fn push_rest(&mut self, frame: Bytes) -> Result<(), AllocError>
+        requires { 1 ≤ length frame }
+        ensures { OnOk result (self.new ≡ Piece frame ∷ self.old) }
+    {
+        let behind = mem::replace(&mut self.rest, frame);
+        put_ahead(&mut self.items, behind)
+    }
+
+    /// Puts a slot to the front.
+    ///
+    /// # Errors
+    /// `AllocError` where there was no memory.
+    pub fn push_front(&mut self, slot: Slot) -> Result<(), AllocError>
+        ensures { OnOk result (self.new ≡ slot ∷ self.old) }
+    {
+        let behind = mem::replace(&mut self.rest, Bytes::new());
+        put_ahead(&mut self.items, behind)?;
+        self.items.push_front(slot)?;
+        Ok(())
     }
 }
 
-impl<T: Drop> Queue<T> {
-    /// Adds an element at the back.
-    ///
-    /// # Errors
-    /// `AllocError` where there was no memory; the queue is then as it was.
-    pub fn push_back(&mut self, item: T) -> Result<(), AllocError>
-        ensures ok { OnOk result (self.new ≡ self.old ++ item ∷ []) }
-        ensures err { OnErr result (self.new ≡ self.old) }
-    {
-        self.items.push_back(item)?;
-        Ok(())
+/// Puts the rest of a frame ahead of slots, where anything is left.
+// Where a piece was cut off a frame, nothing is.
+#[inline(always)]
+fn put_ahead(items: &mut VecDeque<Slot>, rest: Bytes) -> Result<(), AllocError>
+    ensures { OnOk result (items.new.items ≡ ahead rest items.old.items) }
+{
+    if rest.is_empty() {
+        return Ok(());
     }
-
-    /// Puts an element at the front.
-    ///
-    /// # Errors
-    /// `AllocError` where there was no memory; the queue is then as it was.
-    pub fn push_front(&mut self, item: T) -> Result<(), AllocError>
-        ensures ok { OnOk result (self.new ≡ item ∷ self.old) }
-        ensures err { OnErr result (self.new ≡ self.old) }
-    {
-        self.items.push_front(item)?;
-        Ok(())
-    }
+    items.push_front(Slot::Piece(rest))?;
+    Ok(())
 }

@@ -216,6 +216,8 @@ impl<G: Gate, S: Ends> Running<G, S> {
 
     /// Plays a round: hears what came, follows the lines, and ends it. Behind the last one it shuts
     /// down.
+    // It stands apart from the steps, which are many for each round: its locals are not theirs.
+    #[inline(never)]
     fn play(&mut self, round: u64) -> Result<(), AllocError>
         requires kept { IsKept S.Ends self.old }
         requires full { AllFull self.old.player.inboxes.items }

@@ -89,6 +89,8 @@ impl<G: Gate, S: Ends> Future for PeerTask<G, S> {
     ///
     /// It gives what is left of the life; or `NoMemory`, with the stop flag set; or `Stopped` where that
     /// was set, and where the result was given before. Behind any result there is nothing to give.
+    // It stands apart from whoever polls many tasks, who else clears the room of a whole task at each poll.
+    #[inline(never)]
     fn poll(&mut self, cx: &mut Context<'_>) -> Poll<Result<FinishedTask<S>, PeerFault>>
         requires { CanPoll S.Ends self.old }
         ensures value { IfReady result (Gives S.Ends self.old) }
@@ -111,7 +113,7 @@ impl<G: Gate, S: Ends> Future for PeerTask<G, S> {
             Ok(true) => Poll::Ready(finish(&self.stop, &mut self.running)),
             Ok(false) => cx.yield_now(),
             Err(fault) => {
-                self.running = None;
+                give_up(&mut self.running);
                 Poll::Ready(Err(fault))
             }
         }
@@ -137,6 +139,8 @@ fn go_on<G: Gate, S: Ends>(stop: &StopFlag, running: &mut Running<G, S>) -> Resu
 }
 
 /// Finishes a life that is over, and takes it out of its task. Where there is no memory the flag is set first.
+// It stands apart from `poll`, which else clears the room of a whole life each time.
+#[inline(never)]
 fn finish<G: Gate, S: Ends>(
     stop: &StopFlag,
     running: &mut Option<Running<G, S>>,
@@ -155,4 +159,13 @@ fn finish<G: Gate, S: Ends>(
         Ok(state) => Ok(life.finish(state)),
         Err(_) => Err(PeerFault::NoMemory(stop.set())),
     }
+}
+
+/// Drops a life that goes no further.
+// It stands apart from `poll`, as `finish` does.
+#[inline(never)]
+fn give_up<G: Gate, S: Ends>(running: &mut Option<Running<G, S>>)
+    ensures { running.new ≡ None }
+{
+    *running = None;
 }

@@ -1,21 +1,26 @@
 use Rattle.std.proofs.Common.{◌≡◌, ◌∙◌, true, refl, ap, sym, subst, List}
 use Rattle.gs_link.specs.declared.item.Slot.{Slot}
 use Rattle.gs_ends.specs.Ends.{has, IsTaken, linked}
-use Rattle.gs_ends.specs.Pairs.{Pair, joint_of, joints_of}
-use Rattle.gs_ends.proofs.PairLists.{replaced, stands}
+use Rattle.std.specs.List.{IsDistinct}
+use Rattle.gs_base.specs.Names.{same_peer}
+use Rattle.gs_ends.specs.Pairs.{Pair, joint_of, joints_of, peers_in}
+use Rattle.gs_ends.proofs.PairLists.{replaced, stands, stay_apart}
 use Rattle.gs_ends.proofs.Calls.{taken_of}
 use Rattle.gs_ends.proofs.InOrder.{none_settled}
 use Rattle.gs_ends.proofs.link_ends.LinkEndsEnds.take.Goals as goal
 
-pub position_of-place-requires : goal.position_of-place-requires
-position_of-place-requires g c = record { known = stands joint_of (λ x. refl) c.as_slice.result.now c.args.from (subst (λ (l : List Pair). has (joints_of l) c.args.from ≡ true) (sym (c.as_slice.ensures.value ∙ c.self.view_is)) c.requires.known) }
+pub position_near-place-requires-clause-known : goal.position_near-place-requires-clause-known
+position_near-place-requires-clause-known g c = stands joint_of (λ x. refl) c.as_slice.result.now c.args.from (subst (λ (l : List Pair). has (joints_of l) c.args.from ≡ true) (sym (c.as_slice.ensures.value ∙ c.self.view_is)) c.requires.known)
+
+pub position_near-place-requires-clause-apart : goal.position_near-place-requires-clause-apart
+position_near-place-requires-clause-apart g c = subst (λ (l : List Pair). IsDistinct same_peer (peers_in l)) (sym c.as_slice.ensures.value) c.self.invariant
 
 pub returns-clause-joints : goal.returns-clause-joints
 returns-clause-joints g c =
     let old : Pair = c.index_mut-pair.result.now in
     let new : Pair = (old.0, old.1, c.take.new.self) in
     let same : joint_of new ≡ joint_of old = ap (λ k. linked old.0 old.1.link k) c.take.ensures.link in
-    let change = replaced joint_of (λ x. refl) _ _ _ c.args.from _ old new _ c.self.view_is c.as_slice.ensures.value c.position_of-place.ensures.within c.position_of-place.ensures.first c.index_mut-pair.ensures.value same in
+    let change = replaced joint_of (λ x. refl) _ _ _ c.args.from _ old new _ c.self.view_is c.as_slice.ensures.value c.position_near-place.ensures.within c.position_near-place.ensures.first c.index_mut-pair.ensures.value same in
     change.joints
 
 pub returns-clause-taken : goal.returns-clause-taken
@@ -23,7 +28,7 @@ returns-clause-taken g c =
     let old : Pair = c.index_mut-pair.result.now in
     let new : Pair = (old.0, old.1, c.take.new.self) in
     let same : joint_of new ≡ joint_of old = ap (λ k. linked old.0 old.1.link k) c.take.ensures.link in
-    let change = replaced joint_of (λ x. refl) _ _ _ c.args.from _ old new _ c.self.view_is c.as_slice.ensures.value c.position_of-place.ensures.within c.position_of-place.ensures.first c.index_mut-pair.ensures.value same in
+    let change = replaced joint_of (λ x. refl) _ _ _ c.args.from _ old new _ c.self.view_is c.as_slice.ensures.value c.position_near-place.ensures.within c.position_near-place.ensures.first c.index_mut-pair.ensures.value same in
     subst (λ (l : List Slot × List Slot). IsTaken l.0 l.1 c.take.result) (λ i. (sym (change.was (λ pair. pair.2.taken)) i, sym (change.is (λ pair. pair.2.taken)) i)) (taken_of _ _ _ c.take.ensures.got c.take.ensures.empty c.take.ensures.close c.take.ensures.closed)
 
 pub returns-clause-others : goal.returns-clause-others
@@ -31,7 +36,7 @@ returns-clause-others g c =
     let old : Pair = c.index_mut-pair.result.now in
     let new : Pair = (old.0, old.1, c.take.new.self) in
     let same : joint_of new ≡ joint_of old = ap (λ k. linked old.0 old.1.link k) c.take.ensures.link in
-    let change = replaced joint_of (λ x. refl) _ _ _ c.args.from _ old new _ c.self.view_is c.as_slice.ensures.value c.position_of-place.ensures.within c.position_of-place.ensures.first c.index_mut-pair.ensures.value same in
+    let change = replaced joint_of (λ x. refl) _ _ _ c.args.from _ old new _ c.self.view_is c.as_slice.ensures.value c.position_near-place.ensures.within c.position_near-place.ensures.first c.index_mut-pair.ensures.value same in
     change.others (λ pair. pair.2.taken)
 
 pub returns-clause-accepted : goal.returns-clause-accepted
@@ -39,8 +44,16 @@ returns-clause-accepted g c =
     let old : Pair = c.index_mut-pair.result.now in
     let new : Pair = (old.0, old.1, c.take.new.self) in
     let same : joint_of new ≡ joint_of old = ap (λ k. linked old.0 old.1.link k) c.take.ensures.link in
-    let change = replaced joint_of (λ x. refl) _ _ _ c.args.from _ old new _ c.self.view_is c.as_slice.ensures.value c.position_of-place.ensures.within c.position_of-place.ensures.first c.index_mut-pair.ensures.value same in
+    let change = replaced joint_of (λ x. refl) _ _ _ c.args.from _ old new _ c.self.view_is c.as_slice.ensures.value c.position_near-place.ensures.within c.position_near-place.ensures.first c.index_mut-pair.ensures.value same in
     change.kept (λ pair. pair.1.accepted) refl
 
 pub returns-clause-settled : goal.returns-clause-settled
 returns-clause-settled g c = λ empty. none_settled _ c.args.from
+
+pub invariant_of-self : goal.invariant_of-self
+invariant_of-self g c =
+    let old : Pair = c.index_mut-pair.result.now in
+    let new : Pair = (old.0, old.1, c.take.new.self) in
+    let same : joint_of new ≡ joint_of old = ap (λ k. linked old.0 old.1.link k) c.take.ensures.link in
+    let change = replaced joint_of (λ x. refl) _ _ _ c.args.from _ old new _ c.self.view_is c.as_slice.ensures.value c.position_near-place.ensures.within c.position_near-place.ensures.first c.index_mut-pair.ensures.value same in
+    stay_apart joint_of (λ x. refl) _ _ (change.joints ∙ ap joints_of (sym c.self.view_is)) c.self.invariant
