@@ -1,6 +1,6 @@
 # shellcheck shell=bash disable=SC2154
-# Scenarios with many neighbours, and what is printed of them. Scripts read this file, once they have set `top` to the
-# repository's folder.
+# Scenarios with many neighbours, and what is printed of them. bin/check_statuses reads this file, sets `top` to the
+# repository's folder, and has `expect`.
 
 # neighbours WHO PEERS BYTES WORKERS: peers that all subscribe in round 0, each publish so many bytes in round 2, and
 # end before a heartbeat. Each is joined to each where WHO is `all`, else the first to all others.
@@ -43,4 +43,21 @@ neighbours_report() {
 # A run of them, which has to end.
 among() {
   neighbours "$@" | timeout 60 env --default-signal=PIPE "$top/bin/gossip_sim" --proved
+}
+
+# Runs with many neighbours over links of one place, which a peer that is never due, or that waits for the wrong
+# neighbour, would not end.
+check_neighbours() {
+  local workers who peers bytes name
+  for workers in 1 3; do
+    while read -r who peers bytes name; do
+      expect "$name, $workers workers" 0 "$(neighbours_report "$who" "$peers" "$bytes")" '' \
+        among "$who" "$peers" "$bytes" "$workers"
+    done <<'END'
+all 20 1 20 peers, each joined to each
+all 12 300 12 peers that send much
+hub 18 1 17 neighbours of a peer
+hub 34 1 33 neighbours of a peer
+END
+  done
 }

@@ -1,0 +1,254 @@
+"""The runs of a sweep: which settings there are, what a run gives, and the rows that are kept. For bin/sweep."""
+import csv
+import hashlib
+import io
+import itertools
+import json
+import math
+import os
+import re
+import subprocess
+import threading
+from collections import namedtuple
+
+# (of publications: how many, the sums of two columns, and the largest of one)
+OF_PUBLICATIONS = "publications", "on_topic", "delivered", "last_round"
+SUMS = (
+    "rpcs_heard",
+    "messages_heard",
+    "new",
+    "duplicates",
+    "ignored",
+    "invalid",
+    "ihave_heard",
+    "iwant_heard",
+    "graft_heard",
+    "prune_heard",
+    "messages_sent",
+    "ihave_sent",
+    "iwant_sent",
+    "graft_sent",
+    "prune_sent",
+    "broken_promises",
+    "refused_lines",
+)
+LOWEST, HIGHEST = ("lowest_score", "smallest_mesh"), ("highest_score", "largest_mesh")
+COLUMNS = ("status", "message", *OF_PUBLICATIONS, *SUMS, "lowest_score", "highest_score", "smallest_mesh", "largest_mesh")
+
+# The statuses of runs that would end so again: with figures, or refused.
+KEPT_STATUSES = 0, 1
+TOKEN = re.compile(r""" "(?:\\.|[^"\\])*" | '[^']*' | . """, re.DOTALL | re.VERBOSE)
+
+# How a run ended: its cells by column, and whether they were there before.
+Row = namedtuple("Row", "cells was_kept")
+End = namedtuple("End", "status output message")
+
+
+class Stopped(Exception):
+    """The sweep ends, and this run with it."""
+
+
+def line_of(cells):
+    text = io.StringIO()
+    csv.writer(text, lineterminator="\n").writerow(cells)
+    return text.getvalue()
+
+
+def between_commas(text):
+    """The parts of a text between those commas that stand in no string, list or table."""
+    parts, depth = [""], 0
+    for token in TOKEN.findall(text):
+        depth += (token in "[{") - (token in "]}")
+        if token == "," and depth == 0:
+            parts.append("")
+        else:
+            parts[-1] += token
+    return [it.strip() for it in parts]
+
+
+def size(values):
+    """How many values there are. (Python's own `len` refuses a range of very many.)"""
+    return values.stop - values.start if isinstance(values, range) else len(values)
+
+
+class Settings:
+    """The keys that a sweep sets, each with its values: texts, and ranges of whole numbers."""
+
+    def __init__(self, refuse):
+        self.refuse, self.values = refuse, {}
+
+    def take(self, text):
+        """Takes KEY=VALUES."""
+        key, equals, values = (it.strip() for it in text.partition("="))
+        if not equals or not key:
+            self.refuse(f"--set takes KEY=VALUES, not {text}")
+        if key in self.values:
+            self.refuse(f"{key} is set twice")
+        self.values[key] = [self.several(key, it) for it in between_commas(values)]
+
+    def several(self, key, text):
+        """A value, or those of a range."""
+        ends = re.fullmatch(r"(-?[0-9]{1,19})\.\.(-?[0-9]{1,19})", text)
+        if not text:
+            self.refuse(f"{key} has an empty value")
+        if not ends:
+            return [text]
+        first, last = int(ends[1]), int(ends[2])
+        if first > last:
+            self.refuse(f"{key} goes from {first} to {last}, which is less")
+        return range(first, last + 1)
+
+    def count(self):
+        return math.prod(sum(map(size, it)) for it in self.values.values())
+
+    def combinations(self):
+        """Each combination, as a tuple of KEY=VALUE, of which the last changes first."""
+        keys = list(self.values)
+        for values in itertools.product(*(list(itertools.chain(*self.values[it])) for it in keys)):
+            yield tuple(f"{key}={value}" for key, value in zip(keys, values))
+
+
+def tables_of(text):
+    """The rows for publications, and those for peers, of what gossip_stats prints."""
+    return [list(csv.DictReader(io.StringIO(it))) for it in text.split("\n\n", 1)]
+
+
+def numbers(rows, column):
+    """The numbers of a column, but for the places where there is none."""
+    return [int(row[column]) for row in rows if row[column]]
+
+
+def figures_of(text, peer):
+    """The figures of a run, or of one of its peers, by column. None where it has no such peer."""
+    publications, peers = tables_of(text)
+    peers = [it for it in peers if it["peer"] != "(all)" and peer in (None, it["peer"])]
+    publications = [it for it in publications if peer in (None, it["publisher"])]
+    if not peers:
+        return None
+    figures = {"publications": len(publications)}
+    figures |= {it: sum(numbers(publications, it)) for it in ("on_topic", "delivered")}
+    figures["last_round"] = max(numbers(publications, "last_round"), default="")
+    figures |= {it: sum(numbers(peers, it)) for it in SUMS}
+    figures |= {it: min(numbers(peers, it), default="") for it in LOWEST}
+    figures |= {it: max(numbers(peers, it), default="") for it in HIGHEST}
+    return figures
+
+
+class Folder:
+    """The files that have the rows of runs, each with its line of columns."""
+
+    def __init__(self, path):
+        os.makedirs(path, exist_ok=True)
+        self.path = path
+
+    def file_of(self, name):
+        return os.path.join(self.path, f"{name}.csv")
+
+    def has(self, name):
+        return os.path.exists(self.file_of(name))
+
+    def cells_of(self, name, header):
+        """The cells of the row that is there, if a whole one with these columns is."""
+        try:
+            with open(self.file_of(name), encoding="utf-8", newline="") as it:
+                rows = list(csv.reader(it))
+        except (OSError, UnicodeDecodeError, csv.Error):
+            return None
+        is_whole = len(rows) == 2 and rows[0] == header and len(rows[1]) == len(header)
+        return rows[1] if is_whole else None
+
+    def keep(self, name, text):
+        """Writes a row beside its place, and then puts it there at once."""
+        beside = os.path.join(self.path, f".{name}.{os.getpid()}.{threading.get_ident()}")
+        try:
+            with open(beside, "w", encoding="utf-8", newline="") as it:
+                it.write(text)
+            os.replace(beside, self.file_of(name))
+        except OSError:
+            if os.path.exists(beside):
+                os.remove(beside)
+            raise
+
+
+def hash_of(data):
+    return hashlib.sha256(data).hexdigest()
+
+
+def hash_in(file):
+    with open(file, "rb") as it:
+        return hash_of(it.read())
+
+
+class Sweep:
+    """Runs a scenario with settings, on as many threads as call it."""
+
+    def __init__(self, programs, scenario, options, folder):
+        self.programs, self.scenario, self.peer, self.folder = programs, scenario, options.peer, folder
+        self.header = [*options.settings.values, *COLUMNS]
+        self.lock, self.live, self.is_stopped = threading.Lock(), set(), False
+        self.source = [hash_of(scenario), *map(hash_in, programs.values()), options.peer] if folder else []
+
+    def name_of(self, settings):
+        """The name of a row's file: another one wherever the row might be another one."""
+        return hash_of(json.dumps([self.source, settings]).encode())[:32]
+
+    def is_there(self, settings):
+        return self.folder.has(self.name_of(settings))
+
+    def row_of(self, settings):
+        """The row of a run, which is made where no earlier one kept it."""
+        kept = self.folder.cells_of(self.name_of(settings), self.header) if self.folder else None
+        if kept is not None:
+            return Row(dict(zip(self.header, kept)), True)
+        cells = [it.partition("=")[2] for it in settings] + self.cells_of(self.ended(settings))
+        row = Row(dict(zip(self.header, map(str, cells))), False)
+        if self.folder and int(row.cells["status"]) in KEPT_STATUSES:
+            self.folder.keep(self.name_of(settings), line_of(self.header) + line_of(cells))
+        return row
+
+    def cells_of(self, end):
+        """The cells of a run behind its settings."""
+        figures = None
+        if end.status == 0:
+            figures = figures_of(end.output, self.peer)
+            end = end if figures else End(1, "", f"the scenario has no peer {self.peer}")
+        cells = {"status": end.status, "message": end.message, **(figures or {})}
+        return [cells.get(it, "") for it in COLUMNS]
+
+    def ended(self, settings):
+        """How a run ends: gossip_edit gives the scenario that gossip_stats runs."""
+        end = End(0, self.scenario, "")
+        if settings:
+            end = self.call([self.programs["gossip_edit"], *settings], self.scenario)
+        if end.status == 0:
+            end = self.call([self.programs["gossip_stats"]], end.output)
+        return end._replace(output=end.output.decode(errors="replace"))
+
+    def call(self, words, data):
+        """Runs a program, in a session of its own: so a key that interrupts the sweep does not end it for itself."""
+        name = os.path.basename(words[0])
+        with self.lock:
+            if self.is_stopped:
+                raise Stopped
+            try:
+                pipes = {it: subprocess.PIPE for it in ("stdin", "stdout", "stderr")}
+                child = subprocess.Popen(words, **pipes, start_new_session=True)
+            except (OSError, ValueError) as why:
+                return End(2, b"", f"{name} can't be started: {why}")
+            self.live.add(child)
+        output, errors = child.communicate(data)
+        with self.lock:
+            self.live.remove(child)
+            if self.is_stopped:
+                raise Stopped
+        said = "; ".join(errors.decode(errors="replace").split("\n")).strip("; ")
+        if child.returncode < 0:
+            return End(128 - child.returncode, b"", f"{name} was ended by signal {-child.returncode}")
+        return End(child.returncode, output, said)
+
+    def end_all(self):
+        """Ends what still runs."""
+        with self.lock:
+            self.is_stopped = True
+            for it in self.live:
+                it.kill()
