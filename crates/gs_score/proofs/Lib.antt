@@ -6,6 +6,7 @@ pub mod Sums
 pub mod Kept
 pub mod RulesInRange
 pub mod NoWeight
+pub mod Telling
 pub mod Numbering
 pub mod Accounting
 pub mod Keeping

@@ -1,13 +1,12 @@
 -- What is known of a neighbour, on all topics.
-use Rattle.std.specs.Prelude.{◌≡◌, ℕ, suc, ℤ, pos, ◌+ℤ◌, Bool, false, ◌||◌, if◌then◌else◌, List, [], ◌∷◌, length, map, is_some}
+use Rattle.std.specs.Prelude.{◌≡◌, ℕ, suc, ℤ, pos, ◌+ℤ◌, Bool, false, ◌||◌, if◌then◌else◌, List, [], ◌∷◌, length, map}
+use Rattle.std.specs.Prelude.{is_some}
 use Rattle.std.specs.List.{list_any, IsDistinct}
 use Rattle.std.specs.Map.{lookup}
 use Rattle.std.specs.Option.{unwrap_or}
 use Rattle.gs_base.specs.declared.names.Topic.{Topic}
 use Rattle.gs_base.specs.Names.{same_topic}
 use Rattle.gs_params.specs.declared.params.Params.{Params}
-use Rattle.gs_params.specs.declared.topic_params.TopicFactors.{TopicFactors}
-use Rattle.gs_params.specs.declared.topic_params.TopicTiming.{TopicTiming}
 use Rattle.gs_params.specs.declared.topic_params.TopicParams.{TopicParams}
 use Rattle.gs_params.specs.Params.{default_topic_params}
 use Rattle.gs_score.specs.declared.counter.Decay.{Decay}
@@ -21,10 +20,6 @@ use Rattle.gs_score.specs.Formula.{topic_part}
 -- the first parameters of a topic count, and a topic without any has the defaults
 abbrev pub params_in : List (Topic × TopicParams) → Topic → TopicParams
 params_in topics t = unwrap_or (lookup (same_topic t) topics) default_topic_params
-
-abbrev pub factors_in : List (Topic × TopicParams) → Topic → TopicFactors × TopicTiming
-factors_in topics t =
-    ((params_in topics t).factors, (params_in topics t).timing)
 
 abbrev pub rules_of : Params → Topic → TopicRules
 rules_of params t = record {
@@ -45,7 +40,7 @@ standing_in topics t = unwrap_or (lookup (same_topic t) topics) fresh
 abbrev pub has_topic : List (Topic × Standing) → Topic → Bool
 has_topic topics t = is_some (lookup (same_topic t) topics)
 
--- it has something on this topic now, and else on those of before
+-- it has something on this topic now, and on those of before
 pub record AddsTopic (old new : List (Topic × Standing)) (t : Topic) : Type 0 where
   pub topics : (u : Topic) → has_topic new u ≡ (same_topic t u || has_topic old u)
   pub number : length new ≡ (if has_topic old t then length old else suc (length old))

@@ -33,7 +33,8 @@ abbrev pub shut : AddressEntry → AddressEntry
 shut x = record x { counted = false }
 
 abbrev pub shut_out : PeerNo → List (PeerNo × AddressEntry) → List (PeerNo × AddressEntry)
-shut_out p addresses = option_map_or (λ x. set_value (same_peer p) addresses (shut x)) (address_entry_at addresses p) addresses
+shut_out p addresses =
+    option_map_or (λ x. set_value (same_peer p) addresses (shut x)) (address_entry_at addresses p) addresses
 
 -- ---- an address
 
@@ -50,7 +51,8 @@ number_at addresses address = sum_by (λ x. one_if (counts_at address x)) (value
 
 -- how many count at a neighbour's address
 abbrev pub number_with : List (PeerNo × AddressEntry) → PeerNo → ℕ
-number_with addresses p = option_map_or (λ (x : AddressEntry). number_at addresses x.address) (address_entry_at addresses p) 0
+number_with addresses p =
+    option_map_or (λ (x : AddressEntry). number_at addresses x.address) (address_entry_at addresses p) 0
 
 -- a number that is kept of an address
 abbrev pub kept_number : List (List ℕ × ℕ) → List ℕ → ℕ

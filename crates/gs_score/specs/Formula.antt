@@ -1,5 +1,6 @@
 -- The parts of a score (gossipsub v1.1, Peer Scoring, "The Score Function"), each product rounded down.
-use Rattle.std.specs.Prelude.{ℕ, ◌*◌, ◌-◌, ◌/◌, min, nat_le, nat_lt, ℤ, pos, ◌+ℤ◌, Bool, false, ◌&&◌, if◌then◌else◌, Option, Some, None}
+use Rattle.std.specs.Prelude.{ℕ, ◌*◌, ◌-◌, ◌/◌, min, nat_le, nat_lt, ℤ, pos, ◌+ℤ◌, Bool, false, ◌&&◌, if◌then◌else◌}
+use Rattle.std.specs.Prelude.{Option, Some, None}
 use Rattle.std.specs.Int.{int_min}
 use Rattle.gs_base.specs.declared.names.Millis.{Millis}
 use Rattle.gs_params.specs.declared.params.Factors.{Factors}

@@ -1,5 +1,6 @@
 -- What happened to a peer's neighbours, and what counters and scores that makes.
-use Rattle.std.specs.Prelude.{Bool, true, ◌≡◌, ℕ, suc, ℤ, pos, int_lt, min, unsigned_abs, if◌then◌else◌, List, [], ◌∷◌, length, map, Option, Some, None}
+use Rattle.std.specs.Prelude.{Bool, true, ◌≡◌, ℕ, suc, ℤ, pos, int_lt, min, unsigned_abs, if◌then◌else◌, List, []}
+use Rattle.std.specs.Prelude.{◌∷◌, length, map, Option, Some, None}
 use Rattle.std.specs.List.{list_any}
 use Rattle.std.specs.Option.{option_map_or}
 use Rattle.gs_base.specs.declared.names.PeerNo.{PeerNo}
@@ -21,7 +22,8 @@ use Rattle.gs_score.specs.Standings.{Held, decayed_held, nothing_held, raised_he
 use Rattle.gs_score.specs.Formula.{score_of}
 use Rattle.gs_score.specs.Accounts.{has_topic, held_in, misbehaviour_decay, rules_of, topic_sum}
 use Rattle.gs_score.specs.Addresses.{address_entry_of, app_of, number_with, shut_out}
-use Rattle.gs_score.specs.Ledgers.{BlamesIn, has_room, Kept, PutsIn, misbehaviour_of, has_account, same_pair, standing_of, topics_of}
+use Rattle.gs_score.specs.Ledgers.{BlamesIn, has_room, Kept, PutsIn, misbehaviour_of, has_account, same_pair}
+use Rattle.gs_score.specs.Ledgers.{standing_of, topics_of}
 
 -- ---- what marks raise
 
@@ -78,7 +80,8 @@ Applies old new (marks.Deficit p t z) = RaisesIn old new p t Deficit (capped_def
 Applies old new (marks.Invalid p t) = RaisesIn old new p t Invalid one
 Applies old new (marks.Misbehaviour p) =
     BlamesIn old new p (record {
-      value = raised most_counted one (read_at (misbehaviour_decay old.params) old.tick (misbehaviour_of old.accounts p));
+      value = raised most_counted one
+          (read_at (misbehaviour_decay old.params) old.tick (misbehaviour_of old.accounts p));
       tick = old.tick;
     })
 Applies old new mark = new ≡ old
@@ -181,7 +184,8 @@ pub record Agrees (setting : Setting) (k : Kept) (H : History) : Type 0 where
       → held_in setting.params k.tick (topics_of k.accounts q) t ≡ held_by setting.params H q t
   pub misbehaves
       : (q : PeerNo)
-      → read_at (misbehaviour_decay setting.params) k.tick (misbehaviour_of k.accounts q) ≡ misbehaviour setting.params H q
+      → read_at (misbehaviour_decay setting.params) k.tick (misbehaviour_of k.accounts q)
+      ≡ misbehaviour setting.params H q
   -- it has something on the topics that are named, each once, and on no other
   pub knows : (q : PeerNo) (t : Topic) → has_topic (topics_of k.accounts q) t ≡ list_any (same_topic t) (named H q)
   pub counts : (q : PeerNo) → length (topics_of k.accounts q) ≡ length (named H q)

@@ -1,5 +1,6 @@
 -- What scores keep.
-use Rattle.std.specs.Prelude.{◌||◌, nat_lt, ◌≡◌, ◌≤◌, ◌^◌, ◌&&◌, ℕ, unsigned_abs, Bool, false, List, [], length, is_some, if◌then◌else◌}
+use Rattle.std.specs.Prelude.{◌||◌, nat_lt, ◌≡◌, ◌≤◌, ◌^◌, ◌&&◌, ℕ, unsigned_abs, Bool, false, List, [], length}
+use Rattle.std.specs.Prelude.{is_some, if◌then◌else◌}
 use Rattle.std.specs.Map.{lookup}
 use Rattle.std.specs.Option.{unwrap_or}
 use Rattle.gs_base.specs.declared.names.PeerNo.{PeerNo}
@@ -60,7 +61,7 @@ pub record Puts (old new : List (PeerNo × Account)) (p : PeerNo) (t : Topic) (s
   pub misbehaviours : (q : PeerNo) → misbehaviour_of new q ≡ misbehaviour_of old q
   pub accounts : (q : PeerNo) → has_account new q ≡ has_account old q
 
--- a neighbour has something on this topic now, and else each on those of before
+-- a neighbour has something on this topic now, and each neighbour on those of before
 pub record Adds (old new : List (PeerNo × Account)) (p : PeerNo) (t : Topic) : Type 0 where
   pub here : AddsTopic (topics_of old p) (topics_of new p) t
   pub others : (q : PeerNo) → same_peer p q ≡ false → KeepsTopics (topics_of old q) (topics_of new q)

@@ -4,6 +4,7 @@ pub mod Standings
 pub mod Ranges
 pub mod Formula
 pub mod Accounts
+pub mod Rulebooks
 pub mod Addresses
 pub mod Ledgers
 pub mod Histories

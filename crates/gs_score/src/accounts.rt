@@ -7,11 +7,13 @@ ghost use Rattle.gs_base.specs.declared.neighbour.Neighbour.{Neighbour as Neighb
 ghost use Rattle.gs_params.specs.Params.{AreInRange};
 ghost use Rattle.gs_score.specs.Accounts.{Covers, has_topic, held_in, misbehaviour_decay, topic_sum};
 ghost use Rattle.gs_score.specs.Counters.{most_counted, raised, read_at};
-ghost use Rattle.gs_score.specs.Ledgers.{Adds, AreFew, Blames, Keeps, has_room, Puts, account_of, misbehaviour_of, has_account, nothing_counted, standing_of, topics_of};
+ghost use Rattle.gs_score.specs.Ledgers.{Adds, AreFew, Blames, Keeps, has_room, Puts, account_of, misbehaviour_of};
+ghost use Rattle.gs_score.specs.Ledgers.{has_account, nothing_counted, standing_of, topics_of};
 ghost use Rattle.gs_score.specs.Ranges.{RulesAreInRange};
 ghost use Rattle.gs_score.specs.Standings.{grafted, pruned, raised_by};
 
 use crate::counter::{Counter, Decay, MOST_COUNTED};
+use crate::rulebook::Rulebook;
 use crate::standing::{Raise, Standing};
 use crate::topic_standings::TopicStandings;
 use gs_base::{Millis, Neighbour, PeerNo, Topic};
@@ -182,29 +184,28 @@ pub(crate) fn blame(
     }
 }
 
-/// What the topics of a neighbour give together, in millionths, at most 1,024 * 10^25 either way, and how it misbehaved,
-/// in millionths: 0 to 10^12. It is looked up once.
+/// What the topics of a neighbour give together, in millionths, at most 1,024 * 10^25 either way, and how it
+/// misbehaved, in millionths: 0 to 10^12. It is looked up once.
 pub(crate) fn counts_of(
     accounts: &IndexMap<PeerNo, Account>,
     peer: PeerNo,
-    params: &Params,
+    rulebook: &Rulebook,
     tick: u64,
     now: Millis,
 ) -> (i128, u64)
-    requires in_range { AreInRange params.now }
     requires few { AreFew accounts.now.entries }
     ensures topics { (ts : List TopicValue)
-        → Covers (held_in params.now tick (topics_of accounts.now.entries peer)) ts
-        → result.0 ≡ topic_sum params.now now.0 (held_in params.now tick (topics_of accounts.now.entries peer)) ts }
+        → Covers (held_in rulebook.now tick (topics_of accounts.now.entries peer)) ts
+        → result.0 ≡ topic_sum rulebook.now now.0 (held_in rulebook.now tick (topics_of accounts.now.entries peer)) ts }
     ensures bound { unsigned_abs result.0 ≤ 1_024 * 10 ^ 25 }
     ensures misbehaviour { result.1
-        ≡ read_at (misbehaviour_decay params.now) tick (misbehaviour_of accounts.now.entries peer) }
+        ≡ read_at (misbehaviour_decay rulebook.now) tick (misbehaviour_of accounts.now.entries peer) }
     ensures most { result.1 ≤ 10 ^ 12 }
 {
-    let decay = misbehaviour_decay(params);
+    let decay = misbehaviour_decay(rulebook.params());
     match accounts.get(&peer) {
         Some(account) => {
-            let topics = account.topics.sum(params, tick, now);
+            let topics = account.topics.sum(rulebook, tick, now);
             (topics, account.misbehaviour.read(decay, tick))
         }
         None => (0, Counter::new().read(decay, tick)),

@@ -1,7 +1,8 @@
 ghost use Rattle.std.specs.Prelude.{◌≡◌, ◌+◌, ◌-◌, ◌≤◌, ◌<◌, ◌^◌, ℕ, List, [], map, drop, length, IfOk, OnOk};
 ghost use Rattle.indexmap.specs.IndexMap.{insert_all};
 ghost use Rattle.gs_base.specs.Names.{same_peer};
-ghost use Rattle.gs_score.specs.Addresses.{address_entry_of, app_of, counts_at, is_counted, kept_number, number_at, number_with, one_if, same_address, shut_out};
+ghost use Rattle.gs_score.specs.Addresses.{address_entry_of, app_of, counts_at, is_counted, kept_number, number_at};
+ghost use Rattle.gs_score.specs.Addresses.{number_with, one_if, same_address, shut_out};
 
 use bytes::Bytes;
 use gs_base::{Neighbour, PeerNo, clone_of};

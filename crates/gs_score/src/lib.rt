@@ -7,6 +7,7 @@ mod addresses;
 mod counter;
 mod laws;
 mod millionths;
+mod rulebook;
 mod rules;
 mod score;
 mod scores;
@@ -21,6 +22,7 @@ pub use laws::{
     there_is_room_for_what_fits_a_list,
 };
 pub use millionths::{scaled, squared, times};
+pub use rulebook::Rulebook;
 pub use rules::TopicRules;
 pub use score::score_of;
 pub use scores::Scores;

@@ -1,19 +1,16 @@
 ghost use Rattle.std.specs.Prelude.{◌≡◌, ◌≤◌, ◌^◌, ℕ, pos, false};
-ghost use Rattle.gs_base.specs.declared.names.Topic.{Topic as TopicValue};
 ghost use Rattle.gs_params.specs.Params.{AreInRange, TopicFactorsAreInRange};
 ghost use Rattle.gs_params.specs.declared.params.Params.{Params as ParamsValue};
-ghost use Rattle.gs_score.specs.Accounts.{factors_in, rules_of};
 ghost use Rattle.gs_score.specs.Formula.{is_active, p1, topic_part};
 ghost use Rattle.gs_score.specs.Ranges.{RulesAreInRange};
+ghost use Rattle.gs_score.specs.Rulebooks.{NothingWeighs};
 ghost use Rattle.gs_score.specs.Standings.{Held, cap_of, decay_of};
 ghost use Rattle.gs_score.specs.declared.rules.TopicRules.{TopicRules as TopicRulesValue};
 
 use crate::counter::{Decay, MOST_COUNTED};
 use crate::standing::Kind;
 use gs_base::{Millis, Topic};
-use gs_params::{
-    DEFAULT_TOPIC_FACTORS, DEFAULT_TOPIC_TIMING, Params, TopicFactors, TopicParams, TopicTiming,
-};
+use gs_params::{TopicFactors, TopicParams, TopicTiming};
 
 /// How a topic is scored (gossipsub v1.1, Peer Scoring, Topic Parameters).
 #[derive(Clone, Copy, Debug, PartialEq, Eq)]
@@ -27,21 +24,6 @@ pub struct TopicRules {
 }
 
 impl TopicRules {
-    /// How a topic is scored by the parameters of a peer: the first parameters of the topic count, and a
-    /// topic without any has the defaults.
-    pub fn of(params: &Params, topic: &Topic) -> TopicRules
-        requires in_range { AreInRange params.now }
-        ensures value { result ≡ rules_of params.now topic.now }
-        ensures in_range { RulesAreInRange result }
-    {
-        let (factors, timing) = factors_of(params.topics.as_slice(), topic);
-        TopicRules {
-            factors,
-            timing,
-            decay_to_zero: params.factors.decay_to_zero,
-        }
-    }
-
     /// The factor by which a counter of this kind decays, and the floor below which it becomes 0, both in millionths.
     pub fn decay_of(&self, kind: Kind) -> Decay
         requires in_range { RulesAreInRange self.now }
@@ -101,26 +83,13 @@ impl TopicRules {
     }
 }
 
-/// The factors and the times of a topic: those of its first parameters, and the defaults where it has none.
-fn factors_of(topics: &[(Topic, TopicParams)], topic: &Topic) -> (TopicFactors, TopicTiming)
-    ensures { result ≡ factors_in topics.now topic.now }
-{
-    for (other, found) in topics {
-        if topic == other {
-            return (found.factors, found.timing);
-        }
-    }
-    (DEFAULT_TOPIC_FACTORS, DEFAULT_TOPIC_TIMING)
-}
-
 /// Whether what is counted on some topic weighs, by the parameters of topics. The defaults of others weigh nothing.
 pub(crate) fn any_weighs(topics: &[(Topic, TopicParams)]) -> bool
     ensures { result ≡ false
         → (params : ParamsValue)
         → AreInRange params
         → params.topics ≡ topics.now
-        → (t : TopicValue) (now : ℕ) (h : Held)
-        → topic_part (rules_of params t) now h ≡ pos 0 }
+        → NothingWeighs params }
 {
     for entry in topics {
         if weighs(&entry.1.factors) {

@@ -1,4 +1,5 @@
-ghost use Rattle.std.specs.Prelude.{◌≡◌, ◌≤◌, ◌<◌, ◌+◌, ◌^◌, ℕ, true, List, [], ◌∷◌, length, unsigned_abs, All, IfOk, IfSome, IsOk, OnErr, OnOk};
+ghost use Rattle.std.specs.Prelude.{◌≡◌, ◌≤◌, ◌<◌, ◌+◌, ◌^◌, ℕ, true, List, [], ◌∷◌, length, unsigned_abs, All, IfOk};
+ghost use Rattle.std.specs.Prelude.{IfSome, IsOk, OnErr, OnOk};
 ghost use Rattle.gs_base.specs.Names.{peers_of};
 ghost use Rattle.gs_base.specs.declared.names.Topic.{Topic as TopicValue};
 ghost use Rattle.gs_base.specs.declared.neighbour.Neighbour.{Neighbour as NeighbourValue};
@@ -7,8 +8,11 @@ ghost use Rattle.gs_params.specs.Picks.{IsAscending};
 ghost use Rattle.gs_score.specs.Accounts.{Covers, has_topic, misbehaviour_decay, rules_of};
 ghost use Rattle.gs_score.specs.Counters.{most_counted, raised, read_at};
 ghost use Rattle.gs_score.specs.Formula.{p3};
-ghost use Rattle.gs_score.specs.Histories.{Agrees, Applies, Decayed, Grafted, History, Left, Marked, Setting, ShutOut, accepts, capped_deficit, held_by, is_known, misbehaviour, one, raise_of, score_in};
-ghost use Rattle.gs_score.specs.Ledgers.{BlamesIn, PutsIn, ReplacesIn, has_account, has_room, misbehaviour_of, standing_of, topics_of};
+ghost use Rattle.gs_score.specs.Histories.{Agrees, Applies, Decayed, Grafted, History, Left, Marked, Setting};
+ghost use Rattle.gs_score.specs.Histories.{ShutOut, accepts, capped_deficit, held_by, is_known, misbehaviour, one};
+ghost use Rattle.gs_score.specs.Histories.{raise_of, score_in};
+ghost use Rattle.gs_score.specs.Ledgers.{BlamesIn, PutsIn, ReplacesIn, has_account, has_room, misbehaviour_of};
+ghost use Rattle.gs_score.specs.Ledgers.{standing_of, topics_of};
 ghost use Rattle.gs_score.specs.Addresses.{shut_out};
 ghost use Rattle.gs_score.specs.Standings.{count, decay_of, grafted, pruned, raised_standing, stored};
 
@@ -18,10 +22,10 @@ use crate::accounts::{
 };
 use crate::addresses::Addresses;
 use crate::counter::MOST_COUNTED;
-use crate::rules::TopicRules;
+use crate::rulebook::Rulebook;
 use crate::score::score_of;
 use crate::standing::{Kind, Raise};
-use gs_base::{Mark, Millis, Neighbour, PeerNo, Topic, clone_of};
+use gs_base::{Mark, Millis, Neighbour, PeerNo, Topic};
 use gs_params::Params;
 use indexmap::IndexMap;
 use std::alloc::{AllocError, Global};
@@ -36,7 +40,7 @@ const ONE: u64 = 1_000_000;
 /// mesh of a topic and left it, how often counters decayed, and who was shut out.
 #[derive(Drop)]
 pub struct Scores {
-    params: Params,
+    rulebook: Rulebook,
     addresses: Addresses,
     accounts: IndexMap<PeerNo, Account>,
     tick: u64,
@@ -48,14 +52,14 @@ impl Model for Scores {
     ghost Value = { Kept };
 
     ghost view = { λ s. record {
-      params = s.params;
+      params = s.rulebook;
       addresses = s.addresses;
       accounts = s.accounts.entries;
       tick = s.tick;
     } };
 
     ghost invariant = { λ s. IsSound (record {
-      params = s.params;
+      params = s.rulebook;
       addresses = s.addresses;
       accounts = s.accounts.entries;
       tick = s.tick;
@@ -82,9 +86,9 @@ impl Scores {
         prove_numbers_are_few(neighbours);
         let addresses = Addresses::new(alloc, neighbours)?;
         let accounts = open_accounts(alloc, neighbours)?;
-        let params = clone_of(params)?;
+        let rulebook = Rulebook::new(alloc, params)?;
         Ok(Scores {
-            params,
+            rulebook,
             addresses,
             accounts,
             tick: 0,
@@ -188,8 +192,8 @@ impl Scores {
             → result ≡ p3 (rules_of s.params topic.now) now.0 (held_by s.params H peer topic.now) }
         ensures most { result ≤ 10 ^ 18 }
     {
-        let rules = TopicRules::of(&self.params, topic);
-        standing_of(&self.accounts, peer, topic).missing(&rules, self.tick, now)
+        let rules = self.rulebook.of(topic);
+        standing_of(&self.accounts, peer, topic).missing(rules, self.tick, now)
     }
 
     /// A neighbour leaves the mesh of a topic. Its counters stay, and it is charged with nothing: the mark with what
@@ -233,8 +237,8 @@ impl Scores {
             (stored kind (standing_of self.now.accounts peer topic.now)) }
         ensures most { result ≤ 10 ^ 12 }
     {
-        let rules = TopicRules::of(&self.params, topic);
-        standing_of(&self.accounts, peer, topic).count(kind, &rules, self.tick)
+        let rules = self.rulebook.of(topic);
+        standing_of(&self.accounts, peer, topic).count(kind, rules, self.tick)
     }
 
     /// How a neighbour misbehaved, whatever the topic, in millionths: 0 to 10^12. It is the value that
@@ -245,7 +249,8 @@ impl Scores {
             ≡ read_at (misbehaviour_decay self.now.params) self.now.tick (misbehaviour_of self.now.accounts peer) }
         ensures most { result ≤ 10 ^ 12 }
     {
-        misbehaviour_of(&self.accounts, peer).read(misbehaviour_decay(&self.params), self.tick)
+        let decay = misbehaviour_decay(self.rulebook.params());
+        misbehaviour_of(&self.accounts, peer).read(decay, self.tick)
     }
 
     /// What is kept of a counter: a value in millionths, and the number of decays up to which it was decayed. Both
@@ -281,9 +286,16 @@ impl Scores {
             → Covers (held_by s.params H peer) topics
             → result ≡ score_in s now.0 H peer topics }
     {
-        let (topics, misbehaviour) = counts_of(&self.accounts, peer, &self.params, self.tick, now);
+        let (topics, misbehaviour) = counts_of(
+            &self.accounts,
+            peer,
+            &self.rulebook,
+            self.tick,
+            now,
+        );
         let (app, number) = self.addresses.app_and_number(peer);
-        score_of(&self.params.factors, topics, app, number, misbehaviour)
+        let factors = &self.rulebook.params().factors;
+        score_of(factors, topics, app, number, misbehaviour)
     }
 
     /// Raises a counter of a neighbour on a topic.
@@ -298,11 +310,11 @@ impl Scores {
         ensures unchanged { OnErr result (self.new ≡ self.old) }
         ensures succeeds { has_topic (topics_of self.old.accounts peer) topic.now ≡ true → IsOk result }
     {
-        let rules = TopicRules::of(&self.params, topic);
+        let rules = self.rulebook.of(topic);
         let raise = Raise {
             kind,
             by,
-            rules: &rules,
+            rules,
             tick: self.tick,
         };
         raise_standing(&mut self.accounts, peer, topic, raise)?;
@@ -318,13 +330,13 @@ impl Scores {
           tick = self.old.tick;
         }) }
     {
-        let decay = misbehaviour_decay(&self.params);
+        let decay = misbehaviour_decay(self.rulebook.params());
         blame(&mut self.accounts, peer, ONE, decay, self.tick);
     }
 }
 
-/// What a deficit adds to a counter, which holds no more than 10^12. The amount comes by reference: of a copied number a
-/// proof knows its bits alone.
+/// What a deficit adds to a counter, which holds no more than 10^12. The amount comes by reference: of a copied number
+/// a proof knows its bits alone.
 fn capped_deficit(amount: &i128) -> u64
     ensures { result ≡ capped_deficit amount.now }
 {

@@ -2,7 +2,8 @@ ghost use Rattle.std.specs.Prelude.{◌≡◌, ◌≤◌, ◌^◌, pos, unsigned
 ghost use Rattle.gs_score.specs.Formula.{p3, topic_part};
 ghost use Rattle.gs_score.specs.Millionths.{squared, times};
 ghost use Rattle.gs_score.specs.Ranges.{RulesAreInRange};
-ghost use Rattle.gs_score.specs.Standings.{count, fresh, grafted, held, pruned, raised_by, raised_held, stored, with_stored};
+ghost use Rattle.gs_score.specs.Standings.{count, fresh, grafted, held, pruned, raised_by, raised_held, stored};
+ghost use Rattle.gs_score.specs.Standings.{with_stored};
 
 use crate::counter::Counter;
 use crate::millionths::{squared, sum_of_five, weighed, weighed_sum};

@@ -1,23 +1,22 @@
-ghost use Rattle.std.specs.Prelude.{◌≡◌, ◌+◌, ◌≤◌, ◌<◌, ◌*◌, ◌^◌, ◌+ℤ◌, ◌||◌, nat_lt, true, if◌then◌else◌, [], List, drop, length, unsigned_abs, IsOk, OnOk, OnErr};
+ghost use Rattle.std.specs.Prelude.{◌≡◌, ◌+◌, ◌≤◌, ◌<◌, ◌*◌, ◌^◌, ◌+ℤ◌, ◌||◌, nat_lt, true, if◌then◌else◌, [], List};
+ghost use Rattle.std.specs.Prelude.{drop, length, unsigned_abs, IsOk, OnOk, OnErr};
 ghost use Rattle.std.specs.List.{IsDistinct};
 ghost use Rattle.std.specs.Map.{keys_of};
 ghost use Rattle.gs_base.specs.Names.{most_topics, same_topic};
 ghost use Rattle.gs_base.specs.declared.names.Topic.{Topic as TopicValue};
-ghost use Rattle.gs_params.specs.Params.{AreInRange};
 ghost use Rattle.gs_score.specs.Accounts.{AddsTopic, Covers, KeepsTopics, has_topic, held_in, standing_in, topic_sum};
 ghost use Rattle.gs_score.specs.Ranges.{RulesAreInRange};
 ghost use Rattle.gs_score.specs.Standings.{grafted, pruned, raised_by};
 
-use crate::rules::{TopicRules, any_weighs};
+use crate::rulebook::Rulebook;
 use crate::standing::{Raise, Standing};
 use gs_base::{MOST_TOPICS, Millis, Topic, clone_of};
-use gs_params::Params;
 use indexmap::IndexMap;
 use std::alloc::{AllocError, Global};
 use std::marker::Model;
 
-/// What a neighbour has on topics, by topic. On all others it has nothing. How a topic is scored is looked up in the
-/// parameters: no copy is kept here that would have to stay alike.
+/// What a neighbour has on topics, by topic. On all others it has nothing. How a topic is scored is looked up in a
+/// rulebook: no copy is kept here that would have to stay alike.
 #[derive(Drop)]
 pub struct TopicStandings {
     standings: IndexMap<Topic, Standing>,
@@ -121,18 +120,17 @@ impl TopicStandings {
     }
 
     /// The sum over topics of what each gives, in millionths: at most 1,024 * 10^25 either way.
-    pub fn sum(&self, params: &Params, tick: u64, now: Millis) -> i128
-        requires in_range { AreInRange params.now }
+    pub fn sum(&self, rulebook: &Rulebook, tick: u64, now: Millis) -> i128
         requires few { length self.now ≤ most_topics }
         ensures value { (ts : List TopicValue)
-            → Covers (held_in params.now tick self.now) ts
-            → result ≡ topic_sum params.now now.0 (held_in params.now tick self.now) ts }
+            → Covers (held_in rulebook.now tick self.now) ts
+            → result ≡ topic_sum rulebook.now now.0 (held_in rulebook.now tick self.now) ts }
         ensures bound { unsigned_abs result ≤ 1_024 * 10 ^ 25 }
     {
-        if !any_weighs(params.topics.as_slice()) {
+        if !rulebook.any_weighs() {
             return 0;
         }
-        sum_of(&self.standings, params, tick, now)
+        sum_of(&self.standings, rulebook, tick, now)
     }
 }
 
@@ -230,18 +228,22 @@ fn prune_at(standings: &mut IndexMap<Topic, Standing>, topic: &Topic)
 }
 
 /// The sum over topics, in their order.
-fn sum_of(standings: &IndexMap<Topic, Standing>, params: &Params, tick: u64, now: Millis) -> i128
-    requires in_range { AreInRange params.now }
+fn sum_of(
+    standings: &IndexMap<Topic, Standing>,
+    rulebook: &Rulebook,
+    tick: u64,
+    now: Millis,
+) -> i128
     requires few { length standings.now.entries ≤ most_topics }
     ensures value { result
-        ≡ topic_sum params.now now.0 (held_in params.now tick standings.now.entries)
+        ≡ topic_sum rulebook.now now.0 (held_in rulebook.now tick standings.now.entries)
         (keys_of standings.now.entries) }
     ensures apart { IsDistinct same_topic (keys_of standings.now.entries) }
     ensures bound { unsigned_abs result ≤ 1_024 * 10 ^ 25 }
 {
     let mut sum = 0;
     for place in 0..standings.len() {
-        sum += part_at(standings, params, tick, now, place);
+        sum += part_at(standings, rulebook, tick, now, place);
     }
     sum
 }
@@ -249,22 +251,21 @@ fn sum_of(standings: &IndexMap<Topic, Standing>, params: &Params, tick: u64, now
 /// What the topic at a place gives.
 fn part_at(
     standings: &IndexMap<Topic, Standing>,
-    params: &Params,
+    rulebook: &Rulebook,
     tick: u64,
     now: Millis,
     place: usize,
 ) -> i128
-    requires in_range { AreInRange params.now }
     requires within { place < length standings.now.entries }
-    ensures part { topic_sum params.now now.0 (held_in params.now tick standings.now.entries)
+    ensures part { topic_sum rulebook.now now.0 (held_in rulebook.now tick standings.now.entries)
         (keys_of (drop place standings.now.entries))
         ≡ result
-        +ℤ topic_sum params.now now.0 (held_in params.now tick standings.now.entries)
+        +ℤ topic_sum rulebook.now now.0 (held_in rulebook.now tick standings.now.entries)
         (keys_of (drop (place + 1) standings.now.entries)) }
     ensures bound { unsigned_abs result ≤ 10 ^ 25 }
 {
     match standings.get_index(place) {
-        Some((topic, standing)) => standing.part(&TopicRules::of(params, topic), tick, now),
+        Some((topic, standing)) => standing.part(rulebook.of(topic), tick, now),
         None => 0,
     }
 }

@@ -5,5 +5,6 @@ mod kept;
 mod neighbours;
 mod places;
 mod products;
+mod rulebooks;
 mod standings;
 mod topics;

@@ -8,12 +8,12 @@ use Rattle.gs_score.specs.Ledgers.{nothing_counted, topics_of}
 use Rattle.gs_score.proofs.Accounting.{few_of, sum_of_none}
 use Rattle.gs_score.proofs.accounts.counts_of.Goals as goal
 
-pub sum-topics-requires-clause-few : goal.sum-topics-requires-clause-few
-sum-topics-requires-clause-few c = few_of c.args.accounts.now.entries c.args.peer c.in-Some.account.now (sym c.in-Some.ensures.value) c.requires.few
+pub sum-topics-requires : goal.sum-topics-requires
+sum-topics-requires c = record { few = few_of c.args.accounts.now.entries c.args.peer c.in-Some.account.now (sym c.in-Some.ensures.value) c.requires.few }
 
 pub returns-in-None-clause-topics : goal.returns-in-None-clause-topics
 returns-in-None-clause-topics c =
-    let params = c.args.params.now in
+    let params = c.args.rulebook.now in
     let none : topics_of c.args.accounts.now.entries c.args.peer ≡ [] = ap (λ (o : Option Account). (unwrap_or o nothing_counted).topics) (sym c.in-None.ensures.value) in
     subst
     (λ (es : List (Topic × Standing)). (ts : List Topic) → Covers (held_in params c.args.tick es) ts → pos 0 ≡ topic_sum params c.args.now.0 (held_in params c.args.tick es) ts)

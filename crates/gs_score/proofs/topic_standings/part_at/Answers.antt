@@ -10,7 +10,7 @@ use Rattle.gs_score.proofs.topic_standings.part_at.Goals as goal
 
 pub returns-in-Some-clause-part : goal.returns-in-Some-clause-part
 returns-in-Some-clause-part c =
-    let params = c.args.params.now in
+    let params = c.args.rulebook.now in
     let es = c.args.standings.now.entries in
     let topic = c.in-Some.topic.now in
     let is : standing_in es topic ≡ c.in-Some.standing.now = ap (λ (o : Option Standing). unwrap_or o fresh) c.in-Some.ensures.value in

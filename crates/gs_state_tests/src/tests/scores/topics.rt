@@ -1,10 +1,8 @@
 //! One neighbour on two topics, of which the first weighs first deliveries and the second their lack.
-ghost use Rattle.gs_params.specs.Params.{AreInRange};
-
 use bytes::Bytes;
 use gs_base::{Millis, Seq, Topic};
 use gs_params::{DEFAULT_TOPIC_FACTORS, Params, TopicFactors, TopicParams};
-use gs_score::{Kind, Raise, TopicRules, TopicStandings};
+use gs_score::{Kind, Raise, Rulebook, TopicStandings};
 use std::alloc::{AllocError, Global};
 
 /// What is done on a topic, which is one byte.
@@ -95,20 +93,17 @@ fn params(alloc: Global) -> Result<Params, AllocError> {
 fn perform(
     alloc: Global,
     topics: &mut TopicStandings,
-    params: &Params,
+    rulebook: &Rulebook,
     tick: u64,
     act: &Act,
-) -> Result<u64, AllocError>
-    requires { AreInRange params.now }
-{
+) -> Result<u64, AllocError> {
     match act {
         Act::Raise(name, kind) => {
             let topic = topic(alloc, *name)?;
-            let rules = TopicRules::of(params, &topic);
             let raise = Raise {
                 kind: *kind,
                 by: 1_000_000,
-                rules: &rules,
+                rules: rulebook.of(&topic),
                 tick,
             };
             topics.raise(&topic, raise)?;
@@ -120,26 +115,40 @@ fn perform(
     Ok(tick)
 }
 
+/// How the topics are scored, where the parameters are in range.
+fn rulebook(alloc: Global) -> Result<Option<Rulebook>, AllocError> {
+    match params(alloc)?.check() {
+        Ok(params) => Ok(Some(Rulebook::new(alloc, &params)?)),
+        Err(_) => Ok(None),
+    }
+}
+
 /// On how many topics something is held after all that is done, and what they give.
-fn held(alloc: Global, case: &Case) -> Result<Option<(usize, i128)>, AllocError> {
-    let Ok(params) = params(alloc)?.check() else {
-        return Ok(None);
-    };
+fn held(
+    alloc: Global,
+    rulebook: &Rulebook,
+    case: &Case,
+) -> Result<Option<(usize, i128)>, AllocError> {
     let mut topics = TopicStandings::new(alloc);
     let mut tick = 0;
     for act in case.acts {
-        tick = perform(alloc, &mut topics, &params, tick, act)?;
+        tick = perform(alloc, &mut topics, rulebook, tick, act)?;
     }
     if 1_024 < topics.len() {
         return Ok(None);
     }
-    Ok(Some((topics.len(), topics.sum(&params, tick, Millis(5_000)))))
+    Ok(Some((topics.len(), topics.sum(rulebook, tick, Millis(5_000)))))
 }
 
 #[test]
 fn topics_are_summed_by_hand(rt: HostRuntime) -> Result<(), AllocError> {
-    for case in &CASES {
-        assert_eq!(rt; held(rt.alloc(), case)?, Some((case.number, case.sum)));
+    let alloc = rt.alloc();
+    let rulebook = rulebook(alloc)?;
+    assert!(rt; rulebook.is_some());
+    if let Some(rulebook) = &rulebook {
+        for case in &CASES {
+            assert_eq!(rt; held(alloc, rulebook, case)?, Some((case.number, case.sum)));
+        }
     }
     Ok(())
 }

@@ -11,7 +11,7 @@ invariant_of-self c = rw c.in_err-graft_standing.ensures.unchanged c.self.invari
 pub invariant_of-self-2 : goal.invariant_of-self-2
 invariant_of-self-2 c =
     let old = c.self.inside in
-    let k : Kept = record { params = old.params; addresses = old.addresses; accounts = old.accounts.entries; tick = old.tick } in
+    let k : Kept = record { params = old.rulebook; addresses = old.addresses; accounts = old.accounts.entries; tick = old.tick } in
     let standing = standing_of k.accounts c.args.peer c.args.topic.now in
     sound_put k c.graft_standing.new.accounts.entries c.args.peer c.args.topic.now (grafted c.args.now standing)
     c.self.invariant c.in_ok-graft_standing.ensures.puts c.graft_standing.ensures.few
@@ -20,7 +20,7 @@ invariant_of-self-2 c =
 pub returns-clause-agrees : goal.returns-clause-agrees
 returns-clause-agrees c =
     let old = c.self.inside in
-    let k : Kept = record { params = old.params; addresses = old.addresses; accounts = old.accounts.entries; tick = old.tick } in
+    let k : Kept = record { params = old.rulebook; addresses = old.addresses; accounts = old.accounts.entries; tick = old.tick } in
     let es = c.graft_standing.new.accounts.entries in
     let p = c.args.peer in
     let t = c.args.topic.now in
