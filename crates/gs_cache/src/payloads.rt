@@ -1,20 +1,25 @@
-ghost use Rattle.std.specs.Prelude.{◌≡◌, All};
+ghost use Rattle.std.specs.Prelude.{◌≡◌, All, IfOk};
 ghost use Rattle.gs_base.specs.Names.{message_id};
 ghost use Rattle.gs_cache.specs.Payloads.{IsRight};
 
 use bytes::Bytes;
-use gs_base::{MsgId, clone_of};
-use std::alloc::Global;
+use gs_base::{Message, MsgId, Topic, clone_of};
+use std::alloc::{AllocError, Global};
 use std::hash::{FoldHasher, Hasher};
 use std::marker::Model;
 
 /// How many payloads are held at most.
 const SLOTS: usize = 1_024;
 
-/// A payload and its SHA-256.
+/// From how many bytes on a message takes over a payload that is known. To look for a shorter one costs more than its
+/// memory is worth.
+const SHARED_FROM: usize = 256;
+
+/// A payload, the topic that it came on, and its SHA-256.
 #[derive(Drop)]
 pub struct Known {
     payload: Bytes,
+    topic: Topic,
     id: MsgId,
 }
 
@@ -22,7 +27,8 @@ pub struct Known {
 /// found by comparing its bytes, which costs far less than its SHA-256.
 ///
 /// Each payload lies in the slot that a hash of its bytes chooses, until another one takes that. So at most 1,024 are
-/// held, each with the whole body that it is a slice of.
+/// held, each with the whole body that it is a slice of. A message with a long one of these takes it over, so that a
+/// body goes whose messages were all known before.
 #[derive(Drop)]
 pub struct Payloads {
     slots: Vec<Option<Known>>,
@@ -47,18 +53,54 @@ impl Payloads {
         }
     }
 
-    /// The identifier of a payload, which is known from now on, where there is memory for that.
+    /// The identifier of a payload, which is known from now on with its topic, where there is memory for that.
     #[inline(always)]
-    pub fn identifier(&mut self, payload: &Bytes) -> MsgId
+    pub fn identifier(&mut self, payload: &Bytes, topic: &Topic) -> MsgId
         ensures { result ≡ message_id payload.now }
     {
         if self.slots.is_empty() {
             set_up(&mut self.slots);
         }
         match self.slots.get_mut(slot_of(payload.as_slice())) {
-            Some(slot) => identifier_by(slot, payload),
+            Some(slot) => identifier_by(slot, payload, topic),
             None => MsgId::of(payload.as_slice()),
         }
+    }
+
+    /// Has messages take over payloads of 256 bytes and more that are known, with the topic of each where that is theirs.
+    /// Each message stays what it is. It takes no memory.
+    pub fn share(&self, messages: &mut [Message])
+        ensures { messages.new ≡ messages.old }
+    {
+        for message in messages {
+            self.share_one(message);
+        }
+    }
+
+    /// Has a message take over its payload and its topic, where they are known.
+    fn share_one(&self, message: &mut Message)
+        ensures { message.new ≡ message.old }
+    {
+        if let Some(payload) = &mut message.payload
+            && payload.len() >= SHARED_FROM
+            && let Some(Some(known)) = self.slots.get(slot_of(payload.as_slice()))
+        {
+            take_over(payload, &known.payload);
+            if let Some(topic) = &mut message.topic {
+                take_over(&mut topic.0, &known.topic.0);
+            }
+        }
+    }
+}
+
+/// Has bytes lie where others do that are the same.
+fn take_over(bytes: &mut Bytes, known: &Bytes)
+    ensures { bytes.new ≡ bytes.old }
+{
+    if *bytes == *known
+        && let Ok(shared) = clone_of(known)
+    {
+        *bytes = shared;
     }
 }
 
@@ -82,8 +124,8 @@ fn slot_of(payload: &[u8]) -> usize {
     hasher.finish() as usize % SLOTS
 }
 
-/// The identifier of a payload, which lies in its slot from now on, where there is memory for that.
-fn identifier_by(slot: &mut Option<Known>, payload: &Bytes) -> MsgId
+/// The identifier of a payload, which lies in its slot from now on with its topic, where there is memory for that.
+fn identifier_by(slot: &mut Option<Known>, payload: &Bytes, topic: &Topic) -> MsgId
     requires { IsRight slot.old }
     ensures identifies { result ≡ message_id payload.now }
     ensures right { IsRight slot.new }
@@ -94,8 +136,18 @@ fn identifier_by(slot: &mut Option<Known>, payload: &Bytes) -> MsgId
         return known.id;
     }
     let id = MsgId::of(payload.as_slice());
-    if let Ok(payload) = clone_of(payload) {
-        *slot = Some(Known { payload, id });
+    if let Ok(known) = known_of(payload, topic, id) {
+        *slot = Some(known);
     }
     id
+}
+
+fn known_of(payload: &Bytes, topic: &Topic, id: MsgId) -> Result<Known, AllocError>
+    ensures { IfOk result (λ known. known ≡ record { payload = payload.now; topic = topic.now; id = id }) }
+{
+    Ok(Known {
+        payload: clone_of(payload)?,
+        topic: clone_of(topic)?,
+        id,
+    })
 }

@@ -59,7 +59,7 @@ pub fn entry_of<W: Words>(
         Event::Subscribe(topic) => subscriptions::subscribe(known, topic, now, words),
         Event::Unsubscribe(topic) => subscriptions::unsubscribe(known, topic, now),
         Event::Publish(topic, payload) => {
-            let id = payloads.identifier(&payload);
+            let id = payloads.identifier(&payload, &topic);
             publishing::publish(known, Publishing { topic, payload, id }, now, words)
         }
         Event::BeatBegin => heartbeats::beat_begin(known, now),
@@ -96,7 +96,7 @@ pub fn refusal_of(
         Wish::Subscribe(topic) => subscriptions::refusal_of_subscribe(known, topic),
         Wish::Unsubscribe(topic) => subscriptions::refusal_of_unsubscribe(known, topic),
         Wish::Publish(topic, payload) => {
-            let id = payloads.identifier(payload);
+            let id = payloads.identifier(payload, topic);
             publishing::refusal_of_publish(known, topic, payload, id, now)
         }
         Wish::HangUp(peer) => departures::refusal_of_link(known, *peer),

@@ -19,8 +19,8 @@ mod scores;
 use crate::entries;
 use crate::known::Known;
 use gs_base::{
-    Graft, IHave, IWant, Message, Millis, Part, PeerNo, Prune, Rpc, Shared, SharedPart, SubOpt,
-    clone_of,
+    Graft, IHave, IWant, Message, Millis, Part, PeerNo, Prune, Rpc, Seq, Shared, SharedPart,
+    SubOpt, clone_of,
 };
 use gs_cache::Payloads;
 use gs_params::Words;
@@ -120,9 +120,7 @@ impl State {
         ensures { Ends (exact W.word W.after) (hearing self.old.trace from rpc) now
             self.old words.old result self.new words.new }
     {
-        let mut rpc = rpc;
-        rpc.publish.shrink_to_fit();
-        let rpc = Shared::new(self.known.alloc, rpc)?;
+        let rpc = Shared::new(self.known.alloc, compact(payloads, rpc))?;
         if !self.known.tables.neighbours.is_up(from) {
             return self.open(payloads, Event::Late(from, rpc), now, words);
         }
@@ -282,4 +280,23 @@ fn part_at<P: Part>(rpc: &Shared<Rpc>, place: usize) -> Result<SharedPart<P>, Al
     ensures { IfOk result (λ part. part ≡ part_at P.bare (P.parts rpc.now) place) }
 {
     Ok(SharedPart::at(clone_of(rpc)?, place))
+}
+
+/// The same RPC, made small for a trace: its messages share payloads that are known, and their list has no room to spare.
+fn compact(payloads: &Payloads, rpc: Rpc) -> Rpc
+    ensures { result ≡ rpc }
+{
+    let Rpc {
+        subs,
+        publish,
+        control,
+    } = rpc;
+    let mut messages = publish.into_vec();
+    payloads.share(&mut messages);
+    messages.shrink_to_fit();
+    Rpc {
+        subs,
+        publish: Seq::from(messages),
+        control,
+    }
 }

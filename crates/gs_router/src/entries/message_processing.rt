@@ -60,9 +60,10 @@ fn outcome_of(
 fn identifier_of(payloads: &mut Payloads, message: &Message) -> MsgId
     ensures { result ≡ message_id (payload_of message.now) }
 {
-    match &message.payload {
-        Some(payload) => payloads.identifier(payload),
-        None => MsgId::of(&[]),
+    match (&message.payload, &message.topic) {
+        (Some(payload), Some(topic)) => payloads.identifier(payload, topic),
+        (Some(payload), None) => payloads.identifier(payload, &Topic(Bytes::new())),
+        (None, _) => MsgId::of(&[]),
     }
 }
 

@@ -1,6 +1,6 @@
 //! Identifiers of payloads that come again. The SHA-256 of `abc` and of nothing is that of FIPS 180-2 and its examples.
 use bytes::Bytes;
-use gs_base::MsgId;
+use gs_base::{Message, MsgId, Topic};
 use gs_cache::Payloads;
 use std::alloc::{AllocError, Global};
 
@@ -15,21 +15,22 @@ const OF_NOTHING: MsgId = MsgId([
 ]);
 
 /// Whether two payloads have their SHA-256 when they come, and when they come again.
-fn are_known_again(alloc: Global) -> Result<bool, AllocError> {
-    let mut payloads = Payloads::new(alloc);
+fn are_known_in(alloc: Global, payloads: &mut Payloads) -> Result<bool, AllocError> {
     let abc = Bytes::copy_from_slice(alloc, b"abc")?;
     let nothing = Bytes::new();
+    let topic = Topic(Bytes::copy_from_slice(alloc, b"t")?);
     Ok(
-        payloads.identifier(&abc) == OF_ABC
-            && payloads.identifier(&nothing) == OF_NOTHING
-            && payloads.identifier(&abc) == OF_ABC
-            && payloads.identifier(&nothing) == OF_NOTHING,
+        payloads.identifier(&abc, &topic) == OF_ABC
+            && payloads.identifier(&nothing, &topic) == OF_NOTHING
+            && payloads.identifier(&abc, &topic) == OF_ABC
+            && payloads.identifier(&nothing, &topic) == OF_NOTHING,
     )
 }
 
 #[test]
 fn a_payload_that_comes_again_has_its_identifier(rt: HostRuntime) {
-    assert!(rt; are_known_again(rt.alloc()) == Ok(true));
+    let mut payloads = Payloads::new(rt.alloc());
+    assert!(rt; are_known_in(rt.alloc(), &mut payloads) == Ok(true));
 }
 
 /// Whether payloads of 8 bytes, more than are held, have their SHA-256.
@@ -37,7 +38,7 @@ fn have_their_own(alloc: Global, payloads: &mut Payloads) -> Result<bool, AllocE
     for number in 0..2_000_u64 {
         let bytes = number.to_le_bytes();
         let payload = Bytes::copy_from_slice(alloc, &bytes)?;
-        if payloads.identifier(&payload) != MsgId::of(&bytes) {
+        if payloads.identifier(&payload, &Topic(Bytes::new())) != MsgId::of(&bytes) {
             return Ok(false);
         }
     }
@@ -49,4 +50,61 @@ fn payloads_that_share_a_slot_have_their_own_identifiers(rt: HostRuntime) {
     let mut payloads = Payloads::new(rt.alloc());
     assert!(rt; have_their_own(rt.alloc(), &mut payloads) == Ok(true));
     assert!(rt; have_their_own(rt.alloc(), &mut payloads) == Ok(true));
+}
+
+/// A message with this payload on this topic.
+fn message_of(alloc: Global, payload: &[u8], topic: &[u8]) -> Result<Message, AllocError> {
+    Ok(Message {
+        origin: None,
+        payload: Some(Bytes::copy_from_slice(alloc, payload)?),
+        seqno: None,
+        topic: Some(Topic(Bytes::copy_from_slice(alloc, topic)?)),
+        signature: None,
+        key: None,
+    })
+}
+
+/// Whether this is the message with this payload on this topic.
+fn is_of(message: &Message, payload: &[u8], topic: &[u8]) -> bool {
+    match (&message.payload, &message.topic) {
+        (Some(own), Some(on)) => own.as_slice() == payload && on.0.as_slice() == topic,
+        _ => false,
+    }
+}
+
+/// Whether a message stays what it is where it may share a payload.
+fn stays(
+    alloc: Global,
+    payloads: &Payloads,
+    payload: &[u8],
+    topic: &[u8],
+) -> Result<bool, AllocError> {
+    let mut messages = [message_of(alloc, payload, topic)?];
+    payloads.share(&mut messages);
+    Ok(is_of(&messages[0], payload, topic))
+}
+
+/// A payload that is long enough to be shared, and another one.
+const LONG: [u8; 300] = [7; 300];
+
+const OTHER: [u8; 300] = [8; 300];
+
+/// Notes a long payload on the topic `t`. Whether it has its SHA-256.
+fn knows_a_long_one(alloc: Global, payloads: &mut Payloads) -> Result<bool, AllocError> {
+    let payload = Bytes::copy_from_slice(alloc, &LONG)?;
+    let topic = Topic(Bytes::copy_from_slice(alloc, b"t")?);
+    Ok(payloads.identifier(&payload, &topic) == MsgId::of(&LONG))
+}
+
+#[test]
+fn a_message_that_may_share_a_payload_stays_what_it_is(rt: HostRuntime) {
+    let mut payloads = Payloads::new(rt.alloc());
+    assert!(rt; stays(rt.alloc(), &payloads, &LONG, b"t") == Ok(true));
+    assert!(rt; knows_a_long_one(rt.alloc(), &mut payloads) == Ok(true));
+    // the payload with its topic, the payload alone, the topic alone, neither, and a short one
+    assert!(rt; stays(rt.alloc(), &payloads, &LONG, b"t") == Ok(true));
+    assert!(rt; stays(rt.alloc(), &payloads, &LONG, b"u") == Ok(true));
+    assert!(rt; stays(rt.alloc(), &payloads, &OTHER, b"t") == Ok(true));
+    assert!(rt; stays(rt.alloc(), &payloads, &OTHER, b"u") == Ok(true));
+    assert!(rt; stays(rt.alloc(), &payloads, b"abc", b"t") == Ok(true));
 }
