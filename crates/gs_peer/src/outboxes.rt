@@ -101,8 +101,11 @@ impl Outboxes {
         requires { SendsFit codec entry.now.sends }
         ensures told { OnOk result ((q : PeerNoValue)
             → outgoing_in self.new q
-            ≡ (if is_open self.old q then behind_entry codec q (outgoing_in self.old q) entry.now else outgoing_in self.old q)) }
-        ensures open { OnOk result ((q : PeerNoValue) → is_open self.new q ≡ up_after q entry.now.event (is_open self.old q)) }
+            ≡ (if is_open self.old q
+            then behind_entry codec q (outgoing_in self.old q) entry.now
+            else outgoing_in self.old q)) }
+        ensures open { OnOk result ((q : PeerNoValue)
+            → is_open self.new q ≡ up_after q entry.now.event (is_open self.old q)) }
     {
         self.send_all(alloc, entry.sends())?;
         self.tell_event(alloc, entry.event())?;
@@ -155,7 +158,9 @@ impl Outboxes {
     fn tell_event(&mut self, alloc: Global, event: &Event) -> Result<(), AllocError>
         ensures told { OnOk result ((q : PeerNoValue)
             → outgoing_in self.new q
-            ≡ (if is_open self.old q then behind_event codec q (outgoing_in self.old q) event.now else outgoing_in self.old q)) }
+            ≡ (if is_open self.old q
+            then behind_event codec q (outgoing_in self.old q) event.now
+            else outgoing_in self.old q)) }
         ensures open { OnOk result ((q : PeerNoValue) → is_open self.new q ≡ up_after q event.now (is_open self.old q)) }
     {
         match event {

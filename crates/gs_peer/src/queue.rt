@@ -3,6 +3,7 @@ ghost use Rattle.gs_link.specs.declared.item.Slot.TheVariants.{Piece};
 ghost use Rattle.gs_peer.specs.Queue.{ahead};
 
 use bytes::Bytes;
+use gs_base::clone_of;
 use gs_link::Slot;
 use std::alloc::{AllocError, Global};
 use std::collections::VecDeque;
@@ -72,25 +73,28 @@ impl SlotQueue {
     /// Puts what is left of a frame to the front.
     ///
     /// # Errors
-    /// `AllocError` where there was no memory.
+    /// `AllocError` where there was no memory; the queue is then as it was.
     #[inline(always)]
     pub fn push_rest(&mut self, frame: Bytes) -> Result<(), AllocError>
         requires { 1 ≤ length frame }
-        ensures { OnOk result (self.new ≡ Piece frame ∷ self.old) }
+        ensures ok { OnOk result (self.new ≡ Piece frame ∷ self.old) }
+        ensures err { OnErr result (self.new ≡ self.old) }
     {
-        let behind = mem::replace(&mut self.rest, frame);
-        put_ahead(&mut self.items, behind)
+        put_ahead(&mut self.items, &self.rest)?;
+        self.rest = frame;
+        Ok(())
     }
 
     /// Puts a slot to the front.
     ///
     /// # Errors
-    /// `AllocError` where there was no memory.
+    /// `AllocError` where there was no memory; the queue is then as it was.
     pub fn push_front(&mut self, slot: Slot) -> Result<(), AllocError>
-        ensures { OnOk result (self.new ≡ slot ∷ self.old) }
+        ensures ok { OnOk result (self.new ≡ slot ∷ self.old) }
+        ensures err { OnErr result (self.new ≡ self.old) }
     {
-        let behind = mem::replace(&mut self.rest, Bytes::new());
-        put_ahead(&mut self.items, behind)?;
+        put_ahead(&mut self.items, &self.rest)?;
+        self.rest = Bytes::new();
         self.items.push_front(slot)?;
         Ok(())
     }
@@ -99,12 +103,13 @@ impl SlotQueue {
 /// Puts the rest of a frame ahead of slots, where anything is left.
 // Where a piece was cut off a frame, nothing is.
 #[inline(always)]
-fn put_ahead(items: &mut VecDeque<Slot>, rest: Bytes) -> Result<(), AllocError>
-    ensures { OnOk result (items.new.items ≡ ahead rest items.old.items) }
+fn put_ahead(items: &mut VecDeque<Slot>, rest: &Bytes) -> Result<(), AllocError>
+    ensures ok { OnOk result (items.new.items ≡ ahead rest.now items.old.items) }
+    ensures err { OnErr result (items.new.items ≡ items.old.items) }
 {
     if rest.is_empty() {
         return Ok(());
     }
-    items.push_front(Slot::Piece(rest))?;
+    items.push_front(Slot::Piece(clone_of(rest)?))?;
     Ok(())
 }

@@ -89,7 +89,7 @@ impl<G: Gate, S: Ends> Future for PeerTask<G, S> {
     ///
     /// It gives what is left of the life; or `NoMemory`, with the stop flag set; or `Stopped` where that
     /// was set, and where the result was given before. Behind any result there is nothing to give.
-    // It stands apart from whoever polls many tasks, who else clears the room of a whole task at each poll.
+    // It stands apart from whoever polls many tasks, who would otherwise clear the room of a whole task at each poll.
     #[inline(never)]
     fn poll(&mut self, cx: &mut Context<'_>) -> Poll<Result<FinishedTask<S>, PeerFault>>
         requires { CanPoll S.Ends self.old }
@@ -139,7 +139,7 @@ fn go_on<G: Gate, S: Ends>(stop: &StopFlag, running: &mut Running<G, S>) -> Resu
 }
 
 /// Finishes a life that is over, and takes it out of its task. Where there is no memory the flag is set first.
-// It stands apart from `poll`, which else clears the room of a whole life each time.
+// It stands apart from `poll`, which would otherwise clear the room of a whole life each time.
 #[inline(never)]
 fn finish<G: Gate, S: Ends>(
     stop: &StopFlag,
