@@ -72,7 +72,8 @@ module _ {R : Type 0} (any_of : ℕ → List PeerNo → (List PeerNo → R) → 
   -- so it is with the mesh as its number of members left it; whom that grafted does not come in twice
   abbrev pub opportunistic_grafts_then : Params → ℕ → List Member → List Member → List PeerNo → (List PeerNo → R) → R
   opportunistic_grafts_then params tick members candidates grafted next =
-      opportunistic_grafts (is_poor params tick members) params.timing.opportunistic_peers members (outside grafted candidates) next
+      opportunistic_grafts (is_poor params tick members) params.timing.opportunistic_peers members
+      (outside grafted candidates) next
 
 module _ {R : Type 0} (any_of : ℕ → List PeerNo → (List PeerNo → R) → R)
     (cut_of : Degrees → List Member → (List PeerNo → R) → R) where

@@ -146,7 +146,8 @@ gossip_candidates p L at t =
 -- any of these are told
 abbrev pub gossip_rule : Peer → Entries → Millis → Topic → Rule
 gossip_rule p L at t =
-    AnyOf (gossip_size p (length (gossip_candidates p L at.0 t))) (gossip_candidates p L at.0 t) (λ chosen. Gives (gossiping p L at t chosen))
+    AnyOf (gossip_size p (length (gossip_candidates p L at.0 t))) (gossip_candidates p L at.0 t)
+    (λ chosen. Gives (gossiping p L at t chosen))
 
 -- ---- all events
 

@@ -3,24 +3,24 @@ use Rattle.std.specs.Prelude.{List, [], Option, None, Some}
 use Rattle.gs_base.specs.declared.names.Millis.{Millis}
 use Rattle.gs_rules.specs.declared.trace.Event.{Event}
 use Rattle.gs_rules.specs.declared.trace.Entry.{Entry}
-use Rattle.gs_rules.specs.declared.stored.Done.{Done}
+use Rattle.gs_rules.specs.declared.stored.Effects.{Effects}
 
 -- nothing was done
-abbrev pub nothing_done : Done
-nothing_done = record { sends = []; delivered = []; promise = None; marks = [] }
+abbrev pub no_effects : Effects
+no_effects = record { sends = []; delivered = []; promise = None; marks = [] }
 
 -- what was done, where that is stored, and else nothing
-abbrev pub done_or_nothing : Option Done → Done
-done_or_nothing None = nothing_done
-done_or_nothing (Some done) = done
+abbrev pub effects_or_none : Option Effects → Effects
+effects_or_none None = no_effects
+effects_or_none (Some effects) = effects
 
 -- the entry of which this is stored
-abbrev pub entry_of : Millis → Event → Option Done → Entry
-entry_of at event done = record {
+abbrev pub entry_of : Millis → Event → Option Effects → Entry
+entry_of at event effects = record {
   at = at;
   event = event;
-  sends = (done_or_nothing done).sends;
-  delivered = (done_or_nothing done).delivered;
-  promise = (done_or_nothing done).promise;
-  marks = (done_or_nothing done).marks;
+  sends = (effects_or_none effects).sends;
+  delivered = (effects_or_none effects).delivered;
+  promise = (effects_or_none effects).promise;
+  marks = (effects_or_none effects).marks;
 }

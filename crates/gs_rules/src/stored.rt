@@ -1,7 +1,7 @@
 //! Entries as a trace stores them.
 ghost use Rattle.std.specs.Prelude.{◌≡◌, [], IfOk};
 ghost use Rattle.std.specs.Option.{option_copied};
-ghost use Rattle.gs_rules.specs.Stored.{nothing_done};
+ghost use Rattle.gs_rules.specs.Stored.{no_effects};
 
 use crate::trace::{Entry, Event, Promise};
 use bytes::Bytes;
@@ -11,20 +11,20 @@ use std::marker::Model;
 
 /// What a peer did about an event.
 #[derive(Debug, Drop)]
-struct Done {
+struct Effects {
     sends: Seq<(PeerNo, Shared<Rpc>)>,
     delivered: Seq<(Topic, Bytes)>,
     promise: Option<Shared<Promise>>,
     marks: Seq<Mark>,
 }
 
-/// An entry as a trace stores it. What was done stands apart, since nothing is done about most events: each message that was
-/// heard before is one. Contracts see the entry.
+/// An entry as a trace stores it. What was done stands apart, since a peer does nothing about most events, which are
+/// messages that it has seen. Contracts see the entry.
 #[derive(Debug, Drop)]
 pub struct StoredEntry {
     at: Millis,
     event: Event,
-    done: Option<Shared<Done>>,
+    effects: Option<Shared<Effects>>,
 }
 
 impl Model for StoredEntry {
@@ -33,7 +33,7 @@ impl Model for StoredEntry {
 
     ghost Value = { EntryValue };
 
-    ghost view = { λ k. entry_of k.at k.event k.done };
+    ghost view = { λ k. entry_of k.at k.event k.effects };
 }
 
 impl StoredEntry {
@@ -56,20 +56,20 @@ impl StoredEntry {
             return Ok(StoredEntry {
                 at,
                 event,
-                done: None,
+                effects: None,
             });
         }
-        let done = Done {
+        let effects = Effects {
             sends,
             delivered,
             promise,
             marks,
         };
-        let done = Shared::new(alloc, done)?;
+        let effects = Shared::new(alloc, effects)?;
         Ok(StoredEntry {
             at,
             event,
-            done: Some(done),
+            effects: Some(effects),
         })
     }
 
@@ -91,8 +91,8 @@ impl StoredEntry {
     pub fn sends(&self) -> &[(PeerNo, Shared<Rpc>)]
         ensures { result.now ≡ self.now.sends }
     {
-        match &self.done {
-            Some(done) => done.get().sends.as_slice(),
+        match &self.effects {
+            Some(effects) => effects.get().sends.as_slice(),
             None => &[],
         }
     }
@@ -101,8 +101,8 @@ impl StoredEntry {
     pub fn delivered(&self) -> &[(Topic, Bytes)]
         ensures { result.now ≡ self.now.delivered }
     {
-        match &self.done {
-            Some(done) => done.get().delivered.as_slice(),
+        match &self.effects {
+            Some(effects) => effects.get().delivered.as_slice(),
             None => &[],
         }
     }
@@ -111,8 +111,8 @@ impl StoredEntry {
     pub fn promise(&self) -> Option<&Promise>
         ensures { option_copied result ≡ self.now.promise }
     {
-        match &self.done {
-            Some(done) => match &done.get().promise {
+        match &self.effects {
+            Some(effects) => match &effects.get().promise {
                 Some(promise) => Some(promise.get()),
                 None => None,
             },
@@ -124,8 +124,8 @@ impl StoredEntry {
     pub fn marks(&self) -> &[Mark]
         ensures { result.now ≡ self.now.marks }
     {
-        match &self.done {
-            Some(done) => done.get().marks.as_slice(),
+        match &self.effects {
+            Some(effects) => effects.get().marks.as_slice(),
             None => &[],
         }
     }
