@@ -15,6 +15,7 @@ from collections import namedtuple
 OF_PUBLICATIONS = "publications", "on_topic", "delivered", "last_round"
 SUMS = (
     "rpcs_heard",
+    "bytes_heard",
     "messages_heard",
     "new",
     "duplicates",
@@ -24,6 +25,8 @@ SUMS = (
     "iwant_heard",
     "graft_heard",
     "prune_heard",
+    "rpcs_sent",
+    "bytes_sent",
     "messages_sent",
     "ihave_sent",
     "iwant_sent",

@@ -23,20 +23,22 @@ do = [
 END
 }
 
-columns='status,message,publications,on_topic,delivered,last_round,rpcs_heard,messages_heard,new,duplicates,ignored,invalid,'
-columns+='ihave_heard,iwant_heard,graft_heard,prune_heard,messages_sent,ihave_sent,iwant_sent,graft_sent,prune_sent,'
+columns='status,message,publications,on_topic,delivered,last_round,rpcs_heard,bytes_heard,messages_heard,new,'
+columns+='duplicates,ignored,invalid,ihave_heard,iwant_heard,graft_heard,prune_heard,rpcs_sent,bytes_sent,messages_sent,'
+columns+='ihave_sent,iwant_sent,graft_sent,prune_sent,'
 columns+='broken_promises,refused_lines,lowest_score,highest_score,smallest_mesh,largest_mesh'
 
 # Subscriptions and GRAFTs are six RPCs each, two for each pair. The payload goes to `b` and `c`, and each of them, who has
 # it by then, gets it once more of the other: four RPCs. Without GRAFTs nobody passes it on. There is no round 12 where
-# rounds end with 11.
+# rounds end with 11. The frame of a subscription is 11 bytes long, and so is that of a GRAFT; that of the payload is
+# 12.
 three_rows() {
   cat <<END
 rounds,params.heartbeat_ms,$columns
-15,1000,0,,1,3,3,1,16,4,2,2,0,0,0,0,6,0,4,0,0,6,0,0,0,0,0,2,2
-15,2000,0,,1,3,3,1,8,2,2,0,0,0,0,0,0,0,2,0,0,0,0,0,0,0,0,0,0
-11,1000,1,scenario refused: 29 do[3].at,,,,,,,,,,,,,,,,,,,,,,,,,
-11,2000,1,scenario refused: 29 do[3].at,,,,,,,,,,,,,,,,,,,,,,,,,
+15,1000,0,,1,3,3,1,16,180,4,2,2,0,0,0,0,6,0,16,180,4,0,0,6,0,0,0,0,0,2,2
+15,2000,0,,1,3,3,1,8,90,2,2,0,0,0,0,0,0,0,8,90,2,0,0,0,0,0,0,0,0,0,0
+11,1000,1,scenario refused: 29 do[3].at,,,,,,,,,,,,,,,,,,,,,,,,,,,,
+11,2000,1,scenario refused: 29 do[3].at,,,,,,,,,,,,,,,,,,,,,,,,,,,,
 END
 }
 
@@ -121,9 +123,9 @@ check_kept_rows() {
   local few=(--into few --columns new one.toml)
   cp "$room/sweeps/three.toml" "$room/sweeps/one.toml"
   expect 'a row to keep' 0 $'new\n2' '' in_sweeps "${few[@]}"
-  sed -i 's/,16,4,2,2,/,16,4,99,2,/' "$room/sweeps/few"/*.csv
+  sed -i -E 's/,16,([0-9]+),4,2,2,/,16,\1,4,99,2,/' "$room/sweeps/few"/*.csv
   expect 'a row that is kept' 0 $'new\n99' '' in_sweeps "${few[@]}"
-  sed -i 's/,16,4,99,2,.*//' "$room/sweeps/few"/*.csv
+  sed -i -E 's/,16,([0-9]+),4,99,2,.*//' "$room/sweeps/few"/*.csv
   expect 'half a row' 0 $'new\n2' '' in_sweeps "${few[@]}"
   sed -i 's/^rounds.*/rounds = 12/' "$room/sweeps/one.toml"
   expect 'a row of a changed scenario' 0 $'new\n0' '' in_sweeps "${few[@]}"

@@ -15,19 +15,28 @@ const SCENARIO: &str = "round_ms = 100\nrounds = 3\nworkers = 1\ncapacity = 1\ns
     [[do]]\nwhat = \"publish\"\nat = 2\npeer = \"a\"\ntopic = \"news\"\nhex = \"616263\"\n";
 
 /// Each hears the other's subscription, and `b` the message too. No heartbeat comes, so no mesh has members.
+///
+/// A subscription is `08 01 12 04 news`: 8 bytes, 10 as a field, 11 as a frame. The message is `12 03 abc 22 04 news`:
+/// 11 bytes, 13 as a field, 14 as a frame.
 const AS_JSON: &str = "[\n\
     {\"topic\":\"news\",\"payload\":\"616263\",\"publisher\":\"a\",\"at_ms\":200,\"on_topic\":2,\"delivered\":2,\
     \"first_round\":0,\"median_round\":0,\"round_99\":1,\"last_round\":1},\n\
-    {\"peer\":\"a\",\"rpcs_heard\":1,\"messages_heard\":0,\"new\":0,\"duplicates\":0,\"ignored\":0,\"invalid\":0,\
-    \"ihave_heard\":0,\"iwant_heard\":0,\"graft_heard\":0,\"prune_heard\":0,\"messages_sent\":1,\"ihave_sent\":0,\
+    {\"peer\":\"a\",\"rpcs_heard\":1,\"bytes_heard\":11,\"messages_heard\":0,\"new\":0,\"duplicates\":0,\
+    \"ignored\":0,\"invalid\":0,\
+    \"ihave_heard\":0,\"iwant_heard\":0,\"graft_heard\":0,\"prune_heard\":0,\"rpcs_sent\":2,\"bytes_sent\":25,\
+    \"messages_sent\":1,\"ihave_sent\":0,\
     \"iwant_sent\":0,\"graft_sent\":0,\"prune_sent\":0,\"broken_promises\":0,\"refused_lines\":0,\
     \"lowest_score\":0,\"highest_score\":0,\"smallest_mesh\":0,\"largest_mesh\":0},\n\
-    {\"peer\":\"b\",\"rpcs_heard\":2,\"messages_heard\":1,\"new\":1,\"duplicates\":0,\"ignored\":0,\"invalid\":0,\
-    \"ihave_heard\":0,\"iwant_heard\":0,\"graft_heard\":0,\"prune_heard\":0,\"messages_sent\":0,\"ihave_sent\":0,\
+    {\"peer\":\"b\",\"rpcs_heard\":2,\"bytes_heard\":25,\"messages_heard\":1,\"new\":1,\"duplicates\":0,\
+    \"ignored\":0,\"invalid\":0,\
+    \"ihave_heard\":0,\"iwant_heard\":0,\"graft_heard\":0,\"prune_heard\":0,\"rpcs_sent\":1,\"bytes_sent\":11,\
+    \"messages_sent\":0,\"ihave_sent\":0,\
     \"iwant_sent\":0,\"graft_sent\":0,\"prune_sent\":0,\"broken_promises\":0,\"refused_lines\":0,\
     \"lowest_score\":0,\"highest_score\":0,\"smallest_mesh\":0,\"largest_mesh\":0},\n\
-    {\"peer\":\"(all)\",\"rpcs_heard\":3,\"messages_heard\":1,\"new\":1,\"duplicates\":0,\"ignored\":0,\"invalid\":0,\
-    \"ihave_heard\":0,\"iwant_heard\":0,\"graft_heard\":0,\"prune_heard\":0,\"messages_sent\":1,\"ihave_sent\":0,\
+    {\"peer\":\"(all)\",\"rpcs_heard\":3,\"bytes_heard\":36,\"messages_heard\":1,\"new\":1,\"duplicates\":0,\
+    \"ignored\":0,\"invalid\":0,\
+    \"ihave_heard\":0,\"iwant_heard\":0,\"graft_heard\":0,\"prune_heard\":0,\"rpcs_sent\":3,\"bytes_sent\":36,\
+    \"messages_sent\":1,\"ihave_sent\":0,\
     \"iwant_sent\":0,\"graft_sent\":0,\"prune_sent\":0,\"broken_promises\":0,\"refused_lines\":0,\
     \"lowest_score\":null,\"highest_score\":null,\"smallest_mesh\":null,\"largest_mesh\":null}\n]\n";
 
@@ -44,6 +53,42 @@ fn two_subscribers_have_their_figures(rt: HostRuntime) {
     );
     assert!(rt; code == ExitCode::from(0) && errors.is_empty());
     assert!(rt; output.as_slice() == AS_JSON.as_bytes());
+}
+
+/// The same, and in round 1 `a` also puts an empty frame on the link, as bytes: one byte more, and an RPC that `b` hears.
+const WITH_RAW: &str = "round_ms = 100\nrounds = 3\nworkers = 1\ncapacity = 1\nseed = 1\n\
+    [[topic]]\nname = \"news\"\n[[peer]]\nname = \"a\"\n[[peer]]\nname = \"b\"\n\
+    [[dial]]\nfrom = \"a\"\nto = \"b\"\n\
+    [[do]]\nwhat = \"subscribe\"\nat = 0\npeer = \"a\"\ntopic = \"news\"\n\
+    [[do]]\nwhat = \"subscribe\"\nat = 0\npeer = \"b\"\ntopic = \"news\"\n\
+    [[do]]\nwhat = \"publish\"\nat = 2\npeer = \"a\"\ntopic = \"news\"\nhex = \"616263\"\n\
+    [[do]]\nwhat = \"raw\"\nat = 1\npeer = \"a\"\nto = \"b\"\nhex = \"00\"\n";
+
+const WITH_RAW_AS_CSV: &str = "\
+topic,payload,publisher,at_ms,on_topic,delivered,first_round,median_round,round_99,last_round
+\"news\",\"616263\",\"a\",200,2,2,0,0,1,1
+
+peer,rpcs_heard,bytes_heard,messages_heard,new,duplicates,ignored,invalid,ihave_heard,iwant_heard,graft_heard,\
+prune_heard,rpcs_sent,bytes_sent,messages_sent,ihave_sent,iwant_sent,graft_sent,prune_sent,broken_promises,\
+refused_lines,lowest_score,highest_score,smallest_mesh,largest_mesh
+\"a\",1,11,0,0,0,0,0,0,0,0,0,2,26,1,0,0,0,0,0,0,0,0,0,0
+\"b\",3,26,1,1,0,0,0,0,0,0,0,1,11,0,0,0,0,0,0,0,0,0,0,0
+\"(all)\",4,37,1,1,0,0,0,0,0,0,0,3,37,1,0,0,0,0,0,0,,,,
+";
+
+#[test]
+fn raw_bytes_are_bytes_and_no_rpc_of_the_sender(rt: HostRuntime) {
+    let mut output = Vec::new(rt.alloc());
+    let mut errors = Vec::new(rt.alloc());
+    let code = ended(
+        &rt,
+        Form::Csv,
+        &mut WITH_RAW.as_bytes(),
+        &mut output,
+        &mut errors,
+    );
+    assert!(rt; code == ExitCode::from(0) && errors.is_empty());
+    assert!(rt; output.as_slice() == WITH_RAW_AS_CSV.as_bytes());
 }
 
 #[test]

@@ -1,2 +1,5 @@
+mod Sums
+mod Lanes
+mod Frames
 mod Joining
 mod Ranking

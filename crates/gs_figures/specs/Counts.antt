@@ -51,8 +51,11 @@ fates_plus x y = record {
 abbrev pub counts_plus : Counts → Counts → Counts
 counts_plus x y = record {
   rpcs_heard = plus x.rpcs_heard y.rpcs_heard;
+  bytes_heard = plus x.bytes_heard y.bytes_heard;
   heard = parts_plus x.heard y.heard;
   fates = fates_plus x.fates y.fates;
+  rpcs_sent = plus x.rpcs_sent y.rpcs_sent;
+  bytes_sent = plus x.bytes_sent y.bytes_sent;
   sent = parts_plus x.sent y.sent;
   broken_promises = plus x.broken_promises y.broken_promises;
   refused_lines = plus x.refused_lines y.refused_lines;
@@ -69,8 +72,11 @@ no_fates = record { accepted = 0; duplicate = 0; ignored = 0; invalid = 0 }
 abbrev pub no_counts : Counts
 no_counts = record {
   rpcs_heard = 0;
+  bytes_heard = 0;
   heard = no_parts;
   fates = no_fates;
+  rpcs_sent = 0;
+  bytes_sent = 0;
   sent = no_parts;
   broken_promises = 0;
   refused_lines = 0;
@@ -138,11 +144,26 @@ parts_sent sends = fold (λ sum x. parts_plus sum (parts_of x.1)) no_parts sends
 
 -- ---- entries
 
--- how many of these marks say that a neighbour misbehaved
+-- Whether a mark says that a neighbour misbehaved. Each mark is named here, so that a new one is decided on.
 abbrev pub misbehaviours_by : Mark → ℕ
 misbehaviours_by (marks.Misbehaviour q) = 1
-misbehaviours_by other = 0
+misbehaviours_by (marks.First q t id) = 0
+misbehaviours_by (marks.Invalid q t) = 0
+misbehaviours_by (marks.Seen id verdict) = 0
+misbehaviours_by (marks.Near q t id) = 0
+misbehaviours_by (marks.Deficit q t z) = 0
+misbehaviours_by (marks.Cached id t) = 0
+misbehaviours_by (marks.Answered q id) = 0
+misbehaviours_by (marks.Offered q) = 0
+misbehaviours_by (marks.Asked q n) = 0
+misbehaviours_by (marks.Grafted q t) = 0
+misbehaviours_by (marks.Pruned q t) = 0
+misbehaviours_by (marks.Fanned q t) = 0
+misbehaviours_by (marks.Unfanned q t) = 0
+misbehaviours_by (marks.Backoff q t end) = 0
+misbehaviours_by (marks.Published t) = 0
 
+-- how many of these marks say so
 abbrev pub misbehaviours : List Mark → ℕ
 misbehaviours all = fold (λ sum mark. plus sum (misbehaviours_by mark)) 0 all
 

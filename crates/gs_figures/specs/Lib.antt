@@ -1,4 +1,7 @@
 pub mod Counts
+pub mod Sums
+pub mod Links
+pub mod Lanes
 pub mod Peers
 pub mod Ranks
 pub mod Publications

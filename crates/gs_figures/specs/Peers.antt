@@ -6,13 +6,15 @@ use Rattle.gs_base.specs.declared.names.PeerNo.{PeerNo}
 use Rattle.gs_base.specs.declared.names.Topic.{Topic}
 use Rattle.gs_base.specs.Names.{same_peer, same_topic}
 use Rattle.gs_rules.specs.declared.trace.Event.{Event}
-use Rattle.gs_rules.specs.declared.trace.Event.TheVariants.{Subscribe, Unsubscribe}
+use Rattle.gs_rules.specs.declared.trace.Event.TheVariants.{Heard, Late, Sub, Msg, Have, Want, GraftIn, PruneIn, Subscribe, Unsubscribe, Publish, BeatBegin, MeshBeat, FanBeat, FanEnd, GossipBeat, BeatEnd, Decay, RoundEnd, Gone, Fault, HangUp, Raw, Shut}
 use Rattle.gs_rules.specs.Tables.{Entries}
 use Rattle.gs_report.specs.declared.finished.Finished.{Finished}
 use Rattle.gs_figures.specs.declared.counts.Counts.{Counts}
 use Rattle.gs_figures.specs.declared.span.Span.{Span}
 use Rattle.gs_figures.specs.declared.peers.PeerFigures.{PeerFigures}
+use Rattle.gs_figures.specs.declared.links.LinkFigures.{LinkFigures}
 use Rattle.gs_figures.specs.Counts.{counts_in, counts_plus, no_counts}
+use Rattle.gs_figures.specs.Links.{bytes_over, links_from, links_to, rpcs_over}
 
 -- ---- the lowest and the highest
 
@@ -37,11 +39,33 @@ scores_of peers p = flat_map (λ x. scores_about p x.1.scores) peers
 
 -- ---- meshes
 
--- the topics that a peer is subscribed to, in the order in which it subscribed
+-- The topics that a peer is subscribed to, in the order in which it subscribed. Each event is named here, so that a new
+-- one is decided on.
 abbrev pub subscribed_after : Event → List Topic → List Topic
 subscribed_after (Subscribe t) before = if list_any (same_topic t) before then before else before ++ t ∷ []
 subscribed_after (Unsubscribe t) before = filter (λ u. not (same_topic t u)) before
-subscribed_after other before = before
+subscribed_after (Heard q rpc) before = before
+subscribed_after (Late q rpc) before = before
+subscribed_after (Sub q sub) before = before
+subscribed_after (Msg q m) before = before
+subscribed_after (Have q offer) before = before
+subscribed_after (Want q request) before = before
+subscribed_after (GraftIn q graft) before = before
+subscribed_after (PruneIn q prune) before = before
+subscribed_after (Publish t payload) before = before
+subscribed_after BeatBegin before = before
+subscribed_after (MeshBeat t) before = before
+subscribed_after (FanBeat t) before = before
+subscribed_after (FanEnd t) before = before
+subscribed_after (GossipBeat t) before = before
+subscribed_after BeatEnd before = before
+subscribed_after Decay before = before
+subscribed_after (RoundEnd r) before = before
+subscribed_after (Gone q) before = before
+subscribed_after (Fault q) before = before
+subscribed_after (HangUp q) before = before
+subscribed_after (Raw q bytes) before = before
+subscribed_after Shut before = before
 
 abbrev pub subscribed : Entries → List Topic
 subscribed [] = []
@@ -57,21 +81,26 @@ mesh_sizes f = map (members_in f.meshes) (subscribed f.trace)
 
 -- ---- figures
 
--- what a peer's trace counts for, and the lines that it refused
-abbrev pub counts_of_peer : Finished → Counts
-counts_of_peer f = record (counts_in (reverse f.trace)) { refused_lines = length f.refused }
+-- what a peer's trace counts for, what goes over its links, and the lines that it refused
+abbrev pub counts_of_peer : List LinkFigures → PeerNo × Finished → Counts
+counts_of_peer links x = record (counts_in (reverse x.1.trace)) {
+  bytes_heard = bytes_over (links_to x.0 links);
+  rpcs_sent = rpcs_over (links_from x.0 links);
+  bytes_sent = bytes_over (links_from x.0 links);
+  refused_lines = length x.1.refused;
+}
 
-abbrev pub peer_figures : List (PeerNo × Finished) → PeerNo × Finished → PeerFigures
-peer_figures peers x = record {
+abbrev pub peer_figures : List LinkFigures → List (PeerNo × Finished) → PeerNo × Finished → PeerFigures
+peer_figures links peers x = record {
   peer = x.0;
-  counts = counts_of_peer x.1;
+  counts = counts_of_peer links x;
   scores = span_of (scores_of peers x.0);
   members = span_of (map pos (mesh_sizes x.1));
 }
 
--- the figures of each peer
-abbrev pub all_figures : List (PeerNo × Finished) → List PeerFigures
-all_figures peers = map (peer_figures peers) peers
+-- the figures of each peer, by what goes over these links
+abbrev pub all_figures : List LinkFigures → List (PeerNo × Finished) → List PeerFigures
+all_figures links peers = map (peer_figures links peers) peers
 
 -- the sums over all peers
 abbrev pub counts_of_all : List PeerFigures → Counts

@@ -1,7 +1,7 @@
 -- The numbers of figures, each in a column with a name. Each text of figures is made of these.
 use Rattle.std.specs.Prelude.{ℕ, codes, List, [], ◌∷◌, ◌++◌, Option, None, Some}
 use Rattle.gs_figures.specs.declared.values.Column.{Column}
-use Rattle.gs_figures.specs.declared.values.Column.TheVariants.{RpcsHeard, MessagesHeard, NewMessages, Duplicates, Ignored, Invalid, IhaveHeard, IwantHeard, GraftHeard, PruneHeard, MessagesSent, IhaveSent, IwantSent, GraftSent, PruneSent, BrokenPromises, RefusedLines, LowestScore, HighestScore, SmallestMesh, LargestMesh, At, OnTopic, Delivered, FirstRound, MedianRound, Round99, LastRound}
+use Rattle.gs_figures.specs.declared.values.Column.TheVariants.{RpcsHeard, BytesHeard, MessagesHeard, NewMessages, Duplicates, Ignored, Invalid, IhaveHeard, IwantHeard, GraftHeard, PruneHeard, RpcsSent, BytesSent, MessagesSent, IhaveSent, IwantSent, GraftSent, PruneSent, BrokenPromises, RefusedLines, LowestScore, HighestScore, SmallestMesh, LargestMesh, At, OnTopic, Delivered, FirstRound, MedianRound, Round99, LastRound}
 use Rattle.gs_figures.specs.declared.values.Value.{Value}
 use Rattle.gs_figures.specs.declared.values.Value.TheVariants.{Count, Whole, Missing}
 use Rattle.gs_figures.specs.declared.counts.Counts.{Counts}
@@ -12,6 +12,7 @@ use Rattle.gs_figures.specs.declared.span.Span.{Span}
 
 abbrev pub column_name : Column → List ℕ
 column_name RpcsHeard = codes "rpcs_heard"
+column_name BytesHeard = codes "bytes_heard"
 column_name MessagesHeard = codes "messages_heard"
 column_name NewMessages = codes "new"
 column_name Duplicates = codes "duplicates"
@@ -21,6 +22,8 @@ column_name IhaveHeard = codes "ihave_heard"
 column_name IwantHeard = codes "iwant_heard"
 column_name GraftHeard = codes "graft_heard"
 column_name PruneHeard = codes "prune_heard"
+column_name RpcsSent = codes "rpcs_sent"
+column_name BytesSent = codes "bytes_sent"
 column_name MessagesSent = codes "messages_sent"
 column_name IhaveSent = codes "ihave_sent"
 column_name IwantSent = codes "iwant_sent"
@@ -44,6 +47,7 @@ column_name LastRound = codes "last_round"
 unfoldable pub peer_columns : List Column
 peer_columns =
     RpcsHeard
+    ∷ BytesHeard
     ∷ MessagesHeard
     ∷ NewMessages
     ∷ Duplicates
@@ -53,6 +57,8 @@ peer_columns =
     ∷ IwantHeard
     ∷ GraftHeard
     ∷ PruneHeard
+    ∷ RpcsSent
+    ∷ BytesSent
     ∷ MessagesSent
     ∷ IhaveSent
     ∷ IwantSent
@@ -72,6 +78,7 @@ publication_columns = At ∷ OnTopic ∷ Delivered ∷ FirstRound ∷ MedianRoun
 unfoldable pub count_values : Counts → List (Column × Value)
 count_values c =
     (RpcsHeard, Count c.rpcs_heard)
+    ∷ (BytesHeard, Count c.bytes_heard)
     ∷ (MessagesHeard, Count c.heard.messages)
     ∷ (NewMessages, Count c.fates.accepted)
     ∷ (Duplicates, Count c.fates.duplicate)
@@ -81,6 +88,8 @@ count_values c =
     ∷ (IwantHeard, Count c.heard.iwant)
     ∷ (GraftHeard, Count c.heard.graft)
     ∷ (PruneHeard, Count c.heard.prune)
+    ∷ (RpcsSent, Count c.rpcs_sent)
+    ∷ (BytesSent, Count c.bytes_sent)
     ∷ (MessagesSent, Count c.sent.messages)
     ∷ (IhaveSent, Count c.sent.ihave)
     ∷ (IwantSent, Count c.sent.iwant)

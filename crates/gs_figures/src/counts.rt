@@ -37,10 +37,17 @@ pub struct Fates {
 pub struct Counts {
     /// RPCs that came of neighbours.
     pub rpcs_heard: u64,
+    /// Bytes that neighbours sent over their links, whether or not the peer took them for RPCs.
+    pub bytes_heard: u64,
     /// Their parts that were handled: those of a neighbour on the graylist, and of one that is lost, are not.
     pub heard: Parts,
     /// What became of the messages among them.
     pub fates: Fates,
+    /// RPCs that went out to neighbours, each as one frame: what is sent to one in a round is gathered.
+    pub rpcs_sent: u64,
+    /// Bytes that went out to neighbours: those of frames, with the lengths ahead of them, and those of the script as
+    /// they are.
+    pub bytes_sent: u64,
     /// Parts that were sent, once for each neighbour that they went to.
     pub sent: Parts,
     /// Promises that neighbours broke.
@@ -84,8 +91,11 @@ pub(crate) fn no_counts() -> Counts
 {
     Counts {
         rpcs_heard: 0,
+        bytes_heard: 0,
         heard: no_parts(),
         fates: no_fates(),
+        rpcs_sent: 0,
+        bytes_sent: 0,
         sent: no_parts(),
         broken_promises: 0,
         refused_lines: 0,
@@ -138,8 +148,11 @@ impl Counts {
     {
         Counts {
             rpcs_heard: self.rpcs_heard.saturating_add(other.rpcs_heard),
+            bytes_heard: self.bytes_heard.saturating_add(other.bytes_heard),
             heard: self.heard.plus(other.heard),
             fates: self.fates.plus(other.fates),
+            rpcs_sent: self.rpcs_sent.saturating_add(other.rpcs_sent),
+            bytes_sent: self.bytes_sent.saturating_add(other.bytes_sent),
             sent: self.sent.plus(other.sent),
             broken_promises: self.broken_promises.saturating_add(other.broken_promises),
             refused_lines: self.refused_lines.saturating_add(other.refused_lines),

@@ -4,7 +4,9 @@
 mod counts;
 mod fate;
 mod figures;
+mod lane;
 mod laws;
+mod links;
 mod listed;
 mod peers;
 mod publications;
@@ -16,7 +18,11 @@ mod values;
 pub use counts::{Counts, Fates, Parts};
 pub use fate::Fate;
 pub use figures::{Figures, figures_of};
-pub use laws::subscribed_topics_are_joined;
+pub use laws::{
+    all_of_a_legal_trace_counts, counts_are_sums, subscribed_topics_are_joined,
+    what_is_said_is_counted,
+};
+pub use links::{LinkFigures, all_links};
 pub use listed::Appearance;
 pub use peers::{PeerFigures, all_figures, counts_of_all};
 pub use publications::{PublicationFigures, all_publications};

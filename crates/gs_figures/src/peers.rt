@@ -5,6 +5,7 @@ ghost use Rattle.gs_base.specs.Names.{same_topic};
 ghost use Rattle.gs_figures.specs.Peers.{all_figures, counts_of_all, counts_of_peer, members_in, mesh_sizes, peer_figures, scores_about, scores_of, span_of, subscribed, subscribed_after, widened};
 
 use crate::counts::{Counts, counts_in, no_counts};
+use crate::links::{LinkFigures, bytes_from, bytes_to, rpcs_from};
 use crate::span::{Span, widened};
 use gs_base::{PeerNo, Seq, Topic, clone_of};
 use gs_report::Finished;
@@ -22,44 +23,50 @@ pub struct PeerFigures {
     pub members: Option<Span>,
 }
 
-/// The figures of each peer.
+/// The figures of each peer, by what goes over these links.
 ///
 /// # Errors
 /// `AllocError` where there was no memory for them.
 pub fn all_figures(
     alloc: Global,
+    links: &[LinkFigures],
     peers: &[(PeerNo, Finished)],
 ) -> Result<Seq<PeerFigures>, AllocError>
-    ensures { IfOk result (λ figures. figures ≡ all_figures peers.now) }
+    ensures { IfOk result (λ figures. figures ≡ all_figures links.now peers.now) }
 {
     let mut figures = Vec::with_capacity(alloc, peers.len())?;
     for peer in peers {
-        figures.push(peer_figures(alloc, peers, peer)?)?;
+        figures.push(peer_figures(alloc, links, peers, peer)?)?;
     }
     Ok(Seq::from(figures))
 }
 
 fn peer_figures(
     alloc: Global,
+    links: &[LinkFigures],
     peers: &[(PeerNo, Finished)],
     peer: &(PeerNo, Finished),
 ) -> Result<PeerFigures, AllocError>
-    ensures { IfOk result (λ figures. figures ≡ peer_figures peers.now peer.now) }
+    ensures { IfOk result (λ figures. figures ≡ peer_figures links.now peers.now peer.now) }
 {
     let (number, finished) = peer;
     let members = members(alloc, finished)?;
     Ok(PeerFigures {
         peer: *number,
-        counts: counts_of_peer(finished),
+        counts: counts_of_peer(links, peer),
         scores: scores_of(peers, *number),
         members,
     })
 }
 
-fn counts_of_peer(finished: &Finished) -> Counts
-    ensures { result ≡ counts_of_peer finished.now }
+fn counts_of_peer(links: &[LinkFigures], peer: &(PeerNo, Finished)) -> Counts
+    ensures { result ≡ counts_of_peer links.now peer.now }
 {
+    let (number, finished) = peer;
     Counts {
+        bytes_heard: bytes_to(links, *number),
+        rpcs_sent: rpcs_from(links, *number),
+        bytes_sent: bytes_from(links, *number),
         refused_lines: finished.refused.len() as u64,
         ..counts_in(finished.trace.entries())
     }

@@ -13,6 +13,7 @@ use std::alloc::{AllocError, Global};
 #[derive(Clone, Copy, Debug, PartialEq, Eq)]
 pub enum Column {
     RpcsHeard,
+    BytesHeard,
     MessagesHeard,
     NewMessages,
     Duplicates,
@@ -22,6 +23,8 @@ pub enum Column {
     IwantHeard,
     GraftHeard,
     PruneHeard,
+    RpcsSent,
+    BytesSent,
     MessagesSent,
     IhaveSent,
     IwantSent,
@@ -57,6 +60,7 @@ pub(crate) fn column_name(column: Column) -> &'static str
 {
     match column {
         Column::RpcsHeard => "rpcs_heard",
+        Column::BytesHeard => "bytes_heard",
         Column::MessagesHeard => "messages_heard",
         Column::NewMessages => "new",
         Column::Duplicates => "duplicates",
@@ -66,6 +70,8 @@ pub(crate) fn column_name(column: Column) -> &'static str
         Column::IwantHeard => "iwant_heard",
         Column::GraftHeard => "graft_heard",
         Column::PruneHeard => "prune_heard",
+        Column::RpcsSent => "rpcs_sent",
+        Column::BytesSent => "bytes_sent",
         Column::MessagesSent => "messages_sent",
         Column::IhaveSent => "ihave_sent",
         Column::IwantSent => "iwant_sent",
@@ -94,6 +100,7 @@ pub(crate) fn peer_columns(alloc: Global) -> Result<Vec<Column>, AllocError>
 {
     let list = vec![in alloc;
         Column::RpcsHeard,
+        Column::BytesHeard,
         Column::MessagesHeard,
         Column::NewMessages,
         Column::Duplicates,
@@ -103,6 +110,8 @@ pub(crate) fn peer_columns(alloc: Global) -> Result<Vec<Column>, AllocError>
         Column::IwantHeard,
         Column::GraftHeard,
         Column::PruneHeard,
+        Column::RpcsSent,
+        Column::BytesSent,
         Column::MessagesSent,
         Column::IhaveSent,
         Column::IwantSent,
@@ -186,6 +195,7 @@ fn count_values(alloc: Global, counts: &Counts) -> Result<Vec<(Column, Value)>, 
 {
     let list = vec![in alloc;
         (Column::RpcsHeard, Value::Count(counts.rpcs_heard)),
+        (Column::BytesHeard, Value::Count(counts.bytes_heard)),
         (Column::MessagesHeard, Value::Count(counts.heard.messages)),
         (Column::NewMessages, Value::Count(counts.fates.accepted)),
         (Column::Duplicates, Value::Count(counts.fates.duplicate)),
@@ -195,6 +205,8 @@ fn count_values(alloc: Global, counts: &Counts) -> Result<Vec<(Column, Value)>, 
         (Column::IwantHeard, Value::Count(counts.heard.iwant)),
         (Column::GraftHeard, Value::Count(counts.heard.graft)),
         (Column::PruneHeard, Value::Count(counts.heard.prune)),
+        (Column::RpcsSent, Value::Count(counts.rpcs_sent)),
+        (Column::BytesSent, Value::Count(counts.bytes_sent)),
         (Column::MessagesSent, Value::Count(counts.sent.messages)),
         (Column::IhaveSent, Value::Count(counts.sent.ihave)),
         (Column::IwantSent, Value::Count(counts.sent.iwant)),

@@ -1,3 +1,4 @@
+mod links;
 mod made;
 mod peers;
 mod publications;

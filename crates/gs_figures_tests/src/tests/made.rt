@@ -222,7 +222,7 @@ fn one_delivery(
 }
 
 /// An RPC of so many subscriptions, messages, IHAVE, IWANT, GRAFT and PRUNE.
-fn rpc(alloc: Global, parts: [usize; 6]) -> Result<Rpc, AllocError> {
+pub(crate) fn rpc(alloc: Global, parts: [usize; 6]) -> Result<Rpc, AllocError> {
     let mut rpc = Rpc::empty(alloc);
     for _ in 0..parts[0] {
         rpc.subs.push(SubOpt {

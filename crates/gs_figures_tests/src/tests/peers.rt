@@ -14,6 +14,7 @@ const NO_PARTS: Parts = Parts {
 
 const NO_COUNTS: Counts = Counts {
     rpcs_heard: 0,
+    bytes_heard: 0,
     heard: NO_PARTS,
     fates: Fates {
         accepted: 0,
@@ -21,6 +22,8 @@ const NO_COUNTS: Counts = Counts {
         ignored: 0,
         invalid: 0,
     },
+    rpcs_sent: 0,
+    bytes_sent: 0,
     sent: NO_PARTS,
     broken_promises: 0,
     refused_lines: 0,
@@ -252,7 +255,7 @@ const HEARD: Counts = Counts {
 /// Whether these are the figures of a case.
 fn are_told(alloc: Global, case: &Case) -> Result<bool, AllocError> {
     let peers = peers_of(alloc, case.lives)?;
-    let told = all_figures(alloc, &peers);
+    let told = all_figures(alloc, &[], &peers);
     drop(peers);
     let figures = told?;
     Ok(figures.as_slice() == case.figures && counts_of_all(figures.as_slice()) == case.sum)

@@ -47,12 +47,13 @@ topic,payload,publisher,at_ms,on_topic,delivered,first_round,median_round,round_
 \"news\",\"616263\",\"a\",200,2,2,0,0,1,1
 \"news\",\"220a\",\"b\",500,2,0,,,,
 
-peer,rpcs_heard,messages_heard,new,duplicates,ignored,invalid,ihave_heard,iwant_heard,graft_heard,prune_heard,\
-messages_sent,ihave_sent,iwant_sent,graft_sent,prune_sent,broken_promises,refused_lines,\
+peer,rpcs_heard,bytes_heard,messages_heard,new,duplicates,ignored,invalid,ihave_heard,iwant_heard,graft_heard,\
+prune_heard,\
+rpcs_sent,bytes_sent,messages_sent,ihave_sent,iwant_sent,graft_sent,prune_sent,broken_promises,refused_lines,\
 lowest_score,highest_score,smallest_mesh,largest_mesh
-\"a\",1,0,0,0,0,0,0,0,0,0,1,0,0,0,0,0,1,,,1,1
-\"b\",0,1,1,0,0,0,1,0,0,0,0,0,0,0,0,0,0,-1500000,-1500000,0,0
-\"(all)\",1,1,1,0,0,0,1,0,0,0,1,0,0,0,0,0,1,,,,
+\"a\",1,0,0,0,0,0,0,0,0,0,0,1,3,1,0,0,0,0,0,1,,,1,1
+\"b\",0,3,1,1,0,0,0,1,0,0,0,0,0,0,0,0,0,0,0,0,-1500000,-1500000,0,0
+\"(all)\",1,3,1,1,0,0,0,1,0,0,0,1,3,1,0,0,0,0,0,1,,,,
 ";
 
 const JSON: &str = "\
@@ -61,16 +62,22 @@ const JSON: &str = "\
 \"first_round\":0,\"median_round\":0,\"round_99\":1,\"last_round\":1},
 {\"topic\":\"news\",\"payload\":\"220a\",\"publisher\":\"b\",\"at_ms\":500,\"on_topic\":2,\"delivered\":0,\
 \"first_round\":null,\"median_round\":null,\"round_99\":null,\"last_round\":null},
-{\"peer\":\"a\",\"rpcs_heard\":1,\"messages_heard\":0,\"new\":0,\"duplicates\":0,\"ignored\":0,\"invalid\":0,\
-\"ihave_heard\":0,\"iwant_heard\":0,\"graft_heard\":0,\"prune_heard\":0,\"messages_sent\":1,\"ihave_sent\":0,\
+{\"peer\":\"a\",\"rpcs_heard\":1,\"bytes_heard\":0,\"messages_heard\":0,\"new\":0,\"duplicates\":0,\"ignored\":0,\
+\"invalid\":0,\
+\"ihave_heard\":0,\"iwant_heard\":0,\"graft_heard\":0,\"prune_heard\":0,\"rpcs_sent\":1,\"bytes_sent\":3,\
+\"messages_sent\":1,\"ihave_sent\":0,\
 \"iwant_sent\":0,\"graft_sent\":0,\"prune_sent\":0,\"broken_promises\":0,\"refused_lines\":1,\
 \"lowest_score\":null,\"highest_score\":null,\"smallest_mesh\":1,\"largest_mesh\":1},
-{\"peer\":\"b\",\"rpcs_heard\":0,\"messages_heard\":1,\"new\":1,\"duplicates\":0,\"ignored\":0,\"invalid\":0,\
-\"ihave_heard\":1,\"iwant_heard\":0,\"graft_heard\":0,\"prune_heard\":0,\"messages_sent\":0,\"ihave_sent\":0,\
+{\"peer\":\"b\",\"rpcs_heard\":0,\"bytes_heard\":3,\"messages_heard\":1,\"new\":1,\"duplicates\":0,\"ignored\":0,\
+\"invalid\":0,\
+\"ihave_heard\":1,\"iwant_heard\":0,\"graft_heard\":0,\"prune_heard\":0,\"rpcs_sent\":0,\"bytes_sent\":0,\
+\"messages_sent\":0,\"ihave_sent\":0,\
 \"iwant_sent\":0,\"graft_sent\":0,\"prune_sent\":0,\"broken_promises\":0,\"refused_lines\":0,\
 \"lowest_score\":-1500000,\"highest_score\":-1500000,\"smallest_mesh\":0,\"largest_mesh\":0},
-{\"peer\":\"(all)\",\"rpcs_heard\":1,\"messages_heard\":1,\"new\":1,\"duplicates\":0,\"ignored\":0,\"invalid\":0,\
-\"ihave_heard\":1,\"iwant_heard\":0,\"graft_heard\":0,\"prune_heard\":0,\"messages_sent\":1,\"ihave_sent\":0,\
+{\"peer\":\"(all)\",\"rpcs_heard\":1,\"bytes_heard\":3,\"messages_heard\":1,\"new\":1,\"duplicates\":0,\"ignored\":0,\
+\"invalid\":0,\
+\"ihave_heard\":1,\"iwant_heard\":0,\"graft_heard\":0,\"prune_heard\":0,\"rpcs_sent\":1,\"bytes_sent\":3,\
+\"messages_sent\":1,\"ihave_sent\":0,\
 \"iwant_sent\":0,\"graft_sent\":0,\"prune_sent\":0,\"broken_promises\":0,\"refused_lines\":1,\
 \"lowest_score\":null,\"highest_score\":null,\"smallest_mesh\":null,\"largest_mesh\":null}
 ]

@@ -4,4 +4,4 @@ use Rattle.gs_figures.proofs.peers.all_figures.Given as goal
 
 -- the figures of the peers so far
 abbrev pub invariant-loop-peer : goal.invariant-loop-peer
-invariant-loop-peer l = l.figures.items ≡ map (peer_figures l.peers) (take l.peer-index l.peers)
+invariant-loop-peer l = l.figures.items ≡ map (peer_figures l.links l.peers) (take l.peer-index l.peers)
