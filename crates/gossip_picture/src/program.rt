@@ -1,0 +1,73 @@
+//! The program: it draws the run of the scenario that it reads.
+ghost use Rattle.std.specs.Prelude.{◌≡◌, IfOk};
+ghost use Rattle.std.specs.Process.{exit_status};
+ghost use Rattle.gs_program.specs.Program.{EndsWith};
+ghost use Rattle.gossip_picture.specs.Printed.{printed, topic_in};
+
+use crate::arguments::Asked;
+use bytes::Bytes;
+use gs_base::{Topic, clone_of};
+use gs_peer::NoGate;
+use gs_picture::{first_topic, picture_svg};
+use gs_plan::Plan;
+use gs_program::{Printer, Program};
+use gs_report::Report;
+use std::alloc::{AllocError, AllocGlobal, Global};
+use std::io::{Read, Write};
+use std::process::ExitCode;
+use std::random::RandomSource;
+use std::sync::Wait;
+use std::thread::Threads;
+
+/// Makes the picture of a run for a topic.
+#[derive(Clone, Copy, Debug, Drop)]
+struct PictureOf<'a> {
+    asked: Asked<'a>,
+}
+
+impl<'a> Printer for PictureOf<'a> {
+    ghost text = { λ printer plan report. printed printer.asked plan report };
+
+    fn print(&self, alloc: Global, plan: &Plan, report: &Report) -> Result<Vec<u8>, AllocError> {
+        let topic = topic_in(alloc, plan, self.asked)?;
+        picture_svg(alloc, plan, report, &topic)
+    }
+}
+
+/// The topic that is asked for. Where the script subscribes to none, the first one is the empty one.
+fn topic_in(alloc: Global, plan: &Plan, asked: Asked<'_>) -> Result<Topic, AllocError>
+    ensures { IfOk result (λ topic. topic ≡ topic_in plan.now asked.entry) }
+{
+    match asked {
+        Asked::Named(name) => Ok(Topic(Bytes::copy_from_slice(alloc, name.as_bytes())?)),
+        Asked::First => match first_topic(plan.script.as_slice()) {
+            Some(topic) => clone_of(topic),
+            None => Ok(Topic(Bytes::new())),
+        },
+    }
+}
+
+/// Runs the program over these streams, and gives the status that its process ends with. Its ends are those of
+/// `gossip_sim`, and its text is the picture of the run for a topic.
+pub fn ended<T, R, W, E>(
+    rt: &T,
+    asked: Asked<'_>,
+    input: &mut R,
+    output: &mut W,
+    errors: &mut E,
+) -> ExitCode
+where
+    T: Threads + Wait + RandomSource + AllocGlobal + Sync + Send + Copy,
+    R: Read,
+    W: Write,
+    E: Write,
+    ensures { EndsWith (printed asked.entry) (exit_status result) (R.remaining input.old) (R.remaining input.new)
+        (W.contents output.old) (W.contents output.new) (E.contents errors.old) (E.contents errors.new) }
+{
+    let program = Program {
+        rt,
+        gate: &NoGate,
+        printer: PictureOf { asked },
+    };
+    program.ended(input, output, errors)
+}

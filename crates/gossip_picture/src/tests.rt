@@ -1,0 +1,359 @@
+//! Pictures, worked out by hand.
+use crate::arguments::{Asked, asked_of, refuse};
+use crate::program::ended;
+use std::alloc::{AllocError, Global};
+use std::process::ExitCode;
+use std::test::*;
+
+/// What each picture without names along the radius begins with.
+const OPENING: &str = "\
+<svg xmlns=\"http://www.w3.org/2000/svg\" width=\"920\" height=\"970\" viewBox=\"0 0 920 970\">
+";
+
+const STYLE: &str = "\
+<style>
+text{font-family:sans-serif;font-size:12px;fill:#1f2328}
+.back{fill:#fff}
+.title{font-size:18px;font-weight:bold}
+.head{font-weight:bold}
+.middle{text-anchor:middle}
+.end{text-anchor:end}
+.name{font-family:monospace;font-size:11px}
+path{fill:none}
+.both{stroke:#57606a;stroke-opacity:.55}
+.one,.tail{stroke:#bc4c00;stroke-width:1.5}
+.one{marker-end:url(#head)}
+#head path,.tip{fill:#bc4c00}
+.disc circle{stroke-width:2;stroke:#57606a}
+.disc text{font-size:11px;font-weight:bold;text-anchor:middle;fill:#fff}
+.fair circle{fill:#0969da;stroke:#0969da}
+.zero circle{fill:#e3b341;stroke:#9a6700}
+.zero text{fill:#1f2328}
+.gossip circle{fill:#e16f24;stroke:#bc4c00}
+.publish circle{fill:#cf222e;stroke:#cf222e}
+.graylist circle{fill:#6e40c9;stroke:#6e40c9}
+.unscored circle{fill:#6e7781;stroke:#6e7781}
+.off circle{fill:#fff}
+.off text{fill:#1f2328}
+.grid{stroke:#d0d7de}
+.course{stroke:#0969da;stroke-width:2}
+.some{stroke-opacity:.5}
+.many{stroke-opacity:.2}
+@media (prefers-color-scheme:dark){
+text,.off text{fill:#e6edf3}
+.back,.off circle{fill:#0d1117}
+.both{stroke:#9198a1}
+.grid{stroke:#30363d}
+.course{stroke:#58a6ff}
+}
+</style>
+<defs><marker id=\"head\" refX=\"18\" refY=\"5\" markerWidth=\"10\" markerHeight=\"10\" markerUnits=\"userSpaceOnUse\" orient=\"auto\"><path d=\"M0 0L10 5L0 10z\"/></marker></defs>
+<rect class=\"back\" width=\"100%\" height=\"100%\"/>
+";
+
+/// The legend, which each picture has.
+const LEGEND: &str = "\
+<text class=\"head\" x=\"60\" y=\"590\">Each disc is a peer, by the lowest score that a neighbour gives it at the end</text>
+<g class=\"disc off\" transform=\"translate(69 660)\"><circle r=\"9\"/></g><text x=\"85\" y=\"664\">hollow: not subscribed to the topic</text>
+<path class=\"both\" d=\"M316 660H340\"/><text x=\"345\" y=\"664\">each has the other in its mesh</text>
+<path class=\"tail\" d=\"M576 660H592\"/><path class=\"tip\" d=\"M592 655L602 660L592 665z\"/><text x=\"605\" y=\"664\">the tail alone has the head in its mesh</text>
+<g class=\"disc fair\" transform=\"translate(69 612)\"><circle r=\"9\"/><text y=\"4\">+</text></g>
+<text x=\"85\" y=\"616\">0 or more</text>
+<g class=\"disc zero\" transform=\"translate(329 612)\"><circle r=\"9\"/><text y=\"4\">-</text></g>
+<text x=\"345\" y=\"616\">below 0</text>
+<g class=\"disc gossip\" transform=\"translate(589 612)\"><circle r=\"9\"/><text y=\"4\">g</text></g>
+<text x=\"605\" y=\"616\">below the gossip threshold</text>
+<g class=\"disc publish\" transform=\"translate(69 636)\"><circle r=\"9\"/><text y=\"4\">p</text></g>
+<text x=\"85\" y=\"640\">below the publish threshold</text>
+<g class=\"disc graylist\" transform=\"translate(329 636)\"><circle r=\"9\"/><text y=\"4\">x</text></g>
+<text x=\"345\" y=\"640\">below the graylist threshold</text>
+<g class=\"disc unscored\" transform=\"translate(589 636)\"><circle r=\"9\"/><text y=\"4\">?</text></g>
+<text x=\"605\" y=\"640\">no neighbour scores it</text>
+";
+
+/// The axes of a chart of at most nine rounds.
+const AXES: &str = "\
+<text class=\"head\" x=\"60\" y=\"700\">Share of the peers that each publication on the topic reached</text>
+<text class=\"middle\" x=\"460\" y=\"958\">rounds since it was published</text>
+<path class=\"grid\" d=\"M60 920H860\"/><text class=\"end\" x=\"52\" y=\"924\">0%</text>
+<path class=\"grid\" d=\"M60 870H860\"/><text class=\"end\" x=\"52\" y=\"874\">25%</text>
+<path class=\"grid\" d=\"M60 820H860\"/><text class=\"end\" x=\"52\" y=\"824\">50%</text>
+<path class=\"grid\" d=\"M60 770H860\"/><text class=\"end\" x=\"52\" y=\"774\">75%</text>
+<path class=\"grid\" d=\"M60 720H860\"/><text class=\"end\" x=\"52\" y=\"724\">100%</text>
+<path class=\"grid\" d=\"M60 720V920\"/><text class=\"middle\" x=\"60\" y=\"938\">0</text>
+<path class=\"grid\" d=\"M140 720V920\"/><text class=\"middle\" x=\"140\" y=\"938\">1</text>
+<path class=\"grid\" d=\"M220 720V920\"/><text class=\"middle\" x=\"220\" y=\"938\">2</text>
+<path class=\"grid\" d=\"M300 720V920\"/><text class=\"middle\" x=\"300\" y=\"938\">3</text>
+<path class=\"grid\" d=\"M380 720V920\"/><text class=\"middle\" x=\"380\" y=\"938\">4</text>
+<path class=\"grid\" d=\"M460 720V920\"/><text class=\"middle\" x=\"460\" y=\"938\">5</text>
+<path class=\"grid\" d=\"M540 720V920\"/><text class=\"middle\" x=\"540\" y=\"938\">6</text>
+<path class=\"grid\" d=\"M620 720V920\"/><text class=\"middle\" x=\"620\" y=\"938\">7</text>
+<path class=\"grid\" d=\"M700 720V920\"/><text class=\"middle\" x=\"700\" y=\"938\">8</text>
+<path class=\"grid\" d=\"M780 720V920\"/><text class=\"middle\" x=\"780\" y=\"938\">9</text>
+<path class=\"grid\" d=\"M860 720V920\"/><text class=\"middle\" x=\"860\" y=\"938\">10</text>
+";
+
+/// A peer without neighbours subscribes, and publishes twice.
+const ALONE: &str = "round_ms = 100\nrounds = 4\nworkers = 1\ncapacity = 1\nseed = 1\n\
+    [[topic]]\nname = \"news\"\n[[peer]]\nname = \"alone\"\n\
+    [[do]]\nwhat = \"subscribe\"\nat = 0\npeer = \"alone\"\ntopic = \"news\"\n\
+    [[do]]\nwhat = \"publish\"\nat = 2\npeer = \"alone\"\ntopic = \"news\"\nhex = \"61\"\n\
+    [[do]]\nwhat = \"publish\"\nat = 3\npeer = \"alone\"\ntopic = \"news\"\nhex = \"62\"\n";
+
+static ALONE_DRAWN: [&str; 7] = [
+    OPENING,
+    STYLE,
+    "\
+<text class=\"title middle\" x=\"460\" y=\"32\">Topic news</text>
+<text class=\"middle\" x=\"460\" y=\"52\">peers: 1, rounds: 0 to 4, publications: 2</text>
+<g transform=\"translate(0 0)\">
+<g class=\"disc unscored\" transform=\"translate(460 90)\"><circle r=\"9\"/><text y=\"4\">?</text></g>
+<text class=\"name middle\" transform=\"translate(460 72) rotate(0)\" y=\"4\">alone</text>
+</g>
+<g transform=\"translate(0 0)\">
+",
+    LEGEND,
+    AXES,
+    "\
+<path class=\"course few\" d=\"M60 920H60V720H860\"/>
+<path class=\"course few\" d=\"M60 920H60V720H860\"/>
+",
+    "</g>\n</svg>\n",
+];
+
+/// At the heartbeat of round 10 each of two takes the other into its mesh; in round 11, the last one, `b` leaves, which
+/// `a` hears no more. What `a` publishes comes to `b` a round later.
+const LEAVING: &str = "round_ms = 100\nrounds = 11\nworkers = 1\ncapacity = 1\nseed = 1\n\
+    [[topic]]\nname = \"news\"\n[[topic]]\nname = \"olds\"\n[[peer]]\nname = \"a\"\n[[peer]]\nname = \"b\"\n\
+    [[dial]]\nfrom = \"a\"\nto = \"b\"\n\
+    [[do]]\nwhat = \"subscribe\"\nat = 0\npeer = \"a\"\ntopic = \"news\"\n\
+    [[do]]\nwhat = \"subscribe\"\nat = 0\npeer = \"b\"\ntopic = \"news\"\n\
+    [[do]]\nwhat = \"publish\"\nat = 2\npeer = \"a\"\ntopic = \"news\"\nhex = \"616263\"\n\
+    [[do]]\nwhat = \"publish\"\nat = 2\npeer = \"b\"\ntopic = \"olds\"\nhex = \"61\"\n\
+    [[do]]\nwhat = \"unsubscribe\"\nat = 11\npeer = \"b\"\ntopic = \"news\"\n";
+
+static LEAVING_DRAWN: [&str; 7] = [
+    OPENING,
+    STYLE,
+    "\
+<text class=\"title middle\" x=\"460\" y=\"32\">Topic news</text>
+<text class=\"middle\" x=\"460\" y=\"52\">peers: 2, rounds: 0 to 11, publications: 1</text>
+<g transform=\"translate(0 0)\">
+<path class=\"one\" d=\"M460 90L460 530\"/>
+<g class=\"disc fair\" transform=\"translate(460 90)\"><circle r=\"9\"/><text y=\"4\">+</text></g>
+<g class=\"disc fair off\" transform=\"translate(460 530)\"><circle r=\"9\"/><text y=\"4\">+</text></g>
+<text class=\"name middle\" transform=\"translate(460 72) rotate(0)\" y=\"4\">a</text>
+<text class=\"name middle\" transform=\"translate(460 548) rotate(0)\" y=\"4\">b</text>
+</g>
+<g transform=\"translate(0 0)\">
+",
+    LEGEND,
+    AXES,
+    "\
+<path class=\"course few\" d=\"M60 920H60V820H140V720H860\"/>
+",
+    "</g>\n</svg>\n",
+];
+
+/// Twelve peers, of whom `p0` scores five: 0, at the gossip threshold, and below each threshold. `p0` alone subscribes.
+const TWELVE: &str = "round_ms = 100\nrounds = 1\nworkers = 1\ncapacity = 1\nseed = 1\n\
+    topic = [{ name = \"news\" }]\n\
+    peer = [{ name = \"p0\" }, { name = \"p1\" }, { name = \"p2\" }, { name = \"p3\" }, \
+    { name = \"p4\" }, { name = \"p5\" }, { name = \"p6\" }, { name = \"p7\" }, \
+    { name = \"p8\" }, { name = \"p9\" }, { name = \"p10\" }, { name = \"p11\" }]\n\
+    do = [{ at = 0, peer = \"p0\", what = \"subscribe\", topic = \"news\" }]\n\
+    [[dial]]\nfrom = \"p0\"\nto = \"p1\"\n\
+    [[dial]]\nfrom = \"p0\"\nto = \"p2\"\n\
+    [[dial]]\nfrom = \"p0\"\nto = \"p3\"\n\
+    [[dial]]\nfrom = \"p0\"\nto = \"p4\"\n\
+    [[dial]]\nfrom = \"p0\"\nto = \"p5\"\n\
+    [[app]]\npeer = \"p0\"\nabout = \"p2\"\nvalue = -10000000\n\
+    [[app]]\npeer = \"p0\"\nabout = \"p3\"\nvalue = -10000001\n\
+    [[app]]\npeer = \"p0\"\nabout = \"p4\"\nvalue = -50000001\n\
+    [[app]]\npeer = \"p0\"\nabout = \"p5\"\nvalue = -80000001\n";
+
+/// Peers at 0, 30, 60 degrees and so on, by the sines 0, 5,000, 8,660 and 10,000 in ten-thousandths.
+const TWELVE_NAMES: &str = "\
+<text class=\"name middle\" transform=\"translate(460 72) rotate(0)\" y=\"4\">p0</text>
+<text class=\"name start\" transform=\"translate(579 104) rotate(0)\" y=\"4\">p1</text>
+<text class=\"name start\" transform=\"translate(666 191) rotate(0)\" y=\"4\">p2</text>
+<text class=\"name start\" transform=\"translate(698 310) rotate(0)\" y=\"4\">p3</text>
+<text class=\"name start\" transform=\"translate(666 429) rotate(0)\" y=\"4\">p4</text>
+<text class=\"name start\" transform=\"translate(579 516) rotate(0)\" y=\"4\">p5</text>
+<text class=\"name middle\" transform=\"translate(460 548) rotate(0)\" y=\"4\">p6</text>
+<text class=\"name end\" transform=\"translate(341 516) rotate(0)\" y=\"4\">p7</text>
+<text class=\"name end\" transform=\"translate(254 429) rotate(0)\" y=\"4\">p8</text>
+<text class=\"name end\" transform=\"translate(222 310) rotate(0)\" y=\"4\">p9</text>
+<text class=\"name end\" transform=\"translate(254 191) rotate(0)\" y=\"4\">p10</text>
+<text class=\"name end\" transform=\"translate(341 104) rotate(0)\" y=\"4\">p11</text>
+</g>
+<g transform=\"translate(0 0)\">
+";
+
+static TWELVE_DRAWN: [&str; 7] = [
+    OPENING,
+    STYLE,
+    "\
+<text class=\"title middle\" x=\"460\" y=\"32\">Topic news</text>
+<text class=\"middle\" x=\"460\" y=\"52\">peers: 12, rounds: 0 to 1, publications: 0</text>
+<g transform=\"translate(0 0)\">
+<g class=\"disc fair\" transform=\"translate(460 90)\"><circle r=\"9\"/><text y=\"4\">+</text></g>
+<g class=\"disc fair off\" transform=\"translate(570 120)\"><circle r=\"9\"/><text y=\"4\">+</text></g>
+<g class=\"disc zero off\" transform=\"translate(650 200)\"><circle r=\"9\"/><text y=\"4\">-</text></g>
+<g class=\"disc gossip off\" transform=\"translate(680 310)\"><circle r=\"9\"/><text y=\"4\">g</text></g>
+<g class=\"disc publish off\" transform=\"translate(650 420)\"><circle r=\"9\"/><text y=\"4\">p</text></g>
+<g class=\"disc graylist off\" transform=\"translate(570 500)\"><circle r=\"9\"/><text y=\"4\">x</text></g>
+<g class=\"disc unscored off\" transform=\"translate(460 530)\"><circle r=\"9\"/><text y=\"4\">?</text></g>
+<g class=\"disc unscored off\" transform=\"translate(350 500)\"><circle r=\"9\"/><text y=\"4\">?</text></g>
+<g class=\"disc unscored off\" transform=\"translate(270 420)\"><circle r=\"9\"/><text y=\"4\">?</text></g>
+<g class=\"disc unscored off\" transform=\"translate(240 310)\"><circle r=\"9\"/><text y=\"4\">?</text></g>
+<g class=\"disc unscored off\" transform=\"translate(270 200)\"><circle r=\"9\"/><text y=\"4\">?</text></g>
+<g class=\"disc unscored off\" transform=\"translate(350 120)\"><circle r=\"9\"/><text y=\"4\">?</text></g>
+",
+    TWELVE_NAMES,
+    LEGEND,
+    AXES,
+    "</g>\n</svg>\n",
+];
+
+/// The same for a topic that nobody has, with what XML does not take as it stands.
+static TWELVE_WITH_MARKUP: [&str; 7] = [
+    OPENING,
+    STYLE,
+    "\
+<text class=\"title middle\" x=\"460\" y=\"32\">Topic a&amp;&lt;b&gt;&quot;&apos;\\xc3\\xa9</text>
+<text class=\"middle\" x=\"460\" y=\"52\">peers: 12, rounds: 0 to 1, publications: 0</text>
+<g transform=\"translate(0 0)\">
+<g class=\"disc fair off\" transform=\"translate(460 90)\"><circle r=\"9\"/><text y=\"4\">+</text></g>
+<g class=\"disc fair off\" transform=\"translate(570 120)\"><circle r=\"9\"/><text y=\"4\">+</text></g>
+<g class=\"disc zero off\" transform=\"translate(650 200)\"><circle r=\"9\"/><text y=\"4\">-</text></g>
+<g class=\"disc gossip off\" transform=\"translate(680 310)\"><circle r=\"9\"/><text y=\"4\">g</text></g>
+<g class=\"disc publish off\" transform=\"translate(650 420)\"><circle r=\"9\"/><text y=\"4\">p</text></g>
+<g class=\"disc graylist off\" transform=\"translate(570 500)\"><circle r=\"9\"/><text y=\"4\">x</text></g>
+<g class=\"disc unscored off\" transform=\"translate(460 530)\"><circle r=\"9\"/><text y=\"4\">?</text></g>
+<g class=\"disc unscored off\" transform=\"translate(350 500)\"><circle r=\"9\"/><text y=\"4\">?</text></g>
+<g class=\"disc unscored off\" transform=\"translate(270 420)\"><circle r=\"9\"/><text y=\"4\">?</text></g>
+<g class=\"disc unscored off\" transform=\"translate(240 310)\"><circle r=\"9\"/><text y=\"4\">?</text></g>
+<g class=\"disc unscored off\" transform=\"translate(270 200)\"><circle r=\"9\"/><text y=\"4\">?</text></g>
+<g class=\"disc unscored off\" transform=\"translate(350 120)\"><circle r=\"9\"/><text y=\"4\">?</text></g>
+",
+    TWELVE_NAMES,
+    LEGEND,
+    AXES,
+    "</g>\n</svg>\n",
+];
+
+/// Whether a text is made of these parts and nothing else.
+fn is_made_of(text: &[u8], parts: &[&str]) -> bool {
+    let mut place: usize = 0;
+    for part in parts {
+        let Some(end) = place.checked_add(part.len()) else {
+            return false;
+        };
+        if text.get(place..end) != Some(part.as_bytes()) {
+            return false;
+        }
+        place = end;
+    }
+    place == text.len()
+}
+
+#[test]
+fn one_peer_is_drawn(rt: HostRuntime) {
+    let mut output = Vec::new(rt.alloc());
+    let mut errors = Vec::new(rt.alloc());
+    let code = ended(
+        &rt,
+        Asked::First,
+        &mut ALONE.as_bytes(),
+        &mut output,
+        &mut errors,
+    );
+    assert!(rt; code == ExitCode::from(0) && errors.is_empty());
+    assert!(rt; is_made_of(&output, &ALONE_DRAWN));
+}
+
+#[test]
+fn two_peers_are_drawn_of_which_one_leaves(rt: HostRuntime) {
+    let mut output = Vec::new(rt.alloc());
+    let mut errors = Vec::new(rt.alloc());
+    let code = ended(
+        &rt,
+        Asked::First,
+        &mut LEAVING.as_bytes(),
+        &mut output,
+        &mut errors,
+    );
+    assert!(rt; code == ExitCode::from(0) && errors.is_empty());
+    assert!(rt; is_made_of(&output, &LEAVING_DRAWN));
+}
+
+#[test]
+fn twelve_peers_stand_at_their_degrees_and_have_their_classes(rt: HostRuntime) {
+    let mut output = Vec::new(rt.alloc());
+    let mut errors = Vec::new(rt.alloc());
+    let code = ended(
+        &rt,
+        Asked::Named("news"),
+        &mut TWELVE.as_bytes(),
+        &mut output,
+        &mut errors,
+    );
+    assert!(rt; code == ExitCode::from(0) && errors.is_empty());
+    assert!(rt; is_made_of(&output, &TWELVE_DRAWN));
+}
+
+#[test]
+fn markup_in_a_topic_is_escaped(rt: HostRuntime) {
+    let mut output = Vec::new(rt.alloc());
+    let mut errors = Vec::new(rt.alloc());
+    let asked = Asked::Named("a&<b>\"'\u{e9}");
+    let code = ended(&rt, asked, &mut TWELVE.as_bytes(), &mut output, &mut errors);
+    assert!(rt; code == ExitCode::from(0) && errors.is_empty());
+    assert!(rt; is_made_of(&output, &TWELVE_WITH_MARKUP));
+}
+
+#[test]
+fn a_refused_scenario_has_no_picture(rt: HostRuntime) {
+    let mut output = Vec::new(rt.alloc());
+    let mut errors = Vec::new(rt.alloc());
+    let code = ended(
+        &rt,
+        Asked::First,
+        &mut b"rounds = 0\n".as_slice(),
+        &mut output,
+        &mut errors,
+    );
+    assert!(rt; code == ExitCode::from(1) && output.is_empty());
+    assert!(rt; errors.as_slice() == b"scenario refused: 28 round_ms\n".as_slice());
+}
+
+/// Whether these arguments ask for the first topic, for the one that is given, or for none.
+fn ask_for(alloc: Global, words: &[&str], wanted: &str) -> Result<bool, AllocError> {
+    let mut arguments = Vec::new(alloc);
+    for word in words {
+        arguments.push(String::from_str(alloc, word)?)?;
+    }
+    Ok(match asked_of(&arguments) {
+        Some(Asked::First) => wanted == "(first)",
+        Some(Asked::Named(topic)) => wanted == topic,
+        None => wanted == "(none)",
+    })
+}
+
+#[test]
+fn arguments_ask_for_a_topic(rt: HostRuntime) -> Result<(), AllocError> {
+    let alloc = rt.alloc();
+    assert!(rt; ask_for(alloc, &[], "(first)")?);
+    assert!(rt; ask_for(alloc, &["news"], "news")?);
+    assert!(rt; ask_for(alloc, &[""], "")?);
+    assert!(rt; ask_for(alloc, &["news", "olds"], "(none)")?);
+    Ok(())
+}
+
+#[test]
+fn other_arguments_are_told_how_the_program_is_called(rt: HostRuntime) {
+    let mut errors = Vec::new(rt.alloc());
+    assert!(rt; refuse(&mut errors) == ExitCode::from(64));
+    assert!(rt; errors.as_slice() == b"usage: gossip_picture [TOPIC]\n".as_slice());
+}

@@ -1,0 +1,43 @@
+-- What stands round the circle and the chart.
+use Rattle.std.specs.Prelude.{ℕ, ◌*◌, max, min, nat_le, if◌then◌else◌, List, ◌++◌, decimal, fold, length}
+use Rattle.gs_base.specs.declared.names.Topic.{Topic}
+use Rattle.gs_plan.specs.declared.plan.Plan.{Plan}
+use Rattle.gs_plan.specs.declared.plan.PlannedPeer.{PlannedPeer}
+use Rattle.gs_picture.specs.Places.{most_level}
+use Rattle.gs_picture.specs.Texts.{escaped_all}
+use Rattle.gs_picture.specs.declared.pieces.Piece.TheVariants.{TextEnds}
+use Rattle.gs_picture.specs.declared.pieces.Part.TheVariants.{Opening, ViewBox, OpeningEnds, TitleBegins, Peers, Rounds, Publications, GroupBegins, GroupPlaced}
+use Rattle.gs_picture.specs.Pieces.{part, piece}
+
+-- how many bytes the longest name has
+abbrev pub longest_name : List PlannedPeer → ℕ
+longest_name peers = fold (λ so_far (peer : PlannedPeer). max so_far (length peer.name)) 0 peers
+
+-- how much room names that stand along the radius take above the circle, and below it
+abbrev pub room : ℕ → ℕ → ℕ
+room count letters = if nat_le count most_level then 0 else 7 * min 32 letters
+
+abbrev pub room_of : Plan → ℕ
+room_of plan = room (length plan.peers) (longest_name plan.peers)
+
+-- how high a picture is without that room
+abbrev pub height : ℕ
+height = 970
+
+abbrev pub opening : ℕ → List ℕ
+opening tall =
+    part Opening ++ decimal tall ++ part ViewBox
+    ++ decimal tall ++ part OpeningEnds
+
+-- the topic, and how many peers, rounds and publications on it there are
+abbrev pub title_text : Plan → Topic → ℕ → List ℕ
+title_text plan t publications =
+    part TitleBegins ++ escaped_all t.0
+    ++ part Peers ++ decimal (length plan.peers)
+    ++ part Rounds ++ decimal plan.rounds
+    ++ part Publications ++ decimal publications
+    ++ piece TextEnds
+
+-- what stands so far below its place
+abbrev pub lowered : ℕ → List ℕ
+lowered down = part GroupBegins ++ decimal down ++ part GroupPlaced

@@ -1,0 +1,12 @@
+pub mod Topics
+pub mod Places
+pub mod Texts
+pub mod Edges
+pub mod Discs
+pub mod Courses
+pub mod Pieces
+pub mod Circle
+pub mod Legend
+pub mod Chart
+pub mod Frame
+pub mod Picture

@@ -1,0 +1,57 @@
+-- The texts of a picture that depend on nothing.
+use Rattle.std.specs.Prelude.{ℕ, List, codes}
+use Rattle.gs_picture.specs.declared.pieces.Piece.{Piece}
+use Rattle.gs_picture.specs.declared.pieces.Piece.TheVariants.{EdgeBegins, EdgeFrom, EdgeTo, PathEnds, DiscBegins, MarkPlace, DiscMark, DiscEnds, NameBegins, NameTurn, NameText, TextEnds, WordsAcross, WordsDown, TagEnds}
+use Rattle.gs_picture.specs.declared.pieces.Part.{Part}
+use Rattle.gs_picture.specs.declared.pieces.Part.TheVariants.{Opening, ViewBox, OpeningEnds, TitleBegins, Peers, Rounds, Publications, GroupBegins, GroupPlaced, GroupEnds, PictureEnds, LevelBegins, LevelLabel, LevelEnds, TickBegins, TickLabel, TickText, CourseBegins, CourseLine, CourseEnds}
+
+-- in the circle and the legend
+unfoldable pub piece : Piece → List ℕ
+piece EdgeBegins = codes "<path class=\""
+piece EdgeFrom = codes "\" d=\"M"
+piece EdgeTo = codes "L"
+piece PathEnds = codes "\"/>\n"
+piece DiscBegins = codes "<g class=\"disc "
+piece MarkPlace = codes "\" transform=\"translate("
+piece DiscMark = codes ")\"><circle r=\"9\"/><text y=\"4\">"
+piece DiscEnds = codes "</text></g>\n"
+piece NameBegins = codes "<text class=\"name "
+piece NameTurn = codes ") rotate("
+piece NameText = codes ")\" y=\"4\">"
+piece TextEnds = codes "</text>\n"
+piece WordsAcross = codes "<text x=\""
+piece WordsDown = codes "\" y=\""
+piece TagEnds = codes "\">"
+
+-- round it, and in the chart
+unfoldable pub part : Part → List ℕ
+part Opening = codes "<svg xmlns=\"http://www.w3.org/2000/svg\" width=\"920\" height=\""
+part ViewBox = codes "\" viewBox=\"0 0 920 "
+part OpeningEnds = codes "\">\n"
+part TitleBegins = codes "<text class=\"title middle\" x=\"460\" y=\"32\">Topic "
+part Peers = codes "</text>\n<text class=\"middle\" x=\"460\" y=\"52\">peers: "
+part Rounds = codes ", rounds: 0 to "
+part Publications = codes ", publications: "
+part GroupBegins = codes "<g transform=\"translate(0 "
+part GroupPlaced = codes ")\">\n"
+part GroupEnds = codes "</g>\n"
+part PictureEnds = codes "</g>\n</svg>\n"
+part LevelBegins = codes "<path class=\"grid\" d=\"M60 "
+part LevelLabel = codes "H860\"/><text class=\"end\" x=\"52\" y=\""
+part LevelEnds = codes "%</text>\n"
+part TickBegins = codes "<path class=\"grid\" d=\"M"
+part TickLabel = codes " 720V920\"/><text class=\"middle\" x=\""
+part TickText = codes "\" y=\"938\">"
+part CourseBegins = codes "<path class=\"course "
+part CourseLine = codes "\" d=\"M60 920"
+part CourseEnds = codes "H860\"/>\n"
+
+-- the legend but for the classes, what stands above and below the chart, and the style
+unfoldable pub legend_words : List ℕ
+legend_words = codes "<text class=\"head\" x=\"60\" y=\"590\">Each disc is a peer, by the lowest score that a neighbour gives it at the end</text>\n<g class=\"disc off\" transform=\"translate(69 660)\"><circle r=\"9\"/></g><text x=\"85\" y=\"664\">hollow: not subscribed to the topic</text>\n<path class=\"both\" d=\"M316 660H340\"/><text x=\"345\" y=\"664\">each has the other in its mesh</text>\n<path class=\"tail\" d=\"M576 660H592\"/><path class=\"tip\" d=\"M592 655L602 660L592 665z\"/><text x=\"605\" y=\"664\">the tail alone has the head in its mesh</text>\n"
+
+unfoldable pub chart_words : List ℕ
+chart_words = codes "<text class=\"head\" x=\"60\" y=\"700\">Share of the peers that each publication on the topic reached</text>\n<text class=\"middle\" x=\"460\" y=\"958\">rounds since it was published</text>\n"
+
+unfoldable pub style_text : List ℕ
+style_text = codes "<style>\ntext{font-family:sans-serif;font-size:12px;fill:#1f2328}\n.back{fill:#fff}\n.title{font-size:18px;font-weight:bold}\n.head{font-weight:bold}\n.middle{text-anchor:middle}\n.end{text-anchor:end}\n.name{font-family:monospace;font-size:11px}\npath{fill:none}\n.both{stroke:#57606a;stroke-opacity:.55}\n.one,.tail{stroke:#bc4c00;stroke-width:1.5}\n.one{marker-end:url(#head)}\n#head path,.tip{fill:#bc4c00}\n.disc circle{stroke-width:2;stroke:#57606a}\n.disc text{font-size:11px;font-weight:bold;text-anchor:middle;fill:#fff}\n.fair circle{fill:#0969da;stroke:#0969da}\n.zero circle{fill:#e3b341;stroke:#9a6700}\n.zero text{fill:#1f2328}\n.gossip circle{fill:#e16f24;stroke:#bc4c00}\n.publish circle{fill:#cf222e;stroke:#cf222e}\n.graylist circle{fill:#6e40c9;stroke:#6e40c9}\n.unscored circle{fill:#6e7781;stroke:#6e7781}\n.off circle{fill:#fff}\n.off text{fill:#1f2328}\n.grid{stroke:#d0d7de}\n.course{stroke:#0969da;stroke-width:2}\n.some{stroke-opacity:.5}\n.many{stroke-opacity:.2}\n@media (prefers-color-scheme:dark){\ntext,.off text{fill:#e6edf3}\n.back,.off circle{fill:#0d1117}\n.both{stroke:#9198a1}\n.grid{stroke:#30363d}\n.course{stroke:#58a6ff}\n}\n</style>\n<defs><marker id=\"head\" refX=\"18\" refY=\"5\" markerWidth=\"10\" markerHeight=\"10\" markerUnits=\"userSpaceOnUse\" orient=\"auto\"><path d=\"M0 0L10 5L0 10z\"/></marker></defs>\n<rect class=\"back\" width=\"100%\" height=\"100%\"/>\n"

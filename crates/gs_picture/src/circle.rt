@@ -1,0 +1,236 @@
+//! The texts of what stands on and in the circle.
+ghost use Rattle.std.specs.Prelude.{◌≡◌, ◌++◌, length, OnOk};
+ghost use Rattle.std.specs.List.{flat_map};
+ghost use Rattle.gs_picture.specs.Circle.{anchor, circle_text, class_mark, class_name, class_words, disc_at, disc_text, edge_kind, edge_text, filling, label_at, label_text, outward, stands, turn};
+
+use crate::discs::{Class, Disc};
+use crate::edges::Edge;
+use crate::pen::{push, push_name, push_number, push_place};
+use crate::pieces::{Piece, push_piece};
+use crate::places::{DISC_RADIUS, LABEL_RADIUS, MOST_LEVEL, Point, degrees, on_circle};
+use gs_base::PeerNo;
+use gs_plan::Plan;
+use gs_report::name_of;
+use std::alloc::{AllocError, Global};
+
+/// Adds the edges, the discs and the names.
+#[tactic(auto, unfolding(crate::specs::Circle::circle_text))]
+pub(crate) fn push_circle(
+    alloc: Global,
+    text: &mut Vec<u8>,
+    plan: &Plan,
+    edges: &[Edge],
+    discs: &[Disc],
+) -> Result<(), AllocError>
+    ensures { OnOk result (text.new.items
+        ≡ text.old.items ++ circle_text plan.now (length plan.now.peers) edges.now discs.now) }
+{
+    let count = plan.peers.len();
+    push_edges(alloc, text, count, edges)?;
+    push_discs(alloc, text, count, discs)?;
+    push_labels(alloc, text, plan, count, discs)
+}
+
+fn push_edges(
+    alloc: Global,
+    text: &mut Vec<u8>,
+    count: usize,
+    edges: &[Edge],
+) -> Result<(), AllocError>
+    ensures { OnOk result (text.new.items ≡ text.old.items ++ flat_map (edge_text count) edges.now) }
+{
+    for edge in edges {
+        push_edge(alloc, text, count, *edge)?;
+    }
+    Ok(())
+}
+
+fn push_discs(
+    alloc: Global,
+    text: &mut Vec<u8>,
+    count: usize,
+    discs: &[Disc],
+) -> Result<(), AllocError>
+    ensures { OnOk result (text.new.items ≡ text.old.items ++ flat_map (disc_text count) discs.now) }
+{
+    for disc in discs {
+        push_disc(alloc, text, count, *disc)?;
+    }
+    Ok(())
+}
+
+fn push_labels(
+    alloc: Global,
+    text: &mut Vec<u8>,
+    plan: &Plan,
+    count: usize,
+    discs: &[Disc],
+) -> Result<(), AllocError>
+    ensures { OnOk result (text.new.items ≡ text.old.items ++ flat_map (label_text plan.now count) discs.now) }
+{
+    for disc in discs {
+        push_label(alloc, text, plan, count, *disc)?;
+    }
+    Ok(())
+}
+
+/// Where the disc of a peer of so many stands.
+fn stands(count: usize, peer: PeerNo) -> Point
+    ensures { result ≡ stands count peer }
+{
+    on_circle(DISC_RADIUS, degrees(count, peer))
+}
+
+fn push_edge(alloc: Global, text: &mut Vec<u8>, count: usize, edge: Edge) -> Result<(), AllocError>
+    ensures { OnOk result (text.new.items ≡ text.old.items ++ edge_text count edge) }
+{
+    push_piece(text, Piece::EdgeBegins)?;
+    push(text, edge_kind(edge.both))?;
+    push_piece(text, Piece::EdgeFrom)?;
+    push_place(alloc, text, stands(count, edge.from))?;
+    push_piece(text, Piece::EdgeTo)?;
+    push_place(alloc, text, stands(count, edge.to))?;
+    push_piece(text, Piece::PathEnds)
+}
+
+fn edge_kind(both: bool) -> &'static str
+    ensures { result.now ≡ edge_kind both }
+{
+    if both { "both" } else { "one" }
+}
+
+fn push_disc(alloc: Global, text: &mut Vec<u8>, count: usize, disc: Disc) -> Result<(), AllocError>
+    ensures { OnOk result (text.new.items ≡ text.old.items ++ disc_text count disc) }
+{
+    let place = stands(count, disc.peer);
+    push_disc_at(alloc, text, place, disc.class, disc.subscribed)
+}
+
+/// Adds the disc of a class at a place.
+pub(crate) fn push_disc_at(
+    alloc: Global,
+    text: &mut Vec<u8>,
+    place: Point,
+    class: Class,
+    subscribed: bool,
+) -> Result<(), AllocError>
+    ensures { OnOk result (text.new.items ≡ text.old.items ++ disc_at place class subscribed) }
+{
+    push_piece(text, Piece::DiscBegins)?;
+    push(text, class_name(class))?;
+    push(text, filling(subscribed))?;
+    push_piece(text, Piece::MarkPlace)?;
+    push_place(alloc, text, place)?;
+    push_piece(text, Piece::DiscMark)?;
+    push(text, class_mark(class))?;
+    push_piece(text, Piece::DiscEnds)
+}
+
+/// The name of a class in the style.
+fn class_name(class: Class) -> &'static str
+    ensures { result.now ≡ class_name class }
+{
+    match class {
+        Class::Fair => "fair",
+        Class::BelowZero => "zero",
+        Class::BelowGossip => "gossip",
+        Class::BelowPublish => "publish",
+        Class::BelowGraylist => "graylist",
+        Class::Unscored => "unscored",
+    }
+}
+
+/// Its mark in the disc.
+fn class_mark(class: Class) -> &'static str
+    ensures { result.now ≡ class_mark class }
+{
+    match class {
+        Class::Fair => "+",
+        Class::BelowZero => "-",
+        Class::BelowGossip => "g",
+        Class::BelowPublish => "p",
+        Class::BelowGraylist => "x",
+        Class::Unscored => "?",
+    }
+}
+
+/// Its words in the legend.
+#[tactic(auto, unfolding(crate::specs::Circle::class_words))]
+pub(crate) fn class_words(class: Class) -> &'static str
+    ensures { result.now ≡ class_words class }
+{
+    match class {
+        Class::Fair => "0 or more",
+        Class::BelowZero => "below 0",
+        Class::BelowGossip => "below the gossip threshold",
+        Class::BelowPublish => "below the publish threshold",
+        Class::BelowGraylist => "below the graylist threshold",
+        Class::Unscored => "no neighbour scores it",
+    }
+}
+
+/// A peer that is not subscribed is hollow.
+fn filling(subscribed: bool) -> &'static str
+    ensures { result.now ≡ filling subscribed }
+{
+    if subscribed { "" } else { " off" }
+}
+
+fn push_label(
+    alloc: Global,
+    text: &mut Vec<u8>,
+    plan: &Plan,
+    count: usize,
+    disc: Disc,
+) -> Result<(), AllocError>
+    ensures { OnOk result (text.new.items ≡ text.old.items ++ label_text plan.now count disc) }
+{
+    let name = name_of(plan, disc.peer);
+    let level = count <= MOST_LEVEL;
+    push_label_at(alloc, text, level, degrees(count, disc.peer), name)
+}
+
+fn push_label_at(
+    alloc: Global,
+    text: &mut Vec<u8>,
+    level: bool,
+    degrees: u64,
+    name: &str,
+) -> Result<(), AllocError>
+    ensures { OnOk result (text.new.items ≡ text.old.items ++ label_at level degrees name.now) }
+{
+    push_piece(text, Piece::NameBegins)?;
+    push(text, anchor(level, degrees))?;
+    push_piece(text, Piece::MarkPlace)?;
+    push_place(alloc, text, on_circle(LABEL_RADIUS, degrees))?;
+    push_piece(text, Piece::NameTurn)?;
+    push_number(alloc, text, turn(level, degrees))?;
+    push_piece(text, Piece::NameText)?;
+    push_name(alloc, text, name.as_bytes())?;
+    push_piece(text, Piece::TextEnds)
+}
+
+/// Whether a name begins, ends or has its middle at its place.
+fn anchor(level: bool, degrees: u64) -> &'static str
+    ensures { result.now ≡ anchor level degrees }
+{
+    if level && (degrees == 0 || degrees == 180) {
+        return "middle";
+    }
+    if degrees < 180 { "start" } else { "end" }
+}
+
+/// By how many degrees a name is turned.
+fn turn(level: bool, degrees: u64) -> u128
+    ensures { result ≡ turn level degrees }
+{
+    if level {
+        return 0;
+    }
+    let degrees = u128::from(degrees);
+    if degrees < 180 {
+        (degrees + 270) % 360
+    } else {
+        (degrees + 90) % 360
+    }
+}

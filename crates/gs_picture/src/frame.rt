@@ -1,0 +1,77 @@
+//! What stands round the circle and the chart.
+ghost use Rattle.std.specs.Prelude.{◌≡◌, ◌++◌, OnOk};
+ghost use Rattle.gs_picture.specs.Frame.{longest_name, lowered, opening, room, room_of, title_text};
+
+use crate::pen::{push_name, push_number};
+use crate::pieces::{Part, Piece, push_part, push_piece};
+use crate::places::MOST_LEVEL;
+use gs_base::Topic;
+use gs_plan::{Plan, PlannedPeer};
+use std::alloc::{AllocError, Global};
+
+/// How much room names that stand along the radius take above the circle, and below it.
+pub(crate) fn room_of(plan: &Plan) -> u64
+    ensures { result ≡ room_of plan.now }
+{
+    room(plan.peers.len(), longest_name(plan.peers.as_slice()))
+}
+
+fn room(count: usize, letters: usize) -> u64
+    ensures { result ≡ room count letters }
+{
+    if count <= MOST_LEVEL {
+        return 0;
+    }
+    7 * letters.min(32) as u64
+}
+
+fn longest_name(peers: &[PlannedPeer]) -> usize
+    ensures { result ≡ longest_name peers.now }
+{
+    let mut so_far = 0;
+    for peer in peers {
+        so_far = so_far.max(peer.name.as_str().len());
+    }
+    so_far
+}
+
+/// Adds what a picture of a height begins with.
+pub(crate) fn push_opening(alloc: Global, text: &mut Vec<u8>, tall: u128) -> Result<(), AllocError>
+    ensures { OnOk result (text.new.items ≡ text.old.items ++ opening tall) }
+{
+    push_part(text, Part::Opening)?;
+    push_number(alloc, text, tall)?;
+    push_part(text, Part::ViewBox)?;
+    push_number(alloc, text, tall)?;
+    push_part(text, Part::OpeningEnds)
+}
+
+/// Adds the topic, and how many peers, rounds and publications on it there are.
+pub(crate) fn push_title(
+    alloc: Global,
+    text: &mut Vec<u8>,
+    plan: &Plan,
+    topic: &Topic,
+    publications: usize,
+) -> Result<(), AllocError>
+    ensures { OnOk result (text.new.items ≡ text.old.items ++ title_text plan.now topic.now publications) }
+{
+    push_part(text, Part::TitleBegins)?;
+    push_name(alloc, text, &topic.0)?;
+    push_part(text, Part::Peers)?;
+    push_number(alloc, text, plan.peers.len() as u128)?;
+    push_part(text, Part::Rounds)?;
+    push_number(alloc, text, u128::from(plan.rounds))?;
+    push_part(text, Part::Publications)?;
+    push_number(alloc, text, publications as u128)?;
+    push_piece(text, Piece::TextEnds)
+}
+
+/// Begins what stands so far below its place.
+pub(crate) fn push_lowered(alloc: Global, text: &mut Vec<u8>, down: u128) -> Result<(), AllocError>
+    ensures { OnOk result (text.new.items ≡ text.old.items ++ lowered down) }
+{
+    push_part(text, Part::GroupBegins)?;
+    push_number(alloc, text, down)?;
+    push_part(text, Part::GroupPlaced)
+}

@@ -1,0 +1,20 @@
+//! A picture of a run: who is in whose mesh of a topic, how neighbours score each peer, and how far each publication came.
+#![tactic(auto)]
+
+mod arrivals;
+mod chart;
+mod circle;
+mod courses;
+mod discs;
+mod edges;
+mod frame;
+mod legend;
+mod listed;
+mod pen;
+mod picture;
+mod pieces;
+mod places;
+mod topic;
+
+pub use picture::picture_svg;
+pub use topic::first_topic;
