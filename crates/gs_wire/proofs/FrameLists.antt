@@ -1,5 +1,5 @@
 -- Frames at the front of a stream, and streams that are cut.
-use Rattle.std.proofs.Common.{◌≡◌, ℕ, ◌+◌, ◌-◌, ◌<◌, ◌≤◌, List, [], ◌∷◌, ◌++◌, length, take, drop, refl, sym, ap, subst, ◌∙◌, append_assoc, append-nil, take-append-drop, length-append, length-take, length-drop, arith, inl, inr, Result, Ok}
+use Rattle.std.proofs.Common.{rules, ◌≡◌, ℕ, Bool, false, Option, Some, None, ◌+◌, ◌-◌, ◌<◌, ◌≤◌, List, [], ◌∷◌, ◌++◌, length, take, drop, refl, sym, ap, subst, ◌∙◌, append_assoc, append-nil, take-append-drop, length-append, length-take, length-drop, arith, inl, inr, Result, Ok}
 use Rattle.std.specs.List.{concat}
 use Rattle.std.proofs.lemmas.List.{drop-drop, drop-append-le}
 use Rattle.bytes.proofs.Ranges.{take-append_past}
@@ -7,9 +7,10 @@ use Rattle.gs_base.specs.declared.rpc.Rpc.{Rpc}
 use Rattle.gs_wire.specs.declared.fault.WireFault.{WireFault}
 use Rattle.gs_wire.specs.declared.frames.End.{End}
 use Rattle.gs_wire.specs.declared.frames.End.TheVariants as ends
+use Rattle.gs_wire.specs.declared.frames.Span.{Span}
 use Rattle.gs_wire.specs.Varint.{IsVarint, varint}
 use Rattle.gs_wire.specs.Messages.{SpellsRpc, IsInMemory, body, frame}
-use Rattle.gs_wire.specs.Stream.{SpellsFrame, SpellFrames, HasLength, GoesOn, IsStream, IsSpan, Holding, Feeds, EndsFeed, FindsIn, FindsAfter}
+use Rattle.gs_wire.specs.Stream.{SpellsFrame, SpellFrames, HasLength, GoesOn, IsStream, IsSpan, AwaitsBody, Holding, Feeds, EndsFeed, FindsIn, FindsAfter}
 use Rattle.gs_wire.proofs.Varints.{written_varint}
 use Rattle.gs_wire.proofs.Rpcs.{one_rpc}
 use Rattle.gs_wire.proofs.RpcRoundTrip.{body_spelled, same_fronts}
@@ -87,6 +88,15 @@ span_stream limit held piece start end s few = record {
   goes_on = span_waits limit (held ++ piece) start end (span_more limit held piece start end s) (omega (arith, few, length-append held piece));
 }
 
+-- a piece that is shorter than what is missing doesn't end the body
+pub missing_stream : (limit : ℕ) (held piece : List ℕ) (next : Option Span) (missing : ℕ) (failed : Bool) → AwaitsBody limit held next missing failed → length piece < missing → IsStream limit (held ++ piece) [] (held ++ piece) ends.Waits
+missing_stream limit held piece None missing failed a few = absurd (omega (arith, few, a.counted))
+missing_stream limit held piece (Some span) missing failed a few = span_stream limit held piece span.start span.end a.right (omega (arith, few, a.counted))
+
+pub missing_sound : (limit : ℕ) (held : List ℕ) (next : Option Span) (missing : ℕ) (failed : Bool) → AwaitsBody limit held next missing failed → 0 < missing → failed ≡ false
+missing_sound limit held None missing failed a some = absurd (omega (arith, some, a.counted))
+missing_sound limit held (Some span) missing failed a some = a.sound (search rules)
+
 -- a feed that only adds
 pub only_adds : (old new : Holding) (piece : List ℕ) (before after : List Rpc) (result : Result (Unit {0}) WireFault) → result ≡ Ok tt → Feeds old piece new before after ends.Waits → EndsFeed old piece new before after result
 only_adds old new piece before after result ok feeds = record {
@@ -129,14 +139,6 @@ frames_more limit bytes taken count vs v r few p =
       parts = r.parts ∙ ap (λ (t : List ℕ). r.front ++ t) (sym (take-append-drop count rest) ∙ ap (λ (t : List ℕ). take count rest ++ t) (drop-drop count taken bytes)) ∙ sym (append_assoc r.front (take count rest) (drop (taken + count) bytes));
       frames = frames_push limit vs v r.front (take count rest) r.frames p;
     }
-
--- one more RPC was added
-pub frames_pushed : (limit : ℕ) (bytes : List ℕ) (taken start end : ℕ) (vs : List Rpc) (before middle after : List Rpc) → ReadFrames limit bytes taken vs → middle ≡ before ++ vs → IsSpan limit (drop taken bytes) start end → end ≤ length (drop taken bytes) → ((v : Rpc) × SpellsRpc (take (end - start) (drop start (drop taken bytes))) v × (after ≡ middle ++ v ∷ [])) → (found : List Rpc) × ReadFrames limit bytes (taken + end) found × (after ≡ before ++ found)
-frames_pushed limit bytes taken start end vs before middle after read added span whole pushed = (
-  vs ++ pushed.0 ∷ [],
-  frames_more limit bytes taken end vs pushed.0 read whole (span_taken limit (drop taken bytes) start end pushed.0 span whole pushed.1),
-  pushed.2 ∙ ap (λ (t : List Rpc). t ++ pushed.0 ∷ []) added ∙ append_assoc before vs (pushed.0 ∷ []),
-)
 
 pub frames_end : (limit : ℕ) (bytes : List ℕ) (taken : ℕ) (vs : List Rpc) (end : End) → ReadFrames limit bytes taken vs → GoesOn limit (drop taken bytes) end → IsStream limit bytes vs (drop taken bytes) end
 frames_end limit bytes taken vs end r on = record { front = r.front; parts = r.parts; frames = r.frames; goes_on = on }

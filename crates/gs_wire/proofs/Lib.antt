@@ -15,7 +15,6 @@ pub mod RoundTrip
 pub mod RpcRoundTrip
 pub mod Lengths
 pub mod FrameLists
-pub mod Feeding
 pub mod Shorter
 pub mod SentOn
 pub mod Readers

@@ -1,5 +1,5 @@
 -- How long what peers send on is: a message by itself, offers and requests.
-use Rattle.std.proofs.Common.{◌≡◌, ℕ, zero, suc, ◌+◌, ◌*◌, ◌<◌, ◌≤◌, List, [], ◌∷◌, ◌++◌, length, map, get_or, min, refl, sym, ap, ◌∙◌, length-append, arith, Option, Some, None}
+use Rattle.std.proofs.Common.{◌≡◌, ℕ, zero, suc, ◌+◌, ◌*◌, ◌<◌, ◌≤◌, List, [], ◌∷◌, ◌++◌, length, min, refl, ap, ◌∙◌, length-append, arith}
 use Rattle.std.specs.Prelude.{option_to_list}
 use Rattle.std.specs.List.{AllByRecursion, IsAmong}
 use Rattle.gs_base.specs.declared.names.Topic.{Topic}
@@ -9,7 +9,7 @@ use Rattle.gs_base.specs.Names.{longest_topic, HasIdentifierLength}
 use Rattle.gs_wire.specs.Varint.{varint}
 use Rattle.gs_wire.specs.Records.{Record, records_text}
 use Rattle.gs_wire.specs.Fields.{len_record, part_records, repeated_records, varint_record}
-use Rattle.gs_wire.specs.Controls.{control_records, ihave_records, iwant_records}
+use Rattle.gs_wire.specs.Controls.{control_records}
 use Rattle.gs_wire.specs.Messages.{body, longest_body, message_records, sub_records}
 use Rattle.gs_base.specs.Rpcs.{grafting, longest_backoff, most_identifiers, offering, passed_on, pruning, requesting}
 use Rattle.gs_wire.proofs.Written.{len_text-length, records_text-append, records_text-single, varint_ten}

@@ -12,4 +12,3 @@ pub mod Joining
 pub mod Sections
 pub mod Standing
 pub mod Gathering
-pub mod Stores

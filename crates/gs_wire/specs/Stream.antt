@@ -1,6 +1,6 @@
 -- Streams of frames: a varint length, and then that many bytes of a body. A stream is told as a whole, so it doesn't
 -- matter how it was cut into pieces.
-use Rattle.std.specs.Prelude.{◌≡◌, ℕ, ◌-◌, ◌<◌, ◌≤◌, Bool, false, List, [], ◌∷◌, ◌++◌, length, drop, Option, Some, None, IfSome, IsSome, ◌⊎◌, ◌↔◌, Result, Err, IfOk, OnOk, OnErr, IsErrOf}
+use Rattle.std.specs.Prelude.{◌≡◌, ℕ, ◌-◌, ◌<◌, ◌≤◌, Bool, false, List, [], ◌∷◌, ◌++◌, length, drop, Option, Some, None, IfSome, IsSome, ◌⊎◌, ◌↔◌, Result, Err, OnOk, IsErrOf}
 use Rattle.std.specs.List.{AllByRecursion}
 use Rattle.gs_base.specs.declared.rpc.Rpc.{Rpc}
 use Rattle.gs_wire.specs.declared.fault.WireFault.{WireFault}
@@ -49,12 +49,6 @@ GoesOn limit rest ends.Malformed = (¬ (BeginsLength rest) × ((n : ℕ) (more :
     ⊎ ((body : List ℕ) × (more : List ℕ) × HasLength rest (length body) (body ++ more)
     × (length body ≤ limit) × ((v : Rpc) → ¬ (SpellsRpc body v)))
 
--- No length within the limit stands at the front, and the stream goes on so.
-abbrev pub HasNoLength : ℕ → List ℕ → End → Type 0
-HasNoLength limit rest ends.Waits = BeginsLength rest
-HasNoLength limit rest ends.TooLong = GoesOn limit rest ends.TooLong
-HasNoLength limit rest ends.Malformed = GoesOn limit rest ends.Malformed
-
 -- The stream is the frames of these RPCs, and then the rest, which goes on so.
 pub record IsStream (limit : ℕ) (bytes : List ℕ) (vs : List Rpc) (rest : List ℕ) (end : End) : Type 0 where
   pub front : List ℕ
@@ -71,11 +65,16 @@ pub record IsSpan (limit : ℕ) (bytes : List ℕ) (start end : ℕ) : Type 0 wh
 
 -- ---- a reader
 
--- What a reader holds is the front of a frame, of which it keeps the length. After a fault it keeps none.
-pub record AwaitsBody (limit : ℕ) (held : List ℕ) (next : Option Span) (failed : Bool) : Type 0 where
+-- How many bytes of the frame at the front have not come, where its length is known, else none.
+abbrev pub missing_of : Option Span → ℕ → ℕ
+missing_of None held = 0
+missing_of (Some span) held = span.end - held
+
+-- What a reader keeps of the length at the front of what it holds. After a fault there is none.
+pub record AwaitsBody (limit : ℕ) (held : List ℕ) (next : Option Span) (missing : ℕ) (failed : Bool) : Type 0 where
   pub low : limit ≤ longest_body
-  pub waits : failed ≡ false → GoesOn limit held ends.Waits
   pub right : IfSome next (λ span. IsSpan limit held span.start span.end)
+  pub counted : missing ≡ missing_of next (length held)
   pub sound : IsSome next → failed ≡ false
 
 -- What a reader holds: the bytes of an unfinished frame, or nothing any more after a fault.
@@ -98,15 +97,10 @@ pub record Feeds (old : Holding) (piece : List ℕ) (new : Holding) (before afte
   pub added : after ≡ before ++ found
   pub keeps : new ≡ record { limit = old.limit; held = held_after end rest }
 
--- A feed of the piece, or of a part of it, to a reader that hasn't failed. For want of memory nothing changes.
-pub record Reads {E : Type 0} (old : Holding) (piece : List ℕ) (new : Holding) (before after : List Rpc) (result : Result End E) : Type 0 where
-  pub fed : IfOk result (λ end. Feeds old piece new before after end)
-  pub kept_reader : OnErr result (new ≡ old)
-  pub kept_list : OnErr result (after ≡ before)
-
 -- How a feed of the piece ends, by its result. What it adds before a fault of the stream stays added; where it failed
 -- before, or there was no memory, nothing changes.
-pub record EndsFeed (old : Holding) (piece : List ℕ) (new : Holding) (before after : List Rpc) (result : Result (Unit {0}) WireFault) : Type 0 where
+pub record EndsFeed (old : Holding) (piece : List ℕ) (new : Holding) (before after : List Rpc)
+    (result : Result (Unit {0}) WireFault) : Type 0 where
   pub fed : OnOk result (Feeds old piece new before after ends.Waits)
   pub malformed : IsErrOf result faults.Malformed → Feeds old piece new before after ends.Malformed
   pub too_long : IsErrOf result faults.TooLong → Feeds old piece new before after ends.TooLong

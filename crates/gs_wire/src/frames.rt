@@ -1,14 +1,12 @@
 //! Frames of a stream: a varint length, and then that many bytes of a body.
-ghost use Rattle.std.specs.Prelude.{◌≡◌, ◌↔◌, ◌++◌, ◌∷◌, [], ◌≤◌, List, length, take, drop, None, IfOk, IfErr, IfSome, OnOk, OnErr, IsErrOf, IsTrue};
+ghost use Rattle.std.specs.Prelude.{◌≡◌, ◌↔◌, ◌++◌, ◌∷◌, [], ◌-◌, ◌≤◌, List, length, take, drop, None, IfOk, IfErr, IfSome, OnOk, OnErr, IsErrOf, IsTrue};
 ghost use Rattle.gs_base.specs.declared.rpc.Rpc.{Rpc as RpcValue};
 ghost use Rattle.gs_wire.specs.Messages.{SpellsRpc, longest_body};
-ghost use Rattle.gs_wire.specs.Stream.{BeginsLength, GoesOn, HasNoLength, IsStream, IsSpan};
+ghost use Rattle.gs_wire.specs.Stream.{BeginsLength, GoesOn, IsStream, IsSpan};
 
 use crate::decoding::{Decode, DecodeError};
-use crate::reader::Reader;
 use crate::rpc::read_body;
 use crate::varint::{MAX_VARINT, varint_at};
-use bytes::Bytes;
 use gs_base::Rpc;
 use std::alloc::{AllocError, Global};
 
@@ -62,11 +60,16 @@ fn begins_length(bytes: &[u8]) -> bool
 }
 
 /// Where the body of the frame at the front is, or how the stream goes on where no length says so.
-pub(crate) fn span_at(limit: usize, bytes: &[u8]) -> Result<Span, End>
-    requires { limit ≤ longest_body }
+/// A length that was read before isn't read again.
+fn span_at(limit: usize, known: Option<Span>, bytes: &[u8]) -> Result<Span, End>
+    requires low { limit ≤ longest_body }
+    requires known { IfSome known (λ span. IsSpan limit bytes.now span.start span.end) }
     ensures found { IfOk result (λ span. IsSpan limit bytes.now span.start span.end) }
-    ensures no_length { IfErr result (λ end. HasNoLength limit bytes.now end) }
+    ensures no_length { IfErr result (λ end. GoesOn limit bytes.now end) }
 {
+    if let Some(span) = known {
+        return Ok(span);
+    }
     let Some((len, start)) = varint_at(bytes) else {
         return Err(if begins_length(bytes) {
             End::Waits
@@ -83,34 +86,39 @@ pub(crate) fn span_at(limit: usize, bytes: &[u8]) -> Result<Span, End>
     })
 }
 
-/// Adds the RPC that a body spells to a list. What is kept of the body shares it.
-pub(crate) fn push_body(
+fn push_body(
     alloc: Global,
-    body: Reader<'_>,
+    span: Span,
+    bytes: &[u8],
     rpcs: &mut Vec<Rpc>,
 ) -> Result<(), DecodeError>
+    requires { (span.start ≤ span.end) × (span.end ≤ length bytes.now) }
     ensures pushed { OnOk result ((rpc : RpcValue)
-        × SpellsRpc body.entry rpc
+        × SpellsRpc (take (span.end - span.start) (drop span.start bytes.now)) rpc
         × (rpcs.new.items ≡ rpcs.old.items ++ rpc ∷ [])) }
-    ensures malformed { IsErrOf result DecodeError.Malformed → (rpc : RpcValue) → ¬ SpellsRpc body.entry rpc }
+    ensures malformed { IsErrOf result DecodeError.Malformed
+        → (rpc : RpcValue)
+        → ¬ SpellsRpc (take (span.end - span.start) (drop span.start bytes.now)) rpc }
     ensures kept { OnErr result (rpcs.new.items ≡ rpcs.old.items) }
 {
     let mut rpc = Rpc::empty(alloc);
-    read_body(alloc, body, &mut rpc)?;
+    read_body(alloc, &bytes[span.start..span.end], &mut rpc)?;
     if rpcs.push(rpc).is_err() {
         return Err(DecodeError::NoMemory);
     }
     Ok(())
 }
 
-/// Adds the RPCs of the whole frames to a list, each with a copy of its body.
+/// Adds the RPCs of the whole frames to a list. The length at the front may be known.
 pub(crate) fn read_frames(
     alloc: Global,
     limit: usize,
+    known: Option<Span>,
     bytes: &[u8],
     rpcs: &mut Vec<Rpc>,
 ) -> Result<Progress, AllocError>
-    requires { limit ≤ longest_body }
+    requires low { limit ≤ longest_body }
+    requires known { IfSome known (λ span. IsSpan limit bytes.now span.start span.end) }
     ensures within { IfOk result (λ p. p.taken ≤ length bytes.now) }
     ensures next { IfOk result (λ p.
         IfSome p.next (λ span. IsSpan limit (drop p.taken bytes.now) span.start span.end)) }
@@ -120,9 +128,10 @@ pub(crate) fn read_frames(
     ensures kept { take (length rpcs.old.items) rpcs.new.items ≡ rpcs.old.items }
 {
     let mut taken = 0;
+    let mut next = known;
     loop {
         let rest = &bytes[taken..];
-        let span = match span_at(limit, rest) {
+        let span = match span_at(limit, next, rest) {
             Ok(span) => span,
             Err(end) => return Ok(Progress::without_length(taken, end)),
         };
@@ -133,9 +142,11 @@ pub(crate) fn read_frames(
                 end: End::Waits,
             });
         }
-        let body = Bytes::copy_from_slice(alloc, &rest[span.start..span.end])?;
-        match push_body(alloc, Reader::new(&body), rpcs) {
-            Ok(()) => taken += span.end,
+        match push_body(alloc, span, rest, rpcs) {
+            Ok(()) => {
+                taken += span.end;
+                next = None;
+            }
             Err(DecodeError::Malformed) => {
                 return Ok(Progress::without_length(taken, End::Malformed));
             }

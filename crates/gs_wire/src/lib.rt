@@ -10,7 +10,6 @@ mod field;
 mod frame_reader;
 mod frames;
 mod gathered;
-mod held;
 mod joining;
 mod laws;
 mod message;

@@ -37,18 +37,6 @@ impl<'a> Reader<'a> {
         }
     }
 
-    /// What stands in the body from this place on.
-    pub(crate) fn starting_at(body: &'a Bytes, start: usize) -> Reader<'a>
-        requires { start ≤ length body.now }
-        ensures { result ≡ drop start body.now }
-    {
-        Reader {
-            body,
-            start,
-            bytes: &body.as_slice()[start..],
-        }
-    }
-
     pub(crate) fn is_empty(&self) -> bool
         ensures { result ≡ (length self.now == 0) }
     {

@@ -67,14 +67,15 @@ impl Decode for Rpc {
     }
 }
 
-/// Adds what a body spells to an RPC that says nothing yet, and shares the body. After an error the
-/// RPC is of no use.
-pub(crate) fn read_body(alloc: Global, body: Reader<'_>, rpc: &mut Rpc) -> Result<(), DecodeError>
+/// Adds what a body spells to an RPC that says nothing yet, and shares one copy of the body. After
+/// an error the RPC is of no use.
+pub(crate) fn read_body(alloc: Global, body: &[u8], rpc: &mut Rpc) -> Result<(), DecodeError>
     requires { SaysRpc [] rpc.old }
-    ensures spelled { OnOk result (SpellsRpc body.entry rpc.new) }
-    ensures malformed { IsErrOf result DecodeError.Malformed → (rpc : RpcValue) → ¬ SpellsRpc body.entry rpc }
+    ensures spelled { OnOk result (SpellsRpc body.now rpc.new) }
+    ensures malformed { IsErrOf result DecodeError.Malformed → (rpc : RpcValue) → ¬ SpellsRpc body.now rpc }
 {
-    merge_all(alloc, body, rpc)?;
+    let shared = Bytes::copy_from_slice(alloc, body)?;
+    merge_all(alloc, Reader::new(&shared), rpc)?;
     Ok(())
 }
 
@@ -90,9 +91,8 @@ pub fn decode(alloc: Global, body: &[u8]) -> Result<Rpc, WireFault>
     ensures malformed { IsErrOf result WireFault.Malformed → (rpc : RpcValue) → ¬ SpellsRpc body.now rpc }
     ensures no_other { IfErr result (λ fault. (fault ≡ WireFault.Malformed) ⊎ (fault ≡ WireFault.NoMemory)) }
 {
-    let shared = Bytes::copy_from_slice(alloc, body)?;
     let mut rpc = Rpc::empty(alloc);
-    match read_body(alloc, Reader::new(&shared), &mut rpc) {
+    match read_body(alloc, body, &mut rpc) {
         Ok(()) => Ok(rpc),
         Err(DecodeError::Malformed) => Err(WireFault::Malformed),
         Err(DecodeError::NoMemory) => Err(WireFault::NoMemory),
