@@ -53,7 +53,6 @@ fn decode_each(alloc: Global, body: &[u8], count: u32) -> Result<u32, BenchFault
     for _ in 0..count {
         let rpc = decode(alloc, body)?;
         sum = sum.wrapping_add(elements(&rpc));
-        drop(rpc);
     }
     Ok(sum)
 }
