@@ -3,3 +3,4 @@ mod Lanes
 mod Frames
 mod Joining
 mod Ranking
+mod Filing

@@ -5,6 +5,7 @@ pub mod Lanes
 pub mod Peers
 pub mod Ranks
 pub mod Publications
+pub mod Catalogues
 pub mod Figures
 pub mod Values
 pub mod Texts

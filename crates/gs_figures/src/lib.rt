@@ -1,6 +1,7 @@
 //! Figures of a run: what each peer heard and sent, how far each publication came, and their texts.
 #![tactic(auto)]
 
+mod catalogue;
 mod counts;
 mod fate;
 mod figures;
@@ -15,6 +16,7 @@ mod span;
 mod text;
 mod values;
 
+pub use catalogue::Catalogue;
 pub use counts::{Counts, Fates, Parts};
 pub use fate::Fate;
 pub use figures::{Figures, figures_of};
@@ -23,9 +25,9 @@ pub use laws::{
     what_is_said_is_counted,
 };
 pub use links::{LinkFigures, all_links};
-pub use listed::Appearance;
-pub use peers::{PeerFigures, all_figures, counts_of_all};
-pub use publications::{PublicationFigures, all_publications};
+pub use listed::{Appearance, Arrival, Change, Listed};
+pub use peers::{PeerFigures, all_figures, counts_of_all, scores_of};
+pub use publications::{PublicationFigures, all_publications, rounds_to};
 pub use ranks::Spread;
 pub use span::Span;
 pub use text::{Form, figures_csv, figures_json};

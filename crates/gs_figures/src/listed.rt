@@ -37,14 +37,14 @@ impl ExactClone for Appearance {
 
 /// Where and when something appears.
 #[derive(Clone, Copy, Debug, PartialEq, Eq)]
-pub(crate) struct Arrival {
+pub struct Arrival {
     pub peer: PeerNo,
     pub at: Millis,
 }
 
 /// A peer subscribed to a topic or left it.
 #[derive(Debug, Drop, PartialEq, Eq)]
-pub(crate) struct Change {
+pub struct Change {
     pub peer: PeerNo,
     pub at: Millis,
     pub topic: Topic,
@@ -53,9 +53,12 @@ pub(crate) struct Change {
 
 /// What traces say of publications, peer by peer, the oldest entry first.
 #[derive(Drop)]
-pub(crate) struct Listed {
+pub struct Listed {
+    /// What peers published.
     pub published: Seq<Appearance>,
+    /// What was delivered to their users.
     pub delivered: Seq<Appearance>,
+    /// Who subscribed to a topic, and who left one.
     pub changes: Seq<Change>,
 }
 

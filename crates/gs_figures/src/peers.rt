@@ -83,8 +83,8 @@ pub fn counts_of_all(peers: &[PeerFigures]) -> Counts
     sum
 }
 
-/// The lowest and the highest score that a neighbour gives a peer.
-fn scores_of(peers: &[(PeerNo, Finished)], peer: PeerNo) -> Option<Span>
+/// The lowest and the highest score that a neighbour gives a peer at the end, in millionths, where one does.
+pub fn scores_of(peers: &[(PeerNo, Finished)], peer: PeerNo) -> Option<Span>
     ensures { result ≡ span_of (scores_of peers.now peer) }
 {
     let mut span = None;

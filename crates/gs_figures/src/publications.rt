@@ -1,12 +1,13 @@
 //! How far each publication came.
-ghost use Rattle.std.specs.Prelude.{◌≡◌, [], ◌∷◌, ◌++◌, filter, fold, if◌then◌else◌, IfOk, length, map, OnOk};
+ghost use Rattle.std.specs.Prelude.{◌≡◌, [], ◌∷◌, filter, fold, if◌then◌else◌, IfOk, map, OnOk};
 ghost use Rattle.std.specs.List.{list_any};
 ghost use Rattle.gs_base.specs.Names.{same_peer};
-ghost use Rattle.gs_figures.specs.Publications.{all_publications, are_of_one, arrivals, earlier, first_after, first_of_each, is_change_of, is_on, is_within, on_topic, publication_figures, reached_by, rounds_between, rounds_to, with_first};
+ghost use Rattle.gs_figures.specs.Publications.{all_publications, earlier, first_after, first_of_each, is_change_of, is_on, is_within, on_topic, publication_figures, rounds_between, rounds_to, with_first};
 ghost use Rattle.gs_figures.specs.Ranks.{spread};
 
+use crate::catalogue::Catalogue;
 use crate::counts::one_if;
-use crate::listed::{Appearance, Arrival, Change, Listed, list_all};
+use crate::listed::{Appearance, Arrival, Change};
 use crate::ranks::{Spread, place, spread_of};
 use gs_base::{Millis, PeerNo, Seq, Topic, clone_of};
 use gs_report::Finished;
@@ -37,8 +38,9 @@ pub fn all_publications(
 ) -> Result<Seq<PublicationFigures>, AllocError>
     ensures { IfOk result (λ figures. figures ≡ all_publications round_ms peers.now) }
 {
-    let all = list_all(alloc, peers)?;
-    let figures = figures_of(alloc, round_ms, peers, &all, all.published.as_slice());
+    let all = Catalogue::of(alloc, peers)?;
+    let publications = all.listed().published.as_slice();
+    let figures = figures_of(alloc, round_ms, peers, &all, publications);
     drop(all);
     figures
 }
@@ -47,7 +49,7 @@ fn figures_of(
     alloc: Global,
     round_ms: u64,
     peers: &[(PeerNo, Finished)],
-    all: &Listed,
+    all: &Catalogue,
     publications: &[Appearance],
 ) -> Result<Seq<PublicationFigures>, AllocError>
     ensures { IfOk result (λ figures. figures
@@ -65,16 +67,16 @@ fn publication_figures(
     alloc: Global,
     round_ms: u64,
     peers: &[(PeerNo, Finished)],
-    all: &Listed,
+    all: &Catalogue,
     publication: &Appearance,
 ) -> Result<PublicationFigures, AllocError>
     ensures { IfOk result (λ figures. figures ≡ publication_figures round_ms peers.now all.now publication.now) }
 {
-    let reached = reached_by(alloc, all, publication)?;
+    let reached = all.reached_by(alloc, publication)?;
     let rounds = rounds_to(alloc, round_ms, publication.at, &reached)?;
     let figures = PublicationFigures {
         on_topic: on_topic(
-            all.changes.as_slice(),
+            all.listed().changes.as_slice(),
             &publication.topic,
             publication.at,
             peers,
@@ -86,8 +88,12 @@ fn publication_figures(
     Ok(figures)
 }
 
-/// In how many rounds a publication came to each of these, ascending.
-fn rounds_to(
+/// In how many rounds what was published at a moment came to each of these, ascending. A round lasts so many
+/// milliseconds, and one at least.
+///
+/// # Errors
+/// `AllocError` where there was no memory for them.
+pub fn rounds_to(
     alloc: Global,
     round_ms: u64,
     from: Millis,
@@ -108,23 +114,8 @@ fn rounds_between(round_ms: u64, from: Millis, to: Millis) -> u64
     to.0.saturating_sub(from.0) / round_ms.max(1)
 }
 
-/// The first delivery to each peer of what was published, before it was published again.
-fn reached_by(
-    alloc: Global,
-    all: &Listed,
-    publication: &Appearance,
-) -> Result<Vec<Arrival>, AllocError>
-    ensures { IfOk result (λ reached. reached.items ≡ reached_by all.now publication.now) }
-{
-    let again = arrivals(alloc, publication, all.published.as_slice())?;
-    let end = first_after(publication.at, &again);
-    let deliveries = arrivals(alloc, publication, all.delivered.as_slice())?;
-    let reached = first_within(alloc, publication.at, &end, &deliveries)?;
-    Ok(reached)
-}
-
 /// Those within a window that are the first of their peer in it.
-fn first_within(
+pub(crate) fn first_within(
     alloc: Global,
     from: Millis,
     end: &Option<u64>,
@@ -175,7 +166,7 @@ fn is_within(from: Millis, end: &Option<u64>, arrival: Arrival) -> bool
 }
 
 /// The first of these moments that comes after one.
-fn first_after(at: Millis, arrivals: &[Arrival]) -> Option<u64>
+pub(crate) fn first_after(at: Millis, arrivals: &[Arrival]) -> Option<u64>
     ensures { result ≡ first_after at.0 arrivals.now }
 {
     let mut first = None;
@@ -195,40 +186,6 @@ fn earlier(at: Millis, first: Option<u64>, arrival: Arrival) -> Option<u64>
         Some(end) => Some(end.min(arrival.at.0)),
         None => Some(arrival.at.0),
     }
-}
-
-/// At whom and when the payload of one appears on its topic, among these.
-fn arrivals(alloc: Global, one: &Appearance, all: &[Appearance]) -> Result<Vec<Arrival>, AllocError>
-    ensures { IfOk result (λ found. found.items ≡ arrivals one.now all.now) }
-{
-    let mut found = Vec::new(alloc);
-    for other in all {
-        note_arrival(&mut found, one, other)?;
-    }
-    Ok(found)
-}
-
-fn note_arrival(
-    found: &mut Vec<Arrival>,
-    one: &Appearance,
-    other: &Appearance,
-) -> Result<(), AllocError>
-    ensures { OnOk result (found.new.items ≡ found.old.items ++ arrivals one.now (other.now ∷ [])) }
-{
-    if !are_of_one(one, other) {
-        return Ok(());
-    }
-    found.push(Arrival {
-        peer: other.peer,
-        at: other.at,
-    })?;
-    Ok(())
-}
-
-fn are_of_one(one: &Appearance, other: &Appearance) -> bool
-    ensures { result ≡ are_of_one one.now other.now }
-{
-    one.topic == other.topic && one.payload.as_slice() == other.payload.as_slice()
 }
 
 /// How many peers are on a topic at a moment.

@@ -6,34 +6,20 @@ use Rattle.gs_base.specs.declared.names.Topic.{Topic}
 use Rattle.gs_base.specs.Names.{same_topic}
 use Rattle.gs_report.specs.declared.finished.Finished.{Finished}
 use Rattle.gs_figures.specs.declared.listed.Appearance.{Appearance}
-use Rattle.gs_figures.specs.Publications.{arrivals, first_after, first_of_each, is_within, listed, reached_by, rounds_to}
+use Rattle.gs_figures.specs.declared.listed.Listed.{Listed}
+use Rattle.gs_figures.specs.Publications.{listed, reached_by, rounds_to}
 
 -- the publications on a topic, peer by peer, the oldest one first
 abbrev pub published_on : Topic → List Appearance → List Appearance
 published_on t all = filter (λ (p : Appearance). same_topic p.topic t) all
 
--- what a list has elements of
-abbrev pub ElementOf : {A : Type 0} → List A → Type 0
-ElementOf {A} xs = A
-
--- where and when something appears, as the figures of a run have it
-abbrev pub Arrival : Type 0
-Arrival = ElementOf (first_of_each [])
-
--- the first delivery to each peer of what was published, before it was published again: so `reached_by` has it of all that
--- was published and delivered
-abbrev pub reached : List Appearance → List Appearance → Appearance → List Arrival
-reached published delivered p =
-    first_of_each (filter (is_within p.at.0 (first_after p.at.0 (arrivals p published))) (arrivals p delivered))
-
 -- The course of a publication: in how many rounds it came to each peer that it reached, ascending.
-abbrev pub course : ℕ → List Appearance → List Appearance → Appearance → List ℕ
-course round_ms published delivered p = rounds_to round_ms p.at.0 (reached published delivered p)
+abbrev pub course : ℕ → Listed → Appearance → List ℕ
+course round_ms all p = rounds_to round_ms p.at.0 (reached_by all p)
 
 -- the course of each publication on a topic
 abbrev pub courses : ℕ → List (PeerNo × Finished) → Topic → List (List ℕ)
-courses round_ms peers t =
-    map (λ (p : Appearance). rounds_to round_ms p.at.0 (reached_by (listed peers) p)) (published_on t (listed peers).published)
+courses round_ms peers t = map (course round_ms (listed peers)) (published_on t (listed peers).published)
 
 -- the most rounds that one of these took
 abbrev pub most : List ℕ → ℕ

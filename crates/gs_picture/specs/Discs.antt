@@ -1,5 +1,5 @@
 -- What is shown of each peer: how its neighbours score it, and whether it is subscribed to the topic at the end.
-use Rattle.std.specs.Prelude.{Bool, ◌&&◌, ℤ, pos, int_lt, if◌then◌else◌, List, [], map, Option, Some, None}
+use Rattle.std.specs.Prelude.{Bool, ◌&&◌, ℤ, pos, int_lt, if◌then◌else◌, List, map, Option, Some, None}
 use Rattle.std.specs.List.{list_any}
 use Rattle.gs_base.specs.declared.names.PeerNo.{PeerNo}
 use Rattle.gs_base.specs.declared.names.Topic.{Topic}
@@ -7,9 +7,8 @@ use Rattle.gs_base.specs.Names.{same_peer}
 use Rattle.gs_params.specs.declared.params.Thresholds.{Thresholds}
 use Rattle.gs_rules.specs.Tables.{joined}
 use Rattle.gs_report.specs.declared.finished.Finished.{Finished}
-use Rattle.gs_figures.specs.declared.peers.PeerFigures.{PeerFigures}
 use Rattle.gs_figures.specs.declared.span.Span.{Span}
-use Rattle.gs_figures.specs.Peers.{all_figures}
+use Rattle.gs_figures.specs.Peers.{scores_of, span_of}
 use Rattle.gs_picture.specs.declared.discs.Class.{Class}
 use Rattle.gs_picture.specs.declared.discs.Class.TheVariants.{Fair, BelowZero, BelowGossip, BelowPublish, BelowGraylist, Unscored}
 use Rattle.gs_picture.specs.declared.discs.Disc.{Disc}
@@ -32,13 +31,13 @@ class_of t (Some span) = class_by t span.lowest
 abbrev pub is_joined : Topic → PeerNo → PeerNo × Finished → Bool
 is_joined t p x = same_peer x.0 p && joined x.1.trace t
 
-abbrev pub disc : Thresholds → List (PeerNo × Finished) → Topic → PeerFigures → Disc
-disc thresholds peers t f = record {
-  peer = f.peer;
-  class = class_of thresholds f.scores;
-  subscribed = list_any (is_joined t f.peer) peers;
+abbrev pub disc : Thresholds → List (PeerNo × Finished) → Topic → PeerNo → Disc
+disc thresholds peers t p = record {
+  peer = p;
+  class = class_of thresholds (span_of (scores_of peers p));
+  subscribed = list_any (is_joined t p) peers;
 }
 
--- a disc for each peer; what goes over links is not shown
+-- a disc for each peer
 abbrev pub discs : Thresholds → List (PeerNo × Finished) → Topic → List Disc
-discs thresholds peers t = map (disc thresholds peers t) (all_figures [] peers)
+discs thresholds peers t = map (λ x. disc thresholds peers t x.0) peers

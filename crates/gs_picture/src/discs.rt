@@ -1,11 +1,11 @@
 //! What is shown of each peer.
-ghost use Rattle.std.specs.Prelude.{◌≡◌, IfOk, map, reverse};
+ghost use Rattle.std.specs.Prelude.{◌≡◌, IfOk, reverse};
 ghost use Rattle.std.specs.List.{list_any};
 ghost use Rattle.gs_rules.specs.Tables.{joined, joined_after};
 ghost use Rattle.gs_picture.specs.Discs.{class_by, class_of, disc, discs, is_joined};
 
 use gs_base::{PeerNo, Topic};
-use gs_figures::{PeerFigures, Span, all_figures};
+use gs_figures::{Span, scores_of};
 use gs_params::Thresholds;
 use gs_report::Finished;
 use gs_rules::{Event, StoredEntry};
@@ -45,29 +45,26 @@ pub(crate) fn discs(
 ) -> Result<Vec<Disc>, AllocError>
     ensures { IfOk result (λ found. found.items ≡ discs thresholds.now peers.now topic.now) }
 {
-    // What goes over links is not shown.
-    let all = all_figures(alloc, &[], peers)?;
-    discs_of(alloc, thresholds, peers, topic, all.as_slice())
+    let mut found = Vec::with_capacity(alloc, peers.len())?;
+    for peer in peers {
+        found.push(disc_of(thresholds, peers, topic, peer.0))?;
+    }
+    Ok(found)
 }
 
-fn discs_of(
-    alloc: Global,
+fn disc_of(
     thresholds: &Thresholds,
     peers: &[(PeerNo, Finished)],
     topic: &Topic,
-    all: &[PeerFigures],
-) -> Result<Vec<Disc>, AllocError>
-    ensures { IfOk result (λ found. found.items ≡ map (disc thresholds.now peers.now topic.now) all.now) }
+    peer: PeerNo,
+) -> Disc
+    ensures { result ≡ disc thresholds.now peers.now topic.now peer }
 {
-    let mut found = Vec::with_capacity(alloc, all.len())?;
-    for figures in all {
-        found.push(Disc {
-            peer: figures.peer,
-            class: class_of(thresholds, &figures.scores),
-            subscribed: is_subscribed(peers, topic, figures.peer),
-        })?;
+    Disc {
+        peer,
+        class: class_of(thresholds, &scores_of(peers, peer)),
+        subscribed: is_subscribed(peers, topic, peer),
     }
-    Ok(found)
 }
 
 fn class_of(thresholds: &Thresholds, scores: &Option<Span>) -> Class

@@ -1,7 +1,6 @@
 //! A picture of a run: who is in whose mesh of a topic, how neighbours score each peer, and how far each publication came.
 #![tactic(auto)]
 
-mod arrivals;
 mod chart;
 mod circle;
 mod courses;
@@ -9,7 +8,6 @@ mod discs;
 mod edges;
 mod frame;
 mod legend;
-mod listed;
 mod pen;
 mod picture;
 mod pieces;

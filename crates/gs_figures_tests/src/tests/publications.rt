@@ -22,7 +22,7 @@ struct Case {
     rows: &'static [Row],
 }
 
-static CASES: [Case; 8] = [
+static CASES: [Case; 9] = [
     Case {
         name: "two peers",
         lives: &[
@@ -265,6 +265,44 @@ static CASES: [Case; 8] = [
                 on_topic: 1,
                 delivered: 2,
                 rounds: Some([0, 0, 0, 0]),
+            },
+        ],
+    },
+    Case {
+        name: "two payloads take turns on a topic",
+        lives: &[
+            Life {
+                trace: &[
+                    (0, Did::Subscribes("news")),
+                    (200, Did::Publishes("news", b"abc")),
+                    (300, Did::Publishes("news", b"abd")),
+                ],
+                ..SILENT
+            },
+            Life {
+                peer: 1,
+                trace: &[
+                    (0, Did::Subscribes("news")),
+                    (400, Did::Delivers("news", b"abd")),
+                    (600, Did::Delivers("news", b"abc")),
+                ],
+                ..SILENT
+            },
+        ],
+        rows: &[
+            Row {
+                peer: 0,
+                at: 200,
+                on_topic: 2,
+                delivered: 2,
+                rounds: Some([0, 0, 4, 4]),
+            },
+            Row {
+                peer: 0,
+                at: 300,
+                on_topic: 2,
+                delivered: 2,
+                rounds: Some([0, 0, 1, 1]),
             },
         ],
     },
