@@ -112,7 +112,7 @@ class Settings:
 
 
 def tables_of(text):
-    """The rows for publications, and those for peers, of what gossip_stats prints."""
+    """The rows for publications, and those for peers, of what gossip_stats --csv prints."""
     return [list(csv.DictReader(io.StringIO(it))) for it in text.split("\n\n", 1)]
 
 
@@ -224,7 +224,7 @@ class Sweep:
         if settings:
             end = self.call([self.programs["gossip_edit"], *settings], self.scenario)
         if end.status == 0:
-            end = self.call([self.programs["gossip_stats"]], end.output)
+            end = self.call([self.programs["gossip_stats"], "--csv"], end.output)
         return end._replace(output=end.output.decode(errors="replace"))
 
     def call(self, words, data):

@@ -1,11 +1,38 @@
--- What the program prints of a run.
-use Rattle.std.specs.Prelude.{ℕ, List}
+-- What the program prints of a run, and how it ends.
+use Rattle.std.specs.Prelude.{◌≡◌, ℕ, List, Option, Some, None}
+use Rattle.std.specs.Io.KnownBytes.{Keeps}
 use Rattle.gs_plan.specs.declared.plan.Plan.{Plan}
 use Rattle.gs_report.specs.declared.report.Report.{Report}
-use Rattle.gs_figures.specs.declared.text.Form.{Form}
+use Rattle.gs_figures.specs.declared.figures.Figures.{Figures}
 use Rattle.gs_figures.specs.Figures.{figures}
-use Rattle.gs_figures.specs.Texts.{figures_text}
+use Rattle.gs_figures.specs.People.{figures_table}
+use Rattle.gs_figures.specs.Texts.{figures_csv, figures_json}
+use Rattle.gs_program.specs.Program.{EndsWith}
+use Rattle.gs_streams.specs.Streams.{AppendsFront}
+use Rattle.gossip_stats.specs.declared.arguments.Asked.{Asked}
+use Rattle.gossip_stats.specs.declared.arguments.Layout.{Layout}
+use Rattle.gossip_stats.specs.declared.arguments.Layout.TheVariants.{Table, Csv, Json}
+use Rattle.gossip_stats.specs.Arguments.{usage, wrong_arguments}
 
--- the figures of a run in a form
-abbrev pub printed : Form → Plan → Report → List ℕ
-printed form plan report = figures_text form plan (figures plan report)
+-- figures in a layout
+abbrev pub laid_out : Layout → Plan → Figures → List ℕ
+laid_out Table plan f = figures_table plan f
+laid_out Csv plan f = figures_csv plan f
+laid_out Json plan f = figures_json plan f
+
+-- what is printed of a run, as it is asked for
+abbrev pub printed : Asked → Plan → Report → List ℕ
+printed asked plan report = laid_out asked.layout plan (figures plan report)
+
+-- nothing was read, the usage is on errors, or a front of it, and nothing more on the output
+pub record Refused (status : ℕ) (input input' output output' errors errors' : Option (List ℕ)) : Type 0 where
+  pub unread : input' ≡ input
+  pub line : AppendsFront errors errors' usage
+  pub silent : Keeps output output'
+  pub status_is : status ≡ wrong_arguments
+
+-- how the program ends by what is asked for
+abbrev pub EndsFor : Option Asked → (status : ℕ) (input input' output output' errors errors' : Option (List ℕ)) → Type 0
+EndsFor None status input input' output output' errors errors' = Refused status input input' output output' errors errors'
+EndsFor (Some asked) status input input' output output' errors errors' =
+    EndsWith (printed asked) status input input' output output' errors errors'

@@ -1,41 +1,114 @@
 //! What the program's arguments ask for.
-ghost use Rattle.std.specs.Prelude.{◌≡◌, IfSome, codes, map, string_bytes};
+ghost use Rattle.std.specs.Prelude.{◌≡◌, map, string_bytes};
 ghost use Rattle.std.specs.Process.{exit_status};
 ghost use Rattle.gs_streams.specs.Streams.{AppendsFront};
-ghost use Rattle.gossip_stats.specs.Arguments.{AskFor, form_named, usage, wrong_arguments};
+ghost use Rattle.gossip_stats.specs.Arguments.{asked_for, asking, beside_layout, beside_rounds, of_one, of_two, usage, word_named, wrong_arguments};
 
-use gs_figures::Form;
 use gs_streams::tell;
 use std::io::Write;
 use std::process::ExitCode;
 
-/// What is said where the arguments ask for no form.
+/// What is said where the arguments ask for nothing that there is.
 const USAGE: &str = "usage: gossip_stats [--csv | --json]\n";
 
-/// The form that the arguments ask for: CSV where there are none. None where they ask for nothing that there is.
-pub fn form_of(arguments: &[String]) -> Option<Form>
-    ensures { IfSome result (λ form. AskFor (map string_bytes arguments.now) form) }
+/// How figures are laid out.
+#[derive(Clone, Copy, Debug, PartialEq, Eq)]
+pub enum Layout {
+    /// Tables for a person.
+    Table,
+    Csv,
+    Json,
+}
+
+/// What is printed of a run.
+#[derive(Clone, Copy, Debug, PartialEq, Eq)]
+pub struct Asked {
+    pub layout: Layout,
+    /// Whether it is figures by rounds.
+    pub rounds: bool,
+}
+
+/// A word that an argument may be.
+#[derive(Clone, Copy, Debug)]
+enum Word {
+    /// A layout other than the default one.
+    In(Layout),
+    Rounds,
+}
+
+/// What the arguments ask for: tables where there are none. None where they ask for nothing that there is.
+pub fn asked_by(arguments: &[String]) -> Option<Asked>
+    ensures { result ≡ asked_for (map string_bytes arguments.now) }
 {
     match arguments {
-        [] => Some(Form::Csv),
-        [argument] => form_named(argument),
-        _ => None,
+        [] => asking(Layout::Table, false),
+        [word] => of_one(word_named(word)),
+        [word, other] => of_two(word_named(word), word_named(other)),
+        [_, _, _, ..] => None,
     }
 }
 
-fn form_named(name: &str) -> Option<Form>
-    ensures { result ≡ form_named name.now }
+fn word_named(name: &str) -> Option<Word>
+    ensures { result ≡ word_named name.now }
 {
     if name == "--csv" {
-        return Some(Form::Csv);
+        return Some(Word::In(Layout::Csv));
     }
     if name == "--json" {
-        return Some(Form::Json);
+        return Some(Word::In(Layout::Json));
     }
     None
 }
 
+fn asking(layout: Layout, rounds: bool) -> Option<Asked>
+    ensures { result ≡ asking layout rounds }
+{
+    Some(Asked { layout, rounds })
+}
+
+fn of_one(word: Option<Word>) -> Option<Asked>
+    ensures { result ≡ of_one word }
+{
+    match word {
+        None => None,
+        Some(Word::Rounds) => asking(Layout::Table, true),
+        Some(Word::In(layout)) => asking(layout, false),
+    }
+}
+
+/// What two words ask for, in any order.
+fn of_two(first: Option<Word>, second: Option<Word>) -> Option<Asked>
+    ensures { result ≡ of_two first second }
+{
+    match first {
+        None => None,
+        Some(Word::Rounds) => beside_rounds(second),
+        Some(Word::In(layout)) => beside_layout(layout, second),
+    }
+}
+
+fn beside_rounds(word: Option<Word>) -> Option<Asked>
+    ensures { result ≡ beside_rounds word }
+{
+    match word {
+        None => None,
+        Some(Word::Rounds) => None,
+        Some(Word::In(layout)) => asking(layout, true),
+    }
+}
+
+fn beside_layout(layout: Layout, word: Option<Word>) -> Option<Asked>
+    ensures { result ≡ beside_layout layout word }
+{
+    match word {
+        None => None,
+        Some(Word::Rounds) => asking(layout, true),
+        Some(Word::In(_)) => None,
+    }
+}
+
 /// Says how the program is called.
+#[tactic(auto, unfolding(crate::specs::Arguments::usage))]
 pub fn refuse<E: Write>(errors: &mut E) -> ExitCode
     ensures told { AppendsFront (E.contents errors.old) (E.contents errors.new) usage }
     ensures status { exit_status result ≡ wrong_arguments }

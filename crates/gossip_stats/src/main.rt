@@ -5,24 +5,19 @@
 mod arguments;
 mod program;
 
-use crate::arguments::form_of;
 use std::process::ExitCode;
 use std::{env, io};
 
 fn main(rt: HostRuntime) -> ExitCode {
-    let form = match arguments_of(&rt) {
-        Ok(arguments) => form_of(&arguments),
-        Err(_) => None,
-    };
-    match form {
-        Some(form) => program::ended(
+    match arguments_of(&rt) {
+        Ok(arguments) => program::run(
             &rt,
-            form,
+            arguments.as_slice(),
             &mut rt.stdin(),
             &mut rt.stdout(),
             &mut rt.stderr(),
         ),
-        None => arguments::refuse(&mut rt.stderr()),
+        Err(_) => arguments::refuse(&mut rt.stderr()),
     }
 }
 

@@ -1,9 +1,12 @@
 //! The program: it writes figures of the scenario that it reads.
+ghost use Rattle.std.specs.Prelude.{◌≡◌, IfOk, map, string_bytes};
 ghost use Rattle.std.specs.Process.{exit_status};
 ghost use Rattle.gs_program.specs.Program.{EndsWith};
-ghost use Rattle.gossip_stats.specs.Printed.{printed};
+ghost use Rattle.gossip_stats.specs.Arguments.{asked_for};
+ghost use Rattle.gossip_stats.specs.Printed.{EndsFor, laid_out, printed};
 
-use gs_figures::{Form, figures_csv, figures_json, figures_of};
+use crate::arguments::{Asked, Layout, asked_by, refuse};
+use gs_figures::{Figures, figures_csv, figures_json, figures_of, figures_table};
 use gs_peer::NoGate;
 use gs_plan::Plan;
 use gs_program::{Printer, Program};
@@ -15,29 +18,42 @@ use std::random::RandomSource;
 use std::sync::Wait;
 use std::thread::Threads;
 
-/// Makes the figures of a run in a form.
+/// Makes the figures of a run as they are asked for.
 #[derive(Clone, Copy, Debug, Drop)]
-struct FiguresIn {
-    form: Form,
+struct FiguresAs {
+    asked: Asked,
 }
 
-impl Printer for FiguresIn {
-    ghost text = { λ printer plan report. printed printer.form plan report };
+impl Printer for FiguresAs {
+    ghost text = { λ printer plan report. printed printer.asked plan report };
 
     fn print(&self, alloc: Global, plan: &Plan, report: &Report) -> Result<Vec<u8>, AllocError> {
         let figures = figures_of(alloc, plan, report)?;
-        match self.form {
-            Form::Csv => figures_csv(alloc, plan, &figures),
-            Form::Json => figures_json(alloc, plan, &figures),
-        }
+        laid_out(alloc, self.asked.layout, plan, &figures)
     }
 }
 
-/// Runs the program over these streams, and gives the status that its process ends with. Its ends are those of
-/// `gossip_sim`, and its text is the figures of the run in a form.
-pub fn ended<T, R, W, E>(
+fn laid_out(
+    alloc: Global,
+    layout: Layout,
+    plan: &Plan,
+    figures: &Figures,
+) -> Result<Vec<u8>, AllocError>
+    ensures { IfOk result (λ text. text.items ≡ laid_out layout plan.now figures.now) }
+{
+    match layout {
+        Layout::Table => figures_table(alloc, plan, figures),
+        Layout::Csv => figures_csv(alloc, plan, figures),
+        Layout::Json => figures_json(alloc, plan, figures),
+    }
+}
+
+/// Runs the program with these arguments over these streams, and gives the status that its process ends with. Where the
+/// arguments ask for something, its ends are those of `gossip_sim`, and its text is that. Else it reads no input, says on
+/// `errors` how it is called, and ends with 64.
+pub fn run<T, R, W, E>(
     rt: &T,
-    form: Form,
+    arguments: &[String],
     input: &mut R,
     output: &mut W,
     errors: &mut E,
@@ -47,13 +63,36 @@ where
     R: Read,
     W: Write,
     E: Write,
-    ensures { EndsWith (printed form) (exit_status result) (R.remaining input.old) (R.remaining input.new)
+    ensures { EndsFor (asked_for (map string_bytes arguments.now)) (exit_status result)
+        (R.remaining input.old) (R.remaining input.new)
+        (W.contents output.old) (W.contents output.new) (E.contents errors.old) (E.contents errors.new) }
+{
+    match asked_by(arguments) {
+        Some(asked) => ended(rt, asked, input, output, errors),
+        None => refuse(errors),
+    }
+}
+
+/// Runs the program for what is asked for.
+fn ended<T, R, W, E>(
+    rt: &T,
+    asked: Asked,
+    input: &mut R,
+    output: &mut W,
+    errors: &mut E,
+) -> ExitCode
+where
+    T: Threads + Wait + RandomSource + AllocGlobal + Sync + Send + Copy,
+    R: Read,
+    W: Write,
+    E: Write,
+    ensures { EndsWith (printed asked) (exit_status result) (R.remaining input.old) (R.remaining input.new)
         (W.contents output.old) (W.contents output.new) (E.contents errors.old) (E.contents errors.new) }
 {
     let program = Program {
         rt,
         gate: &NoGate,
-        printer: FiguresIn { form },
+        printer: FiguresAs { asked },
     };
     program.ended(input, output, errors)
 }

@@ -1,10 +1,12 @@
 //! The program's figures, worked out by hand.
-use crate::arguments::{form_of, refuse};
-use crate::program::ended;
-use gs_figures::Form;
-use std::alloc::{AllocError, Global};
+use crate::arguments::{Asked, Layout, asked_by};
+use crate::program::run;
+use std::alloc::{AllocError, AllocGlobal, Global};
 use std::process::ExitCode;
+use std::random::RandomSource;
+use std::sync::Wait;
 use std::test::*;
+use std::thread::Threads;
 
 /// `a` and `b` subscribe; at 200 `a` publishes `abc`, which `b` delivers a round later.
 const SCENARIO: &str = "round_ms = 100\nrounds = 3\nworkers = 1\ncapacity = 1\nseed = 1\n\
@@ -40,19 +42,71 @@ const AS_JSON: &str = "[\n\
     \"iwant_sent\":0,\"graft_sent\":0,\"prune_sent\":0,\"broken_promises\":0,\"refused_lines\":0,\
     \"lowest_score\":null,\"highest_score\":null,\"smallest_mesh\":null,\"largest_mesh\":null}\n]\n";
 
-#[test]
-fn two_subscribers_have_their_figures(rt: HostRuntime) {
+/// The same as tables.
+const AS_TABLE: &str = "\
+How far each message came
+topic  payload  from  at_ms  on topic  delivered  first  median  99%  last
+news   616263   a       200         2          2      0       0    1     1
+
+What each peer heard
+peer   RPCs  bytes  messages  new  duplicates  ignored  invalid  IHAVE  IWANT  GRAFT  PRUNE
+a         1     11         0    0           0        0        0      0      0      0      0
+b         2     25         1    1           0        0        0      0      0      0      0
+(all)     3     36         1    1           0        0        0      0      0      0      0
+
+What each peer sent
+peer   RPCs  bytes  messages  IHAVE  IWANT  GRAFT  PRUNE  broken promises  refused lines
+a         2     25         1      0      0      0      0                0              0
+b         1     11         0      0      0      0      0                0              0
+(all)     3     36         1      0      0      0      0                0              0
+
+Scores and meshes at the end
+peer  lowest score  highest score  smallest mesh  largest mesh
+a                0              0              0             0
+b                0              0              0             0
+";
+
+fn words_of(alloc: Global, words: &[&str]) -> Result<Vec<String>, AllocError> {
+    let mut arguments = Vec::new(alloc);
+    for word in words {
+        arguments.push(String::from_str(alloc, word)?)?;
+    }
+    Ok(arguments)
+}
+
+/// Whether a run with these arguments ends so: with this status, and these texts on the output and on errors.
+fn ends_so<T>(
+    rt: &T,
+    words: &[&str],
+    input: &str,
+    status: u8,
+    wanted: (&str, &str),
+) -> Result<bool, AllocError>
+where
+    T: Threads + Wait + RandomSource + AllocGlobal + Sync + Send + Copy,
+{
+    let arguments = words_of(rt.alloc(), words)?;
     let mut output = Vec::new(rt.alloc());
     let mut errors = Vec::new(rt.alloc());
-    let code = ended(
-        &rt,
-        Form::Json,
-        &mut SCENARIO.as_bytes(),
+    let code = run(
+        rt,
+        arguments.as_slice(),
+        &mut input.as_bytes(),
         &mut output,
         &mut errors,
     );
-    assert!(rt; code == ExitCode::from(0) && errors.is_empty());
-    assert!(rt; output.as_slice() == AS_JSON.as_bytes());
+    Ok(
+        code == ExitCode::from(status)
+            && (output.as_slice() == wanted.0.as_bytes()
+                && errors.as_slice() == wanted.1.as_bytes()),
+    )
+}
+
+#[test]
+fn two_subscribers_have_their_figures(rt: HostRuntime) -> Result<(), AllocError> {
+    assert!(rt; ends_so(&rt, &[], SCENARIO, 0, (AS_TABLE, ""))?);
+    assert!(rt; ends_so(&rt, &["--json"], SCENARIO, 0, (AS_JSON, ""))?);
+    Ok(())
 }
 
 /// The same, and in round 1 `a` also puts an empty frame on the link, as bytes: one byte more, and an RPC that `b` hears.
@@ -77,58 +131,48 @@ refused_lines,lowest_score,highest_score,smallest_mesh,largest_mesh
 ";
 
 #[test]
-fn raw_bytes_are_bytes_and_no_rpc_of_the_sender(rt: HostRuntime) {
-    let mut output = Vec::new(rt.alloc());
-    let mut errors = Vec::new(rt.alloc());
-    let code = ended(
-        &rt,
-        Form::Csv,
-        &mut WITH_RAW.as_bytes(),
-        &mut output,
-        &mut errors,
-    );
-    assert!(rt; code == ExitCode::from(0) && errors.is_empty());
-    assert!(rt; output.as_slice() == WITH_RAW_AS_CSV.as_bytes());
-}
-
-#[test]
-fn a_refused_scenario_has_no_figures(rt: HostRuntime) {
-    let mut output = Vec::new(rt.alloc());
-    let mut errors = Vec::new(rt.alloc());
-    let code = ended(
-        &rt,
-        Form::Csv,
-        &mut b"rounds = 0\n".as_slice(),
-        &mut output,
-        &mut errors,
-    );
-    assert!(rt; code == ExitCode::from(1) && output.is_empty());
-    assert!(rt; errors.as_slice() == b"scenario refused: 28 round_ms\n".as_slice());
-}
-
-/// What arguments ask for.
-fn asked(alloc: Global, words: &[&str]) -> Result<Option<Form>, AllocError> {
-    let mut arguments = Vec::new(alloc);
-    for word in words {
-        arguments.push(String::from_str(alloc, word)?)?;
-    }
-    Ok(form_of(&arguments))
-}
-
-#[test]
-fn arguments_ask_for_a_form(rt: HostRuntime) -> Result<(), AllocError> {
-    let alloc = rt.alloc();
-    assert!(rt; asked(alloc, &[])? == Some(Form::Csv));
-    assert!(rt; asked(alloc, &["--csv"])? == Some(Form::Csv));
-    assert!(rt; asked(alloc, &["--json"])? == Some(Form::Json));
-    assert!(rt; asked(alloc, &["--help"])? == None);
-    assert!(rt; asked(alloc, &["--csv", "--json"])? == None);
+fn raw_bytes_are_bytes_and_no_rpc_of_the_sender(rt: HostRuntime) -> Result<(), AllocError> {
+    assert!(rt; ends_so(&rt, &["--csv"], WITH_RAW, 0, (WITH_RAW_AS_CSV, ""))?);
     Ok(())
 }
 
 #[test]
-fn other_arguments_are_told_how_the_program_is_called(rt: HostRuntime) {
-    let mut errors = Vec::new(rt.alloc());
-    assert!(rt; refuse(&mut errors) == ExitCode::from(64));
-    assert!(rt; errors.as_slice() == b"usage: gossip_stats [--csv | --json]\n".as_slice());
+fn a_refused_scenario_has_no_figures(rt: HostRuntime) -> Result<(), AllocError> {
+    let told = ("", "scenario refused: 28 round_ms\n");
+    assert!(rt; ends_so(&rt, &["--csv"], "rounds = 0\n", 1, told)?);
+    Ok(())
+}
+
+/// What arguments ask for.
+fn asked(alloc: Global, words: &[&str]) -> Result<Option<Asked>, AllocError> {
+    let arguments = words_of(alloc, words)?;
+    Ok(asked_by(arguments.as_slice()))
+}
+
+/// Figures of the whole run.
+fn whole(layout: Layout) -> Option<Asked> {
+    Some(Asked {
+        layout,
+        rounds: false,
+    })
+}
+
+#[test]
+fn arguments_ask_for_a_layout(rt: HostRuntime) -> Result<(), AllocError> {
+    let alloc = rt.alloc();
+    assert!(rt; asked(alloc, &[])? == whole(Layout::Table));
+    assert!(rt; asked(alloc, &["--csv"])? == whole(Layout::Csv));
+    assert!(rt; asked(alloc, &["--json"])? == whole(Layout::Json));
+    assert!(rt; asked(alloc, &["--help"])? == None);
+    assert!(rt; asked(alloc, &["--csv", "--json"])? == None);
+    assert!(rt; asked(alloc, &["--csv", "--csv"])? == None);
+    assert!(rt; asked(alloc, &["--csv", "", ""])? == None);
+    Ok(())
+}
+
+#[test]
+fn other_arguments_are_told_how_the_program_is_called(rt: HostRuntime) -> Result<(), AllocError> {
+    let told = ("", "usage: gossip_stats [--csv | --json]\n");
+    assert!(rt; ends_so(&rt, &["--cvs"], SCENARIO, 64, told)?);
+    Ok(())
 }

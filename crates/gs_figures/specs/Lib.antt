@@ -9,3 +9,6 @@ pub mod Catalogues
 pub mod Figures
 pub mod Values
 pub mod Texts
+pub mod Tables
+pub mod Cells
+pub mod People

@@ -2,6 +2,7 @@
 #![tactic(auto)]
 
 mod catalogue;
+mod cells;
 mod counts;
 mod fate;
 mod figures;
@@ -10,9 +11,11 @@ mod laws;
 mod links;
 mod listed;
 mod peers;
+mod people;
 mod publications;
 mod ranks;
 mod span;
+mod table;
 mod text;
 mod values;
 
@@ -26,6 +29,7 @@ pub use laws::{
 };
 pub use links::{LinkFigures, all_links};
 pub use listed::{Appearance, Arrival, Change, Listed};
+pub use people::figures_table;
 pub use peers::{PeerFigures, all_figures, counts_of_all, scores_of};
 pub use publications::{PublicationFigures, all_publications, rounds_to};
 pub use ranks::Spread;

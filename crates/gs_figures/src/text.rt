@@ -365,14 +365,18 @@ fn push_value(
     }
 }
 
-fn push_count(alloc: Global, text: &mut Vec<u8>, number: u64) -> Result<(), AllocError>
+pub(crate) fn push_count(alloc: Global, text: &mut Vec<u8>, number: u64) -> Result<(), AllocError>
     ensures { OnOk result (text.new.items ≡ text.old.items ++ decimal number) }
 {
     let digits = format!(in alloc; "{number}")?;
     text.extend_from_slice(digits.as_bytes())
 }
 
-fn push_signed(alloc: Global, text: &mut Vec<u8>, number: &i128) -> Result<(), AllocError>
+pub(crate) fn push_signed(
+    alloc: Global,
+    text: &mut Vec<u8>,
+    number: &i128,
+) -> Result<(), AllocError>
     ensures { OnOk result (text.new.items ≡ text.old.items ++ signed number.now) }
 {
     let size = number.unsigned_abs();

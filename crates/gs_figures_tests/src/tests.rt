@@ -1,5 +1,6 @@
 mod links;
 mod made;
 mod peers;
+mod people;
 mod publications;
 mod texts;

@@ -6,7 +6,7 @@ use gs_report::Report;
 use gs_scenario::read_plan;
 use std::alloc::{AllocError, Global};
 
-const SCENARIO: &str = r#"
+pub(crate) const SCENARIO: &str = r#"
 round_ms = 100
 rounds = 10
 workers = 1
@@ -17,7 +17,7 @@ peer = [{ name = "a" }, { name = "b" }]
 dial = [{ from = "a", to = "b" }]
 "#;
 
-static LIVES: [Life; 2] = [
+pub(crate) static LIVES: [Life; 2] = [
     Life {
         trace: &[
             (0, Did::Subscribes("news")),
