@@ -10,7 +10,10 @@ use Rattle.gossip_stats.specs.declared.arguments.Word.TheVariants.{In, Rounds}
 -- the word that an argument is
 abbrev pub word_named : List ℕ → Option Word
 word_named name =
-    if same_bytes name (codes "--csv") then Some (In Csv) else if same_bytes name (codes "--json") then Some (In Json) else None
+    if same_bytes name (codes "--csv") then Some (In Csv)
+    else if same_bytes name (codes "--json") then Some (In Json)
+    else if same_bytes name (codes "--rounds") then Some Rounds
+    else None
 
 abbrev pub asking : Layout → Bool → Option Asked
 asking layout rounds = Some (record { layout = layout; rounds = rounds })
@@ -47,7 +50,7 @@ asked_for (name ∷ other ∷ third ∷ more) = None
 
 -- what is said where they ask for nothing that there is
 unfoldable pub usage : List ℕ
-usage = codes "usage: gossip_stats [--csv | --json]\n"
+usage = codes "usage: gossip_stats [--csv | --json] [--rounds]\n"
 
 -- and the status that the program ends with then
 abbrev pub wrong_arguments : ℕ

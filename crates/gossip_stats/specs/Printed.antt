@@ -1,11 +1,16 @@
 -- What the program prints of a run, and how it ends.
-use Rattle.std.specs.Prelude.{◌≡◌, ℕ, List, Option, Some, None}
+use Rattle.std.specs.Prelude.{◌≡◌, ℕ, if◌then◌else◌, List, Option, Some, None}
 use Rattle.std.specs.Io.KnownBytes.{Keeps}
 use Rattle.gs_plan.specs.declared.plan.Plan.{Plan}
 use Rattle.gs_report.specs.declared.report.Report.{Report}
 use Rattle.gs_figures.specs.declared.figures.Figures.{Figures}
+use Rattle.gs_figures.specs.declared.rounds.RoundFigures.{RoundFigures}
+use Rattle.gs_figures.specs.declared.text.Form.TheVariants as forms
 use Rattle.gs_figures.specs.Figures.{figures}
 use Rattle.gs_figures.specs.People.{figures_table}
+use Rattle.gs_figures.specs.Rounds.{all_rounds}
+use Rattle.gs_figures.specs.RoundTables.{rounds_table}
+use Rattle.gs_figures.specs.RoundTexts.{rounds_text}
 use Rattle.gs_figures.specs.Texts.{figures_csv, figures_json}
 use Rattle.gs_program.specs.Program.{EndsWith}
 use Rattle.gs_streams.specs.Streams.{AppendsFront}
@@ -20,9 +25,17 @@ laid_out Table plan f = figures_table plan f
 laid_out Csv plan f = figures_csv plan f
 laid_out Json plan f = figures_json plan f
 
+-- figures by rounds in a layout
+abbrev pub rounds_laid_out : Layout → List RoundFigures → List ℕ
+rounds_laid_out Table rounds = rounds_table rounds
+rounds_laid_out Csv rounds = rounds_text forms.Csv rounds
+rounds_laid_out Json rounds = rounds_text forms.Json rounds
+
 -- what is printed of a run, as it is asked for
 abbrev pub printed : Asked → Plan → Report → List ℕ
-printed asked plan report = laid_out asked.layout plan (figures plan report)
+printed asked plan report =
+    if asked.rounds then rounds_laid_out asked.layout (all_rounds plan report)
+    else laid_out asked.layout plan (figures plan report)
 
 -- nothing was read, the usage is on errors, or a front of it, and nothing more on the output
 pub record Refused (status : ℕ) (input input' output output' errors errors' : Option (List ℕ)) : Type 0 where

@@ -9,7 +9,7 @@ use std::io::Write;
 use std::process::ExitCode;
 
 /// What is said where the arguments ask for nothing that there is.
-const USAGE: &str = "usage: gossip_stats [--csv | --json]\n";
+const USAGE: &str = "usage: gossip_stats [--csv | --json] [--rounds]\n";
 
 /// How figures are laid out.
 #[derive(Clone, Copy, Debug, PartialEq, Eq)]
@@ -56,6 +56,9 @@ fn word_named(name: &str) -> Option<Word>
     }
     if name == "--json" {
         return Some(Word::In(Layout::Json));
+    }
+    if name == "--rounds" {
+        return Some(Word::Rounds);
     }
     None
 }

@@ -3,10 +3,13 @@ ghost use Rattle.std.specs.Prelude.{◌≡◌, IfOk, map, string_bytes};
 ghost use Rattle.std.specs.Process.{exit_status};
 ghost use Rattle.gs_program.specs.Program.{EndsWith};
 ghost use Rattle.gossip_stats.specs.Arguments.{asked_for};
-ghost use Rattle.gossip_stats.specs.Printed.{EndsFor, laid_out, printed};
+ghost use Rattle.gossip_stats.specs.Printed.{EndsFor, laid_out, printed, rounds_laid_out};
 
 use crate::arguments::{Asked, Layout, asked_by, refuse};
-use gs_figures::{Figures, figures_csv, figures_json, figures_of, figures_table};
+use gs_figures::{
+    Figures, Form, RoundFigures, figures_csv, figures_json, figures_of, figures_table, rounds_of,
+    rounds_table, rounds_text,
+};
 use gs_peer::NoGate;
 use gs_plan::Plan;
 use gs_program::{Printer, Program};
@@ -28,6 +31,10 @@ impl Printer for FiguresAs {
     ghost text = { λ printer plan report. printed printer.asked plan report };
 
     fn print(&self, alloc: Global, plan: &Plan, report: &Report) -> Result<Vec<u8>, AllocError> {
+        if self.asked.rounds {
+            let rounds = rounds_of(alloc, plan, report)?;
+            return rounds_laid_out(alloc, self.asked.layout, rounds.as_slice());
+        }
         let figures = figures_of(alloc, plan, report)?;
         laid_out(alloc, self.asked.layout, plan, &figures)
     }
@@ -45,6 +52,20 @@ fn laid_out(
         Layout::Table => figures_table(alloc, plan, figures),
         Layout::Csv => figures_csv(alloc, plan, figures),
         Layout::Json => figures_json(alloc, plan, figures),
+    }
+}
+
+fn rounds_laid_out(
+    alloc: Global,
+    layout: Layout,
+    rounds: &[RoundFigures],
+) -> Result<Vec<u8>, AllocError>
+    ensures { IfOk result (λ text. text.items ≡ rounds_laid_out layout rounds.now) }
+{
+    match layout {
+        Layout::Table => rounds_table(alloc, rounds),
+        Layout::Csv => rounds_text(alloc, Form::Csv, rounds),
+        Layout::Json => rounds_text(alloc, Form::Json, rounds),
     }
 }
 

@@ -8,6 +8,8 @@ use std::sync::Wait;
 use std::test::*;
 use std::thread::Threads;
 
+mod worked;
+
 /// `a` and `b` subscribe; at 200 `a` publishes `abc`, which `b` delivers a round later.
 const SCENARIO: &str = "round_ms = 100\nrounds = 3\nworkers = 1\ncapacity = 1\nseed = 1\n\
     [[topic]]\nname = \"news\"\n[[peer]]\nname = \"a\"\n[[peer]]\nname = \"b\"\n\
@@ -109,6 +111,40 @@ fn two_subscribers_have_their_figures(rt: HostRuntime) -> Result<(), AllocError>
     Ok(())
 }
 
+/// The two subscriptions go out in round 0, and the message in round 2, in which its publisher delivers it. The other one
+/// hears it in round 3. No mesh has members.
+const ROUNDS_AS_CSV: &str = "\
+round,delivered,messages_heard,new,duplicates,bytes_sent,smallest_mesh,largest_mesh
+0,0,0,0,0,22,0,0
+1,0,0,0,0,0,0,0
+2,1,0,0,0,14,0,0
+3,1,1,1,0,0,0,0
+";
+
+const ROUNDS_AS_TABLE: &str = "\
+What happened in each round
+round  delivered  messages  new  duplicates  bytes  smallest mesh  largest mesh
+    0          0         0    0           0     22              0             0
+    1          0         0    0           0      0              0             0
+    2          1         0    0           0     14              0             0
+    3          1         1    1           0      0              0             0
+";
+
+#[test]
+fn each_round_has_its_figures(rt: HostRuntime) -> Result<(), AllocError> {
+    assert!(rt;
+        ends_so(
+            &rt,
+            &["--csv", "--rounds"],
+            SCENARIO,
+            0,
+            (ROUNDS_AS_CSV, "")
+        )?
+    );
+    assert!(rt; ends_so(&rt, &["--rounds"], SCENARIO, 0, (ROUNDS_AS_TABLE, ""))?);
+    Ok(())
+}
+
 /// The same, and in round 1 `a` also puts an empty frame on the link, as bytes: one byte more, and an RPC that `b` hears.
 const WITH_RAW: &str = "round_ms = 100\nrounds = 3\nworkers = 1\ncapacity = 1\nseed = 1\n\
     [[topic]]\nname = \"news\"\n[[peer]]\nname = \"a\"\n[[peer]]\nname = \"b\"\n\
@@ -157,6 +193,14 @@ fn whole(layout: Layout) -> Option<Asked> {
     })
 }
 
+/// Figures by rounds.
+fn by_rounds(layout: Layout) -> Option<Asked> {
+    Some(Asked {
+        layout,
+        rounds: true,
+    })
+}
+
 #[test]
 fn arguments_ask_for_a_layout(rt: HostRuntime) -> Result<(), AllocError> {
     let alloc = rt.alloc();
@@ -164,6 +208,10 @@ fn arguments_ask_for_a_layout(rt: HostRuntime) -> Result<(), AllocError> {
     assert!(rt; asked(alloc, &["--csv"])? == whole(Layout::Csv));
     assert!(rt; asked(alloc, &["--json"])? == whole(Layout::Json));
     assert!(rt; asked(alloc, &["--help"])? == None);
+    assert!(rt; asked(alloc, &["--rounds"])? == by_rounds(Layout::Table));
+    assert!(rt; asked(alloc, &["--rounds", "--csv"])? == by_rounds(Layout::Csv));
+    assert!(rt; asked(alloc, &["--json", "--rounds"])? == by_rounds(Layout::Json));
+    assert!(rt; asked(alloc, &["--rounds", "--rounds"])? == None);
     assert!(rt; asked(alloc, &["--csv", "--json"])? == None);
     assert!(rt; asked(alloc, &["--csv", "--csv"])? == None);
     assert!(rt; asked(alloc, &["--csv", "", ""])? == None);
@@ -172,7 +220,7 @@ fn arguments_ask_for_a_layout(rt: HostRuntime) -> Result<(), AllocError> {
 
 #[test]
 fn other_arguments_are_told_how_the_program_is_called(rt: HostRuntime) -> Result<(), AllocError> {
-    let told = ("", "usage: gossip_stats [--csv | --json]\n");
+    let told = ("", "usage: gossip_stats [--csv | --json] [--rounds]\n");
     assert!(rt; ends_so(&rt, &["--cvs"], SCENARIO, 64, told)?);
     Ok(())
 }

@@ -4,3 +4,6 @@ mod Frames
 mod Joining
 mod Ranking
 mod Filing
+mod MeshMembers
+mod RoundTable
+mod LinkBytes

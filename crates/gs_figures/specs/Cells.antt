@@ -3,9 +3,9 @@ use Rattle.std.specs.Prelude.{ℕ, nat_lt, ◌||◌, ◌==◌, Bool, if◌then�
 use Rattle.std.specs.List.{flat_map}
 use Rattle.hex.specs.Hex.{encode_lower}
 use Rattle.gs_figures.specs.declared.cells.Table.{Table}
-use Rattle.gs_figures.specs.declared.cells.Table.TheVariants.{Reach, Heard, Sent, Standing}
+use Rattle.gs_figures.specs.declared.cells.Table.TheVariants.{Reach, Heard, Sent, Standing, Rounds}
 use Rattle.gs_figures.specs.declared.values.Column.{Column}
-use Rattle.gs_figures.specs.declared.values.Column.TheVariants.{RpcsHeard, BytesHeard, MessagesHeard, NewMessages, Duplicates, Ignored, Invalid, IhaveHeard, IwantHeard, GraftHeard, PruneHeard, RpcsSent, BytesSent, MessagesSent, IhaveSent, IwantSent, GraftSent, PruneSent, BrokenPromises, RefusedLines, LowestScore, HighestScore, SmallestMesh, LargestMesh, At, OnTopic, Delivered, FirstRound, MedianRound, Round99, LastRound}
+use Rattle.gs_figures.specs.declared.values.Column.TheVariants.{RpcsHeard, BytesHeard, MessagesHeard, NewMessages, Duplicates, Ignored, Invalid, IhaveHeard, IwantHeard, GraftHeard, PruneHeard, RpcsSent, BytesSent, MessagesSent, IhaveSent, IwantSent, GraftSent, PruneSent, BrokenPromises, RefusedLines, LowestScore, HighestScore, SmallestMesh, LargestMesh, At, OnTopic, Delivered, FirstRound, MedianRound, Round99, LastRound, Round}
 use Rattle.gs_figures.specs.declared.values.Value.{Value}
 use Rattle.gs_figures.specs.declared.values.Value.TheVariants.{Count, Whole, Missing}
 use Rattle.gs_figures.specs.Texts.{signed}
@@ -18,8 +18,9 @@ title Reach = codes "How far each message came\n"
 title Heard = codes "What each peer heard\n"
 title Sent = codes "What each peer sent\n"
 title Standing = codes "Scores and meshes at the end\n"
+title Rounds = codes "What happened in each round\n"
 
--- the table that tells a column's numbers
+-- the table that tells a column's numbers; that of the rounds tells numbers of others, too
 abbrev pub table_of : Column → Table
 table_of RpcsHeard = Heard
 table_of BytesHeard = Heard
@@ -52,6 +53,7 @@ table_of FirstRound = Reach
 table_of MedianRound = Reach
 table_of Round99 = Reach
 table_of LastRound = Reach
+table_of Round = Rounds
 
 -- tables by number, to tell one from another
 abbrev pub number : Table → ℕ
@@ -59,6 +61,7 @@ number Reach = 0
 number Heard = 1
 number Sent = 2
 number Standing = 3
+number Rounds = 4
 
 abbrev pub stands_in : Table → Column → Bool
 stands_in table column = number (table_of column) == number table
@@ -96,6 +99,7 @@ header_text FirstRound = codes "first"
 header_text MedianRound = codes "median"
 header_text Round99 = codes "99%"
 header_text LastRound = codes "last"
+header_text Round = codes "round"
 
 -- ---- cells
 

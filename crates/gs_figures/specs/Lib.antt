@@ -7,8 +7,11 @@ pub mod Ranks
 pub mod Publications
 pub mod Catalogues
 pub mod Figures
+pub mod Rounds
 pub mod Values
 pub mod Texts
 pub mod Tables
 pub mod Cells
 pub mod People
+pub mod RoundTexts
+pub mod RoundTables

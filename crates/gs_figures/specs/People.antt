@@ -6,7 +6,7 @@ use Rattle.gs_report.specs.Text.{name_of}
 use Rattle.gs_figures.specs.declared.counts.Counts.{Counts}
 use Rattle.gs_figures.specs.declared.figures.Figures.{Figures}
 use Rattle.gs_figures.specs.declared.cells.Table.{Table}
-use Rattle.gs_figures.specs.declared.cells.Table.TheVariants.{Reach, Heard, Sent, Standing}
+use Rattle.gs_figures.specs.declared.cells.Table.TheVariants.{Reach, Heard, Sent, Standing, Rounds}
 use Rattle.gs_figures.specs.declared.peers.PeerFigures.{PeerFigures}
 use Rattle.gs_figures.specs.declared.publications.PublicationFigures.{PublicationFigures}
 use Rattle.gs_figures.specs.declared.values.Column.{Column}
@@ -33,10 +33,17 @@ publication_row plan f =
 abbrev pub peer_row : Table → Plan → PeerFigures → List (List ℕ)
 peer_row table plan f = values_row table (name_cell (name_of plan f.peer) ∷ []) (peer_values f)
 
--- The row of the sums. There are none of scores and meshes.
+-- the row of the sums
+abbrev pub sum_row : Table → Counts → List (List ℕ)
+sum_row table counts = values_row table (codes "(all)" ∷ []) (sum_values counts)
+
+-- There are no sums of scores and meshes, and none of rounds.
 abbrev pub sum_rows : Table → Counts → List (List (List ℕ))
 sum_rows Standing counts = []
-sum_rows table counts = values_row table (codes "(all)" ∷ []) (sum_values counts) ∷ []
+sum_rows Rounds counts = []
+sum_rows Reach counts = sum_row Reach counts ∷ []
+sum_rows Heard counts = sum_row Heard counts ∷ []
+sum_rows Sent counts = sum_row Sent counts ∷ []
 
 -- ---- tables
 

@@ -1,13 +1,14 @@
 -- The numbers of figures, each in a column with a name. Each text of figures is made of these.
 use Rattle.std.specs.Prelude.{ℕ, codes, List, [], ◌∷◌, ◌++◌, Option, None, Some}
 use Rattle.gs_figures.specs.declared.values.Column.{Column}
-use Rattle.gs_figures.specs.declared.values.Column.TheVariants.{RpcsHeard, BytesHeard, MessagesHeard, NewMessages, Duplicates, Ignored, Invalid, IhaveHeard, IwantHeard, GraftHeard, PruneHeard, RpcsSent, BytesSent, MessagesSent, IhaveSent, IwantSent, GraftSent, PruneSent, BrokenPromises, RefusedLines, LowestScore, HighestScore, SmallestMesh, LargestMesh, At, OnTopic, Delivered, FirstRound, MedianRound, Round99, LastRound}
+use Rattle.gs_figures.specs.declared.values.Column.TheVariants.{RpcsHeard, BytesHeard, MessagesHeard, NewMessages, Duplicates, Ignored, Invalid, IhaveHeard, IwantHeard, GraftHeard, PruneHeard, RpcsSent, BytesSent, MessagesSent, IhaveSent, IwantSent, GraftSent, PruneSent, BrokenPromises, RefusedLines, LowestScore, HighestScore, SmallestMesh, LargestMesh, At, OnTopic, Delivered, FirstRound, MedianRound, Round99, LastRound, Round}
 use Rattle.gs_figures.specs.declared.values.Value.{Value}
 use Rattle.gs_figures.specs.declared.values.Value.TheVariants.{Count, Whole, Missing}
 use Rattle.gs_figures.specs.declared.counts.Counts.{Counts}
 use Rattle.gs_figures.specs.declared.peers.PeerFigures.{PeerFigures}
 use Rattle.gs_figures.specs.declared.publications.PublicationFigures.{PublicationFigures}
 use Rattle.gs_figures.specs.declared.ranks.Spread.{Spread}
+use Rattle.gs_figures.specs.declared.rounds.RoundFigures.{RoundFigures}
 use Rattle.gs_figures.specs.declared.span.Span.{Span}
 
 abbrev pub column_name : Column → List ℕ
@@ -42,6 +43,7 @@ column_name FirstRound = codes "first_round"
 column_name MedianRound = codes "median_round"
 column_name Round99 = codes "round_99"
 column_name LastRound = codes "last_round"
+column_name Round = codes "round"
 
 -- the columns of a peer, and of a publication
 unfoldable pub peer_columns : List Column
@@ -133,3 +135,26 @@ publication_values f =
     ∷ (OnTopic, Count f.on_topic)
     ∷ (Delivered, Count f.delivered)
     ∷ spread_values f.rounds
+
+-- the columns of a round, and its numbers in them
+unfoldable pub round_columns : List Column
+round_columns =
+    Round
+    ∷ Delivered
+    ∷ MessagesHeard
+    ∷ NewMessages
+    ∷ Duplicates
+    ∷ BytesSent
+    ∷ SmallestMesh
+    ∷ LargestMesh
+    ∷ []
+
+unfoldable pub round_values : RoundFigures → List (Column × Value)
+round_values f =
+    (Round, Count f.round)
+    ∷ (Delivered, Count f.delivered)
+    ∷ (MessagesHeard, Count f.messages)
+    ∷ (NewMessages, Count f.accepted)
+    ∷ (Duplicates, Count f.duplicates)
+    ∷ (BytesSent, Count f.bytes)
+    ∷ span_values SmallestMesh LargestMesh f.members

@@ -21,6 +21,8 @@ pub(crate) enum Table {
     Sent,
     /// Scores and meshes at the end.
     Standing,
+    /// What happened in each round.
+    Rounds,
 }
 
 /// The line above a table.
@@ -33,10 +35,11 @@ pub(crate) fn title(table: Table) -> &'static str
         Table::Heard => "What each peer heard\n",
         Table::Sent => "What each peer sent\n",
         Table::Standing => "Scores and meshes at the end\n",
+        Table::Rounds => "What happened in each round\n",
     }
 }
 
-/// The table that tells a column's numbers.
+/// The table that tells a column's numbers. That of the rounds tells numbers of others, too.
 fn table_of(column: Column) -> Table
     ensures { result ≡ table_of column }
 {
@@ -72,6 +75,7 @@ fn table_of(column: Column) -> Table
         Column::MedianRound => Table::Reach,
         Column::Round99 => Table::Reach,
         Column::LastRound => Table::Reach,
+        Column::Round => Table::Rounds,
     }
 }
 
@@ -83,6 +87,7 @@ fn number(table: Table) -> u8
         Table::Heard => 1,
         Table::Sent => 2,
         Table::Standing => 3,
+        Table::Rounds => 4,
     }
 }
 
@@ -93,7 +98,7 @@ fn stands_in(table: Table, column: Column) -> bool
 }
 
 /// The header of a column.
-fn header_text(column: Column) -> &'static str
+pub(crate) fn header_text(column: Column) -> &'static str
     ensures { result.now ≡ header_text column }
 {
     match column {
@@ -128,6 +133,7 @@ fn header_text(column: Column) -> &'static str
         Column::MedianRound => "median",
         Column::Round99 => "99%",
         Column::LastRound => "last",
+        Column::Round => "round",
     }
 }
 
@@ -247,7 +253,7 @@ fn front_cell(alloc: Global, front: &[u8]) -> Result<Cell, AllocError>
 }
 
 /// The cell of a value.
-fn value_cell(alloc: Global, value: &Value) -> Result<Cell, AllocError>
+pub(crate) fn value_cell(alloc: Global, value: &Value) -> Result<Cell, AllocError>
     ensures { IfOk result (λ cell. cell ≡ value_cell value.now) }
 {
     let mut cell = Vec::new(alloc);

@@ -181,7 +181,7 @@ fn counts_of(entry: &StoredEntry) -> Counts
 }
 
 /// What an event with these marks counts for. Each event is named, so that a new one is decided on.
-fn counts_by(event: &Event, marks: &[Mark]) -> Counts
+pub(crate) fn counts_by(event: &Event, marks: &[Mark]) -> Counts
     ensures { result ≡ counts_by event.now marks.now }
 {
     match event {

@@ -1,5 +1,5 @@
 //! What goes to a neighbour, counted entry by entry.
-ghost use Rattle.std.specs.Prelude.{◌≡◌, [], ◌∷◌, true, filter, fold, if◌then◌else◌, IfOk, OnOk};
+ghost use Rattle.std.specs.Prelude.{◌≡◌, ◌-◌, [], ◌∷◌, true, filter, fold, if◌then◌else◌, IfOk, OnOk};
 ghost use Rattle.gs_base.specs.Names.{same_peer};
 ghost use Rattle.gs_rules.specs.Modes.{sent_to};
 ghost use Rattle.gs_rules.specs.Tables.{is_lost};
@@ -36,7 +36,7 @@ pub(crate) fn lane_in(
 }
 
 impl Lane {
-    fn new(alloc: Global) -> Lane
+    pub(crate) fn new(alloc: Global) -> Lane
         ensures { result ≡ new_lane }
     {
         Lane {
@@ -45,6 +45,21 @@ impl Lane {
             rpcs: 0,
             bytes: 0,
         }
+    }
+
+    /// Counts an entry more, and says how many bytes it puts out.
+    pub(crate) fn tell_bytes(
+        &mut self,
+        alloc: Global,
+        peer: PeerNo,
+        entry: &StoredEntry,
+    ) -> Result<u64, AllocError>
+        ensures lane { OnOk result (self.new ≡ lane_behind peer self.old entry.now) }
+        ensures bytes { IfOk result (λ count. count ≡ self.new.bytes - self.old.bytes) }
+    {
+        let before = self.bytes;
+        self.tell(alloc, peer, entry)?;
+        Ok(self.bytes.saturating_sub(before))
     }
 
     fn tell(&mut self, alloc: Global, peer: PeerNo, entry: &StoredEntry) -> Result<(), AllocError>

@@ -7,12 +7,14 @@ ghost use Rattle.gs_wire.specs.Codec.{codec};
 ghost use Rattle.gs_wire.specs.Messages.{frame};
 ghost use Rattle.gs_base.specs.declared.names.PeerNo.{PeerNo as PeerNoValue};
 ghost use Rattle.gs_rules.specs.Legal.{Legal};
+ghost use Rattle.gs_rules.specs.Meshes.{mesh};
 ghost use Rattle.gs_rules.specs.Peers.{Peer};
 ghost use Rattle.gs_rules.specs.Saying.{bytes_of, out};
 ghost use Rattle.gs_rules.specs.Tables.{Entries, joined};
 ghost use Rattle.gs_rules.specs.declared.trace.Entry.{Entry as EntryValue};
 ghost use Rattle.gs_figures.specs.Links.{fitting, frames_to, raws_to};
-ghost use Rattle.gs_figures.specs.Peers.{subscribed};
+ghost use Rattle.gs_figures.specs.Peers.{members_in, subscribed};
+ghost use Rattle.gs_figures.specs.Rounds.{members};
 ghost use Rattle.gs_figures.specs.Sums.{AreSums};
 
 /// The topics whose meshes are told of a peer are those that its trace has as joined.
@@ -35,4 +37,9 @@ pub fn what_is_said_is_counted()
 /// says.
 pub fn all_of_a_legal_trace_counts()
     ensures { (p : Peer) (L : Entries) → Legal p L → map fitting L ≡ L }
+{}
+
+/// The members that are counted of a mesh are as many as its trace has in it.
+pub fn members_are_those_of_meshes()
+    ensures { (t : TopicValue) (L : Entries) → members_in (members L) t ≡ length (mesh L t) }
 {}

@@ -133,7 +133,8 @@ fn span_of_meshes(topics: &[Topic], members: &[(Topic, PeerNo)]) -> Option<Span>
     span
 }
 
-fn members_in(members: &[(Topic, PeerNo)], topic: &Topic) -> u64
+/// How many of these members of meshes are in that of a topic.
+pub(crate) fn members_in(members: &[(Topic, PeerNo)], topic: &Topic) -> u64
     ensures { result ≡ members_in members.now topic.now }
 {
     members.iter().filter(|member| member.0 == *topic).count() as u64
@@ -150,7 +151,8 @@ fn subscribed(alloc: Global, entries: &[StoredEntry]) -> Result<Vec<Topic>, Allo
     Ok(topics)
 }
 
-fn note(topics: &mut Vec<Topic>, event: &Event) -> Result<(), AllocError>
+/// Notes what an event changes of the topics that a peer is subscribed to.
+pub(crate) fn note(topics: &mut Vec<Topic>, event: &Event) -> Result<(), AllocError>
     ensures { OnOk result (topics.new.items ≡ subscribed_after event.now topics.old.items) }
 {
     match event {

@@ -64,7 +64,7 @@ fn push_peers(
 }
 
 /// Adds a table under its title.
-fn push_titled(
+pub(crate) fn push_titled(
     alloc: Global,
     text: &mut Vec<u8>,
     table: Table,
@@ -146,6 +146,7 @@ fn push_sum(
 {
     match table {
         Table::Standing => Ok(()),
+        Table::Rounds => Ok(()),
         Table::Reach => rows.push(sum_row(alloc, table, sum)?),
         Table::Heard => rows.push(sum_row(alloc, table, sum)?),
         Table::Sent => rows.push(sum_row(alloc, table, sum)?),

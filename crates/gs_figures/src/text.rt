@@ -136,7 +136,7 @@ fn push_peer_header(alloc: Global, text: &mut Vec<u8>, form: Form) -> Result<(),
     }
 }
 
-fn push_columns(text: &mut Vec<u8>, columns: &[Column]) -> Result<(), AllocError>
+pub(crate) fn push_columns(text: &mut Vec<u8>, columns: &[Column]) -> Result<(), AllocError>
     ensures { OnOk result (text.new.items ≡ text.old.items ++ flat_map column_text columns.now) }
 {
     for column in columns {
@@ -310,7 +310,7 @@ fn push_escaped(alloc: Global, text: &mut Vec<u8>, byte: u8) -> Result<(), Alloc
     text.extend_from_slice(&[byte])
 }
 
-fn push_numbers(
+pub(crate) fn push_numbers(
     alloc: Global,
     text: &mut Vec<u8>,
     form: Form,
@@ -350,7 +350,7 @@ fn push_ahead(text: &mut Vec<u8>, form: Form, column: Column) -> Result<(), Allo
     }
 }
 
-fn push_value(
+pub(crate) fn push_value(
     alloc: Global,
     text: &mut Vec<u8>,
     form: Form,

@@ -1,11 +1,12 @@
 //! The numbers of figures, each in a column with a name.
 ghost use Rattle.std.specs.Prelude.{◌≡◌, ◌++◌, IfOk, OnOk};
-ghost use Rattle.gs_figures.specs.Values.{column_name, count_values, peer_columns, peer_values, publication_columns, publication_values, span_values, spread_values, sum_values};
+ghost use Rattle.gs_figures.specs.Values.{column_name, count_values, peer_columns, peer_values, publication_columns, publication_values, round_columns, round_values, span_values, spread_values, sum_values};
 
 use crate::counts::Counts;
 use crate::peers::PeerFigures;
 use crate::publications::PublicationFigures;
 use crate::ranks::Spread;
+use crate::rounds::RoundFigures;
 use crate::span::Span;
 use std::alloc::{AllocError, Global};
 
@@ -43,6 +44,7 @@ pub enum Column {
     MedianRound,
     Round99,
     LastRound,
+    Round,
 }
 
 /// A number, or none.
@@ -90,6 +92,7 @@ pub(crate) fn column_name(column: Column) -> &'static str
         Column::MedianRound => "median_round",
         Column::Round99 => "round_99",
         Column::LastRound => "last_round",
+        Column::Round => "round",
     }
 }
 
@@ -271,4 +274,47 @@ fn push_spread(values: &mut Vec<(Column, Value)>, rounds: &Option<Spread>) -> Re
             (Column::LastRound, Value::Missing),
         ]),
     }
+}
+
+/// The columns of a round.
+#[tactic(auto, unfolding(crate::specs::Values::round_columns))]
+pub(crate) fn round_columns(alloc: Global) -> Result<Vec<Column>, AllocError>
+    ensures { IfOk result (λ columns. columns.items ≡ round_columns) }
+{
+    let list = vec![in alloc;
+        Column::Round,
+        Column::Delivered,
+        Column::MessagesHeard,
+        Column::NewMessages,
+        Column::Duplicates,
+        Column::BytesSent,
+        Column::SmallestMesh,
+        Column::LargestMesh,
+    ]?;
+    Ok(list)
+}
+
+/// The numbers of a round, in the order of their columns.
+#[tactic(auto, unfolding(crate::specs::Values::round_values))]
+pub(crate) fn round_values(
+    alloc: Global,
+    figures: &RoundFigures,
+) -> Result<Vec<(Column, Value)>, AllocError>
+    ensures { IfOk result (λ values. values.items ≡ round_values figures.now) }
+{
+    let mut values = vec![in alloc;
+        (Column::Round, Value::Count(figures.round)),
+        (Column::Delivered, Value::Count(figures.delivered)),
+        (Column::MessagesHeard, Value::Count(figures.messages)),
+        (Column::NewMessages, Value::Count(figures.accepted)),
+        (Column::Duplicates, Value::Count(figures.duplicates)),
+        (Column::BytesSent, Value::Count(figures.bytes)),
+    ]?;
+    push_span(
+        &mut values,
+        Column::SmallestMesh,
+        Column::LargestMesh,
+        &figures.members,
+    )?;
+    Ok(values)
 }

@@ -3,4 +3,5 @@ mod made;
 mod peers;
 mod people;
 mod publications;
+mod rounds;
 mod texts;

@@ -280,7 +280,7 @@ fn sends_of(alloc: Global, did: Did) -> Result<Seq<(PeerNo, Shared<Rpc>)>, Alloc
     Ok(sends)
 }
 
-fn entry(alloc: Global, at: u64, did: Did) -> Result<Entry, AllocError> {
+pub(crate) fn entry(alloc: Global, at: u64, did: Did) -> Result<Entry, AllocError> {
     let mut marks = Seq::new(alloc);
     push_marks(alloc, &mut marks, did)?;
     let sends = sends_of(alloc, did)?;
