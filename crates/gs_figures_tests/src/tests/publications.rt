@@ -1,5 +1,5 @@
 //! How far publications came.
-use crate::tests::made::{Did, Life, SILENT, delivering, peers_of};
+use crate::tests::made::{Did, Life, SILENT, peers_of};
 use gs_base::{Millis, PeerNo};
 use gs_figures::{PublicationFigures, Spread, all_publications};
 use std::alloc::{AllocError, Global};
@@ -7,12 +7,12 @@ use std::alloc::{AllocError, Global};
 /// What is to be told of a publication: its publisher and its moment, how many peers were on its topic and how many it
 /// was delivered to, and the first, the median, the 99th percentile and the last of the rounds.
 #[derive(Clone, Copy)]
-struct Row {
-    peer: u16,
-    at: u64,
-    on_topic: u64,
-    delivered: u64,
-    rounds: Option<[u64; 4]>,
+pub(crate) struct Row {
+    pub peer: u16,
+    pub at: u64,
+    pub on_topic: u64,
+    pub delivered: u64,
+    pub rounds: Option<[u64; 4]>,
 }
 
 /// A run with rounds of 100 milliseconds, and its publications.
@@ -370,7 +370,8 @@ fn is_row(row: &Row, figures: &PublicationFigures) -> bool {
         && spread == figures.rounds
 }
 
-fn are_rows(rows: &[Row], figures: &[PublicationFigures]) -> bool {
+/// Whether the figures are these rows.
+pub(crate) fn are_rows(rows: &[Row], figures: &[PublicationFigures]) -> bool {
     let mut right = rows.len() == figures.len();
     for (row, told) in rows.iter().zip(figures) {
         right &= is_row(row, told);
@@ -391,39 +392,6 @@ fn are_told(alloc: Global, case: &Case) -> Result<bool, AllocError> {
 fn each_publication_has_its_figures(rt: HostRuntime) -> Result<(), AllocError> {
     for case in &CASES {
         assert!(rt; are_told(rt.alloc(), case)?, "{}", case.name);
-    }
-    Ok(())
-}
-
-/// How many peers deliver, and the first, the median, the 99th percentile and the last of the rounds. The peers deliver
-/// one round after the other, the last peer first.
-static PERCENTILES: [(u16, [u64; 4]); 5] = [
-    (1, [0, 0, 0, 0]),
-    (2, [0, 0, 1, 1]),
-    (99, [0, 49, 98, 98]),
-    (100, [0, 49, 98, 99]),
-    (101, [0, 50, 99, 100]),
-];
-
-fn has_percentiles(alloc: Global, count: u16, rounds: [u64; 4]) -> Result<bool, AllocError> {
-    let peers = delivering(alloc, count)?;
-    let told = all_publications(alloc, 100, &peers);
-    drop(peers);
-    let figures = told?;
-    let row = Row {
-        peer: count,
-        at: 0,
-        on_topic: 0,
-        delivered: u64::from(count),
-        rounds: Some(rounds),
-    };
-    Ok(are_rows(&[row], figures.as_slice()))
-}
-
-#[test]
-fn percentiles_are_by_nearest_rank(rt: HostRuntime) -> Result<(), AllocError> {
-    for (count, rounds) in &PERCENTILES {
-        assert!(rt; has_percentiles(rt.alloc(), *count, *rounds)?, "{count}");
     }
     Ok(())
 }
