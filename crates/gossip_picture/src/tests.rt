@@ -47,16 +47,20 @@ text,.off text{fill:#e6edf3}
 .course{stroke:#58a6ff}
 }
 </style>
-<defs><marker id=\"head\" refX=\"18\" refY=\"5\" markerWidth=\"10\" markerHeight=\"10\" markerUnits=\"userSpaceOnUse\" orient=\"auto\"><path d=\"M0 0L10 5L0 10z\"/></marker></defs>
+<defs><marker id=\"head\" refX=\"18\" refY=\"5\" markerWidth=\"10\" \
+markerHeight=\"10\" markerUnits=\"userSpaceOnUse\" orient=\"auto\">\
+<path d=\"M0 0L10 5L0 10z\"/></marker></defs>
 <rect class=\"back\" width=\"100%\" height=\"100%\"/>
 ";
 
 /// The legend, which each picture has.
 const LEGEND: &str = "\
 <text class=\"head\" x=\"60\" y=\"590\">Each disc is a peer, by the lowest score that a neighbour gives it at the end</text>
-<g class=\"disc off\" transform=\"translate(69 660)\"><circle r=\"9\"/></g><text x=\"85\" y=\"664\">hollow: not subscribed to the topic</text>
+<g class=\"disc off\" transform=\"translate(69 660)\"><circle r=\"9\"/></g>\
+<text x=\"85\" y=\"664\">hollow: not subscribed to the topic</text>
 <path class=\"both\" d=\"M316 660H340\"/><text x=\"345\" y=\"664\">each has the other in its mesh</text>
-<path class=\"tail\" d=\"M576 660H592\"/><path class=\"tip\" d=\"M592 655L602 660L592 665z\"/><text x=\"605\" y=\"664\">the tail alone has the head in its mesh</text>
+<path class=\"tail\" d=\"M576 660H592\"/><path class=\"tip\" d=\"M592 655L602 660L592 665z\"/>\
+<text x=\"605\" y=\"664\">the tail alone has the head in its mesh</text>
 <g class=\"disc fair\" transform=\"translate(69 612)\"><circle r=\"9\"/><text y=\"4\">+</text></g>
 <text x=\"85\" y=\"616\">0 or more</text>
 <g class=\"disc zero\" transform=\"translate(329 612)\"><circle r=\"9\"/><text y=\"4\">-</text></g>

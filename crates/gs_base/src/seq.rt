@@ -84,9 +84,7 @@ impl<T: Drop> Seq<T> {
         self.items.push(item)?;
         Ok(())
     }
-}
 
-impl<T: Drop> Seq<T> {
     /// Gives back the memory for elements to come.
     pub fn shrink_to_fit(&mut self)
         ensures { self.new ≡ self.old }

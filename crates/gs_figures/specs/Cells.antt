@@ -106,7 +106,8 @@ header_text Round = codes "round"
 -- A byte of a name. What is no printable ASCII is told by its number, so that no name breaks a line. So is a backslash,
 -- so that no two names are told alike.
 abbrev pub printable : ℕ → List ℕ
-printable byte = if nat_lt byte 32 || (nat_lt 126 byte || byte == 92) then codes "\\x" ++ encode_lower (byte ∷ []) else byte ∷ []
+printable byte =
+    if nat_lt byte 32 || (nat_lt 126 byte || byte == 92) then codes "\\x" ++ encode_lower (byte ∷ []) else byte ∷ []
 
 abbrev pub name_cell : List ℕ → List ℕ
 name_cell name = flat_map printable name

@@ -5,6 +5,7 @@ use Rattle.gs_plan.specs.declared.plan.Plan.{Plan}
 use Rattle.gs_report.specs.Text.{name_of}
 use Rattle.gs_figures.specs.declared.counts.Counts.{Counts}
 use Rattle.gs_figures.specs.declared.figures.Figures.{Figures}
+use Rattle.gs_figures.specs.declared.listed.Appearance.{Appearance}
 use Rattle.gs_figures.specs.declared.cells.Table.{Table}
 use Rattle.gs_figures.specs.declared.cells.Table.TheVariants.{Reach, Heard, Sent, Standing, Rounds}
 use Rattle.gs_figures.specs.declared.peers.PeerFigures.{PeerFigures}
@@ -25,10 +26,15 @@ values_row table names values = names ++ flat_map (cells_in table) values
 abbrev pub header_row : Table → List (List ℕ) → List Column → List (List ℕ)
 header_row table labels columns = labels ++ flat_map (headers_in table) columns
 
+-- what names a publication: its topic, its payload and who published it
+abbrev pub publication_labels : List (List ℕ)
+publication_labels = codes "topic" ∷ codes "payload" ∷ codes "from" ∷ []
+
+abbrev pub publication_names : Plan → Appearance → List (List ℕ)
+publication_names plan p = name_cell p.topic.0 ∷ payload_cell p.payload ∷ name_cell (name_of plan p.peer) ∷ []
+
 abbrev pub publication_row : Plan → PublicationFigures → List (List ℕ)
-publication_row plan f =
-    values_row Reach (name_cell f.publication.topic.0 ∷ payload_cell f.publication.payload ∷ name_cell (name_of plan f.publication.peer) ∷ [])
-    (publication_values f)
+publication_row plan f = values_row Reach (publication_names plan f.publication) (publication_values f)
 
 abbrev pub peer_row : Table → Plan → PeerFigures → List (List ℕ)
 peer_row table plan f = values_row table (name_cell (name_of plan f.peer) ∷ []) (peer_values f)
@@ -53,7 +59,7 @@ titled table names rows = title table ++ (if nat_lt (length rows) 2 then codes "
 
 abbrev pub reach_rows : Plan → Figures → List (List (List ℕ))
 reach_rows plan f =
-    header_row Reach (codes "topic" ∷ codes "payload" ∷ codes "from" ∷ []) publication_columns
+    header_row Reach publication_labels publication_columns
     ∷ map (publication_row plan) f.publications
 
 abbrev pub peer_rows : Table → Plan → Figures → List (List (List ℕ))

@@ -2,7 +2,7 @@
 ghost use Rattle.std.specs.Prelude.{◌≡◌, ◌++◌, ◌∷◌, [], codes, map, IfOk, OnOk};
 ghost use Rattle.std.specs.List.{flat_map};
 ghost use Rattle.gs_figures.specs.Cells.{cells_in};
-ghost use Rattle.gs_figures.specs.People.{figures_table, header_row, peer_row, peer_rows, peers_text, publication_row, reach_rows, sum_rows, titled};
+ghost use Rattle.gs_figures.specs.People.{figures_table, header_row, peer_row, peer_rows, peers_text, publication_labels, publication_row, reach_rows, sum_rows, titled};
 ghost use Rattle.gs_figures.specs.Values.{peer_columns, publication_columns, sum_values};
 
 use crate::cells::{Table, cell_of, name_cell, payload_cell, push_headers, push_values, title};
@@ -197,7 +197,7 @@ fn publication_row(
 }
 
 fn reach_header(alloc: Global) -> Result<Row, AllocError>
-    ensures { IfOk result (λ row. row ≡ header_row Table.Reach (codes "topic" ∷ codes "payload" ∷ codes "from" ∷ []) publication_columns) }
+    ensures { IfOk result (λ row. row ≡ header_row Table.Reach publication_labels publication_columns) }
 {
     let columns = publication_columns(alloc)?;
     let mut row = Seq::new(alloc);

@@ -70,7 +70,8 @@ module _ {R : Type 0} (any_of : ℕ → List PeerNo → (List PeerNo → R) → 
   opportunistic_grafts false most members candidates next = next []
 
   -- so it is with the mesh as its number of members left it; whom that grafted does not come in twice
-  abbrev pub opportunistic_grafts_then : Params → ℕ → List Member → List Member → List PeerNo → (List PeerNo → R) → R
+  abbrev pub opportunistic_grafts_then :
+      Params → ℕ → List Member → List Member → List PeerNo → (List PeerNo → R) → R
   opportunistic_grafts_then params tick members candidates grafted next =
       opportunistic_grafts (is_poor params tick members) params.timing.opportunistic_peers members
       (outside grafted candidates) next
@@ -115,7 +116,8 @@ module _ {S : Type 0} (word : S → ℕ) (after : S → S) where
       (λ kept grafted t. (kept, grafted, t)) s
 
   -- who is grafted where it is poor, beside those that were, and the state behind that
-  abbrev pub opportunistic_grafts_by_words : Params → ℕ → List Member → List Member → List PeerNo → S → List PeerNo × S
+  abbrev pub opportunistic_grafts_by_words :
+      Params → ℕ → List Member → List Member → List PeerNo → S → List PeerNo × S
   opportunistic_grafts_by_words params tick members candidates grafted s =
       opportunistic_grafts_then any_by_words params tick members candidates grafted (λ more t. (more, t)) s
 

@@ -33,8 +33,7 @@ pub struct Degrees {
     pub d_low: u64,
     /// With more members than this a mesh is cut: `d` to 64.
     pub d_high: u64,
-    /// How many of the members that are best by score are kept where a mesh is cut: together with
-    /// `d_out` at most `d`.
+    /// How many of the best members by score are kept where a mesh is cut: together with `d_out` at most `d`.
     pub d_score: u64,
     /// How many outbound members a mesh should have: fewer than `d_low`, and at most half of `d`.
     pub d_out: u64,

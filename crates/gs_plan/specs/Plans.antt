@@ -158,7 +158,8 @@ pub record IsInRange (plan : Plan) : Type 0 where
   pub apps_differ : AllPairs (λ x y. are_of_the_same y x ≡ false) plan.apps
   -- a peering agreement is with a neighbour of its peer, and stands once
   pub explicit_of : All (λ (agreement : Explicit). IsOneOf plan.peers agreement.peer) plan.explicit
-  pub explicit_about : All (λ (agreement : Explicit). are_joined plan.dials agreement.peer agreement.about ≡ true) plan.explicit
+  pub explicit_about :
+      All (λ (agreement : Explicit). are_joined plan.dials agreement.peer agreement.about ≡ true) plan.explicit
   pub explicit_differ : AllPairs (λ x y. are_one_pair y x ≡ false) plan.explicit
   -- a line of the script is of a peer of the plan, in one of its rounds: on one of its topics, or to a neighbour of the peer
   pub lines_of : All (λ (line : Line). IsOneOf plan.peers line.peer) plan.script

@@ -1,5 +1,6 @@
 //! The RPCs that a router sends.
 ghost use Rattle.std.specs.Prelude.{◌≡◌, IfOk, map};
+ghost use Rattle.std.specs.List.{flat_map};
 ghost use Rattle.gs_base.specs.declared.names.MsgId.{MsgId as MsgIdValue};
 ghost use Rattle.gs_base.specs.Rpcs.{announcement, empty_control, empty_rpc, grafting, longest_backoff, most_identifiers, offering, passed_on, pruning, publication, requesting};
 
@@ -100,7 +101,8 @@ impl Rpc {
         })
     }
 
-    /// An offer of messages on a topic (gossipsub v1.0, "Control messages", IHAVE).
+    /// An offer of messages on a topic (gossipsub v1.0, "Control messages", IHAVE). Its identifiers share one block of
+    /// memory.
     ///
     /// # Errors
     /// `AllocError` where there was no memory for it.
@@ -109,7 +111,7 @@ impl Rpc {
     {
         let offer = IHave {
             topic: Some(clone_of(topic)?),
-            ids: bytes_of(alloc, ids)?,
+            ids: in_one_block(alloc, ids)?,
         };
         let control = Control {
             ihave: Seq::only(alloc, offer)?,
@@ -179,12 +181,26 @@ fn control_only(alloc: Global, control: Control) -> Rpc
     }
 }
 
-fn bytes_of(alloc: Global, ids: &[MsgId]) -> Result<Seq<Bytes>, AllocError>
+/// The bytes of each identifier, which all share one block.
+fn in_one_block(alloc: Global, ids: &[MsgId]) -> Result<Seq<Bytes>, AllocError>
     ensures { IfOk result (λ list. list ≡ map (λ (id : MsgIdValue). id.0) ids.now) }
 {
-    let mut list = Seq::new(alloc);
+    let mut rest = Bytes::from_vec(joined(alloc, ids)?)?;
+    let mut list = Vec::with_capacity(alloc, ids.len())?;
     for id in ids {
-        list.push(Bytes::copy_from_slice(alloc, &id.0)?)?;
+        let bytes: &[u8] = &id.0;
+        list.push(rest.split_to(bytes.len())?)?;
     }
-    Ok(list)
+    Ok(Seq::from(list))
+}
+
+/// The bytes of all identifiers, one behind the other.
+fn joined(alloc: Global, ids: &[MsgId]) -> Result<Vec<u8>, AllocError>
+    ensures { IfOk result (λ block. block.items ≡ flat_map (λ (id : MsgIdValue). id.0) ids.now) }
+{
+    let mut block = Vec::with_capacity(alloc, ids.len().saturating_mul(size_of::<MsgId>()))?;
+    for id in ids {
+        block.extend_from_slice(&id.0)?;
+    }
+    Ok(block)
 }

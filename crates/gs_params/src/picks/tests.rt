@@ -14,7 +14,7 @@ const SHUFFLED: [PeerNo; 5] = [PeerNo(3), PeerNo(1), PeerNo(2), PeerNo(4), PeerN
 const ODD: [PeerNo; 2] = [PeerNo(1), PeerNo(3)];
 
 /// The worked example, of the definitions alone. The state is the list of the words to come.
-#[tactic(auto, unfolding(crate::specs::Picks::next_words, crate::specs::Picks::after_words, crate::specs::Picks::shuffled, crate::specs::Picks::picked, crate::specs::Picks::picked_words, crate::specs::Picks::picked_one, crate::specs::Picks::picked_one_words))]
+#[tactic(auto, unfolding(crate::specs::Picks::next_words, crate::specs::Picks::after_words, crate::specs::Picks::shuffled, crate::specs::Picks::picked, crate::specs::Picks::picked_words, crate::specs::Picks::picked_one, crate::specs::Picks::picked_one_words,))]
 fn the_definitions_give_the_worked_example()
     ensures places { shuffled 0 (7 ∷ 9 ∷ []) FIVE ≡ SHUFFLED }
     ensures some { picked (λ ws. slice_index ws 0) (drop 1) 2 FIVE (7 ∷ 9 ∷ []) ≡ ODD }

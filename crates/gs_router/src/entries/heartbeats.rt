@@ -13,11 +13,11 @@ ghost use Rattle.gs_router.specs.Tables.{Agrees};
 ghost use Rattle.gs_router.specs.Known.{IsFit, Knows, peer_with};
 
 use crate::entries::selection::ordinary_listeners;
-use crate::entries::sends::{bare, offering, to_each};
+use crate::entries::sends::{bare, to_each};
 use crate::entries::thresholds;
 use crate::known::Known;
 use crate::setup::Setup;
-use gs_base::{Mark, Millis, PeerNo, Seq, Topic};
+use gs_base::{Mark, Millis, PeerNo, Rpc, Seq, Topic};
 use gs_params::{Words, pick};
 use gs_rules::{Entry, Event, Promise};
 use std::alloc::AllocError;
@@ -176,7 +176,7 @@ fn gossiping(
 {
     // (listed here and not before, so that no list waits while other topics are gossiped)
     let ids = known.tables.messages.gossip_ids(&topic)?;
-    let rpc = offering(known.alloc, &topic, ids.as_slice())?;
+    let rpc = Rpc::offering(known.alloc, &topic, ids.as_slice())?;
     let sends = to_each(known.alloc, rpc, chosen)?;
     Ok(Entry {
         sends,

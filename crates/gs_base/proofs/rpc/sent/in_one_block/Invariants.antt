@@ -1,7 +1,7 @@
 use Rattle.std.proofs.Common.{◌≡◌, ◌++◌, drop, map}
 use Rattle.std.specs.List.{flat_map}
 use Rattle.gs_base.specs.declared.names.MsgId.{MsgId}
-use Rattle.gs_router.proofs.entries.sends.in_one_block.Given as goal
+use Rattle.gs_base.proofs.rpc.sent.in_one_block.Given as goal
 
 abbrev pub invariant-loop-id : goal.invariant-loop-id
 invariant-loop-id l = record {
