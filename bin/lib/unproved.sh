@@ -1,5 +1,5 @@
 # shellcheck shell=bash disable=SC2154
-# Runs a program that is not proved yet, by `rt try`, which compiles it with checks. bin/gossip_sim reads this file, and sets
+# Runs a program that is not proved yet, by `rt try`, which compiles it with checks. bin/lib/runs.sh reads this file, and sets
 # `top` to the repository's folder and `room` to one for what goes between programs.
 
 # rt try stops a run after so many seconds, and one that writes more than a megabyte.
