@@ -24,7 +24,7 @@ check_figures() {
   expect 'figures of standard input' 0 "$figures" '' stats_of_input
   expect 'figures of a changed scenario' 0 "$figures" '' stats --workers 1 --set rounds=10 "$example"
   expect_like 'figures as CSV' 0 '*,*,*' '' stats --csv "$example"
-  expect_like 'figures of rounds as JSON' 0 '\[{*}*\]' '' stats --json --rounds "$example"
+  expect_like 'figures of rounds as JSON' 0 '[[]*"round":10,*]' '' stats --json --rounds "$example"
   expect 'figures of nothing' 1 '' 'scenario refused: 28 round_ms' stats /dev/null
   expect 'two forms of figures' 64 '' 'usage: gossip_stats [--csv | --json] [--rounds]' stats --csv --json "$example"
   expect 'figures of no such file' 66 '' "gossip_stats: there is no file $room/none" stats "$room/none"

@@ -1,5 +1,5 @@
 //! Prints figures of a run: reads a scenario, runs it, and says how far each message came and what each peer heard and
-//! sent.
+//! sent, or what happened in each round.
 #![tactic(auto)]
 
 mod arguments;

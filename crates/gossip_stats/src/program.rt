@@ -70,8 +70,8 @@ fn rounds_laid_out(
 }
 
 /// Runs the program with these arguments over these streams, and gives the status that its process ends with. Where the
-/// arguments ask for something, its ends are those of `gossip_sim`, and its text is that. Else it reads no input, says on
-/// `errors` how it is called, and ends with 64.
+/// arguments ask for something, its ends are those of `gossip_sim`, and its text is what they ask for. Else it reads no
+/// input, says on `errors` how it is called, and ends with 64.
 pub fn run<T, R, W, E>(
     rt: &T,
     arguments: &[String],

@@ -51,16 +51,16 @@ topic  payload  from  at_ms  on topic  delivered  first  median  99%  last
 news   616263   a       200         2          2      0       0    1     1
 
 What each peer heard
-peer   RPCs  bytes  messages  new  duplicates  ignored  invalid  IHAVE  IWANT  GRAFT  PRUNE
-a         1     11         0    0           0        0        0      0      0      0      0
-b         2     25         1    1           0        0        0      0      0      0      0
-(all)     3     36         1    1           0        0        0      0      0      0      0
+peer   RPCs  bytes  messages  new  duplicates  ignored  invalid  IHAVE  IWANT  GRAFT  PRUNE  broken promises
+a         1     11         0    0           0        0        0      0      0      0      0                0
+b         2     25         1    1           0        0        0      0      0      0      0                0
+(all)     3     36         1    1           0        0        0      0      0      0      0                0
 
 What each peer sent
-peer   RPCs  bytes  messages  IHAVE  IWANT  GRAFT  PRUNE  broken promises  refused lines
-a         2     25         1      0      0      0      0                0              0
-b         1     11         0      0      0      0      0                0              0
-(all)     3     36         1      0      0      0      0                0              0
+peer   RPCs  bytes  messages  IHAVE  IWANT  GRAFT  PRUNE  refused lines
+a         2     25         1      0      0      0      0              0
+b         1     11         0      0      0      0      0              0
+(all)     3     36         1      0      0      0      0              0
 
 Scores and meshes at the end
 peer  lowest score  highest score  smallest mesh  largest mesh
@@ -123,11 +123,11 @@ round,delivered,messages_heard,new,duplicates,bytes_sent,smallest_mesh,largest_m
 
 const ROUNDS_AS_TABLE: &str = "\
 What happened in each round
-round  delivered  messages  new  duplicates  bytes  smallest mesh  largest mesh
-    0          0         0    0           0     22              0             0
-    1          0         0    0           0      0              0             0
-    2          1         0    0           0     14              0             0
-    3          1         1    1           0      0              0             0
+round  delivered  messages heard  new  duplicates  bytes sent  smallest mesh  largest mesh
+    0          0               0    0           0          22              0             0
+    1          0               0    0           0           0              0             0
+    2          1               0    0           0          14              0             0
+    3          1               1    1           0           0              0             0
 ";
 
 #[test]

@@ -40,7 +40,7 @@ table_of IhaveSent = Sent
 table_of IwantSent = Sent
 table_of GraftSent = Sent
 table_of PruneSent = Sent
-table_of BrokenPromises = Sent
+table_of BrokenPromises = Heard
 table_of RefusedLines = Sent
 table_of LowestScore = Standing
 table_of HighestScore = Standing
@@ -104,7 +104,7 @@ header_text Round = codes "round"
 -- ---- cells
 
 -- A byte of a name. What is no printable ASCII is told by its number, so that no name breaks a line. So is a backslash,
--- so that no two names are told alike.
+-- so that two cells are alike only where the names are.
 abbrev pub printable : ℕ → List ℕ
 printable byte =
     if nat_lt byte 32 || (nat_lt 126 byte || byte == 92) then codes "\\x" ++ encode_lower (byte ∷ []) else byte ∷ []

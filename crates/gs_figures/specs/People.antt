@@ -43,11 +43,11 @@ peer_row table plan f = values_row table (name_cell (name_of plan f.peer) ∷ []
 abbrev pub sum_row : Table → Counts → List (List ℕ)
 sum_row table counts = values_row table (codes "(all)" ∷ []) (sum_values counts)
 
--- There are no sums of scores and meshes, and none of rounds.
+-- There are no sums of publications, of scores and meshes, and of rounds.
 abbrev pub sum_rows : Table → Counts → List (List (List ℕ))
 sum_rows Standing counts = []
 sum_rows Rounds counts = []
-sum_rows Reach counts = sum_row Reach counts ∷ []
+sum_rows Reach counts = []
 sum_rows Heard counts = sum_row Heard counts ∷ []
 sum_rows Sent counts = sum_row Sent counts ∷ []
 

@@ -147,9 +147,17 @@ first_of_each xs = fold with_first [] xs
 
 -- The first delivery to each peer of what was published, at the moment of that or later, and before the same payload is
 -- published on the same topic again, by whomever.
-abbrev pub reached_by : Listed → Appearance → List Arrival
-reached_by l p =
+abbrev pub came_to : Listed → Appearance → List Arrival
+came_to l p =
     first_of_each (filter (is_within p.at.0 (first_after p.at.0 (arrivals p l.published))) (arrivals p l.delivered))
+
+-- of these arrivals those at peers that are on a topic at a moment
+abbrev pub at_subscribers : List Change → Topic → Millis → List Arrival → List Arrival
+at_subscribers changes t at xs = filter (λ (x : Arrival). is_on changes t at x.peer) xs
+
+-- whom a publication reached of those that were on its topic when it was published
+abbrev pub reached_by : Listed → Appearance → List Arrival
+reached_by l p = at_subscribers l.changes p.topic p.at (came_to l p)
 
 -- how many rounds lie between two moments
 abbrev pub rounds_between : ℕ → ℕ → ℕ → ℕ

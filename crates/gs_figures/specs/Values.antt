@@ -1,5 +1,5 @@
 -- The numbers of figures, each in a column with a name. Each text of figures is made of these.
-use Rattle.std.specs.Prelude.{ℕ, codes, List, [], ◌∷◌, ◌++◌, Option, None, Some}
+use Rattle.std.specs.Prelude.{ℕ, codes, List, [], ◌∷◌, ◌++◌, map, Option, None, Some}
 use Rattle.gs_figures.specs.declared.values.Column.{Column}
 use Rattle.gs_figures.specs.declared.values.Column.TheVariants.{RpcsHeard, BytesHeard, MessagesHeard, NewMessages, Duplicates, Ignored, Invalid, IhaveHeard, IwantHeard, GraftHeard, PruneHeard, RpcsSent, BytesSent, MessagesSent, IhaveSent, IwantSent, GraftSent, PruneSent, BrokenPromises, RefusedLines, LowestScore, HighestScore, SmallestMesh, LargestMesh, At, OnTopic, Delivered, FirstRound, MedianRound, Round99, LastRound, Round}
 use Rattle.gs_figures.specs.declared.values.Value.{Value}
@@ -158,3 +158,7 @@ round_values f =
     ∷ (Duplicates, Count f.duplicates)
     ∷ (BytesSent, Count f.bytes)
     ∷ span_values SmallestMesh LargestMesh f.members
+
+-- the columns that these values stand in
+abbrev pub columns_of : List (Column × Value) → List Column
+columns_of values = map (λ x. x.0) values

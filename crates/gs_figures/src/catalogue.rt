@@ -5,7 +5,7 @@ ghost use Rattle.gs_figures.specs.Publications.{arrivals, first_after, first_of_
 ghost use Rattle.gs_figures.specs.declared.listed.Appearance.{Appearance as AppearanceValue};
 
 use crate::listed::{Appearance, Arrival, Listed, list_all};
-use crate::publications::{first_after, first_within};
+use crate::publications::{at_subscribers, first_after, first_within};
 use bytes::Bytes;
 use gs_base::{Millis, PeerNo, Topic, clone_of};
 use gs_report::Finished;
@@ -81,8 +81,8 @@ impl Catalogue {
         &self.listed
     }
 
-    /// The first delivery to each peer of what was published, at its moment or later, and before the same payload was
-    /// published on the same topic again.
+    /// The first delivery of what was published to each peer that was on its topic then, at its moment or later, and
+    /// before the same payload was published on the same topic again.
     ///
     /// # Errors
     /// `AllocError` where there was no memory for them.
@@ -96,14 +96,15 @@ impl Catalogue {
         let said = said_of(publication)?;
         let again = found(&self.published, &said);
         let deliveries = found(&self.delivered, &said);
-        let reached = reached_in(alloc, publication.at, again, deliveries);
+        let came = came_in(alloc, publication.at, again, deliveries);
         drop(said);
-        reached
+        let changes = self.listed.changes.as_slice();
+        at_subscribers(alloc, changes, &publication.topic, publication.at, &came?)
     }
 }
 
 /// The first of these deliveries to each peer, from a moment on, and before what is published again.
-fn reached_in(
+fn came_in(
     alloc: Global,
     from: Millis,
     again: &[Arrival],

@@ -62,7 +62,7 @@ fn table_of(column: Column) -> Table
         Column::IwantSent => Table::Sent,
         Column::GraftSent => Table::Sent,
         Column::PruneSent => Table::Sent,
-        Column::BrokenPromises => Table::Sent,
+        Column::BrokenPromises => Table::Heard,
         Column::RefusedLines => Table::Sent,
         Column::LowestScore => Table::Standing,
         Column::HighestScore => Table::Standing,

@@ -16,6 +16,11 @@ ghost use Rattle.gs_figures.specs.Links.{fitting, frames_to, raws_to};
 ghost use Rattle.gs_figures.specs.Peers.{members_in, subscribed};
 ghost use Rattle.gs_figures.specs.Rounds.{members};
 ghost use Rattle.gs_figures.specs.Sums.{AreSums};
+ghost use Rattle.gs_figures.specs.Values.{columns_of, peer_columns, peer_values, publication_columns, publication_values, round_columns, round_values, sum_values};
+ghost use Rattle.gs_figures.specs.declared.counts.Counts.{Counts as CountsValue};
+ghost use Rattle.gs_figures.specs.declared.peers.PeerFigures.{PeerFigures as PeerFiguresValue};
+ghost use Rattle.gs_figures.specs.declared.publications.PublicationFigures.{PublicationFigures as PublicationFiguresValue};
+ghost use Rattle.gs_figures.specs.declared.rounds.RoundFigures.{RoundFigures as RoundFiguresValue};
 
 /// The topics whose meshes are told of a peer are those that its trace has as joined.
 pub fn subscribed_topics_are_joined()
@@ -37,6 +42,15 @@ pub fn what_is_said_is_counted()
 /// says.
 pub fn all_of_a_legal_trace_counts()
     ensures { (p : Peer) (L : Entries) → Legal p L → map fitting L ≡ L }
+{}
+
+/// The numbers of each row stand in the columns of its header.
+#[tactic(auto, unfolding(crate::specs::Values::count_values, crate::specs::Values::peer_columns, crate::specs::Values::peer_values, crate::specs::Values::publication_columns, crate::specs::Values::publication_values, crate::specs::Values::round_columns, crate::specs::Values::round_values, crate::specs::Values::sum_values,))]
+pub fn values_stand_in_their_columns()
+    ensures publications { (f : PublicationFiguresValue) → columns_of (publication_values f) ≡ publication_columns }
+    ensures peers { (f : PeerFiguresValue) → columns_of (peer_values f) ≡ peer_columns }
+    ensures sums { (sums : CountsValue) → columns_of (sum_values sums) ≡ peer_columns }
+    ensures rounds { (f : RoundFiguresValue) → columns_of (round_values f) ≡ round_columns }
 {}
 
 /// The members that are counted of a mesh are as many as its trace has in it.

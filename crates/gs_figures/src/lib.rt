@@ -30,7 +30,7 @@ pub use fate::Fate;
 pub use figures::{Figures, figures_of};
 pub use laws::{
     all_of_a_legal_trace_counts, counts_are_sums, members_are_those_of_meshes,
-    subscribed_topics_are_joined, what_is_said_is_counted,
+    subscribed_topics_are_joined, values_stand_in_their_columns, what_is_said_is_counted,
 };
 pub use links::{LinkFigures, all_links};
 pub use listed::{Appearance, Arrival, Change, Listed};

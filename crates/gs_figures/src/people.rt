@@ -145,9 +145,7 @@ fn push_sum(
     ensures { OnOk result (rows.new ≡ rows.old ++ sum_rows table sum.now) }
 {
     match table {
-        Table::Standing => Ok(()),
-        Table::Rounds => Ok(()),
-        Table::Reach => rows.push(sum_row(alloc, table, sum)?),
+        Table::Standing | Table::Rounds | Table::Reach => Ok(()),
         Table::Heard => rows.push(sum_row(alloc, table, sum)?),
         Table::Sent => rows.push(sum_row(alloc, table, sum)?),
     }

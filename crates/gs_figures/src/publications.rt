@@ -2,7 +2,7 @@
 ghost use Rattle.std.specs.Prelude.{◌≡◌, [], ◌∷◌, filter, fold, if◌then◌else◌, IfOk, map, OnOk};
 ghost use Rattle.std.specs.List.{list_any};
 ghost use Rattle.gs_base.specs.Names.{same_peer};
-ghost use Rattle.gs_figures.specs.Publications.{all_publications, earlier, first_after, first_of_each, is_change_of, is_on, is_within, on_topic, publication_figures, rounds_between, rounds_to, with_first};
+ghost use Rattle.gs_figures.specs.Publications.{all_publications, at_subscribers, earlier, first_after, first_of_each, is_change_of, is_on, is_within, on_topic, publication_figures, rounds_between, rounds_to, with_first};
 ghost use Rattle.gs_figures.specs.Ranks.{spread};
 
 use crate::catalogue::Catalogue;
@@ -20,7 +20,7 @@ pub struct PublicationFigures {
     pub publication: Appearance,
     /// How many peers were on its topic at that moment.
     pub on_topic: u64,
-    /// To how many peers' users it was delivered, at its moment or later, and before the same payload was published
+    /// To how many of their users it was delivered, at its moment or later, and before the same payload was published
     /// on the same topic again. Its publisher counts, where it was delivered there.
     pub delivered: u64,
     /// In how many rounds it came to each of them for the first time.
@@ -186,6 +186,25 @@ fn earlier(at: Millis, first: Option<u64>, arrival: Arrival) -> Option<u64>
         Some(end) => Some(end.min(arrival.at.0)),
         None => Some(arrival.at.0),
     }
+}
+
+/// Those of arrivals whose peers are on a topic at a moment.
+pub(crate) fn at_subscribers(
+    alloc: Global,
+    changes: &[Change],
+    topic: &Topic,
+    at: Millis,
+    arrivals: &[Arrival],
+) -> Result<Vec<Arrival>, AllocError>
+    ensures { IfOk result (λ found. found.items ≡ at_subscribers changes.now topic.now at arrivals.now) }
+{
+    let mut found = Vec::new(alloc);
+    for arrival in arrivals {
+        if is_on(changes, topic, at, arrival.peer) {
+            found.push(*arrival)?;
+        }
+    }
+    Ok(found)
 }
 
 /// How many peers are on a topic at a moment.

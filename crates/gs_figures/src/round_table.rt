@@ -1,7 +1,6 @@
 //! The figures by rounds as a table that a person reads.
 ghost use Rattle.std.specs.Prelude.{◌≡◌, ◌++◌, map, IfOk, OnOk};
-ghost use Rattle.gs_figures.specs.Cells.{header_text};
-ghost use Rattle.gs_figures.specs.RoundTables.{cells, headers, round_cells, round_table_rows, rounds_table};
+ghost use Rattle.gs_figures.specs.RoundTables.{cells, headers, round_cells, round_header, round_table_rows, rounds_table};
 ghost use Rattle.gs_figures.specs.Values.{round_columns};
 
 use crate::cells::{Table, cell_of, header_text, value_cell};
@@ -35,12 +34,23 @@ fn rows_of(alloc: Global, rounds: &[RoundFigures]) -> Result<Seq<Row>, AllocErro
     Ok(rows)
 }
 
+/// The header of a column: what was heard stands beside what was sent.
+fn round_header(column: Column) -> &'static str
+    ensures { result.now ≡ round_header column }
+{
+    match column {
+        Column::MessagesHeard => "messages heard",
+        Column::BytesSent => "bytes sent",
+        _ => header_text(column),
+    }
+}
+
 fn header_row(alloc: Global, columns: &[Column]) -> Result<Row, AllocError>
     ensures { IfOk result (λ row. row ≡ headers columns.now) }
 {
     let mut row = Seq::new(alloc);
     for column in columns {
-        row.push(cell_of(alloc, header_text(*column).as_bytes())?)?;
+        row.push(cell_of(alloc, round_header(*column).as_bytes())?)?;
     }
     Ok(row)
 }

@@ -11,7 +11,7 @@ use std::marker::Model;
 
 /// Reads RPCs from a stream of frames that comes in pieces, however it is cut. Contracts see its
 /// limit and the bytes that it holds of an unfinished frame, of which there are none any more after
-/// a fault. It reads each length once, and each body when its last byte is there.
+/// a fault. It reads a length once where that comes whole, and each body when its last byte is there.
 #[derive(Drop)]
 pub struct FrameReader {
     limit: usize,
@@ -167,7 +167,7 @@ impl FrameReader {
         }
     }
 
-    /// Nothing is held any more, nor taken. Gives the fault back.
+    /// From now on the reader is seen to hold nothing, and takes nothing. Gives the fault back.
     fn fail(&mut self, fault: WireFault) -> WireFault
         ensures same { result ≡ fault }
         ensures failed { self.new ≡ record { limit = self.old.limit; held = None } }

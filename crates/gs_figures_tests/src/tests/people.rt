@@ -14,16 +14,16 @@ news   616263   a       200         2          2      0       0    1     1
 news   220a     b       500         2          0      -       -    -     -
 
 What each peer heard
-peer   RPCs  bytes  messages  new  duplicates  ignored  invalid  IHAVE  IWANT  GRAFT  PRUNE
-a         1      0         0    0           0        0        0      0      0      0      0
-b         0      3         1    1           0        0        0      1      0      0      0
-(all)     1      3         1    1           0        0        0      1      0      0      0
+peer   RPCs  bytes  messages  new  duplicates  ignored  invalid  IHAVE  IWANT  GRAFT  PRUNE  broken promises
+a         1      0         0    0           0        0        0      0      0      0      0                0
+b         0      3         1    1           0        0        0      1      0      0      0                0
+(all)     1      3         1    1           0        0        0      1      0      0      0                0
 
 What each peer sent
-peer   RPCs  bytes  messages  IHAVE  IWANT  GRAFT  PRUNE  broken promises  refused lines
-a         1      3         1      0      0      0      0                0              1
-b         0      0         0      0      0      0      0                0              0
-(all)     1      3         1      0      0      0      0                0              1
+peer   RPCs  bytes  messages  IHAVE  IWANT  GRAFT  PRUNE  refused lines
+a         1      3         1      0      0      0      0              1
+b         0      0         0      0      0      0      0              0
+(all)     1      3         1      0      0      0      0              1
 
 Scores and meshes at the end
 peer  lowest score  highest score  smallest mesh  largest mesh
@@ -47,14 +47,14 @@ a\\x0a\\x5c\\xc3\\xa4  3132333435363738..  a         0         0          0     
 a                  3132333435363738    a       100         0          0      -       -    -     -
 
 What each peer heard
-peer   RPCs  bytes  messages  new  duplicates  ignored  invalid  IHAVE  IWANT  GRAFT  PRUNE
-a         0      0         0    0           0        0        0      0      0      0      0
-(all)     0      0         0    0           0        0        0      0      0      0      0
+peer   RPCs  bytes  messages  new  duplicates  ignored  invalid  IHAVE  IWANT  GRAFT  PRUNE  broken promises
+a         0      0         0    0           0        0        0      0      0      0      0                0
+(all)     0      0         0    0           0        0        0      0      0      0      0                0
 
 What each peer sent
-peer   RPCs  bytes  messages  IHAVE  IWANT  GRAFT  PRUNE  broken promises  refused lines
-a         0      0         0      0      0      0      0                0              0
-(all)     0      0         0      0      0      0      0                0              0
+peer   RPCs  bytes  messages  IHAVE  IWANT  GRAFT  PRUNE  refused lines
+a         0      0         0      0      0      0      0              0
+(all)     0      0         0      0      0      0      0              0
 
 Scores and meshes at the end
 peer  lowest score  highest score  smallest mesh  largest mesh
@@ -68,12 +68,12 @@ How far each message came
 none
 
 What each peer heard
-peer   RPCs  bytes  messages  new  duplicates  ignored  invalid  IHAVE  IWANT  GRAFT  PRUNE
-(all)     0      0         0    0           0        0        0      0      0      0      0
+peer   RPCs  bytes  messages  new  duplicates  ignored  invalid  IHAVE  IWANT  GRAFT  PRUNE  broken promises
+(all)     0      0         0    0           0        0        0      0      0      0      0                0
 
 What each peer sent
-peer   RPCs  bytes  messages  IHAVE  IWANT  GRAFT  PRUNE  broken promises  refused lines
-(all)     0      0         0      0      0      0      0                0              0
+peer   RPCs  bytes  messages  IHAVE  IWANT  GRAFT  PRUNE  refused lines
+(all)     0      0         0      0      0      0      0              0
 
 Scores and meshes at the end
 none

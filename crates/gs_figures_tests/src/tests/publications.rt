@@ -249,21 +249,21 @@ static CASES: [Case; 9] = [
                 peer: 0,
                 at: 100,
                 on_topic: 0,
-                delivered: 1,
-                rounds: Some([0, 0, 0, 0]),
+                delivered: 0,
+                rounds: None,
             },
             Row {
                 peer: 0,
                 at: 200,
                 on_topic: 1,
-                delivered: 2,
+                delivered: 1,
                 rounds: Some([0, 0, 0, 0]),
             },
             Row {
                 peer: 1,
                 at: 200,
                 on_topic: 1,
-                delivered: 2,
+                delivered: 1,
                 rounds: Some([0, 0, 0, 0]),
             },
         ],
@@ -307,7 +307,7 @@ static CASES: [Case; 9] = [
         ],
     },
     Case {
-        name: "who is on the topic at its moment",
+        name: "who is on the topic at its moment, and a delivery to who comes later",
         lives: &[
             Life {
                 trace: &[
@@ -328,7 +328,10 @@ static CASES: [Case; 9] = [
             },
             Life {
                 peer: 3,
-                trace: &[(300, Did::Subscribes("news"))],
+                trace: &[
+                    (300, Did::Subscribes("news")),
+                    (400, Did::Delivers("news", b"abc")),
+                ],
                 ..SILENT
             },
             Life {

@@ -339,3 +339,48 @@ fn no_rounds_are_an_empty_table_and_an_empty_list(rt: HostRuntime) -> Result<(),
     assert!(rt; text_is(rt.alloc(), Form::Json, &[], "[\n]\n")?);
     Ok(())
 }
+
+/// A run as long as one may be.
+const LONGEST: &str = r#"
+round_ms = 100
+rounds = 100000
+workers = 1
+capacity = 8
+seed = 1
+topic = [{ name = "news" }]
+peer = [{ name = "a" }, { name = "b" }]
+dial = [{ from = "a", to = "b" }]
+"#;
+
+/// A message comes in its last round, as the round with number 100,000.
+const AT_THE_END: Case = Case {
+    name: "a message in the last round of the longest run",
+    first: &[Step::Does(10_000_000, Did::Delivers("news", b"abc"))],
+    second: &[],
+    rounds: [NOTHING, NOTHING_1, NOTHING_2],
+};
+
+const LAST: RoundFigures = RoundFigures {
+    round: 100_000,
+    delivered: 1,
+    messages: 1,
+    accepted: 1,
+    ..NOTHING
+};
+
+fn longest_has_its_last(alloc: Global) -> Result<bool, AllocError> {
+    let Ok(plan) = read_plan(alloc, LONGEST) else {
+        return Ok(false);
+    };
+    let rounds = rounds_in(alloc, &plan, &AT_THE_END)?;
+    match rounds.as_slice().get(100_000) {
+        Some(last) => Ok(*last == LAST && rounds.len() == 100_001),
+        None => Ok(false),
+    }
+}
+
+#[test]
+fn the_longest_run_has_each_of_its_rounds(rt: HostRuntime) -> Result<(), AllocError> {
+    assert!(rt; longest_has_its_last(rt.alloc())?);
+    Ok(())
+}
