@@ -1,5 +1,5 @@
 //! What the program's arguments ask for.
-ghost use Rattle.std.specs.Prelude.{◌≡◌, map, string_bytes};
+ghost use Rattle.std.specs.Prelude.{◌≡◌, ℕ, List, [], ◌∷◌, map, string_bytes};
 ghost use Rattle.std.specs.Process.{exit_status};
 ghost use Rattle.gs_streams.specs.Streams.{AppendsFront};
 ghost use Rattle.gossip_stats.specs.Arguments.{asked_for, asking, beside_layout, beside_rounds, of_one, of_two, usage, word_named, wrong_arguments};
@@ -47,6 +47,11 @@ pub fn asked_by(arguments: &[String]) -> Option<Asked>
         [_, _, _, ..] => None,
     }
 }
+
+/// Two arguments ask for the same in any order.
+pub fn arguments_come_in_any_order()
+    ensures { (x y : List ℕ) → asked_for (x ∷ y ∷ []) ≡ asked_for (y ∷ x ∷ []) }
+{}
 
 fn word_named(name: &str) -> Option<Word>
     ensures { result ≡ word_named name.now }
