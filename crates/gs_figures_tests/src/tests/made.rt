@@ -355,40 +355,34 @@ pub(crate) fn peers_of(
     Ok(peers)
 }
 
-/// So many peers, of which each delivers the same payload, the last one at once, and each one before it a round later; and
-/// one more that publishes it.
+/// So many subscribers, of which each delivers the same payload, the last one at once, and each one before it a round
+/// later; and one more peer that publishes it.
 pub(crate) fn delivering(alloc: Global, count: u16) -> Result<Vec<(PeerNo, Finished)>, AllocError> {
     let mut peers = Vec::new(alloc);
     for number in 0..count {
         let moment = u64::from(count - 1 - number) * 100;
-        push_peer(
-            alloc,
-            &mut peers,
-            number,
-            moment,
-            Did::Delivers("news", b"abc"),
-        )?;
+        let steps = [
+            (0, Did::Subscribes("news")),
+            (moment, Did::Delivers("news", b"abc")),
+        ];
+        push_peer(alloc, &mut peers, number, &steps)?;
     }
-    push_peer(
-        alloc,
-        &mut peers,
-        count,
-        0,
-        Did::PublishesOutside("news", b"abc"),
-    )?;
+    let steps = [(0, Did::PublishesOutside("news", b"abc"))];
+    push_peer(alloc, &mut peers, count, &steps)?;
     Ok(peers)
 }
 
-/// Adds a peer that does one thing.
+/// Adds a peer with these steps and their moments.
 fn push_peer(
     alloc: Global,
     peers: &mut Vec<(PeerNo, Finished)>,
     number: u16,
-    moment: u64,
-    did: Did,
+    steps: &[(u64, Did)],
 ) -> Result<(), AllocError> {
     let mut life = finished(alloc, SILENT)?;
-    life.trace.push(entry(alloc, moment, did)?)?;
+    for (moment, did) in steps {
+        life.trace.push(entry(alloc, *moment, *did)?)?;
+    }
     peers.push((PeerNo(number), life))?;
     Ok(())
 }

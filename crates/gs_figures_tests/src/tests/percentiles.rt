@@ -22,7 +22,7 @@ fn has_percentiles(alloc: Global, count: u16, rounds: [u64; 4]) -> Result<bool, 
     let row = Row {
         peer: count,
         at: 0,
-        on_topic: 0,
+        on_topic: u64::from(count),
         delivered: u64::from(count),
         rounds: Some(rounds),
     };
