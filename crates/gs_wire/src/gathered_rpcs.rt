@@ -77,8 +77,8 @@ impl GatheredRpcs {
         Ok(true)
     }
 
-    /// Takes what was gathered as one RPC, of which there is none where nothing was. One that is alone is shared, and not
-    /// copied.
+    /// Takes what was gathered as one RPC, of which there is none where nothing was. One that is alone is handed over as it
+    /// is, and not copied.
     ///
     /// # Errors
     /// `AllocError` where there was no memory for it. Nothing changes then.
@@ -87,21 +87,24 @@ impl GatheredRpcs {
         ensures taken { OnOk result (self.new ≡ None) }
         ensures kept { OnErr result (self.new ≡ self.old) }
     {
-        let rpc = self.shared(alloc)?;
+        if self.rpcs.len() > 1 {
+            let joined = Shared::new(alloc, self.joined(alloc)?)?;
+            self.clear();
+            return Ok(Some(joined));
+        }
+        let alone = self.rpcs.pop();
+        self.plain = 0;
+        self.control = None;
+        Ok(alone)
+    }
+
+    /// Forgets what was gathered, and keeps the memory for what comes.
+    fn clear(&mut self)
+        ensures { self.new ≡ None }
+    {
         self.rpcs.clear();
         self.plain = 0;
         self.control = None;
-        Ok(rpc)
-    }
-
-    fn shared(&self, alloc: Global) -> Result<Option<Shared<Rpc>>, AllocError>
-        ensures { IfOk result (λ found. found ≡ self.now) }
-    {
-        match self.rpcs.as_slice() {
-            [] => Ok(None),
-            [alone] => Ok(Some(clone_of(alone)?)),
-            _ => Ok(Some(Shared::new(alloc, self.joined(alloc)?)?)),
-        }
     }
 
     fn joined(&self, alloc: Global) -> Result<Rpc, AllocError>
