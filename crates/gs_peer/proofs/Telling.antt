@@ -104,8 +104,6 @@ boxes_told K L es sent old new [] is told opens k = tt
 boxes_told K L es sent old new (q ∷ qs) is told opens k =
     (subst (λ (M : Entries). BoxKept M (sent q) new q) (sym is) (box_told K q es (sent q) old new k.0 (told q) (opens q)), boxes_told K L es sent old new qs is told opens k.1)
 
-
-
 -- ---- told by a router's trace
 
 pub tells : (told : ℕ) (all slice : List Entry) (L : Entries) (old new : Outboxes)
