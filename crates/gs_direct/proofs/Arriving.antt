@@ -71,15 +71,14 @@ all_arrive dials r peers p R K most zero letters few one none = record {
   fit = subst LettersFit (sym none) tt;
 }
 all_arrive dials r peers p R K most (suc n) letters few one (before, last, earlier, is, mine) =
+    let so_far : AreHeard R K (joined_of dials p n) before = all_arrive dials r peers p R K most n before (omega (arith, few)) one earlier in
     subst (AreHeard R K (joined_of dials p (suc n))) (sym is)
     (subst (λ (qs : List PeerNo). AreHeard R K qs (before ++ last)) (sym (joined_more dials p n))
-    (by (are_joined dials p (peer_no n)) refl mine))
+    (by so_far (are_joined dials p (peer_no n)) refl mine))
   where
-    so_far : AreHeard R K (joined_of dials p n) before
-    so_far = all_arrive dials r peers p R K most n before (omega (arith, few)) one earlier
-    by : (b : Bool) → are_joined dials p (peer_no n) ≡ b → DeliversIf b r (said_so_far peers p (peer_no n)) (peer_no n) last
+    by : AreHeard R K (joined_of dials p n) before → (b : Bool) → are_joined dials p (peer_no n) ≡ b → DeliversIf b r (said_so_far peers p (peer_no n)) (peer_no n) last
         → AreHeard R K (joined_of dials p n ++ cond b (peer_no n ∷ []) []) (before ++ last)
-    by true joined delivers =
+    by so_far true joined delivers =
         let heard = one (peer_no n) last (omega (arith, few)) joined delivers in
         record {
           inbound = so_far.inbound ++ heard.inbound ∷ [];
@@ -89,13 +88,15 @@ all_arrive dials r peers p R K most (suc n) letters few one (before, last, earli
               (alike_append K (all_heard before) (hears (joined_of dials p n) so_far.inbound) (all_heard last) (hears_of (peer_no n) heard.inbound) so_far.alike heard.alike));
           fit = fit_both before last so_far.fit heard.fit;
         }
-    by false apart none = record {
-      inbound = so_far.inbound;
-      was_said = subst (λ (qs : List PeerNo). AllZip R qs so_far.inbound) (sym (append-nil (joined_of dials p n))) so_far.was_said;
-      alike = subst (λ (qs : List PeerNo). Alike K (all_heard (before ++ last)) (hears qs so_far.inbound)) (sym (append-nil (joined_of dials p n)))
-          (subst (λ (xs : List Letter). Alike K (all_heard xs) (hears (joined_of dials p n) so_far.inbound)) (sym (ap (λ (xs : List Letter). before ++ xs) none ∙ append-nil before)) so_far.alike);
-      fit = subst LettersFit (sym (ap (λ (xs : List Letter). before ++ xs) none ∙ append-nil before)) so_far.fit;
-    }
+    by so_far false apart none =
+        let same : before ≡ before ++ last = sym (ap (λ (xs : List Letter). before ++ xs) none ∙ append-nil before) in
+        record {
+          inbound = so_far.inbound;
+          was_said = subst (λ (qs : List PeerNo). AllZip R qs so_far.inbound) (sym (append-nil (joined_of dials p n))) so_far.was_said;
+          alike = subst (λ (qs : List PeerNo). Alike K (all_heard (before ++ last)) (hears qs so_far.inbound)) (sym (append-nil (joined_of dials p n)))
+              (subst (λ (xs : List Letter). Alike K (all_heard xs) (hears (joined_of dials p n) so_far.inbound)) same so_far.alike);
+          fit = subst LettersFit same so_far.fit;
+        }
 
 -- ---- in a round
 

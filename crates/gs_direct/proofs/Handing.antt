@@ -2,7 +2,7 @@
 use Rattle.std.proofs.Common.{◌≡◌, ◌≤◌, ◌⊎◌, ℕ, zero, suc, Bool, true, false, not, nat_eq, ◌&&◌, ◌||◌, if◌then◌else◌, List, [], ◌∷◌, ◌++◌, length, map, reverse, Option, None, Some, is_none, unwrap_or, inl, inr, refl, sym, ap, ap₂, subst, subst₂, ◌∙◌, append-nil, append_assoc, arith, true≢false}
 use Rattle.std.specs.Prelude.{IfSome, is_some}
 use Rattle.std.specs.List.{flat_map, AllByRecursion}
-use Rattle.std.proofs.lemmas.Bool.{le-leb}
+use Rattle.std.proofs.lemmas.Bool.{eqb-true, le-leb}
 use Rattle.std.proofs.lemmas.List.{reverse-reverse}
 use Rattle.gs_base.specs.declared.names.PeerNo.{PeerNo}
 use Rattle.gs_base.specs.declared.rpc.Rpc.{Rpc}
@@ -63,7 +63,7 @@ over_by wire_ends.TooLong rest is_open told = inl refl
 
 empty_list : {A : Type 0} (xs : List A) → nat_eq (length xs) 0 ≡ true → xs ≡ []
 empty_list [] h = refl
-empty_list (x ∷ xs) h = absurd (true≢false (sym h))
+empty_list (x ∷ xs) h = let none = eqb-true (length (x ∷ xs)) 0 h in absurd (omega (arith, none))
 
 no_ending : (from : PeerNo) (e : Option Ending) → is_none e ≡ true → ending_heard from e ≡ []
 no_ending from None h = refl
@@ -108,9 +108,6 @@ pub record Passes (r : ℕ) (K L : Entries) (o played handed : Outlet) : Type 0 
   pub handing : IsHandedOver played handed
 
 module _ (r : ℕ) (K L : Entries) (o played handed : Outlet) (passes : Passes r K L o played handed) where
-  to : PeerNo
-  to = o.to
-
   all_says : SaysAll (reverse passes.goes_on.0) o played
   all_says = passes.says passes.goes_on.0 passes.goes_on.1
 
@@ -125,7 +122,7 @@ module _ (r : ℕ) (K L : Entries) (o played handed : Outlet) (passes : Passes r
         (sym (ap (λ (xs : List Rpc). passes.ready.earlier ++ xs) passes.ready.none_out ∙ append-nil passes.ready.earlier)) passes.ready.read;
   }
 
-  carries_after : Carries played (outgoing codec L o.to) passes.ready.earlier
+  abbrev carries_after : Carries played (outgoing codec L o.to) passes.ready.earlier
   carries_after =
       subst (λ (M : Entries). Carries played (outgoing codec M o.to) passes.ready.earlier) back
       (all_says.carries K passes.ready.earlier passes.ready.is_open carries_before)
@@ -162,15 +159,18 @@ module _ (r : ℕ) (K L : Entries) (o played handed : Outlet) (passes : Passes r
   after_same : bytes_before (suc r) (out codec L o.to) ≡ bytes_of (out codec L o.to)
   after_same = sym (bytes_are (suc r) (out codec L o.to) played.is_open said_next.stands)
 
-  inbound : Inbound
+  abbrev inbound : Inbound
   inbound = record { rpcs = played.rpcs.items; rest = carries_after.read.rest; end = carries_after.read.end; closes = not played.is_open }
 
   comes : ComesIn (suc r) (out codec L o.to) inbound
   comes = (
     record {
       earlier = passes.ready.earlier;
-      spell_before = (passes.ready.read.rest, passes.ready.read.end,
-          subst (λ (bytes : List ℕ). IsStream longest_body bytes passes.ready.earlier passes.ready.read.rest passes.ready.read.end) (sym before_same) passes.ready.read.stream);
+      spell_before = (
+        passes.ready.read.rest,
+        passes.ready.read.end,
+        subst (λ (bytes : List ℕ). IsStream longest_body bytes passes.ready.earlier passes.ready.read.rest passes.ready.read.end) (sym before_same) passes.ready.read.stream,
+      );
       stream = subst (λ (bytes : List ℕ). IsStream longest_body bytes (passes.ready.earlier ++ played.rpcs.items) carries_after.read.rest carries_after.read.end) (sym after_same) carries_after.read.stream;
     },
     sym said_next.closes_so,
@@ -240,6 +240,7 @@ module _ (r : ℕ) (K L : Entries) (o played handed : Outlet) (passes : Passes r
     where
       later : HasEnded r (out codec L o.to) → HasEnded (suc r) (out codec L o.to)
       later h = record { round = h.round; early = omega (arith, h.early); inbound = h.inbound; comes = h.comes; ends = h.ends }
+
       by : (b : Bool) → played.is_over ≡ b → (played.is_over || is_some (ending_of played)) ≡ true → HasEnded (suc r) (out codec L o.to)
       by true over told = later (ended_before over)
       by false new told = ended_here new (sym (ap (λ (b : Bool). b || is_some (ending_of played)) new) ∙ told)

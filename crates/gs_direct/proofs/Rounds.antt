@@ -25,7 +25,7 @@ use Rattle.gs_direct.proofs.Alone.{comes_alone}
 -- ---- what has ended stays so
 
 whole_at : (r k : ℕ) (w : Said) → k ≤ r → whole r w ≡ true → whole k w ≡ true
-whole_at zero k w few h = subst (λ (n : ℕ). whole n w ≡ true) (omega (arith, few)) h
+whole_at zero k w few h = let none : zero ≡ k = omega (arith, few) in subst (λ (n : ℕ). whole n w ≡ true) none h
 whole_at (suc r) k w few h = elim (eq-or-lt_of_le few) [
   | inl same ↦ subst (λ (n : ℕ). whole n w ≡ true) (sym same) h
   | inr less ↦ whole_at r k w (le_of_suc-le-suc less) (whole_before r w h)
@@ -68,8 +68,10 @@ ending_is_down p at q x K M refused ends does = by (is_broken x) x.closes refl r
   where
     fault : Does p at (HearFault q ∷ []) K M refused → up M q ≡ false
     fault (N, later, comes, none, is) = ap (λ (L : Entries). up L q) none.0 ∙ lost_is_down p at q (Fault q) K N (cuts_self (up K q) q) comes
+
     gone : Does p at (HearGone q ∷ []) K M refused → up M q ≡ false
     gone (N, later, comes, none, is) = ap (λ (L : Entries). up L q) none.0 ∙ lost_is_down p at q (Gone q) K N (cuts_self (up K q) q) comes
+
     by : (broken closed : Bool) → is_broken x ≡ broken → x.closes ≡ closed
         → Does p at (if broken then HearFault q ∷ [] else if closed then HearGone q ∷ [] else []) K M refused → up M q ≡ false
     by true closed b c d = fault d
@@ -108,29 +110,33 @@ hears_are_down p at R q x (s ∷ qs) (y ∷ xs) rest K L refused one ends among 
       | inr later ↦ hears_are_down p at R q x qs xs rest M L more one ends later said.1 others
     ]
 
--- in which round it is heard that a neighbour ends, it is not up behind that
+-- in the round in which that is heard
+ended_now : (seat : Seat) (said : PeerNo → Said) (q : PeerNo) (r : ℕ) (K L : Entries) (refused : List RefusedLine) (ended : HasEnded r (said q))
+    → IsAmongPeers q (links_of seat.peer)
+    → ended.round ≡ r
+    → Plays seat said (Playing r) K L refused
+    → up L q ≡ false
+ended_now seat said q r K L refused ended among same plays =
+    let comes : ComesIn r (said q) ended.inbound = subst (λ (n : ℕ). ComesIn n (said q) ended.inbound) same ended.comes in
+    hears_are_down seat.peer (moment_of seat (Playing r)) (λ s x. ComesIn r (said s) x) q ended.inbound (links_of seat.peer) plays.inbound
+    (lines_at seat r ++ (decays_in seat.peer r (moment_of seat (Playing r)) ++ (beats_in seat.peer r (moment_of seat (Playing r)) ++ EndRound r ∷ [])))
+    K L refused (λ y theirs. comes_alone r (said q) y ended.inbound theirs comes) ended.ends among plays.was_said plays.does
+
+-- in which round it is heard that a neighbour ends, it is not up after that
 pub ended_is_down : (seat : Seat) (said : PeerNo → Said) (q : PeerNo) (r : ℕ) (L : Entries) (refused : List RefusedLine)
     → IsAmongPeers q (links_of seat.peer)
     → HasEnded r (said q)
     → AfterRounds seat said (suc r) L refused
     → up L q ≡ false
-ended_is_down seat said q r L refused among ended (K, earlier, more, before, plays, is) =
-    elim (eq-or-lt_of_le ended.early) [
-      | inl same ↦
-          let comes : ComesIn r (said q) ended.inbound = subst (λ (n : ℕ). ComesIn n (said q) ended.inbound) same ended.comes in
-          hears_are_down seat.peer (moment_of seat (Playing r)) (λ s x. ComesIn r (said s) x) q ended.inbound (links_of seat.peer) plays.inbound
-          (lines_at seat r ++ (decays_in seat.peer r (moment_of seat (Playing r)) ++ (beats_in seat.peer r (moment_of seat (Playing r)) ++ EndRound r ∷ [])))
-          K L more (λ y theirs. comes_alone r (said q) y ended.inbound theirs comes) ended.ends among plays.was_said plays.does
-      | inr less ↦ earlier_round r less before
-    ]
-  where
-    on : GoesOn K L
-    on = does_on seat.peer (moment_of seat (Playing r)) (agenda seat (Playing r) plays.inbound) K L more plays.does
-    earlier_round : (n : ℕ) → suc ended.round ≤ n → AfterRounds seat said n K earlier → up L q ≡ false
-    earlier_round zero less played = absurd (omega (arith, less))
-    earlier_round (suc n) less played =
-        ap (λ (J : Entries). up J q) on.1
-        ∙ down_stays K q on.0 (ended_is_down seat said q n K earlier among (record { round = ended.round; early = le_of_suc-le-suc less; inbound = ended.inbound; comes = ended.comes; ends = ended.ends }) played)
+ended_is_down seat said q zero L refused among ended (K, earlier, more, before, plays, is) =
+    ended_now seat said q zero K L more ended among (let early = ended.early in omega (arith, early)) plays
+ended_is_down seat said q (suc n) L refused among ended (K, earlier, more, before, plays, is) = elim (eq-or-lt_of_le ended.early) [
+  | inl same ↦ ended_now seat said q (suc n) K L more ended among same plays
+  | inr less ↦
+      let on : GoesOn K L = does_on seat.peer (moment_of seat (Playing (suc n))) (agenda seat (Playing (suc n)) plays.inbound) K L more plays.does in
+      let sooner : HasEnded n (said q) = record { round = ended.round; early = le_of_suc-le-suc less; inbound = ended.inbound; comes = ended.comes; ends = ended.ends } in
+      ap (λ (J : Entries). up J q) on.1 ∙ down_stays K q on.0 (ended_is_down seat said q n K earlier among sooner before)
+]
 
 -- ---- what may be left out
 

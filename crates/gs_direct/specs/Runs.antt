@@ -28,7 +28,8 @@ use Rattle.gs_direct.specs.declared.outlet.Outlet.{Outlet}
 use Rattle.gs_direct.specs.declared.peer.Peer.{Peer}
 use Rattle.gs_direct.specs.Letters.{LettersFit, all_heard}
 use Rattle.gs_direct.specs.Outlets.{IsHandedOver, given, reader_of}
-use Rattle.gs_direct.specs.Peers.{PlaysRound}
+use Rattle.gs_report.specs.declared.finished.Finished.{Finished}
+use Rattle.gs_direct.specs.Peers.{Closes, PlaysRound, left_of}
 
 -- ---- what was said
 
@@ -110,6 +111,10 @@ Arrive plan (suc r) peers p letters = ArriveFrom plan.dials r peers p (length pl
 abbrev pub IsEmpty : List (Vec Letter Global) → Type 0
 IsEmpty mail = (n : ℕ) → list_at mail n ≡ []
 
+-- there is a list for each peer, and nothing in it
+abbrev pub IsRoomFor : Plan → List (Vec Letter Global) → Type 0
+IsRoomFor plan mail = (length mail ≡ length plan.peers) × IsEmpty mail
+
 -- ---- all of them
 
 -- After so many rounds the peers are these, and the letters of the last one are on their way.
@@ -156,3 +161,23 @@ pub record HavePlayed (r : ℕ) (now : Millis) (olds : List Peer) (mail : List (
   pub waits : (k : ℕ) → n ≤ k → list_at mail' k ≡ list_at mail k
   pub taken : (k : ℕ) → k < n → list_at mail' k ≡ []
   pub gives : (p : PeerNo) → GivenTo r now olds news mail p n (list_at next p.0)
+
+-- ---- the end
+
+-- The peer of this number has shut down.
+pub record ClosesAt (now : Millis) (olds : List Peer) (mail : List (Vec Letter Global)) (n : ℕ) (news : List Peer) : Type 0 where
+  pub old : Peer
+  pub new : Peer
+  pub was : slice_get olds n ≡ Some old
+  pub is : slice_get news n ≡ Some new
+  pub closes_so : Closes now (list_at mail n) old new
+
+-- The first so many peers have shut down, and the others have not.
+pub record HaveClosed (now : Millis) (olds : List Peer) (mail : List (Vec Letter Global)) (n : ℕ) (news : List Peer) : Type 0 where
+  pub many : length news ≡ length olds
+  pub left : (k : ℕ) → n ≤ k → slice_get news k ≡ slice_get olds k
+  pub done : (k : ℕ) → k < n → ClosesAt now olds mail k news
+
+-- what is left of a peer at the end of a run, with its number
+abbrev pub numbered : Plan → Peer → PeerNo × Finished
+numbered plan peer = (peer.number, left_of (record { 0 = plan.rounds * plan.round_ms }) peer)

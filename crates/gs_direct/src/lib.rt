@@ -3,9 +3,11 @@
 #![tactic(auto)]
 
 mod letter;
+mod link_reader;
 mod outlet;
 mod outlets;
 mod peer;
+mod post;
 mod run;
 
 pub use run::run_direct;

@@ -3,18 +3,17 @@ ghost use Rattle.std.specs.Prelude.{◌≡◌, [], None, true, map, OnOk, if◌t
 ghost use Rattle.gs_base.specs.Names.{same_peer};
 ghost use Rattle.gs_base.specs.Tokens.{Byte};
 ghost use Rattle.gs_wire.specs.Codec.{codec};
-ghost use Rattle.gs_wire.specs.Messages.{frame};
-ghost use Rattle.gs_wire.specs.Stream.{FeedsOnce};
 ghost use Rattle.gs_rules.specs.Modes.{sent_to};
 ghost use Rattle.gs_rules.specs.Saying.{cut_out, saying, sending, sending_all};
 ghost use Rattle.gs_rules.specs.Tables.{is_lost};
-ghost use Rattle.gs_direct.specs.Outlets.{Closes, Follows, IsHandedOver, IsNew, IsWritten, ReadsOn, Says, SendsWritten, Tells, ending_of, letters_of};
+ghost use Rattle.gs_direct.specs.Outlets.{Closes, Follows, IsHandedOver, IsNew, IsWritten, Says, SendsWritten, Tells, ending_of, letters_of};
 
 use crate::letter::{Ending, Letter};
+use crate::link_reader::LinkReader;
 use bytes::Bytes;
 use gs_base::{PeerNo, Rpc, Shared};
 use gs_rules::{Event, StoredEntry};
-use gs_wire::{FrameReader, GatheredRpcs, MAX_BODY, WireFault, encode_frame};
+use gs_wire::GatheredRpcs;
 use std::alloc::{AllocError, Global};
 use std::mem;
 
@@ -29,7 +28,7 @@ pub struct Outlet {
     /// What is sent and not yet out.
     pub gathered: GatheredRpcs,
     /// What reads the bytes of the link, where some were put there as they are.
-    pub reader: Option<FrameReader>,
+    pub reader: Option<LinkReader>,
     /// The RPCs that are out in this round, in order.
     pub rpcs: Vec<Shared<Rpc>>,
     /// Whether the neighbour was told how this ends.
@@ -106,7 +105,7 @@ impl Outlet {
                 self.rpcs.push(rpc)?;
                 Ok(())
             }
-            Some(reader) => put_frame(alloc, reader, rpc.get(), &mut self.rpcs),
+            Some(reader) => reader.read_frame(alloc, rpc.get(), &mut self.rpcs),
         }
     }
 
@@ -140,12 +139,14 @@ impl Outlet {
     fn read(&mut self, alloc: Global, bytes: &[u8]) -> Result<(), AllocError>
         ensures { OnOk result (Follows (λ goes. saying goes (map Byte bytes.now)) self.old self.new) }
     {
-        if self.reader.is_none() {
-            self.reader = Some(FrameReader::new(alloc, MAX_BODY));
-        }
         match &mut self.reader {
-            Some(reader) => feed(alloc, reader, bytes, &mut self.rpcs),
-            None => Ok(()),
+            Some(reader) => reader.read(alloc, bytes, &mut self.rpcs),
+            None => {
+                let mut reader = LinkReader::new(alloc);
+                reader.read(alloc, bytes, &mut self.rpcs)?;
+                self.reader = Some(reader);
+                Ok(())
+            }
         }
     }
 
@@ -197,57 +198,5 @@ impl Outlet {
         self.is_over = self.is_over || ending.is_some();
         let rpcs = mem::replace(&mut self.rpcs, Vec::new(alloc));
         Some(Letter { from, rpcs, ending })
-    }
-}
-
-/// Reads an RPC as it goes over a link of bytes.
-fn put_frame(
-    alloc: Global,
-    reader: &mut FrameReader,
-    rpc: &Rpc,
-    rpcs: &mut Vec<Shared<Rpc>>,
-) -> Result<(), AllocError>
-    ensures { OnOk result (ReadsOn reader.old (frame rpc.now) reader.new rpcs.old.items rpcs.new.items) }
-{
-    let mut text = Vec::new(alloc);
-    match encode_frame(rpc, &mut text) {
-        Ok(()) => feed(alloc, reader, text.as_slice(), rpcs),
-        Err(_) => Err(AllocError),
-    }
-}
-
-/// Reads bytes of a link, and adds the RPCs that are whole then. Behind a fault none are.
-fn feed(
-    alloc: Global,
-    reader: &mut FrameReader,
-    bytes: &[u8],
-    rpcs: &mut Vec<Shared<Rpc>>,
-) -> Result<(), AllocError>
-    ensures { OnOk result (ReadsOn reader.old bytes.now reader.new rpcs.old.items rpcs.new.items) }
-{
-    let mut found = Vec::new(alloc);
-    feed_all(alloc, reader, bytes, &mut found)?;
-    for rpc in found {
-        rpcs.push(Shared::new(alloc, rpc)?)?;
-    }
-    Ok(())
-}
-
-/// Reads bytes of a link. A fault of them is what the reader holds then, and no error.
-fn feed_all(
-    alloc: Global,
-    reader: &mut FrameReader,
-    bytes: &[u8],
-    found: &mut Vec<Rpc>,
-) -> Result<(), AllocError>
-    requires { found.old.items ≡ [] }
-    ensures { OnOk result (FeedsOnce reader.old bytes.now reader.new found.new.items) }
-{
-    match reader.feed(alloc, bytes, found) {
-        Ok(()) => Ok(()),
-        Err(WireFault::Malformed) => Ok(()),
-        Err(WireFault::TooLong) => Ok(()),
-        Err(WireFault::Failed) => Ok(()),
-        Err(WireFault::NoMemory) => Err(AllocError),
     }
 }

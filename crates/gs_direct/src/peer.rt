@@ -105,7 +105,11 @@ impl Peer {
     ///
     /// # Errors
     /// `AllocError` where there was no memory.
-    pub fn hand_over(&mut self, alloc: Global, mail: &mut Vec<Vec<Letter>>) -> Result<(), AllocError>
+    pub fn hand_over(
+        &mut self,
+        alloc: Global,
+        mail: &mut Vec<Vec<Letter>>,
+    ) -> Result<(), AllocError>
         requires { AllByRecursion (Within (length mail.old.items)) self.old.outlets.items }
         ensures count { length mail.new.items ≡ length mail.old.items }
         ensures handed { OnOk result (HandsOver mail.old.items mail.new.items self.old self.new) }
@@ -152,7 +156,9 @@ impl Peer {
         let meshes = self.router.meshes()?;
         let scores = self.router.scores(now)?;
         let Peer {
-            router, refused, ..
+            router,
+            refused,
+            ..
         } = self;
         Ok(Finished {
             trace: router.into_trace(),

@@ -1,2 +1,139 @@
 //! All peers of a run.
-ghost use Rattle.std.specs.Prelude.{◌≡◌, ◌+◌, ◌*◌, ◌<◌, ◌≤◌, 0, 1, [], IfErr, IfOk, OnOk, length, map};
+ghost use Rattle.std.specs.Prelude.{◌≡◌, ◌≤◌, suc, false, IfErr, IfOk, OnOk, length, map};
+ghost use Rattle.std.specs.List.{AllByRecursion, AllZip};
+ghost use Rattle.gs_plan.specs.Plans.{IsInRange};
+ghost use Rattle.gs_rules.specs.Rounds.{Closing, moment_of};
+ghost use Rattle.gs_seats.specs.Faults.{number_of};
+ghost use Rattle.gs_seats.specs.Reports.{IsReport};
+ghost use Rattle.gs_seats.specs.Rounds.{IsRun, numbers, peer_no, seat_in};
+ghost use Rattle.gs_direct.specs.Peers.{IsNewPeer};
+ghost use Rattle.gs_direct.specs.Runs.{AreAt, HaveClosed, IsRoomFor, numbered};
+
+use crate::peer::Peer;
+use crate::post::Post;
+use gs_base::{Millis, PeerNo};
+use gs_plan::Plan;
+use gs_report::{Finished, Report};
+use gs_seats::{NetFault, lines_by_peer, take_list};
+use std::alloc::{AllocError, Global};
+
+/// Runs the peers of a plan on this thread, without links: in each round one peer after the other hears what its neighbours
+/// said in the round before, and does what it has to do. It takes no thread and waits for nobody, so it ends. Its report is
+/// that of the plan, whoever else computes it.
+///
+/// # Errors
+/// `NoMemory`, of no peer.
+pub fn run_direct(alloc: Global, plan: &Plan) -> Result<Report, NetFault>
+    requires { IsInRange plan.now }
+    ensures report { IfOk result (IsReport plan.now) }
+    ensures memory { IfErr result (λ fault. number_of fault ≡ 24) }
+{
+    match lives_of(alloc, plan) {
+        Ok(peers) => Ok(Report {
+            peers,
+            settled: 2 * plan.dials.len() as u64,
+        }),
+        Err(_) => Err(NetFault::NoMemory(None)),
+    }
+}
+
+/// What is left of each peer, by number.
+fn lives_of(alloc: Global, plan: &Plan) -> Result<Vec<(PeerNo, Finished)>, AllocError>
+    requires { IsInRange plan.now }
+    ensures numbers { IfOk result (λ lives. map (λ x. x.0) lives.items ≡ numbers plan.now) }
+    ensures run { IfOk result (λ lives. IsRun plan.now (map (λ x. x.1) lives.items)) }
+{
+    let mut peers = peers_of(alloc, plan)?;
+    let mut post = Post::new(alloc, plan.peers.len())?;
+    play_all(plan, &mut peers, &mut post)?;
+    close_all(plan, &mut peers, &mut post)?;
+    finish_all(alloc, plan, peers)
+}
+
+/// The peers of a plan, which have done nothing.
+fn peers_of(alloc: Global, plan: &Plan) -> Result<Vec<Peer>, AllocError>
+    requires { IsInRange plan.now }
+    ensures { IfOk result (λ peers. AllZip (IsNewPeer plan.now) (numbers plan.now) peers.items) }
+{
+    let mut lines = lines_by_peer(alloc, plan)?;
+    let mut peers = Vec::with_capacity(alloc, plan.peers.len())?;
+    let count = plan.peers.len() as u16;
+    for number in 0..count {
+        let peer = PeerNo(number);
+        let own = take_list(alloc, &mut lines, peer);
+        peers.push(Peer::new(alloc, plan, peer, own)?)?;
+    }
+    Ok(peers)
+}
+
+/// Plays all rounds. What was said in the last one is on its way then.
+fn play_all(plan: &Plan, peers: &mut [Peer], post: &mut Post) -> Result<(), AllocError>
+    requires range { IsInRange plan.now }
+    requires begun { AreAt plan.now 0 peers.old post.old.mail.items }
+    requires next { IsRoomFor plan.now post.old.next.items }
+    ensures { OnOk result (AreAt plan.now (suc plan.now.rounds) peers.new post.new.mail.items) }
+{
+    for round in 0..plan.rounds + 1 {
+        play_round(plan, peers, post, round)?;
+    }
+    Ok(())
+}
+
+/// Plays a round: one peer after the other.
+fn play_round(
+    plan: &Plan,
+    peers: &mut [Peer],
+    post: &mut Post,
+    round: u64,
+) -> Result<(), AllocError>
+    requires range { IsInRange plan.now }
+    requires round { round ≤ plan.now.rounds }
+    requires before { AreAt plan.now round peers.old post.old.mail.items }
+    requires next { IsRoomFor plan.now post.old.next.items }
+    ensures after { OnOk result (AreAt plan.now (suc round) peers.new post.new.mail.items) }
+    ensures next { OnOk result (IsRoomFor plan.now post.new.next.items) }
+{
+    let now = Millis(round * plan.round_ms);
+    let count = plan.peers.len() as u16;
+    for number in 0..count {
+        let peer = &mut peers[usize::from(number)];
+        post.play(peer, PeerNo(number), round, now)?;
+    }
+    post.turn();
+    Ok(())
+}
+
+/// Has all peers shut down, and hear what still comes.
+fn close_all(plan: &Plan, peers: &mut [Peer], post: &mut Post) -> Result<(), AllocError>
+    requires range { IsInRange plan.now }
+    requires last { AreAt plan.now (suc plan.now.rounds) peers.old post.old.mail.items }
+    ensures { OnOk result (HaveClosed (moment_of (seat_in plan.now (peer_no 0)) Closing)
+        peers.old post.old.mail.items (length plan.now.peers) peers.new) }
+{
+    let now = Millis(plan.rounds * plan.round_ms);
+    let count = plan.peers.len() as u16;
+    for number in 0..count {
+        let letters = post.take(PeerNo(number));
+        peers[usize::from(number)].close(now, letters)?;
+    }
+    Ok(())
+}
+
+/// What is left of the peers, each with its number.
+fn finish_all(
+    alloc: Global,
+    plan: &Plan,
+    peers: Vec<Peer>,
+) -> Result<Vec<(PeerNo, Finished)>, AllocError>
+    requires range { IsInRange plan.now }
+    requires running { AllByRecursion (λ peer. peer.router.is_stopped ≡ false) peers.items }
+    ensures { IfOk result (λ lives. lives.items ≡ map (numbered plan.now) peers.items) }
+{
+    let now = Millis(plan.rounds * plan.round_ms);
+    let mut lives = Vec::with_capacity(alloc, peers.len())?;
+    for peer in peers {
+        let number = peer.number;
+        lives.push((number, peer.finish(now)?))?;
+    }
+    Ok(lives)
+}

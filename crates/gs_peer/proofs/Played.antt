@@ -32,17 +32,10 @@ use Rattle.gs_player.specs.Playing.{IsRunning, Runs, behind_heard}
 use Rattle.gs_peer.specs.Running.{AllFull, AllSilent}
 use Rattle.gs_peer.proofs.Inbound.{all_come}
 use Rattle.gs_peer.proofs.Turning.{inboxes_close, inboxes_turn, peers_in_next_phase}
+use Rattle.gs_player.proofs.Runs.{legal_more}
 use Rattle.gs_player.proofs.Since.{down_stays, out_no_more}
 
 -- ---- what is done in a phase
-
--- more that is legal, behind what was
-pub legal_more : (p q : Peer) (first s t : SeededState) (K L : Entries) → q ≡ p → LegalOn (exact seeded_word seeded_after) p first [] K s → Appends (exact seeded_word seeded_after) q K s L t → LegalOn (exact seeded_word seeded_after) p first [] L t
-legal_more p q first s t K L same legal more =
-    let m = exact seeded_word seeded_after in
-    subst (λ (M : Entries). LegalOn m p first [] M t) (sym more.are)
-    (legal_then m p first s t [] K more.entries legal
-    (subst (λ (M : Entries). LegalOn m p s M more.entries t) (sym (append-nil K)) (subst (λ (r : Peer). LegalOn m r s K more.entries t) same more.legal)))
 
 -- what a seat has to do in a round behind what was heard
 abbrev pub own_rest : Seat → ℕ → List Todo

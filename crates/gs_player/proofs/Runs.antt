@@ -10,7 +10,8 @@ use Rattle.gs_rules.specs.declared.refusal.Refusal.TheVariants.{Stopped}
 use Rattle.gs_rules.specs.declared.refusal.RefusedLine.{RefusedLine}
 use Rattle.gs_rules.specs.Peers.{Peer}
 use Rattle.gs_rules.specs.Tables.{Entries, last_moment}
-use Rattle.gs_rules.specs.Modes.{Mode}
+use Rattle.gs_params.specs.Seeding.{SeededState, seeded_after, seeded_word}
+use Rattle.gs_rules.specs.Modes.{Mode, exact}
 use Rattle.gs_rules.specs.Legal.{ArePayments, LegalOn, Opens, Comes}
 use Rattle.gs_rules.specs.Refusals.{refusal}
 use Rattle.gs_rules.specs.Rounds.{Todo, Obey, Does, opening, noted, note_of, unless_refused, event_of}
@@ -98,3 +99,13 @@ module _ (m : Mode) (now : Millis) where
         runs_on = running;
         peer = refl;
       })
+
+-- ---- what is legal
+
+-- more that is legal, behind what was
+pub legal_more : (p q : Peer) (first s t : SeededState) (K L : Entries) → q ≡ p → LegalOn (exact seeded_word seeded_after) p first [] K s → Appends (exact seeded_word seeded_after) q K s L t → LegalOn (exact seeded_word seeded_after) p first [] L t
+legal_more p q first s t K L same legal more =
+    let m = exact seeded_word seeded_after in
+    subst (λ (M : Entries). LegalOn m p first [] M t) (sym more.are)
+    (legal_then m p first s t [] K more.entries legal
+    (subst (λ (M : Entries). LegalOn m p s M more.entries t) (sym (append-nil K)) (subst (λ (r : Peer). LegalOn m r s K more.entries t) same more.legal)))

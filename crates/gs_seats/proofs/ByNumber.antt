@@ -57,3 +57,16 @@ each_kept R S so [] [] h = tt
 each_kept R S so (x ∷ xs) (y ∷ ys) h = (so x y h.0, each_kept R S so xs ys h.1)
 each_kept R S so [] (y ∷ ys) h = absurd h
 each_kept R S so (x ∷ xs) [] h = absurd h
+
+zip_from : {B : Type 0} (R : PeerNo → B → Type 0) (a n most : ℕ) (ys all : List B) → a + n ≡ most → length ys ≡ n → StandFrom a ys all → ((p : PeerNo) (y : B) → p.0 < most → slice_get all p.0 ≡ Some y → R p y) → AllZip R (map peer_no (range_with_len a n)) ys
+zip_from R a zero most [] all fits long stand so = tt
+zip_from R a zero most (y ∷ ys) all fits long stand so = absurd (omega (arith, long))
+zip_from R a (suc n) most [] all fits long stand so = absurd (omega (arith, long))
+zip_from R a (suc n) most (y ∷ ys) all fits long stand so =
+    let here : slice_get all a ≡ Some y = ap (slice_get all) (omega arith) ∙ stand 0 in
+    let next : StandFrom (a + 1) ys all = λ k. ap (slice_get all) (omega arith) ∙ stand (suc k) in
+    (so (peer_no a) y (omega (arith, fits)) here, zip_from R (a + 1) n most ys all (omega (arith, fits)) (omega (arith, long)) next so)
+
+-- what holds of what stands at each peer's number
+pub zip_by_number : {B : Type 0} (R : PeerNo → B → Type 0) (plan : Plan) (ys : List B) → length ys ≡ length plan.peers → ((p : PeerNo) (y : B) → p.0 < length plan.peers → slice_get ys p.0 ≡ Some y → R p y) → AllZip R (numbers plan) ys
+zip_by_number R plan ys long so = zip_from R 0 (length plan.peers) (length plan.peers) ys ys (omega arith) long (λ k. ap (slice_get ys) (omega arith)) so

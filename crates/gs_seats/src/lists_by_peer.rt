@@ -41,6 +41,7 @@ pub fn put_last<T: Drop>(lists: &mut Vec<Vec<T>>, peer: PeerNo, value: T) -> Res
 pub fn take_list<T: Drop>(alloc: Global, lists: &mut Vec<Vec<T>>, peer: PeerNo) -> Vec<T>
     requires { peer.0 < length lists.old.items }
     ensures taken { result.items ≡ list_at lists.old.items peer.0 }
+    ensures left { list_at lists.new.items peer.0 ≡ [] }
     ensures count { length lists.new.items ≡ length lists.old.items }
     ensures others { (n : ℕ) → n ≢ peer.0 → list_at lists.new.items n ≡ list_at lists.old.items n }
 {

@@ -1,5 +1,5 @@
 use Rattle.std.proofs.Common.{sym, ap, ◌∙◌}
-use Rattle.gs_seats.proofs.PlaceLists.{list_at-get, list_at-other}
+use Rattle.gs_seats.proofs.PlaceLists.{list_at-get, list_at-other, list_at-set}
 use Rattle.gs_seats.proofs.lists_by_peer.take_list.Goals as goal
 
 pub returns-clause-taken : goal.returns-clause-taken
@@ -9,3 +9,9 @@ returns-clause-taken g c =
 
 pub returns-clause-others : goal.returns-clause-others
 returns-clause-others g c = list_at-other c.args.lists.now.items c.args.peer.0 _ c.from.ensures c.replace.new.dest
+
+pub returns-clause-left : goal.returns-clause-left
+returns-clause-left g c =
+    list_at-set c.args.lists.now.items c.args.peer.0 _ c.from.ensures c.replace.new.dest c.requires
+    ∙ ap (λ list. list.items) c.replace.ensures.after
+    ∙ c.new.ensures.items

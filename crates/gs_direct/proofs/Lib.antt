@@ -1,0 +1,10 @@
+pub mod Alone
+pub mod Rounds
+pub mod Arriving
+pub mod Handing
+pub mod Giving
+pub mod Turning
+pub mod Closing
+pub mod Carrying
+pub mod Loops
+pub mod Times

@@ -1,0 +1,13 @@
+use Rattle.std.proofs.Common.{◌≡◌, false, map}
+use Rattle.std.specs.List.{AllByRecursion}
+use Rattle.gs_direct.specs.declared.peer.Peer.{Peer}
+use Rattle.gs_direct.specs.Runs.{numbered}
+use Rattle.gs_direct.proofs.run.finish_all.Given as goal
+
+-- what is left of those so far
+abbrev pub invariant-loop-peer : goal.invariant-loop-peer
+invariant-loop-peer l =
+    (goal.iterator-loop-peer).can_next l.peer-iterator
+    × (goal.iterator-loop-peer).is_finite l.peer-iterator
+    × (l.lives.items ≡ map (numbered l.plan) l.yielded)
+    × AllByRecursion (λ (peer : Peer). peer.router.is_stopped ≡ false) l.peer-iterator.rest.items
