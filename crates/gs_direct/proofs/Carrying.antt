@@ -1,5 +1,5 @@
 -- An outlet goes along with what goes to its neighbour.
-use Rattle.std.proofs.Common.{◌≡◌, ℕ, Bool, true, false, if◌then◌else◌, ◌||◌, List, [], ◌∷◌, ◌++◌, length, map, Option, None, Some, Result, refl, sym, ap, ap₂, subst, subst₂, ◌∙◌, append_assoc, append-nil, arith, inl, true≢false}
+use Rattle.std.proofs.Common.{◌≡◌, ℕ, Bool, true, false, if◌then◌else◌, List, [], ◌∷◌, ◌++◌, map, Option, None, Some, refl, sym, ap, ap₂, subst, subst₂, ◌∙◌, append_assoc, append-nil, arith, true≢false}
 use Rattle.std.specs.Prelude.{IfSome, option_to_list}
 use Rattle.std.specs.List.{flat_map}
 use Rattle.std.proofs.lemmas.Bool.Decides.{nat_tests}
@@ -13,8 +13,8 @@ use Rattle.gs_wire.specs.declared.frames.End.{End}
 use Rattle.gs_wire.specs.declared.frames.End.TheVariants as ends
 use Rattle.gs_wire.specs.Codec.{codec}
 use Rattle.gs_wire.specs.Joining.{joined_controls, joined_rpc, joined_to}
-use Rattle.gs_wire.specs.Messages.{IsControl, IsPrune, body, frame, longest_body}
-use Rattle.gs_wire.specs.Stream.{FeedsOnce, HasRead, Holding, IsStream, held_after}
+use Rattle.gs_wire.specs.Messages.{IsControl, IsPrune, frame, longest_body}
+use Rattle.gs_wire.specs.Stream.{HasRead, Holding, IsStream, held_after}
 use Rattle.gs_wire.proofs.FrameLists.{frame_read, streams_join}
 use Rattle.gs_wire.proofs.Readers.{read_once}
 use Rattle.gs_wire.proofs.RoundTrip.{all-append}
@@ -23,11 +23,11 @@ use Rattle.gs_rules.specs.declared.trace.Event.TheVariants.{Raw, RoundEnd, Shut}
 use Rattle.gs_rules.specs.declared.trace.Entry.{Entry}
 use Rattle.gs_rules.specs.Modes.{sent_to}
 use Rattle.gs_rules.specs.Tables.{cuts_off, is_lost, lost, up_after}
-use Rattle.gs_rules.specs.Saying.{Outgoing, behind_entry, behind_event, cut_out, frames_of, gather, is_cut, raw_to, saying, sending, sending_all, sign}
+use Rattle.gs_rules.specs.Saying.{Outgoing, behind_entry, behind_event, cut_out, frames_of, is_cut, raw_to, saying, sending, sending_all, sign}
 use Rattle.gs_rules.proofs.Fitting.{short_body}
 use Rattle.gs_rules.proofs.Spelled.{bytes_of_append, bytes_of_bytes, no_stream}
 use Rattle.gs_direct.specs.declared.outlet.Outlet.{Outlet}
-use Rattle.gs_direct.specs.Outlets.{Carries, Closes, Follows, IsWritten, ReadsOn, Says, Tells, goes_behind, reader_of}
+use Rattle.gs_direct.specs.Outlets.{Carries, Closes, Follows, IsWritten, ReadsOn, Says, Tells, reader_of}
 
 -- ---- what is joined is written
 

@@ -8,3 +8,7 @@ pub mod Closing
 pub mod Carrying
 pub mod Loops
 pub mod Times
+pub mod Telling
+pub mod Pairs
+pub mod Finishing
+pub mod Heard

@@ -100,7 +100,7 @@ set_other (x ∷ peers) zero (suc k) peer apart = refl
 set_other (x ∷ peers) (suc n) zero peer apart = refl
 set_other (x ∷ peers) (suc n) (suc k) peer apart = set_other peers n k peer (λ e. apart (ap suc e))
 
-above_other : (n k : ℕ) → n + 1 ≤ k → k ≢ n
+pub above_other : (n k : ℕ) → n + 1 ≤ k → k ≢ n
 above_other n k above e = omega (arith, above, e)
 
 below_other : (n k : ℕ) → k < n → k ≢ n

@@ -6,3 +6,6 @@ use Rattle.std.proofs.Math.Nat.{suc-mul}
 pub earlier_round : (r every : ℕ) → pred r * every ≤ r * every
 earlier_round zero every = omega arith
 earlier_round (suc r) every = let product = suc-mul r every in omega (arith, product)
+
+pub last_round : (r every : ℕ) → pred (suc r) * every ≤ r * every
+last_round r every = omega arith
