@@ -67,7 +67,7 @@ class Closure:
             paths = glob.glob(f"crates/{crate}/src/**/*.rt", root_dir=self.top, recursive=True)
             having = [other for other in sorted(paths) if has_type(self.code(other), name)]
             if len(having) != 1:
-                raise Unreadable(f"{crate}: {len(having)} files have a type {name}, and not one")
+                raise Unreadable(f"{crate}: {len(having)} files have a type {name}, not one")
             path = having[0]
         return path, name
 

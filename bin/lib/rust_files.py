@@ -30,7 +30,7 @@ class Code:
         """The number, from 0, of the one line that the pattern matches."""
         found = [number for number, line in enumerate(self.lines) if re.match(pattern, line)]
         if len(found) != 1:
-            raise Unreadable(f"{self.path}: {what} is there {len(found)} times, and not once")
+            raise Unreadable(f"{self.path}: {what} is there {len(found)} times, not once")
         return found[0]
 
     def above(self, number):
