@@ -72,9 +72,9 @@ class File:
                 self._read_line(body, line, number + 1)
             number += 1
 
-    # `module _ PARAMETERS where`, on one line or more
+    # `module _ PARAMETERS where`, on one line or more, with the comment above it
     def _read_header(self, lines, number):
-        self.header = [lines[number]]
+        self.header = [*self._comments_above(), lines[number]]
         while not lines[number].rstrip().endswith("where"):
             number += 1
             self.header.append(lines[number])

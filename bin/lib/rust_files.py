@@ -66,8 +66,9 @@ def type_of(code, name):
         inside.append("}")
     elif model:
         value = re.search(r"ghost Value = \{(.*?)\};", model.group(0), re.DOTALL).group(1).strip()
-        head, inside = f"{head.split(' {')[0].rstrip(';')} // in clauses: {value}", []
         used = set(CAPITAL.findall(value))
+        value = CAPITAL.sub(lambda found: code.clauses_import.get(found.group(), (None, found.group()))[1], value)
+        head, inside = f"{head.split(' {')[0].rstrip(';')} // in clauses: {value}", []
     else:
         used = types_in(head, inside)
     definition = Definition(code.path, name, code.above(start) + 1, [*above, head, *inside])
