@@ -6,9 +6,9 @@ use Rattle.std.proofs.lemmas.List.{take_more_set, take_all}
 use Rattle.std.proofs.lemmas.Bool.Decides.{eqb_tells}
 use Rattle.std.specs.declared.alloc.Global.{Global}
 use Rattle.gs_ends.specs.Pairs.{Pair, joint_of, joints_of}
-use Rattle.gs_dials.specs.ListsByPeer.{list_at}
+use Rattle.gs_seats.specs.ListsByPeer.{list_at}
 use Rattle.gs_dials.specs.Dials.{AtEach, IsClosed}
-use Rattle.gs_dials.proofs.PlaceLists.{list_at-set, list_at-other, list_at-get}
+use Rattle.gs_seats.proofs.PlaceLists.{list_at-set, list_at-other, list_at-get}
 use Rattle.gs_dials.proofs.Wires.{all_push}
 
 -- ---- a list

@@ -16,7 +16,7 @@ use Rattle.gs_plan.specs.declared.plan.Dial.{Dial}
 use Rattle.gs_plan.specs.Plans.{are_joined, join_the_same, joins}
 use Rattle.gs_ends.specs.Ends.{Joint, has, is_joint_of, linked}
 use Rattle.gs_ends.specs.Pairs.{Pair, joints_of, peers_in}
-use Rattle.gs_dials.specs.ListsByPeer.{list_at}
+use Rattle.gs_seats.specs.ListsByPeer.{list_at}
 use Rattle.gs_dials.specs.Dials.{AreWired, Dialled, JoinsTwoOf, assigned, gives}
 use Rattle.gs_dials.proofs.Giving.{same_or_not}
 

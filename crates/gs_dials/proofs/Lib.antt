@@ -1,4 +1,3 @@
-pub mod PlaceLists
 pub mod Giving
 pub mod Wires
 pub mod LastOnes

@@ -11,7 +11,7 @@ use Rattle.gs_plan.specs.declared.plan.Dial.{Dial}
 use Rattle.gs_link.specs.Runs.{closes}
 use Rattle.gs_ends.specs.Ends.{Joint, linked}
 use Rattle.gs_ends.specs.Pairs.{Pair, accepted_for, joint_of, joints_of, peers_in, taken_from}
-use Rattle.gs_dials.specs.ListsByPeer.{list_at}
+use Rattle.gs_seats.specs.ListsByPeer.{list_at}
 use Rattle.gs_dials.specs.Dials.{Dialled, gives, assigned, AreWired, AtEach, IsClosed, IsExchanged, JoinsTwoOf}
 use Rattle.gs_dials.proofs.Giving.{gives_from, gives_to, gives_none, assigned-append, at_each, numbers_apart}
 use Rattle.gs_dials.proofs.LastOnes.{all_last, last_is_some, last_parts, map_last}

@@ -7,7 +7,7 @@ use Rattle.gs_base.specs.declared.names.PeerNo.{PeerNo}
 use Rattle.gs_plan.specs.declared.plan.Dial.{Dial}
 use Rattle.gs_ends.specs.Ends.{linked}
 use Rattle.gs_ends.specs.Pairs.{Pair, joint_of, joints_of}
-use Rattle.gs_dials.specs.ListsByPeer.{list_at}
+use Rattle.gs_seats.specs.ListsByPeer.{list_at}
 use Rattle.gs_dials.specs.Dials.{Dialled, gives, assigned, AreWired, AtEach, HasCapacity, IsFresh, IsWiredOn}
 use Rattle.gs_dials.proofs.Giving.{gives_from, gives_to, gives_none, assigned-append, at_each}
 

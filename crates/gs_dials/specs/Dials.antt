@@ -9,7 +9,7 @@ use Rattle.gs_link.specs.Ends.{LinkId}
 use Rattle.gs_link.specs.Runs.{closes}
 use Rattle.gs_ends.specs.Ends.{Joint, linked}
 use Rattle.gs_ends.specs.Pairs.{Pair, accepted_for, joints_of, taken_from}
-use Rattle.gs_dials.specs.ListsByPeer.{list_at}
+use Rattle.gs_seats.specs.ListsByPeer.{list_at}
 
 -- a dial joins two different ones of so many peers
 abbrev pub JoinsTwoOf : ℕ → Dial → Type 0

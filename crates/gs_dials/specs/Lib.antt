@@ -1,2 +1,1 @@
-pub mod ListsByPeer
 pub mod Dials

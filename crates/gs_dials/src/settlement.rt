@@ -4,10 +4,9 @@ ghost use Rattle.gs_base.specs.Names.{same_peer};
 ghost use Rattle.gs_base.specs.declared.names.PeerNo.{PeerNo as PeerNoValue};
 ghost use Rattle.gs_link.specs.Runs.{closes};
 ghost use Rattle.gs_ends.specs.Pairs.{peers_in};
-ghost use Rattle.gs_dials.specs.ListsByPeer.{list_at};
+ghost use Rattle.gs_seats.specs.ListsByPeer.{list_at};
 ghost use Rattle.gs_dials.specs.Dials.{AreWired, AtEach, IsClosed, IsExchanged, JoinsTwoOf};
 
-use crate::lists_by_peer::take_last;
 use gs_base::PeerNo;
 use gs_link::{LinkRx, LinkTx, settle};
 use gs_plan::Dial;

@@ -3,11 +3,10 @@ ghost use Rattle.std.specs.List.{AllByRecursion};
 ghost use Rattle.gs_link.specs.Ends.{take_found_closed};
 ghost use Rattle.gs_link.specs.Runs.{closes};
 ghost use Rattle.gs_ends.specs.Pairs.{joint_of, joints_of};
-ghost use Rattle.gs_dials.specs.ListsByPeer.{list_at};
+ghost use Rattle.gs_seats.specs.ListsByPeer.{list_at};
 ghost use Rattle.gs_dials.specs.Dials.{AtEach, IsClosed};
 
 use super::*;
-use crate::lists_by_peer::take_last;
 use gs_base::PeerNo;
 use gs_link::{Item, LinkRx, LinkTx, SendRefused, Taken};
 use gs_plan::Dial;

@@ -3,7 +3,6 @@ ghost use Rattle.std.specs.List.{All};
 ghost use Rattle.gs_link.specs.Items.{IsCapacity};
 ghost use Rattle.gs_dials.specs.Dials.{AreWired, AtEach, HasCapacity, IsFresh, IsWiredOn, JoinsTwoOf};
 
-use crate::lists_by_peer::{empty_lists, put_last};
 use gs_base::PeerNo;
 use gs_link::{LinkRx, LinkTx, open_link};
 use gs_plan::Dial;

@@ -2,7 +2,7 @@
 use Rattle.std.proofs.Common.{◌≡◌, ◌*◌, length, map, refl, sym, ap, ◌∙◌}
 use Rattle.gs_plan.specs.declared.plan.Plan.{Plan}
 use Rattle.gs_report.specs.Text.{report_text}
-use Rattle.gs_net.specs.Rounds.{numbers}
+use Rattle.gs_seats.specs.Rounds.{numbers}
 use Rattle.gs_laws.specs.Runs.{ReportsAreOne}
 use Rattle.gs_laws.proofs.Lists.{same_pairs}
 use Rattle.gs_laws.proofs.Runs.{runs_one}

@@ -7,11 +7,11 @@ use Rattle.gs_base.specs.declared.names.Topic.{Topic}
 use Rattle.gs_plan.specs.declared.plan.Plan.{Plan}
 use Rattle.gs_rules.specs.declared.refusal.RefusedLine.{RefusedLine}
 use Rattle.gs_rules.specs.Tables.{Entries}
-use Rattle.gs_router.specs.Router.{meshes_of, scores_of}
+use Rattle.gs_rules.specs.Results.{meshes_of, scores_of}
 use Rattle.gs_report.specs.declared.finished.Finished.{Finished}
-use Rattle.gs_net.specs.Rounds.{IsLife, IsRun, numbers, peer_in}
-use Rattle.gs_net.proofs.ByNumber.{at_number}
-use Rattle.gs_net.proofs.Gathered.{as_many}
+use Rattle.gs_seats.specs.Rounds.{IsLife, IsRun, numbers, peer_in}
+use Rattle.gs_seats.proofs.ByNumber.{at_number}
+use Rattle.gs_seats.proofs.ByNumber.{as_many}
 use Rattle.gs_laws.specs.Runs.{ArePlayed, IsPlayed, RunsAreOne, refusals_of, traces_of}
 use Rattle.gs_laws.proofs.Lists.{same_places, zipped_weaker}
 use Rattle.gs_laws.proofs.Traces.{traces_one}

@@ -22,8 +22,9 @@ use Rattle.gs_rules.proofs.Handled.{GoesOn, does_on}
 use Rattle.gs_rules.proofs.Legality.{legal_newest}
 use Rattle.gs_rules.proofs.InOrder.{down_stays, entry_says, out_stays}
 use Rattle.gs_rules.proofs.RoundEnds.{has_ended}
-use Rattle.gs_peer.specs.Ended.{ends, whole}
-use Rattle.gs_peer.proofs.Words.{after_stays, said_in_stays, whole_before, whole_stays}
+use Rattle.gs_player.specs.Ended.{whole}
+use Rattle.gs_player.proofs.Spoken.{rounds_whole, told_more, told_no_more}
+use Rattle.gs_player.proofs.Words.{said_in_stays, whole_before}
 use Rattle.gs_laws.specs.Fixed.{AllIsSaidByTheEnd, RoundsAreSaidByTheirEnd, first_rounds}
 
 -- ---- words
@@ -34,83 +35,7 @@ rounds_stay zero v w h = refl
 rounds_stay (suc r) v w h =
     ap₂ (λ (u : Said) (us : List Said). u ∷ us) (said_in_stays r v w h) (rounds_stay r v w (whole_before r v h))
 
--- the end of a round ends it
-end_stands : (r : ℕ) (w : Said) → ends r (w ++ EndOf r ∷ []) ≡ true
-end_stands r [] = ap (λ (b : Bool). if b then true else false) (eq-eqb r r refl)
-end_stands r (Byte b ∷ w) = end_stands r w
-end_stands r (EndOf k ∷ w) = either (nat_eq k r) (end_stands r w)
-  where
-    either : (b : Bool) → ends r (w ++ EndOf r ∷ []) ≡ true → (if b then true else ends r (w ++ EndOf r ∷ [])) ≡ true
-    either true h = refl
-    either false h = h
-end_stands r (Close ∷ w) = refl
-
-one_whole : (r : ℕ) (w : Said) → whole r w ≡ true → whole (suc r) (w ++ EndOf r ∷ []) ≡ true
-one_whole r w h =
-    ap₂ (λ (a b : Bool). a && b) (whole_stays r w (EndOf r ∷ []) h) (ap (ends r) (after_stays r w (EndOf r ∷ []) h) ∙ end_stands r (after r w))
-
--- ---- what is down stays down, and is told nothing more
-
-stays_down : (q : PeerNo) (L : Entries) (entries : List Entry) → up L q ≡ false → up (entries ++ L) q ≡ false
-stays_down q L [] down = down
-stays_down q L (e ∷ entries) down = ap (up_after q e.event) (stays_down q L entries down) ∙ down_stays q e.event
-
-was_up : (q : PeerNo) (L : Entries) (entries : List Entry) → up (entries ++ L) q ≡ true → up L q ≡ true
-was_up q L entries is_up = by (up L q) refl
-  where
-    by : (b : Bool) → up L q ≡ b → up L q ≡ true
-    by true is = is
-    by false is = absurd (true≢false (sym is_up ∙ stays_down q L entries is))
-
-told_no_more : (q : PeerNo) (L : Entries) (entries : List Entry) → up L q ≡ false → out codec (entries ++ L) q ≡ out codec L q
-told_no_more q L [] down = refl
-told_no_more q L (e ∷ entries) down =
-    ap (λ (b : Bool). (if b then behind_entry codec q (outgoing codec (entries ++ L) q) e else outgoing codec (entries ++ L) q).said) (stays_down q L entries down)
-    ∙ told_no_more q L entries down
-
--- ---- what is said goes on
-
-told_more : (q : PeerNo) (L : Entries) (entries : List Entry) → (v : Said) × (out codec (entries ++ L) q ≡ out codec L q ++ v)
-told_more q L [] = ([], sym (append-nil (out codec L q)))
-told_more q L (e ∷ entries) =
-    let before = told_more q L entries in
-    let one = out_stays codec (entries ++ L) e q in
-    (before.0 ++ one.0, one.1 ∙ ap (λ (w : Said). w ++ one.0) before.1 ∙ append_assoc (out codec L q) before.0 one.0)
-
-whole_on : (r : ℕ) (q : PeerNo) (K L : Entries) → GoesOn K L → whole r (out codec K q) ≡ true → whole r (out codec L q) ≡ true
-whole_on r q K L (entries, is) h =
-    let more = told_more q K entries in
-    ap (λ (N : Entries). whole r (out codec N q)) is ∙ ap (whole r) more.1 ∙ whole_stays r (out codec K q) more.0 h
-
--- the end of a round is said where it comes
-end_said : (q : PeerNo) (r : ℕ) (M : Entries) (e : Entry) → e.event ≡ RoundEnd r → up M q ≡ true → (v : Said) × (out codec (e ∷ M) q ≡ (out codec M q ++ v) ++ EndOf r ∷ [])
-end_said q r M e is is_up =
-    let o : Outgoing = outgoing codec M q in
-    let says = entry_says codec q o e in
-    let mine : Said = map Byte says.0 in (
-      mine,
-      ap (λ (b : Bool). (if b then behind_entry codec q o e else o).said) is_up
-          ∙ says.1
-          ∙ ap (λ (event : Event). o.said ++ (mine ++ sign q event)) is
-          ∙ sym (append_assoc o.said mine (EndOf r ∷ [])),
-    )
-
 -- ---- a round
-
--- in what is said to q, that is up, so many rounds have ended
-rounds_whole : (seat : Seat) (said : PeerNo → Said) (r : ℕ) (K : Entries) (refused : List RefusedLine) (q : PeerNo) → AfterRounds seat said r K refused → up K q ≡ true → whole r (out codec K q) ≡ true
-rounds_whole seat said zero K refused q h is_up = refl
-rounds_whole seat said (suc r) K refused q (J, earlier, more, before, plays, is) is_up =
-    let ended = has_ended seat said r J K earlier more before plays in
-    let e : Entry = ended.end in
-    let M : Entries = ended.before in
-    let up_behind : up (e ∷ M) q ≡ true = subst (λ (L : Entries). up L q ≡ true) ended.are is_up in
-    let up_there : up M q ≡ true = was_up q M (e ∷ []) up_behind in
-    let up_before : up J q ≡ true = was_up q J ended.goes_on.0 (subst (λ (L : Entries). up L q ≡ true) ended.goes_on.1 up_there) in
-    let there : whole r (out codec M q) ≡ true = whole_on r q J M ended.goes_on (rounds_whole seat said r J earlier q before up_before) in
-    let last = end_said q r M e ended.is_end up_there in
-    let now : whole (suc r) (out codec (e ∷ M) q) ≡ true = ap (whole (suc r)) last.1 ∙ one_whole r (out codec M q ++ last.0) (whole_stays r (out codec M q) last.0 there) in
-    ap (λ (L : Entries). whole (suc r) (out codec L q)) ended.are ∙ now
 
 pub rounds_said : RoundsAreSaidByTheirEnd
 rounds_said seat said r L later refused q h = by (up L q) refl

@@ -22,11 +22,11 @@ use Rattle.gs_rules.proofs.Each.{each_weaker}
 use Rattle.gs_rules.proofs.Handled.{GoesOn, does_on}
 use Rattle.gs_rules.proofs.Legality.{exact_is_free, legal_weakly}
 use Rattle.gs_report.specs.declared.finished.Finished.{Finished}
-use Rattle.gs_net.specs.Rounds.{first_words, neighbours, numbers, peer_in, said_to, seat_in, trace_of}
-use Rattle.gs_net.proofs.ByNumber.{at_number}
-use Rattle.gs_net.proofs.Gathered.{as_many}
-use Rattle.gs_net.proofs.Joined.{IsJoined, neighbours_joined}
-use Rattle.gs_net.proofs.NeighbourLists.{links_in}
+use Rattle.gs_seats.specs.Rounds.{first_words, neighbours, numbers, peer_in, said_to, seat_in, trace_of}
+use Rattle.gs_seats.proofs.ByNumber.{at_number}
+use Rattle.gs_seats.proofs.ByNumber.{as_many}
+use Rattle.gs_seats.proofs.Joined.{IsJoined, neighbours_joined}
+use Rattle.gs_seats.proofs.NeighbourLists.{links_in}
 use Rattle.gs_laws.specs.Fixed.{AreHeardAlike, LegalByWords, NeighboursAreHeardAlike, first_rounds}
 use Rattle.gs_laws.specs.Runs.{ArePlayed, IsPlayed, TracesAreOne, however_run, refusals_of, traces_of}
 use Rattle.gs_laws.proofs.Doing.{exact_then_before}

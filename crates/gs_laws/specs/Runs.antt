@@ -10,8 +10,8 @@ use Rattle.gs_rules.specs.Rounds.{KeepsRounds}
 use Rattle.gs_report.specs.declared.finished.Finished.{Finished}
 use Rattle.gs_report.specs.declared.report.Report.{Report}
 use Rattle.gs_report.specs.Text.{report_text}
-use Rattle.gs_net.specs.Rounds.{IsRun, first_words, numbers, peer_in, said_to, seat_in}
-use Rattle.gs_net.specs.Reports.{IsReport}
+use Rattle.gs_seats.specs.Rounds.{IsRun, first_words, numbers, peer_in, said_to, seat_in}
+use Rattle.gs_seats.specs.Reports.{IsReport}
 use Rattle.gs_laws.specs.Fixed.{LegalByWords}
 
 -- ---- plans

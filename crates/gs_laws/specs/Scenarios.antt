@@ -8,7 +8,7 @@ use Rattle.gs_report.specs.Text.{report_text}
 use Rattle.gs_scenario.specs.Keys.{is_one_of}
 use Rattle.gs_scenario.specs.PlanOf.{capacity_key, workers_key}
 use Rattle.gs_streams.specs.Inputs.{IsScenario}
-use Rattle.gs_net.specs.Reports.{IsReport}
+use Rattle.gs_seats.specs.Reports.{IsReport}
 
 -- the table without these keys
 abbrev pub but_for : List (List ℕ) → Members → Members

@@ -12,9 +12,10 @@ use Rattle.gs_ends.specs.Ends.{Joint, has}
 use Rattle.gs_ends.specs.Pairs.{Pair, joints_of, pair_ends}
 use Rattle.gs_peer.specs.declared.assignment.Assignment.{Assignment}
 use Rattle.gs_peer.specs.Running.{MayBegin, seat_with}
-use Rattle.gs_net.specs.Rounds.{first_words, neighbours, peer_in, seat_in}
-use Rattle.gs_net.specs.Tasks.{AreUsable, IsAssignedIn, new_router}
-use Rattle.gs_net.proofs.NeighbourLists.{links_ascend, links_in}
+use Rattle.gs_seats.specs.Rounds.{first_words, neighbours, peer_in, seat_in}
+use Rattle.gs_seats.specs.Routers.{new_router}
+use Rattle.gs_net.specs.Tasks.{AreUsable, IsAssignedIn}
+use Rattle.gs_seats.proofs.NeighbourLists.{links_ascend, links_in}
 use Rattle.gs_net.proofs.Seats.{time_fits}
 use Rattle.gs_net.proofs.Wired.{none_accepted, none_taken}
 

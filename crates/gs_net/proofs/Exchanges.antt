@@ -5,7 +5,7 @@ use Rattle.gs_base.specs.declared.names.PeerNo.{PeerNo}
 use Rattle.gs_base.specs.Names.{same_peer}
 use Rattle.gs_plan.specs.declared.plan.Dial.{Dial}
 use Rattle.gs_plan.specs.Plans.{are_joined, joins}
-use Rattle.gs_net.proofs.Truths.{both_of, is_same, one_of}
+use Rattle.gs_seats.proofs.Truths.{both_of, is_same, one_of}
 use Rattle.gs_net.specs.Given.{Given, Exchanged, Reaches}
 
 by_dial : (givens : List Given) (p q : PeerNo) (dial : Dial) → joins p q dial ≡ true → Exchanged givens dial → Reaches givens q p

@@ -12,7 +12,7 @@ use Rattle.gs_params.specs.Seeding.{SeededState}
 use Rattle.gs_rules.specs.Rounds.{Seat}
 use Rattle.gs_ends.specs.Ends.{Joint}
 use Rattle.gs_ends.specs.Pairs.{Pair, joints_of, pair_ends}
-use Rattle.gs_dials.specs.ListsByPeer.{list_at}
+use Rattle.gs_seats.specs.ListsByPeer.{list_at}
 use Rattle.gs_peer.specs.declared.finished_task.PeerFault.{PeerFault}
 use Rattle.gs_peer.specs.declared.task.PeerTask.{PeerTask}
 use Rattle.gs_peer.specs.Life.{IsLife}
@@ -20,10 +20,10 @@ use Rattle.gs_peer.specs.Task.{CanPoll, Gives, given_of}
 use Rattle.gs_net.specs.declared.lives.Lives.{Lives}
 use Rattle.gs_net.specs.Given.{Given, GivenLife, ends_at}
 use Rattle.gs_net.specs.Lives.{IsTakenApart}
-use Rattle.gs_net.specs.Rounds.{first_words, numbers, peer_no, seat_in}
+use Rattle.gs_seats.specs.Rounds.{first_words, numbers, peer_no, seat_in}
 use Rattle.gs_net.specs.Tasks.{IsTask, IsTaskFor}
 use Rattle.gs_net.proofs.Beginning.{told}
-use Rattle.gs_net.proofs.ByNumber.{at_number}
+use Rattle.gs_seats.proofs.ByNumber.{as_long, as_many, at_number}
 
 -- ---- one peer
 
@@ -74,17 +74,6 @@ module _ {G : Type 0} (plan : Plan) (ends : List (Vec Pair Global)) where
 
   pub can_all : (tasks : List (PeerTask G (List Pair))) → AllZip (IsTaskFor pair_ends plan ends) (numbers plan) tasks → AllByRecursion (CanPoll pair_ends) tasks
   can_all tasks is = can_each (numbers plan) tasks is
-
--- ---- lists of one length
-
-pub as_long : {A B : Type 0} (R : A → B → Type 0) (xs : List A) (ys : List B) → AllZip R xs ys → length ys ≡ length xs
-as_long R [] [] h = refl
-as_long R (x ∷ xs) (y ∷ ys) h = ap suc (as_long R xs ys h.1)
-as_long R [] (y ∷ ys) h = absurd h
-as_long R (x ∷ xs) [] h = absurd h
-
-pub as_many : {B : Type 0} (R : PeerNo → B → Type 0) (plan : Plan) (ys : List B) → AllZip R (numbers plan) ys → length ys ≡ length plan.peers
-as_many R plan ys h = as_long R (numbers plan) ys h ∙ length-map-range_with_len peer_no 0 (length plan.peers)
 
 -- ---- the lives
 

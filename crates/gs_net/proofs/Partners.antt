@@ -10,11 +10,11 @@ use Rattle.gs_base.specs.Names.{same_peer}
 use Rattle.gs_plan.specs.declared.plan.Dial.{Dial}
 use Rattle.gs_plan.specs.declared.plan.Plan.{Plan}
 use Rattle.gs_plan.specs.Plans.{IsInRange, are_joined, join_the_same, joins}
-use Rattle.gs_net.specs.Rounds.{neighbours}
+use Rattle.gs_seats.specs.Rounds.{neighbours}
 use Rattle.gs_rules.proofs.Each.{each_weaker}
-use Rattle.gs_net.proofs.Each.{each_of_both}
-use Rattle.gs_net.proofs.Joined.{IsJoined, joins_both, neighbours_joined}
-use Rattle.gs_net.proofs.Truths.{both_of, is_same, one_of, same_self, unless}
+use Rattle.gs_seats.proofs.Each.{each_of_both}
+use Rattle.gs_seats.proofs.Joined.{IsJoined, joins_both, neighbours_joined}
+use Rattle.gs_seats.proofs.Truths.{both_of, is_same, one_of, same_self, unless}
 
 -- the other peer of a dial, where it is one of p's
 abbrev pub partners_of : PeerNo → Dial → List PeerNo

@@ -11,11 +11,11 @@ use Rattle.gs_link.specs.Runs.{closes as slots_close}
 use Rattle.gs_ends.specs.Pairs.{taken_from}
 use Rattle.gs_rules.specs.Peers.{links_of}
 use Rattle.gs_rules.specs.Hearing.{closes}
-use Rattle.gs_peer.proofs.Words.{closes_flat}
-use Rattle.gs_net.specs.Rounds.{neighbours, peer_in}
+use Rattle.gs_peer.proofs.SlotWords.{closes_flat}
+use Rattle.gs_seats.specs.Rounds.{neighbours, peer_in}
 use Rattle.gs_net.specs.Given.{Given, GivenLife}
 use Rattle.gs_rules.proofs.Each.{each_weaker}
-use Rattle.gs_net.proofs.NeighbourLists.{links_in}
+use Rattle.gs_seats.proofs.NeighbourLists.{links_in}
 
 -- all rounds together take less than 2^64 milliseconds
 pub time_fits : (plan : Plan) → IsInRange plan → plan.rounds * plan.round_ms < 2 ^ 64

@@ -9,8 +9,8 @@ use Rattle.gs_report.specs.declared.finished.Finished.{Finished}
 use Rattle.gs_net.specs.declared.lives.Lives.{Lives}
 use Rattle.gs_net.specs.Given.{Given, bare}
 use Rattle.gs_net.specs.Lives.{IsTakenApart}
-use Rattle.gs_net.specs.Rounds.{peer_no}
-use Rattle.gs_net.proofs.EachPeer.{numbers_more}
+use Rattle.gs_seats.specs.Rounds.{peer_no}
+use Rattle.gs_seats.proofs.EachPeer.{numbers_more}
 
 map_more : {A B : Type 0} (f : A → B) (xs ys : List A) (x : A) → ys ≡ xs ++ x ∷ [] → map f ys ≡ map f xs ++ f x ∷ []
 map_more f xs ys x e = ap (map f) e ∙ map-append f xs (x ∷ [])

@@ -23,15 +23,15 @@ use Rattle.gs_rules.proofs.Scripts.{script_says_frames}
 use Rattle.gs_rules.proofs.Spelled.{handled_joined}
 use Rattle.gs_peer.specs.Life.{words_of}
 use Rattle.gs_report.specs.declared.finished.Finished.{Finished}
-use Rattle.gs_net.specs.Rounds.{IsLife, IsRun, first_words, neighbours, numbers, peer_in, said_to, seat_in, trace_of}
+use Rattle.gs_seats.specs.Rounds.{IsLife, IsRun, first_words, neighbours, numbers, peer_in, said_to, seat_in, trace_of}
 use Rattle.gs_net.specs.Given.{Given, GivenLife, Exchanged, Reaches, bare, ends_at}
-use Rattle.gs_net.proofs.ByNumber.{at_number, each_by_number}
+use Rattle.gs_seats.proofs.ByNumber.{at_number, each_by_number}
 use Rattle.gs_rules.proofs.Each.{each_weaker}
-use Rattle.gs_net.proofs.Each.{each_of_both}
+use Rattle.gs_seats.proofs.Each.{each_of_both}
 use Rattle.gs_net.proofs.Exchanges.{joined_reach}
-use Rattle.gs_net.proofs.Joined.{IsJoined, joined_back, neighbours_joined, of_joined}
-use Rattle.gs_net.proofs.NeighbourLists.{links_in}
-use Rattle.gs_net.proofs.SameWords.{SayTheSame, handles_same, keeps_same}
+use Rattle.gs_seats.proofs.Joined.{IsJoined, joined_back, neighbours_joined, of_joined}
+use Rattle.gs_seats.proofs.NeighbourLists.{links_in}
+use Rattle.gs_seats.proofs.SameWords.{SayTheSame, handles_same, keeps_same}
 
 -- ---- one life
 

@@ -17,18 +17,18 @@ use Rattle.gs_link.specs.declared.item.Slot.{Slot}
 use Rattle.gs_link.specs.Runs.{closes}
 use Rattle.gs_ends.specs.Ends.{Joint, has, linked}
 use Rattle.gs_ends.specs.Pairs.{Pair, accepted_for, joints_of, peers_in, slots_with, taken_from}
-use Rattle.gs_dials.specs.ListsByPeer.{list_at}
+use Rattle.gs_seats.specs.ListsByPeer.{list_at}
 use Rattle.gs_dials.specs.Dials.{AreWired, AtEach, Dialled, HasCapacity, HasReached, IsClosed, IsExchanged, IsFresh, JoinsTwoOf, assigned, gives}
 use Rattle.gs_net.specs.Given.{Exchanged, Given, GivenLife, Reaches, ends_at}
-use Rattle.gs_net.specs.Rounds.{neighbours, numbers, peer_no}
+use Rattle.gs_seats.specs.Rounds.{neighbours, numbers, peer_no}
 use Rattle.gs_net.specs.Tasks.{AreUsable}
-use Rattle.gs_net.proofs.ByNumber.{at_number}
+use Rattle.gs_seats.proofs.ByNumber.{at_number}
 use Rattle.gs_rules.proofs.Each.{each_weaker}
-use Rattle.gs_net.proofs.Each.{each_of_both}
-use Rattle.gs_net.proofs.Joined.{IsJoined, of_joined}
+use Rattle.gs_seats.proofs.Each.{each_of_both}
+use Rattle.gs_seats.proofs.Joined.{IsJoined, of_joined}
 use Rattle.gs_net.proofs.Partners.{neighbours_are_partners, partners, partners_apart, partners_joined, partners_of}
 use Rattle.gs_net.proofs.Seats.{each_closed}
-use Rattle.gs_net.proofs.Truths.{same_self}
+use Rattle.gs_seats.proofs.Truths.{same_self}
 
 -- each dial of a plan in range joins two of its peers
 pub dials_join : (plan : Plan) → IsInRange plan → All (JoinsTwoOf (length plan.peers)) plan.dials

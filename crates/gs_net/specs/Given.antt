@@ -7,7 +7,7 @@ use Rattle.gs_ends.specs.Pairs.{Pair, accepted_for, pair_ends, taken_from}
 use Rattle.gs_peer.specs.declared.finished_task.FinishedTask.{FinishedTask as GivenWith}
 use Rattle.gs_peer.specs.Life.{IsLife as IsLifeAt}
 use Rattle.gs_report.specs.declared.finished.Finished.{Finished}
-use Rattle.gs_net.specs.Rounds.{first_words, seat_in}
+use Rattle.gs_seats.specs.Rounds.{first_words, seat_in}
 
 -- ---- one peer
 

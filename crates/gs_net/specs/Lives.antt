@@ -6,7 +6,7 @@ use Rattle.gs_peer.specs.declared.finished_task.PeerFault.TheVariants.{NoMemory,
 use Rattle.std.specs.List.{range_with_len}
 use Rattle.gs_net.specs.declared.lives.Lives.{Lives}
 use Rattle.gs_net.specs.Given.{Given, bare}
-use Rattle.gs_net.specs.Rounds.{peer_no}
+use Rattle.gs_seats.specs.Rounds.{peer_no}
 
 -- Each life with its number, and the ends of each, in order.
 pub record IsTakenApart (givens : List Given) (lives : Lives) : Type 0 where

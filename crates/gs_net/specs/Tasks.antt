@@ -10,13 +10,12 @@ use Rattle.gs_plan.specs.declared.plan.Plan.{Plan}
 use Rattle.gs_ends.specs.Ends.{Joint, has}
 use Rattle.gs_ends.specs.declared.ends.Ends.{Ghosts as EndsOf}
 use Rattle.gs_ends.specs.Pairs.{Pair, joints_of, peers_in}
-use Rattle.gs_router.specs.Router.{RouterView}
 use Rattle.gs_peer.specs.declared.assignment.Assignment.{Assignment}
 use Rattle.gs_peer.specs.declared.task.PeerTask.{PeerTask}
 use Rattle.gs_peer.specs.Task.{CanPoll, given_of}
-use Rattle.gs_dials.specs.ListsByPeer.{list_at}
+use Rattle.gs_seats.specs.ListsByPeer.{list_at}
 use Rattle.gs_dials.specs.Dials.{HasCapacity, IsFresh}
-use Rattle.gs_net.specs.Rounds.{first_words, lines_in, neighbours, peer_in, peer_no, seat_in}
+use Rattle.gs_seats.specs.Rounds.{first_words, lines_in, neighbours, peer_in, peer_no, seat_in}
 
 -- There are ends to and from each neighbour, to none of them twice, of links of the plan's capacity, and nothing has gone
 -- over them.
@@ -46,10 +45,6 @@ pub record IsAssignedIn (plan : Plan) (p : PeerNo) (a : Assignment) : Type 0 whe
   pub rounds : a.rounds ≡ plan.rounds
   -- the workers take turns
   pub worker : a.worker ≡ p.0 % plan.workers
-
--- its router, before it has done anything
-abbrev pub new_router : Plan → PeerNo → RouterView
-new_router plan p = record { peer = peer_in plan p; trace = []; is_stopped = false }
 
 module _ {G S : Type 0} (seen : EndsOf S) where
   -- A task of this peer, by its words, with ends of these links.

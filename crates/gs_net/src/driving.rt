@@ -5,10 +5,10 @@ ghost use Rattle.gs_workers.specs.declared.fault.WorkerFault.{WorkerFault as Wor
 ghost use Rattle.gs_peer.specs.Task.{CanPoll, Gives};
 ghost use Rattle.gs_net.specs.Faults.{of_workers};
 
-use crate::fault::NetFault;
 use gs_ends::Ends;
 use gs_peer::{FinishedTask, Gate, PeerFault, PeerTask};
-use gs_workers::{Ran, StopFlag, run_all};
+use gs_seats::NetFault;
+use gs_workers::{Ran, StopFlag, WorkerFault, run_all};
 use std::alloc::AllocGlobal;
 use std::random::RandomSource;
 use std::sync::{Arc, Wait};
@@ -39,6 +39,19 @@ pub fn run_tasks<
 {
     match run_all(rt, workers, stop, tasks) {
         Ok(ran) => Ok(ran),
-        Err(fault) => Err(NetFault::from(fault)),
+        Err(fault) => Err(fault_of(fault)),
     }
 }
+
+/// What a fault of the workers is to a run.
+fn fault_of(fault: WorkerFault) -> NetFault
+    ensures { result ≡ of_workers fault }
+{
+    match fault {
+        WorkerFault::NoMemory(_) => NetFault::NoMemory(None),
+        WorkerFault::NoThread(_) => NetFault::NoThread,
+    }
+}
+
+#[cfg(test)]
+mod tests;

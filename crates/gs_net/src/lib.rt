@@ -2,14 +2,10 @@
 #![tactic(auto)]
 
 mod driving;
-mod fault;
-mod lines;
 mod lives;
-mod neighbours;
 mod run;
 mod tasks;
 
-pub use fault::NetFault;
 pub use run::run_net;
 
 #[cfg(test)]

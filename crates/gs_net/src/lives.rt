@@ -3,12 +3,12 @@ ghost use Rattle.gs_peer.specs.declared.finished_task.FinishedTask.{FinishedTask
 ghost use Rattle.gs_ends.specs.Pairs.{Pair};
 ghost use Rattle.gs_net.specs.Lives.{IsTakenApart, first_without_memory, wants_memory};
 
-use crate::fault::NetFault;
 use gs_base::PeerNo;
 use gs_ends::LinkEnds;
 use gs_link::{LinkRx, LinkTx};
 use gs_peer::PeerFault;
 use gs_report::Finished;
+use gs_seats::NetFault;
 use std::alloc::Global;
 use std::sync::Wait;
 

@@ -2,11 +2,9 @@ ghost use Rattle.std.specs.Prelude.{◌≡◌, ◌≤◌, ◌*◌, IfOk, length,
 ghost use Rattle.std.specs.List.{All, AllZip};
 ghost use Rattle.gs_plan.specs.Plans.{IsInRange};
 ghost use Rattle.gs_peer.specs.Task.{CanPoll, Gives};
-ghost use Rattle.gs_net.specs.Reports.{IsReport};
+ghost use Rattle.gs_seats.specs.Reports.{IsReport};
 
 use crate::driving::run_tasks;
-use crate::fault::NetFault;
-use crate::lines::lines_by_peer;
 use crate::lives::lives_of;
 use crate::tasks::Builder;
 use gs_dials::{settle_all, wire_all};
@@ -14,6 +12,7 @@ use gs_ends::Ends;
 use gs_peer::{FinishedTask, Gate, PeerFault, PeerTask};
 use gs_plan::Plan;
 use gs_report::Report;
+use gs_seats::{NetFault, lines_by_peer};
 use gs_workers::{Ran, StopFlag};
 use std::alloc::{AllocError, AllocGlobal, Global};
 use std::random::RandomSource;

@@ -3,19 +3,16 @@ ghost use Rattle.std.specs.List.{AllByRecursion, AllZip, IsDistinct};
 ghost use Rattle.gs_base.specs.Names.{peers_of, same_peer};
 ghost use Rattle.gs_plan.specs.Plans.{IsInRange};
 ghost use Rattle.gs_ends.specs.Pairs.{joints_of, peers_in};
-ghost use Rattle.gs_net.specs.Rounds.{first_words, lines_in, neighbours_in, numbers, peer_no, words_of};
-ghost use Rattle.gs_net.specs.Tasks.{AreParts, AreUsable, IsAssignedIn, IsTask, IsTaskFor, first_numbers, new_router};
+ghost use Rattle.gs_seats.specs.Rounds.{lines_in, neighbours_in, numbers, peer_no};
+ghost use Rattle.gs_net.specs.Tasks.{AreParts, AreUsable, IsAssignedIn, IsTask, IsTaskFor, first_numbers};
 
-use crate::fault::NetFault;
-use crate::neighbours::neighbours_of;
-use gs_base::{Neighbour, PeerNo, clone_of};
-use gs_dials::take_list;
+use gs_base::{Neighbour, PeerNo};
 use gs_ends::{Ends, LinkEnds};
 use gs_link::{LinkRx, LinkTx};
-use gs_params::SeededWords;
-use gs_peer::{Agenda, Assignment, Gate, PeerTask, Surroundings};
+use gs_peer::{Assignment, Gate, PeerTask, Surroundings};
 use gs_plan::{Line, Plan};
-use gs_router::Router;
+use gs_player::Agenda;
+use gs_seats::{NetFault, first_words, neighbours_of, router_of, take_list};
 use gs_workers::StopFlag;
 use std::alloc::{AllocError, Global};
 use std::sync::{Arc, Wait};
@@ -140,29 +137,6 @@ fn assignment_of(
     })
 }
 
-/// The router of a peer with these neighbours, which has done nothing.
-fn router_of(
-    alloc: Global,
-    plan: &Plan,
-    number: PeerNo,
-    neighbours: Vec<Neighbour>,
-) -> Result<Router, AllocError>
-    requires range { IsInRange plan.now }
-    requires neighbours { neighbours.items ≡ neighbours_in plan.now number }
-    ensures { IfOk result (λ router. router ≡ new_router plan.now number) }
-{
-    let params = clone_of(&plan.params)?;
-    let router = Router::new(alloc, params, neighbours)?;
-    Ok(router)
-}
-
-fn first_words(alloc: Global, plan: &Plan, number: PeerNo) -> Result<SeededWords, AllocError>
-    ensures { IfOk result (λ words. words ≡ first_words plan.now number) }
-{
-    let list = words_of(alloc, plan, number)?;
-    Ok(SeededWords::new(list, plan.seed, number))
-}
-
 fn numbers_of(alloc: Global, neighbours: &[Neighbour]) -> Result<Vec<PeerNo>, AllocError>
     ensures { IfOk result (λ found. found.items ≡ peers_of neighbours.now) }
 {
@@ -171,17 +145,4 @@ fn numbers_of(alloc: Global, neighbours: &[Neighbour]) -> Result<Vec<PeerNo>, Al
         found.push(neighbour.peer)?;
     }
     Ok(found)
-}
-
-/// The list of a peer's random words.
-fn words_of(alloc: Global, plan: &Plan, peer: PeerNo) -> Result<Vec<u32>, AllocError>
-    ensures { IfOk result (λ list. list.items ≡ words_of plan.now peer) }
-{
-    match plan.peers.as_slice().get(usize::from(peer.0)) {
-        Some(planned) => {
-            let list = planned.words.as_slice().to_vec(alloc)?;
-            Ok(list)
-        }
-        None => Ok(Vec::new(alloc)),
-    }
 }

@@ -17,9 +17,10 @@ use Rattle.gs_rules.specs.Hearing.{Inbound, bytes_before, silence}
 use Rattle.gs_rules.specs.Rounds.{Seat, Phase, Playing, Closing, ComesAt, Todo, Hear, HearFault, HearGone, hears, hears_of, is_broken, is_fault}
 use Rattle.gs_rules.proofs.Spelled.{no_stream}
 use Rattle.gs_peer.specs.Inboxes.{InboxView, all_heard, heard_of, is_broken_off, peers_of}
-use Rattle.gs_peer.specs.Kept.{InboxKept, close_if}
-use Rattle.gs_peer.specs.Playing.{RpcsFit}
-use Rattle.gs_peer.proofs.Words.{bytes_split, closes_after}
+use Rattle.gs_player.specs.Ended.{close_if}
+use Rattle.gs_peer.specs.Kept.{InboxKept}
+use Rattle.gs_player.specs.Playing.{RpcsFit}
+use Rattle.gs_player.proofs.Words.{bytes_split, closes_after}
 
 -- ---- one neighbour
 

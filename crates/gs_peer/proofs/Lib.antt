@@ -1,13 +1,9 @@
-pub mod Words
-pub mod Runs
+pub mod SlotWords
+pub mod Begun
 pub mod Feeding
 pub mod Endings
 pub mod Mapped
-pub mod Growing
 pub mod Listening
-pub mod Lines
-pub mod Agendas
-pub mod Beating
 pub mod Inbound
 pub mod Turning
 pub mod Telling

@@ -14,10 +14,10 @@ use Rattle.gs_rules.specs.Saying.{handled}
 use Rattle.gs_rules.specs.Hearing.{Spell, after, behind, closes, front}
 use Rattle.gs_rules.specs.Rounds.{Seat, Phase, Playing, Closing}
 use Rattle.gs_rules.proofs.Spelled.{bytes_of_append, bytes_of_bytes}
-use Rattle.gs_peer.specs.Ended.{ends, whole}
+use Rattle.gs_player.specs.Ended.{close_if, ends, whole}
 use Rattle.gs_peer.specs.Inboxes.{InboxView, Reads, is_full, is_mark}
-use Rattle.gs_peer.specs.Kept.{InboxKept, close_if}
-use Rattle.gs_peer.proofs.Words.{after_stays, and_same, behind_goes, bytes_stay, closes_append, ends_goes, front_goes, whole_stays}
+use Rattle.gs_peer.specs.Kept.{InboxKept}
+use Rattle.gs_player.proofs.Words.{after_stays, and_same, behind_goes, bytes_stay, closes_append, ends_goes, front_goes, whole_stays}
 
 -- ---- what one slot says
 

@@ -28,11 +28,11 @@ use Rattle.gs_peer.specs.declared.outboxes.Outboxes.{Outboxes}
 use Rattle.gs_peer.specs.Inboxes.{InboxView, all_heard, in_next_phase, peers_of}
 use Rattle.gs_peer.specs.Kept.{BoxKept, InboxKept, Kept}
 use Rattle.gs_peer.specs.Outboxes.{waiting}
-use Rattle.gs_peer.specs.Playing.{IsRunning, Runs, behind_heard}
+use Rattle.gs_player.specs.Playing.{IsRunning, Runs, behind_heard}
 use Rattle.gs_peer.specs.Running.{AllFull, AllSilent}
 use Rattle.gs_peer.proofs.Inbound.{all_come}
 use Rattle.gs_peer.proofs.Turning.{inboxes_close, inboxes_turn, peers_in_next_phase}
-use Rattle.gs_peer.proofs.Telling.{down_stays, out_no_more}
+use Rattle.gs_player.proofs.Since.{down_stays, out_no_more}
 
 -- ---- what is done in a phase
 

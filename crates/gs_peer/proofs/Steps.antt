@@ -26,9 +26,10 @@ use Rattle.gs_peer.specs.Life.{words_of}
 use Rattle.gs_peer.specs.Outboxes.{gathered_in, is_open, waiting}
 use Rattle.gs_peer.specs.Phases.{rounds_ended}
 use Rattle.gs_peer.proofs.Grows.{all_stay, same_or}
-use Rattle.gs_peer.proofs.Growing.{GoesOn, begun_stays}
+use Rattle.gs_player.proofs.Growing.{GoesOn}
+use Rattle.gs_peer.proofs.Begun.{begun_stays}
 use Rattle.gs_peer.proofs.Listening.{listened, right_false}
-use Rattle.gs_peer.proofs.Words.{closes_flat}
+use Rattle.gs_peer.proofs.SlotWords.{closes_flat}
 
 -- ---- lists of inboxes
 

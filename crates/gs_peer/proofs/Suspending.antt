@@ -17,7 +17,7 @@ use Rattle.gs_router.specs.Router.{RouterView}
 use Rattle.gs_ends.specs.declared.ends.Ends.{Ghosts as EndsOf}
 use Rattle.gs_peer.specs.declared.outboxes.Outboxes.{Outboxes}
 use Rattle.gs_peer.specs.declared.running.Running.{Running}
-use Rattle.gs_peer.specs.Ended.{whole}
+use Rattle.gs_player.specs.Ended.{whole}
 use Rattle.gs_peer.specs.Inboxes.{InboxView, peers_of}
 use Rattle.gs_peer.specs.Kept.{Begun, BoxKept, InboxKept, Kept}
 use Rattle.gs_peer.specs.Life.{words_of}

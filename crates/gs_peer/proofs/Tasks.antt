@@ -26,7 +26,7 @@ use Rattle.gs_peer.specs.Kept.{Kept}
 use Rattle.gs_peer.specs.Life.{words_of}
 use Rattle.gs_peer.specs.Phases.{phase_of}
 use Rattle.gs_peer.specs.Players.{PlaysRound}
-use Rattle.gs_peer.specs.Playing.{Runs, behind_heard}
+use Rattle.gs_player.specs.Playing.{Runs, behind_heard}
 use Rattle.gs_peer.specs.Running.{AllFull, Goes, IsKept, TellsSince, seat_of, seat_with}
 use Rattle.gs_peer.proofs.Played.{kept_closed, kept_turned, own_rest}
 

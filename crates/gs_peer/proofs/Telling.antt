@@ -16,14 +16,12 @@ use Rattle.gs_rules.specs.Tables.{Entries, cuts_off, up, up_after}
 use Rattle.gs_rules.specs.Legal.{Legal}
 use Rattle.gs_rules.specs.Saying.{AllFit, Outgoing, behind_entry, behind_event, cut_out, frames_of, gather, is_cut, outgoing, raw_to, saying, sending, sending_all, sign}
 use Rattle.gs_rules.proofs.Fitting.{legal_part_fits}
+use Rattle.gs_player.proofs.Since.{next_first, since}
 use Rattle.gs_peer.specs.declared.outboxes.Outboxes.{Outboxes}
 use Rattle.gs_peer.specs.Kept.{BoxKept}
 use Rattle.gs_peer.specs.Outboxes.{behind_entries, is_open, opens_behind, outgoing_in}
 
 -- ---- entries behind a trace
-
-next_first : (K : Entries) (e : Entry) (es : List Entry) → reverse (e ∷ es) ++ K ≡ reverse es ++ e ∷ K
-next_first K e es = ap (λ (xs : List Entry). xs ++ K) (reverse-append (e ∷ []) es) ∙ append_assoc (reverse es) (e ∷ []) K
 
 up_behind : (K : Entries) (q : PeerNo) (es : List Entry) → up (reverse es ++ K) q ≡ opens_behind q (up K q) es
 up_behind K q [] = refl
@@ -106,46 +104,7 @@ boxes_told K L es sent old new [] is told opens k = tt
 boxes_told K L es sent old new (q ∷ qs) is told opens k =
     (subst (λ (M : Entries). BoxKept M (sent q) new q) (sym is) (box_told K q es (sent q) old new k.0 (told q) (opens q)), boxes_told K L es sent old new qs is told opens k.1)
 
--- ---- the entries that came, as a caller sees them: the oldest first
-
-seen_as : (entries : List Entry) (L : Entries) → reverse entries ≡ L → entries ≡ reverse L
-seen_as entries L is = sym (reverse-reverse entries) ∙ ap reverse is
-
-newest : (K L : Entries) (es : List Entry) → L ≡ es ++ K → drop (length K) (reverse L) ≡ reverse es
-newest K L es is =
-    ap (λ (M : Entries). drop (length K) (reverse M)) is ∙ ap (drop (length K)) (reverse-append es K) ∙ drop_at (reverse K) (reverse es) (length K) (length-reverse K)
-
--- those that came fit
-pub fits_since : (p : Peer) (told : ℕ) (all : List Entry) (L : Entries) → reverse all ≡ L → Legal p L → AllFit codec (take (length all - told) (drop told all))
-fits_since p told all L is legal =
-    subst (λ (entries : List Entry). AllFit codec (take (length all - told) (drop told entries))) (sym (seen_as all L is)) (legal_part_fits p L told (length all - told) legal)
-
--- ---- behind the close
-
-stays_down : (ends : Bool) → (if ends then false else false) ≡ false
-stays_down true = refl
-stays_down false = refl
-
-never_up : (q : PeerNo) (event : Event) → up_after q event false ≡ false
-never_up q event = stays_down (cuts_off q event)
-
-pub down_stays : (L : Entries) (q : PeerNo) (es : List Entry) → up L q ≡ false → up (es ++ L) q ≡ false
-down_stays L q [] is_down = is_down
-down_stays L q (e ∷ es) is_down = ap (up_after q e.event) (down_stays L q es is_down) ∙ never_up q e.event
-
--- nothing more goes to a neighbour that is down
-pub out_no_more : (L : Entries) (q : PeerNo) (es : List Entry) → up L q ≡ false → outgoing codec (es ++ L) q ≡ outgoing codec L q
-out_no_more L q [] is_down = refl
-out_no_more L q (e ∷ es) is_down =
-    ap (λ (b : Bool). if b then behind_entry codec q (outgoing codec (es ++ L) q) e else outgoing codec (es ++ L) q) (down_stays L q es is_down)
-    ∙ out_no_more L q es is_down
-
 -- ---- told by a router's trace
-
--- behind so many entries stand those that came since
-since : (told : ℕ) (all es : List Entry) (K L : Entries) → reverse all ≡ L → L ≡ es ++ K → length K ≡ told → drop told all ≡ reverse es
-since told all es K L is added counted =
-    ap₂ (λ (n : ℕ) (xs : List Entry). drop n xs) (sym counted) (seen_as all L is) ∙ newest K L es added
 
 pub tells : (told : ℕ) (all slice : List Entry) (L : Entries) (old new : Outboxes)
     → reverse all ≡ L
@@ -160,6 +119,3 @@ pub tells : (told : ℕ) (all slice : List Entry) (L : Entries) (old new : Outbo
 tells told all slice L old new is cut told_all opens K sent qs counted (es, added) k =
     let mine : slice ≡ reverse es = cut ∙ since told all es K L is added counted in
     boxes_told K L slice sent old new qs (added ∙ ap (λ (xs : List Entry). xs ++ K) (sym (ap reverse mine ∙ reverse-reverse es))) told_all opens k
-
-pub counted : (all : List Entry) (L : Entries) → reverse all ≡ L → length all ≡ length L
-counted all L is = sym (length-reverse all) ∙ ap length is

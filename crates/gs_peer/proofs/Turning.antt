@@ -17,11 +17,11 @@ use Rattle.gs_rules.specs.Hearing.{Spell, after, behind, bytes_before, closes, f
 use Rattle.gs_rules.specs.Rounds.{Seat, Playing, Closing, AfterRounds}
 use Rattle.gs_rules.proofs.Each.{each_weaker}
 use Rattle.gs_rules.proofs.Handled.{StandsOnce, distinct_once, rounds_handle, spelled_once}
-use Rattle.gs_peer.specs.Ended.{ends, whole}
+use Rattle.gs_player.specs.Ended.{close_if, ends, whole}
 use Rattle.gs_peer.specs.Inboxes.{InboxView, in_next_phase, is_full, peers_of}
-use Rattle.gs_peer.specs.Kept.{InboxKept, close_if}
+use Rattle.gs_peer.specs.Kept.{InboxKept}
 use Rattle.gs_peer.proofs.Inbound.{all_before}
-use Rattle.gs_peer.proofs.Words.{and_same}
+use Rattle.gs_player.proofs.Words.{and_same}
 
 -- ---- one neighbour
 

@@ -20,7 +20,7 @@ use Rattle.gs_rules.specs.Hearing.{Spell, after, bytes_before, closes}
 use Rattle.gs_rules.specs.Rounds.{Seat, Phase, Playing, Closing, AfterRounds, moment_of}
 use Rattle.gs_router.specs.Router.{RouterView}
 use Rattle.gs_peer.specs.declared.outboxes.Outboxes.{Outboxes}
-use Rattle.gs_peer.specs.Ended.{closes_in, whole}
+use Rattle.gs_player.specs.Ended.{close_if, closes_in, whole}
 use Rattle.gs_peer.specs.Phases.{rounds_ended}
 use Rattle.gs_peer.specs.Inboxes.{InboxView, is_full, peers_of}
 use Rattle.gs_peer.specs.Outboxes.{gathered_in, is_open, waiting}
@@ -31,9 +31,6 @@ use Rattle.gs_peer.specs.Outboxes.{gathered_in, is_open, waiting}
 abbrev pub is_whole : Phase → Said → Bool
 is_whole (Playing r) w = whole r w
 is_whole Closing w = closes w
-
-abbrev pub close_if : Bool → Said
-close_if closed = if closed then Close ∷ [] else []
 
 -- in a round nothing but a close is taken behind what is heard in it
 abbrev pub NothingBehind : Phase → Said → Bool → Type 0

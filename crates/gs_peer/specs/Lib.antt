@@ -1,11 +1,8 @@
-pub mod Ended
 pub mod Phases
 pub mod Inboxes
 pub mod Queue
 pub mod Outboxes
 pub mod Moved
-pub mod Playing
-pub mod Agendas
 pub mod Players
 pub mod Kept
 pub mod Life

@@ -14,7 +14,7 @@ use Rattle.gs_rules.specs.Legal.{LegalOn}
 use Rattle.gs_rules.specs.Saying.{gathered, handled, out}
 use Rattle.gs_rules.specs.Hearing.{Spell, closes}
 use Rattle.gs_rules.specs.Rounds.{Seat, KeepsRounds}
-use Rattle.gs_router.specs.Router.{meshes_of, scores_of}
+use Rattle.gs_rules.specs.Results.{meshes_of, scores_of}
 use Rattle.gs_peer.specs.declared.finished_task.FinishedTask.{FinishedTask}
 
 -- what lists of slots say, by neighbour

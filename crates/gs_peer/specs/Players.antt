@@ -7,7 +7,7 @@ use Rattle.gs_rules.specs.declared.refusal.RefusedLine.{RefusedLine}
 use Rattle.gs_rules.specs.Modes.{exact}
 use Rattle.gs_peer.specs.declared.player.Player.{Player}
 use Rattle.gs_peer.specs.Inboxes.{all_heard, in_next_phase}
-use Rattle.gs_peer.specs.Playing.{Runs, behind_heard}
+use Rattle.gs_player.specs.Playing.{Runs, behind_heard}
 
 -- What came was heard, these lines were followed where they are for the round, counters were lowered and a heartbeat
 -- came where that was due, and the round was ended; these lines were refused.

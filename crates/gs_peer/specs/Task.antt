@@ -21,7 +21,7 @@ use Rattle.gs_peer.specs.declared.finished_task.FinishedTask.{FinishedTask}
 use Rattle.gs_peer.specs.declared.finished_task.PeerFault.{PeerFault}
 use Rattle.gs_peer.specs.declared.running.Running.{Running}
 use Rattle.gs_peer.specs.declared.task.PeerTask.{PeerTask}
-use Rattle.gs_peer.specs.Ended.{whole}
+use Rattle.gs_player.specs.Ended.{whole}
 use Rattle.gs_peer.specs.Inboxes.{InboxView, peers_of}
 use Rattle.gs_peer.specs.Life.{IsLife, words_of}
 use Rattle.gs_peer.specs.Moves.{is_over}

@@ -1,5 +1,5 @@
-use crate::agenda::Agenda;
 use gs_base::PeerNo;
+use gs_player::Agenda;
 
 /// What a peer is given in a run, and keeps to its end.
 #[derive(Drop)]

@@ -1,13 +1,12 @@
 //! A peer's whole life as a future that is polled by hand, over any ends of links.
 #![tactic(auto)]
 
-mod agenda;
 mod assignment;
 mod boxes;
-mod calls;
 mod finished_task;
 mod frames;
 mod gate;
+mod hearing;
 mod inbox;
 mod outbox;
 mod outboxes;
@@ -17,7 +16,6 @@ mod queue;
 mod running;
 mod task;
 
-pub use agenda::Agenda;
 pub use assignment::Assignment;
 pub use finished_task::{FinishedTask, PeerFault};
 pub use gate::{Gate, NoGate};

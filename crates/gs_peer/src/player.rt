@@ -4,14 +4,14 @@ ghost use Rattle.gs_params.specs.Seeding.{seeded_after, seeded_word};
 ghost use Rattle.gs_rules.specs.Modes.{exact};
 ghost use Rattle.gs_rules.specs.Rounds.{Stop};
 ghost use Rattle.gs_peer.specs.Inboxes.{all_heard};
-ghost use Rattle.gs_peer.specs.Playing.{IsRunning, Runs, RpcsFit};
+ghost use Rattle.gs_player.specs.Playing.{IsRunning, Runs, RpcsFit};
 ghost use Rattle.gs_peer.specs.Players.{PlaysRound};
 
-use crate::agenda::Agenda;
-use crate::calls::{self, never_refused};
+use crate::hearing;
 use crate::inbox::Inbox;
 use gs_base::Millis;
 use gs_params::SeededWords;
+use gs_player::{Agenda, decay_and_beat, follow_all, never_refused};
 use gs_router::Router;
 use gs_rules::RefusedLine;
 use std::alloc::{AllocError, Global};
@@ -45,21 +45,21 @@ impl Player {
         requires fit { AllByRecursion (λ x. RpcsFit x.stage) self.old.inboxes.items }
         ensures { OnOk result (PlaysRound round now agenda.now self.old self.new) }
     {
-        calls::hear(
+        hearing::hear(
             alloc,
             &mut self.router,
             &mut self.words,
             &mut self.inboxes,
             now,
         )?;
-        calls::follow_all(
+        follow_all(
             &mut self.router,
             &mut self.words,
             &mut self.refused,
             agenda.at(round),
             now,
         )?;
-        calls::decay_and_beat(&mut self.router, &mut self.words, round, now)?;
+        decay_and_beat(&mut self.router, &mut self.words, round, now)?;
         never_refused(self.router.end_round(round, now, &mut self.words))?;
         Ok(())
     }
@@ -90,7 +90,7 @@ impl Player {
             self.old.router self.old.words self.new.router self.new.words []) }
         ensures refused { self.new.refused ≡ self.old.refused }
     {
-        calls::hear(
+        hearing::hear(
             alloc,
             &mut self.router,
             &mut self.words,

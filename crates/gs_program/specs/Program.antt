@@ -5,15 +5,15 @@ use Rattle.gs_scenario.specs.declared.fault.ScenarioFault.{ScenarioFault}
 use Rattle.gs_scenario.specs.declared.fault.ScenarioFault.TheVariants.{NoMemory}
 use Rattle.gs_base.specs.declared.names.PeerNo.{PeerNo}
 use Rattle.gs_plan.specs.declared.plan.Plan.{Plan}
-use Rattle.gs_net.specs.declared.fault.NetFault.{NetFault}
-use Rattle.gs_net.specs.declared.fault.NetFault.TheVariants as faults
+use Rattle.gs_seats.specs.declared.fault.NetFault.{NetFault}
+use Rattle.gs_seats.specs.declared.fault.NetFault.TheVariants as faults
 use Rattle.gs_report.specs.declared.report.Report.{Report}
 use Rattle.gs_program.specs.declared.program.ExitStatus.{ExitStatus}
 use Rattle.gs_program.specs.declared.program.ExitStatus.TheVariants as ends
 use Rattle.gs_scenario.specs.Refusal.{refusal_text}
-use Rattle.gs_net.specs.Faults.{number_of}
+use Rattle.gs_seats.specs.Faults.{number_of}
 use Rattle.gs_report.specs.Text.{name_of}
-use Rattle.gs_net.specs.Reports.{IsReport}
+use Rattle.gs_seats.specs.Reports.{IsReport}
 use Rattle.gs_streams.specs.Inputs.{IsRefusal, IsScenario}
 use Rattle.gs_streams.specs.Streams.{AppendsFront}
 

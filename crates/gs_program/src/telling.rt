@@ -3,10 +3,10 @@ ghost use Rattle.std.specs.Prelude.{◌≡◌, IfOk, string_bytes};
 ghost use Rattle.gs_program.specs.Program.{TellsFault, TellsRefusal, nameless, peer_of, refusal_line, run_refusal_line, spaced_name};
 
 use gs_base::PeerNo;
-use gs_net::NetFault;
 use gs_plan::Plan;
 use gs_report::name_of;
 use gs_scenario::ScenarioFault;
+use gs_seats::NetFault;
 use gs_streams::tell;
 use std::alloc::{AllocError, Global};
 use std::io::Write;

@@ -1,16 +1,12 @@
 -- What contracts see of a router, and how a call of it ends.
-use Rattle.std.specs.Prelude.{◌≡◌, ℕ, Bool, true, false, if◌then◌else◌, Option, Some, None, Result, Ok, Err, List, map, ℤ}
+use Rattle.std.specs.Prelude.{◌≡◌, ℕ, Bool, true, false, if◌then◌else◌, Option, Some, None, Result, Ok, Err}
 use Rattle.gs_base.specs.declared.names.PeerNo.{PeerNo}
 use Rattle.gs_base.specs.declared.names.Millis.{Millis}
 use Rattle.gs_rules.specs.declared.trace.Event.{Event}
 use Rattle.gs_rules.specs.declared.refusal.Refusal.{Refusal}
 use Rattle.gs_rules.specs.declared.refusal.Refusal.TheVariants.{Stopped}
-use Rattle.gs_rules.specs.Peers.{Peer, links_of}
-use Rattle.std.specs.List.{flat_map}
-use Rattle.gs_base.specs.declared.names.Topic.{Topic}
-use Rattle.gs_rules.specs.Meshes.{mesh}
-use Rattle.gs_rules.specs.Tables.{Entries, lost, own_topics}
-use Rattle.gs_rules.specs.Scoring.{score}
+use Rattle.gs_rules.specs.Peers.{Peer}
+use Rattle.gs_rules.specs.Tables.{Entries, lost}
 use Rattle.gs_rules.specs.Modes.{Mode}
 use Rattle.gs_rules.specs.Legal.{Legal, Comes}
 use Rattle.gs_rules.specs.Refusals.{refusal}
@@ -47,14 +43,6 @@ refusal_if p L at (Some event) = refusal p L at event
 
 abbrev pub refusal_of : RouterView → ℕ → Option Event → Option Refusal
 refusal_of v at event = if v.is_stopped then Some Stopped else refusal_if v.peer v.trace at event
-
--- the scores of all neighbours at a moment, by number
-abbrev pub scores_of : Peer → Entries → ℕ → List (PeerNo × ℤ)
-scores_of p L at = map (λ q. (q, score p L at q)) (links_of p)
-
--- the members of the meshes of the router's own topics, topics by their bytes, members by number
-abbrev pub meshes_of : Entries → List (Topic × PeerNo)
-meshes_of L = flat_map (λ t. map (λ q. (t, q)) (mesh L t)) (own_topics L)
 
 -- ---- events
 

@@ -23,12 +23,13 @@ use crate::state::State;
 use crate::tables::Tables;
 use crate::wish::Wish;
 use bytes::Bytes;
-use gs_base::{Millis, Neighbour, PeerNo, Rpc, Topic};
+use gs_base::{Millis, Neighbour, PeerNo, Rpc, Shared, Topic};
 use gs_cache::Payloads;
 use gs_params::{Params, Words};
 use gs_rules::{Event, Refusal, Trace};
 use std::alloc::{AllocError, Global};
 use std::marker::Model;
+use std::mem;
 
 /// A gossipsub router with its trace.
 ///
@@ -120,6 +121,39 @@ impl Router {
         }
         let done = self.state.hear(&mut self.payloads, from, rpc, now, words);
         ended(&mut self.is_stopped, done)
+    }
+
+    /// Hears an RPC that others share, as `hear` does: what is kept of it is shared, and nothing is copied.
+    ///
+    /// # Errors
+    /// `Stopped` after the router was out of memory, and `NoMemory`.
+    pub fn hear_shared<W: Words>(
+        &mut self,
+        from: PeerNo,
+        rpc: Shared<Rpc>,
+        now: Millis,
+        words: &mut W,
+    ) -> Result<(), RouterFault>
+        requires time { last_moment self.old.trace ≤ now.0 }
+        requires fits { codec.fits rpc ≡ true }
+        ensures { Calls (exact W.word W.after) (Some (hearing self.old.trace from rpc)) now
+            self.old words.old result self.new words.new }
+    {
+        if self.is_stopped {
+            return Err(RouterFault::Refused(Refusal::Stopped));
+        }
+        let done = self
+            .state
+            .hear_shared(&mut self.payloads, from, rpc, now, words);
+        ended(&mut self.is_stopped, done)
+    }
+
+    /// Exchanges what the router keeps of payloads with what is lent. All routers of one thread can so share one, and the
+    /// hash of a payload is computed once. What a router does does not depend on which payloads are kept.
+    pub fn exchange_payloads(&mut self, payloads: &mut Payloads)
+        ensures { self.new ≡ self.old }
+    {
+        mem::swap(&mut self.payloads, payloads);
     }
 
     /// Learns that a neighbour has closed its link. Where it is not up, this does nothing.

@@ -121,6 +121,24 @@ impl State {
             self.old words.old result self.new words.new }
     {
         let rpc = Shared::new(self.known.alloc, compact(payloads, rpc))?;
+        self.hear_shared(payloads, from, rpc, now, words)
+    }
+
+    /// Hears an RPC that others share, as `hear` does.
+    pub fn hear_shared<W: Words>(
+        &mut self,
+        payloads: &mut Payloads,
+        from: PeerNo,
+        rpc: Shared<Rpc>,
+        now: Millis,
+        words: &mut W,
+    ) -> Result<(), AllocError>
+        requires ready { IsReady self.old }
+        requires time { last_moment self.old.trace ≤ now.0 }
+        requires fits { codec.fits rpc ≡ true }
+        ensures { Ends (exact W.word W.after) (hearing self.old.trace from rpc) now
+            self.old words.old result self.new words.new }
+    {
         if !self.known.tables.neighbours.is_up(from) {
             return self.open(payloads, Event::Late(from, rpc), now, words);
         }

@@ -18,3 +18,4 @@ pub mod Refusals
 pub mod Saying
 pub mod Hearing
 pub mod Rounds
+pub mod Results

@@ -1,7 +1,8 @@
 -- RPCs that are gathered, and what is written for all of them.
 use Rattle.std.proofs.Common.{◌≡◌, ℕ, ◌+◌, ◌^◌, ◌<◌, ◌≤◌, List, [], ◌∷◌, ◌++◌, length, get_or, take, min, Option, Some, None, refl, sym, ap, subst, ◌∙◌, append-nil, append_assoc, arith}
-use Rattle.std.specs.Prelude.{option_map, unwrap_or}
+use Rattle.std.specs.Prelude.{◌==◌, is_none, option_map, unwrap_or}
 use Rattle.std.specs.List.{flat_map}
+use Rattle.std.proofs.Math.Dec.{eqb-suc-zero}
 use Rattle.std.proofs.lemmas.Grind.{flat_map-append}
 use Rattle.std.proofs.lemmas.List.{take_more}
 use Rattle.std.proofs.lemmas.List.Folds.{length-flat_map-take}
@@ -28,6 +29,11 @@ onto_some : (u : Rpc) (vs : List Rpc) → joined_onto (Some u) vs ≡ Some (as_o
 onto_some u [] = refl
 onto_some u (v ∷ vs) = onto_some (joined_rpc u v) vs
 
+-- nothing is there exactly where there are none
+pub none_of_none : (vs : List Rpc) (n : ℕ) → n ≡ length vs → (n == 0) ≡ is_none (joined_rpcs vs)
+none_of_none [] n is = rw is refl
+none_of_none (v ∷ vs) n is = rw (is, onto_some v vs) (eqb-suc-zero (length vs))
+
 pub joined_some : (vs : List Rpc) → 0 < length vs → joined_rpcs vs ≡ Some (as_one (joined_rpcs vs))
 joined_some [] some = absurd (omega (arith, some))
 joined_some (v ∷ vs) some = onto_some v vs
@@ -47,13 +53,17 @@ section-empty Requests = refl
 section-empty Grafts = refl
 section-empty Prunes = refl
 
-section-onto : (wanted : Section) (held : Option Rpc) (vs : List Rpc) → section wanted (as_one (joined_onto held vs)) ≡ section wanted (as_one held) ++ flat_map (section wanted) vs
-section-onto wanted held [] = sym (append-nil (section wanted (as_one held)))
-section-onto wanted held (v ∷ vs) =
-    section-onto wanted (Some (joined_to held v)) vs ∙ ap (λ (u : Rpc). section wanted u ++ flat_map (section wanted) vs) (joined_to-as_one held v) ∙ ap (λ (t : List ℕ). t ++ flat_map (section wanted) vs) (section-joined wanted (as_one held) v) ∙ append_assoc (section wanted (as_one held)) (section wanted v) (flat_map (section wanted) vs)
+-- what joining two RPCs appends, as a list, is of all of them each one's list in order
+list-onto : {A : Type 0} (list : Rpc → List A) → ((u v : Rpc) → list (joined_rpc u v) ≡ list u ++ list v) → (held : Option Rpc) (vs : List Rpc) → list (as_one (joined_onto held vs)) ≡ list (as_one held) ++ flat_map list vs
+list-onto list both held [] = sym (append-nil (list (as_one held)))
+list-onto {A} list both held (v ∷ vs) =
+    list-onto list both (Some (joined_to held v)) vs ∙ ap (λ (u : Rpc). list u ++ flat_map list vs) (joined_to-as_one held v) ∙ ap (λ (t : List A). t ++ flat_map list vs) (both (as_one held) v) ∙ append_assoc (list (as_one held)) (list v) (flat_map list vs)
+
+pub list-all : {A : Type 0} (list : Rpc → List A) → ((u v : Rpc) → list (joined_rpc u v) ≡ list u ++ list v) → list empty_rpc ≡ [] → (vs : List Rpc) → list (as_one (joined_rpcs vs)) ≡ flat_map list vs
+list-all {A} list both nothing vs = list-onto list both None vs ∙ ap (λ (t : List A). t ++ flat_map list vs) nothing
 
 pub section-all : (wanted : Section) (vs : List Rpc) → section wanted (as_one (joined_rpcs vs)) ≡ flat_map (section wanted) vs
-section-all wanted vs = section-onto wanted None vs ∙ ap (λ (t : List ℕ). t ++ flat_map (section wanted) vs) (section-empty wanted)
+section-all wanted vs = list-all (section wanted) (section-joined wanted) (section-empty wanted) vs
 
 -- ---- lengths
 
@@ -70,7 +80,7 @@ joined_small u v u_fits v_fits =
     omega (arith, u_fits, v_fits, body_length (joined_rpc u v), body_length u, body_length v, plain_length-joined u v, control_part-joined u.control v.control)
 
 -- a length that is exact is also the length up to a bound
-exact_most : (o : Option Control) (len : Option ℕ) (most : ℕ) → len ≡ length_of_control o → length (control_part o) ≤ most → len ≡ option_map (λ c. min most (length (records_text (control_records c)))) o
+pub exact_most : (o : Option Control) (len : Option ℕ) (most : ℕ) → len ≡ length_of_control o → length (control_part o) ≤ most → len ≡ option_map (λ c. min most (length (records_text (control_records c)))) o
 exact_most None len most is room = is
 exact_most (Some c) len most is room = is ∙ ap (λ (n : ℕ). Some n) (omega (arith, control_part_length c, room))
 

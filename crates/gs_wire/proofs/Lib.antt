@@ -22,3 +22,5 @@ pub mod EveryStream
 pub mod JoinedRpcs
 pub mod SectionTexts
 pub mod Gathering
+pub mod JoinedLists
+pub mod JoinedLengths

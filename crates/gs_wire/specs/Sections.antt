@@ -1,5 +1,5 @@
 -- The sections of a body: the records of one field, of an RPC or of its control messages.
-use Rattle.std.specs.Prelude.{◌++◌, ℕ, length, List, Option, option_map, option_to_list, unwrap_or}
+use Rattle.std.specs.Prelude.{◌++◌, ℕ, length, List, Option, min, option_map, option_to_list, unwrap_or}
 use Rattle.gs_base.specs.declared.control.Control.{Control}
 use Rattle.gs_base.specs.declared.rpc.Rpc.{Rpc}
 use Rattle.gs_wire.specs.declared.sections.Section.{Section}
@@ -29,6 +29,10 @@ plain_length v = length (section Subscriptions v ++ section Messages v)
 -- the length of its control messages, where it has some
 abbrev pub control_length : Rpc → Option ℕ
 control_length v = option_map (λ c. length (records_text (control_records c))) v.control
+
+-- the length of control messages up to this one, where there are some
+abbrev pub control_length_within : ℕ → Option Control → Option ℕ
+control_length_within most o = option_map (λ c. min most (length (records_text (control_records c)))) o
 
 -- what is written for control messages, with their field and their length, where there are some
 abbrev pub control_part : Option Control → List ℕ

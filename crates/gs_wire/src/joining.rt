@@ -79,7 +79,10 @@ fn both<T: ExactClone + Drop>(
 }
 
 /// Adds a clone of each element. After an error some of them were added.
-fn push_clones<T: ExactClone + Drop>(items: &mut Vec<T>, more: &[T]) -> Result<(), AllocError>
+pub(crate) fn push_clones<T: ExactClone + Drop>(
+    items: &mut Vec<T>,
+    more: &[T],
+) -> Result<(), AllocError>
     ensures { OnOk result (items.new.items ≡ items.old.items ++ more.now) }
 {
     for item in more {

@@ -10,6 +10,7 @@ mod field;
 mod frame_reader;
 mod frames;
 mod gathered;
+mod gathered_rpcs;
 mod joining;
 mod laws;
 mod message;
@@ -24,6 +25,7 @@ pub use fault::WireFault;
 pub use frame_reader::FrameReader;
 pub use frames::End;
 pub use gathered::Gathered;
+pub use gathered_rpcs::GatheredRpcs;
 pub use joining::join;
 pub use laws::{
     a_body_spells_its_rpc, a_graft_fits_a_frame, a_joined_body_is_no_longer,

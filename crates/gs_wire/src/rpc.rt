@@ -6,6 +6,7 @@ ghost use Rattle.gs_wire.specs.Records.{Record as Spelled, SpellRecords, records
 ghost use Rattle.gs_wire.specs.Fields.{part_records};
 ghost use Rattle.gs_wire.specs.Controls.{SaysControl, no_control, control_records};
 ghost use Rattle.gs_wire.specs.Messages.{SaysRpc, SpellsRpc, longest_body, body, frame};
+ghost use Rattle.gs_wire.specs.Sections.{plain_length};
 ghost use Rattle.gs_base.specs.Rpcs.{publication};
 
 use crate::decoding::{Decode, DecodeError, merge_all, push_message};
@@ -121,14 +122,19 @@ pub(crate) fn control_record_len(len: Option<usize>) -> usize
     }
 }
 
+/// The length of what an RPC says outside of its control messages, up to the largest `usize`.
+pub(crate) fn plain_len(rpc: &Rpc) -> usize
+    ensures { result ≡ min usize.MAX (plain_length rpc.now) }
+{
+    parts_len(rpc.subs.as_slice()).saturating_add(parts_len(rpc.publish.as_slice()))
+}
+
 /// The length of the body of an RPC, up to the largest `usize`.
 pub(crate) fn full_len(rpc: &Rpc, control: Option<usize>) -> usize
     requires { control ≡ option_map (λ c. min usize.MAX (length (records_text (control_records c)))) rpc.now.control }
     ensures { result ≡ min usize.MAX (length (body rpc.now)) }
 {
-    parts_len(rpc.subs.as_slice())
-        .saturating_add(parts_len(rpc.publish.as_slice()))
-        .saturating_add(control_record_len(control))
+    plain_len(rpc).saturating_add(control_record_len(control))
 }
 
 /// The length of the body of an RPC, where that isn't too long.

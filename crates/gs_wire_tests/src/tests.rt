@@ -1,5 +1,6 @@
 //! Bodies of RPCs and their frames, written by hand, and what spells no RPC.
 mod gathered;
+mod gathered_rpcs;
 mod joining;
 mod proto;
 mod sizes;

@@ -3,7 +3,7 @@ ghost use Rattle.std.specs.Prelude.{◌≡◌, false, IfOk};
 ghost use Rattle.gs_rules.specs.Tables.{last_moment, up};
 ghost use Rattle.gs_rules.specs.Meshes.{mesh};
 ghost use Rattle.gs_rules.specs.Scoring.{score};
-ghost use Rattle.gs_router.specs.Router.{meshes_of, scores_of};
+ghost use Rattle.gs_rules.specs.Results.{meshes_of, scores_of};
 
 use crate::router::Router;
 use crate::state::State;

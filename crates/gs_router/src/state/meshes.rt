@@ -3,7 +3,7 @@ ghost use Rattle.gs_base.specs.declared.names.PeerNo.{PeerNo as PeerNoValue};
 ghost use Rattle.gs_rules.specs.Tables.{Entries};
 ghost use Rattle.gs_rules.specs.Meshes.{mesh};
 ghost use Rattle.gs_router.specs.Tables.{Agrees};
-ghost use Rattle.gs_router.specs.Router.{meshes_of};
+ghost use Rattle.gs_rules.specs.Results.{meshes_of};
 
 use crate::state::State;
 use gs_base::{PeerNo, Seq, Topic, clone_of};

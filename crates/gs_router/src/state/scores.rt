@@ -2,7 +2,7 @@ ghost use Rattle.std.specs.Prelude.{◌≡◌, IfOk};
 ghost use Rattle.gs_rules.specs.Tables.{Entries};
 ghost use Rattle.gs_router.specs.Tables.{AgreesOnScores};
 ghost use Rattle.gs_router.specs.State.{peer_of};
-ghost use Rattle.gs_router.specs.Router.{scores_of};
+ghost use Rattle.gs_rules.specs.Results.{scores_of};
 
 use crate::state::State;
 use gs_base::{Millis, PeerNo, Seq};

@@ -6,9 +6,9 @@ use gs_wire::{Gathered, WireFault, WrittenRpc, decode, encode_frame, join};
 use std::alloc::Global;
 
 /// `news` is subscribed to.
-const ANNOUNCEMENT: &[u8] = b"\x0a\x08\x08\x01\x12\x04news";
+pub const ANNOUNCEMENT: &[u8] = b"\x0a\x08\x08\x01\x12\x04news";
 /// The messages `abc` and `d` on `news`.
-const MESSAGE: &[u8] = b"\x12\x0b\x12\x03abc\x22\x04news";
+pub const MESSAGE: &[u8] = b"\x12\x0b\x12\x03abc\x22\x04news";
 
 const SHORT_MESSAGE: &[u8] = b"\x12\x09\x12\x01d\x22\x04news";
 /// The message `ab` on `news` was seen, and is asked for.
@@ -16,14 +16,14 @@ const OFFER: &[u8] = b"\x1a\x0c\x0a\x0a\x0a\x04news\x12\x02ab";
 
 const REQUEST: &[u8] = b"\x1a\x06\x12\x04\x0a\x02ab";
 /// The sender's mesh of `news`.
-const GRAFT: &[u8] = b"\x1a\x08\x1a\x06\x0a\x04news";
+pub const GRAFT: &[u8] = b"\x1a\x08\x1a\x06\x0a\x04news";
 
 const PRUNE: &[u8] = b"\x1a\x08\x22\x06\x0a\x04news";
 
 const EMPTY_CONTROL: &[u8] = b"\x1a\x00";
 
 /// The bodies of RPCs that are gathered in turn, and the frame that they go out as.
-static GATHERED: [(&[&[u8]], &[u8]); 8] = [
+pub static GATHERED: [(&[&[u8]], &[u8]); 9] = [
     (&[ANNOUNCEMENT], b"\x0a\x0a\x08\x08\x01\x12\x04news"),
     (
         &[ANNOUNCEMENT, GRAFT],
@@ -32,6 +32,10 @@ static GATHERED: [(&[&[u8]], &[u8]); 8] = [
     (
         &[GRAFT, ANNOUNCEMENT],
         b"\x14\x0a\x08\x08\x01\x12\x04news\x1a\x08\x1a\x06\x0a\x04news",
+    ),
+    (
+        &[MESSAGE, ANNOUNCEMENT],
+        b"\x17\x0a\x08\x08\x01\x12\x04news\x12\x0b\x12\x03abc\x22\x04news",
     ),
     (
         &[MESSAGE, SHORT_MESSAGE],
@@ -116,7 +120,7 @@ fn nothing_goes_out_as_nothing(rt: HostRuntime) {
 }
 
 /// The RPC that publishes a payload of this length on the topic `t`, with eleven bytes of records round it.
-fn published(alloc: Global, len: usize) -> Option<Rpc> {
+pub fn published(alloc: Global, len: usize) -> Option<Rpc> {
     let payload = vec![in alloc; 7u8; len].ok()?;
     publication(alloc, b"t", Bytes::from_vec(payload).ok()?).ok()
 }

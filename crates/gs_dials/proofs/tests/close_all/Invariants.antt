@@ -1,6 +1,6 @@
 use Rattle.std.proofs.Common.{◌≡◌, ℕ, length}
 use Rattle.gs_ends.specs.Pairs.{joints_of}
-use Rattle.gs_dials.specs.ListsByPeer.{list_at}
+use Rattle.gs_seats.specs.ListsByPeer.{list_at}
 use Rattle.gs_dials.proofs.Closing.{ClosedBelow}
 use Rattle.gs_dials.proofs.tests.close_all.Given as goal
 

@@ -1,9 +1,9 @@
 use Rattle.std.proofs.Common.{◌≡◌, ◌∙◌, ◌++◌, ◌∷◌, [], List, Ok, Result, length, map, refl, sym, ap, ap₂, arith, rules, append_assoc, append-nil}
 use Rattle.std.proofs.lemmas.List.{map-append}
 use Rattle.gs_peer.specs.declared.finished_task.PeerFault.{PeerFault}
-use Rattle.gs_dials.proofs.PlaceLists.{nil_by_length}
+use Rattle.gs_seats.proofs.PlaceLists.{nil_by_length}
 use Rattle.gs_net.specs.Given.{Given}
-use Rattle.gs_net.specs.Rounds.{peer_no}
+use Rattle.gs_seats.specs.Rounds.{peer_no}
 use Rattle.gs_net.proofs.TakenApart.{counted, one_longer, taken_more}
 use Rattle.gs_net.proofs.lives.lives_of.Goals as goal
 

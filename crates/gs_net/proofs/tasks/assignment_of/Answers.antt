@@ -1,6 +1,6 @@
 use Rattle.std.proofs.Common.{◌∙◌, ◌%◌, ℕ, ap, refl}
 use Rattle.gs_base.specs.Names.{peers_of}
-use Rattle.gs_net.proofs.NeighbourLists.{links_in}
+use Rattle.gs_seats.proofs.NeighbourLists.{links_in}
 use Rattle.gs_net.proofs.tasks.assignment_of.Goals as goal
 
 pub returns : goal.returns

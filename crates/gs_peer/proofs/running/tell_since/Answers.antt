@@ -1,6 +1,7 @@
 use Rattle.std.proofs.Common.{◌-◌, length, take, drop, ◌∙◌}
 use Rattle.std.proofs.lemmas.List.{take_rest}
-use Rattle.gs_peer.proofs.Telling.{fits_since, tells}
+use Rattle.gs_player.proofs.Since.{fits_since}
+use Rattle.gs_peer.proofs.Telling.{tells}
 use Rattle.gs_peer.proofs.running.tell_since.Goals as goal
 
 pub tell_all-requires : goal.tell_all-requires

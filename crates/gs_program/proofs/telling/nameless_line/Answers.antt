@@ -1,7 +1,7 @@
 use Rattle.std.proofs.Common.{◌≡◌, codes, None, refl}
 use Rattle.std.specs.Fmt.{digits}
 use Rattle.gs_plan.specs.declared.plan.Plan.{Plan}
-use Rattle.gs_net.specs.declared.fault.NetFault.TheVariants.{NoMemory, NoThread}
+use Rattle.gs_seats.specs.declared.fault.NetFault.TheVariants.{NoMemory, NoThread}
 use Rattle.gs_program.specs.Program.{run_refusal_line}
 use Rattle.gs_program.proofs.telling.nameless_line.Goals as goal
 

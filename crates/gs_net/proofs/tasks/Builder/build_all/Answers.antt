@@ -3,9 +3,9 @@ use Rattle.std.specs.List.{AllZip}
 use Rattle.gs_base.specs.declared.names.PeerNo.{PeerNo}
 use Rattle.gs_ends.specs.Ends.{Joint}
 use Rattle.gs_ends.specs.Pairs.{joints_of, pair_ends}
-use Rattle.gs_net.specs.Rounds.{peer_no}
+use Rattle.gs_seats.specs.Rounds.{peer_no}
 use Rattle.gs_net.specs.Tasks.{AreUsable, IsTask, IsTaskFor, first_numbers}
-use Rattle.gs_net.proofs.EachPeer.{numbers_more, zip_more}
+use Rattle.gs_seats.proofs.EachPeer.{numbers_more, zip_more}
 use Rattle.gs_net.proofs.tasks.Builder.build_all.Goals as goal
 
 pub task-requires : goal.task-requires

@@ -1,7 +1,7 @@
 use Rattle.std.proofs.Common.{◌≡◌, ◌≤◌, ℕ, length}
 use Rattle.std.specs.List.{AllZip}
 use Rattle.gs_ends.specs.Pairs.{pair_ends}
-use Rattle.gs_dials.specs.ListsByPeer.{list_at}
+use Rattle.gs_seats.specs.ListsByPeer.{list_at}
 use Rattle.gs_net.specs.Tasks.{IsTaskFor, first_numbers}
 use Rattle.gs_net.proofs.tasks.Builder.build_all.Given as goal
 

@@ -8,8 +8,8 @@ use Rattle.gs_rules.specs.Modes.{exact}
 use Rattle.gs_rules.specs.Peers.{Peer}
 use Rattle.gs_rules.specs.Rounds.{EndRound, Todo, beats_in, decays_in, obey}
 use Rattle.gs_peer.specs.Inboxes.{all_heard, in_next_phase}
-use Rattle.gs_peer.specs.Playing.{Runs, behind_heard, own_lines}
-use Rattle.gs_peer.proofs.Runs.{runs_then, told_runs}
+use Rattle.gs_player.specs.Playing.{Runs, behind_heard, own_lines}
+use Rattle.gs_player.proofs.Runs.{runs_then, told_runs}
 use Rattle.gs_peer.proofs.player.Player.play.Goals as goal
 
 pub returns : goal.returns

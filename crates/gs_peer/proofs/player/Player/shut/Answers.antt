@@ -3,7 +3,7 @@ use Rattle.gs_params.specs.Seeding.{seeded_after, seeded_word}
 use Rattle.gs_rules.specs.declared.trace.Event.TheVariants.{Shut}
 use Rattle.gs_rules.specs.Modes.{exact}
 use Rattle.gs_rules.specs.Rounds.{Stop}
-use Rattle.gs_peer.proofs.Runs.{told_runs}
+use Rattle.gs_player.proofs.Runs.{told_runs}
 use Rattle.gs_peer.proofs.player.Player.shut.Goals as goal
 
 pub returns-clause-runs : goal.returns-clause-runs

@@ -2,7 +2,7 @@ use Rattle.std.proofs.Common.{◌≡◌, ◌*◌, ◌∙◌, List, rules, ap, su
 use Rattle.gs_rules.specs.declared.refusal.RefusedLine.{RefusedLine}
 use Rattle.gs_rules.specs.Peers.{Peer}
 use Rattle.gs_rules.specs.Rounds as rounds
-use Rattle.gs_router.specs.Router.{scores_of}
+use Rattle.gs_rules.specs.Results.{scores_of}
 use Rattle.gs_peer.specs.Life.{words_of}
 use Rattle.gs_peer.specs.Phases.{phase_of}
 use Rattle.gs_peer.specs.Running.{seat_of}

@@ -7,7 +7,7 @@ use Rattle.gs_peer.specs.Running.{seat_of}
 use Rattle.gs_peer.proofs.Inbound.{all_fit}
 use Rattle.gs_peer.proofs.Played.{runs_at}
 use Rattle.gs_peer.proofs.Tasks.{at_round, goes_by, plays_last, plays_on, told_before, told_twice}
-use Rattle.gs_peer.proofs.Telling.{counted}
+use Rattle.gs_player.proofs.Since.{counted}
 use Rattle.gs_peer.proofs.running.Running.play.Goals as goal
 
 pub play-requires-clause-running : goal.play-requires-clause-running

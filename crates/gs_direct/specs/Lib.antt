@@ -1,0 +1,4 @@
+pub mod Letters
+pub mod Outlets
+pub mod Peers
+pub mod Runs

@@ -1,0 +1,158 @@
+-- How the peers of a run stand between two rounds, and what is on its way to each.
+use Rattle.std.specs.Prelude.{◌≡◌, ◌≤◌, ◌<◌, ◌⊎◌, ◌*◌, ℕ, zero, suc, pred, Bool, true, false, not, List, [], ◌++◌, length, map, option_map, unwrap_or, slice_get, None, Some, Vec}
+use Rattle.std.specs.List.{AllByRecursion, AllZip}
+use Rattle.std.specs.declared.alloc.Global.{Global}
+use Rattle.gs_base.specs.declared.names.PeerNo.{PeerNo}
+use Rattle.gs_base.specs.declared.names.Millis.{Millis}
+use Rattle.gs_base.specs.declared.rpc.Rpc.{Rpc}
+use Rattle.gs_base.specs.Tokens.{Said, bytes_of}
+use Rattle.gs_params.specs.Seeding.{seeded_after, seeded_word}
+use Rattle.gs_plan.specs.declared.plan.Dial.{Dial}
+use Rattle.gs_plan.specs.declared.plan.Plan.{Plan}
+use Rattle.gs_plan.specs.Plans.{are_joined}
+use Rattle.gs_wire.specs.Codec.{codec}
+use Rattle.gs_wire.specs.Messages.{longest_body}
+use Rattle.gs_wire.specs.Stream.{HasRead}
+use Rattle.gs_rules.specs.Tables.{Entries, last_moment, up}
+use Rattle.gs_rules.specs.Modes.{exact}
+use Rattle.gs_rules.specs.Legal.{LegalOn}
+use Rattle.gs_rules.specs.Saying.{out}
+use Rattle.gs_rules.specs.Hearing.{ComesIn, Inbound}
+use Rattle.gs_rules.specs.Rounds.{AfterRounds, Hear, hears_of, is_broken}
+use Rattle.gs_seats.specs.ListsByPeer.{list_at}
+use Rattle.gs_seats.specs.Rounds.{first_words, lines_in, neighbours, numbers, peer_in, peer_no, seat_in}
+use Rattle.gs_player.specs.Ended.{whole}
+use Rattle.gs_player.specs.Words.{StandsAfter}
+use Rattle.gs_direct.specs.declared.letter.Letter.{Letter}
+use Rattle.gs_direct.specs.declared.outlet.Outlet.{Outlet}
+use Rattle.gs_direct.specs.declared.peer.Peer.{Peer}
+use Rattle.gs_direct.specs.Letters.{LettersFit, all_heard}
+use Rattle.gs_direct.specs.Outlets.{IsHandedOver, given, reader_of}
+use Rattle.gs_direct.specs.Peers.{PlaysRound}
+
+-- ---- what was said
+
+-- the trace of a peer so far: of a number that is no peer's, the empty one
+abbrev pub trace_at : List Peer → PeerNo → Entries
+trace_at peers q = unwrap_or (option_map (λ (peer : Peer). peer.router.trace) (slice_get peers q.0)) []
+
+-- what is said to p so far
+abbrev pub said_so_far : List Peer → PeerNo → PeerNo → Said
+said_so_far peers p q = out codec (trace_at peers q) p
+
+-- in one of the first so many rounds, what there is to hear of this word ends: in a fault, or by a close
+pub record HasEnded (r : ℕ) (w : Said) : Type 0 where
+  pub round : ℕ
+  pub early : round ≤ r
+  pub inbound : Inbound
+  pub comes : ComesIn round w inbound
+  pub ends : (is_broken inbound ≡ true) ⊎ (inbound.closes ≡ true)
+
+-- ---- what goes to a neighbour
+
+-- Between two rounds, where the peer's trace is this: nothing is gathered and nothing is out, and all that was said is read.
+pub record IsReady (r : ℕ) (L : Entries) (o : Outlet) : Type 0 where
+  pub is_open : o.is_open ≡ up L o.to
+  pub none_gathered : o.gathered ≡ None
+  pub none_out : o.rpcs.items ≡ []
+  pub stands : StandsAfter r (out codec L o.to) o.is_open
+  pub earlier : List Rpc
+  pub read : HasRead longest_body (bytes_of (out codec L o.to)) (reader_of o) earlier
+  -- that it ends is told only where it has ended
+  pub told : o.is_over ≡ true → HasEnded r (out codec L o.to)
+
+-- ---- a peer
+
+-- After so many rounds a peer has kept them, on what the others said so far, by its words.
+pub record IsAt (plan : Plan) (r : ℕ) (peers : List Peer) (p : PeerNo) (peer : Peer) : Type 0 where
+  pub number : peer.number ≡ p
+  pub agenda : peer.agenda ≡ lines_in plan p
+  pub router : peer.router.peer ≡ peer_in plan p
+  pub running : peer.router.is_stopped ≡ false
+  pub time : last_moment peer.router.trace ≤ pred r * plan.round_ms
+  pub legal : LegalOn (exact seeded_word seeded_after) (peer_in plan p) (first_words plan p) [] peer.router.trace peer.words
+  pub played : AfterRounds (seat_in plan p) (said_so_far peers p) r peer.router.trace peer.refused.items
+  pub links : map (λ (o : Outlet). o.to) peer.outlets.items ≡ neighbours plan p
+  pub ready : AllByRecursion (IsReady r peer.router.trace) peer.outlets.items
+
+-- ---- what is on its way
+
+-- These letters of q say what there is to hear of its round r, where it says this. Where how that ends was told before, it is
+-- not told again.
+pub record Delivers (r : ℕ) (w : Said) (q : PeerNo) (letters : List Letter) : Type 0 where
+  pub inbound : Inbound
+  pub comes : ComesIn (suc r) w inbound
+  pub ended : whole (suc r) w ≡ true
+  pub heard : (all_heard letters ≡ hears_of q inbound)
+      ⊎ ((all_heard letters ≡ map (Hear q) inbound.rpcs) × HasEnded r w)
+  pub fit : LettersFit letters
+
+-- whoever is no neighbour has no letter
+abbrev pub DeliversIf : Bool → ℕ → Said → PeerNo → List Letter → Type 0
+DeliversIf true r w q letters = Delivers r w q letters
+DeliversIf false r w q letters = letters ≡ []
+
+-- the letters for p of the first so many peers, one peer after the other
+abbrev pub ArriveFrom : List Dial → ℕ → List Peer → PeerNo → ℕ → List Letter → Type 0
+ArriveFrom dials r peers p zero letters = letters ≡ []
+ArriveFrom dials r peers p (suc n) letters =
+    (before : List Letter) × (last : List Letter)
+    × ArriveFrom dials r peers p n before
+    × (letters ≡ before ++ last)
+    × DeliversIf (are_joined dials p (peer_no n)) r (said_so_far peers p (peer_no n)) (peer_no n) last
+
+-- the letters for a peer that are heard in a round: in the first one there are none
+abbrev pub Arrive : Plan → ℕ → List Peer → PeerNo → List Letter → Type 0
+Arrive plan zero peers p letters = letters ≡ []
+Arrive plan (suc r) peers p letters = ArriveFrom plan.dials r peers p (length plan.peers) letters
+
+-- nothing is on its way
+abbrev pub IsEmpty : List (Vec Letter Global) → Type 0
+IsEmpty mail = (n : ℕ) → list_at mail n ≡ []
+
+-- ---- all of them
+
+-- After so many rounds the peers are these, and the letters of the last one are on their way.
+pub record AreAt (plan : Plan) (r : ℕ) (peers : List Peer) (mail : List (Vec Letter Global)) : Type 0 where
+  pub each : AllZip (IsAt plan r peers) (numbers plan) peers
+  pub boxes : length mail ≡ length plan.peers
+  pub letters : (p : PeerNo) → p.0 < length plan.peers → Arrive plan r peers p (list_at mail p.0)
+
+-- ---- within a round
+
+-- A peer plays a round and hands over what it said: this to each peer.
+pub record Turns (r : ℕ) (now : Millis) (letters : List Letter) (old new : Peer) (gives : PeerNo → List Letter) : Type 0 where
+  pub played : Peer
+  pub plays : PlaysRound r now letters old played
+  pub rest : new ≡ record played { outlets = new.outlets }
+  pub given_is : (p : PeerNo) → gives p ≡ given played.number played.outlets.items p
+  pub handed : AllZip IsHandedOver played.outlets.items new.outlets.items
+
+-- so did the peer of this number
+pub record TurnsAt (r : ℕ) (now : Millis) (olds news : List Peer) (mail : List (Vec Letter Global))
+    (n : ℕ) (gives : PeerNo → List Letter) : Type 0 where
+  pub old : Peer
+  pub new : Peer
+  pub was : slice_get olds n ≡ Some old
+  pub is : slice_get news n ≡ Some new
+  pub turns : Turns r now (list_at mail n) old new gives
+
+-- so did the first so many, and this is what they gave to p
+abbrev pub GivenTo : ℕ → Millis → List Peer → List Peer → List (Vec Letter Global) → PeerNo → ℕ → List Letter → Type 0
+GivenTo r now olds news mail p zero letters = letters ≡ []
+GivenTo r now olds news mail p (suc n) letters =
+    (before : List Letter) × (gives : PeerNo → List Letter)
+    × GivenTo r now olds news mail p n before
+    × TurnsAt r now olds news mail n gives
+    × (letters ≡ before ++ gives p)
+
+-- The first so many peers have played a round, and the others have not.
+pub record HavePlayed (r : ℕ) (now : Millis) (olds : List Peer) (mail : List (Vec Letter Global))
+    (n : ℕ) (news : List Peer) (mail' next : List (Vec Letter Global)) : Type 0 where
+  pub many : length news ≡ length olds
+  pub boxes : length mail' ≡ length mail
+  pub places : length next ≡ length mail
+  pub left : (k : ℕ) → n ≤ k → slice_get news k ≡ slice_get olds k
+  pub waits : (k : ℕ) → n ≤ k → list_at mail' k ≡ list_at mail k
+  pub taken : (k : ℕ) → k < n → list_at mail' k ≡ []
+  pub gives : (p : PeerNo) → GivenTo r now olds news mail p n (list_at next p.0)

@@ -1,0 +1,253 @@
+//! What goes from a peer to one neighbour.
+ghost use Rattle.std.specs.Prelude.{◌≡◌, [], None, true, map, OnOk, if◌then◌else◌, option_to_list};
+ghost use Rattle.gs_base.specs.Names.{same_peer};
+ghost use Rattle.gs_base.specs.Tokens.{Byte};
+ghost use Rattle.gs_wire.specs.Codec.{codec};
+ghost use Rattle.gs_wire.specs.Messages.{frame};
+ghost use Rattle.gs_wire.specs.Stream.{FeedsOnce};
+ghost use Rattle.gs_rules.specs.Modes.{sent_to};
+ghost use Rattle.gs_rules.specs.Saying.{cut_out, saying, sending, sending_all};
+ghost use Rattle.gs_rules.specs.Tables.{is_lost};
+ghost use Rattle.gs_direct.specs.Outlets.{Closes, Follows, IsHandedOver, IsNew, IsWritten, ReadsOn, Says, SendsWritten, Tells, ending_of, letters_of};
+
+use crate::letter::{Ending, Letter};
+use bytes::Bytes;
+use gs_base::{PeerNo, Rpc, Shared};
+use gs_rules::{Event, StoredEntry};
+use gs_wire::{FrameReader, GatheredRpcs, MAX_BODY, WireFault, encode_frame};
+use std::alloc::{AllocError, Global};
+use std::mem;
+
+/// What goes to one neighbour. RPCs go as values, which are shared. From the first bytes on that are put on the link as they
+/// are, all goes through a reader of frames, since those may begin within a frame.
+#[derive(Drop)]
+pub struct Outlet {
+    /// The neighbour.
+    pub to: PeerNo,
+    /// Whether more may be said to it.
+    pub is_open: bool,
+    /// What is sent and not yet out.
+    pub gathered: GatheredRpcs,
+    /// What reads the bytes of the link, where some were put there as they are.
+    pub reader: Option<FrameReader>,
+    /// The RPCs that are out in this round, in order.
+    pub rpcs: Vec<Shared<Rpc>>,
+    /// Whether the neighbour was told how this ends.
+    pub is_over: bool,
+}
+
+impl Outlet {
+    /// One to a neighbour to which nothing was said. It takes no memory.
+    pub fn new(alloc: Global, to: PeerNo) -> Outlet
+        ensures { IsNew to result }
+    {
+        Outlet {
+            to,
+            is_open: true,
+            gathered: GatheredRpcs::new(alloc),
+            reader: None,
+            rpcs: Vec::new(alloc),
+            is_over: false,
+        }
+    }
+
+    /// Tells the neighbour what an entry says.
+    ///
+    /// # Errors
+    /// `AllocError` where there was no memory for it.
+    pub fn tell(&mut self, alloc: Global, entry: &StoredEntry) -> Result<(), AllocError>
+        requires { SendsWritten entry.now.sends }
+        ensures { OnOk result (Says entry.now self.old self.new) }
+    {
+        if !self.is_open {
+            return Ok(());
+        }
+        self.send_all(alloc, entry.sends())?;
+        self.tell_event(alloc, entry.event())?;
+        Ok(())
+    }
+
+    /// Gathers those RPCs that are for the neighbour.
+    fn send_all(&mut self, alloc: Global, sends: &[(PeerNo, Shared<Rpc>)]) -> Result<(), AllocError>
+        requires { SendsWritten sends.now }
+        ensures { OnOk result (Follows (λ goes. sending_all codec goes (sent_to self.old.to sends.now)) self.old self.new) }
+    {
+        for (to, rpc) in sends {
+            if *to == self.to {
+                self.send(alloc, rpc)?;
+            }
+        }
+        Ok(())
+    }
+
+    /// Gathers an RPC. Where it does not fit a frame with what is gathered, that goes out first.
+    fn send(&mut self, alloc: Global, rpc: &Shared<Rpc>) -> Result<(), AllocError>
+        requires { IsWritten rpc.now }
+        ensures { OnOk result (Follows (λ goes. sending codec goes rpc.now) self.old self.new) }
+    {
+        if self.gathered.gather(rpc)? {
+            return Ok(());
+        }
+        self.put_out(alloc)?;
+        self.gathered.gather(rpc)?;
+        Ok(())
+    }
+
+    /// Puts out what is gathered, as one RPC.
+    fn put_out(&mut self, alloc: Global) -> Result<(), AllocError>
+        ensures follows { OnOk result (Follows (cut_out codec) self.old self.new) }
+        ensures none { OnOk result (self.new.gathered ≡ None) }
+    {
+        let Some(rpc) = self.gathered.take(alloc)? else {
+            return Ok(());
+        };
+        match &mut self.reader {
+            None => {
+                self.rpcs.push(rpc)?;
+                Ok(())
+            }
+            Some(reader) => put_frame(alloc, reader, rpc.get(), &mut self.rpcs),
+        }
+    }
+
+    /// Says what an event says, where the neighbour is told more.
+    fn tell_event(&mut self, alloc: Global, event: &Event) -> Result<(), AllocError>
+        requires { self.old.is_open ≡ true }
+        ensures { OnOk result (Tells event.now self.old self.new) }
+    {
+        match event {
+            Event::RoundEnd(_) => self.put_out(alloc),
+            Event::Shut => self.close(alloc),
+            Event::Raw(to, bytes) => self.put_raw(alloc, *to, bytes),
+            other => self.close_lost(alloc, other.lost()),
+        }
+    }
+
+    /// Puts bytes on the link as they are, where they are for the neighbour.
+    fn put_raw(&mut self, alloc: Global, to: PeerNo, bytes: &Bytes) -> Result<(), AllocError>
+        ensures { OnOk result (Follows (λ goes.
+            if same_peer to self.old.to then saying (cut_out codec goes) (map Byte bytes.now) else goes) self.old self.new) }
+    {
+        if to != self.to {
+            return Ok(());
+        }
+        self.put_out(alloc)?;
+        self.read(alloc, bytes.as_slice())?;
+        Ok(())
+    }
+
+    /// Reads bytes of the link.
+    fn read(&mut self, alloc: Global, bytes: &[u8]) -> Result<(), AllocError>
+        ensures { OnOk result (Follows (λ goes. saying goes (map Byte bytes.now)) self.old self.new) }
+    {
+        if self.reader.is_none() {
+            self.reader = Some(FrameReader::new(alloc, MAX_BODY));
+        }
+        match &mut self.reader {
+            Some(reader) => feed(alloc, reader, bytes, &mut self.rpcs),
+            None => Ok(()),
+        }
+    }
+
+    /// Says nothing more to the neighbour, where it is lost.
+    fn close_lost(&mut self, alloc: Global, lost: Option<PeerNo>) -> Result<(), AllocError>
+        requires { self.old.is_open ≡ true }
+        ensures { OnOk result (Closes (is_lost self.old.to lost) self.old self.new) }
+    {
+        match lost {
+            Some(peer) if peer == self.to => self.close(alloc),
+            _ => Ok(()),
+        }
+    }
+
+    /// Says nothing more to the neighbour but what is gathered, and the close.
+    fn close(&mut self, alloc: Global) -> Result<(), AllocError>
+        ensures { OnOk result (Closes true self.old self.new) }
+    {
+        self.put_out(alloc)?;
+        self.is_open = false;
+        Ok(())
+    }
+
+    /// How what is said ends, where the neighbour was not told that yet: bytes that spell no RPC are a fault, and so is a close
+    /// within a frame.
+    fn ending(&self) -> Option<Ending>
+        ensures { result ≡ ending_of self.now }
+    {
+        if self.is_over {
+            return None;
+        }
+        match &self.reader {
+            Some(reader) if reader.has_failed() => Some(Ending::Fault),
+            _ if self.is_open => None,
+            Some(reader) if reader.pending() != 0 => Some(Ending::Fault),
+            _ => Some(Ending::Gone),
+        }
+    }
+
+    /// The letter of a round from this peer, if there is anything to say. The next round begins with none.
+    pub fn hand_over(&mut self, alloc: Global, from: PeerNo) -> Option<Letter>
+        ensures letter { option_to_list result ≡ letters_of from self.old }
+        ensures handed { IsHandedOver self.old self.new }
+    {
+        let ending = self.ending();
+        if self.rpcs.is_empty() && ending.is_none() {
+            return None;
+        }
+        self.is_over = self.is_over || ending.is_some();
+        let rpcs = mem::replace(&mut self.rpcs, Vec::new(alloc));
+        Some(Letter { from, rpcs, ending })
+    }
+}
+
+/// Reads an RPC as it goes over a link of bytes.
+fn put_frame(
+    alloc: Global,
+    reader: &mut FrameReader,
+    rpc: &Rpc,
+    rpcs: &mut Vec<Shared<Rpc>>,
+) -> Result<(), AllocError>
+    ensures { OnOk result (ReadsOn reader.old (frame rpc.now) reader.new rpcs.old.items rpcs.new.items) }
+{
+    let mut text = Vec::new(alloc);
+    match encode_frame(rpc, &mut text) {
+        Ok(()) => feed(alloc, reader, text.as_slice(), rpcs),
+        Err(_) => Err(AllocError),
+    }
+}
+
+/// Reads bytes of a link, and adds the RPCs that are whole then. Behind a fault none are.
+fn feed(
+    alloc: Global,
+    reader: &mut FrameReader,
+    bytes: &[u8],
+    rpcs: &mut Vec<Shared<Rpc>>,
+) -> Result<(), AllocError>
+    ensures { OnOk result (ReadsOn reader.old bytes.now reader.new rpcs.old.items rpcs.new.items) }
+{
+    let mut found = Vec::new(alloc);
+    feed_all(alloc, reader, bytes, &mut found)?;
+    for rpc in found {
+        rpcs.push(Shared::new(alloc, rpc)?)?;
+    }
+    Ok(())
+}
+
+/// Reads bytes of a link. A fault of them is what the reader holds then, and no error.
+fn feed_all(
+    alloc: Global,
+    reader: &mut FrameReader,
+    bytes: &[u8],
+    found: &mut Vec<Rpc>,
+) -> Result<(), AllocError>
+    requires { found.old.items ≡ [] }
+    ensures { OnOk result (FeedsOnce reader.old bytes.now reader.new found.new.items) }
+{
+    match reader.feed(alloc, bytes, found) {
+        Ok(()) => Ok(()),
+        Err(WireFault::Malformed) => Ok(()),
+        Err(WireFault::TooLong) => Ok(()),
+        Err(WireFault::Failed) => Ok(()),
+        Err(WireFault::NoMemory) => Err(AllocError),
+    }
+}

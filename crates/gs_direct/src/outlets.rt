@@ -1,0 +1,116 @@
+//! What goes from a peer to its neighbours.
+ghost use Rattle.std.specs.Prelude.{◌≡◌, ◌≤◌, ◌++◌, true, OnOk, IfOk, length};
+ghost use Rattle.std.specs.List.{AllByRecursion, AllZip};
+ghost use Rattle.gs_base.specs.declared.names.PeerNo.{PeerNo as PeerNoValue};
+ghost use Rattle.gs_base.specs.Names.{peers_of};
+ghost use Rattle.gs_rules.specs.Legal.{Legal};
+ghost use Rattle.gs_seats.specs.ListsByPeer.{list_at};
+ghost use Rattle.gs_direct.specs.Outlets.{AllWritten, IsHandedOver, IsNew, IsSilent, Says, SaysAll, SaysSince, SendsWritten, Within, given};
+
+use crate::letter::Letter;
+use crate::outlet::Outlet;
+use gs_base::{Neighbour, PeerNo};
+use gs_router::Router;
+use gs_rules::{Event, StoredEntry};
+use gs_seats::put_last;
+use std::alloc::{AllocError, Global};
+
+/// An outlet to each of these neighbours, to whom nothing was said.
+///
+/// # Errors
+/// `AllocError` where there was no memory for them.
+pub fn outlets_of(alloc: Global, neighbours: &[Neighbour]) -> Result<Vec<Outlet>, AllocError>
+    ensures { IfOk result (λ outlets. AllZip IsNew (peers_of neighbours.now) outlets.items) }
+{
+    let mut outlets = Vec::with_capacity(alloc, neighbours.len())?;
+    for neighbour in neighbours {
+        outlets.push(Outlet::new(alloc, neighbour.peer))?;
+    }
+    Ok(outlets)
+}
+
+/// Tells the neighbours what a router's trace says behind so many entries.
+///
+/// # Errors
+/// `AllocError` where there was no memory for it.
+pub fn tell_since(
+    alloc: Global,
+    outlets: &mut [Outlet],
+    router: &Router,
+    told: usize,
+) -> Result<(), AllocError>
+    requires known { told ≤ length router.now.trace }
+    requires legal { Legal router.now.peer router.now.trace }
+    ensures { OnOk result (SaysSince told router.now.trace outlets.old outlets.new) }
+{
+    tell_all(alloc, outlets, &router.trace().entries()[told..])?;
+    Ok(())
+}
+
+/// Tells the neighbours what these entries say, the first one first.
+fn tell_all(
+    alloc: Global,
+    outlets: &mut [Outlet],
+    entries: &[StoredEntry],
+) -> Result<(), AllocError>
+    requires { AllWritten entries.now }
+    ensures { OnOk result (AllZip (SaysAll entries.now) outlets.old outlets.new) }
+{
+    for entry in entries {
+        tell(alloc, outlets, entry)?;
+    }
+    Ok(())
+}
+
+/// Tells the neighbours what an entry says.
+fn tell(alloc: Global, outlets: &mut [Outlet], entry: &StoredEntry) -> Result<(), AllocError>
+    requires { SendsWritten entry.now.sends }
+    ensures { OnOk result (AllZip (Says entry.now) outlets.old outlets.new) }
+{
+    if is_silent(entry) {
+        return Ok(());
+    }
+    for outlet in outlets.iter_mut() {
+        outlet.tell(alloc, entry)?;
+    }
+    Ok(())
+}
+
+/// Whether an entry says nothing to anybody.
+fn is_silent(entry: &StoredEntry) -> bool
+    ensures { result ≡ true → IsSilent entry.now }
+{
+    if !entry.sends().is_empty() {
+        return false;
+    }
+    match entry.event() {
+        Event::RoundEnd(_) => false,
+        Event::Shut => false,
+        Event::Raw(_, _) => false,
+        other => other.lost().is_none(),
+    }
+}
+
+/// Hands over to each neighbour what was said to it in a round.
+///
+/// # Errors
+/// `AllocError` where there was no memory for it.
+pub fn hand_over(
+    alloc: Global,
+    outlets: &mut [Outlet],
+    from: PeerNo,
+    mail: &mut Vec<Vec<Letter>>,
+) -> Result<(), AllocError>
+    requires { AllByRecursion (Within (length mail.old.items)) outlets.old }
+    ensures count { length mail.new.items ≡ length mail.old.items }
+    ensures given { OnOk result ((p : PeerNoValue)
+        → list_at mail.new.items p.0 ≡ list_at mail.old.items p.0 ++ given from outlets.old p) }
+    ensures handed { OnOk result (AllZip IsHandedOver outlets.old outlets.new) }
+{
+    for outlet in outlets.iter_mut() {
+        if let Some(letter) = outlet.hand_over(alloc, from) {
+            put_last(mail, outlet.to, letter)?;
+        }
+    }
+    Ok(())
+}

@@ -1,0 +1,10 @@
+pub mod Words
+pub mod Growing
+pub mod Runs
+pub mod Lines
+pub mod Agendas
+pub mod Beating
+pub mod Since
+pub mod Spoken
+pub mod Middle
+pub mod RoundWords

@@ -1,0 +1,4 @@
+pub mod Ended
+pub mod Words
+pub mod Playing
+pub mod Agendas

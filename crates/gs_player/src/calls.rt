@@ -1,0 +1,160 @@
+//! How a router does what there is to do in a round but for what is heard.
+ghost use Rattle.std.specs.Prelude.{◌≡◌, [], ◌∷◌, ◌++◌, OnOk, IfOk, List, Some, map};
+ghost use Rattle.std.specs.Result.{IsOk};
+ghost use Rattle.gs_params.specs.Seeding.{seeded_after, seeded_word};
+ghost use Rattle.gs_rules.specs.declared.refusal.RefusedLine.{RefusedLine as RefusedValue};
+ghost use Rattle.gs_rules.specs.Modes.{exact};
+ghost use Rattle.gs_rules.specs.Rounds.{Obey, beats_in, decays_in, event_of, is_due, obey};
+ghost use Rattle.gs_router.specs.Router.{Calls};
+ghost use Rattle.gs_player.specs.Playing.{IsRunning, Runs};
+
+use gs_base::{Millis, clone_of};
+use gs_params::SeededWords;
+use gs_plan::{Line, What};
+use gs_router::{Router, RouterFault};
+use gs_rules::RefusedLine;
+use std::alloc::AllocError;
+
+/// Follows these lines, in order.
+pub fn follow_all(
+    router: &mut Router,
+    words: &mut SeededWords,
+    refused: &mut Vec<RefusedLine>,
+    lines: &[(usize, Line)],
+    now: Millis,
+) -> Result<(), AllocError>
+    requires { IsRunning now router.old }
+    ensures { OnOk result ((more : List RefusedValue)
+        × (refused.new.items ≡ refused.old.items ++ more)
+        × Runs (exact seeded_word seeded_after) now (map obey lines.now)
+        router.old words.old router.new words.new more) }
+{
+    for line in lines {
+        follow(router, words, refused, line, now)?;
+    }
+    Ok(())
+}
+
+/// Follows a line of the script, or notes that it is refused.
+fn follow(
+    router: &mut Router,
+    words: &mut SeededWords,
+    refused: &mut Vec<RefusedLine>,
+    line: &(usize, Line),
+    now: Millis,
+) -> Result<(), AllocError>
+    requires { IsRunning now router.old }
+    ensures { OnOk result ((more : List RefusedValue)
+        × (refused.new.items ≡ refused.old.items ++ more)
+        × Runs (exact seeded_word seeded_after) now (obey line.now ∷ [])
+        router.old words.old router.new words.new more) }
+{
+    let (place, line) = line;
+    match tell(router, words, &line.what, now)? {
+        Ok(()) => Ok(()),
+        Err(RouterFault::Refused(why)) => {
+            refused.push(RefusedLine {
+                at: now,
+                line: *place,
+                why,
+            })?;
+            Ok(())
+        }
+        Err(RouterFault::NoMemory) => Err(AllocError),
+    }
+}
+
+fn tell(
+    router: &mut Router,
+    words: &mut SeededWords,
+    what: &What,
+    now: Millis,
+) -> Result<Result<(), RouterFault>, AllocError>
+    requires { IsRunning now router.old }
+    ensures { IfOk result (λ told.
+        Calls (exact seeded_word seeded_after) (Some (event_of what.now)) now
+        router.old words.old told router.new words.new) }
+{
+    Ok(match what {
+        What::Subscribe(topic) => router.subscribe(clone_of(topic)?, now, words),
+        What::Unsubscribe(topic) => router.unsubscribe(clone_of(topic)?, now, words),
+        What::Publish(topic, payload) => {
+            router.publish(clone_of(topic)?, clone_of(payload)?, now, words)
+        }
+        What::Raw(to, bytes) => router.raw(*to, clone_of(bytes)?, now, words),
+        What::HangUp(to) => router.hang_up(*to, now, words),
+    })
+}
+
+/// Lowers the counters of scores and has a heartbeat, each if it is due in a round.
+pub fn decay_and_beat(
+    router: &mut Router,
+    words: &mut SeededWords,
+    round: u64,
+    now: Millis,
+) -> Result<(), AllocError>
+    requires { IsRunning now router.old }
+    ensures { OnOk result (Runs (exact seeded_word seeded_after) now
+        (decays_in router.old.peer round now ++ beats_in router.old.peer round now)
+        router.old words.old router.new words.new []) }
+{
+    decay_if_due(router, words, round, now)?;
+    beat_if_due(router, words, round, now)?;
+    Ok(())
+}
+
+/// Lowers the counters of scores by a step, if that is due in a round.
+fn decay_if_due(
+    router: &mut Router,
+    words: &mut SeededWords,
+    round: u64,
+    now: Millis,
+) -> Result<(), AllocError>
+    requires { IsRunning now router.old }
+    ensures { OnOk result (Runs (exact seeded_word seeded_after) now (decays_in router.old.peer round now)
+        router.old words.old router.new words.new []) }
+{
+    if !is_due(router.decay_ms(), round, now) {
+        return Ok(());
+    }
+    never_refused(router.decay(now, words))?;
+    Ok(())
+}
+
+/// Has a heartbeat, if one is due in a round.
+fn beat_if_due(
+    router: &mut Router,
+    words: &mut SeededWords,
+    round: u64,
+    now: Millis,
+) -> Result<(), AllocError>
+    requires { IsRunning now router.old }
+    ensures { OnOk result (Runs (exact seeded_word seeded_after) now (beats_in router.old.peer round now)
+        router.old words.old router.new words.new []) }
+{
+    if !is_due(router.heartbeat_ms(), round, now) {
+        return Ok(());
+    }
+    never_refused(router.heartbeat(now, words))?;
+    Ok(())
+}
+
+/// Whether what comes every so many milliseconds is due in a round at this moment: never in the first one.
+fn is_due(every: u64, round: u64, now: Millis) -> bool
+    ensures { result ≡ is_due every round now }
+{
+    if round == 0 {
+        return false;
+    }
+    now.0.is_multiple_of(every)
+}
+
+/// A call that only want of memory can keep from being done.
+pub fn never_refused(told: Result<(), RouterFault>) -> Result<(), AllocError>
+    ensures { OnOk result (IsOk told) }
+{
+    match told {
+        Ok(()) => Ok(()),
+        Err(_) => Err(AllocError),
+    }
+}

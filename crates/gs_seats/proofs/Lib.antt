@@ -1,0 +1,11 @@
+pub mod PlaceLists
+pub mod ByNumber
+pub mod Each
+pub mod EachPeer
+pub mod Joined
+pub mod NeighbourLists
+pub mod OwnLines
+pub mod SameWords
+pub mod Truths
+pub mod Within
+pub mod Lives

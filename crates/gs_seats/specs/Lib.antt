@@ -1,0 +1,6 @@
+pub mod ListsByPeer
+pub mod Faults
+pub mod Rounds
+pub mod Routers
+pub mod Reports
+pub mod Played

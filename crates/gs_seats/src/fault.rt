@@ -1,0 +1,48 @@
+//! Why a run gives no report.
+ghost use Rattle.std.specs.Prelude.{◌≡◌, None};
+ghost use Rattle.gs_seats.specs.Faults.{number_of};
+
+use gs_base::PeerNo;
+use std::alloc::{AllocError, AllocFailed};
+
+/// Why a run gives no report.
+#[derive(Clone, Copy, Debug, PartialEq, Eq, thiserror::Error)]
+pub enum NetFault {
+    /// There was no memory: for what this peer is given, or for what belongs to no peer.
+    #[error("there was no memory")]
+    NoMemory(Option<PeerNo>),
+    /// A worker thread could not be started, or could not wait.
+    #[error("a worker thread was wanting")]
+    NoThread,
+}
+
+impl NetFault {
+    /// The number of the fault: 24 for want of memory, 25 where a worker thread was wanting.
+    pub fn number(self) -> u8
+        ensures { result ≡ number_of self }
+    {
+        match self {
+            NetFault::NoMemory(_) => 24,
+            NetFault::NoThread => 25,
+        }
+    }
+}
+
+impl From<AllocError> for NetFault {
+    fn from(_: AllocError) -> NetFault
+        ensures { result ≡ NetFault.NoMemory None }
+    {
+        NetFault::NoMemory(None)
+    }
+}
+
+impl<T: Drop> From<AllocFailed<T>> for NetFault {
+    fn from(_: AllocFailed<T>) -> NetFault
+        ensures { result ≡ NetFault.NoMemory None }
+    {
+        NetFault::NoMemory(None)
+    }
+}
+
+#[cfg(test)]
+mod tests;

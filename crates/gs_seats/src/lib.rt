@@ -1,0 +1,15 @@
+//! What each peer of a plan is given before a run: its neighbours, its lines, its router and its words. And what a report
+//! of a run says.
+#![tactic(auto)]
+
+mod fault;
+mod lines;
+mod lists_by_peer;
+mod neighbours;
+mod routers;
+
+pub use fault::NetFault;
+pub use lines::lines_by_peer;
+pub use lists_by_peer::{empty_lists, put_last, take_last, take_list};
+pub use neighbours::neighbours_of;
+pub use routers::{first_words, router_of};

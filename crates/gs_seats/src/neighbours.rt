@@ -1,0 +1,105 @@
+ghost use Rattle.std.specs.Prelude.{◌≡◌, ◌≤◌, ◌<◌, IfOk, length};
+ghost use Rattle.std.specs.List.{list_any};
+ghost use Rattle.gs_seats.specs.Rounds.{address_of, app_of, is_about, is_agreed, is_dial, neighbour_in, neighbours_in};
+
+use bytes::Bytes;
+use gs_base::{Neighbour, PeerNo};
+use gs_plan::{App, Dial, Explicit, MOST_PEERS, Plan, are_joined};
+use std::alloc::{AllocError, Global};
+
+/// The neighbours of a peer, ascending: whom it dials, and who dials it.
+///
+/// # Errors
+/// `AllocError` where there was no memory for it.
+pub fn neighbours_of(alloc: Global, plan: &Plan, peer: PeerNo) -> Result<Vec<Neighbour>, AllocError>
+    requires { length plan.now.peers ≤ MOST_PEERS }
+    ensures { IfOk result (λ found. found.items ≡ neighbours_in plan.now peer) }
+{
+    let count = plan.peers.len() as u16;
+    let mut found = Vec::new(alloc);
+    for number in 0..count {
+        let other = PeerNo(number);
+        if are_joined(plan.dials.as_slice(), peer, other) {
+            found.push(neighbour_of(alloc, plan, peer, other)?)?;
+        }
+    }
+    Ok(found)
+}
+
+fn neighbour_of(
+    alloc: Global,
+    plan: &Plan,
+    peer: PeerNo,
+    other: PeerNo,
+) -> Result<Neighbour, AllocError>
+    ensures { IfOk result (λ neighbour. neighbour ≡ neighbour_in plan.now peer other) }
+{
+    Ok(Neighbour {
+        outbound: dials(plan.dials.as_slice(), peer, other),
+        app: i128::from(app_of(plan, peer, other)),
+        explicit: agreed(plan.explicit.as_slice(), peer, other),
+        ..Neighbour::new(other, address_of(alloc, plan, other)?)
+    })
+}
+
+fn dials(all: &[Dial], from: PeerNo, to: PeerNo) -> bool
+    ensures { result ≡ list_any (is_dial from to) all.now }
+{
+    all.iter().any(|dial| is_dial(from, to, dial))
+}
+
+fn is_dial(from: PeerNo, to: PeerNo, dial: &Dial) -> bool
+    ensures { result ≡ is_dial from to dial.now }
+{
+    dial.from == from && dial.to == to
+}
+
+fn address_of(alloc: Global, plan: &Plan, peer: PeerNo) -> Result<Bytes, AllocError>
+    ensures { IfOk result (λ address. address ≡ address_of plan.now peer) }
+{
+    match plan.peers.as_slice().get(usize::from(peer.0)) {
+        Some(planned) => {
+            let address = Bytes::copy_from_slice(alloc, planned.address.as_str().as_bytes())?;
+            Ok(address)
+        }
+        None => Ok(Bytes::new()),
+    }
+}
+
+/// What the one peer's application says of the other, in millionths, and 0 where it says nothing.
+fn app_of(plan: &Plan, peer: PeerNo, about: PeerNo) -> i64
+    ensures { result ≡ app_of plan.now peer about }
+{
+    match plan
+        .apps
+        .as_slice()
+        .iter()
+        .find(|app| is_about(peer, about, app))
+    {
+        Some(app) => app.value,
+        None => 0,
+    }
+}
+
+fn is_about(peer: PeerNo, about: PeerNo, app: &App) -> bool
+    ensures { result ≡ is_about peer about app.now }
+{
+    app.peer == peer && app.about == about
+}
+
+/// Whether the one peer has a peering agreement with the other.
+fn agreed(all: &[Explicit], peer: PeerNo, about: PeerNo) -> bool
+    ensures { result ≡ list_any (is_agreed peer about) all.now }
+{
+    all.iter()
+        .any(|agreement| is_agreed(peer, about, agreement))
+}
+
+fn is_agreed(peer: PeerNo, about: PeerNo, agreement: &Explicit) -> bool
+    ensures { result ≡ is_agreed peer about agreement.now }
+{
+    agreement.peer == peer && agreement.about == about
+}
+
+#[cfg(test)]
+mod tests;

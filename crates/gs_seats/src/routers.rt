@@ -1,0 +1,55 @@
+//! The router of a peer before it has done anything, and the words that it chooses by.
+ghost use Rattle.std.specs.Prelude.{◌≡◌, IfOk};
+ghost use Rattle.gs_plan.specs.Plans.{IsInRange};
+ghost use Rattle.gs_seats.specs.Rounds.{first_words, neighbours_in, words_of};
+ghost use Rattle.gs_seats.specs.Routers.{new_router};
+
+use gs_base::{Neighbour, PeerNo, clone_of};
+use gs_params::SeededWords;
+use gs_plan::Plan;
+use gs_router::Router;
+use std::alloc::{AllocError, Global};
+
+/// The router of a peer with these neighbours, which has done nothing.
+///
+/// # Errors
+/// `AllocError` where there was no memory for it.
+pub fn router_of(
+    alloc: Global,
+    plan: &Plan,
+    number: PeerNo,
+    neighbours: Vec<Neighbour>,
+) -> Result<Router, AllocError>
+    requires range { IsInRange plan.now }
+    requires neighbours { neighbours.items ≡ neighbours_in plan.now number }
+    ensures { IfOk result (λ router. router ≡ new_router plan.now number) }
+{
+    let params = clone_of(&plan.params)?;
+    let router = Router::new(alloc, params, neighbours)?;
+    Ok(router)
+}
+
+/// The words that a peer's choices are made by, before the first of them: those that the plan lists, and then those of
+/// its seed.
+///
+/// # Errors
+/// `AllocError` where there was no memory for them.
+pub fn first_words(alloc: Global, plan: &Plan, number: PeerNo) -> Result<SeededWords, AllocError>
+    ensures { IfOk result (λ words. words ≡ first_words plan.now number) }
+{
+    let list = words_of(alloc, plan, number)?;
+    Ok(SeededWords::new(list, plan.seed, number))
+}
+
+/// The list of a peer's random words.
+fn words_of(alloc: Global, plan: &Plan, peer: PeerNo) -> Result<Vec<u32>, AllocError>
+    ensures { IfOk result (λ list. list.items ≡ words_of plan.now peer) }
+{
+    match plan.peers.as_slice().get(usize::from(peer.0)) {
+        Some(planned) => {
+            let list = planned.words.as_slice().to_vec(alloc)?;
+            Ok(list)
+        }
+        None => Ok(Vec::new(alloc)),
+    }
+}

@@ -1,0 +1,178 @@
+//! RPCs that are gathered and handed over as one RPC, which is never written as bytes.
+ghost use Rattle.std.specs.Prelude.{◌≡◌, None, Some, Ok, true, false, IfOk, OnOk, OnErr, Option, is_none, length, min};
+ghost use Rattle.std.specs.List.{flat_map};
+ghost use Rattle.gs_base.specs.declared.control.Control.{Control as ControlValue};
+ghost use Rattle.gs_wire.specs.Codec.{codec};
+ghost use Rattle.gs_wire.specs.Gathering.{as_one};
+ghost use Rattle.gs_wire.specs.Joining.{joined_controls, joined_rpcs, joined_to};
+ghost use Rattle.gs_wire.specs.Sections.{control_length_within, control_of};
+
+use crate::joining::push_clones;
+use crate::rpc::{MAX_BODY, control_len, control_record_len, plain_len};
+use gs_base::{Control, ExactClone, Part, Rpc, Seq, Shared, clone_of};
+use std::alloc::{AllocError, Global};
+use std::marker::Model;
+
+/// RPCs that are handed over as one. Contracts see the RPC that they are joined to, of which there is none where none was
+/// gathered.
+#[derive(Drop)]
+pub struct GatheredRpcs {
+    rpcs: Vec<Shared<Rpc>>,
+    /// How long what they say outside of their control messages is when it is written.
+    plain: usize,
+    /// How long all their control messages are, where one has some.
+    control: Option<usize>,
+}
+
+impl Model for GatheredRpcs {
+    ghost use Rattle.std.specs.Prelude.{Option};
+    ghost use Rattle.gs_base.specs.declared.rpc.Rpc.{Rpc as RpcValue};
+    ghost use Rattle.gs_wire.specs.Joining.{joined_rpcs};
+    ghost use Rattle.gs_wire.specs.Gathering.{IsMeasured, as_one};
+
+    ghost Value = { Option RpcValue };
+
+    ghost view = { λ g. joined_rpcs g.rpcs.items };
+
+    ghost invariant = { λ g. IsMeasured (as_one (joined_rpcs g.rpcs.items)) g.plain g.control };
+}
+
+impl GatheredRpcs {
+    /// Of nothing. It takes no memory.
+    pub fn new(alloc: Global) -> GatheredRpcs
+        ensures { result ≡ None }
+    {
+        GatheredRpcs {
+            rpcs: Vec::new(alloc),
+            plain: 0,
+            control: None,
+        }
+    }
+
+    /// Whether nothing is gathered.
+    pub fn is_empty(&self) -> bool
+        ensures { result ≡ is_none self.now }
+    {
+        self.rpcs.is_empty()
+    }
+
+    /// Joins one more RPC to them, if that fits a frame. False where it does not.
+    ///
+    /// # Errors
+    /// `AllocError` where there was no memory for it. Nothing changes then, nor where it is false.
+    pub fn gather(&mut self, rpc: &Shared<Rpc>) -> Result<bool, AllocError>
+        ensures fits { IfOk result (λ fits. fits ≡ codec.fits (joined_to self.old rpc.now)) }
+        ensures joined { result ≡ Ok true → self.new ≡ Some (joined_to self.old rpc.now) }
+        ensures too_long { result ≡ Ok false → self.new ≡ self.old }
+        ensures kept { OnErr result (self.new ≡ self.old) }
+    {
+        let plain = self.plain.saturating_add(plain_len(rpc.get()));
+        let control = joined_control_len(self.control, control_len(rpc.get()));
+        if plain.saturating_add(control_record_len(control)) > MAX_BODY {
+            return Ok(false);
+        }
+        self.rpcs.push(clone_of(rpc)?)?;
+        self.plain = plain;
+        self.control = control;
+        Ok(true)
+    }
+
+    /// Takes what was gathered as one RPC, of which there is none where nothing was. One that is alone is handed over as it
+    /// is, and not copied.
+    ///
+    /// # Errors
+    /// `AllocError` where there was no memory for it. Nothing changes then.
+    pub fn take(&mut self, alloc: Global) -> Result<Option<Shared<Rpc>>, AllocError>
+        ensures rpc { IfOk result (λ found. found ≡ self.old) }
+        ensures taken { OnOk result (self.new ≡ None) }
+        ensures kept { OnErr result (self.new ≡ self.old) }
+    {
+        if self.rpcs.len() > 1 {
+            let joined = Shared::new(alloc, self.joined(alloc)?)?;
+            self.clear();
+            return Ok(Some(joined));
+        }
+        let alone = self.rpcs.pop();
+        self.plain = 0;
+        self.control = None;
+        Ok(alone)
+    }
+
+    /// Forgets what was gathered, and keeps the memory for what comes.
+    fn clear(&mut self)
+        ensures { self.new ≡ None }
+    {
+        self.rpcs.clear();
+        self.plain = 0;
+        self.control = None;
+    }
+
+    fn joined(&self, alloc: Global) -> Result<Rpc, AllocError>
+        ensures { IfOk result (λ rpc. rpc ≡ as_one self.now) }
+    {
+        let rpcs = self.rpcs.as_slice();
+        Ok(Rpc {
+            subs: all_of(alloc, rpcs)?,
+            publish: all_of(alloc, rpcs)?,
+            control: self.joined_control(alloc)?,
+        })
+    }
+
+    /// The kept length says without a look at the RPCs whether one has control messages.
+    fn joined_control(&self, alloc: Global) -> Result<Option<Control>, AllocError>
+        ensures { IfOk result (λ control. control ≡ (as_one self.now).control) }
+    {
+        match self.control {
+            Some(_) => Ok(Some(control_of_all(alloc, self.rpcs.as_slice())?)),
+            None => Ok(None),
+        }
+    }
+}
+
+fn control_of_all(alloc: Global, rpcs: &[Shared<Rpc>]) -> Result<Control, AllocError>
+    ensures { IfOk result (λ control. control ≡ control_of (as_one (joined_rpcs rpcs.now))) }
+{
+    Ok(Control {
+        ihave: all_of(alloc, rpcs)?,
+        iwant: all_of(alloc, rpcs)?,
+        graft: all_of(alloc, rpcs)?,
+        prune: all_of(alloc, rpcs)?,
+    })
+}
+
+/// All that the RPCs have in their lists of one kind, in order.
+fn all_of<P: Part + ExactClone>(alloc: Global, rpcs: &[Shared<Rpc>]) -> Result<Seq<P>, AllocError>
+    ensures { IfOk result (λ parts. parts ≡ flat_map P.parts rpcs.now) }
+{
+    let mut parts = Vec::with_capacity(alloc, count_of::<P>(rpcs))?;
+    for rpc in rpcs {
+        push_clones(&mut parts, P::parts_of(rpc.get()))?;
+    }
+    Ok(Seq::from(parts))
+}
+
+/// How many parts of one kind the RPCs have, up to the largest `usize`.
+fn count_of<P: Part>(rpcs: &[Shared<Rpc>]) -> usize
+    ensures { result ≡ min usize.MAX (length (flat_map P.parts rpcs.now)) }
+{
+    let mut count: usize = 0;
+    for rpc in rpcs {
+        count = count.saturating_add(P::parts_of(rpc.get()).len());
+    }
+    count
+}
+
+/// The length of joined control messages, by the lengths of both: none where neither RPC has some. Lengths stop at the
+/// largest `usize`.
+fn joined_control_len(first: Option<usize>, second: Option<usize>) -> Option<usize>
+    ensures { (c d : Option ControlValue)
+        → first ≡ control_length_within usize.MAX c
+        → second ≡ control_length_within usize.MAX d
+        → result ≡ control_length_within usize.MAX (joined_controls c d) }
+{
+    match (first, second) {
+        (Some(first), Some(second)) => Some(first.saturating_add(second)),
+        (Some(only), None) => Some(only),
+        (None, only) => only,
+    }
+}
