@@ -1,5 +1,6 @@
 # Prints what the parts of pages (as pages.awk prints them) name of the repository, one a line, with tabs between: FILE:LINE,
-# what it is (`name`, `path`, or `elsewhere` for a name of go-libp2p's), what stands there, and what is to be looked for.
+# what it is (`name`, `path`, `elsewhere` for a name of go-libp2p's, or `absent` for one that docs/DECISIONS.md says is not
+# here), what stands there, and what is to be looked for.
 # A name has a `_`, a `::`, or a capital behind a small letter, and stands between backquotes.
 
 BEGIN { FS = "\t" }
@@ -32,6 +33,7 @@ function print_words(text, is_code,   words, count, i) {
 {
   is_table = $1 ~ /^docs\/COVERAGE\.md:/ && $3 ~ /go-libp2p/
   kind = is_table || $1 ~ /^docs\/COVERAGE\.md:/ && $4 ~ /^These have no counterpart/ ? "elsewhere" : "name"
+  if ($1 ~ /^docs\/DECISIONS\.md:/ && $3 == "looked for") kind = "absent"
   count = split($4, spans, "`")
   for (n = 1; n <= count; n++) print_words(spans[n], n % 2 == 0)
 }
