@@ -138,6 +138,11 @@ cut_input() {
   scenario=$room/cut
 }
 
+# Whether the input is the scenario that is run. Else `prepare_scenario` makes it.
+is_as_it_comes() {
+  [ ${#edits[@]} -eq 0 ] && [ -z "$until" ]
+}
+
 # Makes the scenario that is run: a copy of the input, with the changes that the options make. It is standard input then.
 prepare_scenario() {
   keep_input
@@ -168,7 +173,7 @@ run_changed() {
   [ -z "$program" ] || programs+=("$program")
   look_for "${programs[@]}"
   # Nothing is left to do behind a program that is proved and whose refusal needs no words.
-  if [ ${#is_unproved[@]} -eq 0 ] && [ ${#edits[@]} -eq 0 ] && [ -z "$until$has_words" ]; then
+  if [ ${#is_unproved[@]} -eq 0 ] && [ -z "$has_words" ] && is_as_it_comes; then
     say_reading
     GLIBC_TUNABLES=$tunables exec "$(program_of "$program")" "${arguments[@]}"
   fi
