@@ -23,6 +23,14 @@ two_at_once() {
   compiled
 }
 
+# A run where no folder for programs can be made. (Who is root may write anywhere, so a file stands in its way.)
+in_fixed_tree() {
+  mv "$room/tree/out" "$room/out_before"
+  : >"$room/tree/out"
+  tried 0 2>/dev/null
+  rm "$room/tree/out" && mv "$room/out_before" "$room/tree/out"
+}
+
 # How many programs are kept after ten versions.
 kept_of_ten() {
   local it
@@ -49,6 +57,7 @@ check_kept() {
   expect 'a run after a change of crates.txt' 0 gossip_sim '' compiled_after 'echo "# a" >>"$room/tree/crates.txt"'
   expect 'a run after what is kept was deleted' 0 gossip_sim '' compiled_after 'rm -r "$room/tree/out/unproved"'
   expect 'two runs at once' 0 $'gossip_sim  scenario\ngossip_sim  scenario\ngossip_sim' '' two_at_once
+  expect 'a run in a tree that can not be written to' 0 'gossip_sim  scenario' '' in_fixed_tree
   expect 'what is kept of ten versions' 0 8 '' kept_of_ten
   expect 'the last time' 0 "$said; the last time it took 71 seconds" '' \
     said_of_compiling "echo '// b' >>$base/src/lib.rt; echo 71 >\$room/tree/out/unproved/gossip_sim.seconds" 0

@@ -62,7 +62,7 @@ END
 }
 
 # Compiles a program to where it is kept, where no other run has done so meanwhile. Where a source has changed since it began,
-# the program is of no known sources, and is for this run alone.
+# or where it can't be kept, the program is for this run alone.
 compile() {
   local name=$1 place=$2 begun=$SECONDS made=$room/$1
   exec 8>"$kept/$name.lock"
@@ -71,7 +71,7 @@ compile() {
   rm -f "$kept/.$name-"*
   "$compiler" "$name" "$made" >"$room/$name.said" 2>&1 || return
   [ "$(place_of "$name")" = "$place" ] || return 0
-  cp "$made" "$kept/.${place##*/}" && mv "$kept/.${place##*/}" "$place" || return
+  cp "$made" "$kept/.${place##*/}" && mv "$kept/.${place##*/}" "$place" || return 0
   echo $((SECONDS - begun)) >"$kept/$name.seconds"
   find "$kept" -name "$name-*" -printf '%T@ %p\n' | sort -rn | cut -d' ' -f2- | tail -n "+$((most_kept + 1))" |
     xargs -r -d '\n' rm -f
@@ -102,6 +102,17 @@ say_compiling() {
   printf '\r\033[K%s\n' "$tool: $((SECONDS - begun)) s, $said" >&2
 }
 
+# Has programs kept for this run alone where they can't be kept in the repository.
+choose_place() {
+  local it
+  ! { mkdir -p "$kept" 2>/dev/null && [ -w "$kept" ]; } || return 0
+  kept=$room/unproved
+  mkdir -p "$kept" || stop 4 "there is no place for programs: $kept"
+  for it in "${missing[@]}"; do
+    path_of[$it]=$kept/${path_of[$it]##*/}
+  done
+}
+
 # Compiles those of these programs that are not proved and not kept, side by side.
 compile_missing() {
   local it missing=() compilers=()
@@ -116,7 +127,7 @@ compile_missing() {
     fi
   done
   [ ${#missing[@]} -gt 0 ] || return 0
-  mkdir -p "$kept" || stop 4 "there is no place for programs: $kept"
+  choose_place
   for it in "${missing[@]}"; do
     compile "$it" "${path_of[$it]}" &
     compilers+=($!)
