@@ -10,8 +10,10 @@ import sys
 
 # What may not be cut within: comments and strings. Then what opens and closes, what ends a line, and all else.
 TOKEN = re.compile(
-    r"""(?P<comment>\#[^\n]*) | (?P<string>\"{3}(?:\\.|[^\\])*?\"{3,5} | '{3}.*?'{3,5} | "(?:\\.|[^"\\\n])*" | '[^'\n]*')
-    | (?P<open>[\[{]) | (?P<close>[\]}]) | (?P<comma>,) | (?P<equals>=) | (?P<line>\n) | (?P<space>[ \t\r]+) | (?P<word>.)""",
+    r"""(?P<comment>\#[^\n]*)
+    | (?P<string>\"{3}(?:\\.|[^\\])*?\"{3,5} | '{3}.*?'{3,5} | "(?:\\.|[^"\\\n])*" | '[^'\n]*')
+    | (?P<open>[\[{]) | (?P<close>[\]}]) | (?P<comma>,) | (?P<equals>=) | (?P<line>\n) | (?P<space>[ \t\r]+)
+    | (?P<word>[^\s\#"'\[\]{},=]+|.)""",
     re.DOTALL | re.VERBOSE,
 )
 
@@ -21,41 +23,50 @@ class Uncut(Exception):
 
 
 class Statement:
-    """A header, or a key with its value, that stands outside of all others: from `start` to `end`, the end of its line. A
-    key ends at `equals`. `elements` has the places of the elements of a list, each with the comma behind it."""
+    """A header, or a key with its value, that stands outside of all others. It goes from `start` to `end`, and a key to
+    `equals`. `elements` has the places of what stands in a list, each with the comma behind it."""
 
     def __init__(self, start):
-        self.start, self.end, self.equals, self.elements = start, start, None, []
+        self.start, self.end, self.equals = start, start, None
+        self.elements, self.is_in_element = [], False
+
+    def take(self, kind, start, end, depth):
+        """Takes a token, which stands so many brackets deep."""
+        self.end = end
+        if kind == "equals" and depth == 0 and self.equals is None:
+            self.equals = start
+        elif self.equals is None or depth == 0:
+            return
+        elif depth == 1 and kind == "comma":
+            self.reach(end)
+            self.is_in_element = False
+        elif not self.is_in_element:
+            self.elements.append((start, end))
+            self.is_in_element = True
+        else:
+            self.reach(end)
+
+    def reach(self, end):
+        """Has the last element end there."""
+        self.elements[-1:] = [(it[0], end) for it in self.elements[-1:]]
 
 
 def statements(text):
     """The statements of a scenario, in order."""
-    found, now, depth, element = [], None, 0, None
+    found, now, depth = [], None, 0
     for it in TOKEN.finditer(text):
-        kind, start, end = it.lastgroup, it.start(), it.end()
+        kind = it.lastgroup
         if kind == "line" and depth == 0:
             now = None
         if kind in ("line", "space", "comment"):
             continue
         if now is None:
-            now = Statement(start)
+            now = Statement(it.start())
             found.append(now)
-        now.end = end
-        if kind == "equals" and depth == 0 and now.equals is None:
-            now.equals = start
+        # (a bracket that closes the list is in none of its elements)
         depth -= kind == "close"
-        if depth == 1 and now.equals is not None and kind != "close":
-            if kind == "comma":
-                now.elements[-1:] = [(now.elements[-1][0], end)] if now.elements else []
-                element = None
-            elif element is None:
-                element = start
-                now.elements.append((start, end))
-        elif depth >= 1 and now.elements and element is not None:
-            now.elements[-1] = (element, end)
-        if kind == "open":
-            depth += 1
-            element = None if depth == 1 else element
+        now.take(kind, it.start(), it.end(), depth)
+        depth += kind == "open"
     return found
 
 
