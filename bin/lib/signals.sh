@@ -2,8 +2,8 @@
 # Ends scripts by signals, while they compile, run, check and sweep. bin/check_scripts reads this file, and has a tree with
 # stand-ins.
 
-# How long the end of a script may take, in milliseconds. (It takes 0.1 seconds on a quiet machine.)
-longest_end=3000
+# How long the end of a script may take, in milliseconds. A busy machine may make it longer, so that it is tried some times.
+longest_end=1000
 
 # Prints the processes that have this word in their environment.
 marked() {
@@ -11,7 +11,7 @@ marked() {
 }
 
 # Starts a script of the tree, and ends it by a signal once a stand-in sleeps. Prints what then is left: processes, and what
-# lies below $TMPDIR.
+# lies below $TMPDIR. The end took `took` milliseconds.
 ended() {
   local signal=$1 status=0 child begun turn mark=$RANDOM.$RANDOM
   shift
@@ -25,12 +25,11 @@ ended() {
     sleep 0.05
   done
   [ -e "$room/asleep" ] || { echo 'nothing sleeps' && cat "$room/said_by_it"; }
-  begun=${EPOCHREALTIME/./}
+  begun=${EPOCHREALTIME/[.,]/}
   kill "-$signal" "$child"
   # (the shell tells of a hangup)
   wait "$child" 2>/dev/null || status=$?
-  turn=$(((${EPOCHREALTIME/./} - begun) / 1000))
-  [ "$turn" -le "$longest_end" ] || echo "the end took $turn milliseconds"
+  took=$(((${EPOCHREALTIME/[.,]/} - begun) / 1000))
   for child in $(marked "$mark"); do
     echo "left: $(tr '\0' ' ' 2>/dev/null <"/proc/$child/cmdline")"
   done 2>/dev/null
@@ -38,11 +37,23 @@ ended() {
   return "$status"
 }
 
+ended_soon() {
+  local took turn status=0
+  for turn in {1..6}; do
+    status=0
+    ended "$@" >"$room/left" || status=$?
+    [ "$took" -gt "$longest_end" ] && [ ! -s "$room/left" ] || break
+  done
+  cat "$room/left"
+  [ "$took" -le "$longest_end" ] || echo "the end took $took milliseconds"
+  return "$status"
+}
+
 # A script of the tree, ended by some signals.
 check_end() {
   local name=$1 signal
   for signal in $2; do
-    expect "$name, ended by $signal" "$((128 + $(kill -l "$signal")))" '' '' ended "$signal" "${@:3}"
+    expect "$name, ended by $signal" "$((128 + $(kill -l "$signal")))" '' '' ended_soon "$signal" "${@:3}"
   done
 }
 
