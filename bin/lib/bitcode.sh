@@ -2,9 +2,12 @@
 # Makes the bitcode of a program without proof, with checks at run time. bin/profile_build and bin/lib/compile read this file,
 # and have set `top` to the repository's folder.
 
-# The folder of the Rattle kit whose rt is on the path.
+# The folder of the Rattle kit whose rt is on the path. (rt may be a script that starts that of a kit.)
 kit_folder() {
-  dirname "$(dirname "$(readlink -f "$(command -v rt)")")"
+  local kit
+  kit=$(dirname "$(dirname "$(readlink -f "$(command -v rt)")")")
+  [ -d "$kit/toolchain" ] || kit=$(dirname "$(rt doc)")
+  echo "$kit"
 }
 
 # Makes a kit like this one, with a compiler that only keeps what it is given first, as module.bc of the folder. It does not

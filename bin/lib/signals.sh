@@ -70,9 +70,9 @@ compile_all() {
   done
 }
 
-# Those scripts that do not start themselves under bin/lib/guard.
+# Those scripts that start others or make folders, and are not run under bin/lib/guard.
 unguarded() {
-  grep -L -d skip -e '^ *guarded\b' -e lib/runs.sh "$top"/bin/*
+  grep -L -d skip -e '^ *guarded\b' -e lib/runs.sh "$top"/bin/* | xargs -r grep -lE '^#!.*bash|subprocess|tempfile'
   return 0
 }
 
