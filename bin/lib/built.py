@@ -1,6 +1,8 @@
-"""Whether the proved program of a crate stands, for the scripts in Python. bin/lib/crates.sh says it."""
+"""The programs of crates, for the scripts in Python. bin/lib/crates.sh says whether a proved one stands, and bin/lib/ready
+compiles those that are not proved."""
 import os
 import subprocess
+import sys
 
 
 def program_of(top, crate):
@@ -12,3 +14,12 @@ def lack_of(top, crate):
     words = ["bash", "-c", '. "$top/bin/lib/crates.sh"; lack_of "$1"', "", crate]
     ran = subprocess.run(words, env={**os.environ, "top": top}, stdout=subprocess.PIPE, check=False)
     return ran.stdout.decode().strip()
+
+
+def ready(top, tool, what, crates, is_strict):
+    """The program of each crate, proved or not. Ends the script where there is none, which is said on standard error."""
+    words = [f"{top}/bin/lib/ready", *["--proved"] * is_strict, tool, what, *crates]
+    ran = subprocess.run(words, stdout=subprocess.PIPE, stdin=subprocess.DEVNULL, check=False)
+    if ran.returncode:
+        sys.exit(ran.returncode)
+    return dict(zip(crates, ran.stdout.decode().splitlines()))

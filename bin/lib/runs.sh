@@ -1,10 +1,13 @@
 # shellcheck shell=bash disable=SC2154,SC2034
 # What bin/gossip_sim, bin/gossip_stats and bin/gossip_picture have in common: the options of a run, its input, and its
 # programs, proved or not. Each of them sets `top` to the repository's folder, `tool` to its own name, `program` to the
-# program that it runs and `what` to what that prints, and has `usage`, and `take_option` for the options of its own.
+# program that it runs (none where the scenario is printed) and `what` to what that prints, and has `usage`, and `take_option`
+# for the options of its own.
 # shellcheck source-path=SCRIPTDIR
 # shellcheck source=crates.sh
 . "$top/bin/lib/crates.sh"
+# shellcheck source=guarded.sh
+. "$top/bin/lib/guarded.sh"
 # shellcheck source=unproved.sh
 . "$top/bin/lib/unproved.sh"
 
@@ -16,18 +19,19 @@ print_options() {
   --seed N          with this seed,
   --set KEY=VALUE   with another value of any key, written as in TOML, as params.flood_publish=false;
                     these four can be repeated
+  --until ROUND     up to this round: the scenario is cut there, and later lines are left out
   --words           says of a refused scenario why, in words on standard error, as on a terminal
   --proved          runs proved programs alone
   --help, -h        prints this
   --version, -V     prints the commit and the Rattle kit
   --                ends the options
 
-A run by a program that is not proved yet takes about a minute more, and says so on standard error. bin/build proves and
-builds the programs.
+A program that is not proved yet is compiled, with checks at run time, in about two minutes, once for its sources. Standard
+error says so. bin/build proves and builds the programs.
 
 Status: 0 $1; 1 the scenario is refused, or can't be changed so; 2 memory
 or a thread was wanting; 3 input or output failed; 4 the program is not built, with --proved, or can't be compiled; 5 an
-unproved run took too long, wrote too much or met a fault; 64 the arguments are wrong; 66 FILE can't be read.
+unproved run met a fault; 64 the arguments are wrong; 66 FILE can't be read; 128 and a signal's number where one ended it.
 END
 }
 
@@ -50,11 +54,16 @@ version() {
   echo "$tool commit $commit, $kit"
 }
 
-arguments=() edits=() files=() is_strict='' has_words=''
+words=("$@") arguments=() edits=() files=() is_strict='' has_words='' until=''
 
 change() {
   [[ $1 == *=* ]] || stop 64 "--set takes KEY=VALUE, not $1; --help says more"
   edits+=("$1")
+}
+
+cut_at() {
+  [[ $1 =~ ^[1-9][0-9]{0,5}$ ]] || stop 64 '--until takes a round, from 1 to 999999; --help says more'
+  until=$1
 }
 
 # Stops where nothing stands behind an option that takes a value.
@@ -74,9 +83,14 @@ parse() {
       --proved) is_strict=yes ;;
       --workers=* | --capacity=* | --seed=*) edits+=("${1#--}") ;;
       --set=*) change "${1#--set=}" ;;
-      --workers | --capacity | --seed | --set)
+      --until=*) cut_at "${1#--until=}" ;;
+      --workers | --capacity | --seed | --set | --until)
         want_value "$@"
-        if [ "$1" = --set ]; then change "$2"; else edits+=("${1#--}=$2"); fi
+        case $1 in
+          --set) change "$2" ;;
+          --until) cut_at "$2" ;;
+          *) edits+=("${1#--}=$2") ;;
+        esac
         taken=2
         ;;
       --) files+=("${@:2}") && break ;;
@@ -96,54 +110,44 @@ open_input() {
   { exec <"$1"; } 2>/dev/null || stop 66 "$1 can't be read"
 }
 
-declare -A is_unproved=()
-
-# Finds out which of these programs are not proved, and says so: in two lines, or as the end where none may be run unproved.
-look_for() {
-  local it lack lacks=
-  for it; do
-    lack=$(lack_of "$it")
-    [ -n "$lack" ] || continue
-    is_unproved[$it]=yes
-    lacks=${lacks:+$lacks, and }"$it $lack"
-  done
-  [ -n "$lacks" ] || return 0
-  [ -z "$is_strict" ] || stop 4 "$lacks: bin/build proves and builds it"
-  command -v rt >/dev/null || stop 4 "$lacks, and there is no Rattle kit (rt) to run it unproved"
-  cat >&2 <<END
-$tool: this $what does not come from a proved program: $lacks. The run compiles it with checks first, in about a minute
-$tool: to get the proved program, run bin/build, which takes half an hour on four processors
-END
-}
-
 # The links of many peers take much memory, which is there faster in pages of 2 MiB (glibc 2.35 and later).
 tunables=${GLIBC_TUNABLES-glibc.malloc.hugetlb=1:glibc.malloc.top_pad=67108864}
 
 # Runs a program on standard input, proved or not.
 call() {
-  if [ -n "${is_unproved[$1]-}" ]; then
-    run_unproved "$@"
-  else
-    GLIBC_TUNABLES=$tunables "$(program_of "$1")" "${@:2}"
-  fi
+  local status=0
+  GLIBC_TUNABLES=$tunables "${path_of[$1]}" "${@:2}" || status=$?
+  [ -z "${is_unproved[$1]-}" ] || stop_at_fault "$1" "$status"
+  return "$status"
 }
 
-# Makes a folder for what goes from program to program, and a copy of standard input in it, which can be read again. The
-# programs look at no more of an input than this, and refuse it.
+# Copies standard input, so that it can be read again. The programs look at no more of an input than this, and refuse it.
 keep_input() {
-  room=$(mktemp -d "${TMPDIR:-/tmp}/$tool.XXXXXXXX") || exit 3
-  trap 'rm -rf "$room"' EXIT
-  trap 'exit 130' INT
-  trap 'exit 143' TERM
-  trap 'exit 129' HUP
   scenario=$room/input
   head -c 8388609 >"$scenario" 2>/dev/null || fail 'input failed'
-  exec <"$scenario"
 }
 
 change_input() {
+  call gossip_edit "${edits[@]}" <"$scenario" >"$room/changed" || exit
   scenario=$room/changed
-  call gossip_edit "${edits[@]}" >"$scenario" || exit
+}
+
+# Cuts the scenario at a round.
+cut_input() {
+  python3 "$top/bin/lib/until.py" "$until" <"$scenario" >"$room/cut" || exit
+  scenario=$room/cut
+}
+
+# Whether the input is the scenario that is run. Else `prepare_scenario` makes it.
+is_as_it_comes() {
+  [ ${#edits[@]} -eq 0 ] && [ -z "$until" ]
+}
+
+# Makes the scenario that is run: a copy of the input, with the changes that the options make. It is standard input then.
+prepare_scenario() {
+  keep_input
+  [ ${#edits[@]} -eq 0 ] || change_input
+  [ -z "$until" ] || cut_input
   exec <"$scenario"
 }
 
@@ -151,10 +155,11 @@ change_input() {
 print_words() {
   local file=${files[0]--}
   [ "$file" != - ] || file=FILE
-  if [ -z "$(lack_of gossip_check)" ]; then
-    "$(program_of gossip_check)" <"$scenario" | tail -n +2 >&2
-  elif [ -n "${is_unproved[$program]-}" ]; then
-    ! capture gossip_check <"$scenario" || tail -n +2 "$room/output" >&2
+  if [ -n "${is_unproved[$program]-}" ] || [ -z "$(lack_of gossip_check)" ]; then
+    look_for gossip_check
+    compile_missing gossip_check
+    call gossip_check <"$scenario" >"$room/words"
+    tail -n +2 "$room/words" >&2
   else
     echo "$tool: bin/gossip_sim --check $file tells why in words" >&2
   fi
@@ -162,20 +167,33 @@ print_words() {
 
 # Runs `program` with `arguments` on the scenario as the options change it, and ends with its status.
 run_changed() {
-  local programs=("$program") status=0
+  local programs=() status=0
   open_input "${files[0]--}"
-  [ ${#edits[@]} -eq 0 ] || programs=(gossip_edit "$program")
+  [ ${#edits[@]} -eq 0 ] || programs=(gossip_edit)
+  [ -z "$program" ] || programs+=("$program")
   look_for "${programs[@]}"
-  if [ "${files[0]--}" = - ] && [ -t 0 ]; then
-    echo "$tool: reading the scenario from the terminal; end it with Ctrl-D" >&2
-  fi
   # Nothing is left to do behind a program that is proved and whose refusal needs no words.
-  if [ ${#is_unproved[@]} -eq 0 ] && [ ${#edits[@]} -eq 0 ] && [ -z "$has_words" ]; then
+  if [ ${#is_unproved[@]} -eq 0 ] && [ -z "$has_words" ] && is_as_it_comes; then
+    say_reading
     GLIBC_TUNABLES=$tunables exec "$(program_of "$program")" "${arguments[@]}"
   fi
-  keep_input
-  [ ${#edits[@]} -eq 0 ] || change_input
+  guarded "${words[@]}"
+  room=$TMPDIR
+  say_unproved
+  compile_missing "${programs[@]}"
+  say_reading
+  prepare_scenario
+  if [ -z "$program" ]; then
+    cat "$scenario" 2>/dev/null || fail 'output failed'
+    exit
+  fi
   call "$program" "${arguments[@]}" || status=$?
   [ "$status" -ne 1 ] || [ -z "$has_words" ] || print_words
   exit "$status"
+}
+
+say_reading() {
+  if [ "${files[0]--}" = - ] && [ -t 0 ]; then
+    echo "$tool: reading the scenario from the terminal; end it with Ctrl-D" >&2
+  fi
 }

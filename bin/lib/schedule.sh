@@ -200,12 +200,10 @@ start_ready() {
 end_all() {
   trap '' INT TERM HUP
   local name
+  [ ${#running[@]} -eq 0 ] || kill "${running[@]}" 2>/dev/null
   for name in "${!running[@]}"; do
-    kill "${running[$name]}" 2>/dev/null
     wait "${running[$name]}" 2>/dev/null
   done
-  # (what rt started ends a moment after it)
-  [ ${#running[@]} -eq 0 ] || sleep 1
   for name in "${!running[@]}"; do
     take "$name" unproved 10
   done
@@ -243,9 +241,7 @@ build_all() {
   say "proving ${#uses[@]} crates, or seeing that they are proved, on $processors processors"
   open_room
   trap end_all EXIT
-  trap 'say "interrupted; bin/build goes on from here" && exit 130' INT
-  trap 'exit 143' TERM
-  trap 'exit 129' HUP
+  trap 'say "interrupted; bin/build goes on from here" && exit 1' INT TERM HUP
   while [ ${#is_done[@]} -lt ${#uses[@]} ]; do
     start_ready
     sleep 0.5

@@ -11,6 +11,8 @@ import subprocess
 import threading
 from collections import namedtuple
 
+from until import Uncut, cut
+
 # (of publications: how many, the sums of two columns, and the largest of one)
 OF_PUBLICATIONS = "publications", "on_topic", "delivered", "last_round"
 SUMS = (
@@ -36,7 +38,7 @@ SUMS = (
     "refused_lines",
 )
 LOWEST, HIGHEST = ("lowest_score", "smallest_mesh"), ("highest_score", "largest_mesh")
-COLUMNS = ("status", "message", *OF_PUBLICATIONS, *SUMS, "lowest_score", "highest_score", "smallest_mesh", "largest_mesh")
+COLUMNS = ("status", "message", "proved", *OF_PUBLICATIONS, *SUMS, "lowest_score", "highest_score", "smallest_mesh", "largest_mesh")
 
 # The statuses of runs that would end so again: with figures, or refused.
 KEPT_STATUSES = 0, 1
@@ -185,11 +187,12 @@ def hash_in(file):
 class Sweep:
     """Runs a scenario with settings, on as many threads as call it."""
 
-    def __init__(self, programs, scenario, options, folder):
+    def __init__(self, programs, is_proved, scenario, options, folder):
         self.programs, self.scenario, self.peer, self.folder = programs, scenario, options.peer, folder
+        self.proved, self.until = "yes" if is_proved else "no", options.until
         self.header = [*options.settings.values, *COLUMNS]
         self.lock, self.live, self.is_stopped = threading.Lock(), set(), False
-        self.source = [hash_of(scenario), *map(hash_in, programs.values()), options.peer] if folder else []
+        self.source = [hash_of(scenario), *map(hash_in, programs.values()), options.peer, self.until, self.proved] if folder else []
 
     def name_of(self, settings):
         """The name of a row's file: another one wherever the row might be another one."""
@@ -215,17 +218,25 @@ class Sweep:
         if end.status == 0:
             figures = figures_of(end.output, self.peer)
             end = end if figures else End(1, "", f"the scenario has no peer {self.peer}")
-        cells = {"status": end.status, "message": end.message, **(figures or {})}
+        cells = {"status": end.status, "message": end.message, "proved": self.proved, **(figures or {})}
         return [cells.get(it, "") for it in COLUMNS]
 
     def ended(self, settings):
-        """How a run ends: gossip_edit gives the scenario that gossip_stats runs."""
+        """How a run ends: gossip_edit gives the scenario that gossip_stats runs, but for what --until leaves out."""
         end = End(0, self.scenario, "")
         if settings:
             end = self.call([self.programs["gossip_edit"], *settings], self.scenario)
+        if end.status == 0 and self.until is not None:
+            end = self.cut(end.output)
         if end.status == 0:
             end = self.call([self.programs["gossip_stats"], "--csv"], end.output)
         return end._replace(output=end.output.decode(errors="replace"))
+
+    def cut(self, scenario):
+        try:
+            return End(0, cut(scenario, self.until), "")
+        except Uncut as why:
+            return End(1, b"", f"edit refused: {why}")
 
     def call(self, words, data):
         """Runs a program, in a session of its own: so a key that interrupts the sweep does not end it for itself."""

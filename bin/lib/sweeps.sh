@@ -1,6 +1,6 @@
 # shellcheck shell=bash disable=SC2154
 # Runs bin/sweep on tiny scenarios. bin/check_statuses reads this file, sets `top` to the repository's folder and `room` to
-# one for files, and has `expect`, `expect_like` and a tree without programs.
+# one for files, and has `expect` and `expect_like`.
 
 # Three peers, all joined, who subscribe in round 0. At the heartbeat in round 10 each grafts the two others. In round 12 `a`
 # publishes.
@@ -23,7 +23,7 @@ do = [
 END
 }
 
-columns='status,message,publications,on_topic,delivered,last_round,rpcs_heard,bytes_heard,messages_heard,new,'
+columns='status,message,proved,publications,on_topic,delivered,last_round,rpcs_heard,bytes_heard,messages_heard,new,'
 columns+='duplicates,ignored,invalid,ihave_heard,iwant_heard,graft_heard,prune_heard,rpcs_sent,bytes_sent,messages_sent,'
 columns+='ihave_sent,iwant_sent,graft_sent,prune_sent,'
 columns+='broken_promises,refused_lines,lowest_score,highest_score,smallest_mesh,largest_mesh'
@@ -35,10 +35,10 @@ columns+='broken_promises,refused_lines,lowest_score,highest_score,smallest_mesh
 three_rows() {
   cat <<END
 rounds,params.heartbeat_ms,$columns
-15,1000,0,,1,3,3,1,16,180,4,2,2,0,0,0,0,6,0,16,180,4,0,0,6,0,0,0,0,0,2,2
-15,2000,0,,1,3,3,1,8,90,2,2,0,0,0,0,0,0,0,8,90,2,0,0,0,0,0,0,0,0,0,0
-11,1000,1,scenario refused: 29 do[3].at,,,,,,,,,,,,,,,,,,,,,,,,,,,,
-11,2000,1,scenario refused: 29 do[3].at,,,,,,,,,,,,,,,,,,,,,,,,,,,,
+15,1000,0,,yes,1,3,3,1,16,180,4,2,2,0,0,0,0,6,0,16,180,4,0,0,6,0,0,0,0,0,2,2
+15,2000,0,,yes,1,3,3,1,8,90,2,2,0,0,0,0,0,0,0,8,90,2,0,0,0,0,0,0,0,0,0,0
+11,1000,1,scenario refused: 29 do[3].at,yes,,,,,,,,,,,,,,,,,,,,,,,,,,,,
+11,2000,1,scenario refused: 29 do[3].at,yes,,,,,,,,,,,,,,,,,,,,,,,,,,,,
 END
 }
 
@@ -100,6 +100,8 @@ check_sweep_rows() {
   expect 'a sweep of a peer that is not there' 1 $'message\nthe scenario has no peer d' \
     'sweep: 1 of 1 runs failed, first the one: the scenario has no peer d' \
     in_sweeps --columns message --peer d "$three"
+  expect 'a sweep of a cut scenario' 0 $'seed,publications,new\n1,0,0\n2,0,0' '' \
+    in_sweeps --seeds 1..2 --until 11 --columns publications,new "$three"
   expect 'values with commas' 0 $'topic.0.reject,invalid,new\n"[""01"", ""02""]",2,0\n[],0,2' '' \
     in_sweeps --set 'topic.0.reject=["01", "02"],[]' --columns invalid,new "$three"
   expect 'a list of commands' 0 "$(listed 7)"$'\n'"$(listed 8)" '' \
@@ -112,7 +114,7 @@ check_sweep_folder() {
   local rows said="of 8 rows are in $room/sweeps/rows; the same command goes on from there"
   rows=$("$top/bin/sweep" --seeds 1..8 --set rounds=20000 "$room/sweeps/three.toml")
   mkdir "$room/sweeps/rows"
-  expect_like 'a sweep that is ended' 130 '' "sweep: interrupted; [1-6] $said" interrupted TERM
+  expect_like 'a sweep that is ended' 143 '' "sweep: interrupted; [1-6] $said" interrupted TERM
   expect_like 'a sweep that is interrupted' 130 '' "sweep: interrupted; [2-7] $said" interrupted INT
   expect 'the rows before that' 0 "$(head -n "$(wc -l <"$room/front")" <<<"$rows")" '' cat "$room/front"
   expect 'a sweep that is taken up again' 0 "$rows" '' taken_up
@@ -151,6 +153,7 @@ check_sweep_arguments() {
   refused_sweep 'too many runs' 'a sweep has at most 1,000,000 runs, not 1,002,001' \
     --seeds 1..1001 --set a=1..1001 three.toml
   refused_sweep 'an unknown column' 'there is no column old' --columns new,old three.toml
+  refused_sweep 'no round to cut at' '--until takes a round, from 1 to 999999' --until 0 three.toml
   refused_sweep 'no jobs' '--jobs takes a number from 1 to 9999' --jobs 0 three.toml
   expect 'a sweep of a file that is not there' 66 '' 'sweep: there is no file none.toml' in_sweeps none.toml
   expect 'a sweep of a folder' 66 '' 'sweep: . is a folder, not a scenario' in_sweeps .
@@ -170,37 +173,4 @@ check_sweeps() {
   check_kept_rows
   check_sweep_folder
   check_sweep_arguments
-}
-
-# Programs that stand in for those of a sweep, in the tree that has nothing else: the one that gives figures sleeps.
-make_sleepers() {
-  local program place=$room/tree/crates
-  mkdir -p "$place"/gossip_{edit,stats}/out
-  printf '#!/bin/sh\ncat\n' >"$place/gossip_edit/out/gossip_edit"
-  printf '#!/bin/sh\necho $$ >>"%s"\nexec sleep 600\n' "$room/asleep" >"$place/gossip_stats/out/gossip_stats"
-  for program in edit stats; do
-    chmod +x "$place/gossip_$program/out/gossip_$program"
-  done
-  : >"$room/asleep"
-}
-
-# A sweep of them gets a signal once two have begun. It tells which of them goes on then.
-asleep() {
-  local status=0 child
-  env --default-signal "$room/tree/bin/sweep" --no-header --jobs 2 --seeds 1..4 "$room/sweeps/three.toml" &
-  child=$!
-  while [ "$(wc -l <"$room/asleep")" -lt 2 ] && kill -0 "$child"; do
-    sleep 0.02
-  done
-  kill -HUP "$child"
-  timeout 60 tail -s 0.1 -f --pid="$child" /dev/null || kill -KILL "$child"
-  wait "$child" || status=$?
-  xargs -r -n 1 ps -o args= -p <"$room/asleep"
-  return "$status"
-}
-
-check_sweep_end() {
-  make_sleepers
-  expect 'the runs of a sweep that is ended' 130 '' \
-    'sweep: interrupted; with --into FOLDER a sweep goes on where it ended' asleep
 }

@@ -1,56 +1,150 @@
 # shellcheck shell=bash disable=SC2154
-# Runs a program that is not proved yet, by `rt try`, which compiles it with checks. bin/lib/runs.sh reads this file, and sets
-# `top` to the repository's folder and `room` to one for what goes between programs.
+# Programs that are not proved yet. Each is compiled once for its sources and for the kit, and is kept in out/unproved, which
+# may be deleted. bin/lib/runs.sh and bin/lib/ready read this file. They set `top` to the repository's folder, `room` to one for
+# files, `tool` to the name of the command and `what` to what it gives, and have `stop`.
+kept=$top/out/unproved
 
-# rt try stops a run after so many seconds, and one that writes more than a megabyte.
-most_seconds=600
+# (tests have another compiler)
+compiler=${GUNTHARU_COMPILER:-$top/bin/lib/compile}
 
-# Runs a program on standard input. Its output is then in $room/output, its errors in $room/errors, its status in `ended`.
-# Fails where the run had no end of its own; $room/said has what rt said of it.
-capture() {
-  local program=$1
-  shift
-  # (rt interprets a program too, which takes longer: one step is enough of that)
-  (cd "$top/crates/$program" && exec rt try --steps 1 --seconds "$most_seconds" -- "$@") >"$room/output" 2>"$room/said"
-  [[ $(tail -n 1 "$room/said") =~ ^run=ended\ status=([0-9]+)\  ]] || return 1
-  ended=${BASH_REMATCH[1]}
-  # rt's own lines come last, in this order.
-  awk '
-    { lines[NR] = $0 }
-    function cut(head) { if (last && index(lines[last], head) == 1) last-- }
-    END {
-      last = NR
-      cut("run="); cut("races: "); cut("checked: "); cut("interpreter: ")
-      for (i = 1; i <= last; i++) print lines[i]
-    }' "$room/said" >"$room/errors"
+# How many programs of a name are kept.
+most_kept=8
+
+declare -A is_unproved=() path_of=()
+
+# The line that the kit has for `rt version`. (rt takes half a second to say it.)
+kit_line() {
+  local rt
+  rt=$(readlink -f "$(command -v rt)")
+  cat "${rt%/bin/rt}/KIT-ID" 2>/dev/null || rt version
 }
 
-# Says why a run had no end of its own, and ends with a status.
-explain() {
-  local last checked more='; the proved program has no such bound, and bin/build gives it'
-  last=$(tail -n 1 "$room/said")
-  checked=$(grep -a '^checked: ' "$room/said" | tail -n 1)
-  case "$last $checked" in
-    'run=no-answer '*': the program wrote more than '*)
-      stop 5 "$1 wrote more than a megabyte (1 MiB), which is all that an unproved run may write$more"
-      ;;
-    'run=no-answer '*': the program did not end within the time limit')
-      stop 5 "$1 had not ended after $most_seconds seconds, which is all that an unproved run may take$more"
-      ;;
-    'run=fault '* | 'run=no-answer '* | 'run=differ'*)
-      stop 5 "$1 did not come to an end of its own: ${checked#checked: }"
-      ;;
-    *)
-      tail -n 20 "$room/said" >&2
-      stop 4 "$1 could not be compiled, as the lines above say"
+# The sources that a program is compiled of, from the repository's folder. Specifications and tests are in no program.
+sources_of() {
+  local crate parts=()
+  while read -r crate _; do
+    parts+=("crates/$crate/src")
+  done < <(crates_below "$1")
+  printf '%s\n' crates.txt HANDLES bin/lib/compile bin/lib/bitcode.sh
+  find "${parts[@]}" -type f -name '*.rt' "${no_tests[@]}"
+}
+
+# Prints where the unproved program of a crate is kept: another place for other sources or another kit.
+place_of() {
+  local hash
+  hash=$(cd "$top" && { kit_line && sources_of "$1" | LC_ALL=C sort | xargs -d '\n' sha256sum; } 2>/dev/null | sha256sum)
+  echo "$kept/$1-${hash:0:32}"
+}
+
+# Finds out which of these programs are not proved, and says so: in two lines, or as the end where none may be run unproved.
+look_for() {
+  local it lack lacks=
+  for it; do
+    path_of[$it]=$(program_of "$it")
+    lack=$(lack_of "$it")
+    [ -n "$lack" ] || continue
+    is_unproved[$it]=yes
+    lacks=${lacks:+$lacks, and }"$it $lack"
+  done
+  [ -n "$lacks" ] || return 0
+  [ -z "$is_strict" ] || stop 4 "$lacks: bin/build proves and builds it"
+  command -v rt >/dev/null || stop 4 "$lacks, and there is no Rattle kit (rt) to run it unproved"
+  lacking=$lacks
+}
+
+# Says which programs are not proved.
+say_unproved() {
+  [ -n "${lacking-}" ] || return 0
+  cat >&2 <<END
+$tool: this $what does not come from a proved program: $lacking
+$tool: to get the proved program, run bin/build, which takes half an hour on four processors
+END
+}
+
+# Compiles a program to where it is kept, where no other run has done so meanwhile. Where a source has changed since it began,
+# or where it can't be kept, the program is for this run alone.
+compile() {
+  local name=$1 place=$2 begun=$SECONDS made=$room/$1
+  exec 8>"$kept/$name.lock"
+  flock 8
+  [ ! -x "$place" ] || return 0
+  rm -f "$kept/.$name-"*
+  "$compiler" "$name" "$made" >"$room/$name.said" 2>&1 || return
+  [ "$(place_of "$name")" = "$place" ] || return 0
+  cp "$made" "$kept/.${place##*/}" && mv "$kept/.${place##*/}" "$place" || return 0
+  echo $((SECONDS - begun)) >"$kept/$name.seconds"
+  find "$kept" -name "$name-*" -printf '%T@ %p\n' | sort -rn | cut -d' ' -f2- | tail -n "+$((most_kept + 1))" |
+    xargs -r -d '\n' rm -f
+}
+
+# Says what is compiled, and how long that took the last time: on a terminal with the seconds that have gone by since, until
+# the compilers have ended.
+say_compiling() {
+  local begun=$SECONDS it seconds last='' said='' line columns
+  for it in "${missing[@]}"; do
+    said=${said:+$said and }$it
+    { read -r seconds <"$kept/$it.seconds"; } 2>/dev/null || continue
+    last=$((seconds > ${last:-0} ? seconds : ${last:-0}))
+  done
+  said="compiling $said without proof"
+  if [ -z "$last" ]; then
+    said+=', which takes about two minutes'
+  else
+    said+="; the last time it took $last seconds"
+  fi
+  [ -t 2 ] || { echo "$tool: $said" >&2 && return; }
+  columns=$(tput cols 2>/dev/null || echo 80)
+  while [ -n "$(jobs -rp)" ]; do
+    line="$tool: $((SECONDS - begun)) s, $said"
+    printf '\r\033[K%s' "${line:0:columns-1}" >&2
+    sleep 0.5
+  done
+  printf '\r\033[K%s\n' "$tool: $((SECONDS - begun)) s, $said" >&2
+}
+
+# Has programs kept for this run alone where they can't be kept in the repository.
+choose_place() {
+  local it
+  ! { mkdir -p "$kept" 2>/dev/null && [ -w "$kept" ]; } || return 0
+  kept=$room/unproved
+  mkdir -p "$kept" || stop 4 "there is no place for programs: $kept"
+  for it in "${missing[@]}"; do
+    path_of[$it]=$kept/${path_of[$it]##*/}
+  done
+}
+
+# Compiles those of these programs that are not proved and not kept, side by side.
+compile_missing() {
+  local it missing=() compilers=()
+  for it; do
+    [ -n "${is_unproved[$it]-}" ] || continue
+    path_of[$it]=$(place_of "$it")
+    if [ -x "${path_of[$it]}" ]; then
+      # (the ones that were used last are kept)
+      touch -c "${path_of[$it]}" 2>/dev/null
+    else
+      missing+=("$it")
+    fi
+  done
+  [ ${#missing[@]} -gt 0 ] || return 0
+  choose_place
+  for it in "${missing[@]}"; do
+    compile "$it" "${path_of[$it]}" &
+    compilers+=($!)
+  done
+  say_compiling
+  for it in "${missing[@]}"; do
+    wait "${compilers[0]}" || { cat "$room/$it.said" >&2 && stop 4 "$it could not be compiled, as the lines above say"; }
+    compilers=("${compilers[@]:1}")
+    [ -x "${path_of[$it]}" ] || path_of[$it]=$room/$it
+  done
+}
+
+# Ends where an unproved program was ended by a check at run time, or by a bad access.
+stop_at_fault() {
+  case $2 in
+    132 | 133 | 134 | 135 | 136 | 139)
+      stop 5 "$1 met a fault (signal $(($2 - 128))): rt try in crates/$1 says where"
       ;;
   esac
-}
-
-# Runs a program on standard input, with its output, its errors and its status.
-run_unproved() {
-  capture "$@" || explain "$1"
-  cat "$room/errors" >&2
-  [ ! -s "$room/output" ] || cat "$room/output" 2>/dev/null || fail 'output failed'
-  return "$ended"
 }
