@@ -10,6 +10,7 @@ ghost use Rattle.gs_dials.specs.Dials.{AreWired, AtEach, IsClosed, IsExchanged, 
 use gs_base::PeerNo;
 use gs_link::{LinkRx, LinkTx, settle};
 use gs_plan::Dial;
+use gs_seats::take_last;
 use std::sync::Wait;
 
 /// Settles the links of all dials, and counts those that are whole: each of them, since each end

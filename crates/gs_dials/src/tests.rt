@@ -10,6 +10,7 @@ use super::*;
 use gs_base::PeerNo;
 use gs_link::{Item, LinkRx, LinkTx, SendRefused, Taken};
 use gs_plan::Dial;
+use gs_seats::{empty_lists, put_last, take_last};
 use std::alloc::{AllocError, Global};
 use std::sync::Wait;
 use std::test::*;

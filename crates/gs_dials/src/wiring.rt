@@ -6,6 +6,7 @@ ghost use Rattle.gs_dials.specs.Dials.{AreWired, AtEach, HasCapacity, IsFresh, I
 use gs_base::PeerNo;
 use gs_link::{LinkRx, LinkTx, open_link};
 use gs_plan::Dial;
+use gs_seats::{empty_lists, put_last};
 use std::alloc::{AllocError, Global};
 
 /// Opens two links for each dial, one there and one back, and gives each of so many peers its ends

@@ -1,7 +1,6 @@
 pub mod Beginning
 pub mod Crosses
 pub mod Exchanges
-pub mod FewDials
 pub mod Gathered
 pub mod Partners
 pub mod Seats

@@ -4,7 +4,7 @@ use Rattle.std.proofs.lemmas.List.Elements.{All-from_recursion}
 use Rattle.gs_plan.specs.declared.plan.Dial.{Dial}
 use Rattle.gs_dials.specs.Dials.{AreWired, IsExchanged, JoinsTwoOf}
 use Rattle.gs_seats.specs.Rounds.{IsRun, numbers, peer_no}
-use Rattle.gs_net.proofs.FewDials.{links_fit}
+use Rattle.gs_seats.proofs.FewDials.{links_fit}
 use Rattle.gs_seats.proofs.ByNumber.{as_long, as_many}
 use Rattle.gs_net.proofs.Gathered.{can_all, ends_as_many, ends_left, gave, lives_each, same_joints}
 use Rattle.gs_net.proofs.Together.{together}
