@@ -7,6 +7,8 @@
 . "$top/bin/lib/crates.sh"
 # shellcheck source=unproved.sh
 . "$top/bin/lib/unproved.sh"
+# shellcheck source=descriptions.sh
+. "$top/bin/lib/descriptions.sh"
 
 # What --help says of these options and of the statuses. The word says what is printed with status 0.
 print_options() {
@@ -164,6 +166,7 @@ print_words() {
 run_changed() {
   local programs=("$program") status=0
   open_input "${files[0]--}"
+  ! is_description "${files[0]--}" || expand "${files[0]}"
   [ ${#edits[@]} -eq 0 ] || programs=(gossip_edit "$program")
   look_for "${programs[@]}"
   if [ "${files[0]--}" = - ] && [ -t 0 ]; then
