@@ -10,6 +10,8 @@
 . "$top/bin/lib/guarded.sh"
 # shellcheck source=unproved.sh
 . "$top/bin/lib/unproved.sh"
+# shellcheck source=descriptions.sh
+. "$top/bin/lib/descriptions.sh"
 
 # What --help says of these options and of the statuses. The word says what is printed with status 0.
 print_options() {
@@ -140,11 +142,12 @@ cut_input() {
 
 # Whether the input is the scenario that is run. Else `prepare_scenario` makes it.
 is_as_it_comes() {
-  [ ${#edits[@]} -eq 0 ] && [ -z "$until" ]
+  [ ${#edits[@]} -eq 0 ] && [ -z "$until" ] && ! is_description "${files[0]--}"
 }
 
 # Makes the scenario that is run: a copy of the input, with the changes that the options make. It is standard input then.
 prepare_scenario() {
+  ! is_description "${files[0]--}" || expand "${files[0]}"
   keep_input
   [ ${#edits[@]} -eq 0 ] || change_input
   [ -z "$until" ] || cut_input

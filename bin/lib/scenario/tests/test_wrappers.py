@@ -1,0 +1,76 @@
+"""The commands that take a description in the place of a scenario: in a tree whose programs print what they are given."""
+import os
+import shutil
+import subprocess
+import tempfile
+import unittest
+
+from .common import CONDITIONS, PROGRAMS, TOP, called
+
+DESCRIPTION = """until = "5 s"
+[network]
+kind = "ring"
+[[topic]]
+name = "news"
+[[group]]
+prefix = "n"
+count = 4
+[[load]]
+peer = "n"
+every = "1 s"
+"""
+SHELL = "gossip_sim gossip_stats gossip_picture".split()
+
+
+class Wrappers(unittest.TestCase):
+    def setUp(self):
+        self.folder = tempfile.mkdtemp()
+        self.addCleanup(shutil.rmtree, self.folder)
+        os.mkdir(f"{self.folder}/bin")
+        for it in (*SHELL, "sweep", "scenario"):
+            shutil.copy(f"{TOP}/bin/{it}", f"{self.folder}/bin/{it}")
+        shutil.copytree(f"{TOP}/bin/lib", f"{self.folder}/bin/lib")
+        with open(f"{self.folder}/crates.txt", "w", encoding="utf-8") as file:
+            file.write("gossip_sim:\ngossip_stats:\ngossip_picture:\ngossip_edit:\n")
+        for it in (*SHELL, "gossip_edit"):
+            self.put_program(it, "#!/bin/sh\nexec cat\n")
+        for name, text in (("it.toml", DESCRIPTION), ("no.toml", DESCRIPTION.replace("ring", "rnig"))):
+            with open(f"{self.folder}/{name}", "w", encoding="utf-8") as file:
+                file.write(text)
+
+    def put_program(self, name, script):
+        path = f"{self.folder}/crates/{name}/out/{name}"
+        os.makedirs(os.path.dirname(path), exist_ok=True)
+        with open(path, "w", encoding="utf-8") as file:
+            file.write(script)
+        os.chmod(path, 0o755)
+
+    def run_in_tree(self, command, *words, stdin=b""):
+        words = [f"bin/{command}", *words]
+        ran = subprocess.run(words, cwd=self.folder, input=stdin, capture_output=True, check=False, env=CONDITIONS)
+        return ran.returncode, ran.stdout, ran.stderr.decode()
+
+    def test_a_description_is_made_into_a_scenario(self):
+        plain = called(f"{self.folder}/it.toml").stdout
+        for it in SHELL:
+            self.assertEqual(self.run_in_tree(it, "--proved", "it.toml"), (0, plain, ""), it)
+            self.assertEqual(self.run_in_tree(it, "--proved", "--seed", "2", "it.toml"), (0, plain, ""), it)
+
+    def test_a_description_that_is_refused(self):
+        why = 'scenario: no.toml:3: [network]: kind: "rnig" is not known here; the nearest is ring\n'
+        for it in SHELL:
+            self.assertEqual(self.run_in_tree(it, "--proved", "no.toml"), (1, b"", why), it)
+        self.assertEqual(self.run_in_tree("sweep", "no.toml"), (1, b"", why))
+
+    def test_a_plain_scenario_is_left_as_it_is(self):
+        with open(f"{self.folder}/plain.toml", "wb") as file:
+            file.write(b"# no [network]\nseed = 1\n")
+        for words in ([], ["-"], ["--seed", "2"], ["/dev/stdin"]):
+            self.assertEqual(self.run_in_tree("gossip_sim", "--proved", *words, stdin=b"[load]\n"), (0, b"[load]\n", ""))
+        self.assertEqual(self.run_in_tree("gossip_sim", "--proved", "plain.toml"), (0, b"# no [network]\nseed = 1\n", ""))
+
+    def test_a_sweep_of_a_description(self):
+        self.put_program("gossip_stats", f'#!/bin/sh\nexec {PROGRAMS["gossip_stats"]} "$@"\n')
+        ended = self.run_in_tree("sweep", "--columns", "status,publications", "it.toml")
+        # (one a second, from 0 to 5)
+        self.assertEqual(ended, (0, b"status,publications\n0,6\n", ""))

@@ -1,0 +1,111 @@
+"""What a description has come to so far: its peers, groups, topics, dials and lines."""
+from collections import namedtuple
+
+from .fault import Fault, no_such
+from .plain import MOST_BYTES, MOST_PEERS, MOST_RAW
+
+# The length of a round in milliseconds, the last round, and the seed of all choices.
+Setting = namedtuple("Setting", "round_ms rounds seed")
+# A message of the script: when, by whom and on which topic it is published.
+Published = namedtuple("Published", "at peer topic payload")
+
+
+class World:
+    """Peers are numbered in the order in which they are added, as in the plain scenario."""
+
+    def __init__(self, setting):
+        self.setting = setting
+        self.peers, self.groups, self.network, self.topics = {}, {}, [], {}
+        self.dials, self.subscribed, self.lines, self.published = {}, {}, [], []
+        self.payloads, self.size = set(), 0
+
+    def add_peer(self, path, table, is_in_network):
+        name = table["name"]
+        if name in self.peers or name in self.groups:
+            raise Fault(path, f'there is a peer or a group "{name}" already')
+        if len(self.peers) == MOST_PEERS:
+            raise Fault(path, f"a scenario has at most {MOST_PEERS} peers")
+        self.peers[name] = table
+        if is_in_network:
+            self.network.append(name)
+
+    def place(self, name):
+        return list(self.peers).index(name)
+
+    def join(self, dialling, dialled):
+        """Adds a dial, where the two are not joined yet. Whether it did."""
+        key = frozenset((dialling, dialled))
+        if key in self.dials or dialling == dialled:
+            return False
+        self.dials[key] = {"from": dialling, "to": dialled}
+        return True
+
+    def are_joined(self, one, other):
+        return frozenset((one, other)) in self.dials
+
+    def neighbours(self, name):
+        return [it for it in self.peers if self.are_joined(name, it)]
+
+    def members(self, name, fail):
+        """The peers of a name: those of a group, or one peer."""
+        if name in self.groups:
+            return self.groups[name]
+        if name in self.peers:
+            return [name]
+        return fail(no_such("peer and no group", name, [*self.groups, *self.peers]))
+
+    def named(self, fields, key):
+        """The peers that a key names, each once."""
+        names = fields.texts(key)
+        found = dict.fromkeys(it for name in names for it in self.members(name, lambda why: fields.fail(key, why)))
+        return list(found) or fields.fail(key, "a name at least must stand there")
+
+    def topic(self, fields, key="topic"):
+        """The topic that a key names. Left out, it is the only one."""
+        if not fields.has(key) and len(self.topics) == 1:
+            return next(iter(self.topics))
+        name = fields.text(key)
+        if name not in self.topics:
+            fields.fail(key, no_such("topic", name, list(self.topics)))
+        return name
+
+    def subscribe(self, path, at, peer, topic):
+        """Adds a subscription, and notes the first of a peer to a topic."""
+        self.subscribed[peer, topic] = min(at, self.subscribed.get((peer, topic), at))
+        self.add_line(path, {"at": at, "peer": peer, "what": "subscribe", "topic": topic})
+
+    def check_moment(self, fields, key, at):
+        """A moment, where the run has not ended before it."""
+        if at > self.setting.rounds:
+            fields.fail(key, f"it is later than the last round, {self.setting.rounds}")
+        return at
+
+    def add_line(self, path, line):
+        """Adds a line of the script, while the scenario still fits what the program reads."""
+        self.size += sum(len(key) + len(str(value)) + 5 for key, value in line.items())
+        if self.size > MOST_BYTES:
+            raise Fault(path, f"the scenario would have more than {MOST_BYTES} bytes, which is all that is read")
+        if line["at"] <= self.setting.rounds:
+            self.lines.append(line)
+
+    def publish(self, path, at, peer, topic, payload):
+        """Adds a publication. A payload may be published once: its SHA-256 is the message's identifier."""
+        if payload in self.payloads:
+            raise Fault(path, f"the payload {payload[:16].hex() or '-'} is published for the second time")
+        self.payloads.add(payload)
+        self.published.append(Published(at, peer, topic, payload))
+        self.add_line(path, {"at": at, "peer": peer, "what": "publish", "topic": topic, "hex": payload.hex()})
+
+    def begins_as(self, topic, payload):
+        """Which key of a topic a payload is judged by, `reject` or `ignore`; None where by none."""
+        for key, prefixes in self.topics[topic].items():
+            if any(payload.startswith(it) for it in prefixes):
+                return key
+        return None
+
+    def raw(self, path, at, peer, to, frames):
+        """Adds bytes that a peer puts on its link to a neighbour."""
+        if len(frames) > MOST_RAW:
+            raise Fault(path, f"{len(frames)} bytes would go out at once on a link, and a line may have at most {MOST_RAW}")
+        line = {"at": at, "peer": peer, "what": "raw", "to": to, "hex": frames.hex()}
+        self.add_line(path, line)
