@@ -143,6 +143,7 @@ arrived_fit dials r peers p (suc n) letters (before, last, earlier, is, mine) =
     both : (xs ys : List Letter) → LettersFit xs → LettersFit ys → LettersFit (xs ++ ys)
     both [] ys h k = k
     both (x ∷ xs) ys h k = (h.0, both xs ys h.1 k)
+
     by : (b : Bool) → DeliversIf b r (said_so_far peers p (peer_no n)) (peer_no n) last → LettersFit last
     by true delivers = delivers.fit
     by false none = subst LettersFit (sym none) tt

@@ -7,8 +7,8 @@ use Rattle.gs_plan.proofs.plan.Line.TheSendSync as Line
 use Rattle.gs_peer.proofs.outboxes.Outboxes.TheSendSync as Outboxes
 use Rattle.gs_peer.proofs.phase.Phase.TheSendSync as Phase
 use Rattle.gs_peer.proofs.player.Player.TheSendSync as Player
-use Rattle.gs_peer.specs.contracts.agenda.Agenda as Agenda
-use Rattle.gs_peer.specs.contracts.agenda.Agenda.TheInside as AgendaFields
+use Rattle.gs_player.specs.contracts.agenda.Agenda as Agenda
+use Rattle.gs_player.specs.contracts.agenda.Agenda.TheInside as AgendaFields
 use Rattle.gs_peer.specs.contracts.assignment.Assignment as Assignment
 use Rattle.gs_peer.specs.contracts.running.Running as Running
 use Rattle.gs_peer.specs.contracts.task.PeerTask as PeerTask
