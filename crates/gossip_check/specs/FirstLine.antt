@@ -19,6 +19,6 @@ shown_byte byte = if is_control byte then codes "\\x" ++ encode_lower (byte ∷ 
 abbrev pub shown : List ℕ → List ℕ
 shown text = flat_map shown_byte text
 
--- the number, and behind a space the place as it is shown, where there is one
+-- the number, and after a space the place as it is shown, where there is one
 abbrev pub first_line : ScenarioFault → List ℕ
 first_line fault = decimal (number_of fault) ++ spaced (option_map shown (place_of fault))

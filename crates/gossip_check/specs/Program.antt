@@ -35,7 +35,7 @@ pub record Accepts (input : Option (List ℕ)) (answer : List ℕ) : Type 0 wher
   pub scenario : IsScenario input plan
   pub text : IsAcceptance answer
 
--- it says the number and the place of the input's refusal, which is no want of memory
+-- it says the number and the place of the input's refusal, which is not out of memory
 pub record Refuses (input : Option (List ℕ)) (answer : List ℕ) : Type 0 where
   pub fault : ScenarioFault
   pub refused : IfSome input (λ bytes. IsRefusal bytes fault)

@@ -35,7 +35,7 @@ pub fn reason(alloc: Global, bytes: &[u8], fault: &ScenarioFault) -> Result<Stri
     }
 }
 
-/// Where bytes are no TOML, and why, as the reader of TOML tells it.
+/// Where bytes are no TOML, and why, as the reader of TOML says it.
 fn toml_reason(alloc: Global, bytes: &[u8]) -> Result<String, AllocError> {
     match toml::table_from_slice(alloc, bytes) {
         Ok(_) => String::from_str(alloc, "the scenario is no TOML\n"),

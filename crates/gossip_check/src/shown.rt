@@ -1,7 +1,7 @@
 //! What comes from a scenario, as it is shown in a sentence: it stays in its line whatever it holds.
 use std::fmt;
 
-/// How many characters of a text are shown. What stands behind them is left out.
+/// How many characters of a text are shown. What stands after them is left out.
 const MOST_SHOWN: usize = 60;
 
 /// A text between double quotes, as `"6"`.

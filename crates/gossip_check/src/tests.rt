@@ -91,7 +91,7 @@ fn parameters_are_refused_with_their_values_and_rules(rt: HostRuntime) -> Result
     answer_all(&rt, &PARAMS)
 }
 
-/// Checks that each of these keys of a table, which stand behind a line, is refused with its value and
+/// Checks that each of these keys of a table, which stand after a line, is refused with its value and
 /// with what that must be.
 fn refuse_all<T: AllocGlobal + Abort>(
     rt: &T,
@@ -117,7 +117,7 @@ fn each_parameter_is_refused_by_its_own_name(rt: HostRuntime) -> Result<(), Allo
 }
 
 /// Checks that a number which no parameter may have is refused at each of these keys of a table, which
-/// stand behind a line, with the key's own range.
+/// stand after a line, with the key's own range.
 fn bound_all<T: AllocGlobal + Abort>(
     rt: &T,
     line: &str,
@@ -209,7 +209,7 @@ fn an_input_that_fails_is_not_judged(rt: HostRuntime) {
     assert!(rt; ends(alloc, &mut input, 3, "", "input failed\n"));
 }
 
-/// Whether an output with so much room gets a front of an answer, and the failure is told.
+/// Whether an output with this much room gets a front of an answer, and the failure is reported.
 fn writes_front(alloc: Global, room: usize) -> bool {
     let answer = b"29 round_ms\n`round_ms`";
     let mut output = Narrow {

@@ -71,7 +71,7 @@ unfoldable pub with_key : List (List ℕ) → Data → Members → Option Member
 with_key [] value ms = None
 with_key (part ∷ path) value ms = changed_member part (with_path path value) ms
 
--- the items with a value set at the end of a path, of which the first part numbers one of them
+-- the items with a value set at the end of a path, whose first part numbers one of them
 unfoldable pub with_item : List (List ℕ) → Data → Items → Option Items
 with_item [] value ds = None
 with_item (part ∷ path) value ds = changed_item part (with_path path value) ds

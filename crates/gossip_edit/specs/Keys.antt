@@ -19,7 +19,7 @@ is_edit argument = nat_lt (position_or_len is_equals_sign argument) (length argu
 abbrev pub are_edits : List (List ℕ) → Bool
 are_edits arguments = not (length arguments == 0) && list_all is_edit arguments
 
--- what stands before the first equals sign, and behind it
+-- what stands before the first equals sign, and after it
 abbrev pub key_text : List ℕ → List ℕ
 key_text argument = before_first is_equals_sign argument
 
@@ -33,7 +33,7 @@ abbrev pub onto_first : ℕ → List (List ℕ) → List (List ℕ)
 onto_first byte [] = (byte ∷ []) ∷ []
 onto_first byte (part ∷ parts) = (byte ∷ part) ∷ parts
 
--- what stands before, between and behind the dots of a key
+-- what stands before, between and after the dots of a key
 abbrev pub path_of : List ℕ → List (List ℕ)
 path_of [] = [] ∷ []
 path_of (byte ∷ bytes) = if byte == 46 then [] ∷ path_of bytes else onto_first byte (path_of bytes)

@@ -1,4 +1,4 @@
--- What is left of a key behind a part.
+-- What is left of a key after a part.
 use Rattle.std.specs.Prelude.{ℕ, ◌+◌, ◌*◌, List, [], length, Option, Some, None}
 use Rattle.std.specs.Borrow.{Bor}
 use Rattle.gossip_edit.specs.Keys.{path_of}

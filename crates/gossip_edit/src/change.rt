@@ -16,7 +16,7 @@ const DEEPEST: u32 = 80;
 ///
 /// # Errors
 /// `InputFailed` where a read failed or the reads ran out, `Refused` with the first refusal, and
-/// `NoMemory`. The reader is then behind what was read.
+/// `NoMemory`. The reader then stands after what was read.
 pub(crate) fn changed<R: Read>(
     alloc: Global,
     arguments: &[String],

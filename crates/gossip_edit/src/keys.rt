@@ -29,7 +29,7 @@ fn is_edit(argument: &str) -> bool
     argument.split_once('=').is_some()
 }
 
-/// What stands before the first equals sign, and behind it.
+/// What stands before the first equals sign, and after it.
 pub(crate) fn key_and_value(argument: &str) -> (&str, &str)
     ensures key { result.0.now ≡ key_text argument.now }
     ensures value { result.1.now ≡ value_text argument.now }
@@ -54,7 +54,7 @@ pub(crate) fn is_key(text: &str) -> bool
     }
 }
 
-/// What stands before the first dot of a key, and what stands behind it, where there is one.
+/// What stands before the first dot of a key, and what stands after it, where there is one.
 pub(crate) fn first_part(key: &str) -> (&str, Option<&str>)
     ensures parts { path_of key.now ≡ result.0.now ∷ rest_of result.1 }
     ensures shorter { IfSome result.1 (λ rest. length rest.now < length key.now) }

@@ -28,7 +28,7 @@ fn main(rt: HostRuntime) -> ExitCode {
     ExitCode::from(status)
 }
 
-/// The arguments behind the program's name.
+/// The arguments after the program's name.
 fn arguments_of(rt: &HostRuntime) -> io::Result<Vec<String>> {
     let mut arguments = Vec::new(rt.alloc());
     for argument in env::args(rt)?.skip(1) {

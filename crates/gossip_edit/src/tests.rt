@@ -262,7 +262,7 @@ fn an_input_that_fails_is_not_changed(rt: HostRuntime) -> Result<(), AllocError>
     Ok(())
 }
 
-/// Whether an output with so much room gets a front of the changed scenario, and the failure is told.
+/// Whether an output with this much room gets a front of the changed scenario, and the failure is reported.
 fn writes_front(alloc: Global, room: usize) -> Result<bool, AllocError> {
     let text = b"a = 1\nb = 2\n";
     let arguments = arguments_of(alloc, "b=2")?;

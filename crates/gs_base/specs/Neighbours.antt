@@ -1,4 +1,4 @@
--- A neighbour of which nothing particular is said.
+-- A neighbour with nothing particular said about it.
 use Rattle.std.specs.Prelude.{pos, ℕ, false, List}
 use Rattle.gs_base.specs.declared.names.PeerNo.{PeerNo}
 use Rattle.gs_base.specs.declared.neighbour.Neighbour.{Neighbour}

@@ -21,7 +21,7 @@ most_identifiers = 5_000
 abbrev pub empty_rpc : Rpc
 empty_rpc = record { subs = []; publish = []; control = None }
 
--- control messages of which there are none
+-- no control messages
 abbrev pub empty_control : Control
 empty_control = record { ihave = []; iwant = []; graft = []; prune = [] }
 
@@ -31,7 +31,7 @@ announcement subscribes topic = record empty_rpc {
   subs = record { subscribe = Some subscribes; topic = Some topic } ∷ [];
 }
 
--- a message with a payload and a topic alone, as StrictNoSign has it
+-- a message with only a payload and a topic, as StrictNoSign has it
 abbrev pub unsigned : Topic → List ℕ → Message
 unsigned topic payload = record {
   origin = None;
@@ -84,14 +84,14 @@ offering topic ids = record empty_rpc {
 abbrev pub requesting : List (List ℕ) → Rpc
 requesting ids = record empty_rpc { control = Some (record empty_control { iwant = record { ids = ids } ∷ [] }) }
 
--- a neighbour is told that it was grafted (gossipsub v1.0, "Control messages", GRAFT)
+-- an RPC that says that its receiver was grafted (gossipsub v1.0, "Control messages", GRAFT)
 abbrev pub grafting : Topic → Rpc
 grafting topic = record empty_rpc {
   control = Some (record empty_control { graft = record { topic = Some topic } ∷ [] });
 }
 
--- a neighbour is told that it was pruned, and for how many seconds it is not to come back (gossipsub v1.1, "Prune
--- Backoff")
+-- an RPC that says that its receiver was pruned, and for how many seconds it is not to come back (gossipsub v1.1,
+-- "Prune Backoff")
 abbrev pub pruning : Topic → ℕ → Rpc
 pruning topic seconds = record empty_rpc {
   control

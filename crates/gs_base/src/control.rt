@@ -12,7 +12,7 @@ use std::alloc::AllocError;
 pub struct IHave {
     /// The topic that they were published on (`topicID`).
     pub topic: Option<Topic>,
-    /// Their identifiers (`messageIDs`): any bytes, of which a router passes over those that are not 32.
+    /// Their identifiers (`messageIDs`): any bytes. A router passes over those that are not 32 bytes.
     pub ids: Seq<Bytes>,
 }
 

@@ -1,4 +1,4 @@
-//! Clones that equal what they were made from: `Clone` alone lets each type say what its copies are.
+//! Clones that equal what they were made from: `Clone` by itself lets each type say what its copies are.
 ghost use Rattle.std.specs.Prelude.{◌≡◌, IfOk};
 ghost use Rattle.std.proofs.Common.{ap₂};
 

@@ -1,8 +1,8 @@
 use crate::names::{Millis, MsgId, PeerNo, Topic};
 use crate::verdict::Verdict;
 
-/// What an entry leaves to be remembered. Counters of scores are raised by these marks alone (gossipsub
-/// v1.1, Peer Scoring), and meshes, fanouts and backoffs are made of them (v1.0, Router State).
+/// What an entry leaves to be remembered. Only these marks raise counters of scores (gossipsub v1.1, Peer
+/// Scoring). Meshes, fanouts and backoffs are made of them (v1.0, Router State).
 #[derive(Debug, Drop, PartialEq, Eq)]
 pub enum Mark {
     /// A message with this identifier was seen, and found to be so.
@@ -24,7 +24,7 @@ pub enum Mark {
     Answered(PeerNo, MsgId),
     /// An offer of a neighbour counted against its budget (`max_ihave`).
     Offered(PeerNo),
-    /// So many identifiers were asked of a neighbour, which count against its budget (`max_ihave_ids`).
+    /// This many identifiers were asked of a neighbour. They count against its budget (`max_ihave_ids`).
     Asked(PeerNo, u32),
     /// A neighbour came into the mesh of this topic, whoever grafted whom. From then on its time there counts (P1).
     Grafted(PeerNo, Topic),

@@ -86,7 +86,7 @@ impl Hash for MsgId {
 }
 
 impl MsgId {
-    /// The SHA-256 of the payload alone: neither the topic nor the author counts, so one payload on two topics is one
+    /// The SHA-256 of the payload only: neither the topic nor the author counts, so one payload on two topics is one
     /// message.
     pub fn of(payload: &[u8]) -> MsgId
         ensures { result ≡ message_id payload.now }

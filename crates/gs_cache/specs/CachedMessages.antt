@@ -42,7 +42,7 @@ abbrev pub one_less : MsgId → PeerNo → MsgId → PeerNo → Option ℕ → O
 one_less id peer other q before =
     if same_id id other && same_peer peer q then option_map (λ n. n - 1) before else before
 
--- how many answers are left to a neighbour, by those that are left to some, where each gets so many
+-- how many answers are left to a neighbour, by those that are left to some, where each gets `answers`
 abbrev pub left_to : ℕ → PeerNo → List (PeerNo × ℕ) → ℕ
 left_to answers peer left = unwrap_or (lookup (same_peer peer) left) answers
 
@@ -91,7 +91,7 @@ abbrev pub is_announced : ℕ → Topic → Option Cached → Bool
 is_announced gossip topic None = false
 is_announced gossip topic (Some c) = nat_lt c.age gossip && same_topic c.topic topic
 
--- the last ones of a list, so many at most
+-- the last ones of a list, at most n
 abbrev pub last_of : {A : Type 0} → ℕ → List A → List A
 last_of n xs = drop (length xs - n) xs
 

@@ -73,7 +73,7 @@ is_listed newer w topic id = is_on topic (kept_at w id) && not (list_any (λ n. 
 abbrev pub listed : List Window → Window → Topic → List MsgId
 listed newer w topic = filter (is_listed newer w topic) (ids_of w)
 
--- of these windows, the first of which is so old, the oldest first
+-- what is announced of these windows, whose first has this age, the oldest first
 abbrev pub announced_in : ℕ → ℕ → Topic → List Window → List MsgId
 announced_in age gossip topic [] = []
 announced_in age gossip topic (w ∷ ws) =

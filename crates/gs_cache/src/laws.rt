@@ -1,4 +1,4 @@
-//! Laws of what caches answer. Each holds of its definitions alone, and its function does nothing.
+//! Laws of what caches answer. Each holds by its definitions only, and its function does nothing.
 ghost use Rattle.std.specs.Prelude.{◌≡◌};
 ghost use Rattle.gs_cache.specs.CachedMessages.{most_announced};
 ghost use Rattle.gs_cache.specs.Sightings.{StepsNeedWhatCounts};

@@ -17,7 +17,7 @@ use std::marker::Model;
 /// What a neighbour that asks for a message gets.
 #[derive(Debug, Drop)]
 pub enum Answer<'a> {
-    /// The message, of which the neighbour has answers left.
+    /// The message: the neighbour has answers left for it.
     Given(&'a SharedPart<Message>),
     /// Nothing: it got the message as often as it may since the last put.
     Spent,

@@ -20,7 +20,7 @@ use std::marker::Model;
 /// A message counts for less than the time after its last mark. Look-ups may be asked about any moment, and
 /// are promised from the last mark's moment on; what no longer counts then may have been forgotten.
 ///
-/// Sightings lie in two buckets by time, the newer of which takes marks for the time, and then becomes the
+/// Sightings lie in two buckets by time. The newer one takes marks for the time, and then becomes the
 /// older one. A bucket is dropped whole, once its last mark is the time ago or more. So at most the messages
 /// of twice the time are held, however long a run is.
 #[derive(Drop)]

@@ -11,7 +11,7 @@ use Rattle.gs_ends.specs.Ends.{Joint, linked}
 use Rattle.gs_ends.specs.Pairs.{Pair, accepted_for, joints_of, taken_from}
 use Rattle.gs_seats.specs.ListsByPeer.{list_at}
 
--- a dial joins two different ones of so many peers
+-- a dial joins two different ones of this many peers
 abbrev pub JoinsTwoOf : ℕ → Dial → Type 0
 JoinsTwoOf peers dial = (dial.from.0 < peers) × (dial.to.0 < peers) × (same_peer dial.from dial.to ≡ false)
 
@@ -45,7 +45,7 @@ pub record AreWired (dials : List Dial) (lists : List (Vec Pair Global)) : Type 
 abbrev pub IsFresh : Pair → Type 0
 IsFresh pair = (pair.1.accepted ≡ []) × (pair.2.taken ≡ [])
 
--- in each of its links so many slots may wait
+-- in each of its links this many slots may wait
 abbrev pub HasCapacity : ℕ → Pair → Type 0
 HasCapacity n pair = (pair.1.capacity ≡ n) × (pair.2.capacity ≡ n)
 

@@ -1,4 +1,4 @@
-//! The links of all dials of a plan: opened before a run, and settled behind it.
+//! The links of all dials of a plan: opened before a run, and settled after it.
 #![tactic(auto)]
 
 mod settlement;

@@ -9,7 +9,7 @@ use gs_plan::Dial;
 use gs_seats::{empty_lists, put_last};
 use std::alloc::{AllocError, Global};
 
-/// Opens two links for each dial, one there and one back, and gives each of so many peers its ends
+/// Opens two links for each dial, one there and one back, and gives each of `peers` peers its ends
 /// in the order of the dials: each neighbour, with the end that sends to it and the end that takes
 /// from it. In each link up to `capacity` slots wait, 1 to 1,024. A dial joins two different peers.
 ///

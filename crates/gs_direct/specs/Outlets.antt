@@ -81,11 +81,11 @@ pub record Tells (event : Event) (old new : Outlet) : Type 0 where
 
 -- ---- entries
 
--- what goes to the neighbour behind an entry: nothing more where it is closed
+-- what goes to the neighbour after an entry: nothing more where it is closed
 abbrev pub goes_behind : Outlet → Entry → Outgoing → Outgoing
 goes_behind o e goes = if o.is_open then behind_entry codec o.to goes e else goes
 
--- The neighbour is told what an entry says.
+-- The neighbour is sent what an entry says.
 pub record Says (e : Entry) (old new : Outlet) : Type 0 where
   pub to : new.to ≡ old.to
   pub is_over : new.is_over ≡ old.is_over
@@ -93,7 +93,7 @@ pub record Says (e : Entry) (old new : Outlet) : Type 0 where
   pub carries : (goes : Outgoing) (earlier : List Rpc)
       → Carries old goes earlier → Carries new (goes_behind old e goes) earlier
 
--- The neighbour is told what these entries say, the first one first, behind any trace.
+-- The neighbour is sent what these entries say, the first one first, after any trace.
 pub record SaysAll (entries : List Entry) (old new : Outlet) : Type 0 where
   pub to : new.to ≡ old.to
   pub is_over : new.is_over ≡ old.is_over
@@ -108,7 +108,7 @@ pub record IsSilent (e : Entry) : Type 0 where
   pub sends : e.sends ≡ []
   pub cuts : (q : PeerNo) → is_cut q e.event ≡ false
 
--- The neighbours are told what a trace says behind the so many entries that came first.
+-- The neighbours are sent what a trace says after its first `told` entries.
 abbrev pub SaysSince : ℕ → Entries → List Outlet → List Outlet → Type 0
 SaysSince told L old new =
     (K : Entries) (entries : List Entry)
@@ -116,7 +116,8 @@ SaysSince told L old new =
 
 -- ---- the end of a round
 
--- How what is said ends, where that is not told yet: bytes that spell no RPC are a fault, and so is a close within a frame.
+-- How what is said ends, where that is not sent yet. Bytes that spell no RPC are a fault, and so is a close within a
+-- frame.
 abbrev pub ending_of : Outlet → Option Ending
 ending_of o =
     if o.is_over then None
@@ -131,7 +132,7 @@ letters_of from o =
     if nat_eq (length o.rpcs.items) 0 && is_none (ending_of o) then []
     else record { from = from; rpcs = o.rpcs; ending = ending_of o } ∷ []
 
--- the letter is handed over, and how it ends is told once
+-- the letter is handed over, and its ending is sent once
 pub record IsHandedOver (old new : Outlet) : Type 0 where
   pub to : new.to ≡ old.to
   pub is_open : new.is_open ≡ old.is_open
@@ -144,6 +145,6 @@ pub record IsHandedOver (old new : Outlet) : Type 0 where
 abbrev pub given : PeerNo → List Outlet → PeerNo → List Letter
 given from outlets p = flat_map (λ (o : Outlet). if same_peer o.to p then letters_of from o else []) outlets
 
--- it is to a peer of so many
+-- it is to one of `count` peers
 abbrev pub Within : ℕ → Outlet → Type 0
 Within count o = o.to.0 < count

@@ -29,8 +29,8 @@ pub record IsNewPeer (plan : Plan) (p : PeerNo) (peer : Peer) : Type 0 where
   pub refused : peer.refused.items ≡ []
   pub outlets : AllZip IsNew (neighbours plan p) peer.outlets.items
 
--- It hears these letters and does what else there is to do in the round, some lines are refused, and its neighbours are told
--- what its trace says since.
+-- It hears these letters and does what else there is to do in the round. Some lines are refused, and its neighbours are
+-- sent what its trace says since.
 pub record PlaysRound (r : ℕ) (now : Millis) (letters : List Letter) (old new : Peer) : Type 0 where
   pub number : new.number ≡ old.number
   pub agenda : new.agenda ≡ old.agenda

@@ -41,7 +41,7 @@ trace_at peers q = unwrap_or (option_map (λ (peer : Peer). peer.router.trace) (
 abbrev pub said_so_far : List Peer → PeerNo → PeerNo → Said
 said_so_far peers p q = out codec (trace_at peers q) p
 
--- in one of the first so many rounds, what there is to hear of this word ends: in a fault, or by a close
+-- what there is to hear of this word ends in one of the first r rounds: in a fault, or by a close
 pub record HasEnded (r : ℕ) (w : Said) : Type 0 where
   pub round : ℕ
   pub early : round ≤ r
@@ -59,12 +59,12 @@ pub record IsReady (r : ℕ) (L : Entries) (o : Outlet) : Type 0 where
   pub stands : StandsAfter r (out codec L o.to) o.is_open
   pub earlier : List Rpc
   pub read : HasRead longest_body (bytes_of (out codec L o.to)) (reader_of o) earlier
-  -- that it ends is told only where it has ended
+  -- its ending is sent only where it has ended
   pub told : o.is_over ≡ true → HasEnded r (out codec L o.to)
 
 -- ---- a peer
 
--- After so many rounds a peer has kept them, on what the others said so far, by its words.
+-- After r rounds a peer has kept them, on what the others said so far, by its words.
 pub record IsAt (plan : Plan) (r : ℕ) (peers : List Peer) (p : PeerNo) (peer : Peer) : Type 0 where
   pub number : peer.number ≡ p
   pub agenda : peer.agenda ≡ lines_in plan p
@@ -78,8 +78,8 @@ pub record IsAt (plan : Plan) (r : ℕ) (peers : List Peer) (p : PeerNo) (peer :
 
 -- ---- what is on its way
 
--- These letters of q say what there is to hear of its round r, where it says this. Where how that ends was told before, it is
--- not told again.
+-- These letters of q say what there is to hear of its round r, where it says this. An ending that was sent before is
+-- not sent again.
 pub record Delivers (r : ℕ) (w : Said) (q : PeerNo) (letters : List Letter) : Type 0 where
   pub inbound : Inbound
   pub comes : ComesIn (suc r) w inbound
@@ -93,7 +93,7 @@ abbrev pub DeliversIf : Bool → ℕ → Said → PeerNo → List Letter → Typ
 DeliversIf true r w q letters = Delivers r w q letters
 DeliversIf false r w q letters = letters ≡ []
 
--- the letters for p of the first so many peers, one peer after the other
+-- the letters for p of the given number of first peers, one peer after the other
 abbrev pub ArriveFrom : List Dial → ℕ → List Peer → PeerNo → ℕ → List Letter → Type 0
 ArriveFrom dials r peers p zero letters = letters ≡ []
 ArriveFrom dials r peers p (suc n) letters =
@@ -117,7 +117,7 @@ IsRoomFor plan mail = (length mail ≡ length plan.peers) × IsEmpty mail
 
 -- ---- all of them
 
--- After so many rounds the peers are these, and the letters of the last one are on their way.
+-- After r rounds the peers are these, and the letters of the last one are on their way.
 pub record AreAt (plan : Plan) (r : ℕ) (peers : List Peer) (mail : List (Vec Letter Global)) : Type 0 where
   pub each : AllZip (IsAt plan r peers) (numbers plan) peers
   pub boxes : length mail ≡ length plan.peers
@@ -142,8 +142,9 @@ pub record TurnsAt (r : ℕ) (now : Millis) (olds news : List Peer) (mail : List
   pub is : slice_get news n ≡ Some new
   pub turns : Turns r now (list_at mail n) old new gives
 
--- so did the first so many, and this is what they gave to p
-abbrev pub GivenTo : ℕ → Millis → List Peer → List Peer → List (Vec Letter Global) → PeerNo → ℕ → List Letter → Type 0
+-- so did the given number of first peers, and this is what they gave to p
+abbrev pub GivenTo : ℕ → Millis → (olds news : List Peer) → List (Vec Letter Global)
+    → PeerNo → ℕ → List Letter → Type 0
 GivenTo r now olds news mail p zero letters = letters ≡ []
 GivenTo r now olds news mail p (suc n) letters =
     (before : List Letter) × (gives : PeerNo → List Letter)
@@ -151,7 +152,7 @@ GivenTo r now olds news mail p (suc n) letters =
     × TurnsAt r now olds news mail n gives
     × (letters ≡ before ++ gives p)
 
--- The first so many peers have played a round, and the others have not.
+-- The first n peers have played a round, and the others have not.
 pub record HavePlayed (r : ℕ) (now : Millis) (olds : List Peer) (mail : List (Vec Letter Global))
     (n : ℕ) (news : List Peer) (mail' next : List (Vec Letter Global)) : Type 0 where
   pub many : length news ≡ length olds
@@ -165,15 +166,17 @@ pub record HavePlayed (r : ℕ) (now : Millis) (olds : List Peer) (mail : List (
 -- ---- the end
 
 -- The peer of this number has shut down.
-pub record ClosesAt (now : Millis) (olds : List Peer) (mail : List (Vec Letter Global)) (n : ℕ) (news : List Peer) : Type 0 where
+pub record ClosesAt (now : Millis) (olds : List Peer) (mail : List (Vec Letter Global))
+    (n : ℕ) (news : List Peer) : Type 0 where
   pub old : Peer
   pub new : Peer
   pub was : slice_get olds n ≡ Some old
   pub is : slice_get news n ≡ Some new
   pub closes_so : Closes now (list_at mail n) old new
 
--- The first so many peers have shut down, and the others have not.
-pub record HaveClosed (now : Millis) (olds : List Peer) (mail : List (Vec Letter Global)) (n : ℕ) (news : List Peer) : Type 0 where
+-- The first n peers have shut down, and the others have not.
+pub record HaveClosed (now : Millis) (olds : List Peer) (mail : List (Vec Letter Global))
+    (n : ℕ) (news : List Peer) : Type 0 where
   pub many : length news ≡ length olds
   pub left : (k : ℕ) → n ≤ k → slice_get news k ≡ slice_get olds k
   pub done : (k : ℕ) → k < n → ClosesAt now olds mail k news

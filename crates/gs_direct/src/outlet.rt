@@ -31,7 +31,7 @@ pub struct Outlet {
     pub reader: Option<LinkReader>,
     /// The RPCs that are out in this round, in order.
     pub rpcs: Vec<Shared<Rpc>>,
-    /// Whether the neighbour was told how this ends.
+    /// Whether the neighbour was sent the ending.
     pub is_over: bool,
 }
 
@@ -50,7 +50,7 @@ impl Outlet {
         }
     }
 
-    /// Tells the neighbour what an entry says.
+    /// Says to the neighbour what an entry says.
     ///
     /// # Errors
     /// `AllocError` where there was no memory for it.
@@ -109,7 +109,7 @@ impl Outlet {
         }
     }
 
-    /// Says what an event says, where the neighbour is told more.
+    /// Says what an event says, where more may be said to the neighbour.
     fn tell_event(&mut self, alloc: Global, event: &Event) -> Result<(), AllocError>
         requires { self.old.is_open ≡ true }
         ensures { OnOk result (Tells event.now self.old self.new) }
@@ -170,8 +170,8 @@ impl Outlet {
         Ok(())
     }
 
-    /// How what is said ends, where the neighbour was not told that yet: bytes that spell no RPC are a fault, and so is a close
-    /// within a frame.
+    /// How what is said ends, where the neighbour was not sent the ending yet. Bytes that spell no RPC are a fault, and
+    /// so is a close within a frame.
     fn ending(&self) -> Option<Ending>
         ensures { result ≡ ending_of self.now }
     {

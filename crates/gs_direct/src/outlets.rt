@@ -29,7 +29,7 @@ pub fn outlets_of(alloc: Global, neighbours: &[Neighbour]) -> Result<Vec<Outlet>
     Ok(outlets)
 }
 
-/// Tells the neighbours what a router's trace says behind so many entries.
+/// Says to the neighbours what a router's trace says after its first `told` entries.
 ///
 /// # Errors
 /// `AllocError` where there was no memory for it.
@@ -47,7 +47,7 @@ pub fn tell_since(
     Ok(())
 }
 
-/// Tells the neighbours what these entries say, the first one first.
+/// Says to the neighbours what these entries say, the first one first.
 fn tell_all(
     alloc: Global,
     outlets: &mut [Outlet],
@@ -62,7 +62,7 @@ fn tell_all(
     Ok(())
 }
 
-/// Tells the neighbours what an entry says.
+/// Says to the neighbours what an entry says.
 fn tell(alloc: Global, outlets: &mut [Outlet], entry: &StoredEntry) -> Result<(), AllocError>
     requires { SendsWritten entry.now.sends }
     ensures { OnOk result (AllZip (Says entry.now) outlets.old outlets.new) }

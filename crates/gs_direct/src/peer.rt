@@ -117,7 +117,7 @@ impl Peer {
         hand_over(alloc, &mut self.outlets, self.number, mail)
     }
 
-    /// Shuts down behind the last round, and hears what still comes.
+    /// Shuts down after the last round, and hears what still comes.
     ///
     /// # Errors
     /// `AllocError` where there was no memory.

@@ -30,7 +30,7 @@ pub struct Post {
 }
 
 impl Post {
-    /// With nothing on its way, for so many peers.
+    /// With nothing on its way, for this many peers.
     ///
     /// # Errors
     /// `AllocError` where there was no memory for it.

@@ -71,7 +71,7 @@ IsFinished before after (Ok x) = (closes before ≡ false) × (after ≡ before 
 IsFinished before after (Err close.Closed) = (closes before ≡ true) × (after ≡ before)
 IsFinished before after (Err close.Full) = (closes before ≡ false) × (after ≡ before)
 
--- what came first was taken: an item, nothing, or the close, behind which nothing comes
+-- what came first was taken: an item, nothing, or the close, after which nothing comes
 abbrev pub IsTaken : List Slot → List Slot → Taken → Type 0
 IsTaken before after (took.Got item) = (closes before ≡ false) × (after ≡ before ++ slot_of item ∷ [])
 IsTaken before after took.Empty = (closes before ≡ false) × (after ≡ before)
@@ -84,7 +84,7 @@ abbrev pub slots_of : List (PeerNo × Slot) → PeerNo → List Slot
 slots_of [] q = []
 slots_of (x ∷ xs) q = if same_peer x.0 q then x.1 ∷ slots_of xs q else slots_of xs q
 
--- the lists grew by at most so many slots, over all neighbours together
+-- the lists grew by at most this many slots, over all neighbours together
 abbrev pub GrewBy : ℕ → (PeerNo → List Slot) → (PeerNo → List Slot) → Type 0
 GrewBy most before after =
     (more : List (PeerNo × Slot)) × (length more ≤ most) × ((q : PeerNo) → after q ≡ before q ++ slots_of more q)

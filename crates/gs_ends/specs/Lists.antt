@@ -17,7 +17,7 @@ use Rattle.gs_ends.specs.declared.ends.Ends.{Ghosts as EndsOf}
 abbrev pub no_link : LinkId
 no_link = record { words = 0; slots = 0; views_name = 0; atom = 0; block = 0; offset = 0; slot_names = [] }
 
--- items as they lie in a link, and behind them the close where there is one
+-- items as they lie in a link, and after them the close where there is one
 abbrev pub as_slots : List Item → Bool → List Slot
 as_slots [] closed = if closed then Close ∷ [] else []
 as_slots (item ∷ items) closed = slot_of item ∷ as_slots items closed
@@ -83,7 +83,7 @@ list_ends = record { joints = joints_in_lists; accepted = accepted_for; taken = 
 
 -- ---- which puts are refused for their count
 
--- one more is counted: whether it is the last of `every`, and how many stand behind the last such one
+-- one more is counted: whether it is the last of `every`, and how many stand after the last such one
 abbrev pub counted : ℕ → ℕ → Bool × ℕ
 counted every count =
     if nat_eq every 0 then (false, count) else if nat_le every (count + 1) then (true, 0) else (false, count + 1)

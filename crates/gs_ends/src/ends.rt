@@ -35,7 +35,7 @@ pub trait Ends: Drop {
         ensures others { OthersStay to (accepted self.old) (accepted self.new) }
         ensures taken { (q : PeerNoValue) → taken self.new q ≡ taken self.old q };
 
-    /// Puts the close at the back of what goes to a neighbour. Nothing is accepted behind it.
+    /// Puts the close at the back of what goes to a neighbour. Nothing is accepted after it.
     ///
     /// # Errors
     /// `Closed` where the end is closed, and `Full` where there is no room; nothing is accepted.
@@ -47,7 +47,7 @@ pub trait Ends: Drop {
         ensures taken { (q : PeerNoValue) → taken self.new q ≡ taken self.old q };
 
     /// Takes what came first from a neighbour, of what was not taken. It answers `Empty` where
-    /// nothing waits, which is never so where it is settled what comes. Behind the close it answers
+    /// nothing waits, which is never so where it is settled what comes. After the close it answers
     /// `Closed` again.
     fn take(&mut self, from: PeerNo) -> Taken
         requires known { has (joints self.old) from ≡ true }

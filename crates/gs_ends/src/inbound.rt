@@ -11,7 +11,7 @@ use std::collections::VecDeque;
 use std::marker::Model;
 use std::snapshot::Snapshot;
 
-/// What comes from a neighbour. Which items those were at first is known in proofs alone.
+/// What comes from a neighbour. Only proofs know which items those were at first.
 #[derive(Drop)]
 pub(crate) struct Inbound {
     left: VecDeque<Item>,
@@ -47,7 +47,7 @@ impl Inbound {
         }
     }
 
-    /// Takes the first item of those that are left. Behind the last one it takes the close, and answers
+    /// Takes the first item of those that are left. After the last one it takes the close, and answers
     /// that again and again.
     pub(crate) fn take(&mut self) -> Taken
         ensures given { self.new.given ≡ self.old.given }

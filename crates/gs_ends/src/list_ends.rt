@@ -23,7 +23,7 @@ use std::marker::Model;
 /// Ends that are lists in memory, by neighbour: items that come from it, and those that were
 /// accepted for it. Contracts see them as the list of the neighbours, each with an end that sends to
 /// it, the items that were given for it and how many slots were taken of those. They belong to no
-/// link, and can refuse every so many puts.
+/// link, and can refuse every n-th put.
 #[derive(Drop)]
 pub struct ListEnds {
     list: Vec<(PeerNo, Outbound, Inbound)>,
@@ -45,8 +45,8 @@ impl ListEnds {
     /// neighbour stands twice there, and each item may be sent. Before any call nothing was accepted or
     /// taken.
     ///
-    /// To each neighbour `room` slots are accepted, of which the close takes one. The puts of items
-    /// and of closes to ends that have not accepted the close are counted, over all neighbours
+    /// To each neighbour `room` slots are accepted, and the close takes one of them. The puts of
+    /// items and of closes to ends that have not accepted the close are counted, over all neighbours
     /// together: `Full` is what comes past the room, and what has a count that is a multiple of
     /// `every`, where that is not 0.
     ///

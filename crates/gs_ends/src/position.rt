@@ -19,8 +19,8 @@ pub(crate) fn position_of<T, U>(list: &[(PeerNo, T, U)], who: PeerNo) -> usize
     unreachable!()
 }
 
-/// The same in a list in which no neighbour stands twice. It looks first where one was found last, and behind that: a peer
-/// goes through its neighbours in their order.
+/// The same in a list in which no neighbour stands twice. It looks first where one was found last, and after that: a
+/// peer goes through its neighbours in their order.
 pub(crate) fn position_near<T, U>(list: &[(PeerNo, T, U)], last: usize, who: PeerNo) -> usize
     requires known { list_any (is_of who) list.now ≡ true }
     requires apart { IsDistinct same_peer (peers_in list.now) }

@@ -1,4 +1,4 @@
--- The cells of tables of figures, and which table tells which numbers.
+-- The cells of tables of figures, and which table shows which numbers.
 use Rattle.std.specs.Prelude.{ℕ, nat_lt, ◌||◌, ◌==◌, Bool, if◌then◌else◌, List, [], ◌∷◌, ◌++◌, codes, decimal, length, take}
 use Rattle.std.specs.List.{flat_map}
 use Rattle.hex.specs.Hex.{encode_lower}
@@ -20,7 +20,7 @@ title Sent = codes "What each peer sent\n"
 title Standing = codes "Scores and meshes at the end\n"
 title Rounds = codes "What happened in each round\n"
 
--- the table that tells a column's numbers; that of the rounds tells numbers of others, too
+-- the table that shows a column's numbers; that of the rounds shows numbers of others, too
 abbrev pub table_of : Column → Table
 table_of RpcsHeard = Heard
 table_of BytesHeard = Heard
@@ -103,8 +103,8 @@ header_text Round = codes "round"
 
 -- ---- cells
 
--- A byte of a name. What is no printable ASCII is told by its number, so that no name breaks a line. So is a backslash,
--- so that two cells are alike only where the names are.
+-- A byte of a name. What is no printable ASCII is given by its number, so that no name breaks a line. So is a
+-- backslash, so that two cells are alike only where the names are.
 abbrev pub printable : ℕ → List ℕ
 printable byte =
     if nat_lt byte 32 || (nat_lt 126 byte || byte == 92) then codes "\\x" ++ encode_lower (byte ∷ []) else byte ∷ []

@@ -18,11 +18,11 @@ use Rattle.gs_figures.specs.declared.fate.Fate.TheVariants.{Accepted, Duplicate,
 
 -- ---- sums
 
--- the greatest number that is told
+-- the greatest number that is given
 abbrev pub most_told : ℕ
 most_told = 18_446_744_073_709_551_615
 
--- a sum, as far as it can be told
+-- a sum, at most the greatest number that is given
 abbrev pub plus : ℕ → ℕ → ℕ
 plus x y = min (x + y) most_told
 

@@ -39,18 +39,18 @@ lane_closed l = record (lane_cut l) { is_open = false }
 abbrev pub lane_raw : Lane → List ℕ → Lane
 lane_raw l bytes = record l { bytes = plus l.bytes (length bytes) }
 
--- behind an event
+-- after an event
 abbrev pub lane_event : PeerNo → Lane → Event → Lane
 lane_event q l (RoundEnd r) = lane_cut l
 lane_event q l Shut = lane_closed l
 lane_event q l (Raw p bytes) = if same_peer p q then lane_raw (lane_cut l) bytes else l
 lane_event q l other = if is_lost q (lost other) then lane_closed l else l
 
--- behind an entry
+-- after an entry
 abbrev pub lane_behind : PeerNo → Lane → Entry → Lane
 lane_behind q l e =
     if l.is_open then lane_event q (fold lane_sent l (sent_to q (fitting e).sends)) e.event else l
 
--- behind these entries, the oldest one first
+-- after these entries, the oldest one first
 abbrev pub lane_in : PeerNo → List Entry → Lane
 lane_in q entries = fold (lane_behind q) new_lane entries

@@ -17,12 +17,12 @@ use Rattle.gs_figures.specs.Counts.{most_told, plus}
 
 -- ---- frames
 
--- the RPCs that go out, each as one frame, while these are sent behind what is gathered: one more does not fit with them
+-- the RPCs that go out, each as one frame, while these are sent after what is gathered: one more does not fit with them
 abbrev pub let_out : Option Rpc → List Rpc → List Rpc
 let_out held [] = []
 let_out held (v ∷ vs) = (gather codec held v).0 ++ let_out (gather codec held v).1 vs
 
--- the RPC that goes out at a cut: what is gathered behind a trace and what an entry sends
+-- the RPC that goes out at a cut: what is gathered after a trace and what an entry sends
 abbrev pub cut_off : Entries → PeerNo → Entry → List Rpc
 cut_off L q e =
     if is_cut q e.event
@@ -50,7 +50,7 @@ fitting e = record e { sends = filter (λ x. codec.fits x.1) e.sends }
 
 -- ---- links
 
--- what goes from one peer to another, as far as it can be told
+-- what goes from one peer to another, each number at most the greatest that is given
 abbrev pub link_figures : PeerNo × Finished → PeerNo → LinkFigures
 link_figures x q = record {
   from = x.0;

@@ -18,11 +18,11 @@ use Rattle.gs_figures.specs.Values.{peer_columns, peer_values, publication_colum
 
 -- ---- rows
 
--- behind cells of names, those of values that stand in the table
+-- the cells of values that stand in the table, after cells of names
 abbrev pub values_row : Table → List (List ℕ) → List (Column × Value) → List (List ℕ)
 values_row table names values = names ++ flat_map (cells_in table) values
 
--- behind labels, the headers of columns that stand in the table
+-- the headers of columns that stand in the table, after labels
 abbrev pub header_row : Table → List (List ℕ) → List Column → List (List ℕ)
 header_row table labels columns = labels ++ flat_map (headers_in table) columns
 
@@ -53,7 +53,7 @@ sum_rows Sent counts = sum_row Sent counts ∷ []
 
 -- ---- tables
 
--- a table under its title; one that has a header alone tells so
+-- a table under its title; one that has only a header says so
 abbrev pub titled : Table → ℕ → List (List (List ℕ)) → List ℕ
 titled table names rows = title table ++ (if nat_lt (length rows) 2 then codes "none\n" else table_text names rows)
 
@@ -66,7 +66,7 @@ abbrev pub peer_rows : Table → Plan → Figures → List (List (List ℕ))
 peer_rows table plan f =
     (header_row table (codes "peer" ∷ []) peer_columns ∷ map (peer_row table plan) f.peers) ++ sum_rows table f.sum
 
--- a table of the peers, behind an empty line
+-- a table of the peers, after an empty line
 abbrev pub peers_text : Table → Plan → Figures → List ℕ
 peers_text table plan f = codes "\n" ++ titled table 1 (peer_rows table plan f)
 

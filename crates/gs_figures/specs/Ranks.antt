@@ -16,7 +16,7 @@ IsNotBelow n (m ∷ ms) = n ≤ m
 abbrev pub ascending : List ℕ → List ℕ
 ascending ns = fold (λ before n. placed n before) [] ns
 
--- Which of so many ascending numbers stands at a part in a hundred: the last of that part, rounded up, and the first at
+-- Which of `count` ascending numbers stands at a part in a hundred: the last of that part, rounded up, and the first at
 -- least. The first has rank 1.
 abbrev pub rank : ℕ → ℕ → ℕ
 rank percent count = max 1 ((count * percent + 99) / 100)

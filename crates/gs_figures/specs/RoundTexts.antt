@@ -11,7 +11,7 @@ use Rattle.gs_figures.specs.Values.{column_name, round_columns, round_values}
 
 -- ---- a row
 
--- what stands ahead of the first number of a row: in JSON the name of its column
+-- what stands before the first number of a row: in JSON the name of its column
 abbrev pub lead_of : Form → Column → List ℕ
 lead_of Csv column = []
 lead_of Json column = codes "\"" ++ column_name column ++ codes "\":"
@@ -19,7 +19,7 @@ lead_of Json column = codes "\"" ++ column_name column ++ codes "\":"
 abbrev pub lead_text : Form → Column × Value → List ℕ
 lead_text form x = lead_of form x.0 ++ value_text form x.1
 
--- numbers, of which the first has no comma ahead of it
+-- numbers; the first has no comma before it
 abbrev pub listed_values : Form → List (Column × Value) → List ℕ
 listed_values form [] = []
 listed_values form (x ∷ xs) = lead_text form x ++ numbers_text form xs
@@ -33,7 +33,7 @@ round_row form f = listed_values form (round_values f) ++ row_ends form
 
 -- ---- all rows
 
--- what begins the first row, and each one behind it
+-- what begins the first row, and each one after it
 abbrev pub first_begins : Form → List ℕ
 first_begins Csv = codes "\n"
 first_begins Json = codes "\n{"
@@ -49,7 +49,7 @@ abbrev pub rounds_rows : Form → List RoundFigures → List ℕ
 rounds_rows form [] = []
 rounds_rows form (f ∷ rounds) = first_begins form ++ round_row form f ++ later_rows form rounds
 
--- the columns of a header, of which the first has no comma ahead of it
+-- the columns of a header; the first has no comma before it
 abbrev pub listed_columns : List Column → List ℕ
 listed_columns [] = []
 listed_columns (column ∷ columns) = column_name column ++ flat_map column_text columns

@@ -36,11 +36,11 @@ put_member t q (x ∷ xs) =
     then by_order (nat_cmp x.1.0 q.0) (x ∷ put_member t q xs) (x ∷ xs) ((t, q) ∷ x ∷ xs)
     else x ∷ put_member t q xs
 
--- it stands behind another, which is of another topic or has a lower number
+-- it comes after another, which is of another topic or has a lower number
 abbrev pub stands_behind : Topic → PeerNo → Topic × PeerNo → Bool
 stands_behind t q x = not (same_topic x.0 t) || nat_lt x.1.0 q.0
 
--- it stands behind none of these, as far as the first of them says
+-- it comes after none of these, as far as the first of them says
 abbrev pub is_place : Topic → PeerNo → List (Topic × PeerNo) → Bool
 is_place t q [] = true
 is_place t q (x ∷ xs) = not (stands_behind t q x)
@@ -68,7 +68,7 @@ members_after (marks.Unfanned q t) before = before
 members_after (marks.Backoff q t end) before = before
 members_after (marks.Published t) before = before
 
--- the members of all meshes behind a trace, each with its topic
+-- the members of all meshes after a trace, each with its topic
 abbrev pub members : Entries → List (Topic × PeerNo)
 members [] = []
 members (e ∷ L) = after_marks members_after e.marks (members L)
@@ -110,7 +110,7 @@ ends_round Shut = false
 abbrev pub mesh_shares : ℕ → List (Topic × PeerNo) → List Topic → List (ℕ × Share)
 mesh_shares r ms topics = map (λ t. (r, shares.Mesh (members_in ms t))) topics
 
--- What an entry adds to a round, where the peer is subscribed to these topics behind it, and their meshes have these
+-- What an entry adds to a round, where the peer is subscribed to these topics after it, and their meshes have these
 -- members: what was delivered and what was heard, and where it ends the round, the size of each mesh.
 abbrev pub entry_shares : ℕ → List (Topic × PeerNo) → List Topic → Entry → List (ℕ × Share)
 entry_shares r ms topics e =
@@ -126,7 +126,7 @@ trace_shares round_ms (e ∷ L) =
 
 -- ---- what it adds to a link
 
--- how many bytes a trace says to a neighbour, as far as that can be told
+-- how many bytes a trace says to a neighbour, at most the greatest number that is given
 abbrev pub said_to : PeerNo → Entries → ℕ
 said_to q L = min (length (bytes_of (out codec (map fitting L) q))) most_told
 
@@ -191,7 +191,7 @@ all_rounds plan report = map (round_figures plan report) (range_with_len 0 (plan
 
 -- ---- a table with a row for each round
 
--- The row of a place with what an entry adds. What lies behind the last row is added to none.
+-- The row of a place with what an entry adds. What lies after the last row is added to none.
 abbrev pub put_at : List RoundFigures → ℕ → Option RoundFigures → Share → List RoundFigures
 put_at rows r None s = rows
 put_at rows r (Some row) s = slice_set rows r (with_share row s)

@@ -5,7 +5,7 @@ use Rattle.gs_rules.specs.declared.trace.Entry.{Entry}
 use Rattle.gs_figures.specs.declared.counts.Counts.{Counts}
 use Rattle.gs_figures.specs.Counts.{counts_in, counts_of, most_told}
 
--- one number of what these entries count for is its sum over them, as far as that can be told
+-- one number of what these entries count for is its sum over them, or the greatest that is given
 abbrev pub IsSum : (Counts → ℕ) → List Entry → Type 0
 IsSum number entries = number (counts_in entries) ≡ min (sum_by (λ e. number (counts_of e)) entries) most_told
 

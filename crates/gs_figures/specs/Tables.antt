@@ -31,11 +31,11 @@ width_at layout column = unwrap_or (slice_get layout.widths column) 0
 abbrev pub spaces : ℕ → List ℕ
 spaces n = repeat n (codes " ")
 
--- what stands ahead of a cell: nothing at a line's begin, and two spaces between columns
+-- what stands before a cell: nothing at a line's begin, and two spaces between columns
 abbrev pub gap : ℕ → List ℕ
 gap column = if column == 0 then [] else codes "  "
 
--- a cell that stands to the left of its column; behind the last one of a line is no space
+-- a cell that stands to the left of its column; no space follows the last one of a line
 abbrev pub to_the_left : ℕ → Bool → List ℕ → List ℕ
 to_the_left width is_last cell = if is_last then cell else cell ++ spaces (width - length cell)
 
@@ -52,7 +52,7 @@ cell_text layout place cell =
 
 -- ---- rows
 
--- the place of a column in a line of so many
+-- the place of a column in a line of `count` columns
 abbrev pub place_in : ℕ → ℕ → Place
 place_in count column = record { column = column; is_last = column + 1 == count }
 
@@ -60,7 +60,7 @@ abbrev pub row_text : Layout → List (List ℕ) → List ℕ
 row_text layout row =
     flat_map (λ x. cell_text layout (place_in (length row) x.0) x.1) (enumerate_from 0 row) ++ codes "\n"
 
--- how a table is laid out whose first columns, so many, are of names
+-- how a table is laid out whose first `names` columns are of names
 abbrev pub layout_of : ℕ → List (List ℕ) → List (List (List ℕ)) → Layout
 layout_of names header rows = record { widths = widths header rows; names = names }
 

@@ -32,7 +32,7 @@ value_text form (Count n) = decimal n
 value_text form (Whole z) = signed z
 value_text form Missing = missing_text form
 
--- what stands ahead of a number: a comma, and in JSON the name of its column
+-- what stands before a number: a comma, and in JSON the name of its column
 abbrev pub ahead_of : Form → Column → List ℕ
 ahead_of Csv column = codes ","
 ahead_of Json column = codes ",\"" ++ column_name column ++ codes "\":"
@@ -45,7 +45,7 @@ numbers_text form values = flat_map (number_text form) values
 
 -- ---- names
 
--- A byte of a text within quotes. What would end the text or its line is told by its number, as JSON has it, in CSV too.
+-- A byte of a text in quotes. What would end the text or its line is given by its number, as JSON has it, in CSV too.
 abbrev pub escaped : ℕ → List ℕ
 escaped byte =
     if nat_lt byte 32 || (byte == 34 || byte == 92) then codes "\\u00" ++ encode_lower (byte ∷ []) else byte ∷ []
@@ -53,7 +53,7 @@ escaped byte =
 abbrev pub quoted : List ℕ → List ℕ
 quoted name = codes "\"" ++ flat_map escaped name ++ codes "\""
 
--- what stands ahead of a name: in JSON its label
+-- what stands before a name: in JSON its label
 abbrev pub label_text : Form → List ℕ → List ℕ
 label_text Csv label = []
 label_text Json label = codes "\"" ++ label ++ codes "\":"

@@ -149,7 +149,7 @@ fn file_all(alloc: Global, all: &[Appearance]) -> Result<IndexMap<Said, Vec<Arri
     Ok(filed)
 }
 
-/// Files one behind those that say the same.
+/// Files one after those that say the same.
 fn file(
     alloc: Global,
     filed: &mut IndexMap<Said, Vec<Arrival>>,

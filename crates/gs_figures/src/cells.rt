@@ -1,4 +1,4 @@
-//! The cells of tables of figures, and which table tells which numbers.
+//! The cells of tables of figures, and which table shows which numbers.
 ghost use Rattle.std.specs.Prelude.{◌≡◌, ◌++◌, codes, IfOk, OnOk};
 ghost use Rattle.std.specs.List.{flat_map};
 ghost use Rattle.hex.specs.Hex.{encode_lower};
@@ -39,7 +39,7 @@ pub(crate) fn title(table: Table) -> &'static str
     }
 }
 
-/// The table that tells a column's numbers. That of the rounds tells numbers of others, too.
+/// The table that shows a column's numbers. That of the rounds shows numbers of others, too.
 fn table_of(column: Column) -> Table
     ensures { result ≡ table_of column }
 {
@@ -241,7 +241,7 @@ pub(crate) fn payload_cell(alloc: Global, payload: &[u8]) -> Result<Cell, AllocE
     cell_of(alloc, hex::encode(alloc, payload)?.as_bytes())
 }
 
-/// The cell of a payload that goes on behind a front.
+/// The cell of a payload that goes on after a front.
 fn front_cell(alloc: Global, front: &[u8]) -> Result<Cell, AllocError>
     ensures { IfOk result (λ cell. cell ≡ encode_lower front.now ++ codes "..") }
 {

@@ -32,7 +32,7 @@ pub struct Fates {
     pub invalid: u64,
 }
 
-/// How often something happened at a peer, or at several. A number that no `u64` can tell is told as the greatest.
+/// How often something happened at a peer, or at several. A number that no `u64` holds is given as the greatest.
 #[derive(Clone, Copy, Debug, PartialEq, Eq)]
 pub struct Counts {
     /// RPCs that came of neighbours.
@@ -45,7 +45,7 @@ pub struct Counts {
     pub fates: Fates,
     /// RPCs that went out to neighbours, each as one frame: what is sent to one in a round is gathered.
     pub rpcs_sent: u64,
-    /// Bytes that went out to neighbours: those of frames, with the lengths ahead of them, and those of the script as
+    /// Bytes that went out to neighbours: those of frames, with the lengths before them, and those of the script as
     /// they are.
     pub bytes_sent: u64,
     /// Parts that were sent, once for each neighbour that they went to.

@@ -39,7 +39,7 @@ pub fn figures_of(alloc: Global, plan: &Plan, report: &Report) -> Result<Figures
     })
 }
 
-/// The figures of the peers. What goes over their links is let go behind them.
+/// The figures of the peers. What goes over their links is let go after them.
 fn peers_of(alloc: Global, plan: &Plan, report: &Report) -> Result<Seq<PeerFigures>, AllocError>
     ensures { IfOk result (λ peers. peers
         ≡ all_figures (all_links plan.now.dials report.now.peers.items) report.now.peers.items) }

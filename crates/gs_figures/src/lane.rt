@@ -143,7 +143,7 @@ impl Lane {
         }
     }
 
-    /// Counts bytes as they are, behind what is gathered, if they go to the neighbour.
+    /// Counts bytes as they are, after what is gathered, if they go to the neighbour.
     fn put_raw(&mut self, alloc: Global, is_for: bool, bytes: &[u8]) -> Result<(), AllocError>
         ensures { OnOk result (self.new ≡ (if is_for then lane_raw (lane_cut self.old) bytes.now else self.old)) }
     {

@@ -22,12 +22,12 @@ ghost use Rattle.gs_figures.specs.declared.peers.PeerFigures.{PeerFigures as Pee
 ghost use Rattle.gs_figures.specs.declared.publications.PublicationFigures.{PublicationFigures as PublicationFiguresValue};
 ghost use Rattle.gs_figures.specs.declared.rounds.RoundFigures.{RoundFigures as RoundFiguresValue};
 
-/// The topics whose meshes are told of a peer are those that its trace has as joined.
+/// The topics whose meshes are reported of a peer are those that its trace has as joined.
 pub fn subscribed_topics_are_joined()
     ensures { (t : TopicValue) (L : Entries) → list_any (same_topic t) (subscribed L) ≡ joined L t }
 {}
 
-/// Each number of what entries count for together is the sum of it over the entries, or the greatest that is told.
+/// Each number of what entries count for together is the sum of it over the entries, or the greatest that is given.
 pub fn counts_are_sums()
     ensures { (entries : List EntryValue) → AreSums entries }
 {}

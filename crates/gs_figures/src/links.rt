@@ -9,14 +9,14 @@ use gs_plan::{Dial, are_joined};
 use gs_report::Finished;
 use std::alloc::{AllocError, Global};
 
-/// What goes from one peer to a neighbour. A number that no `u64` can tell is told as the greatest.
+/// What goes from one peer to a neighbour. A number that no `u64` holds is given as the greatest.
 #[derive(Clone, Copy, Debug, PartialEq, Eq)]
 pub struct LinkFigures {
     pub from: PeerNo,
     pub to: PeerNo,
     /// Frames, each of the RPCs that were gathered for it.
     pub rpcs: u64,
-    /// Bytes: those of frames, with the lengths ahead of them, and those that the peer puts there as they are.
+    /// Bytes: those of frames, with the lengths before them, and those that the peer puts there as they are.
     pub bytes: u64,
 }
 

@@ -90,7 +90,7 @@ fn put_member(
     Ok(())
 }
 
-/// How many stand ahead of the first one that a member of a topic's mesh does not stand behind.
+/// How many stand before the first one that a member of a topic's mesh does not come after.
 fn place_of(members: &[(Topic, PeerNo)], topic: &Topic, peer: PeerNo) -> usize
     ensures within { result ≤ length members.now }
     ensures place { put_member topic.now peer members.now
@@ -104,7 +104,7 @@ fn place_of(members: &[(Topic, PeerNo)], topic: &Topic, peer: PeerNo) -> usize
     place
 }
 
-/// Whether a member of a topic's mesh stands behind another.
+/// Whether a member of a topic's mesh comes after another.
 fn stands_behind(member: &(Topic, PeerNo), topic: &Topic, peer: PeerNo) -> bool
     ensures { result ≡ stands_behind topic.now peer member.now }
 {

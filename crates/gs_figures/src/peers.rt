@@ -140,7 +140,7 @@ pub(crate) fn members_in(members: &[(Topic, PeerNo)], topic: &Topic) -> u64
     members.iter().filter(|member| member.0 == *topic).count() as u64
 }
 
-/// The topics that a peer is subscribed to behind these entries.
+/// The topics that a peer is subscribed to after these entries.
 fn subscribed(alloc: Global, entries: &[StoredEntry]) -> Result<Vec<Topic>, AllocError>
     ensures { IfOk result (λ topics. topics.items ≡ subscribed (reverse entries.now)) }
 {

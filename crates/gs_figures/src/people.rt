@@ -48,7 +48,7 @@ fn push_reach(
     push_titled(alloc, text, Table::Reach, 3, rows.as_slice())
 }
 
-/// Adds a table of the peers, behind an empty line.
+/// Adds a table of the peers, after an empty line.
 fn push_peers(
     alloc: Global,
     text: &mut Vec<u8>,
@@ -80,7 +80,7 @@ pub(crate) fn push_titled(
     push_table(alloc, text, names, rows)
 }
 
-/// The rows of the publications, behind their header.
+/// The rows of the publications, after their header.
 fn reach_rows(alloc: Global, plan: &Plan, figures: &Figures) -> Result<Seq<Row>, AllocError>
     ensures { IfOk result (λ rows. rows ≡ reach_rows plan.now figures.now) }
 {
@@ -104,7 +104,7 @@ fn push_publications(
     Ok(())
 }
 
-/// The rows of the peers, behind their header and ahead of the sums.
+/// The rows of the peers, after their header and before the sums.
 fn peer_rows(
     alloc: Global,
     table: Table,

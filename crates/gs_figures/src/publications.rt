@@ -88,7 +88,7 @@ fn publication_figures(
     Ok(figures)
 }
 
-/// In how many rounds what was published at a moment came to each of these, ascending. A round lasts so many
+/// In how many rounds what was published at a moment came to each of these, ascending. A round lasts `round_ms`
 /// milliseconds, and one at least.
 ///
 /// # Errors

@@ -70,7 +70,7 @@ pub(crate) fn place(numbers: &mut Vec<u64>, number: u64) -> Result<(), AllocErro
     Ok(())
 }
 
-/// How many of these numbers stand ahead of the first one that isn't below a number.
+/// How many of these numbers stand before the first one that isn't below a number.
 fn place_of(numbers: &[u64], number: u64) -> usize
     ensures within { result ≤ length numbers.now }
     ensures place { placed number numbers.now ≡ take result numbers.now ++ placed number (drop result numbers.now) }

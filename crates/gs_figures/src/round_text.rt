@@ -27,7 +27,7 @@ pub fn rounds_text(
     Ok(text)
 }
 
-/// Adds what stands ahead of all rows.
+/// Adds what stands before all rows.
 fn push_begin(alloc: Global, text: &mut Vec<u8>, form: Form) -> Result<(), AllocError>
     ensures { OnOk result (text.new.items ≡ text.old.items ++ rounds_begin form) }
 {
@@ -53,7 +53,7 @@ fn push_listed(text: &mut Vec<u8>, columns: &[Column]) -> Result<(), AllocError>
     }
 }
 
-/// Adds what stands behind all rows.
+/// Adds what stands after all rows.
 fn push_close(text: &mut Vec<u8>, form: Form) -> Result<(), AllocError>
     ensures { OnOk result (text.new.items ≡ text.old.items ++ rounds_close form) }
 {
@@ -81,7 +81,7 @@ fn push_rows(
     }
 }
 
-/// Adds the rows behind the first one.
+/// Adds the rows after the first one.
 fn push_later(
     alloc: Global,
     text: &mut Vec<u8>,
@@ -169,7 +169,7 @@ fn push_lead(
     push_value(alloc, text, form, &value.1)
 }
 
-/// Adds what stands ahead of the first number of a row.
+/// Adds what stands before the first number of a row.
 fn push_lead_name(text: &mut Vec<u8>, form: Form, column: Column) -> Result<(), AllocError>
     ensures { OnOk result (text.new.items ≡ text.old.items ++ lead_of form column) }
 {

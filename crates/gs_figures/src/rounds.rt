@@ -10,8 +10,8 @@ use gs_plan::{Plan, are_joined};
 use gs_report::{Finished, Report};
 use std::alloc::{AllocError, Global};
 
-/// What happened in a round, at all peers: what those entries say whose moment lies in it. A number that no `u64` can tell
-/// is told as the greatest.
+/// What happened in a round, at all peers: what those entries say whose moment lies in it. A number that no `u64` holds
+/// is given as the greatest.
 #[derive(Clone, Copy, Debug, PartialEq, Eq)]
 pub struct RoundFigures {
     /// Its number. The first round is 0.
@@ -24,14 +24,14 @@ pub struct RoundFigures {
     pub accepted: u64,
     /// Those of them that came again, or on a topic that the peer is not subscribed to.
     pub duplicates: u64,
-    /// Bytes that went out over all links: those of frames, with the lengths ahead of them, and those that peers put
+    /// Bytes that went out over all links: those of frames, with the lengths before them, and those that peers put
     /// there as they are.
     pub bytes: u64,
     /// How many members the smallest and the largest mesh of all peers' topics had when the peers ended the round.
     pub members: Option<Span>,
 }
 
-/// What happened in each round of a run, from round 0 to the last one of the plan. What lies behind that is in none.
+/// What happened in each round of a run, from round 0 to the last one of the plan. What lies after that is in none.
 ///
 /// # Errors
 /// `AllocError` where there was no memory for them.

@@ -65,7 +65,7 @@ fn round_at(round_ms: u64, at: Millis) -> u64
     at.0 / round_ms.max(1)
 }
 
-/// Adds what an entry adds, with the meshes behind it.
+/// Adds what an entry adds, with the meshes after it.
 fn push_entry(
     all: &mut Vec<(u64, Share)>,
     round: u64,

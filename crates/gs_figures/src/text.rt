@@ -16,7 +16,7 @@ use gs_plan::Plan;
 use gs_report::name_of;
 use std::alloc::{AllocError, Global};
 
-/// How figures are told.
+/// How figures are written.
 #[derive(Clone, Copy, Debug, PartialEq, Eq)]
 pub enum Form {
     /// Two tables with a header each: of publications, and of peers with a last row of sums.
@@ -98,7 +98,7 @@ fn push_peers(
     Ok(())
 }
 
-/// Adds what stands ahead of the publications.
+/// Adds what stands before the publications.
 fn push_publication_header(alloc: Global, text: &mut Vec<u8>, form: Form) -> Result<(), AllocError>
     ensures { OnOk result (text.new.items ≡ text.old.items ++ publication_header form) }
 {
@@ -121,7 +121,7 @@ fn push_labels(text: &mut Vec<u8>) -> Result<(), AllocError>
     text.extend_from_slice(b"topic,payload,publisher")
 }
 
-/// Adds what stands ahead of the peers.
+/// Adds what stands before the peers.
 fn push_peer_header(alloc: Global, text: &mut Vec<u8>, form: Form) -> Result<(), AllocError>
     ensures { OnOk result (text.new.items ≡ text.old.items ++ peer_header form) }
 {
@@ -336,7 +336,7 @@ fn push_number(
     push_value(alloc, text, form, &value.1)
 }
 
-/// Adds what stands ahead of a number.
+/// Adds what stands before a number.
 fn push_ahead(text: &mut Vec<u8>, form: Form, column: Column) -> Result<(), AllocError>
     ensures { OnOk result (text.new.items ≡ text.old.items ++ ahead_of form column) }
 {

@@ -18,12 +18,12 @@ use Rattle.gs_rules.specs.Rounds.{Seat, Phase, Playing, Closing, Plays, AfterRou
 
 -- ---- words that are heard alike
 
--- what is said in each of the first so many rounds, the last of these first; behind a close each round holds the close alone
+-- what is said in each of the first r rounds, the last of these first; after a close each round holds only the close
 abbrev pub first_rounds : ℕ → Said → List Said
 first_rounds zero w = []
 first_rounds (suc r) w = said_in r w ∷ first_rounds r w
 
--- Two words are alike to a peer in a phase. In round r their first r rounds are the same, and behind the last round the
+-- Two words are alike to a peer in a phase. In round r their first r rounds are the same, and after the last round the
 -- whole words are.
 abbrev pub AreHeardAlike : Phase → Said → Said → Type 0
 AreHeardAlike (Playing r) v w = first_rounds r v ≡ first_rounds r w
@@ -42,7 +42,7 @@ module _ {S : Type 0} (word : S → ℕ) (after : S → S) where
   LegalByWords p first L = (last : S) × LegalOn (exact word after) p first [] L last
 
   -- Where words make the choices, the trace before a phase, and what the neighbours said as far as the peer hears it
-  -- there, fix the trace behind the phase and the lines that are refused in it.
+  -- there, fix the trace after the phase and the lines that are refused in it.
   abbrev pub APhaseIsFixed : Type 0
   APhaseIsFixed =
       (seat : Seat) (first : S) (phase : Phase) (said other : PeerNo → Said) (before L M : Entries)
@@ -56,7 +56,7 @@ module _ {S : Type 0} (word : S → ℕ) (after : S → S) where
 
 -- ---- what fixes what a peer says
 
--- By the end of its first rounds a peer has said all that it says in them, whatever it does behind them.
+-- By the end of its first rounds a peer has said all that it says in them, whatever it does after them.
 abbrev pub RoundsAreSaidByTheirEnd : Type 0
 RoundsAreSaidByTheirEnd =
     (seat : Seat) (said : PeerNo → Said) (r : ℕ) (L : Entries) (later : List Entry) (refused : List RefusedLine)

@@ -1,5 +1,5 @@
 //! Laws of whole runs: one plan has one report, whatever the number of workers, the capacity of links and the schedule. Each
-//! law holds of its definitions alone, and its function does nothing.
+//! law holds of its definitions only, and its function does nothing.
 #![tactic(auto)]
 
 ghost use Rattle.gs_laws.specs.Fixed.{APhaseIsFixed, AllIsSaidByTheEnd, RoundsAreSaidByTheirEnd};
@@ -8,8 +8,9 @@ ghost use Rattle.gs_laws.specs.Scenarios.{TextsAreOne};
 
 use gs_params::Words;
 
-/// Where words make the choices, what a peer did before a phase of its life, and what its neighbours said as far as it hears
-/// that there, fix what it does there and which lines it refuses. A phase is a round, or what comes behind the last one.
+/// Where words make the choices, what a peer did before a phase of its life, and what its neighbours said as far as it
+/// hears that there, fix what it does there and which lines it refuses. A phase is a round, or what comes after the
+/// last one.
 pub fn what_was_said_fixes_a_phase<W: Words>()
     ensures { APhaseIsFixed W.word W.after }
 {}

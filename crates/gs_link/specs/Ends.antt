@@ -82,6 +82,6 @@ abbrev pub take_found_closed : Taken → Bool
 take_found_closed took.Closed = true
 take_found_closed other = false
 
--- what was taken, with the close behind it
+-- what was taken, with the close after it
 abbrev pub with_close : List Slot → List Slot
 with_close slots = if closes slots then slots else slots ++ Close ∷ []

@@ -1,4 +1,4 @@
--- The rule of a link, and the eight moves that it allows: atomic steps on its queue, or on its passes alone.
+-- The rule of a link, and the eight moves that it allows: atomic steps on its queue, or only on its passes.
 use Rattle.std.specs.Prelude.{◌≡◌, ℕ, Bool, true, false, List, [], ◌∷◌, ◌++◌}
 use mathlib.Core.Option.{some}
 use lib.ListN.{get_elem?}
@@ -27,7 +27,7 @@ InOrder waiting accounts =
     × ((pass : ℕ) (v : Account) → get_elem? accounts pass ≡ some v → Fits sender taker accepted taken pass v)
 
 -- ---- the eight moves
--- (beside `FindsFull` the queue tells that its capacity waits, beside `FindsEmpty` that nothing does)
+-- (beside `FindsFull` the queue says that its capacity waits, beside `FindsEmpty` that nothing does)
 
 -- Make: a new link has one pass, which may send and take, and nothing was accepted or taken.
 abbrev pub made : Account

@@ -12,7 +12,7 @@ closes (Piece bytes ∷ slots) = closes slots
 closes (Round r ∷ slots) = closes slots
 closes (Close ∷ slots) = true
 
--- nothing stands behind a close, so it stands once at most
+-- nothing stands after a close, so it stands at most once
 abbrev pub ClosesLast : List Slot → Type 0
 ClosesLast slots = (before behind : List Slot) → slots ≡ before ++ Close ∷ behind → behind ≡ []
 

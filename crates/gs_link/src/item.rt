@@ -15,7 +15,7 @@ pub const LONGEST_PIECE: usize = 64;
 pub enum Item {
     /// 1 to 64 bytes. Frames may be cut into pieces, and joined in one, in any way.
     Piece(Bytes),
-    /// The end of a round, which stands behind all bytes that were sent in it.
+    /// The end of a round, which stands after all bytes that were sent in it.
     Round(u64),
 }
 
@@ -27,7 +27,7 @@ pub enum Slot {
     Piece(Bytes),
     /// The end of this round: the bytes that were sent in it stand before it.
     Round(u64),
-    /// The close: nothing stands behind it.
+    /// The close: nothing stands after it.
     Close,
 }
 

@@ -1,7 +1,7 @@
-//! Laws of what a link says. Each holds of its definitions alone, and its function does nothing.
+//! Laws of what a link says. Each holds of its definitions only, and its function does nothing.
 ghost use Rattle.gs_link.specs.Flat.{CuttingIsHidden, SaysInOrder};
 
-/// What stands behind in a list is said later.
+/// What stands later in a list is said later.
 pub fn what_stands_behind_is_said_later()
     ensures { SaysInOrder }
 {}

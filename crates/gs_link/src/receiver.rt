@@ -21,7 +21,7 @@ pub enum Taken {
 }
 
 /// The taking end of a link. A contract sees its link, the link's capacity and the list of all
-/// slots that were taken, which exists in proofs alone.
+/// slots that were taken, which exists only in proofs.
 #[derive(Drop)]
 pub struct LinkRx {
     pub(crate) queue: Arc<Queue, Global>,

@@ -4,7 +4,7 @@ use crossbeam_queue::protocol::{Join, Lesson, Outcome, Protocol, Split};
 use crossbeam_queue::{Pass, RuledArrayQueue};
 use std::collections::LinkedList;
 
-/// What a pass may do, and what it did. It exists in proofs alone: no value of it is made.
+/// What a pass may do, and what it did. It exists only in proofs: no value of it is made.
 pub struct Account {
     /// Whether it may send: at most one pass of a link may.
     pub sends: bool,

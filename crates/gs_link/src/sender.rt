@@ -13,7 +13,7 @@ use std::marker::Model;
 use std::sync::{Arc, Wait};
 
 /// The sending end of a link. A contract sees its link, the link's capacity and the list of all
-/// slots that it accepted, which exists in proofs alone.
+/// slots that it accepted, which exists only in proofs.
 #[derive(Drop)]
 pub struct LinkTx {
     pub(crate) queue: Arc<Queue, Global>,
@@ -62,7 +62,7 @@ impl LinkTx {
     }
 
     /// Puts the close at the back of what waits, in one step: it takes one place of the link, and
-    /// nothing is accepted behind it. It takes no memory.
+    /// nothing is accepted after it. It takes no memory.
     ///
     /// Answers Closed where this end has closed before, without a step, and Full where one step
     /// found the link full. Either changes nothing.

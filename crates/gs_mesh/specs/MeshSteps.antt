@@ -1,7 +1,7 @@
 -- What a heartbeat does to the mesh of a topic (gossipsub v1.0, "Mesh maintenance"; v1.1, "Heartbeat Maintenance", "Outbound
 -- Mesh Quotas" and "Opportunistic Grafting"). Members that score below 0 go. Of the others, where they are few, more come
--- in; where they are many, some go; where few of them are outbound, outbound ones come in. Then, at every so many
--- heartbeats, a mesh whose median score is low gets neighbours that score better.
+-- in; where they are many, some go; where few of them are outbound, outbound ones come in. Then, at each heartbeat
+-- whose number is a multiple of `opportunistic_ticks`, a mesh with a low median score gets better neighbours.
 use Rattle.std.specs.Prelude.{◌≡◌, ℕ, ◌+◌, ◌-◌, ◌≤◌, ◌/◌, ◌%◌, nat_eq, nat_lt, ℤ, pos, int_lt, Bool, true, false, not, ◌&&◌, if◌then◌else◌, List, [], ◌++◌, length, filter}
 use Rattle.std.specs.List.{count_by}
 use Rattle.gs_base.specs.declared.names.PeerNo.{PeerNo}
@@ -43,7 +43,7 @@ median_is_below members x = nat_lt (length members / 2) (count_by (λ m. int_lt 
 abbrev pub above_median : List Member → List Member → List Member
 above_median members candidates = filter (λ c. median_is_below members c.score) candidates
 
--- at every so many heartbeats a mesh is poor whose median score lies below the threshold
+-- a mesh is poor at a multiple of `opportunistic_ticks` where its median score lies below the threshold
 abbrev pub is_poor : Params → ℕ → List Member → Bool
 is_poor params tick members =
     nat_eq (tick % params.timing.opportunistic_ticks) 0
@@ -60,11 +60,11 @@ abbrev pub mesh_change : List Member → List Member → List PeerNo → List Pe
 mesh_change mesh candidates kept grafted =
     record { pruned = peers_of (outside kept mesh); grafted = peers_of (among grafted candidates) }
 
--- What follows is the step by what is chosen in it, and what comes of each choice: of any so many of some peers, and of
--- whom a cut keeps.
+-- What follows is the step by what is chosen in it, and what comes of each choice: of any given number of some peers,
+-- and of whom a cut keeps.
 
 module _ {R : Type 0} (any_of : ℕ → List PeerNo → (List PeerNo → R) → R) where
-  -- where a mesh is poor, any so many come in of those that score above its median
+  -- where a mesh is poor, any `most` of those that score above its median come in
   abbrev pub opportunistic_grafts : Bool → ℕ → List Member → List Member → (List PeerNo → R) → R
   opportunistic_grafts true most members candidates next = any_of most (peers_of (above_median members candidates)) next
   opportunistic_grafts false most members candidates next = next []
@@ -101,7 +101,7 @@ module _ {R : Type 0} (any_of : ℕ → List PeerNo → (List PeerNo → R) → 
 -- ---- the step by random words
 
 module _ {S : Type 0} (word : S → ℕ) (after : S → S) where
-  -- what comes of so many of these peers by the next words, from the state behind them
+  -- what comes of k of these peers by the next words, from the state after them
   abbrev pub any_by_words : {A : Type 0} → ℕ → List PeerNo → (List PeerNo → S → A) → S → A
   any_by_words k candidates next s = next (picked word after k candidates s) (picked_words word after k candidates s)
 
@@ -109,19 +109,19 @@ module _ {S : Type 0} (word : S → ℕ) (after : S → S) where
   abbrev pub cut_by_words : {A : Type 0} → Degrees → List Member → (List PeerNo → S → A) → S → A
   cut_by_words degrees members next s = next (cut word after degrees members s) (cut_words word after degrees members s)
 
-  -- whom a mesh keeps by its number of members, who is grafted for that, and the state behind it
+  -- whom a mesh keeps by its number of members, who is grafted for that, and the state after it
   abbrev pub mended_by_words : Degrees → List Member → List Member → S → List PeerNo × List PeerNo × S
   mended_by_words degrees members candidates s =
       mended any_by_words cut_by_words (condition_of degrees members) degrees members candidates
       (λ kept grafted t. (kept, grafted, t)) s
 
-  -- who is grafted where it is poor, beside those that were, and the state behind that
+  -- who is grafted where it is poor, beside those that were, and the state after that
   abbrev pub opportunistic_grafts_by_words :
       Params → ℕ → List Member → List Member → List PeerNo → S → List PeerNo × S
   opportunistic_grafts_by_words params tick members candidates grafted s =
       opportunistic_grafts_then any_by_words params tick members candidates grafted (λ more t. (more, t)) s
 
-  -- who goes and who comes in by the next words, and the state behind them
+  -- who goes and who comes in by the next words, and the state after them
   unfoldable pub step_by_words : Params → ℕ → List Member → List Member → S → MeshChange × S
   step_by_words params tick mesh candidates s =
       stepped any_by_words cut_by_words params tick mesh candidates (λ change t. (change, t)) s

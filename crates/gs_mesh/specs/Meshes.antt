@@ -10,7 +10,7 @@ use Rattle.gs_mesh.specs.Backoffs.{until}
 
 -- ---- look-ups
 
--- what is kept of a topic of which nothing was ever said
+-- what is kept of a topic before anything is said of it
 abbrev pub nothing : TopicMesh
 nothing = record { is_joined = false; members = []; fanout = []; last_published = None; backoffs = [] }
 
@@ -35,7 +35,7 @@ is_kept topics t = is_some (lookup (same_topic t) topics)
 
 -- ---- changes
 
--- each look-up answers as before: so it is after want of memory
+-- each look-up answers as before: so it is where there was no memory
 abbrev pub SayTheSame : List (Topic × TopicMesh) → List (Topic × TopicMesh) → Type 0
 SayTheSame old new = (t : Topic) → kept new t ≡ kept old t
 

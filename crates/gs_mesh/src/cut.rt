@@ -11,7 +11,7 @@ use gs_base::PeerNo;
 use gs_params::{Degrees, Words, pick};
 use std::alloc::{AllocError, Global};
 
-/// Picks so many of these by the next words.
+/// Picks `count` of these by the next words.
 ///
 /// # Errors
 /// `AllocError` where there was no memory; no word was drawn then.
@@ -48,7 +48,7 @@ fn better_ones(members: &[Member], member: &Member) -> u64
         .count() as u64
 }
 
-/// So many members, the best ones by score; of equal scores the lower number is better.
+/// The `count` best members by score. Of equal scores the lower number is better.
 fn best_by_score(alloc: Global, count: u64, members: &[Member]) -> Result<Vec<PeerNo>, AllocError>
     ensures { IfOk result (λ best. best.items ≡ best_by_score count members.now) }
 {
@@ -61,7 +61,7 @@ fn best_by_score(alloc: Global, count: u64, members: &[Member]) -> Result<Vec<Pe
     Ok(peers)
 }
 
-/// How many outbound ones these lack, of so many as the mesh should have.
+/// How many outbound ones these lack of the number that the mesh should have.
 fn outbound_lacking(
     alloc: Global,
     degrees: &Degrees,

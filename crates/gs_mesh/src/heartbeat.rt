@@ -142,7 +142,7 @@ fn mend<W: Words>(
     }
 }
 
-/// All members stay, and so many candidates come in, which the words pick.
+/// All members stay, and `count` candidates come in. The words pick them.
 fn filled<W: Words>(
     alloc: Global,
     members: &[Member],
@@ -165,8 +165,8 @@ fn filled<W: Words>(
 // ---- the median (gossipsub v1.1, "Opportunistic Grafting")
 
 /// Whether the median score of the members lies below a score: more than half of them do, rounded down. Where there
-/// is no member, none does. No more is ever asked of the median, so nothing is sorted. The score comes by reference: of
-/// a copied number a proof knows its bits alone.
+/// is no member, none does. No more is ever asked of the median, so nothing is sorted. The score comes by reference: a
+/// proof knows only the bits of a copied number.
 fn median_is_below(members: &[Member], score: &i128) -> bool
     ensures { result ≡ median_is_below members.now score.now }
 {

@@ -17,7 +17,7 @@ use std::marker::Model;
 /// The meshes and fanouts of topics, and who is not to be grafted to them yet (gossipsub v1.0, "Router State"; v1.1,
 /// "Prune Backoff").
 ///
-/// A topic of which nothing was said is one that the peer is not subscribed to, without members, fanout or backoffs.
+/// Where nothing was said of a topic, the peer is not subscribed to it, and it has no members, fanout or backoffs.
 /// A look-up, and a call that takes no memory, costs one look-up of its topic by hash; one that may take memory costs two,
 /// and an insertion where the topic is new. After `AllocError` each look-up answers as before.
 #[derive(Drop)]

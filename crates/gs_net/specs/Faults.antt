@@ -5,7 +5,7 @@ use Rattle.gs_workers.specs.declared.fault.WorkerFault.TheVariants.{NoMemory as 
 use Rattle.gs_seats.specs.declared.fault.NetFault.{NetFault}
 use Rattle.gs_seats.specs.declared.fault.NetFault.TheVariants.{NoMemory, NoThread}
 
--- want of memory of no peer, or a wanting thread
+-- there was no memory outside of the peers, or there was no thread
 abbrev pub of_workers : WorkerFault → NetFault
 of_workers (WorkersNoMemory raised) = NoMemory None
 of_workers (WorkersNoThread raised) = NoThread

@@ -14,7 +14,7 @@ pub record IsTakenApart (givens : List Given) (lives : Lives) : Type 0 where
   pub bare_lives : map (λ x. x.1) lives.peers.items ≡ map bare givens
   pub ends : map (λ list. list.items) lives.ends.items ≡ map (λ f. f.ends) givens
 
--- a task met want of memory
+-- a task ran out of memory
 abbrev pub wants_memory : {A : Type 0} → Result A PeerFault → Bool
 wants_memory (Ok life) = false
 wants_memory (Err (NoMemory raised)) = true

@@ -25,7 +25,7 @@ pub record AreUsable (plan : Plan) (p : PeerNo) (pairs : List Pair) : Type 0 whe
   pub sized : AllByRecursion (HasCapacity plan.capacity) pairs
   pub fresh : AllByRecursion IsFresh pairs
 
--- the lowest numbers of peers, so many of them
+-- the lowest `count` numbers of peers
 abbrev pub first_numbers : ℕ → List PeerNo
 first_numbers count = map peer_no (range_with_len 0 count)
 

@@ -14,9 +14,9 @@ use std::random::RandomSource;
 use std::sync::{Arc, Wait};
 use std::thread::Threads;
 
-/// Runs the tasks on so many worker threads to their ends. Gives what each of them gave, in the order
-/// of the tasks, and the number of threads. The task at place i runs on worker i mod `workers`. The
-/// workers have ended when it returns.
+/// Runs the tasks on `workers` worker threads to their ends. Gives what each of them gave, in the
+/// order of the tasks, and the number of threads. The task at place i runs on worker i mod `workers`.
+/// The workers have ended when it returns.
 ///
 /// # Errors
 /// `NoMemory`, of no peer; and `NoThread` where a thread could not be started or could not wait. The

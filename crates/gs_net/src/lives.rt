@@ -22,8 +22,8 @@ pub struct Lives {
 /// Takes apart what the tasks of all peers gave, by number.
 ///
 /// # Errors
-/// `NoMemory` where a task gave a fault or there was no memory here, with the lowest peer that met
-/// want of memory, if one did.
+/// `NoMemory` where a task gave a fault or there was no memory here, with the lowest peer that ran
+/// out of memory, if one did.
 pub fn lives_of<R: Wait + Drop>(
     alloc: Global,
     results: Vec<Result<gs_peer::FinishedTask<LinkEnds<R>>, PeerFault>>,
@@ -67,7 +67,7 @@ pub fn lives_of<R: Wait + Drop>(
     Ok(Lives { peers, ends })
 }
 
-/// The lowest peer whose task met want of memory.
+/// The lowest peer whose task ran out of memory.
 fn first_without_memory<R: Wait + Drop>(
     results: &[Result<gs_peer::FinishedTask<LinkEnds<R>>, PeerFault>],
 ) -> Option<PeerNo>
@@ -80,7 +80,7 @@ fn first_without_memory<R: Wait + Drop>(
     }
 }
 
-/// The place of the first task that met want of memory.
+/// The place of the first task that ran out of memory.
 fn place_of_want<R: Wait + Drop>(
     results: &[Result<gs_peer::FinishedTask<LinkEnds<R>>, PeerFault>],
 ) -> Option<usize>

@@ -20,11 +20,11 @@ use std::sync::{Arc, Wait};
 use std::thread::Threads;
 
 /// Runs the peers of a plan on worker threads: peer i on worker i mod `workers`. What one peer says
-/// to another goes over a link of their own, and the gate is told of each round that a peer begins.
+/// to another goes over a link of their own, and the gate hears of each round that a peer begins.
 /// All threads have ended when it answers.
 ///
 /// # Errors
-/// `NoMemory` with the lowest peer that met want of memory, or with none where that was met outside
+/// `NoMemory` with the lowest peer that ran out of memory, or with none where memory ran out outside
 /// of the peers; `NoThread` where a thread could not be started or driven.
 pub fn run_net<G, R>(rt: &R, plan: &Plan, gate: &G) -> Result<Report, NetFault>
 where

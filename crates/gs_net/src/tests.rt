@@ -1,4 +1,4 @@
-//! A run of two peers, of which one dials the other.
+//! A run of two peers. One dials the other.
 use crate::run_net;
 use gs_base::Millis;
 use gs_peer::{Gate, NoGate};
@@ -48,7 +48,7 @@ fn delivered(life: &Finished, moments: &[u64]) -> bool {
 }
 
 /// Whether two peers that are joined so have these deliveries, the second refuses to leave the topic
-/// twice, and so many links are whole.
+/// twice, and this many links are whole.
 fn has_deliveries<R>(
     rt: &R,
     dial: &str,

@@ -33,7 +33,7 @@ module _ {S : Type 0} (word : S → ℕ) (after : S → S) where
 
 -- ---- picks
 
--- Place i is exchanged with itself or with one behind it, as the first word's remainder says; then place i + 1 by the
+-- Place i is exchanged with itself or with one after it, as the first word's remainder says; then place i + 1 by the
 -- next word, and so on. (The shuffle of Fisher and Yates, in place, from the front.)
 unfoldable pub shuffled : {A : Type 0} → ℕ → List ℕ → List A → List A
 shuffled i [] xs = xs
@@ -51,7 +51,7 @@ module _ {S : Type 0} (word : S → ℕ) (after : S → S) where
   unfoldable pub picked_words : ℕ → List PeerNo → S → S
   picked_words k candidates s = if nat_le (length candidates) k then s else after_words word after k s
 
-  -- one of n places: the next word's remainder, and no word where there is one place alone
+  -- one of n places: the next word's remainder, and no word where there is only one place
   unfoldable pub picked_one : ℕ → S → ℕ
   picked_one n s = if nat_eq n 1 then 0 else word s % n
 

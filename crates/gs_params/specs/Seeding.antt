@@ -24,12 +24,12 @@ pub record SeededState : Type 0 where
   pub peer : PeerNo
   pub generator : Lcg
 
--- words of which none was given
+-- words before any was given
 abbrev pub new_seeded : List ℕ → ℕ → PeerNo → SeededState
 new_seeded list seed peer =
     record { list = list; given = 0; seed = seed; peer = peer; generator = generator_of seed peer }
 
--- the next word: the list's, and behind its end the generator's
+-- the next word: the list's, and after its end the generator's
 abbrev pub seeded_word : SeededState → ℕ
 seeded_word s = if nat_lt s.given (length s.list) then slice_index s.list s.given else generator_word s.generator
 

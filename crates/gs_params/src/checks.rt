@@ -6,9 +6,9 @@ use crate::parameter::Parameter;
 /// A rule of what is counted: of neighbours, times, messages, and factors that are never below 0.
 #[derive(Clone, Copy, Debug, PartialEq, Eq)]
 pub enum CountRule {
-    /// At least so many.
+    /// At least this number.
     AtLeast(u64),
-    /// At most so many.
+    /// At most this number.
     AtMost(u64),
     /// From the first to the second.
     Range(u64, u64),

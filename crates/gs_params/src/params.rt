@@ -37,7 +37,7 @@ pub struct Degrees {
     pub d_score: u64,
     /// How many outbound members a mesh should have: fewer than `d_low`, and at most half of `d`.
     pub d_out: u64,
-    /// How many neighbours get gossip at least, where there are so many: at most 64.
+    /// How many neighbours get gossip at least, where there are this many: at most 64.
     pub d_lazy: u64,
 }
 
@@ -126,7 +126,7 @@ pub struct Timing {
     pub mcache_len: u64,
     /// For how many heartbeats a message is announced: 1 to `mcache_len`.
     pub mcache_gossip: u64,
-    /// At every so many heartbeats a mesh may get better members: 1 to 10^6.
+    /// A mesh may get better members at heartbeats whose number is a multiple of this: 1 to 10^6.
     pub opportunistic_ticks: u64,
     /// How many better members it gets at most: 0 to 64.
     pub opportunistic_peers: u64,
@@ -166,7 +166,7 @@ pub struct Params {
     pub thresholds: Thresholds,
     pub factors: Factors,
     pub timing: Timing,
-    /// Whether an own message goes to all that are on its topic, and not to its mesh alone.
+    /// Whether an own message goes to all that are on its topic, and not only to its mesh.
     pub flood_publish: bool,
     /// The parameters of topics. The first of a topic counts, and a topic without any has the defaults.
     pub topics: Seq<(Topic, TopicParams)>,

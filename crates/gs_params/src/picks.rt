@@ -9,7 +9,7 @@ use crate::words::Words;
 use gs_base::PeerNo;
 use std::alloc::{AllocError, Global};
 
-/// Shuffles the first k places: each is exchanged with itself or with one behind it.
+/// Shuffles the first k places: each is exchanged with itself or with one after it.
 fn shuffle<W: Words>(places: &mut Vec<PeerNo>, k: usize, words: &mut W)
     requires { k < length places.old.items }
     ensures places { places.new.items ≡ shuffled 0 (next_words W.word W.after k words.old) places.old.items }
@@ -57,7 +57,7 @@ pub fn pick<W: Words>(
     Ok(chosen)
 }
 
-/// Picks one of n places, numbered from 0, by a word. Where there is one place alone, no word is
+/// Picks one of n places, numbered from 0, by a word. Where there is only one place, no word is
 /// drawn.
 #[tactic(auto, unfolding(crate::specs::Picks::picked_one, crate::specs::Picks::picked_one_words))]
 pub fn pick_one<W: Words>(n: usize, words: &mut W) -> usize
@@ -72,8 +72,8 @@ pub fn pick_one<W: Words>(n: usize, words: &mut W) -> usize
     words.next_word() as usize % n
 }
 
-/// Who is picked. So many of the candidates are, ascending and none twice; and where not all are,
-/// they are those in the first k places of the shuffle by the next k words.
+/// Who is picked: k of the candidates, or all where there are fewer, ascending and none twice. Where
+/// not all are, they are those in the first k places of the shuffle by the next k words.
 pub fn a_pick_is_the_front_of_a_shuffle<W: Words>()
     ensures sample { (k : ℕ) (candidates : List PeerNoValue) (words : W)
         → IsAscending candidates

@@ -10,7 +10,7 @@ use rand_pcg::Pcg32;
 use rand_pcg::rand_core::utils::NextWord;
 use std::marker::Model;
 
-/// The words of a list in order, and behind its end those of a generator.
+/// The words of a list in order, and after its end those of a generator.
 #[derive(Debug, Drop)]
 pub struct SeededWords {
     list: Vec<u32>,
@@ -35,7 +35,7 @@ impl Model for SeededWords {
 }
 
 impl SeededWords {
-    /// Words with this list, and behind it the words of the PCG32 generator that begins at the
+    /// Words with this list, and after it the words of the PCG32 generator that begins at the
     /// seed, in the stream of the peer's number. It takes no memory.
     pub fn new(list: Vec<u32>, seed: u64, peer: PeerNo) -> SeededWords
         ensures { result ≡ new_seeded list.items seed peer }

@@ -1,7 +1,7 @@
 //! Random words, which are handed in.
 ghost use Rattle.std.specs.Prelude.{◌≡◌, ℕ};
 
-/// A source of random words. What it gives is a function of its state alone, so that a run can be
+/// A source of random words. What it gives is a function of its state only, so that a run can be
 /// repeated: each state has a next word, and a state after it.
 pub trait Words {
     // The next word of a state.

@@ -19,7 +19,7 @@ pub record InboxView : Type 0 where
   -- the close was taken
   pub is_closed : Bool
 
--- one of which nothing was taken: in the first round there is nothing to hear
+-- one for which nothing was taken: in the first round there is nothing to hear
 abbrev pub new_inbox : PeerNo → InboxView
 new_inbox q = record {
   peer = q;

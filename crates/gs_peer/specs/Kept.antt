@@ -32,7 +32,7 @@ abbrev pub is_whole : Phase → Said → Bool
 is_whole (Playing r) w = whole r w
 is_whole Closing w = closes w
 
--- in a round nothing but a close is taken behind what is heard in it
+-- in a round nothing but a close is taken after what is heard in it
 abbrev pub NothingBehind : Phase → Said → Bool → Type 0
 NothingBehind (Playing r) w closed = after r w ≡ close_if closed
 NothingBehind Closing w closed = Unit {0}
@@ -65,7 +65,7 @@ pub record BoxKept (L : Entries) (sent : Said) (boxes : Outboxes) (q : PeerNo) :
 
 -- ---- all of it
 
--- so far the rounds before a phase were played, and behind the last one the peer has shut down
+-- so far the rounds before a phase were played, and after the last one the peer has shut down
 abbrev pub Begun : Seat → (PeerNo → Said) → Phase → Entries → List RefusedLine → Type 0
 Begun seat said (Playing r) L refused = (r ≤ seat.rounds) × AfterRounds seat said r L refused
 Begun seat said Closing L refused =

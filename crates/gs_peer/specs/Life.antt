@@ -28,9 +28,9 @@ pub record IsLife {S : Type 0} (seen : EndsOf S) (seat : Seat) (first : SeededSt
   pub legal : (last : SeededState) × LegalOn (exact seeded_word seeded_after) seat.peer first [] f.trace last
   -- it did what there was to do, round by round, and exactly this was refused
   pub keeps : KeepsRounds seat (words_of (seen.taken f.ends)) f.trace f.refused
-  -- these were in the meshes of its topics when it shut down, which nothing behind that changes
+  -- these were in the meshes of its topics when it shut down, and nothing after that changes them
   pub meshes : f.meshes ≡ meshes_of f.trace
-  -- its neighbours scored this when it shut down, which nothing behind that changes
+  -- its neighbours scored this when it shut down, and nothing after that changes it
   pub scores : f.scores ≡ scores_of seat.peer f.trace (seat.rounds * seat.round_ms)
   -- of each neighbour, all RPCs were handled that the bytes spell that were taken
   pub handles : AllByRecursion (λ q. Spell (bytes_of (words_of (seen.taken f.ends) q)) (handled f.trace q))

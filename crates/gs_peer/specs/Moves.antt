@@ -44,7 +44,7 @@ is_closing Closing = true
 abbrev pub is_due : {G S : Type 0} → Running G S → Bool
 is_due t = not (is_closing t.phase) && are_full t.player.inboxes.items
 
--- what comes behind a phase, where this is the last round: the next round, or the peer shuts down
+-- what comes after a phase, where this is the last round: the next round, or the peer shuts down
 abbrev pub phase_behind : ℕ → Phase → Phase
 phase_behind last (Playing r) = if nat_lt r last then Playing (r + 1) else Closing
 phase_behind last Closing = Closing
@@ -63,6 +63,6 @@ peer_at inboxes place = option_map (λ (x : InboxView). x.peer) (slice_get inbox
 abbrev pub whose_turn : {G S : Type 0} → Running G S → Option PeerNo
 whose_turn t = peer_at t.player.inboxes.items t.turn
 
--- whose turn is next, of so many neighbours: behind the last one a step looks at none, and then they come round
+-- whose turn is next, of this many neighbours: after the last one a step looks at none, and then they come round
 abbrev pub turn_after : ℕ → ℕ → Bool → ℕ
 turn_after turn neighbours stays = if stays then turn else if nat_lt turn neighbours then suc turn else 0

@@ -17,7 +17,7 @@ use Rattle.gs_peer.specs.declared.outboxes.Outboxes.{Outboxes}
 abbrev pub waiting : Outboxes → PeerNo → List Slot
 waiting out q = unwrap_or (option_map (λ (box : Outbox). box.slots) (slice_get out.boxes.items q.0)) []
 
--- the RPC that is gathered for a peer, behind what waits
+-- the RPC that is gathered for a peer, after what waits
 abbrev pub gathered_in : Outboxes → PeerNo → Option Rpc
 gathered_in out q = unwrap_or (option_map (λ (box : Outbox). box.gathered) (slice_get out.boxes.items q.0)) None
 
@@ -37,12 +37,12 @@ is_open out q = unwrap_or (option_map (λ (box : Outbox). box.is_open) (slice_ge
 abbrev pub is_neighbour : List PeerNo → PeerNo → Bool
 is_neighbour neighbours q = list_any (λ n. same_peer n q) neighbours
 
--- whether more may be said behind these entries, the first one first
+-- whether more may be said after these entries, the first one first
 abbrev pub opens_behind : PeerNo → Bool → List Entry → Bool
 opens_behind q may [] = may
 opens_behind q may (e ∷ es) = opens_behind q (up_after q e.event may) es
 
--- what is to go to q behind these entries, the first one first
+-- what is to go to q after these entries, the first one first
 abbrev pub behind_entries : PeerNo → Bool → Outgoing → List Entry → Outgoing
 behind_entries q may o [] = o
 behind_entries q may o (e ∷ es) = behind_entries q (up_after q e.event may) (if may then behind_entry codec q o e else o) es

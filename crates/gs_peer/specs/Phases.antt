@@ -10,7 +10,7 @@ abbrev pub phase_of : Phase → rounds.Phase
 phase_of (Playing r) = rounds.Playing r
 phase_of Closing = rounds.Closing
 
--- so many rounds of what a neighbour says have ended where a phase begins
+-- how many rounds of what a neighbour says have ended where a phase begins
 abbrev pub rounds_ended : Seat → rounds.Phase → ℕ
 rounds_ended seat (rounds.Playing r) = pred r
 rounds_ended seat rounds.Closing = seat.rounds

@@ -39,7 +39,7 @@ AllFull inboxes = AllByRecursion (λ (x : InboxView). is_full x ≡ true) inboxe
 abbrev pub AllSilent : Outboxes → List InboxView → Type 0
 AllSilent boxes inboxes = AllByRecursion (λ (x : InboxView). waiting boxes x.peer ≡ []) inboxes
 
--- The neighbours are told what the one trace says behind the other.
+-- The neighbours are sent what the trace says after its first `told` entries.
 abbrev pub TellsSince : ℕ → Entries → Outboxes → Outboxes → Type 0
 TellsSince told L old new =
     (K : Entries) (sent : PeerNo → Said) (qs : List PeerNo)

@@ -8,7 +8,7 @@ use Rattle.gs_peer.specs.Moved.{AllStay, GrewAt, MovesAt}
 use Rattle.gs_peer.specs.Moves.{has_more_at, is_due, phase_behind, turn_after, whose_turn}
 use Rattle.gs_peer.specs.Outboxes.{waiting}
 
--- ---- what changes alone
+-- ---- the only things that change
 
 -- the inboxes and the ends, and nothing else
 abbrev pub ListensAlone : {G S : Type 0} → Running G S → Running G S → Type 0
@@ -64,7 +64,7 @@ module _ {S : Type 0} (seen : EndsOf S) where
 -- ---- a poll
 
 module _ {S : Type 0} (seen : EndsOf S) where
-  -- so many steps lead from the one to the other, and in so many in a row at the end nothing moved
+  -- this many steps lead from the one to the other, and nothing moved in the last `idle` of them
   abbrev pub Steps : {G : Type 0} → ℕ → ℕ → Running G S → Running G S → Type 0
   Steps zero idle old new = (idle ≡ 0) × (new ≡ old)
   Steps {G} (suc k) idle old new =
@@ -73,8 +73,8 @@ module _ {S : Type 0} (seen : EndsOf S) where
       × StepsTo seen moved mid new
       × (idle ≡ (if moved then 0 else suc before))
 
-  -- It takes at most so many steps, and fewer where nothing moved in more steps in a row than there are neighbours, so that
-  -- each was looked at; and then no round is due.
+  -- It takes at most `most` steps. It takes fewer where nothing moved in more steps in a row than there are neighbours,
+  -- so that each was looked at; and then no round is due.
   pub record Polls {G : Type 0} (most : ℕ) (old new : Running G S) : Type 0 where
     pub count : ℕ
     pub bounded : count ≤ most

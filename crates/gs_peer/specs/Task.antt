@@ -102,7 +102,7 @@ module _ {G S : Type 0} (seen : EndsOf S) where
       × IsLife seen seat first f)
 
 module _ {S : Type 0} (seen : EndsOf S) where
-  -- over all neighbours at most so many slots were taken, and as many accepted
+  -- over all neighbours at most this many slots were taken, and at most this many accepted
   abbrev pub BothGrew : ℕ → S → S → Type 0
   BothGrew most before after =
       GrewBy most (seen.accepted before) (seen.accepted after)

@@ -32,7 +32,7 @@ pub struct FinalState {
 /// Why a task gives no life.
 #[derive(Clone, Copy, Debug, PartialEq, Eq, thiserror::Error)]
 pub enum PeerFault {
-    /// There was no memory. The stop flag was set before this was given, of which this is evidence.
+    /// There was no memory. This is evidence that the stop flag was set before it was given.
     #[error("there was no memory")]
     NoMemory(Raised),
     /// The stop flag was set, or the task had given its result.
@@ -41,7 +41,7 @@ pub enum PeerFault {
 }
 
 impl PeerFault {
-    /// The number of the fault: 22 for want of memory, 23 where the task was stopped.
+    /// The number of the fault: 22 where there was no memory, 23 where the task was stopped.
     pub fn number(self) -> u8
         ensures { result ≡ number_of self }
     {

@@ -1,4 +1,4 @@
-//! The frames of RPCs, of which the last is kept for whoever gets the same.
+//! The frames of RPCs. The last one is kept for whoever gets the same.
 ghost use Rattle.std.specs.Prelude.{◌≡◌, true, IfOk};
 ghost use Rattle.gs_wire.specs.Codec.{codec};
 

@@ -1,4 +1,4 @@
-/// Whoever is told of each round that a peer begins. Nothing is claimed of when or how often.
+/// Whoever hears of each round that a peer begins. Nothing is claimed of when or how often.
 pub trait Gate: Drop {
     /// A peer on this worker begins this round.
     fn begin_round(&self, worker: usize, round: u64);

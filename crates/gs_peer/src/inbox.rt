@@ -46,7 +46,7 @@ impl Model for Inbox {
 }
 
 impl Inbox {
-    /// An inbox of which nothing was taken. In the first round there is nothing to hear.
+    /// An inbox for which nothing was taken. In the first round there is nothing to hear.
     pub fn new(alloc: Global, peer: PeerNo) -> Inbox
         ensures { result ≡ new_inbox peer }
     {
@@ -97,8 +97,8 @@ impl Inbox {
         mem::replace(&mut self.stage, Vec::new(alloc))
     }
 
-    /// Takes what comes next from the neighbour, if anything does. Nobody calls it behind the mark of a phase, so the stage
-    /// holds what one round brought.
+    /// Takes what comes next from the neighbour, if anything does. Nobody calls it after the mark of a phase, so the
+    /// stage holds what one round brought.
     ///
     /// # Errors
     /// `AllocError` where there was no memory for it.

@@ -18,7 +18,7 @@ use gs_link::{Item, LONGEST_PIECE, SendRefused, Slot};
 use gs_wire::{Gathered, WrittenRpc};
 use std::alloc::{AllocError, Global};
 
-/// What waits to go to a neighbour, what is gathered to go out as one RPC behind it, and whether more may be said.
+/// What waits to go to a neighbour, what is gathered to go out as one RPC after it, and whether more may be said.
 #[derive(Drop)]
 pub struct Outbox {
     pub(crate) slots: SlotQueue,
@@ -58,7 +58,7 @@ impl Outbox {
         Ok(())
     }
 
-    /// Puts bytes as they are behind what is gathered, if more may be said.
+    /// Puts bytes as they are after what is gathered, if more may be said.
     pub(crate) fn put_raw(&mut self, alloc: Global, bytes: Bytes) -> Result<(), AllocError>
         ensures told { OnOk result (outgoing_of self.new
             ≡ (if self.old.is_open
@@ -74,7 +74,7 @@ impl Outbox {
         Ok(())
     }
 
-    /// Ends a round behind what is gathered, if more may be said.
+    /// Ends a round after what is gathered, if more may be said.
     pub(crate) fn mark(&mut self, alloc: Global, round: u64) -> Result<(), AllocError>
         ensures told { OnOk result (outgoing_of self.new
             ≡ (if self.old.is_open

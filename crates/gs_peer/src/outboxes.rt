@@ -22,10 +22,10 @@ use gs_rules::{Event, StoredEntry};
 use gs_wire::WrittenRpc;
 use std::alloc::{AllocError, Global};
 
-/// What waits to go to each neighbour, by its number: so a send searches nothing. What is sent is gathered, and waits as one
-/// frame from the next cut on: where a round ends, bytes go out as they are, the link is closed, or one more RPC does not
-/// fit. A frame waits whole and goes out in pieces, and so do bytes as they are. The frame of an RPC that is alone is shared
-/// by all whom it goes to.
+/// What waits to go to each neighbour, by its number: so a send searches nothing. What is sent is gathered, and waits
+/// as one frame from the next cut on: where a round ends, bytes go out as they are, the link is closed, or one more RPC
+/// does not fit. A frame waits whole and goes out in pieces, and so do bytes as they are. The frame of a single RPC is
+/// shared by all whom it goes to.
 #[derive(Drop)]
 pub struct Outboxes {
     boxes: Vec<Outbox>,
@@ -78,7 +78,7 @@ impl Outboxes {
         Ok(())
     }
 
-    /// Tells the neighbours what these entries say, the first one first.
+    /// Sends the neighbours what these entries say, the first one first.
     ///
     /// # Errors
     /// `AllocError` where there was no memory for it.
@@ -96,7 +96,7 @@ impl Outboxes {
         Ok(())
     }
 
-    /// Tells the neighbours what an entry says.
+    /// Sends the neighbours what an entry says.
     fn tell(&mut self, alloc: Global, entry: &StoredEntry) -> Result<(), AllocError>
         requires { SendsFit codec entry.now.sends }
         ensures told { OnOk result ((q : PeerNoValue)
@@ -112,7 +112,7 @@ impl Outboxes {
         Ok(())
     }
 
-    /// Gathers what an entry sends. An RPC that goes to several neighbours, one behind the other, is written once.
+    /// Gathers what an entry sends. An RPC that goes to several neighbours, one after the other, is written once.
     fn send_all(&mut self, alloc: Global, sends: &[(PeerNo, Shared<Rpc>)]) -> Result<(), AllocError>
         requires { SendsFit codec sends.now }
         ensures told { OnOk result ((q : PeerNoValue)
@@ -154,7 +154,7 @@ impl Outboxes {
         }
     }
 
-    /// Puts what an event says behind what is gathered.
+    /// Puts what an event says after what is gathered.
     fn tell_event(&mut self, alloc: Global, event: &Event) -> Result<(), AllocError>
         ensures told { OnOk result ((q : PeerNoValue)
             → outgoing_in self.new q
@@ -171,7 +171,7 @@ impl Outboxes {
         }
     }
 
-    /// Puts bytes as they are behind what is gathered for the neighbour of this number.
+    /// Puts bytes as they are after what is gathered for the neighbour of this number.
     fn put_raw(&mut self, alloc: Global, place: usize, bytes: Bytes) -> Result<(), AllocError>
         ensures told { OnOk result ((q : PeerNoValue)
             → outgoing_in self.new q
@@ -189,7 +189,7 @@ impl Outboxes {
         }
     }
 
-    /// Says nothing more to whoever is lost, but what is gathered and the close behind what waits.
+    /// Says nothing more to whoever is lost, but what is gathered and the close after what waits.
     fn close_lost(&mut self, alloc: Global, lost: Option<PeerNo>) -> Result<(), AllocError>
         ensures told { OnOk result ((q : PeerNoValue)
             → outgoing_in self.new q
@@ -238,7 +238,7 @@ impl Outboxes {
         }
     }
 
-    /// Says nothing more to the neighbour of this number, but what is gathered and the close behind what waits.
+    /// Says nothing more to the neighbour of this number, but what is gathered and the close after what waits.
     fn close(&mut self, alloc: Global, place: usize) -> Result<(), AllocError>
         ensures told { OnOk result ((q : PeerNoValue)
             → outgoing_in self.new q
@@ -257,7 +257,7 @@ impl Outboxes {
         }
     }
 
-    /// Says nothing more to anyone, but what is gathered and the close behind what waits.
+    /// Says nothing more to anyone, but what is gathered and the close after what waits.
     fn close_all(&mut self, alloc: Global) -> Result<(), AllocError>
         ensures told { OnOk result ((q : PeerNoValue)
             → outgoing_in self.new q

@@ -3,6 +3,6 @@
 pub enum Phase {
     /// In a round.
     Playing(u64),
-    /// Behind the last round: it has shut down.
+    /// After the last round: it has shut down.
     Closing,
 }

@@ -13,7 +13,7 @@ use std::mem;
 /// What waits to go to a neighbour. Contracts see the slots, the front first.
 #[derive(Drop)]
 pub struct SlotQueue {
-    /// What is left of the frame that goes out, ahead of the others. It stands apart, so that a piece that is cut off
+    /// What is left of the frame that goes out, before the others. It stands apart, so that a piece that is cut off
     /// moves nothing in the queue.
     rest: Bytes,
     items: VecDeque<Slot>,
@@ -100,7 +100,7 @@ impl SlotQueue {
     }
 }
 
-/// Puts the rest of a frame ahead of slots, where anything is left.
+/// Puts the rest of a frame before slots, where anything is left.
 // Where a piece was cut off a frame, nothing is.
 #[inline(always)]
 fn put_ahead(items: &mut VecDeque<Slot>, rest: &Bytes) -> Result<(), AllocError>

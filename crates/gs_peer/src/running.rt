@@ -41,13 +41,13 @@ pub struct Running<G: Gate, S: Ends> {
     assignment: Assignment,
     gate: G,
     player: Player,
-    /// What the words of its choices were at first, for proofs alone.
+    /// What the words of its choices were at first, only for proofs.
     first: Snapshot<SeededWords>,
     phase: Phase,
     outboxes: Outboxes,
     /// Which neighbour is looked at next, by its place among them.
     turn: usize,
-    /// Of which neighbour it was seen last that not all is taken that is heard of it.
+    /// The place of the inbox that was last seen where not all is taken that is heard.
     last_not_full: usize,
     ends: S,
 }
@@ -214,7 +214,7 @@ impl<G: Gate, S: Ends> Running<G, S> {
         Ok(true)
     }
 
-    /// Plays a round: hears what came, follows the lines, and ends it. Behind the last one it shuts
+    /// Plays a round: hears what came, follows the lines, and ends it. After the last one it shuts
     /// down.
     // It stands apart from the steps, which are many for each round: its locals are not theirs.
     #[inline(never)]
@@ -293,7 +293,7 @@ impl<G: Gate, S: Ends> Running<G, S> {
     }
 }
 
-/// Tells the neighbours what a router's trace says behind so many entries.
+/// Sends the neighbours what a router's trace says after its first `told` entries.
 fn tell_since(
     alloc: Global,
     outboxes: &mut Outboxes,
@@ -308,8 +308,8 @@ fn tell_since(
     Ok(())
 }
 
-/// Whether all is taken that is heard in a phase. It looks first at the neighbour of which
-/// that was not so last.
+/// Whether all is taken that is heard in a phase. It looks first at the neighbour where that was
+/// last not so.
 fn is_due(inboxes: &[Inbox], last_not_full: &mut usize) -> bool
     ensures { result ≡ are_full inboxes.now }
 {
@@ -321,7 +321,7 @@ fn is_due(inboxes: &[Inbox], last_not_full: &mut usize) -> bool
     all_full(inboxes)
 }
 
-/// The first inbox, from this one on, of which not all is taken; or how many there are.
+/// The first inbox, from this one on, where not all is taken; or how many there are.
 fn first_not_full(inboxes: &[Inbox], from: usize) -> usize
     ensures within { result ≤ length inboxes.now }
     ensures found { result < length inboxes.now → is_full_at inboxes.now result ≡ false }

@@ -25,11 +25,11 @@ use std::sync::Arc;
 /// What a task has around it: the ends of its peer's links, a gate, and the flag that stops it.
 #[derive(Drop)]
 pub struct Surroundings<G: Gate, S: Ends> {
-    /// The ends of the links to and from each neighbour, of which none was used.
+    /// The ends of the links to and from each neighbour. None of them was used.
     pub ends: S,
-    /// It is told of each round that the peer begins.
+    /// It hears of each round that the peer begins.
     pub gate: G,
-    /// A task that meets want of memory sets it, and one that reads it as set gives up.
+    /// A task that runs out of memory sets it, and one that reads it as set gives up.
     pub stop: Arc<StopFlag>,
 }
 
@@ -88,7 +88,7 @@ impl<G: Gate, S: Ends> Future for PeerTask<G, S> {
     /// any two of them. It asks to be polled again at once where the life has not ended.
     ///
     /// It gives what is left of the life; or `NoMemory`, with the stop flag set; or `Stopped` where that
-    /// was set, and where the result was given before. Behind any result there is nothing to give.
+    /// was set, and where the result was given before. After any result there is nothing to give.
     // It stands apart from whoever polls many tasks, who would otherwise clear the room of a whole task at each poll.
     #[inline(never)]
     fn poll(&mut self, cx: &mut Context<'_>) -> Poll<Result<FinishedTask<S>, PeerFault>>

@@ -19,7 +19,7 @@ top = 720
 abbrev pub bottom : ℕ
 bottom = 920
 
--- how far a tick is from the next, in the picture and in rounds: the tenth tick lies behind all rounds
+-- how far a tick is from the next, in the picture and in rounds: the tenth tick lies after all rounds
 abbrev pub tick_width : ℕ
 tick_width = 80
 
@@ -30,19 +30,19 @@ step_of courses = longest courses / 10 + 1
 abbrev pub across : ℕ → ℕ → ℕ
 across step round = left + (tick_width * round) / max 1 step
 
--- where so many of all peers lie from above
+-- how far from above `reached` of `count` peers lie
 abbrev pub up : ℕ → ℕ → ℕ
 up count reached = bottom - (200 * reached) / max 1 count
 
 -- ---- axes
 
--- the line of so many quarters
+-- the line of this many quarters
 abbrev pub level_text : ℕ → List ℕ
 level_text quarters =
     part LevelBegins ++ decimal (bottom - 50 * quarters) ++ part LevelLabel
     ++ decimal (bottom - 50 * quarters + 4) ++ piece TagEnds ++ decimal (25 * quarters) ++ part LevelEnds
 
--- the line of so many ticks
+-- the line of this many ticks
 abbrev pub tick_text : ℕ → ℕ → List ℕ
 tick_text step ticks =
     part TickBegins ++ decimal (left + tick_width * ticks) ++ part TickLabel
@@ -63,7 +63,7 @@ few_lines = 8
 abbrev pub some_lines : ℕ
 some_lines = 40
 
--- how so many lines are drawn: the more there are, the paler they are
+-- how this many lines are drawn: the more there are, the paler they are
 abbrev pub line_kind : ℕ → List ℕ
 line_kind lines =
     if nat_le lines few_lines then codes "few" else if nat_le lines some_lines then codes "some" else codes "many"

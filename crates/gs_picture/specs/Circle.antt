@@ -16,7 +16,7 @@ use Rattle.gs_picture.specs.Pieces.{piece}
 
 -- ---- edges
 
--- where the disc of a peer of so many stands
+-- where the disc of a peer stands, of `count` peers
 abbrev pub stands : ℕ → PeerNo → Point
 stands count p = on_circle disc_radius (degrees count p)
 

@@ -17,7 +17,7 @@ centre_x = 460
 abbrev pub centre_y : ℕ
 centre_y = 310
 
--- up to so many peers have their names in a row, and more have them along the radius
+-- up to this many peers have their names in a row, and more have them along the radius
 abbrev pub most_level : ℕ
 most_level = 16
 
@@ -33,16 +33,16 @@ sines =
     ∷ 9945 ∷ 9962 ∷ 9976 ∷ 9986 ∷ 9994 ∷ 9998 ∷ 10_000
     ∷ []
 
--- the sine of so many degrees, and 0 above 90
+-- the sine of this many degrees, and 0 above 90
 abbrev pub sine : ℕ → ℕ
 sine degrees = unwrap_or (slice_get sines degrees) 0
 
--- how far one goes across on so many degrees
+-- how far one goes across on this many degrees
 abbrev pub leg : ℕ → ℕ → ℕ
 leg radius degrees = (radius * sine degrees) / 10_000
 
--- The place at so many degrees from the top, clockwise: to the right and up, to the right and down, to the left and down,
--- to the left and up.
+-- The place at this many degrees from the top, clockwise: to the right and up, to the right and down, to the left and
+-- down, to the left and up.
 abbrev pub on_circle : ℕ → ℕ → Point
 on_circle radius a =
     if nat_le a 90 then record { x = centre_x + leg radius a; y = centre_y - leg radius (90 - a) }
@@ -50,6 +50,6 @@ on_circle radius a =
     else if nat_le a 270 then record { x = centre_x - leg radius (a - 180); y = centre_y + leg radius (270 - a) }
     else record { x = centre_x - leg radius (360 - a); y = centre_y - leg radius (a - 270) }
 
--- at how many degrees a peer of so many stands
+-- at how many degrees a peer stands, of `count` peers
 abbrev pub degrees : ℕ → PeerNo → ℕ
 degrees count p = ((p.0 * 360) / max 1 count) % 360

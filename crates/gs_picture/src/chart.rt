@@ -57,7 +57,7 @@ fn push_each_level(alloc: Global, text: &mut Vec<u8>, levels: &[u8]) -> Result<(
     Ok(())
 }
 
-/// Adds the line of so many quarters of the peers.
+/// Adds the line of this many quarters of the peers.
 fn push_level(alloc: Global, text: &mut Vec<u8>, quarters: u8) -> Result<(), AllocError>
     ensures { OnOk result (text.new.items ≡ text.old.items ++ level_text quarters) }
 {
@@ -93,7 +93,7 @@ fn push_each_tick(
     Ok(())
 }
 
-/// Adds the line of so many ticks.
+/// Adds the line of this many ticks.
 fn push_tick(alloc: Global, text: &mut Vec<u8>, step: u64, ticks: u8) -> Result<(), AllocError>
     ensures { OnOk result (text.new.items ≡ text.old.items ++ tick_text step ticks) }
 {
@@ -108,7 +108,7 @@ fn push_tick(alloc: Global, text: &mut Vec<u8>, step: u64, ticks: u8) -> Result<
     push_piece(text, Piece::TextEnds)
 }
 
-/// How many rounds so many ticks are.
+/// How many rounds this many ticks are.
 fn rounds_of(step: u64, ticks: u8) -> u128
     ensures { result ≡ step * ticks }
 {
@@ -190,7 +190,7 @@ fn across(step: u64, round: u64) -> u128
     60 + 80 * u128::from(round) / u128::from(step).max(1)
 }
 
-/// Where so many of all peers lie from above.
+/// How far from above `reached` of `count` peers lie.
 fn up(count: usize, reached: usize) -> u128
     ensures { result ≡ up count reached }
 {
@@ -203,7 +203,7 @@ fn by_round(rounds: &[u64], round: u64) -> usize
     rounds.iter().filter(|other| **other <= round).count()
 }
 
-/// How so many lines are drawn: the more there are, the paler they are.
+/// How this many lines are drawn: the more there are, the paler they are.
 fn line_kind(lines: usize) -> &'static str
     ensures { result.now ≡ line_kind lines }
 {

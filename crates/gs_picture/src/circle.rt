@@ -74,7 +74,7 @@ fn push_labels(
     Ok(())
 }
 
-/// Where the disc of a peer of so many stands.
+/// Where the disc of a peer stands, of `count` peers.
 fn stands(count: usize, peer: PeerNo) -> Point
     ensures { result ≡ stands count peer }
 {

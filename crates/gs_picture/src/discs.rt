@@ -107,7 +107,7 @@ fn is_joined(topic: &Topic, peer: PeerNo, one: &(PeerNo, Finished)) -> bool
     one.0 == peer && joined(topic, one.1.trace.entries())
 }
 
-/// Whether a peer is subscribed to a topic behind these entries.
+/// Whether a peer is subscribed to a topic after these entries.
 fn joined(topic: &Topic, entries: &[StoredEntry]) -> bool
     ensures { result ≡ joined (reverse entries.now) topic.now }
 {

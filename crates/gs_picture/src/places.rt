@@ -10,7 +10,7 @@ pub(crate) const DISC_RADIUS: u16 = 220;
 /// How far names are from it.
 pub(crate) const LABEL_RADIUS: u16 = 238;
 
-/// Up to so many peers have their names in a row, and more have them along the radius.
+/// Up to this many peers have their names in a row, and more have them along the radius.
 pub(crate) const MOST_LEVEL: usize = 16;
 
 /// A place in the picture: its distance from the left and from above.
@@ -30,7 +30,7 @@ static SINES: [u16; 91] = [
     9877, 9903, 9925, 9945, 9962, 9976, 9986, 9994, 9998, 10_000,
 ];
 
-/// The sine of so many degrees in ten-thousandths, and 0 above 90.
+/// The sine of this many degrees in ten-thousandths, and 0 above 90.
 #[tactic(auto, unfolding(crate::specs::Places::sines))]
 fn sine(degrees: u64) -> u16
     ensures { result ≡ sine degrees }
@@ -38,7 +38,7 @@ fn sine(degrees: u64) -> u16
     sine_in(&SINES, degrees)
 }
 
-/// The entry of a table at so many degrees, and 0 behind its end.
+/// The entry of a table at this many degrees, and 0 after its end.
 fn sine_in(table: &[u16], degrees: u64) -> u16
     ensures { result ≡ unwrap_or (slice_get table.now degrees) 0 }
 {
@@ -48,14 +48,14 @@ fn sine_in(table: &[u16], degrees: u64) -> u16
     }
 }
 
-/// How far one goes across on so many degrees.
+/// How far one goes across on this many degrees.
 fn leg(radius: u16, degrees: u64) -> u64
     ensures { result ≡ leg radius degrees }
 {
     u64::from(radius) * u64::from(sine(degrees)) / 10_000
 }
 
-/// The place at so many degrees from the top, clockwise.
+/// The place at this many degrees from the top, clockwise.
 pub(crate) fn on_circle(radius: u16, degrees: u64) -> Point
     ensures { result ≡ on_circle radius degrees }
 {
@@ -83,7 +83,7 @@ pub(crate) fn on_circle(radius: u16, degrees: u64) -> Point
     }
 }
 
-/// At how many degrees a peer of so many stands.
+/// At how many degrees a peer stands, of `count` peers.
 pub(crate) fn degrees(count: usize, peer: PeerNo) -> u64
     ensures { result ≡ degrees count peer }
 {

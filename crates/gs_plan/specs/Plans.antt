@@ -1,4 +1,4 @@
--- Who is joined in a plan, the words for what a peer is told to do, and what is known of every plan that was read.
+-- Who is joined in a plan, the words for what a peer is to do, and what is known of every plan that was read.
 use Rattle.std.specs.Prelude.{◌≡◌, ◌≤◌, ◌<◌, ◌≤ℤ◌, ◌%◌, ◌^◌, ◌&&◌, ◌||◌, ◌==◌, ℕ, nat_eq, ℤ, pos, neg_ℤ, Bool, true, false, codes, List, length, All, AllPairs, Ok, Option, Some, None, IfSome}
 use Rattle.std.specs.List.{list_any}
 use Rattle.std.specs.Cmp.Lexicographic.{pointwise}
@@ -113,7 +113,7 @@ has_topic topics topic = list_any (λ (known : Topic × TopicParams). same_topic
 
 -- ---- words
 
--- the word for what a peer is told to do
+-- the word for what a peer is to do
 abbrev pub what_word : What → List ℕ
 what_word (Subscribe topic) = codes "subscribe"
 what_word (Unsubscribe topic) = codes "unsubscribe"

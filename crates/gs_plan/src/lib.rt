@@ -1,4 +1,4 @@
-//! What is simulated: the peers of a run, who dials whom, and what they are told to do.
+//! What is simulated: the peers of a run, who dials whom, and what they are to do.
 #![tactic(auto)]
 
 mod plan;

@@ -44,7 +44,7 @@ pub struct Plan {
     pub apps: Seq<App>,
     /// Which neighbours are explicit, in file order: each pair at most once.
     pub explicit: Seq<Explicit>,
-    /// What the peers are told to do, in file order.
+    /// What the peers are to do, in file order.
     pub script: Seq<Line>,
 }
 
@@ -55,7 +55,7 @@ pub struct PlannedPeer {
     pub name: Text,
     /// Where it is: neighbours at one address count against each other (P6).
     pub address: Text,
-    /// The first of its random words. Behind them come those of its generator (`SeededWords`).
+    /// The first of its random words. Those of its generator come after them (`SeededWords`).
     pub words: Seq<u32>,
 }
 
@@ -83,14 +83,14 @@ pub struct Explicit {
     pub about: PeerNo,
 }
 
-/// Something that a peer is told to do.
+/// Something that a peer is to do.
 #[derive(Debug, Drop, PartialEq, Eq)]
 pub struct Line {
     /// The round in which it is done: 0 to the last.
     pub at: u64,
-    /// The peer that is told.
+    /// The peer that is to do it.
     pub peer: PeerNo,
-    /// What it is told. A peer that can't follow it notes why, and goes on.
+    /// What it is to do. A peer that can't do it notes why, and goes on.
     pub what: What,
 }
 
@@ -110,7 +110,7 @@ impl ExactClone for Line {
     ghost exact = { λ source copy same. same };
 }
 
-/// What a peer may be told to do.
+/// What a line of the script may ask of a peer.
 #[derive(Debug, Drop, PartialEq, Eq)]
 pub enum What {
     /// Subscribe to a topic (gossipsub v1.0, "Topic Membership", JOIN).

@@ -1,25 +1,25 @@
-//! The words for what a peer is told to do, in a scenario and in a report.
+//! The words for what a peer is to do, in a scenario and in a report.
 ghost use Rattle.std.specs.Prelude.{◌≡◌};
 ghost use Rattle.gs_plan.specs.Plans.{what_word};
 
 use crate::plan::What;
 
-/// The word that tells a peer to subscribe.
+/// The word that asks a peer to subscribe.
 pub const SUBSCRIBE: &str = "subscribe";
 
-/// The word that tells a peer to leave a topic.
+/// The word that asks a peer to leave a topic.
 pub const UNSUBSCRIBE: &str = "unsubscribe";
 
-/// The word that tells a peer to publish.
+/// The word that asks a peer to publish.
 pub const PUBLISH: &str = "publish";
 
-/// The word that tells a peer to put bytes on a link as they are.
+/// The word that asks a peer to put bytes on a link as they are.
 pub const RAW: &str = "raw";
 
-/// The word that tells a peer to close the link to a neighbour.
+/// The word that asks a peer to close the link to a neighbour.
 pub const HANG_UP: &str = "hang_up";
 
-/// The word for what a peer is told to do.
+/// The word for what a peer is to do.
 pub fn what_word(what: &What) -> &'static str
     ensures { result.now ≡ what_word what.now }
 {

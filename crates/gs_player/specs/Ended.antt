@@ -10,7 +10,7 @@ ends r (Byte b ∷ w) = ends r w
 ends r (EndOf k ∷ w) = if nat_eq k r then true else ends r w
 ends r (Close ∷ w) = true
 
--- so many rounds have ended in it
+-- the first r rounds have ended in it
 abbrev pub whole : ℕ → Said → Bool
 whole zero w = true
 whole (suc r) w = whole r w && ends r (after r w)

@@ -36,6 +36,6 @@ RpcsFit rpcs = AllByRecursion (λ rpc. codec.fits rpc ≡ true) rpcs
 abbrev pub own_lines : ℕ → List (ℕ × Line) → List Todo
 own_lines r lines = map obey (filter (is_at r) lines)
 
--- what there is to do in a round behind what is heard
+-- what there is to do in a round after what is heard
 abbrev pub behind_heard : Peer → ℕ → Millis → List (ℕ × Line) → List Todo
 behind_heard p r now lines = own_lines r lines ++ (decays_in p r now ++ (beats_in p r now ++ EndRound r ∷ []))

@@ -14,7 +14,7 @@ use std::snapshot::Snapshot;
 pub struct Agenda {
     /// By the number of the round, and there in file order.
     rounds: IndexMap<u64, Vec<(usize, Line)>>,
-    /// All of them, for proofs alone.
+    /// All of them, for proofs only.
     all: Snapshot<Vec<(usize, Line)>>,
 }
 
@@ -58,7 +58,7 @@ impl Agenda {
     }
 }
 
-/// Adds a line behind those of its round.
+/// Adds a line after those of its round.
 fn add(
     alloc: Global,
     rounds: &mut IndexMap<u64, Vec<(usize, Line)>>,

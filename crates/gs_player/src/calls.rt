@@ -139,7 +139,7 @@ fn beat_if_due(
     Ok(())
 }
 
-/// Whether what comes every so many milliseconds is due in a round at this moment: never in the first one.
+/// Whether something with this period in milliseconds is due in a round at this moment: never in the first one.
 fn is_due(every: u64, round: u64, now: Millis) -> bool
     ensures { result ≡ is_due every round now }
 {
@@ -149,7 +149,7 @@ fn is_due(every: u64, round: u64, now: Millis) -> bool
     now.0.is_multiple_of(every)
 }
 
-/// A call that only want of memory can keep from being done.
+/// A call that fails only when memory runs out.
 pub fn never_refused(told: Result<(), RouterFault>) -> Result<(), AllocError>
     ensures { OnOk result (IsOk told) }
 {

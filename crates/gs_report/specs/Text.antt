@@ -42,7 +42,7 @@ digit n power = 48 + n / power % 10
 abbrev pub six_digits : ℕ → List ℕ
 six_digits n = map (digit n) (100_000 ∷ 10_000 ∷ 1_000 ∷ 100 ∷ 10 ∷ 1 ∷ [])
 
--- whole millionths as a number with six digits behind the point
+-- whole millionths as a number with six digits after the point
 abbrev pub score_text : ℤ → List ℕ
 score_text z =
     (if int_lt z (pos 0) then codes "-" else [])

@@ -297,7 +297,7 @@ fn push_score(
     text.extend_from_slice(b"\n")
 }
 
-/// Adds whole millionths as a number with six digits behind the point.
+/// Adds whole millionths as a number with six digits after the point.
 fn push_millionths(alloc: Global, text: &mut Vec<u8>, score: i128) -> Result<(), AllocError>
     ensures { OnOk result (text.new.items ≡ text.old.items ++ score_text score) }
 {

@@ -24,7 +24,7 @@ accepting_graft at q graft = record (bare at (GraftIn q graft)) {
   marks = entering (each_on (topic_or_empty graft.topic) (q ∷ []));
 }
 
--- the entry of a GRAFT of which this becomes
+-- the entry of a GRAFT with this answer
 abbrev pub answered : Peer → Millis → PeerNo → Graft → GraftAnswer → Entry
 answered p at q graft PassedOver = bare at (GraftIn q graft)
 answered p at q graft TooSoon = refusing p at q graft (Misbehaviour q ∷ [])

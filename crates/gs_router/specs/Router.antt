@@ -17,7 +17,7 @@ use Rattle.gs_router.specs.declared.state.State.{State}
 use Rattle.gs_router.specs.Known.{peer_with}
 use Rattle.gs_router.specs.State.{IsReady, Appends, BreaksOff}
 
--- what is given of it, what it did, and whether it met want of memory
+-- what is given of it, what it did, and whether it ran out of memory
 pub record RouterView : Type 0 where
   pub peer : Peer
   pub trace : Entries
@@ -26,7 +26,7 @@ pub record RouterView : Type 0 where
 abbrev pub view_of : State → Bool → RouterView
 view_of s is_stopped = record { peer = peer_with s.known.setup; trace = s.trace; is_stopped = is_stopped }
 
--- the trace is legal, and until the router has met want of memory it may go on
+-- the trace is legal, and it may go on until the router runs out of memory
 pub record IsSound (s : State) (is_stopped : Bool) : Type 0 where
   pub legal : Legal (peer_with s.known.setup) s.trace
   pub ready : is_stopped ≡ false → IsReady s
@@ -36,7 +36,7 @@ abbrev pub number_of : RouterFault → ℕ
 number_of (Refused why) = refusals.number_of why
 number_of NoMemory = 20
 
--- why a call for an event is refused, or for none: once the router met want of memory, everything is
+-- why a call for an event, or for none, is refused: everything is, once the router ran out of memory
 abbrev pub refusal_if : Peer → Entries → ℕ → Option Event → Option Refusal
 refusal_if p L at None = None
 refusal_if p L at (Some event) = refusal p L at event
@@ -52,8 +52,8 @@ IsLoss q event = lost event ≡ Some q
 
 -- ---- how a call ends
 
--- where memory was wanting: nothing came, or an entry of the event and some of what it owes; without an event none
--- can be
+-- where memory ran out: nothing came, or an entry of the event and some of what it owes; without an event this
+-- cannot be
 abbrev pub Breaks : Peer → Millis → Option Event → Entries → Entries → Type 0
 Breaks p now None K L = ⊥
 Breaks p now (Some event) K L = BreaksOff p now event K L
@@ -73,7 +73,7 @@ pub record Declined (m : Mode) (why : Refusal) (event : Option Event) (now : Mil
   pub unchanged : new ≡ old
   pub undrawn : t ≡ s
 
--- Memory was wanting. The trace ends with the last whole entry, up to which choices led, and everything is refused
+-- Memory ran out. The trace ends with the last whole entry, up to which choices led, and everything is refused
 -- from now on.
 pub record BrokenOff (m : Mode) (event : Option Event) (now : Millis)
     (old : RouterView) (s : m.State) (new : RouterView) : Type 0 where

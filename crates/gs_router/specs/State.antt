@@ -48,7 +48,7 @@ pub record Adds (m : Mode) (p : Peer) (event : Event) (now : Millis)
   pub opened : entry.event ≡ event
   pub legal : LegalOn m p s K (entry ∷ []) t
 
--- How a step ends: the event came, by choices that lead from s to t, or nothing came for want of memory.
+-- How a step ends: the event came, by choices that lead from s to t, or memory ran out and nothing came.
 pub record Steps {A E : Type 0} (m : Mode) (event : Event) (now : Millis)
     (old : State) (s : m.State) (result : Result A E) (new : State) (t : m.State) : Type 0 where
   pub added : OnOk result (Adds m (peer_of old) event now old.trace s new.trace t)
@@ -60,8 +60,8 @@ pub record Steps {A E : Type 0} (m : Mode) (event : Event) (now : Millis)
 abbrev pub BreaksOff : Peer → Millis → Event → Entries → Entries → Type 0
 BreaksOff p now event K L = (L ≡ K) ⊎ Begins p now event K L
 
--- How the work on an event ends: it came with all that it owes, by choices that lead from s to t, or broke off for
--- want of memory.
+-- How the work on an event ends: it came with all that it owes, by choices that lead from s to t, or broke off
+-- when memory ran out.
 pub record Ends {A E : Type 0} (m : Mode) (event : Event) (now : Millis)
     (old : State) (s : m.State) (result : Result A E) (new : State) (t : m.State) : Type 0 where
   pub opened : OnOk result (Opens (peer_of old) now event old.trace new.trace)

@@ -140,13 +140,13 @@ abbrev pub keeping_in : Messages → MsgId → Option Keeping
 keeping_in table id =
     option_map (λ (c : Cached). record { topic = c.topic; message = c.message; age = c.age }) (cached table.cache id)
 
--- what a mark leaves of the answers that are left to a neighbour, of so many at first
+-- what a mark leaves of the answers that are left to a neighbour, of `most` at first
 abbrev pub left_after : ℕ → PeerNo → MsgId → Mark → Option ℕ → Option ℕ
 left_after most q id (marks.Cached other t) before = all_left other most id before
 left_after most q id (marks.Answered p other) before = one_less other p id q before
 left_after most q id other before = before
 
--- of so many answers at first these are left to a neighbour, where a message is kept
+-- how many of `most` answers at first are left to a neighbour, where a message is kept
 abbrev pub left_of : ℕ → Option Keeping → ℕ → Option ℕ
 left_of most keeping given = option_map (λ (k : Keeping). most - given) keeping
 
@@ -195,7 +195,7 @@ budget_of p = record {
   ids = min p.params.timing.max_ihave_ids most_identifiers;
 }
 
--- what is left of a neighbour's budget behind what its offers and requests to it counted
+-- what is left of a neighbour's budget after what its offers and requests to it counted
 abbrev pub budget_left : Budget → Entries → PeerNo → Budget
 budget_left full L q = record { offers = full.offers - offers L q; ids = full.ids - asked L q }
 

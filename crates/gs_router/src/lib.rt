@@ -1,4 +1,4 @@
-//! A gossipsub router: what one peer does about what it hears and what its user tells it.
+//! A gossipsub router: what one peer does about what it hears and what its user asks of it.
 #![tactic(auto)]
 
 mod entries;

@@ -77,7 +77,7 @@ fn put_in(peers: &mut Vec<PeerNo>, peer: PeerNo) -> Result<(), AllocError>
     Ok(())
 }
 
-/// How many of these peers stand ahead of the first one that isn't below a peer.
+/// How many of these peers stand before the first one that isn't below a peer.
 fn place_of(peers: &[PeerNo], peer: PeerNo) -> usize
     ensures within { result ≤ length peers.now }
     ensures place { put_in peer peers.now ≡ take result peers.now ++ put_in peer (drop result peers.now) }
@@ -90,7 +90,7 @@ fn place_of(peers: &[PeerNo], peer: PeerNo) -> usize
     place
 }
 
-/// How many of so many places these leave.
+/// How many of `size` places these peers leave.
 pub fn left_of(size: usize, peers: &[PeerNo]) -> usize
     ensures { result ≡ size - length peers.now }
 {

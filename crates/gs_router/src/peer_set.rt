@@ -9,7 +9,7 @@ use std::alloc::{AllocError, Global};
 /// A set of peers. A look-up goes by the peer's number and hashes nothing.
 #[derive(Debug, Drop)]
 pub struct PeerSet {
-    /// Whether a peer is in the set, by its number; those behind the end are not.
+    /// Whether a peer is in the set, by its number. Those after the end are not.
     flags: Vec<bool>,
 }
 

@@ -1,6 +1,6 @@
 //! A router: what one gossipsub peer does, and its trace. It takes nothing from anywhere and sends
 //! nothing: what comes is handed in, and what is sent stands in the trace.
-ghost use Rattle.std.specs.Prelude.{◌≡◌, ◌≤◌, ◌^◌, ◌||◌, [], Some, true, false, unsigned_abs, All, IfOk};
+ghost use Rattle.std.specs.Prelude.{◌≡◌, ◌≤◌, ◌^◌, ◌||◌, [], Some, false, unsigned_abs, All, IfOk};
 ghost use Rattle.gs_base.specs.Names.{peers_of};
 ghost use Rattle.gs_base.specs.declared.neighbour.Neighbour.{Neighbour as NeighbourValue};
 ghost use Rattle.gs_params.specs.Params.{AreInRange};
@@ -8,11 +8,10 @@ ghost use Rattle.gs_params.specs.Picks.{IsAscending};
 ghost use Rattle.gs_rules.specs.declared.trace.Event.TheVariants as events;
 ghost use Rattle.gs_rules.specs.Tables.{last_moment};
 ghost use Rattle.gs_rules.specs.Modes.{exact};
-ghost use Rattle.gs_rules.specs.Legal.{hearing, losing};
-ghost use Rattle.gs_wire.specs.Codec.{codec};
 ghost use Rattle.gs_router.specs.Wishes.{wished};
-ghost use Rattle.gs_router.specs.Router.{Calls, IsLoss, answer_of, fails};
+ghost use Rattle.gs_router.specs.Router.{Calls, answer_of, fails};
 
+mod hearing;
 mod reading;
 
 use crate::entries;
@@ -23,7 +22,7 @@ use crate::state::State;
 use crate::tables::Tables;
 use crate::wish::Wish;
 use bytes::Bytes;
-use gs_base::{Millis, Neighbour, PeerNo, Rpc, Shared, Topic};
+use gs_base::{Millis, Neighbour, PeerNo, Topic};
 use gs_cache::Payloads;
 use gs_params::{Params, Words};
 use gs_rules::{Event, Refusal, Trace};
@@ -39,8 +38,8 @@ use std::mem;
 /// law (`what_is_given_draws_no_word`).
 ///
 /// `now`, in milliseconds, is never earlier than the last moment of the trace. A call that is refused changes
-/// nothing and draws no word. After want of memory the trace ends with the last entry that was whole, and every
-/// call is refused as `Stopped`; after `shut` every call of the user is.
+/// nothing and draws no word. Once the router ran out of memory, the trace ends with the last whole entry, and
+/// every call is refused as `Stopped`. After `shut`, every call of the user is.
 #[derive(Drop)]
 pub struct Router {
     state: State,
@@ -98,97 +97,12 @@ impl Router {
         })
     }
 
-    /// Hears an RPC that came from a neighbour and fits a frame, as all do that a reader gives. Where the
-    /// neighbour is not up, it is late, and has no effect; of one that is on the graylist, no part has any (gossipsub
-    /// v1.1, "Score Thresholds").
-    ///
-    /// # Errors
-    /// `Stopped` after want of memory, and `NoMemory`.
-    pub fn hear<W: Words>(
-        &mut self,
-        from: PeerNo,
-        rpc: Rpc,
-        now: Millis,
-        words: &mut W,
-    ) -> Result<(), RouterFault>
-        requires time { last_moment self.old.trace ≤ now.0 }
-        requires fits { codec.fits rpc ≡ true }
-        ensures { Calls (exact W.word W.after) (Some (hearing self.old.trace from rpc)) now
-            self.old words.old result self.new words.new }
-    {
-        if self.is_stopped {
-            return Err(RouterFault::Refused(Refusal::Stopped));
-        }
-        let done = self.state.hear(&mut self.payloads, from, rpc, now, words);
-        ended(&mut self.is_stopped, done)
-    }
-
-    /// Hears an RPC that others share, as `hear` does: what is kept of it is shared, and nothing is copied.
-    ///
-    /// # Errors
-    /// `Stopped` after the router was out of memory, and `NoMemory`.
-    pub fn hear_shared<W: Words>(
-        &mut self,
-        from: PeerNo,
-        rpc: Shared<Rpc>,
-        now: Millis,
-        words: &mut W,
-    ) -> Result<(), RouterFault>
-        requires time { last_moment self.old.trace ≤ now.0 }
-        requires fits { codec.fits rpc ≡ true }
-        ensures { Calls (exact W.word W.after) (Some (hearing self.old.trace from rpc)) now
-            self.old words.old result self.new words.new }
-    {
-        if self.is_stopped {
-            return Err(RouterFault::Refused(Refusal::Stopped));
-        }
-        let done = self
-            .state
-            .hear_shared(&mut self.payloads, from, rpc, now, words);
-        ended(&mut self.is_stopped, done)
-    }
-
     /// Exchanges what the router keeps of payloads with what is lent. All routers of one thread can so share one, and the
     /// hash of a payload is computed once. What a router does does not depend on which payloads are kept.
     pub fn exchange_payloads(&mut self, payloads: &mut Payloads)
         ensures { self.new ≡ self.old }
     {
         mem::swap(&mut self.payloads, payloads);
-    }
-
-    /// Learns that a neighbour has closed its link. Where it is not up, this does nothing.
-    ///
-    /// # Errors
-    /// `Stopped` after want of memory, and `NoMemory`.
-    pub fn gone<W: Words>(
-        &mut self,
-        peer: PeerNo,
-        now: Millis,
-        words: &mut W,
-    ) -> Result<(), RouterFault>
-        requires { last_moment self.old.trace ≤ now.0 }
-        ensures { Calls (exact W.word W.after) (losing self.old.trace peer (events.Gone peer)) now
-            self.old words.old result self.new words.new }
-    {
-        self.lose(peer, Event::Gone(peer), now, words)
-    }
-
-    /// Learns that a neighbour's bytes spell no RPC, or end within one. Where it is not up, this does
-    /// nothing.
-    ///
-    /// # Errors
-    /// `Stopped` after want of memory, and `NoMemory`.
-    pub fn fault<W: Words>(
-        &mut self,
-        peer: PeerNo,
-        now: Millis,
-        words: &mut W,
-    ) -> Result<(), RouterFault>
-        requires { last_moment self.old.trace ≤ now.0 }
-        ensures { Calls (exact W.word W.after) (losing self.old.trace peer (events.Fault peer)) now
-            self.old words.old result self.new words.new }
-    {
-        self.lose(peer, Event::Fault(peer), now, words)
     }
 
     /// Subscribes to a topic, announces it to every neighbour that is up, and grafts up to `d` of those that may come into
@@ -209,8 +123,8 @@ impl Router {
         self.obey(Wish::Subscribe(topic), now, words)
     }
 
-    /// Leaves a topic, tells every neighbour that is up, and prunes each member of its mesh, which is not to come back for
-    /// `unsubscribe_backoff_s` (gossipsub v1.0, "Topic Membership"; v1.1, "Prune Backoff").
+    /// Leaves a topic, announces this to every neighbour that is up, and prunes each member of its mesh. No member is
+    /// to come back for `unsubscribe_backoff_s` (gossipsub v1.0, "Topic Membership"; v1.1, "Prune Backoff").
     ///
     /// # Errors
     /// `Stopped` and `NotJoined`, in this order, and `NoMemory`.
@@ -249,10 +163,10 @@ impl Router {
         self.obey(Wish::Publish(topic, payload), now, words)
     }
 
-    /// Closes the link to a neighbour, behind what was sent to it. The neighbour leaves every mesh and every fanout; what is
-    /// missing of its deliveries in those meshes is charged (gossipsub v1.1, "Peer Scoring", P3b), and it counts no more at
-    /// its address (P6). It is sent nothing any more, what still comes of it is late, and neither the end of its link nor
-    /// its faults make an entry.
+    /// Closes the link to a neighbour, after what was sent to it. The neighbour leaves every mesh and every fanout.
+    /// What is missing of its deliveries in those meshes is charged (gossipsub v1.1, "Peer Scoring", P3b), and it
+    /// counts no more at its address (P6). It is sent nothing any more, what still comes of it is late, and neither the
+    /// end of its link nor its faults make an entry.
     ///
     /// # Errors
     /// `Stopped` and `NotOpen`, in this order, and `NoMemory`.
@@ -269,8 +183,8 @@ impl Router {
         self.obey(Wish::HangUp(peer), now, words)
     }
 
-    /// Puts any number of bytes on the link to a neighbour as they are, whether they spell an RPC or not, behind what was sent
-    /// to it and ahead of what is sent later. Nothing else changes.
+    /// Puts any number of bytes on the link to a neighbour as they are, whether they spell an RPC or not. They come
+    /// after what was sent to it and before what is sent later. Nothing else changes.
     ///
     /// # Errors
     /// `Stopped` and `NotOpen`, in this order, and `NoMemory`.
@@ -366,32 +280,9 @@ impl Router {
         let done = self.state.open(&mut self.payloads, event, now, words);
         ended(&mut self.is_stopped, done)
     }
-
-    /// Loses a neighbour by an event, where it is up.
-    fn lose<W: Words>(
-        &mut self,
-        peer: PeerNo,
-        event: Event,
-        now: Millis,
-        words: &mut W,
-    ) -> Result<(), RouterFault>
-        requires time { last_moment self.old.trace ≤ now.0 }
-        requires loss { IsLoss peer event }
-        ensures { Calls (exact W.word W.after) (losing self.old.trace peer event) now
-            self.old words.old result self.new words.new }
-    {
-        if self.is_stopped {
-            return Err(RouterFault::Refused(Refusal::Stopped));
-        }
-        if !self.state.known.tables.neighbours.is_up(peer) {
-            return Ok(());
-        }
-        let done = self.state.open(&mut self.payloads, event, now, words);
-        ended(&mut self.is_stopped, done)
-    }
 }
 
-/// How a call ends: after want of memory the router has stopped.
+/// How a call ends: where the router was out of memory, it has stopped.
 fn ended(is_stopped: &mut bool, done: Result<(), AllocError>) -> Result<(), RouterFault>
     ensures answer { result ≡ answer_of done }
     ensures stopped { is_stopped.new ≡ (is_stopped.old || fails done) }

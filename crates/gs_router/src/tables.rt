@@ -1,5 +1,5 @@
 //! What a router knows beside its trace, so that no call looks through that. Each table is brought
-//! up to date from an entry alone: its event and its marks.
+//! up to date from an entry and nothing else: its event and its marks.
 ghost use Rattle.std.specs.Prelude.{◌≡◌, ◌≤◌, ◌<◌, ◌^◌, [], ◌∷◌, unsigned_abs, All, OnOk, IfOk};
 ghost use Rattle.gs_base.specs.Names.{peers_of};
 ghost use Rattle.gs_base.specs.declared.neighbour.Neighbour.{Neighbour as NeighbourValue};

@@ -29,8 +29,8 @@ scored_member p L at q = record { peer = q; score = score p L at q; outbound = i
 abbrev pub scored_members : Peer → Entries → ℕ → List PeerNo → List Member
 scored_members p L at qs = map (scored_member p L at) qs
 
--- Those who go are told, are charged with what is missing, and are not to come back for a while; those who come in are
--- told.
+-- Those who go are sent a PRUNE, are charged with what is missing, and are not to come back for a while. Those who come
+-- in are sent a GRAFT.
 abbrev pub mending : Peer → Entries → Millis → Topic → MeshChange → Entry
 mending p L at t change = record (bare at (MeshBeat t)) {
   sends = to_each (pruning t p.params.timing.prune_backoff_s) change.pruned ++ to_each (grafting t) change.grafted;

@@ -54,12 +54,12 @@ pub record WasLeftOpen (L : Entries) (promise : Promise) : Type 0 where
 
 -- ---- what is gossiped (gossipsub v1.0, "Gossip Emission")
 
--- whether a message is gossiped on a topic: for so many heartbeats since it was kept
+-- whether a message is gossiped on a topic: for this many heartbeats since it was kept
 abbrev pub is_gossiped : ℕ → Topic → Option Keeping → Bool
 is_gossiped most t None = false
 is_gossiped most t (Some k) = nat_lt k.age most && same_topic k.topic t
 
--- the last ones of a list, so many at most
+-- the last ones of a list, at most this many
 abbrev pub last_of : {A : Type 0} → ℕ → List A → List A
 last_of n xs = drop (length xs - n) xs
 
@@ -74,14 +74,14 @@ abbrev pub gossipable : Peer → Entries → Topic → List MsgId
 gossipable p L t =
     filter (λ id. is_gossiped p.params.timing.mcache_gossip t (kept (windows p) L id)) (keeping_order L)
 
--- A message is kept as one of a topic, and was kept within so many heartbeats as messages are gossiped for.
+-- A message is kept as one of a topic, and its age is below the number of heartbeats for which messages are gossiped.
 pub record IsKeptOn (p : Peer) (L : Entries) (t : Topic) (id : MsgId) : Type 0 where
   pub found : Keeping
   pub is_kept : kept (windows p) L id ≡ Some found
   pub on_topic : same_topic found.topic t ≡ true
   pub young : found.age < p.params.timing.mcache_gossip
 
--- how many of so many neighbours are told: a part of them, and no fewer than a number, where there are so many
+-- how many of n neighbours are sent gossip: a part of them, and at least `d_lazy`, or all where there are fewer
 -- (gossipsub v1.1, "Adaptive Gossip Dissemination")
 abbrev pub gossip_size : Peer → ℕ → ℕ
 gossip_size p n = min n (max p.params.degrees.d_lazy (p.params.factors.gossip_factor * n / 1_000_000))

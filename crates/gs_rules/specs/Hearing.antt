@@ -16,14 +16,14 @@ front r (Byte b ∷ w) = Byte b ∷ front r w
 front r (EndOf k ∷ w) = if nat_eq k r then [] else front r w
 front r (Close ∷ w) = Close ∷ []
 
--- what stands behind the end of round r; a close stays where it comes before that
+-- what stands after the end of round r; a close stays where it comes before that
 abbrev pub behind : ℕ → Said → Said
 behind r [] = []
 behind r (Byte b ∷ w) = behind r w
 behind r (EndOf k ∷ w) = if nat_eq k r then w else behind r w
 behind r (Close ∷ w) = Close ∷ w
 
--- what is left behind so many rounds
+-- what is left after the first r rounds
 abbrev pub after : ℕ → Said → Said
 after zero w = w
 after (suc r) w = behind r (after r w)
@@ -32,7 +32,7 @@ after (suc r) w = behind r (after r w)
 abbrev pub said_in : ℕ → Said → Said
 said_in r w = front r (after r w)
 
--- the bytes that are said in the first so many rounds
+-- the bytes that are said in the first r rounds
 abbrev pub bytes_before : ℕ → Said → List ℕ
 bytes_before zero w = []
 bytes_before (suc r) w = bytes_before r w ++ bytes_of (said_in r w)
@@ -54,7 +54,7 @@ Spell bytes rpcs = (rest : List ℕ) × (end : End) × IsStream longest_body byt
 pub record Inbound : Type 0 where
   -- the RPCs whose last byte stands in it
   pub rpcs : List Rpc
-  -- what is left behind them, and how that goes on
+  -- what is left after them, and how that goes on
   pub rest : List ℕ
   pub end : End
   -- whether the neighbour closes its link
@@ -75,6 +75,6 @@ abbrev pub ComesIn : ℕ → Said → Inbound → Type 0
 ComesIn zero w x = x ≡ silence
 ComesIn (suc r) w x = IsBetween (bytes_before r w) (bytes_before (suc r) w) x × (x.closes ≡ closes (said_in r w))
 
--- and after so many rounds: all that was not heard in them
+-- and after round r: all that was not heard by its end
 abbrev pub ComesAfter : ℕ → Said → Inbound → Type 0
 ComesAfter r w x = IsBetween (bytes_before r w) (bytes_of w) x × (x.closes ≡ closes (after r w))

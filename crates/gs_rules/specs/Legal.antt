@@ -101,7 +101,7 @@ losing L q event = if up L q then Some event else None
 
 -- ---- an event with what it owes
 
--- these entries came at this moment behind those, each where something was owed
+-- these entries came at this moment after those, each where something was owed
 abbrev pub ArePayments : Peer → Millis → Entries → List Entry → Type 0
 ArePayments p at L [] = Unit {0}
 ArePayments p at L (e ∷ es) = (e.at ≡ at) × ((owed p (es ++ L)).events ≢ []) × ArePayments p at L es

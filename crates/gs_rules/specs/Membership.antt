@@ -55,7 +55,7 @@ deficit_marks p L at x = if nat_eq (missing p L at x) 0 then [] else Deficit x.0
 abbrev pub leaving : Peer → Entries → ℕ → List (PeerNo × Topic) → List Mark
 leaving p L at pairs = map (λ (x : PeerNo × Topic). Pruned x.0 x.1) pairs ++ flat_map (deficit_marks p L at) pairs
 
--- these are not to come back for so many seconds
+-- these are not to come back for this many seconds
 abbrev pub barring : ℕ → ℕ → List (PeerNo × Topic) → List Mark
 barring at seconds pairs =
     map (λ (x : PeerNo × Topic). Backoff x.0 x.1 (record { 0 = min last_millis (at + 1_000 * seconds) })) pairs

@@ -24,7 +24,7 @@ use Rattle.gs_rules.specs.Rule.{AnyOf, Gives, Rule, bare, explicit_listeners, or
 
 -- ---- what neighbours say of their meshes (gossipsub v1.0, "Control messages", GRAFT and PRUNE)
 
--- a GRAFT is refused: its sender is told so, and is not to come back for a while
+-- a GRAFT is refused: its sender is sent a PRUNE, and is not to come back for a while
 abbrev pub refusing : Peer → Millis → PeerNo → Graft → List Mark → Entry
 refusing p at q graft marks = record (bare at (GraftIn q graft)) {
   sends = (q, pruning (topic_or_empty graft.topic) p.params.timing.prune_backoff_s) ∷ [];

@@ -78,7 +78,7 @@ mesh_topics L = ascending (filter (has_mesh L) (known L ++ ever_fanned L))
 abbrev pub fanout_topics : Entries → List Topic
 fanout_topics L = filter (has_fanout L) (mesh_topics L)
 
--- whether a fanout's time has come at a moment: the peer has not published on the topic for so many milliseconds
+-- whether a fanout's time has come at a moment: the peer has not published on the topic for this many milliseconds
 abbrev pub is_stale : ℕ → ℕ → Option ℕ → Bool
 is_stale ttl at None = false
 is_stale ttl at (Some published) = nat_le (published + ttl) at

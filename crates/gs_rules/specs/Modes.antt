@@ -10,7 +10,7 @@ use Rattle.gs_params.specs.Picks.{IsAscending, IsSample, picked, picked_words, p
 use Rattle.gs_rules.specs.declared.trace.Entry.{Entry}
 use Rattle.gs_rules.specs.Rules.{Rule, Gives, AnyOf, CutOf, OneOf}
 
--- How choices are made: what they are made by, which they are, what they leave behind, and how near an entry must
+-- How choices are made: what they are made by, which they are, what is left after them, and how near an entry must
 -- come to what a rule gives.
 pub record Mode : Type 1 where
   pub State : Type 0
@@ -68,13 +68,13 @@ choiceless = record {
 -- ---- by random words
 
 module _ {S : Type 0} (word : S → ℕ) (after : S → S) where
-  -- so many of the candidates by the next words, which are then drawn
+  -- k of the candidates by the next words, which are then drawn
   pub record IsPick (k : ℕ) (candidates : List PeerNo) (s : S) (chosen : List PeerNo) (t : S) : Type 0 where
     pub ascending : IsAscending candidates
     pub chosen_are : chosen ≡ picked word after k candidates s
     pub words : t ≡ picked_words word after k candidates s
 
-  -- one of so many places by the next word, which is then drawn
+  -- one of n places by the next word, which is then drawn
   pub record IsPickOfOne (n : ℕ) (s : S) (place : ℕ) (t : S) : Type 0 where
     pub some : 0 < n
     pub place_is : place ≡ picked_one word after n s

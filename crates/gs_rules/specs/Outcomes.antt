@@ -42,7 +42,7 @@ verdict_by (Some params) payload =
 abbrev pub verdict_on : List (Topic × TopicParams) → Message → Verdict
 verdict_on topics m = verdict_by (lookup (same_topic (topic_of m)) topics) (payload_of m)
 
--- a sighting is at most so many milliseconds old
+-- a sighting is at most this many milliseconds old
 abbrev pub is_soon : ℕ → ℕ → Option Sighting → Bool
 is_soon window at None = false
 is_soon window at (Some s) = nat_le (at - s.at) window
@@ -90,9 +90,9 @@ outcome p L at q m =
 abbrev pub near_of : Bool → PeerNo → Topic → MsgId → List Mark
 near_of is_member q t id = if is_member then marks.Near q t id ∷ [] else []
 
--- The entry of a message of which this becomes, where the first list is the mesh of its topic and the second the explicit
--- neighbours on it. What is accepted goes to both, but for whom it came from (gossipsub v1.0, "Message Processing"; v1.1,
--- "Explicit Peering Agreements").
+-- The entry of a message with this outcome. The first list is the mesh of its topic, and the second the explicit
+-- neighbours on it. What is accepted goes to both, but for whom it came from (gossipsub v1.0, "Message Processing";
+-- v1.1, "Explicit Peering Agreements").
 abbrev pub message_entry : List PeerNo → List PeerNo → Millis → PeerNo → Message → Outcome → Entry
 message_entry members explicit at q m Dropped = bare at (Msg q m)
 message_entry members explicit at q m Invalid = record (bare at (Msg q m)) { marks = marks.Invalid q (topic_of m) ∷ [] }

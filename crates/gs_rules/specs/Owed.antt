@@ -44,7 +44,7 @@ abbrev pub is_some_list : List MsgId → Bool
 is_some_list [] = false
 is_some_list (id ∷ ids) = true
 
--- the topics of which a peer gossips: those that have a mesh or a fanout, and on which there is something, ascending
+-- the topics on which a peer gossips: those that have a mesh or a fanout, and on which there is something, ascending
 abbrev pub gossip_topics : Peer → Entries → List Topic
 gossip_topics p L = filter (λ t. is_some_list (gossip p L t)) (mesh_topics L)
 
@@ -52,7 +52,7 @@ gossip_topics p L = filter (λ t. is_some_list (gossip p L t)) (mesh_topics L)
 abbrev pub beats : List Topic → List Event
 beats topics = map GossipBeat topics ++ BeatEnd ∷ []
 
--- the events of a group that is reached behind this trace
+-- the events of a group that is reached after this trace
 abbrev pub events_in : Peer → Entries → Group → List Event
 events_in p L (PartsOf q rpc) = parts q rpc
 events_in p L MeshBeats = map MeshBeat (own_topics L)
@@ -64,7 +64,7 @@ events_in p L Gossips = beats (gossip_topics p L)
 abbrev pub heartbeat_groups : ℕ → List Group
 heartbeat_groups at = MeshBeats ∷ FanBeats at ∷ Gossips ∷ []
 
--- The groups that an event owes which comes behind this trace at a moment. Whoever is on the graylist is heard in vain
+-- The groups that an event owes if it comes after this trace at a moment. Whoever is on the graylist is heard in vain
 -- (gossipsub v1.1, Peer Scoring, "Score Thresholds").
 abbrev pub owes : Peer → Entries → ℕ → Event → List Group
 owes p L at (Heard q rpc) = if is_graylisted p L at q then [] else PartsOf q rpc ∷ []
@@ -73,7 +73,7 @@ owes p L at other = []
 
 -- ---- debts
 
--- What must come next: what is left of the group that was reached, and the groups behind it.
+-- What must come next: what is left of the group that was reached, and the groups after it.
 pub record Debt : Type 0 where
   pub events : List Event
   pub groups : List Group
@@ -81,7 +81,7 @@ pub record Debt : Type 0 where
 abbrev pub nothing : Debt
 nothing = record { events = []; groups = [] }
 
--- a group's events and the groups behind it; where it holds none, something else
+-- a group's events and the groups after it; where it holds none, something else
 abbrev pub held_or : List Event → List Group → Debt → Debt
 held_or [] groups otherwise = otherwise
 held_or (event ∷ events) groups otherwise = record { events = event ∷ events; groups = groups }
@@ -91,16 +91,16 @@ abbrev pub reached : Peer → Entries → List Group → Debt
 reached p L [] = nothing
 reached p L (group ∷ groups) = held_or (events_in p L group) groups (reached p L groups)
 
--- one event less; behind the last one of a group the next group is reached
+-- one event less; after the last one of a group the next group is reached
 abbrev pub paid : Peer → Entries → Debt → Debt
 paid p L debt = held_or (drop 1 debt.events) debt.groups (reached p L debt.groups)
 
--- behind this trace, where an event owed these groups, and this had to come before it
+-- after this trace, where its last event owed these groups, and this had to come before that
 abbrev pub owing : Peer → Entries → List Group → Debt → Debt
 owing p L [] before = paid p L before
 owing p L (group ∷ groups) before = reached p L (group ∷ groups)
 
--- what must come after an entry behind this trace, where this had to come before it
+-- what must come after an entry that follows this trace, where this had to come before it
 abbrev pub owed_after : Peer → Entries → Entry → Debt → Debt
 owed_after p L e before = owing p (e ∷ L) (owes p L e.at.0 e.event) before
 

@@ -34,7 +34,7 @@ pub record Seat : Type 0 where
   pub round_ms : ℕ
   pub rounds : ℕ
 
--- Where it is: in a round, or behind the last one.
+-- Where it is: in a round, or after the last one.
 pub data Phase : Type 0 where
   Playing : ℕ → Phase
   Closing : Phase
@@ -66,7 +66,7 @@ is_fault ends.Waits = false
 is_fault ends.Malformed = true
 is_fault ends.TooLong = true
 
--- bytes that spell no RPC, or a close behind bytes that were not read
+-- bytes that spell no RPC, or a close after bytes that were not read
 abbrev pub is_broken : Inbound → Bool
 is_broken x = is_fault x.end || (x.closes && not (nat_eq (length x.rest) 0))
 
@@ -91,7 +91,7 @@ obey x = Obey x.0 x.1.what
 abbrev pub lines_at : Seat → ℕ → List Todo
 lines_at seat r = map obey (filter (is_at r) seat.lines)
 
--- whether what comes every so many milliseconds is due in a round: never in the first one
+-- whether something with this period in milliseconds is due in a round: never in the first one
 abbrev pub is_due : ℕ → ℕ → Millis → Bool
 is_due every r at = nat_lt 0 r && nat_eq (at.0 % every) 0
 
@@ -130,7 +130,7 @@ unless_refused event (Some why) = None
 abbrev pub PutsNoBytes : PeerNo → List (ℕ × Line) → Type 0
 PutsNoBytes q lines = AllByRecursion (λ (x : ℕ × Line). raw_to q (event_of x.1.what) ≡ []) lines
 
--- the event that it opens behind a trace, if any
+-- the event that it opens after a trace, if any
 abbrev pub opening : Peer → Entries → Millis → Todo → Option Event
 opening p L at (Hear q rpc) = Some (hearing L q rpc)
 opening p L at (HearFault q) = losing L q (events.Fault q)
@@ -145,7 +145,7 @@ abbrev pub note_of : Millis → ℕ → Option Refusal → List RefusedLine
 note_of at place None = []
 note_of at place (Some why) = record { at = at; line = place; why = why } ∷ []
 
--- what is noted of it behind a trace, where it is refused
+-- what is noted of it after a trace, where it is refused
 abbrev pub noted : Peer → Entries → Millis → Todo → List RefusedLine
 noted p L at (Obey place what) = note_of at place (refusal p L at.0 (event_of what))
 noted p L at other = []
@@ -182,7 +182,7 @@ pub record PlaysInPart (seat : Seat) (said : PeerNo → Said) (phase : Phase) (l
   pub split : agenda seat phase inbound ≡ done ++ left
   pub does : Does seat.peer (moment_of seat phase) done K L refused
 
--- the trace after so many rounds, and what was refused in them
+-- the trace after this many rounds, and what was refused in them
 abbrev pub AfterRounds : Seat → (PeerNo → Said) → ℕ → Entries → List RefusedLine → Type 0
 AfterRounds seat said zero L refused = (L ≡ []) × (refused ≡ [])
 AfterRounds seat said (suc r) L refused =
@@ -196,7 +196,7 @@ abbrev pub IsPhaseOf : Seat → Phase → Type 0
 IsPhaseOf seat (Playing r) = r ≤ seat.rounds
 IsPhaseOf seat Closing = Unit {0}
 
--- how many rounds are behind a phase
+-- how many rounds come before a phase
 abbrev pub rounds_before : Seat → Phase → ℕ
 rounds_before seat (Playing r) = r
 rounds_before seat Closing = suc seat.rounds
@@ -212,7 +212,7 @@ pub record KeepsSoFar (seat : Seat) (said : PeerNo → Said) (phase : Phase) (le
   pub part : PlaysInPart seat said phase left start L more
   pub all_refused : refused ≡ earlier ++ more
 
--- where what q says is what some legal trace says that puts frames alone on this link, what was handled of q, joined, is
+-- where q says what some legal trace says that puts only frames on this link, what was handled of q, joined, is
 -- what that trace sends, joined, but for what it has gathered and not yet put out
 abbrev pub HandlesWhatIsSent : Seat → (PeerNo → Said) → Entries → PeerNo → Type 0
 HandlesWhatIsSent seat said L q =

@@ -18,11 +18,11 @@ use Rattle.gs_rules.specs.Tables.{Entries, on, up}
 pub data Rule : Type 0 where
   -- this entry, and nothing is chosen
   Gives : Entry → Rule
-  -- any so many of these peers, or all where there are fewer
+  -- any of these peers: this many, or all where there are fewer
   AnyOf : ℕ → List PeerNo → (List PeerNo → Rule) → Rule
-  -- who is kept of a mesh that has too many members: so many, the best by score among them, equal scores as it likes
+  -- who is kept of a mesh with too many members: `d` members, the best by score among them, equal scores as it likes
   CutOf : Degrees → List Member → (List PeerNo → Rule) → Rule
-  -- one of so many places
+  -- one of this many places
   OneOf : ℕ → (ℕ → Rule) → Rule
 
 -- ---- what is done

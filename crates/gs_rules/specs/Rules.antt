@@ -1,5 +1,5 @@
--- What a peer does about an event: for each event one rule, which gives the whole entry. Rules look at the trace
--- before the entry alone.
+-- What a peer does about an event: for each event one rule, which gives the whole entry. Rules look only at the
+-- trace before the entry.
 use Rattle.std.specs.Prelude.{ℕ, ◌+◌, ◌-◌, min, Bool, not, ◌&&◌, ◌||◌, nat_eq, nat_le, nat_lt, if◌then◌else◌, List, [], ◌∷◌, ◌++◌, length, take, map, filter, fold, get_or, Option, Some, None, is_some, option_map}
 use Rattle.std.specs.List.{list_any}
 use Rattle.std.specs.Cmp.Lexicographic.{pointwise}
@@ -41,7 +41,7 @@ is_wanted p L at bytes =
 abbrev pub same_bytes : List ℕ → List ℕ → Bool
 same_bytes xs ys = pointwise nat_eq xs ys
 
--- one more behind others, if it is not among them
+-- one more after others, if it is not among them
 abbrev pub once_behind : List (List ℕ) → List ℕ → List (List ℕ)
 once_behind before id = if list_any (same_bytes id) before then before else before ++ id ∷ []
 
@@ -107,7 +107,7 @@ abbrev pub with_message : MsgId → Option Message → List (MsgId × Message)
 with_message id None = []
 with_message id (Some m) = (id, m) ∷ []
 
--- the messages that a neighbour gets for these identifiers, behind others of the same request
+-- the messages that a neighbour gets for these identifiers, after others of the same request
 abbrev pub answers : Peer → Entries → PeerNo → List MsgId → List MsgId → List (MsgId × Message)
 answers p L q ahead [] = []
 answers p L q ahead (id ∷ ids) =
@@ -131,19 +131,19 @@ want_rule p L at q request =
 abbrev pub beat_begin_rule : Peer → Entries → Millis → Entry
 beat_begin_rule p L at = record (bare at BeatBegin) { marks = all_charges p L at.0 }
 
--- these neighbours are told what there is on a topic
+-- these neighbours are offered what there is on a topic
 abbrev pub gossiping : Peer → Entries → Millis → Topic → List PeerNo → Entry
 gossiping p L at t chosen = record (bare at (GossipBeat t)) {
   sends = to_each (offering t (map (λ (id : MsgId). id.0) (gossip p L t))) chosen;
 }
 
--- the neighbours that may be told what there is on a topic: those that are up, on it, not explicit, outside its mesh and
--- its fanout, and not ignored
+-- the neighbours that may be offered what there is on a topic: those that are up, on it, not explicit, outside its mesh
+-- and its fanout, and not ignored
 abbrev pub gossip_candidates : Peer → Entries → ℕ → Topic → List PeerNo
 gossip_candidates p L at t =
     without (is_ignored p L at) (without (λ q. is_among (mesh L t) q || is_among (fanout L t) q) (ordinary_listeners p L t))
 
--- any of these are told
+-- any of these are offered it
 abbrev pub gossip_rule : Peer → Entries → Millis → Topic → Rule
 gossip_rule p L at t =
     AnyOf (gossip_size p (length (gossip_candidates p L at.0 t))) (gossip_candidates p L at.0 t)
@@ -151,8 +151,8 @@ gossip_rule p L at t =
 
 -- ---- all events
 
--- whoever is lost leaves every mesh and every fanout; of an event that loses none, and has no rule of its own, there is
--- the event alone
+-- whoever is lost leaves every mesh and every fanout; an event that loses nobody, and has no rule of its own, gives an
+-- entry with only the event
 abbrev pub lost_or_bare : Peer → Entries → Millis → Event → Option PeerNo → Entry
 lost_or_bare p L at event None = bare at event
 lost_or_bare p L at event (Some q) = lost_rule p L at q event

@@ -13,7 +13,7 @@ use Rattle.gs_rules.specs.declared.trace.Entry.{Entry}
 use Rattle.gs_rules.specs.Tables.{Entries, cuts_off, is_lost, lost, up}
 use Rattle.gs_rules.specs.Modes.{sent_to}
 
--- what an event puts behind what is sent with it: whoever is lost, or all where the peer shuts down, are told no more
+-- what an event puts after what is sent with it: a round's end, or a close for whoever is lost or for all at a shutdown
 abbrev pub sign : PeerNo → Event → Said
 sign q (RoundEnd r) = EndOf r ∷ []
 sign q Shut = Close ∷ []
@@ -49,14 +49,14 @@ gather codec (Some u) v = if codec.fits (joined_rpc u v) then ([], Some (joined_
 abbrev pub frames_of : Codec → List Rpc → Said
 frames_of codec rpcs = map Byte (flat_map codec.frame rpcs)
 
--- behind one RPC more
+-- after one more RPC
 abbrev pub sending : Codec → Outgoing → Rpc → Outgoing
 sending codec o v = record {
   said = o.said ++ frames_of codec (gather codec o.gathered v).0;
   gathered = (gather codec o.gathered v).1;
 }
 
--- behind these RPCs, the first one first
+-- after these RPCs, the first one first
 abbrev pub sending_all : Codec → Outgoing → List Rpc → Outgoing
 sending_all codec o [] = o
 sending_all codec o (v ∷ vs) = sending_all codec (sending codec o v) vs
@@ -75,12 +75,12 @@ is_cut q other = cuts_off q other
 abbrev pub saying : Outgoing → Said → Outgoing
 saying o w = record { said = o.said ++ w; gathered = o.gathered }
 
--- behind an event: a cut, and then bytes as they are and the event's sign
+-- after an event: a cut, and then bytes as they are and the event's sign
 abbrev pub behind_event : Codec → PeerNo → Outgoing → Event → Outgoing
 behind_event codec q o event =
     saying (if is_cut q event then cut_out codec o else o) (map Byte (raw_to q event) ++ sign q event)
 
--- behind one entry more: its sends are gathered ahead of its event
+-- after one more entry: its sends are gathered before its event
 abbrev pub behind_entry : Codec → PeerNo → Outgoing → Entry → Outgoing
 behind_entry codec q o e = behind_event codec q (sending_all codec o (sent_to q e.sends)) e.event
 

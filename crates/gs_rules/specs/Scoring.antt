@@ -22,8 +22,8 @@ use Rattle.gs_rules.specs.Tables.{Entries, after_marks, lost}
 abbrev pub is_neighbour : Peer → PeerNo → Bool
 is_neighbour p q = list_any (λ (n : Neighbour). same_peer q n.peer) p.neighbours
 
--- whom a message or a GRAFT came of is a neighbour: of what neighbours say these alone leave marks that count, whoever
--- says it
+-- whoever a message or a GRAFT came from is a neighbour: of what neighbours say only these leave marks that count,
+-- whoever says it
 abbrev pub IsFromNeighbour : Peer → Event → Type 0
 IsFromNeighbour p (Msg q m) = is_neighbour p q ≡ true
 IsFromNeighbour p (GraftIn q graft) = is_neighbour p q ≡ true
@@ -82,7 +82,7 @@ score p L at q = score_in (setting_of p) at (history p L) q (named (history p L)
 abbrev pub is_below : ℤ → ℤ → Bool
 is_below threshold x = int_lt x threshold
 
--- its offers and its requests count for nothing, and it is told of no messages
+-- its offers and its requests count for nothing, and it is offered no messages
 abbrev pub is_ignored : Peer → Entries → ℕ → PeerNo → Bool
 is_ignored p L at q = is_below p.params.thresholds.gossip_threshold (score p L at q)
 

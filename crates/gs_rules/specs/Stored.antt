@@ -14,7 +14,7 @@ abbrev pub effects_or_none : Option Effects → Effects
 effects_or_none None = no_effects
 effects_or_none (Some effects) = effects
 
--- the entry of which this is stored
+-- the entry whose stored form this is
 abbrev pub entry_of : Millis → Event → Option Effects → Entry
 entry_of at event effects = record {
   at = at;

@@ -83,7 +83,7 @@ abbrev pub is_lost : PeerNo → Option PeerNo → Bool
 is_lost q None = false
 is_lost q (Some p) = same_peer p q
 
--- an event behind which q is neither heard nor sent to: it loses q, or the peer shuts down
+-- an event after which q is neither heard nor sent to: it loses q, or the peer shuts down
 abbrev pub cuts_off : PeerNo → Event → Bool
 cuts_off q event = is_shut_after event false || is_lost q (lost event)
 
@@ -209,7 +209,7 @@ abbrev pub last_kept : Entries → MsgId → Option Keeping
 last_kept [] id = None
 last_kept (e ∷ L) id = after_marks (kept_after id e.event) e.marks (aged_after e.event (last_kept L id))
 
--- a message is kept until so many heartbeats have ended
+-- a message is kept until this many heartbeats have ended
 abbrev pub keeping : ℕ → Option Keeping → Option Keeping
 keeping len None = None
 keeping len (Some k) = if nat_lt k.age len then Some k else None

@@ -1,4 +1,4 @@
-//! Laws of traces and rounds. Each holds of its definitions alone, and its function does nothing.
+//! Laws of traces and rounds. Each is about its definitions only, and its function does nothing.
 ghost use Rattle.std.specs.Prelude.{ℕ, true, false, ◌≡◌, ◌<◌, ◌≤◌, ◌+◌, ◌∷◌, ◌++◌, ◌&&◌, [], List, None, Some, length, map, nat_le, reverse};
 ghost use Rattle.std.specs.List.{All, AllByRecursion, IsAmong, list_any};
 ghost use Rattle.std.specs.List.Sorted.{IsStrictlySortedBy};
@@ -54,8 +54,8 @@ pub fn one_more_entry()
         → handled (reverse (entries ++ e ∷ [])) q ≡ handled (reverse entries) q ++ handled_by q e.event }
 {}
 
-/// Right behind a cut nothing is gathered. So it is for a neighbour that is not up, and where the rounds so far are played to
-/// their ends.
+/// Nothing is gathered right after a cut. The same holds for a neighbour that is not up, and where the rounds so far
+/// are played to their ends.
 pub fn nothing_is_gathered_behind_a_cut()
     ensures cut { (codec : Codec) (entries : Entries) (e : Entry) (q : PeerNoValue)
         → is_cut q e.event ≡ true → gathered codec (e ∷ entries) q ≡ None }
@@ -86,8 +86,8 @@ pub fn a_delivery_is_not_repeated()
     ensures { (p : Peer) (entries : Entries) → Legal p entries → DeliversApart (seen_ttl p) entries }
 {}
 
-/// Entries that may come behind others may have further ones behind them, where these go on with the
-/// choices; and a whole trace falls into such parts.
+/// Entries that may come after others may have further ones after them, where these go on with the
+/// choices. A whole trace falls into such parts.
 pub fn legal_entries_compose<W: Words>()
     ensures joined { (p : Peer) (s u t : W) (first later more : Entries)
         → LegalOn (exact W.word W.after) p s first later u
@@ -116,7 +116,7 @@ pub fn what_words_choose_is_legal<W: Words>()
         → LegalOn (exact W.word W.after) p s first later s }
 {}
 
-/// Nothing is left open: behind the same entries, and from the same words on, an event and its
+/// Nothing is left open: after the same entries, and from the same words on, an event and its
 /// moment fix the next entry and the words that are left after it.
 pub fn words_fix_the_next_entry<W: Words>()
     ensures { (p : Peer) (s t u : W) (first later : Entries) (e f : Entry)
@@ -143,8 +143,9 @@ pub fn what_is_given_draws_no_word<W: Words>()
         → t ≡ s }
 {}
 
-/// The bytes that a legal trace says to a neighbour spell RPCs, and nothing else, where it puts no other bytes on that link.
-/// Joined with what is gathered behind them, they are what the trace sends there, joined: whole, once and in order.
+/// The bytes that a legal trace says to a neighbour spell RPCs, and nothing else, where it puts no other bytes on that
+/// link. Joined with what is gathered after them, they are what the trace sends there, joined: whole, once and in
+/// order.
 pub fn what_is_sent_is_spelled()
     ensures { (p : Peer) (entries : Entries) (q : PeerNoValue)
         → Legal p entries
@@ -174,7 +175,7 @@ pub fn what_was_sent_is_handled()
         → AllByRecursion (HandlesWhatIsSent seat said entries) (links_of seat.peer) }
 {}
 
-/// A peer that keeps the rounds, and whose script puts no other bytes on a link, says frames alone there.
+/// A peer that keeps the rounds, and whose script puts no other bytes on a link, says only frames there.
 pub fn a_script_without_bytes_says_frames_alone()
     ensures { (seat : Seat) (said : PeerNoValue → Said) (entries : Entries) (refused : List RefusedLine) (q : PeerNoValue)
         → Legal seat.peer entries
@@ -183,7 +184,7 @@ pub fn a_script_without_bytes_says_frames_alone()
         → SaysFramesAlone q entries }
 {}
 
-/// A round of which nothing is left is a whole round.
+/// A round with nothing left is a whole round.
 pub fn a_part_with_nothing_left_is_whole()
     ensures { (seat : Seat) (said : PeerNoValue → Said) (phase : Phase) (old new : Entries) (refused : List RefusedLine)
         → PlaysInPart seat said phase [] old new refused
@@ -198,11 +199,11 @@ pub fn own_topics_are_those_that_are_joined()
 {}
 
 /// Once a heartbeat has charged broken promises, three groups of events are owed, and nothing else: it mends the
-/// meshes, then the fanouts, then it gossips and ends. Of each group one event comes after the other; behind the last
-/// one the next group is reached, as things stand then, and one that holds no event is passed over. The first group is
-/// the mesh of each topic that the peer is subscribed to, and the second is each fanout, which ends where its time has
-/// come and else is mended. The last group is gossip on each topic that has a mesh or a fanout and on which there is
-/// some, and the heartbeat's end. The topics of each group ascend by their bytes, and none comes twice.
+/// meshes, then the fanouts, then it gossips and ends. The events of each group come one after the other. After the
+/// last one the next group is reached, as things stand then, and one that holds no event is passed over. The first
+/// group is the mesh of each topic that the peer is subscribed to, and the second is each fanout, which ends where its
+/// time has come and else is mended. The last group is gossip on each topic that has a mesh or a fanout and on which
+/// there is some, and the heartbeat's end. The topics of each group ascend by their bytes, and none comes twice.
 pub fn a_heartbeat_mends_gossips_and_ends()
     ensures begins { (p : Peer) (entries : Entries) (e : Entry)
         → e.event ≡ BeatBegin
@@ -230,9 +231,9 @@ pub fn a_heartbeat_mends_gossips_and_ends()
 
 /// Whatever may come where a heartbeat mends a mesh is a step of that mesh, by any choices: of its members and of those
 /// who may be grafted, by their scores at that moment and by how many heartbeats began. The entry says what the mending
-/// by that step says, but for an order that nobody sees: whoever goes is told, is charged with what is missing of its
-/// deliveries, and is not to come back for a while, and whoever comes in is told. Where words choose, the entry is that
-/// mending as it stands. Whoever comes in might be grafted, and whoever goes was a member.
+/// by that step says, but for an order that nobody sees. Whoever goes is sent a PRUNE, is charged with what is missing
+/// of its deliveries, and is not to come back for a while. Whoever comes in is sent a GRAFT. Where words choose, the
+/// entry is that mending as it stands. Whoever comes in might be grafted, and whoever goes was a member.
 pub fn a_heartbeat_moves_a_mesh_a_step<W: Words>()
     ensures step { (p : Peer) (entries : Entries) (e : Entry) (t : Topic)
         → Follows free (mesh_beat_rule p entries e.at t) tt e tt

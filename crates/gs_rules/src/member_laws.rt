@@ -1,4 +1,4 @@
-//! Laws of who is in meshes and fanouts. Each holds of its definitions alone, and its function does nothing.
+//! Laws of who is in meshes and fanouts. Each is about its definitions only, and its function does nothing.
 ghost use Rattle.std.specs.Prelude.{true, false, ◌≡◌, ◌∷◌, ◌++◌, [], nat_le};
 ghost use Rattle.std.specs.List.{AllByRecursion, IsAmong};
 ghost use Rattle.gs_base.specs.declared.names.PeerNo.{PeerNo as PeerNoValue};

@@ -18,7 +18,7 @@ pub enum Refusal {
     /// The peer is not subscribed to the topic.
     #[error("the topic is not joined")]
     NotJoined,
-    /// The peer has shut down, or has met want of memory before.
+    /// The peer has shut down, or has run out of memory before.
     #[error("the peer has stopped")]
     Stopped,
     /// The neighbour is lost: it closed its link, its bytes spelled no RPC or ended within one, or the peer hung up on it.
@@ -49,7 +49,7 @@ impl Refusal {
 /// A line of a script that a peer could not follow.
 #[derive(Clone, Copy, Debug, PartialEq, Eq)]
 pub struct RefusedLine {
-    /// The moment at which it was told.
+    /// The moment at which it was refused.
     pub at: Millis,
     /// The place of the line in the plan's script, where the first is 0.
     pub line: usize,

@@ -77,7 +77,7 @@ ok_value (Err fault) = None
 abbrev pub hex_text : Kind (List ℕ)
 hex_text = kind_of wanted.Hex (λ d. option_and_then (λ text. ok_value (decode_of text)) (as_str d))
 
--- hex digits for at most so many bytes
+-- hex digits for at most this number of bytes
 abbrev pub short_hex : ℕ → Kind (List ℕ)
 short_hex most place d = do
   bytes ← hex_text place d
@@ -121,7 +121,7 @@ multiple_of step kind place d = do
   n ← kind place d
   refuse_if (not (is_multiple step n)) (out_of_range place d (wanted.Multiple step)) n
 
--- a key of which the default too must be a multiple of a step
+-- a key whose default, too, must be a multiple of a step
 abbrev pub reads_multiple : ℕ → Kind ℕ → ℕ → List ℕ → Option Data → Result ℕ ScenarioFault
 reads_multiple step kind default place (Some d) = multiple_of step kind place d
 reads_multiple step kind default place None =

@@ -170,7 +170,7 @@ factors_in section = do
     p6_threshold = p6_threshold;
   })
 
--- ---- timing, of which two are whole rounds
+-- ---- timing: two of its times are whole rounds
 
 abbrev pub heartbeat_ms_key : ℕ → Key ℕ
 heartbeat_ms_key round_ms = multiple_key round_ms (codes "heartbeat_ms") default_timing.heartbeat_ms

@@ -261,7 +261,7 @@ agreement_in peers dials earlier d = do
 
 -- ---- a line of the script
 
--- what a word of the script tells a peer to do
+-- what a word of the script asks of a peer
 abbrev pub verb_of : List ℕ → Option Verb
 verb_of text =
     if pointwise nat_eq text (codes "subscribe") then Some verbs.Subscribe
@@ -298,7 +298,7 @@ line_keys others = what_key.name ∷ (at_key 0).name ∷ (peer_key []).name ∷ 
 abbrev pub link_keys : List (List ℕ) → List (List ℕ)
 link_keys others = line_keys ((link_key [] [] (record { 0 = 0 })).name ∷ others)
 
--- the table of a line that tells this
+-- the table of a line that asks for this
 abbrev pub line_kind : Verb → TableKind
 line_kind verbs.Subscribe = kinds.SubscriptionLine
 line_kind verbs.Unsubscribe = kinds.SubscriptionLine
@@ -320,7 +320,7 @@ known_keys kinds.PublishLine = line_keys ((topic_key []).name ∷ hex_key.name �
 known_keys kinds.RawLine = link_keys (raw_key.name ∷ [])
 known_keys kinds.HangUpLine = link_keys []
 
--- what a line with this word tells a peer
+-- what a line with this word asks of a peer
 unfoldable pub what_in : List (Topic × TopicParams) → List PlannedPeer → List Dial → Section → PeerNo → Verb
     → Result What ScenarioFault
 what_in topics peers dials section peer verbs.Subscribe = do
@@ -341,7 +341,7 @@ what_in topics peers dials section peer verbs.HangUp = do
   to ← read_key section (link_key peers dials peer)
   Ok (HangUp to)
 
--- what a line tells, which has no other key than one that tells this may have
+-- what a line asks of a peer; the line has no key but those that such a line may have
 unfoldable pub verb_in : Section → Result Verb ScenarioFault
 verb_in section = do
   verb ← read_key section what_key

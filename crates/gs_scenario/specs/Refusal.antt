@@ -43,7 +43,7 @@ place_of (UnknownName place name kind) = Some place
 place_of (Repeated place) = Some place
 place_of NoMemory = None
 
--- a place behind a space
+-- a place after a space
 abbrev pub spaced : Option (List ℕ) → List ℕ
 spaced None = []
 spaced (Some place) = codes " " ++ place
@@ -52,7 +52,7 @@ spaced (Some place) = codes " " ++ place
 abbrev pub refusal_text : ScenarioFault → List ℕ
 refusal_text fault = decimal (number_of fault) ++ spaced (place_of fault)
 
--- it is the refusal of a definition, unless it is want of memory
+-- it is the refusal of a definition, unless memory ran out
 abbrev pub Refuses : {B : Type 0} → ScenarioFault → Result B ScenarioFault → Type 0
 Refuses (Params fault) said = said ≡ Err (Params fault)
 Refuses Toml said = said ≡ Err Toml

@@ -60,7 +60,7 @@ top_view top = record {
   script = items_view top.script.now;
 }
 
--- whatever a function may say of a value, behind those that were read before it, is what a definition
+-- whatever a function may say of a value, after those that were read before it, is what a definition
 -- says
 abbrev pub ReadsAs : {A : Type 0} → (Bor (List A) → Bor Value → Result A ScenarioFault → Type 0)
     → (List A → Data → Result A ScenarioFault) → Type 0

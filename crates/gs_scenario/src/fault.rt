@@ -51,7 +51,7 @@ impl ScenarioFault {
         }
     }
 
-    /// Where the scenario is refused; a text that is no TOML, parameters and want of memory have no place.
+    /// Where the scenario is refused. `Toml`, `Params` and `NoMemory` have no place.
     pub fn place(&self) -> Option<&Text>
         ensures { option_map (λ place. place.now) result ≡ place_of self.now }
     {
@@ -66,7 +66,7 @@ impl ScenarioFault {
     }
 }
 
-/// The number, and behind a space the place where there is one, as `29 do[2].hex`.
+/// The number, and after a space the place where there is one, as `29 do[2].hex`.
 impl fmt::Display for ScenarioFault {
     ghost output = { λ fault. Some (refusal_text fault) };
 

@@ -14,7 +14,7 @@ pub enum Wanted {
     Number(u64, u64),
     /// A whole number of either sign, from the first to the second.
     SignedNumber(i64, i64),
-    /// A multiple of so many, as of the milliseconds of a round.
+    /// A multiple of this number, as of the milliseconds of a round.
     Multiple(u64),
     /// True or false.
     TruthValue,
@@ -22,7 +22,7 @@ pub enum Wanted {
     Table,
     /// A list of any length.
     List,
-    /// A list of so many to so many elements.
+    /// A list with a number of elements from the first to the second.
     Elements(usize, usize),
     /// Any text.
     Text,
@@ -30,13 +30,13 @@ pub enum Wanted {
     Name,
     /// A text of hex digits, in either case and even in number.
     Hex,
-    /// A text of hex digits for at most so many bytes.
+    /// A text of hex digits for at most this number of bytes.
     ShortHex(usize),
-    /// A word that tells a peer what to do, as `subscribe`.
+    /// A word that says what a peer is to do, as `subscribe`.
     Verb,
     /// The name of another peer than the one that dials.
     AnotherPeer,
-    /// An input of at most so many bytes.
+    /// An input of at most this number of bytes.
     ShortInput(u64),
 }
 
@@ -53,7 +53,7 @@ pub enum Found {
     TruthValue(bool),
     /// A date, a time, or both.
     Date,
-    /// A list of so many elements.
+    /// A list of this many elements.
     List(usize),
     /// A table.
     Table,

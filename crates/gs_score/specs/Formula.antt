@@ -68,8 +68,8 @@ p7 misbehaviour = squared misbehaviour
 abbrev pub capped : ℕ → ℤ → ℤ
 capped cap x = if nat_lt 0 cap then int_min x (pos cap) else x
 
--- the score of a neighbour with this sum over topics, this score of the application, so many neighbours at its address,
--- and this misbehaviour
+-- the score of a neighbour with this sum over topics, this score of the application, n neighbours at its address, and
+-- this misbehaviour
 unfoldable pub score_of : Factors → ℤ → ℤ → ℕ → ℕ → ℤ
 score_of f topics app n misbehaviour =
     capped f.topic_cap topics

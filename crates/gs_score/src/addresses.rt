@@ -43,7 +43,7 @@ impl Model for Addresses {
 }
 
 impl Addresses {
-    /// The addresses of neighbours, each of which counts at its address. The last of a number counts.
+    /// The addresses of neighbours. Each counts at its address. Of neighbours with the same number the last counts.
     ///
     /// # Errors
     /// `AllocError` where there was no memory.

@@ -31,7 +31,7 @@ impl Decay {
         left
     }
 
-    /// What so many steps leave of a value. It ends where a step changes nothing, or leaves nothing, and makes steps
+    /// What this many steps leave of a value. It ends where a step changes nothing, or leaves nothing. It makes steps
     /// at once that take the same: a counter that was not looked at for long costs no more than the ways in which a
     /// step changes it.
     fn after(self, value: u64, steps: u64) -> u64
@@ -57,8 +57,8 @@ impl Decay {
         held
     }
 
-    /// As many of the next steps as take the same of a value, at most so many, and what they leave of it: the next
-    /// one alone where looking for more would cost more.
+    /// As many of the next steps as take the same of a value, at most `most`, and what they leave of it. It is only
+    /// the next one where looking for more would cost more.
     fn stride(self, value: u64, next: u64, most: u64) -> (u64, u64)
         requires factor { self.factor ≤ 10 ^ 6 }
         requires value { value ≤ 10 ^ 12 }

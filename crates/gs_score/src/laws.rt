@@ -1,4 +1,4 @@
-//! Laws of scores. Each holds of its definitions alone, and its function does nothing.
+//! Laws of scores. Each holds by its definitions only, and its function does nothing.
 ghost use Rattle.std.specs.Prelude.{◌≡◌, ℕ, ◌+◌, ◌≤◌, pos, Bool, true, [], List, length};
 ghost use Rattle.std.specs.List.{AllByRecursion, list_any};
 ghost use Rattle.gs_base.specs.Names.{most_topics, same_peer, same_topic};

@@ -335,8 +335,8 @@ impl Scores {
     }
 }
 
-/// What a deficit adds to a counter, which holds no more than 10^12. The amount comes by reference: of a copied number
-/// a proof knows its bits alone.
+/// What a deficit adds to a counter, which holds no more than 10^12. The amount comes by reference: a proof knows only
+/// the bits of a copied number.
 fn capped_deficit(amount: &i128) -> u64
     ensures { result ≡ capped_deficit amount.now }
 {

@@ -124,9 +124,9 @@ pub record IsLife (plan : Plan) (lives : List Finished) (p : PeerNo) (life : Fin
       × LegalOn (exact seeded_word seeded_after) (peer_in plan p) (first_words plan p) [] life.trace last
   -- it did what there was to do, round by round
   pub keeps : KeepsRounds (seat_in plan p) (said_to lives p) life.trace life.refused
-  -- these were in the meshes of its topics when it shut down, which nothing behind that changes
+  -- these were in the meshes of its topics when it shut down, which nothing after that changes
   pub meshes : life.meshes ≡ meshes_of life.trace
-  -- its neighbours scored this when it shut down, which nothing behind that changes
+  -- its neighbours scored this when it shut down, which nothing after that changes
   pub scores : life.scores ≡ scores_of (peer_in plan p) life.trace (plan.rounds * plan.round_ms)
   -- what it handled of a neighbour is what the bytes spell that the neighbour's trace says to it
   pub exchanged : AllByRecursion (λ q. Spell (bytes_of (said_to lives p q)) (handled life.trace q)) (neighbours plan p)

@@ -17,7 +17,7 @@ pub enum NetFault {
 }
 
 impl NetFault {
-    /// The number of the fault: 24 for want of memory, 25 where a worker thread was wanting.
+    /// The number of the fault: 24 where there was no memory, 25 where a worker thread was missing.
     pub fn number(self) -> u8
         ensures { result ≡ number_of self }
     {

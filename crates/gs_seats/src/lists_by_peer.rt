@@ -21,7 +21,7 @@ pub fn empty_lists<T: Drop>(alloc: Global, count: usize) -> Result<Vec<Vec<T>>, 
     Ok(lists)
 }
 
-/// Puts a value behind the others of a peer's list.
+/// Puts a value after the others of a peer's list.
 ///
 /// # Errors
 /// `AllocError` where there was no memory. The lists are as they were, and the value is dropped.

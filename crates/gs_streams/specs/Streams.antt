@@ -1,4 +1,4 @@
--- What a text that is written piece by piece leaves behind.
+-- What a text that is written piece by piece adds to a writer.
 use Rattle.std.specs.Prelude.{ℕ, List, take, Option}
 use Rattle.std.specs.Io.KnownBytes.{Appends}
 

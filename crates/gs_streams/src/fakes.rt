@@ -4,7 +4,7 @@ ghost use Rattle.std.specs.Prelude.{Some};
 use std::io;
 use std::io::{ErrorKind, Read, Write};
 
-/// Gives a text and fails behind it.
+/// Gives a text and fails after it.
 #[derive(Debug, Drop)]
 pub struct Broken<'a> {
     pub rest: &'a [u8],

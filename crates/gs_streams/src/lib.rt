@@ -24,7 +24,7 @@ pub const MOST_READS: u32 = 10_000_000;
 pub enum ReadFault {
     /// A read failed otherwise than by an interruption, or the input had not ended after
     /// `MOST_READS` reads. Nothing else comes as this; no clause can say so, since a reader's
-    /// contract doesn't tell when a read fails.
+    /// contract doesn't say when a read fails.
     Failed,
     /// The input is longer than it may be.
     TooLong,
@@ -49,8 +49,8 @@ pub struct WriteFailed;
 ///
 /// # Errors
 /// `TooLong` where there are more than `LONGEST_INPUT` bytes; `Failed` where a read failed or the
-/// reads ran out; `NoMemory` where there is none for the bytes. The reader is then behind what was
-/// read.
+/// reads ran out; `NoMemory` where there is none for the bytes. The reader then stands after what
+/// was read.
 pub fn read_input<R: Read>(alloc: Global, input: &mut R) -> Result<Vec<u8>, ReadFault>
     ensures whole { IfOk result (λ text. IfSome (R.remaining input.old) (λ given. text.items ≡ given)) }
     ensures at_end { OnOk result (IsAtEnd (R.remaining input.new)) }

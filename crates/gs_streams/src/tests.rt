@@ -136,7 +136,7 @@ fn an_input_is_read_so_often_at_most(rt: HostRuntime) {
     );
 }
 
-/// How much is read of so many bytes.
+/// How much is read of this many bytes.
 fn read_of(alloc: Global, length: usize) -> Result<usize, ReadFault> {
     let input = vec![in alloc; 7u8; length]?;
     Ok(read_input(alloc, &mut input.as_slice())?.len())

@@ -1,5 +1,5 @@
--- Streams of frames: a varint length, and then that many bytes of a body. A stream is told as a whole, so it doesn't
--- matter how it was cut into pieces.
+-- Streams of frames: a varint length, and then that many bytes of a body. A stream is described as a whole, so it
+-- doesn't matter how it was cut into pieces.
 use Rattle.std.specs.Prelude.{◌≡◌, ℕ, ◌-◌, ◌<◌, ◌≤◌, Bool, false, List, [], ◌∷◌, ◌++◌, length, drop, Option, Some, None, IfSome, IsSome, ◌⊎◌, ◌↔◌, Result, Err, OnOk, IsErrOf}
 use Rattle.std.specs.List.{AllByRecursion}
 use Rattle.gs_base.specs.declared.rpc.Rpc.{Rpc}
@@ -39,7 +39,7 @@ pub record HasLength (bytes : List ℕ) (n : ℕ) (rest : List ℕ) : Type 0 whe
 abbrev pub BeginsLength : List ℕ → Type 0
 BeginsLength bytes = (length bytes < 10) × AllByRecursion (λ b. 128 ≤ b) bytes
 
--- How a stream goes on behind its whole frames: it waits for more of a frame, a length is above the limit, or no length
+-- How a stream goes on after its whole frames: it waits for more of a frame, a length is above the limit, or no length
 -- or no RPC stands there.
 abbrev pub GoesOn : ℕ → List ℕ → End → Type 0
 GoesOn limit rest ends.Waits = BeginsLength rest
@@ -56,7 +56,7 @@ pub record IsStream (limit : ℕ) (bytes : List ℕ) (vs : List Rpc) (rest : Lis
   pub frames : SpellFrames limit front vs
   pub goes_on : GoesOn limit rest end
 
--- The length at the front says that the body stands from start to end, of which the bytes may have come or not.
+-- The length at the front says that the body stands from start to end. Its bytes may have come or not.
 pub record IsSpan (limit : ℕ) (bytes : List ℕ) (start end : ℕ) : Type 0 where
   pub begun : start ≤ length bytes
   pub ordered : start ≤ end

@@ -15,7 +15,7 @@ pub record IsVarint (bytes : List ℕ) (n : ℕ) : Type 0 where
   pub at_most_ten : length bytes ≤ 10
   pub below : n < 2 ^ 64
 
--- the groups of a number, of which the last isn't zero, where there are at most this many and one more
+-- the groups of a number, whose last isn't zero, where there are at most this many and one more
 unfoldable pub varint_within : ℕ → ℕ → List ℕ
 varint_within zero n = n ∷ []
 varint_within (suc k) n = if nat_lt n 128 then n ∷ [] else (128 + n % 128) ∷ varint_within k (n / 128)

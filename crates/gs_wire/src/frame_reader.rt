@@ -10,8 +10,8 @@ use std::alloc::Global;
 use std::marker::Model;
 
 /// Reads RPCs from a stream of frames that comes in pieces, however it is cut. Contracts see its
-/// limit and the bytes that it holds of an unfinished frame, of which there are none any more after
-/// a fault. It reads a length once where that comes whole, and each body when its last byte is there.
+/// limit and the bytes that it holds of an unfinished frame. After a fault it holds none any more.
+/// It reads a length once where that comes whole, and each body when its last byte is there.
 #[derive(Drop)]
 pub struct FrameReader {
     limit: usize,
@@ -33,7 +33,7 @@ impl Model for FrameReader {
     ghost invariant = { λ r. AwaitsBody r.limit r.held.items r.next r.missing r.failed };
 }
 
-/// How many bytes of a frame are missing where so many are held.
+/// How many bytes of a frame are missing where `held` bytes are held.
 fn missing_of(next: Option<Span>, held: usize) -> usize
     ensures { result ≡ missing_of next held }
 {
@@ -71,7 +71,7 @@ impl FrameReader {
     /// `Failed` exactly after a fault; nothing changes. `Malformed` and `TooLong` where the first
     /// fault of the stream is that; the RPCs before it are added, and the reader has failed.
     /// `NoMemory`; the reader and the list are as they were. It may come in the place of `Malformed` and
-    /// `TooLong`: that a fault of the stream isn't refused as want of memory, only tests say.
+    /// `TooLong`: only tests say that a fault of the stream isn't refused as out of memory.
     pub fn feed(
         &mut self,
         alloc: Global,

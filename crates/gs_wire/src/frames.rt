@@ -10,7 +10,7 @@ use crate::varint::{MAX_VARINT, varint_at};
 use gs_base::Rpc;
 use std::alloc::{AllocError, Global};
 
-/// How a stream goes on behind its whole frames.
+/// How a stream goes on after its whole frames.
 #[derive(Clone, Copy, Debug, PartialEq, Eq)]
 pub enum End {
     /// It waits for more of a frame, or for the next one.
@@ -35,12 +35,12 @@ pub(crate) struct Progress {
     pub taken: usize,
     /// Where the next body is, where its length is whole.
     pub next: Option<Span>,
-    /// How the stream goes on behind the whole frames.
+    /// How the stream goes on after the whole frames.
     pub end: End,
 }
 
 impl Progress {
-    /// So many bytes were taken, and the stream goes on so, with no length that is whole.
+    /// `taken` bytes were taken, and the stream goes on as `end` says, with no length that is whole.
     fn without_length(taken: usize, end: End) -> Progress
         ensures { result ≡ record { taken = taken; next = None; end = end } }
     {

@@ -19,7 +19,7 @@ use gs_base::{Shared, clone_of};
 use std::alloc::{AllocError, Global};
 use std::marker::Model;
 
-/// RPCs that go out as one. Contracts see the RPC that they are joined to, of which there is none where none was gathered.
+/// RPCs that go out as one. Contracts see the RPC that they are joined to, or none where none was gathered.
 #[derive(Drop)]
 pub struct Gathered {
     parts: Vec<Shared<WrittenRpc>>,
@@ -75,7 +75,7 @@ impl Gathered {
         Ok(true)
     }
 
-    /// Takes the frame of what was gathered, of which there is none where nothing was.
+    /// Takes the frame of what was gathered. There is none where nothing was gathered.
     ///
     /// # Errors
     /// `AllocError` where there was no memory for it.
@@ -91,7 +91,7 @@ impl Gathered {
         Ok(frame)
     }
 
-    /// The frame: that of an RPC that is alone is shared, and sections that stand are copied where there are several.
+    /// The frame: that of a single RPC is shared, and sections that stand are copied where there are several.
     fn frame(&self, alloc: Global) -> Result<Option<Bytes>, AllocError>
         ensures { IfOk result (λ text. text ≡ option_map frame self.now) }
     {

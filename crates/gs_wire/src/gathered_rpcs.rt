@@ -13,8 +13,7 @@ use gs_base::{Control, ExactClone, Part, Rpc, Seq, Shared, clone_of};
 use std::alloc::{AllocError, Global};
 use std::marker::Model;
 
-/// RPCs that are handed over as one. Contracts see the RPC that they are joined to, of which there is none where none was
-/// gathered.
+/// RPCs that are handed over as one. Contracts see the RPC that they are joined to, or none where none was gathered.
 #[derive(Drop)]
 pub struct GatheredRpcs {
     rpcs: Vec<Shared<Rpc>>,
@@ -77,7 +76,7 @@ impl GatheredRpcs {
         Ok(true)
     }
 
-    /// Takes what was gathered as one RPC, of which there is none where nothing was. One that is alone is handed over as it
+    /// Takes what was gathered as one RPC. There is none where nothing was gathered. A single RPC is handed over as it
     /// is, and not copied.
     ///
     /// # Errors

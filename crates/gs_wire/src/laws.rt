@@ -1,4 +1,4 @@
-//! Laws of the wire format. Each holds of its definitions alone, and its function does nothing.
+//! Laws of the wire format. Each holds of its definitions only, and its function does nothing.
 ghost use Rattle.std.specs.Prelude.{[], ◌∷◌, ◌≡◌, ◌<◌, ◌≤◌, ◌+◌, ◌^◌, ◌++◌, ◌↔◌, List, ℕ, length, Some, None};
 ghost use Rattle.gs_wire.specs.Joining.{joined_options, joined_rpc, joined_rpcs};
 ghost use Rattle.gs_base.specs.declared.names.Topic.{Topic};
@@ -59,7 +59,7 @@ pub fn a_stream_may_be_cut_anywhere()
 {}
 
 /// However bytes are fed, what a reader holds then is the unread end of all of them, where no fault
-/// stands. So a stream that is closed there ends behind unread bytes.
+/// stands. So a stream that is closed there ends after unread bytes.
 pub fn a_reader_holds_the_unread_end()
     ensures { (limit : ℕ) (pieces : List (List ℕ)) (reader : Holding) (vs : List Rpc)
         → FeedsAll (record { limit = limit; held = Some [] }) pieces reader vs
@@ -131,7 +131,7 @@ pub fn a_prune_fits_a_frame()
         → length (body (pruning topic seconds)) ≤ longest_body }
 {}
 
-/// Two bodies behind each other spell the RPC that both are joined to.
+/// Two bodies, one after the other, spell the RPC that both are joined to.
 pub fn bodies_behind_each_other_spell_the_joined_rpc()
     ensures spelled { (x y : List ℕ) (v w : Rpc)
         → SpellsRpc x v

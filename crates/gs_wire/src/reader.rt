@@ -76,7 +76,7 @@ impl<'a> Reader<'a> {
         Some(number)
     }
 
-    /// The next so many bytes; none where fewer are left.
+    /// The next `count` bytes; none where fewer are left.
     pub(crate) fn bytes(&mut self, count: u64) -> Option<Reader<'a>>
         ensures { option_map (λ bytes. (bytes, self.new)) result ≡ bytes_at count self.old }
     {

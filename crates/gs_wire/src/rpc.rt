@@ -86,7 +86,7 @@ pub(crate) fn read_body(alloc: Global, body: &[u8], rpc: &mut Rpc) -> Result<(),
 ///
 /// # Errors
 /// `Malformed` only where the body spells no RPC, and `NoMemory`, which may come in the place of any
-/// answer: that a body which spells no RPC isn't refused as want of memory, only tests say.
+/// answer: only tests say that a body which spells no RPC isn't refused as out of memory.
 pub fn decode(alloc: Global, body: &[u8]) -> Result<Rpc, WireFault>
     ensures spelled { IfOk result (λ rpc. SpellsRpc body.now rpc) }
     ensures malformed { IsErrOf result WireFault.Malformed → (rpc : RpcValue) → ¬ SpellsRpc body.now rpc }

@@ -8,7 +8,7 @@ abbrev pub lists_of : {A : Type 0} → List (Vec A Global) → List (List A)
 lists_of groups = map (λ group. group.items) groups
 
 -- R holds of each item of xs and what was dealt for it: for the first, the last of the first group. Without
--- these, and with that group behind the others, it holds of the rest
+-- these, and with that group after the others, it holds of the rest
 abbrev pub IsDealt : {X Y : Type 0} → (X → Y → Type 0) → List X → List (List Y) → Type 0
 IsDealt R [] groups = AllByRecursion (λ group. group ≡ []) groups
 IsDealt R (x ∷ xs) [] = ⊥

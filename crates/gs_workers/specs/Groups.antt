@@ -1,4 +1,4 @@
--- Futures that run side by side, each of which is here with its output once it is done.
+-- Futures that run side by side. Each is here with its output once it is done.
 use Rattle.std.specs.Prelude.{List}
 use Rattle.std.specs.List.{AllByRecursion, AllZip}
 use Rattle.futures.specs.Joined.{IsLive, MayGive}

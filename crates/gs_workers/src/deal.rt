@@ -14,7 +14,7 @@ use std::collections::VecDeque;
 /// The groups that futures are dealt to.
 pub type Groups<F, T> = VecDeque<Vec<MaybeDone<F, T>>>;
 
-/// Deals the futures to so many groups in turns: the one at place i goes to the group at place
+/// Deals the futures to `count` groups in turns: the one at place i goes to the group at place
 /// i mod `count`. Each group has those with the lowest places last.
 ///
 /// # Errors

@@ -15,7 +15,7 @@ pub enum WorkerFault {
     NoThread(Raised),
 }
 
-/// What was wanting while futures ran. The flag is set where a thread was, and not yet where memory was.
+/// What was missing while futures ran. The flag is set where a thread was, and not yet where memory was.
 #[derive(Clone, Copy)]
 pub enum Want {
     Memory,

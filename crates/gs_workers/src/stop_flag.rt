@@ -6,8 +6,8 @@ pub struct StopFlag {
     is_set: AtomicBool,
 }
 
-/// Evidence that a stop flag was set: `StopFlag::set` alone makes it. A fault that carries it is told
-/// no earlier than tasks can see that they are to stop.
+/// Evidence that a stop flag was set: only `StopFlag::set` makes it. A fault that carries it is
+/// reported no earlier than tasks can see that they are to stop.
 #[derive(Clone, Copy, Debug, PartialEq, Eq)]
 pub struct Raised(());
 

@@ -14,8 +14,8 @@ use std::sync::Wait;
 use std::test::*;
 use std::thread::Threads;
 
-/// Whether so many futures on so many workers give these numbers on so many threads, and leave the
-/// flag as it is.
+/// Whether `count` futures on `workers` workers give these numbers on `workers` threads, and leave
+/// the flag as it is.
 fn gives<R>(rt: &R, workers: usize, count: u8, numbers: &[u16]) -> bool
 where
     R: Threads + Wait + RandomSource + AllocGlobal + Sync,
@@ -43,7 +43,7 @@ fn no_futures_give_no_outputs(rt: HostRuntime) {
     }
 }
 
-/// There is no memory for so many workers; the flag is set.
+/// There is no memory for this many workers; the flag is set.
 #[test]
 fn too_many_workers_are_want_of_memory(rt: HostRuntime) {
     let stop = StopFlag::new();

@@ -1,4 +1,4 @@
-//! Worker threads, each of which drives a group of futures.
+//! Worker threads. Each drives a group of futures.
 ghost use Rattle.std.specs.Prelude.{◌≡◌, ◌≤◌, IfOk, [], length, map, vec_capacity};
 ghost use Rattle.std.specs.List.{All, AllByRecursion, AllZip};
 ghost use Rattle.std.specs.VecDeque.{deque_len};
@@ -21,7 +21,7 @@ use std::sync::Wait;
 use std::thread;
 use std::thread::{Promise, PromisedHandle, Scope, Threads};
 
-/// A group of which each future is done. Where its thread could not wait there is none, and the flag is set.
+/// A group whose futures are all done. Where its thread could not wait there is none, and the flag is set.
 type Driven<F, T> = Result<Vec<MaybeDone<F, T>>, Raised>;
 
 /// A worker that is still to be joined.
@@ -45,8 +45,8 @@ pub struct Ran<T> {
     pub threads: usize,
 }
 
-/// Runs the futures on so many threads to their ends, and gives their outputs in order. The one at
-/// place i runs on thread i mod `workers`. No thread runs on behind the call.
+/// Runs the futures on `workers` threads to their ends, and gives their outputs in order. The one at
+/// place i runs on thread i mod `workers`. No thread runs on after the call.
 ///
 /// # Errors
 /// `NoMemory`, and `NoThread` where a thread could not be started or could not wait; the flag is set
@@ -104,7 +104,7 @@ where
     Ok(Ran { outputs, threads })
 }
 
-/// Deals the futures to so many groups, and drives each group to its end on a worker of its own.
+/// Deals the futures to `workers` groups, and drives each group to its end on a worker of its own.
 fn drive_all<'s, E, F, R>(
     scope: &Scope<'s, E>,
     rt: &'s R,

@@ -72,7 +72,7 @@ static REQUIRED: [Required; 22] = [
     ),
 ];
 
-/// The last part of a place: what stands behind its first point, or the whole of it.
+/// The last part of a place: what stands after its first point, or the whole of it.
 pub fn key_of(place: &str) -> &str {
     match place.split_once('.') {
         Some((_, key)) => key,

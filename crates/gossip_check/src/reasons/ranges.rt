@@ -19,7 +19,7 @@ pub fn range_of(key: &str) -> Option<(i64, i64)> {
     }
 }
 
-/// The range of a parameter by the first of its checks that compares it with numbers alone. No key of
+/// The range of a parameter by the first of its checks that compares it only with numbers. No key of
 /// `[params]` is one of a `[[topic]]`, too.
 fn own_range(key: &str) -> Option<(i64, i64)> {
     range_in(&DEFAULT_DEGREES.checks(), key)

@@ -25,7 +25,7 @@ pub fn limits_of_rpcs()
 {}
 
 impl Control {
-    /// Control messages of which there are none. It takes no memory.
+    /// No control messages. It takes no memory.
     pub fn empty(alloc: Global) -> Control
         ensures { result ≡ empty_control }
     {
@@ -134,7 +134,7 @@ impl Rpc {
         Ok(control_only(alloc, control))
     }
 
-    /// Tells a neighbour that it was grafted (gossipsub v1.0, "Control messages", GRAFT).
+    /// An RPC that says that its receiver was grafted (gossipsub v1.0, "Control messages", GRAFT).
     ///
     /// # Errors
     /// `AllocError` where there was no memory for it.
@@ -151,7 +151,7 @@ impl Rpc {
         Ok(control_only(alloc, control))
     }
 
-    /// Tells a neighbour that it was pruned, and for how many seconds it is not to come back: at most
+    /// An RPC that says that its receiver was pruned, and for how many seconds it is not to come back: at most
     /// `LONGEST_BACKOFF` (gossipsub v1.1, "Prune Backoff").
     ///
     /// # Errors
@@ -171,7 +171,7 @@ impl Rpc {
     }
 }
 
-/// An RPC with control messages alone.
+/// An RPC with control messages only.
 fn control_only(alloc: Global, control: Control) -> Rpc
     ensures { result ≡ record empty_rpc { control = Some control } }
 {
@@ -194,7 +194,7 @@ fn in_one_block(alloc: Global, ids: &[MsgId]) -> Result<Seq<Bytes>, AllocError>
     Ok(Seq::from(list))
 }
 
-/// The bytes of all identifiers, one behind the other.
+/// The bytes of all identifiers, one after the other.
 fn joined(alloc: Global, ids: &[MsgId]) -> Result<Vec<u8>, AllocError>
     ensures { IfOk result (λ block. block.items ≡ flat_map (λ (id : MsgIdValue). id.0) ids.now) }
 {

@@ -11,7 +11,7 @@ use std::alloc::{AllocError, Global};
 /// How many identifiers of a topic are announced at once at most: as many as one IHAVE may have.
 pub const MOST_ANNOUNCED: usize = MOST_IDENTIFIERS as usize;
 
-/// A window of which identifiers are listed, the windows that are newer, and the topic.
+/// A window whose identifiers are listed, the windows that are newer, and the topic.
 #[derive(Clone, Copy)]
 struct Listing<'a> {
     window: &'a Window,
@@ -19,8 +19,8 @@ struct Listing<'a> {
     topic: &'a Topic,
 }
 
-/// The identifiers to announce on a topic, of the messages in the newest so many windows, in the order of their
-/// last puts, the last `MOST_ANNOUNCED`.
+/// The identifiers to announce on a topic, of the messages in the `gossip` newest windows: the last
+/// `MOST_ANNOUNCED`, in the order of their last puts.
 ///
 /// # Errors
 /// `AllocError` where there was no memory.
@@ -57,7 +57,7 @@ fn keep_last(ids: &mut Vec<MsgId>)
     ids.truncate(kept);
 }
 
-/// Whether anything of the newest so many windows is announced on a topic.
+/// Whether anything of the `gossip` newest windows is announced on a topic.
 pub fn announces_any(windows: &[Window], gossip: usize, topic: &Topic) -> bool
     ensures { result ≡ not (length (announced_in 0 gossip topic.now windows.now) == 0) }
 {

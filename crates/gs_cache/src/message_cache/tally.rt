@@ -34,7 +34,7 @@ impl Tally {
         }
     }
 
-    /// How many answers are left to a neighbour, where each gets so many.
+    /// How many answers are left to a neighbour, where each gets `answers`.
     pub fn left_to(&self, peer: PeerNo, answers: u64) -> u64
         ensures { result ≡ left_to answers peer self.now }
     {

@@ -72,7 +72,7 @@ impl Bucket {
         Ok(())
     }
 
-    /// Notes a neighbour at the sighting of a message, and tells whether there is one.
+    /// Notes a neighbour at the sighting of a message, and says whether there is one.
     ///
     /// # Errors
     /// `AllocError` where there was no memory; nothing is changed then.

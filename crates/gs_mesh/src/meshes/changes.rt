@@ -40,7 +40,7 @@ pub(crate) fn join(topics: &mut IndexMap<Topic, TopicMesh>, topic: &Topic)
     }
 }
 
-/// The peer leaves a topic. The answer is who was in its mesh, since each of them is told.
+/// The peer leaves a topic. The answer is who was in its mesh, since each of them is sent a PRUNE.
 pub(crate) fn leave(
     alloc: Global,
     topics: &mut IndexMap<Topic, TopicMesh>,

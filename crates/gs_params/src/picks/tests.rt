@@ -13,7 +13,7 @@ const SHUFFLED: [PeerNo; 5] = [PeerNo(3), PeerNo(1), PeerNo(2), PeerNo(4), PeerN
 /// Those in the first two places, ascending.
 const ODD: [PeerNo; 2] = [PeerNo(1), PeerNo(3)];
 
-/// The worked example, of the definitions alone. The state is the list of the words to come.
+/// The worked example, of the definitions only. The state is the list of the words to come.
 #[tactic(auto, unfolding(crate::specs::Picks::next_words, crate::specs::Picks::after_words, crate::specs::Picks::shuffled, crate::specs::Picks::picked, crate::specs::Picks::picked_words, crate::specs::Picks::picked_one, crate::specs::Picks::picked_one_words,))]
 fn the_definitions_give_the_worked_example()
     ensures places { shuffled 0 (7 ∷ 9 ∷ []) FIVE ≡ SHUFFLED }
@@ -64,8 +64,8 @@ fn numbered(alloc: Global, n: u16) -> Result<Vec<PeerNo>, AllocError>
     Ok(peers)
 }
 
-/// Whether of peers 1 to n, where k are picked by the words 7 and 9 in turn, these are, and so many
-/// words are drawn.
+/// Whether a pick of k from peers 1 to n, by the words 7 and 9 in turn, gives these, and draws this
+/// many words.
 fn picks(
     alloc: Global,
     n: u16,

@@ -18,7 +18,7 @@ static REFERENCE: [u32; 6] = [
 /// The peer whose number is the stream of the reference.
 const STREAM: PeerNo = PeerNo(54);
 
-/// The definitions alone give the reference's words, behind a list of two.
+/// The definitions by themselves give the reference's words, after a list of two.
 #[tactic(auto, unfolding(crate::specs::Picks::next_words))]
 fn the_definitions_give_the_reference_words()
     ensures { next_words seeded_word seeded_after 8 (new_seeded (7 ∷ 9 ∷ []) 42 STREAM)

@@ -75,8 +75,8 @@ fn fanned_of(known: &Known, topic: &Topic, peer: PeerNo) -> Result<Vec<PeerNo>, 
     Ok(found)
 }
 
-/// The entry of an event that has no rule of its own: where it loses a neighbour, that leaves every mesh and every fanout,
-/// and where it loses none, there is the event alone.
+/// The entry of an event that has no rule of its own. Where it loses a neighbour, that leaves every mesh and every
+/// fanout. Where it loses none, there is only the event.
 pub fn lost_or_bare(known: &Known, event: Event, now: Millis) -> Result<Entry, AllocError>
     ensures { IfOk result (λ entry. (L : Entries)
         → Knows known.now now.0 L

@@ -76,7 +76,7 @@ fn answer_to(known: &Known, from: PeerNo, topic: &Topic, now: Millis) -> GraftAn
     GraftAnswer::Accepted
 }
 
-/// The entry of a GRAFT that is refused: its sender is told so, and is not to come back for a while.
+/// The entry of a GRAFT that is refused: its sender is sent a PRUNE, and is not to come back for a while.
 fn refusing(
     known: &Known,
     from: PeerNo,

@@ -1,4 +1,4 @@
-//! Heartbeats: broken promises count against who made them, and neighbours are told what there is.
+//! Heartbeats: broken promises count against who made them, and neighbours are sent gossip.
 ghost use Rattle.std.specs.Prelude.{◌≡◌, ◌++◌, ◌&&◌, ◌||◌, [], ◌∷◌, IfOk, OnOk, if◌then◌else◌, map, nat_le};
 ghost use Rattle.gs_base.specs.Names.{same_peer};
 ghost use Rattle.gs_base.specs.declared.mark.Mark.TheVariants.{Misbehaviour};
@@ -112,7 +112,7 @@ pub fn gossip<W: Words>(
     Ok(entry)
 }
 
-/// The neighbours that may be told what there is on a topic.
+/// The neighbours that may be sent gossip on a topic.
 fn gossip_candidates(known: &Known, topic: &Topic, now: Millis) -> Result<Vec<PeerNo>, AllocError>
     ensures { IfOk result (λ found. (L : Entries)
         → Knows known.now now.0 L
@@ -154,7 +154,7 @@ fn is_inside(known: &Known, topic: &Topic, peer: PeerNo) -> bool
         || known.tables.memberships.is_fanned(peer, topic)
 }
 
-/// How many of so many neighbours are told.
+/// How many of `count` neighbours are sent gossip.
 fn gossip_size(setup: &Setup, count: usize) -> usize
     ensures { result ≡ gossip_size (peer_with setup.now) count }
 {
@@ -163,7 +163,7 @@ fn gossip_size(setup: &Setup, count: usize) -> usize
     size.min(count as u128) as usize
 }
 
-/// The entry in which these neighbours are told what there is on a topic.
+/// The entry in which these neighbours are sent gossip on a topic.
 fn gossiping(
     known: &Known,
     topic: Topic,

@@ -119,7 +119,7 @@ fn charge_deficit(
     Ok(())
 }
 
-/// These are not to come back for so many seconds.
+/// These are not to come back for this many seconds.
 pub fn bar(
     marks: &mut Seq<Mark>,
     pairs: &[(PeerNo, Topic)],
@@ -135,7 +135,7 @@ pub fn bar(
     Ok(())
 }
 
-/// The moment so many seconds later, or the last one that there is.
+/// The moment this many seconds later, or the last one that there is.
 fn end_of(now: Millis, seconds: u64) -> Millis
     ensures { result.0 ≡ min last_millis (now.0 + 1_000 * seconds) }
 {

@@ -291,7 +291,7 @@ fn accepting_message(
     })
 }
 
-/// The entry of a message of which this becomes.
+/// The entry of a message with this outcome.
 fn entry_with(
     known: &Known,
     from: PeerNo,

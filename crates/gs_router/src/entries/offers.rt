@@ -93,7 +93,7 @@ fn add_wanted(
     Ok(())
 }
 
-/// The identifiers to ask for among those that are offered, so many at most. They are shared, not copied.
+/// The identifiers to ask for among those that are offered, at most `room`. They are shared, not copied.
 fn wanted(
     known: &Known,
     offered: &[Bytes],
@@ -126,7 +126,7 @@ fn copied_ids(alloc: Global, ids: &[Bytes]) -> Result<Seq<Bytes>, AllocError>
 
 // ---- what is asked
 
-/// An offer of which these identifiers are wanted.
+/// An offer, and those of its identifiers that are wanted.
 #[derive(Drop)]
 pub struct WantedOffer {
     from: PeerNo,
@@ -134,7 +134,7 @@ pub struct WantedOffer {
     ids: Seq<Bytes>,
 }
 
-/// The entry of an offer of which something may be wanted.
+/// The entry of an offer whose identifiers may be wanted.
 fn ask<W: Words>(
     known: &Known,
     wanted: WantedOffer,
@@ -154,7 +154,7 @@ fn ask<W: Words>(
     Ok(entry)
 }
 
-/// The entry of an offer of which something is wanted, where the identifier at this place is promised.
+/// The entry of an offer with wanted identifiers, where the one at this place among them is promised.
 fn asking(
     known: &Known,
     wanted: WantedOffer,

@@ -85,7 +85,7 @@ struct Reply {
 }
 
 impl Reply {
-    /// How many answers are left for a message, where so many were when the request came.
+    /// How many answers are left for a message, where `at_first` were left when the request came.
     fn left_now(&self, id: &MsgId, at_first: u64) -> u64
         ensures { result ≡ left_now self.now.left.entries id.now at_first }
     {
@@ -95,7 +95,7 @@ impl Reply {
         }
     }
 
-    /// Gives a message, behind which so many answers are left.
+    /// Gives a message, after which `left` answers are left.
     fn give(
         &mut self,
         alloc: Global,

@@ -33,7 +33,7 @@ pub fn to_each(
     Ok(sends)
 }
 
-/// `to_each` behind what is sent already.
+/// `to_each`, after what is sent already.
 pub fn send_to_each(
     alloc: Global,
     sends: &mut Seq<(PeerNo, Shared<Rpc>)>,

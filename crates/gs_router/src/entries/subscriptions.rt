@@ -93,7 +93,7 @@ fn joining(known: &Known, topic: Topic, chosen: &[PeerNo], now: Millis) -> Resul
     })
 }
 
-/// The end of a subscription: each member of the mesh is told, and is not to come back for a while.
+/// The end of a subscription: each member of the mesh is sent a PRUNE, and is not to come back for a while.
 pub fn unsubscribe(known: &Known, topic: Topic, now: Millis) -> Result<Entry, AllocError>
     ensures { IfOk result (λ entry. (L : Entries)
         → Knows known.now now.0 L

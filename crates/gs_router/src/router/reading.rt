@@ -1,4 +1,4 @@
-//! What a router tells of itself: its trace, its neighbours and their scores, its meshes.
+//! What a router says of itself: its trace, its neighbours and their scores, its meshes.
 ghost use Rattle.std.specs.Prelude.{◌≡◌, false, IfOk};
 ghost use Rattle.gs_rules.specs.Tables.{last_moment, up};
 ghost use Rattle.gs_rules.specs.Meshes.{mesh};
@@ -35,7 +35,7 @@ impl Router {
         self.state.trace.last_moment()
     }
 
-    /// Whether a neighbour is heard and sent to. After want of memory nothing is known of the answer.
+    /// Whether a neighbour is heard and sent to. After the router ran out of memory, nothing is known of the answer.
     pub fn is_up(&self, peer: PeerNo) -> bool
         ensures { self.now.is_stopped ≡ false → result ≡ up self.now.trace peer }
     {
@@ -56,15 +56,17 @@ impl Router {
         self.state.known.setup.params.timing.decay_ms
     }
 
-    /// The score of a neighbour at a moment, in millionths (gossipsub v1.1, Peer Scoring, The Score Function); of a peer
-    /// that is no neighbour, by its marks alone: 0 without any. After want of memory nothing is known of the answer.
+    /// The score of a neighbour at a moment, in millionths (gossipsub v1.1, Peer Scoring, The Score Function). A peer
+    /// that is no neighbour is scored only by its marks: 0 without any. After the router ran out of memory, nothing is
+    /// known of the answer.
     pub fn score(&self, peer: PeerNo, now: Millis) -> i128
         ensures { self.now.is_stopped ≡ false → result ≡ score self.now.peer self.now.trace now.0 peer }
     {
         self.state.known.tables.standings.score(peer, now)
     }
 
-    /// The scores of all neighbours at a moment, by number. After want of memory nothing is known of them.
+    /// The scores of all neighbours at a moment, by number. After the router ran out of memory, nothing is known of
+    /// them.
     ///
     /// # Errors
     /// `AllocError` where there was no memory.
@@ -75,16 +77,16 @@ impl Router {
         self.state.scores(now)
     }
 
-    /// Who is in the mesh of a topic, ascending by number: nobody where there is none. After want of memory nothing is
-    /// known of the answer.
+    /// Who is in the mesh of a topic, ascending by number: nobody where there is none. After the router ran out of
+    /// memory, nothing is known of the answer.
     pub fn members(&self, topic: &Topic) -> &[PeerNo]
         ensures { self.now.is_stopped ≡ false → result.now ≡ mesh self.now.trace topic.now }
     {
         self.state.known.tables.memberships.members(topic)
     }
 
-    /// The members of the meshes of the router's own topics, topics by their bytes, members by number. After want of
-    /// memory nothing is known of them.
+    /// The members of the meshes of the router's own topics, topics by their bytes, members by number. After the
+    /// router ran out of memory, nothing is known of them.
     ///
     /// # Errors
     /// `AllocError` where there was no memory.

@@ -4,7 +4,7 @@ ghost use Rattle.gs_router.specs.Tables.{AgreesOnBeats};
 
 use gs_rules::{Entry, Event};
 
-/// How many heartbeats began, by which every so many of them look for better members (`opportunistic_ticks`).
+/// How many heartbeats began. By this count, every `opportunistic_ticks`-th one looks for better members.
 #[derive(Drop)]
 pub struct Beats {
     count: u64,

@@ -21,8 +21,8 @@ pub struct Messages {
 }
 
 impl Messages {
-    /// No message is kept. One will be for so many heartbeats, be gossiped for so many, and be sent so many times
-    /// to each neighbour that asks for it. For 0 heartbeats means for one, as checked parameters say.
+    /// No message is kept. One will be kept for `len` heartbeats, gossiped for `gossip`, and sent at most `answers`
+    /// times to each neighbour that asks for it. A `len` of 0 means 1, as checked parameters say.
     ///
     /// # Errors
     /// `AllocError` where there was no memory.

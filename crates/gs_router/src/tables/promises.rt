@@ -8,7 +8,7 @@ use gs_base::{Mark, Millis, MsgId, Shared};
 use gs_rules::{Entry, Event, Promise};
 use std::alloc::{AllocError, Global};
 
-/// The promises of which nothing came yet, the oldest first. There are few: no more than a neighbour's offers may
+/// The promises whose messages did not come yet, the oldest first. There are few: no more than a neighbour's offers may
 /// count, for each heartbeat until a promise is overdue.
 #[derive(Drop)]
 pub struct Promises {

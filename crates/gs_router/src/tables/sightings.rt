@@ -52,7 +52,7 @@ impl Sightings {
         self.cache.counting(id, now)
     }
 
-    /// Whether a sighting that counts is at most so many milliseconds old, and a neighbour was not noted for its
+    /// Whether a sighting that counts is at most `window` milliseconds old, and a neighbour was not noted for its
     /// message since.
     pub fn is_near(&self, sighting: &Sighting, peer: PeerNo, now: Millis, window: Millis) -> bool
         ensures { (L : Entries) (id : MsgIdValue)

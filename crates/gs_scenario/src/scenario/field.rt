@@ -187,7 +187,7 @@ impl<'a> Field<'a> {
         Err(self.out_of_range(Wanted::Hex)?)
     }
 
-    /// The bytes of such a text, of which there may be so many.
+    /// The bytes of such a text, at most `most` of them.
     pub fn short_hex(&self, most: usize) -> Result<Bytes, ScenarioFault>
         ensures { GivesSame result (read_as (kinds.short_hex most) self.now) }
     {

@@ -1,4 +1,4 @@
-//! The script of a scenario: what the peers are told to do.
+//! The script of a scenario: what the peers are to do.
 ghost use Rattle.std.specs.Prelude.{◌≡◌, ◌≤◌, [], length, map};
 ghost use Rattle.toml.specs.View.{view, items_view};
 ghost use Rattle.gs_scenario.specs.declared.scenario.tables.TableKind.TheVariants as kinds;
@@ -46,7 +46,7 @@ pub struct Known<'a> {
     pub rounds: u64,
 }
 
-/// The word that says what a peer is told to do.
+/// The word that says what a peer is to do.
 #[derive(Clone, Copy)]
 pub enum Verb {
     Subscribe,
@@ -69,28 +69,28 @@ impl Verb {
     }
 }
 
-/// The keys of a line that tells a peer to subscribe or to unsubscribe.
+/// The keys of a line that asks a peer to subscribe or to unsubscribe.
 pub fn subscription_keys() -> &'static [&'static str]
     ensures { map (λ key. key.now) result.now ≡ known_keys kinds.SubscriptionLine }
 {
     &[WHAT, AT, PEER, TOPIC]
 }
 
-/// The keys of a line that tells a peer to publish.
+/// The keys of a line that asks a peer to publish.
 pub fn publish_keys() -> &'static [&'static str]
     ensures { map (λ key. key.now) result.now ≡ known_keys kinds.PublishLine }
 {
     &[WHAT, AT, PEER, TOPIC, HEX]
 }
 
-/// The keys of a line that tells a peer to put bytes on a link as they are.
+/// The keys of a line that asks a peer to put bytes on a link as they are.
 pub fn raw_keys() -> &'static [&'static str]
     ensures { map (λ key. key.now) result.now ≡ known_keys kinds.RawLine }
 {
     &[WHAT, AT, PEER, TO, HEX]
 }
 
-/// The keys of a line that tells a peer to close a link.
+/// The keys of a line that asks a peer to close a link.
 pub fn hang_up_keys() -> &'static [&'static str]
     ensures { map (λ key. key.now) result.now ≡ known_keys kinds.HangUpLine }
 {
@@ -137,7 +137,7 @@ fn line_in(
     Ok(Line { at, peer, what })
 }
 
-/// What a line with a word tells a peer.
+/// What a line with a word asks of a peer.
 #[tactic(auto, unfolding(crate::specs::PlanOf::what_in))]
 fn what_in(
     known: Known<'_>,
@@ -184,7 +184,7 @@ fn neighbour_in(
     neighbour_of(known.peers, known.dials, peer, &section.required(TO)?)
 }
 
-/// What a line tells a peer, which has no other key than one that tells this may have.
+/// What a line asks of a peer. The line has no key but those that such a line may have.
 #[tactic(auto, unfolding(crate::specs::PlanOf::verb_in))]
 fn verb_in(section: &Section<'_>) -> Result<Verb, ScenarioFault>
     ensures { GivesSame result (verb_in (section_of section.now)) }

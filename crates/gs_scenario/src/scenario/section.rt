@@ -216,7 +216,7 @@ impl<'a> Section<'a> {
         self.required(key)?.hex()
     }
 
-    /// The bytes of the hex text at a key that is required, of which there may be so many.
+    /// The bytes of the hex text at a key that is required, at most `most` of them.
     pub fn short_hex(&self, key: &'a str, most: usize) -> Result<Bytes, ScenarioFault>
         ensures { GivesSame result (held_at (required key.now (kinds.short_hex most)) self.now) }
     {

@@ -20,13 +20,13 @@ pub enum TableKind {
     App,
     /// An element of `explicit`.
     Explicit,
-    /// An element of `do` that tells a peer to subscribe or to unsubscribe.
+    /// An element of `do` that asks a peer to subscribe or to unsubscribe.
     SubscriptionLine,
-    /// An element of `do` that tells a peer to publish.
+    /// An element of `do` that asks a peer to publish.
     PublishLine,
-    /// An element of `do` that tells a peer to put bytes on a link as they are.
+    /// An element of `do` that asks a peer to put bytes on a link as they are.
     RawLine,
-    /// An element of `do` that tells a peer to close a link.
+    /// An element of `do` that asks a peer to close a link.
     HangUpLine,
 }
 

@@ -90,8 +90,8 @@ fn futures_that_wait<'w>(
     Ok(futures)
 }
 
-/// Whether so many workers, of which each drives one future that waits for the flag, end with
-/// `NoThread` where one of them has no random bytes; and each of the other futures ends by the flag.
+/// Whether `workers` workers, each with one future that waits for the flag, end with `NoThread` where
+/// one of them has no random bytes; and each of the other futures ends by the flag.
 fn a_thread_is_wanting<R>(rt: R, workers: usize) -> Result<bool, AllocError>
 where
     R: Threads + Wait + RandomSource + AllocGlobal + Sync + Drop,

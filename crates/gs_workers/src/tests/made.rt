@@ -32,7 +32,7 @@ impl Future for Numbered {
     }
 }
 
-/// Futures with the first numbers, each of which waits for one poll more than the one before it.
+/// Futures with the first numbers. Each waits for one poll more than the one before it.
 pub fn first_numbers(alloc: Global, count: u8) -> Result<Vec<Numbered>, AllocError> {
     let mut futures = Vec::new(alloc);
     for number in 0..count {
@@ -44,7 +44,7 @@ pub fn first_numbers(alloc: Global, count: u8) -> Result<Vec<Numbered>, AllocErr
     Ok(futures)
 }
 
-/// What so many futures give on so many workers, and on how many threads they ran.
+/// What `count` futures give on `workers` workers, and on how many threads they ran.
 pub fn given<R>(rt: &R, workers: usize, count: u8, stop: &StopFlag) -> Result<Ran<u16>, WorkerFault>
 where
     R: Threads + Wait + RandomSource + AllocGlobal + Sync,
