@@ -3,7 +3,7 @@
 # one for files, and has `expect`.
 
 # Puts the commands of a page into files N.command, and what each prints into N.output. A script in Python goes into a file
-# of the name that stands behind `python`.
+# of the name that stands after `python`.
 split_page() {
   awk -v room="$2" '
     /^```/ { is_code = !is_code; is_script = is_code && $1 == "```python"; file = is_script ? room "/" $2 : ""; next }
@@ -17,7 +17,7 @@ split_page() {
     is_code && file != "" { print >file }' "$1"
 }
 
-# Runs a command of the page. Files that it makes are there for those behind it.
+# Runs a command of the page. Files that it makes are there for those after it.
 in_book() {
   (cd "$room/book" && bash -c "$1")
 }

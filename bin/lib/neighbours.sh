@@ -2,7 +2,7 @@
 # Scenarios with many neighbours, and what is printed of them. bin/check_statuses reads this file, sets `top` to the
 # repository's folder, and has `expect`.
 
-# neighbours WHO PEERS BYTES WORKERS: peers that all subscribe in round 0, each publish so many bytes in round 2, and
+# neighbours WHO PEERS BYTES WORKERS: peers that all subscribe in round 0, each publish BYTES bytes in round 2, and
 # end before a heartbeat. Each is joined to each where WHO is `all`, else the first to all others.
 neighbours() {
   awk -v who="$1" -v peers="$2" -v bytes="$3" -v workers="$4" -v capacity=1 '

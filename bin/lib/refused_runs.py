@@ -7,6 +7,7 @@ HEAD = "round_ms = 100\nrounds = 10\nworkers = {}\ncapacity = {}\nseed = 1\n[[to
 STEP = 20  # bytes
 PARTS = "the parts of a peer"
 
+# (workers: how many threads there are, and none where the run goes without links)
 Row = collections.namedtuple("Row", "name text status output errors peers workers")
 Sweep = collections.namedtuple("Sweep", "what how step")
 # (met: the threads that met a call which did not go on, as digits, each once or twice, and STARVED where a growth was
@@ -15,6 +16,7 @@ End = collections.namedtuple("End", "status output errors met")
 
 STARVED = "s"
 NO_THREAD = 2, "", "run refused: 25\n"
+NO_MEMORY = 2, "", "run refused: 24\n"
 
 TWO_REPORT = """\
 delivered a 200 news 616263
@@ -60,11 +62,10 @@ def scenario(workers, capacity, peers, dials, *lines):
 
 def rows(parts):
     """What is run; gs_refusals, where no call fails, writes `parts`."""
-    for workers in 1, 3:
-        name = f"{workers} worker{'s'[: workers - 1]}"
-        text = scenario(workers, 8, "ab", ["ab"])
+    for workers, name in (1, "1 worker"), (3, "3 workers"), (0, "no links"):
+        text = scenario(workers or 1, 8, "ab", ["ab"])
         yield Row(f"two peers, {name}", text, 0, TWO_REPORT, "", "ab", workers)
-        text = scenario(workers, 1, "abc", ["ab", "bc", "ca"], do(4, "a", "hang_up", topic="", to="b"))
+        text = scenario(workers or 1, 1, "abc", ["ab", "bc", "ca"], do(4, "a", "hang_up", topic="", to="b"))
         yield Row(f"a ring, {name}", text, 0, RING_REPORT, "", "abc", workers)
     text = scenario(1, 8, "ab", ["ab"]).replace("seed = 1\n", "")
     yield Row("a refused scenario", text, 1, "", "scenario refused: 28 seed\n", "ab", 1)
@@ -139,10 +140,12 @@ def may_be_named(row, sweep, end):
 def allowed_after_growth(row, sweep, end):
     yield row.status, row.output, row.errors
     yield 1, "", "scenario refused: 32\n"
-    if row.status == 0:
+    # (the arguments want memory, too)
+    yield NO_MEMORY
+    if row.status == 0 and row.workers:
         yield NO_THREAD
-        for name in "", *(f" {peer}" for peer in may_be_named(row, sweep, end)):
-            yield 2, "", f"run refused: 24{name}\n"
+        for peer in may_be_named(row, sweep, end):
+            yield 2, "", f"run refused: 24 {peer}\n"
 
 
 def allowed_after_write(row, sweep, at):
@@ -162,7 +165,8 @@ def allowed(row, sweep, at, end):
     if sweep.what == "growth":
         yield from allowed_after_growth(row, sweep, end)
     elif sweep.what in ("thread", "random"):
-        yield NO_THREAD
+        if has_calls(row, sweep):
+            yield NO_THREAD
     elif sweep.what == "read" and sweep.how in ("fail", "all"):
         yield 3, "", "input failed\n"
     elif sweep.what == "read":
@@ -194,13 +198,13 @@ def is_right(row, sweep, at, end):
 
 
 def has_calls(row, sweep):
-    """Whether a run makes a call that this sweep has fail."""
-    return row.status == 0 or sweep.what not in ("thread", "random")
+    """Whether a run makes a call that this sweep has fail. One without links starts no thread and draws no random bytes."""
+    return row.workers and row.status == 0 or sweep.what not in ("thread", "random")
 
 
 def names_peers(row, sweep):
     """Whether the runs of a sweep name each peer in turn, while its task is built."""
-    return (sweep.what, sweep.how) == ("growth", "fail") and row.status == 0 and row.name != PARTS
+    return (sweep.what, sweep.how) == ("growth", "fail") and row.status == 0 and row.workers and row.name != PARTS
 
 
 def are_all_tried(row, ends):

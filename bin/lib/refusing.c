@@ -2,9 +2,9 @@
 // library. It is loaded before the C library. REFUSE names what is counted: `growth`, `thread`, `random`, `read` or
 // `write`. REFUSE_AT is the call, and REFUSE_HOW what becomes of it:
 //   fail       it fails
-//   all        it fails, and so do all behind it
-//   workers    it fails, and so do all behind it of threads other than the first
-//   starve     it fails, and behind it each growth of the first thread where that starts no more threads
+//   all        it fails, and so do all after it
+//   workers    it fails, and so do all after it of threads other than the first
+//   starve     it fails, and after it each growth of the first thread where that starts no more threads
 //   interrupt  it is interrupted
 //   one        it moves one byte
 //   less       it moves a byte less than it would
@@ -108,7 +108,7 @@ static void meet(void) {
 }
 
 // The fate of a growth after the call that failed, where no memory is left for the first thread. Only that thread gets
-// here with no memory left, so that it alone writes the `s`.
+// here with no memory left, so that only it writes the `s`.
 static enum fate starved(void) {
     if (!is_met || !is_closing || number != 0) return GO_ON;
     if (!is_starved) next_write(tell, "s", 1);
@@ -116,7 +116,7 @@ static enum fate starved(void) {
     return FAIL;
 }
 
-// Waits for a moment for another thread to meet one, too: what one thread is told, the others are to hear no sooner.
+// Waits for a moment for another thread to meet one, too: what one thread hears, the others are to hear no sooner.
 static void wait_for_another(void) {
     if (number == 0 || started < 2) return;
     for (int i = 0; i < WAITS && __atomic_load_n(&threads_met, __ATOMIC_SEQ_CST) < 2; i++) usleep(WAIT);

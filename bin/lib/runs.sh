@@ -23,7 +23,7 @@ print_options() {
                     these four can be repeated
   --until ROUND     up to this round: the scenario is cut there, and later lines are left out
   --words           says of a refused scenario why, in words on standard error, as on a terminal
-  --proved          runs proved programs alone
+  --proved          runs only proved programs
   --help, -h        prints this
   --version, -V     prints the commit and the Rattle kit
   --                ends the options
@@ -31,9 +31,10 @@ print_options() {
 A program that is not proved yet is compiled, with checks at run time, in about two minutes, once for its sources. Standard
 error says so. bin/build proves and builds the programs.
 
-Status: 0 $1; 1 the scenario is refused, or can't be changed so; 2 memory
-or a thread was wanting; 3 input or output failed; 4 the program is not built, with --proved, or can't be compiled; 5 an
-unproved run met a fault; 64 the arguments are wrong; 66 FILE can't be read; 128 and a signal's number where one ended it.
+Status: 0 $1; 1 the scenario is refused, or can't be changed so; 2 there
+was no memory, or no thread; 3 input or output failed; 4 the program is not built, with --proved, or can't be
+compiled; 5 an unproved run met a fault; 64 the arguments are wrong; 66 FILE can't be read; 128 and a signal's number
+where one ended it.
 END
 }
 
@@ -68,7 +69,7 @@ cut_at() {
   until=$1
 }
 
-# Stops where nothing stands behind an option that takes a value.
+# Stops where nothing stands after an option that takes a value.
 want_value() {
   [ $# -ge 2 ] || stop 64 "$1 takes a value; --help says more"
 }
@@ -175,7 +176,7 @@ run_changed() {
   [ ${#edits[@]} -eq 0 ] || programs=(gossip_edit)
   [ -z "$program" ] || programs+=("$program")
   look_for "${programs[@]}"
-  # Nothing is left to do behind a program that is proved and whose refusal needs no words.
+  # Nothing is left to do after a program that is proved and whose refusal needs no words.
   if [ ${#is_unproved[@]} -eq 0 ] && [ -z "$has_words" ] && is_as_it_comes; then
     say_reading
     GLIBC_TUNABLES=$tunables exec "$(program_of "$program")" "${arguments[@]}"

@@ -113,7 +113,7 @@ plant() {
   [ ! -d "$out/incremental" ] || flock --nonblock "$top/crates/$1" mv "$out/incremental" "$tree/$1/out"
 }
 
-# Starts the proof of a crate, with so many jobs. A program is then run on its own input.
+# Starts the proof of a crate, with this many jobs. A program is then run on its own input.
 start() {
   local name=$1 words=(lib --jobs "$2") crate=$top/crates/$1 input=/dev/null output args=()
   plant "$name"

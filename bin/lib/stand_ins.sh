@@ -115,6 +115,9 @@ check_unproved() {
     tried 64 --print --seed 2
   expect 'a printed change without proof' 0 'gossip_edit seed=2 scenario' \
     "$(unproved scenario 'gossip_edit is not built')"$'\ntold by gossip_edit' tried 0 --print --seed 2
+  expect 'a direct run without proof' 0 'gossip_sim --direct scenario' "$said"$'\ntold by gossip_sim' tried 0 --direct
+  expect 'a direct check' 64 '' 'gossip_sim: --direct goes with a run, not with --check or --print; --help says more' \
+    tried 0 --direct --check
   expect_like 'figures without proof' 0 'gossip_stats --csv scenario' \
     'gossip_stats: this set of figures does not come from a proved program: gossip_stats is not built*told by gossip_stats' \
     tried_figures --csv

@@ -107,7 +107,7 @@ class Settings:
         return math.prod(sum(map(size, it)) for it in self.values.values())
 
     def combinations(self):
-        """Each combination, as a tuple of KEY=VALUE, of which the last changes first."""
+        """Each combination, as a tuple of KEY=VALUE, where the last changes first."""
         keys = list(self.values)
         for values in itertools.product(*(list(itertools.chain(*self.values[it])) for it in keys)):
             yield tuple(f"{key}={value}" for key, value in zip(keys, values))
@@ -213,7 +213,7 @@ class Sweep:
         return row
 
     def cells_of(self, end):
-        """The cells of a run behind its settings."""
+        """The cells of a run after its settings."""
         figures = None
         if end.status == 0:
             figures = figures_of(end.output, self.peer)

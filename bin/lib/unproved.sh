@@ -62,7 +62,7 @@ END
 }
 
 # Compiles a program to where it is kept, where no other run has done so meanwhile. Where a source has changed since it began,
-# or where it can't be kept, the program is for this run alone.
+# or where it can't be kept, the program is only for this run.
 compile() {
   local name=$1 place=$2 begun=$SECONDS made=$room/$1
   exec 8>"$kept/$name.lock"
@@ -102,7 +102,7 @@ say_compiling() {
   printf '\r\033[K%s\n' "$tool: $((SECONDS - begun)) s, $said" >&2
 }
 
-# Has programs kept for this run alone where they can't be kept in the repository.
+# Has programs kept only for this run where they can't be kept in the repository.
 choose_place() {
   local it
   ! { mkdir -p "$kept" 2>/dev/null && [ -w "$kept" ]; } || return 0

@@ -24,14 +24,14 @@ class Uncut(Exception):
 
 class Statement:
     """A header, or a key with its value, that stands outside of all others. It goes from `start` to `end`, and a key to
-    `equals`. `elements` has the places of what stands in a list, each with the comma behind it."""
+    `equals`. `elements` has the places of what stands in a list, each with the comma after it."""
 
     def __init__(self, start):
         self.start, self.end, self.equals = start, start, None
         self.elements, self.is_in_element = [], False
 
     def take(self, kind, start, end, depth):
-        """Takes a token, which stands so many brackets deep."""
+        """Takes a token, which stands `depth` brackets deep."""
         self.end = end
         if kind == "equals" and depth == 0 and self.equals is None:
             self.equals = start

@@ -17,7 +17,3 @@ AskFor (name ∷ other ∷ more) asked = ⊥
 -- what is said where they are too many
 abbrev pub usage : List ℕ
 usage = codes "usage: gossip_picture [TOPIC]\n"
-
--- and the status that the program ends with then
-abbrev pub wrong_arguments : ℕ
-wrong_arguments = 64

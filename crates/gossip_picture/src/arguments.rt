@@ -1,15 +1,15 @@
 //! What the program's arguments ask for.
 ghost use Rattle.std.specs.Prelude.{◌≡◌, IfSome, codes, map, string_bytes};
 ghost use Rattle.std.specs.Process.{exit_status};
-ghost use Rattle.gs_streams.specs.Streams.{AppendsFront};
-ghost use Rattle.gossip_picture.specs.Arguments.{AskFor, usage, wrong_arguments};
+ghost use Rattle.gs_program.specs.Arguments.{IsRefusedSo, wrong_arguments};
+ghost use Rattle.gossip_picture.specs.Arguments.{AskFor, usage};
 
-use gs_streams::tell;
+use gs_program::refuse_arguments;
 use std::io::Write;
 use std::process::ExitCode;
 
-/// What is said where the arguments are too many.
-const USAGE: &str = "usage: gossip_picture [TOPIC]\n";
+/// How the program is called.
+pub const USAGE: &str = "usage: gossip_picture [TOPIC]\n";
 
 /// The topic that is asked for.
 #[derive(Clone, Copy, Debug, Drop)]
@@ -31,11 +31,9 @@ pub fn asked_of(arguments: &[String]) -> Option<Asked<'_>>
     }
 }
 
-/// Says how the program is called.
+/// Says how the program is called, or a front of that, and gives the status for wrong arguments.
 pub fn refuse<E: Write>(errors: &mut E) -> ExitCode
-    ensures told { AppendsFront (E.contents errors.old) (E.contents errors.new) usage }
-    ensures status { exit_status result ≡ wrong_arguments }
+    ensures { IsRefusedSo usage wrong_arguments (exit_status result) (E.contents errors.old) (E.contents errors.new) }
 {
-    tell(errors, USAGE);
-    ExitCode::from(64)
+    refuse_arguments(errors, USAGE)
 }

@@ -5,18 +5,18 @@
 mod arguments;
 mod program;
 
-use crate::arguments::asked_of;
+use crate::arguments::{USAGE, asked_of};
+use gs_program::{arguments_of, refuse_unread};
 use std::process::ExitCode;
-use std::{env, io};
 
 fn main(rt: HostRuntime) -> ExitCode {
     let arguments = match arguments_of(&rt) {
         Ok(arguments) => arguments,
-        Err(_) => return arguments::refuse(&mut rt.stderr()),
+        Err(fault) => return refuse_unread(fault.kind(), &mut rt.stderr(), USAGE),
     };
     match asked_of(&arguments) {
         Some(asked) => program::ended(
-            &rt,
+            rt.alloc(),
             asked,
             &mut rt.stdin(),
             &mut rt.stdout(),
@@ -24,15 +24,6 @@ fn main(rt: HostRuntime) -> ExitCode {
         ),
         None => arguments::refuse(&mut rt.stderr()),
     }
-}
-
-/// The arguments behind the program's name.
-fn arguments_of(rt: &HostRuntime) -> io::Result<Vec<String>> {
-    let mut arguments = Vec::new(rt.alloc());
-    for argument in env::args(rt)?.skip(1) {
-        arguments.push(argument)?;
-    }
-    Ok(arguments)
 }
 
 #[cfg(test)]

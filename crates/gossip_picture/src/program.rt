@@ -1,5 +1,5 @@
 //! The program: it draws the run of the scenario that it reads.
-ghost use Rattle.std.specs.Prelude.{◌≡◌, IfOk};
+ghost use Rattle.std.specs.Prelude.{◌≡◌, false, IfOk};
 ghost use Rattle.std.specs.Process.{exit_status};
 ghost use Rattle.gs_program.specs.Program.{EndsWith};
 ghost use Rattle.gossip_picture.specs.Printed.{printed, topic_in};
@@ -7,17 +7,13 @@ ghost use Rattle.gossip_picture.specs.Printed.{printed, topic_in};
 use crate::arguments::Asked;
 use bytes::Bytes;
 use gs_base::{Topic, clone_of};
-use gs_peer::NoGate;
 use gs_picture::{first_topic, picture_svg};
 use gs_plan::Plan;
-use gs_program::{Printer, Program};
+use gs_program::{Direct, Printer, Program};
 use gs_report::Report;
-use std::alloc::{AllocError, AllocGlobal, Global};
+use std::alloc::{AllocError, Global};
 use std::io::{Read, Write};
 use std::process::ExitCode;
-use std::random::RandomSource;
-use std::sync::Wait;
-use std::thread::Threads;
 
 /// Makes the picture of a run for a topic.
 #[derive(Clone, Copy, Debug, Drop)]
@@ -49,24 +45,23 @@ fn topic_in(alloc: Global, plan: &Plan, asked: Asked<'_>) -> Result<Topic, Alloc
 
 /// Runs the program over these streams, and gives the status that its process ends with. Its ends are those of
 /// `gossip_sim`, and its text is the picture of the run for a topic.
-pub fn ended<T, R, W, E>(
-    rt: &T,
+pub fn ended<R, W, E>(
+    alloc: Global,
     asked: Asked<'_>,
     input: &mut R,
     output: &mut W,
     errors: &mut E,
 ) -> ExitCode
 where
-    T: Threads + Wait + RandomSource + AllocGlobal + Sync + Send + Copy,
     R: Read,
     W: Write,
     E: Write,
-    ensures { EndsWith (printed asked.entry) (exit_status result) (R.remaining input.old) (R.remaining input.new)
+    ensures { EndsWith (printed asked.entry) false (exit_status result) (R.remaining input.old) (R.remaining input.new)
         (W.contents output.old) (W.contents output.new) (E.contents errors.old) (E.contents errors.new) }
 {
     let program = Program {
-        rt,
-        gate: &NoGate,
+        alloc,
+        engine: Direct { alloc },
         printer: PictureOf { asked },
     };
     program.ended(input, output, errors)

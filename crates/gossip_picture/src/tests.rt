@@ -267,7 +267,7 @@ fn one_peer_is_drawn(rt: HostRuntime) {
     let mut output = Vec::new(rt.alloc());
     let mut errors = Vec::new(rt.alloc());
     let code = ended(
-        &rt,
+        rt.alloc(),
         Asked::First,
         &mut ALONE.as_bytes(),
         &mut output,
@@ -282,7 +282,7 @@ fn two_peers_are_drawn_of_which_one_leaves(rt: HostRuntime) {
     let mut output = Vec::new(rt.alloc());
     let mut errors = Vec::new(rt.alloc());
     let code = ended(
-        &rt,
+        rt.alloc(),
         Asked::First,
         &mut LEAVING.as_bytes(),
         &mut output,
@@ -297,7 +297,7 @@ fn twelve_peers_stand_at_their_degrees_and_have_their_classes(rt: HostRuntime) {
     let mut output = Vec::new(rt.alloc());
     let mut errors = Vec::new(rt.alloc());
     let code = ended(
-        &rt,
+        rt.alloc(),
         Asked::Named("news"),
         &mut TWELVE.as_bytes(),
         &mut output,
@@ -312,7 +312,13 @@ fn markup_in_a_topic_is_escaped(rt: HostRuntime) {
     let mut output = Vec::new(rt.alloc());
     let mut errors = Vec::new(rt.alloc());
     let asked = Asked::Named("a&<b>\"'\u{e9}");
-    let code = ended(&rt, asked, &mut TWELVE.as_bytes(), &mut output, &mut errors);
+    let code = ended(
+        rt.alloc(),
+        asked,
+        &mut TWELVE.as_bytes(),
+        &mut output,
+        &mut errors,
+    );
     assert!(rt; code == ExitCode::from(0) && errors.is_empty());
     assert!(rt; is_made_of(&output, &TWELVE_WITH_MARKUP));
 }
@@ -322,7 +328,7 @@ fn a_refused_scenario_has_no_picture(rt: HostRuntime) {
     let mut output = Vec::new(rt.alloc());
     let mut errors = Vec::new(rt.alloc());
     let code = ended(
-        &rt,
+        rt.alloc(),
         Asked::First,
         &mut b"rounds = 0\n".as_slice(),
         &mut output,

@@ -1,5 +1,5 @@
 -- What two runs of the program write.
-use Rattle.std.specs.Prelude.{◌≡◌, ℕ, List, Option}
+use Rattle.std.specs.Prelude.{◌≡◌, ℕ, Bool, List, Option}
 use Rattle.std.specs.Io.KnownBytes.{Appends}
 use Rattle.gs_report.specs.Text.{report_text}
 use Rattle.gs_laws.specs.Runs.{AreAlike}
@@ -24,14 +24,15 @@ AlikePlansWriteTheSame =
     → (report_text mine.plan mine.report ≡ report_text theirs.plan theirs.report)
     × AddTheSame output output' other other'
 
--- Two runs both end with the status of a report, and the scenarios that they read differ at most in these keys. Then the
--- texts of their reports are one, and they add the same bytes.
+-- Two runs both end with the status of a report, each over links or without, and the scenarios that they read differ at most
+-- in these keys. Then the texts of their reports are one, and they add the same bytes.
 abbrev pub AlikeScenariosWriteTheSame : Type 0
 AlikeScenariosWriteTheSame =
     (input input' output output' errors errors' : Option (List ℕ))
     (more more' other other' faults faults' : Option (List ℕ))
-    (mine : EndsAs report_text ends.Reported input input' output output' errors errors')
-    (theirs : EndsAs report_text ends.Reported more more' other other' faults faults')
+    (my_way their_way : Bool)
+    (mine : EndsAs report_text my_way ends.Reported input input' output output' errors errors')
+    (theirs : EndsAs report_text their_way ends.Reported more more' other other' faults faults')
     → DifferInRunning mine.scenario.text theirs.scenario.text
     → (report_text mine.plan mine.report ≡ report_text theirs.plan theirs.report)
     × AddTheSame output output' other other'

@@ -1,11 +1,15 @@
 //! The program: it writes the report of the scenario that it reads.
+ghost use Rattle.std.specs.Prelude.{map, string_bytes};
 ghost use Rattle.std.specs.Process.{exit_status};
 ghost use Rattle.gs_report.specs.Text.{report_text};
-ghost use Rattle.gs_program.specs.Program.{EndsAs, EndsWith};
+ghost use Rattle.gs_program.specs.Program.{EndsWith};
+ghost use Rattle.gossip_sim.specs.Arguments.{EndsFor, asked_for, needs_threads};
 
-use gs_peer::Gate;
+use crate::arguments::{Way, asked_by, refuse};
+use crate::over_links::OverLinks;
+use gs_peer::NoGate;
 use gs_plan::Plan;
-use gs_program::{ExitStatus, Printer, Program};
+use gs_program::{Direct, Engine, Printer, Program};
 use gs_report::{Report, report_text};
 use std::alloc::{AllocError, AllocGlobal, Global};
 use std::io::{Read, Write};
@@ -16,7 +20,7 @@ use std::thread::Threads;
 
 /// Makes the lines of a report.
 #[derive(Clone, Copy, Debug, Drop)]
-struct Lines;
+pub struct Lines;
 
 impl Printer for Lines {
     ghost text = { λ _ plan report. report_text plan report };
@@ -26,56 +30,64 @@ impl Printer for Lines {
     }
 }
 
-/// Runs the program over these streams, and gives the status that its process ends with.
-pub fn ended<T, G, R, W, E>(
+/// Runs the program with these arguments over these streams, and gives the status that its process ends with. Peers are run
+/// over links, and with `--direct` without. Other arguments are refused: then it reads no input, says on `errors` how it is
+/// called, and ends with 64.
+pub fn run_for<T, R, W, E>(
     rt: &T,
-    gate: &G,
+    arguments: &[String],
     input: &mut R,
     output: &mut W,
     errors: &mut E,
 ) -> ExitCode
 where
     T: Threads + Wait + RandomSource + AllocGlobal + Sync + Send + Copy,
-    G: Gate + Sync,
     R: Read,
     W: Write,
     E: Write,
-    ensures { EndsWith report_text (exit_status result) (R.remaining input.old) (R.remaining input.new)
+    ensures { EndsFor (asked_for (map string_bytes arguments.now)) (exit_status result)
+        (R.remaining input.old) (R.remaining input.new)
         (W.contents output.old) (W.contents output.new) (E.contents errors.old) (E.contents errors.new) }
 {
-    let program = Program {
-        rt,
-        gate,
-        printer: Lines,
-    };
-    program.ended(input, output, errors)
+    match asked_by(arguments) {
+        Some(way) => ended(rt, way, input, output, errors),
+        None => refuse(errors),
+    }
 }
 
-/// Reads a scenario from the input, runs it, and writes its report to the output once the run has
-/// ended. The gate is told of each round that a peer begins. Why there is no report is a line on
-/// `errors`; where that can't be written, the status stays the same.
-pub fn run<T, G, R, W, E>(
+/// Runs the program over these streams, peers in this way, and gives the status that its process ends with.
+pub fn ended<T, R, W, E>(
     rt: &T,
-    gate: &G,
+    way: Way,
     input: &mut R,
     output: &mut W,
     errors: &mut E,
-) -> ExitStatus
+) -> ExitCode
 where
     T: Threads + Wait + RandomSource + AllocGlobal + Sync + Send + Copy,
-    G: Gate + Sync,
     R: Read,
     W: Write,
     E: Write,
-    ensures { EndsAs report_text result (R.remaining input.old) (R.remaining input.new)
+    ensures { EndsWith report_text (needs_threads way) (exit_status result) (R.remaining input.old) (R.remaining input.new)
         (W.contents output.old) (W.contents output.new) (E.contents errors.old) (E.contents errors.new) }
 {
-    let program = Program {
-        rt,
-        gate,
+    let alloc = rt.alloc();
+    match way {
+        Way::OverLinks => {
+            let engine = OverLinks { rt, gate: &NoGate };
+            program(alloc, engine).ended(input, output, errors)
+        }
+        Way::WithoutLinks => program(alloc, Direct { alloc }).ended(input, output, errors),
+    }
+}
+
+/// The program with a way to run plans.
+pub fn program<N: Engine>(alloc: Global, engine: N) -> Program<N, Lines> {
+    Program {
+        alloc,
+        engine,
         printer: Lines,
-    };
-    program.run(input, output, errors)
+    }
 }
 
 #[cfg(test)]

@@ -2,14 +2,16 @@
 mod breaking;
 mod choices;
 mod explicit;
+mod large;
 mod meshes;
 mod one_output;
 mod standings;
 
-use crate::program::run;
+use crate::over_links::OverLinks;
+use crate::program::program;
 use crate::program::tests::Host;
 use gs_peer::{Gate, NoGate};
-use gs_program::ExitStatus;
+use gs_program::{Direct, Engine, ExitStatus};
 use std::alloc::{AllocError, Global};
 use std::sync::atomic::{AtomicU64, Ordering};
 use std::thread;
@@ -28,7 +30,7 @@ const B_DIALS_A: &str = "[[dial]]\nfrom = \"b\"\nto = \"a\"\n";
 const C_DIALS_BOTH: &str =
     "[[dial]]\nfrom = \"c\"\nto = \"b\"\n[[dial]]\nfrom = \"a\"\nto = \"c\"\n";
 
-/// A line of a script: the round, the peer, what it is told, the topic, and what it publishes.
+/// A line of a script: the round, the peer, what it does, the topic, and what it publishes.
 type Told<'a> = (u64, &'a str, &'a str, &'a str, Option<&'a str>);
 
 /// The text of a scenario: these parts, and the lines of a script.
@@ -49,15 +51,23 @@ fn scenario(alloc: Global, parts: &[&str], script: &[Told<'_>]) -> Result<String
     Ok(text)
 }
 
-/// Whether a run of a scenario ends with such a report, and with nothing on the error output.
-fn is_reported<T: Host, G: Gate + Sync>(rt: &T, gate: &G, text: &str, report: &str) -> bool {
-    let mut output = Vec::new(rt.alloc());
-    let mut errors = Vec::new(rt.alloc());
-    let ended = run(rt, gate, &mut text.as_bytes(), &mut output, &mut errors);
+/// Whether a run of a scenario in this way ends with such a report, and with nothing on the error output.
+fn is_reported_by<N: Engine>(alloc: Global, engine: N, text: &str, report: &str) -> bool {
+    let mut output = Vec::new(alloc);
+    let mut errors = Vec::new(alloc);
+    let ended = program(alloc, engine).run(&mut text.as_bytes(), &mut output, &mut errors);
     ended == ExitStatus::Reported && output.as_slice() == report.as_bytes() && errors.is_empty()
 }
 
-/// Whether the peers of such a scenario that are told this make such a report.
+/// Whether runs of a scenario end with such a report, over links and without, and with nothing on the error output.
+fn is_reported<T: Host>(rt: &T, text: &str, report: &str) -> bool {
+    let alloc = rt.alloc();
+    let links = OverLinks { rt, gate: &NoGate };
+    is_reported_by(alloc, links, text, report)
+        && is_reported_by(alloc, Direct { alloc }, text, report)
+}
+
+/// Whether the peers of such a scenario with this script make such a report.
 fn reports<T: Host>(
     rt: &T,
     parts: &[&str],
@@ -65,7 +75,7 @@ fn reports<T: Host>(
     report: &str,
 ) -> Result<bool, AllocError> {
     let text = scenario(rt.alloc(), parts, script)?;
-    Ok(is_reported(rt, &NoGate, &text, report))
+    Ok(is_reported(rt, &text, report))
 }
 
 static TWO_SUBSCRIBE: [Told<'static>; 3] = [
@@ -269,7 +279,7 @@ fn a_ring_of_sixteen_threads_has_one_report(rt: HostRuntime) -> Result<(), Alloc
     let text = ring(rt.alloc(), 16, 1)?;
     let report = ring_report(rt.alloc())?;
     for _ in 0..100u32 {
-        assert!(rt; is_reported(&rt, &NoGate, &text, &report));
+        assert!(rt; is_reported(&rt, &text, &report));
     }
     Ok(())
 }
@@ -280,7 +290,7 @@ fn workers_and_capacity_change_no_report(rt: HostRuntime) -> Result<(), AllocErr
     for workers in [1, 2, 3, 8] {
         for capacity in [1, 8] {
             let text = ring(rt.alloc(), workers, capacity)?;
-            assert!(rt; is_reported(&rt, &NoGate, &text, &report));
+            assert!(rt; is_reported(&rt, &text, &report));
         }
     }
     Ok(())
@@ -364,7 +374,11 @@ fn workers_run_side_by_side(rt: HostRuntime) -> Result<(), AllocError> {
         met: AtomicU64::new(0),
     };
     let text = news(rt.alloc(), 6, 16, 1, 16)?;
-    assert!(rt; is_reported(&rt, &meeting, &text, "links 0 settled\n"));
+    let links = OverLinks {
+        rt: &rt,
+        gate: &meeting,
+    };
+    assert!(rt; is_reported_by(rt.alloc(), links, &text, "links 0 settled\n"));
     assert!(rt; meeting.met.load(Ordering::SeqCst) == 16);
     Ok(())
 }

@@ -51,7 +51,3 @@ asked_for (name ∷ other ∷ third ∷ more) = None
 -- what is said where they ask for nothing that there is
 unfoldable pub usage : List ℕ
 usage = codes "usage: gossip_stats [--csv | --json] [--rounds]\n"
-
--- and the status that the program ends with then
-abbrev pub wrong_arguments : ℕ
-wrong_arguments = 64

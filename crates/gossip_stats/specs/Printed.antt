@@ -1,6 +1,5 @@
 -- What the program prints of a run, and how it ends.
-use Rattle.std.specs.Prelude.{◌≡◌, ℕ, if◌then◌else◌, List, Option, Some, None}
-use Rattle.std.specs.Io.KnownBytes.{Keeps}
+use Rattle.std.specs.Prelude.{ℕ, false, if◌then◌else◌, List, Option, Some, None}
 use Rattle.gs_plan.specs.declared.plan.Plan.{Plan}
 use Rattle.gs_report.specs.declared.report.Report.{Report}
 use Rattle.gs_figures.specs.declared.figures.Figures.{Figures}
@@ -12,12 +11,12 @@ use Rattle.gs_figures.specs.Rounds.{all_rounds}
 use Rattle.gs_figures.specs.RoundTables.{rounds_table}
 use Rattle.gs_figures.specs.RoundTexts.{rounds_text}
 use Rattle.gs_figures.specs.Texts.{figures_csv, figures_json}
+use Rattle.gs_program.specs.Arguments.{IsMisused}
 use Rattle.gs_program.specs.Program.{EndsWith}
-use Rattle.gs_streams.specs.Streams.{AppendsFront}
 use Rattle.gossip_stats.specs.declared.arguments.Asked.{Asked}
 use Rattle.gossip_stats.specs.declared.arguments.Layout.{Layout}
 use Rattle.gossip_stats.specs.declared.arguments.Layout.TheVariants.{Table, Csv, Json}
-use Rattle.gossip_stats.specs.Arguments.{usage, wrong_arguments}
+use Rattle.gossip_stats.specs.Arguments.{usage}
 
 -- figures in a layout
 abbrev pub laid_out : Layout → Plan → Figures → List ℕ
@@ -37,15 +36,9 @@ printed asked plan report =
     if asked.rounds then rounds_laid_out asked.layout (all_rounds plan report)
     else laid_out asked.layout plan (figures plan report)
 
--- nothing was read, the usage is on errors, or a front of it, and nothing more on the output
-pub record Refused (status : ℕ) (input input' output output' errors errors' : Option (List ℕ)) : Type 0 where
-  pub unread : input' ≡ input
-  pub line : AppendsFront errors errors' usage
-  pub silent : Keeps output output'
-  pub status_is : status ≡ wrong_arguments
-
 -- how the program ends by what is asked for
 abbrev pub EndsFor : Option Asked → (status : ℕ) (input input' output output' errors errors' : Option (List ℕ)) → Type 0
-EndsFor None status input input' output output' errors errors' = Refused status input input' output output' errors errors'
+EndsFor None status input input' output output' errors errors' =
+    IsMisused usage status input input' output output' errors errors'
 EndsFor (Some asked) status input input' output output' errors errors' =
-    EndsWith (printed asked) status input input' output output' errors errors'
+    EndsWith (printed asked) false status input input' output output' errors errors'

@@ -1,15 +1,15 @@
 //! What the program's arguments ask for.
 ghost use Rattle.std.specs.Prelude.{◌≡◌, ℕ, List, [], ◌∷◌, map, string_bytes};
 ghost use Rattle.std.specs.Process.{exit_status};
-ghost use Rattle.gs_streams.specs.Streams.{AppendsFront};
-ghost use Rattle.gossip_stats.specs.Arguments.{asked_for, asking, beside_layout, beside_rounds, of_one, of_two, usage, word_named, wrong_arguments};
+ghost use Rattle.gs_program.specs.Arguments.{IsRefusedSo, wrong_arguments};
+ghost use Rattle.gossip_stats.specs.Arguments.{asked_for, asking, beside_layout, beside_rounds, of_one, of_two, usage, word_named};
 
-use gs_streams::tell;
+use gs_program::refuse_arguments;
 use std::io::Write;
 use std::process::ExitCode;
 
-/// What is said where the arguments ask for nothing that there is.
-const USAGE: &str = "usage: gossip_stats [--csv | --json] [--rounds]\n";
+/// How the program is called.
+pub const USAGE: &str = "usage: gossip_stats [--csv | --json] [--rounds]\n";
 
 /// How figures are laid out.
 #[derive(Clone, Copy, Debug, PartialEq, Eq)]
@@ -115,12 +115,10 @@ fn beside_layout(layout: Layout, word: Option<Word>) -> Option<Asked>
     }
 }
 
-/// Says how the program is called.
+/// Says how the program is called, or a front of that, and gives the status for wrong arguments.
 #[tactic(auto, unfolding(crate::specs::Arguments::usage))]
 pub fn refuse<E: Write>(errors: &mut E) -> ExitCode
-    ensures told { AppendsFront (E.contents errors.old) (E.contents errors.new) usage }
-    ensures status { exit_status result ≡ wrong_arguments }
+    ensures { IsRefusedSo usage wrong_arguments (exit_status result) (E.contents errors.old) (E.contents errors.new) }
 {
-    tell(errors, USAGE);
-    ExitCode::from(64)
+    refuse_arguments(errors, USAGE)
 }

@@ -5,29 +5,21 @@
 mod arguments;
 mod program;
 
+use crate::arguments::USAGE;
+use gs_program::{arguments_of, refuse_unread};
 use std::process::ExitCode;
-use std::{env, io};
 
 fn main(rt: HostRuntime) -> ExitCode {
     match arguments_of(&rt) {
         Ok(arguments) => program::run(
-            &rt,
+            rt.alloc(),
             arguments.as_slice(),
             &mut rt.stdin(),
             &mut rt.stdout(),
             &mut rt.stderr(),
         ),
-        Err(_) => arguments::refuse(&mut rt.stderr()),
+        Err(fault) => refuse_unread(fault.kind(), &mut rt.stderr(), USAGE),
     }
-}
-
-/// The arguments behind the program's name.
-fn arguments_of(rt: &HostRuntime) -> io::Result<Vec<String>> {
-    let mut arguments = Vec::new(rt.alloc());
-    for argument in env::args(rt)?.skip(1) {
-        arguments.push(argument)?;
-    }
-    Ok(arguments)
 }
 
 #[cfg(test)]

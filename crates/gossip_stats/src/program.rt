@@ -1,5 +1,5 @@
 //! The program: it writes figures of the scenario that it reads.
-ghost use Rattle.std.specs.Prelude.{◌≡◌, IfOk, map, string_bytes};
+ghost use Rattle.std.specs.Prelude.{◌≡◌, false, IfOk, map, string_bytes};
 ghost use Rattle.std.specs.Process.{exit_status};
 ghost use Rattle.gs_program.specs.Program.{EndsWith};
 ghost use Rattle.gossip_stats.specs.Arguments.{asked_for};
@@ -10,16 +10,12 @@ use gs_figures::{
     Figures, Form, RoundFigures, figures_csv, figures_json, figures_of, figures_table, rounds_of,
     rounds_table, rounds_text,
 };
-use gs_peer::NoGate;
 use gs_plan::Plan;
-use gs_program::{Printer, Program};
+use gs_program::{Direct, Printer, Program};
 use gs_report::Report;
-use std::alloc::{AllocError, AllocGlobal, Global};
+use std::alloc::{AllocError, Global};
 use std::io::{Read, Write};
 use std::process::ExitCode;
-use std::random::RandomSource;
-use std::sync::Wait;
-use std::thread::Threads;
 
 /// Makes the figures of a run as they are asked for.
 #[derive(Clone, Copy, Debug, Drop)]
@@ -72,15 +68,14 @@ fn rounds_laid_out(
 /// Runs the program with these arguments over these streams, and gives the status that its process ends with. Where the
 /// arguments ask for something, its ends are those of `gossip_sim`, and its text is what they ask for. Else it reads no
 /// input, says on `errors` how it is called, and ends with 64.
-pub fn run<T, R, W, E>(
-    rt: &T,
+pub fn run<R, W, E>(
+    alloc: Global,
     arguments: &[String],
     input: &mut R,
     output: &mut W,
     errors: &mut E,
 ) -> ExitCode
 where
-    T: Threads + Wait + RandomSource + AllocGlobal + Sync + Send + Copy,
     R: Read,
     W: Write,
     E: Write,
@@ -89,30 +84,29 @@ where
         (W.contents output.old) (W.contents output.new) (E.contents errors.old) (E.contents errors.new) }
 {
     match asked_by(arguments) {
-        Some(asked) => ended(rt, asked, input, output, errors),
+        Some(asked) => ended(alloc, asked, input, output, errors),
         None => refuse(errors),
     }
 }
 
 /// Runs the program for what is asked for.
-fn ended<T, R, W, E>(
-    rt: &T,
+fn ended<R, W, E>(
+    alloc: Global,
     asked: Asked,
     input: &mut R,
     output: &mut W,
     errors: &mut E,
 ) -> ExitCode
 where
-    T: Threads + Wait + RandomSource + AllocGlobal + Sync + Send + Copy,
     R: Read,
     W: Write,
     E: Write,
-    ensures { EndsWith (printed asked) (exit_status result) (R.remaining input.old) (R.remaining input.new)
+    ensures { EndsWith (printed asked) false (exit_status result) (R.remaining input.old) (R.remaining input.new)
         (W.contents output.old) (W.contents output.new) (E.contents errors.old) (E.contents errors.new) }
 {
     let program = Program {
-        rt,
-        gate: &NoGate,
+        alloc,
+        engine: Direct { alloc },
         printer: FiguresAs { asked },
     };
     program.ended(input, output, errors)

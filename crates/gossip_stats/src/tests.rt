@@ -1,12 +1,9 @@
 //! The program's figures, worked out by hand.
 use crate::arguments::{Asked, Layout, asked_by};
 use crate::program::run;
-use std::alloc::{AllocError, AllocGlobal, Global};
+use std::alloc::{AllocError, Global};
 use std::process::ExitCode;
-use std::random::RandomSource;
-use std::sync::Wait;
 use std::test::*;
-use std::thread::Threads;
 
 mod worked;
 
@@ -77,21 +74,18 @@ fn words_of(alloc: Global, words: &[&str]) -> Result<Vec<String>, AllocError> {
 }
 
 /// Whether a run with these arguments ends so: with this status, and these texts on the output and on errors.
-fn ends_so<T>(
-    rt: &T,
+fn ends_so(
+    alloc: Global,
     words: &[&str],
     input: &str,
     status: u8,
     wanted: (&str, &str),
-) -> Result<bool, AllocError>
-where
-    T: Threads + Wait + RandomSource + AllocGlobal + Sync + Send + Copy,
-{
-    let arguments = words_of(rt.alloc(), words)?;
-    let mut output = Vec::new(rt.alloc());
-    let mut errors = Vec::new(rt.alloc());
+) -> Result<bool, AllocError> {
+    let arguments = words_of(alloc, words)?;
+    let mut output = Vec::new(alloc);
+    let mut errors = Vec::new(alloc);
     let code = run(
-        rt,
+        alloc,
         arguments.as_slice(),
         &mut input.as_bytes(),
         &mut output,
@@ -106,8 +100,8 @@ where
 
 #[test]
 fn two_subscribers_have_their_figures(rt: HostRuntime) -> Result<(), AllocError> {
-    assert!(rt; ends_so(&rt, &[], SCENARIO, 0, (AS_TABLE, ""))?);
-    assert!(rt; ends_so(&rt, &["--json"], SCENARIO, 0, (AS_JSON, ""))?);
+    assert!(rt; ends_so(rt.alloc(), &[], SCENARIO, 0, (AS_TABLE, ""))?);
+    assert!(rt; ends_so(rt.alloc(), &["--json"], SCENARIO, 0, (AS_JSON, ""))?);
     Ok(())
 }
 
@@ -134,14 +128,22 @@ round  delivered  messages heard  new  duplicates  bytes sent  smallest mesh  la
 fn each_round_has_its_figures(rt: HostRuntime) -> Result<(), AllocError> {
     assert!(rt;
         ends_so(
-            &rt,
+            rt.alloc(),
             &["--csv", "--rounds"],
             SCENARIO,
             0,
             (ROUNDS_AS_CSV, "")
         )?
     );
-    assert!(rt; ends_so(&rt, &["--rounds"], SCENARIO, 0, (ROUNDS_AS_TABLE, ""))?);
+    assert!(rt;
+        ends_so(
+            rt.alloc(),
+            &["--rounds"],
+            SCENARIO,
+            0,
+            (ROUNDS_AS_TABLE, "")
+        )?
+    );
     Ok(())
 }
 
@@ -168,14 +170,14 @@ refused_lines,lowest_score,highest_score,smallest_mesh,largest_mesh
 
 #[test]
 fn raw_bytes_are_bytes_and_no_rpc_of_the_sender(rt: HostRuntime) -> Result<(), AllocError> {
-    assert!(rt; ends_so(&rt, &["--csv"], WITH_RAW, 0, (WITH_RAW_AS_CSV, ""))?);
+    assert!(rt; ends_so(rt.alloc(), &["--csv"], WITH_RAW, 0, (WITH_RAW_AS_CSV, ""))?);
     Ok(())
 }
 
 #[test]
 fn a_refused_scenario_has_no_figures(rt: HostRuntime) -> Result<(), AllocError> {
     let told = ("", "scenario refused: 28 round_ms\n");
-    assert!(rt; ends_so(&rt, &["--csv"], "rounds = 0\n", 1, told)?);
+    assert!(rt; ends_so(rt.alloc(), &["--csv"], "rounds = 0\n", 1, told)?);
     Ok(())
 }
 
@@ -221,6 +223,6 @@ fn arguments_ask_for_a_layout(rt: HostRuntime) -> Result<(), AllocError> {
 #[test]
 fn other_arguments_are_told_how_the_program_is_called(rt: HostRuntime) -> Result<(), AllocError> {
     let told = ("", "usage: gossip_stats [--csv | --json] [--rounds]\n");
-    assert!(rt; ends_so(&rt, &["--cvs"], SCENARIO, 64, told)?);
+    assert!(rt; ends_so(rt.alloc(), &["--cvs"], SCENARIO, 64, told)?);
     Ok(())
 }

@@ -1,5 +1,5 @@
 -- How a run of a program ends, and what it has then written.
-use Rattle.std.specs.Prelude.{◌≡◌, ◌++◌, ℕ, List, [], codes, decimal, Option, Some, None, IfSome, ◌⊎◌}
+use Rattle.std.specs.Prelude.{◌≡◌, ◌++◌, ℕ, Bool, false, List, [], codes, decimal, Option, Some, None, IfSome, ◌⊎◌}
 use Rattle.std.specs.Io.KnownBytes.{Appends, IsAtEnd, Keeps}
 use Rattle.gs_scenario.specs.declared.fault.ScenarioFault.{ScenarioFault}
 use Rattle.gs_scenario.specs.declared.fault.ScenarioFault.TheVariants.{NoMemory}
@@ -20,19 +20,23 @@ use Rattle.gs_streams.specs.Streams.{AppendsFront}
 abbrev pub refusal_line : ScenarioFault → List ℕ
 refusal_line fault = codes "scenario refused: " ++ refusal_text fault ++ codes "\n"
 
--- the line of the refusal was added to errors, or a front of it; of want of memory, where there was
--- none for the line
+-- the line of the refusal was added to errors, or a front of it; where there was no memory for the line, that of being out
+-- of memory
 pub record TellsRefusal (fault : ScenarioFault) (errors errors' : Option (List ℕ)) : Type 0 where
   pub told : ScenarioFault
   pub which : (told ≡ fault) ⊎ (told ≡ NoMemory)
   pub line : AppendsFront errors errors' (refusal_line told)
+
+-- a fault that a run may meet: where it needs no threads, only being out of memory
+abbrev pub MayMeet : (needs_threads : Bool) → NetFault → Type 0
+MayMeet needs_threads fault = needs_threads ≡ false → number_of fault ≡ 24
 
 -- the peer that a fault of a run names
 abbrev pub peer_of : NetFault → Option PeerNo
 peer_of (faults.NoMemory peer) = peer
 peer_of faults.NoThread = None
 
--- the name of a peer behind a space
+-- the name of a peer after a space
 abbrev pub spaced_name : Plan → Option PeerNo → List ℕ
 spaced_name plan None = []
 spaced_name plan (Some p) = codes " " ++ name_of plan p
@@ -66,10 +70,11 @@ pub record ScenarioRefused (input output output' errors errors' : Option (List �
 
 -- a run of the scenario met a fault, or there was no memory to report on it: errors has the line of
 -- that, or a front of it, and the output has nothing more
-pub record RunRefused (input output output' errors errors' : Option (List ℕ)) : Type 0 where
+pub record RunRefused (needs_threads : Bool) (input output output' errors errors' : Option (List ℕ)) : Type 0 where
   pub plan : Plan
   pub scenario : IsScenario input plan
   pub fault : NetFault
+  pub met : MayMeet needs_threads fault
   pub tells : TellsFault plan fault errors errors'
   pub silent : Keeps output output'
 
@@ -108,17 +113,22 @@ module _ (text_of : Plan → Report → List ℕ) where
     pub text : AppendsFront output output' (text_of plan report)
     pub line : AppendsFront errors errors' (codes "output failed\n")
 
-  -- what each status says
-  abbrev pub EndsAs : ExitStatus → (input input' output output' errors errors' : Option (List ℕ)) → Type 0
-  EndsAs ends.Reported input input' output output' errors errors' = Reported input input' output output' errors errors'
-  EndsAs ends.ScenarioRefused input input' output output' errors errors' =
+  -- of one whose runs need threads, or none: what each status says
+  abbrev pub EndsAs : (needs_threads : Bool) → ExitStatus → (input input' output output' errors errors' : Option (List ℕ))
+      → Type 0
+  EndsAs needs ends.Reported input input' output output' errors errors' =
+      Reported input input' output output' errors errors'
+  EndsAs needs ends.ScenarioRefused input input' output output' errors errors' =
       ScenarioRefused input output output' errors errors'
-  EndsAs ends.RunRefused input input' output output' errors errors' = RunRefused input output output' errors errors'
-  EndsAs ends.InputFailed input input' output output' errors errors' = InputFailed output output' errors errors'
-  EndsAs ends.OutputFailed input input' output output' errors errors' = OutputFailed input output output' errors errors'
+  EndsAs needs ends.RunRefused input input' output output' errors errors' =
+      RunRefused needs input output output' errors errors'
+  EndsAs needs ends.InputFailed input input' output output' errors errors' = InputFailed output output' errors errors'
+  EndsAs needs ends.OutputFailed input input' output output' errors errors' =
+      OutputFailed input output output' errors errors'
 
   -- the status is that of an end which the streams show
-  pub record EndsWith (status : ℕ) (input input' output output' errors errors' : Option (List ℕ)) : Type 0 where
+  pub record EndsWith (needs_threads : Bool) (status : ℕ) (input input' output output' errors errors' : Option (List ℕ))
+      : Type 0 where
     pub ended : ExitStatus
-    pub ends : EndsAs ended input input' output output' errors errors'
+    pub ends : EndsAs needs_threads ended input input' output output' errors errors'
     pub status_is : status ≡ status_of ended

@@ -1,9 +1,13 @@
 //! The programs that read a scenario, run it and write a text of what the run leaves.
 #![tactic(auto)]
 
+mod arguments;
+mod engine;
 mod printer;
 mod program;
 mod telling;
 
+pub use arguments::{arguments_of, refuse_arguments, refuse_unread};
+pub use engine::{Direct, Engine};
 pub use printer::Printer;
 pub use program::{ExitStatus, Program};

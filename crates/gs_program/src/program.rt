@@ -5,24 +5,20 @@ ghost use Rattle.std.specs.Process.{exit_status};
 ghost use Rattle.gs_plan.specs.Plans.{IsInRange};
 ghost use Rattle.gs_seats.specs.Reports.{IsReport};
 ghost use Rattle.gs_streams.specs.Inputs.{IsRefusal, IsScenario};
-ghost use Rattle.gs_program.specs.Program.{EndsAs, EndsWith, status_of};
+ghost use Rattle.gs_program.specs.Program.{EndsAs, EndsWith, MayMeet, status_of};
 
+use crate::engine::Engine;
 use crate::printer::Printer;
 use crate::telling::{tell_fault, tell_refusal};
-use gs_net::run_net;
-use gs_peer::Gate;
 use gs_plan::Plan;
 use gs_report::Report;
 use gs_scenario::ScenarioFault;
 use gs_seats::NetFault;
 use gs_streams::{ReadFault, input_too_long, plan_from, read_input, tell, write_text};
-use std::alloc::{AllocGlobal, Global};
+use std::alloc::Global;
 use std::io::{Read, Write};
 use std::mem;
 use std::process::ExitCode;
-use std::random::RandomSource;
-use std::sync::Wait;
-use std::thread::Threads;
 
 /// How a run of a program ends.
 #[derive(Clone, Copy, Debug, PartialEq, Eq)]
@@ -54,21 +50,16 @@ impl From<ExitStatus> for ExitCode {
 
 /// A program that runs a scenario.
 #[derive(Drop)]
-pub struct Program<'r, T, G, P> {
-    /// What its threads and its memory come from.
-    pub rt: &'r T,
-    /// It is told of each round that a peer begins.
-    pub gate: &'r G,
+pub struct Program<N, P> {
+    /// What its memory comes from.
+    pub alloc: Global,
+    /// How it runs the plan of the scenario.
+    pub engine: N,
     /// It makes the text that is written of the run.
     pub printer: P,
 }
 
-impl<'r, T, G, P> Program<'r, T, G, P>
-where
-    T: Threads + Wait + RandomSource + AllocGlobal + Sync + Send + Copy,
-    G: Gate + Sync,
-    P: Printer,
-{
+impl<N: Engine, P: Printer> Program<N, P> {
     /// Reads a scenario from the input, runs it, and writes a text of its report to the output once the run has
     /// ended. Why there is none is a line on `errors`; where that can't be written, the status stays the same.
     pub fn run<R, W, E>(&self, input: &mut R, output: &mut W, errors: &mut E) -> ExitStatus
@@ -76,18 +67,17 @@ where
         R: Read,
         W: Write,
         E: Write,
-        ensures { EndsAs (P.text self.now.printer) result (R.remaining input.old) (R.remaining input.new)
+        ensures { EndsAs (P.text self.now.printer) N.needs_threads result (R.remaining input.old) (R.remaining input.new)
             (W.contents output.old) (W.contents output.new) (E.contents errors.old) (E.contents errors.new) }
     {
-        let alloc = self.rt.alloc();
-        match plan_in(alloc, input) {
+        match plan_in(self.alloc, input) {
             Ok(plan) => self.run_plan(&plan, output, errors),
             Err(NoPlan::InputFailed) => {
                 tell(errors, "input failed\n");
                 ExitStatus::InputFailed
             }
             Err(NoPlan::Refused(fault)) => {
-                tell_refusal(alloc, errors, &fault);
+                tell_refusal(self.alloc, errors, &fault);
                 ExitStatus::ScenarioRefused
             }
         }
@@ -99,7 +89,8 @@ where
         R: Read,
         W: Write,
         E: Write,
-        ensures { EndsWith (P.text self.now.printer) (exit_status result) (R.remaining input.old) (R.remaining input.new)
+        ensures { EndsWith (P.text self.now.printer) N.needs_threads (exit_status result)
+            (R.remaining input.old) (R.remaining input.new)
             (W.contents output.old) (W.contents output.new) (E.contents errors.old) (E.contents errors.new) }
     {
         ExitCode::from(self.run(input, output, errors))
@@ -112,13 +103,13 @@ where
         E: Write,
         requires { IsInRange plan.now }
         ensures { (input input' : Option (List ℕ)) → IsScenario input plan.now → IsAtEnd input'
-            → EndsAs (P.text self.now.printer) result input input'
+            → EndsAs (P.text self.now.printer) N.needs_threads result input input'
             (W.contents output.old) (W.contents output.new) (E.contents errors.old) (E.contents errors.new) }
     {
         let text = match self.text_of(plan) {
             Ok(text) => text,
             Err(fault) => {
-                tell_fault(self.rt.alloc(), errors, plan, fault);
+                tell_fault(self.alloc, errors, plan, fault);
                 return ExitStatus::RunRefused;
             }
         };
@@ -132,13 +123,14 @@ where
     /// Runs a plan, and makes a text of its report.
     fn text_of(&self, plan: &Plan) -> Result<Vec<u8>, NetFault>
         requires { IsInRange plan.now }
-        ensures { IfOk result (λ text. (report : Report)
+        ensures text { IfOk result (λ text. (report : Report)
             × IsReport plan.now report
             × (text.items ≡ P.text self.now.printer plan.now report)) }
+        ensures fault { IfErr result (MayMeet N.needs_threads) }
     {
-        let report = run_net(self.rt, plan, self.gate)?;
-        let text = self.printer.print(self.rt.alloc(), plan, &report);
-        // The program ends behind its text, and its memory goes back as a whole: to take the traces
+        let report = self.engine.run(plan)?;
+        let text = self.printer.print(self.alloc, plan, &report);
+        // The program ends after its text, and its memory goes back as a whole: to take the traces
         // apart first, entry by entry, is a tenth of a run.
         mem::forget(report);
         match text {

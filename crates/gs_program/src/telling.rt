@@ -57,7 +57,7 @@ fn fault_line(alloc: Global, plan: &Plan, fault: NetFault) -> Result<String, All
     Ok(format!(in alloc; "run refused: {number}{name}\n")?)
 }
 
-/// The name of a peer behind a space, and nothing for none.
+/// The name of a peer after a space, and nothing for none.
 fn spaced_name(alloc: Global, plan: &Plan, peer: Option<PeerNo>) -> Result<String, AllocError>
     ensures { IfOk result (λ text. string_bytes text ≡ spaced_name plan.now peer) }
 {

@@ -78,7 +78,7 @@ peer = "x"
 
 class Floods(unittest.TestCase):
     def test_offers_spend_the_budget_from_heartbeat_to_heartbeat(self):
-        # 30 offers a second for 5 seconds, of which 10 count up to each heartbeat. What is sent in the rounds 20 to 69 is
+        # 30 offers a second for 5 seconds, and 10 count up to each heartbeat. What is sent in the rounds 20 to 69 is
         # heard in 21 to 70, and a heartbeat at the end of each tenth round parts that into five.
         flood = attack("ihave_flood", 'until = "7 s"\nevery = "100 ms"\ncount = 3\n')
         text = LINE + PARAMS + "w7 = 0\n" + TOPIC + flood
@@ -256,7 +256,7 @@ every = "500 ms"
     def test_it_may_do_something_else_then(self):
         attack_of = self.ATTACK.replace('from = "3500 ms"', 'from = "3500 ms"\nthen = "graft_flood"')
         text = self.TEXT + "w7 = -1000000\n" + TOPIC + attack_of
-        # GRAFTs at 3.5 s to 9.5 s: 13, of which the ninth makes it -81, below the graylist threshold
+        # GRAFTs at 3.5 s to 9.5 s: 13, and the ninth makes it -81, below the graylist threshold
         self.assertEqual(of(text, "x", "lowest_score"), (-81_000_000,))
 
 

@@ -1,5 +1,4 @@
 use super::*;
-use gs_peer::NoGate;
 use gs_streams::LONGEST_INPUT;
 use gs_streams::fakes::{Broken, Narrow};
 use std::io;
@@ -53,17 +52,26 @@ pub trait Host: Threads + Wait + RandomSource + AllocGlobal + Sync + Send + Copy
 
 impl<T: Threads + Wait + RandomSource + AllocGlobal + Sync + Send + Copy> Host for T {}
 
-/// Whether a run on an input ends so and writes that.
-fn ends<T: Host, R: Read>(rt: &T, input: &mut R, status: u8, output: &str, errors: &str) -> bool {
+const WAYS: [Way; 2] = [Way::OverLinks, Way::WithoutLinks];
+
+/// Whether a run on an input ends so, with this on the output and that on errors.
+fn ends<T: Host, R: Read>(
+    rt: &T,
+    way: Way,
+    input: &mut R,
+    status: u8,
+    wanted: (&str, &str),
+) -> bool {
     let mut out = Vec::new(rt.alloc());
     let mut err = Vec::new(rt.alloc());
-    ended(rt, &NoGate, input, &mut out, &mut err) == ExitCode::from(status)
-        && out.as_slice() == output.as_bytes()
-        && err.as_slice() == errors.as_bytes()
+    ended(rt, way, input, &mut out, &mut err) == ExitCode::from(status)
+        && out.as_slice() == wanted.0.as_bytes()
+        && err.as_slice() == wanted.1.as_bytes()
 }
 
 pub fn is_refused<T: Host>(rt: &T, input: &[u8], line: &str) -> bool {
-    ends(rt, &mut &input[..], 1, "", line)
+    ends(rt, Way::OverLinks, &mut &input[..], 1, ("", line))
+        && ends(rt, Way::WithoutLinks, &mut &input[..], 1, ("", line))
 }
 
 /// A writer that takes `step` bytes at a time and `room` in all.
@@ -76,15 +84,21 @@ fn narrow(alloc: Global, step: usize, room: usize, fails: bool) -> Narrow {
     }
 }
 
-/// Whether a run of the scenario whose output has so much room ends so, with a front of the report.
+/// Whether a run of the scenario whose output has `room` bytes ends so, with a front of the report.
 fn writes_front<T: Host>(rt: &T, room: usize, fails: bool, status: u8, errors: &str) -> bool {
-    let mut output = narrow(rt.alloc(), 3, room, fails);
-    let mut err = Vec::new(rt.alloc());
-    let code = ended(rt, &NoGate, &mut SCENARIO.as_bytes(), &mut output, &mut err);
-    let front = REPORT.len().min(room);
-    code == ExitCode::from(status)
-        && output.taken.as_slice() == &REPORT.as_bytes()[..front]
-        && err.as_slice() == errors.as_bytes()
+    for way in WAYS {
+        let mut output = narrow(rt.alloc(), 3, room, fails);
+        let mut err = Vec::new(rt.alloc());
+        let code = ended(rt, way, &mut SCENARIO.as_bytes(), &mut output, &mut err);
+        let front = REPORT.len().min(room);
+        if code != ExitCode::from(status)
+            || output.taken.as_slice() != &REPORT.as_bytes()[..front]
+            || err.as_slice() != errors.as_bytes()
+        {
+            return false;
+        }
+    }
+    true
 }
 
 /// How a run without a report ends: its status, and its line.
@@ -113,8 +127,8 @@ static NO_OUTPUT: End = End {
     line: "output failed\n",
 };
 
-/// Whether a run whose output takes nothing ends so, with a front of its line where `errors` has so much room, and fails
-/// or takes nothing behind that.
+/// Whether a run over links whose output takes nothing ends so, with a front of its line where `errors` has `room` bytes, and
+/// fails or takes nothing after that.
 fn tells_front<T: Host, R: Read>(
     rt: &T,
     input: &mut R,
@@ -124,7 +138,7 @@ fn tells_front<T: Host, R: Read>(
 ) -> bool {
     let mut output = narrow(rt.alloc(), 1, 0, true);
     let mut errors = narrow(rt.alloc(), 2, room, fails);
-    let code = ended(rt, &NoGate, input, &mut output, &mut errors);
+    let code = ended(rt, Way::OverLinks, input, &mut output, &mut errors);
     let front = end.line.len().min(room);
     code == ExitCode::from(end.status)
         && output.taken.is_empty()
@@ -133,7 +147,9 @@ fn tells_front<T: Host, R: Read>(
 
 #[test]
 fn two_subscribers_are_reported(rt: HostRuntime) {
-    assert!(rt; ends(&rt, &mut SCENARIO.as_bytes(), 0, REPORT, ""));
+    for way in WAYS {
+        assert!(rt; ends(&rt, way, &mut SCENARIO.as_bytes(), 0, (REPORT, "")));
+    }
 }
 
 #[test]
@@ -162,20 +178,12 @@ fn a_long_input_is_refused_whatever_it_is(rt: HostRuntime) -> Result<(), AllocEr
 
 #[test]
 fn an_input_that_fails_is_not_run(rt: HostRuntime) {
-    let text = SCENARIO.as_bytes();
-    assert!(rt; ends(&rt, &mut Broken { rest: b"" }, 3, "", "input failed\n"));
-    assert!(rt;
-        ends(
-            &rt,
-            &mut Broken {
-                rest: b"rounds = 0\n"
-            },
-            3,
-            "",
-            "input failed\n"
-        )
-    );
-    assert!(rt; ends(&rt, &mut Broken { rest: text }, 3, "", "input failed\n"));
+    let fronts: [&[u8]; 3] = [b"", b"rounds = 0\n", SCENARIO.as_bytes()];
+    for rest in fronts {
+        for way in WAYS {
+            assert!(rt; ends(&rt, way, &mut Broken { rest }, 3, ("", "input failed\n")));
+        }
+    }
 }
 
 #[test]
@@ -229,16 +237,53 @@ impl<R> RandomSource for Unseeded<R> {
 }
 
 #[test]
-fn a_run_that_meets_a_fault_is_refused(rt: HostRuntime) {
-    let mut out = Vec::new(rt.alloc());
-    let mut errors = Vec::new(rt.alloc());
-    let ended = run(
-        &Unseeded(rt),
-        &NoGate,
-        &mut SCENARIO.as_bytes(),
-        &mut out,
-        &mut errors,
+fn a_run_without_a_thread_is_refused_only_over_links(rt: HostRuntime) {
+    let text = SCENARIO.as_bytes();
+    let refused = ("", "run refused: 25\n");
+    assert!(rt; ends(&Unseeded(rt), Way::OverLinks, &mut &text[..], 2, refused));
+    assert!(rt;
+        ends(
+            &Unseeded(rt),
+            Way::WithoutLinks,
+            &mut &text[..],
+            0,
+            (REPORT, "")
+        )
     );
-    assert!(rt; ended == ExitStatus::RunRefused && out.is_empty());
-    assert!(rt; errors.as_slice() == b"run refused: 25\n".as_slice());
+}
+
+/// Whether the program with these arguments ends so, with this on the output and that on errors.
+fn ends_for<T: Host>(
+    rt: &T,
+    words: &[&str],
+    status: u8,
+    wanted: (&str, &str),
+) -> Result<bool, AllocError> {
+    let mut arguments = Vec::new(rt.alloc());
+    for word in words {
+        arguments.push(String::from_str(rt.alloc(), word)?)?;
+    }
+    let mut input = SCENARIO.as_bytes();
+    let mut out = Vec::new(rt.alloc());
+    let mut err = Vec::new(rt.alloc());
+    let code = run_for(rt, arguments.as_slice(), &mut input, &mut out, &mut err);
+    Ok(
+        code == ExitCode::from(status)
+            && out.as_slice() == wanted.0.as_bytes()
+            && err.as_slice() == wanted.1.as_bytes(),
+    )
+}
+
+#[test]
+fn arguments_say_how_peers_are_run(rt: HostRuntime) -> Result<(), AllocError> {
+    let usage = ("", "usage: gossip_sim [--direct]\n");
+    assert!(rt; ends_for(&rt, &[], 0, (REPORT, ""))?);
+    assert!(rt; ends_for(&rt, &["--direct"], 0, (REPORT, ""))?);
+    assert!(rt; ends_for(&rt, &["--links"], 64, usage)?);
+    assert!(rt; ends_for(&rt, &[""], 64, usage)?);
+    assert!(rt; ends_for(&rt, &["--direct", "--direct"], 64, usage)?);
+    // (a thread is asked for only over links)
+    assert!(rt; ends_for(&Unseeded(rt), &[], 2, ("", "run refused: 25\n"))?);
+    assert!(rt; ends_for(&Unseeded(rt), &["--direct"], 0, (REPORT, ""))?);
+    Ok(())
 }

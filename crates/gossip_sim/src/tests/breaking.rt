@@ -1,6 +1,5 @@
 //! Runs in which peers break the protocol: they put bytes on a link that are no RPC, flood it, or hang up.
 use crate::tests::is_reported;
-use gs_peer::NoGate;
 use std::alloc::AllocError;
 
 /// Eleven rounds of 100 milliseconds, and peers `a` and `b` on `news`. `a` publishes `abc` in round 2.
@@ -30,7 +29,7 @@ const THREE: &str = "round_ms = 100\nrounds = 10\nworkers = 3\ncapacity = 1\nsee
     [[do]]\nat = 0\npeer = \"c\"\nwhat = \"subscribe\"\ntopic = \"news\"\n\
     [[do]]\nat = 2\npeer = \"a\"\nwhat = \"publish\"\ntopic = \"news\"\nhex = \"616263\"\n";
 
-/// `a` and its three neighbours `b`, `c` and `e`, which are all at one address. Nobody is told anything.
+/// `a` and its three neighbours `b`, `c` and `e`, which are all at one address. Nobody has anything to do.
 const ONE_ADDRESS: &str = "round_ms = 100\nrounds = 10\nworkers = 2\ncapacity = 8\nseed = 1\n\
     [[topic]]\nname = \"news\"\n[[peer]]\nname = \"a\"\n\
     [[peer]]\nname = \"b\"\naddress = \"x\"\n[[peer]]\nname = \"c\"\naddress = \"x\"\n\
@@ -185,12 +184,7 @@ static CASES: [Case; 17] = [
 fn peers_that_break_the_protocol(rt: HostRuntime) -> Result<(), AllocError> {
     for case in &CASES {
         let text = format!(in rt.alloc(); "{}{}", case.scenario, case.lines)?;
-        assert_eq!(rt;
-            is_reported(&rt, &NoGate, &text, case.report),
-            true,
-            "{}",
-            case.name
-        );
+        assert_eq!(rt; is_reported(&rt, &text, case.report), true, "{}", case.name);
     }
     Ok(())
 }

@@ -2,7 +2,6 @@
 use crate::program::tests::Host;
 use crate::tests::one_output::output_of;
 use crate::tests::{A_DIALS_B, TWO_SUBSCRIBE, Told, is_reported, scenario};
-use gs_peer::NoGate;
 use std::alloc::{AllocError, Global};
 
 /// Numbers of workers, each with a capacity of the links.
@@ -30,7 +29,7 @@ fn is_one<T: Host>(
         let text = format!(in rt.alloc();
             "round_ms = 100\nrounds = {rounds}\nworkers = {workers}\ncapacity = {capacity}\nseed = 1\n{rest}"
         )?;
-        if !is_reported(rt, &NoGate, &text, report) {
+        if !is_reported(rt, &text, report) {
             return Ok(false);
         }
     }

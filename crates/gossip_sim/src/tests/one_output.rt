@@ -4,10 +4,12 @@ ghost use Rattle.gs_program.specs.Program.{Reported};
 ghost use Rattle.gs_report.specs.Text.{report_text};
 
 use crate::laws::two_runs_write_the_same;
-use crate::program::run;
+use crate::over_links::OverLinks;
+use crate::program::program;
 use crate::program::tests::Host;
 use gs_peer::NoGate;
-use gs_program::ExitStatus;
+use gs_program::{Direct, Engine, ExitStatus};
+use std::alloc::Global;
 
 /// `b` subscribes and `a` publishes, by one worker, over links that hold one item.
 const BY_ONE: &str = "round_ms = 100\nrounds = 3\nworkers = 1\ncapacity = 1\nseed = 1\n\
@@ -29,13 +31,13 @@ const REPORT: &str = "delivered b 300 news 616263\n\
     score a b 0.000000\nscore b a 0.000000\nlinks 2 settled\n";
 
 /// What a run of a scenario writes, where it reports.
-pub(super) fn output_of<T: Host>(rt: &T, text: &str) -> Option<Vec<u8>>
+fn output_by<N: Engine>(alloc: Global, engine: N, text: &str) -> Option<Vec<u8>>
     ensures { IfSome result (λ output. (rest : Option (List ℕ)) × (told : Option (List ℕ)) × (told' : Option (List ℕ))
         × Reported report_text (Some text.now) rest (Some []) (Some output.items) told told') }
 {
-    let mut output = Vec::new(rt.alloc());
-    let mut errors = Vec::new(rt.alloc());
-    match run(rt, &NoGate, &mut text.as_bytes(), &mut output, &mut errors) {
+    let mut output = Vec::new(alloc);
+    let mut errors = Vec::new(alloc);
+    match program(alloc, engine).run(&mut text.as_bytes(), &mut output, &mut errors) {
         ExitStatus::Reported => Some(output),
         ExitStatus::ScenarioRefused
         | ExitStatus::RunRefused
@@ -44,13 +46,23 @@ pub(super) fn output_of<T: Host>(rt: &T, text: &str) -> Option<Vec<u8>>
     }
 }
 
-/// What two runs of one scenario write, where both report: it is the same, by the law over plans.
+/// What a run of a scenario over links writes, where it reports.
+pub(super) fn output_of<T: Host>(rt: &T, text: &str) -> Option<Vec<u8>>
+    ensures { IfSome result (λ output. (rest : Option (List ℕ)) × (told : Option (List ℕ)) × (told' : Option (List ℕ))
+        × Reported report_text (Some text.now) rest (Some []) (Some output.items) told told') }
+{
+    let links = OverLinks { rt, gate: &NoGate };
+    output_by(rt.alloc(), links, text)
+}
+
+/// What two runs of one scenario write, where both report, over links and without: it is the same, by the law over plans.
 fn outputs_of<T: Host>(rt: &T, text: &str) -> Option<(Vec<u8>, Vec<u8>)>
     ensures { IfSome result (λ both. both.0.items ≡ both.1.items) }
 {
     two_runs_write_the_same();
+    let alloc = rt.alloc();
     let first = output_of(rt, text)?;
-    let second = output_of(rt, text)?;
+    let second = output_by(alloc, Direct { alloc }, text)?;
     Some((first, second))
 }
 
@@ -75,7 +87,7 @@ fn are(outputs: &Option<(Vec<u8>, Vec<u8>)>, report: &str) -> bool {
 }
 
 #[test]
-fn two_runs_of_a_scenario_write_the_same(rt: HostRuntime) {
+fn runs_over_links_and_without_write_the_same(rt: HostRuntime) {
     assert!(rt; are(&outputs_of(&rt, BY_SIXTEEN), REPORT));
 }
 

@@ -126,7 +126,7 @@ static CASES: [Case; 4] = [TWO_TOPICS, REJECTED, HUNG_UP, LINE];
 #[test]
 fn whole_runs_have_their_figures(rt: HostRuntime) -> Result<(), AllocError> {
     for case in &CASES {
-        let told = ends_so(&rt, &["--csv"], case.scenario, 0, (case.csv, ""))?;
+        let told = ends_so(rt.alloc(), &["--csv"], case.scenario, 0, (case.csv, ""))?;
         assert_eq!(rt; (case.name, told), (case.name, true));
     }
     Ok(())

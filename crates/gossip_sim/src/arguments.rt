@@ -1,0 +1,48 @@
+//! What the program's arguments ask for.
+ghost use Rattle.std.specs.Prelude.{◌≡◌, ◌∷◌, [], map, string_bytes};
+ghost use Rattle.std.specs.Process.{exit_status};
+ghost use Rattle.gs_program.specs.Arguments.{IsRefusedSo, wrong_arguments};
+ghost use Rattle.gossip_sim.specs.Arguments.{asked_for, usage};
+
+use gs_program::refuse_arguments;
+use std::io::Write;
+use std::process::ExitCode;
+
+/// How the program is called.
+pub const USAGE: &str = "usage: gossip_sim [--direct]\n";
+
+/// How the peers of a scenario are run. The report is the same.
+#[derive(Clone, Copy, Debug, PartialEq, Eq)]
+pub enum Way {
+    /// On worker threads, over links.
+    OverLinks,
+    /// On one thread, without links.
+    WithoutLinks,
+}
+
+/// How the arguments ask for peers to be run. None where they ask for nothing that there is.
+pub fn asked_by(arguments: &[String]) -> Option<Way>
+    ensures { result ≡ asked_for (map string_bytes arguments.now) }
+{
+    match arguments {
+        [] => Some(Way::OverLinks),
+        [word] => way_named(word),
+        [_, _, ..] => None,
+    }
+}
+
+fn way_named(name: &str) -> Option<Way>
+    ensures { result ≡ asked_for (name.now ∷ []) }
+{
+    if name == "--direct" {
+        return Some(Way::WithoutLinks);
+    }
+    None
+}
+
+/// Says how the program is called, or a front of that, and gives the status for wrong arguments.
+pub fn refuse<E: Write>(errors: &mut E) -> ExitCode
+    ensures { IsRefusedSo usage wrong_arguments (exit_status result) (E.contents errors.old) (E.contents errors.new) }
+{
+    refuse_arguments(errors, USAGE)
+}

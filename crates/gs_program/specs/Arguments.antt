@@ -1,0 +1,29 @@
+-- How a program ends whose arguments ask for nothing that there is, or could not be read.
+use Rattle.std.specs.Prelude.{◌≡◌, ℕ, List, Option, codes}
+use Rattle.std.specs.Io.KnownBytes.{Keeps}
+use Rattle.gs_streams.specs.Streams.{AppendsFront}
+use Rattle.gs_program.specs.declared.program.ExitStatus.TheVariants.{RunRefused}
+use Rattle.gs_program.specs.Program.{status_of}
+
+-- the status for wrong arguments, as sysexits.h has it (EX_USAGE)
+abbrev pub wrong_arguments : ℕ
+wrong_arguments = 64
+
+-- what is said where there was no memory for them, as of a run, and the status
+abbrev pub no_memory : List ℕ
+no_memory = codes "run refused: 24\n"
+
+abbrev pub refused : ℕ
+refused = status_of RunRefused
+
+-- this line is on errors, or a front of it, and this is the status
+pub record IsRefusedSo (line : List ℕ) (wanted status : ℕ) (errors errors' : Option (List ℕ)) : Type 0 where
+  pub said : AppendsFront errors errors' line
+  pub status_is : status ≡ wanted
+
+-- nothing was read; the usage is on errors, or a front of it; and nothing more is on the output
+pub record IsMisused (usage : List ℕ) (status : ℕ) (input input' output output' errors errors' : Option (List ℕ)) : Type 0
+  where
+    pub unread : input' ≡ input
+    pub refuses : IsRefusedSo usage wrong_arguments status errors errors'
+    pub silent : Keeps output output'
