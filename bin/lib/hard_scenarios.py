@@ -31,6 +31,8 @@ class Hard:
         self.topics = TOPICS[: self.dice.randint(1, 2)]
         self.near = {it: [] for it in self.peers}
         self.dials = []
+        # (some scenarios have neither raw bytes nor hang-ups)
+        self.rough = self.dice.choice([0, 40, 100])
 
     def often(self, percent):
         return self.dice.randrange(100) < percent
@@ -143,7 +145,7 @@ class Hard:
             peer, what = self.dice.choice(self.peers), self.dice.choice(WHATS)
             line = {"at": self.dice.randint(0, self.rounds), "peer": peer, "what": what}
             if what in ("raw", "hang_up"):
-                if self.near[peer] and (what == "raw" or self.often(40)):
+                if self.near[peer] and self.often(self.rough) and (what == "raw" or self.often(40)):
                     yield from self.on_link(line | {"to": self.dice.choice(self.near[peer])})
             else:
                 payload = {"hex": self.dice.choice(PAYLOADS).hex()} if what == "publish" else {}
