@@ -6,7 +6,7 @@ use Rattle.gs_program.proofs.program.Program.run_plan.Goals as goal
 
 pub returns-then-is_err : goal.returns-then-is_err
 returns-then-is_err g c input input' scenario at_end =
-    let (report, run, text) = c.in-Ok.ensures in
+    let (report, run, text) = c.in-Ok.ensures.text in
     let written = whole_or_front c.write_text.result _ _ _ c.write_text.ensures.ok c.write_text.ensures.err in
     record {
       plan = c.args.plan.now;
@@ -19,7 +19,7 @@ returns-then-is_err g c input input' scenario at_end =
 
 pub returns : goal.returns
 returns g c input input' scenario at_end =
-    let (report, run, text) = c.in-Ok.ensures in
+    let (report, run, text) = c.in-Ok.ensures.text in
     let whole : Appends (g.W.Write.contents c.args.output.now) (g.W.Write.contents c.write_text.new.output) c.deref.result.now = search rules in
     record {
       plan = c.args.plan.now;
