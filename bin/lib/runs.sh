@@ -22,7 +22,7 @@ print_options() {
   --set KEY=VALUE   with another value of any key, written as in TOML, as params.flood_publish=false;
                     these four can be repeated
   --until ROUND     up to this round: the scenario is cut there, and later lines are left out
-  --words           says of a refused scenario why, in words on standard error, as on a terminal
+  --words           says of a refused scenario why and in which line, in words on standard error, as on a terminal
   --proved          runs only proved programs
   --help, -h        prints this
   --version, -V     prints the commit and the Rattle kit
@@ -155,6 +155,14 @@ prepare_scenario() {
   exec <"$scenario"
 }
 
+# Prints the lines of the scenario to which the answer of gossip_check points, or its warnings.
+point() {
+  local origin=file
+  command -v python3 >/dev/null || return 0
+  ! is_description "${files[0]--}" || origin=description
+  python3 "$top/bin/lib/point.py" "$1" "$room/answer" "$scenario" "$room/input" "$origin" "$until" "${edits[@]}"
+}
+
 # Says why the scenario was refused. The first line of gossip_check is what the program has said.
 print_words() {
   local file=${files[0]--}
@@ -162,11 +170,23 @@ print_words() {
   if [ -n "${is_unproved[$program]-}" ] || [ -z "$(lack_of gossip_check)" ]; then
     look_for gossip_check
     compile_missing gossip_check
-    call gossip_check <"$scenario" >"$room/words"
-    tail -n +2 "$room/words" >&2
+    call gossip_check <"$scenario" >"$room/answer"
+    tail -n +2 "$room/answer" >&2
+    point refusal >&2
   else
     echo "$tool: bin/gossip_sim --check $file tells why in words" >&2
   fi
+}
+
+# Prints the answer of gossip_check, and to which lines it points; or warns of what can be run. Ends with its status.
+print_answer() {
+  local status=0
+  call gossip_check >"$room/answer" || status=$?
+  : >"$room/lines"
+  [ "$status" -ne 1 ] || point refusal >"$room/lines"
+  cat "$room/answer" "$room/lines" 2>/dev/null || fail 'output failed'
+  [ "$status" -ne 0 ] || point warnings >&2
+  exit "$status"
 }
 
 # Runs `program` with `arguments` on the scenario as the options change it, and ends with its status.
@@ -191,6 +211,7 @@ run_changed() {
     cat "$scenario" 2>/dev/null || fail 'output failed'
     exit
   fi
+  [ "$program" != gossip_check ] || print_answer
   call "$program" "${arguments[@]}" || status=$?
   [ "$status" -ne 1 ] || [ -z "$has_words" ] || print_words
   exit "$status"

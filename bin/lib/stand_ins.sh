@@ -16,6 +16,7 @@ cat >"\$2" <<'PROGRAM'
 name=\$(basename "\$0")
 name=\${name%%-*}
 [ "\$tried" != fault ] || kill -ILL \$\$
+[ "\$name" != gossip_check ] || [ -z "\${answer-}" ] || { printf '%b' "\$answer" && exit "\$tried"; }
 [ "\$tried" != long ] || { touch "$room/asleep" && exec sleep 600; }
 echo "\$name \$* \$(cat)" 2>/dev/null || { echo 'output failed' >&2 && exit 3; }
 [ "\$name" != gossip_check ] || echo 'in words'
@@ -86,6 +87,11 @@ tried_from_closed_input() {
   in_tree tried=0 gossip_sim <&-
 }
 
+# A scenario, and the answer that the stand-in for gossip_check gives to it.
+answered() {
+  printf '%b' "$2" | answer=$1 in_tree tried=1 "${@:3}"
+}
+
 # What is said of these programs where they are not proved.
 unproved() {
   printf '%s\n' "gossip_sim: this $1 does not come from a proved program: $2" \
@@ -107,7 +113,8 @@ check_unproved() {
   expect 'words without proof again' 1 'gossip_sim  scenario' "$said"$'\ntold by gossip_sim\ntold by gossip_check\nin words' \
     tried 1 --words
   expect 'an answer without proof' 0 $'gossip_check  scenario\nin words' \
-    "$(unproved answer 'gossip_check is not built')"$'\ntold by gossip_check' tried 0 --check
+    "$(unproved answer 'gossip_check is not built')"$'\ntold by gossip_check\nwarning: this is no TOML 1.0, so there are no other warnings' \
+    tried 0 --check
   expect 'a change without proof' 0 'gossip_sim  gossip_edit seed=2 scenario' \
     "$(unproved report "gossip_edit is not built, and $one"; compiling gossip_edit)"$'\ntold by gossip_edit\ntold by gossip_sim' \
     tried 0 --seed 2
@@ -147,7 +154,7 @@ check_build() {
   expect 'a build where all stands' 0 '' 'build: proved and built: gossip_sim' in_tree unproved=gs_base build gossip_sim
   touch "$place/gs_base/src/tests.rt"
   expect 'a run of what was built' 0 'proved: scenario' '' tried none
-  expect 'a check of what was built' 0 'proved: scenario' '' tried none --check --proved
+  expect_like 'a check of what was built' 0 'proved: scenario' 'warning: *' tried none --check --proved
   touch "$place/gs_base/src/lib.rt"
   said='gossip_sim is older than crates/gs_base/src/lib.rt'
   expect 'a program that is too old' 4 '' "gossip_sim: $said: bin/build proves and builds it" tried none --proved

@@ -59,12 +59,16 @@ class Places:
         while True:
             self.take(BLANK)
             is_quoted = self.is_next('"') or self.is_next("'")
-            part = self.take(STRING)[1:-1] if is_quoted else self.take(BARE)
+            part = self.quoted() if is_quoted else self.take(BARE)
             parts.append(part)
             self.take(BLANK)
             if not self.is_next("."):
                 return tuple(parts)
             self.at += 1
+
+    def quoted(self):
+        """A part of a key between quotes, as it is written."""
+        return self.take(STRING)[1:-1]
 
     def read_all(self):
         prefix = ()
