@@ -1,6 +1,6 @@
 # shellcheck shell=bash disable=SC2154
-# Runs the commands of docs/BOOK.md. bin/check_statuses reads this file, sets `top` to the repository's folder and `room` to
-# one for files, and has `expect`.
+# Runs the commands of docs/BOOK.md, and looks at the book's descriptions. bin/check_statuses reads this file, sets `top` to the
+# repository's folder and `room` to one for files, and has `expect`, `draw` and `have_same_sums`.
 
 # Puts the commands of a page into files N.command, and what each prints into N.output. A script in Python goes into a file
 # of the name that stands after `python`.
@@ -22,7 +22,28 @@ in_book() {
   (cd "$room/book" && bash -c "$1")
 }
 
-# Each command prints what the page says, and each scenario of the book is run by some.
+# Whether the page has the picture of a name.
+shows_picture() {
+  grep -ohm 1 "(pictures/$1.svg)" "$top/docs/BOOK.md"
+}
+
+# What bin/scenario makes of a description, into a file. Standard error names the parameters that have no counterpart here.
+to_plain() {
+  "$top/bin/scenario" "$1" 2>/dev/null >"$2"
+}
+
+# Looks at a description as bin/check_statuses does at plain scenarios: at the sums over its rounds, and at its picture where
+# the page has one.
+check_description() {
+  local name plain=$room/plain.toml
+  name=$(basename "$1" .toml)
+  expect "the plain scenario of $name" 0 '' '' to_plain "$1" "$plain"
+  expect "the sums over rounds of $name" 0 '' '' have_same_sums "$plain"
+  ! shows_picture "$name" >/dev/null ||
+    expect "the picture of $name" 0 "$(cat "$top/docs/pictures/$name.svg")" '' draw "$plain"
+}
+
+# Each command prints what the page says, each scenario of the book is run by some, and each picture is shown.
 check_book() {
   local file name
   mkdir "$room/book"
@@ -32,8 +53,15 @@ check_book() {
     expect "what the book has of $(cat "$file")" 0 "$(cat "${file%.command}.output")" '' in_book "$(cat "$file")"
   done
   cat "$room/book"/*.command >"$room/book/all"
-  for file in "$top"/examples/book/*.toml; do
-    name=examples/book/$(basename "$file")
+  for file in "$top"/examples/book/*.toml "$top"/examples/book/descriptions/*.toml; do
+    name=${file#"$top"/}
     expect "that the book runs $name" 0 "$name" '' grep -ohm 1 "$name" "$room/book/all"
+  done
+  for file in "$top"/examples/book/descriptions/*.toml; do
+    check_description "$file"
+  done
+  for file in "$top"/docs/pictures/*.svg; do
+    name=$(basename "$file" .svg)
+    expect "that the book has a place for the picture of $name" 0 "(pictures/$name.svg)" '' shows_picture "$name"
   done
 }
