@@ -6,7 +6,7 @@ ghost use Rattle.gs_seats.specs.Reports.{IsReport};
 
 use crate::driving::run_tasks;
 use crate::lives::lives_of;
-use crate::tasks::Builder;
+use crate::tasks::{Builder, payloads_of_workers};
 use gs_dials::{settle_all, wire_all};
 use gs_ends::Ends;
 use gs_peer::{FinishedTask, Gate, PeerFault, PeerTask};
@@ -53,12 +53,14 @@ where
         plan.dials.as_slice(),
     )?;
     let lines = lines_by_peer(alloc, plan)?;
+    let payloads = payloads_of_workers(alloc, plan.workers)?;
     let builder = Builder {
         rt: *rt,
         alloc,
         plan,
         gate,
         stop: &stop,
+        payloads: &payloads,
     };
     let tasks = builder.tasks(lines, ends)?;
     let ran = drive(rt, plan, &stop, tasks)?;

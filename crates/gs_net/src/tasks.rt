@@ -7,6 +7,7 @@ ghost use Rattle.gs_seats.specs.Rounds.{lines_in, neighbours_in, numbers, peer_n
 ghost use Rattle.gs_net.specs.Tasks.{AreParts, AreUsable, IsAssignedIn, IsTask, IsTaskFor, first_numbers};
 
 use gs_base::{Neighbour, PeerNo};
+use gs_cache::Payloads;
 use gs_ends::{Ends, LinkEnds};
 use gs_link::{LinkRx, LinkTx};
 use gs_peer::{Assignment, Gate, PeerTask, Surroundings};
@@ -15,7 +16,7 @@ use gs_player::Agenda;
 use gs_seats::{NetFault, first_words, neighbours_of, router_of, take_list};
 use gs_workers::StopFlag;
 use std::alloc::{AllocError, Global};
-use std::sync::{Arc, Wait};
+use std::sync::{Arc, Mutex, Wait};
 
 /// What all tasks of a run are built from.
 #[derive(Drop)]
@@ -25,6 +26,8 @@ pub struct Builder<'p, G: Gate + Copy, R: Wait + Drop + Copy> {
     pub plan: &'p Plan,
     pub gate: G,
     pub stop: &'p Arc<StopFlag>,
+    /// What is known of payloads on each worker.
+    pub payloads: &'p [Arc<Mutex<Payloads>>],
 }
 
 impl<'p, G: Gate + Copy, R: Wait + Drop + Copy> Builder<'p, G, R> {
@@ -84,6 +87,16 @@ impl<'p, G: Gate + Copy, R: Wait + Drop + Copy> Builder<'p, G, R> {
         Ok(())
     }
 
+    /// What is known of payloads on the worker of this peer.
+    fn payloads_of(&self, number: PeerNo) -> Result<Arc<Mutex<Payloads>>, AllocError> {
+        let worker = (u64::from(number.0) % self.plan.workers) as usize;
+        let payloads = match self.payloads.get(worker) {
+            Some(payloads) => Arc::try_clone(payloads)?,
+            None => Arc::new(self.alloc, Mutex::new(Payloads::new(self.alloc)))?,
+        };
+        Ok(payloads)
+    }
+
     fn task(
         &self,
         number: PeerNo,
@@ -98,6 +111,7 @@ impl<'p, G: Gate + Copy, R: Wait + Drop + Copy> Builder<'p, G, R> {
     {
         let words = first_words(self.alloc, self.plan, number)?;
         let stop = Arc::try_clone(self.stop)?;
+        let payloads = self.payloads_of(number)?;
         let neighbours = neighbours_of(self.alloc, self.plan, number)?;
         let assignment = assignment_of(self.alloc, self.plan, number, &neighbours, lines)?;
         // (last, so that no exit has a router to drop)
@@ -106,12 +120,28 @@ impl<'p, G: Gate + Copy, R: Wait + Drop + Copy> Builder<'p, G, R> {
             ends: LinkEnds::new(self.rt, ends),
             gate: self.gate,
             stop,
+            payloads,
         };
         match PeerTask::new(self.alloc, assignment, router, words, surroundings) {
             Ok(task) => Ok(task),
             Err(_) => Err(AllocError),
         }
     }
+}
+
+/// What is known of payloads: one for each worker.
+///
+/// # Errors
+/// `AllocError` where there was no memory for it.
+pub fn payloads_of_workers(
+    alloc: Global,
+    workers: u64,
+) -> Result<Vec<Arc<Mutex<Payloads>>>, AllocError> {
+    let mut all = Vec::new(alloc);
+    for _ in 0..workers {
+        all.push(Arc::new(alloc, Mutex::new(Payloads::new(alloc)))?)?;
+    }
+    Ok(all)
 }
 
 /// What a peer is given, with these neighbours and its lines.

@@ -21,6 +21,7 @@ use crate::outboxes::Outboxes;
 use crate::phase::Phase;
 use crate::player::Player;
 use gs_base::{Millis, PeerNo, Seq, Topic};
+use gs_cache::Payloads;
 use gs_ends::Ends;
 use gs_params::SeededWords;
 use gs_router::Router;
@@ -88,6 +89,13 @@ impl<G: Gate, S: Ends> Running<G, S> {
             last_not_full: 0,
             ends,
         })
+    }
+
+    /// Exchanges what its router keeps of payloads with what is lent.
+    pub fn exchange_payloads(&mut self, payloads: &mut Payloads)
+        ensures { self.new ≡ self.old }
+    {
+        self.player.router.exchange_payloads(payloads);
     }
 
     /// Steps, 64 of them, or fewer where nothing moves while it looks at each neighbour. True where the life has ended.

@@ -15,12 +15,13 @@ use crate::gate::Gate;
 use crate::running::{Chooser, Running};
 use futures::Future;
 use futures::task::{Context, Poll};
+use gs_cache::Payloads;
 use gs_ends::Ends;
 use gs_params::SeededWords;
 use gs_router::Router;
 use gs_workers::StopFlag;
-use std::alloc::Global;
-use std::sync::Arc;
+use std::alloc::{AllocError, Global};
+use std::sync::{Arc, Mutex};
 
 /// What a task has around it: the ends of its peer's links, a gate, and the flag that stops it.
 #[derive(Drop)]
@@ -31,6 +32,9 @@ pub struct Surroundings<G: Gate, S: Ends> {
     pub gate: G,
     /// A task that runs out of memory sets it, and one that reads it as set gives up.
     pub stop: Arc<StopFlag>,
+    /// What is known of payloads. Tasks that one thread polls share it, so that each payload is hashed once there. A poll
+    /// in which another thread has it goes on without.
+    pub payloads: Arc<Mutex<Payloads>>,
 }
 
 /// A peer's whole life as a future, which is polled by hand. It gives what is left of the life, or a
@@ -42,6 +46,7 @@ pub struct Surroundings<G: Gate, S: Ends> {
 pub struct PeerTask<G: Gate, S: Ends> {
     running: Option<Running<G, S>>,
     stop: Arc<StopFlag>,
+    payloads: Arc<Mutex<Payloads>>,
 }
 
 impl<G: Gate, S: Ends> PeerTask<G, S> {
@@ -65,12 +70,18 @@ impl<G: Gate, S: Ends> PeerTask<G, S> {
         ensures suspended { IfOk result (λ task. IsSuspended S.Ends task) }
         ensures memory { IfErr result (λ fault. number_of fault ≡ 22) }
     {
-        let Surroundings { ends, gate, stop } = surroundings;
+        let Surroundings {
+            ends,
+            gate,
+            stop,
+            payloads,
+        } = surroundings;
         let chooser = Chooser { router, words };
         match Running::new(alloc, assignment, chooser, ends, gate) {
             Ok(running) => Ok(PeerTask {
                 running: Some(running),
                 stop,
+                payloads,
             }),
             Err(_) => Err(PeerFault::NoMemory(stop.set())),
         }
@@ -109,7 +120,7 @@ impl<G: Gate, S: Ends> Future for PeerTask<G, S> {
         let Some(running) = &mut self.running else {
             return Poll::Ready(Err(PeerFault::Stopped));
         };
-        match go_on(&self.stop, running) {
+        match go_on(&self.stop, &self.payloads, running) {
             Ok(true) => Poll::Ready(finish(&self.stop, &mut self.running)),
             Ok(false) => cx.yield_now(),
             Err(fault) => {
@@ -121,7 +132,11 @@ impl<G: Gate, S: Ends> Future for PeerTask<G, S> {
 }
 
 /// Goes on with a life by the steps of a poll. True where it has ended. Where there is no memory the flag is set first.
-fn go_on<G: Gate, S: Ends>(stop: &StopFlag, running: &mut Running<G, S>) -> Result<bool, PeerFault>
+fn go_on<G: Gate, S: Ends>(
+    stop: &StopFlag,
+    payloads: &Mutex<Payloads>,
+    running: &mut Running<G, S>,
+) -> Result<bool, PeerFault>
     requires { IsKept S.Ends running.old }
     ensures goes { OnOk result (Goes S.Ends running.old running.new) }
     ensures taken { OnOk result (GrewBy 64 (S.taken running.old.ends) (S.taken running.new.ends)) }
@@ -132,10 +147,31 @@ fn go_on<G: Gate, S: Ends>(stop: &StopFlag, running: &mut Running<G, S>) -> Resu
     if stop.is_set() {
         return Err(PeerFault::Stopped);
     }
-    match running.run() {
+    match run_knowing(payloads, running) {
         Ok(over) => Ok(over),
         Err(_) => Err(PeerFault::NoMemory(stop.set())),
     }
+}
+
+/// Takes the steps of a poll, with what is known of payloads where no other thread has that. True where the life has ended.
+fn run_knowing<G: Gate, S: Ends>(
+    payloads: &Mutex<Payloads>,
+    running: &mut Running<G, S>,
+) -> Result<bool, AllocError>
+    requires { IsKept S.Ends running.old }
+    ensures goes { OnOk result (Goes S.Ends running.old running.new) }
+    ensures taken { OnOk result (GrewBy 64 (S.taken running.old.ends) (S.taken running.new.ends)) }
+    ensures accepted { OnOk result (GrewBy 64 (S.accepted running.old.ends) (S.accepted running.new.ends)) }
+    ensures polls { OnOk result (Polls S.Ends 64 running.old running.new) }
+    ensures over { IfOk result (λ over. over ≡ is_over running.new) }
+{
+    let Some(mut known) = payloads.try_lock() else {
+        return running.run();
+    };
+    running.exchange_payloads(&mut known);
+    let done = running.run();
+    running.exchange_payloads(&mut known);
+    done
 }
 
 /// Finishes a life that is over, and takes it out of its task. Where there is no memory the flag is set first.

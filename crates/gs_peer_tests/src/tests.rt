@@ -18,7 +18,7 @@ use crate::tests::breaking::{HANG_UPS, RAWS};
 use crate::tests::cases::{Case, LONG, NOTHING, SCRIPT, SCRIPTS, STREAMS, SUBSCRIBER};
 use crate::tests::gathering::GATHERED;
 use crate::tests::items::{Word, lines, said};
-use crate::tests::made::{AtMost, ONE, lists, task, task_in};
+use crate::tests::made::{AtMost, ONE, lists, payloads, task, task_in};
 use crate::tests::over_lists::{NEWS, report_of};
 use futures::executor::block_on;
 use gs_base::PeerNo;
@@ -208,6 +208,7 @@ where
         ends: lists(rt.alloc(), ONE.other, said(rt.alloc(), SUBSCRIBER)?, 10, 0)?,
         gate: NoGate,
         stop,
+        payloads: payloads(rt.alloc())?,
     };
     let task = task_in(rt.alloc(), ONE, lines(rt.alloc(), SCRIPT)?, 2, surroundings)?;
     Ok(block_on(rt, task)?.err())
@@ -220,6 +221,29 @@ fn a_flag_stops_a_task(rt: HostRuntime) -> Result<(), Fail> {
     flag.set();
     assert_eq!(rt; flag.is_set(), true);
     assert_eq!(rt; stopped(&rt)?, Some(PeerFault::Stopped));
+    Ok(())
+}
+
+/// Whether a task gives a life while someone else has its payloads.
+fn goes_on_without_payloads<R>(rt: &R) -> io::Result<bool>
+where
+    R: Wait + RandomSource + AllocGlobal,
+{
+    let payloads = payloads(rt.alloc())?;
+    let surroundings = Surroundings {
+        ends: lists(rt.alloc(), ONE.other, said(rt.alloc(), SUBSCRIBER)?, 10, 0)?,
+        gate: NoGate,
+        stop: Arc::new(rt.alloc(), StopFlag::new())?,
+        payloads: payloads.clone()?,
+    };
+    let held = payloads.try_lock();
+    let task = task_in(rt.alloc(), ONE, lines(rt.alloc(), SCRIPT)?, 2, surroundings)?;
+    Ok(block_on(rt, task)?.is_ok() && held.is_some())
+}
+
+#[test]
+fn a_task_goes_on_while_its_payloads_are_in_use(rt: HostRuntime) -> Result<(), Fail> {
+    assert!(rt; goes_on_without_payloads(&rt)?);
     Ok(())
 }
 

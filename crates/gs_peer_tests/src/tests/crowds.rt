@@ -11,7 +11,7 @@ ghost use Rattle.gs_peer.specs.Task.{CanPoll};
 
 use crate::tests::gates::Turns;
 use crate::tests::items::{Word, lines, said};
-use crate::tests::made::{AtMost, are_sendable, assignment, task_given};
+use crate::tests::made::{AtMost, are_sendable, assignment, payloads, task_given};
 use futures::executor::block_on;
 use gs_base::PeerNo;
 use gs_ends::ListEnds;
@@ -184,6 +184,7 @@ fn task_in_crowd(
         ends,
         gate: Turns { seen },
         stop: Arc::new(alloc, StopFlag::new())?,
+        payloads: payloads(alloc)?,
     };
     let lines = lines(alloc, crowd.script)?;
     let given = assignment(alloc, PeerNo(1000), numbers, lines, crowd.rounds)?;

@@ -1,7 +1,7 @@
 //! A gate that a task passes at each round.
 use crate::tests::cases::{SCRIPT, SUBSCRIBER};
 use crate::tests::items::{lines, said};
-use crate::tests::made::{ONE, lists, task_in};
+use crate::tests::made::{ONE, lists, payloads, task_in};
 use futures::executor::block_on;
 use gs_peer::{Gate, Surroundings};
 use gs_workers::StopFlag;
@@ -36,6 +36,7 @@ fn a_gate_is_told_of_each_round(rt: HostRuntime) -> Result<(), Fail> {
             seen: seen.clone()?,
         },
         stop: Arc::new(rt.alloc(), StopFlag::new())?,
+        payloads: payloads(rt.alloc())?,
     };
     let task = task_in(rt.alloc(), ONE, lines(rt.alloc(), SCRIPT)?, 2, surroundings)?;
     assert!(rt; block_on(&rt, task)?.is_ok());

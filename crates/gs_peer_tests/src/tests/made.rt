@@ -17,6 +17,7 @@ use bytes::Bytes;
 use futures::Future;
 use futures::task::{Context, Poll};
 use gs_base::{Neighbour, PeerNo};
+use gs_cache::Payloads;
 use gs_ends::{Ends, LinkEnds, ListEnds};
 use gs_link::{Item, LinkRx, LinkTx};
 use gs_params::{Params, SeededWords};
@@ -26,7 +27,7 @@ use gs_player::Agenda;
 use gs_router::Router;
 use gs_workers::StopFlag;
 use std::alloc::{AllocError, Global};
-use std::sync::{Arc, Wait};
+use std::sync::{Arc, Mutex, Wait};
 
 /// A peer and its neighbour.
 #[derive(Clone, Copy, Debug)]
@@ -157,6 +158,12 @@ pub fn task_in<G: Gate, S: Ends>(
     Ok(task)
 }
 
+/// No payload is known, and nobody else knows these.
+pub fn payloads(alloc: Global) -> Result<Arc<Mutex<Payloads>>, AllocError> {
+    let payloads = Arc::new(alloc, Mutex::new(Payloads::new(alloc)))?;
+    Ok(payloads)
+}
+
 /// `task_in` with a gate that does nothing and a flag that nobody sets.
 pub fn task<S: Ends>(
     alloc: Global,
@@ -176,6 +183,7 @@ pub fn task<S: Ends>(
         ends,
         gate: NoGate,
         stop: Arc::new(alloc, StopFlag::new())?,
+        payloads: payloads(alloc)?,
     };
     task_in(alloc, pair, lines, rounds, surroundings)
 }

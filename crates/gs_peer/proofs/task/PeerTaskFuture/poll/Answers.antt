@@ -8,7 +8,7 @@ use Rattle.gs_peer.proofs.task.PeerTaskFuture.poll.Goals as goal
 pub returns-in-Ok-true-clause-bounded : goal.returns-in-Ok-true-clause-bounded
 returns-in-Ok-true-clause-bounded g c =
     let was : c.args.self.now.running ≡ Some c.in-Some.running = search rules in
-    ended g.S.Ends 64 c.args.self.now (record { running = None; stop = c.args.self.now.stop }) c.in-Some.running c.go_on.new.running c.finish.result was
+    ended g.S.Ends 64 c.args.self.now (record { running = None; stop = c.args.self.now.stop; payloads = c.args.self.now.payloads }) c.in-Some.running c.go_on.new.running c.finish.result was
     (c.in-Ok-true.ensures.accepted, c.in-Ok-true.ensures.taken) c.finish.ensures.ends
 
 pub returns-in-Ok-false-clause-suspended : goal.returns-in-Ok-false-clause-suspended
@@ -19,7 +19,7 @@ pub returns-in-Ok-false-clause-bounded : goal.returns-in-Ok-false-clause-bounded
 returns-in-Ok-false-clause-bounded g c =
     let was : c.args.self.now.running ≡ Some c.in-Some.running = search rules in
     let alive : is_over c.go_on.new.running ≡ false = search rules in
-    bounded_pending g.S.Ends 64 c.args.self.now (record { running = Some c.go_on.new.running; stop = c.args.self.now.stop }) c.in-Some.running c.go_on.new.running c.yield_now.result c.yield_now.ensures.pending was refl
+    bounded_pending g.S.Ends 64 c.args.self.now (record { running = Some c.go_on.new.running; stop = c.args.self.now.stop; payloads = c.args.self.now.payloads }) c.in-Some.running c.go_on.new.running c.yield_now.result c.yield_now.ensures.pending was refl
     (c.in-Ok-false.ensures.accepted, c.in-Ok-false.ensures.taken) c.in-Ok-false.ensures.polls alive
 
 pub finish-requires-clause-over : goal.finish-requires-clause-over
