@@ -3,6 +3,7 @@ use denote.RattleType.{RattleType}
 use denote.Param.Send.{IsSend, recorded_send, sendable, struct_send, view_send}
 use denote.Struct.Declared.{shape}
 use Rattle.std.proofs.Crossing.{crosses}
+use Rattle.gs_cache.proofs.payloads.Payloads.TheSendSync as Payloads
 use Rattle.gs_plan.proofs.plan.Line.TheSendSync as Line
 use Rattle.gs_peer.proofs.outboxes.Outboxes.TheSendSync as Outboxes
 use Rattle.gs_peer.proofs.phase.Phase.TheSendSync as Phase
@@ -36,4 +37,4 @@ module _ (G S : RattleType) where
       ))
 
   pub task : IsSend G → IsSend S → IsSend (PeerTask.the_row G S)
-  task gate ends = let inside = running gate ends in search (sendable, crosses, StopFlag.the_send, StopFlag.the_sync) depth 40
+  task gate ends = let inside = running gate ends in search (sendable, crosses, StopFlag.the_send, StopFlag.the_sync, Payloads.the_send) depth 40

@@ -87,9 +87,8 @@ impl<'p, G: Gate + Copy, R: Wait + Drop + Copy> Builder<'p, G, R> {
         Ok(())
     }
 
-    /// What is known of payloads on the worker of this peer.
-    fn payloads_of(&self, number: PeerNo) -> Result<Arc<Mutex<Payloads>>, AllocError> {
-        let worker = (u64::from(number.0) % self.plan.workers) as usize;
+    /// What is known of payloads on a worker.
+    fn payloads_of(&self, worker: usize) -> Result<Arc<Mutex<Payloads>>, AllocError> {
         let payloads = match self.payloads.get(worker) {
             Some(payloads) => Arc::try_clone(payloads)?,
             None => Arc::new(self.alloc, Mutex::new(Payloads::new(self.alloc)))?,
@@ -111,9 +110,9 @@ impl<'p, G: Gate + Copy, R: Wait + Drop + Copy> Builder<'p, G, R> {
     {
         let words = first_words(self.alloc, self.plan, number)?;
         let stop = Arc::try_clone(self.stop)?;
-        let payloads = self.payloads_of(number)?;
         let neighbours = neighbours_of(self.alloc, self.plan, number)?;
         let assignment = assignment_of(self.alloc, self.plan, number, &neighbours, lines)?;
+        let payloads = self.payloads_of(assignment.worker)?;
         // (last, so that no exit has a router to drop)
         let router = router_of(self.alloc, self.plan, number, neighbours)?;
         let surroundings = Surroundings {
