@@ -1,5 +1,5 @@
 //! Peers with many neighbours, and how far they come in so many polls.
-ghost use Rattle.std.specs.Prelude.{◌≡◌, [], IfOk, true};
+ghost use Rattle.std.specs.Prelude.{◌≡◌, ◌≤◌, [], IfOk, true};
 ghost use Rattle.std.specs.List.{All, AllByRecursion};
 ghost use Rattle.gs_base.specs.declared.names.PeerNo.{PeerNo as PeerNoValue};
 ghost use Rattle.gs_params.specs.Picks.{IsAscending};
@@ -11,14 +11,13 @@ ghost use Rattle.gs_peer.specs.Task.{CanPoll};
 
 use crate::tests::gates::Turns;
 use crate::tests::items::{Word, lines, said};
-use crate::tests::made::{AtMost, are_sendable, assignment, payloads, task_given};
+use crate::tests::made::{AtMost, are_sendable, assignment, surrounded, task_given};
 use futures::executor::block_on;
 use gs_base::PeerNo;
 use gs_ends::ListEnds;
 use gs_link::Item;
 use gs_peer::{PeerTask, Surroundings};
 use gs_router_calls::Act;
-use gs_workers::StopFlag;
 use std::alloc::{AllocError, AllocGlobal, Global};
 use std::io;
 use std::process::Abort;
@@ -180,12 +179,24 @@ fn task_in_crowd(
     }
     let numbers = numbers(alloc, crowd.neighbours)?;
     let ends = ends(alloc, &numbers, crowd)?;
-    let surroundings = Surroundings {
-        ends,
-        gate: Turns { seen },
-        stop: Arc::new(alloc, StopFlag::new())?,
-        payloads: payloads(alloc)?,
-    };
+    let surroundings = surrounded(alloc, ends, Turns { seen })?;
+    task_among(alloc, crowd, numbers, surroundings)
+}
+
+/// The task of a peer with these neighbours and surroundings.
+fn task_among(
+    alloc: Global,
+    crowd: &Crowd<'_>,
+    numbers: Vec<PeerNo>,
+    surroundings: Surroundings<Turns, ListEnds>,
+) -> Result<PeerTask<Turns, ListEnds>, AllocError>
+    requires rounds { crowd.now.rounds ≤ 100_000 }
+    requires ascending { IsAscending numbers.items }
+    requires known { AllByRecursion (λ q. has (joints_in_lists surroundings.ends) q ≡ true) numbers.items }
+    requires accepted { (q : PeerNoValue) → accepted_for surroundings.ends q ≡ [] }
+    requires taken { (q : PeerNoValue) → taken_in_lists surroundings.ends q ≡ [] }
+    ensures { IfOk result (λ task. CanPoll list_ends task) }
+{
     let lines = lines(alloc, crowd.script)?;
     let given = assignment(alloc, PeerNo(1000), numbers, lines, crowd.rounds)?;
     task_given(alloc, given, surroundings)

@@ -164,6 +164,22 @@ pub fn payloads(alloc: Global) -> Result<Arc<Mutex<Payloads>>, AllocError> {
     Ok(payloads)
 }
 
+/// These ends and this gate, a flag that nobody sets, and payloads that nobody else knows.
+pub fn surrounded<G: Gate, S: Ends>(
+    alloc: Global,
+    ends: S,
+    gate: G,
+) -> Result<Surroundings<G, S>, AllocError>
+    ensures { IfOk result (λ surroundings. surroundings.ends ≡ ends) }
+{
+    Ok(Surroundings {
+        ends,
+        gate,
+        stop: Arc::new(alloc, StopFlag::new())?,
+        payloads: payloads(alloc)?,
+    })
+}
+
 /// `task_in` with a gate that does nothing and a flag that nobody sets.
 pub fn task<S: Ends>(
     alloc: Global,
