@@ -9,7 +9,7 @@ use bytes::Bytes;
 use gs_base::{Topic, clone_of};
 use gs_picture::{first_topic, picture_svg};
 use gs_plan::Plan;
-use gs_program::{Direct, Printer, Program};
+use gs_program::{Printer, Program};
 use gs_report::Report;
 use std::alloc::{AllocError, Global};
 use std::io::{Read, Write};
@@ -61,7 +61,6 @@ where
 {
     let program = Program {
         alloc,
-        engine: Direct { alloc },
         printer: PictureOf { asked },
     };
     program.ended(input, output, errors)

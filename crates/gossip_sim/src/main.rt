@@ -3,7 +3,6 @@
 
 mod arguments;
 mod laws;
-mod over_links;
 mod program;
 
 use crate::arguments::USAGE;

@@ -1,15 +1,15 @@
 //! The program: it writes the report of the scenario that it reads.
-ghost use Rattle.std.specs.Prelude.{map, string_bytes};
+ghost use Rattle.std.specs.Prelude.{false, map, string_bytes, true};
 ghost use Rattle.std.specs.Process.{exit_status};
 ghost use Rattle.gs_report.specs.Text.{report_text};
-ghost use Rattle.gs_program.specs.Program.{EndsWith};
+ghost use Rattle.gs_program.specs.Program.{EndsAs, EndsWith};
 ghost use Rattle.gossip_sim.specs.Arguments.{EndsFor, asked_for, needs_threads};
 
 use crate::arguments::{Way, asked_by, refuse};
-use crate::over_links::OverLinks;
-use gs_peer::NoGate;
+use gs_net::run_net;
+use gs_peer::{Gate, NoGate};
 use gs_plan::Plan;
-use gs_program::{Direct, Engine, Printer, Program};
+use gs_program::{ExitStatus, Printer, Program};
 use gs_report::{Report, report_text};
 use std::alloc::{AllocError, AllocGlobal, Global};
 use std::io::{Read, Write};
@@ -20,7 +20,7 @@ use std::thread::Threads;
 
 /// Makes the lines of a report.
 #[derive(Clone, Copy, Debug, Drop)]
-pub struct Lines;
+struct Lines;
 
 impl Printer for Lines {
     ghost text = { λ _ plan report. report_text plan report };
@@ -71,23 +71,63 @@ where
     ensures { EndsWith report_text (needs_threads way) (exit_status result) (R.remaining input.old) (R.remaining input.new)
         (W.contents output.old) (W.contents output.new) (E.contents errors.old) (E.contents errors.new) }
 {
-    let alloc = rt.alloc();
     match way {
-        Way::OverLinks => {
-            let engine = OverLinks { rt, gate: &NoGate };
-            program(alloc, engine).ended(input, output, errors)
-        }
-        Way::WithoutLinks => program(alloc, Direct { alloc }).ended(input, output, errors),
+        Way::OverLinks => ExitCode::from(run(rt, &NoGate, input, output, errors)),
+        Way::WithoutLinks => ExitCode::from(run_direct(rt.alloc(), input, output, errors)),
     }
 }
 
-/// The program with a way to run plans.
-pub fn program<N: Engine>(alloc: Global, engine: N) -> Program<N, Lines> {
-    Program {
-        alloc,
-        engine,
+/// Reads a scenario from the input, runs it over links, and writes its report to the output once the run has ended. The gate
+/// hears of each round that a peer begins. Why there is no report is a line on `errors`; where that can't be written, the
+/// status stays the same.
+pub fn run<T, G, R, W, E>(
+    rt: &T,
+    gate: &G,
+    input: &mut R,
+    output: &mut W,
+    errors: &mut E,
+) -> ExitStatus
+where
+    T: Threads + Wait + RandomSource + AllocGlobal + Sync + Send + Copy,
+    G: Gate + Sync,
+    R: Read,
+    W: Write,
+    E: Write,
+    ensures { EndsAs report_text true result (R.remaining input.old) (R.remaining input.new)
+        (W.contents output.old) (W.contents output.new) (E.contents errors.old) (E.contents errors.new) }
+{
+    let program = Program {
+        alloc: rt.alloc(),
         printer: Lines,
+    };
+    match program.read(input, errors) {
+        Ok(plan) => {
+            let ran = run_net(rt, &plan, gate);
+            program.write(&plan, ran, output, errors)
+        }
+        Err(status) => status,
     }
+}
+
+/// Reads a scenario from the input, runs it without links, and writes its report to the output once the run has ended.
+pub fn run_direct<R, W, E>(
+    alloc: Global,
+    input: &mut R,
+    output: &mut W,
+    errors: &mut E,
+) -> ExitStatus
+where
+    R: Read,
+    W: Write,
+    E: Write,
+    ensures { EndsAs report_text false result (R.remaining input.old) (R.remaining input.new)
+        (W.contents output.old) (W.contents output.new) (E.contents errors.old) (E.contents errors.new) }
+{
+    let program = Program {
+        alloc,
+        printer: Lines,
+    };
+    program.run(input, output, errors)
 }
 
 #[cfg(test)]

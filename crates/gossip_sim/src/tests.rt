@@ -7,11 +7,10 @@ mod meshes;
 mod one_output;
 mod standings;
 
-use crate::over_links::OverLinks;
-use crate::program::program;
 use crate::program::tests::Host;
+use crate::program::{run, run_direct};
 use gs_peer::{Gate, NoGate};
-use gs_program::{Direct, Engine, ExitStatus};
+use gs_program::ExitStatus;
 use std::alloc::{AllocError, Global};
 use std::sync::atomic::{AtomicU64, Ordering};
 use std::thread;
@@ -51,20 +50,31 @@ fn scenario(alloc: Global, parts: &[&str], script: &[Told<'_>]) -> Result<String
     Ok(text)
 }
 
-/// Whether a run of a scenario in this way ends with such a report, and with nothing on the error output.
-fn is_reported_by<N: Engine>(alloc: Global, engine: N, text: &str, report: &str) -> bool {
+/// Whether a run of a scenario over links ends with such a report, and with nothing on the error output.
+fn is_reported_over_links<T: Host, G: Gate + Sync>(
+    rt: &T,
+    gate: &G,
+    text: &str,
+    report: &str,
+) -> bool {
+    let mut output = Vec::new(rt.alloc());
+    let mut errors = Vec::new(rt.alloc());
+    let ended = run(rt, gate, &mut text.as_bytes(), &mut output, &mut errors);
+    ended == ExitStatus::Reported && output.as_slice() == report.as_bytes() && errors.is_empty()
+}
+
+/// The same of a run without links.
+fn is_reported_directly(alloc: Global, text: &str, report: &str) -> bool {
     let mut output = Vec::new(alloc);
     let mut errors = Vec::new(alloc);
-    let ended = program(alloc, engine).run(&mut text.as_bytes(), &mut output, &mut errors);
+    let ended = run_direct(alloc, &mut text.as_bytes(), &mut output, &mut errors);
     ended == ExitStatus::Reported && output.as_slice() == report.as_bytes() && errors.is_empty()
 }
 
 /// Whether runs of a scenario end with such a report, over links and without, and with nothing on the error output.
 fn is_reported<T: Host>(rt: &T, text: &str, report: &str) -> bool {
-    let alloc = rt.alloc();
-    let links = OverLinks { rt, gate: &NoGate };
-    is_reported_by(alloc, links, text, report)
-        && is_reported_by(alloc, Direct { alloc }, text, report)
+    is_reported_over_links(rt, &NoGate, text, report)
+        && is_reported_directly(rt.alloc(), text, report)
 }
 
 /// Whether the peers of such a scenario with this script make such a report.
@@ -374,11 +384,7 @@ fn workers_run_side_by_side(rt: HostRuntime) -> Result<(), AllocError> {
         met: AtomicU64::new(0),
     };
     let text = news(rt.alloc(), 6, 16, 1, 16)?;
-    let links = OverLinks {
-        rt: &rt,
-        gate: &meeting,
-    };
-    assert!(rt; is_reported_by(rt.alloc(), links, &text, "links 0 settled\n"));
+    assert!(rt; is_reported_over_links(&rt, &meeting, &text, "links 0 settled\n"));
     assert!(rt; meeting.met.load(Ordering::SeqCst) == 16);
     Ok(())
 }

@@ -11,7 +11,7 @@ use gs_figures::{
     rounds_table, rounds_text,
 };
 use gs_plan::Plan;
-use gs_program::{Direct, Printer, Program};
+use gs_program::{Printer, Program};
 use gs_report::Report;
 use std::alloc::{AllocError, Global};
 use std::io::{Read, Write};
@@ -106,7 +106,6 @@ where
 {
     let program = Program {
         alloc,
-        engine: Direct { alloc },
         printer: FiguresAs { asked },
     };
     program.ended(input, output, errors)

@@ -2,12 +2,10 @@
 #![tactic(auto)]
 
 mod arguments;
-mod engine;
 mod printer;
 mod program;
 mod telling;
 
 pub use arguments::{arguments_of, refuse_arguments, refuse_unread};
-pub use engine::{Direct, Engine};
 pub use printer::Printer;
 pub use program::{ExitStatus, Program};

@@ -1,15 +1,15 @@
 //! A program's run: what it reads, what it writes and how it ends.
 ghost use Rattle.std.specs.Io.KnownBytes.{IsAtEnd};
-ghost use Rattle.std.specs.Prelude.{◌≡◌, IfErr, IfOk, IfSome, List, OnOk, Option, ℕ};
+ghost use Rattle.std.specs.Prelude.{◌≡◌, Bool, false, IfErr, IfOk, IfSome, List, OnOk, Option, ℕ};
 ghost use Rattle.std.specs.Process.{exit_status};
 ghost use Rattle.gs_plan.specs.Plans.{IsInRange};
 ghost use Rattle.gs_seats.specs.Reports.{IsReport};
 ghost use Rattle.gs_streams.specs.Inputs.{IsRefusal, IsScenario};
 ghost use Rattle.gs_program.specs.Program.{EndsAs, EndsWith, MayMeet, status_of};
 
-use crate::engine::Engine;
 use crate::printer::Printer;
 use crate::telling::{tell_fault, tell_refusal};
+use gs_direct::run_direct;
 use gs_plan::Plan;
 use gs_report::Report;
 use gs_scenario::ScenarioFault;
@@ -48,38 +48,33 @@ impl From<ExitStatus> for ExitCode {
     }
 }
 
-/// A program that runs a scenario.
+/// A program that runs a scenario, and writes a text of what the run leaves.
 #[derive(Drop)]
-pub struct Program<N, P> {
+pub struct Program<P> {
     /// What its memory comes from.
     pub alloc: Global,
-    /// How it runs the plan of the scenario.
-    pub engine: N,
-    /// It makes the text that is written of the run.
+    /// It makes the text.
     pub printer: P,
 }
 
-impl<N: Engine, P: Printer> Program<N, P> {
-    /// Reads a scenario from the input, runs it, and writes a text of its report to the output once the run has
-    /// ended. Why there is none is a line on `errors`; where that can't be written, the status stays the same.
+impl<P: Printer> Program<P> {
+    /// Reads a scenario from the input, runs it on this thread without links, and writes a text of its report to the output
+    /// once the run has ended. Why there is none is a line on `errors`; where that can't be written, the status stays the
+    /// same.
     pub fn run<R, W, E>(&self, input: &mut R, output: &mut W, errors: &mut E) -> ExitStatus
     where
         R: Read,
         W: Write,
         E: Write,
-        ensures { EndsAs (P.text self.now.printer) N.needs_threads result (R.remaining input.old) (R.remaining input.new)
+        ensures { EndsAs (P.text self.now.printer) false result (R.remaining input.old) (R.remaining input.new)
             (W.contents output.old) (W.contents output.new) (E.contents errors.old) (E.contents errors.new) }
     {
-        match plan_in(self.alloc, input) {
-            Ok(plan) => self.run_plan(&plan, output, errors),
-            Err(NoPlan::InputFailed) => {
-                tell(errors, "input failed\n");
-                ExitStatus::InputFailed
+        match self.read(input, errors) {
+            Ok(plan) => {
+                let ran = run_direct(self.alloc, &plan);
+                self.write(&plan, ran, output, errors)
             }
-            Err(NoPlan::Refused(fault)) => {
-                tell_refusal(self.alloc, errors, &fault);
-                ExitStatus::ScenarioRefused
-            }
+            Err(status) => status,
         }
     }
 
@@ -89,24 +84,61 @@ impl<N: Engine, P: Printer> Program<N, P> {
         R: Read,
         W: Write,
         E: Write,
-        ensures { EndsWith (P.text self.now.printer) N.needs_threads (exit_status result)
+        ensures { EndsWith (P.text self.now.printer) false (exit_status result)
             (R.remaining input.old) (R.remaining input.new)
             (W.contents output.old) (W.contents output.new) (E.contents errors.old) (E.contents errors.new) }
     {
         ExitCode::from(self.run(input, output, errors))
     }
 
-    /// Runs a scenario's plan, and writes a text of its report to the output once the run has ended.
-    fn run_plan<W, E>(&self, plan: &Plan, output: &mut W, errors: &mut E) -> ExitStatus
+    /// Reads a scenario from the input. Where there is none to run, `errors` has a line that says why.
+    ///
+    /// # Errors
+    /// How the program ends then.
+    pub fn read<R, E>(&self, input: &mut R, errors: &mut E) -> Result<Plan, ExitStatus>
+    where
+        R: Read,
+        E: Write,
+        ensures found { IfOk result (λ plan. IsScenario (R.remaining input.old) plan) }
+        ensures at_end { OnOk result (IsAtEnd (R.remaining input.new)) }
+        ensures in_range { IfOk result (λ plan. IsInRange plan) }
+        ensures silent { OnOk result (E.contents errors.new ≡ E.contents errors.old) }
+        ensures refused { IfErr result (λ status. (needs : Bool) (output : Option (List ℕ))
+            → EndsAs (P.text self.now.printer) needs status (R.remaining input.old) (R.remaining input.new)
+            output output (E.contents errors.old) (E.contents errors.new)) }
+    {
+        match plan_in(self.alloc, input) {
+            Ok(plan) => Ok(plan),
+            Err(NoPlan::InputFailed) => {
+                tell(errors, "input failed\n");
+                Err(ExitStatus::InputFailed)
+            }
+            Err(NoPlan::Refused(fault)) => {
+                tell_refusal(self.alloc, errors, &fault);
+                Err(ExitStatus::ScenarioRefused)
+            }
+        }
+    }
+
+    /// Writes a text of what a run of this plan left to the output. Where it left no report, or there is no memory for the
+    /// text, `errors` has a line that says why.
+    pub fn write<W, E>(
+        &self,
+        plan: &Plan,
+        ran: Result<Report, NetFault>,
+        output: &mut W,
+        errors: &mut E,
+    ) -> ExitStatus
     where
         W: Write,
         E: Write,
-        requires { IsInRange plan.now }
-        ensures { (input input' : Option (List ℕ)) → IsScenario input plan.now → IsAtEnd input'
-            → EndsAs (P.text self.now.printer) N.needs_threads result input input'
+        requires { IfOk ran (IsReport plan.now) }
+        ensures { (needs : Bool) → IfErr ran (MayMeet needs)
+            → (input input' : Option (List ℕ)) → IsScenario input plan.now → IsAtEnd input'
+            → EndsAs (P.text self.now.printer) needs result input input'
             (W.contents output.old) (W.contents output.new) (E.contents errors.old) (E.contents errors.new) }
     {
-        let text = match self.text_of(plan) {
+        let text = match self.text_of(plan, ran) {
             Ok(text) => text,
             Err(fault) => {
                 tell_fault(self.alloc, errors, plan, fault);
@@ -120,15 +152,18 @@ impl<N: Engine, P: Printer> Program<N, P> {
         ExitStatus::Reported
     }
 
-    /// Runs a plan, and makes a text of its report.
-    fn text_of(&self, plan: &Plan) -> Result<Vec<u8>, NetFault>
-        requires { IsInRange plan.now }
+    /// The text of what a run left.
+    fn text_of(&self, plan: &Plan, ran: Result<Report, NetFault>) -> Result<Vec<u8>, NetFault>
+        requires { IfOk ran (IsReport plan.now) }
         ensures text { IfOk result (λ text. (report : Report)
             × IsReport plan.now report
             × (text.items ≡ P.text self.now.printer plan.now report)) }
-        ensures fault { IfErr result (MayMeet N.needs_threads) }
+        ensures fault { (needs : Bool) → IfErr ran (MayMeet needs) → IfErr result (MayMeet needs) }
     {
-        let report = self.engine.run(plan)?;
+        let report = match ran {
+            Ok(report) => report,
+            Err(fault) => return Err(fault),
+        };
         let text = self.printer.print(self.alloc, plan, &report);
         // The program ends after its text, and its memory goes back as a whole: to take the traces
         // apart first, entry by entry, is a tenth of a run.

@@ -4,11 +4,10 @@ ghost use Rattle.gs_program.specs.Program.{Reported};
 ghost use Rattle.gs_report.specs.Text.{report_text};
 
 use crate::laws::two_runs_write_the_same;
-use crate::over_links::OverLinks;
-use crate::program::program;
 use crate::program::tests::Host;
+use crate::program::{run, run_direct};
 use gs_peer::NoGate;
-use gs_program::{Direct, Engine, ExitStatus};
+use gs_program::ExitStatus;
 use std::alloc::Global;
 
 /// `b` subscribes and `a` publishes, by one worker, over links that hold one item.
@@ -30,14 +29,14 @@ const BY_SIXTEEN: &str =
 const REPORT: &str = "delivered b 300 news 616263\n\
     score a b 0.000000\nscore b a 0.000000\nlinks 2 settled\n";
 
-/// What a run of a scenario writes, where it reports.
-fn output_by<N: Engine>(alloc: Global, engine: N, text: &str) -> Option<Vec<u8>>
+/// What a run of a scenario over links writes, where it reports.
+pub(super) fn output_of<T: Host>(rt: &T, text: &str) -> Option<Vec<u8>>
     ensures { IfSome result (λ output. (rest : Option (List ℕ)) × (told : Option (List ℕ)) × (told' : Option (List ℕ))
         × Reported report_text (Some text.now) rest (Some []) (Some output.items) told told') }
 {
-    let mut output = Vec::new(alloc);
-    let mut errors = Vec::new(alloc);
-    match program(alloc, engine).run(&mut text.as_bytes(), &mut output, &mut errors) {
+    let mut output = Vec::new(rt.alloc());
+    let mut errors = Vec::new(rt.alloc());
+    match run(rt, &NoGate, &mut text.as_bytes(), &mut output, &mut errors) {
         ExitStatus::Reported => Some(output),
         ExitStatus::ScenarioRefused
         | ExitStatus::RunRefused
@@ -46,13 +45,20 @@ fn output_by<N: Engine>(alloc: Global, engine: N, text: &str) -> Option<Vec<u8>>
     }
 }
 
-/// What a run of a scenario over links writes, where it reports.
-pub(super) fn output_of<T: Host>(rt: &T, text: &str) -> Option<Vec<u8>>
+/// What a run of a scenario without links writes, where it reports.
+fn direct_output_of(alloc: Global, text: &str) -> Option<Vec<u8>>
     ensures { IfSome result (λ output. (rest : Option (List ℕ)) × (told : Option (List ℕ)) × (told' : Option (List ℕ))
         × Reported report_text (Some text.now) rest (Some []) (Some output.items) told told') }
 {
-    let links = OverLinks { rt, gate: &NoGate };
-    output_by(rt.alloc(), links, text)
+    let mut output = Vec::new(alloc);
+    let mut errors = Vec::new(alloc);
+    match run_direct(alloc, &mut text.as_bytes(), &mut output, &mut errors) {
+        ExitStatus::Reported => Some(output),
+        ExitStatus::ScenarioRefused
+        | ExitStatus::RunRefused
+        | ExitStatus::InputFailed
+        | ExitStatus::OutputFailed => None,
+    }
 }
 
 /// What two runs of one scenario write, where both report, over links and without: it is the same, by the law over plans.
@@ -60,9 +66,8 @@ fn outputs_of<T: Host>(rt: &T, text: &str) -> Option<(Vec<u8>, Vec<u8>)>
     ensures { IfSome result (λ both. both.0.items ≡ both.1.items) }
 {
     two_runs_write_the_same();
-    let alloc = rt.alloc();
     let first = output_of(rt, text)?;
-    let second = output_by(alloc, Direct { alloc }, text)?;
+    let second = direct_output_of(rt.alloc(), text)?;
     Some((first, second))
 }
 
