@@ -18,11 +18,13 @@ use Rattle.gs_wire.specs.Stream.{HasRead, Holding, IsStream, held_after}
 use Rattle.gs_wire.proofs.FrameLists.{frame_read, streams_join}
 use Rattle.gs_wire.proofs.Readers.{read_once}
 use Rattle.gs_wire.proofs.RoundTrip.{all-append}
-use Rattle.gs_rules.specs.declared.trace.Event.{Event}
-use Rattle.gs_rules.specs.declared.trace.Event.TheVariants.{Raw, RoundEnd, Shut}
+use Rattle.gs_rules.specs.declared.event.Event.{Event}
+use Rattle.gs_rules.specs.declared.event.Event.TheVariants.{RoundEnd, Shut, Own, Lost}
+use Rattle.gs_rules.specs.declared.event.Loss.{Loss}
+use Rattle.gs_plan.specs.declared.plan.Act.TheVariants.{Raw, HangUp}
 use Rattle.gs_rules.specs.declared.trace.Entry.{Entry}
 use Rattle.gs_rules.specs.Modes.{sent_to}
-use Rattle.gs_rules.specs.Tables.{cuts_off, is_lost, lost, up_after}
+use Rattle.gs_rules.specs.Tables.{cuts_off, up_after}
 use Rattle.gs_rules.specs.Saying.{Outgoing, behind_entry, behind_event, cut_out, frames_of, is_cut, raw_to, saying, sending, sending_all, sign}
 use Rattle.gs_rules.proofs.Fitting.{short_body}
 use Rattle.gs_rules.proofs.Spelled.{bytes_of_append, bytes_of_bytes, no_stream}
@@ -301,7 +303,7 @@ raw_if false bytes goes = ap (λ (w : Said). with_held w goes.gathered) (append-
 
 pub raw_told : (to : PeerNo) (bytes : List ℕ) (old new : Outlet) → old.is_open ≡ true
     → Follows (λ goes. if same_peer to old.to then saying (cut_out codec goes) (map Byte bytes) else goes) old new
-    → Tells (Raw to bytes) old new
+    → Tells (Own (Raw to bytes)) old new
 raw_told to bytes old new opens h = record {
   to = h.to;
   is_over = h.is_over;
@@ -315,32 +317,38 @@ close_said : (off : Bool) (goes : Outgoing)
 close_said true goes = refl
 close_said false goes = ap (λ (w : Said). with_held w goes.gathered) (append-nil goes.said)
 
--- Of an event that is no end of a round, no shutdown and no bytes: whoever is lost is told no more.
-pub record IsOther (q : PeerNo) (event : Event) : Type 0 where
-  pub cut : is_cut q event ≡ is_lost q (lost event)
-  pub raw : raw_to q event ≡ []
-  pub signed : sign q event ≡ (if is_lost q (lost event) then Close ∷ [] else [])
-  pub off : cuts_off q event ≡ is_lost q (lost event)
+-- An event says no more than a close, and that where it loses the neighbour.
+record ClosesAtMost (q : PeerNo) (event : Event) (off : Bool) : Type 0 where
+  cut : is_cut q event ≡ off
+  raw : raw_to q event ≡ []
+  signed : sign q event ≡ (if off then Close ∷ [] else [])
+  down : cuts_off q event ≡ off
 
-pub other_told : (event : Event) (old new : Outlet) → old.is_open ≡ true → IsOther old.to event → Closes (is_lost old.to (lost event)) old new → Tells event old new
-other_told event old new opens other h =
-    let off : Bool = is_lost old.to (lost event) in
-    record {
-      to = h.to;
-      is_over = h.is_over;
-      is_open = h.is_open ∙ ap₂ (λ (a b : Bool). if a then false else b) (sym other.off) opens;
-      carries = λ goes earlier c.
-          subst (λ (x : Outgoing). Carries new x earlier)
-          (sym (ap (λ (b : Bool). saying (if b then cut_out codec goes else goes) (map Byte (raw_to old.to event) ++ sign old.to event)) other.cut
-          ∙ ap₂ (λ (bytes : List ℕ) (w : Said). saying (if off then cut_out codec goes else goes) (map Byte bytes ++ w)) other.raw other.signed
-          ∙ close_said off goes))
-          (h.carries goes earlier c);
-    }
+closing_told : (event : Event) (off : Bool) (old new : Outlet) → old.is_open ≡ true → ClosesAtMost old.to event off → Closes off old new → Tells event old new
+closing_told event off old new opens most h = record {
+  to = h.to;
+  is_over = h.is_over;
+  is_open = h.is_open ∙ ap₂ (λ (a b : Bool). if a then false else b) (sym most.down) opens;
+  carries = λ goes earlier c.
+      subst (λ (x : Outgoing). Carries new x earlier)
+      (sym (ap (λ (b : Bool). saying (if b then cut_out codec goes else goes) (map Byte (raw_to old.to event) ++ sign old.to event)) most.cut
+      ∙ ap₂ (λ (bytes : List ℕ) (w : Said). saying (if off then cut_out codec goes else goes) (map Byte bytes ++ w)) most.raw most.signed
+      ∙ close_said off goes))
+      (h.carries goes earlier c);
+}
+
+-- whoever is lost is told no more
+pub lost_told : (peer : PeerNo) (loss : Loss) (old new : Outlet) → old.is_open ≡ true → Closes (same_peer peer old.to) old new → Tells (Lost peer loss) old new
+lost_told peer loss old new opens h = closing_told (Lost peer loss) (same_peer peer old.to) old new opens (record { cut = refl; raw = refl; signed = refl; down = refl }) h
+
+-- and so is whom the peer hangs up on
+pub hung_up_told : (peer : PeerNo) (old new : Outlet) → old.is_open ≡ true → Closes (same_peer peer old.to) old new → Tells (Own (HangUp peer)) old new
+hung_up_told peer old new opens h = closing_told (Own (HangUp peer)) (same_peer peer old.to) old new opens (record { cut = refl; raw = refl; signed = refl; down = refl }) h
 
 -- ---- an entry
 
 pub said_entry : (e : Entry) (old mid new : Outlet) → old.is_open ≡ true
-    → Follows (λ goes. sending_all codec goes (sent_to old.to e.sends)) old mid
+    → Follows (λ goes. sending_all codec goes (sent_to old.to e.effects.sends)) old mid
     → Tells e.event mid new
     → Says e old new
 said_entry e old mid new opens sends tells = record {
@@ -348,8 +356,8 @@ said_entry e old mid new opens sends tells = record {
   is_over = tells.is_over ∙ sends.is_over;
   is_open = tells.is_open ∙ ap₂ (λ (q : PeerNo) (b : Bool). up_after q e.event b) sends.to (sym opens);
   carries = λ goes earlier c.
-      subst₂ (λ (q : PeerNo) (b : Bool). Carries new (if b then behind_event codec q (sending_all codec goes (sent_to old.to e.sends)) e.event else goes) earlier) sends.to (sym opens)
-      (tells.carries (sending_all codec goes (sent_to old.to e.sends)) earlier (sends.carries goes earlier c));
+      subst₂ (λ (q : PeerNo) (b : Bool). Carries new (if b then behind_event codec q (sending_all codec goes (sent_to old.to e.effects.sends)) e.event else goes) earlier) sends.to (sym opens)
+      (tells.carries (sending_all codec goes (sent_to old.to e.effects.sends)) earlier (sends.carries goes earlier c));
 }
 
 -- whoever is down is told nothing

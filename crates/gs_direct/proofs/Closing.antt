@@ -14,14 +14,14 @@ use Rattle.gs_plan.specs.Plans.{are_joined}
 use Rattle.gs_wire.specs.Codec.{codec}
 use Rattle.gs_wire.specs.Messages.{longest_body}
 use Rattle.gs_wire.specs.Stream.{IsStream}
-use Rattle.gs_rules.specs.declared.trace.Event.{Event}
-use Rattle.gs_rules.specs.declared.trace.Event.TheVariants.{Shut}
+use Rattle.gs_rules.specs.declared.event.Event.{Event}
+use Rattle.gs_rules.specs.declared.event.Event.TheVariants.{Shut}
 use Rattle.gs_rules.specs.declared.trace.Entry.{Entry}
 use Rattle.gs_rules.specs.declared.refusal.RefusedLine.{RefusedLine}
 use Rattle.gs_rules.specs.Peers.{Peer as RulesPeer, links_of}
 use Rattle.gs_rules.specs.Tables.{Entries, up, up_after}
 use Rattle.gs_rules.specs.Results.{meshes_of, scores_of}
-use Rattle.gs_rules.specs.Rules.{bare, rule_of}
+use Rattle.gs_rules.specs.Rules.{rule_of}
 use Rattle.gs_rules.specs.Modes.{Follows, exact, free, sent_to}
 use Rattle.gs_rules.specs.Legal.{Comes, Legal, LegalOn}
 use Rattle.gs_rules.specs.Saying.{Outgoing, behind_entry, behind_event, gathered, out, outgoing, sending_all}
@@ -69,12 +69,12 @@ shut_says p at K M q legal none opens =
     let e : Entry = begun.first in
     let down : up (e ∷ K) q ≡ false = ap (λ (event : Event). up_after q event (up K q)) begun.opened in
     let legally : Legal p (e ∷ K) = legal_before p begun.paid (e ∷ K) (subst (Legal p) begun.entries legal) in
-    let effects : Follows free (rule_of p K at Shut) tt e tt =
-    subst₂ (λ (now : Millis) (event : Event). Follows free (rule_of p K now event) tt e tt) begun.moment begun.opened (legal_newest p e K legally).effects in
+    let effects : Follows free (rule_of p K at Shut) tt e.effects tt =
+    subst₂ (λ (now : Millis) (event : Event). Follows free (rule_of p K now event) tt e.effects tt) begun.moment begun.opened (legal_newest p e K legally).effects in
     let o : Outgoing = outgoing codec K q in
-    let alike : behind_entry codec q o e ≡ behind_entry codec q o (bare at Shut) =
-    ap₂ (λ (rpcs : List Rpc) (event : Event). behind_event codec q (sending_all codec o rpcs) event) (effects.0.sends q) effects.0.event in
-    let closing : (behind_entry codec q o (bare at Shut)).said ≡ o.said ++ Close ∷ [] =
+    let alike : behind_entry codec q o e ≡ behind_event codec q o Shut =
+    ap₂ (λ (rpcs : List Rpc) (event : Event). behind_event codec q (sending_all codec o rpcs) event) (effects.0.sends q) begun.opened in
+    let closing : (behind_event codec q o Shut).said ≡ o.said ++ Close ∷ [] =
     ap (λ (held : Option Rpc). (o.said ++ map Byte (flat_map codec.frame (option_to_list held))) ++ Close ∷ []) none ∙ ap (λ (w : Said). w ++ Close ∷ []) (append-nil o.said) in
     let after_one : bytes_of (out codec (e ∷ K) q) ≡ bytes_of (out codec K q) = by (up K q) o (ap (λ (g : Outgoing). g.said) alike ∙ closing) in
     ap (λ (N : Entries). bytes_of (out codec N q)) begun.entries

@@ -13,7 +13,7 @@ use Rattle.gs_plan.specs.declared.plan.Line.{Line}
 use Rattle.gs_plan.specs.declared.plan.Plan.{Plan}
 use Rattle.gs_rules.specs.declared.refusal.RefusedLine.{RefusedLine}
 use Rattle.gs_rules.specs.declared.trace.Entry.{Entry}
-use Rattle.gs_rules.specs.declared.trace.Event.TheVariants.{RoundEnd}
+use Rattle.gs_rules.specs.declared.event.Event.TheVariants.{RoundEnd}
 use Rattle.gs_rules.specs.Modes.{exact}
 use Rattle.gs_rules.specs.Peers.{Peer}
 use Rattle.gs_rules.specs.Rounds.{EndRound, Todo, beats_in, decays_in}

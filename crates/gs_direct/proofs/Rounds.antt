@@ -6,8 +6,9 @@ use Rattle.gs_base.specs.declared.names.Millis.{Millis}
 use Rattle.gs_base.specs.Names.{same_peer}
 use Rattle.gs_base.specs.Tokens.{Said}
 use Rattle.gs_wire.specs.Codec.{codec}
-use Rattle.gs_rules.specs.declared.trace.Event.{Event}
-use Rattle.gs_rules.specs.declared.trace.Event.TheVariants.{Fault, Gone}
+use Rattle.gs_rules.specs.declared.event.Event.{Event}
+use Rattle.gs_rules.specs.declared.event.Event.TheVariants.{Lost}
+use Rattle.gs_rules.specs.declared.event.Loss.TheVariants.{Fault, Gone}
 use Rattle.gs_rules.specs.declared.refusal.RefusedLine.{RefusedLine}
 use Rattle.gs_rules.specs.Peers.{Peer, links_of}
 use Rattle.gs_rules.specs.Tables.{Entries, up, up_after}
@@ -67,10 +68,10 @@ ending_is_down : (p : Peer) (at : Millis) (q : PeerNo) (x : Inbound) (K M : Entr
 ending_is_down p at q x K M refused ends does = by (is_broken x) x.closes refl refl does
   where
     fault : Does p at (HearFault q ∷ []) K M refused → up M q ≡ false
-    fault (N, later, comes, none, is) = ap (λ (L : Entries). up L q) none.0 ∙ lost_is_down p at q (Fault q) K N (cuts_self (up K q) q) comes
+    fault (N, later, comes, none, is) = ap (λ (L : Entries). up L q) none.0 ∙ lost_is_down p at q (Lost q Fault) K N (cuts_self (up K q) q) comes
 
     gone : Does p at (HearGone q ∷ []) K M refused → up M q ≡ false
-    gone (N, later, comes, none, is) = ap (λ (L : Entries). up L q) none.0 ∙ lost_is_down p at q (Gone q) K N (cuts_self (up K q) q) comes
+    gone (N, later, comes, none, is) = ap (λ (L : Entries). up L q) none.0 ∙ lost_is_down p at q (Lost q Gone) K N (cuts_self (up K q) q) comes
 
     by : (broken closed : Bool) → is_broken x ≡ broken → x.closes ≡ closed
         → Does p at (if broken then HearFault q ∷ [] else if closed then HearGone q ∷ [] else []) K M refused → up M q ≡ false
@@ -179,14 +180,14 @@ alike_does p at K xs ys M L refused (Next todo a b more) on (N, later, comes, re
     let step = does_on p at (todo ∷ []) M N (noted p M at todo) (N, [], comes, (refl, refl), sym (append-nil (noted p M at todo))) in
     (N, later, comes, alike_does p at K a b N L later more (step.0 ++ on.0, step.1 ∙ ap (λ (J : Entries). step.0 ++ J) on.1 ∙ sym (append_assoc step.0 on.0 K)) rest, is)
 alike_does p at K xs ys M L refused (MoreFault q a b down more) on does =
-    (M, refused, nothing_of p at q (Fault q) M (still_down K M q on down), alike_does p at K a b M L refused more on does, refl)
+    (M, refused, nothing_of p at q (Lost q Fault) M (still_down K M q on down), alike_does p at K a b M L refused more on does, refl)
 alike_does p at K xs ys M L refused (MoreGone q a b down more) on does =
-    (M, refused, nothing_of p at q (Gone q) M (still_down K M q on down), alike_does p at K a b M L refused more on does, refl)
+    (M, refused, nothing_of p at q (Lost q Gone) M (still_down K M q on down), alike_does p at K a b M L refused more on does, refl)
 alike_does p at K xs ys M L refused (LessFault q a b down more) on (N, later, comes, rest, is) =
-    let same : N ≡ M = nothing_but p at q (Fault q) M N (still_down K M q on down) comes in
+    let same : N ≡ M = nothing_but p at q (Lost q Fault) M N (still_down K M q on down) comes in
     subst (Does p at ys M L) (sym is) (alike_does p at K a b M L later more on (subst (λ (J : Entries). Does p at a J L later) same rest))
 alike_does p at K xs ys M L refused (LessGone q a b down more) on (N, later, comes, rest, is) =
-    let same : N ≡ M = nothing_but p at q (Gone q) M N (still_down K M q on down) comes in
+    let same : N ≡ M = nothing_but p at q (Lost q Gone) M N (still_down K M q on down) comes in
     subst (Does p at ys M L) (sym is) (alike_does p at K a b M L later more on (subst (λ (J : Entries). Does p at a J L later) same rest))
 
 -- ---- how a neighbour ends that is not up

@@ -13,12 +13,13 @@ use Rattle.gs_base.specs.Tokens.{Byte, Said}
 use Rattle.gs_wire.specs.Codec.{codec}
 use Rattle.gs_wire.specs.Messages.{longest_body}
 use Rattle.gs_wire.specs.Stream.{Holding}
-use Rattle.gs_rules.specs.declared.trace.Event.{Event}
-use Rattle.gs_rules.specs.declared.trace.Event.TheVariants.{Raw, RoundEnd, Shut}
+use Rattle.gs_rules.specs.declared.event.Event.{Event}
+use Rattle.gs_rules.specs.declared.event.Event.TheVariants.{RoundEnd, Own}
+use Rattle.gs_plan.specs.declared.plan.Act.TheVariants.{Raw}
 use Rattle.gs_rules.specs.declared.trace.Entry.{Entry}
 use Rattle.gs_rules.specs.Modes.{sent_to}
 use Rattle.gs_rules.specs.Tables.{Entries, cuts_off, up, up_after}
-use Rattle.gs_rules.specs.Saying.{Outgoing, behind_entry, cut_out, is_cut, outgoing, raw_to, saying, sending, sending_all, sign}
+use Rattle.gs_rules.specs.Saying.{Outgoing, behind_entry, behind_event, cut_out, is_cut, outgoing, raw_to, saying, sending, sending_all, sign}
 use Rattle.gs_rules.specs.Legal.{Legal}
 use Rattle.gs_rules.specs.Peers.{Peer}
 use Rattle.gs_rules.proofs.Fitting.{fits_drop, fits_reverse, fits_take, legal_written}
@@ -27,8 +28,8 @@ use Rattle.gs_seats.specs.ListsByPeer.{list_at}
 use Rattle.gs_player.proofs.Since.{seen_as, since}
 use Rattle.gs_direct.specs.declared.letter.Letter.{Letter}
 use Rattle.gs_direct.specs.declared.outlet.Outlet.{Outlet}
-use Rattle.gs_direct.specs.Outlets.{AllWritten, Carries, Follows, IsSilent, Says, SaysAll, SaysSince, given, letters_of}
-use Rattle.gs_direct.proofs.Carrying.{IsOther, follows_as, follows_then}
+use Rattle.gs_direct.specs.Outlets.{AllWritten, Carries, Follows, IsSilent, Says, SaysAll, SaysSince, Tells, given, letters_of}
+use Rattle.gs_direct.proofs.Carrying.{follows_as, follows_then}
 
 -- what follows where a call succeeds
 pub on_ok : {T E : Type 0} (r : Result T E) (P Q : Type 0) → (P → Q) → OnOk r P → OnOk r Q
@@ -49,12 +50,26 @@ raw_put to slice bytes old mid new mine is cut says =
     (λ goes. ap (λ (xs : List ℕ). saying (cut_out codec goes) (map Byte xs)) is ∙ sym (ap (λ (b : Bool). if b then saying (cut_out codec goes) (map Byte bytes) else goes) mine))
     (follows_then (cut_out codec) (λ (goes : Outgoing). saying goes (map Byte slice)) old mid new cut says)
 
--- an event that is none of three
-pub is_other : (q : PeerNo) (event : Event) → ((r : ℕ) → event ≡ RoundEnd r → ⊥) → ((p : PeerNo) (bytes : List ℕ) → event ≡ Raw p bytes → ⊥) → (event ≡ Shut → ⊥) → IsOther q event
-is_other q (RoundEnd r) no_end no_raw no_shut = absurd (no_end r refl)
-is_other q (Raw p bytes) no_end no_raw no_shut = absurd (no_raw p bytes refl)
-is_other q Shut no_end no_raw no_shut = absurd (no_shut refl)
-is_other q other no_end no_raw no_shut = record { cut = refl; raw = refl; signed = refl; off = refl }
+-- what cuts nothing cuts nobody off
+uncut_off : (q : PeerNo) (event : Event) → is_cut q event ≡ false → cuts_off q event ≡ false
+uncut_off q (RoundEnd r) none = refl
+uncut_off q (Own (Raw p bytes)) none = refl
+uncut_off q other none = none
+
+-- and says nothing
+uncut_says : (q : PeerNo) (event : Event) (goes : Outgoing) → is_cut q event ≡ false → behind_event codec q goes event ≡ goes
+uncut_says q event goes none =
+    ap (λ (b : Bool). saying (if b then cut_out codec goes else goes) (map Byte (raw_to q event) ++ sign q event)) none
+    ∙ ap₂ (λ (bytes : List ℕ) (w : Said). saying goes (map Byte bytes ++ w)) (uncut_raw q event none) (uncut_sign q event none)
+    ∙ ap (λ (w : Said). record { said = w; gathered = goes.gathered }) (append-nil goes.said)
+
+pub uncut_told : (event : Event) (old : Outlet) → old.is_open ≡ true → is_cut old.to event ≡ false → Tells event old old
+uncut_told event old opens none = record {
+  to = refl;
+  is_over = refl;
+  is_open = opens ∙ sym (ap (λ (b : Bool). if b then false else true) (uncut_off old.to event none));
+  carries = λ goes earlier c. subst (λ (x : Outgoing). Carries old x earlier) (sym (uncut_says old.to event goes none)) c;
+}
 
 -- ---- what is sent
 
@@ -94,12 +109,6 @@ sends_other xs x old new other before =
 
 -- ---- entries
 
--- what cuts nothing cuts nobody off
-uncut_off : (q : PeerNo) (event : Event) → is_cut q event ≡ false → cuts_off q event ≡ false
-uncut_off q (RoundEnd r) none = refl
-uncut_off q (Raw p bytes) none = refl
-uncut_off q other none = none
-
 -- an entry that says nothing to anybody
 pub silent_says : (e : Entry) → IsSilent e → (o : Outlet) → Says e o o
 silent_says e silent o = record {
@@ -111,10 +120,8 @@ silent_says e silent o = record {
   where
     whole : (goes : Outgoing) → behind_entry codec o.to goes e ≡ goes
     whole goes =
-        ap (λ (sends : List (PeerNo × Rpc)). saying (if is_cut o.to e.event then cut_out codec (sending_all codec goes (sent_to o.to sends)) else sending_all codec goes (sent_to o.to sends)) (map Byte (raw_to o.to e.event) ++ sign o.to e.event)) silent.sends
-        ∙ ap (λ (b : Bool). saying (if b then cut_out codec goes else goes) (map Byte (raw_to o.to e.event) ++ sign o.to e.event)) (silent.cuts o.to)
-        ∙ ap₂ (λ (bytes : List ℕ) (w : Said). saying goes (map Byte bytes ++ w)) (uncut_raw o.to e.event (silent.cuts o.to)) (uncut_sign o.to e.event (silent.cuts o.to))
-        ∙ ap (λ (w : Said). record { said = w; gathered = goes.gathered }) (append-nil goes.said)
+        ap (λ (sends : List (PeerNo × Rpc)). behind_event codec o.to (sending_all codec goes (sent_to o.to sends)) e.event) silent.sends
+        ∙ uncut_says o.to e.event goes (silent.cuts o.to)
 
     as_it_was : (b : Bool) (goes : Outgoing) → (if b then behind_entry codec o.to goes e else goes) ≡ goes
     as_it_was true goes = whole goes

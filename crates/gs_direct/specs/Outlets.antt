@@ -9,7 +9,7 @@ use Rattle.gs_wire.specs.Codec.{codec}
 use Rattle.gs_wire.specs.Messages.{IsInMemory, longest_body}
 use Rattle.gs_wire.specs.Stream.{FeedsOnce, Holding, HasRead}
 use Rattle.gs_rules.specs.declared.trace.Entry.{Entry}
-use Rattle.gs_rules.specs.declared.trace.Event.{Event}
+use Rattle.gs_rules.specs.declared.event.Event.{Event}
 use Rattle.gs_rules.specs.Tables.{Entries, up, up_after}
 use Rattle.gs_rules.specs.Saying.{Outgoing, is_cut, behind_entry, behind_event, cut_out, outgoing, saying}
 use Rattle.gs_direct.specs.declared.letter.Letter.{Letter}
@@ -27,7 +27,7 @@ abbrev pub SendsWritten : List (PeerNo × Rpc) → Type 0
 SendsWritten sends = AllByRecursion (λ x. IsWritten x.1) sends
 
 abbrev pub AllWritten : List Entry → Type 0
-AllWritten entries = AllByRecursion (λ (e : Entry). SendsWritten e.sends) entries
+AllWritten entries = AllByRecursion (λ (e : Entry). SendsWritten e.effects.sends) entries
 
 -- ---- the bytes of a link
 
@@ -105,7 +105,7 @@ pub record SaysAll (entries : List Entry) (old new : Outlet) : Type 0 where
 
 -- it says nothing to anybody
 pub record IsSilent (e : Entry) : Type 0 where
-  pub sends : e.sends ≡ []
+  pub sends : e.effects.sends ≡ []
   pub cuts : (q : PeerNo) → is_cut q e.event ≡ false
 
 -- The neighbours are sent what a trace says after its first `told` entries.

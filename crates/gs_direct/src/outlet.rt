@@ -3,15 +3,16 @@ ghost use Rattle.std.specs.Prelude.{◌≡◌, [], None, true, map, OnOk, if◌t
 ghost use Rattle.gs_base.specs.Names.{same_peer};
 ghost use Rattle.gs_base.specs.Tokens.{Byte};
 ghost use Rattle.gs_wire.specs.Codec.{codec};
+ghost use Rattle.gs_rules.specs.declared.event.Event.TheVariants.{Own};
 ghost use Rattle.gs_rules.specs.Modes.{sent_to};
 ghost use Rattle.gs_rules.specs.Saying.{cut_out, saying, sending, sending_all};
-ghost use Rattle.gs_rules.specs.Tables.{is_lost};
 ghost use Rattle.gs_direct.specs.Outlets.{Closes, Follows, IsHandedOver, IsNew, IsWritten, Says, SendsWritten, Tells, ending_of, letters_of};
 
 use crate::letter::{Ending, Letter};
 use crate::link_reader::LinkReader;
 use bytes::Bytes;
 use gs_base::{PeerNo, Rpc, Shared};
+use gs_plan::Act;
 use gs_rules::{Event, StoredEntry};
 use gs_wire::GatheredRpcs;
 use std::alloc::{AllocError, Global};
@@ -55,7 +56,7 @@ impl Outlet {
     /// # Errors
     /// `AllocError` where there was no memory for it.
     pub fn tell(&mut self, alloc: Global, entry: &StoredEntry) -> Result<(), AllocError>
-        requires { SendsWritten entry.now.sends }
+        requires { SendsWritten entry.now.effects.sends }
         ensures { OnOk result (Says entry.now self.old self.new) }
     {
         if !self.is_open {
@@ -117,8 +118,28 @@ impl Outlet {
         match event {
             Event::RoundEnd(_) => self.put_out(alloc),
             Event::Shut => self.close(alloc),
-            Event::Raw(to, bytes) => self.put_raw(alloc, *to, bytes),
-            other => self.close_lost(alloc, other.lost()),
+            Event::Own(act) => self.tell_act(alloc, act.get()),
+            Event::Lost(peer, _) => self.close_lost(alloc, *peer),
+            Event::Heard(_, _) => Ok(()),
+            Event::Late(_, _) => Ok(()),
+            Event::Part(_, _) => Ok(()),
+            Event::BeatBegin => Ok(()),
+            Event::Step(_) => Ok(()),
+            Event::Decay => Ok(()),
+        }
+    }
+
+    /// Says what an act of the peer's own user says, where more may be said to the neighbour.
+    fn tell_act(&mut self, alloc: Global, act: &Act) -> Result<(), AllocError>
+        requires { self.old.is_open ≡ true }
+        ensures { OnOk result (Tells (Own act.now) self.old self.new) }
+    {
+        match act {
+            Act::Raw(to, bytes) => self.put_raw(alloc, *to, bytes),
+            Act::HangUp(peer) => self.close_lost(alloc, *peer),
+            Act::Subscribe(_) => Ok(()),
+            Act::Unsubscribe(_) => Ok(()),
+            Act::Publish(_, _) => Ok(()),
         }
     }
 
@@ -150,15 +171,15 @@ impl Outlet {
         }
     }
 
-    /// Says nothing more to the neighbour, where it is lost.
-    fn close_lost(&mut self, alloc: Global, lost: Option<PeerNo>) -> Result<(), AllocError>
+    /// Says nothing more to the neighbour, where it is the one that is lost.
+    fn close_lost(&mut self, alloc: Global, lost: PeerNo) -> Result<(), AllocError>
         requires { self.old.is_open ≡ true }
-        ensures { OnOk result (Closes (is_lost self.old.to lost) self.old self.new) }
+        ensures { OnOk result (Closes (same_peer lost self.old.to) self.old self.new) }
     {
-        match lost {
-            Some(peer) if peer == self.to => self.close(alloc),
-            _ => Ok(()),
+        if lost != self.to {
+            return Ok(());
         }
+        self.close(alloc)
     }
 
     /// Says nothing more to the neighbour but what is gathered, and the close.

@@ -1,15 +1,17 @@
 //! What goes from a peer to its neighbours.
-ghost use Rattle.std.specs.Prelude.{◌≡◌, ◌≤◌, ◌++◌, true, OnOk, IfOk, length};
+ghost use Rattle.std.specs.Prelude.{◌≡◌, ◌≤◌, ◌++◌, false, true, OnOk, IfOk, length};
 ghost use Rattle.std.specs.List.{AllByRecursion, AllZip};
 ghost use Rattle.gs_base.specs.declared.names.PeerNo.{PeerNo as PeerNoValue};
 ghost use Rattle.gs_base.specs.Names.{peers_of};
 ghost use Rattle.gs_rules.specs.Legal.{Legal};
+ghost use Rattle.gs_rules.specs.Saying.{is_cut_by};
 ghost use Rattle.gs_seats.specs.ListsByPeer.{list_at};
 ghost use Rattle.gs_direct.specs.Outlets.{AllWritten, IsHandedOver, IsNew, IsSilent, Says, SaysAll, SaysSince, SendsWritten, Within, given};
 
 use crate::letter::Letter;
 use crate::outlet::Outlet;
 use gs_base::{Neighbour, PeerNo};
+use gs_plan::Act;
 use gs_router::Router;
 use gs_rules::{Event, StoredEntry};
 use gs_seats::put_last;
@@ -64,7 +66,7 @@ fn tell_all(
 
 /// Says to the neighbours what an entry says.
 fn tell(alloc: Global, outlets: &mut [Outlet], entry: &StoredEntry) -> Result<(), AllocError>
-    requires { SendsWritten entry.now.sends }
+    requires { SendsWritten entry.now.effects.sends }
     ensures { OnOk result (AllZip (Says entry.now) outlets.old outlets.new) }
 {
     if is_silent(entry) {
@@ -86,8 +88,27 @@ fn is_silent(entry: &StoredEntry) -> bool
     match entry.event() {
         Event::RoundEnd(_) => false,
         Event::Shut => false,
-        Event::Raw(_, _) => false,
-        other => other.lost().is_none(),
+        Event::Lost(_, _) => false,
+        Event::Own(act) => is_silent_act(act.get()),
+        Event::Heard(_, _) => true,
+        Event::Late(_, _) => true,
+        Event::Part(_, _) => true,
+        Event::BeatBegin => true,
+        Event::Step(_) => true,
+        Event::Decay => true,
+    }
+}
+
+/// Whether an act of the peer's own user says nothing but what is sent for it.
+fn is_silent_act(act: &Act) -> bool
+    ensures { result ≡ true → (q : PeerNoValue) → is_cut_by q act.now ≡ false }
+{
+    match act {
+        Act::Raw(_, _) => false,
+        Act::HangUp(_) => false,
+        Act::Subscribe(_) => true,
+        Act::Unsubscribe(_) => true,
+        Act::Publish(_, _) => true,
     }
 }
 

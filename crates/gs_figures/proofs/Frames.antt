@@ -8,8 +8,8 @@ use Rattle.gs_base.specs.declared.names.PeerNo.{PeerNo}
 use Rattle.gs_base.specs.declared.rpc.Rpc.{Rpc}
 use Rattle.gs_wire.specs.Codec.{codec}
 use Rattle.gs_wire.specs.Messages.{frame}
-use Rattle.gs_rules.specs.declared.trace.Event.{Event}
-use Rattle.gs_rules.specs.declared.trace.Event.TheVariants.{RoundEnd, Shut}
+use Rattle.gs_rules.specs.declared.event.Event.{Event}
+use Rattle.gs_rules.specs.declared.event.Event.TheVariants.{RoundEnd, Shut}
 use Rattle.gs_rules.specs.declared.trace.Entry.{Entry}
 use Rattle.gs_rules.specs.Legal.{Legal}
 use Rattle.gs_rules.specs.Peers.{Peer}
@@ -68,16 +68,16 @@ behind_length q o event =
 
 entry_length : (q : PeerNo) (o : Outgoing) (e : Entry) → said_length (behind_entry codec q o e) ≡ said_length o + frames_length (lets q o e) + length (raw_to q e.event)
 entry_length q o e =
-    behind_length q (sending_all codec o (sent_to q e.sends)) e.event
-    ∙ ap (λ (k : ℕ). k + length (raw_to q e.event)) (ap (λ (k : ℕ). k + frames_length cut) (gathers (sent_to q e.sends) o)
+    behind_length q (sending_all codec o (sent_to q e.effects.sends)) e.event
+    ∙ ap (λ (k : ℕ). k + length (raw_to q e.event)) (ap (λ (k : ℕ). k + frames_length cut) (gathers (sent_to q e.effects.sends) o)
     ∙ (three (said_length o) (frames_length full) (frames_length cut)
     ∙ ap (λ (k : ℕ). said_length o + k) (sym (frames_both full cut))))
   where
     full : List Rpc
-    full = let_out o.gathered (sent_to q e.sends)
+    full = let_out o.gathered (sent_to q e.effects.sends)
 
     cut : List Rpc
-    cut = cut_frames (is_cut q e.event) (sending_all codec o (sent_to q e.sends))
+    cut = cut_frames (is_cut q e.event) (sending_all codec o (sent_to q e.effects.sends))
 
 -- ---- a trace
 
@@ -106,8 +106,8 @@ sends_stay (x ∷ sends) fit = by (codec.fits x.1) fit.0.0 (sends_stay sends fit
     by true is rest = ap (λ (xs : List (PeerNo × Rpc)). x ∷ xs) rest
     by false is rest = let wrong : false ≡ true = is in cc
 
-entry_stays : (e : Entry) → SendsWritten e.sends → fitting e ≡ e
-entry_stays e fit = ap (λ (sends : List (PeerNo × Rpc)). record e { sends = sends }) (sends_stay e.sends fit)
+entry_stays : (e : Entry) → SendsWritten e.effects.sends → fitting e ≡ e
+entry_stays e fit = ap (λ (sends : List (PeerNo × Rpc)). record e { effects = record e.effects { sends = sends } }) (sends_stay e.effects.sends fit)
 
 all_stay : (L : Entries) → AllWritten L → map fitting L ≡ L
 all_stay [] fit = refl

@@ -7,10 +7,12 @@ use Rattle.std.proofs.lemmas.Slice.Eq.{bytes_eq-Decides}
 use Rattle.std.proofs.lemmas.List.Folds.{list_any-append}
 use Rattle.gs_base.specs.declared.names.Topic.{Topic}
 use Rattle.gs_base.specs.Names.{same_topic}
-use Rattle.gs_rules.specs.declared.trace.Event.{Event}
-use Rattle.gs_rules.specs.declared.trace.Event.TheVariants.{Subscribe, Unsubscribe}
-use Rattle.gs_rules.specs.Tables.{Entries, joined, joined_after}
-use Rattle.gs_figures.specs.Peers.{subscribed, subscribed_after}
+use Rattle.gs_rules.specs.declared.event.Event.{Event}
+use Rattle.gs_rules.specs.declared.event.Event.TheVariants.{Own}
+use Rattle.gs_plan.specs.declared.plan.Act.{Act}
+use Rattle.gs_plan.specs.declared.plan.Act.TheVariants.{Subscribe, Unsubscribe, Publish, Raw, HangUp}
+use Rattle.gs_rules.specs.Tables.{Entries, joined, joined_after, joined_by}
+use Rattle.gs_figures.specs.Peers.{act_subscribed, subscribed, subscribed_after}
 
 -- topics of the same bytes are one
 same_are_one : (t u : Topic) → same_topic t u ≡ true → t ≡ u
@@ -89,7 +91,13 @@ subscribed_are_joined t (e ∷ L) = by e.event (subscribed_are_joined t L)
     goes u true same is = is_gone t u (subscribed L) same
     goes u false same is = others_stay t u (subscribed L) same ∙ is
 
+    acts : (act : Act) → list_any (same_topic t) (subscribed L) ≡ joined L t → list_any (same_topic t) (act_subscribed act (subscribed L)) ≡ joined_by t act (joined L t)
+    acts (Subscribe u) is = comes u (same_topic u t) refl is
+    acts (Unsubscribe u) is = goes u (same_topic u t) refl is
+    acts (Publish u payload) is = is
+    acts (Raw q bytes) is = is
+    acts (HangUp q) is = is
+
     by : (event : Event) → list_any (same_topic t) (subscribed L) ≡ joined L t → list_any (same_topic t) (subscribed_after event (subscribed L)) ≡ joined_after t event (joined L t)
-    by (Subscribe u) is = comes u (same_topic u t) refl is
-    by (Unsubscribe u) is = goes u (same_topic u t) refl is
+    by (Own act) is = acts act is
     by other is = is

@@ -10,8 +10,10 @@ use Rattle.gs_base.specs.declared.rpc.Rpc.{Rpc}
 use Rattle.gs_base.specs.Names.{same_peer}
 use Rattle.gs_wire.specs.Codec.{codec}
 use Rattle.gs_wire.specs.Messages.{frame}
-use Rattle.gs_rules.specs.declared.trace.Event.{Event}
-use Rattle.gs_rules.specs.declared.trace.Event.TheVariants.{Raw, RoundEnd, Shut}
+use Rattle.gs_rules.specs.declared.event.Event.{Event}
+use Rattle.gs_rules.specs.declared.event.Event.TheVariants.{RoundEnd, Shut, Own}
+use Rattle.gs_plan.specs.declared.plan.Act.{Act}
+use Rattle.gs_plan.specs.declared.plan.Act.TheVariants.{Subscribe, Unsubscribe, Publish, Raw, HangUp}
 use Rattle.gs_rules.specs.declared.trace.Entry.{Entry}
 use Rattle.gs_rules.specs.Tables.{Entries, cuts_off, is_lost, lost, up, up_after}
 use Rattle.gs_rules.specs.Modes.{sent_to}
@@ -164,21 +166,33 @@ IsBehind q may o n event =
     lane_event q (lane_of may o n) event
     ≡ lane_of (up_after q event may) (behind_event codec q o event) (n + length (cut_frames (is_cut q event) o))
 
-tells : (q : PeerNo) (may : Bool) (o : Outgoing) (n : ℕ) (event : Event) → IsBehind q may o n event
-tells q may o n (RoundEnd r) = cuts_silently may o n (EndOf r ∷ []) refl
-tells q may o n Shut = closes may o n
-tells q may o n (Raw p bytes) = by (same_peer p q)
+-- nothing is said
+quiet : (may : Bool) (o : Outgoing) (n : ℕ) → lane_of may o n ≡ lane_of may (saying o []) (n + 0)
+quiet may o n = silently may o n [] refl ∙ ap (λ (r : ℕ). lane_of may (saying o []) r) (sym (nothing_more n))
+
+-- q is lost, or nothing is said
+loses : (may : Bool) (o : Outgoing) (n : ℕ) (is : Bool) → (if is then lane_closed (lane_of may o n) else lane_of may o n) ≡ lane_of (if is then false else may) (saying (if is then cut_out codec o else o) (if is then Close ∷ [] else [])) (n + length (cut_frames is o))
+loses may o n true = closes may o n
+loses may o n false = quiet may o n
+
+acts : (q : PeerNo) (may : Bool) (o : Outgoing) (n : ℕ) (act : Act) → IsBehind q may o n (Own act)
+acts q may o n (HangUp p) = loses may o n (same_peer p q)
+acts q may o n (Subscribe t) = quiet may o n
+acts q may o n (Unsubscribe t) = quiet may o n
+acts q may o n (Publish t payload) = quiet may o n
+acts q may o n (Raw p bytes) = by (same_peer p q)
   where
     by : (b : Bool) → (if b then lane_raw (lane_cut (lane_of may o n)) bytes else lane_of may o n) ≡ lane_of may (saying (if b then cut_out codec o else o) (map Byte (if b then bytes else []) ++ [])) (n + length (cut_frames b o))
     by true =
         ap (λ (l : Lane). lane_raw l bytes) (cuts may o n)
         ∙ raws may (cut_out codec o) (n + length (option_to_list o.gathered)) bytes
-    by false = silently may o n [] refl ∙ ap (λ (r : ℕ). lane_of may (saying o []) r) (sym (nothing_more n))
-tells q may o n other = by (is_lost q (lost other))
-  where
-    by : (b : Bool) → (if b then lane_closed (lane_of may o n) else lane_of may o n) ≡ lane_of (if b then false else may) (saying (if b then cut_out codec o else o) (if b then Close ∷ [] else [])) (n + length (cut_frames b o))
-    by true = closes may o n
-    by false = silently may o n [] refl ∙ ap (λ (r : ℕ). lane_of may (saying o []) r) (sym (nothing_more n))
+    by false = quiet may o n
+
+tells : (q : PeerNo) (may : Bool) (o : Outgoing) (n : ℕ) (event : Event) → IsBehind q may o n event
+tells q may o n (RoundEnd r) = cuts_silently may o n (EndOf r ∷ []) refl
+tells q may o n Shut = closes may o n
+tells q may o n (Own act) = acts q may o n act
+tells q may o n other = loses may o n (is_lost q (lost other))
 
 -- ---- entries
 
@@ -192,7 +206,7 @@ stays_down q event = by (cuts_off q event)
 -- what an entry lets out
 abbrev pub lets : PeerNo → Outgoing → Entry → List Rpc
 lets q o e =
-    let_out o.gathered (sent_to q e.sends) ++ cut_frames (is_cut q e.event) (sending_all codec o (sent_to q e.sends))
+    let_out o.gathered (sent_to q e.effects.sends) ++ cut_frames (is_cut q e.event) (sending_all codec o (sent_to q e.effects.sends))
 
 step : (q : PeerNo) (o : Outgoing) (vs : List Rpc) (e : Entry) (b : Bool) → lane_behind q (lane_of b o (length vs)) e ≡ lane_of (up_after q e.event b) (if b then behind_entry codec q o (fitting e) else o) (length (if b then vs ++ lets q o (fitting e) else vs))
 step q o vs e true =
@@ -201,7 +215,7 @@ step q o vs e true =
     ∙ ap (λ (r : ℕ). lane_of (up_after q e.event true) (behind_entry codec q o (fitting e)) r) rpcs)
   where
     sends : List Rpc
-    sends = sent_to q (fitting e).sends
+    sends = sent_to q (fitting e).effects.sends
 
     cut : List Rpc
     cut = cut_frames (is_cut q e.event) (sending_all codec o sends)

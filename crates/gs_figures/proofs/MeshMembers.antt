@@ -137,7 +137,7 @@ marks_are t (mark ∷ marks) xs =
 
 trace_is : (t : Topic) (L : Entries) → of_topic t (members L) ≡ mesh L t
 trace_is t [] = refl
-trace_is t (e ∷ L) = marks_are t e.marks (members L) ∙ ap (λ (ps : List PeerNo). after_marks (mesh_after t) e.marks ps) (trace_is t L)
+trace_is t (e ∷ L) = marks_are t e.effects.marks (members L) ∙ ap (λ (ps : List PeerNo). after_marks (mesh_after t) e.effects.marks ps) (trace_is t L)
 
 counted : (t : Topic) (xs : List (Topic × PeerNo)) → members_in xs t ≡ length (of_topic t xs)
 counted t [] = refl

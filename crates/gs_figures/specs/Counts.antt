@@ -7,8 +7,10 @@ use Rattle.gs_base.specs.declared.verdict.Verdict.{Verdict}
 use Rattle.gs_base.specs.declared.verdict.Verdict.TheVariants.{Accept, Reject, Ignore}
 use Rattle.gs_base.specs.declared.mark.Mark.{Mark}
 use Rattle.gs_base.specs.declared.mark.Mark.TheVariants as marks
-use Rattle.gs_rules.specs.declared.trace.Event.{Event}
-use Rattle.gs_rules.specs.declared.trace.Event.TheVariants.{Heard, Late, Sub, Msg, Have, Want, GraftIn, PruneIn, Subscribe, Unsubscribe, Publish, BeatBegin, MeshBeat, FanBeat, FanEnd, GossipBeat, BeatEnd, Decay, RoundEnd, Gone, Fault, HangUp, Raw, Shut}
+use Rattle.gs_rules.specs.declared.event.Event.{Event}
+use Rattle.gs_rules.specs.declared.event.Event.TheVariants.{Heard, Late, BeatBegin, Decay, RoundEnd, Shut, Part, Step, Own, Lost}
+use Rattle.gs_rules.specs.declared.event.RpcPart.{RpcPart}
+use Rattle.gs_rules.specs.declared.event.RpcPart.TheVariants.{Sub, Msg, Have, Want, GraftIn, PruneIn}
 use Rattle.gs_rules.specs.declared.trace.Entry.{Entry}
 use Rattle.gs_figures.specs.declared.counts.Parts.{Parts}
 use Rattle.gs_figures.specs.declared.counts.Fates.{Fates}
@@ -167,36 +169,31 @@ misbehaviours_by (marks.Published t) = 0
 abbrev pub misbehaviours : List Mark → ℕ
 misbehaviours all = fold (λ sum mark. plus sum (misbehaviours_by mark)) 0 all
 
+-- what a part of an RPC counts for, where its entry has these marks
+abbrev pub part_counts : RpcPart → List Mark → Counts
+part_counts (Sub sub) marks = no_counts
+part_counts (Msg m) marks = record no_counts { heard = record no_parts { messages = 1 }; fates = fates_with (fate_by marks) }
+part_counts (Have offer) marks = record no_counts { heard = record no_parts { ihave = 1 } }
+part_counts (Want request) marks = record no_counts { heard = record no_parts { iwant = 1 } }
+part_counts (GraftIn graft) marks = record no_counts { heard = record no_parts { graft = 1 } }
+part_counts (PruneIn prune) marks = record no_counts { heard = record no_parts { prune = 1 } }
+
 -- What an event with these marks counts for. Each event is named here, so that a new one is decided on.
 abbrev pub counts_by : Event → List Mark → Counts
 counts_by (Heard q rpc) marks = record no_counts { rpcs_heard = 1 }
 counts_by (Late q rpc) marks = record no_counts { rpcs_heard = 1 }
-counts_by (Msg q m) marks = record no_counts { heard = record no_parts { messages = 1 }; fates = fates_with (fate_by marks) }
-counts_by (Have q offer) marks = record no_counts { heard = record no_parts { ihave = 1 } }
-counts_by (Want q request) marks = record no_counts { heard = record no_parts { iwant = 1 } }
-counts_by (GraftIn q graft) marks = record no_counts { heard = record no_parts { graft = 1 } }
-counts_by (PruneIn q prune) marks = record no_counts { heard = record no_parts { prune = 1 } }
+counts_by (Part q part) marks = part_counts part marks
 counts_by BeatBegin marks = record no_counts { broken_promises = misbehaviours marks }
-counts_by (Sub q sub) marks = no_counts
-counts_by (Subscribe t) marks = no_counts
-counts_by (Unsubscribe t) marks = no_counts
-counts_by (Publish t payload) marks = no_counts
-counts_by (MeshBeat t) marks = no_counts
-counts_by (FanBeat t) marks = no_counts
-counts_by (FanEnd t) marks = no_counts
-counts_by (GossipBeat t) marks = no_counts
-counts_by BeatEnd marks = no_counts
+counts_by (Step step) marks = no_counts
+counts_by (Own act) marks = no_counts
+counts_by (Lost q loss) marks = no_counts
 counts_by Decay marks = no_counts
 counts_by (RoundEnd r) marks = no_counts
-counts_by (Gone q) marks = no_counts
-counts_by (Fault q) marks = no_counts
-counts_by (HangUp q) marks = no_counts
-counts_by (Raw q bytes) marks = no_counts
 counts_by Shut marks = no_counts
 
 -- what an entry counts for
 abbrev pub counts_of : Entry → Counts
-counts_of e = record (counts_by e.event e.marks) { sent = parts_sent e.sends }
+counts_of e = record (counts_by e.event e.effects.marks) { sent = parts_sent e.effects.sends }
 
 -- what these entries count for together
 abbrev pub counts_in : List Entry → Counts

@@ -5,8 +5,10 @@ use Rattle.gs_base.specs.declared.rpc.Rpc.{Rpc}
 use Rattle.gs_base.specs.Names.{same_peer}
 use Rattle.gs_wire.specs.Codec.{codec}
 use Rattle.gs_wire.specs.Messages.{frame}
-use Rattle.gs_rules.specs.declared.trace.Event.{Event}
-use Rattle.gs_rules.specs.declared.trace.Event.TheVariants.{Raw, RoundEnd, Shut}
+use Rattle.gs_rules.specs.declared.event.Event.{Event}
+use Rattle.gs_rules.specs.declared.event.Event.TheVariants.{RoundEnd, Shut, Own}
+use Rattle.gs_plan.specs.declared.plan.Act.{Act}
+use Rattle.gs_plan.specs.declared.plan.Act.TheVariants.{Subscribe, Unsubscribe, Publish, Raw, HangUp}
 use Rattle.gs_rules.specs.declared.trace.Entry.{Entry}
 use Rattle.gs_rules.specs.Tables.{is_lost, lost}
 use Rattle.gs_rules.specs.Modes.{sent_to}
@@ -39,17 +41,25 @@ lane_closed l = record (lane_cut l) { is_open = false }
 abbrev pub lane_raw : Lane → List ℕ → Lane
 lane_raw l bytes = record l { bytes = plus l.bytes (length bytes) }
 
+-- after an act of the user
+abbrev pub lane_act : PeerNo → Lane → Act → Lane
+lane_act q l (Raw p bytes) = if same_peer p q then lane_raw (lane_cut l) bytes else l
+lane_act q l (HangUp p) = if same_peer p q then lane_closed l else l
+lane_act q l (Subscribe t) = l
+lane_act q l (Unsubscribe t) = l
+lane_act q l (Publish t payload) = l
+
 -- after an event
 abbrev pub lane_event : PeerNo → Lane → Event → Lane
 lane_event q l (RoundEnd r) = lane_cut l
 lane_event q l Shut = lane_closed l
-lane_event q l (Raw p bytes) = if same_peer p q then lane_raw (lane_cut l) bytes else l
+lane_event q l (Own act) = lane_act q l act
 lane_event q l other = if is_lost q (lost other) then lane_closed l else l
 
 -- after an entry
 abbrev pub lane_behind : PeerNo → Lane → Entry → Lane
 lane_behind q l e =
-    if l.is_open then lane_event q (fold lane_sent l (sent_to q (fitting e).sends)) e.event else l
+    if l.is_open then lane_event q (fold lane_sent l (sent_to q (fitting e).effects.sends)) e.event else l
 
 -- after these entries, the oldest one first
 abbrev pub lane_in : PeerNo → List Entry → Lane

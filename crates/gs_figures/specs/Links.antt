@@ -26,7 +26,7 @@ let_out held (v ∷ vs) = (gather codec held v).0 ++ let_out (gather codec held 
 abbrev pub cut_off : Entries → PeerNo → Entry → List Rpc
 cut_off L q e =
     if is_cut q e.event
-    then option_to_list (sending_all codec (outgoing codec L q) (sent_to q e.sends)).gathered
+    then option_to_list (sending_all codec (outgoing codec L q) (sent_to q e.effects.sends)).gathered
     else []
 
 -- the RPCs that a trace puts out to q, each as one frame, for as long as q is up
@@ -34,7 +34,7 @@ abbrev pub frames_to : Entries → PeerNo → List Rpc
 frames_to [] q = []
 frames_to (e ∷ L) q =
     if up L q
-    then frames_to L q ++ (let_out (gathered codec L q) (sent_to q e.sends) ++ cut_off L q e)
+    then frames_to L q ++ (let_out (gathered codec L q) (sent_to q e.effects.sends) ++ cut_off L q e)
     else frames_to L q
 
 -- and the bytes that it puts there as they are
@@ -46,7 +46,8 @@ raws_to (e ∷ L) q = if up L q then raws_to L q ++ raw_to q e.event else raws_t
 
 -- An entry with those of its sends that fit a frame. What fits none counts for nothing; a legal trace has no such send.
 abbrev pub fitting : Entry → Entry
-fitting e = record e { sends = filter (λ x. codec.fits x.1) e.sends }
+fitting e =
+    record e { effects = record e.effects { sends = filter (λ x. codec.fits x.1) e.effects.sends } }
 
 -- ---- links
 

@@ -5,8 +5,10 @@ use Rattle.std.specs.List.{flat_map, list_any}
 use Rattle.gs_base.specs.declared.names.PeerNo.{PeerNo}
 use Rattle.gs_base.specs.declared.names.Topic.{Topic}
 use Rattle.gs_base.specs.Names.{same_peer, same_topic}
-use Rattle.gs_rules.specs.declared.trace.Event.{Event}
-use Rattle.gs_rules.specs.declared.trace.Event.TheVariants.{Heard, Late, Sub, Msg, Have, Want, GraftIn, PruneIn, Subscribe, Unsubscribe, Publish, BeatBegin, MeshBeat, FanBeat, FanEnd, GossipBeat, BeatEnd, Decay, RoundEnd, Gone, Fault, HangUp, Raw, Shut}
+use Rattle.gs_rules.specs.declared.event.Event.{Event}
+use Rattle.gs_rules.specs.declared.event.Event.TheVariants.{Heard, Late, BeatBegin, Decay, RoundEnd, Shut, Part, Step, Own, Lost}
+use Rattle.gs_plan.specs.declared.plan.Act.{Act}
+use Rattle.gs_plan.specs.declared.plan.Act.TheVariants.{Subscribe, Unsubscribe, Publish, Raw, HangUp}
 use Rattle.gs_rules.specs.Tables.{Entries}
 use Rattle.gs_report.specs.declared.finished.Finished.{Finished}
 use Rattle.gs_figures.specs.declared.counts.Counts.{Counts}
@@ -39,32 +41,26 @@ scores_of peers p = flat_map (λ x. scores_about p x.1.scores) peers
 
 -- ---- meshes
 
+-- what an act of the user leaves of the topics that a peer is subscribed to
+abbrev pub act_subscribed : Act → List Topic → List Topic
+act_subscribed (Subscribe t) before = if list_any (same_topic t) before then before else before ++ t ∷ []
+act_subscribed (Unsubscribe t) before = filter (λ u. not (same_topic t u)) before
+act_subscribed (Publish t payload) before = before
+act_subscribed (Raw q bytes) before = before
+act_subscribed (HangUp q) before = before
+
 -- The topics that a peer is subscribed to, in the order in which it subscribed. Each event is named here, so that a new
 -- one is decided on.
 abbrev pub subscribed_after : Event → List Topic → List Topic
-subscribed_after (Subscribe t) before = if list_any (same_topic t) before then before else before ++ t ∷ []
-subscribed_after (Unsubscribe t) before = filter (λ u. not (same_topic t u)) before
+subscribed_after (Own act) before = act_subscribed act before
 subscribed_after (Heard q rpc) before = before
 subscribed_after (Late q rpc) before = before
-subscribed_after (Sub q sub) before = before
-subscribed_after (Msg q m) before = before
-subscribed_after (Have q offer) before = before
-subscribed_after (Want q request) before = before
-subscribed_after (GraftIn q graft) before = before
-subscribed_after (PruneIn q prune) before = before
-subscribed_after (Publish t payload) before = before
+subscribed_after (Part q part) before = before
 subscribed_after BeatBegin before = before
-subscribed_after (MeshBeat t) before = before
-subscribed_after (FanBeat t) before = before
-subscribed_after (FanEnd t) before = before
-subscribed_after (GossipBeat t) before = before
-subscribed_after BeatEnd before = before
+subscribed_after (Step step) before = before
+subscribed_after (Lost q loss) before = before
 subscribed_after Decay before = before
 subscribed_after (RoundEnd r) before = before
-subscribed_after (Gone q) before = before
-subscribed_after (Fault q) before = before
-subscribed_after (HangUp q) before = before
-subscribed_after (Raw q bytes) before = before
 subscribed_after Shut before = before
 
 abbrev pub subscribed : Entries → List Topic

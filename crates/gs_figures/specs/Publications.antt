@@ -6,8 +6,10 @@ use Rattle.gs_base.specs.declared.names.Topic.{Topic}
 use Rattle.gs_base.specs.declared.names.Millis.{Millis}
 use Rattle.gs_base.specs.Names.{same_peer, same_topic}
 use Rattle.gs_rules.specs.Rules.{same_bytes}
-use Rattle.gs_rules.specs.declared.trace.Event.{Event}
-use Rattle.gs_rules.specs.declared.trace.Event.TheVariants.{Heard, Late, Sub, Msg, Have, Want, GraftIn, PruneIn, Subscribe, Unsubscribe, Publish, BeatBegin, MeshBeat, FanBeat, FanEnd, GossipBeat, BeatEnd, Decay, RoundEnd, Gone, Fault, HangUp, Raw, Shut}
+use Rattle.gs_rules.specs.declared.event.Event.{Event}
+use Rattle.gs_rules.specs.declared.event.Event.TheVariants.{Heard, Late, BeatBegin, Decay, RoundEnd, Shut, Part, Step, Own, Lost}
+use Rattle.gs_plan.specs.declared.plan.Act.{Act}
+use Rattle.gs_plan.specs.declared.plan.Act.TheVariants.{Subscribe, Unsubscribe, Publish, Raw, HangUp}
 use Rattle.gs_rules.specs.declared.trace.Entry.{Entry}
 use Rattle.gs_report.specs.declared.finished.Finished.{Finished}
 use Rattle.gs_figures.specs.declared.listed.Appearance.{Appearance}
@@ -20,62 +22,50 @@ use Rattle.gs_figures.specs.Ranks.{ascending, spread}
 
 -- ---- what entries say of publications
 
+-- the publication that an act of the user is, if it is one
+abbrev pub act_published : PeerNo → Millis → Act → List Appearance
+act_published p at (Publish t payload) = record { peer = p; at = at; topic = t; payload = payload } ∷ []
+act_published p at (Subscribe t) = []
+act_published p at (Unsubscribe t) = []
+act_published p at (Raw q bytes) = []
+act_published p at (HangUp q) = []
+
 -- The publication that an event is. Each event is named here, so that a new one is decided on.
 abbrev pub published_by : PeerNo → Millis → Event → List Appearance
-published_by p at (Publish t payload) = record { peer = p; at = at; topic = t; payload = payload } ∷ []
+published_by p at (Own act) = act_published p at act
 published_by p at (Heard q rpc) = []
 published_by p at (Late q rpc) = []
-published_by p at (Sub q sub) = []
-published_by p at (Msg q m) = []
-published_by p at (Have q offer) = []
-published_by p at (Want q request) = []
-published_by p at (GraftIn q graft) = []
-published_by p at (PruneIn q prune) = []
-published_by p at (Subscribe t) = []
-published_by p at (Unsubscribe t) = []
+published_by p at (Part q part) = []
 published_by p at BeatBegin = []
-published_by p at (MeshBeat t) = []
-published_by p at (FanBeat t) = []
-published_by p at (FanEnd t) = []
-published_by p at (GossipBeat t) = []
-published_by p at BeatEnd = []
+published_by p at (Step step) = []
+published_by p at (Lost q loss) = []
 published_by p at Decay = []
 published_by p at (RoundEnd r) = []
-published_by p at (Gone q) = []
-published_by p at (Fault q) = []
-published_by p at (HangUp q) = []
-published_by p at (Raw q bytes) = []
 published_by p at Shut = []
 
 -- the deliveries of an entry
 abbrev pub delivered_by : PeerNo → Millis → List (Topic × List ℕ) → List Appearance
 delivered_by p at delivered = map (λ x. record { peer = p; at = at; topic = x.0; payload = x.1 }) delivered
 
+-- the change of a subscription that an act of the user is, if it is one
+abbrev pub act_changed : PeerNo → Millis → Act → List Change
+act_changed p at (Subscribe t) = record { peer = p; at = at; topic = t; subscribes = true } ∷ []
+act_changed p at (Unsubscribe t) = record { peer = p; at = at; topic = t; subscribes = false } ∷ []
+act_changed p at (Publish t payload) = []
+act_changed p at (Raw q bytes) = []
+act_changed p at (HangUp q) = []
+
 -- The change of a subscription that an event is. Each event is named here, so that a new one is decided on.
 abbrev pub changed_by : PeerNo → Millis → Event → List Change
-changed_by p at (Subscribe t) = record { peer = p; at = at; topic = t; subscribes = true } ∷ []
-changed_by p at (Unsubscribe t) = record { peer = p; at = at; topic = t; subscribes = false } ∷ []
+changed_by p at (Own act) = act_changed p at act
 changed_by p at (Heard q rpc) = []
 changed_by p at (Late q rpc) = []
-changed_by p at (Sub q sub) = []
-changed_by p at (Msg q m) = []
-changed_by p at (Have q offer) = []
-changed_by p at (Want q request) = []
-changed_by p at (GraftIn q graft) = []
-changed_by p at (PruneIn q prune) = []
-changed_by p at (Publish t payload) = []
+changed_by p at (Part q part) = []
 changed_by p at BeatBegin = []
-changed_by p at (MeshBeat t) = []
-changed_by p at (FanBeat t) = []
-changed_by p at (FanEnd t) = []
-changed_by p at (GossipBeat t) = []
-changed_by p at BeatEnd = []
+changed_by p at (Step step) = []
+changed_by p at (Lost q loss) = []
 changed_by p at Decay = []
 changed_by p at (RoundEnd r) = []
-changed_by p at (Gone q) = []
-changed_by p at (Fault q) = []
-changed_by p at (HangUp q) = []
-changed_by p at (Raw q bytes) = []
 changed_by p at Shut = []
 
 -- what all peers' traces say of that, peer by peer, the oldest entry first
@@ -83,7 +73,7 @@ abbrev pub published_at : PeerNo × Finished → List Appearance
 published_at x = flat_map (λ (e : Entry). published_by x.0 e.at e.event) (reverse x.1.trace)
 
 abbrev pub delivered_at : PeerNo × Finished → List Appearance
-delivered_at x = flat_map (λ (e : Entry). delivered_by x.0 e.at e.delivered) (reverse x.1.trace)
+delivered_at x = flat_map (λ (e : Entry). delivered_by x.0 e.at e.effects.delivered) (reverse x.1.trace)
 
 abbrev pub changed_at : PeerNo × Finished → List Change
 changed_at x = flat_map (λ (e : Entry). changed_by x.0 e.at e.event) (reverse x.1.trace)

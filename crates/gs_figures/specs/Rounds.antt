@@ -12,8 +12,8 @@ use Rattle.gs_base.specs.Names.{same_peer, same_topic}
 use Rattle.gs_wire.specs.Codec.{codec}
 use Rattle.gs_plan.specs.declared.plan.Plan.{Plan}
 use Rattle.gs_plan.specs.Plans.{are_joined}
-use Rattle.gs_rules.specs.declared.trace.Event.{Event}
-use Rattle.gs_rules.specs.declared.trace.Event.TheVariants.{Heard, Late, Sub, Msg, Have, Want, GraftIn, PruneIn, Subscribe, Unsubscribe, Publish, BeatBegin, MeshBeat, FanBeat, FanEnd, GossipBeat, BeatEnd, Decay, RoundEnd, Gone, Fault, HangUp, Raw, Shut}
+use Rattle.gs_rules.specs.declared.event.Event.{Event}
+use Rattle.gs_rules.specs.declared.event.Event.TheVariants.{Heard, Late, BeatBegin, Decay, RoundEnd, Shut, Part, Step, Own, Lost}
 use Rattle.gs_rules.specs.declared.trace.Entry.{Entry}
 use Rattle.gs_rules.specs.Tables.{Entries, after_marks}
 use Rattle.gs_rules.specs.Saying.{bytes_of, out}
@@ -71,7 +71,7 @@ members_after (marks.Published t) before = before
 -- the members of all meshes after a trace, each with its topic
 abbrev pub members : Entries → List (Topic × PeerNo)
 members [] = []
-members (e ∷ L) = after_marks members_after e.marks (members L)
+members (e ∷ L) = after_marks members_after e.effects.marks (members L)
 
 -- ---- what an entry adds to its round
 
@@ -84,26 +84,12 @@ abbrev pub ends_round : Event → Bool
 ends_round (RoundEnd r) = true
 ends_round (Heard q rpc) = false
 ends_round (Late q rpc) = false
-ends_round (Sub q sub) = false
-ends_round (Msg q m) = false
-ends_round (Have q offer) = false
-ends_round (Want q request) = false
-ends_round (GraftIn q graft) = false
-ends_round (PruneIn q prune) = false
-ends_round (Subscribe t) = false
-ends_round (Unsubscribe t) = false
-ends_round (Publish t payload) = false
+ends_round (Part q part) = false
 ends_round BeatBegin = false
-ends_round (MeshBeat t) = false
-ends_round (FanBeat t) = false
-ends_round (FanEnd t) = false
-ends_round (GossipBeat t) = false
-ends_round BeatEnd = false
+ends_round (Step step) = false
+ends_round (Own act) = false
+ends_round (Lost q loss) = false
 ends_round Decay = false
-ends_round (Gone q) = false
-ends_round (Fault q) = false
-ends_round (HangUp q) = false
-ends_round (Raw q bytes) = false
 ends_round Shut = false
 
 -- how many of these members each of these topics has, in a round
@@ -114,7 +100,7 @@ mesh_shares r ms topics = map (λ t. (r, shares.Mesh (members_in ms t))) topics
 -- members: what was delivered and what was heard, and where it ends the round, the size of each mesh.
 abbrev pub entry_shares : ℕ → List (Topic × PeerNo) → List Topic → Entry → List (ℕ × Share)
 entry_shares r ms topics e =
-    (r, shares.Delivered (length e.delivered))
+    (r, shares.Delivered (length e.effects.delivered))
     ∷ (r, shares.Messages (counts_of e).heard.messages (counts_of e).fates)
     ∷ (if ends_round e.event then mesh_shares r ms topics else [])
 

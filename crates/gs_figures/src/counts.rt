@@ -1,10 +1,10 @@
 //! How often something happened at a peer, counted entry by entry.
 ghost use Rattle.std.specs.Prelude.{◌≡◌};
-ghost use Rattle.gs_figures.specs.Counts.{counts_by, counts_in, counts_of, counts_plus, fates_plus, fates_with, misbehaviours, misbehaviours_by, no_counts, no_fates, no_parts, one_if, parts_of, parts_plus, parts_sent, parts_with};
+ghost use Rattle.gs_figures.specs.Counts.{counts_by, counts_in, counts_of, counts_plus, fates_plus, fates_with, misbehaviours, misbehaviours_by, no_counts, no_fates, no_parts, one_if, part_counts, parts_of, parts_plus, parts_sent, parts_with};
 
 use crate::fate::{Fate, fate_by};
 use gs_base::{Control, Mark, PeerNo, Rpc, Shared};
-use gs_rules::{Event, StoredEntry};
+use gs_rules::{Event, RpcPart, StoredEntry};
 
 /// How many parts RPCs have of each kind, beside changes of subscriptions.
 #[derive(Clone, Copy, Debug, PartialEq, Eq)]
@@ -187,40 +187,40 @@ pub(crate) fn counts_by(event: &Event, marks: &[Mark]) -> Counts
     match event {
         Event::Heard(_, _) => one_rpc(),
         Event::Late(_, _) => one_rpc(),
-        Event::Msg(_, _) => one_message(fate_by(marks)),
-        Event::Have(_, _) => heard_alone(Parts {
+        Event::Part(_, part) => part_counts(part, marks),
+        Event::BeatBegin => broken_promises(marks),
+        Event::Step(_) => no_counts(),
+        Event::Own(_) => no_counts(),
+        Event::Lost(_, _) => no_counts(),
+        Event::Decay => no_counts(),
+        Event::RoundEnd(_) => no_counts(),
+        Event::Shut => no_counts(),
+    }
+}
+
+/// What a part of an RPC counts for, where its entry has these marks.
+fn part_counts(part: &RpcPart, marks: &[Mark]) -> Counts
+    ensures { result ≡ part_counts part.now marks.now }
+{
+    match part {
+        RpcPart::Sub(_) => no_counts(),
+        RpcPart::Msg(_) => one_message(fate_by(marks)),
+        RpcPart::Have(_) => heard_alone(Parts {
             ihave: 1,
             ..no_parts()
         }),
-        Event::Want(_, _) => heard_alone(Parts {
+        RpcPart::Want(_) => heard_alone(Parts {
             iwant: 1,
             ..no_parts()
         }),
-        Event::GraftIn(_, _) => heard_alone(Parts {
+        RpcPart::GraftIn(_) => heard_alone(Parts {
             graft: 1,
             ..no_parts()
         }),
-        Event::PruneIn(_, _) => heard_alone(Parts {
+        RpcPart::PruneIn(_) => heard_alone(Parts {
             prune: 1,
             ..no_parts()
         }),
-        Event::BeatBegin => broken_promises(marks),
-        Event::Sub(_, _) => no_counts(),
-        Event::Subscribe(_) => no_counts(),
-        Event::Unsubscribe(_) => no_counts(),
-        Event::Publish(_, _) => no_counts(),
-        Event::MeshBeat(_) => no_counts(),
-        Event::FanBeat(_) => no_counts(),
-        Event::FanEnd(_) => no_counts(),
-        Event::GossipBeat(_) => no_counts(),
-        Event::BeatEnd => no_counts(),
-        Event::Decay => no_counts(),
-        Event::RoundEnd(_) => no_counts(),
-        Event::Gone(_) => no_counts(),
-        Event::Fault(_) => no_counts(),
-        Event::HangUp(_) => no_counts(),
-        Event::Raw(_, _) => no_counts(),
-        Event::Shut => no_counts(),
     }
 }
 

@@ -4,9 +4,10 @@ ghost use Rattle.gs_base.specs.Names.{same_peer};
 ghost use Rattle.gs_rules.specs.Modes.{sent_to};
 ghost use Rattle.gs_rules.specs.Tables.{is_lost};
 ghost use Rattle.gs_wire.specs.Codec.{codec};
-ghost use Rattle.gs_figures.specs.Lanes.{lane_behind, lane_closed, lane_cut, lane_event, lane_in, lane_raw, lane_sent, new_lane};
+ghost use Rattle.gs_figures.specs.Lanes.{lane_act, lane_behind, lane_closed, lane_cut, lane_event, lane_in, lane_raw, lane_sent, new_lane};
 
 use gs_base::{PeerNo, Rpc, Shared};
+use gs_plan::Act;
 use gs_rules::{Event, StoredEntry};
 use gs_wire::{Gathered, WireFault, WrittenRpc};
 use std::alloc::{AllocError, Global};
@@ -138,8 +139,20 @@ impl Lane {
         match event {
             Event::RoundEnd(_) => self.put_out(alloc),
             Event::Shut => self.close(alloc),
-            Event::Raw(to, bytes) => self.put_raw(alloc, *to == peer, bytes),
+            Event::Own(act) => self.tell_act(alloc, peer, act.get()),
             other => self.close_lost(alloc, peer, other.lost()),
+        }
+    }
+
+    fn tell_act(&mut self, alloc: Global, peer: PeerNo, act: &Act) -> Result<(), AllocError>
+        ensures { OnOk result (self.new ≡ lane_act peer self.old act.now) }
+    {
+        match act {
+            Act::Raw(to, bytes) => self.put_raw(alloc, *to == peer, bytes),
+            Act::HangUp(to) => self.close_lost(alloc, peer, Some(*to)),
+            Act::Subscribe(_) => Ok(()),
+            Act::Unsubscribe(_) => Ok(()),
+            Act::Publish(_, _) => Ok(()),
         }
     }
 

@@ -1,10 +1,11 @@
 //! What traces say of publications.
 ghost use Rattle.std.specs.Prelude.{◌≡◌, [], ◌∷◌, ◌++◌, IfOk, OnOk};
 ghost use Rattle.std.specs.List.{flat_map};
-ghost use Rattle.gs_figures.specs.Publications.{changed_at, changed_by, delivered_at, delivered_by, listed, published_at, published_by};
+ghost use Rattle.gs_figures.specs.Publications.{act_changed, act_published, changed_at, changed_by, delivered_at, delivered_by, listed, published_at, published_by};
 
 use bytes::Bytes;
 use gs_base::{ExactClone, Millis, PeerNo, Seq, Topic, clone_of};
+use gs_plan::Act;
 use gs_report::Finished;
 use gs_rules::{Event, StoredEntry};
 use std::alloc::{AllocError, Global};
@@ -124,7 +125,7 @@ fn list_deliveries(
     peer: PeerNo,
     entries: &[StoredEntry],
 ) -> Result<(), AllocError>
-    ensures { OnOk result (list.new ≡ list.old ++ flat_map (λ e. delivered_by peer e.at e.delivered) entries.now) }
+    ensures { OnOk result (list.new ≡ list.old ++ flat_map (λ e. delivered_by peer e.at e.effects.delivered) entries.now) }
 {
     for entry in entries {
         list_delivered(list, peer, entry.at(), entry.delivered())?;
@@ -154,8 +155,25 @@ fn list_publication(
     ensures { OnOk result (list.new ≡ list.old ++ published_by peer at event.now) }
 {
     match event {
-        Event::Publish(topic, payload) => list_appearance(list, peer, at, topic, payload),
+        Event::Own(act) => list_act_published(list, peer, at, act.get()),
         _ => Ok(()),
+    }
+}
+
+fn list_act_published(
+    list: &mut Seq<Appearance>,
+    peer: PeerNo,
+    at: Millis,
+    act: &Act,
+) -> Result<(), AllocError>
+    ensures { OnOk result (list.new ≡ list.old ++ act_published peer at act.now) }
+{
+    match act {
+        Act::Publish(topic, payload) => list_appearance(list, peer, at, topic, payload),
+        Act::Subscribe(_) => Ok(()),
+        Act::Unsubscribe(_) => Ok(()),
+        Act::Raw(_, _) => Ok(()),
+        Act::HangUp(_) => Ok(()),
     }
 }
 
@@ -168,9 +186,25 @@ fn list_changed(
     ensures { OnOk result (list.new ≡ list.old ++ changed_by peer at event.now) }
 {
     match event {
-        Event::Subscribe(topic) => list_change(list, peer, at, topic, true),
-        Event::Unsubscribe(topic) => list_change(list, peer, at, topic, false),
+        Event::Own(act) => list_act_changed(list, peer, at, act.get()),
         _ => Ok(()),
+    }
+}
+
+fn list_act_changed(
+    list: &mut Seq<Change>,
+    peer: PeerNo,
+    at: Millis,
+    act: &Act,
+) -> Result<(), AllocError>
+    ensures { OnOk result (list.new ≡ list.old ++ act_changed peer at act.now) }
+{
+    match act {
+        Act::Subscribe(topic) => list_change(list, peer, at, topic, true),
+        Act::Unsubscribe(topic) => list_change(list, peer, at, topic, false),
+        Act::Publish(_, _) => Ok(()),
+        Act::Raw(_, _) => Ok(()),
+        Act::HangUp(_) => Ok(()),
     }
 }
 

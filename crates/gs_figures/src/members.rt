@@ -31,7 +31,7 @@ impl Meshes {
     pub(crate) fn note(&mut self, entry: &StoredEntry) -> Result<(), AllocError>
         ensures topics { OnOk result (self.new.topics.items ≡ subscribed_after entry.now.event self.old.topics.items) }
         ensures members { OnOk result (self.new.members.items
-            ≡ after_marks members_after entry.now.marks self.old.members.items) }
+            ≡ after_marks members_after entry.now.effects.marks self.old.members.items) }
     {
         note(&mut self.topics, entry.event())?;
         note_marks(&mut self.members, entry.marks())

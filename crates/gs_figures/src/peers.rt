@@ -2,12 +2,13 @@
 ghost use Rattle.std.specs.Prelude.{◌≡◌, [], ◌∷◌, ◌++◌, filter, fold, if◌then◌else◌, IfOk, map, not, OnOk, pos, reverse};
 ghost use Rattle.std.specs.List.{list_any};
 ghost use Rattle.gs_base.specs.Names.{same_topic};
-ghost use Rattle.gs_figures.specs.Peers.{all_figures, counts_of_all, counts_of_peer, members_in, mesh_sizes, peer_figures, scores_about, scores_of, span_of, subscribed, subscribed_after, widened};
+ghost use Rattle.gs_figures.specs.Peers.{act_subscribed, all_figures, counts_of_all, counts_of_peer, members_in, mesh_sizes, peer_figures, scores_about, scores_of, span_of, subscribed, subscribed_after, widened};
 
 use crate::counts::{Counts, counts_in, no_counts};
 use crate::links::{LinkFigures, bytes_from, bytes_to, rpcs_from};
 use crate::span::{Span, widened};
 use gs_base::{PeerNo, Seq, Topic, clone_of};
+use gs_plan::Act;
 use gs_report::Finished;
 use gs_rules::{Event, StoredEntry};
 use std::alloc::{AllocError, Global};
@@ -156,12 +157,23 @@ pub(crate) fn note(topics: &mut Vec<Topic>, event: &Event) -> Result<(), AllocEr
     ensures { OnOk result (topics.new.items ≡ subscribed_after event.now topics.old.items) }
 {
     match event {
-        Event::Subscribe(topic) => join(topics, topic),
-        Event::Unsubscribe(topic) => {
+        Event::Own(act) => note_act(topics, act.get()),
+        _ => Ok(()),
+    }
+}
+
+fn note_act(topics: &mut Vec<Topic>, act: &Act) -> Result<(), AllocError>
+    ensures { OnOk result (topics.new.items ≡ act_subscribed act.now topics.old.items) }
+{
+    match act {
+        Act::Subscribe(topic) => join(topics, topic),
+        Act::Unsubscribe(topic) => {
             leave(topics, topic);
             Ok(())
         }
-        _ => Ok(()),
+        Act::Publish(_, _) => Ok(()),
+        Act::Raw(_, _) => Ok(()),
+        Act::HangUp(_) => Ok(()),
     }
 }
 

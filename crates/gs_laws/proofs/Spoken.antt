@@ -5,13 +5,13 @@ use Rattle.gs_base.specs.declared.names.Millis.{Millis}
 use Rattle.gs_base.specs.declared.rpc.Rpc.{Rpc}
 use Rattle.gs_base.specs.Tokens.{Byte, EndOf, Close, Said}
 use Rattle.gs_wire.specs.Codec.{codec}
-use Rattle.gs_rules.specs.declared.trace.Event.{Event}
-use Rattle.gs_rules.specs.declared.trace.Event.TheVariants.{RoundEnd, Shut}
+use Rattle.gs_rules.specs.declared.event.Event.{Event}
+use Rattle.gs_rules.specs.declared.event.Event.TheVariants.{RoundEnd, Shut}
 use Rattle.gs_rules.specs.declared.trace.Entry.{Entry}
 use Rattle.gs_rules.specs.declared.refusal.RefusedLine.{RefusedLine}
 use Rattle.gs_rules.specs.Peers.{Peer, links_of}
 use Rattle.gs_rules.specs.Tables.{Entries, up, up_after}
-use Rattle.gs_rules.specs.Rules.{bare, rule_of}
+use Rattle.gs_rules.specs.Rules.{rule_of}
 use Rattle.gs_rules.specs.Modes.{Follows, free, sent_to}
 use Rattle.gs_rules.specs.Legal.{Legal}
 use Rattle.gs_rules.specs.Saying.{Outgoing, behind_entry, behind_event, out, outgoing, sending_all, sign}
@@ -25,7 +25,7 @@ use Rattle.gs_rules.proofs.RoundEnds.{has_ended}
 use Rattle.gs_player.specs.Ended.{whole}
 use Rattle.gs_player.proofs.Spoken.{rounds_whole, told_more, told_no_more}
 use Rattle.gs_player.proofs.Words.{said_in_stays, whole_before}
-use Rattle.gs_laws.specs.Fixed.{AllIsSaidByTheEnd, RoundsAreSaidByTheirEnd, first_rounds}
+use Rattle.gs_laws.specs.Fixed.{AllIsSaidByTheEnd, RoundsAreSaidByTheirEnd, first_rounds, shutdown}
 
 -- ---- words
 
@@ -59,11 +59,11 @@ all_said seat said K L refused q legal plays =
     let all : L ≡ (on.0 ++ begun.paid) ++ e ∷ K = on.1 ∙ ap (λ (N : Entries). on.0 ++ N) begun.entries ∙ sym (append_assoc on.0 begun.paid (e ∷ K)) in
     let down : up (e ∷ K) q ≡ false = ap (λ (event : Event). up_after q event (up K q)) begun.opened in
     let legally : Legal p (e ∷ K) = legal_before p (on.0 ++ begun.paid) (e ∷ K) (subst (Legal p) all legal) in
-    let effects : Follows free (rule_of p K at Shut) tt e tt =
-    subst₂ (λ (now : Millis) (event : Event). Follows free (rule_of p K now event) tt e tt) begun.moment begun.opened (legal_newest p e K legally).effects in
+    let effects : Follows free (rule_of p K at Shut) tt e.effects tt =
+    subst₂ (λ (now : Millis) (event : Event). Follows free (rule_of p K now event) tt e.effects tt) begun.moment begun.opened (legal_newest p e K legally).effects in
     let o : Outgoing = outgoing codec K q in
-    let alike : behind_entry codec q o e ≡ behind_entry codec q o (bare at Shut) =
-    ap₂ (λ (rpcs : List Rpc) (event : Event). behind_event codec q (sending_all codec o rpcs) event) (effects.0.sends q) effects.0.event in
+    let alike : behind_entry codec q o e ≡ behind_entry codec q o (shutdown at) =
+    ap₂ (λ (rpcs : List Rpc) (event : Event). behind_event codec q (sending_all codec o rpcs) event) (effects.0.sends q) begun.opened in
     ap (λ (N : Entries). out codec N q) all
     ∙ told_no_more q (e ∷ K) (on.0 ++ begun.paid) down
     ∙ ap (λ (after : Outgoing). (if up K q then after else o).said) alike

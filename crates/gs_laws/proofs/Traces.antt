@@ -9,11 +9,9 @@ use Rattle.gs_base.specs.Tokens.{Said}
 use Rattle.gs_plan.specs.declared.plan.Plan.{Plan}
 use Rattle.gs_params.specs.Seeding.{seeded_after, seeded_word}
 use Rattle.gs_wire.specs.Codec.{codec}
-use Rattle.gs_rules.specs.declared.trace.Event.TheVariants.{Shut}
 use Rattle.gs_rules.specs.declared.refusal.RefusedLine.{RefusedLine}
 use Rattle.gs_rules.specs.Peers.{links_of}
 use Rattle.gs_rules.specs.Tables.{Entries}
-use Rattle.gs_rules.specs.Rules.{bare}
 use Rattle.gs_rules.specs.Modes.{exact, free}
 use Rattle.gs_rules.specs.Legal.{Legal}
 use Rattle.gs_rules.specs.Saying.{out}
@@ -27,7 +25,7 @@ use Rattle.gs_seats.proofs.ByNumber.{at_number}
 use Rattle.gs_seats.proofs.ByNumber.{as_many}
 use Rattle.gs_seats.proofs.Joined.{IsJoined, neighbours_joined}
 use Rattle.gs_seats.proofs.NeighbourLists.{links_in}
-use Rattle.gs_laws.specs.Fixed.{AreHeardAlike, LegalByWords, NeighboursAreHeardAlike, first_rounds}
+use Rattle.gs_laws.specs.Fixed.{AreHeardAlike, LegalByWords, NeighboursAreHeardAlike, first_rounds, shutdown}
 use Rattle.gs_laws.specs.Runs.{ArePlayed, IsPlayed, TracesAreOne, however_run, refusals_of, traces_of}
 use Rattle.gs_laws.proofs.Doing.{exact_then_before}
 use Rattle.gs_laws.proofs.Heard.{phase_fixed}
@@ -163,7 +161,7 @@ module _ (plan : Plan) (lives others : List Finished) (run : ArePlayed plan live
       let one = stands plan lives q run below in
       let other = stands plan others q run' below in
       all_said seat (said_to lives q) one.keeps.last (trace_of lives q) [] p one.legal one.keeps.closed
-      ∙ ap (λ (L : Entries). out codec (bare (moment_of seat Closing) Shut ∷ L) p) (same_last q below one other).0
+      ∙ ap (λ (L : Entries). out codec (shutdown (moment_of seat Closing) ∷ L) p) (same_last q below one other).0
       ∙ sym (all_said seat (said_to others q) other.keeps.last (trace_of others q) [] p other.legal other.keeps.closed)
 
   -- each peer has done the same in both runs, and refused the same

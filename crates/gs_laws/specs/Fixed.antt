@@ -2,14 +2,15 @@
 use Rattle.std.specs.Prelude.{◌≡◌, ℕ, zero, suc, List, [], ◌∷◌, ◌++◌}
 use Rattle.std.specs.List.{AllByRecursion}
 use Rattle.gs_base.specs.declared.names.PeerNo.{PeerNo}
+use Rattle.gs_base.specs.declared.names.Millis.{Millis}
 use Rattle.gs_base.specs.Tokens.{Said}
 use Rattle.gs_wire.specs.Codec.{codec}
 use Rattle.gs_rules.specs.declared.trace.Entry.{Entry}
-use Rattle.gs_rules.specs.declared.trace.Event.TheVariants.{Shut}
+use Rattle.gs_rules.specs.declared.event.Event.TheVariants.{Shut}
 use Rattle.gs_rules.specs.declared.refusal.RefusedLine.{RefusedLine}
 use Rattle.gs_rules.specs.Peers.{Peer, links_of}
 use Rattle.gs_rules.specs.Tables.{Entries}
-use Rattle.gs_rules.specs.Rules.{bare}
+use Rattle.gs_rules.specs.Rules.{no_effects}
 use Rattle.gs_rules.specs.Modes.{exact}
 use Rattle.gs_rules.specs.Legal.{Legal, LegalOn}
 use Rattle.gs_rules.specs.Saying.{out}
@@ -64,6 +65,10 @@ RoundsAreSaidByTheirEnd =
     → AfterRounds seat said r L refused
     → first_rounds r (out codec (later ++ L) q) ≡ first_rounds r (out codec L q)
 
+-- a shutdown, about which the peer does nothing
+abbrev pub shutdown : Millis → Entry
+shutdown at = record { at = at; event = Shut; effects = no_effects }
+
 -- By the end of the last round a peer has said all that it says, but for what its end adds: the word would be the same if
 -- the peer only shut down.
 abbrev pub AllIsSaidByTheEnd : Type 0
@@ -71,4 +76,4 @@ AllIsSaidByTheEnd =
     (seat : Seat) (said : PeerNo → Said) (last L : Entries) (refused : List RefusedLine) (q : PeerNo)
     → Legal seat.peer L
     → Plays seat said Closing last L refused
-    → out codec L q ≡ out codec (bare (moment_of seat Closing) Shut ∷ last) q
+    → out codec L q ≡ out codec (shutdown (moment_of seat Closing) ∷ last) q

@@ -17,7 +17,7 @@ use Rattle.gs_seats.specs.Routers.{new_router}
 use Rattle.gs_net.specs.Tasks.{AreUsable, IsAssignedIn}
 use Rattle.gs_seats.proofs.NeighbourLists.{links_ascend, links_in}
 use Rattle.gs_net.proofs.Seats.{time_fits}
-use Rattle.gs_net.proofs.Wired.{none_accepted, none_taken}
+use Rattle.gs_net.proofs.Standing.{none_accepted, none_taken}
 
 begins_with : (plan : Plan) (p : PeerNo) (a : Assignment) (pairs : List Pair) → IsInRange plan → IsAssignedIn plan p a → AreUsable plan p pairs → MayBegin pair_ends a (new_router plan p) pairs
 begins_with plan p a pairs range is usable = record {
@@ -27,8 +27,8 @@ begins_with plan p a pairs range is usable = record {
   known = subst (AllByRecursion (λ (q : PeerNo). has (joints_of pairs) q ≡ true)) (sym (links_in plan p)) usable.known;
   fresh = refl;
   running = refl;
-  none_accepted = λ q. none_accepted pairs q usable.fresh;
-  none_taken = λ q. none_taken pairs q usable.fresh;
+  none_accepted = none_accepted pairs usable.fresh;
+  none_taken = none_taken pairs usable.fresh;
 }
 
 pub begins : (plan : Plan) (p : PeerNo) (a : Assignment) (router : RouterView) (pairs ends : List Pair) → IsInRange plan → IsAssignedIn plan p a → router ≡ new_router plan p → ends ≡ pairs → AreUsable plan p pairs → MayBegin pair_ends a router ends

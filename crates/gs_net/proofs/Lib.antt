@@ -1,3 +1,9 @@
+pub mod Giving
+pub mod Wiring
+pub mod LastOnes
+pub mod Standing
+pub mod Settling
+pub mod Closing
 pub mod Beginning
 pub mod Crosses
 pub mod Exchanges

@@ -1,34 +1,31 @@
 -- What is known of the ends of links that a plan's dials were wired with, before a run and behind it.
 use Rattle.std.proofs.Common.{◌≡◌, ◌<◌, ℕ, Bool, true, false, ◌||◌, if◌then◌else◌, List, [], ◌∷◌, ◌++◌, length, map, Option, None, Some, refl, sym, ap, ap₂, subst, subst₂, ◌∙◌, Vec}
 use Rattle.std.specs.Prelude.{option_map, unwrap_or, slice_get}
-use Rattle.std.specs.List.{list_any, All, AllZip, AllByRecursion, IsDistinct}
+use Rattle.std.specs.List.{list_any, All, AllPairs, AllZip, AllByRecursion, IsDistinct}
 use Rattle.std.specs.declared.alloc.Global.{Global}
 use Rattle.std.proofs.lemmas.List.{map-append}
 use Rattle.std.proofs.lemmas.List.FromFn.{length-map-range_with_len}
-use Rattle.std.proofs.lemmas.Map.Keys.{IsDistinct-head, IsDistinct-tail}
 use Rattle.std.proofs.lemmas.Option.{slice_get_within}
 use Rattle.std.proofs.lemmas.Slice.Zip.{AllZip-long}
 use Rattle.gs_base.specs.declared.names.PeerNo.{PeerNo}
 use Rattle.gs_base.specs.Names.{same_peer}
 use Rattle.gs_plan.specs.declared.plan.Dial.{Dial}
 use Rattle.gs_plan.specs.declared.plan.Plan.{Plan}
-use Rattle.gs_plan.specs.Plans.{IsInRange}
-use Rattle.gs_link.specs.declared.item.Slot.{Slot}
+use Rattle.gs_plan.specs.Plans.{IsInRange, join_the_same}
 use Rattle.gs_link.specs.Runs.{closes}
 use Rattle.gs_ends.specs.Ends.{Joint, has, linked}
-use Rattle.gs_ends.specs.Pairs.{Pair, accepted_for, joints_of, peers_in, slots_with, taken_from}
+use Rattle.gs_ends.specs.Pairs.{Pair, accepted_for, joints_of, peers_in, taken_from}
 use Rattle.gs_seats.specs.ListsByPeer.{list_at}
-use Rattle.gs_dials.specs.Dials.{AreWired, AtEach, Dialled, HasCapacity, HasReached, IsClosed, IsExchanged, IsFresh, JoinsTwoOf, assigned, gives}
+use Rattle.gs_net.specs.Dials.{AreWired, AtEach, Dialled, HasCapacity, HasReached, IsClosed, IsExchanged, IsFresh, JoinsTwoOf, assigned, gives}
 use Rattle.gs_net.specs.Given.{Exchanged, Given, GivenLife, Reaches, ends_at}
 use Rattle.gs_seats.specs.Rounds.{neighbours, numbers, peer_no}
 use Rattle.gs_net.specs.Tasks.{AreUsable}
 use Rattle.gs_seats.proofs.ByNumber.{at_number}
 use Rattle.gs_rules.proofs.Each.{each_weaker}
-use Rattle.gs_seats.proofs.Each.{each_of_both}
 use Rattle.gs_seats.proofs.Joined.{IsJoined, of_joined}
 use Rattle.gs_net.proofs.Partners.{neighbours_are_partners, partners, partners_apart, partners_joined, partners_of}
 use Rattle.gs_net.proofs.Seats.{each_closed}
-use Rattle.gs_seats.proofs.Truths.{same_self}
+use Rattle.gs_net.proofs.Standing.{closed_by_neighbour}
 
 -- each dial of a plan in range joins two of its peers
 pub dials_join : (plan : Plan) → IsInRange plan → All (JoinsTwoOf (length plan.peers)) plan.dials
@@ -66,9 +63,13 @@ has_as_any : (joints : List Joint) (q : PeerNo) → has joints q ≡ list_any (�
 has_as_any [] q = refl
 has_as_any (joint ∷ joints) q = ap (λ (b : Bool). same_peer joint.peer q || b) (has_as_any joints q)
 
--- no peer has ends of one neighbour twice
+-- where no two dials join the same peers, no peer has ends of one neighbour twice
+pub none_twice : (dials : List Dial) (lists : List (Vec Pair Global)) → AreWired dials lists → AllPairs (λ x y. join_the_same y x ≡ false) dials → (p : PeerNo) → IsDistinct same_peer (peers_in (list_at lists p.0))
+none_twice dials lists wired differ p = subst (IsDistinct same_peer) (sym (ends_partners dials lists p wired)) (partners_apart dials p differ)
+
+-- so it is where a plan in range was wired
 pub ends_apart : (plan : Plan) (lists : List (Vec Pair Global)) (p : PeerNo) → IsInRange plan → AreWired plan.dials lists → IsDistinct same_peer (peers_in (list_at lists p.0))
-ends_apart plan lists p range wired = subst (IsDistinct same_peer) (sym (ends_partners plan.dials lists p wired)) (partners_apart plan.dials p range.dials_differ)
+ends_apart plan lists p range wired = none_twice plan.dials lists wired range.dials_differ p
 
 -- the ends that a plan's dials give a peer serve its task
 pub usable : (plan : Plan) (lists : List (Vec Pair Global)) (p : PeerNo) → IsInRange plan → AreWired plan.dials lists → AtEach (HasCapacity plan.capacity) lists → AtEach IsFresh lists → AreUsable plan p (list_at lists p.0)
@@ -81,39 +82,12 @@ usable plan lists p range wired sized fresh =
       fresh = fresh p;
     }
 
--- ends over which nothing went have empty lists for every neighbour
-none_listed : (list : Pair → List Slot) (pairs : List Pair) (q : PeerNo) → AllByRecursion (λ pair. list pair ≡ []) pairs → slots_with list pairs q ≡ []
-none_listed list [] q none = refl
-none_listed list (pair ∷ pairs) q none = by (same_peer pair.0 q) (none_listed list pairs q none.1)
-  where
-    by : (b : Bool) → slots_with list pairs q ≡ [] → (if b then list pair else slots_with list pairs q) ≡ []
-    by true others = none.0
-    by false others = others
-
-pub none_accepted : (pairs : List Pair) (q : PeerNo) → AllByRecursion IsFresh pairs → accepted_for pairs q ≡ []
-none_accepted pairs q fresh = none_listed (λ pair. pair.1.accepted) pairs q (each_weaker IsFresh (λ pair. pair.1.accepted ≡ []) (λ pair h. h.0) pairs fresh)
-
-pub none_taken : (pairs : List Pair) (q : PeerNo) → AllByRecursion IsFresh pairs → taken_from pairs q ≡ []
-none_taken pairs q fresh = none_listed (λ pair. pair.2.taken) pairs q (each_weaker IsFresh (λ pair. pair.2.taken ≡ []) (λ pair h. h.1) pairs fresh)
-
 -- ---- behind a run
-
--- ends of the same links are wired in the same way
-pub still_wired : (dials : List Dial) (before after : List (Vec Pair Global)) → AreWired dials before → ((p : PeerNo) → joints_of (list_at after p.0) ≡ joints_of (list_at before p.0)) → AreWired dials after
-still_wired dials before after wired same = record { dialled = wired.dialled; of_dials = wired.of_dials; joints = λ p. same p ∙ wired.joints p }
-
--- where no neighbour stands twice, each end has the list that is known by its neighbour
-closed_pairs : (pairs : List Pair) → IsDistinct same_peer (peers_in pairs) → AllByRecursion (λ q. closes (taken_from pairs q) ≡ true) (peers_in pairs) → AllByRecursion IsClosed pairs
-closed_pairs [] apart closed = tt
-closed_pairs (pair ∷ pairs) apart closed =
-    let mine : taken_from (pair ∷ pairs) pair.0 ≡ pair.2.taken = ap (λ (b : Bool). if b then pair.2.taken else taken_from pairs pair.0) (same_self pair.0) in
-    let others : AllByRecursion (λ q. closes (taken_from pairs q) ≡ true) (peers_in pairs) = each_of_both (λ q. same_peer pair.0 q ≡ false) (λ q. closes (taken_from (pair ∷ pairs) q) ≡ true) (λ q. closes (taken_from pairs q) ≡ true) (λ q other is. sym (ap (λ (b : Bool). closes (if b then pair.2.taken else taken_from pairs q)) other) ∙ is) (peers_in pairs) (IsDistinct-head same_peer pair.0 (peers_in pairs) apart) closed.1 in
-    (sym (ap closes mine) ∙ closed.0, closed_pairs pairs (IsDistinct-tail same_peer pair.0 (peers_in pairs) apart) others)
 
 closed_at : (plan : Plan) (p : PeerNo) (f : Given) → IsInRange plan → GivenLife plan p f → peers_in f.ends ≡ partners plan.dials p → AllByRecursion IsClosed f.ends
 closed_at plan p f range life are =
     let by_neighbour : AllByRecursion (λ q. closes (taken_from f.ends q) ≡ true) (partners plan.dials p) = each_weaker (IsJoined plan p) (λ q. closes (taken_from f.ends q) ≡ true) (λ q joined. of_joined (λ (r : PeerNo). closes (taken_from f.ends r) ≡ true) plan p q joined (each_closed plan p f life)) (partners plan.dials p) (partners_joined plan p range) in
-    closed_pairs f.ends (subst (IsDistinct same_peer) (sym are) (partners_apart plan.dials p range.dials_differ)) (subst (AllByRecursion (λ q. closes (taken_from f.ends q) ≡ true)) (sym are) by_neighbour)
+    closed_by_neighbour f.ends (subst (IsDistinct same_peer) (sym are) (partners_apart plan.dials p range.dials_differ)) (subst (AllByRecursion (λ q. closes (taken_from f.ends q) ≡ true)) (sym are) by_neighbour)
 
 abbrev held : Option Given → List Pair
 held o = unwrap_or (option_map (λ (f : Given). f.ends) o) []

@@ -1,4 +1,5 @@
 pub mod Faults
+pub mod Dials
 pub mod Given
 pub mod Tasks
 pub mod Lives

@@ -14,7 +14,7 @@ use Rattle.gs_peer.specs.declared.assignment.Assignment.{Assignment}
 use Rattle.gs_peer.specs.declared.task.PeerTask.{PeerTask}
 use Rattle.gs_peer.specs.Task.{CanPoll, given_of}
 use Rattle.gs_seats.specs.ListsByPeer.{list_at}
-use Rattle.gs_dials.specs.Dials.{HasCapacity, IsFresh}
+use Rattle.gs_net.specs.Dials.{HasCapacity, IsFresh}
 use Rattle.gs_seats.specs.Rounds.{first_words, lines_in, neighbours, peer_in, peer_no, seat_in}
 
 -- There are ends to and from each neighbour, to none of them twice, of links of the plan's capacity, and nothing has gone

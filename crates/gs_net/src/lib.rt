@@ -1,6 +1,7 @@
 //! Gossipsub peers on worker threads, over links: runs a plan, and gives what is left of each peer.
 #![tactic(auto)]
 
+mod dials;
 mod driving;
 mod lives;
 mod run;

@@ -4,10 +4,10 @@ ghost use Rattle.gs_plan.specs.Plans.{IsInRange};
 ghost use Rattle.gs_peer.specs.Task.{CanPoll, Gives};
 ghost use Rattle.gs_seats.specs.Reports.{IsReport};
 
+use crate::dials::{settle_all, wire_all};
 use crate::driving::run_tasks;
 use crate::lives::lives_of;
 use crate::tasks::{Builder, payloads_of_workers};
-use gs_dials::{settle_all, wire_all};
 use gs_ends::Ends;
 use gs_peer::{FinishedTask, Gate, PeerFault, PeerTask};
 use gs_plan::Plan;

@@ -11,7 +11,7 @@ use Rattle.gs_base.specs.declared.names.PeerNo.{PeerNo}
 use Rattle.gs_base.specs.declared.rpc.Rpc.{Rpc}
 use Rattle.gs_base.specs.Names.{same_peer}
 use Rattle.gs_base.specs.Codecs.{Codec}
-use Rattle.gs_rules.specs.declared.trace.Event.{Event}
+use Rattle.gs_rules.specs.declared.event.Event.{Event}
 use Rattle.gs_rules.specs.Modes.{sent_to}
 use Rattle.gs_rules.specs.Saying.{Outgoing, behind_event, sending, sending_all}
 use Rattle.gs_link.specs.declared.item.Slot.{Slot}

@@ -9,7 +9,7 @@ use Rattle.gs_base.specs.Codecs.{Codec}
 use Rattle.gs_base.specs.Tokens.{Byte, Said}
 use Rattle.gs_wire.specs.Codec.{codec}
 use Rattle.gs_rules.specs.declared.trace.Entry.{Entry}
-use Rattle.gs_rules.specs.declared.trace.Event.{Event}
+use Rattle.gs_rules.specs.declared.event.Event.{Event}
 use Rattle.gs_rules.specs.Modes.{sent_to}
 use Rattle.gs_rules.specs.Peers.{Peer}
 use Rattle.gs_rules.specs.Tables.{Entries, cuts_off, up, up_after}
@@ -62,8 +62,8 @@ event_ahead c q w o event =
 
 entry_ahead : (q : PeerNo) (may : Bool) (w : Said) (o : Outgoing) (e : Entry) → (if may then behind_entry codec q (ahead w o) e else ahead w o) ≡ ahead w (if may then behind_entry codec q o e else o)
 entry_ahead q true w o e =
-    ap (λ (p : Outgoing). behind_event codec q p e.event) (all_ahead codec w o (sent_to q e.sends))
-    ∙ event_ahead codec q w (sending_all codec o (sent_to q e.sends)) e.event
+    ap (λ (p : Outgoing). behind_event codec q p e.event) (all_ahead codec w o (sent_to q e.effects.sends))
+    ∙ event_ahead codec q w (sending_all codec o (sent_to q e.effects.sends)) e.event
 entry_ahead q false w o e = refl
 
 entries_ahead : (q : PeerNo) (may : Bool) (w : Said) (o : Outgoing) (es : List Entry) → behind_entries q may (ahead w o) es ≡ ahead w (behind_entries q may o es)

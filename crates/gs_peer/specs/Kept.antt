@@ -9,7 +9,7 @@ use Rattle.gs_wire.specs.Messages.{longest_body}
 use Rattle.gs_wire.specs.Stream.{HasRead}
 use Rattle.gs_wire.specs.Codec.{codec}
 use Rattle.gs_link.specs.Flat.{flat}
-use Rattle.gs_rules.specs.declared.trace.Event.TheVariants.{Shut}
+use Rattle.gs_rules.specs.declared.event.Event.TheVariants.{Shut}
 use Rattle.gs_rules.specs.declared.refusal.RefusedLine.{RefusedLine}
 use Rattle.gs_rules.specs.Peers.{links_of}
 use Rattle.gs_rules.specs.Tables.{Entries, last_moment, up}

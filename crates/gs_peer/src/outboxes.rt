@@ -4,7 +4,8 @@ ghost use Rattle.gs_base.specs.declared.names.PeerNo.{PeerNo as PeerNoValue};
 ghost use Rattle.gs_base.specs.Names.{same_peer};
 ghost use Rattle.gs_base.specs.Tokens.{Byte, Close, EndOf};
 ghost use Rattle.gs_wire.specs.Codec.{codec};
-ghost use Rattle.gs_rules.specs.Tables.{is_lost, up_after};
+ghost use Rattle.gs_rules.specs.declared.event.Event.TheVariants.{Own};
+ghost use Rattle.gs_rules.specs.Tables.{up_after};
 ghost use Rattle.gs_rules.specs.Modes.{sent_to};
 ghost use Rattle.gs_rules.specs.Saying.{AllFit, SendsFit, behind_entry, behind_event, cut_out, saying, sending, sending_all};
 ghost use Rattle.gs_link.specs.Flat.{flat};
@@ -18,6 +19,7 @@ use crate::outbox::Outbox;
 use bytes::Bytes;
 use gs_base::{PeerNo, Rpc, Shared, clone_of};
 use gs_ends::Ends;
+use gs_plan::Act;
 use gs_rules::{Event, StoredEntry};
 use gs_wire::WrittenRpc;
 use std::alloc::{AllocError, Global};
@@ -98,7 +100,7 @@ impl Outboxes {
 
     /// Sends the neighbours what an entry says.
     fn tell(&mut self, alloc: Global, entry: &StoredEntry) -> Result<(), AllocError>
-        requires { SendsFit codec entry.now.sends }
+        requires { SendsFit codec entry.now.effects.sends }
         ensures told { OnOk result ((q : PeerNoValue)
             → outgoing_in self.new q
             ≡ (if is_open self.old q
@@ -166,8 +168,33 @@ impl Outboxes {
         match event {
             Event::RoundEnd(round) => self.mark_all(alloc, *round),
             Event::Shut => self.close_all(alloc),
-            Event::Raw(to, bytes) => self.put_raw(alloc, usize::from(to.0), clone_of(bytes)?),
-            other => self.close_lost(alloc, other.lost()),
+            Event::Own(act) => self.tell_act(alloc, act.get()),
+            Event::Lost(peer, _) => self.close(alloc, usize::from(peer.0)),
+            Event::Heard(_, _) => Ok(()),
+            Event::Late(_, _) => Ok(()),
+            Event::Part(_, _) => Ok(()),
+            Event::BeatBegin => Ok(()),
+            Event::Step(_) => Ok(()),
+            Event::Decay => Ok(()),
+        }
+    }
+
+    /// Puts what an act of the peer's own user says after what is gathered.
+    fn tell_act(&mut self, alloc: Global, act: &Act) -> Result<(), AllocError>
+        ensures told { OnOk result ((q : PeerNoValue)
+            → outgoing_in self.new q
+            ≡ (if is_open self.old q
+            then behind_event codec q (outgoing_in self.old q) (Own act.now)
+            else outgoing_in self.old q)) }
+        ensures open { OnOk result ((q : PeerNoValue)
+            → is_open self.new q ≡ up_after q (Own act.now) (is_open self.old q)) }
+    {
+        match act {
+            Act::Raw(to, bytes) => self.put_raw(alloc, usize::from(to.0), clone_of(bytes)?),
+            Act::HangUp(peer) => self.close(alloc, usize::from(peer.0)),
+            Act::Subscribe(_) => Ok(()),
+            Act::Unsubscribe(_) => Ok(()),
+            Act::Publish(_, _) => Ok(()),
         }
     }
 
@@ -185,22 +212,6 @@ impl Outboxes {
                 outbox.put_raw(alloc, bytes)?;
                 Ok(())
             }
-            None => Ok(()),
-        }
-    }
-
-    /// Says nothing more to whoever is lost, but what is gathered and the close after what waits.
-    fn close_lost(&mut self, alloc: Global, lost: Option<PeerNo>) -> Result<(), AllocError>
-        ensures told { OnOk result ((q : PeerNoValue)
-            → outgoing_in self.new q
-            ≡ (if is_open self.old q && is_lost q lost
-            then saying (cut_out codec (outgoing_in self.old q)) (Close ∷ [])
-            else outgoing_in self.old q)) }
-        ensures open { OnOk result ((q : PeerNoValue)
-            → is_open self.new q ≡ (if is_lost q lost then false else is_open self.old q)) }
-    {
-        match lost {
-            Some(peer) => self.close(alloc, usize::from(peer.0)),
             None => Ok(()),
         }
     }

@@ -3,13 +3,16 @@ use Rattle.std.specs.Prelude.{List, [], ◌∷◌, Option, Some, None}
 use Rattle.std.specs.Option.{option_or}
 use Rattle.gs_base.specs.declared.names.Topic.{Topic}
 use Rattle.gs_plan.specs.declared.plan.Line.{Line}
-use Rattle.gs_plan.specs.declared.plan.What.{What}
-use Rattle.gs_plan.specs.declared.plan.What.TheVariants.{Subscribe}
+use Rattle.gs_plan.specs.declared.plan.Act.{Act}
+use Rattle.gs_plan.specs.declared.plan.Act.TheVariants.{Subscribe, Unsubscribe, Publish, Raw, HangUp}
 
--- the topic that a line of the script subscribes to, if it does
-abbrev pub subscribes_to : What → Option Topic
+-- the topic that an act subscribes to, if it does
+abbrev pub subscribes_to : Act → Option Topic
 subscribes_to (Subscribe t) = Some t
-subscribes_to other = None
+subscribes_to (Unsubscribe t) = None
+subscribes_to (Publish t payload) = None
+subscribes_to (Raw q bytes) = None
+subscribes_to (HangUp q) = None
 
 -- the first one that the script subscribes to, in file order
 abbrev pub first_topic : List Line → Option Topic

@@ -1,12 +1,13 @@
 //! What is shown of each peer.
 ghost use Rattle.std.specs.Prelude.{◌≡◌, IfOk, reverse};
 ghost use Rattle.std.specs.List.{list_any};
-ghost use Rattle.gs_rules.specs.Tables.{joined, joined_after};
+ghost use Rattle.gs_rules.specs.Tables.{joined, joined_after, joined_by};
 ghost use Rattle.gs_picture.specs.Discs.{class_by, class_of, disc, discs, is_joined};
 
 use gs_base::{PeerNo, Topic};
 use gs_figures::{Span, scores_of};
 use gs_params::Thresholds;
+use gs_plan::Act;
 use gs_report::Finished;
 use gs_rules::{Event, StoredEntry};
 use std::alloc::{AllocError, Global};
@@ -122,8 +123,19 @@ fn joined_after(topic: &Topic, event: &Event, before: bool) -> bool
     ensures { result ≡ joined_after topic.now event.now before }
 {
     match event {
-        Event::Subscribe(other) => before || *other == *topic,
-        Event::Unsubscribe(other) => before && *other != *topic,
+        Event::Own(act) => joined_by(topic, act.get(), before),
         _ => before,
+    }
+}
+
+fn joined_by(topic: &Topic, act: &Act, before: bool) -> bool
+    ensures { result ≡ joined_by topic.now act.now before }
+{
+    match act {
+        Act::Subscribe(other) => before || *other == *topic,
+        Act::Unsubscribe(other) => before && *other != *topic,
+        Act::Publish(_, _) => before,
+        Act::Raw(_, _) => before,
+        Act::HangUp(_) => before,
     }
 }

@@ -4,7 +4,7 @@ ghost use Rattle.std.specs.Option.{option_copied};
 ghost use Rattle.gs_picture.specs.Topics.{first_topic, subscribes_to};
 
 use gs_base::Topic;
-use gs_plan::{Line, What};
+use gs_plan::{Act, Line};
 
 /// The first topic that the lines of a script subscribe to, in file order. None where they subscribe to none.
 pub fn first_topic(script: &[Line]) -> Option<&Topic>
@@ -18,11 +18,14 @@ pub fn first_topic(script: &[Line]) -> Option<&Topic>
     None
 }
 
-fn subscribes_to(what: &What) -> Option<&Topic>
-    ensures { option_copied result ≡ subscribes_to what.now }
+fn subscribes_to(act: &Act) -> Option<&Topic>
+    ensures { option_copied result ≡ subscribes_to act.now }
 {
-    match what {
-        What::Subscribe(topic) => Some(topic),
-        _ => None,
+    match act {
+        Act::Subscribe(topic) => Some(topic),
+        Act::Unsubscribe(_) => None,
+        Act::Publish(_, _) => None,
+        Act::Raw(_, _) => None,
+        Act::HangUp(_) => None,
     }
 }

@@ -13,8 +13,8 @@ use Rattle.gs_plan.specs.declared.plan.Explicit.{Explicit}
 use Rattle.gs_plan.specs.declared.plan.Line.{Line}
 use Rattle.gs_plan.specs.declared.plan.Plan.{Plan}
 use Rattle.gs_plan.specs.declared.plan.PlannedPeer.{PlannedPeer}
-use Rattle.gs_plan.specs.declared.plan.What.{What}
-use Rattle.gs_plan.specs.declared.plan.What.TheVariants.{Subscribe, Unsubscribe, Publish, Raw, HangUp}
+use Rattle.gs_plan.specs.declared.plan.Act.{Act}
+use Rattle.gs_plan.specs.declared.plan.Act.TheVariants.{Subscribe, Unsubscribe, Publish, Raw, HangUp}
 
 -- ---- numbers
 
@@ -81,7 +81,7 @@ abbrev pub IsAppScore : ℤ → Type 0
 IsAppScore z = (neg_ℤ highest_app_score ≤ℤ z) × (z ≤ℤ highest_app_score)
 
 -- the topic that something is done on, if it is on one
-abbrev pub topic_of : What → Option Topic
+abbrev pub topic_of : Act → Option Topic
 topic_of (Subscribe topic) = Some topic
 topic_of (Unsubscribe topic) = Some topic
 topic_of (Publish topic payload) = Some topic
@@ -89,7 +89,7 @@ topic_of (Raw to bytes) = None
 topic_of (HangUp to) = None
 
 -- the neighbour to whose link something is done, if it is done to a link
-abbrev pub neighbour_of : What → Option PeerNo
+abbrev pub neighbour_of : Act → Option PeerNo
 neighbour_of (Subscribe topic) = None
 neighbour_of (Unsubscribe topic) = None
 neighbour_of (Publish topic payload) = None
@@ -97,7 +97,7 @@ neighbour_of (Raw to bytes) = Some to
 neighbour_of (HangUp to) = Some to
 
 -- the bytes that are put on a link as they are, if any are
-abbrev pub raw_of : What → Option (List ℕ)
+abbrev pub raw_of : Act → Option (List ℕ)
 raw_of (Subscribe topic) = None
 raw_of (Unsubscribe topic) = None
 raw_of (Publish topic payload) = None
@@ -114,7 +114,7 @@ has_topic topics topic = list_any (λ (known : Topic × TopicParams). same_topic
 -- ---- words
 
 -- the word for what a peer is to do
-abbrev pub what_word : What → List ℕ
+abbrev pub what_word : Act → List ℕ
 what_word (Subscribe topic) = codes "subscribe"
 what_word (Unsubscribe topic) = codes "unsubscribe"
 what_word (Publish topic payload) = codes "publish"

@@ -5,7 +5,7 @@ mod plan;
 mod words;
 
 pub use plan::{
-    App, Dial, Explicit, HIGHEST_APP_SCORE, LONGEST_RAW, LONGEST_ROUND, Line, MOST_PEERS,
-    MOST_ROUNDS, Plan, PlannedPeer, What, are_joined, limits_of_plans,
+    Act, App, Dial, Explicit, HIGHEST_APP_SCORE, LONGEST_RAW, LONGEST_ROUND, Line, MOST_PEERS,
+    MOST_ROUNDS, Plan, PlannedPeer, are_joined, limits_of_plans,
 };
 pub use words::{HANG_UP, PUBLISH, RAW, SUBSCRIBE, UNSUBSCRIBE, what_word};

@@ -91,7 +91,7 @@ pub struct Line {
     /// The peer that is to do it.
     pub peer: PeerNo,
     /// What it is to do. A peer that can't do it notes why, and goes on.
-    pub what: What,
+    pub what: Act,
 }
 
 impl Clone for Line {
@@ -112,7 +112,7 @@ impl ExactClone for Line {
 
 /// What a line of the script may ask of a peer.
 #[derive(Debug, Drop, PartialEq, Eq)]
-pub enum What {
+pub enum Act {
     /// Subscribe to a topic (gossipsub v1.0, "Topic Membership", JOIN).
     Subscribe(Topic),
     /// Leave a topic (gossipsub v1.0, "Topic Membership", LEAVE).
@@ -125,24 +125,21 @@ pub enum What {
     HangUp(PeerNo),
 }
 
-impl Clone for What {
+impl Clone for Act {
     ghost is_clone = { λ source copy. copy ≡ source };
 
-    fn clone(&self) -> Result<What, AllocError> {
+    fn clone(&self) -> Result<Act, AllocError> {
         match self {
-            What::Subscribe(topic) => Ok(What::Subscribe(clone_of(topic)?)),
-            What::Unsubscribe(topic) => Ok(What::Unsubscribe(clone_of(topic)?)),
-            What::Publish(topic, payload) => Ok(What::Publish(
-                clone_of(topic)?,
-                clone_of(payload)?,
-            )),
-            What::Raw(to, bytes) => Ok(What::Raw(*to, clone_of(bytes)?)),
-            What::HangUp(to) => Ok(What::HangUp(*to)),
+            Act::Subscribe(topic) => Ok(Act::Subscribe(clone_of(topic)?)),
+            Act::Unsubscribe(topic) => Ok(Act::Unsubscribe(clone_of(topic)?)),
+            Act::Publish(topic, payload) => Ok(Act::Publish(clone_of(topic)?, clone_of(payload)?)),
+            Act::Raw(to, bytes) => Ok(Act::Raw(*to, clone_of(bytes)?)),
+            Act::HangUp(to) => Ok(Act::HangUp(*to)),
         }
     }
 }
 
-impl ExactClone for What {
+impl ExactClone for Act {
     ghost exact = { λ source copy same. same };
 }
 

@@ -2,7 +2,7 @@
 ghost use Rattle.std.specs.Prelude.{◌≡◌};
 ghost use Rattle.gs_plan.specs.Plans.{what_word};
 
-use crate::plan::What;
+use crate::plan::Act;
 
 /// The word that asks a peer to subscribe.
 pub const SUBSCRIBE: &str = "subscribe";
@@ -20,14 +20,14 @@ pub const RAW: &str = "raw";
 pub const HANG_UP: &str = "hang_up";
 
 /// The word for what a peer is to do.
-pub fn what_word(what: &What) -> &'static str
+pub fn what_word(what: &Act) -> &'static str
     ensures { result.now ≡ what_word what.now }
 {
     match what {
-        What::Subscribe(_) => SUBSCRIBE,
-        What::Unsubscribe(_) => UNSUBSCRIBE,
-        What::Publish(_, _) => PUBLISH,
-        What::Raw(_, _) => RAW,
-        What::HangUp(_) => HANG_UP,
+        Act::Subscribe(_) => SUBSCRIBE,
+        Act::Unsubscribe(_) => UNSUBSCRIBE,
+        Act::Publish(_, _) => PUBLISH,
+        Act::Raw(_, _) => RAW,
+        Act::HangUp(_) => HANG_UP,
     }
 }

@@ -7,7 +7,7 @@ use Rattle.gs_rules.specs.declared.refusal.RefusedLine.{RefusedLine}
 use Rattle.gs_rules.specs.Peers.{links_of}
 use Rattle.gs_rules.specs.Tables.{Entries}
 use Rattle.gs_rules.specs.Hearing.{Inbound}
-use Rattle.gs_rules.specs.Rounds.{Seat, Phase, Playing, Closing, AfterRounds, ComesAt}
+use Rattle.gs_rules.specs.Rounds.{Seat, Playing, AfterRounds, ComesAt}
 use Rattle.gs_rules.proofs.Each.{each_weaker}
 use Rattle.gs_player.specs.Ended.{whole}
 use Rattle.gs_player.proofs.Words.{comes_stays, whole_before}

@@ -1,15 +1,14 @@
 -- No mark of a round's end comes within a round: it is the last entry.
-use Rattle.std.proofs.Common.{◌≡◌, ℕ, zero, suc, Bool, true, false, if◌then◌else◌, List, [], ◌∷◌, ◌++◌, map, filter, Option, Some, None, refl, sym, ap, subst, ◌∙◌, append_assoc}
+use Rattle.std.proofs.Common.{◌≡◌, ℕ, Bool, true, false, if◌then◌else◌, List, [], ◌∷◌, ◌++◌, map, filter, Option, Some, None, sym, ap, subst, ◌∙◌, append_assoc}
 use Rattle.std.specs.List.{AllByRecursion}
 use Rattle.gs_base.specs.declared.names.PeerNo.{PeerNo}
 use Rattle.gs_base.specs.declared.names.Millis.{Millis}
 use Rattle.gs_base.specs.declared.rpc.Rpc.{Rpc}
 use Rattle.gs_plan.specs.declared.plan.Line.{Line}
-use Rattle.gs_plan.specs.declared.plan.What.{What}
-use Rattle.gs_plan.specs.declared.plan.What.TheVariants as whats
 use Rattle.gs_wire.proofs.RoundTrip.{all-append}
-use Rattle.gs_rules.specs.declared.trace.Event.{Event}
-use Rattle.gs_rules.specs.declared.trace.Event.TheVariants.{Heard, Late, Sub, Msg, Have, Want, GraftIn, PruneIn, MeshBeat, FanBeat, FanEnd, GossipBeat, BeatEnd, Fault, Gone, RoundEnd}
+use Rattle.gs_rules.specs.declared.event.Event.{Event}
+use Rattle.gs_rules.specs.declared.event.Event.TheVariants.{Heard, Late, Part, Step, Own, Lost, RoundEnd}
+use Rattle.gs_rules.specs.declared.event.Loss.TheVariants.{Fault, Gone}
 use Rattle.gs_rules.specs.declared.trace.Entry.{Entry}
 use Rattle.gs_rules.specs.declared.refusal.Refusal.{Refusal}
 use Rattle.gs_rules.specs.declared.refusal.RefusedLine.{RefusedLine}
@@ -19,7 +18,7 @@ use Rattle.gs_rules.specs.Legal.{Comes, Legal}
 use Rattle.gs_rules.specs.Refusals.{refusal}
 use Rattle.gs_rules.specs.Saying.{Said}
 use Rattle.gs_rules.specs.Hearing.{Inbound}
-use Rattle.gs_rules.specs.Rounds.{AfterRounds, Beat, DecayCounters, Does, EndRound, Hear, HearFault, HearGone, Obey, Phase, Playing, Plays, Seat, Stop, Todo, agenda, beats_in, decays_in, ending, event_of, hears, hears_of, is_at, is_broken, is_due, lines_at, moment_of, obey, opening, unless_refused}
+use Rattle.gs_rules.specs.Rounds.{AfterRounds, Beat, DecayCounters, Does, EndRound, Hear, HearFault, HearGone, Obey, Playing, Plays, Seat, Stop, Todo, agenda, beats_in, decays_in, ending, hears, hears_of, is_at, is_broken, is_due, lines_at, moment_of, obey, opening, unless_refused}
 use Rattle.gs_rules.proofs.Each.{each_mapped, of_each}
 use Rattle.gs_rules.proofs.Handled.{does_on, legal_then_before, payments_are_owed}
 use Rattle.gs_rules.proofs.Owed.{IsOwed}
@@ -34,17 +33,8 @@ abbrev pub AllWithin : List Entry → Type 0
 AllWithin entries = AllByRecursion (λ (e : Entry). IsWithin e.event) entries
 
 owed_within : (event : Event) → IsOwed event → IsWithin event
-owed_within (Sub r sub) h = tt
-owed_within (Msg r m) h = tt
-owed_within (Have r offer) h = tt
-owed_within (Want r request) h = tt
-owed_within (GraftIn r graft) h = tt
-owed_within (PruneIn r prune) h = tt
-owed_within (MeshBeat t) h = tt
-owed_within (FanBeat t) h = tt
-owed_within (FanEnd t) h = tt
-owed_within (GossipBeat t) h = tt
-owed_within BeatEnd h = tt
+owed_within (Part r part) h = tt
+owed_within (Step step) h = tt
 owed_within other h = absurd h
 
 paid_within : (paid : List Entry) → AllByRecursion (λ (e : Entry). IsOwed e.event) paid → AllWithin paid
@@ -69,22 +59,15 @@ lost_within : (event : Event) (is_up : Bool) → IsWithin event → OpensWithin 
 lost_within event true within = within
 lost_within event false within = tt
 
-line_within : (what : What) → IsWithin (event_of what)
-line_within (whats.Subscribe t) = tt
-line_within (whats.Unsubscribe t) = tt
-line_within (whats.Publish t payload) = tt
-line_within (whats.Raw q bytes) = tt
-line_within (whats.HangUp q) = tt
-
 followed_within : (event : Event) (why : Option Refusal) → IsWithin event → OpensWithin (unless_refused event why)
 followed_within event None within = within
 followed_within event (Some why) within = tt
 
 opening_within : (p : Peer) (K : Entries) (at : Millis) (todo : Todo) → IsWork todo → OpensWithin (opening p K at todo)
 opening_within p K at (Hear r rpc) work = heard_within r rpc (up K r)
-opening_within p K at (HearFault r) work = lost_within (Fault r) (up K r) tt
-opening_within p K at (HearGone r) work = lost_within (Gone r) (up K r) tt
-opening_within p K at (Obey place what) work = followed_within (event_of what) (refusal p K at.0 (event_of what)) (line_within what)
+opening_within p K at (HearFault r) work = lost_within (Lost r Fault) (up K r) tt
+opening_within p K at (HearGone r) work = lost_within (Lost r Gone) (up K r) tt
+opening_within p K at (Obey place what) work = followed_within (Own what) (refusal p K at.0 (Own what)) tt
 opening_within p K at DecayCounters work = tt
 opening_within p K at Beat work = tt
 opening_within p K at (EndRound r) work = absurd work

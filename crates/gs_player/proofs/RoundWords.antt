@@ -1,11 +1,11 @@
 -- What a peer says to a neighbour in a round.
-use Rattle.std.proofs.Common.{◌≡◌, ℕ, zero, suc, Bool, true, false, not, nat_eq, ◌&&◌, ◌||◌, if◌then◌else◌, List, [], ◌∷◌, ◌++◌, map, refl, sym, ap, ap₂, subst, ◌∙◌, append_assoc, append-nil, true≢false, eq-eqb}
+use Rattle.std.proofs.Common.{◌≡◌, ℕ, suc, Bool, true, false, not, ◌&&◌, if◌then◌else◌, List, [], ◌∷◌, ◌++◌, map, refl, sym, ap, ap₂, subst, ◌∙◌, append_assoc, append-nil, eq-eqb}
 use Rattle.std.proofs.lemmas.List.{map-append}
 use Rattle.gs_base.specs.declared.names.PeerNo.{PeerNo}
 use Rattle.gs_base.specs.Tokens.{Token, Byte, EndOf, Close, Said, bytes_of}
 use Rattle.gs_wire.specs.Codec.{codec}
-use Rattle.gs_rules.specs.declared.trace.Event.{Event}
-use Rattle.gs_rules.specs.declared.trace.Event.TheVariants.{RoundEnd, Shut}
+use Rattle.gs_rules.specs.declared.event.Event.{Event}
+use Rattle.gs_rules.specs.declared.event.Event.TheVariants.{RoundEnd, Shut}
 use Rattle.gs_rules.specs.declared.trace.Entry.{Entry}
 use Rattle.gs_rules.specs.Tables.{Entries, is_lost, lost, up, up_after}
 use Rattle.gs_rules.specs.Saying.{Outgoing, behind_entry, out, outgoing, sign}
@@ -15,7 +15,6 @@ use Rattle.gs_player.specs.Ended.{close_if, ends, whole}
 use Rattle.gs_player.specs.Words.{StandsAfter}
 use Rattle.gs_player.proofs.Middle.{AllWithin, IsRoundOf, IsWithin}
 use Rattle.gs_player.proofs.Since.{down_stays, out_no_more}
-use Rattle.gs_player.proofs.Spoken.{end_said}
 use Rattle.gs_player.proofs.Words.{after_stays, bytes_split, whole_stays}
 
 -- ---- within a round

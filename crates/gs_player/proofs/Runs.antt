@@ -2,8 +2,9 @@
 use Rattle.std.proofs.Common.{◌≡◌, ◌≤◌, ℕ, Bool, false, List, [], ◌∷◌, ◌++◌, Option, None, Some, Ok, Err, Result, refl, sym, ap, subst, subst₂, ◌∙◌, append_assoc, append-nil, arith, if◌then◌else◌, true≢false}
 use Rattle.std.specs.Result.{IsOk}
 use Rattle.gs_base.specs.declared.names.Millis.{Millis}
-use Rattle.gs_plan.specs.declared.plan.What.{What}
-use Rattle.gs_rules.specs.declared.trace.Event.{Event}
+use Rattle.gs_plan.specs.declared.plan.Act.{Act}
+use Rattle.gs_rules.specs.declared.event.Event.{Event}
+use Rattle.gs_rules.specs.declared.event.Event.TheVariants.{Own}
 use Rattle.gs_rules.specs.declared.trace.Entry.{Entry}
 use Rattle.gs_rules.specs.declared.refusal.Refusal.{Refusal}
 use Rattle.gs_rules.specs.declared.refusal.Refusal.TheVariants.{Stopped}
@@ -14,7 +15,7 @@ use Rattle.gs_params.specs.Seeding.{SeededState, seeded_after, seeded_word}
 use Rattle.gs_rules.specs.Modes.{Mode, exact}
 use Rattle.gs_rules.specs.Legal.{ArePayments, LegalOn, Opens, Comes}
 use Rattle.gs_rules.specs.Refusals.{refusal}
-use Rattle.gs_rules.specs.Rounds.{Todo, Obey, Does, opening, noted, note_of, unless_refused, event_of}
+use Rattle.gs_rules.specs.Rounds.{Todo, Obey, Does, opening, noted, note_of, unless_refused}
 use Rattle.gs_router.specs.declared.fault.RouterFault.{RouterFault}
 use Rattle.gs_router.specs.declared.fault.RouterFault.TheVariants.{Refused}
 use Rattle.gs_rules.proofs.Legality.{legal_then}
@@ -84,18 +85,18 @@ module _ (m : Mode) (now : Millis) where
   goes_on v event h = ap (λ (b : Bool). if b then Some Stopped else refusal v.peer v.trace now.0 event) h
 
   -- a line that is followed
-  pub line_runs : (place : ℕ) (what : What) (v w : RouterView) (s t : m.State) → IsRunning now v → Calls {A = Unit {0}} m (Some (event_of what)) now v s (Ok tt) w t → Runs m now (Obey place what ∷ []) v s w t []
+  pub line_runs : (place : ℕ) (what : Act) (v w : RouterView) (s t : m.State) → IsRunning now v → Calls {A = Unit {0}} m (Some (Own what)) now v s (Ok tt) w t → Runs m now (Obey place what ∷ []) v s w t []
   line_runs place what v w s t running calls =
-      let unrefused : refusal v.peer v.trace now.0 (event_of what) ≡ None = sym (goes_on v (event_of what) running.running) ∙ calls.answer.free in
-      call_runs (Obey place what) (Some (event_of what)) v w s t (ap (unless_refused (event_of what)) unrefused) (ap (note_of now place) unrefused) running calls
+      let unrefused : refusal v.peer v.trace now.0 (Own what) ≡ None = sym (goes_on v (Own what) running.running) ∙ calls.answer.free in
+      call_runs (Obey place what) (Some (Own what)) v w s t (ap (unless_refused (Own what)) unrefused) (ap (note_of now place) unrefused) running calls
 
   -- a line that is refused
-  pub line_refused : (place : ℕ) (what : What) (v w : RouterView) (s t : m.State) (why : Refusal) → IsRunning now v → Calls {A = Unit {0}} m (Some (event_of what)) now v s (Err (Refused why)) w t → Runs m now (Obey place what ∷ []) v s w t (record { at = now; line = place; why = why } ∷ [])
+  pub line_refused : (place : ℕ) (what : Act) (v w : RouterView) (s t : m.State) (why : Refusal) → IsRunning now v → Calls {A = Unit {0}} m (Some (Own what)) now v s (Err (Refused why)) w t → Runs m now (Obey place what ∷ []) v s w t (record { at = now; line = place; why = why } ∷ [])
   line_refused place what v w s t why running calls =
-      let due : refusal v.peer v.trace now.0 (event_of what) ≡ Some why = sym (goes_on v (event_of what) running.running) ∙ calls.answer.first in
+      let due : refusal v.peer v.trace now.0 (Own what) ≡ Some why = sym (goes_on v (Own what) running.running) ∙ calls.answer.first in
       subst₂ (λ (u : RouterView) (e : m.State). Runs m now (Obey place what ∷ []) v s u e (record { at = now; line = place; why = why } ∷ [])) (sym calls.answer.unchanged) (sym calls.answer.undrawn) (record {
         appended = record { entries = []; are = refl; legal = refl };
-        does = does_one v.peer now (Obey place what) v.trace v.trace _ (subst (λ (o : Option Refusal). Comes v.peer now (unless_refused (event_of what) o) v.trace v.trace) (sym due) refl) (sym (ap (note_of now place) due));
+        does = does_one v.peer now (Obey place what) v.trace v.trace _ (subst (λ (o : Option Refusal). Comes v.peer now (unless_refused (Own what) o) v.trace v.trace) (sym due) refl) (sym (ap (note_of now place) due));
         runs_on = running;
         peer = refl;
       })

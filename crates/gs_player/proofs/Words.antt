@@ -1,5 +1,5 @@
 -- What is said, when more is said behind it.
-use Rattle.std.proofs.Common.{◌≡◌, ℕ, zero, suc, Bool, true, false, if◌then◌else◌, ◌&&◌, nat_eq, List, [], ◌∷◌, ◌++◌, map, refl, sym, ap, ap₂, subst, ◌∙◌, append_assoc, true≢false}
+use Rattle.std.proofs.Common.{◌≡◌, ℕ, zero, suc, Bool, true, false, if◌then◌else◌, ◌&&◌, nat_eq, List, [], ◌∷◌, ◌++◌, refl, sym, ap, ap₂, subst, ◌∙◌, append_assoc, true≢false}
 use Rattle.gs_base.specs.Tokens.{Byte, EndOf, Close as Closing, Said, bytes_of}
 use Rattle.gs_rules.specs.Hearing.{after, behind, bytes_before, closes, front, said_in, Inbound, IsBetween, ComesIn}
 use Rattle.gs_player.specs.Ended.{ends, whole}

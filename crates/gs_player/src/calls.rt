@@ -4,13 +4,13 @@ ghost use Rattle.std.specs.Result.{IsOk};
 ghost use Rattle.gs_params.specs.Seeding.{seeded_after, seeded_word};
 ghost use Rattle.gs_rules.specs.declared.refusal.RefusedLine.{RefusedLine as RefusedValue};
 ghost use Rattle.gs_rules.specs.Modes.{exact};
-ghost use Rattle.gs_rules.specs.Rounds.{Obey, beats_in, decays_in, event_of, is_due, obey};
+ghost use Rattle.gs_rules.specs.Rounds.{Obey, beats_in, decays_in, is_due, obey};
 ghost use Rattle.gs_router.specs.Router.{Calls};
 ghost use Rattle.gs_player.specs.Playing.{IsRunning, Runs};
 
 use gs_base::{Millis, clone_of};
 use gs_params::SeededWords;
-use gs_plan::{Line, What};
+use gs_plan::Line;
 use gs_router::{Router, RouterFault};
 use gs_rules::RefusedLine;
 use std::alloc::AllocError;
@@ -50,7 +50,7 @@ fn follow(
         router.old words.old router.new words.new more) }
 {
     let (place, line) = line;
-    match tell(router, words, &line.what, now)? {
+    match router.obey(clone_of(&line.what)?, now, words) {
         Ok(()) => Ok(()),
         Err(RouterFault::Refused(why)) => {
             refused.push(RefusedLine {
@@ -62,28 +62,6 @@ fn follow(
         }
         Err(RouterFault::NoMemory) => Err(AllocError),
     }
-}
-
-fn tell(
-    router: &mut Router,
-    words: &mut SeededWords,
-    what: &What,
-    now: Millis,
-) -> Result<Result<(), RouterFault>, AllocError>
-    requires { IsRunning now router.old }
-    ensures { IfOk result (λ told.
-        Calls (exact seeded_word seeded_after) (Some (event_of what.now)) now
-        router.old words.old told router.new words.new) }
-{
-    Ok(match what {
-        What::Subscribe(topic) => router.subscribe(clone_of(topic)?, now, words),
-        What::Unsubscribe(topic) => router.unsubscribe(clone_of(topic)?, now, words),
-        What::Publish(topic, payload) => {
-            router.publish(clone_of(topic)?, clone_of(payload)?, now, words)
-        }
-        What::Raw(to, bytes) => router.raw(*to, clone_of(bytes)?, now, words),
-        What::HangUp(to) => router.hang_up(*to, now, words),
-    })
 }
 
 /// Lowers the counters of scores and has a heartbeat, each if it is due in a round.

@@ -5,7 +5,7 @@ use gs_base::{Millis, PeerNo, Topic};
 use gs_mesh::Meshes;
 use std::alloc::{AllocError, Global};
 
-enum Act {
+enum Call {
     Join,
     Graft(u16),
     Backoff(u16, u64),
@@ -14,22 +14,22 @@ enum Act {
 }
 
 /// Each list grows while the others hold something.
-static ACTS: [Act; 15] = [
-    Act::Fan(2),
-    Act::Fan(1),
-    Act::Publish(500),
-    Act::Join,
-    Act::Graft(2),
-    Act::Backoff(2, 900),
-    Act::Graft(1),
-    Act::Backoff(1, 900),
-    Act::Backoff(2, 950),
-    Act::Graft(3),
-    Act::Graft(4),
-    Act::Graft(5),
-    Act::Fan(3),
-    Act::Fan(4),
-    Act::Fan(5),
+static CALLS: [Call; 15] = [
+    Call::Fan(2),
+    Call::Fan(1),
+    Call::Publish(500),
+    Call::Join,
+    Call::Graft(2),
+    Call::Backoff(2, 900),
+    Call::Graft(1),
+    Call::Backoff(1, 900),
+    Call::Backoff(2, 950),
+    Call::Graft(3),
+    Call::Graft(4),
+    Call::Graft(5),
+    Call::Fan(3),
+    Call::Fan(4),
+    Call::Fan(5),
 ];
 
 /// What meshes tell of a topic, and of the two neighbours that have backoffs.
@@ -64,19 +64,19 @@ fn told(meshes: &Meshes, topic: &Topic) -> Reading {
     }
 }
 
-fn perform(meshes: &mut Meshes, topic: &Topic, act: &Act) -> Result<(), AllocError> {
-    match act {
-        Act::Join => meshes.join(topic),
-        Act::Graft(peer) => meshes.graft(PeerNo(*peer), topic),
-        Act::Backoff(peer, end) => meshes.note_backoff(PeerNo(*peer), topic, Millis(*end)),
-        Act::Fan(peer) => meshes.fan(PeerNo(*peer), topic),
-        Act::Publish(at) => meshes.publish_at(topic, Millis(*at)),
+fn perform(meshes: &mut Meshes, topic: &Topic, call: &Call) -> Result<(), AllocError> {
+    match call {
+        Call::Join => meshes.join(topic),
+        Call::Graft(peer) => meshes.graft(PeerNo(*peer), topic),
+        Call::Backoff(peer, end) => meshes.note_backoff(PeerNo(*peer), topic, Millis(*end)),
+        Call::Fan(peer) => meshes.fan(PeerNo(*peer), topic),
+        Call::Publish(at) => meshes.publish_at(topic, Millis(*at)),
     }
 }
 
-fn try_one(meshes: &mut Meshes, topic: &Topic, act: &Act) -> Seen {
+fn try_one(meshes: &mut Meshes, topic: &Topic, call: &Call) -> Seen {
     let before = told(meshes, topic);
-    match perform(meshes, topic, act) {
+    match perform(meshes, topic, call) {
         Ok(()) => Seen::Whole,
         Err(_) => Seen::after(told(meshes, topic) == before),
     }
@@ -84,8 +84,8 @@ fn try_one(meshes: &mut Meshes, topic: &Topic, act: &Act) -> Seen {
 
 fn try_all(meshes: &mut Meshes, topic: &Topic) -> Seen {
     let mut seen = Seen::Whole;
-    for act in &ACTS {
-        seen = seen.and(try_one(meshes, topic, act));
+    for call in &CALLS {
+        seen = seen.and(try_one(meshes, topic, call));
     }
     seen
 }

@@ -5,22 +5,22 @@ use gs_base::{Message, MsgId, PeerNo, Seq, SharedPart, Topic};
 use gs_cache::{Answer, MessageCache};
 use std::alloc::{AllocError, Global};
 
-enum Act {
+enum Call {
     Put(u8),
     Count(u8, u16),
     Shift,
 }
 
-static ACTS: [Act; 9] = [
-    Act::Put(1),
-    Act::Count(1, 1),
-    Act::Put(2),
-    Act::Shift,
-    Act::Put(3),
-    Act::Count(1, 2),
-    Act::Count(3, 1),
-    Act::Put(1),
-    Act::Count(1, 1),
+static CALLS: [Call; 9] = [
+    Call::Put(1),
+    Call::Count(1, 1),
+    Call::Put(2),
+    Call::Shift,
+    Call::Put(3),
+    Call::Count(1, 2),
+    Call::Count(3, 1),
+    Call::Put(1),
+    Call::Count(1, 1),
 ];
 
 /// What a cache tells of a message and a neighbour: whether it is kept, and how many answers are left.
@@ -77,16 +77,16 @@ fn message(alloc: Global, number: u8) -> Result<SharedPart<Message>, AllocError>
     message.share(alloc)
 }
 
-/// Does an act, and tells whether memory was wanting for the cache.
-fn perform(alloc: Global, cache: &mut MessageCache, act: &Act) -> Result<Seen, AllocError> {
-    let answer = match act {
-        Act::Put(number) => {
+/// Makes a call, and tells whether memory was wanting for the cache.
+fn perform(alloc: Global, cache: &mut MessageCache, call: &Call) -> Result<Seen, AllocError> {
+    let answer = match call {
+        Call::Put(number) => {
             let topic = topic(alloc)?;
             let message = message(alloc, *number)?;
             cache.put(id(*number), topic, message)
         }
-        Act::Count(number, peer) => cache.count_answer(&id(*number), PeerNo(*peer)),
-        Act::Shift => {
+        Call::Count(number, peer) => cache.count_answer(&id(*number), PeerNo(*peer)),
+        Call::Shift => {
             cache.shift();
             Ok(())
         }
@@ -101,10 +101,10 @@ fn try_one(
     alloc: Global,
     cache: &mut MessageCache,
     topic: &Topic,
-    act: &Act,
+    call: &Call,
 ) -> Result<Seen, AllocError> {
     let before = told(cache, topic)?;
-    match perform(alloc, cache, act)? {
+    match perform(alloc, cache, call)? {
         Seen::Refused => Ok(Seen::after(told(cache, topic)? == before)),
         seen => Ok(seen),
     }
@@ -112,8 +112,8 @@ fn try_one(
 
 fn try_all(alloc: Global, cache: &mut MessageCache, topic: &Topic) -> Seen {
     let mut seen = Seen::Whole;
-    for act in &ACTS {
-        seen = seen.and(match try_one(alloc, cache, topic, act) {
+    for call in &CALLS {
+        seen = seen.and(match try_one(alloc, cache, topic, call) {
             Ok(seen) => seen,
             Err(_) => Seen::NoMemory,
         });

@@ -1,15 +1,15 @@
 //! What routers do, of whom one may be short of memory.
 use gs_params::{DEFAULT_FACTORS, Factors};
-use gs_router_calls::Act::{Hear, Heartbeat, Subscribe};
+use gs_router_calls::Call::{Hear, Heartbeat, Subscribe};
 use gs_router_calls::Id::Of;
 use gs_router_calls::Said::{Graft, Have, Message, Prune, Want};
-use gs_router_calls::{Act, Case, Id, Kind, NOTHING, Said};
+use gs_router_calls::{Call, Case, Id, Kind, NOTHING, Said};
 
 /// What a router does at which moments, and what it has left of that in the end.
 pub struct Moment {
     pub name: &'static str,
     pub case: Case<'static>,
-    pub acts: &'static [(u64, Act<'static>)],
+    pub calls: &'static [(u64, Call<'static>)],
     pub ends: Ends,
 }
 
@@ -36,7 +36,7 @@ pub static A_BACKOFF: Moment = Moment {
         },
         ..NOTHING
     },
-    acts: &[
+    calls: &[
         (0, Subscribe("a")),
         (0, Hear(1, &[Prune("a", Some(1))])),
         (999, Hear(1, GRAFT)),
@@ -58,7 +58,7 @@ const FOUR_TIMES: &[Id<'static>] = &[Of(&[1]), Of(&[1]), Of(&[1]), Of(&[1])];
 pub static OFFERS: Moment = Moment {
     name: "a router that hears twelve offers, nine messages and four requests, and has four heartbeats",
     case: NOTHING,
-    acts: &[
+    calls: &[
         (0, Subscribe("a")),
         (0, Hear(1, &[Have("a", &[Of(&[0])])])),
         (0, Hear(1, &[Have("a", &[Of(&[1])])])),
@@ -118,7 +118,7 @@ pub static GRAFTS: Moment = Moment {
         ],
         ..NOTHING
     },
-    acts: &[
+    calls: &[
         (0, Subscribe("a")),
         (0, Hear(1, GRAFT)),
         (0, Hear(2, GRAFT)),

@@ -3,16 +3,16 @@ use crate::moments::{Ends, Moment};
 use crate::seen::Seen;
 use gs_base::{Mark, Millis, PeerNo, Seq, Topic};
 use gs_router::{Router, RouterFault};
-use gs_router_calls::Act::{
+use gs_router_calls::Call::{
     Decay, EndRound, Fault, Gone, HangUp, Hear, Heartbeat, Publish, Raw, Shut, Subscribe,
     Unsubscribe,
 };
-use gs_router_calls::{Act, Case, Player, Said};
+use gs_router_calls::{Call, Case, Player, Said};
 use gs_rules::{Refusal, StoredEntry};
 use std::alloc::{AllocError, Global};
 
 /// Each call of a router; some of them may also be refused for another reason, and some have nothing to do.
-static CALLS: [Act<'static>; 15] = [
+static CALLS: [Call<'static>; 15] = [
     Hear(1, &[Said::On("a")]),
     Hear(99, &[Said::On("a")]),
     Subscribe("b"),
@@ -154,8 +154,13 @@ impl Pair {
     }
 
     /// Whether the second one, of whom this is told, refuses a call as stopped and does nothing.
-    fn refuses(&mut self, before: &Reading, now: Millis, act: Act<'_>) -> Result<bool, AllocError> {
-        match self.tried.answer(now, act)? {
+    fn refuses(
+        &mut self,
+        before: &Reading,
+        now: Millis,
+        call: Call<'_>,
+    ) -> Result<bool, AllocError> {
+        match self.tried.answer(now, call)? {
             Err(RouterFault::Refused(Refusal::Stopped)) => {}
             _ => return Ok(false),
         }
@@ -166,8 +171,8 @@ impl Pair {
     /// Whether the second one refuses each further call.
     fn refuses_all(&mut self, now: Millis) -> Result<bool, AllocError> {
         let before = told(self.tried.router(), now)?;
-        for act in &CALLS {
-            if !self.refuses(&before, now, *act)? {
+        for call in &CALLS {
+            if !self.refuses(&before, now, *call)? {
                 return Ok(false);
             }
         }
@@ -183,14 +188,14 @@ impl Pair {
     }
 
     /// Has both do this.
-    fn step(&mut self, now: Millis, act: Act<'_>) -> Result<Seen, AllocError> {
-        match self.whole.answer(now, act)? {
+    fn step(&mut self, now: Millis, call: Call<'_>) -> Result<Seen, AllocError> {
+        match self.whole.answer(now, call)? {
             Ok(()) => {}
             Err(RouterFault::NoMemory) => return Ok(Seen::NoMemory),
             Err(_) => return Ok(Seen::Wrong),
         }
         let before = self.tried.router().trace().entries().len();
-        match self.tried.answer(now, act)? {
+        match self.tried.answer(now, call)? {
             Ok(()) => Ok(Seen::Whole),
             Err(RouterFault::NoMemory) => self.seen_broken_off(before, now),
             Err(_) => Ok(Seen::Wrong),
@@ -209,8 +214,8 @@ impl Pair {
     }
 
     fn play(&mut self, moment: &Moment) -> Result<Seen, AllocError> {
-        for (at, act) in moment.acts {
-            let seen = self.step(Millis(*at), *act)?;
+        for (at, call) in moment.calls {
+            let seen = self.step(Millis(*at), *call)?;
             if seen != Seen::Whole {
                 return Ok(seen);
             }

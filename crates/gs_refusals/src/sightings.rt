@@ -8,22 +8,22 @@ use std::alloc::{AllocError, Global};
 
 /// Marks and notes of messages, by a number, at the moment 0.
 #[derive(Clone, Copy)]
-enum Act {
+enum Call {
     Mark(u8, Verdict),
     Note(u8, u16),
 }
 
-static ACTS: [Act; 10] = [
-    Act::Mark(1, Verdict::Accept),
-    Act::Note(1, 1),
-    Act::Mark(2, Verdict::Reject),
-    Act::Mark(3, Verdict::Ignore),
-    Act::Note(2, 1),
-    Act::Note(1, 2),
-    Act::Note(1, 3),
-    Act::Note(1, 4),
-    Act::Note(1, 5),
-    Act::Mark(1, Verdict::Ignore),
+static CALLS: [Call; 10] = [
+    Call::Mark(1, Verdict::Accept),
+    Call::Note(1, 1),
+    Call::Mark(2, Verdict::Reject),
+    Call::Mark(3, Verdict::Ignore),
+    Call::Note(2, 1),
+    Call::Note(1, 2),
+    Call::Note(1, 3),
+    Call::Note(1, 4),
+    Call::Note(1, 5),
+    Call::Mark(1, Verdict::Ignore),
 ];
 
 /// What a cache tells of three messages and two neighbours.
@@ -60,22 +60,22 @@ fn told(cache: &SeenCache) -> Reading {
     }
 }
 
-fn perform(cache: &mut SeenCache, act: &Act) -> Result<(), AllocError>
+fn perform(cache: &mut SeenCache, call: &Call) -> Result<(), AllocError>
     requires early { cache.old.moment ≡ 0 }
     ensures { cache.new.moment ≡ 0 }
 {
-    match act {
-        Act::Mark(number, verdict) => cache.mark(id(*number), Millis(0), *verdict),
-        Act::Note(number, peer) => cache.note(&id(*number), PeerNo(*peer)),
+    match call {
+        Call::Mark(number, verdict) => cache.mark(id(*number), Millis(0), *verdict),
+        Call::Note(number, peer) => cache.note(&id(*number), PeerNo(*peer)),
     }
 }
 
-fn try_one(cache: &mut SeenCache, act: &Act) -> Seen
+fn try_one(cache: &mut SeenCache, call: &Call) -> Seen
     requires early { cache.old.moment ≡ 0 }
     ensures { cache.new.moment ≡ 0 }
 {
     let before = told(cache);
-    match perform(cache, act) {
+    match perform(cache, call) {
         Ok(()) => Seen::Whole,
         Err(_) => Seen::after(told(cache) == before),
     }
@@ -85,12 +85,12 @@ fn try_one(cache: &mut SeenCache, act: &Act) -> Seen
 pub fn try_sightings(alloc: Global) -> Seen {
     let mut cache = SeenCache::new(alloc, Millis(1_000));
     let mut seen = Seen::Whole;
-    for act in &ACTS {
-        seen = seen.and(try_one(&mut cache, act));
+    for call in &CALLS {
+        seen = seen.and(try_one(&mut cache, call));
     }
     // (so many that the table grows while it holds the first ones)
     for number in 4..100u8 {
-        seen = seen.and(try_one(&mut cache, &Act::Mark(number, Verdict::Accept)));
+        seen = seen.and(try_one(&mut cache, &Call::Mark(number, Verdict::Accept)));
     }
     seen
 }

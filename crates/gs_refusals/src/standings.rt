@@ -8,7 +8,7 @@ use gs_params::Params;
 use gs_score::{Kind, Scores};
 use std::alloc::{AllocError, Global};
 
-enum Act {
+enum Call {
     First(u16),
     Near(u16),
     Invalid(u16),
@@ -17,17 +17,17 @@ enum Act {
     Graft(u16),
 }
 
-static ACTS: [Act; 10] = [
-    Act::First(1),
-    Act::Graft(2),
-    Act::Near(1),
-    Act::Misbehaviour(1),
-    Act::Deficit(2),
-    Act::Invalid(1),
-    Act::Graft(1),
-    Act::Near(2),
-    Act::Misbehaviour(2),
-    Act::First(2),
+static CALLS: [Call; 10] = [
+    Call::First(1),
+    Call::Graft(2),
+    Call::Near(1),
+    Call::Misbehaviour(1),
+    Call::Deficit(2),
+    Call::Invalid(1),
+    Call::Graft(1),
+    Call::Near(2),
+    Call::Misbehaviour(2),
+    Call::First(2),
 ];
 
 /// What is told of a neighbour: its score, its counters on a topic, and what it misses.
@@ -61,17 +61,17 @@ fn told(scores: &Scores, topic: &Topic) -> (Reading, Reading) {
     )
 }
 
-/// Makes the mark of an act, where it is one.
-fn mark_of(alloc: Global, act: &Act) -> Result<Option<Mark>, AllocError> {
+/// Makes the mark of a call, where it is one.
+fn mark_of(alloc: Global, call: &Call) -> Result<Option<Mark>, AllocError> {
     let topic = topic(alloc)?;
     let id = MsgId([0; 32]);
-    Ok(match act {
-        Act::First(peer) => Some(Mark::First(PeerNo(*peer), topic, id)),
-        Act::Near(peer) => Some(Mark::Near(PeerNo(*peer), topic, id)),
-        Act::Invalid(peer) => Some(Mark::Invalid(PeerNo(*peer), topic)),
-        Act::Deficit(peer) => Some(Mark::Deficit(PeerNo(*peer), topic, 7)),
-        Act::Misbehaviour(peer) => Some(Mark::Misbehaviour(PeerNo(*peer))),
-        Act::Graft(_) => None,
+    Ok(match call {
+        Call::First(peer) => Some(Mark::First(PeerNo(*peer), topic, id)),
+        Call::Near(peer) => Some(Mark::Near(PeerNo(*peer), topic, id)),
+        Call::Invalid(peer) => Some(Mark::Invalid(PeerNo(*peer), topic)),
+        Call::Deficit(peer) => Some(Mark::Deficit(PeerNo(*peer), topic, 7)),
+        Call::Misbehaviour(peer) => Some(Mark::Misbehaviour(PeerNo(*peer))),
+        Call::Graft(_) => None,
     })
 }
 
@@ -89,14 +89,14 @@ fn graft(scores: &mut Scores, peer: PeerNo, topic: &Topic) -> Result<(), AllocEr
     }
 }
 
-/// Does an act, and tells whether memory was wanting for the scores.
-fn perform(alloc: Global, scores: &mut Scores, topic: &Topic, act: &Act) -> Seen {
-    let Ok(mark) = mark_of(alloc, act) else {
+/// Makes a call, and tells whether memory was wanting for the scores.
+fn perform(alloc: Global, scores: &mut Scores, topic: &Topic, call: &Call) -> Seen {
+    let Ok(mark) = mark_of(alloc, call) else {
         return Seen::NoMemory;
     };
-    let answer = match (&mark, act) {
+    let answer = match (&mark, call) {
         (Some(mark), _) => apply(scores, mark),
-        (None, Act::Graft(peer)) => graft(scores, PeerNo(*peer), topic),
+        (None, Call::Graft(peer)) => graft(scores, PeerNo(*peer), topic),
         _ => Ok(()),
     };
     match answer {
@@ -105,9 +105,9 @@ fn perform(alloc: Global, scores: &mut Scores, topic: &Topic, act: &Act) -> Seen
     }
 }
 
-fn try_one(alloc: Global, scores: &mut Scores, topic: &Topic, act: &Act) -> Seen {
+fn try_one(alloc: Global, scores: &mut Scores, topic: &Topic, call: &Call) -> Seen {
     let before = told(scores, topic);
-    match perform(alloc, scores, topic, act) {
+    match perform(alloc, scores, topic, call) {
         Seen::Refused => Seen::after(told(scores, topic) == before),
         seen => seen,
     }
@@ -115,8 +115,8 @@ fn try_one(alloc: Global, scores: &mut Scores, topic: &Topic, act: &Act) -> Seen
 
 fn try_all(alloc: Global, scores: &mut Scores, topic: &Topic) -> Seen {
     let mut seen = Seen::Whole;
-    for act in &ACTS {
-        seen = seen.and(try_one(alloc, scores, topic, act));
+    for call in &CALLS {
+        seen = seen.and(try_one(alloc, scores, topic, call));
     }
     seen
 }

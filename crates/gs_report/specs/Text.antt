@@ -6,8 +6,9 @@ use Rattle.gs_base.specs.declared.names.Millis.{Millis}
 use Rattle.gs_base.specs.declared.names.PeerNo.{PeerNo}
 use Rattle.gs_base.specs.declared.names.Topic.{Topic}
 use Rattle.gs_rules.specs.declared.trace.Entry.{Entry}
-use Rattle.gs_rules.specs.declared.trace.Event.{Event}
-use Rattle.gs_rules.specs.declared.trace.Event.TheVariants.{Heard, Late, Sub, Msg, Have, Want, GraftIn, PruneIn, Subscribe, Unsubscribe, Publish, BeatBegin, MeshBeat, FanBeat, FanEnd, GossipBeat, BeatEnd, Decay, RoundEnd, Gone, Fault, HangUp, Raw, Shut}
+use Rattle.gs_rules.specs.declared.event.Event.{Event}
+use Rattle.gs_rules.specs.declared.event.Event.TheVariants.{Heard, Late, BeatBegin, Decay, RoundEnd, Shut, Part, Step, Own, Lost}
+use Rattle.gs_rules.specs.declared.event.Loss.TheVariants.{Gone, Fault}
 use Rattle.gs_plan.specs.declared.plan.Plan.{Plan}
 use Rattle.gs_plan.specs.declared.plan.PlannedPeer.{PlannedPeer}
 use Rattle.gs_plan.specs.declared.plan.Line.{Line}
@@ -58,7 +59,7 @@ delivered_line name at x =
 
 -- a line for each delivery of an entry
 abbrev pub entry_lines : List ℕ → Entry → List ℕ
-entry_lines name e = flat_map (delivered_line name e.at) e.delivered
+entry_lines name e = flat_map (delivered_line name e.at) e.effects.delivered
 
 -- `refused PEER MOMENT WHAT NUMBER`
 abbrev pub refused_line : Plan → List ℕ → RefusedLine → List ℕ
@@ -69,29 +70,16 @@ refused_line plan name r =
 -- The neighbour whose bytes, as an event found, spell no RPC or end within one, if any. Each event is named here, so that
 -- a new one is decided on.
 abbrev pub at_fault : Event → Option PeerNo
-at_fault (Fault p) = Some p
-at_fault (Gone p) = None
-at_fault (HangUp p) = None
+at_fault (Lost p Fault) = Some p
+at_fault (Lost p Gone) = None
 at_fault (Heard q rpc) = None
 at_fault (Late q rpc) = None
-at_fault (Sub q sub) = None
-at_fault (Msg q message) = None
-at_fault (Have q offer) = None
-at_fault (Want q request) = None
-at_fault (GraftIn q graft) = None
-at_fault (PruneIn q prune) = None
-at_fault (Subscribe t) = None
-at_fault (Unsubscribe t) = None
-at_fault (Publish t payload) = None
+at_fault (Part q part) = None
 at_fault BeatBegin = None
-at_fault (MeshBeat t) = None
-at_fault (FanBeat t) = None
-at_fault (FanEnd t) = None
-at_fault (GossipBeat t) = None
-at_fault BeatEnd = None
+at_fault (Step step) = None
+at_fault (Own act) = None
 at_fault Decay = None
 at_fault (RoundEnd r) = None
-at_fault (Raw q bytes) = None
 at_fault Shut = None
 
 -- `fault PEER MOMENT NEIGHBOUR` of a neighbour at fault, and no line where there is none

@@ -6,7 +6,7 @@ use crate::{Finished, Report};
 use bytes::Bytes;
 use gs_base::{Millis, PeerNo, Topic};
 use gs_plan::{Plan, what_word};
-use gs_rules::{Event, RefusedLine, StoredEntry};
+use gs_rules::{Event, Loss, RefusedLine, StoredEntry};
 use std::alloc::{AllocError, Global};
 
 /// The text of a run's report, as docs/FORMATS.md lists its lines: first one for each message that was delivered,
@@ -205,29 +205,16 @@ fn at_fault(event: &Event) -> Option<PeerNo>
     ensures { result ≡ at_fault event.now }
 {
     match event {
-        Event::Fault(peer) => Some(*peer),
-        Event::Gone(_) => None,
-        Event::HangUp(_) => None,
+        Event::Lost(peer, Loss::Fault) => Some(*peer),
+        Event::Lost(_, Loss::Gone) => None,
         Event::Heard(_, _) => None,
         Event::Late(_, _) => None,
-        Event::Sub(_, _) => None,
-        Event::Msg(_, _) => None,
-        Event::Have(_, _) => None,
-        Event::Want(_, _) => None,
-        Event::GraftIn(_, _) => None,
-        Event::PruneIn(_, _) => None,
-        Event::Subscribe(_) => None,
-        Event::Unsubscribe(_) => None,
-        Event::Publish(_, _) => None,
+        Event::Part(_, _) => None,
         Event::BeatBegin => None,
-        Event::MeshBeat(_) => None,
-        Event::FanBeat(_) => None,
-        Event::FanEnd(_) => None,
-        Event::GossipBeat(_) => None,
-        Event::BeatEnd => None,
+        Event::Step(_) => None,
+        Event::Own(_) => None,
         Event::Decay => None,
         Event::RoundEnd(_) => None,
-        Event::Raw(_, _) => None,
         Event::Shut => None,
     }
 }

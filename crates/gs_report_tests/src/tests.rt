@@ -3,9 +3,10 @@ mod plan;
 
 use crate::tests::plan::{bytes, plan, topic};
 use bytes::Bytes;
-use gs_base::{Millis, PeerNo, Seq, Topic};
+use gs_base::{Millis, PeerNo, Seq, Shared, Topic};
+use gs_plan::Act;
 use gs_report::{Finished, Report, report_text};
-use gs_rules::{Entry, Event, Refusal, RefusedLine, Trace};
+use gs_rules::{Effects, Entry, Event, Loss, Refusal, RefusedLine, Trace};
 use std::alloc::{AllocError, Global};
 
 /// What an entry says.
@@ -44,13 +45,13 @@ const SILENT: Life = Life {
     scores: &[],
 };
 
-fn event_of(did: Did) -> Event {
-    match did {
+fn event_of(alloc: Global, did: Did) -> Result<Event, AllocError> {
+    Ok(match did {
         Did::Delivers(_) => Event::RoundEnd(0),
-        Did::Faults(peer) => Event::Fault(PeerNo(peer)),
-        Did::Loses(peer) => Event::Gone(PeerNo(peer)),
-        Did::HangsUp(peer) => Event::HangUp(PeerNo(peer)),
-    }
+        Did::Faults(peer) => Event::Lost(PeerNo(peer), Loss::Fault),
+        Did::Loses(peer) => Event::Lost(PeerNo(peer), Loss::Gone),
+        Did::HangsUp(peer) => Event::Own(Shared::new(alloc, Act::HangUp(PeerNo(peer)))?),
+    })
 }
 
 fn delivered_by(alloc: Global, did: Did) -> Result<Seq<(Topic, Bytes)>, AllocError> {
@@ -66,11 +67,11 @@ fn delivered_by(alloc: Global, did: Did) -> Result<Seq<(Topic, Bytes)>, AllocErr
 fn entry(alloc: Global, at: u64, did: Did) -> Result<Entry, AllocError> {
     Ok(Entry {
         at: Millis(at),
-        event: event_of(did),
-        sends: Seq::new(alloc),
-        delivered: delivered_by(alloc, did)?,
-        promise: None,
-        marks: Seq::new(alloc),
+        event: event_of(alloc, did)?,
+        effects: Effects {
+            delivered: delivered_by(alloc, did)?,
+            ..Effects::none(alloc)
+        },
     })
 }
 

@@ -1,7 +1,8 @@
 -- What a heartbeat does to fanouts, and how many heartbeats there were.
 use Rattle.std.proofs.Common.{◌≡◌, ◌≤◌, ◌+◌, arith, ℕ, Bool, true, false, if◌then◌else◌, [], ◌∷◌, length, refl}
-use Rattle.gs_rules.specs.declared.trace.Event.{Event}
-use Rattle.gs_rules.specs.declared.trace.Event.TheVariants.{BeatBegin, FanBeat, FanEnd}
+use Rattle.gs_rules.specs.declared.event.Event.{Event}
+use Rattle.gs_rules.specs.declared.event.Event.TheVariants.{BeatBegin, Step}
+use Rattle.gs_rules.specs.declared.event.BeatStep.TheVariants.{FanBeat, FanEnd}
 use Rattle.gs_rules.specs.Peers.{Peer}
 use Rattle.gs_rules.specs.Tables.{Entries, counted_after, heartbeats}
 use Rattle.gs_rules.specs.Owed.{owes}
@@ -16,7 +17,7 @@ use Rattle.gs_router.specs.Tables.{AgreesOnBeats}
 pub due_owes_none : (p : Peer) (L : Entries) (at : ℕ) (due : DueFanout) → owes p L at (event_of due) ≡ []
 due_owes_none p L at due = by due.is_stale
   where
-    by : (stale : Bool) → owes p L at (if stale then FanEnd due.topic else FanBeat due.topic) ≡ []
+    by : (stale : Bool) → owes p L at (if stale then Step (FanEnd due.topic) else Step (FanBeat due.topic)) ≡ []
     by true = refl
     by false = refl
 

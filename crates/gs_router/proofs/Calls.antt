@@ -1,5 +1,5 @@
 -- How calls of a router end.
-use Rattle.std.proofs.Common.{rules, ◌≡◌, ◌≤◌, ℕ, Bool, true, false, List, [], ◌∷◌, Option, None, Some, Ok, Err, refl, sym, ap, ap₂, subst, ◌∙◌, if◌then◌else◌, is_some, length, Result}
+use Rattle.std.proofs.Common.{rules, ◌≡◌, ◌≤◌, ℕ, Bool, true, false, List, [], ◌∷◌, Option, None, Some, Ok, Err, refl, sym, ap, subst, ◌∙◌, if◌then◌else◌, is_some, length, Result}
 use Rattle.std.specs.Prelude.{not, ◌||◌}
 use Rattle.std.specs.List.{AllByRecursion}
 use Rattle.gs_base.specs.declared.names.Millis.{Millis}
@@ -9,25 +9,24 @@ use Rattle.gs_base.specs.declared.rpc.Rpc.{Rpc}
 use Rattle.gs_base.specs.Names.{longest_topic, message_id}
 use Rattle.gs_base.specs.Rpcs.{publication}
 use Rattle.gs_wire.specs.Codec.{codec}
-use Rattle.gs_rules.specs.declared.trace.Event.{Event}
-use Rattle.gs_rules.specs.declared.trace.Event.TheVariants.{Heard, Late, Subscribe, Unsubscribe, Publish, BeatBegin, Decay, HangUp, Raw, RoundEnd, Gone, Fault, Shut}
+use Rattle.gs_rules.specs.declared.event.Event.{Event}
+use Rattle.gs_rules.specs.declared.event.Event.TheVariants.{Heard, Late, BeatBegin, Decay, RoundEnd, Shut, Own}
+use Rattle.gs_plan.specs.declared.plan.Act.{Act}
+use Rattle.gs_plan.specs.declared.plan.Act.TheVariants.{Subscribe, Unsubscribe, Publish, HangUp, Raw}
 use Rattle.gs_rules.specs.declared.refusal.Refusal.{Refusal}
-use Rattle.gs_rules.specs.declared.refusal.Refusal.TheVariants.{NotOpen, Stopped}
+use Rattle.gs_rules.specs.declared.refusal.Refusal.TheVariants.{Stopped}
 use Rattle.gs_rules.specs.Peers.{Peer, seen_ttl}
-use Rattle.gs_rules.specs.Tables.{Entries, is_lost, is_shut, is_shut_after, joined, lost, seen, up}
+use Rattle.gs_rules.specs.Tables.{Entries, is_shut, joined, seen, up}
 use Rattle.gs_rules.specs.Owed.{owes}
 use Rattle.gs_rules.specs.Modes.{Mode}
-use Rattle.gs_rules.specs.Legal.{Legal, MayLose, MayOpen, MaySubscribe, MayUnsubscribe, MayPublish, has_room_for, hearing, losing}
+use Rattle.gs_rules.specs.Legal.{Legal, MayAct, MayOpen, MaySubscribe, MayUnsubscribe, MayPublish, has_room_for, hearing, losing}
 use Rattle.gs_rules.specs.Refusals.{first_of, is_long, reasons, refusal}
 use Rattle.gs_router.specs.declared.state.State.{State}
 use Rattle.gs_router.specs.declared.fault.RouterFault.{RouterFault}
 use Rattle.gs_router.specs.declared.fault.RouterFault.TheVariants.{Refused}
 use Rattle.gs_router.specs.Known.{peer_with}
-use Rattle.gs_router.specs.declared.wish.Wish.{Wish}
-use Rattle.gs_router.specs.declared.wish.Wish.TheVariants as wishes
-use Rattle.gs_router.specs.Wishes.{wished}
 use Rattle.gs_router.specs.State.{Ends}
-use Rattle.gs_router.specs.Router.{RouterView, Calls, IsLoss, answer_of, fails, refusal_if, refusal_of, view_of}
+use Rattle.gs_router.specs.Router.{RouterView, Calls, IsPlain, answer_of, fails, refusal_if, refusal_of, view_of}
 
 -- what a router that goes on refuses
 going : (v : RouterView) (at : ℕ) (event : Option Event) → v.is_stopped ≡ false → refusal_of v at event ≡ refusal_if v.peer v.trace at event
@@ -119,53 +118,60 @@ is_unseen (Some x) h = absurd cc
 is_short : (t : Topic) → is_long t ≡ false → length t.0 ≤ longest_topic
 is_short t h = search (rules, h)
 
-may_subscribe : (p : Peer) (L : Entries) (at : ℕ) (t : Topic) → refusal p L at (Subscribe t) ≡ None → MaySubscribe L t
+may_subscribe : (p : Peer) (L : Entries) (at : ℕ) (t : Topic) → refusal p L at (Own (Subscribe t)) ≡ None → MaySubscribe L t
 may_subscribe p L at t free =
-    let h = none_holds (reasons p L at (Subscribe t)) free in
+    let h = none_holds (reasons p L at (Own (Subscribe t))) free in
     record { running = h.0; short = is_short t h.1.0; apart = h.1.1.0; room = is_not (has_room_for L t) h.1.1.1.0 }
 
-may_unsubscribe : (p : Peer) (L : Entries) (at : ℕ) (t : Topic) → refusal p L at (Unsubscribe t) ≡ None → MayUnsubscribe L t
+may_unsubscribe : (p : Peer) (L : Entries) (at : ℕ) (t : Topic) → refusal p L at (Own (Unsubscribe t)) ≡ None → MayUnsubscribe L t
 may_unsubscribe p L at t free =
-    let h = none_holds (reasons p L at (Unsubscribe t)) free in
+    let h = none_holds (reasons p L at (Own (Unsubscribe t))) free in
     record { running = h.0; joined = is_not (joined L t) h.1.0 }
 
-may_publish : (p : Peer) (L : Entries) (at : ℕ) (t : Topic) (payload : List ℕ) → refusal p L at (Publish t payload) ≡ None → MayPublish p L at t payload
+may_publish : (p : Peer) (L : Entries) (at : ℕ) (t : Topic) (payload : List ℕ) → refusal p L at (Own (Publish t payload)) ≡ None → MayPublish p L at t payload
 may_publish p L at t payload free =
-    let h = none_holds (reasons p L at (Publish t payload)) free in
+    let h = none_holds (reasons p L at (Own (Publish t payload))) free in
     let short = neither (is_long t) (codec.fits (publication t payload)) h.1.0 in
     record { running = h.0; short = is_short t short.0; fits = short.1; unseen = is_unseen (seen (seen_ttl p) L (message_id payload) at) h.1.1.0 }
 
-may_hang_up : (p : Peer) (L : Entries) (at : ℕ) (q : PeerNo) → refusal p L at (HangUp q) ≡ None → up L q ≡ true
-may_hang_up p L at q free = is_not (up L q) (none_holds (reasons p L at (HangUp q)) free).1.0
+may_hang_up : (p : Peer) (L : Entries) (at : ℕ) (q : PeerNo) → refusal p L at (Own (HangUp q)) ≡ None → up L q ≡ true
+may_hang_up p L at q free = is_not (up L q) (none_holds (reasons p L at (Own (HangUp q))) free).1.0
 
-may_put : (p : Peer) (L : Entries) (at : ℕ) (q : PeerNo) (bytes : List ℕ) → refusal p L at (Raw q bytes) ≡ None → up L q ≡ true
-may_put p L at q bytes free = is_not (up L q) (none_holds (reasons p L at (Raw q bytes)) free).1.0
+may_put : (p : Peer) (L : Entries) (at : ℕ) (q : PeerNo) (bytes : List ℕ) → refusal p L at (Own (Raw q bytes)) ≡ None → up L q ≡ true
+may_put p L at q bytes free = is_not (up L q) (none_holds (reasons p L at (Own (Raw q bytes))) free).1.0
 
--- what its user wishes may come where it is not refused
-pub may_come_true : (p : Peer) (L : Entries) (at : ℕ) (wish : Wish) → refusal p L at (wished wish) ≡ None → MayOpen p L at (wished wish)
-may_come_true p L at (wishes.Subscribe t) free = may_subscribe p L at t free
-may_come_true p L at (wishes.Unsubscribe t) free = may_unsubscribe p L at t free
-may_come_true p L at (wishes.Publish t payload) free = may_publish p L at t payload free
-may_come_true p L at (wishes.HangUp q) free = may_hang_up p L at q free
-may_come_true p L at (wishes.Raw q bytes) free = may_put p L at q bytes free
-may_come_true p L at wishes.Decay free = (none_holds (reasons p L at Decay) free).0
-may_come_true p L at (wishes.EndRound r) free = (none_holds (reasons p L at (RoundEnd r)) free).0
-may_come_true p L at wishes.Shut free = (none_holds (reasons p L at Shut) free).0
+-- an act may come where it is not refused
+pub may_act : (p : Peer) (L : Entries) (at : ℕ) (act : Act) → refusal p L at (Own act) ≡ None → MayAct p L at act
+may_act p L at (Subscribe t) free = may_subscribe p L at t free
+may_act p L at (Unsubscribe t) free = may_unsubscribe p L at t free
+may_act p L at (Publish t payload) free = may_publish p L at t payload free
+may_act p L at (HangUp q) free = may_hang_up p L at q free
+may_act p L at (Raw q bytes) free = may_put p L at q bytes free
 
 -- a heartbeat may come where it is not refused
 pub may_beat : (p : Peer) (L : Entries) (at : ℕ) → refusal p L at BeatBegin ≡ None → MayOpen p L at BeatBegin
 may_beat p L at free = (none_holds (reasons p L at BeatBegin) free).0
 
--- what its user wishes owes nothing
-pub owes_nothing : (p : Peer) (L : Entries) (at : ℕ) (wish : Wish) → owes p L at (wished wish) ≡ []
-owes_nothing p L at (wishes.Subscribe t) = refl
-owes_nothing p L at (wishes.Unsubscribe t) = refl
-owes_nothing p L at (wishes.Publish t payload) = refl
-owes_nothing p L at (wishes.HangUp q) = refl
-owes_nothing p L at (wishes.Raw q bytes) = refl
-owes_nothing p L at wishes.Decay = refl
-owes_nothing p L at (wishes.EndRound r) = refl
-owes_nothing p L at wishes.Shut = refl
+-- what needs no more than that the peer has not shut down is refused by that alone
+pub refused_plainly : (p : Peer) (L : Entries) (at : ℕ) (event : Event) → IsPlain event → refusal p L at event ≡ first_of ((is_shut L, Stopped) ∷ [])
+refused_plainly p L at Decay plain = refl
+refused_plainly p L at (RoundEnd r) plain = refl
+refused_plainly p L at Shut plain = refl
+refused_plainly p L at other plain = absurd plain
+
+-- it may come where it is not refused
+pub may_come : (p : Peer) (L : Entries) (at : ℕ) (event : Event) → IsPlain event → refusal p L at event ≡ None → MayOpen p L at event
+may_come p L at Decay plain free = (none_holds (reasons p L at Decay) free).0
+may_come p L at (RoundEnd r) plain free = (none_holds (reasons p L at (RoundEnd r)) free).0
+may_come p L at Shut plain free = (none_holds (reasons p L at Shut) free).0
+may_come p L at other plain free = absurd plain
+
+-- and owes nothing
+pub owes_plainly : (p : Peer) (L : Entries) (at : ℕ) (event : Event) → IsPlain event → owes p L at event ≡ []
+owes_plainly p L at Decay plain = refl
+owes_plainly p L at (RoundEnd r) plain = refl
+owes_plainly p L at Shut plain = refl
+owes_plainly p L at other plain = absurd plain
 
 -- what comes of a neighbour is not refused
 pub hearing_free : (p : Peer) (L : Entries) (at : ℕ) (q : PeerNo) (rpc : Rpc) → refusal p L at (hearing L q rpc) ≡ None
@@ -178,38 +184,3 @@ hearing_free p L at q rpc = by (up L q)
 -- a neighbour that is up is lost
 pub loses : (L : Entries) (q : PeerNo) (event : Event) → up L q ≡ true → losing L q event ≡ Some event
 loses L q event is_up = ap (λ (b : Bool). if b then Some event else None) is_up
-
--- a peer that has a neighbour up has not shut down
-runs_on : (L : Entries) (q : PeerNo) → up L q ≡ true → is_shut L ≡ false
-runs_on [] q is_up = refl
-runs_on (e ∷ L) q is_up = by e.event (is_lost q (lost e.event)) (up L q) (is_shut L) (runs_on L q) is_up
-  where
-    by : (event : Event) (loses before shut : Bool) → (before ≡ true → shut ≡ false) → (if is_shut_after event false || loses then false else before) ≡ true → is_shut_after event shut ≡ false
-    by Shut loses before shut runs is = absurd cc
-    by event true before shut runs is = absurd cc
-    by event false before shut runs is = runs is
-
--- it may be, it is not refused, and it owes nothing
-pub may_lose : (p : Peer) (L : Entries) (at : ℕ) (q : PeerNo) (event : Event) → IsLoss q event → up L q ≡ true → MayOpen p L at event
-may_lose p L at q event loss is_up = by event (subst (MayLose L) (sym loss) is_up)
-  where
-    by : (event : Event) → MayLose L (lost event) → MayOpen p L at event
-    by (Gone r) may = may
-    by (Fault r) may = may
-    by (HangUp r) may = may
-    by other may = absurd may
-
-pub loss_free : (p : Peer) (L : Entries) (at : ℕ) (q : PeerNo) (event : Event) → IsLoss q event → up L q ≡ true → refusal p L at event ≡ None
-loss_free p L at q event loss is_up = by event (subst (MayLose L) (sym loss) is_up)
-  where
-    by : (event : Event) → MayLose L (lost event) → refusal p L at event ≡ None
-    by (Gone r) may = refl
-    by (Fault r) may = refl
-    by (HangUp r) may = ap₂ (λ (shut is_open : Bool). if shut then Some Stopped else if not is_open then Some NotOpen else None) (runs_on L r may) may
-    by other may = absurd may
-
-pub loss_owes : (p : Peer) (L : Entries) (at : ℕ) (q : PeerNo) (event : Event) → IsLoss q event → owes p L at event ≡ []
-loss_owes p L at q (Gone r) loss = refl
-loss_owes p L at q (Fault r) loss = refl
-loss_owes p L at q (HangUp r) loss = refl
-loss_owes p L at q other loss = absurd cc

@@ -12,8 +12,10 @@ use Rattle.gs_base.specs.declared.names.Topic.{Topic}
 use Rattle.gs_base.specs.declared.mark.Mark.{Mark}
 use Rattle.gs_base.specs.declared.mark.Mark.TheVariants.{Published}
 use Rattle.gs_base.specs.Names.{same_topic}
-use Rattle.gs_rules.specs.declared.trace.Event.{Event}
-use Rattle.gs_rules.specs.declared.trace.Event.TheVariants.{FanEnd, Subscribe, Unsubscribe}
+use Rattle.gs_rules.specs.declared.event.Event.{Event}
+use Rattle.gs_rules.specs.declared.event.Event.TheVariants.{Step, Own}
+use Rattle.gs_rules.specs.declared.event.BeatStep.TheVariants.{FanEnd}
+use Rattle.gs_plan.specs.declared.plan.Act.TheVariants.{Subscribe, Unsubscribe}
 use Rattle.gs_rules.specs.declared.trace.Entry.{Entry}
 use Rattle.gs_rules.specs.Tables.{Entries, after_marks, joined, joined_after, known, known_after, topic_order}
 use Rattle.gs_rules.specs.Meshes.{dropped_after, ever_fanned, fanned_topics_after, has_mesh, last_published, published_after}
@@ -64,8 +66,8 @@ joined_is_known (e ∷ L) q is = by e.event (joined_is_known L q) is
     left false rest is = rest is
 
     by : (event : Event) → (joined L q ≡ true → list_any (same_topic q) (known L) ≡ true) → joined_after q event (joined L q) ≡ true → list_any (same_topic q) (known_after event (known L)) ≡ true
-    by (Subscribe u) rest is = subscribed u (same_topic u q) refl rest is
-    by (Unsubscribe u) rest is = left (same_topic u q) rest is
+    by (Own (Subscribe u)) rest is = subscribed u (same_topic u q) refl rest is
+    by (Own (Unsubscribe u)) rest is = left (same_topic u q) rest is
     by other rest is = rest is
 
 -- and one on which it published is among those on which it ever did
@@ -84,13 +86,13 @@ still_some true o is = absurd cc
 still_some false o is = is
 
 was_some : (q : Topic) (event : Event) (o : Option ℕ) → is_some (dropped_after q None event o) ≡ true → is_some o ≡ true
-was_some q (Subscribe u) o is = still_some (same_topic u q) o is
-was_some q (FanEnd u) o is = still_some (same_topic u q) o is
+was_some q (Own (Subscribe u)) o is = still_some (same_topic u q) o is
+was_some q (Step (FanEnd u)) o is = still_some (same_topic u q) o is
 was_some q other o is = is
 
 published_is_listed : (L : Entries) (q : Topic) → is_some (last_published L q) ≡ true → list_any (same_topic q) (ever_fanned L) ≡ true
 published_is_listed [] q is = absurd cc
-published_is_listed (e ∷ L) q is = marks_list q e.at.0 e.marks (dropped_after q None e.event (last_published L q)) (ever_fanned L) (λ some. published_is_listed L q (was_some q e.event (last_published L q) some)) is
+published_is_listed (e ∷ L) q is = marks_list q e.at.0 e.effects.marks (dropped_after q None e.event (last_published L q)) (ever_fanned L) (λ some. published_is_listed L q (was_some q e.event (last_published L q) some)) is
 
 covered : (a b k f : Bool) → (a ≡ true → k ≡ true) → (b ≡ true → f ≡ true) → (a || b) ≡ ((k || f) && (a || b))
 covered true b k f known fanned = ap (λ (c : Bool). (c || f) && true) (sym (known refl))
@@ -181,11 +183,11 @@ ended_so true o = refl
 ended_so false o = refl
 
 dropped_so : (t : Topic) (event : Event) (o : Option ℕ) → dropped_by t event (is_some o) ≡ is_some (dropped_after t None event o)
-dropped_so t (Subscribe u) o = ended_so (same_topic u t) o
-dropped_so t (FanEnd u) o = ended_so (same_topic u t) o
+dropped_so t (Own (Subscribe u)) o = ended_so (same_topic u t) o
+dropped_so t (Step (FanEnd u)) o = ended_so (same_topic u t) o
 dropped_so t other o = refl
 
-pub fanned_all : (new : MeshTopics) (e : Entry) (L : Entries) (marks : List Mark) → marks ≡ e.marks
+pub fanned_all : (new : MeshTopics) (e : Entry) (L : Entries) (marks : List Mark) → marks ≡ e.effects.marks
     → HasTopics new (λ t. joined_after t e.event (joined L t)) (λ t. after_marks (fanned_by t) marks (dropped_by t e.event (is_some (last_published L t))))
     → AgreesOnMeshTopics new (e ∷ L)
 fanned_all new e L marks are agrees = record {
@@ -193,6 +195,6 @@ fanned_all new e L marks are agrees = record {
       agrees.mesh_or_fanout t
       ∙ ap (has (joined (e ∷ L) t)) (
       ap (λ (ms : List Mark). after_marks (fanned_by t) ms (dropped_by t e.event (is_some (last_published L t)))) are
-      ∙ ap (after_marks (fanned_by t) e.marks) (dropped_so t e.event (last_published L t))
-      ∙ fanned_so t e.at.0 e.marks (dropped_after t None e.event (last_published L t)));
+      ∙ ap (after_marks (fanned_by t) e.effects.marks) (dropped_so t e.event (last_published L t))
+      ∙ fanned_so t e.at.0 e.effects.marks (dropped_after t None e.event (last_published L t)));
 }

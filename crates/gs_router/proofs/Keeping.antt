@@ -15,7 +15,7 @@ use Rattle.gs_base.specs.Names.{same_id, same_peer}
 use Rattle.gs_base.specs.Rpcs.{most_identifiers}
 use Rattle.gs_cache.specs.CachedMessages as cache
 use Rattle.gs_cache.proofs.Gossiping.{more_than_none}
-use Rattle.gs_rules.specs.declared.trace.Event.{Event}
+use Rattle.gs_rules.specs.declared.event.Event.{Event}
 use Rattle.gs_rules.specs.declared.trace.Entry.{Entry}
 use Rattle.gs_rules.specs.Tables.{Entries, Keeping, after_marks, answered, answered_after, keeping, keeping_order, kept_after, last_kept, message_in, older, order_after}
 use Rattle.gs_rules.specs.Gossip.{gossip, is_gossiped, last_of}
@@ -266,7 +266,7 @@ noted_more event marks i mark old now new below is one same noting = subst (λ (
 })
 
 -- all were
-pub noted_all : (e : Entry) (L : Entries) (old new : Messages) (marks : List Mark) → marks ≡ e.marks → Noting e.event marks old new → AgreesOnMessages old (unmarked e ∷ L) → AgreesOnMessages new (e ∷ L)
+pub noted_all : (e : Entry) (L : Entries) (old new : Messages) (marks : List Mark) → marks ≡ e.effects.marks → Noting e.event marks old new → AgreesOnMessages old (unmarked e ∷ L) → AgreesOnMessages new (e ∷ L)
 noted_all e L old new marks are noting agrees =
     (subst (λ (ms : List Mark). Noting e.event ms old new) are noting).has (last_kept (unmarked e ∷ L)) (answered (unmarked e ∷ L)) (keeping_order (unmarked e ∷ L)) agrees
 

@@ -11,7 +11,7 @@ use Rattle.gs_mesh.specs.declared.condition.Condition.{Condition}
 use Rattle.gs_mesh.specs.declared.condition.Condition.TheVariants.{Few, Many, FewOutbound, Balanced}
 use Rattle.gs_mesh.specs.MeshSteps.{any_by_words, condition_of, cut_by_words, is_poor, mended, mended_members, mesh_change, not_negative, opportunistic_grafts, step_by_words, stepped}
 use Rattle.gs_mesh.proofs.MemberLists.{above_median_ascend, not_negative_ascend, outbound_ascend, outside_ascend}
-use Rattle.gs_rules.specs.declared.trace.Entry.{Entry}
+use Rattle.gs_rules.specs.declared.trace.Effects.{Effects}
 use Rattle.gs_rules.specs.Peers.{Peer}
 use Rattle.gs_rules.specs.Tables.{Entries}
 use Rattle.gs_rules.specs.BeatRules.{scored_members}
@@ -20,7 +20,7 @@ use Rattle.gs_rules.specs.Modes.{Follows, exact}
 
 -- ---- whatever is chosen
 
--- What holds of a rule where it holds of whatever may be chosen holds of a step, where it holds of each of its entries.
+-- What holds of a rule where it holds of whatever may be chosen holds of a step, where it holds of each of its effects.
 module _ (P : Rule → Type 0)
     (any : (k : ℕ) (qs : List PeerNo) (rule : List PeerNo → Rule) → ((chosen : List PeerNo) → P (rule chosen)) → P (AnyOf k qs rule))
     (cut : (degrees : Degrees) (members : List Member) (rule : List PeerNo → Rule) → ((kept : List PeerNo) → P (rule kept)) → P (CutOf degrees members rule)) where
@@ -42,10 +42,10 @@ module _ (P : Rule → Type 0)
 
 -- ---- by words
 
-module _ {S : Type 0} (word : S → ℕ) (after : S → S) (entry : MeshChange → Entry) where
-  -- the entry of this choice may follow a rule from a state, with that state behind it
+module _ {S : Type 0} (word : S → ℕ) (after : S → S) (effects : MeshChange → Effects) where
+  -- the effects of this choice may follow a rule from a state, with that state behind it
   abbrev Leads : Rule → S → MeshChange × S → Type 0
-  Leads rule s x = Follows (exact word after) rule s (entry x.0) x.1
+  Leads rule s x = Follows (exact word after) rule s (effects x.0) x.1
 
   mended_leads : (condition : Condition) (degrees : Degrees) (members candidates : List Member) (rule : List PeerNo → List PeerNo → Rule) (next : List PeerNo → List PeerNo → S → MeshChange × S) (s : S)
       → IsAscending (peers_of members)
@@ -73,21 +73,21 @@ module _ {S : Type 0} (word : S → ℕ) (after : S → S) (entry : MeshChange �
       → IsAscending (peers_of mesh)
       → IsAscending (peers_of candidates)
       → params.degrees.d_score + params.degrees.d_out ≤ params.degrees.d
-      → Leads (stepped AnyOf CutOf params tick mesh candidates (λ change. Gives (entry change))) s (step_by_words word after params tick mesh candidates s)
+      → Leads (stepped AnyOf CutOf params tick mesh candidates (λ change. Gives (effects change))) s (step_by_words word after params tick mesh candidates s)
   unfolding step_by_words
   stepped_leads params tick mesh candidates s up ups room =
       mended_leads (condition_of params.degrees (not_negative mesh)) params.degrees (not_negative mesh) candidates _ _ s (not_negative_ascend mesh up) ups room (λ kept grafted t.
       opportunistic_grafts_lead (is_poor params tick (mended_members (not_negative mesh) candidates kept grafted)) params.timing.opportunistic_peers (mended_members (not_negative mesh) candidates kept grafted) (outside grafted candidates) _ _ t (outside_ascend grafted candidates ups) (λ more u. (refl, refl)))
 
-  -- where the words choose so, the entry of that follows
+  -- where the words choose so, the effects of that follow
   pub chosen_leads : (params : Params) (tick : ℕ) (mesh candidates : List Member) (s t : S) (change : MeshChange)
       → IsAscending (peers_of mesh)
       → IsAscending (peers_of candidates)
       → params.degrees.d_score + params.degrees.d_out ≤ params.degrees.d
       → step_by_words word after params tick mesh candidates s ≡ (change, t)
-      → Follows (exact word after) (stepped AnyOf CutOf params tick mesh candidates (λ change. Gives (entry change))) s (entry change) t
+      → Follows (exact word after) (stepped AnyOf CutOf params tick mesh candidates (λ change. Gives (effects change))) s (effects change) t
   chosen_leads params tick mesh candidates s t change up ups room is =
-      subst (Leads (stepped AnyOf CutOf params tick mesh candidates (λ change. Gives (entry change))) s) is (stepped_leads params tick mesh candidates s up ups room)
+      subst (Leads (stepped AnyOf CutOf params tick mesh candidates (λ change. Gives (effects change))) s) is (stepped_leads params tick mesh candidates s up ups room)
 
 -- ---- members
 

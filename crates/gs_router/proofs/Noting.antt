@@ -11,8 +11,9 @@ use Rattle.std.proofs.lemmas.Slice.Eq.{bytes_eq-Decides}
 use Rattle.gs_base.specs.declared.names.PeerNo.{PeerNo}
 use Rattle.gs_base.specs.declared.names.Topic.{Topic}
 use Rattle.gs_base.specs.Names.{same_peer, same_topic}
-use Rattle.gs_rules.specs.declared.trace.Event.{Event}
-use Rattle.gs_rules.specs.declared.trace.Event.TheVariants.{Subscribe, Unsubscribe}
+use Rattle.gs_rules.specs.declared.event.Event.{Event}
+use Rattle.gs_rules.specs.declared.event.Event.TheVariants.{Own}
+use Rattle.gs_plan.specs.declared.plan.Act.TheVariants.{Subscribe, Unsubscribe}
 use Rattle.gs_rules.specs.declared.trace.Entry.{Entry}
 use Rattle.gs_rules.specs.Tables.{Entries, joined, joined_after, known, known_after, topic_order}
 use Rattle.gs_router.specs.declared.peer_set.PeerSet.{PeerSet}
@@ -75,7 +76,7 @@ cond_value : (b c : Bool) (before : Option Bool) → unwrap_or (cond c (Some b) 
 cond_value b true before = refl
 cond_value b false before = refl
 
-pub subscribes : (old new : OwnTopics) (topic : Topic) (L : Entries) (e : Entry) → Takes old new topic true → e.event ≡ Subscribe topic → AgreesOnTopics old L → AgreesOnTopics new (e ∷ L)
+pub subscribes : (old new : OwnTopics) (topic : Topic) (L : Entries) (e : Entry) → Takes old new topic true → e.event ≡ Own (Subscribe topic) → AgreesOnTopics old L → AgreesOnTopics new (e ∷ L)
 subscribes old new topic L e takes is agrees =
     let there : list_any (same_topic topic) (known L) ≡ is_some takes.before = sym (agrees.knows topic) ∙ sym (ap is_some takes.was) in
     let knew : known (e ∷ L) ≡ (if is_some takes.before then known L else known L ++ topic ∷ []) =
@@ -87,7 +88,7 @@ subscribes old new topic L e takes is agrees =
     }
 
 -- a topic that was known is left
-pub unsubscribes : (old new : OwnTopics) (topic : Topic) (L : Entries) (e : Entry) → Takes old new topic false → is_some (kept_topic old topic) ≡ true → e.event ≡ Unsubscribe topic → AgreesOnTopics old L → AgreesOnTopics new (e ∷ L)
+pub unsubscribes : (old new : OwnTopics) (topic : Topic) (L : Entries) (e : Entry) → Takes old new topic false → is_some (kept_topic old topic) ≡ true → e.event ≡ Own (Unsubscribe topic) → AgreesOnTopics old L → AgreesOnTopics new (e ∷ L)
 unsubscribes old new topic L e takes has is agrees =
     let some : is_some takes.before ≡ true = ap is_some takes.was ∙ has in
     let there : list_any (same_topic topic) (known L) ≡ true = sym (agrees.knows topic) ∙ has in

@@ -219,7 +219,7 @@ abbrev somebody : PeerNo
 somebody = record { 0 = 0 }
 
 -- all marks of an entry are noted
-pub noted_all : (old now new : Sightings) (e : Entry) (L : Entries) (marks : List Mark) → marks ≡ e.marks → Sees e.at.0 marks old now → PassesOn marks now new
+pub noted_all : (old now new : Sightings) (e : Entry) (L : Entries) (marks : List Mark) → marks ≡ e.effects.marks → Sees e.at.0 marks old now → PassesOn marks now new
     → AgreesOnSightings old L → AgreesOnSightings new (e ∷ L)
 noted_all old now new e L marks are seeing passing agrees = record {
   sees = λ id t from.

@@ -47,13 +47,13 @@ spent_so full q (Asked p m ∷ marks) n k = by (same_peer p q) (spent_so full q 
 spent_so full q (other ∷ marks) n k = spent_so full q marks n k
 
 -- all marks are noted
-pub spent_all : (old new : Budgets) (e : Entry) (L : Entries) (all left : List Mark) → all ≡ e.marks → left ≡ [] → Spending all left old new → AgreesOnBudgets old (unmarked e ∷ L) → AgreesOnBudgets new (e ∷ L)
+pub spent_all : (old new : Budgets) (e : Entry) (L : Entries) (all left : List Mark) → all ≡ e.effects.marks → left ≡ [] → Spending all left old new → AgreesOnBudgets old (unmarked e ∷ L) → AgreesOnBudgets new (e ∷ L)
 spent_all old new e L all left are none spending agrees = record {
   leaves = λ q.
       ap (λ (marks : List Mark). after_marks (budget_after q) marks (budget_in new q)) (sym none)
       ∙ spending.folds q
       ∙ ap (λ (marks : List Mark). after_marks (budget_after q) marks (budget_in old q)) are
-      ∙ ap (after_marks (budget_after q) e.marks) (agrees.leaves q)
-      ∙ spent_so old.full q e.marks (offers (unmarked e ∷ L) q) (asked (unmarked e ∷ L) q)
+      ∙ ap (after_marks (budget_after q) e.effects.marks) (agrees.leaves q)
+      ∙ spent_so old.full q e.effects.marks (offers (unmarked e ∷ L) q) (asked (unmarked e ∷ L) q)
       ∙ ap (λ (full : Budget). budget_left full (e ∷ L) q) (sym spending.full);
 }

@@ -11,8 +11,8 @@ use Rattle.gs_base.specs.Names.{most_topics}
 use Rattle.gs_score.specs.Ledgers.{Kept, has_room}
 use Rattle.gs_score.specs.Histories.{Agrees, Change, History, Setting, Marked, Left, accepts, decays}
 use Rattle.gs_score.specs.Histories as histories
-use Rattle.gs_rules.specs.declared.trace.Event.{Event}
-use Rattle.gs_rules.specs.declared.trace.Event.TheVariants.{Decay}
+use Rattle.gs_rules.specs.declared.event.Event.{Event}
+use Rattle.gs_rules.specs.declared.event.Event.TheVariants.{Decay}
 use Rattle.gs_rules.specs.Peers.{Peer}
 use Rattle.gs_rules.specs.Tables.{Entries, after_marks, lost}
 use Rattle.gs_rules.specs.Scoring.{change_of, changed_after, has_counters, history, is_counted, marked_after, setting_of, shut_out}
@@ -118,7 +118,7 @@ an_event_lowers_once other H = let none = a_loss_lowers_nothing (lost other) H i
 decays_are_few : (p : Peer) (L : Entries) → decays (history p L) ≤ length L
 decays_are_few p [] = omega arith
 decays_are_few p (e ∷ L) =
-    let marks = marks_lower_nothing p e.at e.marks (changed_after e.event (history p L)) in
+    let marks = marks_lower_nothing p e.at e.effects.marks (changed_after e.event (history p L)) in
     let once = an_event_lowers_once e.event (history p L) in
     let few = decays_are_few p L in
     omega (arith, marks, once, few)

@@ -3,9 +3,8 @@ pub mod PeerLists
 pub mod Tables
 pub mod Known
 pub mod State
-pub mod Wishes
+pub mod Parts
 pub mod Router
 pub mod Offers
 pub mod Requests
-pub mod Meshes
 pub mod Beats

@@ -1,12 +1,12 @@
 -- What contracts see of a router, and how a call of it ends.
 use Rattle.std.specs.Prelude.{◌≡◌, ℕ, Bool, true, false, if◌then◌else◌, Option, Some, None, Result, Ok, Err}
-use Rattle.gs_base.specs.declared.names.PeerNo.{PeerNo}
 use Rattle.gs_base.specs.declared.names.Millis.{Millis}
-use Rattle.gs_rules.specs.declared.trace.Event.{Event}
+use Rattle.gs_rules.specs.declared.event.Event.{Event}
+use Rattle.gs_rules.specs.declared.event.Event.TheVariants.{Heard, Late, Part, BeatBegin, Step, Own, Lost, Decay, RoundEnd, Shut}
 use Rattle.gs_rules.specs.declared.refusal.Refusal.{Refusal}
 use Rattle.gs_rules.specs.declared.refusal.Refusal.TheVariants.{Stopped}
 use Rattle.gs_rules.specs.Peers.{Peer}
-use Rattle.gs_rules.specs.Tables.{Entries, lost}
+use Rattle.gs_rules.specs.Tables.{Entries}
 use Rattle.gs_rules.specs.Modes.{Mode}
 use Rattle.gs_rules.specs.Legal.{Legal, Comes}
 use Rattle.gs_rules.specs.Refusals.{refusal}
@@ -46,9 +46,18 @@ refusal_of v at event = if v.is_stopped then Some Stopped else refusal_if v.peer
 
 -- ---- events
 
--- an event by which this neighbour is lost
-abbrev pub IsLoss : PeerNo → Event → Type 0
-IsLoss q event = lost event ≡ Some q
+-- an event that needs no more than that the peer has not shut down, and owes nothing
+abbrev pub IsPlain : Event → Type 0
+IsPlain Decay = Unit {0}
+IsPlain (RoundEnd r) = Unit {0}
+IsPlain Shut = Unit {0}
+IsPlain (Heard q rpc) = ⊥
+IsPlain (Late q rpc) = ⊥
+IsPlain (Part q part) = ⊥
+IsPlain BeatBegin = ⊥
+IsPlain (Step step) = ⊥
+IsPlain (Own act) = ⊥
+IsPlain (Lost q loss) = ⊥
 
 -- ---- how a call ends
 

@@ -1,11 +1,11 @@
 -- How the steps of a router and its work on an event end.
 use Rattle.std.specs.Prelude.{◌≡◌, ◌⊎◌, List, [], ◌∷◌, ◌++◌, Result, OnOk, OnErr}
 use Rattle.gs_base.specs.declared.names.Millis.{Millis}
-use Rattle.gs_rules.specs.declared.trace.Event.{Event}
+use Rattle.gs_rules.specs.declared.event.Event.{Event}
 use Rattle.gs_rules.specs.declared.trace.Entry.{Entry}
 use Rattle.gs_rules.specs.Peers.{Peer}
-use Rattle.gs_rules.specs.Tables.{Entries}
-use Rattle.gs_rules.specs.Owed.{owed, nothing}
+use Rattle.gs_rules.specs.Tables.{Entries, last_moment}
+use Rattle.gs_rules.specs.Owed.{Debt, Group, held_or, owed, nothing, reached}
 use Rattle.gs_rules.specs.Modes.{Mode}
 use Rattle.gs_rules.specs.Legal.{Legal, LegalOn, Begins, IsNext, Opens}
 use Rattle.gs_router.specs.declared.state.State.{State}
@@ -72,3 +72,45 @@ pub record Ends {A E : Type 0} (m : Mode) (event : Event) (now : Millis)
   pub before : OnErr result ((u : m.State) × Appends m (peer_of old) old.trace s new.trace u)
   pub legal : Legal (peer_of new) new.trace
   pub setup : new.known.setup ≡ old.known.setup
+
+-- ---- what is owed is paid
+
+-- these events are left of the group that was reached, and these groups are behind it
+abbrev pub left_with : Peer → Entries → List Event → List Group → Debt
+left_with p L events groups = held_or events groups (reached p L groups)
+
+-- Where an event has begun: its entry and those of some of what it owes stand behind the trace of a, by choices from s to t,
+-- and these events are left, and then these groups.
+pub record Paying (m : Mode) (now : Millis) (event : Event) (a : State) (s : m.State) (b : State) (t : m.State)
+    (left : List Event) (groups : List Group) : Type 0 where
+  pub current : IsCurrent b
+  pub setup : b.known.setup ≡ a.known.setup
+  pub moment : last_moment b.trace ≡ now.0
+  pub owes : owed (peer_of a) b.trace ≡ left_with (peer_of a) b.trace left groups
+  pub begun : Begins (peer_of a) now event a.trace b.trace
+  pub appended : Appends m (peer_of a) a.trace s b.trace t
+
+-- in the work on some event just these are left
+abbrev pub AreLeft : (m : Mode) → Millis → List Event → State → m.State → Type 0
+AreLeft m now left b t = (event : Event) × (a : State) × (s : m.State) × Paying m now event a s b t left []
+
+-- in whatever work just these were left, those are left now
+abbrev pub Pays : (m : Mode) → Millis → List Event → State → m.State → List Event → State → m.State → Type 0
+Pays m now left b t rest c u =
+    (event : Event) (a : State) (s : m.State)
+    → Paying m now event a s b t left []
+    → Paying m now event a s c u rest []
+
+-- The work on an event came to some state, where memory ran out: nothing came since.
+pub record IsCutShort (m : Mode) (now : Millis) (event : Event) (a : State) (s : m.State) (c : State) : Type 0 where
+  pub reached : State
+  pub words : m.State
+  pub left : List Event
+  pub paying : Paying m now event a s reached words left []
+  pub kept : c.trace ≡ reached.trace
+  pub setup : c.known.setup ≡ reached.known.setup
+
+-- in whatever work just these were left, it was cut short
+abbrev pub PaysInPart : (m : Mode) → Millis → List Event → State → m.State → State → Type 0
+PaysInPart m now left b t c =
+    (event : Event) (a : State) (s : m.State) → Paying m now event a s b t left [] → IsCutShort m now event a s c

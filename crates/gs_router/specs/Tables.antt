@@ -17,7 +17,7 @@ use Rattle.gs_cache.specs.Sightings.{is_noted, verdict_in, what_counts}
 use Rattle.gs_cache.specs.CachedMessages.{Cached, all_left, cached, left, one_less}
 use Rattle.gs_mesh.specs.Meshes as meshes
 use Rattle.gs_score.specs.Histories as histories
-use Rattle.gs_rules.specs.declared.trace.Event.{Event}
+use Rattle.gs_rules.specs.declared.event.Event.{Event}
 use Rattle.gs_rules.specs.declared.trace.Entry.{Entry}
 use Rattle.gs_rules.specs.Peers.{Peer, seen_ttl, windows}
 use Rattle.gs_rules.specs.Tables.{Entries, Keeping, Sighting, after_marks, answered, asked, heartbeats, is_shut, joined, keeping, keeping_order, kept, known, last_kept, last_moment, last_seen, offers, on, promises, seen, topic_order, up}
@@ -42,7 +42,7 @@ use Rattle.gs_router.specs.PeerSets.{has}
 
 -- an entry without its marks
 abbrev pub unmarked : Entry → Entry
-unmarked e = record e { marks = [] }
+unmarked e = record e { effects = record e.effects { marks = [] } }
 
 -- ---- the router's own topics
 

@@ -10,7 +10,6 @@ mod router;
 mod setup;
 mod state;
 mod tables;
-mod wish;
 
 pub use fault::RouterFault;
 pub use router::Router;

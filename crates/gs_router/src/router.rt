@@ -5,11 +5,10 @@ ghost use Rattle.gs_base.specs.Names.{peers_of};
 ghost use Rattle.gs_base.specs.declared.neighbour.Neighbour.{Neighbour as NeighbourValue};
 ghost use Rattle.gs_params.specs.Params.{AreInRange};
 ghost use Rattle.gs_params.specs.Picks.{IsAscending};
-ghost use Rattle.gs_rules.specs.declared.trace.Event.TheVariants as events;
+ghost use Rattle.gs_rules.specs.declared.event.Event.TheVariants as events;
 ghost use Rattle.gs_rules.specs.Tables.{last_moment};
 ghost use Rattle.gs_rules.specs.Modes.{exact};
-ghost use Rattle.gs_router.specs.Wishes.{wished};
-ghost use Rattle.gs_router.specs.Router.{Calls, answer_of, fails};
+ghost use Rattle.gs_router.specs.Router.{Calls, IsPlain, answer_of, fails};
 
 mod hearing;
 mod reading;
@@ -20,11 +19,10 @@ use crate::known::Known;
 use crate::setup::{Setup, explicit_among};
 use crate::state::State;
 use crate::tables::Tables;
-use crate::wish::Wish;
-use bytes::Bytes;
-use gs_base::{Millis, Neighbour, PeerNo, Topic};
+use gs_base::{Millis, Neighbour};
 use gs_cache::Payloads;
 use gs_params::{Params, Words};
+use gs_plan::Act;
 use gs_rules::{Event, Refusal, Trace};
 use std::alloc::{AllocError, Global};
 use std::marker::Model;
@@ -105,101 +103,44 @@ impl Router {
         mem::swap(&mut self.payloads, payloads);
     }
 
-    /// Subscribes to a topic, announces it to every neighbour that is up, and grafts up to `d` of those that may come into
-    /// its mesh, members of its fanout first, which ends (gossipsub v1.0, "Topic Membership").
+    /// Does what the router's own user has it do, or refuses it (gossipsub v1.0 and v1.1; `Act` says what each act asks).
+    ///
+    /// - `Subscribe` announces the topic to every neighbour that is up. It grafts up to `d` of those that may come into the
+    ///   topic's mesh, members of its fanout first, and that fanout ends ("Topic Membership").
+    /// - `Unsubscribe` announces this to every neighbour that is up, and prunes each member of the mesh. No member is to come
+    ///   back for `unsubscribe_backoff_s` ("Topic Membership", "Prune Backoff").
+    /// - `Publish` delivers the payload to the router's own user where that is subscribed to the topic. With `flood_publish`
+    ///   it goes to every neighbour that is up and on the topic. Without, it goes to the topic's mesh, or, where the router
+    ///   isn't subscribed, to its fanout, which is filled where it is empty. An explicit neighbour that is up and on the topic
+    ///   gets it whatever it scores. Any other below `publish_threshold` gets nothing ("Message Processing", "Flood
+    ///   Publishing", "Score Thresholds", "Explicit Peering Agreements").
+    /// - `Raw` puts any number of bytes on the link, after what was sent and before what is sent later. Nothing else changes.
+    /// - `HangUp` closes the link after what was sent. The neighbour leaves every mesh and every fanout, and is charged with
+    ///   what is missing of its deliveries there ("Peer Scoring", P3b). It counts no more at its address (P6). It is sent
+    ///   nothing any more, what still comes of it is late, and neither the end of its link nor its faults make an entry.
     ///
     /// # Errors
-    /// `Stopped`, `TooLong`, `Joined`, `TooMany`, in this order, and `NoMemory`.
-    pub fn subscribe<W: Words>(
+    /// First `Stopped`, whatever the act. Then, in this order, for `Subscribe` `TooLong`, `Joined`, `TooMany`; for
+    /// `Unsubscribe` `NotJoined`; for `Publish` `TooLong`, `AlreadySeen`; for `Raw` and `HangUp` `NotOpen`. And `NoMemory`.
+    pub fn obey<W: Words>(
         &mut self,
-        topic: Topic,
+        act: Act,
         now: Millis,
         words: &mut W,
     ) -> Result<(), RouterFault>
         requires { last_moment self.old.trace ≤ now.0 }
-        ensures { Calls (exact W.word W.after) (Some (events.Subscribe topic)) now
+        ensures { Calls (exact W.word W.after) (Some (events.Own act)) now
             self.old words.old result self.new words.new }
     {
-        self.obey(Wish::Subscribe(topic), now, words)
-    }
-
-    /// Leaves a topic, announces this to every neighbour that is up, and prunes each member of its mesh. No member is
-    /// to come back for `unsubscribe_backoff_s` (gossipsub v1.0, "Topic Membership"; v1.1, "Prune Backoff").
-    ///
-    /// # Errors
-    /// `Stopped` and `NotJoined`, in this order, and `NoMemory`.
-    pub fn unsubscribe<W: Words>(
-        &mut self,
-        topic: Topic,
-        now: Millis,
-        words: &mut W,
-    ) -> Result<(), RouterFault>
-        requires { last_moment self.old.trace ≤ now.0 }
-        ensures { Calls (exact W.word W.after) (Some (events.Unsubscribe topic)) now
-            self.old words.old result self.new words.new }
-    {
-        self.obey(Wish::Unsubscribe(topic), now, words)
-    }
-
-    /// Publishes a payload, which is delivered to the router's own user where that is subscribed to the topic. With
-    /// `flood_publish` it goes to every neighbour that is up and on the topic; without, to the topic's mesh, or, where
-    /// the router isn't subscribed, to its fanout, which is filled where it is empty. An explicit neighbour that is up and on
-    /// the topic gets it whatever it scores. Any other that scores below `publish_threshold` gets nothing (gossipsub v1.0,
-    /// "Message Processing"; v1.1, "Flood Publishing", "Score Thresholds" and "Explicit Peering Agreements").
-    ///
-    /// # Errors
-    /// `Stopped`, `TooLong` and `AlreadySeen`, in this order, and `NoMemory`.
-    pub fn publish<W: Words>(
-        &mut self,
-        topic: Topic,
-        payload: Bytes,
-        now: Millis,
-        words: &mut W,
-    ) -> Result<(), RouterFault>
-        requires { last_moment self.old.trace ≤ now.0 }
-        ensures { Calls (exact W.word W.after) (Some (events.Publish topic payload)) now
-            self.old words.old result self.new words.new }
-    {
-        self.obey(Wish::Publish(topic, payload), now, words)
-    }
-
-    /// Closes the link to a neighbour, after what was sent to it. The neighbour leaves every mesh and every fanout.
-    /// What is missing of its deliveries in those meshes is charged (gossipsub v1.1, "Peer Scoring", P3b), and it
-    /// counts no more at its address (P6). It is sent nothing any more, what still comes of it is late, and neither the
-    /// end of its link nor its faults make an entry.
-    ///
-    /// # Errors
-    /// `Stopped` and `NotOpen`, in this order, and `NoMemory`.
-    pub fn hang_up<W: Words>(
-        &mut self,
-        peer: PeerNo,
-        now: Millis,
-        words: &mut W,
-    ) -> Result<(), RouterFault>
-        requires { last_moment self.old.trace ≤ now.0 }
-        ensures { Calls (exact W.word W.after) (Some (events.HangUp peer)) now
-            self.old words.old result self.new words.new }
-    {
-        self.obey(Wish::HangUp(peer), now, words)
-    }
-
-    /// Puts any number of bytes on the link to a neighbour as they are, whether they spell an RPC or not. They come
-    /// after what was sent to it and before what is sent later. Nothing else changes.
-    ///
-    /// # Errors
-    /// `Stopped` and `NotOpen`, in this order, and `NoMemory`.
-    pub fn raw<W: Words>(
-        &mut self,
-        peer: PeerNo,
-        bytes: Bytes,
-        now: Millis,
-        words: &mut W,
-    ) -> Result<(), RouterFault>
-        requires { last_moment self.old.trace ≤ now.0 }
-        ensures { Calls (exact W.word W.after) (Some (events.Raw peer bytes)) now
-            self.old words.old result self.new words.new }
-    {
-        self.obey(Wish::Raw(peer, bytes), now, words)
+        if self.is_stopped {
+            return Err(RouterFault::Refused(Refusal::Stopped));
+        }
+        let known = &self.state.known;
+        if let Some(why) = entries::refusal_of(known, &mut self.payloads, &act, now) {
+            return Err(RouterFault::Refused(why));
+        }
+        let done = self.state.obey(&mut self.payloads, act, now, words);
+        ended(&mut self.is_stopped, done)
     }
 
     /// Has a heartbeat (gossipsub v1.0, Heartbeat): charges promises that were broken, mends each mesh, mends each fanout
@@ -232,7 +173,7 @@ impl Router {
         ensures { Calls (exact W.word W.after) (Some events.Decay) now
             self.old words.old result self.new words.new }
     {
-        self.obey(Wish::Decay, now, words)
+        self.open(Event::Decay, now, words)
     }
 
     /// Ends a round.
@@ -249,7 +190,7 @@ impl Router {
         ensures { Calls (exact W.word W.after) (Some (events.RoundEnd round)) now
             self.old words.old result self.new words.new }
     {
-        self.obey(Wish::EndRound(round), now, words)
+        self.open(Event::RoundEnd(round), now, words)
     }
 
     /// Shuts down: nothing is sent any more.
@@ -261,22 +202,27 @@ impl Router {
         ensures { Calls (exact W.word W.after) (Some events.Shut) now
             self.old words.old result self.new words.new }
     {
-        self.obey(Wish::Shut, now, words)
+        self.open(Event::Shut, now, words)
     }
 
-    /// Does what the router's own user wishes, or refuses it.
-    fn obey<W: Words>(&mut self, wish: Wish, now: Millis, words: &mut W) -> Result<(), RouterFault>
-        requires { last_moment self.old.trace ≤ now.0 }
-        ensures { Calls (exact W.word W.after) (Some (wished wish)) now self.old words.old result self.new words.new }
+    /// Has an event come that needs no more than that the router has not shut down, or refuses it.
+    fn open<W: Words>(
+        &mut self,
+        event: Event,
+        now: Millis,
+        words: &mut W,
+    ) -> Result<(), RouterFault>
+        requires time { last_moment self.old.trace ≤ now.0 }
+        requires plain { IsPlain event }
+        ensures { Calls (exact W.word W.after) (Some event) now self.old words.old result self.new words.new }
     {
         if self.is_stopped {
             return Err(RouterFault::Refused(Refusal::Stopped));
         }
         let known = &self.state.known;
-        if let Some(why) = entries::refusal_of(known, &mut self.payloads, &wish, now) {
+        if let Some(why) = entries::refusal_of_anything(known) {
             return Err(RouterFault::Refused(why));
         }
-        let event = wish.into_event();
         let done = self.state.open(&mut self.payloads, event, now, words);
         ended(&mut self.is_stopped, done)
     }

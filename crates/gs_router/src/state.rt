@@ -1,17 +1,17 @@
 //! What a router knows, and how it takes a step.
-ghost use Rattle.std.specs.Prelude.{◌≡◌, ◌<◌, ◌≤◌, [], ◌∷◌, length, IfOk, OnOk, OnErr, true, false};
-ghost use Rattle.gs_base.specs.Rpcs.{part_at};
+ghost use Rattle.std.specs.Prelude.{◌≡◌, ◌≤◌, [], ◌∷◌, length, OnOk, OnErr, true, false};
 ghost use Rattle.gs_wire.specs.Codec.{codec};
-ghost use Rattle.gs_rules.specs.declared.trace.Event.TheVariants as events;
+ghost use Rattle.gs_rules.specs.declared.event.Event.TheVariants as events;
 ghost use Rattle.gs_rules.specs.Tables.{Entries, last_moment, up};
 ghost use Rattle.gs_rules.specs.Owed.{owes};
 ghost use Rattle.gs_rules.specs.Modes.{exact};
-ghost use Rattle.gs_rules.specs.Legal.{MayHear, MayOpen, hearing};
+ghost use Rattle.gs_rules.specs.Legal.{MayAct, MayHear, MayOpen, hearing};
 ghost use Rattle.gs_rules.specs.Peers.{Peer};
 ghost use Rattle.gs_rules.specs.Scoring.{is_graylisted};
 ghost use Rattle.gs_router.specs.Tables.{Agrees, AgreesOnScores, AreMadeFor};
 ghost use Rattle.gs_router.specs.State.{Ends, IsCurrent, IsDue, IsReady, Steps, peer_of};
 
+mod hearing;
 mod heartbeat;
 mod meshes;
 mod scores;
@@ -19,11 +19,11 @@ mod scores;
 use crate::entries;
 use crate::known::Known;
 use gs_base::{
-    Graft, IHave, IWant, Message, Millis, Part, PeerNo, Prune, Rpc, Seq, Shared, SharedPart,
-    SubOpt, clone_of,
+    Graft, IHave, IWant, Message, Millis, PeerNo, Prune, Rpc, Seq, Shared, SubOpt, clone_of,
 };
 use gs_cache::Payloads;
 use gs_params::Words;
+use gs_plan::Act;
 use gs_rules::{Entry, Event, Trace};
 use std::alloc::AllocError;
 
@@ -84,8 +84,12 @@ impl State {
         requires next { IsDue self.old now event }
         ensures { Steps (exact W.word W.after) event now self.old words.old result self.new words.new }
     {
-        let entry = entries::entry_of(&self.known, payloads, event, now, words)?;
-        self.append(entry)
+        let effects = entries::effects_of(&self.known, payloads, &event, now, words)?;
+        self.append(Entry {
+            at: now,
+            event,
+            effects,
+        })
     }
 
     /// Does what the rule says of an event that owes nothing.
@@ -103,6 +107,23 @@ impl State {
         ensures { Ends (exact W.word W.after) event now self.old words.old result self.new words.new }
     {
         self.step_with(payloads, event, now, words)
+    }
+
+    /// Does what the router's own user has it do, which may come.
+    pub fn obey<W: Words>(
+        &mut self,
+        payloads: &mut Payloads,
+        act: Act,
+        now: Millis,
+        words: &mut W,
+    ) -> Result<(), AllocError>
+        requires ready { IsReady self.old }
+        requires time { last_moment self.old.trace ≤ now.0 }
+        requires may { MayAct (peer_of self.old) self.old.trace now.0 act }
+        ensures { Ends (exact W.word W.after) (events.Own act) now self.old words.old result self.new words.new }
+    {
+        let act = Shared::new(self.known.alloc, act)?;
+        self.open(payloads, Event::Own(act), now, words)
     }
 
     /// Hears an RPC, and all its parts where its sender is up and not on the graylist.
@@ -145,7 +166,7 @@ impl State {
         if entries::thresholds::is_graylisted(&self.known, from, now) {
             return self.open(payloads, Event::Heard(from, rpc), now, words);
         }
-        self.hear_up(payloads, from, rpc, now, words)
+        self.hear_up(payloads, from, &rpc, now, words)
     }
 
     /// Hears an RPC of a neighbour that is up and not on the graylist, and all its parts.
@@ -153,151 +174,26 @@ impl State {
         &mut self,
         payloads: &mut Payloads,
         from: PeerNo,
-        rpc: Shared<Rpc>,
+        rpc: &Shared<Rpc>,
         now: Millis,
         words: &mut W,
     ) -> Result<(), AllocError>
         requires ready { IsReady self.old }
         requires time { last_moment self.old.trace ≤ now.0 }
-        requires may { MayHear self.old.trace from rpc }
+        requires may { MayHear self.old.trace from rpc.now }
         requires listened { is_graylisted (peer_of self.old) self.old.trace now.0 from ≡ false }
-        ensures { Ends (exact W.word W.after) (events.Heard from rpc) now self.old words.old result self.new words.new }
+        ensures { Ends (exact W.word W.after) (events.Heard from rpc.now) now
+            self.old words.old result self.new words.new }
     {
-        let heard = clone_of(&rpc)?;
-        self.step(Event::Heard(from, heard), now, words)?;
-        for sub_place in 0..SubOpt::parts_of(rpc.get()).len() {
-            let sub = part_at(&rpc, sub_place)?;
-            self.hear_sub(from, sub, now, words)?;
-        }
-        for message_place in 0..Message::parts_of(rpc.get()).len() {
-            let message = part_at(&rpc, message_place)?;
-            self.hear_message(payloads, from, message, now, words)?;
-        }
-        for offer_place in 0..IHave::parts_of(rpc.get()).len() {
-            let offer = part_at(&rpc, offer_place)?;
-            self.hear_offer(from, offer, now, words)?;
-        }
-        for request_place in 0..IWant::parts_of(rpc.get()).len() {
-            let request = part_at(&rpc, request_place)?;
-            self.hear_request(from, request, now, words)?;
-        }
-        for graft_place in 0..Graft::parts_of(rpc.get()).len() {
-            let graft = part_at(&rpc, graft_place)?;
-            self.hear_graft(from, graft, now, words)?;
-        }
-        for prune_place in 0..Prune::parts_of(rpc.get()).len() {
-            let prune = part_at(&rpc, prune_place)?;
-            self.hear_prune(from, prune, now, words)?;
-        }
+        self.step(Event::Heard(from, clone_of(rpc)?), now, words)?;
+        self.hear_parts::<SubOpt, W>(payloads, from, rpc, now, words)?;
+        self.hear_parts::<Message, W>(payloads, from, rpc, now, words)?;
+        self.hear_parts::<IHave, W>(payloads, from, rpc, now, words)?;
+        self.hear_parts::<IWant, W>(payloads, from, rpc, now, words)?;
+        self.hear_parts::<Graft, W>(payloads, from, rpc, now, words)?;
+        self.hear_parts::<Prune, W>(payloads, from, rpc, now, words)?;
         Ok(())
     }
-
-    /// Hears a change of subscription, which comes next.
-    fn hear_sub<W: Words>(
-        &mut self,
-        from: PeerNo,
-        sub: SharedPart<SubOpt>,
-        now: Millis,
-        words: &mut W,
-    ) -> Result<(), AllocError>
-        requires current { IsCurrent self.old }
-        requires time { last_moment self.old.trace ≤ now.0 }
-        requires next { IsDue self.old now (events.Sub from sub) }
-        ensures { Steps (exact W.word W.after) (events.Sub from sub) now self.old words.old result self.new words.new }
-    {
-        self.step(Event::Sub(from, sub), now, words)
-    }
-
-    /// Hears a message, which comes next.
-    fn hear_message<W: Words>(
-        &mut self,
-        payloads: &mut Payloads,
-        from: PeerNo,
-        message: SharedPart<Message>,
-        now: Millis,
-        words: &mut W,
-    ) -> Result<(), AllocError>
-        requires current { IsCurrent self.old }
-        requires time { last_moment self.old.trace ≤ now.0 }
-        requires next { IsDue self.old now (events.Msg from message) }
-        ensures { Steps (exact W.word W.after) (events.Msg from message) now self.old words.old result self.new words.new }
-    {
-        self.step_with(payloads, Event::Msg(from, message), now, words)
-    }
-
-    /// Hears an offer of messages, which comes next.
-    fn hear_offer<W: Words>(
-        &mut self,
-        from: PeerNo,
-        offer: SharedPart<IHave>,
-        now: Millis,
-        words: &mut W,
-    ) -> Result<(), AllocError>
-        requires current { IsCurrent self.old }
-        requires time { last_moment self.old.trace ≤ now.0 }
-        requires next { IsDue self.old now (events.Have from offer) }
-        ensures { Steps (exact W.word W.after) (events.Have from offer) now self.old words.old result self.new words.new }
-    {
-        self.step(Event::Have(from, offer), now, words)
-    }
-
-    /// Hears a request for messages, which comes next.
-    fn hear_request<W: Words>(
-        &mut self,
-        from: PeerNo,
-        request: SharedPart<IWant>,
-        now: Millis,
-        words: &mut W,
-    ) -> Result<(), AllocError>
-        requires current { IsCurrent self.old }
-        requires time { last_moment self.old.trace ≤ now.0 }
-        requires next { IsDue self.old now (events.Want from request) }
-        ensures { Steps (exact W.word W.after) (events.Want from request) now self.old words.old result self.new words.new }
-    {
-        self.step(Event::Want(from, request), now, words)
-    }
-
-    /// Hears a GRAFT, which comes next.
-    fn hear_graft<W: Words>(
-        &mut self,
-        from: PeerNo,
-        graft: SharedPart<Graft>,
-        now: Millis,
-        words: &mut W,
-    ) -> Result<(), AllocError>
-        requires current { IsCurrent self.old }
-        requires time { last_moment self.old.trace ≤ now.0 }
-        requires next { IsDue self.old now (events.GraftIn from graft) }
-        ensures { Steps (exact W.word W.after) (events.GraftIn from graft) now
-            self.old words.old result self.new words.new }
-    {
-        self.step(Event::GraftIn(from, graft), now, words)
-    }
-
-    /// Hears a PRUNE, which comes next.
-    fn hear_prune<W: Words>(
-        &mut self,
-        from: PeerNo,
-        prune: SharedPart<Prune>,
-        now: Millis,
-        words: &mut W,
-    ) -> Result<(), AllocError>
-        requires current { IsCurrent self.old }
-        requires time { last_moment self.old.trace ≤ now.0 }
-        requires next { IsDue self.old now (events.PruneIn from prune) }
-        ensures { Steps (exact W.word W.after) (events.PruneIn from prune) now
-            self.old words.old result self.new words.new }
-    {
-        self.step(Event::PruneIn(from, prune), now, words)
-    }
-}
-
-/// The part at a place of a shared RPC's list.
-fn part_at<P: Part>(rpc: &Shared<Rpc>, place: usize) -> Result<SharedPart<P>, AllocError>
-    requires { place < length (P.parts rpc.now) }
-    ensures { IfOk result (λ part. part ≡ part_at P.bare (P.parts rpc.now) place) }
-{
-    Ok(SharedPart::at(clone_of(rpc)?, place))
 }
 
 /// The same RPC, made small for a trace: its messages share payloads that are known, and their list has no room to spare.

@@ -3,12 +3,13 @@ ghost use Rattle.std.specs.Prelude.{◌≡◌, ◌≤◌, true, IfOk};
 ghost use Rattle.gs_rules.specs.Tables.{last_moment};
 ghost use Rattle.gs_wire.specs.Codec.{codec};
 
-use crate::cases::Act;
+use crate::cases::Call;
 use crate::routers::topic_of;
 use crate::rpcs::rpc_of;
 use bytes::Bytes;
 use gs_base::{Millis, PeerNo, Rpc};
 use gs_params::SeededWords;
+use gs_plan::Act;
 use gs_router::{Router, RouterFault};
 use gs_rules::Trace;
 use gs_wire::{MAX_BODY, decode, encode};
@@ -60,17 +61,17 @@ fn listen(
     alloc: Global,
     router: &mut Router,
     now: Millis,
-    act: Act<'_>,
+    call: Call<'_>,
     words: &mut SeededWords,
 ) -> Result<Answer, AllocError>
     requires { last_moment router.old.trace ≤ now.0 }
 {
-    match act {
-        Act::Hear(from, parts) => {
+    match call {
+        Call::Hear(from, parts) => {
             let rpc = fitting(alloc, rpc_of(alloc, parts)?)?;
             Ok(router.hear(PeerNo(from), rpc, now, words))
         }
-        Act::Read(from, body) => {
+        Call::Read(from, body) => {
             let rpc = fitting(alloc, spelled(alloc, body)?)?;
             Ok(router.hear(PeerNo(from), rpc, now, words))
         }
@@ -80,128 +81,114 @@ fn listen(
 
 // ---- what is done
 
-/// Has a router do what its user wishes.
-fn wish(
-    alloc: Global,
-    router: &mut Router,
-    now: Millis,
-    act: Act<'_>,
-    words: &mut SeededWords,
-) -> Result<Answer, AllocError>
-    requires { last_moment router.old.trace ≤ now.0 }
-{
-    match act {
-        Act::Subscribe(name) => {
-            let topic = topic_of(alloc, name)?;
-            Ok(router.subscribe(topic, now, words))
-        }
-        Act::Unsubscribe(name) => {
-            let topic = topic_of(alloc, name)?;
-            Ok(router.unsubscribe(topic, now, words))
-        }
-        Act::Publish(name, payload) => {
+/// The act of a call that is one of the router's own user. With any other call the test fails.
+pub fn act_of(alloc: Global, call: Call<'_>) -> Result<Act, AllocError> {
+    match call {
+        Call::Subscribe(name) => Ok(Act::Subscribe(topic_of(alloc, name)?)),
+        Call::Unsubscribe(name) => Ok(Act::Unsubscribe(topic_of(alloc, name)?)),
+        Call::Publish(name, payload) => {
             let topic = topic_of(alloc, name)?;
             let payload = Bytes::copy_from_slice(alloc, payload)?;
-            Ok(router.publish(topic, payload, now, words))
+            Ok(Act::Publish(topic, payload))
         }
+        Call::Raw(peer, bytes) => {
+            let bytes = Bytes::copy_from_slice(alloc, bytes)?;
+            Ok(Act::Raw(PeerNo(peer), bytes))
+        }
+        Call::HangUp(peer) => Ok(Act::HangUp(PeerNo(peer))),
         _ => Err(AllocError),
     }
 }
 
-/// Has a router do what its user wishes of a link.
-fn use_link(
+/// Has a router obey its own user.
+fn obey(
     alloc: Global,
     router: &mut Router,
     now: Millis,
-    act: Act<'_>,
+    call: Call<'_>,
     words: &mut SeededWords,
 ) -> Result<Answer, AllocError>
     requires { last_moment router.old.trace ≤ now.0 }
 {
-    match act {
-        Act::HangUp(peer) => Ok(router.hang_up(PeerNo(peer), now, words)),
-        Act::Raw(peer, bytes) => {
-            let bytes = Bytes::copy_from_slice(alloc, bytes)?;
-            Ok(router.raw(PeerNo(peer), bytes, now, words))
-        }
-        _ => Err(AllocError),
-    }
+    let act = act_of(alloc, call)?;
+    Ok(router.obey(act, now, words))
 }
 
 /// Has a router do what comes with time, or with the end of a link or of its life.
 fn turn(
     router: &mut Router,
     now: Millis,
-    act: Act<'_>,
+    call: Call<'_>,
     words: &mut SeededWords,
 ) -> Result<Answer, AllocError>
     requires { last_moment router.old.trace ≤ now.0 }
 {
-    match act {
-        Act::Heartbeat => Ok(router.heartbeat(now, words)),
-        Act::Decay => Ok(router.decay(now, words)),
-        Act::EndRound(round) => Ok(router.end_round(round, now, words)),
-        Act::Gone(peer) => Ok(router.gone(PeerNo(peer), now, words)),
-        Act::Fault(peer) => Ok(router.fault(PeerNo(peer), now, words)),
-        Act::Shut => Ok(router.shut(now, words)),
+    match call {
+        Call::Heartbeat => Ok(router.heartbeat(now, words)),
+        Call::Decay => Ok(router.decay(now, words)),
+        Call::EndRound(round) => Ok(router.end_round(round, now, words)),
+        Call::Gone(peer) => Ok(router.gone(PeerNo(peer), now, words)),
+        Call::Fault(peer) => Ok(router.fault(PeerNo(peer), now, words)),
+        Call::Shut => Ok(router.shut(now, words)),
         _ => Err(AllocError),
     }
 }
 
-/// Has a router do this, by these words. With a moment that is past the test fails.
+/// Makes one call of a router, by these words. With a moment that is past the test fails.
 pub fn once(
     alloc: Global,
     router: &mut Router,
     now: Millis,
-    act: Act<'_>,
+    call: Call<'_>,
     words: &mut SeededWords,
 ) -> Result<Answer, AllocError> {
     if !is_due(router.trace(), now) {
         return Err(AllocError);
     }
-    match act {
-        Act::Hear(_, _) | Act::Read(_, _) => listen(alloc, router, now, act, words),
-        Act::Subscribe(_) | Act::Unsubscribe(_) | Act::Publish(_, _) => {
-            wish(alloc, router, now, act, words)
-        }
-        Act::HangUp(_) | Act::Raw(_, _) => use_link(alloc, router, now, act, words),
-        _ => turn(router, now, act, words),
+    match call {
+        Call::Hear(_, _) | Call::Read(_, _) => listen(alloc, router, now, call, words),
+        Call::Subscribe(_)
+        | Call::Unsubscribe(_)
+        | Call::Publish(_, _)
+        | Call::Raw(_, _)
+        | Call::HangUp(_) => obey(alloc, router, now, call, words),
+        _ => turn(router, now, call, words),
     }
 }
 
-/// Has a router do this, which it must not refuse.
+/// Makes one call of a router, which it must not refuse.
 fn allowed(
     alloc: Global,
     router: &mut Router,
     now: Millis,
-    act: Act<'_>,
+    call: Call<'_>,
     words: &mut SeededWords,
 ) -> Result<(), AllocError> {
-    match once(alloc, router, now, act, words)? {
+    match once(alloc, router, now, call, words)? {
         Ok(()) => Ok(()),
         Err(_) => Err(AllocError),
     }
 }
 
-/// Has a router do all of an act but the last call, which it gives, if there is one.
+/// Makes several calls of a router but the last of them, which it gives, if there is one.
 pub fn all_but_last<'a>(
     alloc: Global,
     router: &mut Router,
     now: Millis,
-    act: Act<'a>,
+    call: Call<'a>,
     words: &mut SeededWords,
-) -> Result<Option<Act<'a>>, AllocError> {
-    match act {
-        Act::HearEach(first, last, parts) => {
+) -> Result<Option<Call<'a>>, AllocError> {
+    match call {
+        Call::HearEach(first, last, parts) => {
             for peer in first..last {
-                allowed(alloc, router, now, Act::Hear(peer, parts), words)?;
+                allowed(alloc, router, now, Call::Hear(peer, parts), words)?;
             }
-            Ok(Some(Act::Hear(last, parts)))
+            Ok(Some(Call::Hear(last, parts)))
         }
-        Act::SubscribeEach(end) => {
+        Call::SubscribeEach(end) => {
             for number in 0..end {
                 let name = format!(in alloc; "{number}")?;
-                allowed(alloc, router, now, Act::Subscribe(name.as_str()), words)?;
+                allowed(alloc, router, now, Call::Subscribe(name.as_str()), words)?;
             }
             Ok(None)
         }

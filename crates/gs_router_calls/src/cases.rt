@@ -62,9 +62,9 @@ pub enum Said<'a> {
     Parts(usize),
 }
 
-/// What is done to a router.
+/// A call of a router, or several calls of one kind.
 #[derive(Clone, Copy, Debug)]
-pub enum Act<'a> {
+pub enum Call<'a> {
     /// It hears an RPC of a neighbour.
     Hear(u16, &'a [Said<'a>]),
     /// It hears one of each neighbour from a number on, up to another. What is seen is what the last one brings.
@@ -88,13 +88,13 @@ pub enum Act<'a> {
     Shut,
 }
 
-/// What is seen of a router. Of the entries that an act adds all is seen that they send, deliver, promise and mark, and
+/// What is seen of a router. Of the entries that a call adds all is seen that they send, deliver, promise and mark, and
 /// for which topics a heartbeat does what it does; their other events are seen where a case asks for them.
 #[derive(Clone, Copy, Debug)]
 pub enum Seen<'a> {
-    /// The act is refused with this number.
+    /// The call is refused with this number.
     Refused(u8),
-    /// An entry has another moment than its act.
+    /// An entry has another moment than its call.
     At(u64),
     // events
     Heard(u16, Said<'a>),
@@ -154,7 +154,7 @@ pub enum Seen<'a> {
     DecayMs(u64),
 }
 
-/// What a router is asked behind each act.
+/// What a router is asked after each call.
 #[derive(Clone, Copy, Debug)]
 pub enum Ask<'a> {
     /// Who is in the mesh of a topic.
@@ -207,9 +207,9 @@ pub const NO_RULES: Rules<'static> = Rules {
     factors: DEFAULT_TOPIC_FACTORS,
 };
 
-/// A moment, what is done, and all that must be seen then: what it brings, and behind that the answers, where any is
-/// another than before.
-pub type Step<'a> = (u64, Act<'a>, &'a [Seen<'a>]);
+/// A moment, the call, and all that must be seen then: what it brings, and after that the answers, where any is another
+/// than before.
+pub type Step<'a> = (u64, Call<'a>, &'a [Seen<'a>]);
 
 /// What a router does, step by step.
 #[derive(Clone, Copy, Debug)]

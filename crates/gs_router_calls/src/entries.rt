@@ -5,76 +5,96 @@ use crate::shown::{
     text_of,
 };
 use gs_base::{Mark, Millis, MsgId, PeerNo, Verdict};
-use gs_rules::{Event, Promise, StoredEntry, Trace};
+use gs_plan::Act;
+use gs_rules::{BeatStep, Event, Loss, Promise, RpcPart, StoredEntry, Trace};
 use std::alloc::AllocError;
 
 // ---- events
 
-/// What is seen of an event that has no part of an RPC.
-fn seen_of(event: &Event) -> Option<Seen<'_>> {
-    Some(match event {
-        Event::Subscribe(topic) => Seen::Subscribe(text_of(topic)),
-        Event::Unsubscribe(topic) => Seen::Unsubscribe(text_of(topic)),
-        Event::Publish(topic, payload) => Seen::Publish(text_of(topic), payload.as_slice()),
-        Event::BeatBegin => Seen::BeatBegin,
-        Event::MeshBeat(topic) => Seen::MeshBeat(text_of(topic)),
-        Event::FanBeat(topic) => Seen::FanBeat(text_of(topic)),
-        Event::FanEnd(topic) => Seen::FanEnd(text_of(topic)),
-        Event::GossipBeat(topic) => Seen::GossipBeat(text_of(topic)),
-        Event::BeatEnd => Seen::BeatEnd,
-        Event::Decay => Seen::Decay,
-        Event::RoundEnd(round) => Seen::RoundEnd(*round),
-        Event::Gone(peer) => Seen::Gone(peer.0),
-        Event::Fault(peer) => Seen::Fault(peer.0),
-        Event::HangUp(peer) => Seen::HangUp(peer.0),
-        Event::Raw(peer, bytes) => Seen::Raw(peer.0, bytes.as_slice()),
-        Event::Shut => Seen::Shut,
-        _ => return None,
-    })
-}
-
-/// Adds what is handled of an RPC.
-fn say_handled(shown: &mut Shown, event: &Event) -> Result<(), AllocError> {
+/// Adds a part of an RPC that is handled.
+fn say_part(shown: &mut Shown, peer: PeerNo, part: &RpcPart) -> Result<(), AllocError> {
     let way = Way::Handled;
-    match event {
-        Event::Sub(peer, sub) => shown.add(on_way(way, *peer, said_of_sub(sub.get()))),
-        Event::Msg(peer, message) => {
-            shown.add(on_way(way, *peer, said_of_message(message.get())))
-        }
-        Event::Have(peer, offer) => {
+    match part {
+        RpcPart::Sub(sub) => shown.add(on_way(way, peer, said_of_sub(sub.get()))),
+        RpcPart::Msg(message) => shown.add(on_way(way, peer, said_of_message(message.get()))),
+        RpcPart::Have(offer) => {
             let offer = offer.get();
-            say_have(shown, way, *peer, &offer.topic, offer.ids.as_slice())
+            say_have(shown, way, peer, &offer.topic, offer.ids.as_slice())
         }
-        Event::Want(peer, request) => say_want(shown, way, *peer, request.get().ids.as_slice()),
-        Event::GraftIn(peer, graft) => {
-            shown.add(on_way(way, *peer, Said::Graft(name_of(&graft.get().topic))))
+        RpcPart::Want(request) => say_want(shown, way, peer, request.get().ids.as_slice()),
+        RpcPart::GraftIn(graft) => {
+            shown.add(on_way(way, peer, Said::Graft(name_of(&graft.get().topic))))
         }
-        Event::PruneIn(peer, prune) => {
+        RpcPart::PruneIn(prune) => {
             let prune = prune.get();
             let said = Said::Prune(name_of(&prune.topic), prune.backoff);
-            shown.add(on_way(way, *peer, said))
+            shown.add(on_way(way, peer, said))
         }
-        _ => Ok(()),
+    }
+}
+
+/// What is seen of a step of a heartbeat.
+fn seen_of_step(step: &BeatStep) -> Seen<'_> {
+    match step {
+        BeatStep::MeshBeat(topic) => Seen::MeshBeat(text_of(topic)),
+        BeatStep::FanBeat(topic) => Seen::FanBeat(text_of(topic)),
+        BeatStep::FanEnd(topic) => Seen::FanEnd(text_of(topic)),
+        BeatStep::GossipBeat(topic) => Seen::GossipBeat(text_of(topic)),
+        BeatStep::BeatEnd => Seen::BeatEnd,
+    }
+}
+
+/// What is seen of an act of the peer's own user.
+fn seen_of_act(act: &Act) -> Seen<'_> {
+    match act {
+        Act::Subscribe(topic) => Seen::Subscribe(text_of(topic)),
+        Act::Unsubscribe(topic) => Seen::Unsubscribe(text_of(topic)),
+        Act::Publish(topic, payload) => Seen::Publish(text_of(topic), payload.as_slice()),
+        Act::Raw(peer, bytes) => Seen::Raw(peer.0, bytes.as_slice()),
+        Act::HangUp(peer) => Seen::HangUp(peer.0),
+    }
+}
+
+/// What is seen of the loss of a neighbour.
+fn seen_of_loss(peer: PeerNo, loss: Loss) -> Seen<'static> {
+    match loss {
+        Loss::Gone => Seen::Gone(peer.0),
+        Loss::Fault => Seen::Fault(peer.0),
     }
 }
 
 /// Adds an event.
 pub fn say_event(shown: &mut Shown, event: &Event) -> Result<(), AllocError> {
-    if let Some(seen) = seen_of(event) {
-        return shown.add(seen);
-    }
     match event {
         Event::Heard(peer, rpc) => say_rpc(shown, Way::Heard, *peer, rpc.get()),
         Event::Late(peer, rpc) => say_rpc(shown, Way::Late, *peer, rpc.get()),
-        handled => say_handled(shown, handled),
+        Event::Part(peer, part) => say_part(shown, *peer, part),
+        Event::BeatBegin => shown.add(Seen::BeatBegin),
+        Event::Step(step) => shown.add(seen_of_step(step)),
+        Event::Own(act) => shown.add(seen_of_act(act.get())),
+        Event::Lost(peer, loss) => shown.add(seen_of_loss(*peer, *loss)),
+        Event::Decay => shown.add(Seen::Decay),
+        Event::RoundEnd(round) => shown.add(Seen::RoundEnd(*round)),
+        Event::Shut => shown.add(Seen::Shut),
+    }
+}
+
+/// Whether a step of a heartbeat is for a topic.
+fn is_for_a_topic(step: &BeatStep) -> bool {
+    match step {
+        BeatStep::MeshBeat(_) | BeatStep::FanBeat(_) => true,
+        BeatStep::FanEnd(_) | BeatStep::GossipBeat(_) => true,
+        BeatStep::BeatEnd => false,
     }
 }
 
 /// Whether an event is what a heartbeat does for a topic.
 fn is_of_a_beat(event: &Event) -> bool {
     match event {
-        Event::MeshBeat(_) | Event::FanBeat(_) | Event::FanEnd(_) | Event::GossipBeat(_) => true,
-        _ => false,
+        Event::Step(step) => is_for_a_topic(step),
+        Event::Heard(_, _) | Event::Late(_, _) | Event::Part(_, _) => false,
+        Event::BeatBegin | Event::Own(_) | Event::Lost(_, _) => false,
+        Event::Decay | Event::RoundEnd(_) | Event::Shut => false,
     }
 }
 
@@ -133,7 +153,7 @@ fn say_effects(shown: &mut Shown, entry: &StoredEntry) -> Result<(), AllocError>
     Ok(())
 }
 
-/// Adds an entry of an act at this moment, with its event if all events are seen.
+/// Adds an entry of a call at this moment, with its event if all events are seen.
 fn say_entry(
     shown: &mut Shown,
     entry: &StoredEntry,
@@ -149,7 +169,7 @@ fn say_entry(
     say_effects(shown, entry)
 }
 
-/// Adds all entries of a trace with their events, each behind its moment where that is another than the one before, which
+/// Adds all entries of a trace with their events, each after its moment where that is another than the one before, which
 /// is 0 at first.
 pub fn say_trace(shown: &mut Shown, trace: &Trace) -> Result<(), AllocError> {
     let mut before = Millis(0);
@@ -160,7 +180,7 @@ pub fn say_trace(shown: &mut Shown, trace: &Trace) -> Result<(), AllocError> {
     Ok(())
 }
 
-/// Adds the entries of an act at this moment.
+/// Adds the entries of a call at this moment.
 pub fn say_entries(
     shown: &mut Shown,
     entries: &[StoredEntry],

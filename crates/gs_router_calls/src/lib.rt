@@ -9,9 +9,9 @@ mod routers;
 mod rpcs;
 mod shown;
 
-pub use calls::Answer;
+pub use calls::{Answer, act_of};
 pub use cases::{
-    Act, Ask, Case, Fields, Id, Kind, NO_FIELDS, NO_RULES, NO_TOPIC, NOTHING, Rules, Said, Seen,
+    Ask, Call, Case, Fields, Id, Kind, NO_FIELDS, NO_RULES, NO_TOPIC, NOTHING, Rules, Said, Seen,
     Step,
 };
 pub use play::{Outcome, Player, events_in, left_by, played, text_of_all, wanted_of};

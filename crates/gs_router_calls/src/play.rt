@@ -1,6 +1,6 @@
 //! Cases, played step by step.
 use crate::calls::{Answer, all_but_last, once};
-use crate::cases::{Act, Ask, Case, Seen, Step};
+use crate::cases::{Ask, Call, Case, Seen, Step};
 use crate::entries::{say_entries, say_event, say_trace};
 use crate::routers::{router_of, topic_of};
 use crate::shown::{Shown, text_of};
@@ -114,32 +114,32 @@ impl Player {
         &self.router
     }
 
-    /// Has the router do an act that is one call, and gives what that answers.
+    /// Makes one call of the router, and gives what it answers.
     ///
     /// # Errors
-    /// `AllocError` where there was no memory for what the call takes, or the act is no call that may come now.
-    pub fn answer(&mut self, now: Millis, act: Act<'_>) -> Result<Answer, AllocError> {
-        once(self.alloc, &mut self.router, now, act, &mut self.words)
+    /// `AllocError` where there was no memory for what the call takes, or it may not come now, or it is several calls.
+    pub fn answer(&mut self, now: Millis, call: Call<'_>) -> Result<Answer, AllocError> {
+        once(self.alloc, &mut self.router, now, call, &mut self.words)
     }
 
-    /// Has the router do this, and adds what is refused.
-    fn call(&mut self, shown: &mut Shown, now: Millis, act: Act<'_>) -> Result<(), AllocError> {
-        let answer = self.answer(now, act)?;
+    /// Makes one call of the router, and adds what is refused.
+    fn call(&mut self, shown: &mut Shown, now: Millis, call: Call<'_>) -> Result<(), AllocError> {
+        let answer = self.answer(now, call)?;
         say_refusal(shown, answer)
     }
 
-    /// Has the router do this, and adds what it brings.
-    fn act(
+    /// Makes a call of the router, or several, and adds what the last one brings.
+    fn perform(
         &mut self,
         shown: &mut Shown,
         now: Millis,
-        act: Act<'_>,
+        call: Call<'_>,
         events: bool,
     ) -> Result<(), AllocError> {
-        let last = all_but_last(self.alloc, &mut self.router, now, act, &mut self.words)?;
+        let last = all_but_last(self.alloc, &mut self.router, now, call, &mut self.words)?;
         let before = self.router.trace().entries().len();
-        if let Some(act) = last {
-            self.call(shown, now, act)?;
+        if let Some(call) = last {
+            self.call(shown, now, call)?;
         }
         let entries = self.router.trace().entries();
         say_entries(
@@ -162,9 +162,9 @@ impl Player {
 
     /// What is seen of a step.
     fn step(&mut self, case: &Case<'_>, step: &Step<'_>) -> Result<String, AllocError> {
-        let (at, act, _) = *step;
+        let (at, call, _) = *step;
         let mut shown = nothing_shown(self.alloc);
-        self.act(&mut shown, Millis(at), act, case.events)?;
+        self.perform(&mut shown, Millis(at), call, case.events)?;
         self.ask(&mut shown, Millis(at), case.asks)?;
         Ok(shown.text)
     }

@@ -1,5 +1,5 @@
 -- Nothing changes what scores are made of behind a shut, nor meshes, nor the peer's own topics.
-use Rattle.std.proofs.Common.{◌≡◌, ℕ, Bool, true, false, List, [], ◌∷◌, ◌++◌, Option, Some, None, filter, length, refl, sym, ap, subst, ◌∙◌}
+use Rattle.std.proofs.Common.{◌≡◌, ℕ, Bool, true, false, List, [], ◌∷◌, ◌++◌, filter, length, refl, sym, ap, subst, ◌∙◌}
 use Rattle.std.specs.List.{AllByRecursion}
 use Rattle.std.proofs.lemmas.List.{nil_from_length}
 use Rattle.std.proofs.lemmas.List.Sorted.{length_permutation}
@@ -7,17 +7,19 @@ use Rattle.gs_base.specs.declared.names.PeerNo.{PeerNo}
 use Rattle.gs_base.specs.declared.names.Topic.{Topic}
 use Rattle.gs_base.specs.declared.mark.Mark.{Mark}
 use Rattle.gs_score.specs.Histories.{History, named, score_in}
-use Rattle.gs_rules.specs.declared.trace.Event.{Event}
-use Rattle.gs_rules.specs.declared.trace.Event.TheVariants.{Heard, Late, Subscribe, Unsubscribe, Publish, BeatBegin, Decay, Raw, RoundEnd, Shut}
+use Rattle.gs_rules.specs.declared.event.Event.{Event}
+use Rattle.gs_rules.specs.declared.event.Event.TheVariants.{Heard, Late, Part, BeatBegin, Step, Own, Lost, Decay, RoundEnd, Shut}
+use Rattle.gs_plan.specs.declared.plan.Act.TheVariants.{Subscribe, Unsubscribe, Publish, Raw, HangUp}
 use Rattle.gs_rules.specs.declared.trace.Entry.{Entry}
+use Rattle.gs_rules.specs.declared.trace.Effects.{Effects}
 use Rattle.gs_rules.specs.Peers.{Peer}
-use Rattle.gs_rules.specs.Tables.{Entries, after_marks, ascending, is_shut, is_shut_after, joined, joined_after, known, known_after, lost, own_topics, up, up_after}
+use Rattle.gs_rules.specs.Tables.{Entries, after_marks, ascending, is_shut, is_shut_after, joined, joined_after, known, known_after, own_topics, up, up_after}
 use Rattle.gs_rules.specs.Meshes.{mesh, mesh_after}
 use Rattle.gs_rules.specs.Scoring.{changed_after, history, marked_after, score, setting_of}
 use Rattle.gs_rules.specs.Owed.{Debt, nothing, owed, owes, owing, paid}
-use Rattle.gs_rules.specs.Rules.{bare, rule_of}
+use Rattle.gs_rules.specs.Rules.{rule_of, no_effects}
 use Rattle.gs_rules.specs.Modes.{SaysTheSame, Follows, free}
-use Rattle.gs_rules.specs.Legal.{IsNext, Legal, MayLose, MayOpen}
+use Rattle.gs_rules.specs.Legal.{IsNext, Legal, MayOpen}
 use Rattle.gs_rules.proofs.Owed.{IsOwed, no_event_is_nothing, owed_are_such}
 use Rattle.gs_rules.proofs.Legality.{legal_newest}
 
@@ -36,39 +38,37 @@ never : (b : Bool) → b ≡ true → b ≡ false → ⊥
 never true h k = absurd cc
 never false h k = absurd cc
 
--- once all are down, none is lost
-none_to_lose : (L : Entries) (who : Option PeerNo) → ((q : PeerNo) → up L q ≡ false) → MayLose L who → ⊥
-none_to_lose L None down may = may
-none_to_lose L (Some q) down may = never (up L q) may (down q)
-
 late_alone : (p : Peer) (L : Entries) (at : ℕ) (event : Event) → is_shut L ≡ true → ((q : PeerNo) → up L q ≡ false) → MayOpen p L at event → IsLate event
 late_alone p L at (Late q rpc) shut down may = tt
 late_alone p L at (Heard q rpc) shut down may = absurd (never (up L q) may.is_up (down q))
-late_alone p L at (Raw q bytes) shut down may = absurd (never (up L q) may (down q))
-late_alone p L at (Subscribe t) shut down may = absurd (never (is_shut L) shut may.running)
-late_alone p L at (Unsubscribe t) shut down may = absurd (never (is_shut L) shut may.running)
-late_alone p L at (Publish t payload) shut down may = absurd (never (is_shut L) shut may.running)
+late_alone p L at (Own (Raw q bytes)) shut down may = absurd (never (up L q) may (down q))
+late_alone p L at (Own (Subscribe t)) shut down may = absurd (never (is_shut L) shut may.running)
+late_alone p L at (Own (Unsubscribe t)) shut down may = absurd (never (is_shut L) shut may.running)
+late_alone p L at (Own (Publish t payload)) shut down may = absurd (never (is_shut L) shut may.running)
 late_alone p L at BeatBegin shut down may = absurd (never (is_shut L) shut may)
 late_alone p L at Decay shut down may = absurd (never (is_shut L) shut may)
 late_alone p L at (RoundEnd r) shut down may = absurd (never (is_shut L) shut may)
 late_alone p L at Shut shut down may = absurd (never (is_shut L) shut may)
-late_alone p L at other shut down may = absurd (none_to_lose L (lost other) down may)
+late_alone p L at (Own (HangUp q)) shut down may = absurd (never (up L q) may (down q))
+late_alone p L at (Lost q loss) shut down may = absurd (never (up L q) may (down q))
+late_alone p L at (Part q part) shut down may = absurd may
+late_alone p L at (Step step) shut down may = absurd may
 
 next_is_late : (p : Peer) (L : Entries) (at : ℕ) (event : Event) → IsOver p L → IsNext p L at (owed p L).events event → IsLate event
 next_is_late p L at event over next = late_alone p L at event over.shut over.down (subst (λ (debt : Debt). IsNext p L at debt.events event) over.settled next)
 
 -- an entry of an RPC that came too late, and one of a shut, change nothing
-no_marks : (e x : Entry) → SaysTheSame e x → x.marks ≡ [] → e.marks ≡ []
-no_marks e x same none = nil_from_length e.marks (length_permutation x.marks e.marks same.marks ∙ ap length none)
+no_marks : (e : Entry) (x : Effects) → SaysTheSame e.effects x → x.marks ≡ [] → e.effects.marks ≡ []
+no_marks e x same none = nil_from_length e.effects.marks (length_permutation x.marks e.effects.marks same.marks ∙ ap length none)
 
 abbrev IsStill : Event → Type 0
 IsStill (Late q rpc) = Unit {0}
 IsStill Shut = Unit {0}
 IsStill other = ⊥
 
-no_marks_of : (p : Peer) (L : Entries) (event : Event) (e : Entry) → IsStill event → Follows free (rule_of p L e.at event) tt e tt → e.marks ≡ []
-no_marks_of p L (Late q rpc) e is effects = no_marks e (bare e.at (Late q rpc)) effects.0 refl
-no_marks_of p L Shut e is effects = no_marks e (bare e.at Shut) effects.0 refl
+no_marks_of : (p : Peer) (L : Entries) (event : Event) (e : Entry) → IsStill event → Follows free (rule_of p L e.at event) tt e.effects tt → e.effects.marks ≡ []
+no_marks_of p L (Late q rpc) e is effects = no_marks e no_effects effects.0 refl
+no_marks_of p L Shut e is effects = no_marks e no_effects effects.0 refl
 no_marks_of p L other e is effects = absurd is
 
 no_change : (event : Event) (H : History) → IsStill event → changed_after event H ≡ H

@@ -1,5 +1,5 @@
 -- Worked rows of what a heartbeat does to meshes and fanouts.
-use Rattle.std.proofs.Common.{◌≡◌, ℕ, pos, Bool, true, false, List, [], ◌∷◌, Option, None, Some, refl}
+use Rattle.std.proofs.Common.{◌≡◌, ℕ, Bool, true, false, List, [], ◌∷◌, Option, None, Some, refl}
 use Rattle.gs_base.specs.declared.names.PeerNo.{PeerNo}
 use Rattle.gs_base.specs.declared.names.Topic.{Topic}
 use Rattle.gs_base.specs.declared.names.Millis.{Millis}
@@ -11,8 +11,11 @@ use Rattle.gs_mesh.specs.Cuts.{peers_of}
 use Rattle.gs_score.specs.Formula.{score_of, topic_part}
 use Rattle.gs_score.specs.Millionths.{times}
 use Rattle.gs_base.specs.Rpcs.{grafting, pruning}
-use Rattle.gs_rules.specs.declared.trace.Event.{Event}
-use Rattle.gs_rules.specs.declared.trace.Event.TheVariants.{BeatBegin, BeatEnd, FanBeat, FanEnd, MeshBeat, Publish, Sub, Subscribe}
+use Rattle.gs_rules.specs.declared.event.Event.{Event}
+use Rattle.gs_rules.specs.declared.event.Event.TheVariants.{BeatBegin, Part, Step, Own}
+use Rattle.gs_rules.specs.declared.event.RpcPart.TheVariants.{Sub}
+use Rattle.gs_rules.specs.declared.event.BeatStep.TheVariants.{BeatEnd, FanEnd}
+use Rattle.gs_plan.specs.declared.plan.Act.TheVariants.{Publish, Subscribe}
 use Rattle.gs_rules.specs.declared.trace.Entry.{Entry}
 use Rattle.gs_rules.specs.Peers.{Peer}
 use Rattle.gs_rules.specs.Tables.{Entries, heartbeats}
@@ -20,7 +23,7 @@ use Rattle.gs_rules.specs.Meshes.{fanout, fanout_topics, is_stale, last_publishe
 use Rattle.gs_rules.specs.BeatRules.{fan_beat_rule, fan_end, mesh_beat_rule}
 use Rattle.gs_rules.specs.Scoring.{score}
 use Rattle.gs_base.specs.Neighbours.{accepted_neighbour}
-use Rattle.gs_rules.specs.Rules.{AnyOf, CutOf, Gives, OneOf, Rule, bare}
+use Rattle.gs_rules.specs.Rules.{AnyOf, CutOf, Gives, OneOf, Rule, no_effects}
 
 -- ---- what is given
 
@@ -59,14 +62,14 @@ abbrev at : ℕ → Millis
 at n = record { 0 = n }
 
 abbrev entry : Event → Entry
-entry event = bare (at 0) event
+entry event = record { at = at 0; event = event; effects = no_effects }
 
 -- the charges of a heartbeat, behind which these neighbours came into the mesh, the first one first
 abbrev mesh_of : List Mark → Entries
-mesh_of marks = entry BeatBegin ∷ record (entry BeatEnd) { marks = marks } ∷ entry (Subscribe news) ∷ []
+mesh_of marks = entry BeatBegin ∷ record (entry (Step BeatEnd)) { effects = record no_effects { marks = marks } } ∷ entry (Own (Subscribe news)) ∷ []
 
 abbrev on_news : ℕ → Entry
-on_news n = entry (Sub (peer_of n) (record { subscribe = Some true; topic = Some news }))
+on_news n = entry (Part (peer_of n) (Sub (record { subscribe = Some true; topic = Some news })))
 
 abbrev grafted : ℕ → Mark
 grafted n = Grafted (peer_of n) news
@@ -93,18 +96,18 @@ behind chosen (Gives x) = Gives x
 
 -- ---- meshes
 
-heartbeats_count_from_their_charges : heartbeats (entry BeatBegin ∷ entry BeatEnd ∷ entry BeatBegin ∷ []) ≡ 2
+heartbeats_count_from_their_charges : heartbeats (entry BeatBegin ∷ entry (Step BeatEnd) ∷ entry BeatBegin ∷ []) ≡ 2
 heartbeats_count_from_their_charges = refl
 
 -- two members, of whom one is outbound, and one neighbour that could come in
-a_mesh_that_is_well_stays : mesh_beat_rule peer (on_news 3 ∷ mesh_of (grafted 1 ∷ grafted 2 ∷ [])) (at 2_000) news ≡ Gives (bare (at 2_000) (MeshBeat news))
+a_mesh_that_is_well_stays : mesh_beat_rule peer (on_news 3 ∷ mesh_of (grafted 1 ∷ grafted 2 ∷ [])) (at 2_000) news ≡ Gives no_effects
 unfolding score score_of topic_part times
 a_mesh_that_is_well_stays = refl
 
 -- the first one did not keep a promise, and the others are enough
 who_scores_below_0_goes
-    : mesh_beat_rule peer (record (entry BeatBegin) { marks = Misbehaviour (peer_of 1) ∷ [] } ∷ mesh_of (grafted 1 ∷ grafted 2 ∷ grafted 3 ∷ [])) (at 2_000) news
-    ≡ Gives (record (bare (at 2_000) (MeshBeat news)) { sends = (peer_of 1, pruning news 60) ∷ []; marks = pruned 1 ∷ barred 1 62_000 ∷ [] })
+    : mesh_beat_rule peer (record (entry BeatBegin) { effects = record no_effects { marks = Misbehaviour (peer_of 1) ∷ [] } } ∷ mesh_of (grafted 1 ∷ grafted 2 ∷ grafted 3 ∷ [])) (at 2_000) news
+    ≡ Gives (record no_effects { sends = (peer_of 1, pruning news 60) ∷ []; marks = pruned 1 ∷ barred 1 62_000 ∷ [] })
 unfolding score score_of topic_part times
 who_scores_below_0_goes = refl
 
@@ -116,7 +119,7 @@ where_members_are_few_candidates_come_in : asked_of few ≡ Some (2, peer_of 2 �
 unfolding score score_of topic_part times
 where_members_are_few_candidates_come_in = refl
 
-and_are_told_so : behind (peer_of 2 ∷ peer_of 3 ∷ []) few ≡ Gives (record (bare (at 2_000) (MeshBeat news)) { sends = (peer_of 2, grafting news) ∷ (peer_of 3, grafting news) ∷ []; marks = grafted 2 ∷ grafted 3 ∷ [] })
+and_are_told_so : behind (peer_of 2 ∷ peer_of 3 ∷ []) few ≡ Gives (record no_effects { sends = (peer_of 2, grafting news) ∷ (peer_of 3, grafting news) ∷ []; marks = grafted 2 ∷ grafted 3 ∷ [] })
 unfolding score score_of topic_part times
 and_are_told_so = refl
 
@@ -128,7 +131,7 @@ where_they_are_many_some_are_kept : asked_of many ≡ Some (3, peer_of 1 ∷ pee
 unfolding score score_of topic_part times
 where_they_are_many_some_are_kept = refl
 
-and_the_others_go : behind (peer_of 2 ∷ peer_of 3 ∷ []) many ≡ Gives (record (bare (at 2_000) (MeshBeat news)) { sends = (peer_of 1, pruning news 60) ∷ []; marks = pruned 1 ∷ barred 1 62_000 ∷ [] })
+and_the_others_go : behind (peer_of 2 ∷ peer_of 3 ∷ []) many ≡ Gives (record no_effects { sends = (peer_of 1, pruning news 60) ∷ []; marks = pruned 1 ∷ barred 1 62_000 ∷ [] })
 unfolding score score_of topic_part times
 and_the_others_go = refl
 
@@ -146,7 +149,7 @@ a_poor_mesh_is_bettered_by_better_ones = refl
 
 -- the peer published at five seconds, to the first and the second neighbour
 abbrev fanned : Entries
-fanned = record (bare (at 5_000) (Publish news [])) { marks = Fanned (peer_of 1) news ∷ Fanned (peer_of 2) news ∷ Published news ∷ [] } ∷ []
+fanned = record { at = at 5_000; event = (Own (Publish news [])); effects = record no_effects { marks = Fanned (peer_of 1) news ∷ Fanned (peer_of 2) news ∷ Published news ∷ [] } } ∷ []
 
 -- the first one left the topic, and the third one came onto it
 abbrev mended : Rule
@@ -156,7 +159,7 @@ a_fanout_is_filled_up : asked_of mended ≡ Some (2, peer_of 3 ∷ [])
 unfolding score score_of topic_part times
 a_fanout_is_filled_up = refl
 
-who_left_the_topic_leaves_it : behind (peer_of 3 ∷ []) mended ≡ Gives (record (bare (at 6_000) (FanBeat news)) { marks = Unfanned (peer_of 1) news ∷ Fanned (peer_of 3) news ∷ [] })
+who_left_the_topic_leaves_it : behind (peer_of 3 ∷ []) mended ≡ Gives (record no_effects { marks = Unfanned (peer_of 1) news ∷ Fanned (peer_of 3) news ∷ [] })
 unfolding score score_of topic_part times
 who_left_the_topic_leaves_it = refl
 
@@ -170,14 +173,14 @@ and_is_at_that_millisecond = refl
 without_a_fanout_nothing_is_stale : is_stale 60_000 65_000 (last_published fanned other) ≡ false
 without_a_fanout_nothing_is_stale = refl
 
-all_leave_a_fanout_that_ends : fan_end fanned (at 65_000) news ≡ record (bare (at 65_000) (FanEnd news)) { marks = Unfanned (peer_of 1) news ∷ Unfanned (peer_of 2) news ∷ [] }
+all_leave_a_fanout_that_ends : fan_end fanned news ≡ record no_effects { marks = Unfanned (peer_of 1) news ∷ Unfanned (peer_of 2) news ∷ [] }
 all_leave_a_fanout_that_ends = refl
 
-it_is_no_more : fanout (entry (FanEnd news) ∷ fanned) news ≡ []
+it_is_no_more : fanout (entry (Step (FanEnd news)) ∷ fanned) news ≡ []
 it_is_no_more = refl
 
-and_its_topic_has_none : fanout_topics (entry (FanEnd news) ∷ fanned) ≡ []
+and_its_topic_has_none : fanout_topics (entry (Step (FanEnd news)) ∷ fanned) ≡ []
 and_its_topic_has_none = refl
 
-the_end_of_another_leaves_it : fanout_topics (entry (FanEnd other) ∷ fanned) ≡ news ∷ []
+the_end_of_another_leaves_it : fanout_topics (entry (Step (FanEnd other)) ∷ fanned) ≡ news ∷ []
 the_end_of_another_leaves_it = refl

@@ -85,9 +85,9 @@ came_or_stayed t q (other ∷ marks) before is = by (came_or_stayed t q marks be
 
 pub came_in : (p : Peer) (L : Entries) (q : PeerNo) (t : Topic) → Legal p L → is_among (mesh L t) q ≡ true → CameIn q t L
 came_in p [] q t legal is = absurd cc
-came_in p (e ∷ L) q t legal is = by (came_or_stayed t q e.marks (mesh L t) is) (came_in p L q t legal.1)
+came_in p (e ∷ L) q t legal is = by (came_or_stayed t q e.effects.marks (mesh L t) is) (came_in p L q t legal.1)
   where
-    more : CameIn q t L → list_any (prunes t q) e.marks ≡ false → CameIn q t (e ∷ L)
+    more : CameIn q t L → list_any (prunes t q) e.effects.marks ≡ false → CameIn q t (e ∷ L)
     more c none = record {
       later = e ∷ c.later;
       entry = c.entry;
@@ -95,10 +95,10 @@ came_in p (e ∷ L) q t legal is = by (came_or_stayed t q e.marks (mesh L t) is)
       are = ap (λ (M : Entries). e ∷ M) c.are;
       came = c.came;
       rested = c.rested;
-      stayed = (none_among t q e.marks none, c.stayed);
+      stayed = (none_among t q e.effects.marks none, c.stayed);
     }
 
-    by : Came t q e.marks (mesh L t) → (is_among (mesh L t) q ≡ true → CameIn q t L) → CameIn q t (e ∷ L)
+    by : Came t q e.effects.marks (mesh L t) → (is_among (mesh L t) q ≡ true → CameIn q t L) → CameIn q t (e ∷ L)
     by (inl among) before = record {
       later = [];
       entry = e;

@@ -9,8 +9,8 @@ use Rattle.gs_base.specs.declared.mark.Mark.{Mark}
 use Rattle.gs_base.specs.declared.mark.Mark.TheVariants.{Misbehaviour, Seen}
 use Rattle.gs_base.specs.Names.{same_id, same_peer}
 use Rattle.gs_rules.specs.declared.trace.Promise.{Promise}
-use Rattle.gs_rules.specs.declared.trace.Event.{Event}
-use Rattle.gs_rules.specs.declared.trace.Event.TheVariants.{BeatBegin}
+use Rattle.gs_rules.specs.declared.event.Event.{Event}
+use Rattle.gs_rules.specs.declared.event.Event.TheVariants.{BeatBegin}
 use Rattle.gs_rules.specs.declared.trace.Entry.{Entry}
 use Rattle.gs_rules.specs.Tables.{Entries, after_marks, ended_after, fulfilled_after, made, promises, up}
 use Rattle.gs_rules.specs.Gossip.{IsOpen, WasLeftOpen, charges, ends_promise, keeps_promise, overdue}
@@ -114,15 +114,15 @@ event_leaves promise other at before unended among = among
 entry_leaves : (promise : Promise) (e : Entry) (L : Entries) → IsOpen promise e → IsAmong (promises L) promise → IsAmong (promises (e ∷ L)) promise
 entry_leaves promise e L leaves among =
     let ended : List Promise = ended_after e.event e.at.0 (promises L) in
-    among_front promise (after_marks fulfilled_after e.marks ended) (made e.promise)
-    (marks_leave promise e.marks ended leaves.unkept (event_leaves promise e.event e.at.0 (promises L) leaves.unended among))
+    among_front promise (after_marks fulfilled_after e.effects.marks ended) (made e.effects.promise)
+    (marks_leave promise e.effects.marks ended leaves.unkept (event_leaves promise e.event e.at.0 (promises L) leaves.unended among))
 
-entry_makes : (promise : Promise) (e : Entry) (L : Entries) → e.promise ≡ Some promise → IsAmong (promises (e ∷ L)) promise
+entry_makes : (promise : Promise) (e : Entry) (L : Entries) → e.effects.promise ≡ Some promise → IsAmong (promises (e ∷ L)) promise
 entry_makes promise e L makes =
-    among_behind promise (after_marks fulfilled_after e.marks (ended_after e.event e.at.0 (promises L))) (made e.promise)
+    among_behind promise (after_marks fulfilled_after e.effects.marks (ended_after e.event e.at.0 (promises L))) (made e.effects.promise)
     (subst (λ (new : Option Promise). IsAmong (made new) promise) (sym makes) (among_first promise []))
 
-pub held : (later earlier : Entries) (e : Entry) (promise : Promise) → e.promise ≡ Some promise → AllByRecursion (IsOpen promise) later → IsAmong (promises (later ++ e ∷ earlier)) promise
+pub held : (later earlier : Entries) (e : Entry) (promise : Promise) → e.effects.promise ≡ Some promise → AllByRecursion (IsOpen promise) later → IsAmong (promises (later ++ e ∷ earlier)) promise
 held [] earlier e promise makes leaves = entry_makes promise e earlier makes
 held (f ∷ later) earlier e promise makes leaves = entry_leaves promise f (later ++ e ∷ earlier) leaves.0 (held later earlier e promise makes leaves.1)
 
@@ -184,17 +184,17 @@ one_more promise e L leaves earlier = record {
 
 pub only_left : (L : Entries) (promise : Promise) → IsAmong (promises L) promise → WasLeftOpen L promise
 only_left [] promise among = absurd (among_none promise among)
-only_left (e ∷ L) promise among = by (among_either promise left (made e.promise) among) (only_left L promise)
+only_left (e ∷ L) promise among = by (among_either promise left (made e.effects.promise) among) (only_left L promise)
   where
     ended : List Promise
     ended = ended_after e.event e.at.0 (promises L)
 
     left : List Promise
-    left = after_marks fulfilled_after e.marks ended
+    left = after_marks fulfilled_after e.effects.marks ended
 
-    by : IsAmong left promise ⊎ IsAmong (made e.promise) promise → (IsAmong (promises L) promise → WasLeftOpen L promise) → WasLeftOpen (e ∷ L) promise
+    by : IsAmong left promise ⊎ IsAmong (made e.effects.promise) promise → (IsAmong (promises L) promise → WasLeftOpen L promise) → WasLeftOpen (e ∷ L) promise
     by (inl old) before =
-        let of_marks = marks_left promise e.marks ended old in
+        let of_marks = marks_left promise e.effects.marks ended old in
         let of_event = event_left promise e.event e.at.0 (promises L) of_marks.1 in
         one_more promise e L (record { unkept = of_marks.0; unended = of_event.0 }) (before of_event.1)
-    by (inr new) before = record { later = []; maker = e; earlier = L; whole = refl; makes = made_by e.promise promise new; leaves = tt }
+    by (inr new) before = record { later = []; maker = e; earlier = L; whole = refl; makes = made_by e.effects.promise promise new; leaves = tt }

@@ -17,8 +17,11 @@ use Rattle.gs_score.specs.Histories.{Change, History, Marked, named, named_after
 use Rattle.gs_score.specs.Standings.{Held}
 use Rattle.gs_score.proofs.Fitting.{apart_more, no_longer}
 use Rattle.gs_score.proofs.Naming.{named_apart, named_by_changes, named_covers}
-use Rattle.gs_rules.specs.declared.trace.Event.{Event}
-use Rattle.gs_rules.specs.declared.trace.Event.TheVariants.{Msg, GraftIn, Subscribe, MeshBeat, Decay}
+use Rattle.gs_rules.specs.declared.event.Event.{Event}
+use Rattle.gs_rules.specs.declared.event.Event.TheVariants.{Decay, Part, Step, Own}
+use Rattle.gs_rules.specs.declared.event.RpcPart.TheVariants.{Msg, GraftIn}
+use Rattle.gs_rules.specs.declared.event.BeatStep.TheVariants.{MeshBeat}
+use Rattle.gs_plan.specs.declared.plan.Act.TheVariants.{Subscribe}
 use Rattle.gs_rules.specs.declared.trace.Entry.{Entry}
 use Rattle.gs_rules.specs.Peers.{Peer}
 use Rattle.gs_rules.specs.Tables.{Entries, after_marks, joined, known, known_after, lost}
@@ -42,7 +45,7 @@ IsOf ts t = list_any (same_topic t) ts ≡ true
 
 -- none is forgotten
 stays_known : (event : Event) (before : List Topic) (u : Topic) → IsOf before u → IsOf (known_after event before) u
-stays_known (Subscribe t) before u is = still_known u t (list_any (same_topic t) before) before is
+stays_known (Own (Subscribe t)) before u is = still_known u t (list_any (same_topic t) before) before is
 stays_known other before u is = is
 
 -- with one topic more, where there is room for it, the known ones are not too many
@@ -53,7 +56,7 @@ few_after t false before few room =
     omega (arith, less, length-append before (t ∷ []))
 
 few_next : (p : Peer) (L : Entries) (at : ℕ) (event : Event) → IsNext p L at (owed p L).events event → length (known L) ≤ most_topics → length (known_after event (known L)) ≤ most_topics
-few_next p L at (Subscribe t) next few = few_after t (list_any (same_topic t) (known L)) (known L) few (opens p L at (Subscribe t) (λ h. h) next).room
+few_next p L at (Own (Subscribe t)) next few = few_after t (list_any (same_topic t) (known L)) (known L) few (opens p L at (Own (Subscribe t)) (λ h. h) next).room
 few_next p L at other next few = few
 
 few_known : (p : Peer) (L : Entries) → Legal p L → length (known L) ≤ most_topics
@@ -98,9 +101,9 @@ mark_on p L e legal own (Deficit q t z) may = stays_known e.event (known L) t (j
 mark_on p L e legal own (Grafted q t) may = joined_known (e ∷ L) t (joins_then L e.event t own may.joins)
 mark_on p L e legal own other may = tt
 
-marks_on : (p : Peer) (L : Entries) (e : Entry) → Legal p (e ∷ L) → AllByRecursion (IsOn (known (e ∷ L))) e.marks
+marks_on : (p : Peer) (L : Entries) (e : Entry) → Legal p (e ∷ L) → AllByRecursion (IsOn (known (e ∷ L))) e.effects.marks
 marks_on p L e legal =
-    each_weaker (MayMark p L e.at.0 e.event) (IsOn (known (e ∷ L))) (mark_on p L e legal.1 (next_of_own p L e.at.0 e.event legal.1 (legal_newest p e L legal).next)) e.marks
+    each_weaker (MayMark p L e.at.0 e.event) (IsOn (known (e ∷ L))) (mark_on p L e legal.1 (next_of_own p L e.at.0 e.event legal.1 (legal_newest p e L legal).next)) e.effects.marks
     (entry_marks p L e.event e (legal_newest p e L legal).effects)
 
 -- ---- who is no neighbour
@@ -143,7 +146,7 @@ module _ (p : Peer) (q : PeerNo) (far : is_neighbour p q ≡ false) where
 
   unnamed : (L : Entries) → named (history p L) q ≡ []
   unnamed [] = refl
-  unnamed (e ∷ L) = marks_unnamed e.at e.marks (changed_after e.event (history p L)) (event_unnamed e.event (history p L) (unnamed L))
+  unnamed (e ∷ L) = marks_unnamed e.at e.effects.marks (changed_after e.event (history p L)) (event_unnamed e.event (history p L) (unnamed L))
 
   -- so that nothing is missing of it
   none_missing : (L : Entries) (at : ℕ) (t : Topic) → nat_eq (missing p L at (q, t)) 0 ≡ true
@@ -161,14 +164,14 @@ missing_near p L at q t some = by (is_neighbour p q) refl
 -- ---- whom marks concern
 
 come_near : (p : Peer) (event : Event) (q : PeerNo) → IsFromNeighbour p event → ComesOf event q → is_neighbour p q ≡ true
-come_near p (Msg r m) q near is = subst (λ (s : PeerNo). is_neighbour p s ≡ true) (sym is) near
-come_near p (GraftIn r graft) q near is = subst (λ (s : PeerNo). is_neighbour p s ≡ true) (sym is) near
+come_near p (Part r (Msg m)) q near is = subst (λ (s : PeerNo). is_neighbour p s ≡ true) (sym is) near
+come_near p (Part r (GraftIn graft)) q near is = subst (λ (s : PeerNo). is_neighbour p s ≡ true) (sym is) near
 come_near p other q near is = absurd is
 
 pub grafted_near : (p : Peer) (L : Entries) (event : Event) (q : PeerNo) → IsFromNeighbour p event → GraftedBy p L event q → is_neighbour p q ≡ true
-grafted_near p L (GraftIn r graft) q near is = subst (λ (s : PeerNo). is_neighbour p s ≡ true) (sym is) near
-grafted_near p L (Subscribe t) q near is = is.0
-grafted_near p L (MeshBeat t) q near is = is.0
+grafted_near p L (Part r (GraftIn graft)) q near is = subst (λ (s : PeerNo). is_neighbour p s ≡ true) (sym is) near
+grafted_near p L (Own (Subscribe t)) q near is = is.0
+grafted_near p L (Step (MeshBeat t)) q near is = is.0
 grafted_near p L other q near is = absurd is
 
 blamed_near : (p : Peer) (event : Event) (q : PeerNo) → IsFromNeighbour p event → ComesOf event q ⊎ (is_neighbour p q ≡ true) → is_neighbour p q ≡ true
@@ -184,9 +187,9 @@ mark_of p L at event near (Misbehaviour q) may = blamed_near p event q near may
 mark_of p L at event near (Grafted q t) may = grafted_near p L event q near may.who
 mark_of p L at event near other may = tt
 
-marks_of : (p : Peer) (L : Entries) (e : Entry) → Legal p (e ∷ L) → IsFromNeighbour p e.event → AllByRecursion (IsOfNeighbour p) e.marks
+marks_of : (p : Peer) (L : Entries) (e : Entry) → Legal p (e ∷ L) → IsFromNeighbour p e.event → AllByRecursion (IsOfNeighbour p) e.effects.marks
 marks_of p L e legal near =
-    each_weaker (MayMark p L e.at.0 e.event) (IsOfNeighbour p) (mark_of p L e.at.0 e.event near) e.marks
+    each_weaker (MayMark p L e.at.0 e.event) (IsOfNeighbour p) (mark_of p L e.at.0 e.event near) e.effects.marks
     (entry_marks p L e.event e (legal_newest p e L legal).effects)
 
 -- ---- what a history names
@@ -234,7 +237,7 @@ names_more ts us H more names = λ q. each_weaker (Names ts q) (Names us q) (λ 
 history_names : (p : Peer) (L : Entries) → Legal p L → NamesOf (known L) (history p L)
 history_names p [] legal = λ q. tt
 history_names p (e ∷ L) legal =
-    marks_name p (known (e ∷ L)) e.at e.marks (changed_after e.event (history p L)) (marks_on p L e legal)
+    marks_name p (known (e ∷ L)) e.at e.effects.marks (changed_after e.event (history p L)) (marks_on p L e legal)
     (changed_names (known (e ∷ L)) e.event (history p L) (names_more (known L) (known (e ∷ L)) (history p L) (stays_known e.event (known L)) (history_names p L legal.1)))
 
 -- ---- each mark counts
@@ -273,9 +276,9 @@ marks_count p ts at (mark ∷ marks) H few names on of =
     ∙ marks_count p ts at marks (change_of at mark ∷ H) few (λ q. (mark_names ts q at mark on.0, names q)) on.1 of.1
     ∙ put_first at mark marks H
 
-pub all_marks_count : (p : Peer) (L : Entries) (e : Entry) → Legal p (e ∷ L) → IsFromNeighbour p e.event → history p (e ∷ L) ≡ reverse (map (change_of e.at) e.marks) ++ changed_after e.event (history p L)
+pub all_marks_count : (p : Peer) (L : Entries) (e : Entry) → Legal p (e ∷ L) → IsFromNeighbour p e.event → history p (e ∷ L) ≡ reverse (map (change_of e.at) e.effects.marks) ++ changed_after e.event (history p L)
 all_marks_count p L e legal near =
-    marks_count p (known (e ∷ L)) e.at e.marks (changed_after e.event (history p L)) (few_known p (e ∷ L) legal)
+    marks_count p (known (e ∷ L)) e.at e.effects.marks (changed_after e.event (history p L)) (few_known p (e ∷ L) legal)
     (changed_names (known (e ∷ L)) e.event (history p L) (names_more (known L) (known (e ∷ L)) (history p L) (stays_known e.event (known L)) (history_names p L legal.1)))
     (marks_on p L e legal) (marks_of p L e legal near)
 

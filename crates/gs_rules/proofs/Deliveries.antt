@@ -17,22 +17,28 @@ use Rattle.gs_base.specs.declared.verdict.Verdict.{Verdict}
 use Rattle.gs_base.specs.declared.verdict.Verdict.TheVariants.{Accept, Reject, Ignore}
 use Rattle.gs_base.specs.declared.mark.Mark.{Mark}
 use Rattle.gs_base.specs.declared.mark.Mark.TheVariants.{Seen, Cached, Published}
-use Rattle.gs_rules.specs.declared.trace.Event.{Event}
-use Rattle.gs_rules.specs.declared.trace.Event.TheVariants.{Msg, Have, Want, Sub, GraftIn, PruneIn, Subscribe, Publish, MeshBeat, FanBeat, GossipBeat}
+use Rattle.gs_rules.specs.declared.event.Event.{Event}
+use Rattle.gs_rules.specs.declared.event.Event.TheVariants.{Part, Step, Own, Heard, Late, BeatBegin, Lost, Decay, RoundEnd, Shut}
+use Rattle.gs_rules.specs.declared.event.RpcPart.TheVariants.{Msg, Have, Want, Sub, GraftIn, PruneIn}
+use Rattle.gs_rules.specs.declared.event.BeatStep.TheVariants.{MeshBeat, FanBeat, GossipBeat, FanEnd, BeatEnd}
+use Rattle.gs_plan.specs.declared.plan.Act.TheVariants.{Subscribe, Publish, Unsubscribe, Raw, HangUp}
 use Rattle.gs_rules.specs.declared.trace.Entry.{Entry}
-use Rattle.gs_base.specs.Names.{same_id, message_id, topic_of, payload_of}
+use Rattle.gs_rules.specs.declared.trace.Effects.{Effects}
+use Rattle.gs_base.specs.Names.{same_id, message_id, topic_of, topic_or_empty, payload_of}
 use Rattle.gs_rules.specs.Tables.{Entries, last_moment, joined, Sighting, after_marks, sighting_after, last_seen, counting, seen}
 use Rattle.gs_rules.specs.Peers.{Peer, seen_ttl}
 use Rattle.gs_rules.specs.Owed.{owed}
 use Rattle.gs_mesh.specs.Peers.{is_among}
 use Rattle.gs_rules.specs.Meshes.{mesh}
 use Rattle.gs_rules.specs.Membership.{candidates, fanning}
-use Rattle.gs_rules.specs.MeshRules.{graft_rule, joining, prune_rule, publish_rule, publishing, sub_rule, those_among}
+use Rattle.gs_rules.specs.MeshRules.{fanout_marks, joining, prune_rule, publish_rule, publishing, sub_rule, those_among}
+use Rattle.gs_rules.specs.declared.outcome.FanoutUse.{FanoutUse}
+use Rattle.gs_rules.specs.declared.outcome.FanoutUse.TheVariants.{Unused, Kept, Filled}
 use Rattle.gs_rules.specs.BeatRules.{mending, refanning}
-use Rattle.gs_rules.specs.Rules.{asking, bare, counted, explicit_listeners, gossiping, have_rule, rule_of, want_rule, wanted}
+use Rattle.gs_rules.specs.Rules.{asking, counted, explicit_listeners, gossiping, have_rule, rule_of, want_rule, wanted, no_effects}
 use Rattle.gs_rules.specs.declared.outcome.Outcome.{Outcome}
 use Rattle.gs_rules.specs.declared.outcome.Outcome.TheVariants.{Accepted, Ignored, Invalid, Near, Rejected}
-use Rattle.gs_rules.specs.Outcomes.{found_to_be, message_entry, message_rule, near_of}
+use Rattle.gs_rules.specs.Outcomes.{found_to_be, message_effects, message_rule, near_of}
 use Rattle.gs_rules.specs.Modes.{SaysTheSame, Follows, free}
 use Rattle.gs_rules.specs.Legal.{MayPublish, IsNext, IsAllowed, Legal, Delivers, DeliversApart}
 use Rattle.gs_rules.proofs.Legality.{legal_newest}
@@ -46,7 +52,7 @@ use Rattle.gs_rules.proofs.Ruled.{mesh_change_at, of_a_graft, of_a_prune, of_a_s
 -- a message was not seen lately, and is marked as seen now
 record IsFresh (p : Peer) (L : Entries) (e : Entry) (id : MsgId) : Type 0 where
   unseen : seen (seen_ttl p) L id e.at.0 ≡ None
-  marked : (before : Option Sighting) → after_marks (sighting_after id e.at.0) e.marks before ≡ Some (record { at = e.at.0; verdict = Accept })
+  marked : (before : Option Sighting) → after_marks (sighting_after id e.at.0) e.effects.marks before ≡ Some (record { at = e.at.0; verdict = Accept })
 
 -- what is among none, and among one
 nothing_among : {X : Type 0} (xs : List X) (x : X) → xs ≡ [] → IsAmong xs x → ⊥
@@ -98,37 +104,37 @@ accepts id at list marks all some same before =
     (sym (list_any-IsPermutation is_sight list marks same) ∙ some)
 
 -- an entry is fresh where its rule gives one message that was not seen lately, and marks it
-delivers_one : (p : Peer) (L : Entries) (e x : Entry) (y : Topic × List ℕ) (id : MsgId) → SaysTheSame e x → x.delivered ≡ y ∷ [] → AllByRecursion (SaysSeen (message_id y.1)) x.marks → list_any is_sight x.marks ≡ true → seen (seen_ttl p) L (message_id y.1) e.at.0 ≡ None → Delivers e id → IsFresh p L e id
+delivers_one : (p : Peer) (L : Entries) (e : Entry) (x : Effects) (y : Topic × List ℕ) (id : MsgId) → SaysTheSame e.effects x → x.delivered ≡ y ∷ [] → AllByRecursion (SaysSeen (message_id y.1)) x.marks → list_any is_sight x.marks ≡ true → seen (seen_ttl p) L (message_id y.1) e.at.0 ≡ None → Delivers e id → IsFresh p L e id
 delivers_one p L e x y id same delivered all some unseen (z, among, is) =
     let this : z ≡ y = only_among y z (rw (same.delivered, delivered) at among) in
     let known : message_id y.1 ≡ id = ap (λ w. message_id w.1) (sym this) ∙ is in
     record {
       unseen = rw (← known) unseen;
-      marked = λ before. rw (← known) (accepts (message_id y.1) e.at.0 x.marks e.marks all some same.marks before);
+      marked = λ before. rw (← known) (accepts (message_id y.1) e.at.0 x.marks e.effects.marks all some same.marks before);
     }
 
 -- where its rule gives no message, it delivers none
-delivers_none : (p : Peer) (L : Entries) (e x : Entry) (id : MsgId) → SaysTheSame e x → x.delivered ≡ [] → Delivers e id → IsFresh p L e id
-delivers_none p L e x id same delivered (z, among, is) = absurd (nothing_among e.delivered z (same.delivered ∙ delivered) among)
+delivers_none : (p : Peer) (L : Entries) (e : Entry) (x : Effects) (id : MsgId) → SaysTheSame e.effects x → x.delivered ≡ [] → Delivers e id → IsFresh p L e id
+delivers_none p L e x id same delivered (z, among, is) = absurd (nothing_among e.effects.delivered z (same.delivered ∙ delivered) among)
 
 -- a message that came
-heard : (p : Peer) (L : Entries) (q : PeerNo) (m : Message) (e : Entry) (id : MsgId) → SaysTheSame e (message_rule p L e.at q m) → Delivers e id → IsFresh p L e id
+heard : (p : Peer) (L : Entries) (q : PeerNo) (m : Message) (e : Entry) (id : MsgId) → SaysTheSame e.effects (message_rule p L e.at q m) → Delivers e id → IsFresh p L e id
 heard p L q m e id same delivers =
-    of_a_message (λ (x : Entry). SaysTheSame e x → IsFresh p L e id) p L e.at q m
-    (λ says. delivers_none p L e (bare e.at (Msg q m)) id says refl delivers)
+    of_a_message (λ (x : Effects). SaysTheSame e.effects x → IsFresh p L e id) p L e.at q m
+    (λ says. delivers_none p L e no_effects id says refl delivers)
     (λ says. delivers_none p L e (becomes Invalid) id says refl delivers)
     (λ says. delivers_none p L e (becomes (Near (message_id (payload_of m)))) id says refl delivers)
     new
     same
   where
-    becomes : Outcome → Entry
-    becomes found = message_entry (mesh L (topic_of m)) (explicit_listeners p L (topic_of m)) e.at q m found
+    becomes : Outcome → Effects
+    becomes found = message_effects (mesh L (topic_of m)) (explicit_listeners p L (topic_of m)) q m found
 
     near_says : (near : Bool) (rest : List Mark) → AllByRecursion (SaysSeen (message_id (payload_of m))) rest → AllByRecursion (SaysSeen (message_id (payload_of m))) (near_of near q (topic_of m) (message_id (payload_of m)) ++ rest)
     near_says true rest all = (tt, all)
     near_says false rest all = all
 
-    new : seen (seen_ttl p) L (message_id (payload_of m)) e.at.0 ≡ None → (v : Verdict) → SaysTheSame e (becomes (found_to_be (message_id (payload_of m)) v)) → IsFresh p L e id
+    new : seen (seen_ttl p) L (message_id (payload_of m)) e.at.0 ≡ None → (v : Verdict) → SaysTheSame e.effects (becomes (found_to_be (message_id (payload_of m)) v)) → IsFresh p L e id
     new unseen Accept says =
         delivers_one p L e (becomes (Accepted (message_id (payload_of m)))) (topic_of m, payload_of m) id says refl
         ((refl, refl), (tt, near_says (is_among (mesh L (topic_of m)) q) (Cached (message_id (payload_of m)) (topic_of m) ∷ []) (tt, tt))) refl unseen delivers
@@ -142,53 +148,70 @@ fanning_says id t (q ∷ fanned) marks all = (tt, fanning_says id t fanned marks
 
 -- a message that the peer published, by whether it is subscribed
 module _ (p : Peer) (L : Entries) (t : Topic) (payload : List ℕ) (e : Entry) (id : MsgId) (may : MayPublish p L e.at.0 t payload) (delivers : Delivers e id) where
-  by_subscription : (receivers fanned : List PeerNo) (marks : List Mark) → AllByRecursion (SaysSeen (message_id payload)) marks → SaysTheSame e (publishing p L e.at t payload receivers fanned marks) → (is_joined : Bool) → joined L t ≡ is_joined → IsFresh p L e id
-  by_subscription receivers fanned marks all same false j = delivers_none p L e (publishing p L e.at t payload receivers fanned marks) id same (rw j refl) delivers
-  by_subscription receivers fanned marks all same true j =
-      delivers_one p L e (publishing p L e.at t payload receivers fanned marks) (t, payload) id same (rw j refl)
-      ((refl, refl), (tt, fanning_says (message_id payload) t fanned marks all)) refl may.unseen delivers
+  fanout_says : (fanout_use : FanoutUse) (chosen : List PeerNo) → AllByRecursion (SaysSeen (message_id payload)) (fanout_marks fanout_use t chosen)
+  fanout_says Unused chosen = tt
+  fanout_says Kept chosen = (tt, tt)
+  fanout_says Filled chosen = fanning_says (message_id payload) t chosen (Published t ∷ []) (tt, tt)
 
-  published : Follows free (publish_rule p L e.at t payload) tt e tt → IsFresh p L e id
+  by_subscription : (receivers : List PeerNo) (fanout_use : FanoutUse) → SaysTheSame e.effects (publishing p L t payload receivers fanout_use) → (is_joined : Bool) → joined L t ≡ is_joined → IsFresh p L e id
+  by_subscription receivers fanout_use same false j = delivers_none p L e (publishing p L t payload receivers fanout_use) id same (rw j refl) delivers
+  by_subscription receivers fanout_use same true j =
+      delivers_one p L e (publishing p L t payload receivers fanout_use) (t, payload) id same (rw j refl)
+      ((refl, refl), (tt, fanout_says fanout_use receivers)) refl may.unseen delivers
+
+  published : Follows free (publish_rule p L e.at t payload) tt e.effects tt → IsFresh p L e id
   published effects =
       what_is_published (IsFresh p L e id) p L t payload e
-      (λ receivers same. by_subscription receivers [] [] tt same (joined L t) refl)
-      (λ receivers new ordinary same. by_subscription receivers new (Published t ∷ []) (tt, tt) same (joined L t) refl)
+      (λ receivers same. by_subscription receivers Unused same (joined L t) refl)
+      (λ receivers same. by_subscription receivers Kept same (joined L t) refl)
+      (λ receivers ordinary same. by_subscription receivers Filled same (joined L t) refl)
       effects
 
 -- an offer delivers nothing, whatever is chosen
-offered : (p : Peer) (L : Entries) (q : PeerNo) (offer : IHave) (e : Entry) (id : MsgId) → Follows free (have_rule p L e.at q offer) tt e tt → Delivers e id → IsFresh p L e id
+offered : (p : Peer) (L : Entries) (q : PeerNo) (offer : IHave) (e : Entry) (id : MsgId) → Follows free (have_rule p L e.at q offer) tt e.effects tt → Delivers e id → IsFresh p L e id
 offered p L q offer e id effects delivers =
     what_is_offered (λ (e : Entry). IsFresh p L e id) p L e.at q offer e
-    (λ same. delivers_none p L e (bare e.at (Have q offer)) id same refl delivers)
-    (λ same. delivers_none p L e (counted e.at q offer) id same refl delivers)
-    (λ place same. delivers_none p L e (asking p e.at q offer (wanted p L e.at.0 q offer.ids) place) id same refl delivers)
+    (λ same. delivers_none p L e no_effects id same refl delivers)
+    (λ same. delivers_none p L e (counted q) id same refl delivers)
+    (λ place same. delivers_none p L e (asking p e.at q (wanted p L e.at.0 q offer.ids) place) id same refl delivers)
     effects
 
 -- a request delivers nothing
-requested : (p : Peer) (L : Entries) (q : PeerNo) (request : IWant) (e : Entry) (id : MsgId) → SaysTheSame e (want_rule p L e.at q request) → Delivers e id → IsFresh p L e id
+requested : (p : Peer) (L : Entries) (q : PeerNo) (request : IWant) (e : Entry) (id : MsgId) → SaysTheSame e.effects (want_rule p L e.at q request) → Delivers e id → IsFresh p L e id
 requested p L q request e id same delivers =
-    delivers_none p L e (want_rule p L e.at q request) id same (of_a_request (λ (x : Entry). x.delivered ≡ []) p L e.at q request refl refl) delivers
+    delivers_none p L e (want_rule p L e.at q request) id same (of_a_request (λ (x : Effects). x.delivered ≡ []) p L e.at q request refl refl) delivers
 
 -- of all events, these two alone deliver
-by_event : (p : Peer) (L : Entries) (event : Event) (e : Entry) (id : MsgId) → IsNext p L e.at.0 (owed p L).events event → Follows free (rule_of p L e.at event) tt e tt → Delivers e id → IsFresh p L e id
-by_event p L (Msg q m) e id next effects delivers = heard p L q m e id effects.0 delivers
-by_event p L (Publish t payload) e id next effects delivers = published p L t payload e id (opens p L e.at.0 (Publish t payload) (λ h. h) next) delivers effects
-by_event p L (Have q offer) e id next effects delivers = offered p L q offer e id effects delivers
-by_event p L (Want q request) e id next effects delivers = requested p L q request e id effects.0 delivers
-by_event p L (Sub q sub) e id next effects delivers =
-    delivers_none p L e (sub_rule p L e.at q sub) id effects.0 (of_a_sub (λ (x : Entry). x.delivered ≡ []) p L e.at q sub refl refl) delivers
-by_event p L (GraftIn q graft) e id next effects delivers =
-    delivers_none p L e (graft_rule p L e.at q graft) id effects.0 (of_a_graft (λ (x : Entry). x.delivered ≡ []) p L e.at q graft refl (λ on. refl) (λ on. refl) (λ on ordinary late. refl)) delivers
-by_event p L (PruneIn q prune) e id next effects delivers =
-    delivers_none p L e (prune_rule p L e.at q prune) id effects.0 (of_a_prune (λ (x : Entry). x.delivered ≡ []) p L e.at q prune refl refl) delivers
-by_event p L (Subscribe t) e id next effects delivers =
-    delivers_none p L e (joining p L e.at t (those_among (effects.0 ++ effects.3.0) (candidates p L e.at.0 t))) id effects.3.3.0 refl delivers
-by_event p L (MeshBeat t) e id next effects delivers =
+by_event : (p : Peer) (L : Entries) (event : Event) (e : Entry) (id : MsgId) → IsNext p L e.at.0 (owed p L).events event → Follows free (rule_of p L e.at event) tt e.effects tt → Delivers e id → IsFresh p L e id
+by_event p L (Part q (Msg m)) e id next effects delivers = heard p L q m e id effects.0 delivers
+by_event p L (Own (Publish t payload)) e id next effects delivers = published p L t payload e id (opens p L e.at.0 (Own (Publish t payload)) (λ h. h) next) delivers effects
+by_event p L (Part q (Have offer)) e id next effects delivers = offered p L q offer e id effects delivers
+by_event p L (Part q (Want request)) e id next effects delivers = requested p L q request e id effects.0 delivers
+by_event p L (Part q (Sub sub)) e id next effects delivers =
+    delivers_none p L e (sub_rule p L e.at q sub) id effects.0 (of_a_sub (λ (x : Effects). x.delivered ≡ []) p L e.at q sub refl refl) delivers
+by_event p L (Part q (GraftIn graft)) e id next effects delivers =
+    delivers_none p L e _ id effects.0 (of_a_graft (λ (x : Effects). x.delivered ≡ []) p L e.at q (topic_or_empty graft.topic) refl (λ on. refl) (λ on. refl) (λ on ordinary late. refl)) delivers
+by_event p L (Part q (PruneIn prune)) e id next effects delivers =
+    delivers_none p L e (prune_rule p L e.at q prune) id effects.0 (of_a_prune (λ (x : Effects). x.delivered ≡ []) p L e.at q prune refl refl) delivers
+by_event p L (Own (Subscribe t)) e id next effects delivers =
+    delivers_none p L e (joining p L t (those_among (effects.0 ++ effects.3.0) (candidates p L e.at.0 t))) id effects.3.3.0 refl delivers
+by_event p L (Step (MeshBeat t)) e id next effects delivers =
     what_is_mended (IsFresh p L e id) p L t e
     (λ kept come same. delivers_none p L e (mending p L e.at t (mesh_change_at p L e.at.0 t kept come)) id same refl delivers) effects
-by_event p L (FanBeat t) e id next effects delivers = delivers_none p L e (refanning p L e.at t effects.0) id effects.3.0 refl delivers
-by_event p L (GossipBeat t) e id next effects delivers = delivers_none p L e (gossiping p L e.at t effects.0) id effects.3.0 refl delivers
-by_event p L other e id next effects delivers = delivers_none p L e _ id effects.0 refl delivers
+by_event p L (Step (FanBeat t)) e id next effects delivers = delivers_none p L e (refanning p L e.at t effects.0) id effects.3.0 refl delivers
+by_event p L (Step (GossipBeat t)) e id next effects delivers = delivers_none p L e (gossiping p L t effects.0) id effects.3.0 refl delivers
+by_event p L (Own (Unsubscribe t)) e id next effects delivers = delivers_none p L e _ id effects.0 refl delivers
+by_event p L (Own (HangUp q)) e id next effects delivers = delivers_none p L e _ id effects.0 refl delivers
+by_event p L (Own (Raw q bytes)) e id next effects delivers = delivers_none p L e no_effects id effects.0 refl delivers
+by_event p L (Step (FanEnd t)) e id next effects delivers = delivers_none p L e _ id effects.0 refl delivers
+by_event p L (Step BeatEnd) e id next effects delivers = delivers_none p L e no_effects id effects.0 refl delivers
+by_event p L BeatBegin e id next effects delivers = delivers_none p L e _ id effects.0 refl delivers
+by_event p L (Lost q loss) e id next effects delivers = delivers_none p L e _ id effects.0 refl delivers
+by_event p L (Heard q rpc) e id next effects delivers = delivers_none p L e no_effects id effects.0 refl delivers
+by_event p L (Late q rpc) e id next effects delivers = delivers_none p L e no_effects id effects.0 refl delivers
+by_event p L Decay e id next effects delivers = delivers_none p L e no_effects id effects.0 refl delivers
+by_event p L (RoundEnd r) e id next effects delivers = delivers_none p L e no_effects id effects.0 refl delivers
+by_event p L Shut e id next effects delivers = delivers_none p L e no_effects id effects.0 refl delivers
 
 delivered_is_fresh : (p : Peer) (L : Entries) (e : Entry) (id : MsgId) → IsAllowed free p L tt e tt → Delivers e id → IsFresh p L e id
 delivered_is_fresh p L e id allowed delivers = by_event p L e.event e id allowed.next allowed.effects delivers
@@ -225,10 +248,10 @@ since_marks moment at id [] before later h = h
 since_marks moment at id (mark ∷ marks) before later h = since_marks moment at id marks (sighting_after id at mark before) later (since_mark moment at id mark before later h)
 
 -- what is marked is seen from then on
-seen_since : (p : Peer) (between : Entries) (f : Entry) (earlier : Entries) (id : MsgId) → Legal p (between ++ f ∷ earlier) → ((before : Option Sighting) → after_marks (sighting_after id f.at.0) f.marks before ≡ Some (record { at = f.at.0; verdict = Accept })) → IsSince f.at.0 (last_seen (between ++ f ∷ earlier) id)
+seen_since : (p : Peer) (between : Entries) (f : Entry) (earlier : Entries) (id : MsgId) → Legal p (between ++ f ∷ earlier) → ((before : Option Sighting) → after_marks (sighting_after id f.at.0) f.effects.marks before ≡ Some (record { at = f.at.0; verdict = Accept })) → IsSince f.at.0 (last_seen (between ++ f ∷ earlier) id)
 seen_since p [] f earlier id legal marked = record { sighting = record { at = f.at.0; verdict = Accept }; is = marked (last_seen earlier id); since = omega arith }
 seen_since p (g ∷ between) f earlier id legal marked =
-    since_marks f.at.0 g.at.0 id g.marks (last_seen (between ++ f ∷ earlier) id) (time_rises p (g ∷ between) f earlier legal) (seen_since p between f earlier id legal.1 marked)
+    since_marks f.at.0 g.at.0 id g.effects.marks (last_seen (between ++ f ∷ earlier) id) (time_rises p (g ∷ between) f earlier legal) (seen_since p between f earlier id legal.1 marked)
 
 -- a sighting that does not count any more is as old as the time for which it counts
 is_past : (ttl now : ℕ) (s : Sighting) → counting ttl now (Some s) ≡ None → ttl ≤ now - s.at

@@ -15,8 +15,11 @@ use Rattle.gs_score.specs.Formula.{score_of}
 use Rattle.gs_score.specs.Millionths.{times}
 use Rattle.gs_wire.specs.declared.frames.End.TheVariants as ends
 use Rattle.gs_wire.specs.Codec.{codec}
-use Rattle.gs_rules.specs.declared.trace.Event.{Event}
-use Rattle.gs_rules.specs.declared.trace.Event.TheVariants.{Sub, Msg, Have, Want, Publish, RoundEnd, Gone, HangUp, Raw, Shut}
+use Rattle.gs_rules.specs.declared.event.Event.{Event}
+use Rattle.gs_rules.specs.declared.event.Event.TheVariants.{RoundEnd, Shut, Part, Own, Lost}
+use Rattle.gs_rules.specs.declared.event.RpcPart.TheVariants.{Sub, Msg, Have, Want}
+use Rattle.gs_plan.specs.declared.plan.Act.TheVariants.{Publish, HangUp, Raw}
+use Rattle.gs_rules.specs.declared.event.Loss.TheVariants.{Gone}
 use Rattle.gs_rules.specs.declared.trace.Entry.{Entry}
 use Rattle.gs_rules.specs.Peers.{Peer}
 use Rattle.gs_rules.specs.Tables.{answered, kept, up}
@@ -25,7 +28,7 @@ use Rattle.gs_rules.specs.Scoring.{score}
 use Rattle.gs_rules.specs.Owed.{parts}
 use Rattle.gs_rules.specs.declared.refusal.Refusal.TheVariants.{NotOpen, Stopped}
 use Rattle.gs_rules.specs.Refusals.{reasons, refusal}
-use Rattle.gs_rules.specs.Rules.{Gives, answers, bare, each_once, have_rule, ids_in, room_to_ask}
+use Rattle.gs_rules.specs.Rules.{Gives, answers, each_once, have_rule, ids_in, room_to_ask, no_effects}
 use Rattle.gs_rules.specs.Saying.{Byte, EndOf, Close, out}
 use Rattle.gs_rules.specs.Hearing.{Inbound, after, bytes_before, said_in, silence}
 use Rattle.gs_rules.specs.Rounds.{HearFault, HearGone, ending}
@@ -68,24 +71,24 @@ silence_ends_nothing = refl
 -- ---- what a trace says
 
 abbrev entry : Event → Entry
-entry event = bare (record { 0 = 0 }) event
+entry event = record { at = record { 0 = 0 }; event = event; effects = no_effects }
 
 -- the newest entry first: a neighbour that is gone is told the end of the round before, and the close
-nothing_follows_the_close : out codec (entry (RoundEnd 1) ∷ entry (Gone q) ∷ entry (RoundEnd 0) ∷ []) q ≡ EndOf 0 ∷ Close ∷ []
+nothing_follows_the_close : out codec (entry (RoundEnd 1) ∷ entry (Lost q Gone) ∷ entry (RoundEnd 0) ∷ []) q ≡ EndOf 0 ∷ Close ∷ []
 nothing_follows_the_close = refl
 
 -- another is told on
-another_is_told_on : out codec (entry (RoundEnd 1) ∷ entry (Gone q) ∷ entry (RoundEnd 0) ∷ []) (record { 0 = 2 }) ≡ EndOf 0 ∷ EndOf 1 ∷ []
+another_is_told_on : out codec (entry (RoundEnd 1) ∷ entry (Lost q Gone) ∷ entry (RoundEnd 0) ∷ []) (record { 0 = 2 }) ≡ EndOf 0 ∷ EndOf 1 ∷ []
 another_is_told_on = refl
 
-nothing_follows_a_hang_up : out codec (entry (RoundEnd 1) ∷ entry (HangUp q) ∷ entry (RoundEnd 0) ∷ []) q ≡ EndOf 0 ∷ Close ∷ []
+nothing_follows_a_hang_up : out codec (entry (RoundEnd 1) ∷ entry (Own (HangUp q)) ∷ entry (RoundEnd 0) ∷ []) q ≡ EndOf 0 ∷ Close ∷ []
 nothing_follows_a_hang_up = refl
 
 -- bytes go as they are, behind what was said before; no bytes say nothing
-raw_bytes_go_as_they_are : out codec (entry (RoundEnd 1) ∷ entry (Raw q []) ∷ entry (Raw q (5 ∷ 10 ∷ [])) ∷ entry (RoundEnd 0) ∷ []) q ≡ EndOf 0 ∷ Byte 5 ∷ Byte 10 ∷ EndOf 1 ∷ []
+raw_bytes_go_as_they_are : out codec (entry (RoundEnd 1) ∷ entry (Own (Raw q [])) ∷ entry (Own (Raw q (5 ∷ 10 ∷ []))) ∷ entry (RoundEnd 0) ∷ []) q ≡ EndOf 0 ∷ Byte 5 ∷ Byte 10 ∷ EndOf 1 ∷ []
 raw_bytes_go_as_they_are = refl
 
-nobody_else_is_told_them : out codec (entry (Raw q (5 ∷ 10 ∷ [])) ∷ []) (record { 0 = 2 }) ≡ []
+nobody_else_is_told_them : out codec (entry (Own (Raw q (5 ∷ 10 ∷ []))) ∷ []) (record { 0 = 2 }) ≡ []
 nobody_else_is_told_them = refl
 
 nobody_is_up_behind_the_shut : up (entry Shut ∷ []) q ≡ false
@@ -102,7 +105,7 @@ leaves = record { subscribe = Some false; topic = None }
 abbrev empty_message : Message
 empty_message = record { origin = None; payload = None; seqno = None; topic = None; signature = None; key = None }
 
-subscriptions_come_first : parts q (record { subs = joins ∷ leaves ∷ []; publish = empty_message ∷ []; control = None }) ≡ Sub q joins ∷ Sub q leaves ∷ Msg q empty_message ∷ []
+subscriptions_come_first : parts q (record { subs = joins ∷ leaves ∷ []; publish = empty_message ∷ []; control = None }) ≡ Part q (Sub joins) ∷ Part q (Sub leaves) ∷ Part q (Msg empty_message) ∷ []
 subscriptions_come_first = refl
 
 abbrev offer : IHave
@@ -114,7 +117,7 @@ request = record { ids = [] }
 abbrev controls : Control
 controls = record { ihave = offer ∷ []; iwant = request ∷ []; graft = []; prune = [] }
 
-offers_and_requests_come_last : parts q (record { subs = joins ∷ []; publish = empty_message ∷ []; control = Some controls }) ≡ Sub q joins ∷ Msg q empty_message ∷ Have q offer ∷ Want q request ∷ []
+offers_and_requests_come_last : parts q (record { subs = joins ∷ []; publish = empty_message ∷ []; control = Some controls }) ≡ Part q (Sub joins) ∷ Part q (Msg empty_message) ∷ Part q (Have offer) ∷ Part q (Want request) ∷ []
 offers_and_requests_come_last = refl
 
 -- ---- offers
@@ -135,7 +138,7 @@ peer = record {
 
 -- an entry with one mark
 abbrev marked : Event → Mark → Entry
-marked event mark = record (entry event) { marks = mark ∷ [] }
+marked event mark = record (entry event) { effects = record no_effects { marks = mark ∷ [] } }
 
 abbrev other : PeerNo
 other = record { 0 = 2 }
@@ -143,21 +146,21 @@ other = record { 0 = 2 }
 the_first_of_each_is_asked_for : each_once ((1 ∷ []) ∷ (2 ∷ []) ∷ (1 ∷ []) ∷ (3 ∷ []) ∷ (2 ∷ []) ∷ []) ≡ (1 ∷ []) ∷ (2 ∷ []) ∷ (3 ∷ []) ∷ []
 the_first_of_each_is_asked_for = refl
 
-what_was_asked_leaves_less_room : room_to_ask peer (marked (Have q offer) (Asked q 3) ∷ []) q ≡ 2
+what_was_asked_leaves_less_room : room_to_ask peer (marked (Part q (Have offer)) (Asked q 3) ∷ []) q ≡ 2
 what_was_asked_leaves_less_room = refl
 
-each_request_counts : room_to_ask peer (marked (Have q offer) (Asked q 2) ∷ marked (Have q offer) (Asked q 3) ∷ []) q ≡ 0
+each_request_counts : room_to_ask peer (marked (Part q (Have offer)) (Asked q 2) ∷ marked (Part q (Have offer)) (Asked q 3) ∷ []) q ≡ 0
 each_request_counts = refl
 
-another_has_its_own_room : room_to_ask peer (marked (Have q offer) (Asked q 3) ∷ []) other ≡ 5
+another_has_its_own_room : room_to_ask peer (marked (Part q (Have offer)) (Asked q 3) ∷ []) other ≡ 5
 another_has_its_own_room = refl
 
-one_offer_too_many_counts_no_more : have_rule peer (marked (Have q offer) (Offered q) ∷ []) (record { 0 = 0 }) q offer ≡ Gives (entry (Have q offer))
+one_offer_too_many_counts_no_more : have_rule peer (marked (Part q (Have offer)) (Offered q) ∷ []) (record { 0 = 0 }) q offer ≡ Gives no_effects
 unfolding score score_of times
 one_offer_too_many_counts_no_more = refl
 
 -- the peer is subscribed to nothing
-an_offer_on_a_foreign_topic_counts : have_rule peer [] (record { 0 = 0 }) q offer ≡ Gives (marked (Have q offer) (Offered q))
+an_offer_on_a_foreign_topic_counts : have_rule peer [] (record { 0 = 0 }) q offer ≡ Gives (record no_effects { marks = Offered q ∷ [] })
 unfolding score score_of times
 an_offer_on_a_foreign_topic_counts = refl
 
@@ -180,7 +183,7 @@ an_identifier_has_32_bytes = refl
 
 -- a message that came, and is kept
 abbrev keeping : Entry
-keeping = marked (Msg q empty_message) (Cached (id 1) topic)
+keeping = marked (Part q (Msg empty_message)) (Cached (id 1) topic)
 
 abbrev given : Event → Entry
 given event = marked event (Answered q (id 1))
@@ -188,40 +191,40 @@ given event = marked event (Answered q (id 1))
 a_message_is_kept_with_its_topic : kept 5 (entry (RoundEnd 0) ∷ keeping ∷ []) (id 1) ≡ Some (record { topic = topic; message = empty_message; age = 0 })
 a_message_is_kept_with_its_topic = refl
 
-the_last_one_is_kept : kept 5 (marked (Publish topic (7 ∷ [])) (Cached (id 1) topic) ∷ keeping ∷ []) (id 1) ≡ Some (record { topic = topic; message = unsigned topic (7 ∷ []); age = 0 })
+the_last_one_is_kept : kept 5 (marked (Own (Publish topic (7 ∷ []))) (Cached (id 1) topic) ∷ keeping ∷ []) (id 1) ≡ Some (record { topic = topic; message = unsigned topic (7 ∷ []); age = 0 })
 the_last_one_is_kept = refl
 
 a_third_request_gets_none : answers peer (keeping ∷ []) q [] (id 1 ∷ id 1 ∷ id 1 ∷ []) ≡ (id 1, empty_message) ∷ (id 1, empty_message) ∷ []
 a_third_request_gets_none = refl
 
-answers_of_before_count : answers peer (given (Want q request) ∷ keeping ∷ []) q [] (id 1 ∷ id 1 ∷ []) ≡ (id 1, empty_message) ∷ []
+answers_of_before_count : answers peer (given (Part q (Want request)) ∷ keeping ∷ []) q [] (id 1 ∷ id 1 ∷ []) ≡ (id 1, empty_message) ∷ []
 answers_of_before_count = refl
 
-another_gets_its_own : answers peer (given (Want q request) ∷ given (Want q request) ∷ keeping ∷ []) other [] (id 1 ∷ []) ≡ (id 1, empty_message) ∷ []
+another_gets_its_own : answers peer (given (Part q (Want request)) ∷ given (Part q (Want request)) ∷ keeping ∷ []) other [] (id 1 ∷ []) ≡ (id 1, empty_message) ∷ []
 another_gets_its_own = refl
 
 what_is_not_kept_is_passed_over : answers peer (keeping ∷ []) q [] (id 2 ∷ id 1 ∷ []) ≡ (id 1, empty_message) ∷ []
 what_is_not_kept_is_passed_over = refl
 
-two_answers_are_counted : answered (given (Want q request) ∷ given (Want q request) ∷ keeping ∷ []) q (id 1) ≡ 2
+two_answers_are_counted : answered (given (Part q (Want request)) ∷ given (Part q (Want request)) ∷ keeping ∷ []) q (id 1) ≡ 2
 two_answers_are_counted = refl
 
-what_is_kept_anew_is_counted_anew : answered (keeping ∷ given (Want q request) ∷ given (Want q request) ∷ keeping ∷ []) q (id 1) ≡ 0
+what_is_kept_anew_is_counted_anew : answered (keeping ∷ given (Part q (Want request)) ∷ given (Part q (Want request)) ∷ keeping ∷ []) q (id 1) ≡ 0
 what_is_kept_anew_is_counted_anew = refl
 
-and_on_from_there : answered (given (Want q request) ∷ keeping ∷ given (Want q request) ∷ keeping ∷ []) q (id 1) ≡ 1
+and_on_from_there : answered (given (Part q (Want request)) ∷ keeping ∷ given (Part q (Want request)) ∷ keeping ∷ []) q (id 1) ≡ 1
 and_on_from_there = refl
 
 -- ---- what is refused where a neighbour is not up
 
-a_neighbour_that_is_up_may_be_hung_up_on : reasons peer [] 0 (HangUp q) ≡ (false, Stopped) ∷ (false, NotOpen) ∷ []
+a_neighbour_that_is_up_may_be_hung_up_on : reasons peer [] 0 (Own (HangUp q)) ≡ (false, Stopped) ∷ (false, NotOpen) ∷ []
 a_neighbour_that_is_up_may_be_hung_up_on = refl
 
-nobody_is_hung_up_on_twice : refusal peer (entry (HangUp q) ∷ []) 0 (HangUp q) ≡ Some NotOpen
+nobody_is_hung_up_on_twice : refusal peer (entry (Own (HangUp q)) ∷ []) 0 (Own (HangUp q)) ≡ Some NotOpen
 nobody_is_hung_up_on_twice = refl
 
-nothing_is_put_on_a_closed_link : refusal peer (entry (Gone q) ∷ []) 0 (Raw q (5 ∷ [])) ≡ Some NotOpen
+nothing_is_put_on_a_closed_link : refusal peer (entry (Lost q Gone) ∷ []) 0 (Own (Raw q (5 ∷ []))) ≡ Some NotOpen
 nothing_is_put_on_a_closed_link = refl
 
-who_has_shut_down_is_told_that_first : refusal peer (entry Shut ∷ []) 0 (Raw q (5 ∷ [])) ≡ Some Stopped
+who_has_shut_down_is_told_that_first : refusal peer (entry Shut ∷ []) 0 (Own (Raw q (5 ∷ []))) ≡ Some Stopped
 who_has_shut_down_is_told_that_first = refl

@@ -9,17 +9,20 @@ use Rattle.gs_base.specs.declared.names.PeerNo.{PeerNo}
 use Rattle.gs_base.specs.declared.names.Topic.{Topic}
 use Rattle.gs_base.specs.declared.names.Millis.{Millis}
 use Rattle.gs_base.specs.declared.names.MsgId.{MsgId}
-use Rattle.gs_base.specs.declared.control.Graft.{Graft}
 use Rattle.gs_base.specs.declared.control.IHave.{IHave}
 use Rattle.gs_base.specs.declared.control.IWant.{IWant}
 use Rattle.gs_base.specs.declared.rpc.Message.{Message}
 use Rattle.gs_base.specs.declared.rpc.Rpc.{Rpc}
-use Rattle.gs_rules.specs.declared.trace.Event.{Event}
-use Rattle.gs_rules.specs.declared.trace.Event.TheVariants.{Msg, Have, Want, Sub, GraftIn, PruneIn, Subscribe, Unsubscribe, Publish, MeshBeat, FanBeat, GossipBeat}
+use Rattle.gs_rules.specs.declared.event.Event.{Event}
+use Rattle.gs_rules.specs.declared.event.Event.TheVariants.{Part, Step, Own, Heard, Late, BeatBegin, Lost, Decay, RoundEnd, Shut}
+use Rattle.gs_rules.specs.declared.event.RpcPart.TheVariants.{Msg, Have, Want, Sub, GraftIn, PruneIn}
+use Rattle.gs_rules.specs.declared.event.BeatStep.TheVariants.{MeshBeat, FanBeat, GossipBeat, FanEnd, BeatEnd}
+use Rattle.gs_plan.specs.declared.plan.Act.TheVariants.{Subscribe, Unsubscribe, Publish, Raw, HangUp}
+use Rattle.gs_rules.specs.declared.outcome.FanoutUse.TheVariants.{Unused, Kept, Filled}
 use Rattle.gs_rules.specs.declared.trace.Entry.{Entry}
+use Rattle.gs_rules.specs.declared.trace.Effects.{Effects}
 use Rattle.gs_base.specs.Names.{longest_topic, same_peer, topic_of, topic_or_empty, HasIdentifierLength, message_id, payload_of}
 use Rattle.gs_base.specs.Rpcs.{announcement, publication, grafting, longest_backoff, most_identifiers, offering, passed_on, pruning, requesting}
-use Rattle.gs_base.specs.declared.mark.Mark.TheVariants.{Published}
 use Rattle.gs_mesh.specs.Peers.{without as all_but}
 use Rattle.gs_mesh.specs.declared.heartbeat.MeshChange.{MeshChange}
 use Rattle.gs_wire.specs.Varint.{varint}
@@ -38,8 +41,8 @@ use Rattle.gs_rules.specs.MeshRules.{graft_rule, joining, prune_rule, publishing
 use Rattle.gs_rules.specs.BeatRules.{mending, refanning}
 use Rattle.gs_rules.specs.Gossip.{gossip}
 use Rattle.gs_rules.specs.Owed.{owed}
-use Rattle.gs_rules.specs.Rules.{answers, asking, bare, counted, explicit_listeners, gossiping, have_rule, ids_in, rule_of, to_each, together_with, up_neighbours, want_rule, wanted}
-use Rattle.gs_rules.specs.Outcomes.{found_to_be, message_entry, message_rule}
+use Rattle.gs_rules.specs.Rules.{answers, asking, counted, explicit_listeners, gossiping, have_rule, ids_in, rule_of, to_each, together_with, up_neighbours, want_rule, wanted, no_effects}
+use Rattle.gs_rules.specs.Outcomes.{found_to_be, message_effects, message_rule}
 use Rattle.gs_rules.specs.Modes.{SaysTheSame, sent_to, Follows, free}
 use Rattle.gs_rules.specs.Legal.{MaySubscribe, MayUnsubscribe, MayPublish, IsNext, Legal}
 use Rattle.gs_rules.specs.Saying.{SendsFit, AllFit}
@@ -88,7 +91,7 @@ abbrev pub SendsWritten : List (PeerNo × Rpc) → Type 0
 SendsWritten sends = AllByRecursion (λ x. IsWritten x.1) sends
 
 abbrev pub AllWritten : List Entry → Type 0
-AllWritten entries = AllByRecursion (λ e. SendsWritten e.sends) entries
+AllWritten entries = AllByRecursion (λ e. SendsWritten e.effects.sends) entries
 
 abbrev RpcsFit : List Rpc → Type 0
 RpcsFit rpcs = AllByRecursion IsWritten rpcs
@@ -158,35 +161,35 @@ sends_fit (x ∷ sends) all = (first.0, sends_fit sends (λ q. without_first (sa
     without_first false rpc rpcs fit = fit
 
 -- what says the same fits as well
-same_fits : (e x : Entry) → SaysTheSame e x → SendsWritten x.sends → SendsWritten e.sends
-same_fits e x same fit = sends_fit e.sends (λ q. subst RpcsFit (sym (same.sends q)) (received_fit q x.sends fit))
+same_fits : (e : Entry) (x : Effects) → SaysTheSame e.effects x → SendsWritten x.sends → SendsWritten e.effects.sends
+same_fits e x same fit = sends_fit e.effects.sends (λ q. subst RpcsFit (sym (same.sends q)) (received_fit q x.sends fit))
 
 -- ---- one entry
 
 -- a message is passed on as it came
 message_fits : (p : Peer) (L : Entries) (at : Millis) (q : PeerNo) (m : Message) → FitsAlone m → SendsWritten (message_rule p L at q m).sends
-message_fits p L at q m fits = of_a_message (λ (e : Entry). SendsWritten e.sends) p L at q m tt tt tt (λ unseen. new_fits)
+message_fits p L at q m fits = of_a_message (λ (x : Effects). SendsWritten x.sends) p L at q m tt tt tt (λ unseen. new_fits)
   where
-    new_fits : (v : Verdict) → SendsWritten (message_entry (mesh L (topic_of m)) (explicit_listeners p L (topic_of m)) at q m (found_to_be (message_id (payload_of m)) v)).sends
+    new_fits : (v : Verdict) → SendsWritten (message_effects (mesh L (topic_of m)) (explicit_listeners p L (topic_of m)) q m (found_to_be (message_id (payload_of m)) v)).sends
     new_fits Accept = each_fits (passed_on m) (all_but q (together_with (explicit_listeners p L (topic_of m)) (mesh L (topic_of m)))) (passed_on_written m fits)
     new_fits Reject = tt
     new_fits Ignore = tt
 
 -- a GRAFT is refused on a topic that is joined
-refusal_fits : (p : Peer) (L : Entries) (at : Millis) (q : PeerNo) (graft : Graft) → Legal p L → SendsWritten (graft_rule p L at q graft).sends
-refusal_fits p L at q graft legal =
-    of_a_graft (λ (e : Entry). SendsWritten e.sends) p L at q graft tt (λ on. (told on, tt)) (λ on. (told on, tt)) (λ on ordinary late. tt)
+refusal_fits : (p : Peer) (L : Entries) (at : Millis) (q : PeerNo) (t : Topic) → Legal p L → SendsWritten (graft_rule p L at q t).sends
+refusal_fits p L at q t legal =
+    of_a_graft (λ (x : Effects). SendsWritten x.sends) p L at q t tt (λ on. (told on, tt)) (λ on. (told on, tt)) (λ on ordinary late. tt)
   where
-    told : joined L (topic_or_empty graft.topic) ≡ true → IsWritten (pruning (topic_or_empty graft.topic) p.params.timing.prune_backoff_s)
-    told on = prune_written (topic_or_empty graft.topic) p.params.timing.prune_backoff_s (joined_short p L (topic_or_empty graft.topic) legal on)
+    told : joined L t ≡ true → IsWritten (pruning t p.params.timing.prune_backoff_s)
+    told on = prune_written t p.params.timing.prune_backoff_s (joined_short p L t legal on)
 
 -- an offer sends one request, or nothing
-offer_fits : (p : Peer) (L : Entries) (q : PeerNo) (offer : IHave) (e : Entry) → Follows free (have_rule p L e.at q offer) tt e tt → SendsWritten e.sends
+offer_fits : (p : Peer) (L : Entries) (q : PeerNo) (offer : IHave) (e : Entry) → Follows free (have_rule p L e.at q offer) tt e.effects tt → SendsWritten e.effects.sends
 offer_fits p L q offer e effects =
-    what_is_offered (λ (e : Entry). SendsWritten e.sends) p L e.at q offer e
-    (λ same. same_fits e (bare e.at (Have q offer)) same tt)
-    (λ same. same_fits e (counted e.at q offer) same tt)
-    (λ place same. same_fits e (asking p e.at q offer (wanted p L e.at.0 q offer.ids) place) same (request_written (wanted p L e.at.0 q offer.ids) (wanted_few p L e.at.0 q offer.ids) (wanted_long p L e.at.0 q offer.ids), tt))
+    what_is_offered (λ (e : Entry). SendsWritten e.effects.sends) p L e.at q offer e
+    (λ same. same_fits e no_effects same tt)
+    (λ same. same_fits e (counted q) same tt)
+    (λ place same. same_fits e (asking p e.at q (wanted p L e.at.0 q offer.ids) place) same (request_written (wanted p L e.at.0 q offer.ids) (wanted_few p L e.at.0 q offer.ids) (wanted_long p L e.at.0 q offer.ids), tt))
     effects
 
 -- a request is answered with messages by themselves
@@ -196,7 +199,7 @@ answers_written q (x ∷ given) all = (passed_on_written x.1 all.0, answers_writ
 
 request_fits : (p : Peer) (L : Entries) (at : Millis) (q : PeerNo) (request : IWant) → Legal p L → SendsWritten (want_rule p L at q request).sends
 request_fits p L at q request legal =
-    of_a_request (λ (e : Entry). SendsWritten e.sends) p L at q request tt
+    of_a_request (λ (x : Effects). SendsWritten x.sends) p L at q request tt
     (answers_written q (answers p L q [] (ids_in request.ids)) (answers_fit p L q [] (ids_in request.ids) legal))
 
 -- whoever goes and whoever comes in are told so
@@ -208,45 +211,56 @@ mending_fits p L at t change short =
 
 -- each event sends what fits, or nothing
 module _ (p : Peer) (L : Entries) (legal : Legal p L) where
-  by_event : (event : Event) (e : Entry) → IsNext p L e.at.0 (owed p L).events event → Follows free (rule_of p L e.at event) tt e tt → SendsWritten e.sends
-  by_event (Msg q m) e next effects = same_fits e _ effects.0 (message_fits p L e.at q m (next_fits p L e.at.0 (Msg q m) legal next))
-  by_event (Have q offer) e next effects = offer_fits p L q offer e effects
-  by_event (Want q request) e next effects = same_fits e (want_rule p L e.at q request) effects.0 (request_fits p L e.at q request legal)
-  by_event (Sub q sub) e next effects =
-      same_fits e (sub_rule p L e.at q sub) effects.0 (of_a_sub (λ (x : Entry). SendsWritten x.sends) p L e.at q sub tt tt)
-  by_event (GraftIn q graft) e next effects = same_fits e (graft_rule p L e.at q graft) effects.0 (refusal_fits p L e.at q graft legal)
-  by_event (PruneIn q prune) e next effects =
-      same_fits e (prune_rule p L e.at q prune) effects.0 (of_a_prune (λ (x : Entry). SendsWritten x.sends) p L e.at q prune tt tt)
-  by_event (Subscribe t) e next effects =
-      let may : MaySubscribe L t = opens p L e.at.0 (Subscribe t) (λ h. h) next in
+  by_event : (event : Event) (e : Entry) → IsNext p L e.at.0 (owed p L).events event → Follows free (rule_of p L e.at event) tt e.effects tt → SendsWritten e.effects.sends
+  by_event (Part q (Msg m)) e next effects = same_fits e _ effects.0 (message_fits p L e.at q m (next_fits p L e.at.0 (Part q (Msg m)) legal next))
+  by_event (Part q (Have offer)) e next effects = offer_fits p L q offer e effects
+  by_event (Part q (Want request)) e next effects = same_fits e (want_rule p L e.at q request) effects.0 (request_fits p L e.at q request legal)
+  by_event (Part q (Sub sub)) e next effects =
+      same_fits e (sub_rule p L e.at q sub) effects.0 (of_a_sub (λ (x : Effects). SendsWritten x.sends) p L e.at q sub tt tt)
+  by_event (Part q (GraftIn graft)) e next effects = same_fits e _ effects.0 (refusal_fits p L e.at q (topic_or_empty graft.topic) legal)
+  by_event (Part q (PruneIn prune)) e next effects =
+      same_fits e (prune_rule p L e.at q prune) effects.0 (of_a_prune (λ (x : Effects). SendsWritten x.sends) p L e.at q prune tt tt)
+  by_event (Own (Subscribe t)) e next effects =
+      let may : MaySubscribe L t = opens p L e.at.0 (Own (Subscribe t)) (λ h. h) next in
       let chosen : List PeerNo = those_among (effects.0 ++ effects.3.0) (candidates p L e.at.0 t) in
-      same_fits e (joining p L e.at t chosen) effects.3.3.0
+      same_fits e (joining p L t chosen) effects.3.3.0
       (all-append (λ (x : PeerNo × Rpc). IsWritten x.1) (to_each (announcement true t) (up_neighbours p L)) (to_each (grafting t) chosen)
       (each_fits (announcement true t) (up_neighbours p L) (announcement_written true t may.short)) (each_fits (grafting t) chosen (graft_written t may.short)))
-  by_event (Unsubscribe t) e next effects =
-      let may : MayUnsubscribe L t = opens p L e.at.0 (Unsubscribe t) (λ h. h) next in
+  by_event (Own (Unsubscribe t)) e next effects =
+      let may : MayUnsubscribe L t = opens p L e.at.0 (Own (Unsubscribe t)) (λ h. h) next in
       let short : length t.0 ≤ longest_topic = joined_short p L t legal may.joined in
       let seconds : ℕ = p.params.timing.unsubscribe_backoff_s in
       same_fits e (unsubscribe_rule p L e.at t) effects.0
       (all-append (λ (x : PeerNo × Rpc). IsWritten x.1) (to_each (announcement false t) (up_neighbours p L)) (to_each (pruning t seconds) (mesh L t))
       (each_fits (announcement false t) (up_neighbours p L) (announcement_written false t short)) (each_fits (pruning t seconds) (mesh L t) (prune_written t seconds short)))
-  by_event (Publish t payload) e next effects =
-      let may : MayPublish p L e.at.0 t payload = opens p L e.at.0 (Publish t payload) (λ h. h) next in
+  by_event (Own (Publish t payload)) e next effects =
+      let may : MayPublish p L e.at.0 t payload = opens p L e.at.0 (Own (Publish t payload)) (λ h. h) next in
       let each = λ (receivers : List PeerNo). each_fits (publication t payload) receivers (publication_written t payload may.fits) in
-      what_is_published (SendsWritten e.sends) p L t payload e
-      (λ receivers same. same_fits e (publishing p L e.at t payload receivers [] []) same (each (together_with (explicit_listeners p L t) receivers)))
-      (λ receivers new ordinary same. same_fits e (publishing p L e.at t payload receivers new (Published t ∷ [])) same (each (together_with (explicit_listeners p L t) receivers)))
+      what_is_published (SendsWritten e.effects.sends) p L t payload e
+      (λ receivers same. same_fits e (publishing p L t payload receivers Unused) same (each (together_with (explicit_listeners p L t) receivers)))
+      (λ receivers same. same_fits e (publishing p L t payload receivers Kept) same (each (together_with (explicit_listeners p L t) receivers)))
+      (λ receivers ordinary same. same_fits e (publishing p L t payload receivers Filled) same (each (together_with (explicit_listeners p L t) receivers)))
       effects
-  by_event (MeshBeat t) e next effects =
-      let short : length t.0 ≤ longest_topic = joined_short p L t legal (next_of_own p L e.at.0 (MeshBeat t) legal next) in
-      what_is_mended (SendsWritten e.sends) p L t e
+  by_event (Step (MeshBeat t)) e next effects =
+      let short : length t.0 ≤ longest_topic = joined_short p L t legal (next_of_own p L e.at.0 (Step (MeshBeat t)) legal next) in
+      what_is_mended (SendsWritten e.effects.sends) p L t e
       (λ kept come same. same_fits e (mending p L e.at t (mesh_change_at p L e.at.0 t kept come)) same (mending_fits p L e.at t (mesh_change_at p L e.at.0 t kept come) short)) effects
-  by_event (FanBeat t) e next effects = same_fits e (refanning p L e.at t effects.0) effects.3.0 tt
-  by_event (GossipBeat t) e next effects =
+  by_event (Step (FanBeat t)) e next effects = same_fits e (refanning p L e.at t effects.0) effects.3.0 tt
+  by_event (Step (GossipBeat t)) e next effects =
       let ids : List (List ℕ) = map (λ (id : MsgId). id.0) (gossip p L t) in
-      same_fits e (gossiping p L e.at t effects.0) effects.3.0
+      same_fits e (gossiping p L t effects.0) effects.3.0
       (each_fits (offering t ids) effects.0 (offer_written t ids (beat_short p L e.at.0 t legal next) (omega (arith, length-map (gossip p L t) (λ (id : MsgId). id.0), gossip_few p L t)) (gossip_long p L t legal)))
-  by_event other e next effects = same_fits e _ effects.0 tt
+  by_event (Own (HangUp q)) e next effects = same_fits e _ effects.0 tt
+  by_event (Own (Raw q bytes)) e next effects = same_fits e no_effects effects.0 tt
+  by_event (Step (FanEnd t)) e next effects = same_fits e _ effects.0 tt
+  by_event (Step BeatEnd) e next effects = same_fits e no_effects effects.0 tt
+  by_event BeatBegin e next effects = same_fits e _ effects.0 tt
+  by_event (Lost q loss) e next effects = same_fits e _ effects.0 tt
+  by_event (Heard q rpc) e next effects = same_fits e no_effects effects.0 tt
+  by_event (Late q rpc) e next effects = same_fits e no_effects effects.0 tt
+  by_event Decay e next effects = same_fits e no_effects effects.0 tt
+  by_event (RoundEnd r) e next effects = same_fits e no_effects effects.0 tt
+  by_event Shut e next effects = same_fits e no_effects effects.0 tt
 
 -- ---- a legal trace
 
@@ -267,7 +281,7 @@ fits_back [] ys all = all
 fits_back (e ∷ xs) ys all = fits_back xs ys all.1
 
 pub fits_both : (xs ys : List Entry) → AllWritten xs → AllWritten ys → AllWritten (xs ++ ys)
-fits_both xs ys front back = all-append (λ (e : Entry). SendsWritten e.sends) xs ys front back
+fits_both xs ys front back = all-append (λ (e : Entry). SendsWritten e.effects.sends) xs ys front back
 
 pub fits_take : (n : ℕ) (xs : List Entry) → AllWritten xs → AllWritten (take n xs)
 fits_take n xs all = fits_front (take n xs) (drop n xs) (rw take-append-drop all)
@@ -286,7 +300,7 @@ sends_of_written (x ∷ sends) h = (h.0.0, sends_of_written sends h.1)
 
 all_of_written : (entries : List Entry) → AllWritten entries → AllFit codec entries
 all_of_written [] h = tt
-all_of_written (e ∷ entries) h = (sends_of_written e.sends h.0, all_of_written entries h.1)
+all_of_written (e ∷ entries) h = (sends_of_written e.effects.sends h.0, all_of_written entries h.1)
 
 -- any part of a legal trace, the oldest entry first
 pub legal_part_fits : (p : Peer) (L : Entries) (skipped most : ℕ) → Legal p L → AllFit codec (take most (drop skipped (reverse L)))

@@ -3,8 +3,9 @@ use Rattle.std.proofs.Common.{◌≡◌, ℕ, zero, suc, Bool, true, false, ◌|
 use Rattle.gs_base.specs.declared.names.PeerNo.{PeerNo}
 use Rattle.gs_base.specs.Codecs.{Codec}
 use Rattle.gs_base.specs.Names.{same_peer}
-use Rattle.gs_rules.specs.declared.trace.Event.{Event}
-use Rattle.gs_rules.specs.declared.trace.Event.TheVariants.{Raw, RoundEnd, Shut}
+use Rattle.gs_rules.specs.declared.event.Event.{Event}
+use Rattle.gs_rules.specs.declared.event.Event.TheVariants.{RoundEnd, Shut, Own}
+use Rattle.gs_plan.specs.declared.plan.Act.TheVariants.{Raw}
 use Rattle.gs_rules.specs.declared.trace.Entry.{Entry}
 use Rattle.gs_rules.specs.declared.refusal.RefusedLine.{RefusedLine}
 use Rattle.gs_rules.specs.Peers.{links_of}
@@ -21,7 +22,7 @@ use Rattle.gs_rules.proofs.RoundEnds.{has_ended}
 -- whatever cuts a neighbour off is a cut
 cut_off_is_cut : (q : PeerNo) (event : Event) → cuts_off q event ≡ true → is_cut q event ≡ true
 cut_off_is_cut q (RoundEnd r) off = refl
-cut_off_is_cut q (Raw p bytes) off = absurd (true≢false (sym off))
+cut_off_is_cut q (Own (Raw p bytes)) off = absurd (true≢false (sym off))
 cut_off_is_cut q other off = off
 
 -- an event behind which q is not up, that was, cuts it off
@@ -34,7 +35,7 @@ cut_gathers codec true o is = refl
 cut_gathers codec false o is = absurd (true≢false (sym is))
 
 behind_a_cut : (codec : Codec) (q : PeerNo) (o : Outgoing) (e : Entry) → is_cut q e.event ≡ true → (behind_entry codec q o e).gathered ≡ None
-behind_a_cut codec q o e is = cut_gathers codec (is_cut q e.event) (sending_all codec o (sent_to q e.sends)) is
+behind_a_cut codec q o e is = cut_gathers codec (is_cut q e.event) (sending_all codec o (sent_to q e.effects.sends)) is
 
 pub gathered_down : (codec : Codec) (L : Entries) (q : PeerNo) → up L q ≡ false → gathered codec L q ≡ None
 gathered_down codec [] q down = refl
@@ -74,7 +75,7 @@ close_if_lost false none = refl
 pub uncut_sign : (q : PeerNo) (event : Event) → is_cut q event ≡ false → sign q event ≡ []
 uncut_sign q (RoundEnd r) none = absurd (true≢false none)
 uncut_sign q Shut none = absurd (true≢false none)
-uncut_sign q (Raw p bytes) none = refl
+uncut_sign q (Own (Raw p bytes)) none = refl
 uncut_sign q other none = close_if_lost (is_lost q (lost other)) (not_lost (is_shut_after other false) (is_lost q (lost other)) none)
 
 bytes_if : (mine : Bool) (bytes : List ℕ) → mine ≡ false → (if mine then bytes else []) ≡ []
@@ -82,7 +83,7 @@ bytes_if true bytes none = absurd (true≢false none)
 bytes_if false bytes none = refl
 
 pub uncut_raw : (q : PeerNo) (event : Event) → is_cut q event ≡ false → raw_to q event ≡ []
-uncut_raw q (Raw p bytes) none = bytes_if (same_peer p q) bytes none
+uncut_raw q (Own (Raw p bytes)) none = bytes_if (same_peer p q) bytes none
 uncut_raw q other none = refl
 
 -- ---- behind a round

@@ -10,10 +10,13 @@ use Rattle.gs_wire.specs.Codec.{codec}
 use Rattle.gs_wire.specs.Joining.{joined_rpc}
 use Rattle.gs_wire.specs.Messages.{body}
 use Rattle.gs_wire.specs.Varint.{varint_within}
-use Rattle.gs_rules.specs.declared.trace.Event.{Event}
-use Rattle.gs_rules.specs.declared.trace.Event.TheVariants.{Fault, Gone, HangUp, MeshBeat, Raw, RoundEnd, Shut, Subscribe}
+use Rattle.gs_rules.specs.declared.event.Event.{Event}
+use Rattle.gs_rules.specs.declared.event.Event.TheVariants.{RoundEnd, Shut, Step, Own, Lost}
+use Rattle.gs_rules.specs.declared.event.BeatStep.TheVariants.{MeshBeat}
+use Rattle.gs_plan.specs.declared.plan.Act.TheVariants.{HangUp, Raw, Subscribe}
+use Rattle.gs_rules.specs.declared.event.Loss.TheVariants.{Fault, Gone}
 use Rattle.gs_rules.specs.declared.trace.Entry.{Entry}
-use Rattle.gs_rules.specs.Rules.{bare}
+use Rattle.gs_rules.specs.Rules.{no_effects}
 use Rattle.gs_rules.specs.Saying.{Byte, EndOf, Close, Said, gathered, out}
 
 -- ---- what is sent
@@ -34,17 +37,17 @@ abbrev grafted : Rpc
 grafted = grafting news
 
 abbrev entry : Event → Entry
-entry event = bare (record { 0 = 0 }) event
+entry event = record { at = record { 0 = 0 }; event = event; effects = no_effects }
 
 -- an entry that sends one RPC to a neighbour
 abbrev sends : Event → PeerNo → Rpc → Entry
-sends event p rpc = record (entry event) { sends = (p, rpc) ∷ [] }
+sends event p rpc = record (entry event) { effects = record no_effects { sends = (p, rpc) ∷ [] } }
 
 abbrev announces : Entry
-announces = sends (Subscribe news) q announced
+announces = sends (Own (Subscribe news)) q announced
 
 abbrev grafts : Entry
-grafts = sends (MeshBeat news) q grafted
+grafts = sends (Step (MeshBeat news)) q grafted
 
 -- the frame of the announcement, the frame of the GRAFT, and the frame of both
 abbrev announced_frame : List ℕ
@@ -68,7 +71,7 @@ two_sends_of_a_round_are_one_frame : out codec (entry (RoundEnd 0) ∷ grafts �
 unfolding varint_within
 two_sends_of_a_round_are_one_frame = refl
 
-two_sends_of_an_entry_are_one_frame : out codec (record (entry (RoundEnd 0)) { sends = (q, announced) ∷ (q, grafted) ∷ [] } ∷ []) q ≡ bytes joined_frame ++ EndOf 0 ∷ []
+two_sends_of_an_entry_are_one_frame : out codec (record (entry (RoundEnd 0)) { effects = record no_effects { sends = (q, announced) ∷ (q, grafted) ∷ [] } } ∷ []) q ≡ bytes joined_frame ++ EndOf 0 ∷ []
 unfolding varint_within
 two_sends_of_an_entry_are_one_frame = refl
 
@@ -93,23 +96,23 @@ a_send_behind_a_cut_begins_anew = refl
 
 -- ---- other cuts
 
-it_goes_out_ahead_of_bytes_as_they_are : out codec (entry (Raw q (5 ∷ [])) ∷ announces ∷ []) q ≡ bytes announced_frame ++ Byte 5 ∷ []
+it_goes_out_ahead_of_bytes_as_they_are : out codec (entry (Own (Raw q (5 ∷ []))) ∷ announces ∷ []) q ≡ bytes announced_frame ++ Byte 5 ∷ []
 unfolding varint_within
 it_goes_out_ahead_of_bytes_as_they_are = refl
 
-what_is_sent_behind_bytes_goes_behind_them : out codec (entry (RoundEnd 0) ∷ grafts ∷ entry (Raw q (5 ∷ [])) ∷ announces ∷ []) q ≡ bytes announced_frame ++ Byte 5 ∷ bytes grafted_frame ++ EndOf 0 ∷ []
+what_is_sent_behind_bytes_goes_behind_them : out codec (entry (RoundEnd 0) ∷ grafts ∷ entry (Own (Raw q (5 ∷ []))) ∷ announces ∷ []) q ≡ bytes announced_frame ++ Byte 5 ∷ bytes grafted_frame ++ EndOf 0 ∷ []
 unfolding varint_within
 what_is_sent_behind_bytes_goes_behind_them = refl
 
-it_goes_out_to_whoever_has_closed : out codec (entry (Gone q) ∷ announces ∷ []) q ≡ bytes announced_frame ++ Close ∷ []
+it_goes_out_to_whoever_has_closed : out codec (entry (Lost q Gone) ∷ announces ∷ []) q ≡ bytes announced_frame ++ Close ∷ []
 unfolding varint_within
 it_goes_out_to_whoever_has_closed = refl
 
-it_goes_out_behind_a_fault : out codec (entry (Fault q) ∷ announces ∷ []) q ≡ bytes announced_frame ++ Close ∷ []
+it_goes_out_behind_a_fault : out codec (entry (Lost q Fault) ∷ announces ∷ []) q ≡ bytes announced_frame ++ Close ∷ []
 unfolding varint_within
 it_goes_out_behind_a_fault = refl
 
-it_goes_out_ahead_of_a_hang_up : out codec (entry (HangUp q) ∷ announces ∷ []) q ≡ bytes announced_frame ++ Close ∷ []
+it_goes_out_ahead_of_a_hang_up : out codec (entry (Own (HangUp q)) ∷ announces ∷ []) q ≡ bytes announced_frame ++ Close ∷ []
 unfolding varint_within
 it_goes_out_ahead_of_a_hang_up = refl
 
@@ -117,7 +120,7 @@ it_goes_out_ahead_of_the_shut : out codec (entry Shut ∷ announces ∷ []) q �
 unfolding varint_within
 it_goes_out_ahead_of_the_shut = refl
 
-nothing_is_gathered_for_whoever_is_lost : gathered codec (grafts ∷ entry (HangUp q) ∷ announces ∷ []) q ≡ None
+nothing_is_gathered_for_whoever_is_lost : gathered codec (grafts ∷ entry (Own (HangUp q)) ∷ announces ∷ []) q ≡ None
 nothing_is_gathered_for_whoever_is_lost = refl
 
 -- ---- what does not fit
@@ -146,15 +149,15 @@ and_on_from_there = refl
 
 -- ---- another neighbour
 
-what_another_is_sent_changes_nothing : gathered codec (sends (MeshBeat news) other grafted ∷ announces ∷ []) q ≡ Some announced
+what_another_is_sent_changes_nothing : gathered codec (sends (Step (MeshBeat news)) other grafted ∷ announces ∷ []) q ≡ Some announced
 what_another_is_sent_changes_nothing = refl
 
-each_is_sent_its_own : out codec (entry (RoundEnd 0) ∷ sends (MeshBeat news) other grafted ∷ announces ∷ []) other ≡ bytes grafted_frame ++ EndOf 0 ∷ []
+each_is_sent_its_own : out codec (entry (RoundEnd 0) ∷ sends (Step (MeshBeat news)) other grafted ∷ announces ∷ []) other ≡ bytes grafted_frame ++ EndOf 0 ∷ []
 unfolding varint_within
 each_is_sent_its_own = refl
 
-bytes_for_another_are_no_cut : gathered codec (entry (Raw other (5 ∷ [])) ∷ announces ∷ []) q ≡ Some announced
+bytes_for_another_are_no_cut : gathered codec (entry (Own (Raw other (5 ∷ []))) ∷ announces ∷ []) q ≡ Some announced
 bytes_for_another_are_no_cut = refl
 
-the_loss_of_another_is_no_cut : gathered codec (entry (HangUp other) ∷ announces ∷ []) q ≡ Some announced
+the_loss_of_another_is_no_cut : gathered codec (entry (Own (HangUp other)) ∷ announces ∷ []) q ≡ Some announced
 the_loss_of_another_is_no_cut = refl

@@ -16,8 +16,9 @@ use Rattle.gs_base.specs.Names.{same_id, same_topic, HasIdentifierLength}
 use Rattle.gs_base.specs.Rpcs.{most_identifiers}
 use Rattle.gs_wire.proofs.RoundTrip.{all-append}
 use Rattle.gs_rules.specs.declared.trace.Promise.{Promise}
-use Rattle.gs_rules.specs.declared.trace.Event.{Event}
-use Rattle.gs_rules.specs.declared.trace.Event.TheVariants.{BeatBegin, MeshBeat, GossipBeat}
+use Rattle.gs_rules.specs.declared.event.Event.{Event}
+use Rattle.gs_rules.specs.declared.event.Event.TheVariants.{BeatBegin, Step}
+use Rattle.gs_rules.specs.declared.event.BeatStep.TheVariants.{MeshBeat, GossipBeat}
 use Rattle.gs_rules.specs.declared.trace.Entry.{Entry}
 use Rattle.gs_rules.specs.Peers.{Peer, windows}
 use Rattle.gs_rules.specs.Tables.{Entries, Keeping, after_marks, ended_after, fulfilled_after, keeping_order, kept, made, order_after, own_topics, promises}
@@ -58,11 +59,11 @@ mapped_are P f (x ∷ xs) all = (all.0, mapped_are P f xs all.1)
 
 -- where the event gossips on a topic, this is short
 abbrev IsShortBeat : Event → Type 0
-IsShortBeat (GossipBeat t) = IsShort t
+IsShortBeat (Step (GossipBeat t)) = IsShort t
 IsShortBeat other = Unit {0}
 
 parts_short : (q : PeerNo) (rpc : Rpc) → AllByRecursion IsShortBeat (parts q rpc)
-parts_short q rpc = parts_are_such IsShortBeat q rpc (λ sub. tt) (λ m. tt) (λ offer. tt) (λ request. tt) (λ graft. tt) (λ prune. tt)
+parts_short q rpc = parts_are_such IsShortBeat q rpc (λ part. tt)
 
 gossip_topics_short : (p : Peer) (L : Entries) → Legal p L → AllByRecursion IsShort (gossip_topics p L)
 gossip_topics_short p L legal = filtered_are IsShort (λ t. is_some_list (gossip p L t)) (mesh_topics L) (mesh_topics_short p L legal)
@@ -74,14 +75,14 @@ ShortAnywhere = λ M. IsShortBeat
 heartbeat_short : (p : Peer) (at : ℕ) → ReachesSuch p (Legal p) ShortAnywhere (heartbeat_groups at)
 heartbeat_short p at =
     heartbeat_is_such p (Legal p) ShortAnywhere at
-    (λ M legal. of_each (λ (t : Topic). IsShortBeat (MeshBeat t)) (λ t. tt) (own_topics M)) (λ M t. tt) (λ M t. tt)
+    (λ M legal. of_each (λ (t : Topic). IsShortBeat (Step (MeshBeat t))) (λ t. tt) (own_topics M)) (λ M t. tt) (λ M t. tt)
     (λ M legal. gossip_topics_short p M legal) (λ M. tt)
 
 owed_short : (p : Peer) (L : Entries) → Legal p L → OwesSuch p (Legal p) ShortAnywhere L (owed p L)
 owed_short p L legal = always_such p ShortAnywhere (λ M e own event is. is) (λ M e q rpc goes_on is. parts_short q rpc) (heartbeat_short p) L legal
 
-pub beat_short : (p : Peer) (L : Entries) (at : ℕ) (t : Topic) → Legal p L → IsNext p L at (owed p L).events (GossipBeat t) → IsShort t
-beat_short p L at t legal next = next_is_such IsShortBeat p L at (owed p L).events (GossipBeat t) (owed_short p L legal).0 (λ h. h) next
+pub beat_short : (p : Peer) (L : Entries) (at : ℕ) (t : Topic) → Legal p L → IsNext p L at (owed p L).events (Step (GossipBeat t)) → IsShort t
+beat_short p L at t legal next = next_is_such IsShortBeat p L at (owed p L).events (Step (GossipBeat t)) (owed_short p L legal).0 (λ h. h) next
 
 -- ---- identifiers of 32 bytes
 
@@ -97,8 +98,8 @@ mark_keeps : (p : Peer) (L : Entries) (at : ℕ) (event : Event) (mark : Mark) �
 mark_keeps p L at event (Cached id t) may = may
 mark_keeps p L at event other may = tt
 
-entry_keeps : (p : Peer) (L : Entries) (event : Event) (e : Entry) → Follows free (rule_of p L e.at event) tt e tt → AllByRecursion KeepsLong e.marks
-entry_keeps p L event e effects = each_weaker (MayMark p L e.at.0 event) KeepsLong (mark_keeps p L e.at.0 event) e.marks (entry_marks p L event e effects)
+entry_keeps : (p : Peer) (L : Entries) (event : Event) (e : Entry) → Follows free (rule_of p L e.at event) tt e.effects tt → AllByRecursion KeepsLong e.effects.marks
+entry_keeps p L event e effects = each_weaker (MayMark p L e.at.0 event) KeepsLong (mark_keeps p L e.at.0 event) e.effects.marks (entry_marks p L event e effects)
 
 marks_order : (marks : List Mark) (before : List MsgId) → AllByRecursion KeepsLong marks → AllByRecursion IsLong before → AllByRecursion IsLong (after_marks order_after marks before)
 marks_order [] before all h = h
@@ -109,7 +110,7 @@ marks_order (other ∷ marks) before all h = marks_order marks before all.1 h
 
 order_long : (p : Peer) (L : Entries) → Legal p L → AllByRecursion IsLong (keeping_order L)
 order_long p [] legal = tt
-order_long p (e ∷ L) legal = marks_order e.marks (keeping_order L) (entry_keeps p L e.event e (legal_newest p e L legal).effects) (order_long p L legal.1)
+order_long p (e ∷ L) legal = marks_order e.effects.marks (keeping_order L) (entry_keeps p L e.event e (legal_newest p e L legal).effects) (order_long p L legal.1)
 
 -- ---- what is gossiped
 
@@ -171,11 +172,11 @@ IsToCome at promise = at < promise.until.0
 to_come : (at : ℕ) (before : List Promise) → AllByRecursion (IsToCome at) (filter (λ promise. nat_lt at promise.until.0) before)
 to_come at before = passing_are (IsToCome at) (λ promise. nat_lt at promise.until.0) before (λ promise later. ltb-true at promise.until.0 later)
 
-pub none_overdue : (L : Entries) (e : Entry) → e.event ≡ BeatBegin → e.promise ≡ None → All (IsToCome e.at.0) (promises (e ∷ L))
+pub none_overdue : (L : Entries) (e : Entry) → e.event ≡ BeatBegin → e.effects.promise ≡ None → All (IsToCome e.at.0) (promises (e ∷ L))
 none_overdue L e beat none =
     let P = IsToCome e.at.0 in
     let ended : AllByRecursion P (ended_after e.event e.at.0 (promises L)) =
     subst (λ (event : Event). AllByRecursion P (ended_after event e.at.0 (promises L))) (sym beat) (to_come e.at.0 (promises L)) in
-    let left : List Promise = after_marks fulfilled_after e.marks (ended_after e.event e.at.0 (promises L)) in
+    let left : List Promise = after_marks fulfilled_after e.effects.marks (ended_after e.event e.at.0 (promises L)) in
     All-from_recursion P (promises (e ∷ L))
-    (all-append P left (made e.promise) (marks_leave P e.marks (ended_after e.event e.at.0 (promises L)) ended) (subst (λ (promise : Option Promise). AllByRecursion P (made promise)) (sym none) tt))
+    (all-append P left (made e.effects.promise) (marks_leave P e.effects.marks (ended_after e.event e.at.0 (promises L)) ended) (subst (λ (promise : Option Promise). AllByRecursion P (made promise)) (sym none) tt))

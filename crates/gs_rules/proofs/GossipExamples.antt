@@ -1,5 +1,5 @@
 -- Worked rows of what is kept and gossiped, of budgets and promises, and of when there is a heartbeat.
-use Rattle.std.proofs.Common.{◌≡◌, ℕ, pos, true, [], ◌∷◌, None, Some, refl}
+use Rattle.std.proofs.Common.{◌≡◌, ℕ, true, [], ◌∷◌, None, Some, refl}
 use Rattle.std.specs.List.{AllByRecursion, list_any}
 use Rattle.gs_base.specs.declared.names.PeerNo.{PeerNo}
 use Rattle.gs_base.specs.declared.names.Topic.{Topic}
@@ -11,15 +11,19 @@ use Rattle.gs_base.specs.declared.mark.Mark.{Mark}
 use Rattle.gs_base.specs.declared.mark.Mark.TheVariants.{Seen, Misbehaviour, Cached, Offered, Asked, Published}
 use Rattle.gs_params.specs.Params.{default_degrees, default_factors, default_thresholds, default_timing}
 use Rattle.gs_base.specs.Rpcs.{offering}
-use Rattle.gs_rules.specs.declared.trace.Event.{Event}
-use Rattle.gs_rules.specs.declared.trace.Event.TheVariants.{Msg, Have, Subscribe, Unsubscribe, Publish, BeatBegin, MeshBeat, FanBeat, FanEnd, GossipBeat, BeatEnd, Gone}
+use Rattle.gs_rules.specs.declared.event.Event.{Event}
+use Rattle.gs_rules.specs.declared.event.Event.TheVariants.{BeatBegin, Part, Step, Own, Lost}
+use Rattle.gs_rules.specs.declared.event.RpcPart.TheVariants.{Msg, Have}
+use Rattle.gs_rules.specs.declared.event.BeatStep.TheVariants.{MeshBeat, FanBeat, FanEnd, GossipBeat, BeatEnd}
+use Rattle.gs_plan.specs.declared.plan.Act.TheVariants.{Subscribe, Unsubscribe, Publish}
+use Rattle.gs_rules.specs.declared.event.Loss.TheVariants.{Gone}
 use Rattle.gs_rules.specs.declared.trace.Promise.{Promise}
 use Rattle.gs_rules.specs.declared.trace.Entry.{Entry}
 use Rattle.gs_rules.specs.Peers.{Peer, windows}
 use Rattle.gs_rules.specs.Tables.{Entries, asked, blank, keeping_order, kept, offers, own_topics, promises}
 use Rattle.gs_rules.specs.Gossip.{IsOpen, all_charges, ends_promise, gossip, gossip_size, gossipable, keeps_promise}
 use Rattle.gs_rules.specs.Owed.{FanBeats, Gossips, owed}
-use Rattle.gs_rules.specs.Rules.{bare, gossiping}
+use Rattle.gs_rules.specs.Rules.{gossiping, no_effects}
 use Rattle.gs_base.specs.Neighbours.{accepted_neighbour}
 use Rattle.gs_rules.specs.Rounds.{Seat, DecayCounters, Beat, EndRound, Playing, agenda}
 
@@ -63,20 +67,20 @@ abbrev id : ℕ → MsgId
 id n = record { 0 = n ∷ [] }
 
 abbrev entry_at : ℕ → Event → Entry
-entry_at at event = bare (record { 0 = at }) event
+entry_at at event = record { at = record { 0 = at }; event = event; effects = no_effects }
 
 abbrev entry : Event → Entry
 entry event = entry_at 0 event
 
 abbrev marked : Event → Mark → Entry
-marked event mark = record (entry event) { marks = mark ∷ [] }
+marked event mark = record (entry event) { effects = record no_effects { marks = mark ∷ [] } }
 
 -- a message that came, and is kept as one of a topic
 abbrev keeping : ℕ → Topic → Entry
-keeping n t = marked (Msg q blank) (Cached (id n) t)
+keeping n t = marked (Part q (Msg blank)) (Cached (id n) t)
 
 abbrev beat_end : Entry
-beat_end = entry BeatEnd
+beat_end = entry (Step BeatEnd)
 
 -- ---- what is kept
 
@@ -89,7 +93,7 @@ a_message_is_gone_with_its_last_heartbeat : kept (windows peer) (beat_end ∷ be
 a_message_is_gone_with_its_last_heartbeat = refl
 
 -- other events don't count
-a_message_ages_with_heartbeats_alone : kept (windows peer) (beat_end ∷ entry (GossipBeat a) ∷ entry BeatBegin ∷ keeping 1 a ∷ []) (id 1) ≡ Some (record { topic = a; message = blank; age = 1 })
+a_message_ages_with_heartbeats_alone : kept (windows peer) (beat_end ∷ entry (Step (GossipBeat a)) ∷ entry BeatBegin ∷ keeping 1 a ∷ []) (id 1) ≡ Some (record { topic = a; message = blank; age = 1 })
 a_message_ages_with_heartbeats_alone = refl
 
 -- its age begins anew
@@ -136,44 +140,44 @@ gossip_on_the_other_topic = refl
 
 -- behind the charges the mesh of each topic is mended to which the peer is subscribed
 abbrev charged : Entries
-charged = entry BeatBegin ∷ keeping 2 ab ∷ keeping 1 b ∷ entry (Subscribe b) ∷ entry (Subscribe a) ∷ []
+charged = entry BeatBegin ∷ keeping 2 ab ∷ keeping 1 b ∷ entry (Own (Subscribe b)) ∷ entry (Own (Subscribe a)) ∷ []
 
-a_heartbeat_mends_meshes_first : owed peer charged ≡ record { events = MeshBeat a ∷ MeshBeat b ∷ []; groups = FanBeats 0 ∷ Gossips ∷ [] }
+a_heartbeat_mends_meshes_first : owed peer charged ≡ record { events = Step (MeshBeat a) ∷ Step (MeshBeat b) ∷ []; groups = FanBeats 0 ∷ Gossips ∷ [] }
 a_heartbeat_mends_meshes_first = refl
 
-one_after_the_other : owed peer (entry (MeshBeat a) ∷ charged) ≡ record { events = MeshBeat b ∷ []; groups = FanBeats 0 ∷ Gossips ∷ [] }
+one_after_the_other : owed peer (entry (Step (MeshBeat a)) ∷ charged) ≡ record { events = Step (MeshBeat b) ∷ []; groups = FanBeats 0 ∷ Gossips ∷ [] }
 one_after_the_other = refl
 
 -- of two topics one has messages, and on a third, which has one, the peer is not subscribed; no topic has a fanout
-a_heartbeat_gossips_where_there_is_something : owed peer (entry (MeshBeat b) ∷ entry (MeshBeat a) ∷ charged) ≡ record { events = GossipBeat b ∷ BeatEnd ∷ []; groups = [] }
+a_heartbeat_gossips_where_there_is_something : owed peer (entry (Step (MeshBeat b)) ∷ entry (Step (MeshBeat a)) ∷ charged) ≡ record { events = Step (GossipBeat b) ∷ (Step BeatEnd) ∷ []; groups = [] }
 a_heartbeat_gossips_where_there_is_something = refl
 
 -- with nothing to say it ends at once
-a_quiet_heartbeat_ends : owed peer (entry (MeshBeat a) ∷ entry BeatBegin ∷ entry (Subscribe a) ∷ []) ≡ record { events = BeatEnd ∷ []; groups = [] }
+a_quiet_heartbeat_ends : owed peer (entry (Step (MeshBeat a)) ∷ entry BeatBegin ∷ entry (Own (Subscribe a)) ∷ []) ≡ record { events = (Step BeatEnd) ∷ []; groups = [] }
 a_quiet_heartbeat_ends = refl
 
 -- without a topic it ends at once
-a_heartbeat_of_no_topic_ends : owed peer (entry BeatBegin ∷ []) ≡ record { events = BeatEnd ∷ []; groups = [] }
+a_heartbeat_of_no_topic_ends : owed peer (entry BeatBegin ∷ []) ≡ record { events = (Step BeatEnd) ∷ []; groups = [] }
 a_heartbeat_of_no_topic_ends = refl
 
 -- the peer published on a topic at millisecond 0, without being subscribed, and is subscribed to another
 abbrev with_fanout : Entries
-with_fanout = entry (Subscribe a) ∷ marked (Publish b []) (Published b) ∷ []
+with_fanout = entry (Own (Subscribe a)) ∷ marked (Own (Publish b [])) (Published b) ∷ []
 
 -- a millisecond before its time has come
-a_fanout_is_mended_behind_the_meshes : owed peer (entry_at 59_999 (MeshBeat a) ∷ entry_at 59_999 BeatBegin ∷ with_fanout) ≡ record { events = FanBeat b ∷ []; groups = Gossips ∷ [] }
+a_fanout_is_mended_behind_the_meshes : owed peer (entry_at 59_999 (Step (MeshBeat a)) ∷ entry_at 59_999 BeatBegin ∷ with_fanout) ≡ record { events = Step (FanBeat b) ∷ []; groups = Gossips ∷ [] }
 a_fanout_is_mended_behind_the_meshes = refl
 
 -- at that very millisecond
-a_fanout_ends_at_its_time : owed peer (entry_at 60_000 (MeshBeat a) ∷ entry_at 60_000 BeatBegin ∷ with_fanout) ≡ record { events = FanEnd b ∷ []; groups = Gossips ∷ [] }
+a_fanout_ends_at_its_time : owed peer (entry_at 60_000 (Step (MeshBeat a)) ∷ entry_at 60_000 BeatBegin ∷ with_fanout) ≡ record { events = Step (FanEnd b) ∷ []; groups = Gossips ∷ [] }
 a_fanout_ends_at_its_time = refl
 
 -- the messages of a topic whose fanout ended are not gossiped any more
-gossip_is_reached_behind_that : owed peer (entry_at 60_000 (FanEnd b) ∷ entry_at 60_000 (MeshBeat a) ∷ entry_at 60_000 BeatBegin ∷ keeping 1 b ∷ with_fanout) ≡ record { events = BeatEnd ∷ []; groups = [] }
+gossip_is_reached_behind_that : owed peer (entry_at 60_000 (Step (FanEnd b)) ∷ entry_at 60_000 (Step (MeshBeat a)) ∷ entry_at 60_000 BeatBegin ∷ keeping 1 b ∷ with_fanout) ≡ record { events = (Step BeatEnd) ∷ []; groups = [] }
 gossip_is_reached_behind_that = refl
 
 -- both are told the same
-each_that_is_chosen_is_told : (gossiping peer moved (record { 0 = 0 }) a (q ∷ other ∷ [])).sends ≡ (q, offering a ((2 ∷ []) ∷ [])) ∷ (other, offering a ((2 ∷ []) ∷ [])) ∷ []
+each_that_is_chosen_is_told : (gossiping peer moved a (q ∷ other ∷ [])).sends ≡ (q, offering a ((2 ∷ []) ∷ [])) ∷ (other, offering a ((2 ∷ []) ∷ [])) ∷ []
 each_that_is_chosen_is_told = refl
 
 -- a quarter
@@ -191,10 +195,10 @@ nothing_offered = record { topic = None; ids = [] }
 
 -- an offer that counted, and one for which three were asked
 abbrev offered : Entry
-offered = marked (Have q nothing_offered) (Offered q)
+offered = marked (Part q (Have nothing_offered)) (Offered q)
 
 abbrev asked_three : Entry
-asked_three = marked (Have q nothing_offered) (Asked q 3)
+asked_three = marked (Part q (Have nothing_offered)) (Asked q 3)
 
 -- without a heartbeat between them
 offers_count : offers (offered ∷ offered ∷ []) q ≡ 2
@@ -219,7 +223,7 @@ abbrev promise : PeerNo → ℕ → Promise
 promise r n = record { from = r; id = id n; until = record { 0 = 1_000 } }
 
 abbrev promising : PeerNo → ℕ → Entry
-promising r n = record (entry (Have r nothing_offered)) { promise = Some (promise r n) }
+promising r n = record (entry (Part r (Have nothing_offered))) { effects = record no_effects { promise = Some (promise r n) } }
 
 -- one millisecond before
 a_promise_is_there_before_its_time : promises (entry_at 999 BeatBegin ∷ promising q 1 ∷ []) ≡ promise q 1 ∷ []
@@ -230,23 +234,23 @@ a_promise_ends_at_its_time : promises (entry_at 1_000 BeatBegin ∷ promising q 
 a_promise_ends_at_its_time = refl
 
 -- the end of the heartbeat ends none
-a_promise_ends_at_the_start_of_a_heartbeat : promises (entry_at 2_000 BeatEnd ∷ promising q 1 ∷ []) ≡ promise q 1 ∷ []
+a_promise_ends_at_the_start_of_a_heartbeat : promises (entry_at 2_000 (Step BeatEnd) ∷ promising q 1 ∷ []) ≡ promise q 1 ∷ []
 a_promise_ends_at_the_start_of_a_heartbeat = refl
 
 -- another neighbour sent the message
-whoever_sends_a_message_keeps_the_promise : promises (marked (Msg other blank) (Seen (id 1) Accept) ∷ promising q 1 ∷ []) ≡ []
+whoever_sends_a_message_keeps_the_promise : promises (marked (Part other (Msg blank)) (Seen (id 1) Accept) ∷ promising q 1 ∷ []) ≡ []
 whoever_sends_a_message_keeps_the_promise = refl
 
 -- it was found to be one that nobody may send
-a_message_that_is_rejected_keeps_the_promise : promises (marked (Msg other blank) (Seen (id 1) Reject) ∷ promising q 1 ∷ []) ≡ []
+a_message_that_is_rejected_keeps_the_promise : promises (marked (Part other (Msg blank)) (Seen (id 1) Reject) ∷ promising q 1 ∷ []) ≡ []
 a_message_that_is_rejected_keeps_the_promise = refl
 
 -- message 2 came, of the neighbour that promised message 1
-another_message_keeps_no_promise : promises (marked (Msg q blank) (Seen (id 2) Accept) ∷ promising q 1 ∷ []) ≡ promise q 1 ∷ []
+another_message_keeps_no_promise : promises (marked (Part q (Msg blank)) (Seen (id 2) Accept) ∷ promising q 1 ∷ []) ≡ promise q 1 ∷ []
 another_message_keeps_no_promise = refl
 
 -- what was seen before the promise was made
-an_earlier_message_keeps_no_promise : promises (promising q 1 ∷ marked (Msg q blank) (Seen (id 1) Accept) ∷ []) ≡ promise q 1 ∷ []
+an_earlier_message_keeps_no_promise : promises (promising q 1 ∷ marked (Part q (Msg blank)) (Seen (id 1) Accept) ∷ []) ≡ promise q 1 ∷ []
 an_earlier_message_keeps_no_promise = refl
 
 -- one millisecond before
@@ -258,7 +262,7 @@ a_broken_promise_is_charged : all_charges peer (promising q 1 ∷ []) 1_000 ≡ 
 a_broken_promise_is_charged = refl
 
 -- it promised before it closed its link
-a_neighbour_that_is_gone_is_not_charged : all_charges peer (entry (Gone q) ∷ promising q 1 ∷ []) 1_000 ≡ []
+a_neighbour_that_is_gone_is_not_charged : all_charges peer (entry (Lost q Gone) ∷ promising q 1 ∷ []) 1_000 ≡ []
 a_neighbour_that_is_gone_is_not_charged = refl
 
 -- neighbour 2 promised first, and neighbour 1 twice
@@ -266,7 +270,7 @@ each_broken_promise_is_charged : all_charges peer (promising q 3 ∷ promising q
 each_broken_promise_is_charged = refl
 
 -- another message came, a heartbeat ended none a millisecond before, and another ended late
-a_promise_stays_open : AllByRecursion (IsOpen (promise q 1)) (entry_at 2_000 BeatEnd ∷ entry_at 999 BeatBegin ∷ marked (Msg q blank) (Seen (id 2) Accept) ∷ [])
+a_promise_stays_open : AllByRecursion (IsOpen (promise q 1)) (entry_at 2_000 (Step BeatEnd) ∷ entry_at 999 BeatBegin ∷ marked (Part q (Msg blank)) (Seen (id 2) Accept) ∷ [])
 a_promise_stays_open = (record { unkept = refl; unended = refl }, (record { unkept = refl; unended = refl }, (record { unkept = refl; unended = refl }, tt)))
 
 -- at that very millisecond
@@ -322,7 +326,7 @@ a_step_of_decay_comes_before_a_heartbeat = refl
 -- ---- the peer's own topics
 
 abbrev joining : Topic → Entry
-joining t = entry (Subscribe t)
+joining t = entry (Own (Subscribe t))
 
 -- they were subscribed to in descending order
 own_topics_ascend : own_topics (joining a ∷ joining ab ∷ joining b ∷ []) ≡ a ∷ ab ∷ b ∷ []
@@ -333,9 +337,9 @@ own_topics_ascend_in_any_order : own_topics (joining b ∷ joining ab ∷ joinin
 own_topics_ascend_in_any_order = refl
 
 -- the middle one was left
-own_topics_are_not_those_that_were_left : own_topics (entry (Unsubscribe ab) ∷ joining b ∷ joining ab ∷ joining a ∷ []) ≡ a ∷ b ∷ []
+own_topics_are_not_those_that_were_left : own_topics (entry (Own (Unsubscribe ab)) ∷ joining b ∷ joining ab ∷ joining a ∷ []) ≡ a ∷ b ∷ []
 own_topics_are_not_those_that_were_left = refl
 
 -- it was left, and subscribed to again
-own_topics_stand_once : own_topics (joining b ∷ entry (Unsubscribe b) ∷ joining a ∷ joining b ∷ []) ≡ a ∷ b ∷ []
+own_topics_stand_once : own_topics (joining b ∷ entry (Own (Unsubscribe b)) ∷ joining a ∷ joining b ∷ []) ≡ a ∷ b ∷ []
 own_topics_stand_once = refl

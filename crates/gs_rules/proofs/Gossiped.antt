@@ -15,8 +15,9 @@ use Rattle.gs_base.specs.declared.mark.Mark.{Mark}
 use Rattle.gs_base.specs.declared.mark.Mark.TheVariants.{Cached}
 use Rattle.gs_base.specs.Names.{same_id, same_topic}
 use Rattle.gs_base.specs.Rpcs.{most_identifiers}
-use Rattle.gs_rules.specs.declared.trace.Event.{Event}
-use Rattle.gs_rules.specs.declared.trace.Event.TheVariants.{BeatEnd}
+use Rattle.gs_rules.specs.declared.event.Event.{Event}
+use Rattle.gs_rules.specs.declared.event.Event.TheVariants.{Step}
+use Rattle.gs_rules.specs.declared.event.BeatStep.TheVariants.{BeatEnd}
 use Rattle.gs_rules.specs.Peers.{Peer, windows}
 use Rattle.gs_rules.specs.Tables.{Entries, Keeping, after_marks, aged_after, kept, kept_after, keeping, keeping_order, last_kept, message_in, older, order_after}
 use Rattle.gs_rules.specs.Gossip.{IsKeptOn, gossip, gossipable, is_gossiped, last_of}
@@ -60,13 +61,13 @@ older_kept None is = is
 older_kept (Some k) is = refl
 
 aged_kept : (event : Event) (found : Option Keeping) → is_some (aged_after event found) ≡ true → is_some found ≡ true
-aged_kept BeatEnd found is = older_kept found is
+aged_kept (Step BeatEnd) found is = older_kept found is
 aged_kept other found is = is
 
 last_stands : (L : Entries) (id : MsgId) → is_some (last_kept L id) ≡ true → list_any (same_id id) (keeping_order L) ≡ true
 last_stands [] id is = absurd cc
 last_stands (e ∷ L) id is =
-    marks_stand id e.event e.marks (aged_after e.event (last_kept L id)) (keeping_order L) (λ aged. last_stands L id (aged_kept e.event (last_kept L id) aged)) is
+    marks_stand id e.event e.effects.marks (aged_after e.event (last_kept L id)) (keeping_order L) (λ aged. last_stands L id (aged_kept e.event (last_kept L id) aged)) is
 
 counts : (len : ℕ) (last : Option Keeping) (found : Keeping) → keeping len last ≡ Some found → is_some last ≡ true
 counts len None found is = absurd cc

@@ -10,14 +10,14 @@ use Rattle.gs_base.specs.declared.rpc.Rpc.{Rpc}
 use Rattle.gs_base.specs.Names.{same_peer}
 use Rattle.gs_params.specs.Picks.{IsAscending}
 use Rattle.gs_plan.specs.declared.plan.Line.{Line}
-use Rattle.gs_plan.specs.declared.plan.What.{What}
-use Rattle.gs_plan.specs.declared.plan.What.TheVariants.{Subscribe, Unsubscribe, Publish, Raw, HangUp}
+use Rattle.gs_plan.specs.declared.plan.Act.{Act}
 use Rattle.gs_params.proofs.Picking.{distinct_from_ascending}
 use Rattle.gs_wire.specs.declared.frames.End.TheVariants.{Waits}
 use Rattle.gs_wire.specs.Messages.{longest_body}
 use Rattle.gs_wire.proofs.FrameLists.{one_stream}
-use Rattle.gs_rules.specs.declared.trace.Event.{Event}
-use Rattle.gs_rules.specs.declared.trace.Event.TheVariants.{Heard, Late, Sub, Msg, Have, Want, GraftIn, PruneIn, MeshBeat, FanBeat, FanEnd, GossipBeat, BeatEnd, Gone, Fault}
+use Rattle.gs_rules.specs.declared.event.Event.{Event}
+use Rattle.gs_rules.specs.declared.event.Event.TheVariants.{Heard, Late, Part, Step, Lost, Own}
+use Rattle.gs_rules.specs.declared.event.Loss.TheVariants.{Gone, Fault}
 use Rattle.gs_rules.specs.declared.trace.Entry.{Entry}
 use Rattle.gs_rules.specs.declared.refusal.Refusal.{Refusal}
 use Rattle.gs_rules.specs.declared.refusal.RefusedLine.{RefusedLine}
@@ -27,7 +27,7 @@ use Rattle.gs_rules.specs.Legal.{Legal, ArePayments, Begins, Opens, Comes}
 use Rattle.gs_rules.specs.Refusals.{refusal}
 use Rattle.gs_rules.specs.Saying.{Said, bytes_of, handled_by, handled}
 use Rattle.gs_rules.specs.Hearing.{Spell, Inbound, IsBetween, ComesIn, bytes_before}
-use Rattle.gs_rules.specs.Rounds.{Seat, Phase, Playing, Closing, Todo, Hear, HearFault, HearGone, Obey, DecayCounters, Beat, EndRound, Stop, agenda, beats_in, decays_in, is_due, ending, hears, hears_of, is_at, is_broken, lines_at, moment_of, event_of, unless_refused, opening, Does, ComesAt, Plays, PlaysInPart, AfterRounds, KeepsRounds}
+use Rattle.gs_rules.specs.Rounds.{Seat, Phase, Playing, Closing, Todo, Hear, HearFault, HearGone, Obey, DecayCounters, Beat, EndRound, Stop, agenda, beats_in, decays_in, is_due, ending, hears, hears_of, is_at, is_broken, lines_at, moment_of, unless_refused, opening, Does, ComesAt, Plays, PlaysInPart, AfterRounds, KeepsRounds}
 use Rattle.gs_rules.proofs.Owed.{IsOwed, due_is_owed}
 use Rattle.gs_rules.proofs.Legality.{legal_newest}
 use Rattle.gs_rules.proofs.Deliveries.{legal_before}
@@ -77,17 +77,8 @@ handled_if q None = []
 handled_if q (Some event) = handled_by q event
 
 owed_handles : (q : PeerNo) (event : Event) → IsOwed event → handled_by q event ≡ []
-owed_handles q (Sub r sub) h = refl
-owed_handles q (Msg r m) h = refl
-owed_handles q (Have r offer) h = refl
-owed_handles q (Want r request) h = refl
-owed_handles q (GraftIn r graft) h = refl
-owed_handles q (PruneIn r prune) h = refl
-owed_handles q (MeshBeat t) h = refl
-owed_handles q (FanBeat t) h = refl
-owed_handles q (FanEnd t) h = refl
-owed_handles q (GossipBeat t) h = refl
-owed_handles q BeatEnd h = refl
+owed_handles q (Part r part) h = refl
+owed_handles q (Step step) h = refl
 owed_handles q other h = absurd h
 
 paid_handle : (q : PeerNo) (L : Entries) (paid : List Entry) → AllByRecursion (λ (e : Entry). IsOwed e.event) paid → handled (paid ++ L) q ≡ handled L q
@@ -113,19 +104,15 @@ lost_handles : (q : PeerNo) (event : Event) (is_up : Bool) → handled_by q even
 lost_handles q event true none = none
 lost_handles q event false none = refl
 
-line_handles : (q : PeerNo) (what : What) (why : Option Refusal) → handled_if q (unless_refused (event_of what) why) ≡ []
+line_handles : (q : PeerNo) (what : Act) (why : Option Refusal) → handled_if q (unless_refused (Own what) why) ≡ []
 line_handles q what (Some why) = refl
-line_handles q (Subscribe t) None = refl
-line_handles q (Unsubscribe t) None = refl
-line_handles q (Publish t payload) None = refl
-line_handles q (Raw r bytes) None = refl
-line_handles q (HangUp r) None = refl
+line_handles q what None = refl
 
 opening_handles : (p : Peer) (q : PeerNo) (K : Entries) (at : Millis) (todo : Todo) → handled_if q (opening p K at todo) ≡ rpc_of q todo
 opening_handles p q K at (Hear r rpc) = either_way q r rpc (up K r)
-opening_handles p q K at (HearFault r) = lost_handles q (Fault r) (up K r) refl
-opening_handles p q K at (HearGone r) = lost_handles q (Gone r) (up K r) refl
-opening_handles p q K at (Obey place what) = line_handles q what (refusal p K at.0 (event_of what))
+opening_handles p q K at (HearFault r) = lost_handles q (Lost r Fault) (up K r) refl
+opening_handles p q K at (HearGone r) = lost_handles q (Lost r Gone) (up K r) refl
+opening_handles p q K at (Obey place what) = line_handles q what (refusal p K at.0 (Own what))
 opening_handles p q K at DecayCounters = refl
 opening_handles p q K at Beat = refl
 opening_handles p q K at (EndRound r) = refl

@@ -6,8 +6,8 @@ use Rattle.std.proofs.lemmas.List.{map-append}
 use Rattle.gs_base.specs.declared.names.PeerNo.{PeerNo}
 use Rattle.gs_base.specs.declared.rpc.Rpc.{Rpc}
 use Rattle.gs_base.specs.Codecs.{Codec}
-use Rattle.gs_rules.specs.declared.trace.Event.{Event}
-use Rattle.gs_rules.specs.declared.trace.Event.TheVariants.{RoundEnd, Shut}
+use Rattle.gs_rules.specs.declared.event.Event.{Event}
+use Rattle.gs_rules.specs.declared.event.Event.TheVariants.{RoundEnd, Shut}
 use Rattle.gs_rules.specs.declared.trace.Entry.{Entry}
 use Rattle.gs_rules.specs.Tables.{Entries, cuts_off, is_lost, lost, up_after, up}
 use Rattle.gs_rules.specs.Modes.{sent_to}
@@ -40,9 +40,9 @@ cut_adds codec false o = adds_none o
 -- An entry says bytes, and then its sign.
 pub entry_says : (codec : Codec) (q : PeerNo) (o : Outgoing) (e : Entry) → (bytes : List ℕ) × ((behind_entry codec q o e).said ≡ o.said ++ (map Byte bytes ++ sign q e.event))
 entry_says codec q o e =
-    let sent_now : Outgoing = sending_all codec o (sent_to q e.sends) in
+    let sent_now : Outgoing = sending_all codec o (sent_to q e.effects.sends) in
     let cut_now : Outgoing = if is_cut q e.event then cut_out codec sent_now else sent_now in
-    let (bytes, is) = adds_further o sent_now cut_now (sends_add codec o (sent_to q e.sends)) (cut_adds codec (is_cut q e.event) sent_now) in
+    let (bytes, is) = adds_further o sent_now cut_now (sends_add codec o (sent_to q e.effects.sends)) (cut_adds codec (is_cut q e.event) sent_now) in
     let raw : Said = map Byte (raw_to q e.event) in
     let s : Said = sign q e.event in (
       bytes ++ raw_to q e.event,

@@ -8,29 +8,28 @@ use Rattle.gs_base.specs.declared.control.IWant.{IWant}
 use Rattle.gs_base.specs.declared.verdict.Verdict.{Verdict}
 use Rattle.gs_base.specs.declared.verdict.Verdict.TheVariants.{Accept, Reject, Ignore}
 use Rattle.gs_base.specs.Names.{is_signed, message_id, payload_of, topic_of}
-use Rattle.gs_rules.specs.declared.trace.Event.TheVariants.{Msg, Want}
-use Rattle.gs_rules.specs.declared.trace.Entry.{Entry}
+use Rattle.gs_rules.specs.declared.trace.Effects.{Effects}
 use Rattle.gs_rules.specs.Peers.{Peer, seen_ttl}
 use Rattle.gs_rules.specs.Tables.{Entries, joined, seen}
 use Rattle.gs_rules.specs.Scoring.{is_ignored}
 use Rattle.gs_rules.specs.declared.outcome.Outcome.{Outcome}
 use Rattle.gs_rules.specs.declared.outcome.Outcome.TheVariants.{Dropped, Invalid, Near}
 use Rattle.gs_rules.specs.Meshes.{mesh}
-use Rattle.gs_rules.specs.Outcomes.{again, found_to_be, is_near, known_or_new, message_entry, message_rule, outcome, verdict_on}
-use Rattle.gs_rules.specs.Rules.{answering, answers, bare, explicit_listeners, ids_in, want_rule}
+use Rattle.gs_rules.specs.Outcomes.{again, found_to_be, is_near, known_or_new, message_effects, message_rule, verdict_on}
+use Rattle.gs_rules.specs.Rules.{answering, answers, explicit_listeners, ids_in, want_rule, no_effects}
 
 -- what holds of the bare entry, and on a topic that is joined of an invalid message, of one that counts for its sender
 -- and of a new one, whatever it is found to be, holds of its rule
-pub of_a_joined_message : (P : Entry → Type 0) (p : Peer) (L : Entries) (at : Millis) (q : PeerNo) (m : Message)
-    → P (bare at (Msg q m))
-    → (joined L (topic_of m) ≡ true → P (message_entry (mesh L (topic_of m)) (explicit_listeners p L (topic_of m)) at q m Invalid))
-    → (joined L (topic_of m) ≡ true → P (message_entry (mesh L (topic_of m)) (explicit_listeners p L (topic_of m)) at q m (Near (message_id (payload_of m)))))
-    → (joined L (topic_of m) ≡ true → seen (seen_ttl p) L (message_id (payload_of m)) at.0 ≡ None → (v : Verdict) → P (message_entry (mesh L (topic_of m)) (explicit_listeners p L (topic_of m)) at q m (found_to_be (message_id (payload_of m)) v)))
+pub of_a_joined_message : (P : Effects → Type 0) (p : Peer) (L : Entries) (at : Millis) (q : PeerNo) (m : Message)
+    → P no_effects
+    → (joined L (topic_of m) ≡ true → P (message_effects (mesh L (topic_of m)) (explicit_listeners p L (topic_of m)) q m Invalid))
+    → (joined L (topic_of m) ≡ true → P (message_effects (mesh L (topic_of m)) (explicit_listeners p L (topic_of m)) q m (Near (message_id (payload_of m)))))
+    → (joined L (topic_of m) ≡ true → seen (seen_ttl p) L (message_id (payload_of m)) at.0 ≡ None → (v : Verdict) → P (message_effects (mesh L (topic_of m)) (explicit_listeners p L (topic_of m)) q m (found_to_be (message_id (payload_of m)) v)))
     → P (message_rule p L at q m)
 of_a_joined_message P p L at q m dropped against near new = by (joined L (topic_of m)) (is_signed m) (seen (seen_ttl p) L (message_id (payload_of m)) at.0) refl refl
   where
     Holds : Outcome → Type 0
-    Holds found = P (message_entry (mesh L (topic_of m)) (explicit_listeners p L (topic_of m)) at q m found)
+    Holds found = P (message_effects (mesh L (topic_of m)) (explicit_listeners p L (topic_of m)) q m found)
 
     repeated : joined L (topic_of m) ≡ true → (is_near : Bool) → Holds (again (message_id (payload_of m)) is_near)
     repeated on true = near on
@@ -46,22 +45,22 @@ of_a_joined_message P p L at q m dropped against near new = by (joined L (topic_
     by true false None on is = new on is (verdict_on p.params.topics m)
 
 -- what holds of each of these, whatever is joined
-pub of_a_message : (P : Entry → Type 0) (p : Peer) (L : Entries) (at : Millis) (q : PeerNo) (m : Message)
-    → P (bare at (Msg q m))
-    → P (message_entry (mesh L (topic_of m)) (explicit_listeners p L (topic_of m)) at q m Invalid)
-    → P (message_entry (mesh L (topic_of m)) (explicit_listeners p L (topic_of m)) at q m (Near (message_id (payload_of m))))
-    → (seen (seen_ttl p) L (message_id (payload_of m)) at.0 ≡ None → (v : Verdict) → P (message_entry (mesh L (topic_of m)) (explicit_listeners p L (topic_of m)) at q m (found_to_be (message_id (payload_of m)) v)))
+pub of_a_message : (P : Effects → Type 0) (p : Peer) (L : Entries) (at : Millis) (q : PeerNo) (m : Message)
+    → P no_effects
+    → P (message_effects (mesh L (topic_of m)) (explicit_listeners p L (topic_of m)) q m Invalid)
+    → P (message_effects (mesh L (topic_of m)) (explicit_listeners p L (topic_of m)) q m (Near (message_id (payload_of m))))
+    → (seen (seen_ttl p) L (message_id (payload_of m)) at.0 ≡ None → (v : Verdict) → P (message_effects (mesh L (topic_of m)) (explicit_listeners p L (topic_of m)) q m (found_to_be (message_id (payload_of m)) v)))
     → P (message_rule p L at q m)
 of_a_message P p L at q m dropped against near new =
     of_a_joined_message P p L at q m dropped (λ on. against) (λ on. near) (λ on. new)
 
 -- what holds of the bare entry and of the answers holds of the rule of a request
-pub of_a_request : (P : Entry → Type 0) (p : Peer) (L : Entries) (at : Millis) (q : PeerNo) (request : IWant)
-    → P (bare at (Want q request))
-    → P (answering at q request (answers p L q [] (ids_in request.ids)))
+pub of_a_request : (P : Effects → Type 0) (p : Peer) (L : Entries) (at : Millis) (q : PeerNo) (request : IWant)
+    → P no_effects
+    → P (answering q (answers p L q [] (ids_in request.ids)))
     → P (want_rule p L at q request)
 of_a_request P p L at q request dropped answered = by (is_ignored p L at.0 q)
   where
-    by : (ignored : Bool) → P (if ignored then bare at (Want q request) else answering at q request (answers p L q [] (ids_in request.ids)))
+    by : (ignored : Bool) → P (if ignored then no_effects else answering q (answers p L q [] (ids_in request.ids)))
     by true = dropped
     by false = answered

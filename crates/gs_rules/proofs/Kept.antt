@@ -18,8 +18,11 @@ use Rattle.gs_wire.specs.Fields.{len_record}
 use Rattle.gs_wire.proofs.RoundTrip.{all-append}
 use Rattle.gs_wire.proofs.SentOn.{passed_on_shorter}
 use Rattle.gs_wire.proofs.Written.{len_text-length, records_text-single, varint_ten}
-use Rattle.gs_rules.specs.declared.trace.Event.{Event}
-use Rattle.gs_rules.specs.declared.trace.Event.TheVariants.{Heard, Sub, Msg, Have, Want, GraftIn, PruneIn, Publish, MeshBeat, GossipBeat, BeatEnd}
+use Rattle.gs_rules.specs.declared.event.Event.{Event}
+use Rattle.gs_rules.specs.declared.event.Event.TheVariants.{Heard, Part, Step, Own}
+use Rattle.gs_rules.specs.declared.event.RpcPart.TheVariants.{Sub, Msg, Have, Want, GraftIn, PruneIn}
+use Rattle.gs_rules.specs.declared.event.BeatStep.TheVariants.{MeshBeat, GossipBeat, BeatEnd}
+use Rattle.gs_plan.specs.declared.plan.Act.TheVariants.{Publish}
 use Rattle.gs_rules.specs.declared.trace.Entry.{Entry}
 use Rattle.gs_rules.specs.Peers.{Peer, windows}
 use Rattle.gs_rules.specs.Tables.{Entries, Keeping, after_marks, aged_after, blank, keeping, kept, kept_after, last_kept, message_in, older, own_topics}
@@ -39,7 +42,7 @@ FitsAlone m = codec.fits (passed_on m) ≡ true
 
 -- where the event brings a message, this fits
 abbrev BringsFitting : Event → Type 0
-BringsFitting (Msg q m) = FitsAlone m
+BringsFitting (Part q (Msg m)) = FitsAlone m
 BringsFitting other = Unit {0}
 
 -- a message of an RPC that fits does so too
@@ -48,18 +51,18 @@ alone_fits rpc m fits among =
     let whole : length (body rpc) ≤ longest_body = grind (arith, nat_tests) in
     le-leb (length (body (passed_on m))) longest_body (omega (arith, whole, passed_on_shorter rpc m among))
 
-messages_fit : (q : PeerNo) (ms : List Message) (rest : List Event) → ((m : Message) → IsAmong ms m → FitsAlone m) → AllByRecursion BringsFitting rest → AllByRecursion BringsFitting (map (Msg q) ms ++ rest)
+messages_fit : (q : PeerNo) (ms : List Message) (rest : List Event) → ((m : Message) → IsAmong ms m → FitsAlone m) → AllByRecursion BringsFitting rest → AllByRecursion BringsFitting (map (λ part. Part q (Msg part)) ms ++ rest)
 messages_fit q [] rest each h = h
 messages_fit q (m ∷ ms) rest each h =
     (each m (zero, (omega arith, refl)), messages_fit q ms rest (λ n among. each n (suc among.0, (omega (arith, among.1.0), among.1.1))) h)
 
 parts_fit : (q : PeerNo) (rpc : Rpc) → codec.fits rpc ≡ true → AllByRecursion BringsFitting (parts q rpc)
 parts_fit q rpc fits =
-    kind_of_parts BringsFitting (Sub q) rpc.subs _ (λ sub. tt)
+    kind_of_parts BringsFitting (λ part. Part q (Sub part)) rpc.subs _ (λ sub. tt)
     (messages_fit q rpc.publish _ (λ m among. alone_fits rpc m fits among)
-    (kind_of_parts BringsFitting (Have q) (offers_in rpc.control) _ (λ offer. tt)
-    (kind_of_parts BringsFitting (Want q) (requests_in rpc.control) _ (λ request. tt)
-    (kind_of_parts BringsFitting (GraftIn q) (grafts_in rpc.control) _ (λ graft. tt) (last_parts BringsFitting (PruneIn q) (prunes_in rpc.control) (λ prune. tt))))))
+    (kind_of_parts BringsFitting (λ part. Part q (Have part)) (offers_in rpc.control) _ (λ offer. tt)
+    (kind_of_parts BringsFitting (λ part. Part q (Want part)) (requests_in rpc.control) _ (λ request. tt)
+    (kind_of_parts BringsFitting (λ part. Part q (GraftIn part)) (grafts_in rpc.control) _ (λ graft. tt) (last_parts BringsFitting (λ part. Part q (PruneIn part)) (prunes_in rpc.control) (λ prune. tt))))))
 
 -- behind whatever trace
 abbrev FittingAnywhere : Entries → Event → Type 0
@@ -68,8 +71,8 @@ FittingAnywhere = λ M. BringsFitting
 heartbeat_fits : (p : Peer) (at : ℕ) → ReachesSuch p (Legal p) FittingAnywhere (heartbeat_groups at)
 heartbeat_fits p at =
     heartbeat_is_such p (Legal p) FittingAnywhere at
-    (λ M legal. of_each (λ (t : Topic). BringsFitting (MeshBeat t)) (λ t. tt) (own_topics M)) (λ M t. tt) (λ M t. tt)
-    (λ M legal. of_each (λ (t : Topic). BringsFitting (GossipBeat t)) (λ t. tt) (gossip_topics p M)) (λ M. tt)
+    (λ M legal. of_each (λ (t : Topic). BringsFitting (Step (MeshBeat t))) (λ t. tt) (own_topics M)) (λ M t. tt) (λ M t. tt)
+    (λ M legal. of_each (λ (t : Topic). BringsFitting (Step (GossipBeat t))) (λ t. tt) (gossip_topics p M)) (λ M. tt)
 
 heard_fits : (p : Peer) (L : Entries) (e : Entry) (q : PeerNo) (rpc : Rpc) → Legal p (e ∷ L) → e.event ≡ Heard q rpc → AllByRecursion BringsFitting (parts q rpc)
 heard_fits p L e q rpc legal is =
@@ -86,8 +89,8 @@ blank_fits = le-leb (length (body (passed_on blank))) longest_body (omega (arith
 
 -- what comes next brings a message that fits, or one without any field
 pub next_fits : (p : Peer) (L : Entries) (at : ℕ) (event : Event) → Legal p L → IsNext p L at (owed p L).events event → FitsAlone (message_in event)
-next_fits p L at (Msg q m) legal next = next_is_such BringsFitting p L at (owed p L).events (Msg q m) (owed_fit p L legal).0 (λ h. h) next
-next_fits p L at (Publish t payload) legal next = (opens p L at (Publish t payload) (λ h. h) next).fits
+next_fits p L at (Part q (Msg m)) legal next = next_is_such BringsFitting p L at (owed p L).events (Part q (Msg m)) (owed_fit p L legal).0 (λ h. h) next
+next_fits p L at (Own (Publish t payload)) legal next = (opens p L at (Own (Publish t payload)) (λ h. h) next).fits
 next_fits p L at other legal next = blank_fits
 
 -- ---- messages that are kept
@@ -113,13 +116,13 @@ older_fits None h = tt
 older_fits (Some k) h = h
 
 aged_fits : (event : Event) (before : Option Keeping) → KeepsFitting before → KeepsFitting (aged_after event before)
-aged_fits BeatEnd before h = older_fits before h
+aged_fits (Step BeatEnd) before h = older_fits before h
 aged_fits other before h = h
 
 last_kept_fits : (p : Peer) (L : Entries) (id : MsgId) → Legal p L → KeepsFitting (last_kept L id)
 last_kept_fits p [] id legal = tt
 last_kept_fits p (e ∷ L) id legal =
-    marks_keep id e.event e.marks (aged_after e.event (last_kept L id)) (next_fits p L e.at.0 e.event legal.1 (legal_newest p e L legal).next)
+    marks_keep id e.event e.effects.marks (aged_after e.event (last_kept L id)) (next_fits p L e.at.0 e.event legal.1 (legal_newest p e L legal).next)
     (aged_fits e.event (last_kept L id) (last_kept_fits p L id legal.1))
 
 -- what was kept last fits, and so it does while it is kept

@@ -1,11 +1,12 @@
 -- Entries that may come behind others, under one way to choose and under another.
-use Rattle.std.proofs.Common.{◌≡◌, ◌<◌, ◌%◌, ℕ, Bool, true, false, nat_eq, if◌then◌else◌, List, [], ◌∷◌, ◌++◌, refl, sym, ap, subst, subst₂, ◌∙◌}
+use Rattle.std.proofs.Common.{◌≡◌, ◌<◌, ◌%◌, ℕ, Bool, true, false, nat_eq, if◌then◌else◌, List, [], ◌∷◌, ◌++◌, refl, sym, ap, ap₂, subst, subst₂, ◌∙◌}
 use Rattle.std.proofs.lemmas.List.{append_assoc, append-nil}
 use Rattle.std.proofs.lemmas.Nat.{mod_below}
 use Rattle.std.proofs.lemmas.List.Sorted.{IsPermutation-refl}
 use Rattle.gs_base.specs.declared.names.PeerNo.{PeerNo}
 use Rattle.gs_base.specs.declared.names.Millis.{Millis}
-use Rattle.gs_rules.specs.declared.trace.Event.{Event}
+use Rattle.gs_rules.specs.declared.event.Event.{Event}
+use Rattle.gs_rules.specs.declared.trace.Effects.{Effects}
 use Rattle.gs_rules.specs.declared.trace.Entry.{Entry}
 use Rattle.gs_params.specs.Picks.{IsSample, picked_one}
 use Rattle.gs_rules.specs.Tables.{Entries}
@@ -18,8 +19,8 @@ use Rattle.gs_mesh.specs.declared.members.Member.{Member}
 use Rattle.gs_params.proofs.Picking.{picked_is_sample}
 use Rattle.gs_mesh.proofs.Cutting.{exact_cut_is_cut, exact_cut_is_one}
 
-pub says_itself : (x : Entry) → SaysTheSame x x
-says_itself x = record { at = refl; event = refl; sends = λ q. refl; delivered = refl; promise = refl; marks = IsPermutation-refl x.marks }
+pub says_itself : (x : Effects) → SaysTheSame x x
+says_itself x = record { sends = λ q. refl; delivered = refl; promise = refl; marks = IsPermutation-refl x.marks }
 
 -- ---- more entries
 
@@ -55,10 +56,10 @@ pub record Weakens (m n : Mode) (to : m.State → n.State) : Type 0 where
   pub picks : (k : ℕ) (candidates : List PeerNo) (s : m.State) (chosen : List PeerNo) (t : m.State) → m.Picks k candidates s chosen t → n.Picks k candidates (to s) chosen (to t)
   pub cuts : (degrees : Degrees) (members : List Member) (s : m.State) (kept : List PeerNo) (t : m.State) → m.Cuts degrees members s kept t → n.Cuts degrees members (to s) kept (to t)
   pub one : (k : ℕ) (s : m.State) (place : ℕ) (t : m.State) → m.PicksOne k s place t → n.PicksOne k (to s) place (to t)
-  pub meets : (e x : Entry) → m.Meets e x → n.Meets e x
+  pub meets : (e x : Effects) → m.Meets e x → n.Meets e x
 
 module _ (m n : Mode) (to : m.State → n.State) (weakens : Weakens m n to) where
-  pub follows_weakly : (r : Rule) (s : m.State) (e : Entry) (t : m.State) → Follows m r s e t → Follows n r (to s) e (to t)
+  pub follows_weakly : (r : Rule) (s : m.State) (e : Effects) (t : m.State) → Follows m r s e t → Follows n r (to s) e (to t)
   follows_weakly (Gives x) s e t h = (weakens.meets e x h.0, ap to h.1)
   follows_weakly (AnyOf k candidates rule) s e t h = (h.0, to h.1, weakens.picks k candidates s h.0 h.1 h.2, follows_weakly (rule h.0) h.1 e t h.3)
   follows_weakly (CutOf degrees members rule) s e t h = (h.0, to h.1, weakens.cuts degrees members s h.0 h.1 h.2, follows_weakly (rule h.0) h.1 e t h.3)
@@ -67,10 +68,10 @@ module _ (m n : Mode) (to : m.State → n.State) (weakens : Weakens m n to) wher
   pub legal_weakly : (p : Peer) (s t : m.State) (K L : Entries) → LegalOn m p s K L t → LegalOn n p (to s) K L (to t)
   legal_weakly p s t K [] h = ap to h
   legal_weakly p s t K (e ∷ L) h =
-      (to h.0, legal_weakly p s h.0 K L h.1, record { time = h.2.time; next = h.2.next; effects = follows_weakly (rule_of p (L ++ K) e.at e.event) h.0 e t h.2.effects })
+      (to h.0, legal_weakly p s h.0 K L h.1, record { time = h.2.time; next = h.2.next; effects = follows_weakly (rule_of p (L ++ K) e.at e.event) h.0 e.effects t h.2.effects })
 
--- an equal entry says the same
-same_by : (e x : Entry) → e ≡ x → SaysTheSame e x
+-- equal effects say the same
+same_by : (e x : Effects) → e ≡ x → SaysTheSame e x
 same_by e x is = subst (SaysTheSame e) is (says_itself e)
 
 -- where nothing is chosen, no word is drawn
@@ -102,8 +103,8 @@ module _ {S : Type 0} (word : S → ℕ) (after : S → S) where
 
   -- ---- one entry alone
 
-  -- a rule and a state fix the entry and the state after it
-  pub follows_alone : (r : Rule) (s : S) (e f : Entry) (t u : S) → Follows (exact word after) r s e t → Follows (exact word after) r s f u → (e ≡ f) × (t ≡ u)
+  -- a rule and a state fix the effects and the state after them
+  pub follows_alone : (r : Rule) (s : S) (e f : Effects) (t u : S) → Follows (exact word after) r s e t → Follows (exact word after) r s f u → (e ≡ f) × (t ≡ u)
   follows_alone (Gives x) s e f t u h k = (h.0 ∙ sym k.0, h.1 ∙ sym k.1)
   follows_alone (AnyOf n candidates rule) s e f t u h k =
       follows_alone (rule h.0) h.1 e f t u h.3 (subst₂ (λ (chosen : List PeerNo) (v : S). Follows (exact word after) (rule chosen) v f u) (k.2.chosen_are ∙ sym h.2.chosen_are) (k.2.words ∙ sym h.2.words) k.3)
@@ -113,9 +114,16 @@ module _ {S : Type 0} (word : S → ℕ) (after : S → S) where
   follows_alone (OneOf n rule) s e f t u h k =
       follows_alone (rule h.0) h.1 e f t u h.3 (subst₂ (λ (place : ℕ) (v : S). Follows (exact word after) (rule place) v f u) (k.2.place_is ∙ sym h.2.place_is) (k.2.words ∙ sym h.2.words) k.3)
 
+  -- an entry is its moment, its event and its effects
+  one_entry : (e f : Entry) → e.at ≡ f.at → e.event ≡ f.event → e.effects ≡ f.effects → e ≡ f
+  one_entry e f at event effects =
+      ap₂ (λ (now : Millis) (ev : Event). record { at = now; event = ev; effects = e.effects }) at event
+      ∙ ap (λ (x : Effects). record { at = f.at; event = f.event; effects = x }) effects
+
   allowed_alone : (p : Peer) (L : Entries) (s : S) (e f : Entry) (t u : S) → IsAllowed (exact word after) p L s e t → IsAllowed (exact word after) p L s f u → e.at ≡ f.at → e.event ≡ f.event → (e ≡ f) × (t ≡ u)
   allowed_alone p L s e f t u h k at event =
-      follows_alone (rule_of p L e.at e.event) s e f t u h.effects (subst₂ (λ (now : Millis) (ev : Event). Follows (exact word after) (rule_of p L now ev) s f u) (sym at) (sym event) k.effects)
+      let same = follows_alone (rule_of p L e.at e.event) s e.effects f.effects t u h.effects (subst₂ (λ (now : Millis) (ev : Event). Follows (exact word after) (rule_of p L now ev) s f.effects u) (sym at) (sym event) k.effects) in
+      (one_entry e f at event same.0, same.1)
 
   -- the entries fix the state after them
   state_alone : (p : Peer) (s : S) (K L : Entries) (t u : S) → LegalOn (exact word after) p s K L t → LegalOn (exact word after) p s K L u → t ≡ u
@@ -131,5 +139,5 @@ module _ {S : Type 0} (word : S → ℕ) (after : S → S) where
       allowed_alone p (L ++ K) h.0 e f t u h.2 (subst (λ (v : S). IsAllowed (exact word after) p (L ++ K) v f u) (sym before) k.2) at event
 
   -- no word is drawn for an entry that its rule gives
-  pub given_quietly : (p : Peer) (s t : S) (K : Entries) (e x : Entry) → LegalOn (exact word after) p s K (e ∷ []) t → rule_of p K e.at e.event ≡ Gives x → t ≡ s
-  given_quietly p s t K e x h given = (subst (λ (r : Rule). Follows (exact word after) r h.0 e t) given h.2.effects).1 ∙ h.1
+  pub given_quietly : (p : Peer) (s t : S) (K : Entries) (e : Entry) (x : Effects) → LegalOn (exact word after) p s K (e ∷ []) t → rule_of p K e.at e.event ≡ Gives x → t ≡ s
+  given_quietly p s t K e x h given = (subst (λ (r : Rule). Follows (exact word after) r h.0 e.effects t) given h.2.effects).1 ∙ h.1

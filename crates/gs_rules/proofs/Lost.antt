@@ -16,8 +16,8 @@ use Rattle.gs_score.specs.declared.addresses.AddressEntry.{AddressEntry}
 use Rattle.gs_score.specs.Addresses.{address_entry_at, is_counted, shut}
 use Rattle.gs_score.specs.Addresses as addresses
 use Rattle.gs_score.specs.Histories.{History, addresses_in}
-use Rattle.gs_rules.specs.declared.trace.Event.{Event}
-use Rattle.gs_rules.specs.declared.trace.Event.TheVariants.{Decay, Shut}
+use Rattle.gs_rules.specs.declared.event.Event.{Event}
+use Rattle.gs_rules.specs.declared.event.Event.TheVariants.{Decay, Shut}
 use Rattle.gs_rules.specs.Peers.{Peer}
 use Rattle.gs_rules.specs.Tables.{Entries, after_marks, is_lost, is_shut, is_shut_after, lost, up}
 use Rattle.gs_rules.specs.Scoring.{change_of, changed_after, history, marked_after, shut_out}
@@ -93,6 +93,6 @@ pub counts_while_up : (p : Peer) (L : Entries) (q : PeerNo) → is_shut L ≡ fa
 counts_while_up p [] q runs = refl
 counts_while_up p (e ∷ L) q runs =
     let still = still_runs e.event (is_shut L) runs in
-    ap (λ (ps : List (PeerNo × AddressEntry)). is_counted ps q) (marks_shut_none p e.at e.marks (changed_after e.event (history p L)))
+    ap (λ (ps : List (PeerNo × AddressEntry)). is_counted ps q) (marks_shut_none p e.at e.effects.marks (changed_after e.event (history p L)))
     ∙ event_counts p.neighbours e.event (history p L) q
     ∙ one_step (is_shut_after e.event false) (is_lost q (lost e.event)) (up L q) (is_counted (addresses_in p.neighbours []) q) (is_counted (addresses_in p.neighbours (history p L)) q) still.0 (counts_while_up p L q still.1)

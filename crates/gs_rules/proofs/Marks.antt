@@ -1,5 +1,5 @@
 -- Which marks an entry that follows its rule may have.
-use Rattle.std.proofs.Common.{◌≡◌, ◌⊎◌, inl, inr, ℕ, Bool, true, false, if◌then◌else◌, List, [], ◌∷◌, ◌++◌, ◌-◌, length, map, pos, Option, Some, None, refl, ap}
+use Rattle.std.proofs.Common.{◌≡◌, ◌⊎◌, inl, inr, ℕ, Bool, true, false, if◌then◌else◌, List, [], ◌∷◌, ◌++◌, ◌-◌, length, map, pos, None, refl, ap}
 use Rattle.std.specs.Prelude.{◌&&◌, filter, nat_eq, nat_le, not}
 use Rattle.std.specs.List.{AllByRecursion, flat_map, list_any}
 use Rattle.std.specs.Set.{is_member}
@@ -28,19 +28,25 @@ use Rattle.gs_mesh.specs.declared.members.Member.{Member}
 use Rattle.gs_mesh.specs.Peers.{is_among}
 use Rattle.gs_wire.proofs.RoundTrip.{all-append}
 use Rattle.gs_rules.specs.declared.trace.Promise.{Promise}
-use Rattle.gs_rules.specs.declared.trace.Event.{Event}
-use Rattle.gs_rules.specs.declared.trace.Event.TheVariants.{BeatBegin, FanBeat, FanEnd, GossipBeat, GraftIn, Have, MeshBeat, Msg, PruneIn, Publish, Sub, Subscribe, Unsubscribe, Want}
+use Rattle.gs_rules.specs.declared.event.Event.{Event}
+use Rattle.gs_rules.specs.declared.event.Event.TheVariants.{BeatBegin, Part, Step, Own, Heard, Late, Lost, Decay, RoundEnd, Shut}
+use Rattle.gs_rules.specs.declared.event.RpcPart.TheVariants.{GraftIn, Have, Msg, PruneIn, Sub, Want}
+use Rattle.gs_rules.specs.declared.event.BeatStep.TheVariants.{FanBeat, FanEnd, GossipBeat, MeshBeat, BeatEnd}
+use Rattle.gs_plan.specs.declared.plan.Act.TheVariants.{Publish, Subscribe, Unsubscribe, Raw, HangUp}
 use Rattle.gs_rules.specs.declared.trace.Entry.{Entry}
+use Rattle.gs_rules.specs.declared.trace.Effects.{Effects}
 use Rattle.gs_rules.specs.Peers.{Peer, is_explicit, links_of, seen_ttl}
-use Rattle.gs_rules.specs.Tables.{Entries, joined, joined_after, lost, on, seen, up}
+use Rattle.gs_rules.specs.Tables.{Entries, joined, joined_after, on, seen, up}
 use Rattle.gs_rules.specs.Meshes.{backoff, fanout, mesh, mesh_topics}
 use Rattle.gs_rules.specs.Membership.{barring, candidates, deficit_marks, each_on, entering, fanning, is_candidate, is_negative, leaving, meshes_with, missing, unfanning}
-use Rattle.gs_rules.specs.MeshRules.{asked_backoff, fanned_of, graft_rule, joining, prune_rule, publish_rule, publishing, receivers, sub_rule, subscribe_rule, those_among, those_outside, unsubscribe_rule}
+use Rattle.gs_rules.specs.MeshRules.{asked_backoff, fanned_of, fanout_marks, graft_rule, joining, prune_rule, publish_rule, publishing, receivers, sub_rule, subscribe_rule, those_among, those_outside, unsubscribe_rule}
+use Rattle.gs_rules.specs.declared.outcome.FanoutUse.{FanoutUse}
+use Rattle.gs_rules.specs.declared.outcome.FanoutUse.TheVariants.{Unused, Kept, Filled}
 use Rattle.gs_rules.specs.BeatRules.{fan_end, mending, refanning, scored_member, scored_members}
 use Rattle.gs_rules.specs.Scoring.{is_neighbour}
 use Rattle.gs_rules.specs.Gossip.{charges, overdue}
-use Rattle.gs_rules.specs.Rules.{answers, asking, bare, counted, explicit_listeners, have_rule, ids_in, lost_or_bare, rule_of, want_rule, wanted}
-use Rattle.gs_rules.specs.Outcomes.{found_to_be, message_entry, message_rule, near_of}
+use Rattle.gs_rules.specs.Rules.{answers, asking, counted, explicit_listeners, have_rule, ids_in, rule_of, want_rule, wanted, no_effects}
+use Rattle.gs_rules.specs.Outcomes.{found_to_be, message_effects, message_rule, near_of}
 use Rattle.gs_rules.specs.Modes.{SaysTheSame, Follows, free}
 use Rattle.gs_rules.proofs.Each.{each_mapped, each_passing, each_weaker, of_each}
 use Rattle.gs_rules.proofs.Judged.{of_a_joined_message, of_a_request}
@@ -51,25 +57,25 @@ use Rattle.gs_rules.proofs.Ruled.{each_chosen, mesh_change_at, of_a_graft, of_a_
 
 -- the event is a message or a GRAFT of this peer
 abbrev pub ComesOf : Event → PeerNo → Type 0
-ComesOf (Msg r m) q = q ≡ r
-ComesOf (GraftIn r graft) q = q ≡ r
+ComesOf (Part r (Msg m)) q = q ≡ r
+ComesOf (Part r (GraftIn graft)) q = q ≡ r
 ComesOf other q = ⊥
 
 -- the event publishes on this topic
 abbrev pub Publishes : Event → Topic → Type 0
-Publishes (Publish u payload) t = t ≡ u
+Publishes (Own (Publish u payload)) t = t ≡ u
 Publishes other t = ⊥
 
 -- who comes into a mesh said so, or is a neighbour that is up, as the peer subscribes or a heartbeat mends the mesh
 abbrev pub GraftedBy : Peer → Entries → Event → PeerNo → Type 0
-GraftedBy p L (GraftIn r graft) q = q ≡ r
-GraftedBy p L (Subscribe u) q = (is_neighbour p q ≡ true) × (up L q ≡ true)
-GraftedBy p L (MeshBeat u) q = (is_neighbour p q ≡ true) × (up L q ≡ true)
+GraftedBy p L (Part r (GraftIn graft)) q = q ≡ r
+GraftedBy p L (Own (Subscribe u)) q = (is_neighbour p q ≡ true) × (up L q ≡ true)
+GraftedBy p L (Step (MeshBeat u)) q = (is_neighbour p q ≡ true) × (up L q ≡ true)
 GraftedBy p L other q = ⊥
 
 -- a mesh that somebody comes into is the one that a heartbeat mends, or the peer is then subscribed to its topic
 abbrev pub ComesOnto : Entries → Event → Topic → Type 0
-ComesOnto L (MeshBeat u) t = t ≡ u
+ComesOnto L (Step (MeshBeat u)) t = t ≡ u
 ComesOnto L other t = joined_after t other (joined L t) ≡ true
 
 -- A neighbour may come into a mesh.
@@ -95,8 +101,8 @@ MayMark p L at event other = Unit {0}
 -- ---- lists
 
 -- marks may stand in any order
-pub same_marks : (P : Mark → Type 0) (e x : Entry) → SaysTheSame e x → AllByRecursion P x.marks → AllByRecursion P e.marks
-same_marks P e x same all = recursion_from_All P e.marks (All-permutation P x.marks e.marks same.marks (All-from_recursion P x.marks all))
+pub same_marks : (P : Mark → Type 0) (e : Entry) (x : Effects) → SaysTheSame e.effects x → AllByRecursion P x.marks → AllByRecursion P e.effects.marks
+same_marks P e x same all = recursion_from_All P e.effects.marks (All-permutation P x.marks e.effects.marks same.marks (All-from_recursion P x.marks all))
 
 -- who is linked is a neighbour
 linked_are : (neighbours : List Neighbour) → AllByRecursion (λ (q : PeerNo). list_any (λ (n : Neighbour). same_peer q n.peer) neighbours ≡ true) (peers_of neighbours)
@@ -189,23 +195,24 @@ module _ (p : Peer) (L : Entries) (at : ℕ) (event : Event) where
 -- ---- marks of each event
 
 module _ (p : Peer) (L : Entries) where
-  graft_marks : (at : Millis) (q : PeerNo) (graft : Graft) → Marks p L at.0 (GraftIn q graft) (graft_rule p L at q graft).marks
+  graft_marks : (at : Millis) (q : PeerNo) (graft : Graft) → Marks p L at.0 (Part q (GraftIn graft)) (graft_rule p L at q (topic_or_empty graft.topic)).marks
   graft_marks at q graft =
-      of_a_graft (λ (x : Entry). Marks p L at.0 (GraftIn q graft) x.marks) p L at q graft
+      let t : Topic = topic_or_empty graft.topic in
+      of_a_graft (λ (x : Effects). Marks p L at.0 (Part q (GraftIn graft)) x.marks) p L at q t
       tt
       (λ on. (inl refl, (tt, tt)))
       (λ on. (tt, tt))
-      (λ on ordinary late. (record { joins = on; ordinary = ordinary; rested = le-leb (backoff L q (topic_or_empty graft.topic)) at.0 (ltb-false at.0 (backoff L q (topic_or_empty graft.topic)) late); who = refl }, tt))
+      (λ on ordinary late. (record { joins = on; ordinary = ordinary; rested = le-leb (backoff L q t) at.0 (ltb-false at.0 (backoff L q t) late); who = refl }, tt))
 
-  prune_marks : (at : Millis) (q : PeerNo) (prune : Prune) → Marks p L at.0 (PruneIn q prune) (prune_rule p L at q prune).marks
+  prune_marks : (at : Millis) (q : PeerNo) (prune : Prune) → Marks p L at.0 (Part q (PruneIn prune)) (prune_rule p L at q prune).marks
   prune_marks at q prune =
       let t : Topic = topic_or_empty prune.topic in
-      of_a_prune (λ (x : Entry). Marks p L at.0 (PruneIn q prune) x.marks) p L at q prune tt
-      (out_marks p L at.0 (PruneIn q prune) (asked_backoff p.params.timing.prune_backoff_s prune.backoff) (meshes_with L q (t ∷ [])) (each_on t (q ∷ [])) (with_members p L at.0 (PruneIn q prune) q (t ∷ [])))
+      of_a_prune (λ (x : Effects). Marks p L at.0 (Part q (PruneIn prune)) x.marks) p L at q prune tt
+      (out_marks p L at.0 (Part q (PruneIn prune)) (asked_backoff p.params.timing.prune_backoff_s prune.backoff) (meshes_with L q (t ∷ [])) (each_on t (q ∷ [])) (with_members p L at.0 (Part q (PruneIn prune)) q (t ∷ [])))
 
-  sub_marks : (at : Millis) (q : PeerNo) (sub : SubOpt) → Marks p L at.0 (Sub q sub) (sub_rule p L at q sub).marks
+  sub_marks : (at : Millis) (q : PeerNo) (sub : SubOpt) → Marks p L at.0 (Part q (Sub sub)) (sub_rule p L at q sub).marks
   sub_marks at q sub =
-      of_a_sub (λ (x : Entry). Marks p L at.0 (Sub q sub) x.marks) p L at q sub tt (left_marks p L at.0 (Sub q sub) q (topic_or_empty sub.topic))
+      of_a_sub (λ (x : Effects). Marks p L at.0 (Part q (Sub sub)) x.marks) p L at q sub tt (left_marks p L at.0 (Part q (Sub sub)) q (topic_or_empty sub.topic))
 
   -- who is chosen was a candidate
   abbrev Chosen : ℕ → Topic → PeerNo → Type 0
@@ -235,59 +242,71 @@ module _ (p : Peer) (L : Entries) where
   entering_marks at event t [] lets all = tt
   entering_marks at event t (q ∷ chosen) lets all = (enters at event t q lets all.0, entering_marks at event t chosen lets all.1)
 
-  joining_marks : (at : Millis) (t : Topic) (chosen : List PeerNo) → AllByRecursion (Chosen at.0 t) chosen → Marks p L at.0 (Subscribe t) (joining p L at t chosen).marks
+  joining_marks : (at : Millis) (t : Topic) (chosen : List PeerNo) → AllByRecursion (Chosen at.0 t) chosen → Marks p L at.0 (Own (Subscribe t)) (joining p L t chosen).marks
   joining_marks at t chosen all =
-      all-append (MayMark p L at.0 (Subscribe t)) (entering (each_on t chosen)) (unfanning t (fanout L t))
-      (entering_marks at.0 (Subscribe t) t chosen (ap (λ (same : Bool). if same then true else joined L t) ((bytes_eq-Decides t.0 t.0).1 refl), λ q who. who) all)
-      (unfanning_marks p L at.0 (Subscribe t) t (fanout L t))
+      all-append (MayMark p L at.0 (Own (Subscribe t))) (entering (each_on t chosen)) (unfanning t (fanout L t))
+      (entering_marks at.0 (Own (Subscribe t)) t chosen (ap (λ (same : Bool). if same then true else joined L t) ((bytes_eq-Decides t.0 t.0).1 refl), λ q who. who) all)
+      (unfanning_marks p L at.0 (Own (Subscribe t)) t (fanout L t))
 
-  subscribe_marks : (t : Topic) (e : Entry) → Follows free (subscribe_rule p L e.at t) tt e tt → Marks p L e.at.0 (Subscribe t) e.marks
+  subscribe_marks : (t : Topic) (e : Entry) → Follows free (subscribe_rule p L e.at t) tt e.effects tt → Marks p L e.at.0 (Own (Subscribe t)) e.effects.marks
   subscribe_marks t e effects =
       let chosen : List PeerNo = those_among (effects.0 ++ effects.3.0) (candidates p L e.at.0 t) in
-      same_marks (MayMark p L e.at.0 (Subscribe t)) e (joining p L e.at t chosen) effects.3.3.0
+      same_marks (MayMark p L e.at.0 (Own (Subscribe t))) e (joining p L t chosen) effects.3.3.0
       (joining_marks e.at t chosen (chosen_are e.at.0 t (effects.0 ++ effects.3.0)))
 
-  unsubscribe_marks : (at : Millis) (t : Topic) → Marks p L at.0 (Unsubscribe t) (unsubscribe_rule p L at t).marks
+  unsubscribe_marks : (at : Millis) (t : Topic) → Marks p L at.0 (Own (Unsubscribe t)) (unsubscribe_rule p L at t).marks
   unsubscribe_marks at t =
-      out_marks p L at.0 (Unsubscribe t) p.params.timing.unsubscribe_backoff_s (each_on t (mesh L t)) (each_on t (mesh L t))
+      out_marks p L at.0 (Own (Unsubscribe t)) p.params.timing.unsubscribe_backoff_s (each_on t (mesh L t)) (each_on t (mesh L t))
       (each_mapped (λ (x : PeerNo × Topic). is_among (mesh L x.1) x.0 ≡ true) (λ (q : PeerNo). (q, t)) (mesh L t) (each_among (mesh L t)))
 
-  publishing_marks : (at : Millis) (t : Topic) (payload : List ℕ) (receivers fanned : List PeerNo) (marks : List Mark) → AllByRecursion (λ (q : PeerNo). is_explicit p q ≡ false) fanned → Marks p L at.0 (Publish t payload) marks → Marks p L at.0 (Publish t payload) (publishing p L at t payload receivers fanned marks).marks
-  publishing_marks at t payload receivers fanned marks ordinary all =
-      (tt, (message_id_long payload, all-append (MayMark p L at.0 (Publish t payload)) (fanning t fanned) marks (fanning_marks p L at.0 (Publish t payload) t fanned ordinary) all))
+  -- a fanout is filled by neighbours that are not explicit
+  abbrev FillsOrdinary : FanoutUse → List PeerNo → Type 0
+  FillsOrdinary Filled chosen = AllByRecursion (λ (q : PeerNo). is_explicit p q ≡ false) chosen
+  FillsOrdinary Unused chosen = Unit {0}
+  FillsOrdinary Kept chosen = Unit {0}
 
-  publish_marks : (t : Topic) (payload : List ℕ) (e : Entry) → Follows free (publish_rule p L e.at t payload) tt e tt → Marks p L e.at.0 (Publish t payload) e.marks
+  fanout_use_marks : (at : Millis) (t : Topic) (payload : List ℕ) (chosen : List PeerNo) (fanout_use : FanoutUse) → FillsOrdinary fanout_use chosen → Marks p L at.0 (Own (Publish t payload)) (fanout_marks fanout_use t chosen)
+  fanout_use_marks at t payload chosen Unused ordinary = tt
+  fanout_use_marks at t payload chosen Kept ordinary = (refl, tt)
+  fanout_use_marks at t payload chosen Filled ordinary =
+      all-append (MayMark p L at.0 (Own (Publish t payload))) (fanning t chosen) (Published t ∷ []) (fanning_marks p L at.0 (Own (Publish t payload)) t chosen ordinary) (refl, tt)
+
+  publishing_marks : (at : Millis) (t : Topic) (payload : List ℕ) (receivers : List PeerNo) (fanout_use : FanoutUse) → FillsOrdinary fanout_use receivers → Marks p L at.0 (Own (Publish t payload)) (publishing p L t payload receivers fanout_use).marks
+  publishing_marks at t payload receivers fanout_use ordinary = (tt, (message_id_long payload, fanout_use_marks at t payload receivers fanout_use ordinary))
+
+  publish_marks : (t : Topic) (payload : List ℕ) (e : Entry) → Follows free (publish_rule p L e.at t payload) tt e.effects tt → Marks p L e.at.0 (Own (Publish t payload)) e.effects.marks
   publish_marks t payload e effects =
-      what_is_published (Marks p L e.at.0 (Publish t payload) e.marks) p L t payload e
-      (λ receivers same. same_marks (MayMark p L e.at.0 (Publish t payload)) e _ same (publishing_marks e.at t payload receivers [] [] tt tt))
-      (λ receivers new ordinary same. same_marks (MayMark p L e.at.0 (Publish t payload)) e _ same (publishing_marks e.at t payload receivers new (Published t ∷ []) ordinary (refl, tt)))
+      what_is_published (Marks p L e.at.0 (Own (Publish t payload)) e.effects.marks) p L t payload e
+      (λ receivers same. same_marks (MayMark p L e.at.0 (Own (Publish t payload))) e _ same (publishing_marks e.at t payload receivers Unused tt))
+      (λ receivers same. same_marks (MayMark p L e.at.0 (Own (Publish t payload))) e _ same (publishing_marks e.at t payload receivers Kept tt))
+      (λ receivers ordinary same. same_marks (MayMark p L e.at.0 (Own (Publish t payload))) e _ same (publishing_marks e.at t payload receivers Filled ordinary))
       effects
 
   -- a message counts on a topic that is joined
-  near_marks : (at : ℕ) (q : PeerNo) (m : Message) (near : Bool) (rest : List Mark) → joined L (topic_of m) ≡ true → Marks p L at (Msg q m) rest → Marks p L at (Msg q m) (near_of near q (topic_of m) (message_id (payload_of m)) ++ rest)
+  near_marks : (at : ℕ) (q : PeerNo) (m : Message) (near : Bool) (rest : List Mark) → joined L (topic_of m) ≡ true → Marks p L at (Part q (Msg m)) rest → Marks p L at (Part q (Msg m)) (near_of near q (topic_of m) (message_id (payload_of m)) ++ rest)
   near_marks at q m true rest on all = ((refl, on), all)
   near_marks at q m false rest on all = all
 
-  message_marks : (at : Millis) (q : PeerNo) (m : Message) → Marks p L at.0 (Msg q m) (message_rule p L at q m).marks
+  message_marks : (at : Millis) (q : PeerNo) (m : Message) → Marks p L at.0 (Part q (Msg m)) (message_rule p L at q m).marks
   message_marks at q m =
-      of_a_joined_message (λ (x : Entry). Marks p L at.0 (Msg q m) x.marks) p L at q m tt
+      of_a_joined_message (λ (x : Effects). Marks p L at.0 (Part q (Msg m)) x.marks) p L at q m tt
       (λ on. ((refl, on), tt))
       (λ on. ((refl, on), tt))
       new
     where
-      new : joined L (topic_of m) ≡ true → seen (seen_ttl p) L (message_id (payload_of m)) at.0 ≡ None → (v : Verdict) → Marks p L at.0 (Msg q m) (message_entry (mesh L (topic_of m)) (explicit_listeners p L (topic_of m)) at q m (found_to_be (message_id (payload_of m)) v)).marks
+      new : joined L (topic_of m) ≡ true → seen (seen_ttl p) L (message_id (payload_of m)) at.0 ≡ None → (v : Verdict) → Marks p L at.0 (Part q (Msg m)) (message_effects (mesh L (topic_of m)) (explicit_listeners p L (topic_of m)) q m (found_to_be (message_id (payload_of m)) v)).marks
       new on unseen Accept =
           (tt, ((refl, on), near_marks at.0 q m (is_among (mesh L (topic_of m)) q) (Cached (message_id (payload_of m)) (topic_of m) ∷ []) on (message_id_long (payload_of m), tt)))
       new on unseen Reject = (tt, ((refl, on), tt))
       new on unseen Ignore = (tt, tt)
 
-  offer_marks : (q : PeerNo) (offer : IHave) (e : Entry) → Follows free (have_rule p L e.at q offer) tt e tt → Marks p L e.at.0 (Have q offer) e.marks
+  offer_marks : (q : PeerNo) (offer : IHave) (e : Entry) → Follows free (have_rule p L e.at q offer) tt e.effects tt → Marks p L e.at.0 (Part q (Have offer)) e.effects.marks
   offer_marks q offer e effects =
-      let P = MayMark p L e.at.0 (Have q offer) in
-      what_is_offered (λ (e : Entry). AllByRecursion P e.marks) p L e.at q offer e
-      (λ same. same_marks P e (bare e.at (Have q offer)) same tt)
-      (λ same. same_marks P e (counted e.at q offer) same (tt, tt))
-      (λ place same. same_marks P e (asking p e.at q offer (wanted p L e.at.0 q offer.ids) place) same (tt, (tt, tt)))
+      let P = MayMark p L e.at.0 (Part q (Have offer)) in
+      what_is_offered (λ (e : Entry). AllByRecursion P e.effects.marks) p L e.at q offer e
+      (λ same. same_marks P e no_effects same tt)
+      (λ same. same_marks P e (counted q) same (tt, tt))
+      (λ place same. same_marks P e (asking p e.at q (wanted p L e.at.0 q offer.ids) place) same (tt, (tt, tt)))
       effects
 
   answer_marks : (at : ℕ) (event : Event) (q : PeerNo) (given : List (MsgId × Message)) → Marks p L at event (map (λ (x : MsgId × Message). Answered q x.0) given)
@@ -316,56 +335,59 @@ module _ (p : Peer) (L : Entries) where
       (each_mapped (λ (m : Member). P m.peer) (scored_member p L at) qs all))
 
   -- who goes was a member, and who comes in was a candidate
-  mending_marks : (at : Millis) (t : Topic) (kept come : List PeerNo) → Marks p L at.0 (MeshBeat t) (mending p L at t (mesh_change_at p L at.0 t kept come)).marks
+  mending_marks : (at : Millis) (t : Topic) (kept come : List PeerNo) → Marks p L at.0 (Step (MeshBeat t)) (mending p L at t (mesh_change_at p L at.0 t kept come)).marks
   mending_marks at t kept come =
       let go : List PeerNo = (mesh_change_at p L at.0 t kept come).pruned in
       let come_in : List PeerNo = (mesh_change_at p L at.0 t kept come).grafted in
       let seconds : ℕ = p.params.timing.prune_backoff_s in
-      all-append (MayMark p L at.0 (MeshBeat t)) (leaving p L at.0 (each_on t go)) (barring at.0 seconds (each_on t go) ++ entering (each_on t come_in))
-      (leaving_marks p L at.0 (MeshBeat t) (each_on t go)
+      all-append (MayMark p L at.0 (Step (MeshBeat t))) (leaving p L at.0 (each_on t go)) (barring at.0 seconds (each_on t go) ++ entering (each_on t come_in))
+      (leaving_marks p L at.0 (Step (MeshBeat t)) (each_on t go)
       (each_mapped (λ (x : PeerNo × Topic). is_among (mesh L x.1) x.0 ≡ true) (λ (q : PeerNo). (q, t)) go
       (members_are_such (λ (q : PeerNo). is_among (mesh L t) q ≡ true) at.0 (λ (m : Member). not (is_member same_peer kept m.peer)) (mesh L t) (each_among (mesh L t)))))
-      (all-append (MayMark p L at.0 (MeshBeat t)) (barring at.0 seconds (each_on t go)) (entering (each_on t come_in))
-      (barring_marks p L at.0 (MeshBeat t) seconds (each_on t go))
-      (entering_marks at.0 (MeshBeat t) t come_in (refl, λ q who. who)
+      (all-append (MayMark p L at.0 (Step (MeshBeat t))) (barring at.0 seconds (each_on t go)) (entering (each_on t come_in))
+      (barring_marks p L at.0 (Step (MeshBeat t)) seconds (each_on t go))
+      (entering_marks at.0 (Step (MeshBeat t)) t come_in (refl, λ q who. who)
       (members_are_such (Chosen at.0 t) at.0 (λ (m : Member). is_member same_peer come m.peer) (candidates p L at.0 t) (candidates_are at.0 t))))
 
-  beat_marks : (t : Topic) (e : Entry) → Follows free (rule_of p L e.at (MeshBeat t)) tt e tt → Marks p L e.at.0 (MeshBeat t) e.marks
+  beat_marks : (t : Topic) (e : Entry) → Follows free (rule_of p L e.at (Step (MeshBeat t))) tt e.effects tt → Marks p L e.at.0 (Step (MeshBeat t)) e.effects.marks
   beat_marks t e effects =
-      what_is_mended (Marks p L e.at.0 (MeshBeat t) e.marks) p L t e
-      (λ kept come same. same_marks (MayMark p L e.at.0 (MeshBeat t)) e (mending p L e.at t (mesh_change_at p L e.at.0 t kept come)) same (mending_marks e.at t kept come))
+      what_is_mended (Marks p L e.at.0 (Step (MeshBeat t)) e.effects.marks) p L t e
+      (λ kept come same. same_marks (MayMark p L e.at.0 (Step (MeshBeat t))) e (mending p L e.at t (mesh_change_at p L e.at.0 t kept come)) same (mending_marks e.at t kept come))
       effects
 
-  refanning_marks : (at : Millis) (t : Topic) (chosen : List PeerNo) → AllByRecursion (λ (q : PeerNo). is_explicit p q ≡ false) chosen → Marks p L at.0 (FanBeat t) (refanning p L at t chosen).marks
+  refanning_marks : (at : Millis) (t : Topic) (chosen : List PeerNo) → AllByRecursion (λ (q : PeerNo). is_explicit p q ≡ false) chosen → Marks p L at.0 (Step (FanBeat t)) (refanning p L at t chosen).marks
   refanning_marks at t chosen ordinary =
       let out : List PeerNo = those_outside (receivers p L at.0 t) (fanout L t) in
-      all-append (MayMark p L at.0 (FanBeat t)) (unfanning t out) (fanning t chosen)
-      (unfanning_marks p L at.0 (FanBeat t) t out) (fanning_marks p L at.0 (FanBeat t) t chosen ordinary)
+      all-append (MayMark p L at.0 (Step (FanBeat t))) (unfanning t out) (fanning t chosen)
+      (unfanning_marks p L at.0 (Step (FanBeat t)) t out) (fanning_marks p L at.0 (Step (FanBeat t)) t chosen ordinary)
 
-  -- whoever is lost leaves; another event without a rule of its own has no mark
-  other_marks : (event : Event) (who : Option PeerNo) (e : Entry) → SaysTheSame e (lost_or_bare p L e.at event who) → AllByRecursion (MayMark p L e.at.0 event) e.marks
-  other_marks event None e same = same_marks _ e _ same tt
-  other_marks event (Some q) e same = same_marks _ e _ same (lost_marks p L e.at.0 event q)
-
-  pub entry_marks : (event : Event) (e : Entry) → Follows free (rule_of p L e.at event) tt e tt → AllByRecursion (MayMark p L e.at.0 event) e.marks
-  entry_marks (Msg q m) e effects = same_marks _ e _ effects.0 (message_marks e.at q m)
-  entry_marks (Have q offer) e effects = offer_marks q offer e effects
-  entry_marks (Want q request) e effects =
+  pub entry_marks : (event : Event) (e : Entry) → Follows free (rule_of p L e.at event) tt e.effects tt → AllByRecursion (MayMark p L e.at.0 event) e.effects.marks
+  entry_marks (Part q (Msg m)) e effects = same_marks _ e _ effects.0 (message_marks e.at q m)
+  entry_marks (Part q (Have offer)) e effects = offer_marks q offer e effects
+  entry_marks (Part q (Want request)) e effects =
       same_marks _ e (want_rule p L e.at q request) effects.0
-      (of_a_request (λ (x : Entry). Marks p L e.at.0 (Want q request) x.marks) p L e.at q request tt (answer_marks e.at.0 (Want q request) q (answers p L q [] (ids_in request.ids))))
-  entry_marks (Sub q sub) e effects = same_marks _ e _ effects.0 (sub_marks e.at q sub)
-  entry_marks (GraftIn q graft) e effects = same_marks _ e _ effects.0 (graft_marks e.at q graft)
-  entry_marks (PruneIn q prune) e effects = same_marks _ e _ effects.0 (prune_marks e.at q prune)
-  entry_marks (Subscribe t) e effects = subscribe_marks t e effects
-  entry_marks (Unsubscribe t) e effects = same_marks _ e _ effects.0 (unsubscribe_marks e.at t)
-  entry_marks (Publish t payload) e effects = publish_marks t payload e effects
+      (of_a_request (λ (x : Effects). Marks p L e.at.0 (Part q (Want request)) x.marks) p L e.at q request tt (answer_marks e.at.0 (Part q (Want request)) q (answers p L q [] (ids_in request.ids))))
+  entry_marks (Part q (Sub sub)) e effects = same_marks _ e _ effects.0 (sub_marks e.at q sub)
+  entry_marks (Part q (GraftIn graft)) e effects = same_marks _ e _ effects.0 (graft_marks e.at q graft)
+  entry_marks (Part q (PruneIn prune)) e effects = same_marks _ e _ effects.0 (prune_marks e.at q prune)
+  entry_marks (Own (Subscribe t)) e effects = subscribe_marks t e effects
+  entry_marks (Own (Unsubscribe t)) e effects = same_marks _ e _ effects.0 (unsubscribe_marks e.at t)
+  entry_marks (Own (Publish t payload)) e effects = publish_marks t payload e effects
   entry_marks BeatBegin e effects = same_marks _ e _ effects.0 (blaming_marks e.at.0 BeatBegin (links_of p) (linked_are p.neighbours))
-  entry_marks (MeshBeat t) e effects = beat_marks t e effects
-  entry_marks (FanBeat t) e effects = same_marks _ e (refanning p L e.at t effects.0) effects.3.0
+  entry_marks (Step (MeshBeat t)) e effects = beat_marks t e effects
+  entry_marks (Step (FanBeat t)) e effects = same_marks _ e (refanning p L e.at t effects.0) effects.3.0
       (refanning_marks e.at t effects.0
       (each_chosen (λ (q : PeerNo). is_explicit p q ≡ false) (p.params.degrees.d - length (those_among (receivers p L e.at.0 t) (fanout L t))) (those_outside (fanout L t) (receivers p L e.at.0 t)) effects.0
       (each_passing (λ (q : PeerNo). is_explicit p q ≡ false) (λ (q : PeerNo). is_explicit p q ≡ false) (λ (q : PeerNo). not (is_among (fanout L t) q)) (λ q passes ordinary. ordinary) (receivers p L e.at.0 t) (receivers_are_ordinary p L e.at.0 t))
       effects.2))
-  entry_marks (FanEnd t) e effects = same_marks _ e (fan_end L e.at t) effects.0 (unfanning_marks p L e.at.0 (FanEnd t) t (fanout L t))
-  entry_marks (GossipBeat t) e effects = same_marks _ e _ effects.3.0 tt
-  entry_marks other e effects = other_marks other (lost other) e effects.0
+  entry_marks (Step (FanEnd t)) e effects = same_marks _ e (fan_end L t) effects.0 (unfanning_marks p L e.at.0 (Step (FanEnd t)) t (fanout L t))
+  entry_marks (Step (GossipBeat t)) e effects = same_marks _ e _ effects.3.0 tt
+  entry_marks (Step BeatEnd) e effects = same_marks _ e no_effects effects.0 tt
+  entry_marks (Own (HangUp q)) e effects = same_marks _ e _ effects.0 (lost_marks p L e.at.0 (Own (HangUp q)) q)
+  entry_marks (Own (Raw q bytes)) e effects = same_marks _ e no_effects effects.0 tt
+  entry_marks (Lost q loss) e effects = same_marks _ e _ effects.0 (lost_marks p L e.at.0 (Lost q loss) q)
+  entry_marks (Heard q rpc) e effects = same_marks _ e no_effects effects.0 tt
+  entry_marks (Late q rpc) e effects = same_marks _ e no_effects effects.0 tt
+  entry_marks Decay e effects = same_marks _ e no_effects effects.0 tt
+  entry_marks (RoundEnd r) e effects = same_marks _ e no_effects effects.0 tt
+  entry_marks Shut e effects = same_marks _ e no_effects effects.0 tt

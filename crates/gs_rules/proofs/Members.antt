@@ -18,8 +18,11 @@ use Rattle.gs_base.specs.declared.mark.Mark.{Mark}
 use Rattle.gs_base.specs.declared.mark.Mark.TheVariants.{Grafted, Pruned}
 use Rattle.gs_base.specs.Names.{same_peer, same_topic}
 use Rattle.gs_mesh.specs.Peers.{is_among, put_in, without}
-use Rattle.gs_rules.specs.declared.trace.Event.{Event}
-use Rattle.gs_rules.specs.declared.trace.Event.TheVariants.{MeshBeat, Subscribe, Unsubscribe}
+use Rattle.gs_rules.specs.declared.event.Event.{Event}
+use Rattle.gs_rules.specs.declared.event.Event.TheVariants.{Step, Own}
+use Rattle.gs_rules.specs.declared.event.BeatStep.TheVariants.{MeshBeat}
+use Rattle.gs_rules.specs.declared.trace.Effects.{Effects}
+use Rattle.gs_plan.specs.declared.plan.Act.TheVariants.{Subscribe, Unsubscribe}
 use Rattle.gs_rules.specs.declared.trace.Entry.{Entry}
 use Rattle.gs_rules.specs.Peers.{Peer}
 use Rattle.gs_rules.specs.Tables.{Entries, after_marks, joined, joined_after}
@@ -185,13 +188,13 @@ leaving_prunes p L at t q pairs rest is =
 
 -- ---- meshes are of joined topics
 
-grafts_none_leaving : (p : Peer) (L : Entries) (at : ℕ) (u : Topic) (mark : Mark) → MayMark p L at (Unsubscribe u) mark → GraftsNone mark
+grafts_none_leaving : (p : Peer) (L : Entries) (at : ℕ) (u : Topic) (mark : Mark) → MayMark p L at (Own (Unsubscribe u)) mark → GraftsNone mark
 grafts_none_leaving p L at u (Grafted q t) may = may.who
 grafts_none_leaving p L at u other may = tt
 
 -- whoever comes in comes onto a topic that the peer is subscribed to then
 pub joins_then : (L : Entries) (event : Event) (t : Topic) → IsOfOwn L event → ComesOnto L event t → joined_after t event (joined L t) ≡ true
-joins_then L (MeshBeat u) t own is = subst (λ (v : Topic). joined L v ≡ true) (sym is) own
+joins_then L (Step (MeshBeat u)) t own is = subst (λ (v : Topic). joined L v ≡ true) (sym is) own
 joins_then L other t own is = is
 
 comes_joined : (p : Peer) (L : Entries) (at : ℕ) (event : Event) (t : Topic) → IsOfOwn L event → (mark : Mark) → MayMark p L at event mark → ComesAs t (λ q. joined_after t event (joined L t) ≡ true) mark
@@ -200,10 +203,10 @@ comes_joined p L at event t own other may = tt
 
 module _ (p : Peer) (L : Entries) (t : Topic) (before : AllByRecursion (λ q. joined L t ≡ true) (mesh L t)) where
   -- where the topic stays joined that has members
-  still : (event : Event) (e : Entry) → IsOfOwn L event → Follows free (rule_of p L e.at event) tt e tt → (joined L t ≡ true → joined_after t event (joined L t) ≡ true) → AllByRecursion (λ q. joined_after t event (joined L t) ≡ true) (after_marks (mesh_after t) e.marks (mesh L t))
+  still : (event : Event) (e : Entry) → IsOfOwn L event → Follows free (rule_of p L e.at event) tt e.effects tt → (joined L t ≡ true → joined_after t event (joined L t) ≡ true) → AllByRecursion (λ q. joined_after t event (joined L t) ≡ true) (after_marks (mesh_after t) e.effects.marks (mesh L t))
   still event e own effects stays =
-      members_are (λ q. joined_after t event (joined L t) ≡ true) t e.marks (mesh L t)
-      (each_weaker (MayMark p L e.at.0 event) (ComesAs t (λ q. joined_after t event (joined L t) ≡ true)) (comes_joined p L e.at.0 event t own) e.marks (entry_marks p L event e effects))
+      members_are (λ q. joined_after t event (joined L t) ≡ true) t e.effects.marks (mesh L t)
+      (each_weaker (MayMark p L e.at.0 event) (ComesAs t (λ q. joined_after t event (joined L t) ≡ true)) (comes_joined p L e.at.0 event t own) e.effects.marks (entry_marks p L event e effects))
       (each_weaker (λ q. joined L t ≡ true) (λ q. joined_after t event (joined L t) ≡ true) (λ q joins. stays joins) (mesh L t) before)
 
   subscribed : (same before : Bool) → before ≡ true → (if same then true else before) ≡ true
@@ -211,25 +214,25 @@ module _ (p : Peer) (L : Entries) (t : Topic) (before : AllByRecursion (λ q. jo
   subscribed false before is = is
 
   -- where the peer leaves it, all are pruned
-  left : (u : Topic) (e : Entry) → Follows free (rule_of p L e.at (Unsubscribe u)) tt e tt → (same : Bool) → same_topic u t ≡ same → AllByRecursion (λ q. (if same then false else joined L t) ≡ true) (after_marks (mesh_after t) e.marks (mesh L t))
+  left : (u : Topic) (e : Entry) → Follows free (rule_of p L e.at (Own (Unsubscribe u))) tt e.effects tt → (same : Bool) → same_topic u t ≡ same → AllByRecursion (λ q. (if same then false else joined L t) ≡ true) (after_marks (mesh_after t) e.effects.marks (mesh L t))
   left u e effects true is =
-      let x : Entry = unsubscribe_rule p L e.at u in
+      let x : Effects = unsubscribe_rule p L e.at u in
       let seconds : ℕ = p.params.timing.unsubscribe_backoff_s in
-      each_weaker (Stays t (mesh L t) e.marks) (λ q. false ≡ true)
+      each_weaker (Stays t (mesh L t) e.effects.marks) (λ q. false ≡ true)
       (λ q stays.
       let member : is_among (mesh L u) q ≡ true = subst (λ (v : Topic). is_among (mesh L v) q ≡ true) (sym (same_are_one u t is)) stays.0 in
       let pruned : list_any (prunes u q) x.marks ≡ true = leaving_prunes p L e.at.0 u q (each_on u (mesh L u)) (barring e.at.0 seconds (each_on u (mesh L u))) (each_pruned u q (mesh L u) member) in
       let here : list_any (prunes t q) x.marks ≡ true = subst (λ (v : Topic). list_any (prunes v q) x.marks ≡ true) (same_are_one u t is) pruned in
-      sym stays.1 ∙ sym (list_any-IsPermutation (prunes t q) x.marks e.marks effects.0.marks) ∙ here)
-      (after_marks (mesh_after t) e.marks (mesh L t))
-      (members_stay t e.marks (mesh L t) (each_weaker (MayMark p L e.at.0 (Unsubscribe u)) GraftsNone (grafts_none_leaving p L e.at.0 u) e.marks (entry_marks p L (Unsubscribe u) e effects)))
+      sym stays.1 ∙ sym (list_any-IsPermutation (prunes t q) x.marks e.effects.marks effects.0.marks) ∙ here)
+      (after_marks (mesh_after t) e.effects.marks (mesh L t))
+      (members_stay t e.effects.marks (mesh L t) (each_weaker (MayMark p L e.at.0 (Own (Unsubscribe u))) GraftsNone (grafts_none_leaving p L e.at.0 u) e.effects.marks (entry_marks p L (Own (Unsubscribe u)) e effects)))
   left u e effects false is =
-      subst (λ (same : Bool). AllByRecursion (λ q. (if same then false else joined L t) ≡ true) (after_marks (mesh_after t) e.marks (mesh L t))) is
-      (still (Unsubscribe u) e tt effects (λ joins. subst (λ (same : Bool). (if same then false else joined L t) ≡ true) (sym is) joins))
+      subst (λ (same : Bool). AllByRecursion (λ q. (if same then false else joined L t) ≡ true) (after_marks (mesh_after t) e.effects.marks (mesh L t))) is
+      (still (Own (Unsubscribe u)) e tt effects (λ joins. subst (λ (same : Bool). (if same then false else joined L t) ≡ true) (sym is) joins))
 
-  joined_step : (event : Event) (e : Entry) → IsOfOwn L event → Follows free (rule_of p L e.at event) tt e tt → AllByRecursion (λ q. joined_after t event (joined L t) ≡ true) (after_marks (mesh_after t) e.marks (mesh L t))
-  joined_step (Subscribe u) e own effects = still (Subscribe u) e own effects (λ joins. subscribed (same_topic u t) (joined L t) joins)
-  joined_step (Unsubscribe u) e own effects = left u e effects (same_topic u t) refl
+  joined_step : (event : Event) (e : Entry) → IsOfOwn L event → Follows free (rule_of p L e.at event) tt e.effects tt → AllByRecursion (λ q. joined_after t event (joined L t) ≡ true) (after_marks (mesh_after t) e.effects.marks (mesh L t))
+  joined_step (Own (Subscribe u)) e own effects = still (Own (Subscribe u)) e own effects (λ joins. subscribed (same_topic u t) (joined L t) joins)
+  joined_step (Own (Unsubscribe u)) e own effects = left u e effects (same_topic u t) refl
   joined_step other e own effects = still other e own effects (λ joins. joins)
 
 pub mesh_is_joined : (p : Peer) (L : Entries) (t : Topic) → Legal p L → AllByRecursion (λ q. joined L t ≡ true) (mesh L t)

@@ -62,10 +62,10 @@ module _ (m : Mode) (frees : Weakens m free (λ u. tt)) where
     come : List PeerNo
     state : m.State
     is : IsMended condition degrees members others kept come
-    follows : Follows m (next kept come) state e u
+    follows : Follows m (next kept come) state e.effects u
 
   mends : (condition : Condition) (degrees : Degrees) (members others : List Member) (next : List PeerNo → List PeerNo → Rule) (s : m.State) (e : Entry) (u : m.State)
-      → Follows m (mended AnyOf CutOf condition degrees members others next) s e u
+      → Follows m (mended AnyOf CutOf condition degrees members others next) s e.effects u
       → Mends condition degrees members others next e u
   mends Few degrees members others next s e u effects =
       record { kept = peers_of members; come = effects.0; state = effects.1; is = (refl, frees.picks (degrees.d - length members) (peers_of others) s effects.0 effects.1 effects.2); follows = effects.3 }
@@ -81,10 +81,10 @@ module _ (m : Mode) (frees : Weakens m free (λ u. tt)) where
     more : List PeerNo
     state : m.State
     is : AreOpportunisticGrafts poor most members others more
-    follows : Follows m (next more) state e u
+    follows : Follows m (next more) state e.effects u
 
   betters : (poor : Bool) (most : ℕ) (members others : List Member) (next : List PeerNo → Rule) (s : m.State) (e : Entry) (u : m.State)
-      → Follows m (opportunistic_grafts AnyOf poor most members others next) s e u
+      → Follows m (opportunistic_grafts AnyOf poor most members others next) s e.effects u
       → Betters poor most members others next e u
   betters true most members others next s e u effects =
       record { more = effects.0; state = effects.1; is = frees.picks most (peers_of (above_median members others)) s effects.0 effects.1 effects.2; follows = effects.3 }
@@ -92,8 +92,8 @@ module _ (m : Mode) (frees : Weakens m free (λ u. tt)) where
 
   -- whatever follows the rule of a mesh that a heartbeat mends meets the mending by such a step
   pub moves : (p : Peer) (L : Entries) (t : Topic) (e : Entry) (s u : m.State)
-      → Follows m (mesh_beat_rule p L e.at t) s e u
-      → (change : MeshChange) × IsStepOf p L e.at.0 t change × m.Meets e (mending p L e.at t change)
+      → Follows m (mesh_beat_rule p L e.at t) s e.effects u
+      → (change : MeshChange) × IsStepOf p L e.at.0 t change × m.Meets e.effects (mending p L e.at t change)
   moves p L t e s u effects =
       let members : List Member = members_then p L e.at.0 t in
       let others : List Member = others_then p L e.at.0 t in

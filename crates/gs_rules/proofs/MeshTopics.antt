@@ -11,8 +11,10 @@ use Rattle.gs_base.specs.declared.names.Topic.{Topic}
 use Rattle.gs_base.specs.declared.mark.Mark.{Mark}
 use Rattle.gs_base.specs.declared.mark.Mark.TheVariants.{Published}
 use Rattle.gs_base.specs.Names.{same_topic}
-use Rattle.gs_rules.specs.declared.trace.Event.{Event}
-use Rattle.gs_rules.specs.declared.trace.Event.TheVariants.{FanEnd, Publish, Subscribe}
+use Rattle.gs_rules.specs.declared.event.Event.{Event}
+use Rattle.gs_rules.specs.declared.event.Event.TheVariants.{Step, Own}
+use Rattle.gs_rules.specs.declared.event.BeatStep.TheVariants.{FanEnd}
+use Rattle.gs_plan.specs.declared.plan.Act.TheVariants.{Publish, Subscribe}
 use Rattle.gs_rules.specs.Peers.{Peer}
 use Rattle.gs_rules.specs.Tables.{Entries, after_marks, joined, known, topic_order}
 use Rattle.gs_rules.specs.Meshes.{dropped_after, ever_fanned, fanout_topics, has_fanout, has_mesh, last_published, mesh_topics, published_after}
@@ -33,7 +35,7 @@ PublishesShort (Published t) = IsShort t
 PublishesShort other = Unit {0}
 
 publishes_short : (p : Peer) (L : Entries) (at : ℕ) (event : Event) (t : Topic) → IsNext p L at (owed p L).events event → Publishes event t → IsShort t
-publishes_short p L at (Publish u payload) t next is = subst IsShort (sym is) (opens p L at (Publish u payload) (λ h. h) next).short
+publishes_short p L at (Own (Publish u payload)) t next is = subst IsShort (sym is) (opens p L at (Own (Publish u payload)) (λ h. h) next).short
 publishes_short p L at other t next is = absurd is
 
 mark_short : (p : Peer) (L : Entries) (at : ℕ) (event : Event) → IsNext p L at (owed p L).events event → (mark : Mark) → MayMark p L at event mark → PublishesShort mark
@@ -56,16 +58,16 @@ was_there true before some = absurd cc
 was_there false before some = some
 
 not_dropped : (t : Topic) (event : Event) (before : Option ℕ) → is_some (dropped_after t None event before) ≡ true → is_some before ≡ true
-not_dropped t (Subscribe u) before some = was_there (same_topic u t) before some
-not_dropped t (FanEnd u) before some = was_there (same_topic u t) before some
+not_dropped t (Own (Subscribe u)) before some = was_there (same_topic u t) before some
+not_dropped t (Step (FanEnd u)) before some = was_there (same_topic u t) before some
 not_dropped t other before some = some
 
 published_short : (p : Peer) (L : Entries) (t : Topic) → Legal p L → is_some (last_published L t) ≡ true → IsShort t
 published_short p [] t legal some = absurd cc
 published_short p (e ∷ L) t legal some =
     let newest = legal_newest p e L legal in
-    marks_short t e.at.0 e.marks (dropped_after t None e.event (last_published L t))
-    (each_weaker (MayMark p L e.at.0 e.event) PublishesShort (mark_short p L e.at.0 e.event newest.next) e.marks (entry_marks p L e.event e newest.effects))
+    marks_short t e.at.0 e.effects.marks (dropped_after t None e.event (last_published L t))
+    (each_weaker (MayMark p L e.at.0 e.event) PublishesShort (mark_short p L e.at.0 e.event newest.next) e.effects.marks (entry_marks p L e.event e newest.effects))
     (λ there. published_short p L t legal.1 (not_dropped t e.event (last_published L t) there))
     some
 

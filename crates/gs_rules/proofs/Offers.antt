@@ -9,36 +9,35 @@ use Rattle.gs_base.specs.declared.control.IHave.{IHave}
 use Rattle.gs_base.specs.Names.{topic_or_empty, HasIdentifierLength}
 use Rattle.gs_base.specs.Rpcs.{most_identifiers}
 use Rattle.gs_wire.proofs.RoundTrip.{all-append}
-use Rattle.gs_rules.specs.declared.trace.Event.TheVariants.{Have}
 use Rattle.gs_rules.specs.declared.trace.Entry.{Entry}
 use Rattle.gs_rules.specs.Peers.{Peer, seen_ttl}
 use Rattle.gs_rules.specs.Tables.{Entries, asked, joined, offers, seen}
 use Rattle.gs_rules.specs.Scoring.{is_ignored}
-use Rattle.gs_rules.specs.Rules.{Gives, asked_for, asking, bare, counted, each_once, have_rule, is_wanted, room_to_ask, same_bytes, wanted}
+use Rattle.gs_rules.specs.Rules.{Gives, asked_for, asking, counted, each_once, have_rule, is_wanted, room_to_ask, same_bytes, wanted, no_effects}
 use Rattle.gs_rules.specs.Modes.{SaysTheSame, Follows, free}
 
 -- ---- what the rule gives
 
 -- What holds of an entry that does nothing, of one that counts the offer alone and of each that asks for what is
 -- wanted, holds of any that follows the rule.
-module _ (Q : Entry → Type 0) (p : Peer) (L : Entries) (at : Millis) (q : PeerNo) (offer : IHave) (e : Entry) (none : SaysTheSame e (bare at (Have q offer)) → Q e) (alone : SaysTheSame e (counted at q offer) → Q e) (asks : (place : ℕ) → SaysTheSame e (asking p at q offer (wanted p L at.0 q offer.ids) place) → Q e) where
-  when_asked : (ids : List (List ℕ)) → ((place : ℕ) → SaysTheSame e (asking p at q offer ids place) → Q e) → Follows free (asked_for p at q offer ids) tt e tt → Q e
+module _ (Q : Entry → Type 0) (p : Peer) (L : Entries) (at : Millis) (q : PeerNo) (offer : IHave) (e : Entry) (none : SaysTheSame e.effects no_effects → Q e) (alone : SaysTheSame e.effects (counted q) → Q e) (asks : (place : ℕ) → SaysTheSame e.effects (asking p at q (wanted p L at.0 q offer.ids) place) → Q e) where
+  when_asked : (ids : List (List ℕ)) → ((place : ℕ) → SaysTheSame e.effects (asking p at q ids place) → Q e) → Follows free (asked_for p at q ids) tt e.effects tt → Q e
   when_asked [] these effects = alone effects.0
   when_asked (id ∷ ids) these effects = these effects.0 effects.3.0
 
   by_tests : (ignored full is_joined : Bool)
       → Follows free
-      (if ignored then Gives (bare at (Have q offer))
-      else if full then Gives (bare at (Have q offer))
-      else if not is_joined then Gives (counted at q offer)
-      else asked_for p at q offer (wanted p L at.0 q offer.ids)) tt e tt
+      (if ignored then Gives no_effects
+      else if full then Gives no_effects
+      else if not is_joined then Gives (counted q)
+      else asked_for p at q (wanted p L at.0 q offer.ids)) tt e.effects tt
       → Q e
   by_tests true full is_joined effects = none effects.0
   by_tests false true is_joined effects = none effects.0
   by_tests false false false effects = alone effects.0
   by_tests false false true effects = when_asked (wanted p L at.0 q offer.ids) asks effects
 
-  pub what_is_offered : Follows free (have_rule p L at q offer) tt e tt → Q e
+  pub what_is_offered : Follows free (have_rule p L at q offer) tt e.effects tt → Q e
   what_is_offered effects = by_tests (is_ignored p L at.0 q) (nat_le p.params.timing.max_ihave (offers L q)) (joined L (topic_or_empty offer.topic)) effects
 
 -- ---- what is wanted

@@ -1,5 +1,5 @@
 -- No explicit neighbour is in a mesh or in a fanout.
-use Rattle.std.proofs.Common.{◌≡◌, Bool, true, false, not, if◌then◌else◌, List, [], ◌∷◌, refl, sym, ◌∙◌}
+use Rattle.std.proofs.Common.{◌≡◌, Bool, true, false, not, if◌then◌else◌, List, [], ◌∷◌, refl}
 use Rattle.std.specs.List.{AllByRecursion}
 use Rattle.gs_base.specs.declared.names.PeerNo.{PeerNo}
 use Rattle.gs_base.specs.declared.names.Topic.{Topic}
@@ -7,8 +7,10 @@ use Rattle.gs_base.specs.declared.mark.Mark.{Mark}
 use Rattle.gs_base.specs.declared.mark.Mark.TheVariants.{Fanned, Grafted, Unfanned}
 use Rattle.gs_base.specs.Names.{same_peer, same_topic}
 use Rattle.gs_mesh.specs.Peers.{is_among, put_in, without}
-use Rattle.gs_rules.specs.declared.trace.Event.{Event}
-use Rattle.gs_rules.specs.declared.trace.Event.TheVariants.{FanEnd, Subscribe}
+use Rattle.gs_rules.specs.declared.event.Event.{Event}
+use Rattle.gs_rules.specs.declared.event.Event.TheVariants.{Step, Own}
+use Rattle.gs_rules.specs.declared.event.BeatStep.TheVariants.{FanEnd}
+use Rattle.gs_plan.specs.declared.plan.Act.TheVariants.{Subscribe}
 use Rattle.gs_rules.specs.declared.trace.Entry.{Entry}
 use Rattle.gs_rules.specs.Peers.{Peer, is_explicit}
 use Rattle.gs_rules.specs.Tables.{Entries, after_marks}
@@ -42,8 +44,8 @@ comes_ordinary p L e t other may = tt
 mesh_is_ordinary : (p : Peer) (L : Entries) (t : Topic) → Legal p L → AllByRecursion (Ordinary p) (mesh L t)
 mesh_is_ordinary p [] t legal = tt
 mesh_is_ordinary p (e ∷ L) t legal =
-    members_are (Ordinary p) t e.marks (mesh L t)
-    (each_weaker (MayMark p L e.at.0 e.event) (ComesAs t (Ordinary p)) (comes_ordinary p L e t) e.marks (entry_marks p L e.event e (legal_newest p e L legal).effects))
+    members_are (Ordinary p) t e.effects.marks (mesh L t)
+    (each_weaker (MayMark p L e.at.0 e.event) (ComesAs t (Ordinary p)) (comes_ordinary p L e t) e.effects.marks (entry_marks p L e.event e (legal_newest p e L legal).effects))
     (mesh_is_ordinary p L t legal.1)
 
 pub meshes_have_none : (p : Peer) (L : Entries) (q : PeerNo) (t : Topic) → Legal p L → is_explicit p q ≡ true → is_among (mesh L t) q ≡ false
@@ -75,12 +77,12 @@ fans_are p t (Unfanned q u ∷ marks) before come all = fans_are p t marks (fano
 fans_are p t (other ∷ marks) before come all = fans_are p t marks before come.1 all
 
 drop_keeps : (p : Peer) (t : Topic) (event : Event) (before : List PeerNo) → AllByRecursion (Ordinary p) before → AllByRecursion (Ordinary p) (dropped_after t [] event before)
-drop_keeps p t (Subscribe u) before all = by (same_topic u t)
+drop_keeps p t (Own (Subscribe u)) before all = by (same_topic u t)
   where
     by : (same : Bool) → AllByRecursion (Ordinary p) (if same then [] else before)
     by true = tt
     by false = all
-drop_keeps p t (FanEnd u) before all = by (same_topic u t)
+drop_keeps p t (Step (FanEnd u)) before all = by (same_topic u t)
   where
     by : (same : Bool) → AllByRecursion (Ordinary p) (if same then [] else before)
     by true = tt
@@ -90,8 +92,8 @@ drop_keeps p t other before all = all
 fanout_is_ordinary : (p : Peer) (L : Entries) (t : Topic) → Legal p L → AllByRecursion (Ordinary p) (fanout L t)
 fanout_is_ordinary p [] t legal = tt
 fanout_is_ordinary p (e ∷ L) t legal =
-    fans_are p t e.marks (dropped_after t [] e.event (fanout L t))
-    (each_weaker (MayMark p L e.at.0 e.event) (FansOrdinary p) (fans_ordinary p L e) e.marks (entry_marks p L e.event e (legal_newest p e L legal).effects))
+    fans_are p t e.effects.marks (dropped_after t [] e.event (fanout L t))
+    (each_weaker (MayMark p L e.at.0 e.event) (FansOrdinary p) (fans_ordinary p L e) e.effects.marks (entry_marks p L e.event e (legal_newest p e L legal).effects))
     (drop_keeps p t e.event (fanout L t) (fanout_is_ordinary p L t legal.1))
 
 pub fanouts_have_none : (p : Peer) (L : Entries) (q : PeerNo) (t : Topic) → Legal p L → is_explicit p q ≡ true → is_among (fanout L t) q ≡ false

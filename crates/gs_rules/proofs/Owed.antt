@@ -4,14 +4,11 @@ use Rattle.std.specs.List.{AllByRecursion}
 use Rattle.gs_base.specs.declared.names.PeerNo.{PeerNo}
 use Rattle.gs_base.specs.declared.names.Topic.{Topic}
 use Rattle.gs_base.specs.declared.rpc.Rpc.{Rpc}
-use Rattle.gs_base.specs.declared.rpc.Message.{Message}
-use Rattle.gs_base.specs.declared.rpc.SubOpt.{SubOpt}
-use Rattle.gs_base.specs.declared.control.IHave.{IHave}
-use Rattle.gs_base.specs.declared.control.IWant.{IWant}
-use Rattle.gs_base.specs.declared.control.Graft.{Graft}
-use Rattle.gs_base.specs.declared.control.Prune.{Prune}
-use Rattle.gs_rules.specs.declared.trace.Event.{Event}
-use Rattle.gs_rules.specs.declared.trace.Event.TheVariants.{Heard, Sub, Msg, Have, Want, GraftIn, PruneIn, BeatBegin, MeshBeat, FanBeat, FanEnd, GossipBeat, BeatEnd}
+use Rattle.gs_rules.specs.declared.event.Event.{Event}
+use Rattle.gs_rules.specs.declared.event.Event.TheVariants.{Heard, BeatBegin, Part, Step, Late, Own, Lost, Decay, RoundEnd, Shut}
+use Rattle.gs_rules.specs.declared.event.RpcPart.TheVariants.{Sub, Msg, Have, Want, GraftIn, PruneIn}
+use Rattle.gs_rules.specs.declared.event.BeatStep.TheVariants.{MeshBeat, FanBeat, FanEnd, GossipBeat, BeatEnd}
+use Rattle.gs_rules.specs.declared.event.RpcPart.{RpcPart}
 use Rattle.gs_rules.specs.declared.trace.Entry.{Entry}
 use Rattle.gs_rules.specs.Peers.{Peer}
 use Rattle.gs_rules.specs.Tables.{Entries, own_topics}
@@ -26,18 +23,16 @@ use Rattle.gs_rules.proofs.Legality.{legal_newest}
 
 -- what comes only where it is owed: a part of an RPC, and what a heartbeat does
 abbrev pub IsOwed : Event → Type 0
-IsOwed (Sub q sub) = Unit {0}
-IsOwed (Msg q m) = Unit {0}
-IsOwed (Have q offer) = Unit {0}
-IsOwed (Want q request) = Unit {0}
-IsOwed (GraftIn q graft) = Unit {0}
-IsOwed (PruneIn q prune) = Unit {0}
-IsOwed (MeshBeat t) = Unit {0}
-IsOwed (FanBeat t) = Unit {0}
-IsOwed (FanEnd t) = Unit {0}
-IsOwed (GossipBeat t) = Unit {0}
-IsOwed BeatEnd = Unit {0}
-IsOwed other = ⊥
+IsOwed (Part q part) = Unit {0}
+IsOwed (Step step) = Unit {0}
+IsOwed (Heard q rpc) = ⊥
+IsOwed (Late q rpc) = ⊥
+IsOwed BeatBegin = ⊥
+IsOwed (Own act) = ⊥
+IsOwed (Lost q loss) = ⊥
+IsOwed Decay = ⊥
+IsOwed (RoundEnd r) = ⊥
+IsOwed Shut = ⊥
 
 -- ---- what holds of events that are owed together
 
@@ -51,22 +46,22 @@ module _ (P : Event → Type 0) where
   last_parts part [] each = tt
   last_parts part (x ∷ xs) each = (each x, last_parts part xs each)
 
-  -- the parts of an RPC, of each kind
-  pub parts_are_such : (q : PeerNo) (rpc : Rpc) → ((sub : SubOpt) → P (Sub q sub)) → ((m : Message) → P (Msg q m)) → ((offer : IHave) → P (Have q offer)) → ((request : IWant) → P (Want q request)) → ((graft : Graft) → P (GraftIn q graft)) → ((prune : Prune) → P (PruneIn q prune)) → AllByRecursion P (parts q rpc)
-  parts_are_such q rpc subs messages offers requests grafts prunes =
-      kind_of_parts (Sub q) rpc.subs _ subs
-      (kind_of_parts (Msg q) rpc.publish _ messages
-      (kind_of_parts (Have q) (offers_in rpc.control) _ offers
-      (kind_of_parts (Want q) (requests_in rpc.control) _ requests
-      (kind_of_parts (GraftIn q) (grafts_in rpc.control) _ grafts
-      (last_parts (PruneIn q) (prunes_in rpc.control) prunes)))))
+  -- the parts of an RPC
+  pub parts_are_such : (q : PeerNo) (rpc : Rpc) → ((part : RpcPart) → P (Part q part)) → AllByRecursion P (parts q rpc)
+  parts_are_such q rpc each =
+      kind_of_parts (λ part. Part q (Sub part)) rpc.subs _ (λ sub. each (Sub sub))
+      (kind_of_parts (λ part. Part q (Msg part)) rpc.publish _ (λ m. each (Msg m))
+      (kind_of_parts (λ part. Part q (Have part)) (offers_in rpc.control) _ (λ offer. each (Have offer))
+      (kind_of_parts (λ part. Part q (Want part)) (requests_in rpc.control) _ (λ request. each (Want request))
+      (kind_of_parts (λ part. Part q (GraftIn part)) (grafts_in rpc.control) _ (λ graft. each (GraftIn graft))
+      (last_parts (λ part. Part q (PruneIn part)) (prunes_in rpc.control) (λ prune. each (PruneIn prune)))))))
 
   rest_are_such : (events : List Event) → AllByRecursion P events → AllByRecursion P (drop 1 events)
   rest_are_such [] h = tt
   rest_are_such (first ∷ rest) h = h.1
 
   -- gossip, where it is such on each topic, and the end of a heartbeat
-  beats_are_such : (topics : List Topic) → AllByRecursion (λ t. P (GossipBeat t)) topics → P BeatEnd → AllByRecursion P (beats topics)
+  beats_are_such : (topics : List Topic) → AllByRecursion (λ t. P (Step (GossipBeat t))) topics → P (Step BeatEnd) → AllByRecursion P (beats topics)
   beats_are_such [] all end = (end, tt)
   beats_are_such (t ∷ topics) all end = (all.0, beats_are_such topics all.1 end)
 
@@ -101,23 +96,23 @@ module _ (p : Peer) (Stands : Entries → Type 0) (P : Entries → Event → Typ
       held_are_such M (drop 1 debt.events) debt.groups (reached p M debt.groups) (rest_are_such (P M) debt.events h.0) h.1 (reached_are_such M debt.groups here h.1)
 
   -- what a heartbeat does to a fanout
-  fan_is_such : (M : Entries) (at : ℕ) (t : Topic) → P M (FanBeat t) → P M (FanEnd t) → P M (fan_event p M at t)
+  fan_is_such : (M : Entries) (at : ℕ) (t : Topic) → P M (Step (FanBeat t)) → P M (Step (FanEnd t)) → P M (fan_event p M at t)
   fan_is_such M at t mends ends = by (is_stale p.params.timing.fanout_ttl_ms at (last_published M t))
     where
-      by : (stale : Bool) → P M (if stale then FanEnd t else FanBeat t)
+      by : (stale : Bool) → P M (if stale then Step (FanEnd t) else Step (FanBeat t))
       by true = ends
       by false = mends
 
   -- what a heartbeat does, where that is such on each topic, and so is its end
   pub heartbeat_is_such : (at : ℕ)
-      → ((M : Entries) → Stands M → AllByRecursion (λ (t : Topic). P M (MeshBeat t)) (own_topics M))
-      → ((M : Entries) (t : Topic) → P M (FanBeat t))
-      → ((M : Entries) (t : Topic) → P M (FanEnd t))
-      → ((M : Entries) → Stands M → AllByRecursion (λ (t : Topic). P M (GossipBeat t)) (gossip_topics p M))
-      → ((M : Entries) → P M BeatEnd)
+      → ((M : Entries) → Stands M → AllByRecursion (λ (t : Topic). P M (Step (MeshBeat t))) (own_topics M))
+      → ((M : Entries) (t : Topic) → P M (Step (FanBeat t)))
+      → ((M : Entries) (t : Topic) → P M (Step (FanEnd t)))
+      → ((M : Entries) → Stands M → AllByRecursion (λ (t : Topic). P M (Step (GossipBeat t))) (gossip_topics p M))
+      → ((M : Entries) → P M (Step BeatEnd))
       → ReachesSuch (heartbeat_groups at)
   heartbeat_is_such at meshes fans ended gossips end = (
-    (λ M here. each_mapped (P M) MeshBeat (own_topics M) (meshes M here)),
+    (λ M here. each_mapped (P M) (λ t. Step (MeshBeat t)) (own_topics M) (meshes M here)),
     (
       (λ M here. each_mapped (P M) (fan_event p M at) (fanout_topics M) (of_each (λ (t : Topic). P M (fan_event p M at t)) (λ t. fan_is_such M at t (fans M t) (ended M t)) (fanout_topics M))),
       ((λ M here. beats_are_such (P M) (gossip_topics p M) (gossips M here) (end M)), tt),
@@ -144,13 +139,13 @@ abbrev pub OwedAnywhere : Entries → Event → Type 0
 OwedAnywhere = λ M. IsOwed
 
 parts_are_owed : (q : PeerNo) (rpc : Rpc) → AllByRecursion IsOwed (parts q rpc)
-parts_are_owed q rpc = parts_are_such IsOwed q rpc (λ sub. tt) (λ m. tt) (λ offer. tt) (λ request. tt) (λ graft. tt) (λ prune. tt)
+parts_are_owed q rpc = parts_are_such IsOwed q rpc (λ part. tt)
 
 heartbeat_is_owed : (p : Peer) (at : ℕ) → ReachesSuch p Anywhere OwedAnywhere (heartbeat_groups at)
 heartbeat_is_owed p at =
     heartbeat_is_such p Anywhere OwedAnywhere at
-    (λ M here. of_each (λ (t : Topic). IsOwed (MeshBeat t)) (λ t. tt) (own_topics M)) (λ M t. tt) (λ M t. tt)
-    (λ M here. of_each (λ (t : Topic). IsOwed (GossipBeat t)) (λ t. tt) (gossip_topics p M)) (λ M. tt)
+    (λ M here. of_each (λ (t : Topic). IsOwed (Step (MeshBeat t))) (λ t. tt) (own_topics M)) (λ M t. tt) (λ M t. tt)
+    (λ M here. of_each (λ (t : Topic). IsOwed (Step (GossipBeat t))) (λ t. tt) (gossip_topics p M)) (λ M. tt)
 
 -- these alone are ever owed
 pub owed_are_such : (p : Peer) (L : Entries) → OwesSuch p Anywhere OwedAnywhere L (owed p L)

@@ -2,8 +2,9 @@
 use Rattle.std.proofs.Common.{◌≡◌, ℕ, Bool, true, ◌∷◌, filter}
 use Rattle.std.specs.List.{AllByRecursion}
 use Rattle.gs_base.specs.declared.names.Topic.{Topic}
-use Rattle.gs_rules.specs.declared.trace.Event.{Event}
-use Rattle.gs_rules.specs.declared.trace.Event.TheVariants.{Sub, Msg, Have, Want, GraftIn, PruneIn, MeshBeat, FanBeat, FanEnd, GossipBeat, BeatEnd}
+use Rattle.gs_rules.specs.declared.event.Event.{Event}
+use Rattle.gs_rules.specs.declared.event.Event.TheVariants.{Part, Step}
+use Rattle.gs_rules.specs.declared.event.BeatStep.TheVariants.{MeshBeat, GossipBeat}
 use Rattle.gs_rules.specs.declared.trace.Entry.{Entry}
 use Rattle.gs_rules.specs.Peers.{Peer}
 use Rattle.gs_rules.specs.Tables.{Entries, joined, joined_after, known, own_topics}
@@ -15,26 +16,17 @@ use Rattle.gs_rules.proofs.Topics.{ascending_are, passing_are}
 
 -- where the event mends a mesh, the peer is subscribed to its topic
 abbrev pub IsOfOwn : Entries → Event → Type 0
-IsOfOwn L (MeshBeat t) = joined L t ≡ true
+IsOfOwn L (Step (MeshBeat t)) = joined L t ≡ true
 IsOfOwn L other = Unit {0}
 
 -- what is owed leaves the peer subscribed
 stays_joined : (t : Topic) (event : Event) (before : Bool) → IsOwed event → before ≡ true → joined_after t event before ≡ true
-stays_joined t (Sub q sub) before own is = is
-stays_joined t (Msg q m) before own is = is
-stays_joined t (Have q offer) before own is = is
-stays_joined t (Want q request) before own is = is
-stays_joined t (GraftIn q graft) before own is = is
-stays_joined t (PruneIn q prune) before own is = is
-stays_joined t (MeshBeat u) before own is = is
-stays_joined t (FanBeat u) before own is = is
-stays_joined t (FanEnd u) before own is = is
-stays_joined t (GossipBeat u) before own is = is
-stays_joined t BeatEnd before own is = is
+stays_joined t (Part q part) before own is = is
+stays_joined t (Step step) before own is = is
 stays_joined t other before own is = absurd own
 
 stays_own : (L : Entries) (e : Entry) → IsOwed e.event → (event : Event) → IsOfOwn L event → IsOfOwn (e ∷ L) event
-stays_own L e own (MeshBeat t) is = stays_joined t e.event (joined L t) own is
+stays_own L e own (Step (MeshBeat t)) is = stays_joined t e.event (joined L t) own is
 stays_own L e own other is = tt
 
 own_are : (L : Entries) → AllByRecursion (λ (t : Topic). joined L t ≡ true) (own_topics L)
@@ -45,15 +37,15 @@ own_are L =
 heartbeat_of_own : (p : Peer) (at : ℕ) → ReachesSuch p (Legal p) IsOfOwn (heartbeat_groups at)
 heartbeat_of_own p at =
     heartbeat_is_such p (Legal p) IsOfOwn at (λ M legal. own_are M) (λ M t. tt) (λ M t. tt)
-    (λ M legal. of_each (λ (t : Topic). IsOfOwn M (GossipBeat t)) (λ t. tt) (gossip_topics p M)) (λ M. tt)
+    (λ M legal. of_each (λ (t : Topic). IsOfOwn M (Step (GossipBeat t))) (λ t. tt) (gossip_topics p M)) (λ M. tt)
 
 owed_own : (p : Peer) (L : Entries) → Legal p L → OwesSuch p (Legal p) IsOfOwn L (owed p L)
 owed_own p L legal =
     always_such p IsOfOwn stays_own
-    (λ M e q rpc goes_on is. parts_are_such (IsOfOwn (e ∷ M)) q rpc (λ sub. tt) (λ m. tt) (λ offer. tt) (λ request. tt) (λ graft. tt) (λ prune. tt))
+    (λ M e q rpc goes_on is. parts_are_such (IsOfOwn (e ∷ M)) q rpc (λ part. tt))
     (heartbeat_of_own p) L legal
 
 -- what comes next is of an own topic, as what is owed is
 pub next_of_own : (p : Peer) (L : Entries) (at : ℕ) (event : Event) → Legal p L → IsNext p L at (owed p L).events event → IsOfOwn L event
-next_of_own p L at (MeshBeat t) legal next = next_is_such (IsOfOwn L) p L at (owed p L).events (MeshBeat t) (owed_own p L legal).0 (λ h. h) next
+next_of_own p L at (Step (MeshBeat t)) legal next = next_is_such (IsOfOwn L) p L at (owed p L).events (Step (MeshBeat t)) (owed_own p L legal).0 (λ h. h) next
 next_of_own p L at other legal next = tt

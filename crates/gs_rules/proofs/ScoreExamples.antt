@@ -17,8 +17,12 @@ use Rattle.gs_score.specs.Histories.{Marked, Decayed, ShutOut}
 use Rattle.gs_score.specs.Formula.{score_of, topic_part}
 use Rattle.gs_score.specs.Millionths.{times}
 use Rattle.gs_base.specs.Rpcs.{passed_on}
-use Rattle.gs_rules.specs.declared.trace.Event.{Event}
-use Rattle.gs_rules.specs.declared.trace.Event.TheVariants.{Heard, Sub, Msg, Have, Want, Subscribe, BeatBegin, Decay, Gone, Fault, HangUp, Shut}
+use Rattle.gs_rules.specs.declared.event.Event.{Event}
+use Rattle.gs_rules.specs.declared.event.Event.TheVariants.{Heard, BeatBegin, Decay, Shut, Part, Own, Lost}
+use Rattle.gs_rules.specs.declared.event.RpcPart.TheVariants.{Sub, Msg}
+use Rattle.gs_plan.specs.declared.plan.Act.TheVariants.{Subscribe, HangUp}
+use Rattle.gs_rules.specs.declared.event.Loss.TheVariants.{Gone, Fault}
+use Rattle.gs_rules.specs.declared.outcome.FanoutUse.TheVariants.{Unused}
 use Rattle.gs_rules.specs.declared.trace.Entry.{Entry}
 use Rattle.gs_rules.specs.Peers.{Peer}
 use Rattle.gs_rules.specs.Tables.{Entries, blank}
@@ -26,7 +30,7 @@ use Rattle.gs_rules.specs.Scoring.{history, is_graylisted, is_ignored, is_passed
 use Rattle.gs_rules.specs.Owed.{nothing, owed}
 use Rattle.gs_rules.specs.MeshRules.{publish_rule, publishing}
 use Rattle.gs_base.specs.Neighbours.{accepted_neighbour}
-use Rattle.gs_rules.specs.Rules.{Gives, bare, gossip_candidates, have_rule, want_rule}
+use Rattle.gs_rules.specs.Rules.{Gives, gossip_candidates, have_rule, want_rule, no_effects}
 
 -- ---- what is given
 
@@ -77,10 +81,10 @@ abbrev id : ℕ → MsgId
 id n = record { 0 = n ∷ [] }
 
 abbrev entry : Event → Entry
-entry event = bare (record { 0 = 0 }) event
+entry event = record { at = record { 0 = 0 }; event = event; effects = no_effects }
 
 abbrev marked : PeerNo → Mark → Entry
-marked r mark = record (entry (Msg r blank)) { marks = mark ∷ [] }
+marked r mark = record (entry (Part r (Msg blank))) { effects = record no_effects { marks = mark ∷ [] } }
 
 abbrev first_on : Topic → PeerNo → Entry
 first_on t r = marked r (First r t (id 1))
@@ -89,7 +93,7 @@ abbrev invalid_on : Topic → PeerNo → Entry
 invalid_on t r = marked r (Invalid r t)
 
 abbrev blamed : PeerNo → Entry
-blamed r = record (entry BeatBegin) { marks = Misbehaviour r ∷ [] }
+blamed r = record (entry BeatBegin) { effects = record no_effects { marks = Misbehaviour r ∷ [] } }
 
 -- ---- scores on a topic
 
@@ -183,22 +187,22 @@ unfolding score score_of topic_part times
 who_is_elsewhere_pays_nothing = refl
 
 -- neighbour 2 closed its link
-who_is_gone_counts_no_more : score together (entry (Gone other) ∷ []) 0 q ≡ pos 0
+who_is_gone_counts_no_more : score together (entry (Lost other Gone) ∷ []) 0 q ≡ pos 0
 unfolding score score_of topic_part times
 who_is_gone_counts_no_more = refl
 
-who_was_hung_up_on_counts_no_more : score together (entry (HangUp other) ∷ []) 0 q ≡ pos 0
+who_was_hung_up_on_counts_no_more : score together (entry (Own (HangUp other)) ∷ []) 0 q ≡ pos 0
 unfolding score score_of topic_part times
 who_was_hung_up_on_counts_no_more = refl
 
-who_is_at_fault_counts_no_more : score together (entry (Fault other) ∷ []) 0 q ≡ pos 0
+who_is_at_fault_counts_no_more : score together (entry (Lost other Fault) ∷ []) 0 q ≡ pos 0
 unfolding score score_of topic_part times
 who_is_at_fault_counts_no_more = refl
 
 -- ---- histories
 
 -- the newest first, and marks of one entry one by one
-a_history_has_the_newest_first : history peer (entry (Gone other) ∷ entry Decay ∷ record (entry (Msg q blank)) { marks = Seen (id 1) Accept ∷ First q news (id 1) ∷ Cached (id 1) news ∷ [] } ∷ []) ≡ ShutOut other ∷ Decayed ∷ Marked (Cached (id 1) news) ∷ Marked (First q news (id 1)) ∷ Marked (Seen (id 1) Accept) ∷ []
+a_history_has_the_newest_first : history peer (entry (Lost other Gone) ∷ entry Decay ∷ record (entry (Part q (Msg blank))) { effects = record no_effects { marks = Seen (id 1) Accept ∷ First q news (id 1) ∷ Cached (id 1) news ∷ [] } } ∷ []) ≡ ShutOut other ∷ Decayed ∷ Marked (Cached (id 1) news) ∷ Marked (First q news (id 1)) ∷ Marked (Seen (id 1) Accept) ∷ []
 a_history_has_the_newest_first = refl
 
 a_stranger_has_no_counters : history peer (first_on news stranger ∷ []) ≡ []
@@ -252,10 +256,10 @@ on_news = record { subscribe = Some true; topic = Some news }
 
 abbrev listening : Entries
 listening =
-    record (entry (Msg other blank)) { marks = Cached long_id news ∷ [] }
-    ∷ entry (Sub q on_news)
-    ∷ entry (Sub other on_news)
-    ∷ entry (Subscribe news)
+    record (entry (Part other (Msg blank))) { effects = record no_effects { marks = Cached long_id news ∷ [] } }
+    ∷ entry (Part q (Sub on_news))
+    ∷ entry (Part other (Sub on_news))
+    ∷ entry (Own (Subscribe news))
     ∷ []
 
 abbrev offer : IHave
@@ -265,19 +269,19 @@ abbrev request : IWant
 request = record { ids = long_id.0 ∷ [] }
 
 -- one of another counts
-an_offer_of_who_is_ignored_counts_for_nothing : have_rule (scored 10_000_001) listening (record { 0 = 0 }) q offer ≡ Gives (entry (Have q offer))
+an_offer_of_who_is_ignored_counts_for_nothing : have_rule (scored 10_000_001) listening (record { 0 = 0 }) q offer ≡ Gives no_effects
 unfolding score score_of topic_part times
 an_offer_of_who_is_ignored_counts_for_nothing = refl
 
-an_offer_of_another_counts : have_rule (scored 10_000_001) listening (record { 0 = 0 }) other offer ≡ Gives (record (entry (Have other offer)) { marks = Offered other ∷ [] })
+an_offer_of_another_counts : have_rule (scored 10_000_001) listening (record { 0 = 0 }) other offer ≡ Gives (record no_effects { marks = Offered other ∷ [] })
 unfolding score score_of topic_part times
 an_offer_of_another_counts = refl
 
-a_request_of_who_is_ignored_gets_nothing : want_rule (scored 10_000_001) listening (record { 0 = 0 }) q request ≡ entry (Want q request)
+a_request_of_who_is_ignored_gets_nothing : want_rule (scored 10_000_001) listening (record { 0 = 0 }) q request ≡ no_effects
 unfolding score score_of topic_part times
 a_request_of_who_is_ignored_gets_nothing = refl
 
-a_request_of_another_is_answered : want_rule (scored 10_000_001) listening (record { 0 = 0 }) other request ≡ record (entry (Want other request)) { sends = (other, passed_on blank) ∷ []; marks = Answered other long_id ∷ [] }
+a_request_of_another_is_answered : want_rule (scored 10_000_001) listening (record { 0 = 0 }) other request ≡ record no_effects { sends = (other, passed_on blank) ∷ []; marks = Answered other long_id ∷ [] }
 unfolding score score_of topic_part times
 a_request_of_another_is_answered = refl
 
@@ -290,11 +294,11 @@ unfolding score score_of topic_part times
 and_not_to_who_is_ignored = refl
 
 -- who is ignored still gets what is published
-what_is_published_goes_to_who_is_ignored : publish_rule (scored 50_000_000) listening (record { 0 = 0 }) news (5 ∷ []) ≡ Gives (publishing (scored 50_000_000) listening (record { 0 = 0 }) news (5 ∷ []) (q ∷ other ∷ []) [] [])
+what_is_published_goes_to_who_is_ignored : publish_rule (scored 50_000_000) listening (record { 0 = 0 }) news (5 ∷ []) ≡ Gives (publishing (scored 50_000_000) listening news (5 ∷ []) (q ∷ other ∷ []) Unused)
 unfolding score score_of topic_part times
 what_is_published_goes_to_who_is_ignored = refl
 
-and_not_to_who_is_passed_over : publish_rule (scored 50_000_001) listening (record { 0 = 0 }) news (5 ∷ []) ≡ Gives (publishing (scored 50_000_001) listening (record { 0 = 0 }) news (5 ∷ []) (other ∷ []) [] [])
+and_not_to_who_is_passed_over : publish_rule (scored 50_000_001) listening (record { 0 = 0 }) news (5 ∷ []) ≡ Gives (publishing (scored 50_000_001) listening news (5 ∷ []) (other ∷ []) Unused)
 unfolding score score_of topic_part times
 and_not_to_who_is_passed_over = refl
 
@@ -302,7 +306,7 @@ abbrev saying : Rpc
 saying = record { subs = on_news ∷ []; publish = []; control = None }
 
 -- an RPC owes its parts
-who_is_at_the_threshold_is_handled : owed (scored 80_000_000) (entry (Heard q saying) ∷ []) ≡ record { events = Sub q on_news ∷ []; groups = [] }
+who_is_at_the_threshold_is_handled : owed (scored 80_000_000) (entry (Heard q saying) ∷ []) ≡ record { events = Part q (Sub on_news) ∷ []; groups = [] }
 unfolding score score_of topic_part times
 who_is_at_the_threshold_is_handled = refl
 

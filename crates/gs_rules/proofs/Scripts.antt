@@ -1,24 +1,23 @@
 -- A peer puts bytes that are no frames on a link only where its script says so.
-use Rattle.std.proofs.Common.{◌≡◌, ℕ, zero, suc, Bool, true, false, if◌then◌else◌, List, [], ◌∷◌, ◌++◌, map, filter, Option, Some, None, refl, sym, ap, subst, ◌∙◌}
-use Rattle.std.specs.List.{flat_map, zip, AllByRecursion}
+use Rattle.std.proofs.Common.{◌≡◌, ℕ, zero, suc, Bool, true, false, if◌then◌else◌, List, [], ◌∷◌, ◌++◌, map, filter, Option, Some, None, refl, sym, subst}
+use Rattle.std.specs.List.{AllByRecursion}
 use Rattle.gs_base.specs.declared.names.PeerNo.{PeerNo}
 use Rattle.gs_base.specs.declared.names.Millis.{Millis}
 use Rattle.gs_base.specs.declared.rpc.Rpc.{Rpc}
 use Rattle.gs_plan.specs.declared.plan.Line.{Line}
-use Rattle.gs_plan.specs.declared.plan.What.{What}
 use Rattle.gs_wire.proofs.RoundTrip.{all-append}
-use Rattle.gs_rules.specs.declared.trace.Event.{Event}
-use Rattle.gs_rules.specs.declared.trace.Event.TheVariants.{Heard, Late, Sub, Msg, Have, Want, GraftIn, PruneIn, MeshBeat, FanBeat, FanEnd, GossipBeat, BeatEnd}
+use Rattle.gs_rules.specs.declared.event.Event.{Event}
+use Rattle.gs_rules.specs.declared.event.Event.TheVariants.{Heard, Late, Part, Step, Own}
 use Rattle.gs_rules.specs.declared.trace.Entry.{Entry}
 use Rattle.gs_rules.specs.declared.refusal.Refusal.{Refusal}
 use Rattle.gs_rules.specs.declared.refusal.RefusedLine.{RefusedLine}
 use Rattle.gs_rules.specs.Peers.{Peer, links_of}
 use Rattle.gs_rules.specs.Tables.{Entries, up}
-use Rattle.gs_rules.specs.Legal.{Begins, Comes, Legal, Opens}
+use Rattle.gs_rules.specs.Legal.{Comes, Legal}
 use Rattle.gs_rules.specs.Refusals.{refusal}
 use Rattle.gs_rules.specs.Saying.{Said, SaysFramesAlone, raw_to}
 use Rattle.gs_rules.specs.Hearing.{Inbound}
-use Rattle.gs_rules.specs.Rounds.{AfterRounds, Beat, Closing, DecayCounters, Does, EndRound, Hear, HearFault, HearGone, KeepsRounds, Obey, Phase, Playing, Plays, PutsNoBytes, Seat, Stop, Todo, agenda, beats_in, decays_in, ending, event_of, hears, hears_of, is_at, is_broken, is_due, lines_at, moment_of, obey, opening, unless_refused}
+use Rattle.gs_rules.specs.Rounds.{AfterRounds, Beat, Closing, DecayCounters, Does, EndRound, Hear, HearFault, HearGone, KeepsRounds, Obey, Phase, Playing, Plays, PutsNoBytes, Seat, Stop, Todo, agenda, beats_in, decays_in, ending, hears, hears_of, is_at, is_broken, is_due, lines_at, moment_of, obey, opening, unless_refused}
 use Rattle.gs_rules.proofs.Each.{each_mapped, each_passing, of_each}
 use Rattle.gs_rules.proofs.Handled.{does_on, legal_then_before, payments_are_owed}
 use Rattle.gs_rules.proofs.Owed.{IsOwed}
@@ -28,17 +27,8 @@ abbrev IsQuiet : PeerNo → Event → Type 0
 IsQuiet q event = raw_to q event ≡ []
 
 owed_is_quiet : (q : PeerNo) (event : Event) → IsOwed event → IsQuiet q event
-owed_is_quiet q (Sub r sub) h = refl
-owed_is_quiet q (Msg r m) h = refl
-owed_is_quiet q (Have r offer) h = refl
-owed_is_quiet q (Want r request) h = refl
-owed_is_quiet q (GraftIn r graft) h = refl
-owed_is_quiet q (PruneIn r prune) h = refl
-owed_is_quiet q (MeshBeat t) h = refl
-owed_is_quiet q (FanBeat t) h = refl
-owed_is_quiet q (FanEnd t) h = refl
-owed_is_quiet q (GossipBeat t) h = refl
-owed_is_quiet q BeatEnd h = refl
+owed_is_quiet q (Part r part) h = refl
+owed_is_quiet q (Step step) h = refl
 owed_is_quiet q other h = absurd h
 
 paid_are_quiet : (q : PeerNo) (L : Entries) (paid : List Entry) → AllByRecursion (λ (e : Entry). IsOwed e.event) paid → SaysFramesAlone q L → SaysFramesAlone q (paid ++ L)
@@ -47,7 +37,7 @@ paid_are_quiet q L (e ∷ paid) owed before = (owed_is_quiet q e.event owed.0, p
 
 -- what is done puts none, if its line does not
 abbrev DoesQuietly : PeerNo → Todo → Type 0
-DoesQuietly q (Obey place what) = IsQuiet q (event_of what)
+DoesQuietly q (Obey place what) = IsQuiet q (Own what)
 DoesQuietly q other = Unit {0}
 
 abbrev OpensQuietly : PeerNo → Option Event → Type 0
@@ -70,7 +60,7 @@ opening_is_quiet : (p : Peer) (q : PeerNo) (K : Entries) (at : Millis) (todo : T
 opening_is_quiet p q K at (Hear r rpc) quiet = heard_quietly q r rpc (up K r)
 opening_is_quiet p q K at (HearFault r) quiet = lost_quietly q _ (up K r) refl
 opening_is_quiet p q K at (HearGone r) quiet = lost_quietly q _ (up K r) refl
-opening_is_quiet p q K at (Obey place what) quiet = followed_quietly q (event_of what) (refusal p K at.0 (event_of what)) quiet
+opening_is_quiet p q K at (Obey place what) quiet = followed_quietly q (Own what) (refusal p K at.0 (Own what)) quiet
 opening_is_quiet p q K at DecayCounters quiet = refl
 opening_is_quiet p q K at Beat quiet = refl
 opening_is_quiet p q K at (EndRound r) quiet = refl
@@ -112,7 +102,7 @@ hears_are_quiet q (r ∷ rs) (x ∷ xs) =
 lines_are_quiet : (q : PeerNo) (r : ℕ) (lines : List (ℕ × Line)) → PutsNoBytes q lines → AllByRecursion (DoesQuietly q) (map obey (filter (is_at r) lines))
 lines_are_quiet q r lines quiet =
     each_mapped (DoesQuietly q) obey (filter (is_at r) lines)
-    (each_passing (λ (x : ℕ × Line). IsQuiet q (event_of x.1.what)) (λ (x : ℕ × Line). DoesQuietly q (obey x)) (is_at r) (λ x passes is. is) lines quiet)
+    (each_passing (λ (x : ℕ × Line). IsQuiet q (Own x.1.what)) (λ (x : ℕ × Line). DoesQuietly q (obey x)) (is_at r) (λ x passes is. is) lines quiet)
 
 timed_are_quiet : (q : PeerNo) (todo : Todo) (due : Bool) → DoesQuietly q todo → AllByRecursion (DoesQuietly q) (if due then todo ∷ [] else [])
 timed_are_quiet q todo true quiet = (quiet, tt)

@@ -16,8 +16,8 @@ use Rattle.gs_wire.specs.Joining.{joined_controls, joined_options, joined_rpc, j
 use Rattle.gs_wire.specs.Stream.{IsStream}
 use Rattle.gs_wire.proofs.FrameLists.{frame_read}
 use Rattle.gs_wire.proofs.RoundTrip.{all-append}
-use Rattle.gs_rules.specs.declared.trace.Event.{Event}
-use Rattle.gs_rules.specs.declared.trace.Event.TheVariants.{RoundEnd, Shut}
+use Rattle.gs_rules.specs.declared.event.Event.{Event}
+use Rattle.gs_rules.specs.declared.event.Event.TheVariants.{RoundEnd, Shut}
 use Rattle.gs_rules.specs.declared.trace.Entry.{Entry}
 use Rattle.gs_rules.specs.Peers.{Peer}
 use Rattle.gs_rules.specs.Tables.{Entries, is_lost, lost, up}
@@ -178,17 +178,17 @@ signed q event none =
     bytes_of_append (map Byte (raw_to q event)) (sign q event)
     ∙ ap₂ (λ (xs ys : List ℕ). xs ++ ys) (bytes_of_bytes (raw_to q event) ∙ none) (sign_silent q event)
 
-goes_behind : (q : PeerNo) (o : Outgoing) (vs : List Rpc) (e : Entry) → SendsWritten e.sends → raw_to q e.event ≡ [] → GoesOut o vs → GoesOut (behind_entry codec q o e) (vs ++ sent_to q e.sends)
+goes_behind : (q : PeerNo) (o : Outgoing) (vs : List Rpc) (e : Entry) → SendsWritten e.effects.sends → raw_to q e.event ≡ [] → GoesOut o vs → GoesOut (behind_entry codec q o e) (vs ++ sent_to q e.effects.sends)
 goes_behind q o vs e written none before =
-    let sent_now : Outgoing = sending_all codec o (sent_to q e.sends) in
+    let sent_now : Outgoing = sending_all codec o (sent_to q e.effects.sends) in
     let cut_now : Outgoing = if is_cut q e.event then cut_out codec sent_now else sent_now in
-    more_said cut_now.said (map Byte (raw_to q e.event) ++ sign q e.event) cut_now.gathered (vs ++ sent_to q e.sends) (signed q e.event none) (cuts_if (is_cut q e.event) sent_now (vs ++ sent_to q e.sends) (sends_all o vs (sent_to q e.sends) (received_written q e.sends written) before))
+    more_said cut_now.said (map Byte (raw_to q e.event) ++ sign q e.event) cut_now.gathered (vs ++ sent_to q e.effects.sends) (signed q e.event none) (cuts_if (is_cut q e.event) sent_now (vs ++ sent_to q e.effects.sends) (sends_all o vs (sent_to q e.effects.sends) (received_written q e.effects.sends written) before))
 
 goes_out : (L : Entries) (q : PeerNo) → AllWritten L → SaysFramesAlone q L → GoesOut (outgoing codec L q) (sent L q)
 goes_out [] q all alone = record { rpcs = []; frames = refl; written = tt; held_written = tt; all = refl }
 goes_out (e ∷ L) q all alone = by (up L q) (goes_out L q all.1 alone.1)
   where
-    by : (is_up : Bool) → GoesOut (outgoing codec L q) (sent L q) → GoesOut (if is_up then behind_entry codec q (outgoing codec L q) e else outgoing codec L q) (if is_up then sent L q ++ sent_to q e.sends else sent L q)
+    by : (is_up : Bool) → GoesOut (outgoing codec L q) (sent L q) → GoesOut (if is_up then behind_entry codec q (outgoing codec L q) e else outgoing codec L q) (if is_up then sent L q ++ sent_to q e.effects.sends else sent L q)
     by false before = before
     by true before = goes_behind q (outgoing codec L q) (sent L q) e all.0 alone.0 before
 

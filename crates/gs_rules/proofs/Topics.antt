@@ -15,8 +15,9 @@ use Rattle.std.proofs.lemmas.Map.Views.{any-filter_same}
 use Rattle.std.proofs.lemmas.Slice.Eq.{bytes_eq-Decides}
 use Rattle.gs_base.specs.declared.names.Topic.{Topic}
 use Rattle.gs_base.specs.Names.{longest_topic, same_topic}
-use Rattle.gs_rules.specs.declared.trace.Event.{Event}
-use Rattle.gs_rules.specs.declared.trace.Event.TheVariants.{Subscribe, Unsubscribe}
+use Rattle.gs_rules.specs.declared.event.Event.{Event}
+use Rattle.gs_rules.specs.declared.event.Event.TheVariants.{Own}
+use Rattle.gs_plan.specs.declared.plan.Act.TheVariants.{Subscribe, Unsubscribe}
 use Rattle.gs_rules.specs.Peers.{Peer}
 use Rattle.gs_rules.specs.Tables.{Entries, ascending, joined, joined_after, known, known_after, own_topics, placed, topic_order}
 use Rattle.gs_rules.specs.Owed.{owed}
@@ -42,8 +43,8 @@ still_joined true before joins = absurd cc
 still_joined false before joins = joins
 
 short_after : (p : Peer) (L : Entries) (at : ℕ) (event : Event) (t : Topic) → IsNext p L at (owed p L).events event → (joined L t ≡ true → IsShort t) → joined_after t event (joined L t) ≡ true → IsShort t
-short_after p L at (Subscribe u) t next earlier joins = subscribed_short u t (same_topic u t) (joined L t) refl (opens p L at (Subscribe u) (λ h. h) next).short earlier joins
-short_after p L at (Unsubscribe u) t next earlier joins = earlier (still_joined (same_topic u t) (joined L t) joins)
+short_after p L at (Own (Subscribe u)) t next earlier joins = subscribed_short u t (same_topic u t) (joined L t) refl (opens p L at (Own (Subscribe u)) (λ h. h) next).short earlier joins
+short_after p L at (Own (Unsubscribe u)) t next earlier joins = earlier (still_joined (same_topic u t) (joined L t) joins)
 short_after p L at other t next earlier joins = earlier joins
 
 pub joined_short : (p : Peer) (L : Entries) (t : Topic) → Legal p L → joined L t ≡ true → IsShort t
@@ -62,14 +63,14 @@ gets_known : (t : Topic) (knows : Bool) (before : List Topic) → list_any (same
 gets_known t true before is = is
 gets_known t false before is = rw (list_any-append (same_topic t) before (t ∷ []), is, (bytes_eq-Decides t.0 t.0).1 refl) refl
 
-known_by : (t u : Topic) (same joins : Bool) (before : List Topic) → same_topic u t ≡ same → (joins ≡ true → list_any (same_topic t) before ≡ true) → (if same then true else joins) ≡ true → list_any (same_topic t) (known_after (Subscribe u) before) ≡ true
+known_by : (t u : Topic) (same joins : Bool) (before : List Topic) → same_topic u t ≡ same → (joins ≡ true → list_any (same_topic t) before ≡ true) → (if same then true else joins) ≡ true → list_any (same_topic t) (known_after (Own (Subscribe u)) before) ≡ true
 known_by t u true joins before is earlier now =
-    subst (λ (v : Topic). list_any (same_topic t) (known_after (Subscribe v) before) ≡ true) (sym (same_are_one u t is)) (gets_known t (list_any (same_topic t) before) before refl)
+    subst (λ (v : Topic). list_any (same_topic t) (known_after (Own (Subscribe v)) before) ≡ true) (sym (same_are_one u t is)) (gets_known t (list_any (same_topic t) before) before refl)
 known_by t u false joins before is earlier now = still_known t u (list_any (same_topic u) before) before (earlier now)
 
 known_next : (t : Topic) (event : Event) (joins : Bool) (before : List Topic) → (joins ≡ true → list_any (same_topic t) before ≡ true) → joined_after t event joins ≡ true → list_any (same_topic t) (known_after event before) ≡ true
-known_next t (Subscribe u) joins before earlier now = known_by t u (same_topic u t) joins before refl earlier now
-known_next t (Unsubscribe u) joins before earlier now = earlier (still_joined (same_topic u t) joins now)
+known_next t (Own (Subscribe u)) joins before earlier now = known_by t u (same_topic u t) joins before refl earlier now
+known_next t (Own (Unsubscribe u)) joins before earlier now = earlier (still_joined (same_topic u t) joins now)
 known_next t other joins before earlier now = earlier now
 
 pub joined_known : (L : Entries) (t : Topic) → joined L t ≡ true → list_any (same_topic t) (known L) ≡ true

@@ -18,8 +18,12 @@ use Rattle.gs_base.specs.declared.rpc.Rpc.{Rpc}
 use Rattle.gs_base.specs.Names.{same_peer, same_topic}
 use Rattle.gs_params.specs.Picks.{IsAscending}
 use Rattle.gs_mesh.specs.Peers.{is_among, put_in, without}
-use Rattle.gs_rules.specs.declared.trace.Event.{Event}
-use Rattle.gs_rules.specs.declared.trace.Event.TheVariants.{BeatEnd, FanBeat, FanEnd, Fault, Gone, GossipBeat, GraftIn, HangUp, Have, Heard, MeshBeat, Msg, PruneIn, Shut, Sub, Subscribe, Want}
+use Rattle.gs_rules.specs.declared.event.Event.{Event}
+use Rattle.gs_rules.specs.declared.event.Event.TheVariants.{Heard, Shut, Part, Step, Own, Lost}
+use Rattle.gs_rules.specs.declared.event.RpcPart.TheVariants.{GraftIn}
+use Rattle.gs_rules.specs.declared.event.BeatStep.TheVariants.{GossipBeat, MeshBeat}
+use Rattle.gs_plan.specs.declared.plan.Act.TheVariants.{HangUp, Subscribe}
+use Rattle.gs_rules.specs.declared.event.RpcPart.{RpcPart}
 use Rattle.gs_rules.specs.declared.trace.Entry.{Entry}
 use Rattle.gs_rules.specs.Peers.{Peer}
 use Rattle.gs_rules.specs.Tables.{Entries, after_marks, is_shut, is_shut_after, own_topics, up, up_after}
@@ -44,48 +48,43 @@ use Rattle.gs_rules.proofs.Owed.{IsOwed, OwesSuch, ReachesSuch, always_such, hea
 
 -- where the event is a GRAFT, its sender is up
 abbrev SenderUp : Entries → Event → Type 0
-SenderUp L (GraftIn q graft) = up L q ≡ true
+SenderUp L (Part q (GraftIn graft)) = up L q ≡ true
 SenderUp L other = Unit {0}
 
 -- what is owed leaves everybody up
 owed_leaves : (q : PeerNo) (event : Event) (before : Bool) → IsOwed event → before ≡ true → up_after q event before ≡ true
-owed_leaves q (Sub r sub) before own is = is
-owed_leaves q (Msg r m) before own is = is
-owed_leaves q (Have r offer) before own is = is
-owed_leaves q (Want r request) before own is = is
-owed_leaves q (GraftIn r graft) before own is = is
-owed_leaves q (PruneIn r prune) before own is = is
-owed_leaves q (MeshBeat t) before own is = is
-owed_leaves q (FanBeat t) before own is = is
-owed_leaves q (FanEnd t) before own is = is
-owed_leaves q (GossipBeat t) before own is = is
-owed_leaves q BeatEnd before own is = is
+owed_leaves q (Part r part) before own is = is
+owed_leaves q (Step step) before own is = is
 owed_leaves q other before own is = absurd own
 
 sender_stays : (L : Entries) (e : Entry) → IsOwed e.event → (event : Event) → SenderUp L event → SenderUp (e ∷ L) event
-sender_stays L e own (GraftIn q graft) is = owed_leaves q e.event (up L q) own is
+sender_stays L e own (Part q (GraftIn graft)) is = owed_leaves q e.event (up L q) own is
 sender_stays L e own other is = tt
 
 heartbeat_up : (p : Peer) (at : ℕ) → ReachesSuch p (Legal p) SenderUp (heartbeat_groups at)
 heartbeat_up p at =
     heartbeat_is_such p (Legal p) SenderUp at
-    (λ M legal. of_each (λ (t : Topic). SenderUp M (MeshBeat t)) (λ t. tt) (own_topics M)) (λ M t. tt) (λ M t. tt)
-    (λ M legal. of_each (λ (t : Topic). SenderUp M (GossipBeat t)) (λ t. tt) (gossip_topics p M)) (λ M. tt)
+    (λ M legal. of_each (λ (t : Topic). SenderUp M (Step (MeshBeat t))) (λ t. tt) (own_topics M)) (λ M t. tt) (λ M t. tt)
+    (λ M legal. of_each (λ (t : Topic). SenderUp M (Step (GossipBeat t))) (λ t. tt) (gossip_topics p M)) (λ M. tt)
 
 heard_up : (p : Peer) (L : Entries) (e : Entry) (q : PeerNo) (rpc : Rpc) → Legal p (e ∷ L) → e.event ≡ Heard q rpc → AllByRecursion (SenderUp (e ∷ L)) (parts q rpc)
 heard_up p L e q rpc legal is =
     let here : up L q ≡ true = (opens p L e.at.0 (Heard q rpc) (λ h. h) (subst (IsNext p L e.at.0 (owed p L).events) is (legal_newest p e L legal).next)).is_up in
     let now : up (e ∷ L) q ≡ true = subst (λ (event : Event). up_after q event (up L q) ≡ true) (sym is) here in
-    parts_are_such (SenderUp (e ∷ L)) q rpc (λ sub. tt) (λ m. tt) (λ offer. tt) (λ request. tt) (λ graft. now) (λ prune. tt)
+    parts_are_such (SenderUp (e ∷ L)) q rpc (each now)
+  where
+    each : up (e ∷ L) q ≡ true → (part : RpcPart) → SenderUp (e ∷ L) (Part q part)
+    each is_up (GraftIn graft) = is_up
+    each is_up other = tt
 
 owed_up : (p : Peer) (L : Entries) → Legal p L → OwesSuch p (Legal p) SenderUp L (owed p L)
 owed_up p L legal = always_such p SenderUp sender_stays (heard_up p) (heartbeat_up p) L legal
 
 next_up : (p : Peer) (L : Entries) (at : ℕ) (events : List Event) (event : Event) (q : PeerNo) → AllByRecursion (SenderUp L) events → IsNext p L at events event → GraftedBy p L event q → up L q ≡ true
-next_up p L at [] (GraftIn r graft) q all next is = absurd next
-next_up p L at (first ∷ rest) (GraftIn r graft) q all next is = subst (λ (s : PeerNo). up L s ≡ true) (sym is) (subst (SenderUp L) (sym next) all.0)
-next_up p L at events (Subscribe t) q all next is = is.1
-next_up p L at events (MeshBeat t) q all next is = is.1
+next_up p L at [] (Part r (GraftIn graft)) q all next is = absurd next
+next_up p L at (first ∷ rest) (Part r (GraftIn graft)) q all next is = subst (λ (s : PeerNo). up L s ≡ true) (sym is) (subst (SenderUp L) (sym next) all.0)
+next_up p L at events (Own (Subscribe t)) q all next is = is.1
+next_up p L at events (Step (MeshBeat t)) q all next is = is.1
 next_up p L at events other q all next is = absurd is
 
 -- ---- members are up
@@ -100,39 +99,38 @@ comes_up p L at event t each other may = tt
 
 module _ (p : Peer) (L : Entries) (t : Topic) (legal : Legal p L) where
   -- whoever is lost is pruned
-  lost_pruned : (event : Event) (e : Entry) (r : PeerNo) → SaysTheSame e (lost_rule p L e.at r event) → is_among (mesh L t) r ≡ true → list_any (prunes t r) e.marks ≡ true
+  lost_pruned : (event : Event) (e : Entry) (r : PeerNo) → SaysTheSame e.effects (lost_rule p L e.at r) → is_among (mesh L t) r ≡ true → list_any (prunes t r) e.effects.marks ≡ true
   lost_pruned event e r same member =
       let stands : list_any (same_topic t) (mesh_topics L) ≡ true = joined_has_mesh L t (member_joined p L r t legal member) in
       let marked : list_any (prunes t r) (losing_marks p L e.at.0 r) ≡ true =
       leaving_prunes p L e.at.0 t r (meshes_with L r (mesh_topics L)) _ (pruned_with L r t (mesh_topics L) stands member) in
-      sym (list_any-IsPermutation (prunes t r) (lost_rule p L e.at r event).marks e.marks same.marks) ∙ marked
+      sym (list_any-IsPermutation (prunes t r) (lost_rule p L e.at r).marks e.effects.marks same.marks) ∙ marked
 
   -- so that who stays was up and is another
-  lost_up : (event : Event) (e : Entry) (r : PeerNo) → SaysTheSame e (lost_rule p L e.at r event) → AllByRecursion GraftsNone e.marks → AllByRecursion (λ q. up L q ≡ true) (mesh L t) → AllByRecursion (λ q. (if same_peer r q then false else up L q) ≡ true) (after_marks (mesh_after t) e.marks (mesh L t))
+  lost_up : (event : Event) (e : Entry) (r : PeerNo) → SaysTheSame e.effects (lost_rule p L e.at r) → AllByRecursion GraftsNone e.effects.marks → AllByRecursion (λ q. up L q ≡ true) (mesh L t) → AllByRecursion (λ q. (if same_peer r q then false else up L q) ≡ true) (after_marks (mesh_after t) e.effects.marks (mesh L t))
   lost_up event e r same none before =
-      each_weaker (Stays t (mesh L t) e.marks) (λ q. (if same_peer r q then false else up L q) ≡ true)
-      (λ q stays. by q stays (same_peer r q) refl) (after_marks (mesh_after t) e.marks (mesh L t)) (members_stay t e.marks (mesh L t) none)
+      each_weaker (Stays t (mesh L t) e.effects.marks) (λ q. (if same_peer r q then false else up L q) ≡ true)
+      (λ q stays. by q stays (same_peer r q) refl) (after_marks (mesh_after t) e.effects.marks (mesh L t)) (members_stay t e.effects.marks (mesh L t) none)
     where
-      by : (q : PeerNo) → Stays t (mesh L t) e.marks q → (is : Bool) → same_peer r q ≡ is → (if is then false else up L q) ≡ true
+      by : (q : PeerNo) → Stays t (mesh L t) e.effects.marks q → (is : Bool) → same_peer r q ≡ is → (if is then false else up L q) ≡ true
       by q stays true is =
           let itself : r ≡ q = one_peer r q is in
           let member : is_among (mesh L t) r ≡ true = subst (λ (s : PeerNo). is_among (mesh L t) s ≡ true) (sym itself) stays.0 in
-          absurd (never (list_any (prunes t r) e.marks) (lost_pruned event e r same member) (subst (λ (s : PeerNo). list_any (prunes t s) e.marks ≡ false) (sym itself) stays.1))
+          absurd (never (list_any (prunes t r) e.effects.marks) (lost_pruned event e r same member) (subst (λ (s : PeerNo). list_any (prunes t s) e.effects.marks ≡ false) (sym itself) stays.1))
       by q stays false is = of_member (λ s. up L s ≡ true) (mesh L t) q before stays.0
 
-  lost_step : (event : Event) (e : Entry) (r : PeerNo) → ((q : PeerNo) → ¬ (GraftedBy p L event q)) → Follows free (rule_of p L e.at event) tt e tt → SaysTheSame e (lost_rule p L e.at r event) → AllByRecursion (λ q. up L q ≡ true) (mesh L t) → AllByRecursion (λ q. (if same_peer r q then false else up L q) ≡ true) (after_marks (mesh_after t) e.marks (mesh L t))
+  lost_step : (event : Event) (e : Entry) (r : PeerNo) → ((q : PeerNo) → ¬ (GraftedBy p L event q)) → Follows free (rule_of p L e.at event) tt e.effects tt → SaysTheSame e.effects (lost_rule p L e.at r) → AllByRecursion (λ q. up L q ≡ true) (mesh L t) → AllByRecursion (λ q. (if same_peer r q then false else up L q) ≡ true) (after_marks (mesh_after t) e.effects.marks (mesh L t))
   lost_step event e r none effects same before =
-      lost_up event e r same (each_weaker (MayMark p L e.at.0 event) GraftsNone (grafts_none_lost p L e.at.0 event none) e.marks (entry_marks p L event e effects)) before
+      lost_up event e r same (each_weaker (MayMark p L e.at.0 event) GraftsNone (grafts_none_lost p L e.at.0 event none) e.effects.marks (entry_marks p L event e effects)) before
 
-  up_step : (event : Event) (e : Entry) → IsNext p L e.at.0 (owed p L).events event → Follows free (rule_of p L e.at event) tt e tt → is_shut_after event (is_shut L) ≡ false → (is_shut L ≡ false → AllByRecursion (λ q. up L q ≡ true) (mesh L t)) → AllByRecursion (λ q. up_after q event (up L q) ≡ true) (after_marks (mesh_after t) e.marks (mesh L t))
-  up_step (Gone r) e next effects running before = lost_step (Gone r) e r (λ q h. h) effects effects.0 (before running)
-  up_step (Fault r) e next effects running before = lost_step (Fault r) e r (λ q h. h) effects effects.0 (before running)
-  up_step (HangUp r) e next effects running before = lost_step (HangUp r) e r (λ q h. h) effects effects.0 (before running)
+  up_step : (event : Event) (e : Entry) → IsNext p L e.at.0 (owed p L).events event → Follows free (rule_of p L e.at event) tt e.effects tt → is_shut_after event (is_shut L) ≡ false → (is_shut L ≡ false → AllByRecursion (λ q. up L q ≡ true) (mesh L t)) → AllByRecursion (λ q. up_after q event (up L q) ≡ true) (after_marks (mesh_after t) e.effects.marks (mesh L t))
+  up_step (Lost r loss) e next effects running before = lost_step (Lost r loss) e r (λ q h. h) effects effects.0 (before running)
+  up_step (Own (HangUp r)) e next effects running before = lost_step (Own (HangUp r)) e r (λ q h. h) effects effects.0 (before running)
   up_step Shut e next effects running before = absurd cc
   up_step other e next effects running before =
-      members_are (λ q. up L q ≡ true) t e.marks (mesh L t)
+      members_are (λ q. up L q ≡ true) t e.effects.marks (mesh L t)
       (each_weaker (MayMark p L e.at.0 other) (ComesAs t (λ q. up L q ≡ true))
-      (comes_up p L e.at.0 other t (λ q. next_up p L e.at.0 (owed p L).events other q (owed_up p L legal).0 next)) e.marks (entry_marks p L other e effects))
+      (comes_up p L e.at.0 other t (λ q. next_up p L e.at.0 (owed p L).events other q (owed_up p L legal).0 next)) e.effects.marks (entry_marks p L other e effects))
       (before running)
 
 mesh_is_up : (p : Peer) (L : Entries) (t : Topic) → Legal p L → is_shut L ≡ false → AllByRecursion (λ q. up L q ≡ true) (mesh L t)
@@ -153,8 +151,8 @@ comes_near p L at event t near other may = tt
 mesh_is_near : (p : Peer) (L : Entries) (t : Topic) → Legal p L → AllByRecursion (λ (e : Entry). IsFromNeighbour p e.event) L → AllByRecursion (λ q. is_neighbour p q ≡ true) (mesh L t)
 mesh_is_near p [] t legal near = tt
 mesh_is_near p (e ∷ L) t legal near =
-    members_are (λ q. is_neighbour p q ≡ true) t e.marks (mesh L t)
-    (each_weaker (MayMark p L e.at.0 e.event) (ComesAs t (λ q. is_neighbour p q ≡ true)) (comes_near p L e.at.0 e.event t near.0) e.marks (entry_marks p L e.event e (legal_newest p e L legal).effects))
+    members_are (λ q. is_neighbour p q ≡ true) t e.effects.marks (mesh L t)
+    (each_weaker (MayMark p L e.at.0 e.event) (ComesAs t (λ q. is_neighbour p q ≡ true)) (comes_near p L e.at.0 e.event t near.0) e.effects.marks (entry_marks p L e.event e (legal_newest p e L legal).effects))
     (mesh_is_near p L t legal.1 near.1)
 
 pub member_near : (p : Peer) (L : Entries) (q : PeerNo) (t : Topic) → Legal p L → AllByRecursion (λ (e : Entry). IsFromNeighbour p e.event) L → is_among (mesh L t) q ≡ true → is_neighbour p q ≡ true
@@ -167,10 +165,10 @@ among_holds P [] x all (i, (below, is)) = absurd (omega (arith, below))
 among_holds P (y ∷ xs) x all (zero, (below, is)) = subst P (sym is) all.0
 among_holds P (y ∷ xs) x all (suc i, (below, is)) = among_holds P xs x all.1 (i, (omega (arith, below), is))
 
-pub was_rested : (p : Peer) (later L : Entries) (e : Entry) (q : PeerNo) (t : Topic) → Legal p (later ++ e ∷ L) → IsAmong e.marks (Grafted q t) → nat_le (backoff L q t) e.at.0 ≡ true
+pub was_rested : (p : Peer) (later L : Entries) (e : Entry) (q : PeerNo) (t : Topic) → Legal p (later ++ e ∷ L) → IsAmong e.effects.marks (Grafted q t) → nat_le (backoff L q t) e.at.0 ≡ true
 was_rested p later L e q t legal among =
     let here : Legal p (e ∷ L) = legal_before p later (e ∷ L) legal in
-    (among_holds (MayMark p L e.at.0 e.event) e.marks (Grafted q t) (entry_marks p L e.event e (legal_newest p e L here).effects) among).rested
+    (among_holds (MayMark p L e.at.0 e.event) e.effects.marks (Grafted q t) (entry_marks p L e.event e (legal_newest p e L here).effects) among).rested
 
 -- ---- members stand in order
 
@@ -219,7 +217,7 @@ marks_rise t (mark ∷ marks) qs h = marks_rise t marks (mesh_after t mark qs) (
 
 mesh_rises : (L : Entries) (t : Topic) → Rises (mesh L t)
 mesh_rises [] t = tt
-mesh_rises (e ∷ L) t = marks_rise t e.marks (mesh L t) (mesh_rises L t)
+mesh_rises (e ∷ L) t = marks_rise t e.effects.marks (mesh L t) (mesh_rises L t)
 
 ascends : (qs : List PeerNo) → Rises qs → IsAscending qs
 ascends [] h = λ i j d less below. absurd (omega (arith, below))

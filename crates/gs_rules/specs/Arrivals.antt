@@ -1,5 +1,5 @@
 -- How a member came into a mesh.
-use Rattle.std.specs.Prelude.{◌≡◌, true, nat_le, List, ◌∷◌, ◌++◌}
+use Rattle.std.specs.Prelude.{◌≡◌, true, nat_le, ◌∷◌, ◌++◌}
 use Rattle.std.specs.List.{AllByRecursion, IsAmong}
 use Rattle.gs_base.specs.declared.names.PeerNo.{PeerNo}
 use Rattle.gs_base.specs.declared.names.Topic.{Topic}
@@ -15,6 +15,6 @@ pub record CameIn (q : PeerNo) (t : Topic) (L : Entries) : Type 0 where
   pub entry : Entry
   pub earlier : Entries
   pub are : L ≡ later ++ entry ∷ earlier
-  pub came : IsAmong entry.marks (Grafted q t)
+  pub came : IsAmong entry.effects.marks (Grafted q t)
   pub rested : nat_le (backoff earlier q t) entry.at.0 ≡ true
-  pub stayed : AllByRecursion (λ (e : Entry). ¬ (IsAmong e.marks (Pruned q t))) later
+  pub stayed : AllByRecursion (λ (e : Entry). ¬ (IsAmong e.effects.marks (Pruned q t))) later

@@ -1,6 +1,6 @@
 -- What a heartbeat does to meshes and fanouts (gossipsub v1.0, "Mesh maintenance" and "Fanout maintenance"; v1.1,
--- "Heartbeat Maintenance", "Outbound Mesh Quotas" and "Opportunistic Grafting"). Each of these gives a whole entry, or what
--- is chosen before it.
+-- "Heartbeat Maintenance", "Outbound Mesh Quotas" and "Opportunistic Grafting"). Each of these gives the effects, or what
+-- is chosen before them.
 use Rattle.std.specs.Prelude.{ℕ, ◌-◌, if◌then◌else◌, List, ◌++◌, length, map}
 use Rattle.gs_base.specs.declared.names.PeerNo.{PeerNo}
 use Rattle.gs_base.specs.declared.names.Topic.{Topic}
@@ -9,15 +9,16 @@ use Rattle.gs_mesh.specs.declared.members.Member.{Member}
 use Rattle.gs_mesh.specs.declared.heartbeat.MeshChange.{MeshChange}
 use Rattle.gs_mesh.specs.MeshSteps.{stepped}
 use Rattle.gs_base.specs.Rpcs.{grafting, pruning}
-use Rattle.gs_rules.specs.declared.trace.Event.{Event}
-use Rattle.gs_rules.specs.declared.trace.Event.TheVariants.{FanBeat, FanEnd, MeshBeat}
-use Rattle.gs_rules.specs.declared.trace.Entry.{Entry}
+use Rattle.gs_rules.specs.declared.event.Event.{Event}
+use Rattle.gs_rules.specs.declared.event.Event.TheVariants.{Step}
+use Rattle.gs_rules.specs.declared.event.BeatStep.TheVariants.{FanBeat, FanEnd}
+use Rattle.gs_rules.specs.declared.trace.Effects.{Effects}
 use Rattle.gs_rules.specs.Peers.{Peer}
 use Rattle.gs_rules.specs.Tables.{Entries, heartbeats}
 use Rattle.gs_rules.specs.Meshes.{fanout, is_stale, last_published, mesh}
 use Rattle.gs_rules.specs.Membership.{barring, candidates, each_on, entering, fanning, is_outbound, leaving, unfanning}
 use Rattle.gs_rules.specs.Scoring.{score}
-use Rattle.gs_rules.specs.Rule.{AnyOf, CutOf, Gives, Rule, bare, to_each}
+use Rattle.gs_rules.specs.Rule.{AnyOf, CutOf, Gives, Rule, no_effects, to_each}
 use Rattle.gs_rules.specs.MeshRules.{receivers, those_among, those_outside}
 
 -- ---- meshes
@@ -31,8 +32,8 @@ scored_members p L at qs = map (scored_member p L at) qs
 
 -- Those who go are sent a PRUNE, are charged with what is missing, and are not to come back for a while. Those who come
 -- in are sent a GRAFT.
-abbrev pub mending : Peer → Entries → Millis → Topic → MeshChange → Entry
-mending p L at t change = record (bare at (MeshBeat t)) {
+abbrev pub mending : Peer → Entries → Millis → Topic → MeshChange → Effects
+mending p L at t change = record no_effects {
   sends = to_each (pruning t p.params.timing.prune_backoff_s) change.pruned ++ to_each (grafting t) change.grafted;
   marks = leaving p L at.0 (each_on t change.pruned)
       ++ (barring at.0 p.params.timing.prune_backoff_s (each_on t change.pruned)
@@ -51,8 +52,8 @@ mesh_beat_rule p L at t =
 -- ---- fanouts
 
 -- members that may not stay leave, and these come in
-abbrev pub refanning : Peer → Entries → Millis → Topic → List PeerNo → Entry
-refanning p L at t chosen = record (bare at (FanBeat t)) {
+abbrev pub refanning : Peer → Entries → Millis → Topic → List PeerNo → Effects
+refanning p L at t chosen = record no_effects {
   marks = unfanning t (those_outside (receivers p L at.0 t) (fanout L t)) ++ fanning t chosen;
 }
 
@@ -65,9 +66,9 @@ fan_beat_rule p L at t =
     (λ chosen. Gives (refanning p L at t chosen))
 
 -- all members of a fanout leave it, and it ends
-abbrev pub fan_end : Entries → Millis → Topic → Entry
-fan_end L at t = record (bare at (FanEnd t)) { marks = unfanning t (fanout L t) }
+abbrev pub fan_end : Entries → Topic → Effects
+fan_end L t = record no_effects { marks = unfanning t (fanout L t) }
 
 -- what a heartbeat does to a fanout at a moment: it ends where its time has come, and else is mended
 abbrev pub fan_event : Peer → Entries → ℕ → Topic → Event
-fan_event p L at t = if is_stale p.params.timing.fanout_ttl_ms at (last_published L t) then FanEnd t else FanBeat t
+fan_event p L at t = if is_stale p.params.timing.fanout_ttl_ms at (last_published L t) then Step (FanEnd t) else Step (FanBeat t)

@@ -8,8 +8,8 @@ use Rattle.gs_base.specs.declared.mark.Mark.{Mark}
 use Rattle.gs_base.specs.declared.mark.Mark.TheVariants.{Misbehaviour, Seen}
 use Rattle.gs_base.specs.Names.{same_id, same_peer, same_topic}
 use Rattle.gs_base.specs.Rpcs.{most_identifiers}
-use Rattle.gs_rules.specs.declared.trace.Event.{Event}
-use Rattle.gs_rules.specs.declared.trace.Event.TheVariants.{BeatBegin}
+use Rattle.gs_rules.specs.declared.event.Event.{Event}
+use Rattle.gs_rules.specs.declared.event.Event.TheVariants.{BeatBegin}
 use Rattle.gs_rules.specs.declared.trace.Promise.{Promise}
 use Rattle.gs_rules.specs.declared.trace.Entry.{Entry}
 use Rattle.gs_rules.specs.Peers.{Peer, links_of, windows}
@@ -40,7 +40,7 @@ ends_promise promise other at = false
 
 -- An entry neither keeps a promise nor ends it.
 pub record IsOpen (promise : Promise) (e : Entry) : Type 0 where
-  pub unkept : list_any (keeps_promise promise) e.marks ≡ false
+  pub unkept : list_any (keeps_promise promise) e.effects.marks ≡ false
   pub unended : ends_promise promise e.event e.at.0 ≡ false
 
 -- A promise was made by an entry of a trace, and each entry since left it open.
@@ -49,7 +49,7 @@ pub record WasLeftOpen (L : Entries) (promise : Promise) : Type 0 where
   pub maker : Entry
   pub earlier : Entries
   pub whole : L ≡ later ++ maker ∷ earlier
-  pub makes : maker.promise ≡ Some promise
+  pub makes : maker.effects.promise ≡ Some promise
   pub leaves : AllByRecursion (IsOpen promise) later
 
 -- ---- what is gossiped (gossipsub v1.0, "Gossip Emission")

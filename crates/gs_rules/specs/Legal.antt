@@ -9,11 +9,13 @@ use Rattle.gs_base.specs.declared.rpc.Rpc.{Rpc}
 use Rattle.gs_base.specs.Names.{longest_topic, most_topics, same_topic, message_id}
 use Rattle.gs_base.specs.Rpcs.{publication}
 use Rattle.gs_wire.specs.Codec.{codec}
-use Rattle.gs_rules.specs.declared.trace.Event.{Event}
-use Rattle.gs_rules.specs.declared.trace.Event.TheVariants.{Heard, Late, Subscribe, Unsubscribe, Publish, BeatBegin, Decay, Raw, RoundEnd, Shut}
+use Rattle.gs_rules.specs.declared.event.Event.{Event}
+use Rattle.gs_rules.specs.declared.event.Event.TheVariants.{Heard, Late, Part, BeatBegin, Step, Own, Lost, Decay, RoundEnd, Shut}
+use Rattle.gs_plan.specs.declared.plan.Act.TheVariants.{Subscribe, Unsubscribe, Publish, Raw, HangUp}
+use Rattle.gs_plan.specs.declared.plan.Act.{Act}
 use Rattle.gs_rules.specs.declared.trace.Entry.{Entry}
 use Rattle.gs_rules.specs.Peers.{Peer, seen_ttl}
-use Rattle.gs_rules.specs.Tables.{Entries, last_moment, is_shut, lost, up, joined, known, seen}
+use Rattle.gs_rules.specs.Tables.{Entries, last_moment, is_shut, up, joined, known, seen}
 use Rattle.gs_rules.specs.Owed.{owed, nothing}
 use Rattle.gs_rules.specs.Rules.{rule_of}
 use Rattle.gs_rules.specs.Modes.{Mode, Follows, free}
@@ -48,24 +50,27 @@ pub record MayPublish (p : Peer) (L : Entries) (at : ℕ) (t : Topic) (payload :
   pub fits : codec.fits (publication t payload) ≡ true
   pub unseen : seen (seen_ttl p) L (message_id payload) at ≡ None
 
--- a neighbour is lost while it is up; an event that loses none, and is not named below, comes only where it is owed
-abbrev pub MayLose : Entries → Option PeerNo → Type 0
-MayLose L None = ⊥
-MayLose L (Some q) = up L q ≡ true
+-- the act may come at this moment; a neighbour's link is closed, or has bytes put on it, while that is up
+abbrev pub MayAct : Peer → Entries → ℕ → Act → Type 0
+MayAct p L at (Subscribe t) = MaySubscribe L t
+MayAct p L at (Unsubscribe t) = MayUnsubscribe L t
+MayAct p L at (Publish t payload) = MayPublish p L at t payload
+MayAct p L at (Raw q bytes) = up L q ≡ true
+MayAct p L at (HangUp q) = up L q ≡ true
 
--- the event may come at this moment, where nothing is owed
+-- The event may come at this moment, where nothing is owed. A part of an RPC and a step of a heartbeat come only where
+-- they are owed, and a neighbour is lost while it is up.
 abbrev pub MayOpen : Peer → Entries → ℕ → Event → Type 0
 MayOpen p L at (Heard q rpc) = MayHear L q rpc
 MayOpen p L at (Late q rpc) = up L q ≡ false
-MayOpen p L at (Subscribe t) = MaySubscribe L t
-MayOpen p L at (Unsubscribe t) = MayUnsubscribe L t
-MayOpen p L at (Publish t payload) = MayPublish p L at t payload
+MayOpen p L at (Part q part) = ⊥
+MayOpen p L at (Step step) = ⊥
+MayOpen p L at (Own act) = MayAct p L at act
+MayOpen p L at (Lost q loss) = up L q ≡ true
 MayOpen p L at BeatBegin = is_shut L ≡ false
 MayOpen p L at Decay = is_shut L ≡ false
 MayOpen p L at (RoundEnd r) = is_shut L ≡ false
 MayOpen p L at Shut = is_shut L ≡ false
-MayOpen p L at (Raw q bytes) = up L q ≡ true
-MayOpen p L at other = MayLose L (lost other)
 
 -- ---- legal traces
 
@@ -78,7 +83,7 @@ IsNext p L at (first ∷ rest) event = event ≡ first
 pub record IsAllowed (m : Mode) (p : Peer) (L : Entries) (s : m.State) (e : Entry) (t : m.State) : Type 0 where
   pub time : last_moment L ≤ e.at.0
   pub next : IsNext p L e.at.0 (owed p L).events e.event
-  pub effects : Follows m (rule_of p L e.at e.event) s e t
+  pub effects : Follows m (rule_of p L e.at e.event) s e.effects t
 
 -- These entries may follow that trace, each after those before it, where the choices lead from s to t.
 abbrev pub LegalOn : (m : Mode) → Peer → m.State → Entries → Entries → m.State → Type 0
@@ -129,7 +134,7 @@ Comes p at (Some event) K L = Opens p at event K L
 
 -- a message with this identifier is delivered
 abbrev pub Delivers : Entry → MsgId → Type 0
-Delivers e id = (x : Topic × List ℕ) × IsAmong e.delivered x × (message_id x.1 ≡ id)
+Delivers e id = (x : Topic × List ℕ) × IsAmong e.effects.delivered x × (message_id x.1 ≡ id)
 
 -- of two entries that deliver one identifier, on whatever topics, the later comes at least this long after the earlier
 abbrev pub DeliversApart : ℕ → Entries → Type 0

@@ -1,6 +1,6 @@
 -- The meshes and fanouts of topics, and who is not to be grafted yet, as a trace has them (gossipsub v1.0, "Router
 -- State"; v1.1, "Prune Backoff").
-use Rattle.std.specs.Prelude.{ℕ, ◌+◌, nat_le, max, Bool, true, false, not, ◌&&◌, ◌||◌, if◌then◌else◌, List, [], ◌∷◌, ◌++◌, filter, Option, Some, None, is_some}
+use Rattle.std.specs.Prelude.{ℕ, ◌+◌, nat_le, max, Bool, false, not, ◌&&◌, ◌||◌, if◌then◌else◌, List, [], ◌∷◌, ◌++◌, filter, Option, Some, None, is_some}
 use Rattle.std.specs.List.{list_any}
 use Rattle.gs_base.specs.declared.names.PeerNo.{PeerNo}
 use Rattle.gs_base.specs.declared.names.Topic.{Topic}
@@ -9,9 +9,12 @@ use Rattle.gs_base.specs.declared.mark.Mark.{Mark}
 use Rattle.gs_base.specs.declared.mark.Mark.TheVariants.{Seen, First, Near, Grafted, Pruned, Fanned, Unfanned, Backoff, Published}
 use Rattle.gs_base.specs.Names.{same_id, same_peer, same_topic}
 use Rattle.gs_mesh.specs.Peers.{put_in, without}
-use Rattle.gs_rules.specs.declared.trace.Event.{Event}
-use Rattle.gs_rules.specs.declared.trace.Event.TheVariants.{FanEnd, Subscribe}
-use Rattle.gs_rules.specs.declared.trace.Entry.{Entry}
+use Rattle.gs_rules.specs.declared.event.Event.{Event}
+use Rattle.gs_rules.specs.declared.event.Event.TheVariants.{Step, Own}
+use Rattle.gs_rules.specs.declared.event.BeatStep.TheVariants.{FanEnd, MeshBeat, FanBeat, GossipBeat, BeatEnd}
+use Rattle.gs_rules.specs.declared.event.BeatStep.{BeatStep}
+use Rattle.gs_plan.specs.declared.plan.Act.{Act}
+use Rattle.gs_plan.specs.declared.plan.Act.TheVariants.{Subscribe, Unsubscribe, Publish, Raw, HangUp}
 use Rattle.gs_rules.specs.Tables.{Entries, after_marks, ascending, joined, known}
 
 -- ---- who is in
@@ -25,13 +28,27 @@ mesh_after t other before = before
 -- who is in the mesh of a topic, ascending: whoever came into it last, and has not left it since
 abbrev pub mesh : Entries → Topic → List PeerNo
 mesh [] t = []
-mesh (e ∷ L) t = after_marks (mesh_after t) e.marks (mesh L t)
+mesh (e ∷ L) t = after_marks (mesh_after t) e.effects.marks (mesh L t)
+
+abbrev pub dropped_by_act : {A : Type 0} → Topic → A → Act → A → A
+dropped_by_act t none (Subscribe u) before = if same_topic u t then none else before
+dropped_by_act t none (Unsubscribe u) before = before
+dropped_by_act t none (Publish u payload) before = before
+dropped_by_act t none (Raw q bytes) before = before
+dropped_by_act t none (HangUp q) before = before
+
+abbrev pub dropped_by_step : {A : Type 0} → Topic → A → BeatStep → A → A
+dropped_by_step t none (MeshBeat u) before = before
+dropped_by_step t none (FanBeat u) before = before
+dropped_by_step t none (FanEnd u) before = if same_topic u t then none else before
+dropped_by_step t none (GossipBeat u) before = before
+dropped_by_step t none BeatEnd before = before
 
 -- to subscribe to a topic ends its fanout, and so does a heartbeat once its time has come. That is an event of its
 -- own (`FanEnd`, beside `FanBeat`), so that one rule judges its entry, and a table needs no `fanout_ttl_ms`.
 abbrev pub dropped_after : {A : Type 0} → Topic → A → Event → A → A
-dropped_after t none (Subscribe u) before = if same_topic u t then none else before
-dropped_after t none (FanEnd u) before = if same_topic u t then none else before
+dropped_after t none (Own act) before = dropped_by_act t none act before
+dropped_after t none (Step step) before = dropped_by_step t none step before
 dropped_after t none other before = before
 
 -- what a mark leaves of who is in the fanout of a topic
@@ -43,7 +60,7 @@ fanout_after t other before = before
 -- who is in the fanout of a topic, ascending
 abbrev pub fanout : Entries → Topic → List PeerNo
 fanout [] t = []
-fanout (e ∷ L) t = after_marks (fanout_after t) e.marks (dropped_after t [] e.event (fanout L t))
+fanout (e ∷ L) t = after_marks (fanout_after t) e.effects.marks (dropped_after t [] e.event (fanout L t))
 
 -- when the peer last published on a topic without being subscribed, for as long as that keeps a fanout
 abbrev pub published_after : Topic → ℕ → Mark → Option ℕ → Option ℕ
@@ -52,7 +69,7 @@ published_after t at other before = before
 
 abbrev pub last_published : Entries → Topic → Option ℕ
 last_published [] t = None
-last_published (e ∷ L) t = after_marks (published_after t e.at.0) e.marks (dropped_after t None e.event (last_published L t))
+last_published (e ∷ L) t = after_marks (published_after t e.at.0) e.effects.marks (dropped_after t None e.event (last_published L t))
 
 -- the topics on which the peer ever published without being subscribed, each once, the first one first
 abbrev pub fanned_topics_after : Mark → List Topic → List Topic
@@ -61,7 +78,7 @@ fanned_topics_after other before = before
 
 abbrev pub ever_fanned : Entries → List Topic
 ever_fanned [] = []
-ever_fanned (e ∷ L) = after_marks fanned_topics_after e.marks (ever_fanned L)
+ever_fanned (e ∷ L) = after_marks fanned_topics_after e.effects.marks (ever_fanned L)
 
 -- a topic has a fanout while it is known when the peer last published on it, and a mesh while the peer is subscribed to it
 abbrev pub has_fanout : Entries → Topic → Bool
@@ -93,7 +110,7 @@ backoff_after q t other before = before
 -- before which moment a neighbour is not to be in the mesh of a topic: 0 where it always may
 abbrev pub backoff : Entries → PeerNo → Topic → ℕ
 backoff [] q t = 0
-backoff (e ∷ L) q t = after_marks (backoff_after q t) e.marks (backoff L q t)
+backoff (e ∷ L) q t = after_marks (backoff_after q t) e.effects.marks (backoff L q t)
 
 -- ---- who passed a message on
 
@@ -113,4 +130,4 @@ sees id other = false
 -- seen says with it who was first, and none notes a neighbour for an earlier sighting beside that.
 abbrev pub noted : Entries → MsgId → PeerNo → Bool
 noted [] id q = false
-noted (e ∷ L) id q = list_any (notes id q) e.marks || (not (list_any (sees id) e.marks) && noted L id q)
+noted (e ∷ L) id q = list_any (notes id q) e.effects.marks || (not (list_any (sees id) e.effects.marks) && noted L id q)

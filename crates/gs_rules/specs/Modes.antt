@@ -7,20 +7,20 @@ use Rattle.gs_params.specs.declared.params.Degrees.{Degrees}
 use Rattle.gs_mesh.specs.declared.members.Member.{Member}
 use Rattle.gs_mesh.specs.Cuts.{IsCut, IsExactCut}
 use Rattle.gs_params.specs.Picks.{IsAscending, IsSample, picked, picked_words, picked_one, picked_one_words}
-use Rattle.gs_rules.specs.declared.trace.Entry.{Entry}
+use Rattle.gs_rules.specs.declared.trace.Effects.{Effects}
 use Rattle.gs_rules.specs.Rules.{Rule, Gives, AnyOf, CutOf, OneOf}
 
--- How choices are made: what they are made by, which they are, what is left after them, and how near an entry must
+-- How choices are made: what they are made by, which they are, what is left after them, and how near effects must
 -- come to what a rule gives.
 pub record Mode : Type 1 where
   pub State : Type 0
   pub Picks : ℕ → List PeerNo → State → List PeerNo → State → Type 0
   pub Cuts : Degrees → List Member → State → List PeerNo → State → Type 0
   pub PicksOne : ℕ → State → ℕ → State → Type 0
-  pub Meets : Entry → Entry → Type 0
+  pub Meets : Effects → Effects → Type 0
 
--- from s to t, the entry is one that the rule gives
-abbrev pub Follows : (m : Mode) → Rule → m.State → Entry → m.State → Type 0
+-- from s to t, the effects are some that the rule gives
+abbrev pub Follows : (m : Mode) → Rule → m.State → Effects → m.State → Type 0
 Follows m (Gives x) s e t = m.Meets e x × (t ≡ s)
 Follows m (AnyOf k candidates rule) s e t =
     (chosen : List PeerNo) × (u : m.State) × m.Picks k candidates s chosen u × Follows m (rule chosen) u e t
@@ -37,9 +37,7 @@ sent_to q [] = []
 sent_to q (x ∷ xs) = if same_peer x.0 q then x.1 ∷ sent_to q xs else sent_to q xs
 
 -- They say the same: each neighbour is sent the same list, and marks are in any order.
-pub record SaysTheSame (e x : Entry) : Type 0 where
-  pub at : e.at ≡ x.at
-  pub event : e.event ≡ x.event
+pub record SaysTheSame (e x : Effects) : Type 0 where
   pub sends : (q : PeerNo) → sent_to q e.sends ≡ sent_to q x.sends
   pub delivered : e.delivered ≡ x.delivered
   pub promise : e.promise ≡ x.promise
@@ -80,7 +78,7 @@ module _ {S : Type 0} (word : S → ℕ) (after : S → S) where
     pub place_is : place ≡ picked_one word after n s
     pub words : t ≡ picked_one_words word after n s
 
-  -- each choice is the one by the next words, and entries are as the rules give them
+  -- each choice is the one by the next words, and effects are as the rules give them
   abbrev pub exact : Mode
   exact = record {
     State = S;

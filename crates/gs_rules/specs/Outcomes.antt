@@ -1,4 +1,4 @@
--- What becomes of a message that a neighbour passes on, and the entry of that.
+-- What becomes of a message that a neighbour passes on, and the effects of that.
 use Rattle.std.specs.Prelude.{ℕ, ◌-◌, Bool, false, not, ◌&&◌, nat_eq, nat_le, if◌then◌else◌, List, [], ◌∷◌, ◌++◌, Option, Some, None}
 use Rattle.std.specs.List.{list_any, starts_with}
 use Rattle.std.specs.Map.{lookup}
@@ -19,12 +19,11 @@ use Rattle.gs_mesh.specs.Peers.{without as all_but}
 use Rattle.gs_score.specs.Accounts.{rules_of}
 use Rattle.gs_rules.specs.declared.outcome.Outcome.{Outcome}
 use Rattle.gs_rules.specs.declared.outcome.Outcome.TheVariants.{Dropped, Invalid, Rejected, Ignored, Near, Accepted}
-use Rattle.gs_rules.specs.declared.trace.Event.TheVariants.{Msg}
-use Rattle.gs_rules.specs.declared.trace.Entry.{Entry}
+use Rattle.gs_rules.specs.declared.trace.Effects.{Effects}
 use Rattle.gs_rules.specs.Peers.{Peer, seen_ttl}
 use Rattle.gs_rules.specs.Tables.{Entries, Sighting, joined, last_seen, seen}
 use Rattle.gs_rules.specs.Meshes.{mesh, noted}
-use Rattle.gs_rules.specs.Rule.{bare, explicit_listeners, to_each, together_with}
+use Rattle.gs_rules.specs.Rule.{no_effects, explicit_listeners, to_each, together_with}
 
 abbrev pub begins_with_one : List (List ℕ) → List ℕ → Bool
 begins_with_one prefixes payload = list_any (λ prefix. starts_with nat_eq payload prefix) prefixes
@@ -84,24 +83,24 @@ outcome p L at q m =
     else if is_signed m then Invalid
     else known_or_new p L at q m (message_id (payload_of m)) (seen (seen_ttl p) L (message_id (payload_of m)) at)
 
--- ---- the entry of that
+-- ---- the effects of that
 
 -- the first delivery of a mesh member counts for it, too
 abbrev pub near_of : Bool → PeerNo → Topic → MsgId → List Mark
 near_of is_member q t id = if is_member then marks.Near q t id ∷ [] else []
 
--- The entry of a message with this outcome. The first list is the mesh of its topic, and the second the explicit
+-- The effects of a message with this outcome. The first list is the mesh of its topic, and the second the explicit
 -- neighbours on it. What is accepted goes to both, but for whom it came from (gossipsub v1.0, "Message Processing";
 -- v1.1, "Explicit Peering Agreements").
-abbrev pub message_entry : List PeerNo → List PeerNo → Millis → PeerNo → Message → Outcome → Entry
-message_entry members explicit at q m Dropped = bare at (Msg q m)
-message_entry members explicit at q m Invalid = record (bare at (Msg q m)) { marks = marks.Invalid q (topic_of m) ∷ [] }
-message_entry members explicit at q m (Rejected id) = record (bare at (Msg q m)) {
+abbrev pub message_effects : List PeerNo → List PeerNo → PeerNo → Message → Outcome → Effects
+message_effects members explicit q m Dropped = no_effects
+message_effects members explicit q m Invalid = record no_effects { marks = marks.Invalid q (topic_of m) ∷ [] }
+message_effects members explicit q m (Rejected id) = record no_effects {
   marks = marks.Seen id Reject ∷ marks.Invalid q (topic_of m) ∷ [];
 }
-message_entry members explicit at q m (Ignored id) = record (bare at (Msg q m)) { marks = marks.Seen id Ignore ∷ [] }
-message_entry members explicit at q m (Near id) = record (bare at (Msg q m)) { marks = marks.Near q (topic_of m) id ∷ [] }
-message_entry members explicit at q m (Accepted id) = record (bare at (Msg q m)) {
+message_effects members explicit q m (Ignored id) = record no_effects { marks = marks.Seen id Ignore ∷ [] }
+message_effects members explicit q m (Near id) = record no_effects { marks = marks.Near q (topic_of m) id ∷ [] }
+message_effects members explicit q m (Accepted id) = record no_effects {
   sends = to_each (passed_on m) (all_but q (together_with explicit members));
   delivered = (topic_of m, payload_of m) ∷ [];
   marks = marks.Seen id Accept
@@ -109,6 +108,6 @@ message_entry members explicit at q m (Accepted id) = record (bare at (Msg q m))
       ∷ (near_of (is_among members q) q (topic_of m) id ++ marks.Cached id (topic_of m) ∷ []);
 }
 
-abbrev pub message_rule : Peer → Entries → Millis → PeerNo → Message → Entry
+abbrev pub message_rule : Peer → Entries → Millis → PeerNo → Message → Effects
 message_rule p L at q m =
-    message_entry (mesh L (topic_of m)) (explicit_listeners p L (topic_of m)) at q m (outcome p L at.0 q m)
+    message_effects (mesh L (topic_of m)) (explicit_listeners p L (topic_of m)) q m (outcome p L at.0 q m)

@@ -6,8 +6,10 @@ use Rattle.gs_base.specs.declared.names.Topic.{Topic}
 use Rattle.gs_base.specs.declared.names.MsgId.{MsgId}
 use Rattle.gs_base.specs.declared.rpc.Rpc.{Rpc}
 use Rattle.gs_base.specs.Rpcs.{grafts_in, offers_in, prunes_in, requests_in}
-use Rattle.gs_rules.specs.declared.trace.Event.{Event}
-use Rattle.gs_rules.specs.declared.trace.Event.TheVariants.{Heard, Sub, Msg, Have, Want, GraftIn, PruneIn, BeatBegin, MeshBeat, GossipBeat, BeatEnd}
+use Rattle.gs_rules.specs.declared.event.Event.{Event}
+use Rattle.gs_rules.specs.declared.event.Event.TheVariants.{Heard, BeatBegin, Part, Step}
+use Rattle.gs_rules.specs.declared.event.RpcPart.TheVariants.{Sub, Msg, Have, Want, GraftIn, PruneIn}
+use Rattle.gs_rules.specs.declared.event.BeatStep.TheVariants.{MeshBeat, GossipBeat, BeatEnd}
 use Rattle.gs_rules.specs.declared.trace.Entry.{Entry}
 use Rattle.gs_rules.specs.Peers.{Peer}
 use Rattle.gs_rules.specs.Tables.{Entries, own_topics}
@@ -32,12 +34,12 @@ pub data Group : Type 0 where
 -- the parts of an RPC: its subscriptions, messages, offers, requests, grafts and prunes, each as they stand in it
 abbrev pub parts : PeerNo → Rpc → List Event
 parts q rpc =
-    map (Sub q) rpc.subs
-    ++ (map (Msg q) rpc.publish
-    ++ (map (Have q) (offers_in rpc.control)
-    ++ (map (Want q) (requests_in rpc.control)
-    ++ (map (GraftIn q) (grafts_in rpc.control)
-    ++ map (PruneIn q) (prunes_in rpc.control)))))
+    map (λ part. Part q (Sub part)) rpc.subs
+    ++ (map (λ part. Part q (Msg part)) rpc.publish
+    ++ (map (λ part. Part q (Have part)) (offers_in rpc.control)
+    ++ (map (λ part. Part q (Want part)) (requests_in rpc.control)
+    ++ (map (λ part. Part q (GraftIn part)) (grafts_in rpc.control)
+    ++ map (λ part. Part q (PruneIn part)) (prunes_in rpc.control)))))
 
 -- there is something to gossip on a topic
 abbrev pub is_some_list : List MsgId → Bool
@@ -50,12 +52,12 @@ gossip_topics p L = filter (λ t. is_some_list (gossip p L t)) (mesh_topics L)
 
 -- a heartbeat gossips on these topics, and ends
 abbrev pub beats : List Topic → List Event
-beats topics = map GossipBeat topics ++ BeatEnd ∷ []
+beats topics = map (λ t. Step (GossipBeat t)) topics ++ (Step BeatEnd) ∷ []
 
 -- the events of a group that is reached after this trace
 abbrev pub events_in : Peer → Entries → Group → List Event
 events_in p L (PartsOf q rpc) = parts q rpc
-events_in p L MeshBeats = map MeshBeat (own_topics L)
+events_in p L MeshBeats = map (λ t. Step (MeshBeat t)) (own_topics L)
 events_in p L (FanBeats at) = map (fan_event p L at) (fanout_topics L)
 events_in p L Gossips = beats (gossip_topics p L)
 

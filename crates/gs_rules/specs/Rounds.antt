@@ -5,12 +5,12 @@ use Rattle.gs_base.specs.declared.names.PeerNo.{PeerNo}
 use Rattle.gs_base.specs.declared.names.Millis.{Millis}
 use Rattle.gs_base.specs.declared.rpc.Rpc.{Rpc}
 use Rattle.gs_plan.specs.declared.plan.Line.{Line}
-use Rattle.gs_plan.specs.declared.plan.What.{What}
-use Rattle.gs_plan.specs.declared.plan.What.TheVariants.{Subscribe, Unsubscribe, Publish, Raw, HangUp}
+use Rattle.gs_plan.specs.declared.plan.Act.{Act}
 use Rattle.gs_wire.specs.declared.frames.End.{End}
 use Rattle.gs_wire.specs.declared.frames.End.TheVariants as ends
-use Rattle.gs_rules.specs.declared.trace.Event.{Event}
-use Rattle.gs_rules.specs.declared.trace.Event.TheVariants as events
+use Rattle.gs_rules.specs.declared.event.Event.{Event}
+use Rattle.gs_rules.specs.declared.event.Event.TheVariants as events
+use Rattle.gs_rules.specs.declared.event.Loss.TheVariants as losses
 use Rattle.gs_rules.specs.declared.refusal.Refusal.{Refusal}
 use Rattle.gs_rules.specs.declared.refusal.RefusedLine.{RefusedLine}
 use Rattle.gs_rules.specs.Peers.{Peer, links_of}
@@ -53,7 +53,7 @@ pub data Todo : Type 0 where
   -- a neighbour has closed its link
   HearGone : PeerNo → Todo
   -- the line of the script at this place
-  Obey : ℕ → What → Todo
+  Obey : ℕ → Act → Todo
   -- a step of the decay of scores
   DecayCounters : Todo
   -- a heartbeat
@@ -115,27 +115,20 @@ agenda seat Closing xs = Stop ∷ hears (links_of seat.peer) xs
 
 -- ---- how it is done
 
-abbrev pub event_of : What → Event
-event_of (Subscribe t) = events.Subscribe t
-event_of (Unsubscribe t) = events.Unsubscribe t
-event_of (Publish t payload) = events.Publish t payload
-event_of (Raw q bytes) = events.Raw q bytes
-event_of (HangUp q) = events.HangUp q
-
 abbrev pub unless_refused : Event → Option Refusal → Option Event
 unless_refused event None = Some event
 unless_refused event (Some why) = None
 
 -- these lines put no bytes that are no frames on q's link; a line with no bytes does not either
 abbrev pub PutsNoBytes : PeerNo → List (ℕ × Line) → Type 0
-PutsNoBytes q lines = AllByRecursion (λ (x : ℕ × Line). raw_to q (event_of x.1.what) ≡ []) lines
+PutsNoBytes q lines = AllByRecursion (λ (x : ℕ × Line). raw_to q (events.Own x.1.what) ≡ []) lines
 
 -- the event that it opens after a trace, if any
 abbrev pub opening : Peer → Entries → Millis → Todo → Option Event
 opening p L at (Hear q rpc) = Some (hearing L q rpc)
-opening p L at (HearFault q) = losing L q (events.Fault q)
-opening p L at (HearGone q) = losing L q (events.Gone q)
-opening p L at (Obey place what) = unless_refused (event_of what) (refusal p L at.0 (event_of what))
+opening p L at (HearFault q) = losing L q (events.Lost q losses.Fault)
+opening p L at (HearGone q) = losing L q (events.Lost q losses.Gone)
+opening p L at (Obey place what) = unless_refused (events.Own what) (refusal p L at.0 (events.Own what))
 opening p L at DecayCounters = Some events.Decay
 opening p L at Beat = Some events.BeatBegin
 opening p L at (EndRound r) = Some (events.RoundEnd r)
@@ -147,7 +140,7 @@ note_of at place (Some why) = record { at = at; line = place; why = why } ∷ []
 
 -- what is noted of it after a trace, where it is refused
 abbrev pub noted : Peer → Entries → Millis → Todo → List RefusedLine
-noted p L at (Obey place what) = note_of at place (refusal p L at.0 (event_of what))
+noted p L at (Obey place what) = note_of at place (refusal p L at.0 (events.Own what))
 noted p L at other = []
 
 -- it is done in order, at one moment, and this is refused

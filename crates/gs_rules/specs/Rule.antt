@@ -1,23 +1,21 @@
--- What a rule says, and the entries that rules are made of.
+-- What a rule says, and what rules are made of.
 use Rattle.std.specs.Prelude.{ℕ, Bool, not, ◌&&◌, List, [], map, filter, fold, None}
 use Rattle.gs_base.specs.declared.names.PeerNo.{PeerNo}
 use Rattle.gs_base.specs.declared.names.Topic.{Topic}
-use Rattle.gs_base.specs.declared.names.Millis.{Millis}
 use Rattle.gs_base.specs.declared.rpc.Rpc.{Rpc}
 use Rattle.gs_params.specs.declared.params.Degrees.{Degrees}
 use Rattle.gs_mesh.specs.declared.members.Member.{Member}
-use Rattle.gs_rules.specs.declared.trace.Event.{Event}
-use Rattle.gs_rules.specs.declared.trace.Entry.{Entry}
+use Rattle.gs_rules.specs.declared.trace.Effects.{Effects}
 use Rattle.gs_mesh.specs.Peers.{put_in}
 use Rattle.gs_rules.specs.Peers.{Peer, explicit_of, is_explicit, links_of}
 use Rattle.gs_rules.specs.Tables.{Entries, on, up}
 
 -- ---- what rules say
 
--- What a rule says: an entry, or what is chosen before it.
+-- What a rule says: the effects of an event, or what is chosen before them.
 pub data Rule : Type 0 where
-  -- this entry, and nothing is chosen
-  Gives : Entry → Rule
+  -- these effects, and nothing is chosen
+  Gives : Effects → Rule
   -- any of these peers: this many, or all where there are fewer
   AnyOf : ℕ → List PeerNo → (List PeerNo → Rule) → Rule
   -- who is kept of a mesh with too many members: `d` members, the best by score among them, equal scores as it likes
@@ -27,9 +25,9 @@ pub data Rule : Type 0 where
 
 -- ---- what is done
 
--- an entry with no effects
-abbrev pub bare : Millis → Event → Entry
-bare at event = record { at = at; event = event; sends = []; delivered = []; promise = None; marks = [] }
+-- nothing is done
+abbrev pub no_effects : Effects
+no_effects = record { sends = []; delivered = []; promise = None; marks = [] }
 
 abbrev pub to_each : Rpc → List PeerNo → List (PeerNo × Rpc)
 to_each rpc qs = map (λ q. (q, rpc)) qs

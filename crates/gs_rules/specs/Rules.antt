@@ -1,5 +1,5 @@
--- What a peer does about an event: for each event one rule, which gives the whole entry. Rules look only at the
--- trace before the entry.
+-- What a peer does about an event: for each event one rule, which gives the effects. An entry is its moment, its event
+-- and these effects. Rules look only at the trace before the entry.
 use Rattle.std.specs.Prelude.{ℕ, ◌+◌, ◌-◌, min, Bool, not, ◌&&◌, ◌||◌, nat_eq, nat_le, nat_lt, if◌then◌else◌, List, [], ◌∷◌, ◌++◌, length, take, map, filter, fold, get_or, Option, Some, None, is_some, option_map}
 use Rattle.std.specs.List.{list_any}
 use Rattle.std.specs.Cmp.Lexicographic.{pointwise}
@@ -14,15 +14,21 @@ use Rattle.gs_base.specs.Names.{same_id, topic_or_empty}
 use Rattle.gs_base.specs.declared.mark.Mark.TheVariants.{Answered, Offered, Asked}
 use Rattle.gs_mesh.specs.Peers.{is_among}
 use Rattle.gs_base.specs.Rpcs.{most_identifiers, offering, passed_on, requesting}
-use Rattle.gs_rules.specs.declared.trace.Event.{Event}
-use Rattle.gs_rules.specs.declared.trace.Event.TheVariants.{BeatBegin, FanBeat, FanEnd, GossipBeat, GraftIn, Have, MeshBeat, Msg, PruneIn, Publish, Sub, Subscribe, Unsubscribe, Want}
-use Rattle.gs_rules.specs.declared.trace.Entry.{Entry}
+use Rattle.gs_rules.specs.declared.event.Event.{Event}
+use Rattle.gs_rules.specs.declared.event.Event.TheVariants.{Heard, Late, Part, BeatBegin, Step, Own, Lost, Decay, RoundEnd, Shut}
+use Rattle.gs_rules.specs.declared.event.RpcPart.TheVariants.{GraftIn, Have, Msg, PruneIn, Sub, Want}
+use Rattle.gs_rules.specs.declared.event.BeatStep.TheVariants.{BeatEnd, FanBeat, FanEnd, GossipBeat, MeshBeat}
+use Rattle.gs_rules.specs.declared.event.RpcPart.{RpcPart}
+use Rattle.gs_rules.specs.declared.event.BeatStep.{BeatStep}
+use Rattle.gs_plan.specs.declared.plan.Act.{Act}
+use Rattle.gs_plan.specs.declared.plan.Act.TheVariants.{HangUp, Publish, Raw, Subscribe, Unsubscribe}
+use Rattle.gs_rules.specs.declared.trace.Effects.{Effects}
 use Rattle.gs_rules.specs.Peers.{Peer, seen_ttl, windows}
-use Rattle.gs_rules.specs.Tables.{Entries, Keeping, answered, asked, joined, kept, last_millis, lost, offers, seen}
+use Rattle.gs_rules.specs.Tables.{Entries, Keeping, answered, asked, joined, kept, last_millis, offers, seen}
 use Rattle.gs_rules.specs.Meshes.{fanout, mesh}
 use Rattle.gs_rules.specs.Scoring.{is_ignored}
 use Rattle.gs_rules.specs.Gossip.{all_charges, gossip, gossip_size}
-pub use Rattle.gs_rules.specs.Rule.{AnyOf, CutOf, Gives, OneOf, Rule, bare, explicit_listeners, listeners, ordinary_listeners, to_each, together_with, up_neighbours, without}
+pub use Rattle.gs_rules.specs.Rule.{AnyOf, CutOf, Gives, OneOf, Rule, no_effects, explicit_listeners, listeners, ordinary_listeners, to_each, together_with, up_neighbours, without}
 use Rattle.gs_rules.specs.Outcomes.{message_rule}
 use Rattle.gs_rules.specs.BeatRules.{fan_beat_rule, fan_end, mesh_beat_rule}
 use Rattle.gs_rules.specs.MeshRules.{graft_rule, lost_rule, prune_rule, publish_rule, sub_rule, subscribe_rule, unsubscribe_rule}
@@ -30,8 +36,8 @@ use Rattle.gs_rules.specs.MeshRules.{graft_rule, lost_rule, prune_rule, publish_
 -- ---- offers (gossipsub v1.0, "Control messages", IHAVE)
 
 -- an offer that counts, without more
-abbrev pub counted : Millis → PeerNo → IHave → Entry
-counted at q offer = record (bare at (Have q offer)) { marks = Offered q ∷ [] }
+abbrev pub counted : PeerNo → Effects
+counted q = record no_effects { marks = Offered q ∷ [] }
 
 -- the bytes of an identifier of a message that was not seen lately
 abbrev pub is_wanted : Peer → Entries → ℕ → List ℕ → Bool
@@ -58,8 +64,8 @@ abbrev pub wanted : Peer → Entries → ℕ → PeerNo → List (List ℕ) → 
 wanted p L at q ids = take (room_to_ask p L q) (each_once (filter (is_wanted p L at) ids))
 
 -- A neighbour is asked for these, and promises the one at this place.
-abbrev pub asking : Peer → Millis → PeerNo → IHave → List (List ℕ) → ℕ → Entry
-asking p at q offer ids place = record (bare at (Have q offer)) {
+abbrev pub asking : Peer → Millis → PeerNo → List (List ℕ) → ℕ → Effects
+asking p at q ids place = record no_effects {
   sends = (q, requesting ids) ∷ [];
   promise = Some (record {
     from = q;
@@ -70,19 +76,19 @@ asking p at q offer ids place = record (bare at (Have q offer)) {
 }
 
 -- a neighbour is asked for what is wanted, if anything is, and promises any one of that
-abbrev pub asked_for : Peer → Millis → PeerNo → IHave → List (List ℕ) → Rule
-asked_for p at q offer [] = Gives (counted at q offer)
-asked_for p at q offer (id ∷ ids) =
-    OneOf (length (id ∷ ids)) (λ place. Gives (asking p at q offer (id ∷ ids) place))
+abbrev pub asked_for : Peer → Millis → PeerNo → List (List ℕ) → Rule
+asked_for p at q [] = Gives (counted q)
+asked_for p at q (id ∷ ids) =
+    OneOf (length (id ∷ ids)) (λ place. Gives (asking p at q (id ∷ ids) place))
 
 -- An offer counts where its sender is not ignored, for as long as that has not made too many. On a topic that the peer
 -- is not subscribed to nothing is wanted.
 abbrev pub have_rule : Peer → Entries → Millis → PeerNo → IHave → Rule
 have_rule p L at q offer =
-    if is_ignored p L at.0 q then Gives (bare at (Have q offer))
-    else if nat_le p.params.timing.max_ihave (offers L q) then Gives (bare at (Have q offer))
-    else if not (joined L (topic_or_empty offer.topic)) then Gives (counted at q offer)
-    else asked_for p at q offer (wanted p L at.0 q offer.ids)
+    if is_ignored p L at.0 q then Gives no_effects
+    else if nat_le p.params.timing.max_ihave (offers L q) then Gives no_effects
+    else if not (joined L (topic_or_empty offer.topic)) then Gives (counted q)
+    else asked_for p at q (wanted p L at.0 q offer.ids)
 
 -- ---- requests (gossipsub v1.0, "Control messages", IWANT)
 
@@ -114,26 +120,26 @@ answers p L q ahead (id ∷ ids) =
     with_message id (answer p L q id (times_in id ahead)) ++ answers p L q (ahead ++ id ∷ []) ids
 
 -- it gets them one by one, and each counts
-abbrev pub answering : Millis → PeerNo → IWant → List (MsgId × Message) → Entry
-answering at q request given = record (bare at (Want q request)) {
+abbrev pub answering : PeerNo → List (MsgId × Message) → Effects
+answering q given = record no_effects {
   sends = map (λ (x : MsgId × Message). (q, passed_on x.1)) given;
   marks = map (λ (x : MsgId × Message). Answered q x.0) given;
 }
 
-abbrev pub want_rule : Peer → Entries → Millis → PeerNo → IWant → Entry
+abbrev pub want_rule : Peer → Entries → Millis → PeerNo → IWant → Effects
 want_rule p L at q request =
-    if is_ignored p L at.0 q then bare at (Want q request)
-    else answering at q request (answers p L q [] (ids_in request.ids))
+    if is_ignored p L at.0 q then no_effects
+    else answering q (answers p L q [] (ids_in request.ids))
 
 -- ---- heartbeats
 
 -- at a heartbeat each broken promise counts against who made it
-abbrev pub beat_begin_rule : Peer → Entries → Millis → Entry
-beat_begin_rule p L at = record (bare at BeatBegin) { marks = all_charges p L at.0 }
+abbrev pub beat_begin_rule : Peer → Entries → Millis → Effects
+beat_begin_rule p L at = record no_effects { marks = all_charges p L at.0 }
 
 -- these neighbours are offered what there is on a topic
-abbrev pub gossiping : Peer → Entries → Millis → Topic → List PeerNo → Entry
-gossiping p L at t chosen = record (bare at (GossipBeat t)) {
+abbrev pub gossiping : Peer → Entries → Topic → List PeerNo → Effects
+gossiping p L t chosen = record no_effects {
   sends = to_each (offering t (map (λ (id : MsgId). id.0) (gossip p L t))) chosen;
 }
 
@@ -147,30 +153,44 @@ gossip_candidates p L at t =
 abbrev pub gossip_rule : Peer → Entries → Millis → Topic → Rule
 gossip_rule p L at t =
     AnyOf (gossip_size p (length (gossip_candidates p L at.0 t))) (gossip_candidates p L at.0 t)
-    (λ chosen. Gives (gossiping p L at t chosen))
+    (λ chosen. Gives (gossiping p L t chosen))
 
 -- ---- all events
 
--- whoever is lost leaves every mesh and every fanout; an event that loses nobody, and has no rule of its own, gives an
--- entry with only the event
-abbrev pub lost_or_bare : Peer → Entries → Millis → Event → Option PeerNo → Entry
-lost_or_bare p L at event None = bare at event
-lost_or_bare p L at event (Some q) = lost_rule p L at q event
+-- the rule of a part of an RPC
+abbrev pub part_rule : Peer → Entries → Millis → PeerNo → RpcPart → Rule
+part_rule p L at q (Sub sub) = Gives (sub_rule p L at q sub)
+part_rule p L at q (Msg m) = Gives (message_rule p L at q m)
+part_rule p L at q (Have offer) = have_rule p L at q offer
+part_rule p L at q (Want request) = Gives (want_rule p L at q request)
+part_rule p L at q (GraftIn graft) = Gives (graft_rule p L at q (topic_or_empty graft.topic))
+part_rule p L at q (PruneIn prune) = Gives (prune_rule p L at q prune)
 
--- the rule of an event
+-- the rule of a step of a heartbeat
+abbrev pub step_rule : Peer → Entries → Millis → BeatStep → Rule
+step_rule p L at (MeshBeat t) = mesh_beat_rule p L at t
+step_rule p L at (FanBeat t) = fan_beat_rule p L at t
+step_rule p L at (FanEnd t) = Gives (fan_end L t)
+step_rule p L at (GossipBeat t) = gossip_rule p L at t
+step_rule p L at BeatEnd = Gives no_effects
+
+-- the rule of an act of the user
+abbrev pub act_rule : Peer → Entries → Millis → Act → Rule
+act_rule p L at (Subscribe t) = subscribe_rule p L at t
+act_rule p L at (Unsubscribe t) = Gives (unsubscribe_rule p L at t)
+act_rule p L at (Publish t payload) = publish_rule p L at t payload
+act_rule p L at (HangUp q) = Gives (lost_rule p L at q)
+act_rule p L at (Raw q bytes) = Gives no_effects
+
+-- The rule of an event. Whoever is lost leaves every mesh and every fanout.
 abbrev pub rule_of : Peer → Entries → Millis → Event → Rule
-rule_of p L at (Msg q m) = Gives (message_rule p L at q m)
-rule_of p L at (Have q offer) = have_rule p L at q offer
-rule_of p L at (Want q request) = Gives (want_rule p L at q request)
-rule_of p L at (Sub q sub) = Gives (sub_rule p L at q sub)
-rule_of p L at (GraftIn q graft) = Gives (graft_rule p L at q graft)
-rule_of p L at (PruneIn q prune) = Gives (prune_rule p L at q prune)
-rule_of p L at (Subscribe t) = subscribe_rule p L at t
-rule_of p L at (Unsubscribe t) = Gives (unsubscribe_rule p L at t)
-rule_of p L at (Publish t payload) = publish_rule p L at t payload
+rule_of p L at (Heard q rpc) = Gives no_effects
+rule_of p L at (Late q rpc) = Gives no_effects
+rule_of p L at (Part q part) = part_rule p L at q part
 rule_of p L at BeatBegin = Gives (beat_begin_rule p L at)
-rule_of p L at (MeshBeat t) = mesh_beat_rule p L at t
-rule_of p L at (FanBeat t) = fan_beat_rule p L at t
-rule_of p L at (FanEnd t) = Gives (fan_end L at t)
-rule_of p L at (GossipBeat t) = gossip_rule p L at t
-rule_of p L at other = Gives (lost_or_bare p L at other (lost other))
+rule_of p L at (Step step) = step_rule p L at step
+rule_of p L at (Own act) = act_rule p L at act
+rule_of p L at (Lost q loss) = Gives (lost_rule p L at q)
+rule_of p L at Decay = Gives no_effects
+rule_of p L at (RoundEnd r) = Gives no_effects
+rule_of p L at Shut = Gives no_effects

@@ -1,5 +1,5 @@
 -- What a peer says to a neighbour, as bytes, marks of the ends of rounds and a close; and what it has handled of one.
-use Rattle.std.specs.Prelude.{◌≡◌, ℕ, Bool, true, if◌then◌else◌, List, [], ◌∷◌, ◌++◌, map, Option, Some, None, option_to_list}
+use Rattle.std.specs.Prelude.{◌≡◌, ℕ, Bool, true, false, if◌then◌else◌, List, [], ◌∷◌, ◌++◌, map, Option, Some, None, option_to_list}
 use Rattle.std.specs.List.{flat_map, AllByRecursion}
 use Rattle.gs_base.specs.declared.names.PeerNo.{PeerNo}
 use Rattle.gs_base.specs.declared.rpc.Rpc.{Rpc}
@@ -7,8 +7,10 @@ use Rattle.gs_base.specs.Names.{same_peer}
 use Rattle.gs_base.specs.Codecs.{Codec}
 use Rattle.gs_wire.specs.Joining.{joined_rpc}
 pub use Rattle.gs_base.specs.Tokens.{Token, Byte, EndOf, Close, Said, bytes_of}
-use Rattle.gs_rules.specs.declared.trace.Event.{Event}
-use Rattle.gs_rules.specs.declared.trace.Event.TheVariants.{Heard, Late, Raw, RoundEnd, Shut}
+use Rattle.gs_rules.specs.declared.event.Event.{Event}
+use Rattle.gs_rules.specs.declared.event.Event.TheVariants.{Heard, Late, RoundEnd, Shut, Own}
+use Rattle.gs_plan.specs.declared.plan.Act.{Act}
+use Rattle.gs_plan.specs.declared.plan.Act.TheVariants.{Raw, Subscribe, Unsubscribe, Publish, HangUp}
 use Rattle.gs_rules.specs.declared.trace.Entry.{Entry}
 use Rattle.gs_rules.specs.Tables.{Entries, cuts_off, is_lost, lost, up}
 use Rattle.gs_rules.specs.Modes.{sent_to}
@@ -19,9 +21,16 @@ sign q (RoundEnd r) = EndOf r ∷ []
 sign q Shut = Close ∷ []
 sign q other = if is_lost q (lost other) then Close ∷ [] else []
 
+abbrev pub raw_by : PeerNo → Act → List ℕ
+raw_by q (Raw p bytes) = if same_peer p q then bytes else []
+raw_by q (Subscribe t) = []
+raw_by q (Unsubscribe t) = []
+raw_by q (Publish t payload) = []
+raw_by q (HangUp p) = []
+
 -- the bytes that an event puts on q's link as they are
 abbrev pub raw_to : PeerNo → Event → List ℕ
-raw_to q (Raw p bytes) = if same_peer p q then bytes else []
+raw_to q (Own act) = raw_by q act
 raw_to q other = []
 
 -- these entries put nothing on q's link but frames
@@ -65,10 +74,17 @@ sending_all codec o (v ∷ vs) = sending_all codec (sending codec o v) vs
 abbrev pub cut_out : Codec → Outgoing → Outgoing
 cut_out codec o = record { said = o.said ++ frames_of codec (option_to_list o.gathered); gathered = None }
 
+abbrev pub is_cut_by : PeerNo → Act → Bool
+is_cut_by q (Raw p bytes) = same_peer p q
+is_cut_by q (HangUp p) = same_peer p q
+is_cut_by q (Subscribe t) = false
+is_cut_by q (Unsubscribe t) = false
+is_cut_by q (Publish t payload) = false
+
 -- what an event cuts for q: the end of a round, bytes as they are for q, and whatever cuts q off
 abbrev pub is_cut : PeerNo → Event → Bool
 is_cut q (RoundEnd r) = true
-is_cut q (Raw p bytes) = same_peer p q
+is_cut q (Own act) = is_cut_by q act
 is_cut q other = cuts_off q other
 
 -- more is said
@@ -82,7 +98,7 @@ behind_event codec q o event =
 
 -- after one more entry: its sends are gathered before its event
 abbrev pub behind_entry : Codec → PeerNo → Outgoing → Entry → Outgoing
-behind_entry codec q o e = behind_event codec q (sending_all codec o (sent_to q e.sends)) e.event
+behind_entry codec q o e = behind_event codec q (sending_all codec o (sent_to q e.effects.sends)) e.event
 
 -- what goes to q by a trace, for as long as q is up
 abbrev pub outgoing : Codec → Entries → PeerNo → Outgoing
@@ -102,7 +118,7 @@ gathered codec L q = (outgoing codec L q).gathered
 -- the RPCs that a trace sends to q, for as long as q is up
 abbrev pub sent : Entries → PeerNo → List Rpc
 sent [] q = []
-sent (e ∷ L) q = if up L q then sent L q ++ sent_to q e.sends else sent L q
+sent (e ∷ L) q = if up L q then sent L q ++ sent_to q e.effects.sends else sent L q
 
 -- the RPC of q that an event handles
 abbrev pub handled_by : PeerNo → Event → List Rpc
@@ -121,4 +137,4 @@ SendsFit codec sends = AllByRecursion (λ x. codec.fits x.1 ≡ true) sends
 
 -- each RPC that these entries send fits a frame
 abbrev pub AllFit : Codec → List Entry → Type 0
-AllFit codec entries = AllByRecursion (λ e. SendsFit codec e.sends) entries
+AllFit codec entries = AllByRecursion (λ e. SendsFit codec e.effects.sends) entries

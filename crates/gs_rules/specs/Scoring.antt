@@ -11,8 +11,10 @@ use Rattle.gs_base.specs.declared.mark.Mark.TheVariants.{First, Near, Deficit, I
 use Rattle.gs_base.specs.Names.{most_topics, same_peer, same_topic}
 use Rattle.gs_score.specs.Histories.{Change, History, Marked, Decayed, Left, ShutOut, Setting, named, score_in}
 use Rattle.gs_score.specs.Histories as histories
-use Rattle.gs_rules.specs.declared.trace.Event.{Event}
-use Rattle.gs_rules.specs.declared.trace.Event.TheVariants.{Decay, GraftIn, Msg}
+use Rattle.gs_rules.specs.declared.event.Event.{Event}
+use Rattle.gs_rules.specs.declared.event.Event.TheVariants.{Decay, Part}
+use Rattle.gs_rules.specs.declared.event.RpcPart.TheVariants.{GraftIn, Msg, Sub, Have, Want, PruneIn}
+use Rattle.gs_rules.specs.declared.event.RpcPart.{RpcPart}
 use Rattle.gs_rules.specs.Peers.{Peer, is_explicit}
 use Rattle.gs_rules.specs.Tables.{Entries, after_marks, lost}
 
@@ -22,11 +24,18 @@ use Rattle.gs_rules.specs.Tables.{Entries, after_marks, lost}
 abbrev pub is_neighbour : Peer → PeerNo → Bool
 is_neighbour p q = list_any (λ (n : Neighbour). same_peer q n.peer) p.neighbours
 
+abbrev pub IsPartFromNeighbour : Peer → PeerNo → RpcPart → Type 0
+IsPartFromNeighbour p q (Msg m) = is_neighbour p q ≡ true
+IsPartFromNeighbour p q (GraftIn graft) = is_neighbour p q ≡ true
+IsPartFromNeighbour p q (Sub sub) = Unit {0}
+IsPartFromNeighbour p q (Have offer) = Unit {0}
+IsPartFromNeighbour p q (Want request) = Unit {0}
+IsPartFromNeighbour p q (PruneIn prune) = Unit {0}
+
 -- whoever a message or a GRAFT came from is a neighbour: of what neighbours say only these leave marks that count,
 -- whoever says it
 abbrev pub IsFromNeighbour : Peer → Event → Type 0
-IsFromNeighbour p (Msg q m) = is_neighbour p q ≡ true
-IsFromNeighbour p (GraftIn q graft) = is_neighbour p q ≡ true
+IsFromNeighbour p (Part q part) = IsPartFromNeighbour p q part
 IsFromNeighbour p other = Unit {0}
 
 -- a neighbour has counters on a topic, or on so few topics that it may have them on one more
@@ -67,7 +76,7 @@ changed_after other H = shut_out (lost other) H
 -- what happened to the neighbours, the newest first
 abbrev pub history : Peer → Entries → History
 history p [] = []
-history p (e ∷ L) = after_marks (marked_after p e.at) e.marks (changed_after e.event (history p L))
+history p (e ∷ L) = after_marks (marked_after p e.at) e.effects.marks (changed_after e.event (history p L))
 
 -- ---- scores
 

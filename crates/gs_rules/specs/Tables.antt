@@ -1,6 +1,7 @@
 -- What a trace says of a peer. Its entries stand with the newest first, so each table is read off the newest entry
 -- and what the table said before it: a step by the entry's event, and where marks change it, a step by each mark. A
--- new event or mark is one line in the tables that it changes.
+-- new event or mark is one line in the tables that it changes; a new part of an RPC, step of a heartbeat or act of the
+-- user needs a line in each that reads these.
 use Rattle.std.specs.Prelude.{ℕ, ◌+◌, ◌-◌, Bool, true, false, not, ◌&&◌, ◌||◌, nat_lt, if◌then◌else◌, List, [], ◌∷◌, ◌++◌, filter, Option, Some, None, unwrap_or}
 use Rattle.std.specs.List.{list_any}
 use Rattle.std.specs.declared.cmp.Ordering.{Ordering}
@@ -16,8 +17,14 @@ use Rattle.gs_base.specs.declared.verdict.Verdict.{Verdict}
 use Rattle.gs_base.specs.declared.mark.Mark.{Mark}
 use Rattle.gs_base.specs.declared.rpc.Message.{Message}
 use Rattle.gs_base.specs.declared.mark.Mark.TheVariants.{Seen, Cached, Answered, Offered, Asked}
-use Rattle.gs_rules.specs.declared.trace.Event.{Event}
-use Rattle.gs_rules.specs.declared.trace.Event.TheVariants.{Heard, Late, Sub, Msg, Have, Want, GraftIn, PruneIn, Subscribe, Unsubscribe, Publish, BeatBegin, MeshBeat, FanBeat, FanEnd, GossipBeat, BeatEnd, Decay, RoundEnd, Gone, Fault, HangUp, Raw, Shut}
+use Rattle.gs_rules.specs.declared.event.Event.{Event}
+use Rattle.gs_rules.specs.declared.event.Event.TheVariants.{Heard, Late, BeatBegin, Decay, RoundEnd, Shut, Part, Step, Own, Lost}
+use Rattle.gs_rules.specs.declared.event.RpcPart.TheVariants.{Sub, Msg, Have, Want, GraftIn, PruneIn}
+use Rattle.gs_rules.specs.declared.event.BeatStep.TheVariants.{BeatEnd, MeshBeat, FanBeat, FanEnd, GossipBeat}
+use Rattle.gs_rules.specs.declared.event.RpcPart.{RpcPart}
+use Rattle.gs_rules.specs.declared.event.BeatStep.{BeatStep}
+use Rattle.gs_plan.specs.declared.plan.Act.{Act}
+use Rattle.gs_plan.specs.declared.plan.Act.TheVariants.{Subscribe, Unsubscribe, Publish, HangUp, Raw}
 use Rattle.gs_rules.specs.declared.trace.Promise.{Promise}
 use Rattle.gs_rules.specs.declared.trace.Entry.{Entry}
 
@@ -50,32 +57,26 @@ abbrev pub is_shut : Entries → Bool
 is_shut [] = false
 is_shut (e ∷ L) = is_shut_after e.event (is_shut L)
 
+-- the neighbour on which an act of the user hangs up, if any
+abbrev pub lost_by : Act → Option PeerNo
+lost_by (HangUp p) = Some p
+lost_by (Subscribe t) = None
+lost_by (Unsubscribe t) = None
+lost_by (Publish t payload) = None
+lost_by (Raw q bytes) = None
+
 -- The neighbour that an event loses, if any: it closed its link, its bytes spelled no RPC or ended within one, or the
--- peer hung up on it. Each event is named here, and whatever follows from such a loss reads this.
+-- peer hung up on it. Whatever follows from such a loss reads this.
 abbrev pub lost : Event → Option PeerNo
-lost (Gone p) = Some p
-lost (Fault p) = Some p
-lost (HangUp p) = Some p
+lost (Lost p loss) = Some p
+lost (Own act) = lost_by act
 lost (Heard q rpc) = None
 lost (Late q rpc) = None
-lost (Sub q sub) = None
-lost (Msg q message) = None
-lost (Have q offer) = None
-lost (Want q request) = None
-lost (GraftIn q graft) = None
-lost (PruneIn q prune) = None
-lost (Subscribe t) = None
-lost (Unsubscribe t) = None
-lost (Publish t payload) = None
+lost (Part q part) = None
 lost BeatBegin = None
-lost (MeshBeat t) = None
-lost (FanBeat t) = None
-lost (FanEnd t) = None
-lost (GossipBeat t) = None
-lost BeatEnd = None
+lost (Step step) = None
 lost Decay = None
 lost (RoundEnd r) = None
-lost (Raw q bytes) = None
 lost Shut = None
 
 -- q is the one that is lost
@@ -95,10 +96,19 @@ abbrev pub up : Entries → PeerNo → Bool
 up [] q = true
 up (e ∷ L) q = up_after q e.event (up L q)
 
+-- what a part of an RPC leaves of that: a change of subscription says it anew
+abbrev pub on_by : PeerNo → Topic → PeerNo → RpcPart → Bool → Bool
+on_by q t p (Sub sub) before =
+    if same_peer p q && same_topic (topic_or_empty sub.topic) t then unwrap_or sub.subscribe false else before
+on_by q t p (Msg m) before = before
+on_by q t p (Have offer) before = before
+on_by q t p (Want request) before = before
+on_by q t p (GraftIn graft) before = before
+on_by q t p (PruneIn prune) before = before
+
 -- whether a neighbour is on a topic: what it said of the topic last
 abbrev pub on_after : PeerNo → Topic → Event → Bool → Bool
-on_after q t (Sub p sub) before =
-    if same_peer p q && same_topic (topic_or_empty sub.topic) t then unwrap_or sub.subscribe false else before
+on_after q t (Part p part) before = on_by q t p part before
 on_after q t other before = before
 
 abbrev pub on : Entries → PeerNo → Topic → Bool
@@ -107,19 +117,32 @@ on (e ∷ L) q t = on_after q t e.event (on L q t)
 
 -- ---- the peer's own topics
 
+abbrev pub joined_by : Topic → Act → Bool → Bool
+joined_by t (Subscribe u) before = if same_topic u t then true else before
+joined_by t (Unsubscribe u) before = if same_topic u t then false else before
+joined_by t (Publish u payload) before = before
+joined_by t (Raw q bytes) before = before
+joined_by t (HangUp q) before = before
+
 -- whether the peer is subscribed to a topic
 abbrev pub joined_after : Topic → Event → Bool → Bool
-joined_after t (Subscribe u) before = if same_topic u t then true else before
-joined_after t (Unsubscribe u) before = if same_topic u t then false else before
+joined_after t (Own act) before = joined_by t act before
 joined_after t other before = before
 
 abbrev pub joined : Entries → Topic → Bool
 joined [] t = false
 joined (e ∷ L) t = joined_after t e.event (joined L t)
 
+abbrev pub known_by : Act → List Topic → List Topic
+known_by (Subscribe t) before = if list_any (same_topic t) before then before else before ++ t ∷ []
+known_by (Unsubscribe t) before = before
+known_by (Publish t payload) before = before
+known_by (Raw q bytes) before = before
+known_by (HangUp q) before = before
+
 -- the topics that the peer was ever subscribed to, each once, the first one first
 abbrev pub known_after : Event → List Topic → List Topic
-known_after (Subscribe t) before = if list_any (same_topic t) before then before else before ++ t ∷ []
+known_after (Own act) before = known_by act before
 known_after other before = before
 
 abbrev pub known : Entries → List Topic
@@ -159,7 +182,7 @@ sighting_after id at other before = before
 -- when a message was last marked as seen
 abbrev pub last_seen : Entries → MsgId → Option Sighting
 last_seen [] id = None
-last_seen (e ∷ L) id = after_marks (sighting_after id e.at.0) e.marks (last_seen L id)
+last_seen (e ∷ L) id = after_marks (sighting_after id e.at.0) e.effects.marks (last_seen L id)
 
 -- a sighting counts for less than the time after it
 abbrev pub counting : ℕ → ℕ → Option Sighting → Option Verdict
@@ -182,10 +205,27 @@ pub record Keeping : Type 0 where
 abbrev pub blank : Message
 blank = record { origin = None; payload = None; seqno = None; topic = None; signature = None; key = None }
 
+-- the message that a part of an RPC brings
+abbrev pub message_of_part : RpcPart → Message
+message_of_part (Sub sub) = blank
+message_of_part (Msg m) = m
+message_of_part (Have offer) = blank
+message_of_part (Want request) = blank
+message_of_part (GraftIn graft) = blank
+message_of_part (PruneIn prune) = blank
+
+-- the message that an act of the user brings
+abbrev pub message_of_act : Act → Message
+message_of_act (Subscribe t) = blank
+message_of_act (Unsubscribe t) = blank
+message_of_act (Publish t payload) = unsigned t payload
+message_of_act (Raw q bytes) = blank
+message_of_act (HangUp q) = blank
+
 -- the message that an event brings; no other event makes one that is kept
 abbrev pub message_in : Event → Message
-message_in (Msg q m) = m
-message_in (Publish t payload) = unsigned t payload
+message_in (Part q part) = message_of_part part
+message_in (Own act) = message_of_act act
 message_in other = blank
 
 -- the last mark of an identifier says which message is kept under it
@@ -199,15 +239,22 @@ abbrev pub older : Option Keeping → Option Keeping
 older None = None
 older (Some k) = Some (record { topic = k.topic; message = k.message; age = k.age + 1 })
 
+abbrev pub aged_by : BeatStep → Option Keeping → Option Keeping
+aged_by (MeshBeat t) before = before
+aged_by (FanBeat t) before = before
+aged_by (FanEnd t) before = before
+aged_by (GossipBeat t) before = before
+aged_by BeatEnd before = older before
+
 -- the end of a heartbeat makes what is kept older
 abbrev pub aged_after : Event → Option Keeping → Option Keeping
-aged_after BeatEnd before = older before
+aged_after (Step step) before = aged_by step before
 aged_after other before = before
 
 -- the message that was kept last under an identifier
 abbrev pub last_kept : Entries → MsgId → Option Keeping
 last_kept [] id = None
-last_kept (e ∷ L) id = after_marks (kept_after id e.event) e.marks (aged_after e.event (last_kept L id))
+last_kept (e ∷ L) id = after_marks (kept_after id e.event) e.effects.marks (aged_after e.event (last_kept L id))
 
 -- a message is kept until this many heartbeats have ended
 abbrev pub keeping : ℕ → Option Keeping → Option Keeping
@@ -226,7 +273,7 @@ order_after other before = before
 -- the identifiers of all that was kept, in the order in which each was kept last, the oldest first
 abbrev pub keeping_order : Entries → List MsgId
 keeping_order [] = []
-keeping_order (e ∷ L) = after_marks order_after e.marks (keeping_order L)
+keeping_order (e ∷ L) = after_marks order_after e.effects.marks (keeping_order L)
 
 -- how often a neighbour was sent a message since that was kept anew
 abbrev pub answered_after : PeerNo → MsgId → Mark → ℕ → ℕ
@@ -236,7 +283,7 @@ answered_after q id other before = before
 
 abbrev pub answered : Entries → PeerNo → MsgId → ℕ
 answered [] q id = 0
-answered (e ∷ L) q id = after_marks (answered_after q id) e.marks (answered L q id)
+answered (e ∷ L) q id = after_marks (answered_after q id) e.effects.marks (answered L q id)
 
 -- ---- heartbeats
 
@@ -251,9 +298,16 @@ heartbeats (e ∷ L) = counted_after e.event (heartbeats L)
 
 -- ---- budgets
 
+abbrev pub anew_by : BeatStep → ℕ → ℕ
+anew_by (MeshBeat t) before = before
+anew_by (FanBeat t) before = before
+anew_by (FanEnd t) before = before
+anew_by (GossipBeat t) before = before
+anew_by BeatEnd before = 0
+
 -- the end of a heartbeat begins a count anew
 abbrev pub anew_after : Event → ℕ → ℕ
-anew_after BeatEnd before = 0
+anew_after (Step step) before = anew_by step before
 anew_after other before = before
 
 -- how many offers of a neighbour counted since the last heartbeat
@@ -263,7 +317,7 @@ offers_after q other before = before
 
 abbrev pub offers : Entries → PeerNo → ℕ
 offers [] q = 0
-offers (e ∷ L) q = after_marks (offers_after q) e.marks (anew_after e.event (offers L q))
+offers (e ∷ L) q = after_marks (offers_after q) e.effects.marks (anew_after e.event (offers L q))
 
 -- how many identifiers were asked of a neighbour since the last heartbeat
 abbrev pub asked_after : PeerNo → Mark → ℕ → ℕ
@@ -272,7 +326,7 @@ asked_after q other before = before
 
 abbrev pub asked : Entries → PeerNo → ℕ
 asked [] q = 0
-asked (e ∷ L) q = after_marks (asked_after q) e.marks (anew_after e.event (asked L q))
+asked (e ∷ L) q = after_marks (asked_after q) e.effects.marks (anew_after e.event (asked L q))
 
 -- ---- promises
 
@@ -294,4 +348,4 @@ made (Some promise) = promise ∷ []
 -- the promises that were neither kept nor ended, the oldest first
 abbrev pub promises : Entries → List Promise
 promises [] = []
-promises (e ∷ L) = after_marks fulfilled_after e.marks (ended_after e.event e.at.0 (promises L)) ++ made e.promise
+promises (e ∷ L) = after_marks fulfilled_after e.effects.marks (ended_after e.event e.at.0 (promises L)) ++ made e.effects.promise

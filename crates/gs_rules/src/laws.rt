@@ -17,10 +17,12 @@ ghost use Rattle.gs_mesh.specs.MeshSteps.{IsMeshStep};
 ghost use Rattle.gs_score.specs.Addresses.{is_counted};
 ghost use Rattle.gs_score.specs.Histories.{addresses_in};
 ghost use Rattle.gs_wire.specs.Codec.{codec};
+ghost use Rattle.gs_rules.specs.declared.trace.Effects.{Effects};
 ghost use Rattle.gs_rules.specs.declared.trace.Entry.{Entry};
 ghost use Rattle.gs_rules.specs.declared.trace.Promise.{Promise};
-ghost use Rattle.gs_rules.specs.declared.trace.Event.{Event};
-ghost use Rattle.gs_rules.specs.declared.trace.Event.TheVariants.{BeatBegin, MeshBeat, Shut};
+ghost use Rattle.gs_rules.specs.declared.event.Event.{Event};
+ghost use Rattle.gs_rules.specs.declared.event.Event.TheVariants.{BeatBegin, Shut, Step};
+ghost use Rattle.gs_rules.specs.declared.event.BeatStep.TheVariants.{MeshBeat};
 ghost use Rattle.gs_rules.specs.declared.refusal.RefusedLine.{RefusedLine};
 ghost use Rattle.gs_rules.specs.Peers.{Peer, links_of, seen_ttl};
 ghost use Rattle.gs_rules.specs.Tables.{Entries, Keeping, heartbeats, is_shut, joined, kept, keeping_order, own_topics, promises, topic_order, up};
@@ -108,7 +110,7 @@ pub fn what_words_choose_is_legal<W: Words>()
     ensures exact { (p : Peer) (s t : W) (first later : Entries)
         → LegalOn (exact W.word W.after) p s first later t
         → LegalOn free p tt first later tt }
-    ensures rule { (r : Rule) (s t : W) (e : Entry)
+    ensures rule { (r : Rule) (s t : W) (e : Effects)
         → Follows (exact W.word W.after) r s e t
         → Follows free r tt e tt }
     ensures choiceless { (p : Peer) (s : W) (first later : Entries)
@@ -127,9 +129,9 @@ pub fn words_fix_the_next_entry<W: Words>()
         → (e ≡ f) × (t ≡ u) }
 {}
 
-/// A rule and the words fix what is chosen: one entry follows it, and leaves one state of the words.
+/// A rule and the words fix what is chosen: one list of effects follows it, and leaves one state of the words.
 pub fn words_fix_what_follows_a_rule<W: Words>()
-    ensures { (r : Rule) (s t u : W) (e f : Entry)
+    ensures { (r : Rule) (s t u : W) (e f : Effects)
         → Follows (exact W.word W.after) r s e t
         → Follows (exact W.word W.after) r s f u
         → (e ≡ f) × (t ≡ u) }
@@ -137,7 +139,7 @@ pub fn words_fix_what_follows_a_rule<W: Words>()
 
 /// No word is drawn for an entry whose rule leaves nothing to choose.
 pub fn what_is_given_draws_no_word<W: Words>()
-    ensures { (p : Peer) (s t : W) (first : Entries) (e x : Entry)
+    ensures { (p : Peer) (s t : W) (first : Entries) (e : Entry) (x : Effects)
         → LegalOn (exact W.word W.after) p s first (e ∷ []) t
         → rule_of p first e.at e.event ≡ Gives x
         → t ≡ s }
@@ -218,7 +220,7 @@ pub fn a_heartbeat_mends_gossips_and_ends()
         → owes p entries e.at.0 e.event ≡ []
         → owed p (e ∷ entries) ≡ reached p (e ∷ entries) groups }
     ensures meshes { (p : Peer) (entries : Entries)
-        → events_in p entries MeshBeats ≡ map MeshBeat (own_topics entries) }
+        → events_in p entries MeshBeats ≡ map (λ t. Step (MeshBeat t)) (own_topics entries) }
     ensures fanouts { (p : Peer) (entries : Entries) (at : ℕ)
         → events_in p entries (FanBeats at) ≡ map (fan_event p entries at) (fanout_topics entries) }
     ensures gossips { (p : Peer) (entries : Entries)
@@ -236,19 +238,19 @@ pub fn a_heartbeat_mends_gossips_and_ends()
 /// entry is that mending as it stands. Whoever comes in might be grafted, and whoever goes was a member.
 pub fn a_heartbeat_moves_a_mesh_a_step<W: Words>()
     ensures step { (p : Peer) (entries : Entries) (e : Entry) (t : Topic)
-        → Follows free (mesh_beat_rule p entries e.at t) tt e tt
+        → Follows free (mesh_beat_rule p entries e.at t) tt e.effects tt
         → (change : MeshChange)
         × IsMeshStep p.params (heartbeats entries)
         (scored_members p entries e.at.0 (mesh entries t))
         (scored_members p entries e.at.0 (candidates p entries e.at.0 t)) change
-        × SaysTheSame e (mending p entries e.at t change) }
+        × SaysTheSame e.effects (mending p entries e.at t change) }
     ensures words { (p : Peer) (entries : Entries) (e : Entry) (t : Topic) (s u : W)
-        → Follows (exact W.word W.after) (mesh_beat_rule p entries e.at t) s e u
+        → Follows (exact W.word W.after) (mesh_beat_rule p entries e.at t) s e.effects u
         → (change : MeshChange)
         × IsMeshStep p.params (heartbeats entries)
         (scored_members p entries e.at.0 (mesh entries t))
         (scored_members p entries e.at.0 (candidates p entries e.at.0 t)) change
-        × (e ≡ mending p entries e.at t change) }
+        × (e.effects ≡ mending p entries e.at t change) }
     ensures grafted { (p : Peer) (entries : Entries) (at : ℕ) (t : Topic) (change : MeshChange)
         → IsMeshStep p.params (heartbeats entries)
         (scored_members p entries at (mesh entries t))
@@ -272,7 +274,7 @@ pub fn gossip_is_of_what_is_kept()
 pub fn a_promise_is_charged_once()
     ensures { (entries : Entries) (e : Entry)
         → e.event ≡ BeatBegin
-        → e.promise ≡ None
+        → e.effects.promise ≡ None
         → All (λ promise. e.at.0 < promise.until.0) (promises (e ∷ entries)) }
 {}
 
@@ -280,16 +282,16 @@ pub fn a_promise_is_charged_once()
 /// neighbour is up, it is charged to it. And no other promise is held.
 pub fn a_broken_promise_is_charged()
     ensures held { (later earlier : Entries) (e : Entry) (promise : Promise)
-        → e.promise ≡ Some promise
+        → e.effects.promise ≡ Some promise
         → AllByRecursion (IsOpen promise) later
         → IsAmong (promises (later ++ e ∷ earlier)) promise }
     ensures due { (later earlier : Entries) (e : Entry) (promise : Promise) (at : ℕ)
-        → e.promise ≡ Some promise
+        → e.effects.promise ≡ Some promise
         → AllByRecursion (IsOpen promise) later
         → promise.until.0 ≤ at
         → IsAmong (overdue (later ++ e ∷ earlier) at promise.from) promise }
     ensures charged { (later earlier : Entries) (e : Entry) (promise : Promise) (at : ℕ)
-        → e.promise ≡ Some promise
+        → e.effects.promise ≡ Some promise
         → AllByRecursion (IsOpen promise) later
         → promise.until.0 ≤ at
         → up (later ++ e ∷ earlier) promise.from ≡ true
@@ -324,7 +326,7 @@ pub fn each_mark_of_a_legal_trace_counts()
     ensures all { (p : Peer) (entries : Entries) (e : Entry)
         → Legal p (e ∷ entries)
         → IsFromNeighbour p e.event
-        → history p (e ∷ entries) ≡ reverse (map (change_of e.at) e.marks) ++ changed_after e.event (history p entries) }
+        → history p (e ∷ entries) ≡ reverse (map (change_of e.at) e.effects.marks) ++ changed_after e.event (history p entries) }
     ensures room { (p : Peer) (entries : Entries) (q : PeerNoValue) (t : Topic)
         → Legal p entries
         → is_neighbour p q ≡ true

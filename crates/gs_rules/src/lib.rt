@@ -2,6 +2,7 @@
 //! what there is to do in each round.
 #![tactic(auto)]
 
+mod event;
 mod laws;
 mod member_laws;
 mod outcome;
@@ -9,6 +10,7 @@ mod refusal;
 mod stored;
 mod trace;
 
+pub use event::{BeatStep, Event, Loss, RpcPart};
 pub use laws::{
     a_broken_promise_is_charged, a_delivery_is_not_repeated, a_heartbeat_mends_gossips_and_ends,
     a_heartbeat_moves_a_mesh_a_step, a_part_with_nothing_left_is_whole, a_promise_is_charged_once,
@@ -24,7 +26,7 @@ pub use member_laws::{
     a_member_was_not_in_backoff, explicit_neighbours_stay_outside, mesh_members_are_up,
     meshes_are_of_own_topics,
 };
-pub use outcome::Outcome;
+pub use outcome::{FanoutUse, GraftAnswer, Outcome};
 pub use refusal::{Refusal, RefusedLine};
 pub use stored::StoredEntry;
-pub use trace::{Entry, Event, Promise, Trace};
+pub use trace::{Effects, Entry, Promise, Trace};

@@ -38,7 +38,7 @@ pub fn a_member_was_not_in_backoff()
         → CameIn q t entries }
     ensures anybody { (p : Peer) (later earlier : Entries) (e : Entry) (q : PeerNoValue) (t : Topic)
         → Legal p (later ++ e ∷ earlier)
-        → IsAmong e.marks (Grafted q t)
+        → IsAmong e.effects.marks (Grafted q t)
         → nat_le (backoff earlier q t) e.at.0 ≡ true }
 {}
 

@@ -1,4 +1,5 @@
-//! What becomes of a message that a neighbour passes on (gossipsub v1.0, "Message Processing").
+//! What becomes of a message that a neighbour passes on (gossipsub v1.0, "Message Processing"), of a GRAFT, and of a
+//! fanout when the peer publishes.
 use gs_base::MsgId;
 
 /// What becomes of a message that a neighbour passes on.
@@ -17,4 +18,28 @@ pub enum Outcome {
     Near(MsgId),
     /// It is delivered, kept and passed on, and its identifier marked as seen.
     Accepted(MsgId),
+}
+
+/// What becomes of a GRAFT (gossipsub v1.0, "Control messages"; v1.1, "Prune Backoff").
+#[derive(Clone, Copy, Debug, PartialEq, Eq)]
+pub enum GraftAnswer {
+    /// Nothing: the peer isn't subscribed, or has its sender in the mesh.
+    PassedOver,
+    /// It comes too soon: it counts against its sender, and is refused.
+    TooSoon,
+    /// It is refused: its sender is explicit, or scores below 0, or there is no room for it.
+    Refused,
+    /// Its sender comes into the mesh.
+    Taken,
+}
+
+/// What becomes of the fanout of a topic when the peer publishes on it (gossipsub v1.0, "Fanout maintenance").
+#[derive(Clone, Copy, Debug, PartialEq, Eq)]
+pub enum FanoutUse {
+    /// Nothing: the payload goes elsewhere.
+    Unused,
+    /// The payload goes to members of the fanout, which is kept.
+    Kept,
+    /// Those that the payload goes to become the fanout.
+    Filled,
 }

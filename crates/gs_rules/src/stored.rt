@@ -1,22 +1,14 @@
 //! Entries as a trace stores them.
 ghost use Rattle.std.specs.Prelude.{◌≡◌, [], IfOk};
 ghost use Rattle.std.specs.Option.{option_copied};
-ghost use Rattle.gs_rules.specs.Stored.{no_effects};
+ghost use Rattle.gs_rules.specs.Rule.{no_effects};
 
-use crate::trace::{Entry, Event, Promise};
+use crate::event::Event;
+use crate::trace::{Effects, Entry, Promise};
 use bytes::Bytes;
-use gs_base::{Mark, Millis, PeerNo, Rpc, Seq, Shared, Topic};
+use gs_base::{Mark, Millis, PeerNo, Rpc, Shared, Topic};
 use std::alloc::{AllocError, Global};
 use std::marker::Model;
-
-/// What a peer did about an event.
-#[derive(Debug, Drop)]
-struct Effects {
-    sends: Seq<(PeerNo, Shared<Rpc>)>,
-    delivered: Seq<(Topic, Bytes)>,
-    promise: Option<Shared<Promise>>,
-    marks: Seq<Mark>,
-}
 
 /// An entry as a trace stores it. What was done stands apart, since a peer does nothing about most events, which are
 /// messages that it has seen. Contracts see the entry.
@@ -44,27 +36,14 @@ impl StoredEntry {
     pub fn new(alloc: Global, entry: Entry) -> Result<StoredEntry, AllocError>
         ensures { IfOk result (λ stored. stored ≡ entry) }
     {
-        let Entry {
-            at,
-            event,
-            sends,
-            delivered,
-            promise,
-            marks,
-        } = entry;
-        if sends.is_empty() && delivered.is_empty() && promise.is_none() && marks.is_empty() {
+        let Entry { at, event, effects } = entry;
+        if effects.are_none() {
             return Ok(StoredEntry {
                 at,
                 event,
                 effects: None,
             });
         }
-        let effects = Effects {
-            sends,
-            delivered,
-            promise,
-            marks,
-        };
         let effects = Shared::new(alloc, effects)?;
         Ok(StoredEntry {
             at,
@@ -89,7 +68,7 @@ impl StoredEntry {
 
     /// What was sent to whom, in order.
     pub fn sends(&self) -> &[(PeerNo, Shared<Rpc>)]
-        ensures { result.now ≡ self.now.sends }
+        ensures { result.now ≡ self.now.effects.sends }
     {
         match &self.effects {
             Some(effects) => effects.get().sends.as_slice(),
@@ -99,7 +78,7 @@ impl StoredEntry {
 
     /// The topics and payloads of what was delivered to the peer's own user.
     pub fn delivered(&self) -> &[(Topic, Bytes)]
-        ensures { result.now ≡ self.now.delivered }
+        ensures { result.now ≡ self.now.effects.delivered }
     {
         match &self.effects {
             Some(effects) => effects.get().delivered.as_slice(),
@@ -109,7 +88,7 @@ impl StoredEntry {
 
     /// What a neighbour promised, where it was asked for something.
     pub fn promise(&self) -> Option<&Promise>
-        ensures { option_copied result ≡ self.now.promise }
+        ensures { option_copied result ≡ self.now.effects.promise }
     {
         match &self.effects {
             Some(effects) => match &effects.get().promise {
@@ -122,7 +101,7 @@ impl StoredEntry {
 
     /// What is to be remembered.
     pub fn marks(&self) -> &[Mark]
-        ensures { result.now ≡ self.now.marks }
+        ensures { result.now ≡ self.now.effects.marks }
     {
         match &self.effects {
             Some(effects) => effects.get().marks.as_slice(),

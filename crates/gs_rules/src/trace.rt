@@ -1,102 +1,13 @@
 //! What a peer did, entry by entry. docs/PROTOCOL.md says which entries may follow each other.
-ghost use Rattle.std.specs.Prelude.{◌≡◌, ◌<◌, ◌^◌, [], ◌∷◌, length, OnOk, OnErr};
-ghost use Rattle.gs_rules.specs.Tables.{lost};
+ghost use Rattle.std.specs.Prelude.{◌≡◌, ◌<◌, ◌^◌, [], ◌∷◌, length, true, OnOk, OnErr};
+ghost use Rattle.gs_rules.specs.Rule.{no_effects};
 
+use crate::event::Event;
 use crate::stored::StoredEntry;
 use bytes::Bytes;
-use gs_base::{
-    Graft, IHave, IWant, Mark, Message, Millis, MsgId, PeerNo, Prune, Rpc, Seq, Shared, SharedPart,
-    SubOpt, Topic,
-};
+use gs_base::{Mark, Millis, MsgId, PeerNo, Rpc, Seq, Shared, Topic};
 use std::alloc::{AllocError, Global};
 use std::marker::Model;
-
-/// What happened at a peer. What is long of it stands apart, so that an entry is small.
-#[derive(Debug, Drop, PartialEq, Eq)]
-pub enum Event {
-    /// A neighbour's RPC came. Its parts follow, unless the neighbour is on the graylist.
-    Heard(PeerNo, Shared<Rpc>),
-    /// An RPC came of a neighbour that is not heard any more.
-    Late(PeerNo, Shared<Rpc>),
-    /// A neighbour subscribed to a topic or left it.
-    Sub(PeerNo, SharedPart<SubOpt>),
-    /// A neighbour passed on a message (gossipsub v1.0, "Message Processing").
-    Msg(PeerNo, SharedPart<Message>),
-    /// A neighbour offered messages (gossipsub v1.0, "Control Messages", IHAVE).
-    Have(PeerNo, SharedPart<IHave>),
-    /// A neighbour asked for messages (IWANT).
-    Want(PeerNo, SharedPart<IWant>),
-    /// A neighbour said that it put the peer into a mesh (GRAFT).
-    GraftIn(PeerNo, SharedPart<Graft>),
-    /// A neighbour said that it took the peer out of a mesh (PRUNE).
-    PruneIn(PeerNo, SharedPart<Prune>),
-    /// The peer subscribed to a topic (gossipsub v1.0, "Topic Membership", JOIN).
-    Subscribe(Topic),
-    /// The peer left a topic (LEAVE).
-    Unsubscribe(Topic),
-    /// The peer published a payload on a topic.
-    Publish(Topic, Bytes),
-    /// A heartbeat began: promises whose time had come ended. Meshes, fanouts and gossip follow, and the heartbeat's end.
-    BeatBegin,
-    /// The mesh of a topic was mended by a heartbeat (gossipsub v1.0, "Mesh maintenance").
-    MeshBeat(Topic),
-    /// The fanout of a topic was mended by a heartbeat (gossipsub v1.0, "Fanout maintenance").
-    FanBeat(Topic),
-    /// The fanout of a topic ended: the peer has not published on it for its time.
-    FanEnd(Topic),
-    /// What there is on a topic was gossiped by a heartbeat (gossipsub v1.0, "Gossip Emission").
-    GossipBeat(Topic),
-    /// A heartbeat ended.
-    BeatEnd,
-    /// The counters that scores are made of decayed by a step.
-    Decay,
-    /// The round of this number ended: neighbours hear in the next one what was sent in it.
-    RoundEnd(u64),
-    /// A neighbour closed its link.
-    Gone(PeerNo),
-    /// A neighbour's bytes spelled no RPC, or ended within one.
-    Fault(PeerNo),
-    /// The peer closed its link to a neighbour.
-    HangUp(PeerNo),
-    /// The peer put these bytes on the link to a neighbour, as they are.
-    Raw(PeerNo, Bytes),
-    /// The peer shut down.
-    Shut,
-}
-
-impl Event {
-    /// The neighbour that it loses, if any. Each event is named, so that none is forgotten.
-    pub fn lost(&self) -> Option<PeerNo>
-        ensures { result ≡ lost self.now }
-    {
-        match self {
-            Event::Gone(peer) => Some(*peer),
-            Event::Fault(peer) => Some(*peer),
-            Event::HangUp(peer) => Some(*peer),
-            Event::Heard(_, _) => None,
-            Event::Late(_, _) => None,
-            Event::Sub(_, _) => None,
-            Event::Msg(_, _) => None,
-            Event::Have(_, _) => None,
-            Event::Want(_, _) => None,
-            Event::GraftIn(_, _) => None,
-            Event::PruneIn(_, _) => None,
-            Event::Subscribe(_) => None,
-            Event::Unsubscribe(_) => None,
-            Event::Publish(_, _) => None,
-            Event::BeatBegin => None,
-            Event::MeshBeat(_) => None,
-            Event::FanBeat(_) => None,
-            Event::FanEnd(_) => None,
-            Event::GossipBeat(_) => None,
-            Event::BeatEnd => None,
-            Event::Decay => None,
-            Event::RoundEnd(_) => None,
-            Event::Raw(_, _) => None,
-            Event::Shut => None,
-        }
-    }
-}
 
 /// What a neighbour promised by its offer: one of the messages that it was asked for (gossipsub v1.1, "Spam
 /// Protection Measures").
@@ -110,13 +21,9 @@ pub struct Promise {
     pub until: Millis,
 }
 
-/// One step of a peer: what happened, when, and what the peer did about it.
+/// What a peer did about an event.
 #[derive(Debug, Drop, PartialEq, Eq)]
-pub struct Entry {
-    /// The moment of the event.
-    pub at: Millis,
-    /// What happened.
-    pub event: Event,
+pub struct Effects {
     /// What was sent to whom, in order. One RPC is shared by all whom it goes to.
     pub sends: Seq<(PeerNo, Shared<Rpc>)>,
     /// The topics and payloads of what was delivered to the peer's own user.
@@ -125,6 +32,41 @@ pub struct Entry {
     pub promise: Option<Shared<Promise>>,
     /// What is to be remembered.
     pub marks: Seq<Mark>,
+}
+
+impl Effects {
+    /// Nothing was done. It takes no memory.
+    pub fn none(alloc: Global) -> Effects
+        ensures { result ≡ no_effects }
+    {
+        Effects {
+            sends: Seq::new(alloc),
+            delivered: Seq::new(alloc),
+            promise: None,
+            marks: Seq::new(alloc),
+        }
+    }
+
+    /// Whether nothing was done.
+    pub fn are_none(&self) -> bool
+        ensures { result ≡ true → self.now ≡ no_effects }
+    {
+        self.sends.is_empty()
+            && self.delivered.is_empty()
+            && self.promise.is_none()
+            && self.marks.is_empty()
+    }
+}
+
+/// One step of a peer: what happened, when, and what the peer did about it.
+#[derive(Debug, Drop, PartialEq, Eq)]
+pub struct Entry {
+    /// The moment of the event.
+    pub at: Millis,
+    /// What happened.
+    pub event: Event,
+    /// What the peer did about it.
+    pub effects: Effects,
 }
 
 /// What a peer did so far. Contracts see its entries with the newest first.

@@ -2,9 +2,10 @@
 use bytes::Bytes;
 use gs_base::{Mark, Message, Millis, MsgId, PeerNo, Rpc, Seq, Shared, SharedPart, Topic, Verdict};
 use gs_params::SeededWords;
+use gs_plan::Act;
 use gs_rules::{
-    Entry, Event, Refusal, StoredEntry, Trace, a_broken_promise_is_charged,
-    a_delivery_is_not_repeated, a_heartbeat_mends_gossips_and_ends,
+    BeatStep, Effects, Entry, Event, Loss, Refusal, RpcPart, StoredEntry, Trace,
+    a_broken_promise_is_charged, a_delivery_is_not_repeated, a_heartbeat_mends_gossips_and_ends,
     a_heartbeat_moves_a_mesh_a_step, a_member_was_not_in_backoff,
     a_part_with_nothing_left_is_whole, a_promise_is_charged_once,
     each_mark_of_a_legal_trace_counts, gossip_is_of_what_is_kept, legal_entries_compose,
@@ -58,12 +59,21 @@ fn delivery(alloc: Global, at: u64, payload: &[u8]) -> Result<Entry, AllocError>
     marks.push(Mark::Seen(MsgId::of(payload), Verdict::Accept))?;
     Ok(Entry {
         at: Millis(at),
-        event: Event::Msg(PeerNo(2), message(alloc, payload)?.share(alloc)?),
-        sends: Seq::new(alloc),
-        delivered,
-        promise: None,
-        marks,
+        event: Event::Part(
+            PeerNo(2),
+            RpcPart::Msg(message(alloc, payload)?.share(alloc)?),
+        ),
+        effects: Effects {
+            delivered,
+            marks,
+            ..Effects::none(alloc)
+        },
     })
+}
+
+fn publication(alloc: Global, payload: &[u8]) -> Result<Act, AllocError> {
+    let payload = Bytes::copy_from_slice(alloc, payload)?;
+    Ok(Act::Publish(topic(alloc)?, payload))
 }
 
 /// A payload that was published and sent to neighbour 1.
@@ -74,11 +84,12 @@ fn publishing(alloc: Global, at: u64, payload: &[u8]) -> Result<Entry, AllocErro
     marks.push(Mark::Seen(MsgId::of(payload), Verdict::Accept))?;
     Ok(Entry {
         at: Millis(at),
-        event: Event::Publish(topic(alloc)?, Bytes::copy_from_slice(alloc, payload)?),
-        sends,
-        delivered: Seq::new(alloc),
-        promise: None,
-        marks,
+        event: Event::Own(Shared::new(alloc, publication(alloc, payload)?)?),
+        effects: Effects {
+            sends,
+            marks,
+            ..Effects::none(alloc)
+        },
     })
 }
 
@@ -93,9 +104,10 @@ fn trace_of_two(alloc: Global) -> Result<Trace, AllocError> {
 /// Whether an entry was stored as it is.
 fn are_one(stored: &StoredEntry, entry: &Entry) -> bool {
     let is_event = stored.at() == entry.at && *stored.event() == entry.event;
-    let is_told = stored.sends() == entry.sends.as_slice()
-        && stored.delivered() == entry.delivered.as_slice();
-    is_event && is_told && stored.promise().is_none() && stored.marks() == entry.marks.as_slice()
+    let effects = &entry.effects;
+    let is_told = stored.sends() == effects.sends.as_slice()
+        && stored.delivered() == effects.delivered.as_slice();
+    is_event && is_told && stored.promise().is_none() && stored.marks() == effects.marks.as_slice()
 }
 
 /// Whether this is the first entry of the trace of two.
@@ -131,10 +143,10 @@ fn marking(alloc: Global, marks: Seq<Mark>) -> Entry {
     Entry {
         at: Millis(9),
         event: Event::Decay,
-        sends: Seq::new(alloc),
-        delivered: Seq::new(alloc),
-        promise: None,
-        marks,
+        effects: Effects {
+            marks,
+            ..Effects::none(alloc)
+        },
     }
 }
 
@@ -177,7 +189,7 @@ fn compares_moments(entries: &[Entry]) -> bool {
     let [seen, again, later] = entries else {
         return false;
     };
-    seen == again && seen != later && seen.event == later.event && seen.marks == later.marks
+    seen == again && seen != later && seen.event == later.event && seen.effects == later.effects
 }
 
 /// Entries of two payloads differ in each part that the payload is in.
@@ -185,7 +197,8 @@ fn compares_payloads(entries: &[Entry]) -> bool {
     let [seen, other] = entries else {
         return false;
     };
-    seen.event != other.event && seen.marks != other.marks && seen.delivered != other.delivered
+    let (these, others) = (&seen.effects, &other.effects);
+    seen.event != other.event && these.marks != others.marks && these.delivered != others.delivered
 }
 
 /// Events that hold no memory differ in their variant or in their number.
@@ -193,18 +206,18 @@ fn compares_events() -> bool {
     Event::RoundEnd(1) == Event::RoundEnd(1)
         && Event::RoundEnd(1) != Event::RoundEnd(2)
         && Event::RoundEnd(1) != Event::Shut
-        && Event::Gone(PeerNo(1)) != Event::Gone(PeerNo(2))
-        && Event::Gone(PeerNo(1)) != Event::Fault(PeerNo(1))
+        && Event::Lost(PeerNo(1), Loss::Gone) != Event::Lost(PeerNo(2), Loss::Gone)
+        && Event::Lost(PeerNo(1), Loss::Gone) != Event::Lost(PeerNo(1), Loss::Fault)
 }
 
 /// Gossip on one topic twice, and the start of a heartbeat and its end.
 fn heartbeats(alloc: Global) -> Result<Vec<Event>, AllocError> {
     let mut events = Vec::new(alloc);
     for _ in 0..2u8 {
-        events.push(Event::GossipBeat(topic(alloc)?))?;
+        events.push(Event::Step(BeatStep::GossipBeat(topic(alloc)?)))?;
     }
     events.push(Event::BeatBegin)?;
-    events.push(Event::BeatEnd)?;
+    events.push(Event::Step(BeatStep::BeatEnd))?;
     Ok(events)
 }
 

@@ -16,8 +16,8 @@ use Rattle.gs_plan.specs.declared.plan.Dial.{Dial}
 use Rattle.gs_plan.specs.declared.plan.Explicit.{Explicit}
 use Rattle.gs_plan.specs.declared.plan.Line.{Line}
 use Rattle.gs_plan.specs.declared.plan.PlannedPeer.{PlannedPeer}
-use Rattle.gs_plan.specs.declared.plan.What.{What}
-use Rattle.gs_plan.specs.declared.plan.What.TheVariants.{HangUp, Publish, Raw, Subscribe, Unsubscribe}
+use Rattle.gs_plan.specs.declared.plan.Act.{Act}
+use Rattle.gs_plan.specs.declared.plan.Act.TheVariants.{HangUp, Publish, Raw, Subscribe, Unsubscribe}
 use Rattle.gs_scenario.specs.declared.scenario.script.Verb.{Verb}
 use Rattle.gs_scenario.specs.declared.scenario.script.Verb.TheVariants as verbs
 use Rattle.gs_scenario.specs.declared.reason.NameKind.TheVariants as names
@@ -255,7 +255,7 @@ explicit_are peers dials ds = each_is (ExplicitAre peers dials) (agreement_in pe
 -- ---- the script
 
 -- it is on one of the topics, or to a neighbour of the peer, with not too many bytes
-record IsFor (topics : List (Topic × TopicParams)) (dials : List Dial) (peer : PeerNo) (what : What) : Type 0 where
+record IsFor (topics : List (Topic × TopicParams)) (dials : List Dial) (peer : PeerNo) (what : Act) : Type 0 where
   on : IfSome (topic_of what) (λ topic. has_topic topics topic ≡ true)
   to : IfSome (neighbour_of what) (λ to. are_joined dials peer to ≡ true)
   raw : IfSome (raw_of what) (λ bytes. length bytes ≤ longest_raw)
@@ -277,7 +277,7 @@ raw_at : (section : Section) → IfOk (read_key section raw_key) (λ bytes. leng
 raw_at section = at_required (λ bytes. length bytes ≤ longest_raw) raw_key.name (short_hex longest_raw) section (short_hex_is longest_raw)
 
 module _ (topics : List (Topic × TopicParams)) (peers : List PlannedPeer) (dials : List Dial) (section : Section) (peer : PeerNo) where
-  on_topic : (what : Topic → What) → ((topic : Topic) → has_topic topics topic ≡ true → IsFor topics dials peer (what topic)) → IfOk (read_key section (topic_key topics) >>= (λ topic. Ok (what topic))) (IsFor topics dials peer)
+  on_topic : (what : Topic → Act) → ((topic : Topic) → has_topic topics topic ≡ true → IsFor topics dials peer (what topic)) → IfOk (read_key section (topic_key topics) >>= (λ topic. Ok (what topic))) (IsFor topics dials peer)
   on_topic what h = next (λ topic. has_topic topics topic ≡ true) (IsFor topics dials peer) (read_key section (topic_key topics)) (λ topic. Ok (what topic)) (topic_at topics section) h
 
   what_is : (verb : Verb) → IfOk (what_in topics peers dials section peer verb) (IsFor topics dials peer)

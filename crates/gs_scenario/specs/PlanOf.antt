@@ -19,8 +19,8 @@ use Rattle.gs_plan.specs.declared.plan.Dial.{Dial}
 use Rattle.gs_plan.specs.declared.plan.App.{App}
 use Rattle.gs_plan.specs.declared.plan.Explicit.{Explicit}
 use Rattle.gs_plan.specs.declared.plan.Line.{Line}
-use Rattle.gs_plan.specs.declared.plan.What.{What}
-use Rattle.gs_plan.specs.declared.plan.What.TheVariants.{Subscribe, Unsubscribe, Publish, Raw, HangUp}
+use Rattle.gs_plan.specs.declared.plan.Act.{Act}
+use Rattle.gs_plan.specs.declared.plan.Act.TheVariants.{Subscribe, Unsubscribe, Publish, Raw, HangUp}
 use Rattle.gs_plan.specs.Plans.{are_joined, are_of_the_same, are_one_pair, join_the_same, longest_round, most_rounds, most_workers, highest_capacity, most_peers, most_planned_topics, highest_app_score, longest_raw}
 use Rattle.gs_scenario.specs.declared.scenario.script.Verb.{Verb}
 use Rattle.gs_scenario.specs.declared.scenario.script.Verb.TheVariants as verbs
@@ -322,7 +322,7 @@ known_keys kinds.HangUpLine = link_keys []
 
 -- what a line with this word asks of a peer
 unfoldable pub what_in : List (Topic × TopicParams) → List PlannedPeer → List Dial → Section → PeerNo → Verb
-    → Result What ScenarioFault
+    → Result Act ScenarioFault
 what_in topics peers dials section peer verbs.Subscribe = do
   topic ← read_key section (topic_key topics)
   Ok (Subscribe topic)

@@ -18,7 +18,7 @@ use crate::tests::reasons::{KNOWN_KEYS, REASONS};
 use bytes::Bytes;
 use gs_base::{PeerNo, Text, Topic};
 use gs_params::{Check, ParamFault, Parameter, ScoreRule};
-use gs_plan::{What, what_word};
+use gs_plan::{Act, what_word};
 use gs_scenario::{Found, ScenarioFault, TableKind, Wanted, read_plan};
 use std::alloc::{AllocError, Global};
 use std::process::Abort;
@@ -317,16 +317,13 @@ fn topic(alloc: Global) -> Result<Topic, AllocError> {
 #[test]
 fn what_is_told_has_its_word(rt: HostRuntime) -> Result<(), AllocError> {
     let alloc = rt.alloc();
-    assert_eq!(rt; what_word(&What::Subscribe(topic(alloc)?)), "subscribe");
-    assert_eq!(rt; what_word(&What::Unsubscribe(topic(alloc)?)), "unsubscribe");
+    assert_eq!(rt; what_word(&Act::Subscribe(topic(alloc)?)), "subscribe");
+    assert_eq!(rt; what_word(&Act::Unsubscribe(topic(alloc)?)), "unsubscribe");
     let nothing = Bytes::copy_from_slice(alloc, b"")?;
-    assert_eq!(rt;
-        what_word(&What::Publish(topic(alloc)?, nothing)),
-        "publish"
-    );
+    assert_eq!(rt; what_word(&Act::Publish(topic(alloc)?, nothing)), "publish");
     let nothing = Bytes::copy_from_slice(alloc, b"")?;
-    assert_eq!(rt; what_word(&What::Raw(PeerNo(0), nothing)), "raw");
-    assert_eq!(rt; what_word(&What::HangUp(PeerNo(0))), "hang_up");
+    assert_eq!(rt; what_word(&Act::Raw(PeerNo(0), nothing)), "raw");
+    assert_eq!(rt; what_word(&Act::HangUp(PeerNo(0))), "hang_up");
     Ok(())
 }
 

@@ -1,9 +1,9 @@
 //! What goes over each link.
-use crate::tests::made::{Life, SILENT, bytes, peers_of, rpc};
+use crate::tests::made::{Life, SILENT, bytes, own, peers_of, rpc};
 use gs_base::{Message, Millis, PeerNo, Rpc, Seq, Shared};
 use gs_figures::{LinkFigures, all_links};
-use gs_plan::Dial;
-use gs_rules::{Entry, Event, Trace};
+use gs_plan::{Act, Dial};
+use gs_rules::{BeatStep, Effects, Entry, Event, Loss, Trace};
 use std::alloc::{AllocError, Global};
 
 /// What peer 0 does.
@@ -189,12 +189,12 @@ fn push_sends(
 
 fn event_of(alloc: Global, step: Step) -> Result<Event, AllocError> {
     match step {
-        Step::Sends(_, _) => Ok(Event::BeatEnd),
+        Step::Sends(_, _) => Ok(Event::Step(BeatStep::BeatEnd)),
         Step::SendsLong(_, _) => Ok(Event::Decay),
         Step::EndsRound => Ok(Event::RoundEnd(0)),
-        Step::Puts(q, raw) => Ok(Event::Raw(PeerNo(q), bytes(alloc, raw)?)),
-        Step::HangsUp(q) => Ok(Event::HangUp(PeerNo(q))),
-        Step::Loses(q) => Ok(Event::Gone(PeerNo(q))),
+        Step::Puts(q, raw) => own(alloc, Act::Raw(PeerNo(q), bytes(alloc, raw)?)),
+        Step::HangsUp(q) => own(alloc, Act::HangUp(PeerNo(q))),
+        Step::Loses(q) => Ok(Event::Lost(PeerNo(q), Loss::Gone)),
         Step::ShutsDown => Ok(Event::Shut),
     }
 }
@@ -206,10 +206,10 @@ fn push_step(alloc: Global, trace: &mut Trace, step: Step) -> Result<(), AllocEr
     trace.push(Entry {
         at: Millis(0),
         event,
-        sends,
-        delivered: Seq::new(alloc),
-        promise: None,
-        marks: Seq::new(alloc),
+        effects: Effects {
+            sends,
+            ..Effects::none(alloc)
+        },
     })
 }
 

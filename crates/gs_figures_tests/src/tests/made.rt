@@ -7,8 +7,9 @@ use gs_base::{
     Control, Graft, IHave, IWant, Mark, Message, Millis, MsgId, PeerNo, Prune, Rpc, Seq, Shared,
     SharedPart, SubOpt, Topic, Verdict,
 };
+use gs_plan::Act;
 use gs_report::Finished;
-use gs_rules::{Entry, Event, Refusal, RefusedLine, Trace};
+use gs_rules::{Effects, Entry, Event, Refusal, RefusedLine, RpcPart, Trace};
 use std::alloc::{AllocError, Global};
 
 /// What becomes of a message, by the marks of its entry.
@@ -136,29 +137,42 @@ fn each_part(alloc: Global) -> Result<Shared<Rpc>, AllocError>
     Shared::new(alloc, rpc)
 }
 
+/// A part of an RPC comes of a neighbour.
+fn part_of(q: u16, part: RpcPart) -> Event {
+    Event::Part(PeerNo(q), part)
+}
+
+/// The peer's user has it do something.
+pub(crate) fn own(alloc: Global, act: Act) -> Result<Event, AllocError> {
+    Ok(Event::Own(Shared::new(alloc, act)?))
+}
+
 fn event_of(alloc: Global, did: Did) -> Result<Event, AllocError> {
     match did {
         Did::Hears(q) => Ok(Event::Heard(PeerNo(q), Shared::new(alloc, Rpc::empty(alloc))?)),
         Did::HearsLate(q) => Ok(Event::Late(PeerNo(q), Shared::new(alloc, Rpc::empty(alloc))?)),
-        Did::Message(q, _) => Ok(Event::Msg(PeerNo(q), SharedPart::at(each_part(alloc)?, 0))),
-        Did::Offer(q) => Ok(Event::Have(PeerNo(q), SharedPart::at(each_part(alloc)?, 0))),
-        Did::Request(q) => Ok(Event::Want(PeerNo(q), SharedPart::at(each_part(alloc)?, 0))),
-        Did::Graft(q) => Ok(Event::GraftIn(PeerNo(q), SharedPart::at(each_part(alloc)?, 0))),
-        Did::EarlyGraft(q) => Ok(Event::GraftIn(PeerNo(q), SharedPart::at(each_part(alloc)?, 0))),
-        Did::Prune(q) => Ok(Event::PruneIn(PeerNo(q), SharedPart::at(each_part(alloc)?, 0))),
+        Did::Message(q, _) => Ok(part_of(q, RpcPart::Msg(SharedPart::at(each_part(alloc)?, 0)))),
+        Did::Offer(q) => Ok(part_of(q, RpcPart::Have(SharedPart::at(each_part(alloc)?, 0)))),
+        Did::Request(q) => Ok(part_of(q, RpcPart::Want(SharedPart::at(each_part(alloc)?, 0)))),
+        Did::Graft(q) => Ok(part_of(q, RpcPart::GraftIn(SharedPart::at(each_part(alloc)?, 0)))),
+        Did::EarlyGraft(q) => Ok(part_of(
+            q,
+            RpcPart::GraftIn(SharedPart::at(each_part(alloc)?, 0)),
+        )),
+        Did::Prune(q) => Ok(part_of(q, RpcPart::PruneIn(SharedPart::at(each_part(alloc)?, 0)))),
         Did::Beat(_) => Ok(Event::BeatBegin),
-        Did::Subscribes(name) => Ok(Event::Subscribe(topic(alloc, name)?)),
-        Did::Leaves(name) => Ok(Event::Unsubscribe(topic(alloc, name)?)),
+        Did::Subscribes(name) => own(alloc, Act::Subscribe(topic(alloc, name)?)),
+        Did::Leaves(name) => own(alloc, Act::Unsubscribe(topic(alloc, name)?)),
         Did::Publishes(name, payload) => publish(alloc, name, payload),
         Did::PublishesOutside(name, payload) => publish(alloc, name, payload),
-        Did::Delivers(_, _) => Ok(Event::Msg(PeerNo(0), SharedPart::at(each_part(alloc)?, 0))),
+        Did::Delivers(_, _) => Ok(part_of(0, RpcPart::Msg(SharedPart::at(each_part(alloc)?, 0)))),
         Did::Sends(_, _) => Ok(Event::RoundEnd(0)),
     }
 }
 
 fn publish(alloc: Global, name: &str, payload: &[u8]) -> Result<Event, AllocError> {
     let topic = topic(alloc, name)?;
-    Ok(Event::Publish(topic, bytes(alloc, payload)?))
+    own(alloc, Act::Publish(topic, bytes(alloc, payload)?))
 }
 
 fn push_marks(alloc: Global, marks: &mut Seq<Mark>, did: Did) -> Result<(), AllocError> {
@@ -288,10 +302,12 @@ pub(crate) fn entry(alloc: Global, at: u64, did: Did) -> Result<Entry, AllocErro
     Ok(Entry {
         at: Millis(at),
         event: event_of(alloc, did)?,
-        sends,
-        delivered,
-        promise: None,
-        marks,
+        effects: Effects {
+            sends,
+            delivered,
+            promise: None,
+            marks,
+        },
     })
 }
 

@@ -4,7 +4,7 @@ use gs_base::{Mark, Millis, PeerNo, Seq};
 use gs_figures::{Form, RoundFigures, Span, rounds_of, rounds_text};
 use gs_plan::Plan;
 use gs_report::Report;
-use gs_rules::{Entry, Event, Trace};
+use gs_rules::{BeatStep, Effects, Entry, Event, Trace};
 use gs_scenario::read_plan;
 use std::alloc::{AllocError, Global};
 
@@ -242,11 +242,11 @@ const JSON: &str = "\
 fn marked(alloc: Global, at: u64, mark: Mark) -> Result<Entry, AllocError> {
     Ok(Entry {
         at: Millis(at),
-        event: Event::BeatEnd,
-        sends: Seq::new(alloc),
-        delivered: Seq::new(alloc),
-        promise: None,
-        marks: Seq::only(alloc, mark)?,
+        event: Event::Step(BeatStep::BeatEnd),
+        effects: Effects {
+            marks: Seq::only(alloc, mark)?,
+            ..Effects::none(alloc)
+        },
     })
 }
 

@@ -2,7 +2,7 @@
 use crate::tests::cases::{Case, FIELD_0, NOTHING, ROUND_0};
 use crate::tests::items::{PUBLISHES, SUBSCRIBES, Word};
 use gs_base::Millis;
-use gs_router_calls::{Act, Said, Seen};
+use gs_router_calls::{Call, Said, Seen};
 use gs_rules::{Refusal, RefusedLine};
 
 // ---- hang-ups
@@ -15,12 +15,12 @@ const ANSWERS: &[u8] = b"\x0a\x12\x08\x12\x03xyz\x22\x01a";
 const HANGS_UP: Case<'static> = Case {
     name: "a hang-up closes the link behind what was sent",
     script: &[
-        (0, 0, Act::Subscribe("a")),
-        (1, 1, Act::Publish("a", b"abc")),
-        (2, 1, Act::HangUp(2)),
-        (3, 1, Act::Publish("a", b"abd")),
-        (4, 2, Act::Raw(2, b"abe")),
-        (5, 2, Act::HangUp(2)),
+        (0, 0, Call::Subscribe("a")),
+        (1, 1, Call::Publish("a", b"abc")),
+        (2, 1, Call::HangUp(2)),
+        (3, 1, Call::Publish("a", b"abd")),
+        (4, 2, Call::Raw(2, b"abe")),
+        (5, 2, Call::HangUp(2)),
     ],
     hears: &[
         Word::Piece(SUBSCRIBES),
@@ -66,7 +66,7 @@ const HANGS_UP: Case<'static> = Case {
 /// Not even the end of the round is told.
 const HANGS_UP_AT_ONCE: Case<'static> = Case {
     name: "behind a hang-up bytes that spell no RPC are no fault",
-    script: &[(0, 0, Act::HangUp(2))],
+    script: &[(0, 0, Call::HangUp(2))],
     hears: &[Word::Piece(FIELD_0)],
     events: &[
         Seen::HangUp(2),
@@ -80,7 +80,7 @@ const HANGS_UP_AT_ONCE: Case<'static> = Case {
 /// The neighbour closes in round 0, which is heard before the lines of round 1.
 const IS_LEFT: Case<'static> = Case {
     name: "nothing can be done to the link of a neighbour that has left",
-    script: &[(0, 1, Act::HangUp(2)), (1, 1, Act::Raw(2, b"abc"))],
+    script: &[(0, 1, Call::HangUp(2)), (1, 1, Call::Raw(2, b"abc"))],
     events: &[
         Seen::RoundEnd(0),
         Seen::Gone(2),
@@ -126,19 +126,19 @@ const OF_200: &[u8] = b"0123456789abcdefghijklmnopqrstuvwxyzABCDEFGHIJKLMNOPQRST
 const PUTS_BYTES: Case<'static> = Case {
     name: "bytes go as they are, between the frames ahead of them and behind them",
     script: &[
-        (0, 0, Act::Subscribe("a")),
-        (1, 0, Act::Raw(2, b"")),
-        (2, 0, Act::Subscribe("b")),
-        (3, 0, Act::Raw(2, b"=")),
-        (4, 0, Act::Subscribe("c")),
-        (5, 0, Act::Raw(2, FORTH)),
-        (6, 0, Act::Subscribe("d")),
-        (7, 1, Act::Raw(2, OF_65)),
-        (8, 1, Act::Subscribe("e")),
-        (9, 1, Act::Raw(2, OF_200)),
-        (10, 1, Act::Subscribe("f")),
-        (11, 1, Act::Raw(2, b"~")),
-        (12, 1, Act::HangUp(2)),
+        (0, 0, Call::Subscribe("a")),
+        (1, 0, Call::Raw(2, b"")),
+        (2, 0, Call::Subscribe("b")),
+        (3, 0, Call::Raw(2, b"=")),
+        (4, 0, Call::Subscribe("c")),
+        (5, 0, Call::Raw(2, FORTH)),
+        (6, 0, Call::Subscribe("d")),
+        (7, 1, Call::Raw(2, OF_65)),
+        (8, 1, Call::Subscribe("e")),
+        (9, 1, Call::Raw(2, OF_200)),
+        (10, 1, Call::Subscribe("f")),
+        (11, 1, Call::Raw(2, b"~")),
+        (12, 1, Call::HangUp(2)),
     ],
     hears: &[Word::Rounds(0, 1)],
     refusals: &[0, 2, 3],

@@ -4,7 +4,7 @@ use crate::tests::items::{
 };
 use crate::tests::made::{ONE, Pair};
 use gs_base::Millis;
-use gs_router_calls::{Act, Said, Seen};
+use gs_router_calls::{Call, Said, Seen};
 use gs_rules::{Refusal, RefusedLine};
 
 /// What a peer lives through.
@@ -14,7 +14,7 @@ pub struct Case<'a> {
     /// Who lives, and its neighbour.
     pub pair: Pair,
     /// Its lines, each with its place in the plan and its round.
-    pub script: &'a [(usize, u64, Act<'a>)],
+    pub script: &'a [(usize, u64, Call<'a>)],
     /// What its neighbour says, and then closes its link.
     pub hears: &'a [Word<'a>],
     /// The last round.
@@ -48,10 +48,10 @@ pub const NOTHING: Case<'static> = Case {
 // ---- scripts
 
 /// Peer 1 subscribes to `a` in round 0 and again in round 2, and publishes `abc` in round 1.
-pub const SCRIPT: &[(usize, u64, Act<'static>)] = &[
-    (3, 2, Act::Subscribe("a")),
-    (5, 0, Act::Subscribe("a")),
-    (8, 1, Act::Publish("a", b"abc")),
+pub const SCRIPT: &[(usize, u64, Call<'static>)] = &[
+    (3, 2, Call::Subscribe("a")),
+    (5, 0, Call::Subscribe("a")),
+    (8, 1, Call::Publish("a", b"abc")),
 ];
 
 /// What a neighbour says that subscribes to `a` in the first of three rounds.
@@ -96,8 +96,8 @@ const SCRIPTED: Case<'static> = Case {
 const WITH_HEARTBEATS: Case<'static> = Case {
     name: "a heartbeat grafts a neighbour, or offers it what is kept",
     script: &[
-        (0, 0, Act::Subscribe("a")),
-        (1, 10, Act::Publish("a", b"abc")),
+        (0, 0, Call::Subscribe("a")),
+        (1, 10, Call::Publish("a", b"abc")),
     ],
     hears: &[
         Word::Piece(SUBSCRIBES),

@@ -17,7 +17,7 @@ use gs_base::PeerNo;
 use gs_ends::ListEnds;
 use gs_link::Item;
 use gs_peer::{PeerTask, Surroundings};
-use gs_router_calls::Act;
+use gs_router_calls::Call;
 use std::alloc::{AllocError, AllocGlobal, Global};
 use std::io;
 use std::process::Abort;
@@ -33,7 +33,7 @@ struct Crowd<'a> {
     /// How many neighbours it has; their numbers begin at 1.
     neighbours: u16,
     /// Its lines, each with its place in the plan and its round.
-    script: &'a [(usize, u64, Act<'a>)],
+    script: &'a [(usize, u64, Call<'a>)],
     /// What each neighbour says, and then closes its link.
     hears: &'a [Word<'a>],
     /// The last round.
@@ -69,7 +69,7 @@ const TWO_ROUNDS: Crowd<'static> = Crowd {
 const FULL: Crowd<'static> = Crowd {
     name: "a frame that is refused keeps no turn, so each round is played",
     neighbours: 2,
-    script: &[(0, 1, Act::Subscribe("a"))],
+    script: &[(0, 1, Call::Subscribe("a"))],
     hears: &[Word::Rounds(0, 2)],
     rounds: 3,
     room: 1,

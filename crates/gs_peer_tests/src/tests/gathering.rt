@@ -1,7 +1,7 @@
 //! Lives of a peer that says several things to its neighbour in one round: they go out as one frame.
 use crate::tests::cases::{Case, NOTHING};
 use crate::tests::items::Word;
-use gs_router_calls::{Act, Said, Seen};
+use gs_router_calls::{Call, Said, Seen};
 
 /// What subscribes to `news` and grafts it.
 const SUBSCRIBES_AND_GRAFTS: &[u8] =
@@ -10,7 +10,7 @@ const SUBSCRIBES_AND_GRAFTS: &[u8] =
 /// One entry sends both.
 const GRAFTS_AT_ONCE: Case<'static> = Case {
     name: "a subscription and a GRAFT go out as one frame",
-    script: &[(0, 1, Act::Subscribe("news"))],
+    script: &[(0, 1, Call::Subscribe("news"))],
     hears: &[
         Word::Piece(b"\x0a\x0a\x08\x08\x01\x12\x04news"),
         Word::Rounds(0, 1),
@@ -41,9 +41,9 @@ const SAYS_ALL: &[u8] = b"\x24\x0a\x05\x08\x01\x12\x01a\x0a\x05\x08\x01\x12\x01b
 const SAYS_MUCH: Case<'static> = Case {
     name: "what is said in a round goes out as one frame",
     script: &[
-        (0, 1, Act::Subscribe("a")),
-        (1, 1, Act::Publish("a", b"abc")),
-        (2, 1, Act::Subscribe("b")),
+        (0, 1, Call::Subscribe("a")),
+        (1, 1, Call::Publish("a", b"abc")),
+        (2, 1, Call::Subscribe("b")),
     ],
     hears: &[
         Word::Piece(b"\x07\x0a\x05\x08\x01\x12\x01a"),
@@ -76,17 +76,17 @@ const SAYS_MUCH: Case<'static> = Case {
 const IS_CUT: Case<'static> = Case {
     name: "bytes as they are, a round's end and a hang-up cut what goes out as one frame",
     script: &[
-        (0, 0, Act::Subscribe("a")),
-        (1, 0, Act::Subscribe("b")),
-        (2, 0, Act::Raw(2, b"")),
-        (3, 0, Act::Subscribe("c")),
-        (4, 0, Act::Raw(2, b"\x07\x0a")),
-        (5, 0, Act::Subscribe("d")),
-        (6, 0, Act::Subscribe("e")),
-        (7, 1, Act::Subscribe("f")),
-        (8, 1, Act::Subscribe("g")),
-        (9, 1, Act::HangUp(2)),
-        (10, 1, Act::Subscribe("h")),
+        (0, 0, Call::Subscribe("a")),
+        (1, 0, Call::Subscribe("b")),
+        (2, 0, Call::Raw(2, b"")),
+        (3, 0, Call::Subscribe("c")),
+        (4, 0, Call::Raw(2, b"\x07\x0a")),
+        (5, 0, Call::Subscribe("d")),
+        (6, 0, Call::Subscribe("e")),
+        (7, 1, Call::Subscribe("f")),
+        (8, 1, Call::Subscribe("g")),
+        (9, 1, Call::HangUp(2)),
+        (10, 1, Call::Subscribe("h")),
     ],
     hears: &[Word::Rounds(0, 1)],
     refusals: &[0, 2, 3],

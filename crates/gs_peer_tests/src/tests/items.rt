@@ -1,9 +1,9 @@
 //! What a peer and its neighbour say to each other, and what the peer's user has it do.
 use bytes::Bytes;
-use gs_base::{PeerNo, Rpc, Topic};
+use gs_base::{PeerNo, Rpc};
 use gs_link::Item;
-use gs_plan::{Line, What};
-use gs_router_calls::Act;
+use gs_plan::Line;
+use gs_router_calls::{Call, act_of};
 use std::alloc::{AllocError, Global};
 
 /// The frame that subscribes to `a`.
@@ -76,37 +76,17 @@ pub fn said(alloc: Global, words: &[Word<'_>]) -> Result<Vec<Item>, AllocError> 
     Ok(items)
 }
 
-fn topic(alloc: Global, name: &str) -> Result<Topic, AllocError> {
-    Ok(Topic(Bytes::copy_from_slice(alloc, name.as_bytes())?))
-}
-
-fn what_of(alloc: Global, act: Act<'_>) -> Result<What, AllocError> {
-    match act {
-        Act::Subscribe(name) => Ok(What::Subscribe(topic(alloc, name)?)),
-        Act::Publish(name, payload) => {
-            let topic = topic(alloc, name)?;
-            Ok(What::Publish(topic, Bytes::copy_from_slice(alloc, payload)?))
-        }
-        Act::Raw(to, bytes) => {
-            let bytes = Bytes::copy_from_slice(alloc, bytes)?;
-            Ok(What::Raw(PeerNo(to), bytes))
-        }
-        Act::HangUp(to) => Ok(What::HangUp(PeerNo(to))),
-        _ => Err(AllocError),
-    }
-}
-
 /// The lines of a script, each with its place in the plan and its round.
 pub fn lines(
     alloc: Global,
-    script: &[(usize, u64, Act<'_>)],
+    script: &[(usize, u64, Call<'_>)],
 ) -> Result<Vec<(usize, Line)>, AllocError> {
     let mut lines = Vec::new(alloc);
-    for (place, at, act) in script {
+    for (place, at, call) in script {
         let line = Line {
             at: *at,
             peer: PeerNo(1),
-            what: what_of(alloc, *act)?,
+            what: act_of(alloc, *call)?,
         };
         lines.push((*place, line))?;
     }

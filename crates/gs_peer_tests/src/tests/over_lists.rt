@@ -6,7 +6,7 @@ use crate::tests::made::{ONE, TWO};
 use crate::tests::sides::{Both, Side};
 use gs_base::Topic;
 use gs_peer::FinishedTask;
-use gs_router_calls::{Act, Said, Seen};
+use gs_router_calls::{Call, Said, Seen};
 use std::alloc::{AllocError, Global};
 
 /// The frame that subscribes to `news`.
@@ -19,9 +19,9 @@ const PUBLISHES: &[u8] = b"\x0d\x12\x0b\x12\x03abc\x22\x04news";
 const GRAFTS: &[u8] = b"\x0a\x1a\x08\x1a\x06\x0a\x04news";
 
 /// Peer 1 subscribes to `news` in round 0, and publishes `abc` in round 2.
-const FIRST_SCRIPT: &[(usize, u64, Act<'static>)] = &[
-    (0, 0, Act::Subscribe("news")),
-    (2, 2, Act::Publish("news", b"abc")),
+const FIRST_SCRIPT: &[(usize, u64, Call<'static>)] = &[
+    (0, 0, Call::Subscribe("news")),
+    (2, 2, Call::Publish("news", b"abc")),
 ];
 
 /// It hears behind its last round what its neighbour says in that.
@@ -61,7 +61,7 @@ const FIRST_SAYS: &[Word<'static>] = &[
 ];
 
 /// Peer 2 subscribes to `news` in round 0.
-const SECOND_SCRIPT: &[(usize, u64, Act<'static>)] = &[(1, 0, Act::Subscribe("news"))];
+const SECOND_SCRIPT: &[(usize, u64, Call<'static>)] = &[(1, 0, Call::Subscribe("news"))];
 
 /// It hears in round 3 what is published in round 2, and has nobody to send it on to.
 const SECOND_EVENTS: &[Seen<'static>] = &[

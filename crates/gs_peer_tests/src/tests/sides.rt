@@ -1,13 +1,13 @@
 //! Lives of two peers that hear each other, and what must be seen of them.
 use crate::tests::cases::SCRIPT;
 use crate::tests::over_lists::NEWS_OVER_LINKS;
-use gs_router_calls::{Act, Said, Seen};
+use gs_router_calls::{Call, Said, Seen};
 
 /// What a peer does that another hears.
 #[derive(Clone, Copy, Debug)]
 pub struct Side<'a> {
     /// Its lines, each with its place in the plan and its round.
-    pub script: &'a [(usize, u64, Act<'a>)],
+    pub script: &'a [(usize, u64, Call<'a>)],
     /// The events of its trace.
     pub events: &'a [Seen<'a>],
 }
@@ -65,9 +65,9 @@ const HANG_UP: Both<'static> = Both {
     rounds: 3,
     first: Side {
         script: &[
-            (0, 0, Act::Subscribe("a")),
-            (1, 1, Act::Publish("a", b"abc")),
-            (2, 1, Act::HangUp(2)),
+            (0, 0, Call::Subscribe("a")),
+            (1, 1, Call::Publish("a", b"abc")),
+            (2, 1, Call::HangUp(2)),
         ],
         events: &[
             Seen::Subscribe("a"),
@@ -85,8 +85,8 @@ const HANG_UP: Both<'static> = Both {
     },
     second: Side {
         script: &[
-            (3, 0, Act::Subscribe("a")),
-            (4, 1, Act::Publish("a", b"xyz")),
+            (3, 0, Call::Subscribe("a")),
+            (4, 1, Call::Publish("a", b"xyz")),
         ],
         events: &[
             Seen::Subscribe("a"),
@@ -124,12 +124,12 @@ const RAW: Both<'static> = Both {
     rounds: 3,
     first: Side {
         script: &[
-            (0, 0, Act::Raw(2, HEAD)),
-            (1, 0, Act::Raw(2, TAIL)),
-            (2, 1, Act::Raw(2, UNFINISHED)),
-            (3, 1, Act::Subscribe("b")),
-            (4, 2, Act::Raw(2, MALFORMED)),
-            (5, 2, Act::Subscribe("c")),
+            (0, 0, Call::Raw(2, HEAD)),
+            (1, 0, Call::Raw(2, TAIL)),
+            (2, 1, Call::Raw(2, UNFINISHED)),
+            (3, 1, Call::Subscribe("b")),
+            (4, 2, Call::Raw(2, MALFORMED)),
+            (5, 2, Call::Subscribe("c")),
         ],
         events: &[
             Seen::Raw(2, HEAD),

@@ -5,7 +5,7 @@ use gs_params::{
     DEFAULT_DEGREES, DEFAULT_FACTORS, DEFAULT_FLOOD_PUBLISH, DEFAULT_THRESHOLDS, DEFAULT_TIMING,
     Params,
 };
-use gs_plan::{Line, Plan, PlannedPeer, What};
+use gs_plan::{Act, Line, Plan, PlannedPeer};
 use std::alloc::{AllocError, Global};
 
 pub(crate) fn bytes(alloc: Global, text: &[u8]) -> Result<Bytes, AllocError> {
@@ -28,11 +28,11 @@ pub(crate) fn plan(alloc: Global) -> Result<Plan, AllocError> {
     }
     let mut script = Seq::new(alloc);
     for what in [
-        What::Subscribe(topic(alloc, "news")?),
-        What::Unsubscribe(topic(alloc, "news")?),
-        What::Publish(topic(alloc, "news")?, bytes(alloc, b"abc")?),
-        What::Raw(PeerNo(1), bytes(alloc, b"\xff")?),
-        What::HangUp(PeerNo(1)),
+        Act::Subscribe(topic(alloc, "news")?),
+        Act::Unsubscribe(topic(alloc, "news")?),
+        Act::Publish(topic(alloc, "news")?, bytes(alloc, b"abc")?),
+        Act::Raw(PeerNo(1), bytes(alloc, b"\xff")?),
+        Act::HangUp(PeerNo(1)),
     ] {
         script.push(Line {
             at: 0,

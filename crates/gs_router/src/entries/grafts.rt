@@ -1,23 +1,18 @@
 //! What neighbours say of their meshes (gossipsub v1.0, "Control messages", GRAFT and PRUNE; v1.1, "Prune Backoff").
 ghost use Rattle.std.specs.Prelude.{◌≡◌, IfOk};
 ghost use Rattle.gs_base.specs.Names.{topic_or_empty};
-ghost use Rattle.gs_base.specs.declared.control.Graft.{Graft as GraftValue};
 ghost use Rattle.gs_rules.specs.Tables.{Entries};
 ghost use Rattle.gs_rules.specs.Membership.{is_negative, is_outbound};
-ghost use Rattle.gs_rules.specs.MeshRules.{asked_backoff, graft_rule, is_full_for, prune_rule, pruned_by, refusing};
+ghost use Rattle.gs_rules.specs.MeshRules.{asked_backoff, graft_answer, graft_effects, graft_rule, is_full_for, prune_rule, pruned_by, refusing, taking};
 ghost use Rattle.gs_router.specs.Tables.{Agrees};
-ghost use Rattle.gs_router.specs.Meshes.{accepting_graft, answered};
 ghost use Rattle.gs_router.specs.Known.{Knows, peer_with};
 
 use crate::entries::membership;
 use crate::entries::selection::{is_explicit, is_outbound};
-use crate::entries::sends::bare;
 use crate::entries::thresholds::is_negative;
 use crate::known::Known;
-use gs_base::{
-    Graft, LONGEST_BACKOFF, Mark, Millis, PeerNo, Prune, Rpc, Seq, Shared, SharedPart, Topic,
-};
-use gs_rules::{Entry, Event};
+use gs_base::{Graft, LONGEST_BACKOFF, Mark, Millis, PeerNo, Prune, Rpc, Seq, Shared, Topic};
+use gs_rules::{Effects, GraftAnswer};
 use std::alloc::{AllocError, Global};
 
 /// Whether there is no room in the mesh of a topic for one that was not dialled.
@@ -34,26 +29,11 @@ fn is_full_for(known: &Known, peer: PeerNo, topic: &Topic) -> bool
 
 // ---- a GRAFT
 
-/// What becomes of a GRAFT.
-#[derive(Clone, Copy, Debug, PartialEq, Eq)]
-pub enum GraftAnswer {
-    /// Nothing: the router isn't subscribed, or has its sender in the mesh.
-    PassedOver,
-    /// It comes too soon: it counts against its sender, and is refused.
-    TooSoon,
-    /// It is refused: its sender is explicit, or scores below 0, or there is no room for it.
-    Refused,
-    /// Its sender comes into the mesh.
-    Accepted,
-}
-
 /// What becomes of a GRAFT on a topic.
-fn answer_to(known: &Known, from: PeerNo, topic: &Topic, now: Millis) -> GraftAnswer
-    ensures { (L : Entries) (graft : GraftValue)
+fn graft_answer(known: &Known, from: PeerNo, topic: &Topic, now: Millis) -> GraftAnswer
+    ensures { (L : Entries)
         → Knows known.now now.0 L
-        → topic.now ≡ topic_or_empty graft.topic
-        → graft_rule (peer_with known.now.setup) L now from graft
-        ≡ answered (peer_with known.now.setup) now from graft result }
+        → result ≡ graft_answer (peer_with known.now.setup) L now.0 from topic.now }
 {
     if !known.tables.topics.is_joined(topic) {
         return GraftAnswer::PassedOver;
@@ -73,95 +53,84 @@ fn answer_to(known: &Known, from: PeerNo, topic: &Topic, now: Millis) -> GraftAn
     if is_full_for(known, from, topic) {
         return GraftAnswer::Refused;
     }
-    GraftAnswer::Accepted
+    GraftAnswer::Taken
 }
 
-/// The entry of a GRAFT that is refused: its sender is sent a PRUNE, and is not to come back for a while.
+/// A GRAFT is refused: its sender is sent a PRUNE, and is not to come back for a while.
 fn refusing(
     known: &Known,
     from: PeerNo,
-    graft: SharedPart<Graft>,
+    topic: &Topic,
     charged: Seq<Mark>,
     now: Millis,
-) -> Result<Entry, AllocError>
-    ensures { IfOk result (λ entry. entry ≡ refusing (peer_with known.now.setup) now from graft charged) }
+) -> Result<Effects, AllocError>
+    ensures { IfOk result (λ effects. effects ≡ refusing (peer_with known.now.setup) now from topic.now charged) }
 {
-    let topic = Topic::or_empty(&graft.get().topic)?;
     let seconds = known.setup.params.timing.prune_backoff_s;
-    let rpc = Shared::new(known.alloc, Rpc::pruning(known.alloc, &topic, seconds)?)?;
+    let rpc = Shared::new(known.alloc, Rpc::pruning(known.alloc, topic, seconds)?)?;
     let sends = Seq::only(known.alloc, (from, rpc))?;
-    let pairs = membership::each_on(known.alloc, &topic, &[from])?;
+    let pairs = membership::each_on(known.alloc, topic, &[from])?;
     let mut marks = charged;
     membership::bar(&mut marks, pairs.as_slice(), seconds, now)?;
-    Ok(Entry {
+    Ok(Effects {
         sends,
         marks,
-        ..bare(known.alloc, now, Event::GraftIn(from, graft))
+        ..Effects::none(known.alloc)
     })
 }
 
-/// The entry of a GRAFT whose sender comes into the mesh.
-fn accepting_graft(
-    alloc: Global,
-    from: PeerNo,
-    graft: SharedPart<Graft>,
-    now: Millis,
-) -> Result<Entry, AllocError>
-    ensures { IfOk result (λ entry. entry ≡ accepting_graft now from graft) }
+/// The sender of a GRAFT comes into the mesh.
+fn taking(alloc: Global, from: PeerNo, topic: &Topic) -> Result<Effects, AllocError>
+    ensures { IfOk result (λ effects. effects ≡ taking from topic.now) }
 {
-    let topic = Topic::or_empty(&graft.get().topic)?;
-    let pairs = membership::each_on(alloc, &topic, &[from])?;
+    let pairs = membership::each_on(alloc, topic, &[from])?;
     let mut marks = Seq::new(alloc);
     membership::enter(&mut marks, pairs.as_slice())?;
-    Ok(Entry {
+    Ok(Effects {
         marks,
-        ..bare(alloc, now, Event::GraftIn(from, graft))
+        ..Effects::none(alloc)
     })
 }
 
-/// The entry of a GRAFT that is answered so.
-fn answered(
+/// The effects of a GRAFT that is answered so.
+fn graft_effects(
     known: &Known,
     from: PeerNo,
-    graft: SharedPart<Graft>,
+    topic: &Topic,
     answer: GraftAnswer,
     now: Millis,
-) -> Result<Entry, AllocError>
-    ensures { IfOk result (λ entry. entry ≡ answered (peer_with known.now.setup) now from graft answer) }
+) -> Result<Effects, AllocError>
+    ensures { IfOk result (λ effects. effects
+        ≡ graft_effects (peer_with known.now.setup) now from topic.now answer) }
 {
     match answer {
-        GraftAnswer::PassedOver => Ok(bare(known.alloc, now, Event::GraftIn(from, graft))),
+        GraftAnswer::PassedOver => Ok(Effects::none(known.alloc)),
         GraftAnswer::TooSoon => {
             let charged = Seq::only(known.alloc, Mark::Misbehaviour(from))?;
-            let entry = refusing(known, from, graft, charged, now)?;
-            Ok(entry)
+            let effects = refusing(known, from, topic, charged, now)?;
+            Ok(effects)
         }
         GraftAnswer::Refused => {
-            let entry = refusing(known, from, graft, Seq::new(known.alloc), now)?;
-            Ok(entry)
+            let effects = refusing(known, from, topic, Seq::new(known.alloc), now)?;
+            Ok(effects)
         }
-        GraftAnswer::Accepted => {
-            let entry = accepting_graft(known.alloc, from, graft, now)?;
-            Ok(entry)
+        GraftAnswer::Taken => {
+            let effects = taking(known.alloc, from, topic)?;
+            Ok(effects)
         }
     }
 }
 
-/// The entry of a GRAFT: it may come too soon, be refused, be passed over, or bring its sender into the mesh.
-pub fn graft(
-    known: &Known,
-    from: PeerNo,
-    graft: SharedPart<Graft>,
-    now: Millis,
-) -> Result<Entry, AllocError>
-    ensures { IfOk result (λ entry. (L : Entries)
+/// The effects of a GRAFT: it may come too soon, be refused, be passed over, or bring its sender into the mesh.
+pub fn graft(known: &Known, from: PeerNo, graft: &Graft, now: Millis) -> Result<Effects, AllocError>
+    ensures { IfOk result (λ effects. (L : Entries)
         → Knows known.now now.0 L
-        → entry ≡ graft_rule (peer_with known.now.setup) L now from graft) }
+        → effects ≡ graft_rule (peer_with known.now.setup) L now from (topic_or_empty graft.now.topic)) }
 {
-    let topic = Topic::or_empty(&graft.get().topic)?;
-    let answer = answer_to(known, from, &topic, now);
-    let entry = answered(known, from, graft, answer, now)?;
-    Ok(entry)
+    let topic = Topic::or_empty(&graft.topic)?;
+    let answer = graft_answer(known, from, &topic, now);
+    let effects = graft_effects(known, from, &topic, answer, now)?;
+    Ok(effects)
 }
 
 // ---- a PRUNE
@@ -178,50 +147,42 @@ fn asked_backoff(otherwise: u64, asked: Option<u64>) -> u64
     }
 }
 
-/// The entry of a PRUNE: where the router is subscribed, its sender leaves the mesh, and is not to be grafted for a
+/// The effects of a PRUNE: where the router is subscribed, its sender leaves the mesh, and is not to be grafted for a
 /// while.
-pub fn prune(
-    known: &Known,
-    from: PeerNo,
-    prune: SharedPart<Prune>,
-    now: Millis,
-) -> Result<Entry, AllocError>
-    ensures { IfOk result (λ entry. (L : Entries)
+pub fn prune(known: &Known, from: PeerNo, prune: &Prune, now: Millis) -> Result<Effects, AllocError>
+    ensures { IfOk result (λ effects. (L : Entries)
         → Knows known.now now.0 L
-        → entry ≡ prune_rule (peer_with known.now.setup) L now from prune) }
+        → effects ≡ prune_rule (peer_with known.now.setup) L now from prune.now) }
 {
-    let topic = Topic::or_empty(&prune.get().topic)?;
+    let topic = Topic::or_empty(&prune.topic)?;
     if !known.tables.topics.is_joined(&topic) {
-        return Ok(bare(known.alloc, now, Event::PruneIn(from, prune)));
+        return Ok(Effects::none(known.alloc));
     }
-    let entry = pruned(known, from, prune, topic, now)?;
-    Ok(entry)
+    let effects = pruned(known, from, prune, topic, now)?;
+    Ok(effects)
 }
 
-/// The entry of a PRUNE on a topic that the router is subscribed to.
+/// The effects of a PRUNE on a topic that the router is subscribed to.
 fn pruned(
     known: &Known,
     from: PeerNo,
-    prune: SharedPart<Prune>,
+    prune: &Prune,
     topic: Topic,
     now: Millis,
-) -> Result<Entry, AllocError>
-    requires { topic ≡ topic_or_empty prune.topic }
-    ensures { IfOk result (λ entry. (L : Entries)
+) -> Result<Effects, AllocError>
+    requires { topic ≡ topic_or_empty prune.now.topic }
+    ensures { IfOk result (λ effects. (L : Entries)
         → Knows known.now now.0 L
-        → entry ≡ pruned_by (peer_with known.now.setup) L now from prune) }
+        → effects ≡ pruned_by (peer_with known.now.setup) L now from prune.now) }
 {
     let mut marks = Seq::new(known.alloc);
-    let seconds = asked_backoff(
-        known.setup.params.timing.prune_backoff_s,
-        prune.get().backoff,
-    );
+    let seconds = asked_backoff(known.setup.params.timing.prune_backoff_s, prune.backoff);
     let pairs = membership::each_on(known.alloc, &topic, &[from])?;
     let left = membership::meshes_with(known, from, &[topic])?;
     membership::leave(known, &mut marks, left.as_slice(), now)?;
     membership::bar(&mut marks, pairs.as_slice(), seconds, now)?;
-    Ok(Entry {
+    Ok(Effects {
         marks,
-        ..bare(known.alloc, now, Event::PruneIn(from, prune))
+        ..Effects::none(known.alloc)
     })
 }

@@ -9,31 +9,31 @@ ghost use Rattle.gs_mesh.specs.Peers.{is_among};
 ghost use Rattle.gs_rules.specs.Meshes.{fanout, mesh};
 ghost use Rattle.gs_rules.specs.Rules.{beat_begin_rule, gossip_candidates, gossip_rule, gossiping, without};
 ghost use Rattle.gs_rules.specs.Modes.{Follows, exact};
-ghost use Rattle.gs_router.specs.Tables.{Agrees};
+ghost use Rattle.gs_router.specs.Tables.{Agrees, AreMadeFor};
 ghost use Rattle.gs_router.specs.Known.{IsFit, Knows, peer_with};
 
 use crate::entries::selection::ordinary_listeners;
-use crate::entries::sends::{bare, to_each};
+use crate::entries::sends::to_each;
 use crate::entries::thresholds;
 use crate::known::Known;
 use crate::setup::Setup;
 use gs_base::{Mark, Millis, PeerNo, Rpc, Seq, Topic};
 use gs_params::{Words, pick};
-use gs_rules::{Entry, Event, Promise};
+use gs_rules::{Effects, Promise};
 use std::alloc::AllocError;
 
 // ---- promises
 
-/// The entry with which a heartbeat begins.
-pub fn beat_begin(known: &Known, now: Millis) -> Result<Entry, AllocError>
-    ensures { IfOk result (λ entry. (L : Entries)
+/// The effects of the beginning of a heartbeat.
+pub fn beat_begin(known: &Known, now: Millis) -> Result<Effects, AllocError>
+    ensures { IfOk result (λ effects. (L : Entries)
         → Agrees known.now.tables L
-        → entry ≡ beat_begin_rule (peer_with known.now.setup) L now) }
+        → effects ≡ beat_begin_rule (peer_with known.now.setup) L now) }
 {
     let marks = all_charges(known, now)?;
-    Ok(Entry {
+    Ok(Effects {
         marks,
-        ..bare(known.alloc, now, Event::BeatBegin)
+        ..Effects::none(known.alloc)
     })
 }
 
@@ -92,24 +92,25 @@ fn charge_for(
 
 // ---- gossip
 
-/// The entry of the gossip on a topic.
+/// The effects of gossip on a topic.
 pub fn gossip<W: Words>(
     known: &Known,
-    topic: Topic,
+    topic: &Topic,
     now: Millis,
     words: &mut W,
-) -> Result<Entry, AllocError>
+) -> Result<Effects, AllocError>
     requires fit { IsFit known.now.setup }
     requires knows { (L : Entries) × Knows known.now now.0 L }
-    ensures { IfOk result (λ entry. (L : Entries)
+    ensures { IfOk result (λ effects. (L : Entries)
         → Knows known.now now.0 L
-        → Follows (exact W.word W.after) (gossip_rule (peer_with known.now.setup) L now topic) words.old entry words.new) }
+        → Follows (exact W.word W.after) (gossip_rule (peer_with known.now.setup) L now topic.now)
+        words.old effects words.new) }
 {
-    let gossip_candidates = gossip_candidates(known, &topic, now)?;
+    let gossip_candidates = gossip_candidates(known, topic, now)?;
     let size = gossip_size(&known.setup, gossip_candidates.len());
     let chosen = pick(known.alloc, &gossip_candidates, size, words)?;
-    let entry = gossiping(known, topic, &chosen, now)?;
-    Ok(entry)
+    let effects = gossiping(known, topic, &chosen)?;
+    Ok(effects)
 }
 
 /// The neighbours that may be sent gossip on a topic.
@@ -163,23 +164,19 @@ fn gossip_size(setup: &Setup, count: usize) -> usize
     size.min(count as u128) as usize
 }
 
-/// The entry in which these neighbours are sent gossip on a topic.
-fn gossiping(
-    known: &Known,
-    topic: Topic,
-    chosen: &[PeerNo],
-    now: Millis,
-) -> Result<Entry, AllocError>
-    ensures { IfOk result (λ entry. (L : Entries)
-        → Knows known.now now.0 L
-        → entry ≡ gossiping (peer_with known.now.setup) L now topic chosen.now) }
+/// These neighbours are sent gossip on a topic.
+fn gossiping(known: &Known, topic: &Topic, chosen: &[PeerNo]) -> Result<Effects, AllocError>
+    ensures { IfOk result (λ effects. (L : Entries)
+        → Agrees known.now.tables L
+        → AreMadeFor known.now.tables (peer_with known.now.setup)
+        → effects ≡ gossiping (peer_with known.now.setup) L topic.now chosen.now) }
 {
     // (listed here and not before, so that no list waits while other topics are gossiped)
-    let ids = known.tables.messages.gossip_ids(&topic)?;
-    let rpc = Rpc::offering(known.alloc, &topic, ids.as_slice())?;
+    let ids = known.tables.messages.gossip_ids(topic)?;
+    let rpc = Rpc::offering(known.alloc, topic, ids.as_slice())?;
     let sends = to_each(known.alloc, rpc, chosen)?;
-    Ok(Entry {
+    Ok(Effects {
         sends,
-        ..bare(known.alloc, now, Event::GossipBeat(topic))
+        ..Effects::none(known.alloc)
     })
 }

@@ -1,6 +1,7 @@
 //! What a heartbeat does to meshes and fanouts (gossipsub v1.0, "Mesh maintenance" and "Fanout maintenance"; v1.1,
 //! "Heartbeat Maintenance", "Outbound Mesh Quotas" and "Opportunistic Grafting").
 ghost use Rattle.std.specs.Prelude.{◌≡◌, ◌++◌, IfOk};
+ghost use Rattle.gs_base.specs.declared.names.Millis.{Millis as MillisValue};
 ghost use Rattle.gs_rules.specs.Tables.{Entries};
 ghost use Rattle.gs_rules.specs.BeatRules.{fan_beat_rule, fan_end, mending, mesh_beat_rule, refanning, scored_member, scored_members};
 ghost use Rattle.gs_rules.specs.MeshRules.{receivers as receivers_of};
@@ -11,13 +12,13 @@ ghost use Rattle.gs_router.specs.Known.{IsFit, Knows, peer_with};
 
 use crate::entries::membership;
 use crate::entries::selection::{candidates, is_outbound, receivers};
-use crate::entries::sends::{bare, send_to_each, to_each};
+use crate::entries::sends::{send_to_each, to_each};
 use crate::known::Known;
 use crate::peer_lists::{left_of, those_among, those_outside};
 use gs_base::{Mark, Millis, PeerNo, Rpc, Seq, Topic};
 use gs_mesh::{Heartbeat, Member, MeshChange, choose_heartbeat};
 use gs_params::{Words, pick};
-use gs_rules::{Entry, Event};
+use gs_rules::Effects;
 use std::alloc::AllocError;
 
 // ---- meshes
@@ -68,125 +69,126 @@ fn parting(
     Ok(marks)
 }
 
-/// The entry in which some leave the mesh of a topic and others come into it.
+/// Some leave the mesh of a topic, and others come into it.
 fn mending(
     known: &Known,
-    topic: Topic,
+    topic: &Topic,
     change: &MeshChange,
     now: Millis,
-) -> Result<Entry, AllocError>
-    ensures { IfOk result (λ entry. (L : Entries)
+) -> Result<Effects, AllocError>
+    ensures { IfOk result (λ effects. (L : Entries)
         → Knows known.now now.0 L
-        → entry ≡ mending (peer_with known.now.setup) L now topic change.now) }
+        → effects ≡ mending (peer_with known.now.setup) L now topic.now change.now) }
 {
     let seconds = known.setup.params.timing.prune_backoff_s;
     let pruned = change.pruned.as_slice();
     let grafted = change.grafted.as_slice();
     let mut sends = to_each(
         known.alloc,
-        Rpc::pruning(known.alloc, &topic, seconds)?,
+        Rpc::pruning(known.alloc, topic, seconds)?,
         pruned,
     )?;
     send_to_each(
         known.alloc,
         &mut sends,
-        Rpc::grafting(known.alloc, &topic)?,
+        Rpc::grafting(known.alloc, topic)?,
         grafted,
     )?;
-    let mut marks = parting(known, &topic, pruned, now)?;
-    let entering = membership::each_on(known.alloc, &topic, grafted)?;
+    let mut marks = parting(known, topic, pruned, now)?;
+    let entering = membership::each_on(known.alloc, topic, grafted)?;
     membership::enter(&mut marks, entering.as_slice())?;
-    Ok(Entry {
+    Ok(Effects {
         sends,
         marks,
-        ..bare(known.alloc, now, Event::MeshBeat(topic))
+        ..Effects::none(known.alloc)
     })
 }
 
-/// The entry of a heartbeat that mends the mesh of a topic.
+/// The effects of a heartbeat on the mesh of a topic, which is mended.
 pub fn mesh_beat<W: Words>(
     known: &Known,
-    topic: Topic,
+    topic: &Topic,
     now: Millis,
     words: &mut W,
-) -> Result<Entry, AllocError>
+) -> Result<Effects, AllocError>
     requires fit { IsFit known.now.setup }
     requires knows { (L : Entries) × Knows known.now now.0 L }
-    ensures { IfOk result (λ entry. (L : Entries)
+    ensures { IfOk result (λ effects. (L : Entries)
         → Knows known.now now.0 L
-        → Follows (exact W.word W.after) (mesh_beat_rule (peer_with known.now.setup) L now topic)
-        words.old entry words.new) }
+        → Follows (exact W.word W.after) (mesh_beat_rule (peer_with known.now.setup) L now topic.now)
+        words.old effects words.new) }
 {
-    let mesh = scored_members(known, known.tables.memberships.members(&topic), now)?;
-    let near = candidates(known, &topic, now)?;
+    let mesh = scored_members(known, known.tables.memberships.members(topic), now)?;
+    let near = candidates(known, topic, now)?;
     let candidates = scored_members(known, &near, now)?;
     let heartbeat = Heartbeat {
         params: &known.setup.params,
         tick: known.tables.beats.count(),
     };
     let change = choose_heartbeat(known.alloc, heartbeat, &mesh, &candidates, words)?;
-    let entry = mending(known, topic, &change, now)?;
-    Ok(entry)
+    let effects = mending(known, topic, &change, now)?;
+    Ok(effects)
 }
 
 // ---- fanouts
 
-/// The entry in which these come into the fanout of a topic, and whoever is none of the receivers leaves it.
+/// These come into the fanout of a topic, and whoever is none of the receivers leaves it.
 fn refanning(
     known: &Known,
-    topic: Topic,
+    topic: &Topic,
     receivers: &[PeerNo],
     chosen: &[PeerNo],
-    now: Millis,
-) -> Result<Entry, AllocError>
-    ensures { IfOk result (λ entry. (L : Entries)
+) -> Result<Effects, AllocError>
+    ensures { IfOk result (λ effects. (L : Entries) (at : MillisValue)
         → Agrees known.now.tables L
-        → receivers.now ≡ receivers_of (peer_with known.now.setup) L now.0 topic
-        → entry ≡ refanning (peer_with known.now.setup) L now topic chosen.now) }
+        → receivers.now ≡ receivers_of (peer_with known.now.setup) L at.0 topic.now
+        → effects ≡ refanning (peer_with known.now.setup) L at topic.now chosen.now) }
 {
-    let fanout = known.tables.memberships.fanout(&topic);
+    let fanout = known.tables.memberships.fanout(topic);
     let gone = those_outside(known.alloc, receivers, fanout)?;
     let mut marks = Seq::new(known.alloc);
-    membership::unfan(&mut marks, &topic, &gone)?;
-    membership::fan(&mut marks, &topic, chosen)?;
-    Ok(Entry {
+    membership::unfan(&mut marks, topic, &gone)?;
+    membership::fan(&mut marks, topic, chosen)?;
+    Ok(Effects {
         marks,
-        ..bare(known.alloc, now, Event::FanBeat(topic))
+        ..Effects::none(known.alloc)
     })
 }
 
-/// The entry of a heartbeat that mends the fanout of a topic.
+/// The effects of a heartbeat on the fanout of a topic, which is mended.
 pub fn fan_beat<W: Words>(
     known: &Known,
-    topic: Topic,
+    topic: &Topic,
     now: Millis,
     words: &mut W,
-) -> Result<Entry, AllocError>
+) -> Result<Effects, AllocError>
     requires fit { IsFit known.now.setup }
     requires knows { (L : Entries) × Knows known.now now.0 L }
-    ensures { IfOk result (λ entry. (L : Entries)
+    ensures { IfOk result (λ effects. (L : Entries)
         → Knows known.now now.0 L
-        → Follows (exact W.word W.after) (fan_beat_rule (peer_with known.now.setup) L now topic)
-        words.old entry words.new) }
+        → Follows (exact W.word W.after) (fan_beat_rule (peer_with known.now.setup) L now topic.now)
+        words.old effects words.new) }
 {
-    let receivers = receivers(known, &topic, now)?;
-    let fanout = known.tables.memberships.fanout(&topic);
+    let receivers = receivers(known, topic, now)?;
+    let fanout = known.tables.memberships.fanout(topic);
     let stay = those_among(known.alloc, &receivers, fanout)?;
     let others = those_outside(known.alloc, fanout, &receivers)?;
     let left = left_of(known.setup.params.degrees.d as usize, &stay);
     let chosen = pick(known.alloc, &others, left, words)?;
-    let entry = refanning(known, topic, &receivers, &chosen, now)?;
-    Ok(entry)
+    let effects = refanning(known, topic, &receivers, &chosen)?;
+    Ok(effects)
 }
 
-/// The entry of a heartbeat that ends the fanout of a topic.
-pub fn fan_end(known: &Known, topic: Topic, now: Millis) -> Result<Entry, AllocError>
-    ensures { IfOk result (λ entry. (L : Entries) → Agrees known.now.tables L → entry ≡ fan_end L now topic) }
+/// The effects of the end of the fanout of a topic.
+pub fn fan_end(known: &Known, topic: &Topic) -> Result<Effects, AllocError>
+    ensures { IfOk result (λ effects. (L : Entries)
+        → Agrees known.now.tables L
+        → effects ≡ fan_end L topic.now) }
 {
     let mut marks = Seq::new(known.alloc);
-    membership::unfan(&mut marks, &topic, known.tables.memberships.fanout(&topic))?;
-    Ok(Entry {
+    membership::unfan(&mut marks, topic, known.tables.memberships.fanout(topic))?;
+    Ok(Effects {
         marks,
-        ..bare(known.alloc, now, Event::FanEnd(topic))
+        ..Effects::none(known.alloc)
     })
 }

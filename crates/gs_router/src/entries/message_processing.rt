@@ -13,19 +13,19 @@ ghost use Rattle.gs_rules.specs.declared.outcome.Outcome.TheVariants.{Accepted};
 ghost use Rattle.gs_rules.specs.Tables.{Entries};
 ghost use Rattle.gs_rules.specs.Meshes.{mesh};
 ghost use Rattle.gs_rules.specs.Rules.{explicit_listeners, to_each, together_with};
-ghost use Rattle.gs_rules.specs.Outcomes.{again, begins_with_one, found_to_be, is_near, message_entry, message_rule, near_of, near_window, outcome, verdict_by, verdict_on};
+ghost use Rattle.gs_rules.specs.Outcomes.{again, begins_with_one, found_to_be, is_near, message_effects, message_rule, near_of, near_window, outcome, verdict_by, verdict_on};
 ghost use Rattle.gs_router.specs.Tables.{Agrees};
 ghost use Rattle.gs_router.specs.Known.{Knows, ListsExplicit, peer_with};
 
 use crate::entries::selection::explicit_listeners;
-use crate::entries::sends::{bare, to_each};
+use crate::entries::sends::to_each;
 use crate::known::Known;
 use crate::peer_lists::{others, together_with};
 use bytes::Bytes;
-use gs_base::{Mark, Message, Millis, MsgId, PeerNo, Rpc, Seq, Shared, SharedPart, Topic, Verdict};
+use gs_base::{Mark, Message, Millis, MsgId, PeerNo, Rpc, Seq, Shared, Topic, Verdict};
 use gs_cache::{Payloads, Sighting};
 use gs_params::{DEFAULT_TOPIC_TIMING, TopicParams};
-use gs_rules::{Entry, Event, Outcome};
+use gs_rules::{Effects, Outcome};
 use std::alloc::{AllocError, Global};
 
 /// What becomes of a message.
@@ -256,87 +256,75 @@ fn forwarded(
     Ok(sends)
 }
 
-/// A message that is accepted, with its identifier.
-#[derive(Drop)]
-pub struct AcceptedMessage {
-    from: PeerNo,
-    message: SharedPart<Message>,
-    id: MsgId,
-}
-
-/// The entry of a message that is accepted, where these are in the mesh of its topic, and these explicit neighbours on it.
+/// The effects of a message that is accepted, where these are in the mesh of its topic, and these explicit neighbours on
+/// it.
 fn accepting_message(
     alloc: Global,
-    accepted_message: AcceptedMessage,
+    from: PeerNo,
+    id: MsgId,
+    message: &Message,
     members: &[PeerNo],
     explicit: &[PeerNo],
-    now: Millis,
-) -> Result<Entry, AllocError>
-    ensures { IfOk result (λ entry. entry
-        ≡ message_entry members.now explicit.now now accepted_message.from accepted_message.message
-        (Accepted accepted_message.id)) }
+) -> Result<Effects, AllocError>
+    ensures { IfOk result (λ effects. effects
+        ≡ message_effects members.now explicit.now from message.now (Accepted id)) }
 {
-    let AcceptedMessage { from, message, id } = accepted_message;
-    let told = message.get();
-    let delivery = (told.topic_or_empty()?, told.payload_or_empty()?);
-    let sends = forwarded(alloc, from, told, members, explicit)?;
-    let marks = accepted(alloc, from, id, told, members.contains(&from))?;
-    Ok(Entry {
-        at: now,
+    let delivery = (message.topic_or_empty()?, message.payload_or_empty()?);
+    let sends = forwarded(alloc, from, message, members, explicit)?;
+    let marks = accepted(alloc, from, id, message, members.contains(&from))?;
+    Ok(Effects {
         sends,
         delivered: Seq::only(alloc, delivery)?,
         promise: None,
         marks,
-        event: Event::Msg(from, message),
     })
 }
 
-/// The entry of a message with this outcome.
-fn entry_with(
+/// The effects of a message with this outcome.
+fn effects_with(
     known: &Known,
     from: PeerNo,
-    message: SharedPart<Message>,
+    message: &Message,
     outcome: Outcome,
-    now: Millis,
-) -> Result<Entry, AllocError>
-    ensures { IfOk result (λ entry. (L : Entries)
+) -> Result<Effects, AllocError>
+    ensures { IfOk result (λ effects. (L : Entries)
         → Agrees known.now.tables L
         → ListsExplicit known.now.setup
-        → entry
-        ≡ message_entry (mesh L (topic_of message)) (explicit_listeners (peer_with known.now.setup) L (topic_of message))
-        now from message outcome) }
+        → effects
+        ≡ message_effects (mesh L (topic_of message.now))
+        (explicit_listeners (peer_with known.now.setup) L (topic_of message.now))
+        from message.now outcome) }
 {
     let alloc = known.alloc;
     match outcome {
-        Outcome::Dropped => Ok(bare(alloc, now, Event::Msg(from, message))),
+        Outcome::Dropped => Ok(Effects::none(alloc)),
         Outcome::Invalid => {
-            let mark = Mark::Invalid(from, message.get().topic_or_empty()?);
-            Ok(Entry {
+            let mark = Mark::Invalid(from, message.topic_or_empty()?);
+            Ok(Effects {
                 marks: Seq::only(alloc, mark)?,
-                ..bare(alloc, now, Event::Msg(from, message))
+                ..Effects::none(alloc)
             })
         }
-        Outcome::Rejected(id) => Ok(Entry {
-            marks: rejected(alloc, from, id, message.get())?,
-            ..bare(alloc, now, Event::Msg(from, message))
+        Outcome::Rejected(id) => Ok(Effects {
+            marks: rejected(alloc, from, id, message)?,
+            ..Effects::none(alloc)
         }),
-        Outcome::Ignored(id) => Ok(Entry {
+        Outcome::Ignored(id) => Ok(Effects {
             marks: Seq::only(alloc, Mark::Seen(id, Verdict::Ignore))?,
-            ..bare(alloc, now, Event::Msg(from, message))
+            ..Effects::none(alloc)
         }),
         Outcome::Near(id) => {
-            let mark = Mark::Near(from, message.get().topic_or_empty()?, id);
-            Ok(Entry {
+            let mark = Mark::Near(from, message.topic_or_empty()?, id);
+            Ok(Effects {
                 marks: Seq::only(alloc, mark)?,
-                ..bare(alloc, now, Event::Msg(from, message))
+                ..Effects::none(alloc)
             })
         }
         Outcome::Accepted(id) => {
-            let members = mesh_members(known, &message.get().topic);
-            let explicit = explicit_on(known, &message.get().topic)?;
-            let accepted_message = AcceptedMessage { from, message, id };
-            let entry = accepting_message(alloc, accepted_message, members, &explicit, now)?;
-            Ok(entry)
+            let members = mesh_members(known, &message.topic);
+            let explicit = explicit_on(known, &message.topic)?;
+            let effects = accepting_message(alloc, from, id, message, members, &explicit)?;
+            Ok(effects)
         }
     }
 }
@@ -364,19 +352,19 @@ fn explicit_on(known: &Known, topic: &Option<Topic>) -> Result<Vec<PeerNo>, Allo
     }
 }
 
-/// The entry of a message that a neighbour passed on.
-pub fn entry_of(
+/// The effects of a message that a neighbour passed on.
+pub fn effects_of(
     known: &Known,
     payloads: &mut Payloads,
     from: PeerNo,
-    message: SharedPart<Message>,
+    message: &Message,
     now: Millis,
-) -> Result<Entry, AllocError>
-    ensures { IfOk result (λ entry. (L : Entries)
+) -> Result<Effects, AllocError>
+    ensures { IfOk result (λ effects. (L : Entries)
         → Knows known.now now.0 L
-        → entry ≡ message_rule (peer_with known.now.setup) L now from message) }
+        → effects ≡ message_rule (peer_with known.now.setup) L now from message.now) }
 {
-    let outcome = outcome_of(known, payloads, from, message.get(), now);
-    let entry = entry_with(known, from, message, outcome, now)?;
-    Ok(entry)
+    let outcome = outcome_of(known, payloads, from, message, now);
+    let effects = effects_with(known, from, message, outcome)?;
+    Ok(effects)
 }

@@ -9,55 +9,50 @@ ghost use Rattle.gs_rules.specs.Modes.{Follows, exact};
 ghost use Rattle.gs_router.specs.Known.{Knows, peer_with};
 ghost use Rattle.gs_router.specs.Offers.{add_wanted};
 
-use crate::entries::sends::bare;
 use crate::entries::thresholds;
 use crate::known::Known;
 use bytes::Bytes;
-use gs_base::{IHave, Mark, Millis, MsgId, PeerNo, Rpc, Seq, Shared, SharedPart, clone_of};
+use gs_base::{IHave, Mark, Millis, MsgId, PeerNo, Rpc, Seq, Shared, clone_of};
 use gs_params::{Words, pick_one};
-use gs_rules::{Entry, Event, Promise};
+use gs_rules::{Effects, Promise};
 use indexmap::IndexSet;
 use std::alloc::{AllocError, Global};
 
-/// The entry of an offer (IHAVE): its sender is asked for what is wanted of it, within its budget.
-pub fn entry_of<W: Words>(
+/// The effects of an offer (IHAVE): its sender is asked for what is wanted of it, within its budget.
+pub fn effects_of<W: Words>(
     known: &Known,
     from: PeerNo,
-    offer: SharedPart<IHave>,
+    offer: &IHave,
     now: Millis,
     words: &mut W,
-) -> Result<Entry, AllocError>
+) -> Result<Effects, AllocError>
     requires { (L : Entries) × Knows known.now now.0 L }
-    ensures { IfOk result (λ entry. (L : Entries)
+    ensures { IfOk result (λ effects. (L : Entries)
         → Knows known.now now.0 L
-        → Follows (exact W.word W.after) (have_rule (peer_with known.now.setup) L now from offer) words.old entry words.new) }
+        → Follows (exact W.word W.after) (have_rule (peer_with known.now.setup) L now from offer.now)
+        words.old effects words.new) }
 {
     if thresholds::is_ignored(known, from, now) {
-        return Ok(bare(known.alloc, now, Event::Have(from, offer)));
+        return Ok(Effects::none(known.alloc));
     }
     let budget = known.tables.budgets.of(from);
     if budget.offers == 0 {
-        return Ok(bare(known.alloc, now, Event::Have(from, offer)));
+        return Ok(Effects::none(known.alloc));
     }
-    if !known.tables.topics.is_joined_or_empty(&offer.get().topic) {
-        return counted(known.alloc, from, offer, now);
+    if !known.tables.topics.is_joined_or_empty(&offer.topic) {
+        return counted(known.alloc, from);
     }
-    let ids = wanted(known, offer.get().ids.as_slice(), budget.ids, now)?;
-    ask(known, WantedOffer { from, offer, ids }, now, words)
+    let ids = wanted(known, offer.ids.as_slice(), budget.ids, now)?;
+    ask(known, from, ids, now, words)
 }
 
-/// The entry of an offer that counts, without more.
-fn counted(
-    alloc: Global,
-    from: PeerNo,
-    offer: SharedPart<IHave>,
-    now: Millis,
-) -> Result<Entry, AllocError>
-    ensures { IfOk result (λ entry. entry ≡ counted now from offer) }
+/// The effects of an offer that counts, without more.
+fn counted(alloc: Global, from: PeerNo) -> Result<Effects, AllocError>
+    ensures { IfOk result (λ effects. effects ≡ counted from) }
 {
-    Ok(Entry {
+    Ok(Effects {
         marks: Seq::only(alloc, Mark::Offered(from))?,
-        ..bare(alloc, now, Event::Have(from, offer))
+        ..Effects::none(alloc)
     })
 }
 
@@ -126,48 +121,40 @@ fn copied_ids(alloc: Global, ids: &[Bytes]) -> Result<Seq<Bytes>, AllocError>
 
 // ---- what is asked
 
-/// An offer, and those of its identifiers that are wanted.
-#[derive(Drop)]
-pub struct WantedOffer {
-    from: PeerNo,
-    offer: SharedPart<IHave>,
-    ids: Seq<Bytes>,
-}
-
-/// The entry of an offer whose identifiers may be wanted.
+/// The effects of an offer of which these identifiers are wanted, if any are.
 fn ask<W: Words>(
     known: &Known,
-    wanted: WantedOffer,
+    from: PeerNo,
+    ids: Seq<Bytes>,
     now: Millis,
     words: &mut W,
-) -> Result<Entry, AllocError>
-    requires few { length wanted.ids ≤ most_identifiers }
-    requires each { AllByRecursion HasIdentifierLength wanted.ids }
-    ensures { IfOk result (λ entry. Follows (exact W.word W.after)
-        (asked_for (peer_with known.now.setup) now wanted.from wanted.offer wanted.ids) words.old entry words.new) }
+) -> Result<Effects, AllocError>
+    requires few { length ids ≤ most_identifiers }
+    requires each { AllByRecursion HasIdentifierLength ids }
+    ensures { IfOk result (λ effects. Follows (exact W.word W.after)
+        (asked_for (peer_with known.now.setup) now from ids) words.old effects words.new) }
 {
-    if wanted.ids.is_empty() {
-        return counted(known.alloc, wanted.from, wanted.offer, now);
+    if ids.is_empty() {
+        return counted(known.alloc, from);
     }
-    let place = pick_one(wanted.ids.len(), words);
-    let entry = asking(known, wanted, place, now)?;
-    Ok(entry)
+    let place = pick_one(ids.len(), words);
+    let effects = asking(known, from, ids, place, now)?;
+    Ok(effects)
 }
 
-/// The entry of an offer with wanted identifiers, where the one at this place among them is promised.
+/// A neighbour is asked for these, and promises the one at this place among them.
 fn asking(
     known: &Known,
-    wanted: WantedOffer,
+    from: PeerNo,
+    ids: Seq<Bytes>,
     place: usize,
     now: Millis,
-) -> Result<Entry, AllocError>
-    requires few { length wanted.ids ≤ most_identifiers }
-    requires below { place < length wanted.ids }
-    requires long { HasIdentifierLength (get_or wanted.ids place []) }
-    ensures { IfOk result (λ entry. entry
-        ≡ asking (peer_with known.now.setup) now wanted.from wanted.offer wanted.ids place) }
+) -> Result<Effects, AllocError>
+    requires few { length ids ≤ most_identifiers }
+    requires below { place < length ids }
+    requires long { HasIdentifierLength (get_or ids place []) }
+    ensures { IfOk result (λ effects. effects ≡ asking (peer_with known.now.setup) now from ids place) }
 {
-    let WantedOffer { from, offer, ids } = wanted;
     let alloc = known.alloc;
     let followup = known.setup.params.timing.iwant_followup_ms;
     let promise = Promise {
@@ -178,10 +165,10 @@ fn asking(
     let mut marks = Seq::only(alloc, Mark::Offered(from))?;
     marks.push(Mark::Asked(from, ids.len() as u32))?;
     let request = Shared::new(alloc, Rpc::requesting(alloc, ids)?)?;
-    Ok(Entry {
+    Ok(Effects {
         sends: Seq::only(alloc, (from, request))?,
+        delivered: Seq::new(alloc),
         promise: Some(Shared::new(alloc, promise)?),
         marks,
-        ..bare(alloc, now, Event::Have(from, offer))
     })
 }

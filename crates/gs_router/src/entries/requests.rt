@@ -12,54 +12,49 @@ ghost use Rattle.gs_router.specs.Offers.{left_now};
 ghost use Rattle.gs_router.specs.Requests.{Gives, Replies};
 ghost use Rattle.gs_router.specs.Known.{Knows, peer_with};
 
-use crate::entries::sends::bare;
 use crate::entries::thresholds;
 use crate::known::Known;
 use bytes::Bytes;
 use gs_base::{
     IWant, Mark, Message, Millis, MsgId, PeerNo, Rpc, Seq, Shared, SharedPart, clone_of,
 };
-use gs_rules::{Entry, Event};
+use gs_rules::Effects;
 use indexmap::IndexMap;
 use std::alloc::{AllocError, Global};
 
-/// The entry of a request (IWANT): its sender gets what is kept of it, as often as it may.
-pub fn entry_of(
+/// The effects of a request (IWANT): its sender gets what is kept of it, as often as it may.
+pub fn effects_of(
     known: &Known,
     from: PeerNo,
-    request: SharedPart<IWant>,
+    request: &IWant,
     now: Millis,
-) -> Result<Entry, AllocError>
-    ensures { IfOk result (λ entry. (L : Entries)
+) -> Result<Effects, AllocError>
+    ensures { IfOk result (λ effects. (L : Entries)
         → Knows known.now now.0 L
-        → entry ≡ want_rule (peer_with known.now.setup) L now from request) }
+        → effects ≡ want_rule (peer_with known.now.setup) L now from request.now) }
 {
     if thresholds::is_ignored(known, from, now) {
-        return Ok(bare(known.alloc, now, Event::Want(from, request)));
+        return Ok(Effects::none(known.alloc));
     }
-    let entry = answering(known, from, request, now)?;
-    Ok(entry)
+    let effects = answering(known, from, request)?;
+    Ok(effects)
 }
 
-/// The entry of a request that is answered.
-fn answering(
-    known: &Known,
-    from: PeerNo,
-    request: SharedPart<IWant>,
-    now: Millis,
-) -> Result<Entry, AllocError>
-    ensures { IfOk result (λ entry. (L : Entries)
-        → Knows known.now now.0 L
-        → entry ≡ answering now from request (answers (peer_with known.now.setup) L from [] (ids_in request.ids))) }
+/// The effects of a request that is answered.
+fn answering(known: &Known, from: PeerNo, request: &IWant) -> Result<Effects, AllocError>
+    ensures { IfOk result (λ effects. (L : Entries)
+        → Agrees known.now.tables L
+        → AreMadeFor known.now.tables (peer_with known.now.setup)
+        → effects ≡ answering from (answers (peer_with known.now.setup) L from [] (ids_in request.now.ids))) }
 {
-    let ids = ids_in(known.alloc, request.get().ids.as_slice())?;
+    let ids = ids_in(known.alloc, request.ids.as_slice())?;
     let reply = reply_to(known, from, &ids)?;
-    let entry = Entry {
+    let effects = Effects {
         sends: reply.sends,
         marks: reply.marks,
-        ..bare(known.alloc, now, Event::Want(from, request))
+        ..Effects::none(known.alloc)
     };
-    Ok(entry)
+    Ok(effects)
 }
 
 /// The identifiers among these bytes: those of another length are passed over.

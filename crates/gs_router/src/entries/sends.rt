@@ -1,24 +1,9 @@
-//! Entries to begin with, and what goes to several neighbours.
+//! What goes to several neighbours.
 ghost use Rattle.std.specs.Prelude.{◌≡◌, ◌++◌, IfOk, OnOk};
-ghost use Rattle.gs_rules.specs.Rules.{bare, to_each};
+ghost use Rattle.gs_rules.specs.Rules.{to_each};
 
-use gs_base::{Millis, PeerNo, Rpc, Seq, Shared, clone_of};
-use gs_rules::{Entry, Event};
+use gs_base::{PeerNo, Rpc, Seq, Shared, clone_of};
 use std::alloc::{AllocError, Global};
-
-/// An entry that says no more than that something happened.
-pub fn bare(alloc: Global, at: Millis, event: Event) -> Entry
-    ensures { result ≡ bare at event }
-{
-    Entry {
-        at,
-        event,
-        sends: Seq::new(alloc),
-        delivered: Seq::new(alloc),
-        promise: None,
-        marks: Seq::new(alloc),
-    }
-}
 
 /// One RPC to each of these, which share it.
 pub fn to_each(

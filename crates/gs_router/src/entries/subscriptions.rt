@@ -1,7 +1,8 @@
 //! Subscribing to a topic, and leaving it (gossipsub v1.0, "Topic Membership").
 ghost use Rattle.std.specs.Prelude.{◌≡◌, ◌-◌, ℕ, IfOk, length};
 ghost use Rattle.gs_base.specs.Rpcs.{announcement};
-ghost use Rattle.gs_rules.specs.declared.trace.Event.TheVariants as events;
+ghost use Rattle.gs_rules.specs.declared.event.Event.TheVariants as events;
+ghost use Rattle.gs_plan.specs.declared.plan.Act.TheVariants as acts;
 ghost use Rattle.gs_rules.specs.Peers.{Peer};
 ghost use Rattle.gs_rules.specs.Tables.{Entries};
 ghost use Rattle.gs_rules.specs.MeshRules.{joining, subscribe_rule, unsubscribe_rule};
@@ -13,12 +14,12 @@ ghost use Rattle.gs_router.specs.Known.{IsFit, Knows, peer_with};
 
 use crate::entries::membership;
 use crate::entries::selection::{candidates, up_neighbours};
-use crate::entries::sends::{bare, send_to_each, to_each};
+use crate::entries::sends::{send_to_each, to_each};
 use crate::known::Known;
 use crate::peer_lists::{left_of, those_among, those_outside};
 use gs_base::{LONGEST_TOPIC, Millis, PeerNo, Rpc, Seq, Shared, Topic};
 use gs_params::{Words, pick};
-use gs_rules::{Entry, Event, Refusal};
+use gs_rules::{Effects, Refusal};
 use std::alloc::AllocError;
 
 /// An announcement to every neighbour that is up.
@@ -40,20 +41,20 @@ fn announced(
 /// A subscription to a topic: its mesh is made of those of its fanout that may be grafted, and of others.
 pub fn subscribe<W: Words>(
     known: &Known,
-    topic: Topic,
+    topic: &Topic,
     now: Millis,
     words: &mut W,
-) -> Result<Entry, AllocError>
+) -> Result<Effects, AllocError>
     requires fit { IsFit known.now.setup }
     requires knows { (L : Entries) × Knows known.now now.0 L }
-    ensures { IfOk result (λ entry. (L : Entries)
+    ensures { IfOk result (λ effects. (L : Entries)
         → Knows known.now now.0 L
-        → Follows (exact W.word W.after) (subscribe_rule (peer_with known.now.setup) L now topic)
-        words.old entry words.new) }
+        → Follows (exact W.word W.after) (subscribe_rule (peer_with known.now.setup) L now topic.now)
+        words.old effects words.new) }
 {
-    let candidates = candidates(known, &topic, now)?;
+    let candidates = candidates(known, topic, now)?;
     let size = known.setup.params.degrees.d as usize;
-    let fanout = known.tables.memberships.fanout(&topic);
+    let fanout = known.tables.memberships.fanout(topic);
     let near = those_among(known.alloc, fanout, &candidates)?;
     let first = pick(known.alloc, &near, size, words)?;
     let left = left_of(size, &first);
@@ -62,60 +63,57 @@ pub fn subscribe<W: Words>(
     let mut chosen = first;
     chosen.append(&mut others)?;
     let grafted = those_among(known.alloc, &chosen, &candidates)?;
-    let entry = joining(known, topic, &grafted, now)?;
-    Ok(entry)
+    let effects = joining(known, topic, &grafted)?;
+    Ok(effects)
 }
 
-/// The entry of a subscription by which these come into the mesh of its topic.
-fn joining(known: &Known, topic: Topic, chosen: &[PeerNo], now: Millis) -> Result<Entry, AllocError>
-    ensures { IfOk result (λ entry. (L : Entries)
-        → Knows known.now now.0 L
-        → entry ≡ joining (peer_with known.now.setup) L now topic chosen.now) }
+/// The effects of a subscription by which these come into the mesh of its topic.
+fn joining(known: &Known, topic: &Topic, chosen: &[PeerNo]) -> Result<Effects, AllocError>
+    ensures { IfOk result (λ effects. (L : Entries)
+        → Agrees known.now.tables L
+        → effects ≡ joining (peer_with known.now.setup) L topic.now chosen.now) }
 {
-    let mut sends = announced(known, true, &topic)?;
+    let mut sends = announced(known, true, topic)?;
     send_to_each(
         known.alloc,
         &mut sends,
-        Rpc::grafting(known.alloc, &topic)?,
+        Rpc::grafting(known.alloc, topic)?,
         chosen,
     )?;
     let mut marks = Seq::new(known.alloc);
-    let pairs = membership::each_on(known.alloc, &topic, chosen)?;
+    let pairs = membership::each_on(known.alloc, topic, chosen)?;
     membership::enter(&mut marks, pairs.as_slice())?;
-    membership::unfan(&mut marks, &topic, known.tables.memberships.fanout(&topic))?;
-    Ok(Entry {
-        at: now,
-        event: Event::Subscribe(topic),
+    membership::unfan(&mut marks, topic, known.tables.memberships.fanout(topic))?;
+    Ok(Effects {
         sends,
-        delivered: Seq::new(known.alloc),
-        promise: None,
         marks,
+        ..Effects::none(known.alloc)
     })
 }
 
 /// The end of a subscription: each member of the mesh is sent a PRUNE, and is not to come back for a while.
-pub fn unsubscribe(known: &Known, topic: Topic, now: Millis) -> Result<Entry, AllocError>
-    ensures { IfOk result (λ entry. (L : Entries)
+pub fn unsubscribe(known: &Known, topic: &Topic, now: Millis) -> Result<Effects, AllocError>
+    ensures { IfOk result (λ effects. (L : Entries)
         → Knows known.now now.0 L
-        → entry ≡ unsubscribe_rule (peer_with known.now.setup) L now topic) }
+        → effects ≡ unsubscribe_rule (peer_with known.now.setup) L now topic.now) }
 {
     let seconds = known.setup.params.timing.unsubscribe_backoff_s;
-    let members = known.tables.memberships.members(&topic);
-    let mut sends = announced(known, false, &topic)?;
+    let members = known.tables.memberships.members(topic);
+    let mut sends = announced(known, false, topic)?;
     send_to_each(
         known.alloc,
         &mut sends,
-        Rpc::pruning(known.alloc, &topic, seconds)?,
+        Rpc::pruning(known.alloc, topic, seconds)?,
         members,
     )?;
     let mut marks = Seq::new(known.alloc);
-    let pairs = membership::each_on(known.alloc, &topic, members)?;
+    let pairs = membership::each_on(known.alloc, topic, members)?;
     membership::leave(known, &mut marks, pairs.as_slice(), now)?;
     membership::bar(&mut marks, pairs.as_slice(), seconds, now)?;
-    Ok(Entry {
+    Ok(Effects {
         sends,
         marks,
-        ..bare(known.alloc, now, Event::Unsubscribe(topic))
+        ..Effects::none(known.alloc)
     })
 }
 
@@ -123,7 +121,7 @@ pub fn unsubscribe(known: &Known, topic: Topic, now: Millis) -> Result<Entry, Al
 pub fn refusal_of_subscribe(known: &Known, topic: &Topic) -> Option<Refusal>
     ensures { (p : Peer) (L : Entries) (at : ℕ)
         → Agrees known.now.tables L
-        → result ≡ refusal p L at (events.Subscribe topic.now) }
+        → result ≡ refusal p L at (events.Own (acts.Subscribe topic.now)) }
 {
     if known.tables.neighbours.is_shut() {
         return Some(Refusal::Stopped);
@@ -144,7 +142,7 @@ pub fn refusal_of_subscribe(known: &Known, topic: &Topic) -> Option<Refusal>
 pub fn refusal_of_unsubscribe(known: &Known, topic: &Topic) -> Option<Refusal>
     ensures { (p : Peer) (L : Entries) (at : ℕ)
         → Agrees known.now.tables L
-        → result ≡ refusal p L at (events.Unsubscribe topic.now) }
+        → result ≡ refusal p L at (events.Own (acts.Unsubscribe topic.now)) }
 {
     if known.tables.neighbours.is_shut() {
         return Some(Refusal::Stopped);

@@ -1,17 +1,18 @@
 //! What comes to a router from its neighbours: RPCs, and the ends of their links.
 ghost use Rattle.std.specs.Prelude.{◌≡◌, ◌≤◌, Some, true};
-ghost use Rattle.gs_rules.specs.declared.trace.Event.TheVariants as events;
+ghost use Rattle.gs_rules.specs.declared.event.Event.TheVariants as events;
+ghost use Rattle.gs_rules.specs.declared.event.Loss.TheVariants as losses;
 ghost use Rattle.gs_rules.specs.Tables.{last_moment};
 ghost use Rattle.gs_rules.specs.Modes.{exact};
 ghost use Rattle.gs_rules.specs.Legal.{hearing, losing};
 ghost use Rattle.gs_wire.specs.Codec.{codec};
-ghost use Rattle.gs_router.specs.Router.{Calls, IsLoss};
+ghost use Rattle.gs_router.specs.Router.{Calls};
 
 use crate::fault::RouterFault;
 use crate::router::{Router, ended};
 use gs_base::{Millis, PeerNo, Rpc, Shared};
 use gs_params::Words;
-use gs_rules::{Event, Refusal};
+use gs_rules::{Event, Loss, Refusal};
 
 impl Router {
     /// Hears an RPC that came from a neighbour and fits a frame, as all do that a reader gives. Where the
@@ -75,10 +76,10 @@ impl Router {
         words: &mut W,
     ) -> Result<(), RouterFault>
         requires { last_moment self.old.trace ≤ now.0 }
-        ensures { Calls (exact W.word W.after) (losing self.old.trace peer (events.Gone peer)) now
+        ensures { Calls (exact W.word W.after) (losing self.old.trace peer (events.Lost peer losses.Gone)) now
             self.old words.old result self.new words.new }
     {
-        self.lose(peer, Event::Gone(peer), now, words)
+        self.lose(peer, Loss::Gone, now, words)
     }
 
     /// Learns that a neighbour's bytes spell no RPC, or end within one. Where it is not up, this does
@@ -93,23 +94,22 @@ impl Router {
         words: &mut W,
     ) -> Result<(), RouterFault>
         requires { last_moment self.old.trace ≤ now.0 }
-        ensures { Calls (exact W.word W.after) (losing self.old.trace peer (events.Fault peer)) now
+        ensures { Calls (exact W.word W.after) (losing self.old.trace peer (events.Lost peer losses.Fault)) now
             self.old words.old result self.new words.new }
     {
-        self.lose(peer, Event::Fault(peer), now, words)
+        self.lose(peer, Loss::Fault, now, words)
     }
 
-    /// Loses a neighbour by an event, where it is up.
+    /// Loses a neighbour, where it is up.
     fn lose<W: Words>(
         &mut self,
         peer: PeerNo,
-        event: Event,
+        loss: Loss,
         now: Millis,
         words: &mut W,
     ) -> Result<(), RouterFault>
-        requires time { last_moment self.old.trace ≤ now.0 }
-        requires loss { IsLoss peer event }
-        ensures { Calls (exact W.word W.after) (losing self.old.trace peer event) now
+        requires { last_moment self.old.trace ≤ now.0 }
+        ensures { Calls (exact W.word W.after) (losing self.old.trace peer (events.Lost peer loss)) now
             self.old words.old result self.new words.new }
     {
         if self.is_stopped {
@@ -118,7 +118,9 @@ impl Router {
         if !self.state.known.tables.neighbours.is_up(peer) {
             return Ok(());
         }
-        let done = self.state.open(&mut self.payloads, event, now, words);
+        let done = self
+            .state
+            .open(&mut self.payloads, Event::Lost(peer, loss), now, words);
         ended(&mut self.is_stopped, done)
     }
 }

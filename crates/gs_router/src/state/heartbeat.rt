@@ -1,7 +1,8 @@
 //! How a router has a heartbeat.
 ghost use Rattle.std.specs.Prelude.{◌≡◌, ◌≤◌, IfOk, map, option_map};
 ghost use Rattle.gs_base.specs.declared.names.Millis.{Millis as MillisValue};
-ghost use Rattle.gs_rules.specs.declared.trace.Event.TheVariants as events;
+ghost use Rattle.gs_rules.specs.declared.event.Event.TheVariants as events;
+ghost use Rattle.gs_rules.specs.declared.event.BeatStep.TheVariants as steps_are;
 ghost use Rattle.gs_rules.specs.Tables.{Entries, last_moment};
 ghost use Rattle.gs_rules.specs.Meshes.{fanout_topics, has_fanout, is_stale};
 ghost use Rattle.gs_rules.specs.BeatRules.{fan_event};
@@ -16,7 +17,7 @@ ghost use Rattle.gs_router.specs.State.{Ends, IsCurrent, IsDue, IsReady, Steps, 
 use crate::state::State;
 use gs_base::{Millis, Topic, clone_of};
 use gs_params::Words;
-use gs_rules::Event;
+use gs_rules::{BeatStep, Event};
 use std::alloc::AllocError;
 
 /// A fanout whose turn comes in a heartbeat.
@@ -59,7 +60,7 @@ impl State {
         for topic in topics.as_slice() {
             self.gossip(topic, now, words)?;
         }
-        self.step(Event::BeatEnd, now, words)?;
+        self.step(Event::Step(BeatStep::BeatEnd), now, words)?;
         Ok(())
     }
 
@@ -72,12 +73,12 @@ impl State {
     ) -> Result<(), AllocError>
         requires current { IsCurrent self.old }
         requires time { last_moment self.old.trace ≤ now.0 }
-        requires next { IsDue self.old now (events.MeshBeat topic.now) }
-        ensures { Steps (exact W.word W.after) (events.MeshBeat topic.now) now
+        requires next { IsDue self.old now (events.Step (steps_are.MeshBeat topic.now)) }
+        ensures { Steps (exact W.word W.after) (events.Step (steps_are.MeshBeat topic.now)) now
             self.old words.old result self.new words.new }
     {
         let topic = clone_of(topic)?;
-        self.step(Event::MeshBeat(topic), now, words)
+        self.step(Event::Step(BeatStep::MeshBeat(topic)), now, words)
     }
 
     /// Mends a fanout or ends it, which comes next.
@@ -95,9 +96,9 @@ impl State {
     {
         let topic = clone_of(&due.topic)?;
         if due.is_stale {
-            return self.step(Event::FanEnd(topic), now, words);
+            return self.step(Event::Step(BeatStep::FanEnd(topic)), now, words);
         }
-        self.step(Event::FanBeat(topic), now, words)
+        self.step(Event::Step(BeatStep::FanBeat(topic)), now, words)
     }
 
     /// What becomes of each fanout at a moment, in the order of the bytes of topics.
@@ -161,12 +162,12 @@ impl State {
     ) -> Result<(), AllocError>
         requires current { IsCurrent self.old }
         requires time { last_moment self.old.trace ≤ now.0 }
-        requires next { IsDue self.old now (events.GossipBeat topic.now) }
-        ensures { Steps (exact W.word W.after) (events.GossipBeat topic.now) now
+        requires next { IsDue self.old now (events.Step (steps_are.GossipBeat topic.now)) }
+        ensures { Steps (exact W.word W.after) (events.Step (steps_are.GossipBeat topic.now)) now
             self.old words.old result self.new words.new }
     {
         let topic = clone_of(topic)?;
-        self.step(Event::GossipBeat(topic), now, words)
+        self.step(Event::Step(BeatStep::GossipBeat(topic)), now, words)
     }
 
     /// The topics on which there is something to gossip, in the order of their bytes.

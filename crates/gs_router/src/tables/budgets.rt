@@ -1,12 +1,13 @@
 //! What neighbours may still offer and be asked for.
 ghost use Rattle.std.specs.Prelude.{◌≡◌, [], ◌∷◌, OnOk};
 ghost use Rattle.gs_base.specs.declared.names.PeerNo.{PeerNo as PeerNoValue};
+ghost use Rattle.gs_rules.specs.declared.event.Event.TheVariants as events;
 ghost use Rattle.gs_rules.specs.declared.trace.Entry.{Entry as EntryValue};
 ghost use Rattle.gs_rules.specs.Tables.{Entries};
 ghost use Rattle.gs_router.specs.Tables.{AgreesOnBudgets, budget_after, budget_in, budget_left, unmarked};
 
 use gs_base::{Mark, PeerNo};
-use gs_rules::{Entry, Event};
+use gs_rules::{BeatStep, Entry, Event};
 use indexmap::IndexMap;
 use std::alloc::{AllocError, Global};
 
@@ -104,8 +105,24 @@ impl Budgets {
         ensures full { self.new.full ≡ self.old.full }
     {
         match event {
-            Event::BeatEnd => self.left.clear(),
+            Event::Step(step) => self.note_step(step),
             _ => {}
+        }
+    }
+
+    fn note_step(&mut self, step: &BeatStep)
+        ensures agrees { (e : EntryValue) (L : Entries)
+            → e.event ≡ events.Step step.now
+            → AgreesOnBudgets self.old L
+            → AgreesOnBudgets self.new (unmarked e ∷ L) }
+        ensures full { self.new.full ≡ self.old.full }
+    {
+        match step {
+            BeatStep::MeshBeat(_) => {}
+            BeatStep::FanBeat(_) => {}
+            BeatStep::FanEnd(_) => {}
+            BeatStep::GossipBeat(_) => {}
+            BeatStep::BeatEnd => self.left.clear(),
         }
     }
 
@@ -115,7 +132,7 @@ impl Budgets {
             → AgreesOnBudgets self.new (entry.now ∷ L)) }
         ensures full { OnOk result (self.new.full ≡ self.old.full) }
     {
-        for mark in entry.marks.as_slice() {
+        for mark in entry.effects.marks.as_slice() {
             self.note_mark(mark)?;
         }
         Ok(())

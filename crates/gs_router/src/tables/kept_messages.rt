@@ -1,16 +1,18 @@
 ghost use Rattle.std.specs.Prelude.{◌≡◌, ℕ, max, List, [], ◌∷◌, OnOk, IfOk, IfSome, IfNone, Option, Some, option_map};
 ghost use Rattle.gs_base.specs.declared.names.MsgId.{MsgId as MsgIdValue};
 ghost use Rattle.gs_base.specs.declared.names.PeerNo.{PeerNo as PeerNoValue};
+ghost use Rattle.gs_rules.specs.declared.event.Event.TheVariants as events;
 ghost use Rattle.gs_rules.specs.declared.trace.Entry.{Entry as EntryValue};
 ghost use Rattle.gs_rules.specs.Peers.{Peer, windows};
-ghost use Rattle.gs_rules.specs.Tables.{Entries, Keeping, answered_after, kept, kept_after, message_in, order_after};
+ghost use Rattle.gs_rules.specs.Tables.{Entries, Keeping, answered_after, blank, kept, kept_after, message_in, message_of_act, message_of_part, order_after};
 ghost use Rattle.gs_rules.specs.Gossip.{gossip};
 ghost use Rattle.gs_rules.specs.Owed.{is_some_list};
 ghost use Rattle.gs_router.specs.Tables.{AgreesOnMessages, HasKept, IsMadeAlike, answers_left, unmarked};
 
 use gs_base::{Mark, Message, MsgId, PeerNo, Seq, SharedPart, Topic, clone_of};
 use gs_cache::{Answer, MessageCache};
-use gs_rules::{Entry, Event};
+use gs_plan::Act;
+use gs_rules::{BeatStep, Entry, Event, RpcPart};
 use std::alloc::{AllocError, Global};
 
 /// The messages that are kept, and how often each neighbour may still get one.
@@ -102,8 +104,24 @@ impl Messages {
         ensures alike { IsMadeAlike self.old self.new }
     {
         match event {
-            Event::BeatEnd => self.cache.shift(),
+            Event::Step(step) => self.note_step(step),
             _ => {}
+        }
+    }
+
+    fn note_step(&mut self, step: &BeatStep)
+        ensures agrees { (e : EntryValue) (L : Entries)
+            → e.event ≡ events.Step step.now
+            → AgreesOnMessages self.old L
+            → AgreesOnMessages self.new (unmarked e ∷ L) }
+        ensures alike { IsMadeAlike self.old self.new }
+    {
+        match step {
+            BeatStep::MeshBeat(_) => {}
+            BeatStep::FanBeat(_) => {}
+            BeatStep::FanEnd(_) => {}
+            BeatStep::GossipBeat(_) => {}
+            BeatStep::BeatEnd => self.cache.shift(),
         }
     }
 
@@ -154,7 +172,7 @@ impl Messages {
             → AgreesOnMessages self.new (entry.now ∷ L)) }
         ensures alike { OnOk result (IsMadeAlike self.old self.new) }
     {
-        for mark in entry.marks.as_slice() {
+        for mark in entry.effects.marks.as_slice() {
             self.note_mark(mark, &entry.event)?;
         }
         Ok(())
@@ -169,8 +187,32 @@ fn message_in(alloc: Global, event: &Event) -> Result<SharedPart<Message>, Alloc
     ensures { IfOk result (λ message. message ≡ message_in event.now) }
 {
     match event {
-        Event::Msg(_, message) => clone_of(message),
-        Event::Publish(topic, payload) => {
+        Event::Part(_, part) => message_of_part(alloc, part),
+        Event::Own(act) => message_of_act(alloc, act.get()),
+        _ => blank(alloc),
+    }
+}
+
+fn message_of_part(alloc: Global, part: &RpcPart) -> Result<SharedPart<Message>, AllocError>
+    ensures { IfOk result (λ message. message ≡ message_of_part part.now) }
+{
+    match part {
+        RpcPart::Sub(_) => blank(alloc),
+        RpcPart::Msg(message) => clone_of(message),
+        RpcPart::Have(_) => blank(alloc),
+        RpcPart::Want(_) => blank(alloc),
+        RpcPart::GraftIn(_) => blank(alloc),
+        RpcPart::PruneIn(_) => blank(alloc),
+    }
+}
+
+fn message_of_act(alloc: Global, act: &Act) -> Result<SharedPart<Message>, AllocError>
+    ensures { IfOk result (λ message. message ≡ message_of_act act.now) }
+{
+    match act {
+        Act::Subscribe(_) => blank(alloc),
+        Act::Unsubscribe(_) => blank(alloc),
+        Act::Publish(topic, payload) => {
             let message = Message {
                 origin: None,
                 payload: Some(clone_of(payload)?),
@@ -181,16 +223,22 @@ fn message_in(alloc: Global, event: &Event) -> Result<SharedPart<Message>, Alloc
             };
             message.share(alloc)
         }
-        _ => {
-            let message = Message {
-                origin: None,
-                payload: None,
-                seqno: None,
-                topic: None,
-                signature: None,
-                key: None,
-            };
-            message.share(alloc)
-        }
+        Act::Raw(_, _) => blank(alloc),
+        Act::HangUp(_) => blank(alloc),
     }
+}
+
+/// A message without any field.
+fn blank(alloc: Global) -> Result<SharedPart<Message>, AllocError>
+    ensures { IfOk result (λ message. message ≡ blank) }
+{
+    let message = Message {
+        origin: None,
+        payload: None,
+        seqno: None,
+        topic: None,
+        signature: None,
+        key: None,
+    };
+    message.share(alloc)
 }

@@ -2,13 +2,13 @@ ghost use Rattle.std.specs.Prelude.{◌≡◌, [], ◌∷◌, IfSome, IfNone, On
 ghost use Rattle.gs_base.specs.Names.{same_peer, same_topic};
 ghost use Rattle.gs_base.specs.declared.names.PeerNo.{PeerNo as PeerNoValue};
 ghost use Rattle.gs_base.specs.declared.names.Topic.{Topic as TopicValue};
-ghost use Rattle.gs_rules.specs.Tables.{Entries, on};
+ghost use Rattle.gs_rules.specs.Tables.{Entries, on, on_by};
 ghost use Rattle.gs_router.specs.PeerSets.{has};
 ghost use Rattle.gs_router.specs.Tables.{AgreesOnListeners, listens};
 
 use crate::peer_set::PeerSet;
 use gs_base::{PeerNo, Topic};
-use gs_rules::{Entry, Event};
+use gs_rules::{Entry, Event, RpcPart};
 use indexmap::IndexMap;
 use std::alloc::{AllocError, Global};
 
@@ -64,13 +64,27 @@ impl Listeners {
             → AgreesOnListeners self.new (entry.now ∷ L)) }
     {
         match &entry.event {
-            Event::Sub(peer, sub) => {
+            Event::Part(peer, part) => self.note_part(*peer, part),
+            _ => Ok(()),
+        }
+    }
+
+    fn note_part(&mut self, peer: PeerNo, part: &RpcPart) -> Result<(), AllocError>
+        ensures { OnOk result ((q : PeerNoValue) (t : TopicValue)
+            → listens self.new q t ≡ on_by q t peer part.now (listens self.old q t)) }
+    {
+        match part {
+            RpcPart::Sub(sub) => {
                 let sub = sub.get();
                 let topic = sub.topic_or_empty()?;
-                self.put(topic, *peer, sub.subscribe.unwrap_or(false))?;
+                self.put(topic, peer, sub.subscribe.unwrap_or(false))?;
                 Ok(())
             }
-            _ => Ok(()),
+            RpcPart::Msg(_) => Ok(()),
+            RpcPart::Have(_) => Ok(()),
+            RpcPart::Want(_) => Ok(()),
+            RpcPart::GraftIn(_) => Ok(()),
+            RpcPart::PruneIn(_) => Ok(()),
         }
     }
 

@@ -5,12 +5,13 @@ ghost use Rattle.gs_params.specs.Picks.{IsAscending};
 ghost use Rattle.gs_base.specs.declared.names.Topic.{Topic as TopicValue};
 ghost use Rattle.gs_mesh.specs.Peers.{is_among};
 ghost use Rattle.gs_rules.specs.Tables.{Entries, after_marks};
-ghost use Rattle.gs_rules.specs.Meshes.{backoff, backoff_after, dropped_after, fanout, fanout_after, last_published, mesh, mesh_after, published_after};
+ghost use Rattle.gs_rules.specs.Meshes.{backoff, backoff_after, dropped_after, dropped_by_act, dropped_by_step, fanout, fanout_after, last_published, mesh, mesh_after, published_after};
 ghost use Rattle.gs_router.specs.Tables.{AgreesOnMeshes, HasMeshes};
 
 use gs_base::{Mark, Millis, PeerNo, Topic};
 use gs_mesh::Meshes;
-use gs_rules::{Entry, Event};
+use gs_plan::Act;
+use gs_rules::{BeatStep, Entry, Event};
 use std::alloc::{AllocError, Global};
 
 /// Who is in the mesh and in the fanout of each topic, when the router last published on it without being subscribed,
@@ -83,7 +84,7 @@ impl Memberships {
         ensures { OnOk result ((L : Entries) → AgreesOnMeshes self.old L → AgreesOnMeshes self.new (entry.now ∷ L)) }
     {
         self.note_event(&entry.event);
-        self.note_marks(entry.marks.as_slice(), entry.at)?;
+        self.note_marks(entry.effects.marks.as_slice(), entry.at)?;
         Ok(())
     }
 
@@ -99,9 +100,47 @@ impl Memberships {
             bars }
     {
         match event {
-            Event::Subscribe(topic) => self.meshes.drop_fanout(topic),
-            Event::FanEnd(topic) => self.meshes.drop_fanout(topic),
+            Event::Own(act) => self.note_act(act.get()),
+            Event::Step(step) => self.note_step(step),
             _ => {}
+        }
+    }
+
+    fn note_act(&mut self, act: &Act)
+        ensures { (members fans : TopicValue → List PeerNoValue)
+            (publishes : TopicValue → Option ℕ)
+            (bars : PeerNoValue → TopicValue → ℕ)
+            → HasMeshes self.old members fans publishes bars
+            → HasMeshes self.new members
+            (λ t. dropped_by_act t [] act.now (fans t))
+            (λ t. dropped_by_act t None act.now (publishes t))
+            bars }
+    {
+        match act {
+            Act::Subscribe(topic) => self.meshes.drop_fanout(topic),
+            Act::Unsubscribe(_) => {}
+            Act::Publish(_, _) => {}
+            Act::Raw(_, _) => {}
+            Act::HangUp(_) => {}
+        }
+    }
+
+    fn note_step(&mut self, step: &BeatStep)
+        ensures { (members fans : TopicValue → List PeerNoValue)
+            (publishes : TopicValue → Option ℕ)
+            (bars : PeerNoValue → TopicValue → ℕ)
+            → HasMeshes self.old members fans publishes bars
+            → HasMeshes self.new members
+            (λ t. dropped_by_step t [] step.now (fans t))
+            (λ t. dropped_by_step t None step.now (publishes t))
+            bars }
+    {
+        match step {
+            BeatStep::MeshBeat(_) => {}
+            BeatStep::FanBeat(_) => {}
+            BeatStep::FanEnd(topic) => self.meshes.drop_fanout(topic),
+            BeatStep::GossipBeat(_) => {}
+            BeatStep::BeatEnd => {}
         }
     }
 

@@ -1,12 +1,13 @@
-ghost use Rattle.std.specs.Prelude.{◌≡◌, Bool, [], ◌∷◌, IfOk, OnOk, if◌then◌else◌};
+ghost use Rattle.std.specs.Prelude.{◌≡◌, Bool, false, [], ◌∷◌, IfOk, OnOk, if◌then◌else◌};
 ghost use Rattle.gs_base.specs.Names.{same_topic};
 ghost use Rattle.gs_base.specs.declared.names.Topic.{Topic as TopicValue};
-ghost use Rattle.gs_rules.specs.Tables.{Entries, after_marks, joined_after};
-ghost use Rattle.gs_rules.specs.Meshes.{mesh_topics};
+ghost use Rattle.gs_rules.specs.Tables.{Entries, after_marks, joined_after, joined_by};
+ghost use Rattle.gs_rules.specs.Meshes.{dropped_by_act, dropped_by_step, mesh_topics};
 ghost use Rattle.gs_router.specs.Tables.{AgreesOnMeshTopics, HasTopics, dropped_by, fanned_by, mesh_or_fanout_in};
 
 use gs_base::{Mark, Topic, clone_of};
-use gs_rules::{Entry, Event};
+use gs_plan::Act;
+use gs_rules::{BeatStep, Entry, Event};
 use std::alloc::{AllocError, Global};
 use std::collections::BTreeMap;
 
@@ -61,7 +62,7 @@ impl MeshTopics {
             → AgreesOnMeshTopics self.new (entry.now ∷ L)) }
     {
         self.note_event(&entry.event)?;
-        self.note_marks(entry.marks.as_slice())?;
+        self.note_marks(entry.effects.marks.as_slice())?;
         Ok(())
     }
 
@@ -71,7 +72,19 @@ impl MeshTopics {
             → HasTopics self.new (λ t. joined_after t event.now (meshes t)) (λ t. dropped_by t event.now (fanouts t))) }
     {
         match event {
-            Event::Subscribe(topic) => {
+            Event::Own(act) => self.note_act(act.get()),
+            Event::Step(step) => self.note_step(step),
+            _ => Ok(()),
+        }
+    }
+
+    fn note_act(&mut self, act: &Act) -> Result<(), AllocError>
+        ensures { OnOk result ((meshes fanouts : TopicValue → Bool)
+            → HasTopics self.old meshes fanouts
+            → HasTopics self.new (λ t. joined_by t act.now (meshes t)) (λ t. dropped_by_act t false act.now (fanouts t))) }
+    {
+        match act {
+            Act::Subscribe(topic) => {
                 self.put(
                     topic,
                     MeshOrFanout {
@@ -81,7 +94,7 @@ impl MeshTopics {
                 )?;
                 Ok(())
             }
-            Event::Unsubscribe(topic) => {
+            Act::Unsubscribe(topic) => {
                 let has_fanout = self.mesh_or_fanout(topic).has_fanout;
                 self.put(
                     topic,
@@ -92,7 +105,21 @@ impl MeshTopics {
                 )?;
                 Ok(())
             }
-            Event::FanEnd(topic) => {
+            Act::Publish(_, _) => Ok(()),
+            Act::Raw(_, _) => Ok(()),
+            Act::HangUp(_) => Ok(()),
+        }
+    }
+
+    fn note_step(&mut self, step: &BeatStep) -> Result<(), AllocError>
+        ensures { OnOk result ((meshes fanouts : TopicValue → Bool)
+            → HasTopics self.old meshes fanouts
+            → HasTopics self.new meshes (λ t. dropped_by_step t false step.now (fanouts t))) }
+    {
+        match step {
+            BeatStep::MeshBeat(_) => Ok(()),
+            BeatStep::FanBeat(_) => Ok(()),
+            BeatStep::FanEnd(topic) => {
                 let has_mesh = self.mesh_or_fanout(topic).has_mesh;
                 self.put(
                     topic,
@@ -103,7 +130,8 @@ impl MeshTopics {
                 )?;
                 Ok(())
             }
-            _ => Ok(()),
+            BeatStep::GossipBeat(_) => Ok(()),
+            BeatStep::BeatEnd => Ok(()),
         }
     }
 

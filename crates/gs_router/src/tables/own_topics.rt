@@ -1,11 +1,14 @@
 ghost use Rattle.std.specs.Prelude.{◌≡◌, [], ◌∷◌, OnOk, IfOk};
 ghost use Rattle.gs_base.specs.Names.{topic_or_empty};
+ghost use Rattle.gs_rules.specs.declared.event.Event.TheVariants as events;
+ghost use Rattle.gs_rules.specs.declared.trace.Entry.{Entry as EntryValue};
 ghost use Rattle.gs_rules.specs.Tables.{Entries, joined, own_topics};
 ghost use Rattle.gs_rules.specs.Legal.{has_room_for};
 ghost use Rattle.gs_router.specs.Tables.{AgreesOnTopics};
 
 use bytes::Bytes;
 use gs_base::{MOST_TOPICS, Topic, clone_of};
+use gs_plan::Act;
 use gs_rules::{Entry, Event};
 use std::alloc::{AllocError, Global};
 use std::collections::BTreeMap;
@@ -78,18 +81,35 @@ impl OwnTopics {
         ensures { OnOk result ((L : Entries) → AgreesOnTopics self.old L → AgreesOnTopics self.new (entry.now ∷ L)) }
     {
         match &entry.event {
-            Event::Subscribe(topic) => {
+            Event::Own(act) => {
+                self.note_act(act.get())?;
+                Ok(())
+            }
+            _ => Ok(()),
+        }
+    }
+
+    fn note_act(&mut self, act: &Act) -> Result<(), AllocError>
+        ensures { OnOk result ((e : EntryValue) (L : Entries)
+            → e.event ≡ events.Own act.now
+            → AgreesOnTopics self.old L
+            → AgreesOnTopics self.new (e ∷ L)) }
+    {
+        match act {
+            Act::Subscribe(topic) => {
                 self.topics.insert(clone_of(topic)?, true)?;
                 Ok(())
             }
-            Event::Unsubscribe(topic) => {
+            Act::Unsubscribe(topic) => {
                 if !self.topics.contains_key(topic) {
                     return Ok(());
                 }
                 self.topics.insert(clone_of(topic)?, false)?;
                 Ok(())
             }
-            _ => Ok(()),
+            Act::Publish(_, _) => Ok(()),
+            Act::Raw(_, _) => Ok(()),
+            Act::HangUp(_) => Ok(()),
         }
     }
 }

@@ -43,10 +43,10 @@ impl Promises {
             → AgreesOnPromises self.new (entry.now ∷ L)) }
     {
         self.end(&entry.event, entry.at);
-        for mark in entry.marks.as_slice() {
+        for mark in entry.effects.marks.as_slice() {
             self.fulfil(mark);
         }
-        self.make(&entry.promise)?;
+        self.make(&entry.effects.promise)?;
         Ok(())
     }
 

@@ -73,8 +73,8 @@ impl Sightings {
             → AgreesOnSightings self.new (entry.now ∷ L)) }
         ensures ttl { OnOk result (self.new.cache.ttl ≡ self.old.cache.ttl) }
     {
-        self.note_sightings(entry.marks.as_slice(), entry.at)?;
-        self.note_neighbours(entry.marks.as_slice())?;
+        self.note_sightings(entry.effects.marks.as_slice(), entry.at)?;
+        self.note_neighbours(entry.effects.marks.as_slice())?;
         Ok(())
     }
 

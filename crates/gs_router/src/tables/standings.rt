@@ -72,7 +72,7 @@ impl Standings {
             → AgreesOnScores p self.new (entry.now ∷ L)) }
     {
         self.note_event(&entry.event);
-        self.note_marks(entry.marks.as_slice(), entry.at)?;
+        self.note_marks(entry.effects.marks.as_slice(), entry.at)?;
         Ok(())
     }
 

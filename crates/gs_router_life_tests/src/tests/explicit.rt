@@ -1,6 +1,6 @@
 //! Explicit neighbours: what they send, and what they are told.
 use gs_params::{DEFAULT_TOPIC_FACTORS, TopicFactors};
-use gs_router_calls::Act::{Hear, Heartbeat, Subscribe};
+use gs_router_calls::Call::{Hear, Heartbeat, Subscribe};
 use gs_router_calls::Id::Of;
 use gs_router_calls::Said::{Have, Message, Off, On, Prune, Want};
 use gs_router_calls::Seen::{

@@ -1,5 +1,5 @@
 //! What is kept and gossiped, and in which order heartbeats go through topics.
-use gs_router_calls::Act::{Hear, Heartbeat, Publish, Subscribe, Unsubscribe};
+use gs_router_calls::Call::{Hear, Heartbeat, Publish, Subscribe, Unsubscribe};
 use gs_router_calls::Id::Of;
 use gs_router_calls::Said::{Have, Message, Off, On, Prune, Want};
 use gs_router_calls::Seen::{

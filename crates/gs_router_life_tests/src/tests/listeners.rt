@@ -1,5 +1,5 @@
 //! Who of many listeners is told.
-use gs_router_calls::Act::{Gone, Hear, HearEach, Heartbeat, Publish, Subscribe, SubscribeEach};
+use gs_router_calls::Call::{Gone, Hear, HearEach, Heartbeat, Publish, Subscribe, SubscribeEach};
 use gs_router_calls::Id::Of;
 use gs_router_calls::Said::{Have, Message, Off, On, Prune};
 use gs_router_calls::Seen::{

@@ -1,12 +1,12 @@
 //! Offers and requests.
 use gs_params::{DEFAULT_TIMING, Timing};
-use gs_router_calls::Act::{Hear, Heartbeat, Subscribe};
+use gs_router_calls::Call::{Hear, Heartbeat, Subscribe};
 use gs_router_calls::Id::{Of, ShortOf};
 use gs_router_calls::Said::{Have, Message, On, Want};
 use gs_router_calls::Seen::{
     Accepted, Answered, Asked, Cached, Delivered, First, MeshBeat, Offered, Promised, Sent,
 };
-use gs_router_calls::{Act, Case, NOTHING, Seen};
+use gs_router_calls::{Call, Case, NOTHING, Seen};
 
 /// All neighbours are told that the router subscribes.
 const JOINED: &[Seen<'static>] = &[Sent(1, On("a")), Sent(2, On("a"))];
@@ -27,7 +27,7 @@ const ACCEPTS_1: &[Seen<'static>] = &[
     Cached(Of(&[1]), "a"),
 ];
 
-const OFFER_0: Act<'static> = Hear(1, &[Have("a", &[Of(&[0])])]);
+const OFFER_0: Call<'static> = Hear(1, &[Have("a", &[Of(&[0])])]);
 
 pub static OFFERS: &[Case<'static>] = &[
     // The eleventh does not, on any topic. Another neighbour has a budget of its own. A promise is due 3,000 milliseconds

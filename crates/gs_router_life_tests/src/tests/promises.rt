@@ -1,5 +1,5 @@
 //! Promises, kept and broken.
-use gs_router_calls::Act::{Gone, HangUp, Hear, Heartbeat, Publish, Subscribe};
+use gs_router_calls::Call::{Gone, HangUp, Hear, Heartbeat, Publish, Subscribe};
 use gs_router_calls::Id::Of;
 use gs_router_calls::Said::{Have, Message, On, Want};
 use gs_router_calls::Seen::{

@@ -1,6 +1,6 @@
 //! What a router tells of itself.
 use gs_params::{DEFAULT_TIMING, Timing};
-use gs_router_calls::Act::{Gone, Hear, HearEach, Heartbeat, Shut, Subscribe};
+use gs_router_calls::Call::{Gone, Hear, HearEach, Heartbeat, Shut, Subscribe};
 use gs_router_calls::Said::{Graft, Message, On};
 use gs_router_calls::Seen::{
     DecayMs, Grafted, HeartbeatMs, IsUp, LastMoment, Member, MeshBeat, Refused, Sent,

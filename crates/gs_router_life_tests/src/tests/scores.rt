@@ -1,6 +1,6 @@
 //! Scores: what neighbours do, what they score then, and what those lose that score low.
 use gs_params::{DEFAULT_FACTORS, DEFAULT_TOPIC_FACTORS, Factors, TopicFactors};
-use gs_router_calls::Act::{
+use gs_router_calls::Call::{
     Decay, Fault, Gone, HangUp, Hear, HearEach, Heartbeat, Publish, Raw, Shut, Subscribe,
 };
 use gs_router_calls::Id::Of;

@@ -1,5 +1,5 @@
 //! Ten promises of a neighbour, of which one is broken.
-use gs_router_calls::Act::{Hear, Heartbeat, Subscribe};
+use gs_router_calls::Call::{Hear, Heartbeat, Subscribe};
 use gs_router_calls::Id::Of;
 use gs_router_calls::Said::{Have, Message, On, Prune, Want};
 use gs_router_calls::Seen::{

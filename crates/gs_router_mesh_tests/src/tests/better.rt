@@ -1,6 +1,6 @@
 //! Better members for a poor mesh.
 use gs_params::{DEFAULT_TIMING, DEFAULT_TOPIC_FACTORS, Timing, TopicFactors};
-use gs_router_calls::Act::{Decay, Hear, HearEach, Heartbeat, Subscribe};
+use gs_router_calls::Call::{Decay, Hear, HearEach, Heartbeat, Subscribe};
 use gs_router_calls::Id::Of;
 use gs_router_calls::Said::{Graft, Message, On};
 use gs_router_calls::Seen::{

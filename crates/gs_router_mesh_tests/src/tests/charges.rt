@@ -1,6 +1,6 @@
 //! What is missing of deliveries in a mesh, and what whoever leaves it is charged with.
 use gs_params::{DEFAULT_TOPIC_FACTORS, TopicFactors};
-use gs_router_calls::Act::{Decay, Fault, Gone, Hear, HearEach, Subscribe, Unsubscribe};
+use gs_router_calls::Call::{Decay, Fault, Gone, Hear, HearEach, Subscribe, Unsubscribe};
 use gs_router_calls::Id::Of;
 use gs_router_calls::Said::{Graft, Message, Off, On, Prune};
 use gs_router_calls::Seen::{

@@ -1,13 +1,13 @@
 //! Explicit neighbours, which stay outside meshes, and what goes to them.
 use gs_params::{DEFAULT_TIMING, Timing};
-use gs_router_calls::Act::{Gone, Hear, HearEach, Heartbeat, Publish, Subscribe};
+use gs_router_calls::Call::{Gone, Hear, HearEach, Heartbeat, Publish, Subscribe};
 use gs_router_calls::Id::Of;
 use gs_router_calls::Said::{Graft, Message, Off, On, Prune};
 use gs_router_calls::Seen::{
     Accepted, Backoff, Cached, Delivered, First, Grafted, Members, MeshBeat, Near, Pruned, Score,
     Sent,
 };
-use gs_router_calls::{Act, Ask, Case, Kind, NOTHING, Seen};
+use gs_router_calls::{Ask, Call, Case, Kind, NOTHING, Seen};
 
 /// Who is in the mesh of `a`.
 const OF_A: &[Ask<'static>] = &[Ask::Members("a")];
@@ -24,13 +24,13 @@ const JOINED_OF_FOUR: &[Seen<'static>] = &[
     Members("a", &[]),
 ];
 
-const GRAFT_1: Act<'static> = Hear(1, &[Graft("a")]);
+const GRAFT_1: Call<'static> = Hear(1, &[Graft("a")]);
 
-const GRAFT_3: Act<'static> = Hear(3, &[Graft("a")]);
+const GRAFT_3: Call<'static> = Hear(3, &[Graft("a")]);
 
-const ON_1: Act<'static> = Hear(1, &[On("a")]);
+const ON_1: Call<'static> = Hear(1, &[On("a")]);
 
-const ON_2: Act<'static> = Hear(2, &[On("a")]);
+const ON_2: Call<'static> = Hear(2, &[On("a")]);
 
 pub static EXPLICIT: &[Case<'static>] = &[
     // Both are on the topic, and 2 scores more. While 1 is in backoff nobody comes in.

@@ -1,6 +1,6 @@
 //! Explicit neighbours, which stay outside fanouts, and what is published to them.
 use gs_params::{DEFAULT_DEGREES, Degrees};
-use gs_router_calls::Act::{Hear, HearEach, Heartbeat, Publish, Subscribe};
+use gs_router_calls::Call::{Hear, HearEach, Heartbeat, Publish, Subscribe};
 use gs_router_calls::Id::Of;
 use gs_router_calls::Said::{Message, Off, On};
 use gs_router_calls::Seen::{

@@ -1,13 +1,13 @@
 //! Fanouts.
 use gs_params::{DEFAULT_DEGREES, DEFAULT_TOPIC_FACTORS, Degrees, TopicFactors};
-use gs_router_calls::Act::{Gone, Hear, Heartbeat, Publish, Subscribe, Unsubscribe};
+use gs_router_calls::Call::{Gone, Hear, Heartbeat, Publish, Subscribe, Unsubscribe};
 use gs_router_calls::Id::Of;
 use gs_router_calls::Said::{Graft, Have, Message, Off, On};
 use gs_router_calls::Seen::{
     Accepted, Cached, FanBeat, FanEnd, Fanned, GossipBeat, Grafted, Invalid, Members, Published,
     Rejected, Sent, Unfanned,
 };
-use gs_router_calls::{Act, Ask, Case, Kind, NO_RULES, NOTHING, Rules};
+use gs_router_calls::{Ask, Call, Case, Kind, NO_RULES, NOTHING, Rules};
 
 /// Neighbour 3 was dialled, and 4 scores -50.000001.
 const FOUR: &[Kind] = &[Kind::Plain, Kind::Plain, Kind::Dialled, Kind::Distrusted];
@@ -25,13 +25,13 @@ const JUDGING: Rules<'static> = Rules {
     ..NO_RULES
 };
 
-const ON_1: Act<'static> = Hear(1, &[On("a")]);
+const ON_1: Call<'static> = Hear(1, &[On("a")]);
 
-const ON_2: Act<'static> = Hear(2, &[On("a")]);
+const ON_2: Call<'static> = Hear(2, &[On("a")]);
 
-const ON_3: Act<'static> = Hear(3, &[On("a")]);
+const ON_3: Call<'static> = Hear(3, &[On("a")]);
 
-const ON_4: Act<'static> = Hear(4, &[On("a")]);
+const ON_4: Call<'static> = Hear(4, &[On("a")]);
 
 pub static FANOUTS: &[Case<'static>] = &[
     // Two of three listeners become the fanout: the words make them 3 and 2. One of them leaves, and with the other any one of

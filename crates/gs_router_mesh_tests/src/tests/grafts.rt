@@ -1,9 +1,9 @@
 //! GRAFT, PRUNE, and who comes into a mesh.
 use gs_params::{DEFAULT_DEGREES, DEFAULT_FACTORS, Degrees, Factors};
-use gs_router_calls::Act::{Hear, Subscribe, Unsubscribe};
+use gs_router_calls::Call::{Hear, Subscribe, Unsubscribe};
 use gs_router_calls::Said::{Graft, Off, On, Prune};
 use gs_router_calls::Seen::{Backoff, Grafted, Members, Misbehaviour, Pruned, Sent};
-use gs_router_calls::{Act, Ask, Case, Kind, NOTHING, Seen};
+use gs_router_calls::{Ask, Call, Case, Kind, NOTHING, Seen};
 
 /// Neighbour 3 was dialled, and 4 scores -50.000001.
 const FOUR: &[Kind] = &[Kind::Plain, Kind::Plain, Kind::Dialled, Kind::Distrusted];
@@ -28,19 +28,19 @@ const JOINED_ANEW: &[Seen<'static>] = &[
     Sent(4, On("a")),
 ];
 
-const GRAFT_1: Act<'static> = Hear(1, &[Graft("a")]);
+const GRAFT_1: Call<'static> = Hear(1, &[Graft("a")]);
 
-const GRAFT_2: Act<'static> = Hear(2, &[Graft("a")]);
+const GRAFT_2: Call<'static> = Hear(2, &[Graft("a")]);
 
-const GRAFT_3: Act<'static> = Hear(3, &[Graft("a")]);
+const GRAFT_3: Call<'static> = Hear(3, &[Graft("a")]);
 
-const ON_1: Act<'static> = Hear(1, &[On("a")]);
+const ON_1: Call<'static> = Hear(1, &[On("a")]);
 
-const ON_2: Act<'static> = Hear(2, &[On("a")]);
+const ON_2: Call<'static> = Hear(2, &[On("a")]);
 
-const ON_3: Act<'static> = Hear(3, &[On("a")]);
+const ON_3: Call<'static> = Hear(3, &[On("a")]);
 
-const ON_4: Act<'static> = Hear(4, &[On("a")]);
+const ON_4: Call<'static> = Hear(4, &[On("a")]);
 
 pub static GRAFTS: &[Case<'static>] = &[
     // Misbehaviour costs nothing. A GRAFT a millisecond before its backoff ends is charged and bars anew, for 60 seconds from

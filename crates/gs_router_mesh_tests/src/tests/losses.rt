@@ -1,6 +1,6 @@
 //! What is missing of deliveries in a mesh, and who is charged with it.
 use gs_params::{DEFAULT_TOPIC_FACTORS, TopicFactors};
-use gs_router_calls::Act::{
+use gs_router_calls::Call::{
     Decay, Fault, Gone, HangUp, Hear, HearEach, Publish, Subscribe, Unsubscribe,
 };
 use gs_router_calls::Id::Of;

@@ -1,12 +1,12 @@
 //! What heartbeats do to a mesh.
 use gs_params::{DEFAULT_DEGREES, DEFAULT_TOPIC_FACTORS, Degrees, TopicFactors};
-use gs_router_calls::Act::{Hear, HearEach, Heartbeat, Subscribe};
+use gs_router_calls::Call::{Hear, HearEach, Heartbeat, Subscribe};
 use gs_router_calls::Id::Of;
 use gs_router_calls::Said::{Graft, Message, On, Prune};
 use gs_router_calls::Seen::{
     Backoff, Deficit, Grafted, Invalid, Members, MeshBeat, Pruned, Rejected, Sent,
 };
-use gs_router_calls::{Act, Ask, Case, Kind, NO_RULES, NOTHING, Rules, Seen};
+use gs_router_calls::{Ask, Call, Case, Kind, NO_RULES, NOTHING, Rules, Seen};
 
 /// Neighbour 3 was dialled, and 4 scores -50.000001.
 const FOUR: &[Kind] = &[Kind::Plain, Kind::Plain, Kind::Dialled, Kind::Distrusted];
@@ -44,19 +44,19 @@ const JOINED: &[Seen<'static>] = &[
     Members("a", &[]),
 ];
 
-const GRAFT_1: Act<'static> = Hear(1, &[Graft("a")]);
+const GRAFT_1: Call<'static> = Hear(1, &[Graft("a")]);
 
-const GRAFT_2: Act<'static> = Hear(2, &[Graft("a")]);
+const GRAFT_2: Call<'static> = Hear(2, &[Graft("a")]);
 
-const GRAFT_3: Act<'static> = Hear(3, &[Graft("a")]);
+const GRAFT_3: Call<'static> = Hear(3, &[Graft("a")]);
 
-const ON_1: Act<'static> = Hear(1, &[On("a")]);
+const ON_1: Call<'static> = Hear(1, &[On("a")]);
 
-const ON_2: Act<'static> = Hear(2, &[On("a")]);
+const ON_2: Call<'static> = Hear(2, &[On("a")]);
 
-const ON_3: Act<'static> = Hear(3, &[On("a")]);
+const ON_3: Call<'static> = Hear(3, &[On("a")]);
 
-const ON_4: Act<'static> = Hear(4, &[On("a")]);
+const ON_4: Call<'static> = Hear(4, &[On("a")]);
 
 pub static MENDS: &[Case<'static>] = &[
     // Fewer than four members are few, and then candidates come in, all of them where they are no more than there is room for.

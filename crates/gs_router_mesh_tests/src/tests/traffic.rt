@@ -1,12 +1,12 @@
 //! What goes through a mesh, and who leaves it.
 use gs_params::{DEFAULT_TOPIC_FACTORS, TopicFactors};
-use gs_router_calls::Act::{Fault, Gone, Hear, Publish, Subscribe};
+use gs_router_calls::Call::{Fault, Gone, Hear, Publish, Subscribe};
 use gs_router_calls::Id::Of;
 use gs_router_calls::Said::{Graft, Message, Off, On};
 use gs_router_calls::Seen::{
     Accepted, Cached, Delivered, First, Grafted, Invalid, Members, Near, Pruned, Rejected, Sent,
 };
-use gs_router_calls::{Act, Ask, Case, Kind, NO_RULES, NOTHING, Rules, Seen};
+use gs_router_calls::{Ask, Call, Case, Kind, NO_RULES, NOTHING, Rules, Seen};
 
 /// Neighbour 3 was dialled, and 4 scores -50.000001.
 const FOUR: &[Kind] = &[Kind::Plain, Kind::Plain, Kind::Dialled, Kind::Distrusted];
@@ -33,11 +33,11 @@ const JOINED: &[Seen<'static>] = &[
     Members("a", &[]),
 ];
 
-const GRAFT_1: Act<'static> = Hear(1, &[Graft("a")]);
+const GRAFT_1: Call<'static> = Hear(1, &[Graft("a")]);
 
-const GRAFT_2: Act<'static> = Hear(2, &[Graft("a")]);
+const GRAFT_2: Call<'static> = Hear(2, &[Graft("a")]);
 
-const GRAFT_3: Act<'static> = Hear(3, &[Graft("a")]);
+const GRAFT_3: Call<'static> = Hear(3, &[Graft("a")]);
 
 pub static TRAFFIC: &[Case<'static>] = &[
     // It goes to all members but its sender. Another member that passes it on at most ten milliseconds later counts once;

@@ -1,14 +1,11 @@
 //! How long topics and bodies may be, and how many topics a router takes.
 use crate::tests::check;
-use bytes::Bytes;
-use gs_base::{Millis, PeerNo, Topic};
-use gs_params::{Params, SeededWords};
-use gs_router::Router;
-use gs_router_calls::Act::{Publish, Shut, Subscribe, SubscribeEach, Unsubscribe};
+use gs_base::Millis;
+use gs_router_calls::Call::{Publish, Shut, Subscribe, SubscribeEach, Unsubscribe};
 use gs_router_calls::Id::Of;
 use gs_router_calls::Said::{Off, On};
 use gs_router_calls::Seen::{Accepted, Cached, Delivered, Refused, Sent};
-use gs_router_calls::{Case, NOTHING};
+use gs_router_calls::{Case, NOTHING, Player};
 use std::alloc::{AllocError, Global};
 
 /// A topic of 1,024 bytes, which is as long as one may be.
@@ -93,16 +90,11 @@ static TOPICS: [Case<'static>; 2] = [
 
 /// How a new router answers a publication of so many zeros: 0, or the number of its refusal.
 fn answer_to(alloc: Global, length: usize) -> Result<u8, AllocError> {
-    let topic = Topic(Bytes::copy_from_slice(alloc, b"a")?);
-    let payload = Bytes::copy_from_slice(alloc, &vec![in alloc; 0u8; length]?)?;
-    let mut words = SeededWords::new(Vec::new(alloc), 1, PeerNo(0));
-    let Ok(params) = Params::new(alloc).check() else {
-        return Err(AllocError);
-    };
-    let mut router = Router::new(alloc, params, Vec::new(alloc))?;
-    let answer = router.publish(topic, payload, Millis(0), &mut words);
-    drop(router);
-    match answer {
+    let payload = vec![in alloc; 0u8; length]?;
+    let mut player = Player::new(alloc, &NOTHING)?;
+    let answer = player.answer(Millis(0), Publish("a", payload.as_slice()));
+    drop(player);
+    match answer? {
         Ok(()) => Ok(0),
         Err(fault) => Ok(fault.number()),
     }

@@ -1,12 +1,12 @@
 //! Identifiers of messages. Those of `abc` and of nothing are published with the SHA-256 (FIPS 180-4 and its examples).
-use gs_router_calls::Act::{Hear, Heartbeat, Publish, Subscribe};
+use gs_router_calls::Call::{Hear, Heartbeat, Publish, Subscribe};
 use gs_router_calls::Id::{Is, Of};
 use gs_router_calls::Said::{Have, Message, On, Want};
 use gs_router_calls::Seen::{
     Accepted, Answered, Asked, Cached, Delivered, First, GossipBeat, MeshBeat, Offered, Promised,
     Sent,
 };
-use gs_router_calls::{Act, Case, Id, NOTHING, Seen};
+use gs_router_calls::{Call, Case, Id, NOTHING, Seen};
 
 const OF_ABC: Id<'static> = Is(&[
     0xba, 0x78, 0x16, 0xbf, 0x8f, 0x01, 0xcf, 0xea, 0x41, 0x41, 0x40, 0xde, 0x5d, 0xae, 0x22, 0x23,
@@ -22,10 +22,10 @@ const OF_NOTHING: Id<'static> = Is(&[
 const JOINED: &[Seen<'static>] = &[Sent(1, On("a")), Sent(2, On("a"))];
 
 /// Neighbour 2 has both messages.
-const OFFER: Act<'static> = Hear(2, &[Have("a", &[OF_ABC, OF_NOTHING])]);
+const OFFER: Call<'static> = Hear(2, &[Have("a", &[OF_ABC, OF_NOTHING])]);
 
 /// Neighbour 2 asks for both, `abc` first.
-const REQUEST: Act<'static> = Hear(2, &[Want(&[OF_ABC, OF_NOTHING])]);
+const REQUEST: Call<'static> = Hear(2, &[Want(&[OF_ABC, OF_NOTHING])]);
 
 /// It gets both.
 const GIVES_BOTH: &[Seen<'static>] = &[

@@ -1,5 +1,5 @@
 //! Links that the router's own user closes or writes to.
-use gs_router_calls::Act::{
+use gs_router_calls::Call::{
     Fault, Gone, HangUp, Hear, Heartbeat, Publish, Raw, Shut, Subscribe, Unsubscribe,
 };
 use gs_router_calls::Id::Of;

@@ -1,7 +1,7 @@
 //! Messages that come and are published.
 use gs_router_calls::Id::Of;
 use gs_router_calls::Said::{Message, Off, On, Other, Parts, Sub};
-use gs_router_calls::{Act, Case, Fields, NO_FIELDS, NO_TOPIC, NOTHING, Said, Seen};
+use gs_router_calls::{Call, Case, Fields, NO_FIELDS, NO_TOPIC, NOTHING, Said, Seen};
 
 /// The fields of the message `abc` on `a`.
 const ABC_FIELDS: Fields<'static> = Fields {
@@ -53,7 +53,7 @@ pub static MESSAGES: &[Case<'static>] = &[
         steps: &[
             (
                 0,
-                Act::Subscribe("a"),
+                Call::Subscribe("a"),
                 &[
                     Seen::Subscribe("a"),
                     Seen::Sent(1, On("a")),
@@ -62,22 +62,22 @@ pub static MESSAGES: &[Case<'static>] = &[
             ),
             (
                 1,
-                Act::Hear(1, &[On("a")]),
+                Call::Hear(1, &[On("a")]),
                 &[Seen::Heard(1, On("a")), Seen::Handled(1, On("a"))],
             ),
             (
                 2,
-                Act::Hear(2, &[On("a")]),
+                Call::Hear(2, &[On("a")]),
                 &[Seen::Heard(2, On("a")), Seen::Handled(2, On("a"))],
             ),
             (
                 3,
-                Act::Hear(1, &[Off("a")]),
+                Call::Hear(1, &[Off("a")]),
                 &[Seen::Heard(1, Off("a")), Seen::Handled(1, Off("a"))],
             ),
             (
                 4,
-                Act::Publish("a", b"abc"),
+                Call::Publish("a", b"abc"),
                 &[
                     Seen::Publish("a", b"abc"),
                     Seen::Sent(2, ABC_ON_A),
@@ -88,7 +88,7 @@ pub static MESSAGES: &[Case<'static>] = &[
             ),
             (
                 4,
-                Act::Publish("b", b""),
+                Call::Publish("b", b""),
                 &[
                     Seen::Publish("b", &[]),
                     Seen::Accepted(Of(&[])),
@@ -105,7 +105,7 @@ pub static MESSAGES: &[Case<'static>] = &[
         steps: &[
             (
                 0,
-                Act::Hear(
+                Call::Hear(
                     1,
                     &[WITH_ORIGIN, WITH_SEQNO, WITH_SIGNATURE, WITH_KEY, ABC_ON_A],
                 ),
@@ -125,7 +125,7 @@ pub static MESSAGES: &[Case<'static>] = &[
             ),
             (
                 0,
-                Act::Subscribe("a"),
+                Call::Subscribe("a"),
                 &[
                     Seen::Subscribe("a"),
                     Seen::Sent(1, On("a")),
@@ -134,7 +134,7 @@ pub static MESSAGES: &[Case<'static>] = &[
             ),
             (
                 0,
-                Act::Hear(
+                Call::Hear(
                     1,
                     &[WITH_ORIGIN, WITH_SEQNO, WITH_SIGNATURE, WITH_KEY, ABC_ON_A],
                 ),
@@ -171,7 +171,7 @@ pub static MESSAGES: &[Case<'static>] = &[
         steps: &[
             (
                 0,
-                Act::Subscribe(""),
+                Call::Subscribe(""),
                 &[
                     Seen::Subscribe(""),
                     Seen::Sent(1, On("")),
@@ -180,7 +180,7 @@ pub static MESSAGES: &[Case<'static>] = &[
             ),
             (
                 3,
-                Act::Hear(
+                Call::Hear(
                     1,
                     &[On("a"), Sub("a"), On(NO_TOPIC), ABC_ON_A, Other(NO_FIELDS)],
                 ),
@@ -204,17 +204,17 @@ pub static MESSAGES: &[Case<'static>] = &[
             ),
             (
                 3,
-                Act::Publish("a", b"abc"),
+                Call::Publish("a", b"abc"),
                 &[
                     Seen::Publish("a", b"abc"),
                     Seen::Accepted(Of(b"abc")),
                     Seen::Cached(Of(b"abc"), "a"),
                 ],
             ),
-            (120_003, Act::Hear(2, &[]), &[Seen::Heard(2, Parts(0))]),
+            (120_003, Call::Hear(2, &[]), &[Seen::Heard(2, Parts(0))]),
             (
                 120_003,
-                Act::Publish("", b""),
+                Call::Publish("", b""),
                 &[
                     Seen::Publish("", &[]),
                     Seen::Sent(1, Message("", &[])),
@@ -233,23 +233,23 @@ pub static MESSAGES: &[Case<'static>] = &[
         steps: &[
             (
                 0,
-                Act::Subscribe("a"),
+                Call::Subscribe("a"),
                 &[
                     Seen::Subscribe("a"),
                     Seen::Sent(1, On("a")),
                     Seen::Sent(2, On("a")),
                 ],
             ),
-            (1_000, Act::Hear(1, &[ABC_ON_A]), IS_DELIVERED),
-            (1_000, Act::Hear(1, &[ABC_ON_A]), COMES),
-            (120_999, Act::Hear(1, &[ABC_ON_A]), COMES),
-            (120_999, Act::Publish("b", b"abc"), &[Seen::Refused(16)]),
-            (121_000, Act::Hear(1, &[ABC_ON_A]), IS_DELIVERED),
-            (240_999, Act::Hear(1, &[ABC_ON_A]), COMES),
-            (240_999, Act::Publish("a", b"abc"), &[Seen::Refused(16)]),
+            (1_000, Call::Hear(1, &[ABC_ON_A]), IS_DELIVERED),
+            (1_000, Call::Hear(1, &[ABC_ON_A]), COMES),
+            (120_999, Call::Hear(1, &[ABC_ON_A]), COMES),
+            (120_999, Call::Publish("b", b"abc"), &[Seen::Refused(16)]),
+            (121_000, Call::Hear(1, &[ABC_ON_A]), IS_DELIVERED),
+            (240_999, Call::Hear(1, &[ABC_ON_A]), COMES),
+            (240_999, Call::Publish("a", b"abc"), &[Seen::Refused(16)]),
             (
                 241_000,
-                Act::Publish("a", b"abc"),
+                Call::Publish("a", b"abc"),
                 &[
                     Seen::Publish("a", b"abc"),
                     Seen::Delivered("a", b"abc"),
@@ -267,34 +267,34 @@ pub static MESSAGES: &[Case<'static>] = &[
         steps: &[
             (
                 0,
-                Act::Subscribe("b"),
+                Call::Subscribe("b"),
                 &[
                     Seen::Subscribe("b"),
                     Seen::Sent(1, On("b")),
                     Seen::Sent(2, On("b")),
                 ],
             ),
-            (0, Act::Hear(1, &[ABC_ON_A]), COMES),
+            (0, Call::Hear(1, &[ABC_ON_A]), COMES),
             (
                 0,
-                Act::Subscribe("a"),
+                Call::Subscribe("a"),
                 &[
                     Seen::Subscribe("a"),
                     Seen::Sent(1, On("a")),
                     Seen::Sent(2, On("a")),
                 ],
             ),
-            (0, Act::Hear(1, &[ABC_ON_A]), IS_DELIVERED),
+            (0, Call::Hear(1, &[ABC_ON_A]), IS_DELIVERED),
             (
                 0,
-                Act::Unsubscribe("a"),
+                Call::Unsubscribe("a"),
                 &[
                     Seen::Unsubscribe("a"),
                     Seen::Sent(1, Off("a")),
                     Seen::Sent(2, Off("a")),
                 ],
             ),
-            (120_000, Act::Hear(1, &[ABC_ON_A]), COMES),
+            (120_000, Call::Hear(1, &[ABC_ON_A]), COMES),
         ],
         ..NOTHING
     },

@@ -1,7 +1,7 @@
 //! Topics that are joined and left, and what is refused.
 use gs_router_calls::Id::Of;
 use gs_router_calls::Said::{Message, Off, On, Other, Parts, Sub};
-use gs_router_calls::{Act, Case, NO_FIELDS, NO_TOPIC, NOTHING, Seen};
+use gs_router_calls::{Call, Case, NO_FIELDS, NO_TOPIC, NOTHING, Seen};
 
 pub static TOPICS: &[Case<'static>] = &[
     // Nobody is on a topic, so no mesh has members, and announcements are all that is sent.
@@ -11,7 +11,7 @@ pub static TOPICS: &[Case<'static>] = &[
         steps: &[
             (
                 5,
-                Act::Subscribe("a"),
+                Call::Subscribe("a"),
                 &[
                     Seen::Subscribe("a"),
                     Seen::Sent(1, On("a")),
@@ -20,7 +20,7 @@ pub static TOPICS: &[Case<'static>] = &[
             ),
             (
                 5,
-                Act::Subscribe(""),
+                Call::Subscribe(""),
                 &[
                     Seen::Subscribe(""),
                     Seen::Sent(1, On("")),
@@ -29,7 +29,7 @@ pub static TOPICS: &[Case<'static>] = &[
             ),
             (
                 7,
-                Act::Unsubscribe("a"),
+                Call::Unsubscribe("a"),
                 &[
                     Seen::Unsubscribe("a"),
                     Seen::Sent(1, Off("a")),
@@ -38,7 +38,7 @@ pub static TOPICS: &[Case<'static>] = &[
             ),
             (
                 9,
-                Act::Subscribe("a"),
+                Call::Subscribe("a"),
                 &[
                     Seen::Subscribe("a"),
                     Seen::Sent(1, On("a")),
@@ -53,42 +53,42 @@ pub static TOPICS: &[Case<'static>] = &[
         name: "a refused call leaves the trace as it was",
         events: true,
         steps: &[
-            (0, Act::Unsubscribe("a"), &[Seen::Refused(19)]),
+            (0, Call::Unsubscribe("a"), &[Seen::Refused(19)]),
             (
                 0,
-                Act::Subscribe("a"),
+                Call::Subscribe("a"),
                 &[
                     Seen::Subscribe("a"),
                     Seen::Sent(1, On("a")),
                     Seen::Sent(2, On("a")),
                 ],
             ),
-            (0, Act::Subscribe("a"), &[Seen::Refused(18)]),
-            (1, Act::Unsubscribe("b"), &[Seen::Refused(19)]),
+            (0, Call::Subscribe("a"), &[Seen::Refused(18)]),
+            (1, Call::Unsubscribe("b"), &[Seen::Refused(19)]),
             (
                 1,
-                Act::Unsubscribe("a"),
+                Call::Unsubscribe("a"),
                 &[
                     Seen::Unsubscribe("a"),
                     Seen::Sent(1, Off("a")),
                     Seen::Sent(2, Off("a")),
                 ],
             ),
-            (1, Act::Unsubscribe("a"), &[Seen::Refused(19)]),
+            (1, Call::Unsubscribe("a"), &[Seen::Refused(19)]),
             (
                 2,
-                Act::Publish("a", b"abc"),
+                Call::Publish("a", b"abc"),
                 &[
                     Seen::Publish("a", b"abc"),
                     Seen::Accepted(Of(b"abc")),
                     Seen::Cached(Of(b"abc"), "a"),
                 ],
             ),
-            (120_001, Act::Publish("b", b"abc"), &[Seen::Refused(16)]),
-            (120_001, Act::Publish("a", b"abc"), &[Seen::Refused(16)]),
+            (120_001, Call::Publish("b", b"abc"), &[Seen::Refused(16)]),
+            (120_001, Call::Publish("a", b"abc"), &[Seen::Refused(16)]),
             (
                 120_002,
-                Act::Publish("a", b"abc"),
+                Call::Publish("a", b"abc"),
                 &[
                     Seen::Publish("a", b"abc"),
                     Seen::Accepted(Of(b"abc")),
@@ -105,7 +105,7 @@ pub static TOPICS: &[Case<'static>] = &[
         steps: &[
             (
                 0,
-                Act::Subscribe("a"),
+                Call::Subscribe("a"),
                 &[
                     Seen::Subscribe("a"),
                     Seen::Sent(1, On("a")),
@@ -114,25 +114,25 @@ pub static TOPICS: &[Case<'static>] = &[
             ),
             (
                 0,
-                Act::Hear(2, &[On("a")]),
+                Call::Hear(2, &[On("a")]),
                 &[Seen::Heard(2, On("a")), Seen::Handled(2, On("a"))],
             ),
-            (100, Act::EndRound(0), &[Seen::RoundEnd(0)]),
-            (200, Act::EndRound(u64::MAX), &[Seen::RoundEnd(u64::MAX)]),
-            (200, Act::Shut, &[Seen::Shut]),
-            (200, Act::Subscribe("a"), &[Seen::Refused(21)]),
-            (200, Act::Subscribe("b"), &[Seen::Refused(21)]),
-            (200, Act::Unsubscribe("a"), &[Seen::Refused(21)]),
-            (200, Act::Unsubscribe("b"), &[Seen::Refused(21)]),
-            (200, Act::Publish("a", b"abc"), &[Seen::Refused(21)]),
-            (200, Act::Heartbeat, &[Seen::Refused(21)]),
-            (200, Act::EndRound(2), &[Seen::Refused(21)]),
-            (200, Act::HangUp(1), &[Seen::Refused(21)]),
-            (200, Act::Raw(1, b"abc"), &[Seen::Refused(21)]),
-            (200, Act::Shut, &[Seen::Refused(21)]),
+            (100, Call::EndRound(0), &[Seen::RoundEnd(0)]),
+            (200, Call::EndRound(u64::MAX), &[Seen::RoundEnd(u64::MAX)]),
+            (200, Call::Shut, &[Seen::Shut]),
+            (200, Call::Subscribe("a"), &[Seen::Refused(21)]),
+            (200, Call::Subscribe("b"), &[Seen::Refused(21)]),
+            (200, Call::Unsubscribe("a"), &[Seen::Refused(21)]),
+            (200, Call::Unsubscribe("b"), &[Seen::Refused(21)]),
+            (200, Call::Publish("a", b"abc"), &[Seen::Refused(21)]),
+            (200, Call::Heartbeat, &[Seen::Refused(21)]),
+            (200, Call::EndRound(2), &[Seen::Refused(21)]),
+            (200, Call::HangUp(1), &[Seen::Refused(21)]),
+            (200, Call::Raw(1, b"abc"), &[Seen::Refused(21)]),
+            (200, Call::Shut, &[Seen::Refused(21)]),
             (
                 300,
-                Act::Hear(
+                Call::Hear(
                     1,
                     &[
                         On("a"),
@@ -153,7 +153,7 @@ pub static TOPICS: &[Case<'static>] = &[
             ),
             (
                 300,
-                Act::Hear(2, &[Message("a", b"abc")]),
+                Call::Hear(2, &[Message("a", b"abc")]),
                 &[Seen::Late(2, Message("a", b"abc"))],
             ),
         ],
@@ -164,16 +164,16 @@ pub static TOPICS: &[Case<'static>] = &[
         name: "a neighbour that is lost is not sent to, is lost once, and what it says is late",
         events: true,
         steps: &[
-            (0, Act::Gone(1), &[Seen::Gone(1)]),
-            (0, Act::Fault(1), &[]),
+            (0, Call::Gone(1), &[Seen::Gone(1)]),
+            (0, Call::Fault(1), &[]),
             (
                 0,
-                Act::Subscribe("a"),
+                Call::Subscribe("a"),
                 &[Seen::Subscribe("a"), Seen::Sent(2, On("a"))],
             ),
-            (100, Act::Hear(1, &[On("a")]), &[Seen::Late(1, On("a"))]),
-            (100, Act::Fault(2), &[Seen::Fault(2)]),
-            (100, Act::Unsubscribe("a"), &[Seen::Unsubscribe("a")]),
+            (100, Call::Hear(1, &[On("a")]), &[Seen::Late(1, On("a"))]),
+            (100, Call::Fault(2), &[Seen::Fault(2)]),
+            (100, Call::Unsubscribe("a"), &[Seen::Unsubscribe("a")]),
         ],
         ..NOTHING
     },

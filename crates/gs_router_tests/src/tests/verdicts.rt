@@ -1,5 +1,5 @@
 //! What messages are found to be.
-use gs_router_calls::Act::{Hear, Publish, Read, Subscribe};
+use gs_router_calls::Call::{Hear, Publish, Read, Subscribe};
 use gs_router_calls::Id::Of;
 use gs_router_calls::Said::{Message, On};
 use gs_router_calls::Seen::{Accepted, Cached, Delivered, First, Ignored, Invalid, Rejected, Sent};

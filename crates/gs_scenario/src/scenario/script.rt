@@ -18,8 +18,8 @@ use crate::scenario::tables::TableKind;
 use crate::scenario::topics::{TopicEntry, topic_of};
 use gs_base::{PeerNo, Seq, Topic};
 use gs_plan::{
-    Dial, HANG_UP, LONGEST_RAW, Line, MOST_PEERS, PUBLISH, PlannedPeer, RAW, SUBSCRIBE,
-    UNSUBSCRIBE, What,
+    Act, Dial, HANG_UP, LONGEST_RAW, Line, MOST_PEERS, PUBLISH, PlannedPeer, RAW, SUBSCRIBE,
+    UNSUBSCRIBE,
 };
 use std::alloc::Global;
 use toml::Value;
@@ -144,23 +144,23 @@ fn what_in(
     section: &Section<'_>,
     peer: PeerNo,
     verb: Verb,
-) -> Result<What, ScenarioFault>
+) -> Result<Act, ScenarioFault>
     requires { length known.peers.now ≤ MOST_PEERS }
     ensures { let known = known.entry in GivesSame result
         (what_in known.topics.now known.peers.now known.dials.now (section_of section.now) peer verb) }
 {
     match verb {
-        Verb::Subscribe => Ok(What::Subscribe(topic_in(known, section)?)),
-        Verb::Unsubscribe => Ok(What::Unsubscribe(topic_in(known, section)?)),
+        Verb::Subscribe => Ok(Act::Subscribe(topic_in(known, section)?)),
+        Verb::Unsubscribe => Ok(Act::Unsubscribe(topic_in(known, section)?)),
         Verb::Publish => {
             let topic = topic_in(known, section)?;
-            Ok(What::Publish(topic, section.hex(HEX)?))
+            Ok(Act::Publish(topic, section.hex(HEX)?))
         }
         Verb::Raw => {
             let to = neighbour_in(known, section, peer)?;
-            Ok(What::Raw(to, section.short_hex(HEX, LONGEST_RAW)?))
+            Ok(Act::Raw(to, section.short_hex(HEX, LONGEST_RAW)?))
         }
-        Verb::HangUp => Ok(What::HangUp(neighbour_in(known, section, peer)?)),
+        Verb::HangUp => Ok(Act::HangUp(neighbour_in(known, section, peer)?)),
     }
 }
 

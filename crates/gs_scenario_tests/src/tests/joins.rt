@@ -1,7 +1,7 @@
 //! Who is joined in a plan, and copies of what it says.
 use bytes::Bytes;
 use gs_base::{PeerNo, Topic, clone_of};
-use gs_plan::{Dial, Line, What, are_joined, limits_of_plans};
+use gs_plan::{Act, Dial, Line, are_joined, limits_of_plans};
 use std::alloc::{AllocError, Global};
 
 /// What takes nothing and gives nothing: that it can be called is all there is to test.
@@ -32,7 +32,7 @@ fn a_dial_joins_both_sides(rt: HostRuntime) {
 }
 
 /// The line of round 2 in which peer 1 is told something.
-fn line_of(what: What) -> Line {
+fn line_of(what: Act) -> Line {
     Line {
         at: 2,
         peer: PeerNo(1),
@@ -53,12 +53,12 @@ fn news(alloc: Global) -> Result<Topic, AllocError> {
 #[test]
 fn a_line_equals_its_clone(rt: HostRuntime) -> Result<(), AllocError> {
     let alloc = rt.alloc();
-    assert!(rt; is_cloned(&line_of(What::Subscribe(news(alloc)?)))?);
-    assert!(rt; is_cloned(&line_of(What::Unsubscribe(news(alloc)?)))?);
+    assert!(rt; is_cloned(&line_of(Act::Subscribe(news(alloc)?)))?);
+    assert!(rt; is_cloned(&line_of(Act::Unsubscribe(news(alloc)?)))?);
     let payload = Bytes::copy_from_slice(alloc, b"abc")?;
-    assert!(rt; is_cloned(&line_of(What::Publish(news(alloc)?, payload)))?);
+    assert!(rt; is_cloned(&line_of(Act::Publish(news(alloc)?, payload)))?);
     let bytes = Bytes::copy_from_slice(alloc, b"abc")?;
-    assert!(rt; is_cloned(&line_of(What::Raw(PeerNo(2), bytes)))?);
-    assert!(rt; is_cloned(&line_of(What::HangUp(PeerNo(2))))?);
+    assert!(rt; is_cloned(&line_of(Act::Raw(PeerNo(2), bytes)))?);
+    assert!(rt; is_cloned(&line_of(Act::HangUp(PeerNo(2))))?);
     Ok(())
 }

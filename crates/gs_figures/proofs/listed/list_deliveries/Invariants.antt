@@ -5,4 +5,4 @@ use Rattle.gs_figures.proofs.listed.list_deliveries.Given as goal
 
 -- what the entries so far say stands behind what was there
 abbrev pub invariant-loop-entry : goal.invariant-loop-entry
-invariant-loop-entry l = l.list ≡ l.initial.list ++ flat_map (λ e. delivered_by l.peer e.at e.delivered) (take l.entry-index l.entries)
+invariant-loop-entry l = l.list ≡ l.initial.list ++ flat_map (λ e. delivered_by l.peer e.at e.effects.delivered) (take l.entry-index l.entries)

@@ -2,13 +2,14 @@ use Rattle.std.proofs.Common.{◌≡◌, ◌∙◌, ◌*◌, ℕ, List, length, 
 use Rattle.std.specs.List.{All, AllByRecursion, range_with_len}
 use Rattle.std.proofs.lemmas.List.Elements.{All-from_recursion}
 use Rattle.gs_plan.specs.declared.plan.Dial.{Dial}
-use Rattle.gs_dials.specs.Dials.{AreWired, IsExchanged, JoinsTwoOf}
+use Rattle.gs_net.specs.Dials.{AreWired, IsExchanged, JoinsTwoOf}
 use Rattle.gs_seats.specs.Rounds.{IsRun, numbers, peer_no}
 use Rattle.gs_seats.proofs.FewDials.{links_fit}
 use Rattle.gs_seats.proofs.ByNumber.{as_long, as_many}
 use Rattle.gs_net.proofs.Gathered.{can_all, ends_as_many, ends_left, gave, lives_each, same_joints}
 use Rattle.gs_net.proofs.Together.{together}
-use Rattle.gs_net.proofs.Wired.{dials_join, ends_apart, ends_closed, ends_exchanged, still_wired, usable}
+use Rattle.gs_net.proofs.Wired.{dials_join, ends_apart, ends_closed, ends_exchanged, usable}
+use Rattle.gs_net.proofs.Wiring.{still_wired}
 use Rattle.gs_net.proofs.run.run_with.Goals as goal
 
 pub wire_all-requires : goal.wire_all-requires
@@ -47,7 +48,7 @@ wired_behind g c =
     let ends = c.in_ok-ends.ends.items in
     let (givens, are, apart) = c.in_ok-lives.ensures.lives in
     let all = gave plan ends c.in_ok-tasks.tasks.items c.in_ok-ran.ran.outputs.items givens c.in_ok-tasks.ensures c.in_ok-ran.ensures.given are in
-    still_wired plan.dials ends c.in_ok-lives.lives.ends.items (subst (λ (dials : List Dial). AreWired dials ends) c.as_slice.ensures c.in_ok-ends.ensures.wired) (same_joints plan ends givens _ (c.in_ok-ends.ensures.count ∙ c.len.ensures) all apart)
+    still_wired plan.dials ends c.in_ok-lives.lives.ends.items (same_joints plan ends givens _ (c.in_ok-ends.ensures.count ∙ c.len.ensures) all apart) (subst (λ (dials : List Dial). AreWired dials ends) c.as_slice.ensures c.in_ok-ends.ensures.wired)
 
 pub settle_all-settled-requires-clause-named : goal.settle_all-settled-requires-clause-named
 settle_all-settled-requires-clause-named g c =

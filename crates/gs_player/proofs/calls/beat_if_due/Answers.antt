@@ -1,6 +1,6 @@
 use Rattle.std.proofs.Common.{◌≡◌, true, List, [], Some, refl, rules, subst, sym}
 use Rattle.gs_params.specs.Seeding.{seeded_after, seeded_word}
-use Rattle.gs_rules.specs.declared.trace.Event.TheVariants.{BeatBegin}
+use Rattle.gs_rules.specs.declared.event.Event.TheVariants.{BeatBegin}
 use Rattle.gs_rules.specs.Modes.{exact}
 use Rattle.gs_rules.specs.Rounds.{Todo, Beat, is_due}
 use Rattle.gs_player.specs.Playing.{Runs}

@@ -5,7 +5,7 @@ use gs_mesh::Meshes;
 use std::alloc::{AllocError, Global};
 
 /// What is done to the topic `a`.
-enum Act {
+enum Call {
     Join,
     /// Who was in the mesh.
     Leave(&'static [PeerNo]),
@@ -22,7 +22,7 @@ enum Act {
 
 /// What is done, and what is kept of the topic then.
 struct Row {
-    act: Act,
+    call: Call,
     is_joined: bool,
     members: &'static [PeerNo],
     fanout: &'static [PeerNo],
@@ -32,7 +32,7 @@ struct Row {
 }
 
 const EMPTY: Row = Row {
-    act: Act::Join,
+    call: Call::Join,
     is_joined: false,
     members: &[],
     fanout: &[],
@@ -42,77 +42,77 @@ const EMPTY: Row = Row {
 
 static ROWS: [Row; 18] = [
     Row {
-        act: Act::Fan(2),
+        call: Call::Fan(2),
         fanout: &[PeerNo(2)],
         ..EMPTY
     },
     Row {
-        act: Act::Fan(1),
+        call: Call::Fan(1),
         fanout: &[PeerNo(1), PeerNo(2)],
         ..EMPTY
     },
     Row {
-        act: Act::Publish(500),
+        call: Call::Publish(500),
         fanout: &[PeerNo(1), PeerNo(2)],
         last_published: Some(Millis(500)),
         ..EMPTY
     },
     Row {
-        act: Act::Unfan(2, true),
+        call: Call::Unfan(2, true),
         fanout: &[PeerNo(1)],
         last_published: Some(Millis(500)),
         ..EMPTY
     },
     Row {
-        act: Act::Unfan(2, false),
+        call: Call::Unfan(2, false),
         fanout: &[PeerNo(1)],
         last_published: Some(Millis(500)),
         ..EMPTY
     },
     Row {
-        act: Act::Publish(700),
+        call: Call::Publish(700),
         fanout: &[PeerNo(1)],
         last_published: Some(Millis(700)),
         ..EMPTY
     },
     Row {
-        act: Act::Join,
+        call: Call::Join,
         is_joined: true,
         fanout: &[PeerNo(1)],
         last_published: Some(Millis(700)),
         ..EMPTY
     },
     Row {
-        act: Act::DropFanout,
+        call: Call::DropFanout,
         is_joined: true,
         ..EMPTY
     },
     Row {
-        act: Act::Graft(4),
-        is_joined: true,
-        members: &[PeerNo(4)],
-        ..EMPTY
-    },
-    Row {
-        act: Act::Graft(1),
-        is_joined: true,
-        members: &[PeerNo(1), PeerNo(4)],
-        ..EMPTY
-    },
-    Row {
-        act: Act::Graft(4),
-        is_joined: true,
-        members: &[PeerNo(1), PeerNo(4)],
-        ..EMPTY
-    },
-    Row {
-        act: Act::Prune(1, true),
+        call: Call::Graft(4),
         is_joined: true,
         members: &[PeerNo(4)],
         ..EMPTY
     },
     Row {
-        act: Act::Backoff(1, 60_000),
+        call: Call::Graft(1),
+        is_joined: true,
+        members: &[PeerNo(1), PeerNo(4)],
+        ..EMPTY
+    },
+    Row {
+        call: Call::Graft(4),
+        is_joined: true,
+        members: &[PeerNo(1), PeerNo(4)],
+        ..EMPTY
+    },
+    Row {
+        call: Call::Prune(1, true),
+        is_joined: true,
+        members: &[PeerNo(4)],
+        ..EMPTY
+    },
+    Row {
+        call: Call::Backoff(1, 60_000),
         is_joined: true,
         members: &[PeerNo(4)],
         backoffs: [60_000, 0],
@@ -120,35 +120,35 @@ static ROWS: [Row; 18] = [
     },
     // A shorter one doesn't end a longer one.
     Row {
-        act: Act::Backoff(1, 10_000),
+        call: Call::Backoff(1, 10_000),
         is_joined: true,
         members: &[PeerNo(4)],
         backoffs: [60_000, 0],
         ..EMPTY
     },
     Row {
-        act: Act::Backoff(2, 20_000),
+        call: Call::Backoff(2, 20_000),
         is_joined: true,
         members: &[PeerNo(4)],
         backoffs: [60_000, 20_000],
         ..EMPTY
     },
     Row {
-        act: Act::Backoff(1, 60_001),
+        call: Call::Backoff(1, 60_001),
         is_joined: true,
         members: &[PeerNo(4)],
         backoffs: [60_001, 20_000],
         ..EMPTY
     },
     Row {
-        act: Act::Prune(9, false),
+        call: Call::Prune(9, false),
         is_joined: true,
         members: &[PeerNo(4)],
         backoffs: [60_001, 20_000],
         ..EMPTY
     },
     Row {
-        act: Act::Leave(&[PeerNo(4)]),
+        call: Call::Leave(&[PeerNo(4)]),
         backoffs: [60_001, 20_000],
         ..EMPTY
     },
@@ -159,17 +159,17 @@ fn topic(alloc: Global, name: u8) -> Result<Topic, AllocError> {
 }
 
 /// Does it, and answers whether the answer was the one that is wanted.
-fn does(meshes: &mut Meshes, topic: &Topic, act: &Act) -> Result<bool, AllocError> {
-    match act {
-        Act::Join => meshes.join(topic)?,
-        Act::Leave(members) => return Ok(meshes.leave(topic).as_slice() == *members),
-        Act::Graft(peer) => meshes.graft(PeerNo(*peer), topic)?,
-        Act::Prune(peer, was) => return Ok(meshes.prune(PeerNo(*peer), topic) == *was),
-        Act::Backoff(peer, end) => meshes.note_backoff(PeerNo(*peer), topic, Millis(*end))?,
-        Act::Fan(peer) => meshes.fan(PeerNo(*peer), topic)?,
-        Act::Unfan(peer, was) => return Ok(meshes.unfan(PeerNo(*peer), topic) == *was),
-        Act::Publish(now) => meshes.publish_at(topic, Millis(*now))?,
-        Act::DropFanout => meshes.drop_fanout(topic),
+fn does(meshes: &mut Meshes, topic: &Topic, call: &Call) -> Result<bool, AllocError> {
+    match call {
+        Call::Join => meshes.join(topic)?,
+        Call::Leave(members) => return Ok(meshes.leave(topic).as_slice() == *members),
+        Call::Graft(peer) => meshes.graft(PeerNo(*peer), topic)?,
+        Call::Prune(peer, was) => return Ok(meshes.prune(PeerNo(*peer), topic) == *was),
+        Call::Backoff(peer, end) => meshes.note_backoff(PeerNo(*peer), topic, Millis(*end))?,
+        Call::Fan(peer) => meshes.fan(PeerNo(*peer), topic)?,
+        Call::Unfan(peer, was) => return Ok(meshes.unfan(PeerNo(*peer), topic) == *was),
+        Call::Publish(now) => meshes.publish_at(topic, Millis(*now))?,
+        Call::DropFanout => meshes.drop_fanout(topic),
     }
     Ok(true)
 }
@@ -189,7 +189,7 @@ fn first_wrong(alloc: Global) -> Result<usize, AllocError> {
     let mut meshes = Meshes::new(alloc);
     let (a, b) = (topic(alloc, b'a')?, topic(alloc, b'b')?);
     for (place, row) in ROWS.iter().enumerate() {
-        let is_well = does(&mut meshes, &a, &row.act)?;
+        let is_well = does(&mut meshes, &a, &row.call)?;
         if !is_well || !is_kept(&meshes, &a, row) || !is_kept(&meshes, &b, &EMPTY) {
             return Ok(place);
         }

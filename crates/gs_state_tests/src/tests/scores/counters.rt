@@ -4,7 +4,7 @@ ghost use Rattle.std.specs.Prelude.{◌≤◌, ◌^◌};
 use gs_score::{Counter, Decay};
 
 /// What is done to a counter.
-enum Act {
+enum Call {
     /// Raised by an amount, up to a cap.
     Raise(u64, u64),
     /// So many steps of decay.
@@ -14,7 +14,7 @@ enum Act {
 /// What a counter is then.
 struct Case {
     factor: u64,
-    acts: &'static [Act],
+    calls: &'static [Call],
     /// The kept value, and the tick up to which it was decayed.
     stored: (u64, u64),
     read: u64,
@@ -22,139 +22,139 @@ struct Case {
 
 const CAP: u64 = 100_000_000;
 
-const ONE: Act = Act::Raise(1_000_000, CAP);
+const ONE: Call = Call::Raise(1_000_000, CAP);
 
 /// A factor of a half, and cases in which it is one.
 static CASES: [Case; 21] = [
     Case {
         factor: 500_000,
-        acts: &[],
+        calls: &[],
         stored: (0, 0),
         read: 0,
     },
     Case {
         factor: 500_000,
-        acts: &[ONE, Act::Steps(3)],
+        calls: &[ONE, Call::Steps(3)],
         stored: (1_000_000, 0),
         read: 125_000,
     },
     Case {
         factor: 500_000,
-        acts: &[ONE, Act::Steps(3), ONE],
+        calls: &[ONE, Call::Steps(3), ONE],
         stored: (1_125_000, 3),
         read: 1_125_000,
     },
     Case {
         factor: 500_000,
-        acts: &[ONE, Act::Steps(6)],
+        calls: &[ONE, Call::Steps(6)],
         stored: (1_000_000, 0),
         read: 15_625,
     },
     // 7,812 is below the floor, and 10,000 is not.
     Case {
         factor: 500_000,
-        acts: &[ONE, Act::Steps(7)],
+        calls: &[ONE, Call::Steps(7)],
         stored: (1_000_000, 0),
         read: 0,
     },
     Case {
         factor: 500_000,
-        acts: &[Act::Raise(20_000, CAP), Act::Steps(1)],
+        calls: &[Call::Raise(20_000, CAP), Call::Steps(1)],
         stored: (20_000, 0),
         read: 10_000,
     },
     Case {
         factor: 500_000,
-        acts: &[Act::Raise(19_999, CAP), Act::Steps(1)],
+        calls: &[Call::Raise(19_999, CAP), Call::Steps(1)],
         stored: (19_999, 0),
         read: 0,
     },
     // No step is made where one changes nothing.
     Case {
         factor: 1_000_000,
-        acts: &[ONE, Act::Steps(100_000)],
+        calls: &[ONE, Call::Steps(100_000)],
         stored: (1_000_000, 0),
         read: 1_000_000,
     },
     Case {
         factor: 500_000,
-        acts: &[ONE, Act::Steps(1 << 63)],
+        calls: &[ONE, Call::Steps(1 << 63)],
         stored: (1_000_000, 0),
         read: 0,
     },
     // Each step takes a millionth, rounded up: 1 of up to a million, 5 of more than four and up to five.
     Case {
         factor: 999_999,
-        acts: &[ONE, Act::Steps(100_000)],
+        calls: &[ONE, Call::Steps(100_000)],
         stored: (1_000_000, 0),
         read: 900_000,
     },
     Case {
         factor: 999_999,
-        acts: &[ONE, Act::Steps(990_000)],
+        calls: &[ONE, Call::Steps(990_000)],
         stored: (1_000_000, 0),
         read: 10_000,
     },
     Case {
         factor: 999_999,
-        acts: &[ONE, Act::Steps(990_001)],
+        calls: &[ONE, Call::Steps(990_001)],
         stored: (1_000_000, 0),
         read: 0,
     },
     Case {
         factor: 999_999,
-        acts: &[Act::Raise(5_000_000, CAP), Act::Steps(200_000)],
+        calls: &[Call::Raise(5_000_000, CAP), Call::Steps(200_000)],
         stored: (5_000_000, 0),
         read: 4_000_000,
     },
     Case {
         factor: 999_999,
-        acts: &[Act::Raise(5_000_000, CAP), Act::Steps(200_001)],
+        calls: &[Call::Raise(5_000_000, CAP), Call::Steps(200_001)],
         stored: (5_000_000, 0),
         read: 3_999_996,
     },
     Case {
         factor: 999_999,
-        acts: &[Act::Raise(5_000_000, CAP), Act::Steps(300_000), ONE],
+        calls: &[Call::Raise(5_000_000, CAP), Call::Steps(300_000), ONE],
         stored: (4_600_000, 300_000),
         read: 4_600_000,
     },
     // A thousandth: 50 steps of 20, then steps of 19.
     Case {
         factor: 999_000,
-        acts: &[Act::Raise(20_000, CAP), Act::Steps(50)],
+        calls: &[Call::Raise(20_000, CAP), Call::Steps(50)],
         stored: (20_000, 0),
         read: 19_000,
     },
     Case {
         factor: 999_000,
-        acts: &[Act::Raise(20_000, CAP), Act::Steps(60)],
+        calls: &[Call::Raise(20_000, CAP), Call::Steps(60)],
         stored: (20_000, 0),
         read: 18_810,
     },
     // Steps of 11: the tenth would leave 9,990, which is below the floor.
     Case {
         factor: 999_000,
-        acts: &[Act::Raise(10_100, CAP), Act::Steps(9)],
+        calls: &[Call::Raise(10_100, CAP), Call::Steps(9)],
         stored: (10_100, 0),
         read: 10_001,
     },
     Case {
         factor: 999_000,
-        acts: &[Act::Raise(10_100, CAP), Act::Steps(10)],
+        calls: &[Call::Raise(10_100, CAP), Call::Steps(10)],
         stored: (10_100, 0),
         read: 0,
     },
     // The cap holds for the sum.
     Case {
         factor: 500_000,
-        acts: &[ONE, Act::Raise(1_000_000, 1_500_000)],
+        calls: &[ONE, Call::Raise(1_000_000, 1_500_000)],
         stored: (1_500_000, 0),
         read: 1_500_000,
     },
     Case {
         factor: 0,
-        acts: &[ONE, Act::Raise(1 << 63, 1_000_000_000_000)],
+        calls: &[ONE, Call::Raise(1 << 63, 1_000_000_000_000)],
         stored: (1_000_000_000_000, 0),
         read: 1_000_000_000_000,
     },
@@ -171,15 +171,15 @@ fn decay(factor: u64) -> Decay
 }
 
 /// Does to a counter at a tick what is to be done, and gives the tick after it.
-fn perform(counter: &mut Counter, decay: Decay, tick: u64, act: &Act) -> u64
+fn perform(counter: &mut Counter, decay: Decay, tick: u64, call: &Call) -> u64
     requires { decay.factor ≤ 10 ^ 6 }
 {
-    match act {
-        Act::Raise(by, cap) => {
+    match call {
+        Call::Raise(by, cap) => {
             counter.raise(*by, (*cap).min(1_000_000_000_000), decay, tick);
             tick
         }
-        Act::Steps(steps) => tick.saturating_add(*steps),
+        Call::Steps(steps) => tick.saturating_add(*steps),
     }
 }
 
@@ -188,7 +188,7 @@ fn done(case: &Case) -> (Counter, u64) {
     let decay = decay(case.factor);
     let mut counter = Counter::new();
     let mut tick = 0;
-    for step in case.acts {
+    for step in case.calls {
         tick = perform(&mut counter, decay, tick, step);
     }
     let read = counter.read(decay, tick);

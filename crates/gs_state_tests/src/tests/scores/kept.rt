@@ -4,7 +4,7 @@ ghost use Rattle.gs_score.specs.Accounts.{misbehaviour_decay, rules_of};
 ghost use Rattle.gs_score.specs.Counters.{decayed};
 ghost use Rattle.gs_score.specs.Standings.{decay_of};
 
-use super::neighbours::{Act, after, topic};
+use super::neighbours::{Call, after, topic};
 use gs_base::{PeerNo, Topic};
 use gs_score::{Kind, Scores};
 use std::alloc::{AllocError, Global};
@@ -26,19 +26,19 @@ const NOTHING: Look = Look {
 
 /// What is done, and what is then seen of the first deliveries of the first neighbour on a topic.
 struct OfTopic {
-    acts: &'static [Act],
+    calls: &'static [Call],
     topic: u8,
     look: Look,
 }
 
 static OF_TOPICS: [OfTopic; 4] = [
     OfTopic {
-        acts: &[],
+        calls: &[],
         topic: b't',
         look: NOTHING,
     },
     OfTopic {
-        acts: &[Act::First(1, b't'), Act::Decay(3)],
+        calls: &[Call::First(1, b't'), Call::Decay(3)],
         topic: b't',
         look: Look {
             value: 1_000_000,
@@ -47,7 +47,7 @@ static OF_TOPICS: [OfTopic; 4] = [
         },
     },
     OfTopic {
-        acts: &[Act::First(1, b't'), Act::Decay(3), Act::First(1, b't')],
+        calls: &[Call::First(1, b't'), Call::Decay(3), Call::First(1, b't')],
         topic: b't',
         look: Look {
             value: 1_125_000,
@@ -56,7 +56,7 @@ static OF_TOPICS: [OfTopic; 4] = [
         },
     },
     OfTopic {
-        acts: &[Act::First(1, b'k'), Act::Decay(100_000)],
+        calls: &[Call::First(1, b'k'), Call::Decay(100_000)],
         topic: b'k',
         look: Look {
             value: 1_000_000,
@@ -68,19 +68,19 @@ static OF_TOPICS: [OfTopic; 4] = [
 
 /// What is done, and what is then seen of how a neighbour misbehaved. A step of decay leaves nine tenths.
 struct OfNeighbour {
-    acts: &'static [Act],
+    calls: &'static [Call],
     peer: u16,
     look: Look,
 }
 
 static OF_NEIGHBOURS: [OfNeighbour; 9] = [
     OfNeighbour {
-        acts: &[Act::Decay(3), Act::Invalid(1, b't')],
+        calls: &[Call::Decay(3), Call::Invalid(1, b't')],
         peer: 1,
         look: NOTHING,
     },
     OfNeighbour {
-        acts: &[Act::Misbehaviour(1), Act::Decay(3)],
+        calls: &[Call::Misbehaviour(1), Call::Decay(3)],
         peer: 1,
         look: Look {
             value: 1_000_000,
@@ -89,7 +89,7 @@ static OF_NEIGHBOURS: [OfNeighbour; 9] = [
         },
     },
     OfNeighbour {
-        acts: &[Act::Misbehaviour(1), Act::Decay(3), Act::Misbehaviour(1)],
+        calls: &[Call::Misbehaviour(1), Call::Decay(3), Call::Misbehaviour(1)],
         peer: 1,
         look: Look {
             value: 1_729_000,
@@ -98,7 +98,7 @@ static OF_NEIGHBOURS: [OfNeighbour; 9] = [
         },
     },
     OfNeighbour {
-        acts: &[Act::Decay(2), Act::Misbehaviour(1), Act::Decay(1)],
+        calls: &[Call::Decay(2), Call::Misbehaviour(1), Call::Decay(1)],
         peer: 1,
         look: Look {
             value: 1_000_000,
@@ -108,7 +108,7 @@ static OF_NEIGHBOURS: [OfNeighbour; 9] = [
     },
     // 9,694 is below the floor of 10,000, and 10,772 is not.
     OfNeighbour {
-        acts: &[Act::Misbehaviour(1), Act::Decay(43)],
+        calls: &[Call::Misbehaviour(1), Call::Decay(43)],
         peer: 1,
         look: Look {
             value: 1_000_000,
@@ -117,7 +117,7 @@ static OF_NEIGHBOURS: [OfNeighbour; 9] = [
         },
     },
     OfNeighbour {
-        acts: &[Act::Misbehaviour(1), Act::Decay(44)],
+        calls: &[Call::Misbehaviour(1), Call::Decay(44)],
         peer: 1,
         look: Look {
             value: 1_000_000,
@@ -127,7 +127,7 @@ static OF_NEIGHBOURS: [OfNeighbour; 9] = [
     },
     // Each neighbour has its own.
     OfNeighbour {
-        acts: &[Act::Misbehaviour(1), Act::Decay(1), Act::Misbehaviour(2)],
+        calls: &[Call::Misbehaviour(1), Call::Decay(1), Call::Misbehaviour(2)],
         peer: 2,
         look: Look {
             value: 1_000_000,
@@ -136,13 +136,13 @@ static OF_NEIGHBOURS: [OfNeighbour; 9] = [
         },
     },
     OfNeighbour {
-        acts: &[Act::Misbehaviour(1), Act::Decay(1), Act::Misbehaviour(2)],
+        calls: &[Call::Misbehaviour(1), Call::Decay(1), Call::Misbehaviour(2)],
         peer: 3,
         look: NOTHING,
     },
     // There is no fourth neighbour.
     OfNeighbour {
-        acts: &[Act::Misbehaviour(1), Act::Misbehaviour(4)],
+        calls: &[Call::Misbehaviour(1), Call::Misbehaviour(4)],
         peer: 4,
         look: NOTHING,
     },
@@ -176,7 +176,7 @@ fn look_at_misbehaviour(scores: &Scores, peer: PeerNo) -> Look
 }
 
 fn seen_of_topic(alloc: Global, case: &OfTopic) -> Result<Option<Look>, AllocError> {
-    let Some(scores) = after(alloc, case.acts)? else {
+    let Some(scores) = after(alloc, case.calls)? else {
         return Ok(None);
     };
     let topic = topic(alloc, case.topic)?;
@@ -184,7 +184,7 @@ fn seen_of_topic(alloc: Global, case: &OfTopic) -> Result<Option<Look>, AllocErr
 }
 
 fn seen_of_neighbour(alloc: Global, case: &OfNeighbour) -> Result<Option<Look>, AllocError> {
-    let Some(scores) = after(alloc, case.acts)? else {
+    let Some(scores) = after(alloc, case.calls)? else {
         return Ok(None);
     };
     Ok(Some(look_at_misbehaviour(&scores, PeerNo(case.peer))))

@@ -8,7 +8,7 @@ use gs_score::{Kind, Scores};
 use std::alloc::{AllocError, Global};
 
 /// What is done, by the number of a neighbour and a topic, which is one byte.
-pub(super) enum Act {
+pub(super) enum Call {
     First(u16, u8),
     Near(u16, u8),
     Invalid(u16, u8),
@@ -25,7 +25,7 @@ pub(super) enum Act {
 
 /// What is read then of the first neighbour on the topic `t`, and the scores of all, in millionths.
 struct Case {
-    acts: &'static [Act],
+    calls: &'static [Call],
     now: u64,
     /// Of first, near, missing and invalid deliveries.
     counts: [u64; 4],
@@ -40,7 +40,7 @@ const SECOND: i128 = -5_000_000;
 const THIRD: i128 = -105_000_000;
 
 const NOTHING: Case = Case {
-    acts: &[],
+    calls: &[],
     now: 5_000,
     counts: [0; 4],
     misbehaviour: 0,
@@ -52,102 +52,102 @@ static CASES: [Case; 16] = [
     NOTHING,
     // Half a delivery in the mesh, where two are asked for: active, and not yet.
     Case {
-        acts: &[Act::Near(1, b't'), Act::Decay(1), Act::Graft(1, b't', 0)],
+        calls: &[Call::Near(1, b't'), Call::Decay(1), Call::Graft(1, b't', 0)],
         counts: [0, 500_000, 0, 0],
         missing: 2_250_000,
         scores: [-2_250_000, SECOND, THIRD],
         ..NOTHING
     },
     Case {
-        acts: &[Act::Near(1, b't'), Act::Decay(1), Act::Graft(1, b't', 1)],
+        calls: &[Call::Near(1, b't'), Call::Decay(1), Call::Graft(1, b't', 1)],
         counts: [0, 500_000, 0, 0],
         ..NOTHING
     },
     // Out of the mesh it is charged with what was missing, once.
     Case {
-        acts: &[
-            Act::Near(1, b't'),
-            Act::Decay(1),
-            Act::Graft(1, b't', 0),
-            Act::Deficit(1, b't', 2_250_000),
-            Act::Prune(1, b't'),
+        calls: &[
+            Call::Near(1, b't'),
+            Call::Decay(1),
+            Call::Graft(1, b't', 0),
+            Call::Deficit(1, b't', 2_250_000),
+            Call::Prune(1, b't'),
         ],
         counts: [0, 500_000, 2_250_000, 0],
         scores: [-2_250_000, SECOND, THIRD],
         ..NOTHING
     },
     Case {
-        acts: &[Act::Graft(1, b't', 0), Act::Prune(1, b't')],
+        calls: &[Call::Graft(1, b't', 0), Call::Prune(1, b't')],
         ..NOTHING
     },
     // Steps of decay, down to the last before nothing is left, and one more.
     Case {
-        acts: &[Act::First(1, b't'), Act::Decay(6)],
+        calls: &[Call::First(1, b't'), Call::Decay(6)],
         counts: [15_625, 0, 0, 0],
         ..NOTHING
     },
     Case {
-        acts: &[Act::First(1, b't'), Act::Decay(7)],
+        calls: &[Call::First(1, b't'), Call::Decay(7)],
         ..NOTHING
     },
     Case {
-        acts: &[Act::First(1, b't'), Act::Decay(3), Act::First(1, b't')],
+        calls: &[Call::First(1, b't'), Call::Decay(3), Call::First(1, b't')],
         counts: [1_125_000, 0, 0, 0],
         ..NOTHING
     },
     // One invalid message costs ten.
     Case {
-        acts: &[Act::Invalid(1, b't')],
+        calls: &[Call::Invalid(1, b't')],
         counts: [0, 0, 0, 1_000_000],
         scores: [-10_000_000, SECOND, THIRD],
         ..NOTHING
     },
     // So it does not on a topic without parameters, nor to another neighbour.
     Case {
-        acts: &[Act::Invalid(1, b'u'), Act::Invalid(2, b't')],
+        calls: &[Call::Invalid(1, b'u'), Call::Invalid(2, b't')],
         scores: [0, SECOND - 10_000_000, THIRD],
         ..NOTHING
     },
     // Deficits below 0, and beyond all that a counter holds.
     Case {
-        acts: &[Act::Deficit(1, b't', -1)],
+        calls: &[Call::Deficit(1, b't', -1)],
         ..NOTHING
     },
     Case {
-        acts: &[Act::Deficit(1, b't', 10_000_000_000_000)],
+        calls: &[Call::Deficit(1, b't', 10_000_000_000_000)],
         counts: [0, 0, 1_000_000_000_000, 0],
         scores: [-1_000_000_000_000, SECOND, THIRD],
         ..NOTHING
     },
     // -10 * 1 * 1, and after a step -10 * 0.9 * 0.9.
     Case {
-        acts: &[Act::Misbehaviour(1)],
+        calls: &[Call::Misbehaviour(1)],
         misbehaviour: 1_000_000,
         scores: [-10_000_000, SECOND, THIRD],
         ..NOTHING
     },
     Case {
-        acts: &[Act::Misbehaviour(1), Act::Decay(1)],
+        calls: &[Call::Misbehaviour(1), Call::Decay(1)],
         misbehaviour: 900_000,
         scores: [-8_100_000, SECOND, THIRD],
         ..NOTHING
     },
     // One that went for good does not count at its address.
     Case {
-        acts: &[Act::ShutOut(3)],
+        calls: &[Call::ShutOut(3)],
         scores: [0, 0, -100_000_000],
         ..NOTHING
     },
     // What raises nothing, and what concerns no neighbour.
     Case {
-        acts: &[
-            Act::Seen,
-            Act::Asked(1),
-            Act::First(4, b't'),
-            Act::Graft(4, b't', 0),
-            Act::Misbehaviour(4),
-            Act::Prune(4, b't'),
-            Act::ShutOut(4),
+        calls: &[
+            Call::Seen,
+            Call::Asked(1),
+            Call::First(4, b't'),
+            Call::Graft(4, b't', 0),
+            Call::Misbehaviour(4),
+            Call::Prune(4, b't'),
+            Call::ShutOut(4),
         ],
         ..NOTHING
     },
@@ -231,47 +231,47 @@ fn decay(scores: &mut Scores, steps: u32) {
     }
 }
 
-/// Makes a mark, where the act is one.
-fn mark_of(alloc: Global, act: &Act) -> Result<Option<Mark>, AllocError> {
+/// Makes a mark, where the call is one.
+fn mark_of(alloc: Global, call: &Call) -> Result<Option<Mark>, AllocError> {
     let id = MsgId([0; 32]);
-    let mark = match act {
-        Act::First(peer, name) => Mark::First(PeerNo(*peer), topic(alloc, *name)?, id),
-        Act::Near(peer, name) => Mark::Near(PeerNo(*peer), topic(alloc, *name)?, id),
-        Act::Invalid(peer, name) => Mark::Invalid(PeerNo(*peer), topic(alloc, *name)?),
-        Act::Deficit(peer, name, amount) => {
+    let mark = match call {
+        Call::First(peer, name) => Mark::First(PeerNo(*peer), topic(alloc, *name)?, id),
+        Call::Near(peer, name) => Mark::Near(PeerNo(*peer), topic(alloc, *name)?, id),
+        Call::Invalid(peer, name) => Mark::Invalid(PeerNo(*peer), topic(alloc, *name)?),
+        Call::Deficit(peer, name, amount) => {
             Mark::Deficit(PeerNo(*peer), topic(alloc, *name)?, *amount)
         }
-        Act::Misbehaviour(peer) => Mark::Misbehaviour(PeerNo(*peer)),
-        Act::Seen => Mark::Seen(id, Verdict::Accept),
-        Act::Asked(peer) => Mark::Asked(PeerNo(*peer), 1),
+        Call::Misbehaviour(peer) => Mark::Misbehaviour(PeerNo(*peer)),
+        Call::Seen => Mark::Seen(id, Verdict::Accept),
+        Call::Asked(peer) => Mark::Asked(PeerNo(*peer), 1),
         _ => return Ok(None),
     };
     Ok(Some(mark))
 }
 
-fn perform(alloc: Global, scores: &mut Scores, act: &Act) -> Result<(), AllocError> {
-    if let Some(mark) = mark_of(alloc, act)? {
+fn perform(alloc: Global, scores: &mut Scores, call: &Call) -> Result<(), AllocError> {
+    if let Some(mark) = mark_of(alloc, call)? {
         return apply(scores, &mark);
     }
-    match act {
-        Act::Graft(peer, name, now) => {
+    match call {
+        Call::Graft(peer, name, now) => {
             graft(scores, PeerNo(*peer), &topic(alloc, *name)?, Millis(*now))?;
         }
-        Act::Prune(peer, name) => scores.prune(PeerNo(*peer), &topic(alloc, *name)?),
-        Act::Decay(steps) => decay(scores, *steps),
-        Act::ShutOut(peer) => scores.shut_out(PeerNo(*peer)),
+        Call::Prune(peer, name) => scores.prune(PeerNo(*peer), &topic(alloc, *name)?),
+        Call::Decay(steps) => decay(scores, *steps),
+        Call::ShutOut(peer) => scores.shut_out(PeerNo(*peer)),
         _ => {}
     }
     Ok(())
 }
 
 /// The scores after all that is done.
-pub(super) fn after(alloc: Global, acts: &[Act]) -> Result<Option<Scores>, AllocError> {
+pub(super) fn after(alloc: Global, calls: &[Call]) -> Result<Option<Scores>, AllocError> {
     let Some(mut scores) = scores(alloc)? else {
         return Ok(None);
     };
-    for act in acts {
-        perform(alloc, &mut scores, act)?;
+    for call in calls {
+        perform(alloc, &mut scores, call)?;
     }
     Ok(Some(scores))
 }
@@ -302,7 +302,7 @@ fn scored(scores: &Scores, now: Millis) -> [i128; 3] {
 
 /// Whether all is read as the case says.
 fn holds(alloc: Global, case: &Case) -> Result<bool, AllocError> {
-    let Some(scores) = after(alloc, case.acts)? else {
+    let Some(scores) = after(alloc, case.calls)? else {
         return Ok(false);
     };
     let now = Millis(case.now);

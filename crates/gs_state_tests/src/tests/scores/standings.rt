@@ -6,7 +6,7 @@ use gs_params::{DEFAULT_TOPIC_FACTORS, DEFAULT_TOPIC_TIMING, TopicFactors};
 use gs_score::{Kind, Raise, Standing, TopicRules};
 
 /// What is done to a standing.
-enum Act {
+enum Call {
     Raise(Kind, u64),
     Graft(u64),
     Prune,
@@ -18,7 +18,7 @@ enum Act {
 struct Case {
     /// Under the strict rules, and not the mixed ones.
     strict: bool,
-    acts: &'static [Act],
+    calls: &'static [Call],
     now: u64,
     /// Of first, near, missing and invalid deliveries.
     counts: [u64; 4],
@@ -27,12 +27,12 @@ struct Case {
 }
 
 /// Half a delivery in the mesh, where two are asked for once a member is active.
-const LATE: [Act; 2] = [Act::Raise(Kind::Near, 500_000), Act::Graft(0)];
+const LATE: [Call; 2] = [Call::Raise(Kind::Near, 500_000), Call::Graft(0)];
 
 static CASES: [Case; 11] = [
     Case {
         strict: true,
-        acts: &[],
+        calls: &[],
         now: 9_000,
         counts: [0, 0, 0, 0],
         missing: 0,
@@ -41,7 +41,7 @@ static CASES: [Case; 11] = [
     // Active, and not yet.
     Case {
         strict: true,
-        acts: &LATE,
+        calls: &LATE,
         now: 5_000,
         counts: [0, 500_000, 0, 0],
         missing: 2_250_000,
@@ -49,7 +49,7 @@ static CASES: [Case; 11] = [
     },
     Case {
         strict: true,
-        acts: &LATE,
+        calls: &LATE,
         now: 4_999,
         counts: [0, 500_000, 0, 0],
         missing: 0,
@@ -58,11 +58,11 @@ static CASES: [Case; 11] = [
     // Out of the mesh it is charged once.
     Case {
         strict: true,
-        acts: &[
-            Act::Raise(Kind::Near, 500_000),
-            Act::Graft(0),
-            Act::Raise(Kind::Deficit, 2_250_000),
-            Act::Prune,
+        calls: &[
+            Call::Raise(Kind::Near, 500_000),
+            Call::Graft(0),
+            Call::Raise(Kind::Deficit, 2_250_000),
+            Call::Prune,
         ],
         now: 5_000,
         counts: [0, 500_000, 2_250_000, 0],
@@ -71,7 +71,7 @@ static CASES: [Case; 11] = [
     },
     Case {
         strict: true,
-        acts: &[Act::Raise(Kind::Near, 2_000_000), Act::Graft(0)],
+        calls: &[Call::Raise(Kind::Near, 2_000_000), Call::Graft(0)],
         now: 5_000,
         counts: [0, 2_000_000, 0, 0],
         missing: 0,
@@ -80,10 +80,10 @@ static CASES: [Case; 11] = [
     // 3,999 ms are three quanta: 2 * 3 + 3 * 2 - 3 * 3, of which half counts.
     Case {
         strict: false,
-        acts: &[
-            Act::Graft(100),
-            Act::Raise(Kind::First, 2_000_000),
-            Act::Raise(Kind::Invalid, 3_000_000),
+        calls: &[
+            Call::Graft(100),
+            Call::Raise(Kind::First, 2_000_000),
+            Call::Raise(Kind::Invalid, 3_000_000),
         ],
         now: 4_099,
         counts: [2_000_000, 0, 0, 3_000_000],
@@ -93,11 +93,11 @@ static CASES: [Case; 11] = [
     // A step later: 2 * 3 + 3 * 1 - 1.5 * 1.5.
     Case {
         strict: false,
-        acts: &[
-            Act::Graft(100),
-            Act::Raise(Kind::First, 2_000_000),
-            Act::Raise(Kind::Invalid, 3_000_000),
-            Act::Steps(1),
+        calls: &[
+            Call::Graft(100),
+            Call::Raise(Kind::First, 2_000_000),
+            Call::Raise(Kind::Invalid, 3_000_000),
+            Call::Steps(1),
         ],
         now: 4_099,
         counts: [1_000_000, 0, 0, 1_500_000],
@@ -107,7 +107,7 @@ static CASES: [Case; 11] = [
     // The time in the mesh counts up to its cap, and first deliveries up to theirs.
     Case {
         strict: false,
-        acts: &[Act::Graft(0)],
+        calls: &[Call::Graft(0)],
         now: 1_000_000_000_000_000,
         counts: [0, 0, 0, 0],
         missing: 0,
@@ -115,7 +115,7 @@ static CASES: [Case; 11] = [
     },
     Case {
         strict: false,
-        acts: &[Act::Raise(Kind::First, 1 << 63)],
+        calls: &[Call::Raise(Kind::First, 1 << 63)],
         now: 0,
         counts: [100_000_000, 0, 0, 0],
         missing: 0,
@@ -124,7 +124,7 @@ static CASES: [Case; 11] = [
     // The square of a thousandth is a millionth, and half of it, below 0, is one.
     Case {
         strict: false,
-        acts: &[Act::Raise(Kind::Invalid, 1_000)],
+        calls: &[Call::Raise(Kind::Invalid, 1_000)],
         now: 0,
         counts: [0, 0, 0, 1_000],
         missing: 0,
@@ -132,7 +132,7 @@ static CASES: [Case; 11] = [
     },
     Case {
         strict: true,
-        acts: &[Act::Raise(Kind::Deficit, 1 << 63), Act::Steps(1)],
+        calls: &[Call::Raise(Kind::Deficit, 1 << 63), Call::Steps(1)],
         now: 0,
         counts: [0, 0, 500_000_000_000, 0],
         missing: 0,
@@ -168,19 +168,19 @@ fn rules(strict: bool) -> TopicRules
 }
 
 /// Does to a standing at a tick what is to be done, and gives the tick after it.
-fn perform(standing: &mut Standing, rules: &TopicRules, tick: u64, act: &Act) -> u64
+fn perform(standing: &mut Standing, rules: &TopicRules, tick: u64, call: &Call) -> u64
     requires { RulesAreInRange rules.now }
 {
-    match act {
-        Act::Raise(kind, by) => standing.raise(Raise {
+    match call {
+        Call::Raise(kind, by) => standing.raise(Raise {
             kind: *kind,
             by: *by,
             rules,
             tick,
         }),
-        Act::Graft(now) => standing.graft(Millis(*now)),
-        Act::Prune => standing.prune(),
-        Act::Steps(steps) => return tick.saturating_add(*steps),
+        Call::Graft(now) => standing.graft(Millis(*now)),
+        Call::Prune => standing.prune(),
+        Call::Steps(steps) => return tick.saturating_add(*steps),
     }
     tick
 }
@@ -191,8 +191,8 @@ fn held(case: &Case) -> ([u64; 4], u64, i128) {
     let now = Millis(case.now);
     let mut standing = Standing::new();
     let mut tick = 0;
-    for act in case.acts {
-        tick = perform(&mut standing, &rules, tick, act);
+    for call in case.calls {
+        tick = perform(&mut standing, &rules, tick, call);
     }
     let counts = [
         standing.count(Kind::First, &rules, tick),

@@ -6,7 +6,7 @@ use gs_score::{Kind, Raise, Rulebook, TopicStandings};
 use std::alloc::{AllocError, Global};
 
 /// What is done on a topic, which is one byte.
-enum Act {
+enum Call {
     Raise(u8, Kind),
     Graft(u8),
     Prune(u8),
@@ -15,45 +15,48 @@ enum Act {
 
 /// What is done, and what the topics give at 5,000 ms, in millionths, with so many topics.
 struct Case {
-    acts: &'static [Act],
+    calls: &'static [Call],
     number: usize,
     sum: i128,
 }
 
 static CASES: [Case; 6] = [
     Case {
-        acts: &[],
+        calls: &[],
         number: 0,
         sum: 0,
     },
     Case {
-        acts: &[Act::Raise(b'a', Kind::First), Act::Raise(b'a', Kind::First)],
+        calls: &[
+            Call::Raise(b'a', Kind::First),
+            Call::Raise(b'a', Kind::First),
+        ],
         number: 1,
         sum: 2_000_000,
     },
     Case {
-        acts: &[Act::Raise(b'a', Kind::First), Act::Step],
+        calls: &[Call::Raise(b'a', Kind::First), Call::Step],
         number: 1,
         sum: 500_000,
     },
     // Two are missing on the second topic: -2 * 2.
     Case {
-        acts: &[Act::Graft(b'b'), Act::Raise(b'a', Kind::First)],
+        calls: &[Call::Graft(b'b'), Call::Raise(b'a', Kind::First)],
         number: 2,
         sum: -3_000_000,
     },
     Case {
-        acts: &[
-            Act::Graft(b'b'),
-            Act::Raise(b'a', Kind::First),
-            Act::Prune(b'b'),
+        calls: &[
+            Call::Graft(b'b'),
+            Call::Raise(b'a', Kind::First),
+            Call::Prune(b'b'),
         ],
         number: 2,
         sum: 1_000_000,
     },
     // On a topic without parameters nothing weighs.
     Case {
-        acts: &[Act::Prune(b'c'), Act::Raise(b'c', Kind::Invalid)],
+        calls: &[Call::Prune(b'c'), Call::Raise(b'c', Kind::Invalid)],
         number: 1,
         sum: 0,
     },
@@ -95,10 +98,10 @@ fn perform(
     topics: &mut TopicStandings,
     rulebook: &Rulebook,
     tick: u64,
-    act: &Act,
+    call: &Call,
 ) -> Result<u64, AllocError> {
-    match act {
-        Act::Raise(name, kind) => {
+    match call {
+        Call::Raise(name, kind) => {
             let topic = topic(alloc, *name)?;
             let raise = Raise {
                 kind: *kind,
@@ -108,9 +111,9 @@ fn perform(
             };
             topics.raise(&topic, raise)?;
         }
-        Act::Graft(name) => topics.graft(&topic(alloc, *name)?, Millis(0))?,
-        Act::Prune(name) => topics.prune(&topic(alloc, *name)?),
-        Act::Step => return Ok(tick.saturating_add(1)),
+        Call::Graft(name) => topics.graft(&topic(alloc, *name)?, Millis(0))?,
+        Call::Prune(name) => topics.prune(&topic(alloc, *name)?),
+        Call::Step => return Ok(tick.saturating_add(1)),
     }
     Ok(tick)
 }
@@ -131,8 +134,8 @@ fn held(
 ) -> Result<Option<(usize, i128)>, AllocError> {
     let mut topics = TopicStandings::new(alloc);
     let mut tick = 0;
-    for act in case.acts {
-        tick = perform(alloc, &mut topics, rulebook, tick, act)?;
+    for call in case.calls {
+        tick = perform(alloc, &mut topics, rulebook, tick, call)?;
     }
     if 1_024 < topics.len() {
         return Ok(None);

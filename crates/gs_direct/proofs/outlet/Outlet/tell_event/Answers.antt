@@ -1,16 +1,13 @@
-use Rattle.std.proofs.Common.{Option, true, map, sym, subst}
-use Rattle.std.specs.Prelude.{OnOk, if◌then◌else◌}
-use Rattle.gs_base.specs.declared.names.PeerNo.{PeerNo}
+use Rattle.std.proofs.Common.{ap, sym, subst, true}
+use Rattle.std.specs.Prelude.{OnOk}
 use Rattle.gs_base.specs.Names.{same_peer}
-use Rattle.gs_base.specs.Tokens.{Byte}
 use Rattle.gs_wire.specs.Codec.{codec}
-use Rattle.gs_rules.specs.declared.trace.Event.{Event}
-use Rattle.gs_rules.specs.declared.trace.Event.TheVariants.{Raw, RoundEnd, Shut}
-use Rattle.gs_rules.specs.Saying.{Outgoing, cut_out, saying}
-use Rattle.gs_rules.specs.Tables.{is_lost, lost}
+use Rattle.gs_rules.specs.declared.event.Event.{Event}
+use Rattle.gs_rules.specs.declared.event.Event.TheVariants.{RoundEnd, Shut, Lost}
+use Rattle.gs_rules.specs.Saying.{cut_out, is_cut}
 use Rattle.gs_direct.specs.Outlets.{Closes, Follows, Tells}
-use Rattle.gs_direct.proofs.Carrying.{other_told, raw_told, round_told, shut_told}
-use Rattle.gs_direct.proofs.Telling.{is_other, on_ok}
+use Rattle.gs_direct.proofs.Carrying.{lost_told, round_told, shut_told}
+use Rattle.gs_direct.proofs.Telling.{on_ok, uncut_told}
 use Rattle.gs_direct.proofs.outlet.Outlet.tell_event.Goals as goal
 
 pub returns-in-RoundEnd : goal.returns-in-RoundEnd
@@ -26,20 +23,28 @@ returns-in-Shut c =
     subst (λ (event : Event). OnOk c.close.result (Tells event old c.close.new.self)) (sym c.in-Shut.is)
     (on_ok c.close.result (Closes true old c.close.new.self) (Tells Shut old c.close.new.self) (shut_told old c.close.new.self) c.close.ensures)
 
-pub returns-in-Raw : goal.returns-in-Raw
-returns-in-Raw c =
-    let old = c.args.self.now in
-    let to = c.in-Raw.to in
-    let bytes = c.in-Raw.bytes in
-    subst (λ (event : Event). OnOk c.put_raw.result (Tells event old c.put_raw.new.self)) (sym c.in-Raw.is)
-    (on_ok c.put_raw.result (Follows (λ (goes : Outgoing). if same_peer to old.to then saying (cut_out codec goes) (map Byte bytes) else goes) old c.put_raw.new.self) (Tells (Raw to bytes) old c.put_raw.new.self)
-    (raw_told to bytes old c.put_raw.new.self c.requires) c.put_raw.ensures)
-
-pub returns-in_default : goal.returns-in_default
-returns-in_default c =
+pub returns-in-Lost : goal.returns-in-Lost
+returns-in-Lost c =
     let old = c.args.self.now in
     let new = c.close_lost.new.self in
-    let event = c.args.event.now in
-    on_ok c.close_lost.result (Closes (is_lost old.to (lost event)) old new) (Tells event old new)
-    (other_told event old new c.requires (is_other old.to event c.in_default.not-RoundEnd c.in_default.not-Raw c.in_default.not-Shut))
-    (subst (λ (whom : Option PeerNo). OnOk c.close_lost.result (Closes (is_lost old.to whom) old new)) c.lost.ensures c.close_lost.ensures)
+    let peer = c.in-Lost.peer in
+    subst (λ (event : Event). OnOk c.close_lost.result (Tells event old new)) (sym c.in-Lost.is)
+    (on_ok c.close_lost.result (Closes (same_peer peer old.to) old new) (Tells (Lost peer c.in-Lost.field-1) old new) (lost_told peer c.in-Lost.field-1 old new c.requires) c.close_lost.ensures)
+
+pub returns-in-Heard : goal.returns-in-Heard
+returns-in-Heard c = uncut_told c.args.event.now c.args.self.now c.requires (ap (is_cut c.args.self.now.to) c.in-Heard.is)
+
+pub returns-in-Late : goal.returns-in-Late
+returns-in-Late c = uncut_told c.args.event.now c.args.self.now c.requires (ap (is_cut c.args.self.now.to) c.in-Late.is)
+
+pub returns-in-Part : goal.returns-in-Part
+returns-in-Part c = uncut_told c.args.event.now c.args.self.now c.requires (ap (is_cut c.args.self.now.to) c.in-Part.is)
+
+pub returns-in-BeatBegin : goal.returns-in-BeatBegin
+returns-in-BeatBegin c = uncut_told c.args.event.now c.args.self.now c.requires (ap (is_cut c.args.self.now.to) c.in-BeatBegin.is)
+
+pub returns-in-Step : goal.returns-in-Step
+returns-in-Step c = uncut_told c.args.event.now c.args.self.now c.requires (ap (is_cut c.args.self.now.to) c.in-Step.is)
+
+pub returns-in-Decay : goal.returns-in-Decay
+returns-in-Decay c = uncut_told c.args.event.now c.args.self.now c.requires (ap (is_cut c.args.self.now.to) c.in-Decay.is)

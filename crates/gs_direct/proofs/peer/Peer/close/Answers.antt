@@ -1,6 +1,6 @@
 use Rattle.std.proofs.Common.{[], ◌∷◌, Some, refl}
 use Rattle.gs_params.specs.Seeding.{seeded_after, seeded_word}
-use Rattle.gs_rules.specs.declared.trace.Event.TheVariants.{Shut}
+use Rattle.gs_rules.specs.declared.event.Event.TheVariants.{Shut}
 use Rattle.gs_rules.specs.Modes.{exact}
 use Rattle.gs_rules.specs.Rounds.{Stop}
 use Rattle.gs_player.proofs.Runs.{runs_then, told_runs}

@@ -3,7 +3,7 @@ use Rattle.std.proofs.lemmas.List.{append_assoc, with_items_is}
 use Rattle.gs_plan.specs.declared.plan.Line.{Line}
 use Rattle.gs_params.specs.Seeding.{seeded_after, seeded_word}
 use Rattle.gs_rules.specs.declared.refusal.RefusedLine.{RefusedLine}
-use Rattle.gs_rules.specs.declared.trace.Event.TheVariants.{RoundEnd}
+use Rattle.gs_rules.specs.declared.event.Event.TheVariants.{RoundEnd}
 use Rattle.gs_rules.specs.Modes.{exact}
 use Rattle.gs_rules.specs.Peers.{Peer}
 use Rattle.gs_rules.specs.Rounds.{EndRound, Todo, beats_in, decays_in, obey}

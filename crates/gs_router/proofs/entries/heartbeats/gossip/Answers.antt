@@ -23,7 +23,7 @@ gossip_candidates_ascend p L at t ascending =
 pub pick-requires : goal.pick-requires
 pick-requires g c =
     let s = c.args.known.now in
-    subst IsAscending (sym (c.deref.ensures.value ∙ c.in_ok-gossip_candidates.ensures c.requires.knows.0 c.requires.knows.1)) (gossip_candidates_ascend (peer_with s.setup) c.requires.knows.0 c.args.now.0 c.args.topic c.requires.fit.ascending)
+    subst IsAscending (sym (c.deref.ensures.value ∙ c.in_ok-gossip_candidates.ensures c.requires.knows.0 c.requires.knows.1)) (gossip_candidates_ascend (peer_with s.setup) c.requires.knows.0 c.args.now.0 c.args.topic.now c.requires.fit.ascending)
 
 pub returns : goal.returns
 returns g c = λ L knows.
@@ -31,7 +31,7 @@ returns g c = λ L knows.
     let found = c.in_ok-gossip_candidates.ensures L knows in
     let are = c.deref.ensures.value ∙ found in
     let size = c.gossip_size-size.ensures ∙ ap (gossip_size p) (c.len.ensures ∙ sym c.deref.ensures.len ∙ ap length are) in
-    let ascend = subst IsAscending (sym are) (gossip_candidates_ascend p L c.args.now.0 c.args.topic c.requires.fit.ascending) in
+    let ascend = subst IsAscending (sym are) (gossip_candidates_ascend p L c.args.now.0 c.args.topic.now c.requires.fit.ascending) in
     let chosen = c.in_ok-chosen.ensures in
     let picks = subst₂ (λ (k : ℕ) (qs : List PeerNo). IsPick g.W.Words.word g.W.Words.after k qs c.args.words.now c.in_ok-chosen.chosen.items c.pick.new.words) size are (record { ascending = ascend; chosen_are = chosen.picked; words = chosen.words }) in
-    (c.in_ok-chosen.chosen.items, c.pick.new.words, picks, (c.in_ok-entry.ensures L knows ∙ ap (gossiping p L c.args.now c.args.topic) c.deref-2.ensures.value, refl))
+    (c.in_ok-chosen.chosen.items, c.pick.new.words, picks, (c.in_ok-effects.ensures L knows.agrees knows.made ∙ ap (gossiping p L c.args.topic.now) c.deref-2.ensures.value, refl))

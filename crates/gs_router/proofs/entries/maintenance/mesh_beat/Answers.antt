@@ -3,7 +3,7 @@ use Rattle.gs_mesh.specs.declared.members.Member.{Member}
 use Rattle.gs_params.specs.Picks.{IsAscending}
 use Rattle.gs_mesh.specs.Cuts.{peers_of}
 use Rattle.gs_mesh.specs.MeshSteps.{step_by_words}
-use Rattle.gs_rules.specs.declared.trace.Entry.{Entry}
+use Rattle.gs_rules.specs.declared.trace.Effects.{Effects}
 use Rattle.gs_rules.specs.Tables.{heartbeats}
 use Rattle.gs_rules.specs.Meshes.{mesh}
 use Rattle.gs_rules.specs.Membership.{candidates}
@@ -28,7 +28,7 @@ choose_heartbeat-requires-clause-candidates g c =
     let L = c.requires.knows.0 in
     let near = c.deref.ensures.value ∙ c.in_ok-near.ensures L c.requires.knows.1 in
     let are = c.deref-3.ensures.value ∙ c.in_ok-candidates.ensures L c.requires.knows.1 ∙ ap (scored_members p L c.args.now.0) near in
-    subst (λ (ms : List Member). IsAscending (peers_of ms)) (sym are) (members_ascend p L c.args.now.0 (candidates p L c.args.now.0 c.args.topic) (candidates_ascend p L c.args.now.0 c.args.topic c.requires.fit.ascending))
+    subst (λ (ms : List Member). IsAscending (peers_of ms)) (sym are) (members_ascend p L c.args.now.0 (candidates p L c.args.now.0 c.args.topic.now) (candidates_ascend p L c.args.now.0 c.args.topic.now c.requires.fit.ascending))
 
 pub returns : goal.returns
 returns g c = λ L knows.
@@ -36,7 +36,7 @@ returns g c = λ L knows.
     let after = g.W.Words.after in
     let s = c.args.known.now in
     let p = peer_with s.setup in
-    let t = c.args.topic in
+    let t = c.args.topic.now in
     let at = c.args.now.0 in
     let near = c.deref.ensures.value ∙ c.in_ok-near.ensures L knows in
     let in_mesh : c.members.result.now ≡ mesh L t = c.members.ensures.value L knows.agrees.memberships in
@@ -48,4 +48,4 @@ returns g c = λ L knows.
     let up = members_ascend p L at (mesh L t) (subst IsAscending in_mesh c.members.ensures.ascending) in
     let ups = members_ascend p L at (candidates p L at t) (candidates_ascend p L at t c.requires.fit.ascending) in
     let follows = chosen_leads word after (mending p L c.args.now t) s.setup.params (heartbeats L) (scored_members p L at (mesh L t)) (scored_members p L at (candidates p L at t)) c.args.words.now c.choose_heartbeat.new.words change up ups c.requires.fit.room chosen in
-    subst (λ (e : Entry). Follows (exact word after) (mesh_beat_rule p L c.args.now t) c.args.words.now e c.choose_heartbeat.new.words) (sym (c.in_ok-entry.ensures L knows)) follows
+    subst (λ (e : Effects). Follows (exact word after) (mesh_beat_rule p L c.args.now t) c.args.words.now e c.choose_heartbeat.new.words) (sym (c.in_ok-effects.ensures L knows)) follows

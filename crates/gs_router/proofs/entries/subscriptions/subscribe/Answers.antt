@@ -15,8 +15,8 @@ pick-requires g c =
     let fans = c.fanout-fanout.ensures c.requires.knows.0 c.requires.knows.1.agrees.memberships in
     let found = c.deref.ensures.value ∙ c.in_ok-candidates.ensures c.requires.knows.0 c.requires.knows.1 in
     let near = c.deref-2.ensures.value ∙ c.in_ok-near.ensures ∙ ap₂ those_among fans found in
-    let ascend = candidates_ascend (peer_with s.setup) c.requires.knows.0 c.args.now.0 c.args.topic c.requires.fit.ascending in
-    subst IsAscending (sym near) (among_ascend (fanout c.requires.knows.0 c.args.topic) (candidates (peer_with s.setup) c.requires.knows.0 c.args.now.0 c.args.topic) ascend)
+    let ascend = candidates_ascend (peer_with s.setup) c.requires.knows.0 c.args.now.0 c.args.topic.now c.requires.fit.ascending in
+    subst IsAscending (sym near) (among_ascend (fanout c.requires.knows.0 c.args.topic.now) (candidates (peer_with s.setup) c.requires.knows.0 c.args.now.0 c.args.topic.now) ascend)
 
 pub pick-requires-2 : goal.pick-requires-2
 pick-requires-2 g c =
@@ -24,13 +24,13 @@ pick-requires-2 g c =
     let fans = c.fanout-fanout.ensures c.requires.knows.0 c.requires.knows.1.agrees.memberships in
     let found = c.deref-4.ensures.value ∙ c.in_ok-candidates.ensures c.requires.knows.0 c.requires.knows.1 in
     let far = c.deref-5.ensures.value ∙ c.in_ok-far.ensures ∙ ap₂ those_outside fans found in
-    let ascend = candidates_ascend (peer_with s.setup) c.requires.knows.0 c.args.now.0 c.args.topic c.requires.fit.ascending in
-    subst IsAscending (sym far) (outside_ascend (fanout c.requires.knows.0 c.args.topic) (candidates (peer_with s.setup) c.requires.knows.0 c.args.now.0 c.args.topic) ascend)
+    let ascend = candidates_ascend (peer_with s.setup) c.requires.knows.0 c.args.now.0 c.args.topic.now c.requires.fit.ascending in
+    subst IsAscending (sym far) (outside_ascend (fanout c.requires.knows.0 c.args.topic.now) (candidates (peer_with s.setup) c.requires.knows.0 c.args.now.0 c.args.topic.now) ascend)
 
 pub returns : goal.returns
 returns g c = λ L knows.
     let p = peer_with c.args.known.now.setup in
-    let t = c.args.topic in
+    let t = c.args.topic.now in
     let d = c.args.known.now.setup.params.degrees.d in
     let fans = c.fanout-fanout.ensures L knows.agrees.memberships in
     let found = c.in_ok-candidates.ensures L knows in
@@ -44,4 +44,4 @@ returns g c = λ L knows.
     let others = subst₂ (λ (k : ℕ) (qs : List PeerNo). IsPick g.W.Words.word g.W.Words.after k qs c.pick.new.words two c.pick-2.new.words) left far (record { ascending = subst IsAscending (sym far) (outside_ascend (fanout L t) (candidates p L c.args.now.0 t) ascend); chosen_are = c.in_ok-others.ensures.picked; words = c.in_ok-others.ensures.words }) in
     let chosen = c.deref-6.ensures.value ∙ c.in_ok-append.ensures.items in
     let grafted = c.deref-8.ensures.value ∙ c.in_ok-grafted.ensures ∙ ap₂ those_among chosen (c.deref-7.ensures.value ∙ found) in
-    (one, c.pick.new.words, first, (two, c.pick-2.new.words, others, (c.in_ok-entry.ensures L knows ∙ ap (joining p L c.args.now t) grafted, refl)))
+    (one, c.pick.new.words, first, (two, c.pick-2.new.words, others, (c.in_ok-effects.ensures L knows.agrees ∙ ap (joining p L t) grafted, refl)))

@@ -1,5 +1,5 @@
 use Rattle.std.proofs.Common.{◌≤◌, ◌∙◌, sym}
-use Rattle.gs_rules.specs.declared.trace.Event.TheVariants.{BeatBegin}
+use Rattle.gs_rules.specs.declared.event.Event.TheVariants.{BeatBegin}
 use Rattle.gs_rules.specs.Tables.{last_moment}
 use Rattle.gs_rules.specs.Modes.{exact}
 use Rattle.gs_router.specs.Known.{peer_with}

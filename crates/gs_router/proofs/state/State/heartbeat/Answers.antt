@@ -1,8 +1,9 @@
 use Rattle.std.proofs.Common.{arith, ◌≡◌, ◌+◌, ◌∙◌, List, [], ◌∷◌, drop, map, refl, sym, ap, subst}
 use Rattle.std.proofs.lemmas.List.{drop_all}
 use Rattle.gs_base.specs.declared.names.Topic.{Topic}
-use Rattle.gs_rules.specs.declared.trace.Event.{Event}
-use Rattle.gs_rules.specs.declared.trace.Event.TheVariants.{BeatBegin, MeshBeat, GossipBeat, BeatEnd}
+use Rattle.gs_rules.specs.declared.event.Event.{Event}
+use Rattle.gs_rules.specs.declared.event.Event.TheVariants.{BeatBegin, Step}
+use Rattle.gs_rules.specs.declared.event.BeatStep.TheVariants.{MeshBeat, GossipBeat, BeatEnd}
 use Rattle.gs_rules.specs.Owed.{FanBeats, Gossips, MeshBeats, beats, events_in, gossip_topics, heartbeat_groups}
 use Rattle.gs_rules.specs.Modes.{exact}
 use Rattle.gs_rules.proofs.Legality.{exact_is_free}
@@ -10,8 +11,9 @@ use Rattle.gs_router.specs.declared.setup.Setup.{Setup}
 use Rattle.gs_router.specs.declared.state.heartbeat.DueFanout.{DueFanout}
 use Rattle.gs_router.specs.Beats.{event_of}
 use Rattle.gs_router.specs.Known.{peer_with}
+use Rattle.gs_router.specs.State.{Paying}
 use Rattle.gs_router.proofs.Beating.{due_owes_none}
-use Rattle.gs_router.proofs.Steps.{Paying, beats_first, next_left, pays_all, pays_group, pays_next, pays_some, stops}
+use Rattle.gs_router.proofs.Steps.{beats_first, next_left, pays_all, pays_group, pays_next, pays_some, stops}
 use Rattle.gs_router.proofs.state.State.heartbeat.Goals as goal
 
 pub returns-in_err-step : goal.returns-in_err-step
@@ -31,15 +33,15 @@ loop-own-init g c =
     let b = c.step.new.self in
     let topics = c.as_slice-own-items.ensures.value ∙ c.in_ok-own_topics.ensures b.trace c.in_ok-step.ensures.current.agrees.topics in
     let begun = beats_first m c.args.now a b c.args.words.now c.step.new.words c.in_ok-step.field-0 c.in_ok-step.ensures in
-    subst (λ (ts : List Topic). Paying m c.args.now BeatBegin a c.args.words.now b c.step.new.words (map MeshBeat ts) (FanBeats c.args.now.0 ∷ Gossips ∷ [])) (sym topics) (pays_group m c.args.now BeatBegin MeshBeats (FanBeats c.args.now.0 ∷ Gossips ∷ []) a b c.args.words.now c.step.new.words begun)
+    subst (λ (ts : List Topic). Paying m c.args.now BeatBegin a c.args.words.now b c.step.new.words (map (λ t. Step (MeshBeat t)) ts) (FanBeats c.args.now.0 ∷ Gossips ∷ [])) (sym topics) (pays_group m c.args.now BeatBegin MeshBeats (FanBeats c.args.now.0 ∷ Gossips ∷ []) a b c.args.words.now c.step.new.words begun)
 
 pub loop-own-preserved : goal.loop-own-preserved
 loop-own-preserved g c =
     let m = exact g.W.Words.word g.W.Words.after in
     let topics : List Topic = c.as_slice-own-items.result.now in
     let here = next_left topics c.loop-own.own-index c.own-item.result c.loop-own-test.true c.own-item.is in
-    let due = subst (λ (left : List Topic). Paying m c.args.now BeatBegin c.args.self.now c.args.words.now c.loop-own.self c.loop-own.words (map MeshBeat left) (FanBeats c.args.now.0 ∷ Gossips ∷ [])) here c.loop-own.invariant in
-    pays_next m c.args.now BeatBegin (MeshBeat c.own-item.result) (map MeshBeat (drop (c.loop-own.own-index + 1) topics)) (FanBeats c.args.now.0 ∷ Gossips ∷ []) c.args.self.now c.loop-own.self c.mend_mesh.new.self c.args.words.now c.loop-own.words c.mend_mesh.new.words c.in_ok-mend_mesh.field-0 due refl c.in_ok-mend_mesh.ensures
+    let due = subst (λ (left : List Topic). Paying m c.args.now BeatBegin c.args.self.now c.args.words.now c.loop-own.self c.loop-own.words (map (λ t. Step (MeshBeat t)) left) (FanBeats c.args.now.0 ∷ Gossips ∷ [])) here c.loop-own.invariant in
+    pays_next m c.args.now BeatBegin (Step (MeshBeat c.own-item.result)) (map (λ t. Step (MeshBeat t)) (drop (c.loop-own.own-index + 1) topics)) (FanBeats c.args.now.0 ∷ Gossips ∷ []) c.args.self.now c.loop-own.self c.mend_mesh.new.self c.args.words.now c.loop-own.words c.mend_mesh.new.words c.in_ok-mend_mesh.field-0 due refl c.in_ok-mend_mesh.ensures
 
 pub returns-in_err-fanouts : goal.returns-in_err-fanouts
 returns-in_err-fanouts g c =
@@ -52,7 +54,7 @@ loop-fanout-init g c =
     let b = c.loop-own.self in
     let topics : List Topic = c.as_slice-own-items.result.now in
     let none = drop_all c.loop-own.own-index topics (omega (arith, c.loop-own-test.false)) in
-    let all = subst (λ (left : List Topic). Paying m c.args.now BeatBegin a c.args.words.now b c.loop-own.words (map MeshBeat left) (FanBeats c.args.now.0 ∷ Gossips ∷ [])) none c.loop-own.invariant in
+    let all = subst (λ (left : List Topic). Paying m c.args.now BeatBegin a c.args.words.now b c.loop-own.words (map (λ t. Step (MeshBeat t)) left) (FanBeats c.args.now.0 ∷ Gossips ∷ [])) none c.loop-own.invariant in
     let due : map event_of c.as_slice-fanout-items.result.now ≡ events_in (peer_with a.known.setup) b.trace (FanBeats c.args.now.0)
     = ap (map event_of) c.as_slice-fanout-items.ensures.value
     ∙ c.in_ok-fanouts.ensures
@@ -88,7 +90,7 @@ loop-topic-preserved g c =
     let topics : List Topic = c.as_slice-topic-items.result.now in
     let here = next_left topics c.loop-topic.topic-index c.topic-item.result c.loop-topic-test.true c.topic-item.is in
     let due = subst (λ (left : List Topic). Paying m c.args.now BeatBegin c.args.self.now c.args.words.now c.loop-topic.self c.loop-topic.words (beats left) []) here c.loop-topic.invariant in
-    pays_next m c.args.now BeatBegin (GossipBeat c.topic-item.result) (beats (drop (c.loop-topic.topic-index + 1) topics)) [] c.args.self.now c.loop-topic.self c.gossip.new.self c.args.words.now c.loop-topic.words c.gossip.new.words c.in_ok-gossip.field-0 due refl c.in_ok-gossip.ensures
+    pays_next m c.args.now BeatBegin (Step (GossipBeat c.topic-item.result)) (beats (drop (c.loop-topic.topic-index + 1) topics)) [] c.args.self.now c.loop-topic.self c.gossip.new.self c.args.words.now c.loop-topic.words c.gossip.new.words c.in_ok-gossip.field-0 due refl c.in_ok-gossip.ensures
 
 pub returns : goal.returns
 returns g c =
@@ -96,4 +98,4 @@ returns g c =
     let topics : List Topic = c.as_slice-topic-items.result.now in
     let none = drop_all c.loop-topic.topic-index topics (omega (arith, c.loop-topic-test.false)) in
     let due = subst (λ (left : List Topic). Paying m c.args.now BeatBegin c.args.self.now c.args.words.now c.loop-topic.self c.loop-topic.words (beats left) []) none c.loop-topic.invariant in
-    pays_all m c.args.now BeatBegin c.args.self.now c.step-2.new.self c.args.words.now c.step-2.new.words c.in_ok-step-2.field-0 (pays_next m c.args.now BeatBegin BeatEnd [] [] c.args.self.now c.loop-topic.self c.step-2.new.self c.args.words.now c.loop-topic.words c.step-2.new.words c.in_ok-step-2.field-0 due refl c.in_ok-step-2.ensures)
+    pays_all m c.args.now BeatBegin c.args.self.now c.step-2.new.self c.args.words.now c.step-2.new.words c.in_ok-step-2.field-0 (pays_next m c.args.now BeatBegin (Step BeatEnd) [] [] c.args.self.now c.loop-topic.self c.step-2.new.self c.args.words.now c.loop-topic.words c.step-2.new.words c.in_ok-step-2.field-0 due refl c.in_ok-step-2.ensures)

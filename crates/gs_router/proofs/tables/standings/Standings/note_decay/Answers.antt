@@ -1,6 +1,6 @@
 use Rattle.std.proofs.Common.{sym, subst}
 use Rattle.gs_score.specs.Histories.{Agrees}
-use Rattle.gs_rules.specs.declared.trace.Event.{Event}
+use Rattle.gs_rules.specs.declared.event.Event.{Event}
 use Rattle.gs_rules.specs.Scoring.{changed_after, setting_of}
 use Rattle.gs_router.proofs.tables.standings.Standings.note_decay.Goals as goal
 

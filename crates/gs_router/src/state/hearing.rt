@@ -1,0 +1,122 @@
+//! How a router hears the parts of an RPC: one generic loop for the six kinds.
+ghost use Rattle.std.specs.Prelude.{◌≡◌, ◌<◌, ◌++◌, List, length, OnOk, OnErr};
+ghost use Rattle.gs_base.specs.declared.names.PeerNo.{PeerNo as PeerNoValue};
+ghost use Rattle.gs_base.specs.declared.rpc.Rpc.{Rpc as RpcValue};
+ghost use Rattle.gs_base.specs.Rpcs.{part_at};
+ghost use Rattle.gs_rules.specs.declared.event.Event.{Event as EventValue};
+ghost use Rattle.gs_rules.specs.declared.event.RpcPart.{RpcPart as RpcPartValue};
+ghost use Rattle.gs_rules.specs.declared.event.RpcPart.TheVariants as kinds;
+ghost use Rattle.gs_rules.specs.Modes.{exact};
+ghost use Rattle.gs_router.specs.State.{AreLeft, Pays, PaysInPart};
+ghost use Rattle.gs_router.specs.Parts.{behind_grafts, behind_messages, behind_offers, behind_prunes, behind_requests, behind_subs, events_of};
+
+use crate::state::State;
+use gs_base::{
+    Graft, IHave, IWant, Message, Millis, Part, PeerNo, Prune, Rpc, Shared, SharedPart, SubOpt,
+    clone_of,
+};
+use gs_cache::Payloads;
+use gs_params::Words;
+use gs_rules::{Event, RpcPart};
+use std::alloc::AllocError;
+
+/// A kind of part that a router hears.
+pub trait HeardPart: Part {
+    /// The part, as an event has it.
+    ghost as_part: { Self → RpcPartValue };
+
+    /// What an RPC has behind its parts of this kind, as events.
+    ghost behind: { PeerNoValue → RpcValue → List EventValue };
+
+    /// The part at a place of an RPC's list, as an event has it.
+    fn heard_at(rpc: Shared<Rpc>, place: usize) -> RpcPart
+        requires { place < length (Self.parts rpc) }
+        ensures { result ≡ as_part (part_at Self.bare (Self.parts rpc) place) };
+}
+
+impl HeardPart for SubOpt {
+    ghost as_part = { kinds.Sub };
+
+    ghost behind = { behind_subs };
+
+    fn heard_at(rpc: Shared<Rpc>, place: usize) -> RpcPart {
+        RpcPart::Sub(SharedPart::at(rpc, place))
+    }
+}
+
+impl HeardPart for Message {
+    ghost as_part = { kinds.Msg };
+
+    ghost behind = { behind_messages };
+
+    fn heard_at(rpc: Shared<Rpc>, place: usize) -> RpcPart {
+        RpcPart::Msg(SharedPart::at(rpc, place))
+    }
+}
+
+impl HeardPart for IHave {
+    ghost as_part = { kinds.Have };
+
+    ghost behind = { behind_offers };
+
+    fn heard_at(rpc: Shared<Rpc>, place: usize) -> RpcPart {
+        RpcPart::Have(SharedPart::at(rpc, place))
+    }
+}
+
+impl HeardPart for IWant {
+    ghost as_part = { kinds.Want };
+
+    ghost behind = { behind_requests };
+
+    fn heard_at(rpc: Shared<Rpc>, place: usize) -> RpcPart {
+        RpcPart::Want(SharedPart::at(rpc, place))
+    }
+}
+
+impl HeardPart for Graft {
+    ghost as_part = { kinds.GraftIn };
+
+    ghost behind = { behind_grafts };
+
+    fn heard_at(rpc: Shared<Rpc>, place: usize) -> RpcPart {
+        RpcPart::GraftIn(SharedPart::at(rpc, place))
+    }
+}
+
+impl HeardPart for Prune {
+    ghost as_part = { kinds.PruneIn };
+
+    ghost behind = { behind_prunes };
+
+    fn heard_at(rpc: Shared<Rpc>, place: usize) -> RpcPart {
+        RpcPart::PruneIn(SharedPart::at(rpc, place))
+    }
+}
+
+impl State {
+    /// Hears all parts of one kind of an RPC, which come next.
+    pub fn hear_parts<P: HeardPart, W: Words>(
+        &mut self,
+        payloads: &mut Payloads,
+        from: PeerNo,
+        rpc: &Shared<Rpc>,
+        now: Millis,
+        words: &mut W,
+    ) -> Result<(), AllocError>
+        requires { AreLeft (exact W.word W.after) now
+            (events_of P.as_part from (P.parts rpc.now) ++ P.behind from rpc.now) self.old words.old }
+        ensures left { OnOk result (AreLeft (exact W.word W.after) now (P.behind from rpc.now) self.new words.new) }
+        ensures pays { OnOk result (Pays (exact W.word W.after) now
+            (events_of P.as_part from (P.parts rpc.now) ++ P.behind from rpc.now) self.old words.old
+            (P.behind from rpc.now) self.new words.new) }
+        ensures breaks { OnErr result (PaysInPart (exact W.word W.after) now
+            (events_of P.as_part from (P.parts rpc.now) ++ P.behind from rpc.now) self.old words.old self.new) }
+    {
+        for place in 0..P::parts_of(rpc.get()).len() {
+            let part = P::heard_at(clone_of(rpc)?, place);
+            self.step_with(payloads, Event::Part(from, part), now, words)?;
+        }
+        Ok(())
+    }
+}

@@ -1,0 +1,107 @@
+//! What happens at a peer, by what decides about it.
+ghost use Rattle.std.specs.Prelude.{◌≡◌};
+ghost use Rattle.gs_rules.specs.Tables.{lost, lost_by};
+
+use gs_base::{
+    Graft, IHave, IWant, Message, PeerNo, Prune, Rpc, Shared, SharedPart, SubOpt, Topic,
+};
+use gs_plan::Act;
+
+/// What happened at a peer. What is long of it stands apart, so that an entry is small.
+#[derive(Debug, Drop, PartialEq, Eq)]
+pub enum Event {
+    /// A neighbour's RPC came. Its parts follow, unless the neighbour is on the graylist.
+    Heard(PeerNo, Shared<Rpc>),
+    /// An RPC came of a neighbour that is not heard any more.
+    Late(PeerNo, Shared<Rpc>),
+    /// A part of an RPC that was heard.
+    Part(PeerNo, RpcPart),
+    /// A heartbeat began: promises whose time had come ended. Its steps follow.
+    BeatBegin,
+    /// A step of a heartbeat.
+    Step(BeatStep),
+    /// The peer's own user had it do something.
+    Own(Shared<Act>),
+    /// A neighbour was lost.
+    Lost(PeerNo, Loss),
+    /// The counters that scores are made of decayed by a step.
+    Decay,
+    /// The round of this number ended: neighbours hear in the next one what was sent in it.
+    RoundEnd(u64),
+    /// The peer shut down.
+    Shut,
+}
+
+/// A part of an RPC.
+#[derive(Debug, Drop, PartialEq, Eq)]
+pub enum RpcPart {
+    /// A neighbour subscribed to a topic or left it.
+    Sub(SharedPart<SubOpt>),
+    /// A neighbour passed on a message (gossipsub v1.0, "Message Processing").
+    Msg(SharedPart<Message>),
+    /// A neighbour offered messages (gossipsub v1.0, "Control Messages", IHAVE).
+    Have(SharedPart<IHave>),
+    /// A neighbour asked for messages (IWANT).
+    Want(SharedPart<IWant>),
+    /// A neighbour said that it put the peer into a mesh (GRAFT).
+    GraftIn(SharedPart<Graft>),
+    /// A neighbour said that it took the peer out of a mesh (PRUNE).
+    PruneIn(SharedPart<Prune>),
+}
+
+/// A step of a heartbeat, after its beginning.
+#[derive(Debug, Drop, PartialEq, Eq)]
+pub enum BeatStep {
+    /// The mesh of a topic was mended (gossipsub v1.0, "Mesh maintenance").
+    MeshBeat(Topic),
+    /// The fanout of a topic was mended (gossipsub v1.0, "Fanout maintenance").
+    FanBeat(Topic),
+    /// The fanout of a topic ended: the peer has not published on it for its time.
+    FanEnd(Topic),
+    /// What there is on a topic was gossiped (gossipsub v1.0, "Gossip Emission").
+    GossipBeat(Topic),
+    /// The heartbeat ended.
+    BeatEnd,
+}
+
+/// How a neighbour is lost that the peer did not hang up on.
+#[derive(Clone, Copy, Debug, PartialEq, Eq)]
+pub enum Loss {
+    /// It closed its link.
+    Gone,
+    /// Its bytes spelled no RPC, or ended within one.
+    Fault,
+}
+
+impl Event {
+    /// The neighbour that it loses, if any.
+    pub fn lost(&self) -> Option<PeerNo>
+        ensures { result ≡ lost self.now }
+    {
+        match self {
+            Event::Lost(peer, _) => Some(*peer),
+            Event::Own(act) => lost_by(act.get()),
+            Event::Heard(_, _) => None,
+            Event::Late(_, _) => None,
+            Event::Part(_, _) => None,
+            Event::BeatBegin => None,
+            Event::Step(_) => None,
+            Event::Decay => None,
+            Event::RoundEnd(_) => None,
+            Event::Shut => None,
+        }
+    }
+}
+
+/// The neighbour on which it hangs up, if any.
+fn lost_by(act: &Act) -> Option<PeerNo>
+    ensures { result ≡ lost_by act.now }
+{
+    match act {
+        Act::HangUp(peer) => Some(*peer),
+        Act::Subscribe(_) => None,
+        Act::Unsubscribe(_) => None,
+        Act::Publish(_, _) => None,
+        Act::Raw(_, _) => None,
+    }
+}
