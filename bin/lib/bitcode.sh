@@ -1,6 +1,6 @@
 # shellcheck shell=bash disable=SC2154
-# Makes the bitcode of a program without proof, with checks at run time. bin/profile_build and bin/lib/compile read this file,
-# and have set `top` to the repository's folder.
+# Makes the bitcode of a program without proof, with checks at run time. bin/lib/compile and tools/profile_build read this
+# file, and have set `top` to the repository's folder.
 
 # The folder of the Rattle kit whose rt is on the path. (rt may be a script that starts that of a kit.)
 kit_folder() {

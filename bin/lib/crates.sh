@@ -1,6 +1,6 @@
 # shellcheck shell=bash disable=SC2154
-# What crates.txt says, and whether a proved program stands. The scripts of bin/ read this file, once they have set `top`
-# to the repository's folder.
+# What crates.txt says, and whether a proved program stands. Scripts of bin/ read this file, once they have set `top` to
+# the repository's folder.
 
 # Prints a line for each of these crates, and for those of this repository below them: its name, and what it uses.
 crates_below() {

@@ -1,0 +1,98 @@
+"""Tries wrong bodies one after the other: by rt must-fail, or by a check of the module that an edit changes."""
+import re
+
+from edits import Unfit, edited
+from verdicts import say
+
+COUNTS = re.compile(r"^only=(\d+) proved=(\d+)$", re.MULTILINE)
+NAMES_GONE = re.compile(r"has no field|has no function|that can be named from here")
+REFUSED = "refused, as it must be"
+BY_NAMES = "only because a proof file names"
+MISSED = "NOT REFUSED: the crate is still proved"
+
+
+def is_proved(tree, crate, *flags):
+    """Whether a crate is proved as it is. Else its log's end is printed."""
+    say(f"{crate}: proving it as it is")
+    status, said = tree.run(f"{crate}.check", f"crates/{crate}", "rt", "check", *flags)
+    if status:
+        print("\n".join(said.rstrip("\n").split("\n")[-20:]), flush=True)
+    return status == 0
+
+
+def is_settled_by_module(tree, verdicts, edit):
+    """Tries an edit by a check of its module, and counts it where that shows what became of it."""
+    flags = ["--test"] if edit.is_of_tests else []
+    words = ["rt", "check", *flags, "--only", edit.module, "--jobs", "1"]
+    with tree.changed(edit.crate, edited(edit, tree.folder_of(edit.crate))):
+        _, said = tree.run(f"{edit.crate}.{edit.name}", f"crates/{edit.crate}", *words)
+    wanted, proved = map(int, (COUNTS.findall(said) or [(0, 0)])[-1])
+    if proved < wanted:
+        say(f"{edit.label}: refused by its module")
+        verdicts.refuse(edit, bool(NAMES_GONE.search(said)))
+    elif edit.is_of_tests and wanted:
+        verdicts.let_through(edit)
+    elif edit.is_of_tests:
+        verdicts.leave(edit, "the check of its module says nothing of it")
+    return proved < wanted or edit.is_of_tests
+
+
+def settle_by_module(tree, verdicts, edits, is_narrow):
+    """Tries edits of one module of code by that module, or only those of tests. Returns the edits that are left."""
+    left = []
+    for edit in edits:
+        is_tried = edit.module and (is_narrow or edit.is_of_tests)
+        if not is_tried or not is_settled_by_module(tree, verdicts, edit):
+            left.append(edit)
+    return left
+
+
+def judge(verdicts, edit, said):
+    """Counts an edit by what rt must-fail said of it. Of what it did not say nothing is known."""
+    label = f"rt: must-fail {edit.label}: "
+    told = [line[len(label) :] for line in said.split("\n") if line.startswith(label)]
+    verdict = told[-1] if told else "rt said nothing of it"
+    if verdict.startswith(REFUSED):
+        verdicts.refuse(edit, BY_NAMES in verdict)
+    elif verdict.startswith(MISSED):
+        verdicts.let_through(edit)
+    else:
+        verdicts.leave(edit, verdict.removeprefix("NOT TRIED: "))
+
+
+def try_whole(tree, verdicts, crate, edits):
+    """Tries edits by checks of their whole crate."""
+    say(f"{crate}: trying its edits ({len(edits)})")
+    tree.put_edits(crate, edits)
+    refused = verdicts.refused
+    status, said = tree.run(f"{crate}.edits", ".", "rt", "must-fail", crate)
+    print(re.sub("^rt: must-fail ", "", said, flags=re.MULTILINE), end="", flush=True)
+    for edit in edits:
+        judge(verdicts, edit, said)
+    if status and verdicts.refused - refused == len(edits):
+        verdicts.errors.append(f"{crate}: rt must-fail ended with status {status}, and did not say why")
+
+
+def fitting(tree, verdicts, crate, edits):
+    """Those edits that apply. Why another does not is an error."""
+    found = []
+    for edit in edits:
+        try:
+            edited(edit, tree.folder_of(crate))
+            found.append(edit)
+        except Unfit as why:
+            verdicts.leave(edit, why)
+    return found
+
+
+def try_one_by_one(tree, verdicts, crate, edits, is_narrow):
+    """Tries a crate's edits. rt calls each edit of a crate that does not prove refused, so that is seen first."""
+    edits = fitting(tree, verdicts, crate, edits)
+    if not edits:
+        return
+    if not is_proved(tree, crate):
+        verdicts.leave_crate(crate, edits)
+        return
+    edits = settle_by_module(tree, verdicts, edits, is_narrow)
+    if edits:
+        try_whole(tree, verdicts, crate, edits)

@@ -1,0 +1,200 @@
+# shellcheck shell=bash disable=SC2154,SC2016
+# To which lines of a scenario the words of a refusal point, and what --check warns of. tools/check_scripts reads this file.
+# It sets `top` to the repository's folder and `room` to one for files, and has `expect` and `expect_like`. For
+# `check_pointing` it has the tree of tools/lib/stand_ins.sh.
+
+# pointed ANSWER SCENARIO [CHANGE..]: what is said beside an answer. $given is what was changed, and $until where it was cut.
+pointed() {
+  printf '%b' "$1" >"$room/answer"
+  printf '%b' "$2" >"$room/scenario"
+  printf '%b' "${given-$2}" >"$room/given"
+  python3 "$top/bin/lib/point.py" "${kind-refusal}" "$room/answer" "$room/scenario" "$room/given" "${origin-file}" \
+    "${until-}" "${@:3}"
+}
+
+points() {
+  expect "$1" 0 "$2" '' pointed "${@:3}"
+}
+
+check_places() {
+  local lines='rounds = 9\n[[do]]\nat = 1 # one\n[[ "do" ]]\n\n"a\\u0074" = 10\n' zeros
+  points 'the line of a key' $'do[1].at, line 6: "a\\u0074" = 10\nrounds, line 1: rounds = 9' '29 do[1].at\n' "$lines"
+  points 'a line without its comment' 'do[0].at, line 3: at = 1' '30 do[0].at\n' "$lines"
+  points 'the line of a header' 'do[1], line 4: [[ "do" ]]' '31 do[1]\n' "$lines"
+  points 'the header of a missing key' 'do[1], line 4: [[ "do" ]]' '28 do[1].what\n' "$lines"
+  points 'the line of a list' 'do, line 2: [[do]]' '29 do\n' "$lines"
+  points 'an inline table' 'do[1].at, line 3: { l = "]},{", at = 2 },' '30 do[1].at\n' \
+    'do = [\n{ at = 1 }, # }\n{ l = "]},{", at = 2 },\n"x"]'
+  points 'an element that is no table' 'do[2], line 3: "x"]' '29 do[2]\n' 'do = [\n{ at = 1 }, { at = 2 },\n"x"]'
+  points 'a dotted key' 'params.d, line 2: params . d = 0x9' '29 params.d\n' 'seed = 1\nparams . d = 0x9'
+  points 'a missing key of a table without a header' '' '28 params.d\n' 'params.e = 1\n'
+  points 'a table in a table' 'params.x, line 3: [params.x]' '27 params.x\n' '[params]\nd = 1\n[params.x]\ny = 1'
+  points 'a key that looks like a place' 'do[0].at, line 2: "do[0].at" = 1' \
+    '27 do[0].at\n`do[0].at` is no key of the top table\n' 'seed = 1\n"do[0].at" = 1\n[[do]]\nat = 3'
+  points 'a key with control characters' '' '27 a\\x0ab\n' '"a\\nb" = 1\n'
+  points 'a mark of byte order, and CR' 'do[0].at, line 3: at = 1' '30 do[0].at\n' '\xef\xbb\xbfseed = 1\r\n[[do]]\r\nat = 1\r\n'
+  printf -v zeros '%0200d' 0
+  points 'a line that is long' "do[0].at, line 1: at = 1, hex = \"${zeros:0:85}.." '30 do[0].at\n' \
+    "do = [{ what = \"x\", at = 1, hex = \"$zeros\" }]\n"
+  points 'what only TOML 1.1 has' '' '29 seed\n' 'seed = "x"\na = {b = 1,}\n'
+  points 'a text of several lines' 'seed, line 1: seed = """]' '29 seed\n' 'seed = """]\n[[do]]\n"""\n[params]\n'
+  points 'an input that is too long' '' '29 input\n' 'seed = 1\n'
+  points 'an answer of another kind' '' 'scenario\nin words\n' 'seed = 1\n'
+}
+
+check_refusals() {
+  local check='1\n`params.d_low` is 7: it must not be above `d`, which is 6\n' no_toml='26\nTOML parse error at line'
+  points 'a check, and its keys' $'params.d_low, line 2: d_low = 7\nparams.d, line 3: d = 6' "$check" '[params]\nd_low = 7\nd = 6\n'
+  points 'a check of a default' $'params, line 1: [params]\nparams.d, line 2: d = 6' "$check" '[params]\nd = 6\n'
+  points 'no multiple' $'params.decay_ms, line 3: decay_ms = 250\nround_ms, line 1: round_ms = 100' \
+    '29 params.decay_ms\n`params.decay_ms` is 250: it must be a multiple of `round_ms`, which is 100\n' \
+    'round_ms = 100\n[params]\ndecay_ms = 250\n'
+  points 'no TOML' 'line 2: a = = 1' "$no_toml 2, column 5\nkey\n" 'b = 1\n a = = 1 \n'
+  points 'no TOML at its end' '' "$no_toml 3, column 1\nkey\n" 'b = 1\na = [\n'
+  points 'no UTF-8' '' "$no_toml 1, column 1\nkey\n" 'a = \xff\n'
+  points 'a missing key of the top table' 'seed goes above the first header, line 2: [params]' '28 seed\n' '\n[params]\nd = 1\n'
+  points 'a key below a header' $'seed goes above the first header, line 1: [params]\nparams.seed, line 2: seed = 1' \
+    '28 seed\n' '[params]\nseed = 1\n'
+  points 'a missing list' '' '28 topic\n' '[params]\nseed = 1\n'
+  points 'a missing key where there is no header' '' '28 seed\n' 'rounds = 1\n'
+  points 'a second name' $'peer[2].name, line 6: name = "a"\npeer[0].name, line 2: name = "a"' '31 peer[2].name\n' \
+    '[[peer]]\nname = "a"\n[[peer]]\nname = "b"\n[[peer]]\nname = "a"\n'
+  points 'a second dial' $'dial[1], line 3: {from = "b", to = "a"}]\ndial[0], line 2: {from = "a", to = "b"},' '31 dial[1]\n' \
+    'dial = [\n{from = "a", to = "b"},\n{from = "b", to = "a"}]\n'
+}
+
+# What is changed before it is checked.
+check_changed() {
+  local given='[params]\nd = 6\ne = 5\n[[do]]\nat = 9\n[[do]]\nat = 1\npeer = "x"\n' shown origin until
+  shown='of the changed scenario (bin/gossip_sim --print shows it)'
+  points 'a change' 'params.d, by the change params.d=70' '29 params.d\n' '[params]\nd = 70\n' seed=1 params.d=70 seed=2
+  points 'a change of what lies above' 'do[0].at, by the change do=[{at=3}]' '29 do[0].at\n' 'do = [{at = 3}]' 'do=[{at=3}]'
+  points 'a change of an element' 'do[0], by the change do.0.at=3' '31 do[0]\n' 'do = [{at = 3}]' do.0.at=3
+  points 'a line that stays' 'params.e, line 3: e = 5' '29 params.e\n' 'seed = 2\n\n[params]\ne = 5\nd = 6\n' seed=2
+  points 'a table that stays' 'params, line 1: [params]' '28 params.f\n' '[params]\ne = 5\nd = 7\n' params.d=7
+  until=3
+  points 'a line of a cut' "do[0].peer, line 3 $shown: peer = \"x\"" '30 do[0].peer\n' '[[do]]\nat = 1\npeer = "x"\n' do.0.peer=1
+  points 'a parameter beside a cut' 'params.e, line 3: e = 5' '29 params.e\n' '[params]\nd = 6\ne = 5\n'
+  until='' origin=description
+  points 'a line of a description' 'params.e, line 3 of what bin/scenario prints: e = 5' '29 params.e\n' "$given"
+  points 'a change of a description' 'params.d, by the change params.d=7' '29 params.d\n' "$given" params.d=7
+  points 'a description that is no TOML' '' '26\nTOML parse error at line 1, column 1\nkey\n' 'a = = 1\n'
+}
+
+# Prints the keys and names of docs/COVERAGE.md whose hint is another one.
+other_hints() {
+  python3 -B - "$top" <<'END'
+import re, sys
+sys.path.insert(0, f"{sys.argv[1]}/bin/lib")
+from hints import go_hint
+with open(f"{sys.argv[1]}/docs/COVERAGE.md", encoding="utf-8") as file:
+    table = file.read().split("| here | go-libp2p-pubsub |\n")[1].split("\n\n")[0]
+count = 0
+for row in table.splitlines():
+    here, there = (re.findall("`([^`]+)`", it) for it in row.split("|")[1:3])
+    for key, name in zip(here, there):
+        if name.startswith(".."):
+            name = re.sub("(Weight|Threshold)$", name[2:], there[0])
+        # (the values of a list, and validators, are no names of keys)
+        if re.fullmatch("[a-z_0-9]+", key) and not name.startswith("Validation"):
+            count += 1
+            if f"{name} is {key} of " not in (go_hint(name) or ""):
+                print(key, name, go_hint(name))
+print(count > 40)
+END
+}
+
+check_hints() {
+  points "go-libp2p's name" $'params.Dlo, line 2: Dlo = 5\ngo-libp2p\'s Dlo is d_low of [params] here' \
+    '27 params.Dlo\n' '[params]\nDlo = 5\n'
+  points "go-libp2p's name of what has no counterpart" \
+    $'params.prune_peers, line 2: prune_peers = 5\ngo-libp2p\'s PrunePeers has no counterpart here: there is no peer exchange' \
+    '27 params.prune_peers\n' '[params]\nprune_peers = 5\n'
+  expect "go-libp2p's names in docs/COVERAGE.md" 0 True '' other_hints
+  points 'a key of another table' $'d, by the change d=8\nd is a key of [params]: params.d?' \
+    '27 d\n`d` is no key of the top table\n' 'd = 8\n' d=8
+  points 'a key of topics' $'params.w4, line 2: w4 = 1\nw4 is a key of each [[topic]]: topic.0.w4?' \
+    '27 params.w4\n' '[params]\nw4 = 1\n'
+  points 'millionths' $'params.gossip_factor, line 2: gossip_factor = 0.25\nin millionths: 250000' '29 params.gossip_factor\n' \
+    '[params]\ngossip_factor = 0.25 # a part\n'
+  points 'a number that counts no millionths' 'params.d, line 2: d = 6.0' '29 params.d\n' '[params]\nd = 6.0\n'
+  points 'a number without an end' 'params.w5, line 2: w5 = inf' '29 params.w5\n' '[params]\nw5 = inf\n'
+}
+
+# warns NAME WARNINGS LINES: what is warned of the lines of two peers, on two topics.
+warns() {
+  expect "$1" 0 "$2" '' pointed '' "round_ms = 100\nrounds = 9\ntopic = [{name = \"t\"}, {name = \"u\"$weights}]
+peer = [{name = \"a\"}, {name = \"b\"}, {name = \"c\"}]\ndial = [{from = \"a\", to = \"b\"}, $dial]\n${3-}"
+}
+
+# A line of the script: its round, its peer, what it does, and on which topic.
+does() {
+  printf '[[do]]\nat = %s\npeer = "%s"\nwhat = "%s"\ntopic = "%s"\n' "$@"
+}
+
+check_warnings() {
+  local kind=warnings weights='' dial='{from = "c", to = "a"}' others weightless
+  local late='P3 counts no further delivery of a later round' nobody='this publication reaches nobody: no'
+  local named='peer = [{name = "a"}, {name = "b"}, {name = "c"}]' at='do[1].topic, line 15: topic = "t"'
+  local listed='line 3: topic = [{name = "t"}, {name = "u"'
+  others=$(does 4 b subscribe t)
+  warns 'no doubt' '' "$others\n$(does 8 a publish t)"
+  warns 'a subscriber that comes later' '' "$others\n$(does 1 a publish t)"
+  warns 'a subscriber that leaves in that round' '' "$others\n$(does 5 a publish t)\n$(does 5 b unsubscribe t)"
+  warns 'a subscriber that has left' "warning: $at: $nobody other peer is on the topic then or later" \
+    "$others\n$(does 6 a publish t)\n$(does 5 b unsubscribe t)"
+  warns 'a publication on another topic' "warning: ${at/t\"/u\"}: $nobody other peer is on the topic then or later" \
+    "$others\n$(does 6 a publish u)"
+  warns 'a publication to no neighbour' "warning: $at: $nobody neighbour of c is on the topic then or later" \
+    "$others\n$(does 6 c publish t)"
+  warns 'a publication to itself' "warning: $at: $nobody other peer is on the topic then or later" \
+    "$(does 1 a subscribe t)\n$(does 6 a publish t)"
+  warns 'a publication of the last round' \
+    'warning: do[1].at, line 12: at = 9: a publication of the last round reaches no other peer' "$others\n$(does 9 a publish t)"
+  dial=''
+  warns 'a peer without neighbours' \
+    "warning: peer[2].name, line 4: $named: no dial joins this peer to another, so it has no neighbour"
+  dial='{from = "c", to = "a"}' weights=', w3 = -1, p3_threshold = 9'
+  warns 'a default window below a round' \
+    "warning: topic[1], $listed$weights}]: p3_window_ms is left out, which means 10, and that is below round_ms, which is 100: $late"
+  weights=', w3b = -1, p3_threshold = 9, p3_window_ms = 99'
+  warns 'a window below a round' \
+    "warning: topic[1].p3_window_ms, $listed$weights}]: it is below round_ms, which is 100: $late"
+  weights=', w3 = -1, p3_threshold = 9, p3_window_ms = 100' && warns 'a window of a round' ''
+  weights=', w3 = -1' && warns 'a window that nothing is missing in' ''
+  weights=', w3 = -1, p3_threshold = 9, topic_weight = 0' && warns 'a window of a topic without weight' ''
+  weights='' weightless='all weights are 0, so each score is 0 and this threshold does nothing'
+  warns 'thresholds without weights' \
+    "warning: params.gossip_threshold, line 9: gossip_threshold = -5: $weightless" \
+    '[params]\nw6 = 0\nw7 = 0\ngossip_threshold = -5\ngraylist_threshold = -80_000_000'
+  warns 'thresholds with a weight' '' '[params]\nw6 = 0\ngossip_threshold = -5\n'
+  warns 'thresholds with values' '' '[params]\nw6 = 0\nw7 = 0\ngossip_threshold = -5\n[[app]]\nvalue = 1\n'
+  expect_like 'many doubts' 0 '*warning: there are 10 more warnings' '' pointed '' \
+    "round_ms = 1\nrounds = 1\ntopic = []\npeer = [$(printf '{name = "%s"},' {1..60})]\n"
+  points 'warnings of TOML 1.1' 'warning: this is no TOML 1.0, so there are no other warnings' '' 'a = {b = 1,}\n'
+}
+
+# What the commands say, whose programs are the stand-ins.
+check_pointing() {
+  local said scenario='seed = 1\n[params]\nd = 70\n' words='29 params.d\nin words\n'
+  said=$'told by gossip_sim\nin words\nparams.d, line 3: d = 70'
+  expect_like 'words that point' 1 'gossip_sim  seed = 1*' "*$said" answered "$words" "$scenario" gossip_sim --words
+  expect_like 'figures that are refused' 1 'gossip_stats  seed = 1*' "*${said/sim/stats}" \
+    answered "$words" "$scenario" gossip_stats --words
+  expect_like 'a picture that is refused' 1 'gossip_picture  seed = 1*' "*${said/sim/picture}" \
+    answered "$words" "$scenario" gossip_picture --words
+  expect_like 'a refusal without words' 1 'gossip_sim  seed = 1*' '*told by gossip_sim' answered "$words" "$scenario" gossip_sim
+  expect 'a check that points' 1 $'29 params.d\nin words\nparams.d, line 3: d = 70' "$(unproved answer 'gossip_check is not built')" \
+    answered "$words" "$scenario" gossip_sim --check
+  expect 'a check of a cut' 1 \
+    $'29 rounds\nrounds, line 1 of the changed scenario (bin/gossip_sim --print shows it): rounds = 5' \
+    "$(unproved answer 'gossip_check is not built')" answered '29 rounds\n' 'rounds = 9\n' gossip_sim --check --until 5
+}
+
+check_points() {
+  check_places
+  check_refusals
+  check_changed
+  check_hints
+  check_warnings
+}

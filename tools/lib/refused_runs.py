@@ -1,0 +1,244 @@
+"""What tools/refuse_each runs, which calls it has fail, and how a run may end then."""
+
+import collections
+import itertools
+
+HEAD = "round_ms = 100\nrounds = 10\nworkers = {}\ncapacity = {}\nseed = 1\n[[topic]]\nname = 'news'\n"
+STEP = 20  # bytes
+PARTS = "the parts of a peer"
+
+# (workers: how many threads there are, and none where the run goes without links)
+Row = collections.namedtuple("Row", "name text status output errors peers workers")
+Sweep = collections.namedtuple("Sweep", "what how step")
+# (met: the threads that met a call which did not go on, as digits, each once or twice. STARVED is there where a growth was
+# refused because no memory was left)
+End = collections.namedtuple("End", "status output errors met")
+
+STARVED = "s"
+NO_THREAD = 2, "", "run refused: 25\n"
+NO_MEMORY = 2, "", "run refused: 24\n"
+
+TWO_REPORT = """\
+delivered a 200 news 616263
+delivered b 300 news 616263
+mesh a news b
+mesh b news a
+score a b 0.000000
+score b a 0.000000
+links 2 settled
+"""
+
+RING_REPORT = """\
+delivered a 200 news 616263
+delivered b 300 news 616263
+delivered c 300 news 616263
+mesh a news c
+mesh b news c
+mesh c news a
+mesh c news b
+score a b 0.000000
+score a c 0.000000
+score b a 0.000000
+score b c 0.000000
+score c a 0.000000
+score c b 0.000000
+links 6 settled
+"""
+
+
+def do(at, peer, what, **more):
+    more = {"topic": "news", **more}
+    words = "".join(f"{key} = '{value}'\n" for key, value in more.items() if value)
+    return f"[[do]]\nat = {at}\npeer = '{peer}'\nwhat = '{what}'\n{words}"
+
+
+def scenario(workers, capacity, peers, dials, *lines):
+    text = HEAD.format(workers, capacity)
+    text += "".join(f"[[peer]]\nname = '{peer}'\n" for peer in peers)
+    text += "".join(f"[[dial]]\nfrom = '{one}'\nto = '{other}'\n" for one, other in dials)
+    text += "".join(do(0, peer, "subscribe") for peer in peers)
+    return text + do(2, "a", "publish", hex="616263") + "".join(lines)
+
+
+def rows(parts):
+    """What is run; gs_refusals, where no call fails, writes `parts`."""
+    for workers, name in (1, "1 worker"), (3, "3 workers"), (0, "no links"):
+        text = scenario(workers or 1, 8, "ab", ["ab"])
+        yield Row(f"two peers, {name}", text, 0, TWO_REPORT, "", "ab", workers)
+        text = scenario(workers or 1, 1, "abc", ["ab", "bc", "ca"], do(4, "a", "hang_up", topic="", to="b"))
+        yield Row(f"a ring, {name}", text, 0, RING_REPORT, "", "abc", workers)
+    text = scenario(1, 8, "ab", ["ab"]).replace("seed = 1\n", "")
+    yield Row("a refused scenario", text, 1, "", "scenario refused: 28 seed\n", "ab", 1)
+    yield Row(PARTS, "", 0, parts, "", "", 0)
+
+
+def sweeps(row):
+    yield Sweep("growth", "fail", 0)
+    if row.name == PARTS:
+        return
+    yield Sweep("growth", "all", 0)
+    if row.workers > 1:
+        yield Sweep("growth", "workers", 0)
+    for what in "thread", "random":
+        for how in "fail", "starve":
+            yield Sweep(what, how, 0)
+    for step in 0, STEP:
+        for what in "read", "write":
+            for how in "fail", "all", "interrupt", "one", "less", "none":
+                yield Sweep(what, how, step)
+
+
+def name_of(sweep):
+    """What becomes of a call, as a line says it."""
+    how = {
+        "fail": "fails",
+        "all": "and all after it fail",
+        "workers": "and all after it in workers fail",
+        "starve": "fails, and no memory is left then",
+        "interrupt": "is interrupted",
+        "one": "moves one byte",
+        "less": "moves a byte less",
+        "none": "moves nothing",
+    }[sweep.how]
+    pieces = f", in pieces of {sweep.step} bytes" if sweep.step else ""
+    return f"{sweep.what} {{}} {how}{pieces}"
+
+
+def bytes_before(text, step, at):
+    """What the calls before this one moved of a text, where each moves `step` bytes, or all (0)."""
+    return text[: (at - 1) * (step or len(text))]
+
+
+def is_end_of_input(sweep):
+    """Whether the call tells that the input has ended there."""
+    return sweep.what == "read" and sweep.how == "none"
+
+
+def named(end):
+    """The peer that a run names."""
+    words = end.errors.split()
+    return words[3] if end.status == 2 and words[:3] == ["run", "refused:", "24"] and len(words) == 4 else ""
+
+
+def names_first(ends):
+    """The peers that the first refused runs in a row name which name any, without repeats."""
+    refused = [named(end) for end in ends if end.status == 2]
+    names = itertools.takewhile(bool, itertools.dropwhile(lambda name: not name, refused))
+    return "".join(name for name, _ in itertools.groupby(names))
+
+
+def may_be_named(row, sweep, end):
+    """The peers that a run may name. With a worker for each, it is the lowest whose task met a refusal."""
+    if row.workers < len(row.peers) or "0" in end.met:
+        return row.peers
+    # (a worker wants memory once more as it ends, so that one refusal of many says nothing of its peer)
+    enough = 1 if sweep.how == "fail" else 2
+    met = [number for number, many in collections.Counter(end.met).items() if many >= enough]
+    return row.peers[int(min(met)) - 1 :][:1] if met else row.peers
+
+
+def allowed_after_growth(row, sweep, end):
+    yield row.status, row.output, row.errors
+    yield 1, "", "scenario refused: 32\n"
+    # (the arguments want memory, too)
+    yield NO_MEMORY
+    if row.status == 0 and row.workers:
+        yield NO_THREAD
+        for peer in may_be_named(row, sweep, end):
+            yield 2, "", f"run refused: 24 {peer}\n"
+
+
+def allowed_after_write(row, sweep, at):
+    """How a run may end whose write did not take what it was to take."""
+    if sweep.how in ("one", "less"):
+        yield row.status, row.output, row.errors
+    elif row.status != 0:
+        # (the line that has been begun is not ended)
+        yield row.status, "", bytes_before(row.errors, sweep.step, at)
+    else:
+        said = "" if sweep.how == "all" else "output failed\n"
+        yield 3, bytes_before(row.output, sweep.step, at), said
+
+
+def allowed(row, sweep, at, end):
+    """How a run may end that met a call which did not go on: statuses, outputs and errors."""
+    if sweep.what == "growth":
+        yield from allowed_after_growth(row, sweep, end)
+    elif sweep.what in ("thread", "random"):
+        if has_calls(row, sweep):
+            yield NO_THREAD
+    elif sweep.what == "read" and sweep.how in ("fail", "all"):
+        yield 3, "", "input failed\n"
+    elif sweep.what == "read":
+        yield row.status, row.output, row.errors
+    else:
+        yield from allowed_after_write(row, sweep, at)
+
+
+def are_parts_right(row, end):
+    """Whether at most one course of the parts was not whole, and that one is right, too."""
+    wanted, lines = row.output.splitlines(), end.output.splitlines()
+    if (end.status, end.errors, len(lines)) != (0, "", len(wanted)):
+        return False
+    others = [it for it in zip(lines, wanted) if it[0] != it[1]]
+    same_names = all(line.split(": ")[-1] == want.split(": ")[-1] for line, want in others)
+    # (none, where memory was wanted ahead of what needs it, or for a table that only saves time)
+    return len(others) <= 1 and same_names and all(line.startswith("right, ") for line, _ in others)
+
+
+def is_right(row, sweep, at, end):
+    """Whether a run ended as it may. (A row says how it ends where all calls go on.)"""
+    if end.met and row.name == PARTS:
+        return are_parts_right(row, end)
+    if not end.met:
+        return end[:3] == (row.status, row.output, row.errors)
+    if sweep.how == "starve" and STARVED not in end.met:
+        return False
+    return end[:3] in allowed(row, sweep, at, end)
+
+
+def has_calls(row, sweep):
+    """Whether a run makes a call that this sweep has fail. One without links starts no thread and draws no random bytes."""
+    return row.workers and row.status == 0 or sweep.what not in ("thread", "random")
+
+
+def names_peers(row, sweep):
+    """Whether the runs of a sweep name each peer in turn, while its task is built."""
+    return (sweep.what, sweep.how) == ("growth", "fail") and row.status == 0 and row.workers and row.name != PARTS
+
+
+def are_all_tried(row, ends):
+    """Whether in some run a growth within the calls of each part was refused."""
+    lines = {line for end in ends for line in end.output.splitlines()}
+    return all(want.replace("whole", "refused", 1) in lines for want in row.output.splitlines())
+
+
+def met_in_two_workers(end):
+    return len(set(end.met) - {"0"}) > 1
+
+
+def asked_of_all(row, sweep, ends):
+    """What the runs of a sweep must show together, as a line says it, and whether they do."""
+    if row.name == PARTS:
+        yield "each part has a run that refuses a growth within its calls", are_all_tried(row, ends)
+    if names_peers(row, sweep):
+        names = names_first(ends)
+        yield f"first are named, in order, {names or 'no peers'}", names == row.peers
+    if (sweep.what, sweep.how) == ("thread", "fail") and row.status == 0:
+        yield f"starts are {len(ends)}, workers {row.workers}", len(ends) == row.workers
+    if sweep.how == "workers":
+        yield "a run refuses growths in two workers", any(met_in_two_workers(end) for end in ends)
+
+
+def in_short(row, end):
+    """What a run ended in, where the names of peers and how much was written do not matter."""
+    if row.name == PARTS:
+        return "; ".join(line for line in end.output.splitlines() if ", whole: " not in line) or "all whole"
+    said = end.errors.strip().replace(row.errors.strip() or "\0", "its own refusal")
+    if named(end):
+        said = "run refused: 24 PEER"
+    elif end.status == 0 and not said:
+        said = "the report"
+    elif end.status == row.status != 0 and row.errors.startswith(end.errors) and end.errors != row.errors:
+        said = "a front of its own refusal"
+    return said or "nothing said"

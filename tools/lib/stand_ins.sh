@@ -1,0 +1,165 @@
+# shellcheck shell=bash disable=SC2154
+# A tree where nothing is proved, with scripts that stand in for rt and for the compiler. tools/check_scripts reads this file.
+# It sets `top` to the repository's folder, `room` to one for files and `example` to a scenario, and has `expect` and
+# `expect_like`.
+
+# A stand-in for the compiler: it makes a program which prints its name and what it is given, and ends as $tried says. What it
+# compiles is noted in $room/compiled. With $tried of none, there is no program.
+make_compiler() {
+  cat >"$room/fake/compiler" <<END
+#!/bin/sh
+echo "\$1" >>"$room/compiled"
+[ "\$tried" != none ] || { echo 'cannot find value' && exit 1; }
+[ "\$tried" != slow ] || { touch "$room/asleep" && exec sleep 600; }
+cat >"\$2" <<'PROGRAM'
+#!/bin/sh
+name=\$(basename "\$0")
+name=\${name%%-*}
+[ "\$tried" != fault ] || kill -ILL \$\$
+[ "\$name" != gossip_check ] || [ -z "\${answer-}" ] || { printf '%b' "\$answer" && exit "\$tried"; }
+[ "\$tried" != long ] || { touch "$room/asleep" && exec sleep 600; }
+echo "\$name \$* \$(cat)" 2>/dev/null || { echo 'output failed' >&2 && exit 3; }
+[ "\$name" != gossip_check ] || echo 'in words'
+echo "told by \$name" >&2
+exit "\$tried"
+PROGRAM
+chmod +x "\$2"
+END
+  chmod +x "$room/fake/compiler"
+}
+
+# A stand-in for rt: it proves what $unproved does not name, at once or, where $tried is slow, never.
+make_rt() {
+  echo 'a kit' >"$room/fake/KIT-ID"
+  cat >"$room/fake/bin/rt" <<END
+#!/bin/sh
+name=\$(basename "\$PWD")
+echo "proving \$name" >&2
+[ "\$name" != "\${unproved-}" ] || exit 1
+[ "\${tried-}" != slow ] || { touch "$room/asleep" && exec sleep 600; }
+mkdir -p out/rlib && touch out/rlib/stamp
+[ "\$1" = lib ] || { echo text && printf '#!/bin/sh\necho "proved: \$(cat)"\n' >"out/\$name" && chmod +x "out/\$name"; }
+END
+  chmod +x "$room/fake/bin/rt"
+}
+
+# A tree with nothing built, whose programs stand above one library. (The scripts of tools/ are tried there by signals.)
+make_tree() {
+  local crate
+  mkdir -p "$room/fake/bin" "$room/temporary" "$room/tree/crates/gs_base/mutants"
+  cp -r "$top/bin" "$top/tools" "$room/tree"
+  for crate in gossip_sim gossip_check gossip_edit gossip_stats gossip_picture gs_base; do
+    mkdir -p "$room/tree/crates/$crate/src"
+    touch "$room/tree/crates/$crate/src"/{tests,"$([ "$crate" = gs_base ] && echo lib || echo main)"}.rt
+    echo text >"$room/tree/crates/$crate/stdout"
+    echo "$crate: gs_base"
+  done | sed 's/^gs_base.*/gs_base:/' >"$room/tree/crates.txt"
+  mkdir "$room/tree/crates/gs_refusals"
+  printf 'right\n' >"$room/tree/crates/gs_refusals/stdout"
+  cp /bin/true "$room/tree/crates/gs_refusals/gs_refusals"
+  echo 'Handles allowed: none.' >"$room/tree/HANDLES"
+  make_compiler
+  make_rt
+}
+
+# Runs a script of the tree, with a word for the stand-ins.
+in_tree() {
+  env PATH="$room/fake/bin:$PATH" GUNTHARU_COMPILER="$room/fake/compiler" TMPDIR="$room/temporary" "$1" "$room/tree/bin/$2" "${@:3}"
+}
+
+tried() {
+  echo scenario | in_tree "tried=$1" gossip_sim "${@:2}"
+}
+
+tried_figures() {
+  echo scenario | in_tree tried=0 gossip_stats "$@"
+}
+
+tried_picture() {
+  echo scenario | in_tree tried=0 gossip_picture "$@"
+}
+
+tried_to_closed_output() {
+  tried 0 >&-
+}
+
+tried_from_closed_input() {
+  in_tree tried=0 gossip_sim <&-
+}
+
+# A scenario, and the answer that the stand-in for gossip_check gives to it.
+answered() {
+  printf '%b' "$2" | answer=$1 in_tree tried=1 "${@:3}"
+}
+
+# What is said of these programs where they are not proved.
+unproved() {
+  printf '%s\n' "gossip_sim: this $1 does not come from a proved program: $2" \
+    'gossip_sim: to get the proved program, run bin/build, which takes half an hour on four processors'
+}
+
+compiling() {
+  echo "gossip_sim: compiling $1 without proof, which takes about two minutes"
+}
+
+# What is run where nothing is proved.
+check_unproved() {
+  local one='gossip_sim is not built' said
+  said=$(unproved report "$one")
+  expect 'a report without proof' 0 'gossip_sim  scenario' "$said"$'\n'"$(compiling gossip_sim)"$'\ntold by gossip_sim' tried 0
+  expect 'a status without proof' 2 'gossip_sim  scenario' "$said"$'\ntold by gossip_sim' tried 2
+  expect 'words without proof' 1 'gossip_sim  scenario' \
+    "$said"$'\ntold by gossip_sim\n'"$(compiling gossip_check)"$'\ntold by gossip_check\nin words' tried 1 --words
+  expect 'words without proof again' 1 'gossip_sim  scenario' "$said"$'\ntold by gossip_sim\ntold by gossip_check\nin words' \
+    tried 1 --words
+  expect 'an answer without proof' 0 $'gossip_check  scenario\nin words' \
+    "$(unproved answer 'gossip_check is not built')"$'\ntold by gossip_check\nwarning: this is no TOML 1.0, so there are no other warnings' \
+    tried 0 --check
+  expect 'a change without proof' 0 'gossip_sim  gossip_edit seed=2 scenario' \
+    "$(unproved report "gossip_edit is not built, and $one"; compiling gossip_edit)"$'\ntold by gossip_edit\ntold by gossip_sim' \
+    tried 0 --seed 2
+  expect 'a print without proof' 64 '' "$(unproved scenario 'gossip_edit is not built')"$'\ntold by gossip_edit' \
+    tried 64 --print --seed 2
+  expect 'a printed change without proof' 0 'gossip_edit seed=2 scenario' \
+    "$(unproved scenario 'gossip_edit is not built')"$'\ntold by gossip_edit' tried 0 --print --seed 2
+  expect 'a direct run without proof' 0 'gossip_sim --direct scenario' "$said"$'\ntold by gossip_sim' tried 0 --direct
+  expect 'a direct check' 64 '' 'gossip_sim: --direct goes with a run, not with --check or --print; --help says more' \
+    tried 0 --direct --check
+  expect_like 'figures without proof' 0 'gossip_stats --csv scenario' \
+    'gossip_stats: this set of figures does not come from a proved program: gossip_stats is not built*told by gossip_stats' \
+    tried_figures --csv
+  expect_like 'a picture without proof' 0 'gossip_picture news scenario' \
+    'gossip_picture: this picture does not come from a proved program: gossip_picture is not built*told by gossip_picture' \
+    tried_picture --topic news
+  expect_like 'an unproved run that meets a fault' 5 '' \
+    "$said*gossip_sim met a fault (signal 4): rt try in crates/gossip_sim says where" tried fault
+  expect 'a closed output without proof' 3 '' "$said"$'\noutput failed' tried_to_closed_output
+  expect 'a closed input without proof' 3 '' "$said"$'\ninput failed' tried_from_closed_input
+  expect 'nothing proved to run' 4 '' "gossip_sim: $one: bin/build proves and builds it" tried 0 --proved
+  expect 'nothing proved to sweep' 4 '' \
+    'sweep: gossip_edit is not built, and gossip_stats is not built: bin/build proves and builds it' \
+    in_tree tried=0 sweep --proved "$example"
+  expect_like 'a sweep without proof' 1 $'seed,status,message,proved,*\n1,5,told by gossip_edit,no,*' \
+    'sweep: this sweep does not come from a proved program: gossip_edit is not built, and gossip_stats is not built*1 of 1 runs *' \
+    in_tree tried=5 sweep --seeds 1 "$example"
+}
+
+# bin/build, and what is run of what it built.
+check_build() {
+  local place=$room/tree/crates said
+  expect 'a program that is not there' 64 '' 'build: there is no program gs_base in crates.txt' in_tree unproved= build gs_base
+  expect_like 'a proof that fails' 4 '' '*proving gs_base*gs_base is not proved*the log is crates/gs_base/out/build.log' \
+    in_tree unproved=gs_base build
+  expect_like 'a build' 0 '' '*proved and built: gossip_sim gossip_check gossip_edit gossip_stats gossip_picture' in_tree unproved= build
+  expect 'a build where all stands' 0 '' 'build: proved and built: gossip_sim' in_tree unproved=gs_base build gossip_sim
+  touch "$place/gs_base/src/tests.rt"
+  expect 'a run of what was built' 0 'proved: scenario' '' tried none
+  expect_like 'a check of what was built' 0 'proved: scenario' 'warning: *' tried none --check --proved
+  touch "$place/gs_base/src/lib.rt"
+  said='gossip_sim is older than crates/gs_base/src/lib.rt'
+  expect 'a program that is too old' 4 '' "gossip_sim: $said: bin/build proves and builds it" tried none --proved
+  expect_like 'an unproved run beside it' 0 'gossip_sim  scenario' "*a proved program: $said*" tried 0
+  printf '#!/bin/sh\nexit 1\n' >"$place/gossip_sim/out/gossip_sim"
+  expect 'a refusal whose words are not built' 1 '' 'gossip_sim: bin/gossip_sim --check FILE tells why in words' \
+    tried none --words
+}

@@ -1,0 +1,148 @@
+# shellcheck shell=bash disable=SC2154
+# Tries wrong bodies of a crate by a stand-in for rt. tools/check_scripts reads this file. It sets `top` to the repository's
+# folder and `room` to one for files, and has `expect` and `expect_like`.
+
+# A stand-in for rt: to it a body is wrong that has the word `wrong`. It says so as rt does.
+make_judge() {
+  mkdir -p "$room/judge"
+  cat >"$room/judge/rt" <<'JUDGE'
+#!/bin/bash
+if [ "$1" = must-fail ]; then
+  for it in "crates/$2/must-fail"/*.edit; do
+    said='NOT REFUSED: the crate is still proved'
+    ! grep -q '^new:.*wrong' "$it" || said='refused, as it must be: a goal is open'
+    echo "rt: must-fail $2/$(basename "$it"): $said"
+  done
+  exit
+fi
+words=$* files='src/lib.rt src/part.rt specs/Sizes.antt'
+[[ $words != *--only* ]] || { words=${words#*--only } && files=src/${words%% *}.rt; }
+# shellcheck disable=SC2086 # (they are words)
+! grep -l 'no code' $files || exit 1
+# shellcheck disable=SC2086
+awk '
+  match($0, /fn [a-z]+/) { name = substr($0, RSTART + 3, RLENGTH - 3); many++ }
+  /wrong/ { print "fn one::" name ": no proof"; bad++ }
+  /waits/ { print "fn one::" name ": no proof: it calls `first`"; bad++ }
+  END { print "only=" many " proved=" many - bad; print "logic=" (bad ? "not-proved" : "proved"); exit bad > 0 }' $files
+JUDGE
+  chmod +x "$room/judge/rt"
+}
+
+# Puts a wrong body into the crate: its name, the file, the old text and the new one.
+put_body() {
+  printf 'file: %s\nold: %s\nnew: %s\n' "${@:2}" >"$room/bodies/crates/one/mutants/$1.edit"
+}
+
+# A tree with a crate of five functions and a definition. Of its wrong bodies one means what stood there before.
+make_bodies() {
+  local place=$room/bodies/crates/one
+  mkdir -p "$place"/{src,specs,mutants} "$room/bodies/crates/two/src"
+  cp -r "$top/bin" "$top/tools" "$room/bodies"
+  printf 'one:\ntwo: one\n' >"$room/bodies/crates.txt"
+  printf 'fn first() { 1 }\nfn second() { 2 }\n' >"$place/src/lib.rt"
+  printf 'pub fn third() {\n    3\n}\npub fn fourth() { 4 }\n' >"$place/src/part.rt"
+  echo 'fn tested() { 5 }' >"$place/src/tests.rt"
+  echo 'size = 6' >"$place/specs/Sizes.antt"
+  put_body wrong_first src/lib.rt '{ 1 }' '{ wrong }'
+  put_body wrong_again src/lib.rt 'first() { 1 }' 'first() { 1 + wrong }'
+  put_body wrong_size specs/Sizes.antt 'size = 6' 'size = wrong'
+  put_body same_second src/lib.rt '{ 2 }' '{ 1 + 1 }'
+  put_body wrong_third src/part.rt '    3' '    wrong'
+  put_body waiting_fourth src/part.rt '{ 4 }' '{ waits }'
+  put_body wrong_test src/tests.rt '{ 5 }' '{ wrong }'
+}
+
+bodies() {
+  env PATH="$room/judge:$PATH" TMPDIR="$room/temporary" "$room/bodies/tools/mutants" "$@"
+}
+
+# How they are tried: one by one, by their modules, and many at a time.
+check_ways() {
+  local begun='mutants: copying the repository
+mutants: one: proving it as it is'
+  local counted='mutants: not refused:
+  one/same_second.edit
+  one/waiting_fourth.edit
+5 refused, 2 not refused'
+  expect 'wrong bodies one by one' 1 "$begun
+mutants: one/wrong_test.edit: refused by its module
+mutants: one: trying its edits (6)
+one/same_second.edit: NOT REFUSED: the crate is still proved
+one/waiting_fourth.edit: NOT REFUSED: the crate is still proved
+one/wrong_again.edit: refused, as it must be: a goal is open
+one/wrong_first.edit: refused, as it must be: a goal is open
+one/wrong_size.edit: refused, as it must be: a goal is open
+one/wrong_third.edit: refused, as it must be: a goal is open
+$counted" '' bodies
+  expect 'wrong bodies by their modules' 0 "$begun
+mutants: one/wrong_test.edit: refused by its module
+mutants: one/wrong_third.edit: refused by its module
+2 refused, 0 not refused" '' bodies --narrow --only '_t' one
+  expect 'wrong bodies at once' 1 "$begun
+mutants: one/wrong_test.edit: refused by its module
+mutants: one: trying its edits (6) in 3 checks
+mutants: one/same_second.edit: NOT REFUSED
+mutants: one/waiting_fourth.edit: NOT REFUSED
+mutants: one/wrong_again.edit: refused
+mutants: one/wrong_third.edit: refused
+mutants: one/wrong_first.edit: refused
+mutants: one/wrong_size.edit: refused
+$counted" '' bodies --at-once one
+}
+
+# Those that do not apply, and those of what has changed.
+check_fit() {
+  local git=(git -C "$room/bodies" -c user.name=a -c user.email=a)
+  expect 'wrong bodies that apply' 0 '7 apply, 0 do not' '' bodies --applies
+  { "${git[@]}" init && "${git[@]}" add . && "${git[@]}" commit -m a; } >"$room/said" 2>&1
+  expect 'wrong bodies of no change' 2 '' 'mutants: there is no edit to apply in what differs from HEAD' \
+    bodies --applies --since HEAD
+  sed -i 's/third() {/third() -> u8 {/' "$room/bodies/crates/one/src/part.rt"
+  echo '-- six' >>"$room/bodies/crates/one/specs/Sizes.antt"
+  put_body same_second src/lib.rt '{ 2 }' '{ 3 - 1 }'
+  expect 'wrong bodies of a change' 0 '3 apply, 0 do not' '' bodies --applies --since HEAD
+  put_body wrong_first src/lib.rt '{ 9 }' '{ wrong }'
+  put_body a+b src/lib.rt '{ 1 }' '{ 2 }'
+  expect 'wrong bodies that do not apply' 1 'one/a+b.edit: an edit has a name of letters, digits, _, - and . that ends in .edit
+one/wrong_first.edit: src/lib.rt has this 0 times, and not once: { 9 }
+6 apply, 2 do not' '' bodies --applies one
+  put_body third_is_no_code src/part.rt '{ 4 }' '{ no code }'
+  expect 'a wrong body that is no code' 2 'mutants: copying the repository
+mutants: one: proving it as it is
+mutants: one: trying its edits (2) in 1 checks
+mutants: one: a check ended with status 1 and no verdict, and last said:
+src/part.rt
+mutants: one: a check ended with status 1 and no verdict, and last said:
+src/part.rt
+mutants: one/wrong_third.edit: refused
+mutants: errors:
+  one/third_is_no_code.edit: not tried: a check of it gave no verdict
+1 refused, 0 not refused' '' bodies --at-once --only third
+  expect_like 'a wrong body that can not be tried' 2 '*errors:
+  one/wrong_first.edit: not tried: src/lib.rt has this 0 times, and not once: { 9 }
+0 refused, 0 not refused' '' bodies --only wrong_first one
+}
+
+refused_words() {
+  expect "$1" 2 '' "mutants: $2" bodies "${@:3}"
+}
+
+check_words() {
+  refused_words 'wrong bodies of no crate' 'crates.txt lists no crate three' three
+  refused_words 'wrong bodies of a crate without any' 'crates/two/mutants has no edit' two
+  refused_words 'no such wrong body' 'there is no edit to try whose name has seventh' --only seventh one
+  refused_words 'an unknown option' 'there is no option --speed; --help says more' --speed one
+  refused_words 'a pattern that is missing' 'argument --only: expected one argument; --help says more' one --only
+  refused_words 'two ways at once' 'argument --at-once: not allowed with argument --narrow; --help says more' --narrow --at-once
+  refused_words 'no commit' "git can't compare with none: fatal: bad revision 'none'" --since none one
+  expect_like 'help on wrong bodies' 0 'Tries wrong bodies*Status*' '' bodies --help
+}
+
+check_wrong_bodies() {
+  make_judge
+  make_bodies
+  check_ways
+  check_fit
+  check_words
+}
