@@ -36,7 +36,7 @@ all_hold (check ∷ checks) h = with_one (holds check) check (first_broken check
 
 -- ---- topics
 
--- the checks of a topic, and then those of the topics behind it
+-- the checks of a topic, and then those of the topics after it
 of_topic : (checks : ℕ → TopicParams → List Check) (topics : List (Topic × TopicParams)) (place : ℕ) (one : Topic × TopicParams) → place < length topics → one ≡ slice_index_or topics place one → first_broken (each_topic_from checks place (drop place topics)) ≡ first_broken (checks place one.1 ++ each_topic_from checks (place + 1) (drop (place + 1) topics))
 of_topic checks topics place one less is =
     ap (λ (left : List (Topic × TopicParams)). first_broken (each_topic_from checks place left))

@@ -1,4 +1,4 @@
--- What is picked is a choice: so many of the candidates, ascending, and none twice.
+-- What is picked is a choice: as many of the candidates as are asked for, ascending, and none twice.
 use Rattle.std.proofs.Common.{◌≡◌, ℕ, zero, suc, ◌+◌, ◌-◌, ◌%◌, ◌<◌, ◌≤◌, nat_le, Bool, true, false, List, [], ◌∷◌, ◌++◌, length, take, drop, min, filter, refl, sym, ap, ◌∙◌, arith}
 use Rattle.std.specs.Prelude.{◌&&◌, ◌||◌, swap, All, Contains, Decides, IsPermutation}
 use Rattle.std.specs.Cmp.{IsEquivalence}
@@ -37,7 +37,7 @@ below_is_apart p q h = grind (arith, nat_tests)
 pub distinct_from_ascending : (peers : List PeerNo) → IsAscending peers → IsDistinct same_peer peers
 distinct_from_ascending peers up = IsDistinct-from_apart same_peer peers (λ i j d before within. below_is_apart _ _ (up i j d before within))
 
--- one more, behind all that are there
+-- one more, after all that are there
 pub ascending_push : (peers : List PeerNo) (p : PeerNo) → IsAscending peers → All (λ q. q.0 < p.0) peers → IsAscending (peers ++ p ∷ [])
 ascending_push peers p up below = all_pairs_push (λ (q r : PeerNo). q.0 < r.0) peers p up below
 

@@ -14,9 +14,10 @@ use Rattle.gs_wire.specs.Messages.{SaysSub, SaysMessage, SpellsRpc, IsInMemory, 
 use Rattle.gs_wire.specs.Joining.{joined_control, joined_controls, joined_rpc, joined_to, joined_options, joined_onto, joined_rpcs}
 use Rattle.gs_wire.proofs.Zips.{AllZip-append}
 use Rattle.gs_wire.proofs.RecordLists.{records_append}
-use Rattle.gs_wire.proofs.RpcRoundTrip.{values-append, body_spelled}
-use Rattle.gs_wire.proofs.Written.{records_text-single}
-use Rattle.gs_wire.proofs.Shorter.{sum_text, len_shorter, joined_record}
+use Rattle.gs_wire.proofs.RoundTrip.{values-append}
+use Rattle.gs_wire.proofs.RpcRoundTrip.{body_spelled}
+use Rattle.gs_wire.proofs.Written.{records_text-single, sum_text}
+use Rattle.gs_wire.proofs.Shorter.{len_shorter, joined_record}
 
 -- ---- in any grouping
 
@@ -32,7 +33,7 @@ controls_grouping (Some b) (Some c) (Some d) = ap (λ (e : Control). Some e) (co
 pub rpc_grouping : (u v w : Rpc) → joined_rpc (joined_rpc u v) w ≡ joined_rpc u (joined_rpc v w)
 rpc_grouping u v w = rw (append_assoc u.subs v.subs w.subs, append_assoc u.publish v.publish w.publish, controls_grouping u.control v.control w.control) refl
 
--- nothing before these, and nothing behind them
+-- nothing before these, and nothing after them
 pub options_none_first : (held : Option Rpc) → joined_options None held ≡ held
 options_none_first None = refl
 options_none_first (Some v) = refl
@@ -51,7 +52,7 @@ pub onto_append : (held : Option Rpc) (vs ws : List Rpc) → joined_onto held (v
 onto_append held [] ws = refl
 onto_append held (v ∷ vs) ws = onto_append (Some (joined_to held v)) vs ws
 
--- one RPC more behind the others
+-- one RPC more after the others
 pub onto_push : (held : Option Rpc) (vs : List Rpc) (v : Rpc) → joined_onto held (vs ++ v ∷ []) ≡ Some (joined_to (joined_onto held vs) v)
 onto_push held vs v = onto_append held vs (v ∷ [])
 

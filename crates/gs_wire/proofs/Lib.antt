@@ -2,6 +2,7 @@ pub mod Faults
 pub mod Places
 pub mod Varints
 pub mod VarintLoops
+pub mod VarintLengths
 pub mod RecordReading
 pub mod RecordLists
 pub mod FieldValues

@@ -42,7 +42,7 @@ records_push : (rs : List Record) (r : Record) (front one : List ℕ) → SpellR
 records_push [] r front one h p = (one, [], rw h (sym (append-nil one)), p, refl)
 records_push (q ∷ rs) r front one h p = (h.0, h.1 ++ one, ap (λ (t : List ℕ). t ++ one) h.2 ∙ append_assoc h.0 h.1 one, h.3, records_push rs r h.1 one h.4 p)
 
--- records, and others behind them
+-- records, and others after them
 pub records_append : (rs qs : List Record) (x y : List ℕ) → SpellRecords x rs → SpellRecords y qs → SpellRecords (x ++ y) (rs ++ qs)
 records_append [] qs x y h k = rw h k
 records_append (r ∷ rs) qs x y h k = (h.0, h.1 ++ y, ap (λ (t : List ℕ). t ++ y) h.2 ∙ append_assoc h.0 h.1 y, h.3, records_append rs qs h.1 y h.4 k)

@@ -1,17 +1,17 @@
 -- What is written for a part of an RPC spells it.
-use Rattle.std.proofs.Common.{◌≡◌, ℕ, ◌+◌, ◌*◌, ◌<◌, ◌≤◌, ◌^◌, List, [], ◌∷◌, ◌++◌, length, map, Option, Some, None, Bool, true, false, cond, eqb, refl, sym, ap, ◌∙◌, append-nil, length-append, arith}
-use Rattle.std.specs.Prelude.{IfSome, option_map, ◌==◌, if◌then◌else◌}
-use Rattle.std.specs.List.{AllZip, AllByRecursion}
+use Rattle.std.proofs.Common.{◌≡◌, ℕ, ◌+◌, ◌*◌, ◌<◌, ◌≤◌, ◌^◌, List, [], ◌∷◌, ◌++◌, length, map, Option, Some, None, Bool, true, false, cond, eqb, refl, sym, append-nil, length-append, arith, rules}
+use Rattle.std.specs.Prelude.{IfSome, option_map, option_to_list}
+use Rattle.std.specs.List.{AllZip, AllByRecursion, cons_option}
+use Rattle.std.proofs.lemmas.List.Elements.{filter_map-append}
 use Rattle.gs_base.specs.declared.names.Topic.{Topic}
 use Rattle.gs_base.specs.declared.rpc.SubOpt.{SubOpt}
 use Rattle.gs_base.specs.declared.rpc.Message.{Message}
 use Rattle.gs_wire.specs.Varint.{varint}
-use Rattle.gs_wire.specs.Records.{Value, Varint, I64, Len, I32, Record, SpellsRecord, SpellRecords, len_values, last, record_text, records_text}
+use Rattle.gs_wire.specs.Records.{Value, Varint, I64, Len, I32, Record, SpellsRecord, SpellRecords, varint_in, len_in, varint_values, len_values, last, record_text, records_text}
 use Rattle.gs_wire.specs.Fields.{Spells, as_topic, len_record, number_records, bool_records, bytes_records, topic_bytes, repeated_records, part_records}
 use Rattle.gs_wire.specs.Messages.{SaysSub, SaysMessage, sub_records, message_records}
 use Rattle.gs_wire.proofs.Varints.{written_varint}
-use Rattle.gs_wire.proofs.FieldValues.{last_then, last_len-push}
-use Rattle.gs_wire.proofs.Parts.{when, sub_of, message_of}
+use Rattle.gs_wire.proofs.Parts.{sub_of, message_of}
 use Rattle.gs_wire.proofs.Written.{len_text-length}
 
 -- ---- records
@@ -85,6 +85,52 @@ pub parts_writable : {V : Type 0} (records_of : V → List Record) (field : ℕ)
 parts_writable records_of field [] low high = tt
 parts_writable records_of field (v ∷ vs) low high = ((low, high, tt), parts_writable records_of field vs low high)
 
+-- ---- the values of fields, of which a field has its own and no others
+
+pub values-append : (wanted : ℕ) (rs qs : List Record) → len_values wanted (rs ++ qs) ≡ len_values wanted rs ++ len_values wanted qs
+values-append wanted rs qs = filter_map-append (λ r. len_in wanted r.field r.value) rs qs
+
+none_held : {A : Type 0} (b : Bool) → [] ≡ cond {A = List A} b [] []
+none_held true = refl
+none_held false = refl
+
+one_held : {A : Type 0} (b : Bool) (x : A) (xs : List A) → cons_option (cond b (Some x) None) (cond b xs []) ≡ cond b (x ∷ xs) []
+one_held true x xs = refl
+one_held false x xs = refl
+
+-- a field with a record for each part
+pub part_values : {V : Type 0} (text : V → List ℕ) (wanted field : ℕ) (vs : List V) → len_values wanted (map (λ v. len_record field (text v)) vs) ≡ cond (eqb field wanted) (map text vs) []
+part_values text wanted field [] = none_held (eqb field wanted)
+part_values text wanted field (v ∷ vs) = rw (part_values text wanted field vs) (one_held (eqb field wanted) (text v) (map text vs))
+
+pub repeated_values : (wanted field : ℕ) (values : List (List ℕ)) → len_values wanted (repeated_records field values) ≡ cond (eqb field wanted) values []
+repeated_values wanted field [] = none_held (eqb field wanted)
+repeated_values wanted field (bytes ∷ values) = rw (repeated_values wanted field values) (one_held (eqb field wanted) bytes values)
+
+pub bytes_values : (wanted field : ℕ) (o : Option (List ℕ)) → len_values wanted (bytes_records field o) ≡ cond (eqb field wanted) (option_to_list o) []
+bytes_values wanted field None = repeated_values wanted field []
+bytes_values wanted field (Some bytes) = repeated_values wanted field (bytes ∷ [])
+
+pub numbers-append : (wanted : ℕ) (rs qs : List Record) → varint_values wanted (rs ++ qs) ≡ varint_values wanted rs ++ varint_values wanted qs
+numbers-append wanted rs qs = filter_map-append (λ r. varint_in wanted r.field r.value) rs qs
+
+pub number_values : (wanted field : ℕ) (o : Option ℕ) → varint_values wanted (number_records field o) ≡ cond (eqb field wanted) (option_to_list o) []
+number_values wanted field None = none_held (eqb field wanted)
+number_values wanted field (Some n) = by_test (eqb field wanted)
+  where
+    by_test : (b : Bool) → cons_option (cond b (Some n) None) [] ≡ cond b (n ∷ []) []
+    by_test true = refl
+    by_test false = refl
+
+-- a record holds bytes or a number
+pub no_bytes : (wanted field : ℕ) (o : Option ℕ) → len_values wanted (number_records field o) ≡ []
+no_bytes wanted field None = refl
+no_bytes wanted field (Some n) = refl
+
+pub no_numbers : (wanted field : ℕ) (o : Option (List ℕ)) → varint_values wanted (bytes_records field o) ≡ []
+no_numbers wanted field None = refl
+no_numbers wanted field (Some bytes) = refl
+
 -- ---- what the records of a value say
 
 sub_says : (subscribe : Option Bool) (topic : Option Topic) → let v : SubOpt = record { subscribe = subscribe; topic = topic } in v ≡ sub_of (sub_records v)
@@ -95,79 +141,23 @@ sub_says (Some true) (Some t) = refl
 sub_says (Some false) None = refl
 sub_says (Some false) (Some t) = refl
 
-cond_same : {A : Type 0} (b : Bool) (x : A) → cond b x x ≡ x
-cond_same true x = refl
-cond_same false x = refl
+-- where there was none before, it is the only one
+pub last_own : (o : Option (List ℕ)) → last (option_to_list o) ≡ o
+last_own None = refl
+last_own (Some bytes) = refl
 
--- an optional field more
-add : (wanted field : ℕ) (o : Option (List ℕ)) (rs : List Record) → last (len_values wanted (rs ++ bytes_records field o)) ≡ (if field == wanted then last_then (len_values wanted rs) o else last (len_values wanted rs))
-add wanted field None rs = ap (λ (t : List Record). last (len_values wanted t)) (append-nil rs) ∙ sym (cond_same (eqb field wanted) (last (len_values wanted rs)))
-add wanted field (Some bytes) rs = last_len-push wanted rs (len_record field bytes) (when wanted field bytes) refl ∙ by_test (eqb field wanted)
-  where
-    by_test : (b : Bool) → last_then (len_values wanted rs) (cond b (Some bytes) None) ≡ cond b (last_then (len_values wanted rs) (Some bytes)) (last (len_values wanted rs))
-    by_test true = refl
-    by_test false = refl
+pub last_number_own : (o : Option ℕ) → last (option_to_list o) ≡ o
+last_number_own None = refl
+last_number_own (Some n) = refl
 
-own : (o : Option (List ℕ)) → last_then [] o ≡ o
-own None = refl
-own (Some bytes) = refl
-
--- where there was none before, it is the last
-then_own : (xs : List (List ℕ)) (o : Option (List ℕ)) → last xs ≡ None → last_then xs o ≡ o
-then_own xs None none = none
-then_own xs (Some bytes) none = refl
-
-own_topic : (o : Option Topic) → option_map as_topic (topic_bytes o) ≡ o
+pub own_topic : (o : Option Topic) → option_map as_topic (topic_bytes o) ≡ o
 own_topic None = refl
 own_topic (Some t) = refl
 
-origin_says : (v : Message) → last (len_values 1 (message_records v)) ≡ v.origin
-origin_says v =
-    add 1 6 v.key (bytes_records 1 v.origin ++ bytes_records 2 v.payload ++ bytes_records 3 v.seqno ++ bytes_records 4 (topic_bytes v.topic) ++ bytes_records 5 v.signature) ∙ add 1 5 v.signature (bytes_records 1 v.origin ++ bytes_records 2 v.payload ++ bytes_records 3 v.seqno ++ bytes_records 4 (topic_bytes v.topic)) ∙ add 1 4 (topic_bytes v.topic) (bytes_records 1 v.origin ++ bytes_records 2 v.payload ++ bytes_records 3 v.seqno) ∙ add 1 3 v.seqno (bytes_records 1 v.origin ++ bytes_records 2 v.payload) ∙ add 1 2 v.payload (bytes_records 1 v.origin) ∙ add 1 1 v.origin ([]) ∙ own v.origin
-
-payload_says : (v : Message) → last (len_values 2 (message_records v)) ≡ v.payload
-payload_says v =
-    add 2 6 v.key (bytes_records 1 v.origin ++ bytes_records 2 v.payload ++ bytes_records 3 v.seqno ++ bytes_records 4 (topic_bytes v.topic) ++ bytes_records 5 v.signature) ∙ add 2 5 v.signature (bytes_records 1 v.origin ++ bytes_records 2 v.payload ++ bytes_records 3 v.seqno ++ bytes_records 4 (topic_bytes v.topic)) ∙ add 2 4 (topic_bytes v.topic) (bytes_records 1 v.origin ++ bytes_records 2 v.payload ++ bytes_records 3 v.seqno) ∙ add 2 3 v.seqno (bytes_records 1 v.origin ++ bytes_records 2 v.payload) ∙ add 2 2 v.payload (bytes_records 1 v.origin) ∙ then_own (len_values 2 (bytes_records 1 v.origin)) v.payload (add 2 1 v.origin ([]))
-
-seqno_says : (v : Message) → last (len_values 3 (message_records v)) ≡ v.seqno
-seqno_says v =
-    add 3 6 v.key (bytes_records 1 v.origin ++ bytes_records 2 v.payload ++ bytes_records 3 v.seqno ++ bytes_records 4 (topic_bytes v.topic) ++ bytes_records 5 v.signature) ∙ add 3 5 v.signature (bytes_records 1 v.origin ++ bytes_records 2 v.payload ++ bytes_records 3 v.seqno ++ bytes_records 4 (topic_bytes v.topic)) ∙ add 3 4 (topic_bytes v.topic) (bytes_records 1 v.origin ++ bytes_records 2 v.payload ++ bytes_records 3 v.seqno) ∙ add 3 3 v.seqno (bytes_records 1 v.origin ++ bytes_records 2 v.payload) ∙ then_own (len_values 3 (bytes_records 1 v.origin ++ bytes_records 2 v.payload)) v.seqno (add 3 2 v.payload (bytes_records 1 v.origin) ∙ add 3 1 v.origin ([]))
-
-topic_says : (v : Message) → last (len_values 4 (message_records v)) ≡ topic_bytes v.topic
-topic_says v =
-    add 4 6 v.key (bytes_records 1 v.origin ++ bytes_records 2 v.payload ++ bytes_records 3 v.seqno ++ bytes_records 4 (topic_bytes v.topic) ++ bytes_records 5 v.signature) ∙ add 4 5 v.signature (bytes_records 1 v.origin ++ bytes_records 2 v.payload ++ bytes_records 3 v.seqno ++ bytes_records 4 (topic_bytes v.topic)) ∙ add 4 4 (topic_bytes v.topic) (bytes_records 1 v.origin ++ bytes_records 2 v.payload ++ bytes_records 3 v.seqno) ∙ then_own (len_values 4 (bytes_records 1 v.origin ++ bytes_records 2 v.payload ++ bytes_records 3 v.seqno)) (topic_bytes v.topic) (add 4 3 v.seqno (bytes_records 1 v.origin ++ bytes_records 2 v.payload) ∙ add 4 2 v.payload (bytes_records 1 v.origin) ∙ add 4 1 v.origin ([]))
-
-signature_says : (v : Message) → last (len_values 5 (message_records v)) ≡ v.signature
-signature_says v =
-    add 5 6 v.key (bytes_records 1 v.origin ++ bytes_records 2 v.payload ++ bytes_records 3 v.seqno ++ bytes_records 4 (topic_bytes v.topic) ++ bytes_records 5 v.signature) ∙ add 5 5 v.signature (bytes_records 1 v.origin ++ bytes_records 2 v.payload ++ bytes_records 3 v.seqno ++ bytes_records 4 (topic_bytes v.topic)) ∙ then_own (len_values 5 (bytes_records 1 v.origin ++ bytes_records 2 v.payload ++ bytes_records 3 v.seqno ++ bytes_records 4 (topic_bytes v.topic))) v.signature (add 5 4 (topic_bytes v.topic) (bytes_records 1 v.origin ++ bytes_records 2 v.payload ++ bytes_records 3 v.seqno) ∙ add 5 3 v.seqno (bytes_records 1 v.origin ++ bytes_records 2 v.payload) ∙ add 5 2 v.payload (bytes_records 1 v.origin) ∙ add 5 1 v.origin ([]))
-
-key_says : (v : Message) → last (len_values 6 (message_records v)) ≡ v.key
-key_says v =
-    add 6 6 v.key (bytes_records 1 v.origin ++ bytes_records 2 v.payload ++ bytes_records 3 v.seqno ++ bytes_records 4 (topic_bytes v.topic) ++ bytes_records 5 v.signature) ∙ then_own (len_values 6 (bytes_records 1 v.origin ++ bytes_records 2 v.payload ++ bytes_records 3 v.seqno ++ bytes_records 4 (topic_bytes v.topic) ++ bytes_records 5 v.signature)) v.key (add 6 5 v.signature (bytes_records 1 v.origin ++ bytes_records 2 v.payload ++ bytes_records 3 v.seqno ++ bytes_records 4 (topic_bytes v.topic)) ∙ add 6 4 (topic_bytes v.topic) (bytes_records 1 v.origin ++ bytes_records 2 v.payload ++ bytes_records 3 v.seqno) ∙ add 6 3 v.seqno (bytes_records 1 v.origin ++ bytes_records 2 v.payload) ∙ add 6 2 v.payload (bytes_records 1 v.origin) ∙ add 6 1 v.origin ([]))
-
 message_says : (v : Message) → v ≡ message_of (message_records v)
-message_says v =
-    let topic : option_map as_topic (last (len_values 4 (message_records v))) ≡ v.topic = ap (option_map as_topic) (topic_says v) ∙ own_topic v.topic in
-    sym (rw (origin_says v, payload_says v, seqno_says v, topic, signature_says v, key_says v) refl)
+message_says v = sym (simp (values-append, bytes_values, append-nil, last_own, own_topic) refl)
 
 -- ---- parts
-
-pub part_values : {V : Type 0} (records_of : V → List Record) (wanted field : ℕ) (vs : List V) → eqb field wanted ≡ true → len_values wanted (part_records records_of field vs) ≡ map (λ v. records_text (records_of v)) vs
-part_values records_of wanted field [] same = refl
-part_values records_of wanted field (v ∷ vs) same = rw same (ap (λ (t : List (List ℕ)). records_text (records_of v) ∷ t) (part_values records_of wanted field vs same))
-
-pub no_values : {V : Type 0} (records_of : V → List Record) (wanted field : ℕ) (vs : List V) → eqb field wanted ≡ false → len_values wanted (part_records records_of field vs) ≡ []
-no_values records_of wanted field [] other = refl
-no_values records_of wanted field (v ∷ vs) other = rw other (no_values records_of wanted field vs other)
-
--- the values of a field of bytes
-pub repeated_values : (wanted field : ℕ) (values : List (List ℕ)) → eqb field wanted ≡ true → len_values wanted (repeated_records field values) ≡ values
-repeated_values wanted field [] same = refl
-repeated_values wanted field (bytes ∷ values) same = rw same (ap (λ (t : List (List ℕ)). bytes ∷ t) (repeated_values wanted field values same))
-
-pub other_values : (wanted field : ℕ) (values : List (List ℕ)) → eqb field wanted ≡ false → len_values wanted (repeated_records field values) ≡ []
-other_values wanted field [] other = refl
-other_values wanted field (bytes ∷ values) other = rw other (other_values wanted field values other)
 
 pub parts_spelled : {V : Type 0} (Says : List Record → V → Type 0) (Fits : V → Type 0) (records_of : V → List Record) (field : ℕ) (vs : List V) → field < 16 → ((v : V) → Fits v → length (records_text (records_of v)) < 2 ^ 64 → Spells Says (records_text (records_of v)) v) → AllByRecursion Fits vs → length (records_text (part_records records_of field vs)) < 2 ^ 64 → AllZip (Spells Says) (map (λ v. records_text (records_of v)) vs) vs
 parts_spelled Says Fits records_of field [] low spelled fit small = tt
@@ -194,9 +184,7 @@ sub_spelled v any small = (
 )
 
 message_writable : (v : Message) → AllByRecursion IsWritable (message_records v)
-message_writable v =
-    let more : (rs : List Record) (field : ℕ) (o : Option (List ℕ)) → AllByRecursion IsWritable rs → 1 ≤ field → field < 16 → AllByRecursion IsWritable (rs ++ bytes_records field o) = λ rs field o all low high. all-append IsWritable rs (bytes_records field o) all (bytes_writable field o low high) in
-    more _ 6 v.key (more _ 5 v.signature (more _ 4 (topic_bytes v.topic) (more _ 3 v.seqno (more _ 2 v.payload (bytes_writable 1 v.origin (omega arith) (omega arith)) (omega arith) (omega arith)) (omega arith) (omega arith)) (omega arith) (omega arith)) (omega arith) (omega arith)) (omega arith) (omega arith)
+message_writable v = search (rules, all-append, bytes_writable)
 
 pub message_spelled : (v : Message) → Any v → length (records_text (message_records v)) < 2 ^ 64 → Spells SaysMessage (records_text (message_records v)) v
 message_spelled v any small = (message_records v, records_spelled (message_records v) (message_writable v) small, message_says v)

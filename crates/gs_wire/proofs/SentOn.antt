@@ -1,5 +1,5 @@
 -- How long what peers send on is: a message by itself, offers and requests.
-use Rattle.std.proofs.Common.{◌≡◌, ℕ, zero, suc, ◌+◌, ◌*◌, ◌<◌, ◌≤◌, List, [], ◌∷◌, ◌++◌, length, min, refl, ap, ◌∙◌, length-append, arith}
+use Rattle.std.proofs.Common.{◌≡◌, ℕ, zero, suc, ◌+◌, ◌*◌, ◌<◌, ◌≤◌, List, [], ◌∷◌, ◌++◌, length, min, refl, ap, length-append, arith}
 use Rattle.std.specs.Prelude.{option_to_list}
 use Rattle.std.specs.List.{AllByRecursion, IsAmong}
 use Rattle.gs_base.specs.declared.names.Topic.{Topic}
@@ -12,13 +12,9 @@ use Rattle.gs_wire.specs.Fields.{len_record, part_records, repeated_records, var
 use Rattle.gs_wire.specs.Controls.{control_records}
 use Rattle.gs_wire.specs.Messages.{body, longest_body, message_records, sub_records}
 use Rattle.gs_base.specs.Rpcs.{grafting, longest_backoff, most_identifiers, offering, passed_on, pruning, requesting}
-use Rattle.gs_wire.proofs.Written.{len_text-length, records_text-append, records_text-single, varint_ten}
+use Rattle.gs_wire.proofs.Written.{len_text-length, records_text-single, sum_text, varint_ten}
 
 -- ---- a message by itself
-
--- records and those behind them
-sum_text : (rs qs : List Record) → length (records_text (rs ++ qs)) ≡ length (records_text rs) + length (records_text qs)
-sum_text rs qs = ap length (records_text-append rs qs) ∙ length-append (records_text rs) (records_text qs)
 
 -- what one part takes, all parts take
 one_part : {V : Type 0} (records_of : V → List Record) (field : ℕ) (vs : List V) (v : V) → IsAmong vs v

@@ -1,8 +1,8 @@
 -- What was read is not longer when it is written: bytes that spell an RPC are at least as many as its body.
-use Rattle.std.proofs.Common.{◌≡◌, ◌⊎◌, ℕ, zero, suc, ◌+◌, ◌-◌, ◌*◌, ◌/◌, ◌<◌, ◌≤◌, Bool, true, false, eqb, List, [], ◌∷◌, ◌++◌, length, map, Option, Some, None, refl, ap, subst, ◌∙◌, append-nil, length-append, arith, inl, inr}
+use Rattle.std.proofs.Common.{◌≡◌, ◌⊎◌, ℕ, zero, suc, ◌+◌, ◌-◌, ◌*◌, ◌<◌, ◌≤◌, Bool, true, false, eqb, List, [], ◌∷◌, ◌++◌, length, map, Option, Some, None, refl, ap, subst, ◌∙◌, append-nil, length-append, arith, inl, inr}
 use Rattle.std.specs.Prelude.{not, ◌==◌, if◌then◌else◌, option_map, option_to_list}
 use Rattle.std.specs.List.{AllZip, AllByRecursion, concat, cons_option}
-use Rattle.std.proofs.lemmas.Bool.{cases_lt, lt-ltb, le-ltb, eqb-true, ne_eqb}
+use Rattle.std.proofs.lemmas.Bool.{eqb-true, ne_eqb}
 use Rattle.std.proofs.Math.Dec.{eqb-suc-zero}
 use Rattle.gs_base.specs.declared.control.IHave.{IHave}
 use Rattle.gs_base.specs.declared.control.IWant.{IWant}
@@ -13,50 +13,15 @@ use Rattle.gs_base.specs.declared.rpc.SubOpt.{SubOpt}
 use Rattle.gs_base.specs.declared.rpc.Message.{Message}
 use Rattle.gs_base.specs.declared.rpc.Rpc.{Rpc}
 use Rattle.gs_wire.specs.declared.frames.End.{End}
-use Rattle.gs_wire.specs.Varint.{varint_within, varint}
+use Rattle.gs_wire.specs.Varint.{varint}
 use Rattle.gs_wire.specs.Records.{Value, Varint, I64, Len, I32, Record, tag_of, SpellsValue, SpellsRecord, SpellRecords, varint_in, len_in, varint_values, len_values, last_or, last, value_text, record_text, records_text}
-use Rattle.gs_wire.specs.Fields.{Spells, as_topic, topic_bytes, bool_number, varint_record, len_record, number_records, bool_records, bytes_records, repeated_records, part_records}
+use Rattle.gs_wire.specs.Fields.{Spells, as_topic, bytes_of, topic_of, number_of, bool_of, topic_bytes, bool_number, varint_record, len_record, number_records, bool_records, bytes_records, repeated_records, part_records}
 use Rattle.gs_wire.specs.Controls.{SaysIHave, SaysIWant, SaysGraft, SaysPrune, SaysControl, SaysMerged, joined, ihave_records, iwant_records, graft_records, prune_records, control_records}
 use Rattle.gs_wire.specs.Messages.{SaysSub, SaysMessage, SpellsRpc, sub_records, message_records, body}
 use Rattle.gs_wire.specs.Stream.{SpellFrames, IsStream}
-use Rattle.gs_wire.proofs.Varints.{written_shortest, varint_last}
-use Rattle.gs_wire.proofs.VarintLoops.{written_nonempty}
-use Rattle.gs_wire.proofs.Written.{records_text-append, records_text-single}
-
--- ---- how many groups a number has
-
--- a larger number has no fewer
-more_groups : (k a b : ℕ) → a ≤ b → length (varint_within k a) ≤ length (varint_within k b)
-unfolding varint_within
-more_groups zero a b le = omega arith
-more_groups (suc k) a b le = elim (cases_lt a 128) [
-  | inl la ↦ rw (lt-ltb a 128 la) (omega (arith, written_nonempty (suc k) b))
-  | inr ga ↦
-      let gb : 128 ≤ b = omega (arith, le, ga) in
-      rw (le-ltb a 128 ga, le-ltb b 128 gb) (omega (arith, more_groups k (a / 128) (b / 128) (omega (arith, le))))
-]
-
--- a sum has no more than its parts together, even with a carry
-sum_groups : (k a b c : ℕ) → c ≤ 1 → length (varint_within k (a + b + c)) ≤ length (varint_within k a) + length (varint_within k b)
-unfolding varint_within
-sum_groups zero a b c small = omega arith
-sum_groups (suc k) a b c small =
-    let d = (a + b + c) / 128 - (a / 128 + b / 128) in
-    let e : (a + b + c) / 128 ≡ a / 128 + b / 128 + d = omega arith in
-    let more = sum_groups k (a / 128) (b / 128) d (omega (arith, small)) in
-    elim (cases_lt (a + b + c) 128) [
-      | inl ls ↦ rw (lt-ltb (a + b + c) 128 ls, lt-ltb a 128 (omega (arith, ls)), lt-ltb b 128 (omega (arith, ls))) (omega arith)
-      | inr gs ↦ elim (cases_lt a 128) [
-        | inl la ↦ elim (cases_lt b 128) [
-          | inl lb ↦ rw (le-ltb (a + b + c) 128 gs, lt-ltb a 128 la, lt-ltb b 128 lb) (omega (arith, ap length (varint_last k ((a + b + c) / 128) (omega (arith, la, lb, small)))))
-          | inr gb ↦ rw (le-ltb (a + b + c) 128 gs, lt-ltb a 128 la, le-ltb b 128 gb, e) (omega (arith, more, ap length (varint_last k (a / 128) (omega (arith, la)))))
-        ]
-        | inr ga ↦ elim (cases_lt b 128) [
-          | inl lb ↦ rw (le-ltb (a + b + c) 128 gs, le-ltb a 128 ga, lt-ltb b 128 lb, e) (omega (arith, more, ap length (varint_last k (b / 128) (omega (arith, lb)))))
-          | inr gb ↦ rw (le-ltb (a + b + c) 128 gs, le-ltb a 128 ga, le-ltb b 128 gb, e) (omega (arith, more))
-        ]
-      ]
-    ]
+use Rattle.gs_wire.proofs.Varints.{written_shortest}
+use Rattle.gs_wire.proofs.VarintLengths.{more_groups, sum_groups}
+use Rattle.gs_wire.proofs.Written.{records_text-single, sum_text}
 
 -- ---- records
 
@@ -75,9 +40,6 @@ records_shorter : (rs : List Record) (text : List ℕ) → SpellRecords text rs 
 records_shorter [] text h = omega arith
 records_shorter (r ∷ rs) text h =
     omega (arith, record_shorter r h.0 h.3, records_shorter rs h.1 h.4, ap length h.2, length-append h.0 h.1, length-append (record_text r) (records_text rs))
-
-pub sum_text : (rs qs : List Record) → length (records_text (rs ++ qs)) ≡ length (records_text rs) + length (records_text qs)
-sum_text rs qs = ap length (records_text-append rs qs) ∙ length-append (records_text rs) (records_text qs)
 
 -- a record of fewer bytes
 pub len_shorter : (field : ℕ) (a b : List ℕ) → length a ≤ length b → length (record_text (len_record field a)) ≤ length (record_text (len_record field b))
@@ -101,7 +63,7 @@ test_cases : (b : Bool) → (b ≡ true) ⊎ (b ≡ false)
 test_cases true = inl refl
 test_cases false = inr refl
 
--- one record more, of which so much is counted where it is of the field
+-- one record more, where `one` is counted of it if it is of the field
 peel_step : (field : ℕ) (r : Record) (rs : List Record) (one more : ℕ) → (eqb r.field field ≡ true → one ≤ length (record_text r)) → (eqb r.field field ≡ false → one ≡ 0) → more + length (records_text (without field rs)) ≤ length (records_text rs) → one + more + length (records_text (without field (r ∷ rs))) ≤ length (records_text (r ∷ rs))
 peel_step field r rs one more is other h =
     let whole = length-append (record_text r) (records_text rs) in
@@ -198,33 +160,36 @@ varint_kept wanted field (r ∷ rs) apart = elim (test_cases (eqb r.field field)
   | inr kept ↦ rw kept (ap (λ (values : List ℕ). cons_option (varint_in wanted r.field r.value) values) (varint_kept wanted field rs apart))
 ]
 
--- ---- fields ascending: what was counted of them fits, beside the records of later ones
+-- ---- fields ascending: what is written for them fits, beside the records of later ones
 
-record Counted (rs : List Record) (upto used : ℕ) : Type 0 where
+record Counted (rs written : List Record) (upto : ℕ) : Type 0 where
   left : List Record
-  room : used + length (records_text left) ≤ length (records_text rs)
+  room : length (records_text written) + length (records_text left) ≤ length (records_text rs)
   lens : (wanted : ℕ) → upto < wanted → len_values wanted left ≡ len_values wanted rs
   varints : (wanted : ℕ) → upto < wanted → varint_values wanted left ≡ varint_values wanted rs
 
-no_fields : (rs : List Record) → Counted rs 0 0
+no_fields : (rs : List Record) → Counted rs [] 0
 no_fields rs = record { left = rs; room = omega arith; lens = λ wanted above. refl; varints = λ wanted above. refl }
 
-len_field : (rs : List Record) (upto used field one : ℕ) → Counted rs upto used → upto < field → one ≤ length (len_texts field rs) → Counted rs field (used + one)
-len_field rs upto used field one c above few =
+all_counted : {rs written : List Record} {upto : ℕ} → Counted rs written upto → length (records_text written) ≤ length (records_text rs)
+all_counted c = omega (arith, c.room)
+
+len_more_field : {rs written : List Record} {upto : ℕ} (field : ℕ) (more : List Record) → Counted rs written upto → upto < field → length (records_text more) ≤ length (len_texts field rs) → Counted rs (written ++ more) field
+len_more_field {rs} {written} {upto} field more c above few =
     let same = ap (λ (values : List (List ℕ)). length (records_text (repeated_records field values))) (c.lens field above) in
     record {
       left = without field c.left;
-      room = omega (arith, c.room, few, same, len_peel field c.left);
+      room = omega (arith, c.room, few, same, len_peel field c.left, sum_text written more);
       lens = λ wanted later. len_kept wanted field c.left (ne_eqb field wanted (omega (arith, later))) ∙ c.lens wanted (omega (arith, above, later));
       varints = λ wanted later. varint_kept wanted field c.left (ne_eqb field wanted (omega (arith, later))) ∙ c.varints wanted (omega (arith, above, later));
     }
 
-varint_field : (rs : List Record) (upto used field one : ℕ) → Counted rs upto used → upto < field → one ≤ length (varint_texts field rs) → Counted rs field (used + one)
-varint_field rs upto used field one c above few =
+varint_more_field : {rs written : List Record} {upto : ℕ} (field : ℕ) (more : List Record) → Counted rs written upto → upto < field → length (records_text more) ≤ length (varint_texts field rs) → Counted rs (written ++ more) field
+varint_more_field {rs} {written} {upto} field more c above few =
     let same = ap (λ (values : List ℕ). length (records_text (map (varint_record field) values))) (c.varints field above) in
     record {
       left = without field c.left;
-      room = omega (arith, c.room, few, same, varint_peel field c.left);
+      room = omega (arith, c.room, few, same, varint_peel field c.left, sum_text written more);
       lens = λ wanted later. len_kept wanted field c.left (ne_eqb field wanted (omega (arith, later))) ∙ c.lens wanted (omega (arith, above, later));
       varints = λ wanted later. varint_kept wanted field c.left (ne_eqb field wanted (omega (arith, later))) ∙ c.varints wanted (omega (arith, above, later));
     }
@@ -271,62 +236,76 @@ parts_shorter R records_of field one (bytes ∷ values) [] h = absurd h
 parts_shorter R records_of field one (bytes ∷ values) (v ∷ vs) h =
     omega (arith, len_shorter field (records_text (records_of v)) bytes (one bytes v h.0), parts_shorter R records_of field one values vs h.1, length-append (record_text (len_record field (records_text (records_of v)))) (records_text (part_records records_of field vs)), length-append (record_text (len_record field bytes)) (records_text (repeated_records field values)))
 
+-- ---- a field more of each kind
+
+topic_more : {rs written : List Record} {upto : ℕ} (field : ℕ) → Counted rs written upto → upto < field → Counted rs (written ++ bytes_records field (topic_bytes (topic_of field rs))) field
+topic_more {rs} field c above = len_more_field field _ c above (last_topic field (len_values field rs))
+
+bytes_more : {rs written : List Record} {upto : ℕ} (field : ℕ) → Counted rs written upto → upto < field → Counted rs (written ++ bytes_records field (bytes_of field rs)) field
+bytes_more {rs} field c above = len_more_field field _ c above (omega (arith, last_bytes field None (len_values field rs)))
+
+repeated_more : {rs written : List Record} {upto : ℕ} (field : ℕ) → Counted rs written upto → upto < field → Counted rs (written ++ repeated_records field (len_values field rs)) field
+repeated_more field c above = len_more_field field _ c above (omega arith)
+
+number_more : {rs written : List Record} {upto : ℕ} (field : ℕ) → Counted rs written upto → upto < field → Counted rs (written ++ number_records field (number_of field rs)) field
+number_more {rs} field c above = varint_more_field field _ c above (omega (arith, last_number field None (varint_values field rs)))
+
+truth_more : {rs written : List Record} {upto : ℕ} (field : ℕ) → Counted rs written upto → upto < field → Counted rs (written ++ bool_records field (bool_of field rs)) field
+truth_more {rs} field c above =
+    varint_more_field field _ c above (omega (arith, truth_shorter field (last (varint_values field rs)), last_number field None (varint_values field rs)))
+
+parts_more : {V : Type 0} {rs written : List Record} {upto : ℕ} (R : List ℕ → V → Type 0) (records_of : V → List Record) (field : ℕ) → ((bytes : List ℕ) (v : V) → R bytes v → IsShorter records_of bytes v) → (vs : List V) → AllZip R (len_values field rs) vs → Counted rs written upto → upto < field → Counted rs (written ++ part_records records_of field vs) field
+parts_more {V} {rs} R records_of field one vs spelled c above =
+    len_more_field field (part_records records_of field vs) c above (parts_shorter R records_of field one (len_values field rs) vs spelled)
+
+-- ---- the parts of an RPC
+
+all_spelled : {rs written : List Record} {upto : ℕ} (bytes : List ℕ) → SpellRecords bytes rs → Counted rs written upto → length (records_text written) ≤ length bytes
+all_spelled {rs} bytes spelled c = omega (arith, all_counted c, records_shorter rs bytes spelled)
+
 sub_shorter : (bytes : List ℕ) (v : SubOpt) → Spells SaysSub bytes v → IsShorter sub_records bytes v
 sub_shorter bytes v (rs, spelled, says) =
-    let A = length (records_text (bool_records 1 (option_map (λ n. not (n == 0)) (last (varint_values 1 rs))))) in
-    let B = length (records_text (bytes_records 2 (topic_bytes (option_map as_topic (last (len_values 2 rs)))))) in
-    let a = varint_field rs 0 0 1 A (no_fields rs) (omega arith) (omega (arith, truth_shorter 1 (last (varint_values 1 rs)), last_number 1 None (varint_values 1 rs))) in
-    let b = len_field rs 1 _ 2 B a (omega arith) (last_topic 2 (len_values 2 rs)) in
-    rw says (omega (arith, b.room, records_shorter rs bytes spelled, sum_text (bool_records 1 (option_map (λ n. not (n == 0)) (last (varint_values 1 rs)))) (bytes_records 2 (topic_bytes (option_map as_topic (last (len_values 2 rs)))))))
+    let a = truth_more 1 (no_fields rs) (omega arith) in
+    let b = topic_more 2 a (omega arith) in
+    rw says (all_spelled bytes spelled b)
 
 message_shorter : (bytes : List ℕ) (v : Message) → Spells SaysMessage bytes v → IsShorter message_records bytes v
 message_shorter bytes v (rs, spelled, says) =
-    let one : ℕ → List Record = λ field. bytes_records field (last (len_values field rs)) in
-    let few : (field : ℕ) → length (records_text (one field)) ≤ length (len_texts field rs) = λ field. omega (arith, last_bytes field None (len_values field rs)) in
-    let topic : List Record = bytes_records 4 (topic_bytes (option_map as_topic (last (len_values 4 rs)))) in
-    let a = len_field rs 0 0 1 (length (records_text (one 1))) (no_fields rs) (omega arith) (few 1) in
-    let b = len_field rs 1 _ 2 (length (records_text (one 2))) a (omega arith) (few 2) in
-    let c = len_field rs 2 _ 3 (length (records_text (one 3))) b (omega arith) (few 3) in
-    let d = len_field rs 3 _ 4 (length (records_text topic)) c (omega arith) (last_topic 4 (len_values 4 rs)) in
-    let e = len_field rs 4 _ 5 (length (records_text (one 5))) d (omega arith) (few 5) in
-    let f = len_field rs 5 _ 6 (length (records_text (one 6))) e (omega arith) (few 6) in
-    rw says (omega (arith, f.room, records_shorter rs bytes spelled, sum_text (one 1) (one 2), sum_text (one 1 ++ one 2) (one 3), sum_text (one 1 ++ one 2 ++ one 3) topic, sum_text (one 1 ++ one 2 ++ one 3 ++ topic) (one 5), sum_text (one 1 ++ one 2 ++ one 3 ++ topic ++ one 5) (one 6)))
+    let a = bytes_more 1 (no_fields rs) (omega arith) in
+    let b = bytes_more 2 a (omega arith) in
+    let c = bytes_more 3 b (omega arith) in
+    let d = topic_more 4 c (omega arith) in
+    let e = bytes_more 5 d (omega arith) in
+    let f = bytes_more 6 e (omega arith) in
+    rw says (all_spelled bytes spelled f)
 
 ihave_shorter : (bytes : List ℕ) (v : IHave) → Spells SaysIHave bytes v → IsShorter ihave_records bytes v
 ihave_shorter bytes v (rs, spelled, says) =
-    let topic : List Record = bytes_records 1 (topic_bytes (option_map as_topic (last (len_values 1 rs)))) in
-    let ids : List Record = repeated_records 2 (len_values 2 rs) in
-    let a = len_field rs 0 0 1 (length (records_text topic)) (no_fields rs) (omega arith) (last_topic 1 (len_values 1 rs)) in
-    let b = len_field rs 1 _ 2 (length (records_text ids)) a (omega arith) (omega arith) in
-    rw says (omega (arith, b.room, records_shorter rs bytes spelled, sum_text topic ids))
+    let a = topic_more 1 (no_fields rs) (omega arith) in
+    let b = repeated_more 2 a (omega arith) in
+    rw says (all_spelled bytes spelled b)
 
 iwant_shorter : (bytes : List ℕ) (v : IWant) → Spells SaysIWant bytes v → IsShorter iwant_records bytes v
-iwant_shorter bytes v (rs, spelled, says) = rw says (omega (arith, len_peel 1 rs, records_shorter rs bytes spelled))
+iwant_shorter bytes v (rs, spelled, says) = rw says (all_spelled bytes spelled (repeated_more 1 (no_fields rs) (omega arith)))
 
 graft_shorter : (bytes : List ℕ) (v : Graft) → Spells SaysGraft bytes v → IsShorter graft_records bytes v
-graft_shorter bytes v (rs, spelled, says) = rw says (omega (arith, last_topic 1 (len_values 1 rs), len_peel 1 rs, records_shorter rs bytes spelled))
+graft_shorter bytes v (rs, spelled, says) = rw says (all_spelled bytes spelled (topic_more 1 (no_fields rs) (omega arith)))
 
 prune_shorter : (bytes : List ℕ) (v : Prune) → Spells SaysPrune bytes v → IsShorter prune_records bytes v
 prune_shorter bytes v (rs, spelled, says) =
-    let topic : List Record = bytes_records 1 (topic_bytes (option_map as_topic (last (len_values 1 rs)))) in
-    let backoff : List Record = number_records 3 (last (varint_values 3 rs)) in
-    let a = len_field rs 0 0 1 (length (records_text topic)) (no_fields rs) (omega arith) (last_topic 1 (len_values 1 rs)) in
-    let b = varint_field rs 1 _ 3 (length (records_text backoff)) a (omega arith) (omega (arith, last_number 3 None (varint_values 3 rs))) in
-    rw says (omega (arith, b.room, records_shorter rs bytes spelled, sum_text topic backoff))
+    let a = topic_more 1 (no_fields rs) (omega arith) in
+    let b = number_more 3 a (omega arith) in
+    rw says (all_spelled bytes spelled b)
 
--- ---- control, of which several values are written as one
+-- ---- control, where several values are written as one
 
 control_says_shorter : (rs : List Record) (v : Control) → SaysControl rs v → length (records_text (control_records v)) ≤ length (records_text rs)
 control_says_shorter rs v says =
-    let A = part_records ihave_records 1 v.ihave in
-    let B = part_records iwant_records 2 v.iwant in
-    let C = part_records graft_records 3 v.graft in
-    let D = part_records prune_records 4 v.prune in
-    let a = len_field rs 0 0 1 (length (records_text A)) (no_fields rs) (omega arith) (parts_shorter (Spells SaysIHave) ihave_records 1 ihave_shorter (len_values 1 rs) v.ihave says.ihave) in
-    let b = len_field rs 1 _ 2 (length (records_text B)) a (omega arith) (parts_shorter (Spells SaysIWant) iwant_records 2 iwant_shorter (len_values 2 rs) v.iwant says.iwant) in
-    let c = len_field rs 2 _ 3 (length (records_text C)) b (omega arith) (parts_shorter (Spells SaysGraft) graft_records 3 graft_shorter (len_values 3 rs) v.graft says.graft) in
-    let d = len_field rs 3 _ 4 (length (records_text D)) c (omega arith) (parts_shorter (Spells SaysPrune) prune_records 4 prune_shorter (len_values 4 rs) v.prune says.prune) in
-    omega (arith, d.room, sum_text A B, sum_text (A ++ B) C, sum_text (A ++ B ++ C) D)
+    let a = parts_more (Spells SaysIHave) ihave_records 1 ihave_shorter v.ihave says.ihave (no_fields rs) (omega arith) in
+    let b = parts_more (Spells SaysIWant) iwant_records 2 iwant_shorter v.iwant says.iwant a (omega arith) in
+    let c = parts_more (Spells SaysGraft) graft_records 3 graft_shorter v.graft says.graft b (omega arith) in
+    let d = parts_more (Spells SaysPrune) prune_records 4 prune_shorter v.prune says.prune c (omega arith) in
+    all_counted d
 
 joined_shorter : (values : List (List ℕ)) (lists : List (List Record)) → AllZip SpellRecords values lists → length (records_text (joined lists)) ≤ length (concat values)
 joined_shorter [] [] h = omega arith
@@ -370,13 +349,10 @@ merged_shorter (bytes ∷ values) control (v, lists, is, spelled, says) =
 
 pub body_shorter : (bytes : List ℕ) (v : Rpc) → SpellsRpc bytes v → length (body v) ≤ length bytes
 body_shorter bytes v (rs, spelled, says) =
-    let A = part_records sub_records 1 v.subs in
-    let B = part_records message_records 2 v.publish in
-    let C = part_records control_records 3 (option_to_list v.control) in
-    let a = len_field rs 0 0 1 (length (records_text A)) (no_fields rs) (omega arith) (parts_shorter (Spells SaysSub) sub_records 1 sub_shorter (len_values 1 rs) v.subs says.subs) in
-    let b = len_field rs 1 _ 2 (length (records_text B)) a (omega arith) (parts_shorter (Spells SaysMessage) message_records 2 message_shorter (len_values 2 rs) v.publish says.publish) in
-    let c = len_field rs 2 _ 3 (length (records_text C)) b (omega arith) (merged_shorter (len_values 3 rs) v.control says.control) in
-    omega (arith, c.room, records_shorter rs bytes spelled, sum_text A B, sum_text (A ++ B) C)
+    let a = parts_more (Spells SaysSub) sub_records 1 sub_shorter v.subs says.subs (no_fields rs) (omega arith) in
+    let b = parts_more (Spells SaysMessage) message_records 2 message_shorter v.publish says.publish a (omega arith) in
+    let c = len_more_field 3 (part_records control_records 3 (option_to_list v.control)) b (omega arith) (merged_shorter (len_values 3 rs) v.control says.control) in
+    all_spelled bytes spelled c
 
 -- ---- a stream
 

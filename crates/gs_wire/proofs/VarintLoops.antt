@@ -4,7 +4,7 @@ use Rattle.std.proofs.lemmas.Bool.{cases_lt, lt-ltb, le-ltb}
 use Rattle.gs_wire.specs.Varint.{varint_within, varint}
 use Rattle.gs_wire.proofs.Varints.{HasGroups, ten_groups, varint_step, varint_last}
 
--- so many groups were counted, the one that is left included, and the rest is left
+-- `len` groups were counted, the one that is left included, and the rest is left
 pub record Counts (number len rest : ℕ) : Type 0 where
   pub left : ℕ
   pub few : HasGroups left rest

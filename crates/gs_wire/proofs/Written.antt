@@ -21,6 +21,9 @@ records_text-append rs qs = flat_map-append record_text rs qs
 pub records_text-single : (r : Record) → records_text (r ∷ []) ≡ record_text r
 records_text-single r = append-nil (record_text r)
 
+pub sum_text : (rs qs : List Record) → length (records_text (rs ++ qs)) ≡ length (records_text rs) + length (records_text qs)
+sum_text rs qs = ap length (records_text-append rs qs) ∙ length-append (records_text rs) (records_text qs)
+
 -- ---- bytes, in a field whose tag is one byte
 
 pub len_text : (field : ℕ) (bytes : List ℕ) → field < 16 → record_text (len_record field bytes) ≡ (8 * field + 2) ∷ (varint (length bytes) ++ bytes)

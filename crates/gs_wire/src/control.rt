@@ -1,10 +1,11 @@
 //! Control messages as records (`ControlMessage`).
 ghost use Rattle.gs_wire.specs.Controls.{SaysControl, control_records};
 
-use crate::decoding::{Decode, DecodeError, push_message};
+use crate::decoding::{Decode, DecodeError};
 use crate::encoding::{Encode, parts_len, put_parts};
 use crate::field;
-use crate::record::{Record, Value};
+use crate::merging::merge_part;
+use crate::record::Record;
 use gs_base::{Control, Seq};
 use std::alloc::Global;
 
@@ -21,17 +22,10 @@ impl Decode for Control {
     }
 
     fn merge(&mut self, alloc: Global, record: Record<'_>) -> Result<(), DecodeError> {
-        let Record { field, value } = record;
-        let Value::Len(bytes) = value else {
-            return Ok(());
-        };
-        match field {
-            field::CONTROL_IHAVE => push_message(alloc, bytes, &mut self.ihave)?,
-            field::CONTROL_IWANT => push_message(alloc, bytes, &mut self.iwant)?,
-            field::CONTROL_GRAFT => push_message(alloc, bytes, &mut self.graft)?,
-            field::CONTROL_PRUNE => push_message(alloc, bytes, &mut self.prune)?,
-            _ => {}
-        }
+        merge_part(alloc, &record, field::CONTROL_IHAVE, &mut self.ihave)?;
+        merge_part(alloc, &record, field::CONTROL_IWANT, &mut self.iwant)?;
+        merge_part(alloc, &record, field::CONTROL_GRAFT, &mut self.graft)?;
+        merge_part(alloc, &record, field::CONTROL_PRUNE, &mut self.prune)?;
         Ok(())
     }
 }

@@ -8,8 +8,9 @@ use crate::encoding::{
     repeated_len,
 };
 use crate::field;
-use crate::record::{Record, Value};
-use gs_base::{Graft, IHave, IWant, Prune, Seq, Topic};
+use crate::merging::{merge_item, merge_number, merge_topic};
+use crate::record::Record;
+use gs_base::{Graft, IHave, IWant, Prune, Seq};
 use std::alloc::Global;
 
 impl Decode for IHave {
@@ -23,15 +24,8 @@ impl Decode for IHave {
     }
 
     fn merge(&mut self, _alloc: Global, record: Record<'_>) -> Result<(), DecodeError> {
-        let Record { field, value } = record;
-        let Value::Len(bytes) = value else {
-            return Ok(());
-        };
-        match field {
-            field::IHAVE_TOPIC => self.topic = Some(Topic(bytes.to_bytes()?)),
-            field::IHAVE_IDS => self.ids.push(bytes.to_bytes()?)?,
-            _ => {}
-        }
+        merge_topic(&record, field::IHAVE_TOPIC, &mut self.topic)?;
+        merge_item(&record, field::IHAVE_IDS, &mut self.ids)?;
         Ok(())
     }
 }
@@ -59,13 +53,7 @@ impl Decode for IWant {
     }
 
     fn merge(&mut self, _alloc: Global, record: Record<'_>) -> Result<(), DecodeError> {
-        let Record { field, value } = record;
-        let Value::Len(bytes) = value else {
-            return Ok(());
-        };
-        if field == field::IWANT_IDS {
-            self.ids.push(bytes.to_bytes()?)?;
-        }
+        merge_item(&record, field::IWANT_IDS, &mut self.ids)?;
         Ok(())
     }
 }
@@ -90,13 +78,7 @@ impl Decode for Graft {
     }
 
     fn merge(&mut self, _alloc: Global, record: Record<'_>) -> Result<(), DecodeError> {
-        let Record { field, value } = record;
-        let Value::Len(bytes) = value else {
-            return Ok(());
-        };
-        if field == field::GRAFT_TOPIC {
-            self.topic = Some(Topic(bytes.to_bytes()?));
-        }
+        merge_topic(&record, field::GRAFT_TOPIC, &mut self.topic)?;
         Ok(())
     }
 }
@@ -124,20 +106,8 @@ impl Decode for Prune {
     }
 
     fn merge(&mut self, _alloc: Global, record: Record<'_>) -> Result<(), DecodeError> {
-        let Record { field, value } = record;
-        match value {
-            Value::Varint(number) => {
-                if field == field::PRUNE_BACKOFF {
-                    self.backoff = Some(number);
-                }
-            }
-            Value::Len(bytes) => {
-                if field == field::PRUNE_TOPIC {
-                    self.topic = Some(Topic(bytes.to_bytes()?));
-                }
-            }
-            Value::I64(_) | Value::I32(_) => {}
-        }
+        merge_topic(&record, field::PRUNE_TOPIC, &mut self.topic)?;
+        merge_number(&record, field::PRUNE_BACKOFF, &mut self.backoff);
         Ok(())
     }
 }

@@ -132,7 +132,7 @@ pub fn a_prune_fits_a_frame()
 {}
 
 /// Two bodies, one after the other, spell the RPC that both are joined to.
-pub fn bodies_behind_each_other_spell_the_joined_rpc()
+pub fn bodies_in_a_row_spell_the_joined_rpc()
     ensures spelled { (x y : List ℕ) (v w : Rpc)
         → SpellsRpc x v
         → SpellsRpc y w

@@ -1,5 +1,4 @@
 //! Messages as records (`Message`).
-ghost use Rattle.std.specs.Prelude.{◌≡◌, IfOk};
 ghost use Rattle.gs_wire.specs.Messages.{SaysMessage, message_records};
 
 use crate::decoding::{Decode, DecodeError};
@@ -7,11 +6,10 @@ use crate::encoding::{
     Encode, bytes_of, bytes_of_topic, optional_len, put_optional, shared_bytes_of,
 };
 use crate::field;
-use crate::reader::Reader;
-use crate::record::{Record, Value};
-use bytes::Bytes;
-use gs_base::{Message, Shared, Topic};
-use std::alloc::{AllocError, Global};
+use crate::merging::{merge_bytes, merge_shared, merge_topic};
+use crate::record::Record;
+use gs_base::Message;
+use std::alloc::Global;
 
 impl Decode for Message {
     ghost says = { SaysMessage };
@@ -28,19 +26,17 @@ impl Decode for Message {
     }
 
     fn merge(&mut self, alloc: Global, record: Record<'_>) -> Result<(), DecodeError> {
-        let Record { field, value } = record;
-        let Value::Len(bytes) = value else {
-            return Ok(());
-        };
-        match field {
-            field::MESSAGE_FROM => self.origin = Some(shared_bytes(alloc, bytes)?),
-            field::MESSAGE_DATA => self.payload = Some(bytes.to_bytes()?),
-            field::MESSAGE_SEQNO => self.seqno = Some(shared_bytes(alloc, bytes)?),
-            field::MESSAGE_TOPIC => self.topic = Some(Topic(bytes.to_bytes()?)),
-            field::MESSAGE_SIGNATURE => self.signature = Some(shared_bytes(alloc, bytes)?),
-            field::MESSAGE_KEY => self.key = Some(shared_bytes(alloc, bytes)?),
-            _ => {}
-        }
+        merge_shared(alloc, &record, field::MESSAGE_FROM, &mut self.origin)?;
+        merge_bytes(&record, field::MESSAGE_DATA, &mut self.payload)?;
+        merge_shared(alloc, &record, field::MESSAGE_SEQNO, &mut self.seqno)?;
+        merge_topic(&record, field::MESSAGE_TOPIC, &mut self.topic)?;
+        merge_shared(
+            alloc,
+            &record,
+            field::MESSAGE_SIGNATURE,
+            &mut self.signature,
+        )?;
+        merge_shared(alloc, &record, field::MESSAGE_KEY, &mut self.key)?;
         Ok(())
     }
 }
@@ -69,12 +65,4 @@ impl Encode for Message {
         );
         put_optional(buffer, field::MESSAGE_KEY, shared_bytes_of(&self.key));
     }
-}
-
-/// The bytes of a field that is seldom there.
-fn shared_bytes(alloc: Global, bytes: Reader<'_>) -> Result<Shared<Bytes>, AllocError>
-    ensures { IfOk result (λ shared. shared ≡ bytes.entry) }
-{
-    let bytes = bytes.to_bytes()?;
-    Shared::new(alloc, bytes)
 }

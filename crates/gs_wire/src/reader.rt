@@ -43,6 +43,17 @@ impl<'a> Reader<'a> {
         self.bytes.is_empty()
     }
 
+    /// The same bytes, which the other reader leaves to be read.
+    pub(crate) fn again(&self) -> Reader<'a>
+        ensures { result ≡ self.now }
+    {
+        Reader {
+            body: self.body,
+            start: self.start,
+            bytes: self.bytes,
+        }
+    }
+
     /// What is left, as bytes that share the body.
     pub(crate) fn to_bytes(&self) -> Result<Bytes, AllocError>
         ensures { IfOk result (λ bytes. bytes ≡ self.now) }

@@ -1,6 +1,7 @@
 //! Records: a field number and a value (Protocol Buffers, Encoding, "Message Structure").
 ghost use Rattle.std.specs.Prelude.{◌≡◌, option_map};
 ghost use Rattle.gs_wire.specs.Reading.{value_at, record_at};
+ghost use Rattle.gs_wire.specs.Records.{len_in, varint_in};
 ghost use Rattle.gs_wire.specs.Views.{view, view_value};
 
 use crate::reader::Reader;
@@ -18,6 +19,36 @@ pub(crate) enum Value<'a> {
 pub(crate) struct Record<'a> {
     pub field: u64,
     pub value: Value<'a>,
+}
+
+impl<'a> Record<'a> {
+    /// What a record of this field holds, where that is bytes.
+    pub(crate) fn bytes_in(&self, wanted: u64) -> Option<Reader<'a>>
+        ensures { result ≡ len_in wanted self.now.field (view_value self.now.value) }
+    {
+        let Record { field, value } = self;
+        let Value::Len(bytes) = value else {
+            return None;
+        };
+        if *field != wanted {
+            return None;
+        }
+        Some(bytes.again())
+    }
+
+    /// What a record of this field holds, where that is a number.
+    pub(crate) fn number_in(&self, wanted: u64) -> Option<u64>
+        ensures { result ≡ varint_in wanted self.now.field (view_value self.now.value) }
+    {
+        let Record { field, value } = self;
+        let Value::Varint(number) = value else {
+            return None;
+        };
+        if *field != wanted {
+            return None;
+        }
+        Some(*number)
+    }
 }
 
 /// Reads the value of a wire type; 3 and 4, groups, are deprecated, and none here.

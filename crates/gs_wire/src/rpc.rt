@@ -1,20 +1,22 @@
 //! RPCs as bodies and frames.
-ghost use Rattle.std.specs.Prelude.{◌≡◌, ◌⊎◌, ◌<◌, ◌≤◌, ◌+◌, ◌++◌, ◌↔◌, Err, IfOk, IfErr, OnOk, OnErr, IsErrOf, List, [], Option, min, option_map, option_to_list, unwrap_or, length, vec_len, vec_capacity};
+ghost use Rattle.std.specs.Prelude.{◌≡◌, ◌⊎◌, ◌<◌, ◌≤◌, ◌+◌, ◌++◌, ◌↔◌, Err, IfOk, IfErr, OnOk, OnErr, IsErrOf, List, [], ◌∷◌, Option, min, option_map, option_to_list, unwrap_or, length, vec_len, vec_capacity};
 ghost use Rattle.gs_base.specs.declared.rpc.Rpc.{Rpc as RpcValue};
 ghost use Rattle.gs_base.specs.declared.control.Control.{Control as ControlValue};
-ghost use Rattle.gs_wire.specs.Records.{Record as Spelled, SpellRecords, records_text};
+ghost use Rattle.gs_wire.specs.Records.{Record as Spelled, SpellRecords, len_values, records_text};
 ghost use Rattle.gs_wire.specs.Fields.{part_records};
-ghost use Rattle.gs_wire.specs.Controls.{SaysControl, no_control, control_records};
+ghost use Rattle.gs_wire.specs.Controls.{SaysControl, SaysMerged, no_control, control_records};
 ghost use Rattle.gs_wire.specs.Messages.{SaysRpc, SpellsRpc, longest_body, body, frame};
 ghost use Rattle.gs_wire.specs.Sections.{plain_length};
+ghost use Rattle.gs_wire.specs.Views.{view};
 ghost use Rattle.gs_base.specs.Rpcs.{publication};
 
-use crate::decoding::{Decode, DecodeError, merge_all, push_message};
+use crate::decoding::{Decode, DecodeError, merge_all};
 use crate::encoding::{Encode, len_record_len, parts_len, put_parts, put_sized_part};
 use crate::fault::WireFault;
 use crate::field;
+use crate::merging::merge_part;
 use crate::reader::Reader;
-use crate::record::{Record, Value};
+use crate::record::Record;
 use crate::varint::{put_varint, varint_len};
 use bytes::Bytes;
 use gs_base::{Control, Rpc, Seq, Topic};
@@ -42,6 +44,26 @@ fn merged(alloc: Global, before: Option<Control>, bytes: Reader<'_>) -> Result<C
     Ok(control)
 }
 
+/// Merges the control that a record holds into what was read before.
+fn merge_control(
+    alloc: Global,
+    record: &Record<'_>,
+    control: &mut Option<Control>,
+) -> Result<(), DecodeError>
+    ensures merged { OnOk result ((before : List Spelled)
+        → SaysMerged (len_values 3 before) control.old
+        → SaysMerged (len_values 3 (before ++ view «record».now ∷ [])) control.new) }
+    ensures malformed { IsErrOf result DecodeError.Malformed
+        → (before after : List Spelled) (other : Option ControlValue)
+        → ¬ SaysMerged (len_values 3 (before ++ view «record».now ∷ after)) other }
+{
+    let Some(bytes) = record.bytes_in(field::RPC_CONTROL) else {
+        return Ok(());
+    };
+    *control = Some(merged(alloc, control.take(), bytes)?);
+    Ok(())
+}
+
 impl Decode for Rpc {
     ghost says = { SaysRpc };
 
@@ -54,16 +76,9 @@ impl Decode for Rpc {
     }
 
     fn merge(&mut self, alloc: Global, record: Record<'_>) -> Result<(), DecodeError> {
-        let Record { field, value } = record;
-        let Value::Len(bytes) = value else {
-            return Ok(());
-        };
-        match field {
-            field::RPC_SUBSCRIPTIONS => push_message(alloc, bytes, &mut self.subs)?,
-            field::RPC_PUBLISH => push_message(alloc, bytes, &mut self.publish)?,
-            field::RPC_CONTROL => self.control = Some(merged(alloc, self.control.take(), bytes)?),
-            _ => {}
-        }
+        merge_part(alloc, &record, field::RPC_SUBSCRIPTIONS, &mut self.subs)?;
+        merge_part(alloc, &record, field::RPC_PUBLISH, &mut self.publish)?;
+        merge_control(alloc, &record, &mut self.control)?;
         Ok(())
     }
 }

@@ -6,8 +6,9 @@ use crate::encoding::{
     Encode, bool_number, bytes_of_topic, number_len, optional_len, put_number, put_optional,
 };
 use crate::field;
-use crate::record::{Record, Value};
-use gs_base::{SubOpt, Topic};
+use crate::merging::{merge_bool, merge_topic};
+use crate::record::Record;
+use gs_base::SubOpt;
 use std::alloc::Global;
 
 impl Decode for SubOpt {
@@ -21,20 +22,8 @@ impl Decode for SubOpt {
     }
 
     fn merge(&mut self, _alloc: Global, record: Record<'_>) -> Result<(), DecodeError> {
-        let Record { field, value } = record;
-        match value {
-            Value::Varint(number) => {
-                if field == field::SUB_SUBSCRIBE {
-                    self.subscribe = Some(number != 0);
-                }
-            }
-            Value::Len(bytes) => {
-                if field == field::SUB_TOPIC {
-                    self.topic = Some(Topic(bytes.to_bytes()?));
-                }
-            }
-            Value::I64(_) | Value::I32(_) => {}
-        }
+        merge_bool(&record, field::SUB_SUBSCRIBE, &mut self.subscribe);
+        merge_topic(&record, field::SUB_TOPIC, &mut self.topic)?;
         Ok(())
     }
 }

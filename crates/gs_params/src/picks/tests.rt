@@ -14,13 +14,28 @@ const SHUFFLED: [PeerNo; 5] = [PeerNo(3), PeerNo(1), PeerNo(2), PeerNo(4), PeerN
 const ODD: [PeerNo; 2] = [PeerNo(1), PeerNo(3)];
 
 /// The worked example, of the definitions only. The state is the list of the words to come.
-#[tactic(auto, unfolding(crate::specs::Picks::next_words, crate::specs::Picks::after_words, crate::specs::Picks::shuffled, crate::specs::Picks::picked, crate::specs::Picks::picked_words, crate::specs::Picks::picked_one, crate::specs::Picks::picked_one_words,))]
-fn the_definitions_give_the_worked_example()
-    ensures places { shuffled 0 (7 ∷ 9 ∷ []) FIVE ≡ SHUFFLED }
+#[tactic(auto, unfolding(crate::specs::Picks::shuffled))]
+fn the_definitions_shuffle_as_in_the_worked_example()
+    ensures { shuffled 0 (7 ∷ 9 ∷ []) FIVE ≡ SHUFFLED }
+{}
+
+/// Who is picked there, and who where all are.
+#[tactic(auto, unfolding(crate::specs::Picks::next_words, crate::specs::Picks::picked, crate::specs::Picks::shuffled))]
+fn the_definitions_pick_as_in_the_worked_example()
     ensures some { picked (λ ws. slice_index ws 0) (drop 1) 2 FIVE (7 ∷ 9 ∷ []) ≡ ODD }
-    ensures drawn { picked_words (λ ws. slice_index ws 0) (drop 1) 2 FIVE (7 ∷ 9 ∷ []) ≡ [] }
     ensures all { picked (λ ws. slice_index ws 0) (drop 1) 2 ODD (7 ∷ 9 ∷ []) ≡ ODD }
-    ensures kept { picked_words (λ ws. slice_index ws 0) (drop 1) 2 ODD (7 ∷ 9 ∷ []) ≡ 7 ∷ 9 ∷ [] }
+{}
+
+/// Which words are left then.
+#[tactic(auto, unfolding(crate::specs::Picks::after_words, crate::specs::Picks::picked_words))]
+fn the_definitions_draw_as_in_the_worked_example()
+    ensures some { picked_words (λ ws. slice_index ws 0) (drop 1) 2 FIVE (7 ∷ 9 ∷ []) ≡ [] }
+    ensures all { picked_words (λ ws. slice_index ws 0) (drop 1) 2 ODD (7 ∷ 9 ∷ []) ≡ 7 ∷ 9 ∷ [] }
+{}
+
+/// One of three places, and of one, for which no word is drawn.
+#[tactic(auto, unfolding(crate::specs::Picks::picked_one, crate::specs::Picks::picked_one_words))]
+fn the_definitions_pick_one_as_in_the_worked_example()
     ensures one { picked_one (λ ws. slice_index ws 0) (drop 1) 3 (7 ∷ []) ≡ 1 }
     ensures one_drawn { picked_one_words (λ ws. slice_index ws 0) (drop 1) 3 (7 ∷ []) ≡ [] }
     ensures only { picked_one (λ ws. slice_index ws 0) (drop 1) 1 (7 ∷ []) ≡ 0 }
@@ -124,6 +139,9 @@ fn a_pick_takes_the_next_seeded_words(rt: HostRuntime) -> Result<(), AllocError>
 /// What takes nothing and gives nothing: that it can be called is all there is to test.
 #[test]
 fn the_law_of_picks_can_be_called(_rt: HostRuntime) {
-    the_definitions_give_the_worked_example();
+    the_definitions_shuffle_as_in_the_worked_example();
+    the_definitions_pick_as_in_the_worked_example();
+    the_definitions_draw_as_in_the_worked_example();
+    the_definitions_pick_one_as_in_the_worked_example();
     a_pick_is_the_front_of_a_shuffle::<SeededWords>();
 }

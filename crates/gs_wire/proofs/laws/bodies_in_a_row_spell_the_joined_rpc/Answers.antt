@@ -1,5 +1,5 @@
 use Rattle.gs_wire.proofs.JoinedRpcs.{both_spelled, both_bodies_spelled}
-use Rattle.gs_wire.proofs.laws.bodies_behind_each_other_spell_the_joined_rpc.Goals as goal
+use Rattle.gs_wire.proofs.laws.bodies_in_a_row_spell_the_joined_rpc.Goals as goal
 
 pub returns-clause-spelled : goal.returns-clause-spelled
 returns-clause-spelled c = both_spelled
