@@ -1,4 +1,4 @@
--- Nothing changes what scores are made of behind a shut, nor meshes, nor the peer's own topics.
+-- After a shut nothing changes what scores are made of, nor meshes, nor the peer's own topics.
 use Rattle.std.proofs.Common.{◌≡◌, ℕ, Bool, true, false, List, [], ◌∷◌, ◌++◌, filter, length, refl, sym, ap, subst, ◌∙◌}
 use Rattle.std.specs.List.{AllByRecursion}
 use Rattle.std.proofs.lemmas.List.{nil_from_length}
@@ -129,16 +129,16 @@ over_at p K s legal is =
       settled = still_owes p K (s ∷ K) s.at.0 s.event (owed p K) (subst IsStill (sym is) tt) (settled_before p K s.at.0 next);
     }
 
-over_behind : (p : Peer) (M K : Entries) (s : Entry) → Legal p (M ++ s ∷ K) → s.event ≡ Shut → IsOver p (M ++ s ∷ K)
-over_behind p [] K s legal is = over_at p K s legal is
-over_behind p (e ∷ M) K s legal is =
-    let before : IsOver p (M ++ s ∷ K) = over_behind p M K s legal.1 is in
+over_after : (p : Peer) (M K : Entries) (s : Entry) → Legal p (M ++ s ∷ K) → s.event ≡ Shut → IsOver p (M ++ s ∷ K)
+over_after p [] K s legal is = over_at p K s legal is
+over_after p (e ∷ M) K s legal is =
+    let before : IsOver p (M ++ s ∷ K) = over_after p M K s legal.1 is in
     over_next p (M ++ s ∷ K) e (next_is_late p (M ++ s ∷ K) e.at.0 e.event before (legal_newest p e (M ++ s ∷ K) legal).next) before
 
 pub history_stays : (p : Peer) (M K : Entries) (s : Entry) → Legal p (M ++ s ∷ K) → s.event ≡ Shut → history p (M ++ s ∷ K) ≡ history p K
 history_stays p [] K s legal is = still_history p K s legal (subst IsStill (sym is) tt)
 history_stays p (e ∷ M) K s legal is =
-    let late : IsLate e.event = next_is_late p (M ++ s ∷ K) e.at.0 e.event (over_behind p M K s legal.1 is) (legal_newest p e (M ++ s ∷ K) legal).next in
+    let late : IsLate e.event = next_is_late p (M ++ s ∷ K) e.at.0 e.event (over_after p M K s legal.1 is) (legal_newest p e (M ++ s ∷ K) legal).next in
     still_history p (M ++ s ∷ K) e legal (late_is_still e.event late) ∙ history_stays p M K s legal.1 is
 
 pub score_stays : (p : Peer) (M K : Entries) (s : Entry) (at : ℕ) (q : PeerNo) → Legal p (M ++ s ∷ K) → s.event ≡ Shut → score p (M ++ s ∷ K) at q ≡ score p K at q
@@ -154,7 +154,7 @@ still_mesh p L e t legal is =
 pub mesh_stays : (p : Peer) (M K : Entries) (s : Entry) (t : Topic) → Legal p (M ++ s ∷ K) → s.event ≡ Shut → mesh (M ++ s ∷ K) t ≡ mesh K t
 mesh_stays p [] K s t legal is = still_mesh p K s t legal (subst IsStill (sym is) tt)
 mesh_stays p (e ∷ M) K s t legal is =
-    let late : IsLate e.event = next_is_late p (M ++ s ∷ K) e.at.0 e.event (over_behind p M K s legal.1 is) (legal_newest p e (M ++ s ∷ K) legal).next in
+    let late : IsLate e.event = next_is_late p (M ++ s ∷ K) e.at.0 e.event (over_after p M K s legal.1 is) (legal_newest p e (M ++ s ∷ K) legal).next in
     still_mesh p (M ++ s ∷ K) e t legal (late_is_still e.event late) ∙ mesh_stays p M K s t legal.1 is
 
 still_own : (L : Entries) (event : Event) → IsStill event → ascending (filter (λ (t : Topic). joined_after t event (joined L t)) (known_after event (known L))) ≡ own_topics L
@@ -165,5 +165,5 @@ still_own L other is = absurd is
 pub own_stay : (p : Peer) (M K : Entries) (s : Entry) → Legal p (M ++ s ∷ K) → s.event ≡ Shut → own_topics (M ++ s ∷ K) ≡ own_topics K
 own_stay p [] K s legal is = still_own K s.event (subst IsStill (sym is) tt)
 own_stay p (e ∷ M) K s legal is =
-    let late : IsLate e.event = next_is_late p (M ++ s ∷ K) e.at.0 e.event (over_behind p M K s legal.1 is) (legal_newest p e (M ++ s ∷ K) legal).next in
+    let late : IsLate e.event = next_is_late p (M ++ s ∷ K) e.at.0 e.event (over_after p M K s legal.1 is) (legal_newest p e (M ++ s ∷ K) legal).next in
     still_own (M ++ s ∷ K) e.event (late_is_still e.event late) ∙ own_stay p M K s legal.1 is

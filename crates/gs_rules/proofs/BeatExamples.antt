@@ -40,8 +40,8 @@ news = record { 0 = 110 ∷ [] }
 abbrev other : Topic
 other = record { 0 = 111 ∷ [] }
 
--- a mesh of two members at least, one of them outbound, and of three where it is few or many; it is bettered at each so
--- many heartbeats
+-- a mesh of at least two members, one of them outbound, and of three where it is few or many; it is bettered once in
+-- `ticks` heartbeats
 abbrev peer_with : ℕ → ℕ → Peer
 peer_with d_high ticks = record {
   params = record {
@@ -64,7 +64,7 @@ at n = record { 0 = n }
 abbrev entry : Event → Entry
 entry event = record { at = at 0; event = event; effects = no_effects }
 
--- the charges of a heartbeat, behind which these neighbours came into the mesh, the first one first
+-- these neighbours came into the mesh, the first one first, and then a heartbeat charges
 abbrev mesh_of : List Mark → Entries
 mesh_of marks = entry BeatBegin ∷ record (entry (Step BeatEnd)) { effects = record no_effects { marks = marks } } ∷ entry (Own (Subscribe news)) ∷ []
 
@@ -80,14 +80,14 @@ pruned n = Pruned (peer_of n) news
 abbrev barred : ℕ → ℕ → Mark
 barred n end = Backoff (peer_of n) news (at end)
 
--- how many of whom a rule asks for, or of whom it keeps some
+-- how many peers a rule asks for or keeps, and of which ones
 abbrev asked_of : Rule → Option (ℕ × List PeerNo)
 asked_of (AnyOf n candidates next) = Some (n, candidates)
 asked_of (CutOf degrees members next) = Some (degrees.d, peers_of members)
 asked_of (OneOf n next) = None
 asked_of (Gives x) = None
 
--- what a rule says behind its first choice
+-- what a rule says after its first choice
 abbrev behind : List PeerNo → Rule → Rule
 behind chosen (AnyOf n candidates next) = next chosen
 behind chosen (CutOf degrees members next) = next chosen
@@ -99,7 +99,7 @@ behind chosen (Gives x) = Gives x
 heartbeats_count_from_their_charges : heartbeats (entry BeatBegin ∷ entry (Step BeatEnd) ∷ entry BeatBegin ∷ []) ≡ 2
 heartbeats_count_from_their_charges = refl
 
--- two members, of whom one is outbound, and one neighbour that could come in
+-- two members, one of them outbound, and one neighbour that could come in
 a_mesh_that_is_well_stays : mesh_beat_rule peer (on_news 3 ∷ mesh_of (grafted 1 ∷ grafted 2 ∷ [])) (at 2_000) news ≡ Gives no_effects
 unfolding score score_of topic_part times
 a_mesh_that_is_well_stays = refl
@@ -119,9 +119,9 @@ where_members_are_few_candidates_come_in : asked_of few ≡ Some (2, peer_of 2 �
 unfolding score score_of topic_part times
 where_members_are_few_candidates_come_in = refl
 
-and_are_told_so : behind (peer_of 2 ∷ peer_of 3 ∷ []) few ≡ Gives (record no_effects { sends = (peer_of 2, grafting news) ∷ (peer_of 3, grafting news) ∷ []; marks = grafted 2 ∷ grafted 3 ∷ [] })
+and_hear_of_it : behind (peer_of 2 ∷ peer_of 3 ∷ []) few ≡ Gives (record no_effects { sends = (peer_of 2, grafting news) ∷ (peer_of 3, grafting news) ∷ []; marks = grafted 2 ∷ grafted 3 ∷ [] })
 unfolding score score_of topic_part times
-and_are_told_so = refl
+and_hear_of_it = refl
 
 -- more than two are many here, and two are kept
 abbrev many : Rule
@@ -163,7 +163,7 @@ who_left_the_topic_leaves_it : behind (peer_of 3 ∷ []) mended ≡ Gives (recor
 unfolding score score_of topic_part times
 who_left_the_topic_leaves_it = refl
 
--- sixty seconds behind the last payload
+-- sixty seconds after the last payload
 a_fanout_is_not_stale_before_its_time : is_stale 60_000 64_999 (last_published fanned news) ≡ false
 a_fanout_is_not_stale_before_its_time = refl
 

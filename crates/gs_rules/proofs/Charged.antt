@@ -39,9 +39,9 @@ among_front x (y ∷ xs) ys among = by (among_parts x y xs among) (among_front x
     by (inl is) next = subst (λ z. IsAmong (z ∷ (xs ++ ys)) x) is (among_first x (xs ++ ys))
     by (inr rest) next = among_rest x y (xs ++ ys) (next rest)
 
-pub among_behind : {X : Type 0} (x : X) (xs ys : List X) → IsAmong ys x → IsAmong (xs ++ ys) x
-among_behind x [] ys among = among
-among_behind x (y ∷ xs) ys among = among_rest x y (xs ++ ys) (among_behind x xs ys among)
+pub among_after : {X : Type 0} (x : X) (xs ys : List X) → IsAmong ys x → IsAmong (xs ++ ys) x
+among_after x [] ys among = among
+among_after x (y ∷ xs) ys among = among_rest x y (xs ++ ys) (among_after x xs ys among)
 
 among_either : {X : Type 0} (x : X) (xs ys : List X) → IsAmong (xs ++ ys) x → IsAmong xs x ⊎ IsAmong ys x
 among_either x [] ys among = inr among
@@ -119,7 +119,7 @@ entry_leaves promise e L leaves among =
 
 entry_makes : (promise : Promise) (e : Entry) (L : Entries) → e.effects.promise ≡ Some promise → IsAmong (promises (e ∷ L)) promise
 entry_makes promise e L makes =
-    among_behind promise (after_marks fulfilled_after e.effects.marks (ended_after e.event e.at.0 (promises L))) (made e.effects.promise)
+    among_after promise (after_marks fulfilled_after e.effects.marks (ended_after e.event e.at.0 (promises L))) (made e.effects.promise)
     (subst (λ (new : Option Promise). IsAmong (made new) promise) (sym makes) (among_first promise []))
 
 pub held : (later earlier : Entries) (e : Entry) (promise : Promise) → e.effects.promise ≡ Some promise → AllByRecursion (IsOpen promise) later → IsAmong (promises (later ++ e ∷ earlier)) promise
@@ -157,7 +157,7 @@ marks_left promise (Seen id verdict ∷ marks) before among =
     apart false is = refl
 marks_left promise (other ∷ marks) before among = marks_left promise marks before among
 
--- of the promises behind an event, each was there before it, and the event does not end it
+-- each promise that is left after an event was there before it, and the event does not end it
 event_left : (promise : Promise) (event : Event) (at : ℕ) (before : List Promise) → IsAmong (ended_after event at before) promise → (ends_promise promise event at ≡ false) × IsAmong before promise
 event_left promise BeatBegin at before among =
     let passed = among_passed (λ other. nat_lt at other.until.0) promise before among in

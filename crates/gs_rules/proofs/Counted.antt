@@ -84,14 +84,6 @@ IsOfNeighbour p (Misbehaviour q) = is_neighbour p q ≡ true
 IsOfNeighbour p (Grafted q t) = is_neighbour p q ≡ true
 IsOfNeighbour p other = Unit {0}
 
-is_on_more : (ts us : List Topic) → ((t : Topic) → IsOf ts t → IsOf us t) → (mark : Mark) → IsOn ts mark → IsOn us mark
-is_on_more ts us more (First q t id) is = more t is
-is_on_more ts us more (Near q t id) is = more t is
-is_on_more ts us more (Deficit q t z) is = more t is
-is_on_more ts us more (Invalid q t) is = more t is
-is_on_more ts us more (Grafted q t) is = more t is
-is_on_more ts us more other is = tt
-
 -- what is raised, and where somebody is in a mesh, is on topics that the peer is or was subscribed to
 mark_on : (p : Peer) (L : Entries) (e : Entry) → Legal p L → IsOfOwn L e.event → (mark : Mark) → MayMark p L e.at.0 e.event mark → IsOn (known (e ∷ L)) mark
 mark_on p L e legal own (First q t id) may = stays_known e.event (known L) t (joined_known L t may.1)
@@ -161,7 +153,7 @@ missing_near p L at q t some = by (is_neighbour p q) refl
     by true is = refl
     by false is = absurd (never (nat_eq (missing p L at (q, t)) 0) (none_missing p q is L at t) some)
 
--- ---- whom marks concern
+-- ---- the neighbours that marks concern
 
 come_near : (p : Peer) (event : Event) (q : PeerNo) → IsFromNeighbour p event → ComesOf event q → is_neighbour p q ≡ true
 come_near p (Part r (Msg m)) q near is = subst (λ (s : PeerNo). is_neighbour p s ≡ true) (sym is) near
@@ -194,11 +186,11 @@ marks_of p L e legal near =
 
 -- ---- what a history names
 
--- a change names these topics alone, for a neighbour
+-- a change names only these topics, for a neighbour
 abbrev Names : List Topic → PeerNo → Change → Type 0
 Names ts q c = AllByRecursion (IsOf ts) (named_after q c [])
 
--- all changes of a history name these topics alone, for each neighbour
+-- all changes of a history name only these topics, for each neighbour
 abbrev NamesOf : List Topic → History → Type 0
 NamesOf ts H = (q : PeerNo) → AllByRecursion (Names ts q) H
 

@@ -82,7 +82,7 @@ accepted at = Some (record { at = at; verdict = Accept })
 found_itself : (id other : MsgId) (verdict : Verdict) (at : ℕ) (before : Option Sighting) → other ≡ id → verdict ≡ Accept → sighting_after id at (Seen other verdict) before ≡ accepted at
 found_itself id other verdict at before this well = rw (this, well, nat_list_eq_equiv.refl id.0) refl
 
--- behind one such mark all others leave what it says
+-- after one such mark all others leave what it says
 stays_seen : (id : MsgId) (at : ℕ) (marks : List Mark) → AllByRecursion (SaysSeen id) marks → after_marks (sighting_after id at) marks (accepted at) ≡ accepted at
 stays_seen id at [] all = refl
 stays_seen id at (Seen other verdict ∷ marks) all =
@@ -181,7 +181,7 @@ requested : (p : Peer) (L : Entries) (q : PeerNo) (request : IWant) (e : Entry) 
 requested p L q request e id same delivers =
     delivers_none p L e (want_rule p L e.at q request) id same (of_a_request (λ (x : Effects). x.delivered ≡ []) p L e.at q request refl refl) delivers
 
--- of all events, these two alone deliver
+-- of all events, only these two deliver
 by_event : (p : Peer) (L : Entries) (event : Event) (e : Entry) (id : MsgId) → IsNext p L e.at.0 (owed p L).events event → Follows free (rule_of p L e.at event) tt e.effects tt → Delivers e id → IsFresh p L e id
 by_event p L (Part q (Msg m)) e id next effects delivers = heard p L q m e id effects.0 delivers
 by_event p L (Own (Publish t payload)) e id next effects delivers = published p L t payload e id (opens p L e.at.0 (Own (Publish t payload)) (λ h. h) next) delivers effects
@@ -234,7 +234,7 @@ record IsSince (moment : ℕ) (seen : Option Sighting) : Type 0 where
   is : seen ≡ Some sighting
   since : moment ≤ sighting.at
 
--- a message that was seen at a moment or after it still was behind one more mark
+-- a message that was seen at a moment or after it still was so after one more mark
 since_by : (moment at : ℕ) (verdict : Verdict) (same : Bool) (before : Option Sighting) → moment ≤ at → IsSince moment before → IsSince moment (if same then Some (record { at = at; verdict = verdict }) else before)
 since_by moment at verdict true before later h = record { sighting = record { at = at; verdict = verdict }; is = refl; since = later }
 since_by moment at verdict false before later h = h

@@ -53,14 +53,14 @@ bytes_of_two_rounds = refl
 abbrev q : PeerNo
 q = record { 0 = 1 }
 
-abbrev closing_behind : List ℕ → Inbound
-closing_behind rest = record { rpcs = []; rest = rest; end = ends.Waits; closes = true }
+abbrev closing_after : List ℕ → Inbound
+closing_after rest = record { rpcs = []; rest = rest; end = ends.Waits; closes = true }
 
-a_close_behind_unread_bytes_is_a_fault : ending q (closing_behind (7 ∷ [])) ≡ HearFault q ∷ []
-a_close_behind_unread_bytes_is_a_fault = refl
+a_close_after_unread_bytes_is_a_fault : ending q (closing_after (7 ∷ [])) ≡ HearFault q ∷ []
+a_close_after_unread_bytes_is_a_fault = refl
 
-a_close_behind_whole_frames_is_none : ending q (closing_behind []) ≡ HearGone q ∷ []
-a_close_behind_whole_frames_is_none = refl
+a_close_after_whole_frames_is_none : ending q (closing_after []) ≡ HearGone q ∷ []
+a_close_after_whole_frames_is_none = refl
 
 a_fault_hides_the_close : ending q (record { rpcs = []; rest = 7 ∷ []; end = ends.Malformed; closes = true }) ≡ HearFault q ∷ []
 a_fault_hides_the_close = refl
@@ -73,26 +73,26 @@ silence_ends_nothing = refl
 abbrev entry : Event → Entry
 entry event = record { at = record { 0 = 0 }; event = event; effects = no_effects }
 
--- the newest entry first: a neighbour that is gone is told the end of the round before, and the close
+-- the newest entry first: a neighbour that is gone hears the end of the round before, and the close
 nothing_follows_the_close : out codec (entry (RoundEnd 1) ∷ entry (Lost q Gone) ∷ entry (RoundEnd 0) ∷ []) q ≡ EndOf 0 ∷ Close ∷ []
 nothing_follows_the_close = refl
 
--- another is told on
-another_is_told_on : out codec (entry (RoundEnd 1) ∷ entry (Lost q Gone) ∷ entry (RoundEnd 0) ∷ []) (record { 0 = 2 }) ≡ EndOf 0 ∷ EndOf 1 ∷ []
-another_is_told_on = refl
+-- another hears more
+another_hears_more : out codec (entry (RoundEnd 1) ∷ entry (Lost q Gone) ∷ entry (RoundEnd 0) ∷ []) (record { 0 = 2 }) ≡ EndOf 0 ∷ EndOf 1 ∷ []
+another_hears_more = refl
 
 nothing_follows_a_hang_up : out codec (entry (RoundEnd 1) ∷ entry (Own (HangUp q)) ∷ entry (RoundEnd 0) ∷ []) q ≡ EndOf 0 ∷ Close ∷ []
 nothing_follows_a_hang_up = refl
 
--- bytes go as they are, behind what was said before; no bytes say nothing
+-- bytes go as they are, after what was said before; no bytes say nothing
 raw_bytes_go_as_they_are : out codec (entry (RoundEnd 1) ∷ entry (Own (Raw q [])) ∷ entry (Own (Raw q (5 ∷ 10 ∷ []))) ∷ entry (RoundEnd 0) ∷ []) q ≡ EndOf 0 ∷ Byte 5 ∷ Byte 10 ∷ EndOf 1 ∷ []
 raw_bytes_go_as_they_are = refl
 
-nobody_else_is_told_them : out codec (entry (Own (Raw q (5 ∷ 10 ∷ []))) ∷ []) (record { 0 = 2 }) ≡ []
-nobody_else_is_told_them = refl
+nobody_else_hears_them : out codec (entry (Own (Raw q (5 ∷ 10 ∷ []))) ∷ []) (record { 0 = 2 }) ≡ []
+nobody_else_hears_them = refl
 
-nobody_is_up_behind_the_shut : up (entry Shut ∷ []) q ≡ false
-nobody_is_up_behind_the_shut = refl
+nobody_is_up_after_the_shut : up (entry Shut ∷ []) q ≡ false
+nobody_is_up_after_the_shut = refl
 
 -- ---- what an RPC owes
 
@@ -226,5 +226,5 @@ nobody_is_hung_up_on_twice = refl
 nothing_is_put_on_a_closed_link : refusal peer (entry (Lost q Gone) ∷ []) 0 (Own (Raw q (5 ∷ []))) ≡ Some NotOpen
 nothing_is_put_on_a_closed_link = refl
 
-who_has_shut_down_is_told_that_first : refusal peer (entry Shut ∷ []) 0 (Own (Raw q (5 ∷ []))) ≡ Some Stopped
-who_has_shut_down_is_told_that_first = refl
+who_has_shut_down_is_refused_for_that_first : refusal peer (entry Shut ∷ []) 0 (Own (Raw q (5 ∷ []))) ≡ Some Stopped
+who_has_shut_down_is_refused_for_that_first = refl

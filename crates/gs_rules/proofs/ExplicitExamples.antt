@@ -204,6 +204,6 @@ a_heartbeat_fills_a_fanout_from_the_others = refl
 
 -- ---- gossip
 
-an_explicit_neighbour_is_told_no_gossip : gossip_candidates agreed listening 0 news ≡ peer_of 2 ∷ peer_of 3 ∷ []
+an_explicit_neighbour_gets_no_gossip : gossip_candidates agreed listening 0 news ≡ peer_of 2 ∷ peer_of 3 ∷ []
 unfolding score score_of topic_part times
-an_explicit_neighbour_is_told_no_gossip = refl
+an_explicit_neighbour_gets_no_gossip = refl

@@ -202,7 +202,7 @@ request_fits p L at q request legal =
     of_a_request (λ (x : Effects). SendsWritten x.sends) p L at q request tt
     (answers_written q (answers p L q [] (ids_in request.ids)) (answers_fit p L q [] (ids_in request.ids) legal))
 
--- whoever goes and whoever comes in are told so
+-- the peer tells whoever goes and whoever comes in
 mending_fits : (p : Peer) (L : Entries) (at : Millis) (t : Topic) (change : MeshChange) → length t.0 ≤ longest_topic → SendsWritten (mending p L at t change).sends
 mending_fits p L at t change short =
     let seconds : ℕ = p.params.timing.prune_backoff_s in

@@ -1,4 +1,4 @@
--- Nothing is gathered behind a cut.
+-- Nothing is gathered after a cut.
 use Rattle.std.proofs.Common.{◌≡◌, ℕ, zero, suc, Bool, true, false, ◌||◌, if◌then◌else◌, List, [], ◌∷◌, ◌++◌, None, refl, sym, ap, ◌∙◌, append_assoc, true≢false}
 use Rattle.gs_base.specs.declared.names.PeerNo.{PeerNo}
 use Rattle.gs_base.specs.Codecs.{Codec}
@@ -25,7 +25,7 @@ cut_off_is_cut q (RoundEnd r) off = refl
 cut_off_is_cut q (Own (Raw p bytes)) off = absurd (true≢false (sym off))
 cut_off_is_cut q other off = off
 
--- an event behind which q is not up, that was, cuts it off
+-- an event after which q is not up, where it was, cuts it off
 was_cut_off : (off : Bool) → (if off then false else true) ≡ false → off ≡ true
 was_cut_off true down = refl
 was_cut_off false down = absurd (true≢false down)
@@ -34,8 +34,8 @@ cut_gathers : (codec : Codec) (cut : Bool) (o : Outgoing) → cut ≡ true → (
 cut_gathers codec true o is = refl
 cut_gathers codec false o is = absurd (true≢false (sym is))
 
-behind_a_cut : (codec : Codec) (q : PeerNo) (o : Outgoing) (e : Entry) → is_cut q e.event ≡ true → (behind_entry codec q o e).gathered ≡ None
-behind_a_cut codec q o e is = cut_gathers codec (is_cut q e.event) (sending_all codec o (sent_to q e.effects.sends)) is
+after_a_cut : (codec : Codec) (q : PeerNo) (o : Outgoing) (e : Entry) → is_cut q e.event ≡ true → (behind_entry codec q o e).gathered ≡ None
+after_a_cut codec q o e is = cut_gathers codec (is_cut q e.event) (sending_all codec o (sent_to q e.effects.sends)) is
 
 pub gathered_down : (codec : Codec) (L : Entries) (q : PeerNo) → up L q ≡ false → gathered codec L q ≡ None
 gathered_down codec [] q down = refl
@@ -47,7 +47,7 @@ gathered_down codec (e ∷ L) q down = by (up L q) refl (gathered_down codec L q
     by true h before =
         let off : cuts_off q e.event ≡ true = was_cut_off (cuts_off q e.event) (sym (ap (up_after q e.event) h) ∙ down) in
         ap (λ (b : Bool). (if b then behind_entry codec q (outgoing codec L q) e else outgoing codec L q).gathered) h
-        ∙ behind_a_cut codec q (outgoing codec L q) e (cut_off_is_cut q e.event off)
+        ∙ after_a_cut codec q (outgoing codec L q) e (cut_off_is_cut q e.event off)
 
 -- whoever is up or not
 pub gathered_cut : (codec : Codec) (L : Entries) (e : Entry) (q : PeerNo) → is_cut q e.event ≡ true → gathered codec (e ∷ L) q ≡ None
@@ -56,7 +56,7 @@ gathered_cut codec L e q cut = by (up L q) refl
     by : (is_up : Bool) → up L q ≡ is_up → gathered codec (e ∷ L) q ≡ None
     by true h =
         ap (λ (b : Bool). (if b then behind_entry codec q (outgoing codec L q) e else outgoing codec L q).gathered) h
-        ∙ behind_a_cut codec q (outgoing codec L q) e cut
+        ∙ after_a_cut codec q (outgoing codec L q) e cut
     by false h =
         ap (λ (b : Bool). (if b then behind_entry codec q (outgoing codec L q) e else outgoing codec L q).gathered) h
         ∙ gathered_down codec L q h
@@ -86,7 +86,7 @@ pub uncut_raw : (q : PeerNo) (event : Event) → is_cut q event ≡ false → ra
 uncut_raw q (Own (Raw p bytes)) none = bytes_if (same_peer p q) bytes none
 uncut_raw q other none = refl
 
--- ---- behind a round
+-- ---- after a round
 
 end_gathers : (codec : Codec) (q : PeerNo) (r : ℕ) (M : Entries) (e : Entry) → e.event ≡ RoundEnd r → gathered codec (e ∷ M) q ≡ None
 end_gathers codec q r M e is = by (up M q) refl
@@ -96,7 +96,7 @@ end_gathers codec q r M e is = by (up M q) refl
         ap (λ (b : Bool). (if b then behind_entry codec q (outgoing codec M q) e else outgoing codec M q).gathered) h ∙ gathered_down codec M q h
     by true h =
         ap (λ (b : Bool). (if b then behind_entry codec q (outgoing codec M q) e else outgoing codec M q).gathered) h
-        ∙ behind_a_cut codec q (outgoing codec M q) e (ap (is_cut q) is)
+        ∙ after_a_cut codec q (outgoing codec M q) e (ap (is_cut q) is)
 
 pub gathered_after_rounds : (codec : Codec) (seat : Seat) (said : PeerNo → Said) (r : ℕ) (L : Entries) (refused : List RefusedLine) (q : PeerNo) → AfterRounds seat said r L refused → gathered codec L q ≡ None
 gathered_after_rounds codec seat said zero L refused q played = ap (λ (K : Entries). gathered codec K q) played.0
@@ -104,13 +104,13 @@ gathered_after_rounds codec seat said (suc r) L refused q (K, earlier, more, bef
     let ended = has_ended seat said r K L earlier more before plays in
     ap (λ (N : Entries). gathered codec N q) ended.are ∙ end_gathers codec q r ended.before ended.end ended.is_end
 
--- ---- behind the last round
+-- ---- after the last round
 
 stays_down : (q : PeerNo) (L : Entries) (entries : List Entry) → up L q ≡ false → up (entries ++ L) q ≡ false
 stays_down q L [] down = down
 stays_down q L (e ∷ entries) down = ap (up_after q e.event) (stays_down q L entries down) ∙ down_stays q e.event
 
--- nobody is up behind a whole life
+-- nobody is up after a whole life
 pub kept_down : (seat : Seat) (said : PeerNo → Said) (L : Entries) (refused : List RefusedLine) (q : PeerNo) → KeepsRounds seat said L refused → up L q ≡ false
 kept_down seat said L refused q keeps =
     let plays = keeps.closed in

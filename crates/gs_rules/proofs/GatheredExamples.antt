@@ -82,17 +82,17 @@ nothing_is_said_before_a_cut : out codec (grafts ∷ announces ∷ []) q ≡ []
 unfolding varint_within
 nothing_is_said_before_a_cut = refl
 
--- the announcement, and the GRAFT behind it
+-- the announcement, and the GRAFT after it
 two_sends_are_gathered : gathered codec (grafts ∷ announces ∷ []) q ≡ Some (joined_rpc announced grafted)
 unfolding varint_within
 two_sends_are_gathered = refl
 
-nothing_is_gathered_behind_a_round : gathered codec (entry (RoundEnd 0) ∷ announces ∷ []) q ≡ None
-nothing_is_gathered_behind_a_round = refl
+nothing_is_gathered_after_a_round : gathered codec (entry (RoundEnd 0) ∷ announces ∷ []) q ≡ None
+nothing_is_gathered_after_a_round = refl
 
-a_send_behind_a_cut_begins_anew : out codec (entry (RoundEnd 1) ∷ grafts ∷ entry (RoundEnd 0) ∷ announces ∷ []) q ≡ bytes announced_frame ++ EndOf 0 ∷ bytes grafted_frame ++ EndOf 1 ∷ []
+a_send_after_a_cut_begins_anew : out codec (entry (RoundEnd 1) ∷ grafts ∷ entry (RoundEnd 0) ∷ announces ∷ []) q ≡ bytes announced_frame ++ EndOf 0 ∷ bytes grafted_frame ++ EndOf 1 ∷ []
 unfolding varint_within
-a_send_behind_a_cut_begins_anew = refl
+a_send_after_a_cut_begins_anew = refl
 
 -- ---- other cuts
 
@@ -100,17 +100,17 @@ it_goes_out_ahead_of_bytes_as_they_are : out codec (entry (Own (Raw q (5 ∷ [])
 unfolding varint_within
 it_goes_out_ahead_of_bytes_as_they_are = refl
 
-what_is_sent_behind_bytes_goes_behind_them : out codec (entry (RoundEnd 0) ∷ grafts ∷ entry (Own (Raw q (5 ∷ []))) ∷ announces ∷ []) q ≡ bytes announced_frame ++ Byte 5 ∷ bytes grafted_frame ++ EndOf 0 ∷ []
+what_is_sent_after_bytes_goes_after_them : out codec (entry (RoundEnd 0) ∷ grafts ∷ entry (Own (Raw q (5 ∷ []))) ∷ announces ∷ []) q ≡ bytes announced_frame ++ Byte 5 ∷ bytes grafted_frame ++ EndOf 0 ∷ []
 unfolding varint_within
-what_is_sent_behind_bytes_goes_behind_them = refl
+what_is_sent_after_bytes_goes_after_them = refl
 
 it_goes_out_to_whoever_has_closed : out codec (entry (Lost q Gone) ∷ announces ∷ []) q ≡ bytes announced_frame ++ Close ∷ []
 unfolding varint_within
 it_goes_out_to_whoever_has_closed = refl
 
-it_goes_out_behind_a_fault : out codec (entry (Lost q Fault) ∷ announces ∷ []) q ≡ bytes announced_frame ++ Close ∷ []
+it_goes_out_after_a_fault : out codec (entry (Lost q Fault) ∷ announces ∷ []) q ≡ bytes announced_frame ++ Close ∷ []
 unfolding varint_within
-it_goes_out_behind_a_fault = refl
+it_goes_out_after_a_fault = refl
 
 it_goes_out_ahead_of_a_hang_up : out codec (entry (Own (HangUp q)) ∷ announces ∷ []) q ≡ bytes announced_frame ++ Close ∷ []
 unfolding varint_within
@@ -125,7 +125,7 @@ nothing_is_gathered_for_whoever_is_lost = refl
 
 -- ---- what does not fit
 
--- a body of so many bytes fits
+-- a body of at most `most` bytes fits
 abbrev fitting : ℕ → Codec
 fitting most = record { frame = codec.frame; fits = λ rpc. nat_le (length (body rpc)) most }
 

@@ -37,7 +37,7 @@ use Rattle.gs_rules.proofs.Topics.{IsShort, passing_are}
 
 -- ---- lists
 
--- what holds of each of a list holds of each that passes a test, and of each behind so many
+-- what holds of each of a list holds of each that passes a test, and of each after the first n
 filtered_are : {X : Type 0} (P : X → Type 0) (test : X → Bool) (xs : List X) → AllByRecursion P xs → AllByRecursion P (filter test xs)
 filtered_are P test [] all = tt
 filtered_are P test (x ∷ xs) all = by (test x) (filtered_are P test xs all.1)
@@ -68,7 +68,7 @@ parts_short q rpc = parts_are_such IsShortBeat q rpc (λ part. tt)
 gossip_topics_short : (p : Peer) (L : Entries) → Legal p L → AllByRecursion IsShort (gossip_topics p L)
 gossip_topics_short p L legal = filtered_are IsShort (λ t. is_some_list (gossip p L t)) (mesh_topics L) (mesh_topics_short p L legal)
 
--- behind whatever trace
+-- after any trace
 abbrev ShortAnywhere : Entries → Event → Type 0
 ShortAnywhere = λ M. IsShortBeat
 

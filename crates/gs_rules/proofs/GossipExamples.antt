@@ -93,8 +93,8 @@ a_message_is_gone_with_its_last_heartbeat : kept (windows peer) (beat_end ∷ be
 a_message_is_gone_with_its_last_heartbeat = refl
 
 -- other events don't count
-a_message_ages_with_heartbeats_alone : kept (windows peer) (beat_end ∷ entry (Step (GossipBeat a)) ∷ entry BeatBegin ∷ keeping 1 a ∷ []) (id 1) ≡ Some (record { topic = a; message = blank; age = 1 })
-a_message_ages_with_heartbeats_alone = refl
+a_message_ages_only_with_heartbeats : kept (windows peer) (beat_end ∷ entry (Step (GossipBeat a)) ∷ entry BeatBegin ∷ keeping 1 a ∷ []) (id 1) ≡ Some (record { topic = a; message = blank; age = 1 })
+a_message_ages_only_with_heartbeats = refl
 
 -- its age begins anew
 a_message_that_is_kept_again_is_young : kept (windows peer) (keeping 1 a ∷ beat_end ∷ beat_end ∷ keeping 1 a ∷ []) (id 1) ≡ Some (record { topic = a; message = blank; age = 0 })
@@ -130,7 +130,7 @@ the_oldest_is_gossiped_first = refl
 what_may_be_gossiped_is : gossipable peer (keeping 2 a ∷ beat_end ∷ keeping 1 a ∷ []) a ≡ id 1 ∷ id 2 ∷ []
 what_may_be_gossiped_is = refl
 
--- what was moved to the other topic is gossiped there alone
+-- what was moved to the other topic is gossiped only there
 gossip_on_the_one_topic : gossip peer moved a ≡ id 2 ∷ []
 gossip_on_the_one_topic = refl
 
@@ -138,7 +138,7 @@ gossip_on_the_one_topic = refl
 gossip_on_the_other_topic : gossip peer moved b ≡ id 1 ∷ []
 gossip_on_the_other_topic = refl
 
--- behind the charges the mesh of each topic is mended to which the peer is subscribed
+-- after the charges a heartbeat mends the mesh of each topic to which the peer is subscribed
 abbrev charged : Entries
 charged = entry BeatBegin ∷ keeping 2 ab ∷ keeping 1 b ∷ entry (Own (Subscribe b)) ∷ entry (Own (Subscribe a)) ∷ []
 
@@ -165,28 +165,28 @@ abbrev with_fanout : Entries
 with_fanout = entry (Own (Subscribe a)) ∷ marked (Own (Publish b [])) (Published b) ∷ []
 
 -- a millisecond before its time has come
-a_fanout_is_mended_behind_the_meshes : owed peer (entry_at 59_999 (Step (MeshBeat a)) ∷ entry_at 59_999 BeatBegin ∷ with_fanout) ≡ record { events = Step (FanBeat b) ∷ []; groups = Gossips ∷ [] }
-a_fanout_is_mended_behind_the_meshes = refl
+a_fanout_is_mended_after_the_meshes : owed peer (entry_at 59_999 (Step (MeshBeat a)) ∷ entry_at 59_999 BeatBegin ∷ with_fanout) ≡ record { events = Step (FanBeat b) ∷ []; groups = Gossips ∷ [] }
+a_fanout_is_mended_after_the_meshes = refl
 
 -- at that very millisecond
 a_fanout_ends_at_its_time : owed peer (entry_at 60_000 (Step (MeshBeat a)) ∷ entry_at 60_000 BeatBegin ∷ with_fanout) ≡ record { events = Step (FanEnd b) ∷ []; groups = Gossips ∷ [] }
 a_fanout_ends_at_its_time = refl
 
 -- the messages of a topic whose fanout ended are not gossiped any more
-gossip_is_reached_behind_that : owed peer (entry_at 60_000 (Step (FanEnd b)) ∷ entry_at 60_000 (Step (MeshBeat a)) ∷ entry_at 60_000 BeatBegin ∷ keeping 1 b ∷ with_fanout) ≡ record { events = (Step BeatEnd) ∷ []; groups = [] }
-gossip_is_reached_behind_that = refl
+gossip_is_reached_after_that : owed peer (entry_at 60_000 (Step (FanEnd b)) ∷ entry_at 60_000 (Step (MeshBeat a)) ∷ entry_at 60_000 BeatBegin ∷ keeping 1 b ∷ with_fanout) ≡ record { events = (Step BeatEnd) ∷ []; groups = [] }
+gossip_is_reached_after_that = refl
 
--- both are told the same
-each_that_is_chosen_is_told : (gossiping peer moved a (q ∷ other ∷ [])).sends ≡ (q, offering a ((2 ∷ []) ∷ [])) ∷ (other, offering a ((2 ∷ []) ∷ [])) ∷ []
-each_that_is_chosen_is_told = refl
+-- both hear the same
+each_that_is_chosen_gets_it : (gossiping peer moved a (q ∷ other ∷ [])).sends ≡ (q, offering a ((2 ∷ []) ∷ [])) ∷ (other, offering a ((2 ∷ []) ∷ [])) ∷ []
+each_that_is_chosen_gets_it = refl
 
 -- a quarter
-a_quarter_of_forty_is_told : gossip_size peer 40 ≡ 10
-a_quarter_of_forty_is_told = refl
+a_quarter_of_forty_gets_gossip : gossip_size peer 40 ≡ 10
+a_quarter_of_forty_gets_gossip = refl
 
--- six at least, if there are so many
-six_of_eight_are_told : gossip_size peer 8 ≡ 6
-six_of_eight_are_told = refl
+-- six at least, if there are six
+six_of_eight_get_gossip : gossip_size peer 8 ≡ 6
+six_of_eight_get_gossip = refl
 
 -- ---- budgets
 
@@ -205,16 +205,16 @@ offers_count : offers (offered ∷ offered ∷ []) q ≡ 2
 offers_count = refl
 
 -- one came since the heartbeat
-offers_count_anew_behind_a_heartbeat : offers (offered ∷ beat_end ∷ offered ∷ offered ∷ []) q ≡ 1
-offers_count_anew_behind_a_heartbeat = refl
+offers_count_anew_after_a_heartbeat : offers (offered ∷ beat_end ∷ offered ∷ offered ∷ []) q ≡ 1
+offers_count_anew_after_a_heartbeat = refl
 
 -- the start of a heartbeat changes nothing
 offers_count_until_the_heartbeat_ends : offers (entry BeatBegin ∷ offered ∷ offered ∷ []) q ≡ 2
 offers_count_until_the_heartbeat_ends = refl
 
 -- six were asked before it, and three since
-what_is_asked_counts_anew_behind_a_heartbeat : asked (asked_three ∷ beat_end ∷ asked_three ∷ asked_three ∷ []) q ≡ 3
-what_is_asked_counts_anew_behind_a_heartbeat = refl
+what_is_asked_counts_anew_after_a_heartbeat : asked (asked_three ∷ beat_end ∷ asked_three ∷ asked_three ∷ []) q ≡ 3
+what_is_asked_counts_anew_after_a_heartbeat = refl
 
 -- ---- promises
 
@@ -277,7 +277,7 @@ a_promise_stays_open = (record { unkept = refl; unended = refl }, (record { unke
 a_heartbeat_ends_a_promise_at_its_time : ends_promise (promise q 1) BeatBegin 1_000 ≡ true
 a_heartbeat_ends_a_promise_at_its_time = refl
 
--- it is marked behind another one
+-- it is marked after another one
 a_message_keeps_its_promise : list_any (keeps_promise (promise q 1)) (Seen (id 2) Accept ∷ Seen (id 1) Reject ∷ []) ≡ true
 a_message_keeps_its_promise = refl
 

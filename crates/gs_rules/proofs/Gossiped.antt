@@ -1,5 +1,5 @@
 -- What is kept is gossiped: it stands in the order in which messages were kept, passes as one of its topic, and is
--- among the last that fit one offer, where no more stand behind it.
+-- among the last that fit one offer, where no more stand after it.
 use Rattle.std.proofs.Common.{◌≡◌, ◌≤◌, ◌<◌, ℕ, zero, suc, ◌-◌, Bool, true, false, ◌||◌, not, if◌then◌else◌, is_some, List, [], ◌∷◌, ◌++◌, length, filter, drop, Option, Some, None, refl, sym, ap, subst, ◌∙◌, arith}
 use Rattle.std.specs.Prelude.{nat_lt}
 use Rattle.std.specs.List.{IsAmong, list_any}
@@ -21,7 +21,7 @@ use Rattle.gs_rules.specs.declared.event.BeatStep.TheVariants.{BeatEnd}
 use Rattle.gs_rules.specs.Peers.{Peer, windows}
 use Rattle.gs_rules.specs.Tables.{Entries, Keeping, after_marks, aged_after, kept, kept_after, keeping, keeping_order, last_kept, message_in, older, order_after}
 use Rattle.gs_rules.specs.Gossip.{IsKeptOn, gossip, gossipable, is_gossiped, last_of}
-use Rattle.gs_rules.proofs.Charged.{among_behind, among_first}
+use Rattle.gs_rules.proofs.Charged.{among_after, among_first}
 
 -- ---- what is kept stands in the order
 
@@ -112,9 +112,9 @@ whole p L t few = none_cut most_identifiers (gossipable p L t) few
 pub each : (p : Peer) (L : Entries) (t : Topic) (id : MsgId) → IsKeptOn p L t id → length (gossipable p L t) ≤ most_identifiers → IsAmong (gossip p L t) id
 each p L t id keeps few = subst (λ (ids : List MsgId). IsAmong ids id) (sym (whole p L t few)) (may_be_gossiped p L t id keeps)
 
--- what stands behind so few that are left out is among the rest
+-- what comes after as many as are left out is among the rest
 left_in : {X : Type 0} (k : ℕ) (x : X) (before behind : List X) → k ≤ length before → IsAmong (drop k (before ++ x ∷ behind)) x
-left_in zero x before behind few = among_behind x before (x ∷ behind) (among_first x behind)
+left_in zero x before behind few = among_after x before (x ∷ behind) (among_first x behind)
 left_in (suc k) x [] behind few = absurd (omega (arith, few))
 left_in (suc k) x (y ∷ before) behind few = left_in k x before behind (omega (arith, few))
 

@@ -42,7 +42,7 @@ payments_are_owed p at L (e ∷ paid) (is, some, earlier) legal =
 
 -- ---- what was done before
 
--- the later trace goes on behind the earlier one
+-- the later trace goes on after the earlier one
 abbrev pub GoesOn : Entries → Entries → Type 0
 GoesOn K L = (entries : List Entry) × (L ≡ entries ++ K)
 
@@ -137,15 +137,15 @@ turned : (q : PeerNo) (rs : List PeerNo) → AllByRecursion (λ (s : PeerNo). sa
 turned q [] h = tt
 turned q (r ∷ rs) h = (nat_eq_equiv.symm r.0 q.0 ∙ h.0, turned q rs h.1)
 
-once_behind : (q : PeerNo) (qs rs : List PeerNo) → AllByRecursion (λ (r : PeerNo). same_peer q r ≡ false) rs → AllByRecursion (λ r. StandsOnce r qs) rs → AllByRecursion (λ r. StandsOnce r (q ∷ qs)) rs
-once_behind q qs [] h k = tt
-once_behind q qs (r ∷ rs) h k = (inr (h.0, k.0), once_behind q qs rs h.1 k.1)
+once_after : (q : PeerNo) (qs rs : List PeerNo) → AllByRecursion (λ (r : PeerNo). same_peer q r ≡ false) rs → AllByRecursion (λ r. StandsOnce r qs) rs → AllByRecursion (λ r. StandsOnce r (q ∷ qs)) rs
+once_after q qs [] h k = tt
+once_after q qs (r ∷ rs) h k = (inr (h.0, k.0), once_after q qs rs h.1 k.1)
 
 pub distinct_once : (qs : List PeerNo) → IsDistinct same_peer qs → AllByRecursion (λ q. StandsOnce q qs) qs
 distinct_once [] h = tt
 distinct_once (q ∷ qs) h =
     let apart = IsDistinct-head same_peer q qs h in
-    (inl (refl, turned q qs apart), once_behind q qs qs apart (distinct_once qs (IsDistinct-tail same_peer q qs h)))
+    (inl (refl, turned q qs apart), once_after q qs qs apart (distinct_once qs (IsDistinct-tail same_peer q qs h)))
 
 -- ---- what there is to hear of one neighbour
 
@@ -261,7 +261,7 @@ handled_further before whole vs x spell between =
 pub no_bytes : Spell [] []
 no_bytes = ([], Waits, record { front = []; parts = refl; frames = refl; goes_on = inl (omega arith, tt) })
 
--- what is handled after so many rounds: what was said before the last of them
+-- what is handled after this many rounds: what was said before the last of them
 abbrev pub HandledIn : ℕ → Said → List Rpc → Type 0
 HandledIn zero w rpcs = rpcs ≡ []
 HandledIn (suc r) w rpcs = Spell (bytes_before r w) rpcs
@@ -297,7 +297,7 @@ rounds_handle seat said q (suc r) L refused once (K, earlier, more, before, play
     let one = phase_handles seat said (Playing r) q K L more once plays legal in
     subst (HandledIn (suc r) (said q)) (sym one.now) (one_round r (said q) (handled K q) one.inbound (rounds_handle seat said q r K earlier once before one.before) one.was_said)
 
--- behind the close all that a neighbour said is handled
+-- after the close all that a neighbour said is handled
 life_handles : (seat : Seat) (said : PeerNo → Said) (q : PeerNo) (L : Entries) (refused : List RefusedLine) → StandsOnce q (links_of seat.peer) → Legal seat.peer L → KeepsRounds seat said L refused → Spell (bytes_of (said q)) (handled L q)
 life_handles seat said q L refused once legal keeps =
     let one = phase_handles seat said Closing q keeps.last L [] once keeps.closed legal in

@@ -16,7 +16,7 @@ use Rattle.gs_rules.specs.Hearing.{closes}
 
 -- ---- what is said goes on
 
--- behind what was said come bytes
+-- after what was said come bytes
 abbrev AddsBytes : Outgoing → Outgoing → Type 0
 AddsBytes o p = (bytes : List ℕ) × (p.said ≡ o.said ++ map Byte bytes)
 
@@ -71,7 +71,7 @@ bytes_open : (bytes : List ℕ) → closes (map Byte bytes) ≡ false
 bytes_open [] = refl
 bytes_open (b ∷ bytes) = bytes_open bytes
 
--- nothing stands behind a close
+-- nothing comes after a close
 abbrev EndsByClose : Said → Type 0
 EndsByClose w = (before behind : Said) → w ≡ before ++ Close ∷ behind → behind ≡ []
 
@@ -101,7 +101,7 @@ record SaysInOrder (codec : Codec) (L : Entries) (q : PeerNo) : Type 0 where
   open_while_up : up L q ≡ true → closes (out codec L q) ≡ false
   ends : EndsByClose (out codec L q)
 
--- an event closes, and q isn't up behind it; or it doesn't close
+-- an event closes, and q isn't up after it; or it doesn't close
 abbrev ClosesOrNot : PeerNo → Event → Type 0
 ClosesOrNot q event = ((sign q event ≡ Close ∷ []) × (up_after q event true ≡ false)) ⊎ (closes (sign q event) ≡ false)
 
@@ -149,5 +149,5 @@ in_order codec (e ∷ L) q = by (up L q) refl (in_order codec L q)
               record { open_while_up = λ k. whole; ends = open_ends (out codec (e ∷ L) q) whole }
         ]
 
-pub nothing_behind : (codec : Codec) (L : Entries) (q : PeerNo) (before behind : Said) → out codec L q ≡ before ++ Close ∷ behind → behind ≡ []
-nothing_behind codec L q before behind is = (in_order codec L q).ends before behind is
+pub nothing_after : (codec : Codec) (L : Entries) (q : PeerNo) (before behind : Said) → out codec L q ≡ before ++ Close ∷ behind → behind ≡ []
+nothing_after codec L q before behind is = (in_order codec L q).ends before behind is

@@ -64,7 +64,7 @@ parts_fit q rpc fits =
     (kind_of_parts BringsFitting (λ part. Part q (Want part)) (requests_in rpc.control) _ (λ request. tt)
     (kind_of_parts BringsFitting (λ part. Part q (GraftIn part)) (grafts_in rpc.control) _ (λ graft. tt) (last_parts BringsFitting (λ part. Part q (PruneIn part)) (prunes_in rpc.control) (λ prune. tt))))))
 
--- behind whatever trace
+-- after any trace
 abbrev FittingAnywhere : Entries → Event → Type 0
 FittingAnywhere = λ M. BringsFitting
 

@@ -1,4 +1,4 @@
--- Entries that may come behind others, under one way to choose and under another.
+-- Entries that may come after others, under one way to choose and under another.
 use Rattle.std.proofs.Common.{◌≡◌, ◌<◌, ◌%◌, ℕ, Bool, true, false, nat_eq, if◌then◌else◌, List, [], ◌∷◌, ◌++◌, refl, sym, ap, ap₂, subst, subst₂, ◌∙◌}
 use Rattle.std.proofs.lemmas.List.{append_assoc, append-nil}
 use Rattle.std.proofs.lemmas.Nat.{mod_below}
@@ -24,20 +24,20 @@ says_itself x = record { sends = λ q. refl; delivered = refl; promise = refl; m
 
 -- ---- more entries
 
--- entries behind entries
+-- entries after entries
 pub legal_then : (m : Mode) (p : Peer) (s u t : m.State) (K L M : Entries) → LegalOn m p s K L u → LegalOn m p u (L ++ K) M t → LegalOn m p s K (M ++ L) t
 legal_then m p s u t K L [] legal more = subst (LegalOn m p s K L) (sym more) legal
 legal_then m p s u t K L (e ∷ M) legal more =
     (more.0, legal_then m p s u more.0 K L M legal more.1, subst (λ (N : Entries). IsAllowed m p N more.0 e t) (sym (append_assoc M L K)) more.2)
 
--- legal entries fall into two parts anywhere, the one legal behind the other
+-- legal entries fall into two parts anywhere, the one legal after the other
 pub legal_parts : (m : Mode) (p : Peer) (s t : m.State) (K L M : Entries) → LegalOn m p s K (M ++ L) t → (u : m.State) × LegalOn m p s K L u × LegalOn m p u (L ++ K) M t
 legal_parts m p s t K L [] legal = (t, legal, refl)
 legal_parts m p s t K L (e ∷ M) legal =
     let before = legal_parts m p s legal.0 K L M legal.1 in
     (before.0, before.1, (legal.0, before.2, subst (λ (N : Entries). IsAllowed m p N legal.0 e t) (append_assoc M L K) legal.2))
 
--- a whole trace, and entries behind it
+-- a whole trace, and entries after it
 pub legal_on : (p : Peer) (K M : Entries) → Legal p K → LegalOn free p tt K M tt → Legal p (M ++ K)
 legal_on p K M legal more = legal_then free p tt tt tt [] K M legal (subst (λ (N : Entries). LegalOn free p tt N M tt) (sym (append-nil K)) more)
 
@@ -78,9 +78,6 @@ same_by e x is = subst (SaysTheSame e) is (says_itself e)
 pub choiceless_is_exact : {S : Type 0} (word : S → ℕ) (after : S → S) (s : S) → Weakens choiceless (exact word after) (λ u. s)
 choiceless_is_exact word after s = record { picks = λ k candidates u chosen v h. absurd h; cuts = λ degrees members u kept v h. absurd h; one = λ k u place v h. absurd h; meets = λ e x h. h }
 
-pub choiceless_is_free : Weakens choiceless free (λ u. tt)
-choiceless_is_free = record { picks = λ k candidates u chosen v h. absurd h; cuts = λ degrees members u kept v h. absurd h; one = λ k u place v h. absurd h; meets = same_by }
-
 -- ---- words
 
 below : (is_one : Bool) (n w : ℕ) → 0 < n → (if is_one then 0 else w % n) < n
@@ -101,7 +98,7 @@ module _ {S : Type 0} (word : S → ℕ) (after : S → S) where
     meets = same_by;
   }
 
-  -- ---- one entry alone
+  -- ---- one entry by itself
 
   -- a rule and a state fix the effects and the state after them
   pub follows_alone : (r : Rule) (s : S) (e f : Effects) (t u : S) → Follows (exact word after) r s e t → Follows (exact word after) r s f u → (e ≡ f) × (t ≡ u)

@@ -70,7 +70,7 @@ marks_shut_none p at (mark ∷ marks) H = marks_shut_none p at marks (marked_aft
     by true = mark_shuts_none p.neighbours at mark H
     by false = refl
 
--- an event shuts out whom it loses
+-- an event shuts out the neighbour that it loses
 who_counts : (ns : List Neighbour) (who : Option PeerNo) (H : History) (q : PeerNo) → is_counted (addresses_in ns (shut_out who H)) q ≡ (not (is_lost q who) && is_counted (addresses_in ns H) q)
 who_counts ns None H q = refl
 who_counts ns (Some r) H q = out_counts r q (addresses_in ns H)

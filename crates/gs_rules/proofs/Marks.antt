@@ -85,7 +85,7 @@ pub record MayGraft (p : Peer) (L : Entries) (at : ℕ) (event : Event) (q : Pee
   pub rested : nat_le (backoff L q t) at ≡ true
   pub who : GraftedBy p L event q
 
--- what holds where an entry of this event behind a trace has this mark
+-- what holds where an entry of this event after a trace has this mark
 abbrev pub MayMark : Peer → Entries → ℕ → Event → Mark → Type 0
 MayMark p L at event (First q t id) = ComesOf event q × (joined L t ≡ true)
 MayMark p L at event (Near q t id) = ComesOf event q × (joined L t ≡ true)

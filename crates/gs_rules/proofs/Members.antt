@@ -1,4 +1,4 @@
--- Who is in a mesh: whoever was and was not pruned, and whoever was grafted; on joined topics alone.
+-- Who is in a mesh: whoever was and was not pruned, and whoever was grafted; only on joined topics.
 use Rattle.std.proofs.Common.{◌≡◌, ℕ, Bool, true, false, not, if◌then◌else◌, List, [], ◌∷◌, ◌++◌, map, filter, refl, sym, ap, subst, ◌∙◌, arith}
 use Rattle.std.specs.Prelude.{◌&&◌, ◌||◌}
 use Rattle.std.specs.List.{AllByRecursion, flat_map, list_any}
@@ -85,7 +85,7 @@ abbrev pub ComesAs : Topic → (PeerNo → Type 0) → Mark → Type 0
 ComesAs t Good (Grafted q u) = same_topic u t ≡ true → Good q
 ComesAs t Good other = Unit {0}
 
--- what holds of each member, and of each that is grafted, holds of each member behind the marks
+-- what holds of each member, and of each that is grafted, holds of each member after the marks
 pub members_are : (Good : PeerNo → Type 0) (t : Topic) (marks : List Mark) (before : List PeerNo) → AllByRecursion (ComesAs t Good) marks → AllByRecursion Good before → AllByRecursion Good (after_marks (mesh_after t) marks before)
 members_are Good t [] before come all = all
 members_are Good t (Grafted q u ∷ marks) before come all = members_are Good t marks (mesh_after t (Grafted q u) before) come.1 (by (same_topic u t) refl)
@@ -148,7 +148,7 @@ members_stay t (other ∷ marks) before none = members_stay t marks before none.
 
 -- ---- who is pruned
 
--- what is found among some is found with others behind them
+-- what is found among some is found with others after them
 any_front : (test : Mark → Bool) (xs ys : List Mark) → list_any test xs ≡ true → list_any test (xs ++ ys) ≡ true
 any_front test xs ys is = list_any-append test xs ys ∙ or_left (list_any test xs) (list_any test ys) is
 

@@ -95,8 +95,8 @@ who_comes_again_is_in = refl
 who_comes_and_goes_is_out : mesh (marked (grafted 1 ∷ pruned 1 ∷ []) ∷ []) news ≡ []
 who_comes_and_goes_is_out = refl
 
-on_its_topic_alone : mesh (marked (grafted 1 ∷ []) ∷ []) other ≡ []
-on_its_topic_alone = refl
+only_on_its_topic : mesh (marked (grafted 1 ∷ []) ∷ []) other ≡ []
+only_on_its_topic = refl
 
 -- ---- fanouts
 
@@ -205,10 +205,10 @@ and_so_it_is_for_0_seconds = refl
 more_than_a_day_is_a_day : prune_rule peer in_mesh (at 2_000) (peer_of 1) (prune (Some 100_000)) ≡ prunes_out 86_402_000
 more_than_a_day_is_a_day = refl
 
-who_is_no_member_is_barred_alone
+who_is_no_member_is_only_barred
     : prune_rule peer subscribed (at 2_000) (peer_of 1) (prune (Some 5))
     ≡ record no_effects { marks = barred 1 7_000 ∷ [] }
-who_is_no_member_is_barred_alone = refl
+who_is_no_member_is_only_barred = refl
 
 -- ---- members leave
 
@@ -248,7 +248,7 @@ candidates_are_listeners : candidates peer (on_news 1 ∷ on_news 3 ∷ marked (
 unfolding score score_of topic_part times
 candidates_are_listeners = refl
 
--- all are told, and each member is pruned for ten seconds
+-- all hear of it, and each member is pruned for ten seconds
 to_leave_a_topic_prunes_its_members
     : unsubscribe_rule peer in_mesh (at 2_000) news
     ≡ record no_effects {

@@ -18,8 +18,8 @@ use Rattle.gs_rules.specs.Modes.{SaysTheSame, Follows, free}
 
 -- ---- what the rule gives
 
--- What holds of an entry that does nothing, of one that counts the offer alone and of each that asks for what is
--- wanted, holds of any that follows the rule.
+-- What holds of an entry that does nothing, of one that only counts the offer and of each that asks for what is wanted,
+-- holds of any that follows the rule.
 module _ (Q : Entry → Type 0) (p : Peer) (L : Entries) (at : Millis) (q : PeerNo) (offer : IHave) (e : Entry) (none : SaysTheSame e.effects no_effects → Q e) (alone : SaysTheSame e.effects (counted q) → Q e) (asks : (place : ℕ) → SaysTheSame e.effects (asking p at q (wanted p L at.0 q offer.ids) place) → Q e) where
   when_asked : (ids : List (List ℕ)) → ((place : ℕ) → SaysTheSame e.effects (asking p at q ids place) → Q e) → Follows free (asked_for p at q ids) tt e.effects tt → Q e
   when_asked [] these effects = alone effects.0

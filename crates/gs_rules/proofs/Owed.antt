@@ -37,7 +37,7 @@ IsOwed Shut = ⊥
 -- ---- what holds of events that are owed together
 
 module _ (P : Event → Type 0) where
-  -- parts of one kind, and those behind them
+  -- parts of one kind, and those after them
   pub kind_of_parts : {X : Type 0} (part : X → Event) (xs : List X) (rest : List Event) → ((x : X) → P (part x)) → AllByRecursion P rest → AllByRecursion P (map part xs ++ rest)
   kind_of_parts part [] rest each h = h
   kind_of_parts part (x ∷ xs) rest each h = (each x, kind_of_parts part xs rest each h)
@@ -72,13 +72,13 @@ module _ (P : Event → Type 0) where
 
 -- ---- what holds of all that is owed
 
--- It may hold behind one trace and not behind another, and groups be reached behind some traces only.
+-- It may hold after one trace and not after another, and groups be reached after some traces only.
 module _ (p : Peer) (Stands : Entries → Type 0) (P : Entries → Event → Type 0) where
   -- it holds of each event of these groups, wherever they are reached
   abbrev pub ReachesSuch : List Group → Type 0
   ReachesSuch groups = AllByRecursion (λ (group : Group). (M : Entries) → Stands M → AllByRecursion (P M) (events_in p M group)) groups
 
-  -- it holds of each event of the group that was reached, and of those of each group behind that
+  -- it holds of each event of the group that was reached, and of those of each group after that
   abbrev pub OwesSuch : Entries → Debt → Type 0
   OwesSuch M debt = AllByRecursion (P M) debt.events × ReachesSuch debt.groups
 
@@ -147,7 +147,7 @@ heartbeat_is_owed p at =
     (λ M here. of_each (λ (t : Topic). IsOwed (Step (MeshBeat t))) (λ t. tt) (own_topics M)) (λ M t. tt) (λ M t. tt)
     (λ M here. of_each (λ (t : Topic). IsOwed (Step (GossipBeat t))) (λ t. tt) (gossip_topics p M)) (λ M. tt)
 
--- these alone are ever owed
+-- only these are ever owed
 pub owed_are_such : (p : Peer) (L : Entries) → OwesSuch p Anywhere OwedAnywhere L (owed p L)
 owed_are_such p [] = (tt, tt)
 owed_are_such p (e ∷ L) =
@@ -175,27 +175,6 @@ due_is_owed p L at event some next = next_is_owed p L at (owed p L).events event
 pub owes_none : (p : Peer) (L M : Entries) (at : ℕ) (event : Event) (before : Debt) → owes p L at event ≡ [] → owing p M (owes p L at event) before ≡ paid p M before
 owes_none p L M at event before none = ap (λ (groups : List Group). owing p M groups before) none
 
--- one of the last group
-pub paid_last : (p : Peer) (L : Entries) (events : List Event) → paid p L (record { events = events; groups = [] }) ≡ record { events = drop 1 events; groups = [] }
-paid_last p L [] = refl
-paid_last p L (one ∷ []) = refl
-paid_last p L (one ∷ other ∷ events) = refl
-
--- an RPC that is heard owes its parts
-pub heard_owes : (p : Peer) (L : Entries) (q : PeerNo) (rpc : Rpc) → reached p L (PartsOf q rpc ∷ []) ≡ record { events = parts q rpc; groups = [] }
-heard_owes p L q rpc = by (parts q rpc)
-  where
-    by : (events : List Event) → held_or events [] nothing ≡ record { events = events; groups = [] }
-    by [] = refl
-    by (event ∷ events) = refl
-
--- where events are left of a group, one of them leaves the others, and the last one leads to the groups behind
-pub paid_one : (p : Peer) (L : Entries) (first second : Event) (rest : List Event) (groups : List Group) → paid p L (record { events = first ∷ second ∷ rest; groups = groups }) ≡ record { events = second ∷ rest; groups = groups }
-paid_one p L first second rest groups = refl
-
-pub paid_group : (p : Peer) (L : Entries) (first : Event) (groups : List Group) → paid p L (record { events = first ∷ []; groups = groups }) ≡ reached p L groups
-paid_group p L first groups = refl
-
 -- the last group of a heartbeat is gossip, and its end
 pub beat_owes : (p : Peer) (L : Entries) → reached p L (Gossips ∷ []) ≡ record { events = beats (gossip_topics p L); groups = [] }
 beat_owes p L = by (gossip_topics p L)
@@ -204,7 +183,7 @@ beat_owes p L = by (gossip_topics p L)
     by [] = refl
     by (t ∷ topics) = refl
 
--- behind the charges the groups of a heartbeat are owed, and nothing else
+-- after the charges the groups of a heartbeat are owed, and nothing else
 pub owed_at_beat : (p : Peer) (L : Entries) (e : Entry) → e.event ≡ BeatBegin → owed p (e ∷ L) ≡ reached p (e ∷ L) (heartbeat_groups e.at.0)
 owed_at_beat p L e beat = ap (λ (event : Event). owing p (e ∷ L) (owes p L e.at.0 event) (owed p L)) beat
 
@@ -213,14 +192,14 @@ pub owed_within : (p : Peer) (L : Entries) (e : Entry) (first second : Event) (r
 owed_within p L e first second rest groups due none =
     owes_none p L (e ∷ L) e.at.0 e.event (owed p L) none ∙ ap (paid p (e ∷ L)) due
 
--- and behind the last one of it the groups behind are reached
+-- and after the last one of its group the next groups are reached
 pub owed_behind : (p : Peer) (L : Entries) (e : Entry) (last : Event) (groups : List Group) → owed p L ≡ record { events = last ∷ []; groups = groups } → owes p L e.at.0 e.event ≡ [] → owed p (e ∷ L) ≡ reached p (e ∷ L) groups
 owed_behind p L e last groups due none =
     owes_none p L (e ∷ L) e.at.0 e.event (owed p L) none ∙ ap (paid p (e ∷ L)) due
 
 -- ---- what is owed in a legal trace
 
--- What holds of what is owed behind each legal trace, where what is owed leaves it as it is.
+-- What holds of what is owed after each legal trace, where what is owed leaves it as it is.
 module _ (p : Peer) (P : Entries → Event → Type 0) (stays : (L : Entries) (e : Entry) → IsOwed e.event → (event : Event) → P L event → P (e ∷ L) event) where
   all_stay : (L : Entries) (e : Entry) (events : List Event) → AllByRecursion IsOwed events → IsNext p L e.at.0 events e.event → AllByRecursion (P L) events → AllByRecursion (P (e ∷ L)) events
   all_stay L e [] own next all = tt

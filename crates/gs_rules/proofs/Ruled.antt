@@ -97,8 +97,8 @@ pub each_chosen : (P : PeerNo → Type 0) (k : ℕ) (candidates chosen : List Pe
 each_chosen P k candidates chosen all sample =
     recursion_from_All P chosen (All-weaker (Contains candidates) P (λ q has. All-contains P candidates q (All-from_recursion P candidates all) has) chosen sample.members)
 
--- What follows where a payload is published and its fanout is unused, kept, or filled by whom it goes to, none of whom is
--- explicit, follows of any effects of the rule.
+-- The fanout of a published payload is unused, kept, or filled by those that get it, none of them explicit. What
+-- follows of each way follows of any effects of the rule.
 module _ (Q : Type 0) (p : Peer) (L : Entries) (t : Topic) (payload : List ℕ) (e : Entry)
     (unused : (receivers : List PeerNo) → SaysTheSame e.effects (publishing p L t payload receivers Unused) → Q)
     (kept : (receivers : List PeerNo) → SaysTheSame e.effects (publishing p L t payload receivers Kept) → Q)
@@ -127,7 +127,7 @@ module _ (Q : Type 0) (p : Peer) (L : Entries) (t : Topic) (payload : List ℕ) 
 abbrev pub mesh_change_at : Peer → Entries → ℕ → Topic → List PeerNo → List PeerNo → MeshChange
 mesh_change_at p L at t kept come = mesh_change (scored_members p L at (mesh L t)) (scored_members p L at (candidates p L at t)) kept come
 
--- the rule of a mesh that a heartbeat mends, behind who is kept and who comes in by its number of members
+-- the rule of a mesh that a heartbeat mends, after it is chosen who is kept and who comes in by its number of members
 abbrev mends_with : Peer → Entries → Millis → Topic → List PeerNo → List PeerNo → List PeerNo → Rule
 mends_with p L at t kept come more = Gives (mending p L at t (mesh_change_at p L at.0 t kept (come ++ more)))
 

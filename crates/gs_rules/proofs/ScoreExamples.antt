@@ -115,7 +115,7 @@ two_give_one : score peer (first_on news q ∷ first_on news q ∷ []) 0 q ≡ p
 unfolding score score_of topic_part times
 two_give_one = refl
 
--- only whom a mark names gets it
+-- only the neighbour that a mark names gets it
 another_gets_nothing_of_it : score peer (first_on news q ∷ []) 0 other ≡ pos 0
 unfolding score score_of topic_part times
 another_gets_nothing_of_it = refl
@@ -143,9 +143,9 @@ unfolding score score_of topic_part times
 a_step_leaves_half = refl
 
 -- one and a half, on a topic that counts half
-a_delivery_behind_a_step_counts_whole : score peer (first_on news q ∷ entry Decay ∷ first_on news q ∷ []) 0 q ≡ pos 750_000
+a_delivery_after_a_step_counts_whole : score peer (first_on news q ∷ entry Decay ∷ first_on news q ∷ []) 0 q ≡ pos 750_000
 unfolding score score_of topic_part times
-a_delivery_behind_a_step_counts_whole = refl
+a_delivery_after_a_step_counts_whole = refl
 
 -- half squared is a quarter
 a_step_leaves_a_quarter_of_what_an_invalid_message_costs : score peer (entry Decay ∷ invalid_on news q ∷ []) 0 q ≡ neg_ℤ (pos 1_250_000)
@@ -213,7 +213,7 @@ a_shut_changes_nothing = refl
 
 -- ---- what a low score costs
 
--- the application gives neighbour 1 so many millionths less than nothing
+-- the application gives neighbour 1 n millionths less than nothing
 abbrev scored : ℕ → Peer
 scored n = among (linked q (7 ∷ []) (neg_ℤ (pos n)) ∷ linked other (8 ∷ []) (pos 0) ∷ [])
 
@@ -285,9 +285,9 @@ a_request_of_another_is_answered : want_rule (scored 10_000_001) listening (reco
 unfolding score score_of topic_part times
 a_request_of_another_is_answered = refl
 
-a_message_is_told_to_who_is_at_the_threshold : gossip_candidates (scored 10_000_000) listening 0 news ≡ q ∷ other ∷ []
+a_message_is_offered_to_who_is_at_the_threshold : gossip_candidates (scored 10_000_000) listening 0 news ≡ q ∷ other ∷ []
 unfolding score score_of topic_part times
-a_message_is_told_to_who_is_at_the_threshold = refl
+a_message_is_offered_to_who_is_at_the_threshold = refl
 
 and_not_to_who_is_ignored : gossip_candidates (scored 10_000_001) listening 0 news ≡ other ∷ []
 unfolding score score_of topic_part times

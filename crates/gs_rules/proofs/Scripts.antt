@@ -15,7 +15,7 @@ use Rattle.gs_rules.specs.Peers.{Peer, links_of}
 use Rattle.gs_rules.specs.Tables.{Entries, up}
 use Rattle.gs_rules.specs.Legal.{Comes, Legal}
 use Rattle.gs_rules.specs.Refusals.{refusal}
-use Rattle.gs_rules.specs.Saying.{Said, SaysFramesAlone, raw_to}
+use Rattle.gs_rules.specs.Saying.{Said, SaysOnlyFrames, raw_to}
 use Rattle.gs_rules.specs.Hearing.{Inbound}
 use Rattle.gs_rules.specs.Rounds.{AfterRounds, Beat, Closing, DecayCounters, Does, EndRound, Hear, HearFault, HearGone, KeepsRounds, Obey, Phase, Playing, Plays, PutsNoBytes, Seat, Stop, Todo, agenda, beats_in, decays_in, ending, hears, hears_of, is_at, is_broken, is_due, lines_at, moment_of, obey, opening, unless_refused}
 use Rattle.gs_rules.proofs.Each.{each_mapped, each_passing, of_each}
@@ -31,7 +31,7 @@ owed_is_quiet q (Part r part) h = refl
 owed_is_quiet q (Step step) h = refl
 owed_is_quiet q other h = absurd h
 
-paid_are_quiet : (q : PeerNo) (L : Entries) (paid : List Entry) → AllByRecursion (λ (e : Entry). IsOwed e.event) paid → SaysFramesAlone q L → SaysFramesAlone q (paid ++ L)
+paid_are_quiet : (q : PeerNo) (L : Entries) (paid : List Entry) → AllByRecursion (λ (e : Entry). IsOwed e.event) paid → SaysOnlyFrames q L → SaysOnlyFrames q (paid ++ L)
 paid_are_quiet q L [] owed before = before
 paid_are_quiet q L (e ∷ paid) owed before = (owed_is_quiet q e.event owed.0, paid_are_quiet q L paid owed.1 before)
 
@@ -66,16 +66,16 @@ opening_is_quiet p q K at Beat quiet = refl
 opening_is_quiet p q K at (EndRound r) quiet = refl
 opening_is_quiet p q K at Stop quiet = refl
 
-comes_quietly : (p : Peer) (q : PeerNo) (at : Millis) (event : Option Event) (K L : Entries) → Comes p at event K L → Legal p L → OpensQuietly q event → SaysFramesAlone q K → SaysFramesAlone q L
-comes_quietly p q at None K L comes legal quiet before = subst (SaysFramesAlone q) (sym comes) before
+comes_quietly : (p : Peer) (q : PeerNo) (at : Millis) (event : Option Event) (K L : Entries) → Comes p at event K L → Legal p L → OpensQuietly q event → SaysOnlyFrames q K → SaysOnlyFrames q L
+comes_quietly p q at None K L comes legal quiet before = subst (SaysOnlyFrames q) (sym comes) before
 comes_quietly p q at (Some event) K L comes legal quiet before =
     let b = comes.begun in
     let paid = payments_are_owed p at (b.first ∷ K) b.paid b.payments (subst (Legal p) b.entries legal) in
-    subst (SaysFramesAlone q) (sym b.entries)
+    subst (SaysOnlyFrames q) (sym b.entries)
     (paid_are_quiet q (b.first ∷ K) b.paid paid (subst (IsQuiet q) (sym b.opened) quiet, before))
 
-does_quietly : (p : Peer) (q : PeerNo) (at : Millis) (todos : List Todo) (K L : Entries) (refused : List RefusedLine) → Does p at todos K L refused → Legal p L → AllByRecursion (DoesQuietly q) todos → SaysFramesAlone q K → SaysFramesAlone q L
-does_quietly p q at [] K L refused h legal quiet before = subst (SaysFramesAlone q) (sym h.0) before
+does_quietly : (p : Peer) (q : PeerNo) (at : Millis) (todos : List Todo) (K L : Entries) (refused : List RefusedLine) → Does p at todos K L refused → Legal p L → AllByRecursion (DoesQuietly q) todos → SaysOnlyFrames q K → SaysOnlyFrames q L
+does_quietly p q at [] K L refused h legal quiet before = subst (SaysOnlyFrames q) (sym h.0) before
 does_quietly p q at (todo ∷ todos) K L refused (M, later, comes, does, is) legal quiet before =
     does_quietly p q at todos M L later does legal quiet.1
     (comes_quietly p q at (opening p K at todo) K M comes (legal_then_before p M L (does_on p at todos M L later does) legal) (opening_is_quiet p q K at todo quiet.0) before)
@@ -125,8 +125,8 @@ agenda_is_quiet seat Closing q xs quiet = (tt, hears_are_quiet q (links_of seat.
 
 -- ---- over the rounds
 
--- the trace before a phase is legal, and the one behind it is as quiet
-plays_quietly : (seat : Seat) (said : PeerNo → Said) (phase : Phase) (q : PeerNo) (K L : Entries) (refused : List RefusedLine) → Plays seat said phase K L refused → Legal seat.peer L → PutsNoBytes q seat.lines → SaysFramesAlone q K → SaysFramesAlone q L
+-- the trace before a phase is legal, and the one after it is as quiet
+plays_quietly : (seat : Seat) (said : PeerNo → Said) (phase : Phase) (q : PeerNo) (K L : Entries) (refused : List RefusedLine) → Plays seat said phase K L refused → Legal seat.peer L → PutsNoBytes q seat.lines → SaysOnlyFrames q K → SaysOnlyFrames q L
 plays_quietly seat said phase q K L refused plays legal quiet =
     does_quietly seat.peer q (moment_of seat phase) (agenda seat phase plays.inbound) K L refused plays.does legal (agenda_is_quiet seat phase q plays.inbound quiet)
 
@@ -134,14 +134,14 @@ legal_before_phase : (seat : Seat) (said : PeerNo → Said) (phase : Phase) (K L
 legal_before_phase seat said phase K L refused plays legal =
     legal_then_before seat.peer K L (does_on seat.peer (moment_of seat phase) (agenda seat phase plays.inbound) K L refused plays.does) legal
 
-rounds_are_quiet : (seat : Seat) (said : PeerNo → Said) (q : PeerNo) (r : ℕ) (L : Entries) (refused : List RefusedLine) → AfterRounds seat said r L refused → Legal seat.peer L → PutsNoBytes q seat.lines → SaysFramesAlone q L
-rounds_are_quiet seat said q zero L refused h legal quiet = subst (SaysFramesAlone q) (sym h.0) tt
+rounds_are_quiet : (seat : Seat) (said : PeerNo → Said) (q : PeerNo) (r : ℕ) (L : Entries) (refused : List RefusedLine) → AfterRounds seat said r L refused → Legal seat.peer L → PutsNoBytes q seat.lines → SaysOnlyFrames q L
+rounds_are_quiet seat said q zero L refused h legal quiet = subst (SaysOnlyFrames q) (sym h.0) tt
 rounds_are_quiet seat said q (suc r) L refused (K, earlier, more, before, plays, is) legal quiet =
     plays_quietly seat said (Playing r) q K L more plays legal quiet
     (rounds_are_quiet seat said q r K earlier before (legal_before_phase seat said (Playing r) K L more plays legal) quiet)
 
 -- a peer whose script puts no bytes on a link says nothing there but frames
-pub script_says_frames : (seat : Seat) (said : PeerNo → Said) (q : PeerNo) (L : Entries) (refused : List RefusedLine) → KeepsRounds seat said L refused → Legal seat.peer L → PutsNoBytes q seat.lines → SaysFramesAlone q L
+pub script_says_frames : (seat : Seat) (said : PeerNo → Said) (q : PeerNo) (L : Entries) (refused : List RefusedLine) → KeepsRounds seat said L refused → Legal seat.peer L → PutsNoBytes q seat.lines → SaysOnlyFrames q L
 script_says_frames seat said q L refused keeps legal quiet =
     plays_quietly seat said Closing q keeps.last L [] keeps.closed legal quiet
     (rounds_are_quiet seat said q (suc seat.rounds) keeps.last refused keeps.played (legal_before_phase seat said Closing keeps.last L [] keeps.closed legal) quiet)

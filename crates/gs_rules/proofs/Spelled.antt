@@ -1,5 +1,5 @@
 -- What a legal trace says to a neighbour are frames, where it puts no other bytes on the link; joined with what is
--- gathered behind them, they say what it sends there.
+-- gathered after them, they say what it sends there.
 use Rattle.std.proofs.Common.{◌≡◌, ℕ, Bool, true, false, if◌then◌else◌, List, [], ◌∷◌, ◌++◌, length, map, Option, Some, None, refl, sym, ap, ap₂, subst, ◌∙◌, append_assoc, append-nil, arith, inl, ◌≤◌}
 use Rattle.std.specs.Prelude.{IfSome, option_to_list}
 use Rattle.std.specs.List.{flat_map, AllByRecursion}
@@ -23,7 +23,7 @@ use Rattle.gs_rules.specs.Peers.{Peer}
 use Rattle.gs_rules.specs.Tables.{Entries, is_lost, lost, up}
 use Rattle.gs_rules.specs.Modes.{sent_to}
 use Rattle.gs_rules.specs.Legal.{Legal}
-use Rattle.gs_rules.specs.Saying.{Byte, EndOf, Close, Said, SaysFramesAlone, Outgoing, bytes_of, behind_entry, cut_out, frames_of, gather, gathered, is_cut, out, outgoing, raw_to, sending, sending_all, sent, sign}
+use Rattle.gs_rules.specs.Saying.{Byte, EndOf, Close, Said, SaysOnlyFrames, Outgoing, bytes_of, behind_entry, cut_out, frames_of, gather, gathered, is_cut, out, outgoing, raw_to, sending, sending_all, sent, sign}
 use Rattle.gs_rules.specs.Hearing.{Spell}
 use Rattle.gs_rules.proofs.Fitting.{IsWritten, SendsWritten, AllWritten, legal_written, short_body}
 use Rattle.gs_rules.proofs.Handled.{spelled_once}
@@ -99,7 +99,7 @@ record AreSpelled (said : Said) (held : Option Rpc) (vs : List Rpc) : Type 0 whe
 abbrev GoesOut : Outgoing → List Rpc → Type 0
 GoesOut o vs = AreSpelled o.said o.gathered vs
 
--- more is said, of which no byte is one
+-- more is said, and it has no bytes
 more_said : (said w : Said) (held : Option Rpc) (vs : List Rpc) → bytes_of w ≡ [] → AreSpelled said held vs → AreSpelled (said ++ w) held vs
 more_said said w held vs none before = record {
   rpcs = before.rpcs;
@@ -178,24 +178,24 @@ signed q event none =
     bytes_of_append (map Byte (raw_to q event)) (sign q event)
     ∙ ap₂ (λ (xs ys : List ℕ). xs ++ ys) (bytes_of_bytes (raw_to q event) ∙ none) (sign_silent q event)
 
-goes_behind : (q : PeerNo) (o : Outgoing) (vs : List Rpc) (e : Entry) → SendsWritten e.effects.sends → raw_to q e.event ≡ [] → GoesOut o vs → GoesOut (behind_entry codec q o e) (vs ++ sent_to q e.effects.sends)
-goes_behind q o vs e written none before =
+goes_after : (q : PeerNo) (o : Outgoing) (vs : List Rpc) (e : Entry) → SendsWritten e.effects.sends → raw_to q e.event ≡ [] → GoesOut o vs → GoesOut (behind_entry codec q o e) (vs ++ sent_to q e.effects.sends)
+goes_after q o vs e written none before =
     let sent_now : Outgoing = sending_all codec o (sent_to q e.effects.sends) in
     let cut_now : Outgoing = if is_cut q e.event then cut_out codec sent_now else sent_now in
     more_said cut_now.said (map Byte (raw_to q e.event) ++ sign q e.event) cut_now.gathered (vs ++ sent_to q e.effects.sends) (signed q e.event none) (cuts_if (is_cut q e.event) sent_now (vs ++ sent_to q e.effects.sends) (sends_all o vs (sent_to q e.effects.sends) (received_written q e.effects.sends written) before))
 
-goes_out : (L : Entries) (q : PeerNo) → AllWritten L → SaysFramesAlone q L → GoesOut (outgoing codec L q) (sent L q)
+goes_out : (L : Entries) (q : PeerNo) → AllWritten L → SaysOnlyFrames q L → GoesOut (outgoing codec L q) (sent L q)
 goes_out [] q all alone = record { rpcs = []; frames = refl; written = tt; held_written = tt; all = refl }
 goes_out (e ∷ L) q all alone = by (up L q) (goes_out L q all.1 alone.1)
   where
     by : (is_up : Bool) → GoesOut (outgoing codec L q) (sent L q) → GoesOut (if is_up then behind_entry codec q (outgoing codec L q) e else outgoing codec L q) (if is_up then sent L q ++ sent_to q e.effects.sends else sent L q)
     by false before = before
-    by true before = goes_behind q (outgoing codec L q) (sent L q) e all.0 alone.0 before
+    by true before = goes_after q (outgoing codec L q) (sent L q) e all.0 alone.0 before
 
 -- ---- what is sent is spelled
 
 -- these RPCs are spelled, and joined with what is gathered they are what is sent
-pub sent_is_spelled : (p : Peer) (L : Entries) (q : PeerNo) → Legal p L → SaysFramesAlone q L → (rpcs : List Rpc) × Spell (bytes_of (out codec L q)) rpcs × (joined_options (joined_rpcs rpcs) (gathered codec L q) ≡ joined_rpcs (sent L q))
+pub sent_is_spelled : (p : Peer) (L : Entries) (q : PeerNo) → Legal p L → SaysOnlyFrames q L → (rpcs : List Rpc) × Spell (bytes_of (out codec L q)) rpcs × (joined_options (joined_rpcs rpcs) (gathered codec L q) ≡ joined_rpcs (sent L q))
 sent_is_spelled p L q legal alone =
     let goes = goes_out L q (legal_written p L legal) alone in
     let stream : IsStream longest_body (bytes_of (out codec L q)) goes.rpcs [] Waits =
@@ -203,12 +203,12 @@ sent_is_spelled p L q legal alone =
     (goes.rpcs, ([], Waits, stream), goes.all)
 
 -- whatever RPCs are spelled
-pub spelled_joined : (p : Peer) (L : Entries) (q : PeerNo) (vs : List Rpc) → Legal p L → SaysFramesAlone q L → Spell (bytes_of (out codec L q)) vs → joined_options (joined_rpcs vs) (gathered codec L q) ≡ joined_rpcs (sent L q)
+pub spelled_joined : (p : Peer) (L : Entries) (q : PeerNo) (vs : List Rpc) → Legal p L → SaysOnlyFrames q L → Spell (bytes_of (out codec L q)) vs → joined_options (joined_rpcs vs) (gathered codec L q) ≡ joined_rpcs (sent L q)
 spelled_joined p L q vs legal alone spell =
     let (rpcs, are, all) = sent_is_spelled p L q legal alone in
     ap (λ (us : List Rpc). joined_options (joined_rpcs us) (gathered codec L q)) (spelled_once (bytes_of (out codec L q)) vs rpcs spell are) ∙ all
 
 -- and nothing is left
-pub handled_joined : (p : Peer) (L : Entries) (q : PeerNo) (vs : List Rpc) → Legal p L → SaysFramesAlone q L → Spell (bytes_of (out codec L q)) vs → gathered codec L q ≡ None → joined_rpcs vs ≡ joined_rpcs (sent L q)
+pub handled_joined : (p : Peer) (L : Entries) (q : PeerNo) (vs : List Rpc) → Legal p L → SaysOnlyFrames q L → Spell (bytes_of (out codec L q)) vs → gathered codec L q ≡ None → joined_rpcs vs ≡ joined_rpcs (sent L q)
 handled_joined p L q vs legal alone spell none =
     ap (joined_options (joined_rpcs vs)) (sym none) ∙ spelled_joined p L q vs legal alone spell

@@ -161,9 +161,6 @@ passing_are P test (x ∷ xs) each = by (test x) refl (passing_are P test xs eac
     by true is rest = rw is (each x is, rest)
     by false is rest = rw is rest
 
-pub own_short : (p : Peer) (L : Entries) → Legal p L → AllByRecursion IsShort (own_topics L)
-own_short p L legal = ascending_are IsShort (filter (joined L) (known L)) (passing_are IsShort (joined L) (known L) (λ t. joined_short p L t legal))
-
 pub own_ascend : (L : Entries) → IsStrictlySortedBy topic_order (own_topics L)
 own_ascend L = ascending_sorted (filter (joined L) (known L))
 

@@ -99,16 +99,16 @@ comes_up p L at event t each other may = tt
 
 module _ (p : Peer) (L : Entries) (t : Topic) (legal : Legal p L) where
   -- whoever is lost is pruned
-  lost_pruned : (event : Event) (e : Entry) (r : PeerNo) → SaysTheSame e.effects (lost_rule p L e.at r) → is_among (mesh L t) r ≡ true → list_any (prunes t r) e.effects.marks ≡ true
-  lost_pruned event e r same member =
+  lost_pruned : (e : Entry) (r : PeerNo) → SaysTheSame e.effects (lost_rule p L e.at r) → is_among (mesh L t) r ≡ true → list_any (prunes t r) e.effects.marks ≡ true
+  lost_pruned e r same member =
       let stands : list_any (same_topic t) (mesh_topics L) ≡ true = joined_has_mesh L t (member_joined p L r t legal member) in
       let marked : list_any (prunes t r) (losing_marks p L e.at.0 r) ≡ true =
       leaving_prunes p L e.at.0 t r (meshes_with L r (mesh_topics L)) _ (pruned_with L r t (mesh_topics L) stands member) in
       sym (list_any-IsPermutation (prunes t r) (lost_rule p L e.at r).marks e.effects.marks same.marks) ∙ marked
 
   -- so that who stays was up and is another
-  lost_up : (event : Event) (e : Entry) (r : PeerNo) → SaysTheSame e.effects (lost_rule p L e.at r) → AllByRecursion GraftsNone e.effects.marks → AllByRecursion (λ q. up L q ≡ true) (mesh L t) → AllByRecursion (λ q. (if same_peer r q then false else up L q) ≡ true) (after_marks (mesh_after t) e.effects.marks (mesh L t))
-  lost_up event e r same none before =
+  lost_up : (e : Entry) (r : PeerNo) → SaysTheSame e.effects (lost_rule p L e.at r) → AllByRecursion GraftsNone e.effects.marks → AllByRecursion (λ q. up L q ≡ true) (mesh L t) → AllByRecursion (λ q. (if same_peer r q then false else up L q) ≡ true) (after_marks (mesh_after t) e.effects.marks (mesh L t))
+  lost_up e r same none before =
       each_weaker (Stays t (mesh L t) e.effects.marks) (λ q. (if same_peer r q then false else up L q) ≡ true)
       (λ q stays. by q stays (same_peer r q) refl) (after_marks (mesh_after t) e.effects.marks (mesh L t)) (members_stay t e.effects.marks (mesh L t) none)
     where
@@ -116,12 +116,12 @@ module _ (p : Peer) (L : Entries) (t : Topic) (legal : Legal p L) where
       by q stays true is =
           let itself : r ≡ q = one_peer r q is in
           let member : is_among (mesh L t) r ≡ true = subst (λ (s : PeerNo). is_among (mesh L t) s ≡ true) (sym itself) stays.0 in
-          absurd (never (list_any (prunes t r) e.effects.marks) (lost_pruned event e r same member) (subst (λ (s : PeerNo). list_any (prunes t s) e.effects.marks ≡ false) (sym itself) stays.1))
+          absurd (never (list_any (prunes t r) e.effects.marks) (lost_pruned e r same member) (subst (λ (s : PeerNo). list_any (prunes t s) e.effects.marks ≡ false) (sym itself) stays.1))
       by q stays false is = of_member (λ s. up L s ≡ true) (mesh L t) q before stays.0
 
   lost_step : (event : Event) (e : Entry) (r : PeerNo) → ((q : PeerNo) → ¬ (GraftedBy p L event q)) → Follows free (rule_of p L e.at event) tt e.effects tt → SaysTheSame e.effects (lost_rule p L e.at r) → AllByRecursion (λ q. up L q ≡ true) (mesh L t) → AllByRecursion (λ q. (if same_peer r q then false else up L q) ≡ true) (after_marks (mesh_after t) e.effects.marks (mesh L t))
   lost_step event e r none effects same before =
-      lost_up event e r same (each_weaker (MayMark p L e.at.0 event) GraftsNone (grafts_none_lost p L e.at.0 event none) e.effects.marks (entry_marks p L event e effects)) before
+      lost_up e r same (each_weaker (MayMark p L e.at.0 event) GraftsNone (grafts_none_lost p L e.at.0 event none) e.effects.marks (entry_marks p L event e effects)) before
 
   up_step : (event : Event) (e : Entry) → IsNext p L e.at.0 (owed p L).events event → Follows free (rule_of p L e.at event) tt e.effects tt → is_shut_after event (is_shut L) ≡ false → (is_shut L ≡ false → AllByRecursion (λ q. up L q ≡ true) (mesh L t)) → AllByRecursion (λ q. up_after q event (up L q) ≡ true) (after_marks (mesh_after t) e.effects.marks (mesh L t))
   up_step (Lost r loss) e next effects running before = lost_step (Lost r loss) e r (λ q h. h) effects effects.0 (before running)
@@ -172,7 +172,7 @@ was_rested p later L e q t legal among =
 
 -- ---- members stand in order
 
--- each is below all that stand behind it
+-- each is below all that stand after it
 abbrev Rises : List PeerNo → Type 0
 Rises [] = Unit {0}
 Rises (q ∷ qs) = AllByRecursion (λ (r : PeerNo). q.0 < r.0) qs × Rises qs

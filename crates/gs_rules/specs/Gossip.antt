@@ -9,7 +9,7 @@ use Rattle.gs_base.specs.declared.mark.Mark.TheVariants.{Misbehaviour, Seen}
 use Rattle.gs_base.specs.Names.{same_id, same_peer, same_topic}
 use Rattle.gs_base.specs.Rpcs.{most_identifiers}
 use Rattle.gs_rules.specs.declared.event.Event.{Event}
-use Rattle.gs_rules.specs.declared.event.Event.TheVariants.{BeatBegin}
+use Rattle.gs_rules.specs.Events.{of_beginning}
 use Rattle.gs_rules.specs.declared.trace.Promise.{Promise}
 use Rattle.gs_rules.specs.declared.trace.Entry.{Entry}
 use Rattle.gs_rules.specs.Peers.{Peer, links_of, windows}
@@ -35,8 +35,7 @@ keeps_promise promise other = false
 
 -- whether an event at this moment ends a promise: a heartbeat does, once its time has come
 abbrev pub ends_promise : Promise → Event → ℕ → Bool
-ends_promise promise BeatBegin at = nat_le promise.until.0 at
-ends_promise promise other at = false
+ends_promise promise event at = of_beginning (nat_le promise.until.0 at) false event
 
 -- An entry neither keeps a promise nor ends it.
 pub record IsOpen (promise : Promise) (e : Entry) : Type 0 where

@@ -1,3 +1,4 @@
+pub mod Events
 pub mod Peers
 pub mod Tables
 pub mod Stored

@@ -42,8 +42,8 @@ is_full_for p L q t =
     if nat_le p.params.degrees.d_high (length (mesh L t)) then not (is_outbound p q) else false
 
 -- A GRAFT on a topic that the peer isn't subscribed to, or of a member, is passed over. One of an explicit neighbour is
--- refused, whenever it comes. One that comes too soon is refused, and counts against its sender; one of a neighbour that
--- scores below 0, or for whom there is no room, is refused.
+-- refused, whenever it comes. One that comes too soon is refused, and counts against its sender. One is refused, too,
+-- where its sender scores below 0 or there is no room for it.
 abbrev pub graft_answer : Peer → Entries → ℕ → PeerNo → Topic → GraftAnswer
 graft_answer p L at q t =
     if not (joined L t) then PassedOver
@@ -151,8 +151,8 @@ publishing p L t payload chosen fanout = record no_effects {
   marks = Seen (message_id payload) Accept ∷ Cached (message_id payload) t ∷ fanout_marks fanout t chosen;
 }
 
--- the neighbours that may be in the fanout of a topic: those that are up, on it, not explicit, and to whom the peer
--- publishes
+-- the neighbours that may be in the fanout of a topic: those that are up, on it, not explicit, and that the peer
+-- publishes to
 abbrev pub receivers : Peer → Entries → ℕ → Topic → List PeerNo
 receivers p L at t = without (is_passed_over p L at) (ordinary_listeners p L t)
 

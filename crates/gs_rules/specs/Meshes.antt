@@ -10,7 +10,7 @@ use Rattle.gs_base.specs.declared.mark.Mark.TheVariants.{Seen, First, Near, Graf
 use Rattle.gs_base.specs.Names.{same_id, same_peer, same_topic}
 use Rattle.gs_mesh.specs.Peers.{put_in, without}
 use Rattle.gs_rules.specs.declared.event.Event.{Event}
-use Rattle.gs_rules.specs.declared.event.Event.TheVariants.{Step, Own}
+use Rattle.gs_rules.specs.Events.{of_act, of_step}
 use Rattle.gs_rules.specs.declared.event.BeatStep.TheVariants.{FanEnd, MeshBeat, FanBeat, GossipBeat, BeatEnd}
 use Rattle.gs_rules.specs.declared.event.BeatStep.{BeatStep}
 use Rattle.gs_plan.specs.declared.plan.Act.{Act}
@@ -47,9 +47,8 @@ dropped_by_step t none BeatEnd before = before
 -- to subscribe to a topic ends its fanout, and so does a heartbeat once its time has come. That is an event of its
 -- own (`FanEnd`, beside `FanBeat`), so that one rule judges its entry, and a table needs no `fanout_ttl_ms`.
 abbrev pub dropped_after : {A : Type 0} → Topic → A → Event → A → A
-dropped_after t none (Own act) before = dropped_by_act t none act before
-dropped_after t none (Step step) before = dropped_by_step t none step before
-dropped_after t none other before = before
+dropped_after t none event before =
+    of_act (λ act. dropped_by_act t none act before) (of_step (λ step. dropped_by_step t none step before) before event) event
 
 -- what a mark leaves of who is in the fanout of a topic
 abbrev pub fanout_after : Topic → Mark → List PeerNo → List PeerNo

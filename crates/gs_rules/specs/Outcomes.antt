@@ -90,8 +90,8 @@ abbrev pub near_of : Bool → PeerNo → Topic → MsgId → List Mark
 near_of is_member q t id = if is_member then marks.Near q t id ∷ [] else []
 
 -- The effects of a message with this outcome. The first list is the mesh of its topic, and the second the explicit
--- neighbours on it. What is accepted goes to both, but for whom it came from (gossipsub v1.0, "Message Processing";
--- v1.1, "Explicit Peering Agreements").
+-- neighbours on it. What is accepted goes to both, but not to the neighbour that it came from (gossipsub v1.0, "Message
+-- Processing"; v1.1, "Explicit Peering Agreements").
 abbrev pub message_effects : List PeerNo → List PeerNo → PeerNo → Message → Outcome → Effects
 message_effects members explicit q m Dropped = no_effects
 message_effects members explicit q m Invalid = record no_effects { marks = marks.Invalid q (topic_of m) ∷ [] }

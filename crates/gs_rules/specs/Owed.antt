@@ -7,7 +7,7 @@ use Rattle.gs_base.specs.declared.names.MsgId.{MsgId}
 use Rattle.gs_base.specs.declared.rpc.Rpc.{Rpc}
 use Rattle.gs_base.specs.Rpcs.{grafts_in, offers_in, prunes_in, requests_in}
 use Rattle.gs_rules.specs.declared.event.Event.{Event}
-use Rattle.gs_rules.specs.declared.event.Event.TheVariants.{Heard, BeatBegin, Part, Step}
+use Rattle.gs_rules.specs.declared.event.Event.TheVariants.{Heard, Late, BeatBegin, Decay, RoundEnd, Shut, Part, Step, Own, Lost}
 use Rattle.gs_rules.specs.declared.event.RpcPart.TheVariants.{Sub, Msg, Have, Want, GraftIn, PruneIn}
 use Rattle.gs_rules.specs.declared.event.BeatStep.TheVariants.{MeshBeat, GossipBeat, BeatEnd}
 use Rattle.gs_rules.specs.declared.trace.Entry.{Entry}
@@ -71,7 +71,14 @@ heartbeat_groups at = MeshBeats ∷ FanBeats at ∷ Gossips ∷ []
 abbrev pub owes : Peer → Entries → ℕ → Event → List Group
 owes p L at (Heard q rpc) = if is_graylisted p L at q then [] else PartsOf q rpc ∷ []
 owes p L at BeatBegin = heartbeat_groups at
-owes p L at other = []
+owes p L at (Late q rpc) = []
+owes p L at (Part q part) = []
+owes p L at (Step step) = []
+owes p L at (Own act) = []
+owes p L at (Lost q loss) = []
+owes p L at Decay = []
+owes p L at (RoundEnd r) = []
+owes p L at Shut = []
 
 -- ---- debts
 

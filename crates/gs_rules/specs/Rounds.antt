@@ -19,7 +19,7 @@ use Rattle.gs_rules.specs.Legal.{Comes, Legal, hearing, losing}
 use Rattle.gs_rules.specs.Refusals.{refusal}
 use Rattle.gs_wire.specs.Codec.{codec}
 use Rattle.gs_wire.specs.Joining.{joined_options, joined_rpcs}
-use Rattle.gs_rules.specs.Saying.{Said, SaysFramesAlone, gathered, handled, out, raw_to, sent}
+use Rattle.gs_rules.specs.Saying.{Said, SaysOnlyFrames, gathered, handled, out, raw_to, sent}
 use Rattle.gs_rules.specs.Hearing.{Inbound, ComesIn, ComesAfter}
 
 -- ---- a seat
@@ -104,7 +104,7 @@ abbrev pub beats_in : Peer → ℕ → Millis → List Todo
 beats_in p r at = if is_due p.params.timing.heartbeat_ms r at then Beat ∷ [] else []
 
 -- In a round a peer hears what came, follows its lines, lowers its counters and has a heartbeat, each if it is due, and
--- ends the round. Behind the last one it shuts down, and then hears what still comes.
+-- ends the round. After the last one it shuts down, and then hears what still comes.
 abbrev pub agenda : Seat → Phase → List Inbound → List Todo
 agenda seat (Playing r) xs =
     hears (links_of seat.peer) xs
@@ -141,7 +141,13 @@ note_of at place (Some why) = record { at = at; line = place; why = why } ∷ []
 -- what is noted of it after a trace, where it is refused
 abbrev pub noted : Peer → Entries → Millis → Todo → List RefusedLine
 noted p L at (Obey place what) = note_of at place (refusal p L at.0 (events.Own what))
-noted p L at other = []
+noted p L at (Hear q rpc) = []
+noted p L at (HearFault q) = []
+noted p L at (HearGone q) = []
+noted p L at DecayCounters = []
+noted p L at Beat = []
+noted p L at (EndRound r) = []
+noted p L at Stop = []
 
 -- it is done in order, at one moment, and this is refused
 abbrev pub Does : Peer → Millis → List Todo → Entries → Entries → List RefusedLine → Type 0
@@ -211,7 +217,7 @@ abbrev pub HandlesWhatIsSent : Seat → (PeerNo → Said) → Entries → PeerNo
 HandlesWhatIsSent seat said L q =
     (other : Peer) (K : Entries)
     → Legal other K
-    → SaysFramesAlone seat.number K
+    → SaysOnlyFrames seat.number K
     → said q ≡ out codec K seat.number
     → joined_options (joined_rpcs (handled L q)) (gathered codec K seat.number) ≡ joined_rpcs (sent K seat.number)
 

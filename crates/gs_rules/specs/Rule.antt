@@ -35,7 +35,7 @@ to_each rpc qs = map (λ q. (q, rpc)) qs
 abbrev pub up_neighbours : Peer → Entries → List PeerNo
 up_neighbours p L = filter (up L) (links_of p)
 
--- those of these whom a test does not leave out
+-- those of these that a test does not leave out
 abbrev pub without : (PeerNo → Bool) → List PeerNo → List PeerNo
 without is_out qs = filter (λ q. not (is_out q)) qs
 

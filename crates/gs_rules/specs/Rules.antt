@@ -48,12 +48,12 @@ abbrev pub same_bytes : List ℕ → List ℕ → Bool
 same_bytes xs ys = pointwise nat_eq xs ys
 
 -- one more after others, if it is not among them
-abbrev pub once_behind : List (List ℕ) → List ℕ → List (List ℕ)
-once_behind before id = if list_any (same_bytes id) before then before else before ++ id ∷ []
+abbrev pub once_after : List (List ℕ) → List ℕ → List (List ℕ)
+once_after before id = if list_any (same_bytes id) before then before else before ++ id ∷ []
 
 -- each of these once, in the order in which they come first
 abbrev pub each_once : List (List ℕ) → List (List ℕ)
-each_once ids = fold once_behind [] ids
+each_once ids = fold once_after [] ids
 
 -- how many identifiers may be asked of a neighbour beside those that were; a request never has more than an RPC may
 abbrev pub room_to_ask : Peer → Entries → PeerNo → ℕ

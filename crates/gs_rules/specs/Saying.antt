@@ -8,18 +8,17 @@ use Rattle.gs_base.specs.Codecs.{Codec}
 use Rattle.gs_wire.specs.Joining.{joined_rpc}
 pub use Rattle.gs_base.specs.Tokens.{Token, Byte, EndOf, Close, Said, bytes_of}
 use Rattle.gs_rules.specs.declared.event.Event.{Event}
-use Rattle.gs_rules.specs.declared.event.Event.TheVariants.{Heard, Late, RoundEnd, Shut, Own}
+use Rattle.gs_rules.specs.declared.event.Event.TheVariants.{Heard, Late, BeatBegin, Decay, RoundEnd, Shut, Part, Step, Own, Lost}
+use Rattle.gs_rules.specs.Events.{of_act, of_round_end}
 use Rattle.gs_plan.specs.declared.plan.Act.{Act}
 use Rattle.gs_plan.specs.declared.plan.Act.TheVariants.{Raw, Subscribe, Unsubscribe, Publish, HangUp}
 use Rattle.gs_rules.specs.declared.trace.Entry.{Entry}
-use Rattle.gs_rules.specs.Tables.{Entries, cuts_off, is_lost, lost, up}
+use Rattle.gs_rules.specs.Tables.{Entries, cuts_off, up}
 use Rattle.gs_rules.specs.Modes.{sent_to}
 
 -- what an event puts after what is sent with it: a round's end, or a close for whoever is lost or for all at a shutdown
 abbrev pub sign : PeerNo → Event → Said
-sign q (RoundEnd r) = EndOf r ∷ []
-sign q Shut = Close ∷ []
-sign q other = if is_lost q (lost other) then Close ∷ [] else []
+sign q event = of_round_end (λ r. EndOf r ∷ []) (if cuts_off q event then Close ∷ [] else []) event
 
 abbrev pub raw_by : PeerNo → Act → List ℕ
 raw_by q (Raw p bytes) = if same_peer p q then bytes else []
@@ -30,12 +29,11 @@ raw_by q (HangUp p) = []
 
 -- the bytes that an event puts on q's link as they are
 abbrev pub raw_to : PeerNo → Event → List ℕ
-raw_to q (Own act) = raw_by q act
-raw_to q other = []
+raw_to q event = of_act (raw_by q) [] event
 
 -- these entries put nothing on q's link but frames
-abbrev pub SaysFramesAlone : PeerNo → List Entry → Type 0
-SaysFramesAlone q entries = AllByRecursion (λ e. raw_to q e.event ≡ []) entries
+abbrev pub SaysOnlyFrames : PeerNo → List Entry → Type 0
+SaysOnlyFrames q entries = AllByRecursion (λ e. raw_to q e.event ≡ []) entries
 
 -- ---- what goes to a neighbour
 
@@ -83,9 +81,7 @@ is_cut_by q (Publish t payload) = false
 
 -- what an event cuts for q: the end of a round, bytes as they are for q, and whatever cuts q off
 abbrev pub is_cut : PeerNo → Event → Bool
-is_cut q (RoundEnd r) = true
-is_cut q (Own act) = is_cut_by q act
-is_cut q other = cuts_off q other
+is_cut q event = of_round_end (λ r. true) (of_act (is_cut_by q) (cuts_off q event) event) event
 
 -- more is said
 abbrev pub saying : Outgoing → Said → Outgoing
@@ -124,7 +120,14 @@ sent (e ∷ L) q = if up L q then sent L q ++ sent_to q e.effects.sends else sen
 abbrev pub handled_by : PeerNo → Event → List Rpc
 handled_by q (Heard p rpc) = if same_peer p q then rpc ∷ [] else []
 handled_by q (Late p rpc) = if same_peer p q then rpc ∷ [] else []
-handled_by q other = []
+handled_by q (Part p part) = []
+handled_by q BeatBegin = []
+handled_by q (Step step) = []
+handled_by q (Own act) = []
+handled_by q (Lost p loss) = []
+handled_by q Decay = []
+handled_by q (RoundEnd r) = []
+handled_by q Shut = []
 
 -- the RPCs of q that a trace has handled, in order
 abbrev pub handled : Entries → PeerNo → List Rpc

@@ -12,7 +12,8 @@ use Rattle.gs_base.specs.Names.{most_topics, same_peer, same_topic}
 use Rattle.gs_score.specs.Histories.{Change, History, Marked, Decayed, Left, ShutOut, Setting, named, score_in}
 use Rattle.gs_score.specs.Histories as histories
 use Rattle.gs_rules.specs.declared.event.Event.{Event}
-use Rattle.gs_rules.specs.declared.event.Event.TheVariants.{Decay, Part}
+use Rattle.gs_rules.specs.declared.event.Event.TheVariants.{Heard, Late, BeatBegin, Decay, RoundEnd, Shut, Part, Step, Own, Lost}
+use Rattle.gs_rules.specs.Events.{of_decay}
 use Rattle.gs_rules.specs.declared.event.RpcPart.TheVariants.{GraftIn, Msg, Sub, Have, Want, PruneIn}
 use Rattle.gs_rules.specs.declared.event.RpcPart.{RpcPart}
 use Rattle.gs_rules.specs.Peers.{Peer, is_explicit}
@@ -36,15 +37,23 @@ IsPartFromNeighbour p q (PruneIn prune) = Unit {0}
 -- whoever says it
 abbrev pub IsFromNeighbour : Peer → Event → Type 0
 IsFromNeighbour p (Part q part) = IsPartFromNeighbour p q part
-IsFromNeighbour p other = Unit {0}
+IsFromNeighbour p (Heard q rpc) = Unit {0}
+IsFromNeighbour p (Late q rpc) = Unit {0}
+IsFromNeighbour p BeatBegin = Unit {0}
+IsFromNeighbour p (Step step) = Unit {0}
+IsFromNeighbour p (Own act) = Unit {0}
+IsFromNeighbour p (Lost q loss) = Unit {0}
+IsFromNeighbour p Decay = Unit {0}
+IsFromNeighbour p (RoundEnd r) = Unit {0}
+IsFromNeighbour p Shut = Unit {0}
 
 -- a neighbour has counters on a topic, or on so few topics that it may have them on one more
 abbrev pub has_counters : Peer → History → PeerNo → Topic → Bool
 has_counters p H q t =
     is_neighbour p q && (list_any (same_topic t) (named H q) || nat_lt (length (named H q)) most_topics)
 
--- whether a mark counts: whom it concerns is a neighbour, with counters on the topic. In a legal trace each mark of a
--- neighbour does.
+-- whether a mark counts: it concerns a neighbour, with counters on the topic. In a legal trace each mark of a neighbour
+-- does.
 abbrev pub is_counted : Peer → History → Mark → Bool
 is_counted p H (First q t id) = has_counters p H q t
 is_counted p H (Near q t id) = has_counters p H q t
@@ -70,8 +79,7 @@ shut_out (Some q) H = ShutOut q ∷ H
 
 -- all counters decay by a step, and a neighbour may be lost
 abbrev pub changed_after : Event → History → History
-changed_after Decay H = Decayed ∷ H
-changed_after other H = shut_out (lost other) H
+changed_after event H = of_decay (Decayed ∷ H) (shut_out (lost event) H) event
 
 -- what happened to the neighbours, the newest first
 abbrev pub history : Peer → Entries → History

@@ -19,6 +19,7 @@ use Rattle.gs_base.specs.declared.rpc.Message.{Message}
 use Rattle.gs_base.specs.declared.mark.Mark.TheVariants.{Seen, Cached, Answered, Offered, Asked}
 use Rattle.gs_rules.specs.declared.event.Event.{Event}
 use Rattle.gs_rules.specs.declared.event.Event.TheVariants.{Heard, Late, BeatBegin, Decay, RoundEnd, Shut, Part, Step, Own, Lost}
+use Rattle.gs_rules.specs.Events.{of_act, of_beginning, of_part, of_shutdown, of_step}
 use Rattle.gs_rules.specs.declared.event.RpcPart.TheVariants.{Sub, Msg, Have, Want, GraftIn, PruneIn}
 use Rattle.gs_rules.specs.declared.event.BeatStep.TheVariants.{BeatEnd, MeshBeat, FanBeat, FanEnd, GossipBeat}
 use Rattle.gs_rules.specs.declared.event.RpcPart.{RpcPart}
@@ -50,8 +51,7 @@ after_marks step (mark ∷ marks) before = after_marks step marks (step mark bef
 
 -- whether the peer has shut down
 abbrev pub is_shut_after : Event → Bool → Bool
-is_shut_after Shut before = true
-is_shut_after other before = before
+is_shut_after event before = of_shutdown true before event
 
 abbrev pub is_shut : Entries → Bool
 is_shut [] = false
@@ -108,8 +108,7 @@ on_by q t p (PruneIn prune) before = before
 
 -- whether a neighbour is on a topic: what it said of the topic last
 abbrev pub on_after : PeerNo → Topic → Event → Bool → Bool
-on_after q t (Part p part) before = on_by q t p part before
-on_after q t other before = before
+on_after q t event before = of_part (λ p part. on_by q t p part before) before event
 
 abbrev pub on : Entries → PeerNo → Topic → Bool
 on [] q t = false
@@ -126,8 +125,7 @@ joined_by t (HangUp q) before = before
 
 -- whether the peer is subscribed to a topic
 abbrev pub joined_after : Topic → Event → Bool → Bool
-joined_after t (Own act) before = joined_by t act before
-joined_after t other before = before
+joined_after t event before = of_act (λ act. joined_by t act before) before event
 
 abbrev pub joined : Entries → Topic → Bool
 joined [] t = false
@@ -142,8 +140,7 @@ known_by (HangUp q) before = before
 
 -- the topics that the peer was ever subscribed to, each once, the first one first
 abbrev pub known_after : Event → List Topic → List Topic
-known_after (Own act) before = known_by act before
-known_after other before = before
+known_after event before = of_act (λ act. known_by act before) before event
 
 abbrev pub known : Entries → List Topic
 known [] = []
@@ -224,9 +221,7 @@ message_of_act (HangUp q) = blank
 
 -- the message that an event brings; no other event makes one that is kept
 abbrev pub message_in : Event → Message
-message_in (Part q part) = message_of_part part
-message_in (Own act) = message_of_act act
-message_in other = blank
+message_in event = of_part (λ q part. message_of_part part) (of_act message_of_act blank event) event
 
 -- the last mark of an identifier says which message is kept under it
 abbrev pub kept_after : MsgId → Event → Mark → Option Keeping → Option Keeping
@@ -248,8 +243,7 @@ aged_by BeatEnd before = older before
 
 -- the end of a heartbeat makes what is kept older
 abbrev pub aged_after : Event → Option Keeping → Option Keeping
-aged_after (Step step) before = aged_by step before
-aged_after other before = before
+aged_after event before = of_step (λ step. aged_by step before) before event
 
 -- the message that was kept last under an identifier
 abbrev pub last_kept : Entries → MsgId → Option Keeping
@@ -289,8 +283,7 @@ answered (e ∷ L) q id = after_marks (answered_after q id) e.effects.marks (ans
 
 -- how many heartbeats began
 abbrev pub counted_after : Event → ℕ → ℕ
-counted_after BeatBegin before = before + 1
-counted_after other before = before
+counted_after event before = of_beginning (before + 1) before event
 
 abbrev pub heartbeats : Entries → ℕ
 heartbeats [] = 0
@@ -307,8 +300,7 @@ anew_by BeatEnd before = 0
 
 -- the end of a heartbeat begins a count anew
 abbrev pub anew_after : Event → ℕ → ℕ
-anew_after (Step step) before = anew_by step before
-anew_after other before = before
+anew_after event before = of_step (λ step. anew_by step before) before event
 
 -- how many offers of a neighbour counted since the last heartbeat
 abbrev pub offers_after : PeerNo → Mark → ℕ → ℕ
@@ -332,8 +324,7 @@ asked (e ∷ L) q = after_marks (asked_after q) e.effects.marks (anew_after e.ev
 
 -- a heartbeat ends the promises whose time has come
 abbrev pub ended_after : Event → ℕ → List Promise → List Promise
-ended_after BeatBegin at before = filter (λ promise. nat_lt at promise.until.0) before
-ended_after other at before = before
+ended_after event at before = of_beginning (filter (λ promise. nat_lt at promise.until.0) before) before event
 
 -- a message that is marked as seen keeps each promise of it, whoever sent it
 abbrev pub fulfilled_after : Mark → List Promise → List Promise

@@ -35,7 +35,7 @@ ghost use Rattle.gs_rules.specs.Owed.{FanBeats, Gossips, Group, MeshBeats, beats
 ghost use Rattle.gs_rules.specs.Rules.{Gives, Rule, rule_of};
 ghost use Rattle.gs_rules.specs.Modes.{Follows, SaysTheSame, choiceless, exact, free};
 ghost use Rattle.gs_rules.specs.Legal.{DeliversApart, Legal, LegalOn};
-ghost use Rattle.gs_rules.specs.Saying.{Close, Said, SaysFramesAlone, behind_entry, bytes_of, gathered, handled, handled_by, is_cut, out, outgoing, raw_to, sent, sign};
+ghost use Rattle.gs_rules.specs.Saying.{Close, Said, SaysOnlyFrames, behind_entry, bytes_of, gathered, handled, handled_by, is_cut, out, outgoing, raw_to, sent, sign};
 ghost use Rattle.gs_wire.specs.Joining.{joined_options, joined_rpcs};
 ghost use Rattle.gs_rules.specs.Hearing.{Spell};
 ghost use Rattle.gs_rules.specs.Rounds.{AfterRounds, HandlesWhatIsSent, KeepsRounds, Phase, Plays, PlaysInPart, PutsNoBytes, Seat};
@@ -58,7 +58,7 @@ pub fn one_more_entry()
 
 /// Nothing is gathered right after a cut. The same holds for a neighbour that is not up, and where the rounds so far
 /// are played to their ends.
-pub fn nothing_is_gathered_behind_a_cut()
+pub fn nothing_is_gathered_after_a_cut()
     ensures cut { (codec : Codec) (entries : Entries) (e : Entry) (q : PeerNoValue)
         → is_cut q e.event ≡ true → gathered codec (e ∷ entries) q ≡ None }
     ensures down { (codec : Codec) (entries : Entries) (q : PeerNoValue)
@@ -76,7 +76,7 @@ pub fn only_a_cut_says_more_than_frames()
 {}
 
 /// A close is the last that is said.
-pub fn nothing_is_said_behind_a_close()
+pub fn nothing_is_said_after_a_close()
     ensures { (codec : Codec) (entries : Entries) (q : PeerNoValue) (before behind : Said)
         → out codec entries q ≡ before ++ Close ∷ behind
         → behind ≡ [] }
@@ -151,7 +151,7 @@ pub fn what_is_given_draws_no_word<W: Words>()
 pub fn what_is_sent_is_spelled()
     ensures { (p : Peer) (entries : Entries) (q : PeerNoValue)
         → Legal p entries
-        → SaysFramesAlone q entries
+        → SaysOnlyFrames q entries
         → (rpcs : List RpcValue)
         × Spell (bytes_of (out codec entries q)) rpcs
         × (joined_options (joined_rpcs rpcs) (gathered codec entries q) ≡ joined_rpcs (sent entries q)) }
@@ -178,12 +178,12 @@ pub fn what_was_sent_is_handled()
 {}
 
 /// A peer that keeps the rounds, and whose script puts no other bytes on a link, says only frames there.
-pub fn a_script_without_bytes_says_frames_alone()
+pub fn a_script_without_bytes_says_only_frames()
     ensures { (seat : Seat) (said : PeerNoValue → Said) (entries : Entries) (refused : List RefusedLine) (q : PeerNoValue)
         → Legal seat.peer entries
         → KeepsRounds seat said entries refused
         → PutsNoBytes q seat.lines
-        → SaysFramesAlone q entries }
+        → SaysOnlyFrames q entries }
 {}
 
 /// A round with nothing left is a whole round.
@@ -270,7 +270,7 @@ pub fn gossip_is_of_what_is_kept()
     ensures few { (p : Peer) (entries : Entries) (t : Topic) → length (gossip p entries t) ≤ most_identifiers }
 {}
 
-/// Behind the charges of a heartbeat no promise is left whose time has come, so that none is charged again.
+/// After the charges of a heartbeat no promise is left whose time has come, so that none is charged again.
 pub fn a_promise_is_charged_once()
     ensures { (entries : Entries) (e : Entry)
         → e.event ≡ BeatBegin
@@ -344,7 +344,7 @@ pub fn whoever_is_lost_counts_no_more_at_its_address()
 {}
 
 /// Once a peer has shut down, the scores of its neighbours at any one moment stay what they were before.
-pub fn nothing_changes_a_score_behind_a_shut()
+pub fn nothing_changes_a_score_after_a_shut()
     ensures { (p : Peer) (later earlier : Entries) (e : Entry) (at : ℕ) (q : PeerNoValue)
         → Legal p (later ++ e ∷ earlier)
         → e.event ≡ Shut
@@ -352,7 +352,7 @@ pub fn nothing_changes_a_score_behind_a_shut()
 {}
 
 /// Once a peer has shut down, its meshes stay what they were before, and so do the topics that it is subscribed to.
-pub fn nothing_changes_a_mesh_behind_a_shut()
+pub fn nothing_changes_a_mesh_after_a_shut()
     ensures members { (p : Peer) (later earlier : Entries) (e : Entry) (t : Topic)
         → Legal p (later ++ e ∷ earlier)
         → e.event ≡ Shut

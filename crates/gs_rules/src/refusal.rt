@@ -3,7 +3,7 @@ ghost use Rattle.gs_rules.specs.Refusals.{number_of};
 
 use gs_base::Millis;
 
-/// Why a peer refuses what its own user wishes.
+/// Why a peer refuses an act of its own user.
 #[derive(Clone, Copy, Debug, PartialEq, Eq, thiserror::Error)]
 pub enum Refusal {
     /// The message was seen lately.

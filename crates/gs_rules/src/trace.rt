@@ -24,7 +24,7 @@ pub struct Promise {
 /// What a peer did about an event.
 #[derive(Debug, Drop, PartialEq, Eq)]
 pub struct Effects {
-    /// What was sent to whom, in order. One RPC is shared by all whom it goes to.
+    /// What was sent to whom, in order. One RPC is shared by all that it goes to.
     pub sends: Seq<(PeerNo, Shared<Rpc>)>,
     /// The topics and payloads of what was delivered to the peer's own user.
     pub delivered: Seq<(Topic, Bytes)>,
@@ -49,7 +49,8 @@ impl Effects {
 
     /// Whether nothing was done.
     pub fn are_none(&self) -> bool
-        ensures { result ≡ true → self.now ≡ no_effects }
+        ensures none { result ≡ true → self.now ≡ no_effects }
+        ensures some { self.now ≡ no_effects → result ≡ true }
     {
         self.sends.is_empty()
             && self.delivered.is_empty()

@@ -1,5 +1,5 @@
 use Rattle.gs_rules.proofs.Gathered.{gathered_after_rounds, gathered_cut, gathered_down}
-use Rattle.gs_rules.proofs.laws.nothing_is_gathered_behind_a_cut.Goals as goal
+use Rattle.gs_rules.proofs.laws.nothing_is_gathered_after_a_cut.Goals as goal
 
 pub returns-clause-cut : goal.returns-clause-cut
 returns-clause-cut c = gathered_cut

@@ -1,5 +1,0 @@
-use Rattle.gs_rules.proofs.InOrder.{nothing_behind}
-use Rattle.gs_rules.proofs.laws.nothing_is_said_behind_a_close.Goals as goal
-
-pub returns : goal.returns
-returns c = nothing_behind
