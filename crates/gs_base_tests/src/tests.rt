@@ -141,7 +141,7 @@ fn compares_explicit_neighbours(alloc: Global) -> Result<bool, AllocError> {
     Ok(is_same && other != explicit)
 }
 
-/// A neighbour of which nothing else is said dialled, scores nothing by the application and is not explicit.
+/// Where nothing else is said, a neighbour dialled, scores nothing by the application and is not explicit.
 fn makes_a_neighbour(alloc: Global) -> Result<bool, AllocError> {
     let made = Neighbour::new(PeerNo(7), Bytes::copy_from_slice(alloc, b"a")?);
     let is_named = made.peer == PeerNo(7) && made.address.as_slice() == b"a".as_slice();
@@ -227,7 +227,7 @@ fn a_message_with_a_signature_is_a_signed_one(rt: HostRuntime) -> Result<(), All
     Ok(())
 }
 
-/// A published message is alone in its RPC.
+/// A published message is the only part of its RPC.
 fn publishes_alone(alloc: Global) -> Result<bool, AllocError> {
     let abc = Bytes::copy_from_slice(alloc, b"abc")?;
     let published = Rpc::publication(alloc, &topic(alloc)?, &abc)?;
@@ -235,7 +235,7 @@ fn publishes_alone(alloc: Global) -> Result<bool, AllocError> {
     Ok(published == wanted)
 }
 
-/// A subscription is alone in its RPC.
+/// A subscription is the only part of its RPC.
 fn announces_alone(alloc: Global) -> Result<bool, AllocError> {
     let joins = Rpc::announcement(alloc, true, &topic(alloc)?)?;
     let [sub] = joins.subs.as_slice() else {

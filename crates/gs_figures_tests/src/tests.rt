@@ -1,5 +1,6 @@
 mod links;
 mod made;
+mod made_rpcs;
 mod peers;
 mod people;
 mod percentiles;

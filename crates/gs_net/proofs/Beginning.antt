@@ -5,7 +5,6 @@ use Rattle.gs_base.specs.declared.names.PeerNo.{PeerNo}
 use Rattle.gs_plan.specs.declared.plan.Plan.{Plan}
 use Rattle.gs_plan.specs.Plans.{IsInRange}
 use Rattle.gs_params.specs.Seeding.{SeededState}
-use Rattle.gs_rules.specs.Peers.{Peer}
 use Rattle.gs_rules.specs.Rounds.{Seat}
 use Rattle.gs_router.specs.Router.{RouterView}
 use Rattle.gs_ends.specs.Ends.{Joint, has}

@@ -2,7 +2,7 @@
 use Rattle.std.proofs.Common.{◌≡◌, ◌≢◌, ℕ, zero, suc, ◌+◌, ◌<◌, ◌≤◌, Bool, true, ◌&&◌, ◌⊎◌, ⊎_elim, inl, inr, List, [], ◌∷◌, length, take, set, get_or, refl, sym, ap, ◌∙◌, subst, arith, Vec}
 use Rattle.std.specs.Prelude.{AllPairs}
 use Rattle.std.specs.List.{AllByRecursion}
-use Rattle.std.proofs.lemmas.List.{take_more_set, take_all}
+use Rattle.std.proofs.lemmas.List.{take_more_set}
 use Rattle.std.proofs.lemmas.Bool.Decides.{eqb_tells}
 use Rattle.std.specs.declared.alloc.Global.{Global}
 use Rattle.gs_ends.specs.Pairs.{Pair, joint_of, joints_of}
@@ -27,9 +27,6 @@ pub closed_more : (closed one : Bool) (pairs : List Pair) (i : ℕ) (new : Pair)
 closed_more closed one pairs i new within before here both =
     let parts = both_of closed one both in
     subst (AllByRecursion IsClosed) (sym (take_more_set pairs i new within)) (all_push IsClosed (take i pairs) new (before parts.0) (here parts.1))
-
-pub all_closed : (closed : Bool) (pairs : List Pair) (i : ℕ) → length pairs ≤ i → ClosedTo closed i pairs → closed ≡ true → AllByRecursion IsClosed pairs
-all_closed closed pairs i past h is = subst (AllByRecursion IsClosed) (take_all i pairs past) (h is)
 
 -- ---- lists among lists
 

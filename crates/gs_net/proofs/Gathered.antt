@@ -1,13 +1,11 @@
 -- What the tasks of a run give, peer by peer.
-use Rattle.std.proofs.Common.{◌≡◌, ◌≤◌, ◌<◌, ◌*◌, ℕ, zero, suc, List, [], ◌∷◌, Vec, length, map, Option, None, Some, Result, Ok, Err, ◌⊎◌, inl, inr, refl, sym, ap, subst, ◌∙◌, arith}
+use Rattle.std.proofs.Common.{◌≡◌, ◌≤◌, ◌<◌, ℕ, zero, suc, List, [], ◌∷◌, Vec, length, map, Option, None, Some, Result, Ok, ◌⊎◌, inl, inr, refl, sym, ap, subst, ◌∙◌, arith}
 use Rattle.std.specs.Prelude.{option_map, unwrap_or, slice_get}
 use Rattle.std.specs.List.{AllByRecursion, AllZip}
 use Rattle.std.specs.declared.alloc.Global.{Global}
 use Rattle.std.proofs.lemmas.List.{length-map}
-use Rattle.std.proofs.lemmas.List.FromFn.{length-map-range_with_len}
 use Rattle.gs_base.specs.declared.names.PeerNo.{PeerNo}
 use Rattle.gs_plan.specs.declared.plan.Plan.{Plan}
-use Rattle.gs_plan.specs.Plans.{IsInRange}
 use Rattle.gs_params.specs.Seeding.{SeededState}
 use Rattle.gs_rules.specs.Rounds.{Seat}
 use Rattle.gs_ends.specs.Ends.{Joint}
@@ -16,14 +14,14 @@ use Rattle.gs_seats.specs.ListsByPeer.{list_at}
 use Rattle.gs_peer.specs.declared.finished_task.PeerFault.{PeerFault}
 use Rattle.gs_peer.specs.declared.task.PeerTask.{PeerTask}
 use Rattle.gs_peer.specs.Life.{IsLife}
-use Rattle.gs_peer.specs.Task.{CanPoll, Gives, given_of}
+use Rattle.gs_peer.specs.Task.{CanPoll, Gives}
 use Rattle.gs_net.specs.declared.lives.Lives.{Lives}
 use Rattle.gs_net.specs.Given.{Given, GivenLife, ends_at}
 use Rattle.gs_net.specs.Lives.{IsTakenApart}
-use Rattle.gs_seats.specs.Rounds.{first_words, numbers, peer_no, seat_in}
-use Rattle.gs_net.specs.Tasks.{IsTask, IsTaskFor}
+use Rattle.gs_seats.specs.Rounds.{first_words, numbers, seat_in}
+use Rattle.gs_net.specs.Tasks.{IsTaskFor}
 use Rattle.gs_net.proofs.Beginning.{told}
-use Rattle.gs_seats.proofs.ByNumber.{as_long, as_many, at_number}
+use Rattle.gs_seats.proofs.ByNumber.{as_many, at_number}
 
 -- ---- one peer
 

@@ -15,18 +15,18 @@ abbrev IsFound : (Pair → List Slot) → List Pair → Pair → Type 0
 IsFound list pairs pair = slots_with list pairs pair.0 ≡ list pair
 
 module _ (list : Pair → List Slot) where
-  found_behind : (first : Pair) (pairs some : List Pair) → AllByRecursion (λ q. same_peer first.0 q ≡ false) (peers_in some) → AllByRecursion (IsFound list pairs) some → AllByRecursion (IsFound list (first ∷ pairs)) some
-  found_behind first pairs [] apart found = tt
-  found_behind first pairs (pair ∷ some) apart found = (rw apart.0 found.0, found_behind first pairs some apart.1 found.1)
+  found_after : (first : Pair) (pairs some : List Pair) → AllByRecursion (λ q. same_peer first.0 q ≡ false) (peers_in some) → AllByRecursion (IsFound list pairs) some → AllByRecursion (IsFound list (first ∷ pairs)) some
+  found_after first pairs [] apart found = tt
+  found_after first pairs (pair ∷ some) apart found = (rw apart.0 found.0, found_after first pairs some apart.1 found.1)
 
   pub each_found : (pairs : List Pair) → IsDistinct same_peer (peers_in pairs) → AllByRecursion (IsFound list pairs) pairs
   each_found [] apart = tt
   each_found (pair ∷ pairs) apart = (
     rw (same_self pair.0) refl,
-    found_behind pair pairs pairs (IsDistinct-head same_peer pair.0 (peers_in pairs) apart) (each_found pairs (IsDistinct-tail same_peer pair.0 (peers_in pairs) apart)),
+    found_after pair pairs pairs (IsDistinct-head same_peer pair.0 (peers_in pairs) apart) (each_found pairs (IsDistinct-tail same_peer pair.0 (peers_in pairs) apart)),
   )
 
--- A pair of this list, by what is found there: its lists, of which the one that was taken is closed.
+-- A pair of this list, by what is found there: its lists, and the one that was taken is closed.
 pub record StandsIn (pairs : List Pair) (pair : Pair) : Type 0 where
   pub accepted : accepted_for pairs pair.0 ≡ pair.1.accepted
   pub taken : taken_from pairs pair.0 ≡ pair.2.taken
@@ -39,7 +39,7 @@ each_stands pairs apart closed = all_three pairs (each_found (λ pair. pair.1.ac
     all_three [] a t c = tt
     all_three (pair ∷ some) a t c = (record { accepted = a.0; taken = t.0; closed = c.0 }, all_three some a.1 t.1 c.1)
 
--- who has taken the close of each neighbour has closed ends alone
+-- who has taken the close of each neighbour has only closed ends
 pub closed_by_neighbour : (pairs : List Pair) → IsDistinct same_peer (peers_in pairs) → AllByRecursion (λ q. closes (taken_from pairs q) ≡ true) (peers_in pairs) → AllByRecursion IsClosed pairs
 closed_by_neighbour pairs apart closed = each pairs (each_found (λ pair. pair.2.taken) pairs apart) closed
   where

@@ -14,7 +14,7 @@ use Rattle.gs_ends.specs.Pairs.{Pair, accepted_for, taken_from}
 use Rattle.gs_rules.specs.Tables.{Entries}
 use Rattle.gs_rules.specs.Modes.{exact, free}
 use Rattle.gs_rules.specs.Legal.{Legal}
-use Rattle.gs_rules.specs.Saying.{SaysFramesAlone, gathered, handled, out, sent}
+use Rattle.gs_rules.specs.Saying.{SaysOnlyFrames, gathered, handled, out, sent}
 use Rattle.gs_rules.specs.Hearing.{Spell}
 use Rattle.gs_rules.specs.Rounds.{Seat, PutsNoBytes}
 use Rattle.gs_rules.proofs.Deliveries.{deliveries_apart}
@@ -23,7 +23,7 @@ use Rattle.gs_rules.proofs.Scripts.{script_says_frames}
 use Rattle.gs_rules.proofs.Spelled.{handled_joined}
 use Rattle.gs_peer.specs.Life.{words_of}
 use Rattle.gs_report.specs.declared.finished.Finished.{Finished}
-use Rattle.gs_seats.specs.Rounds.{IsLife, IsRun, first_words, neighbours, numbers, peer_in, said_to, seat_in, trace_of}
+use Rattle.gs_seats.specs.Rounds.{IsLifeInRun, IsRun, first_words, neighbours, numbers, peer_in, said_to, seat_in, trace_of}
 use Rattle.gs_net.specs.Given.{Given, GivenLife, Exchanged, Reaches, bare, ends_at}
 use Rattle.gs_seats.proofs.ByNumber.{at_number, each_by_number}
 use Rattle.gs_rules.proofs.Each.{each_weaker}
@@ -73,7 +73,7 @@ handled_was_sent plan givens p q L g theirs joined spell quiet =
     let lives : List Finished = map bare givens in
     let theirs_is : trace_of lives q ≡ g.trace = trace_is givens q g theirs.at in
     let legal : Legal (peer_in plan q) g.trace = legal_of plan q g theirs.life in
-    let frames : SaysFramesAlone p g.trace = script_says_frames (seat_in plan q) (words_of (taken_from g.ends)) p g.trace g.refused theirs.life.keeps legal quiet in
+    let frames : SaysOnlyFrames p g.trace = script_says_frames (seat_in plan q) (words_of (taken_from g.ends)) p g.trace g.refused theirs.life.keeps legal quiet in
     let none : AllByRecursion (λ (r : PeerNo). gathered codec g.trace r ≡ None) (neighbours plan q) =
     subst (AllByRecursion (λ (r : PeerNo). gathered codec g.trace r ≡ None)) (links_in plan q) theirs.life.none_gathered in
     let spelled : Spell (bytes_of (out codec g.trace p)) (handled L q) = subst (λ (K : Entries). Spell (bytes_of (out codec K p)) (handled L q)) theirs_is spell in
@@ -86,7 +86,7 @@ handled_was_sent plan givens p q L g theirs joined spell quiet =
 abbrev AllStand : Plan → List Given → Type 0
 AllStand plan givens = (q : PeerNo) → q.0 < length plan.peers → (g : Given) × Stands plan givens q g
 
-one_life : (plan : Plan) (givens : List Given) (p : PeerNo) (f : Given) → AllStand plan givens → AllByRecursion (Exchanged givens) plan.dials → p.0 < length plan.peers → Stands plan givens p f → IsLife plan (map bare givens) p (bare f)
+one_life : (plan : Plan) (givens : List Given) (p : PeerNo) (f : Given) → AllStand plan givens → AllByRecursion (Exchanged givens) plan.dials → p.0 < length plan.peers → Stands plan givens p f → IsLifeInRun plan (map bare givens) p (bare f)
 one_life plan givens p f all exchanged below mine =
     let seat : Seat = seat_in plan p in
     let lives : List Finished = map bare givens in
@@ -110,4 +110,4 @@ one_life plan givens p f all exchanged below mine =
 pub together : (plan : Plan) (givens : List Given) → AllZip (GivenLife plan) (numbers plan) givens → AllByRecursion (Exchanged givens) plan.dials → IsRun plan (map bare givens)
 together plan givens lives exchanged =
     let all : AllStand plan givens = λ q below. let one = at_number (GivenLife plan) plan q givens below lives in (one.0, record { at = one.1; life = one.2 }) in
-    each_by_number (GivenLife plan) (IsLife plan (map bare givens)) bare plan givens (λ p f below at life. one_life plan givens p f all exchanged below (record { at = at; life = life })) lives
+    each_by_number (GivenLife plan) (IsLifeInRun plan (map bare givens)) bare plan givens (λ p f below at life. one_life plan givens p f all exchanged below (record { at = at; life = life })) lives

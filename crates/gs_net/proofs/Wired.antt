@@ -1,4 +1,4 @@
--- What is known of the ends of links that a plan's dials were wired with, before a run and behind it.
+-- What is known of the ends of links that a plan's dials were wired with, before a run and after it.
 use Rattle.std.proofs.Common.{◌≡◌, ◌<◌, ℕ, Bool, true, false, ◌||◌, if◌then◌else◌, List, [], ◌∷◌, ◌++◌, length, map, Option, None, Some, refl, sym, ap, ap₂, subst, subst₂, ◌∙◌, Vec}
 use Rattle.std.specs.Prelude.{option_map, unwrap_or, slice_get}
 use Rattle.std.specs.List.{list_any, All, AllPairs, AllZip, AllByRecursion, IsDistinct}
@@ -82,7 +82,7 @@ usable plan lists p range wired sized fresh =
       fresh = fresh p;
     }
 
--- ---- behind a run
+-- ---- after a run
 
 closed_at : (plan : Plan) (p : PeerNo) (f : Given) → IsInRange plan → GivenLife plan p f → peers_in f.ends ≡ partners plan.dials p → AllByRecursion IsClosed f.ends
 closed_at plan p f range life are =

@@ -15,7 +15,7 @@ pub all_push : {A : Type 0} (P : A → Type 0) (xs : List A) (x : A) → AllByRe
 all_push P [] x all p = (p, tt)
 all_push P (y ∷ xs) x all p = (all.0, all_push P xs x all.1 p)
 
--- what a list of ends becomes, if one pair more stands behind it
+-- what a list of ends becomes, if one pair more stands after it
 grown : (old new : List Pair) (pair : Pair) → new ≡ old ++ pair ∷ [] → joints_of new ≡ joints_of old ++ joint_of pair ∷ []
 grown old new pair is = ap joints_of is ∙ map-append joint_of old (pair ∷ [])
 

@@ -5,7 +5,7 @@ use Rattle.gs_plan.specs.declared.plan.Dial.{Dial}
 use Rattle.gs_plan.specs.declared.plan.Plan.{Plan}
 use Rattle.gs_ends.specs.Pairs.{Pair, accepted_for, pair_ends, taken_from}
 use Rattle.gs_peer.specs.declared.finished_task.FinishedTask.{FinishedTask as GivenWith}
-use Rattle.gs_peer.specs.Life.{IsLife as IsLifeAt}
+use Rattle.gs_peer.specs.Life.{IsLife}
 use Rattle.gs_report.specs.declared.finished.Finished.{Finished}
 use Rattle.gs_seats.specs.Rounds.{first_words, seat_in}
 
@@ -17,7 +17,7 @@ Given = GivenWith (List Pair)
 
 -- it is a whole life at the peer's seat, by the peer's words
 abbrev pub GivenLife : Plan → PeerNo → Given → Type 0
-GivenLife plan p f = IsLifeAt pair_ends (seat_in plan p) (first_words plan p) f
+GivenLife plan p f = IsLife pair_ends (seat_in plan p) (first_words plan p) f
 
 -- the life without the ends
 abbrev pub bare : Given → Finished

@@ -1,5 +1,5 @@
 -- Which ends a task may be built with, and what is known of it then.
-use Rattle.std.specs.Prelude.{◌≡◌, ◌<◌, ◌%◌, ℕ, true, false, List, [], Some, length, map}
+use Rattle.std.specs.Prelude.{◌≡◌, ◌<◌, ◌%◌, ℕ, true, List, Some, length, map}
 use Rattle.std.specs.List.{AllByRecursion, IsDistinct, range_with_len}
 use Rattle.std.specs.declared.vec.Vec.{Vec}
 use Rattle.std.specs.declared.alloc.Global.{Global}
@@ -15,7 +15,7 @@ use Rattle.gs_peer.specs.declared.task.PeerTask.{PeerTask}
 use Rattle.gs_peer.specs.Task.{CanPoll, given_of}
 use Rattle.gs_seats.specs.ListsByPeer.{list_at}
 use Rattle.gs_net.specs.Dials.{HasCapacity, IsFresh}
-use Rattle.gs_seats.specs.Rounds.{first_words, lines_in, neighbours, peer_in, peer_no, seat_in}
+use Rattle.gs_seats.specs.Rounds.{first_words, lines_in, neighbours, peer_no, seat_in}
 
 -- There are ends to and from each neighbour, to none of them twice, of links of the plan's capacity, and nothing has gone
 -- over them.

@@ -4,6 +4,3 @@ mod wiring;
 
 pub use settlement::settle_all;
 pub use wiring::wire_all;
-
-#[cfg(test)]
-mod tests;

@@ -52,6 +52,3 @@ fn fault_of(fault: WorkerFault) -> NetFault
         WorkerFault::NoThread(_) => NetFault::NoThread,
     }
 }
-
-#[cfg(test)]
-mod tests;

@@ -7,7 +7,5 @@ mod lives;
 mod run;
 mod tasks;
 
+pub use dials::{settle_all, wire_all};
 pub use run::run_net;
-
-#[cfg(test)]
-mod tests;

@@ -100,6 +100,3 @@ fn wants_memory<R: Wait + Drop>(
         Ok(_) => false,
     }
 }
-
-#[cfg(test)]
-mod tests;

@@ -26,7 +26,7 @@ use gs_ends::ListEnds;
 use gs_link::Item;
 use gs_peer::{FinishedTask, Gate, NoGate, PeerFault, Surroundings};
 use gs_plan::Line;
-use gs_router_calls::{Fields, NO_FIELDS, Said, Seen, events_in, text_of_all};
+use gs_router_testkit::{CasePart, Fields, NO_FIELDS, Seen, events_in, text_of_all};
 use gs_rules::RefusedLine;
 use gs_workers::StopFlag;
 use std::alloc::{AllocError, AllocGlobal, Global};
@@ -38,8 +38,8 @@ use std::test::*;
 
 // ---- lives
 
-/// The life of a case over lists, where every so many puts are refused. None where it doesn't end within 10,000 polls; where
-/// it ends with a fault, the test fails.
+/// The life of a case over lists, where one put in `every` is refused. None where it doesn't end within 10,000 polls;
+/// where it ends with a fault, the test fails.
 fn lives<R>(rt: &R, case: &Case<'_>, every: u64) -> io::Result<Option<FinishedTask<ListEnds>>>
 where
     R: Wait + RandomSource + AllocGlobal,
@@ -82,7 +82,7 @@ fn came(alloc: Global, other: PeerNo, life: &FinishedTask<ListEnds>) -> Result<S
     text(alloc, events.as_str(), life.refused.as_slice(), says)
 }
 
-/// The same as a case wants it.
+/// The same as a case has it.
 fn wanted(alloc: Global, case: &Case<'_>) -> Result<String, AllocError> {
     let events = text_of_all(alloc, case.events)?;
     let says = said(alloc, case.says)?;
@@ -91,7 +91,7 @@ fn wanted(alloc: Global, case: &Case<'_>) -> Result<String, AllocError> {
 
 const ENDLESS: &str = "no end";
 
-/// What came of a case, where every so many puts are refused.
+/// What came of a case, where one put in `every` is refused.
 fn came_of<R>(rt: &R, case: &Case<'_>, every: u64) -> io::Result<String>
 where
     R: Wait + RandomSource + AllocGlobal,
@@ -102,7 +102,7 @@ where
     }
 }
 
-/// Checks that what comes of each case is what it wants, however often puts are refused.
+/// Checks that what comes of each case is what it says, however often puts are refused.
 fn check<R>(rt: &R, cases: &[Case<'_>]) -> Result<(), Fail>
 where
     R: Wait + RandomSource + AllocGlobal + Abort,
@@ -133,7 +133,7 @@ fn a_long_frame_comes_in_pieces_of_one_byte(rt: HostRuntime) -> Result<(), Fail>
 }
 
 #[test]
-fn a_hang_up_closes_a_link_behind_what_was_sent(rt: HostRuntime) -> Result<(), Fail> {
+fn a_hang_up_closes_a_link_after_what_was_sent(rt: HostRuntime) -> Result<(), Fail> {
     check(&rt, HANG_UPS)
 }
 
@@ -147,7 +147,7 @@ fn what_is_said_in_a_round_is_one_frame(rt: HostRuntime) -> Result<(), Fail> {
     check(&rt, GATHERED)
 }
 
-/// What is reported of a case, where every so many puts are refused.
+/// What is reported of a case, where one put in `every` is refused.
 fn reported<R>(rt: &R, case: &Case<'_>, every: u64) -> io::Result<String>
 where
     R: Wait + RandomSource + AllocGlobal,
@@ -181,7 +181,7 @@ fn two_peers_do_over_lists_what_they_do_over_links(rt: HostRuntime) -> Result<()
     Ok(())
 }
 
-/// Where a neighbour takes one item alone, the life never ends.
+/// Where a neighbour takes only one item, the life never ends.
 #[test]
 fn what_is_never_accepted_keeps_a_task_pending(rt: HostRuntime) -> Result<(), Fail> {
     let case = Case {

@@ -1,4 +1,4 @@
-//! Runs of the peers `a` and `b`, and what is told of them.
+//! Runs of the peers `a` and `b`, and what is reported of them.
 mod plan;
 
 use crate::tests::plan::{bytes, plan, topic};
@@ -265,7 +265,7 @@ static FAULTS: [Life; 3] = [
     },
 ];
 
-const FAULTS_TOLD: &str = "\
+const FAULTS_REPORTED: &str = "\
 delivered a 200 news 31
 delivered a 400 news 32
 delivered b 18446744073709551615 blog -
@@ -282,10 +282,10 @@ links 4 settled
 
 /// A neighbour that closed its link, or on which a peer hung up, has no line.
 #[test]
-fn faults_are_told_by_peer_behind_refusals_and_ahead_of_members(
+fn faults_are_reported_by_peer_after_refusals_and_before_members(
     rt: HostRuntime,
 ) -> Result<(), AllocError> {
-    assert!(rt; is_told(rt.alloc(), &FAULTS, 4, FAULTS_TOLD)?);
+    assert!(rt; is_told(rt.alloc(), &FAULTS, 4, FAULTS_REPORTED)?);
     Ok(())
 }
 
@@ -310,7 +310,7 @@ static SCORES: [Life; 2] = [
 ];
 
 #[test]
-fn scores_are_told_in_millionths(rt: HostRuntime) -> Result<(), AllocError> {
+fn scores_are_reported_in_millionths(rt: HostRuntime) -> Result<(), AllocError> {
     let report = "score a b -0.000001\nscore a a 1.500000\nscore a  0.000000\n\
         score b a -12.345678\nscore b b 1000000.999999\nlinks 4 settled\n";
     assert!(rt; is_told(rt.alloc(), &SCORES, 4, report)?);
@@ -324,7 +324,7 @@ static LEAST_AND_GREATEST: [Life; 1] = [Life {
 }];
 
 #[test]
-fn scores_are_told_whatever_they_are(rt: HostRuntime) -> Result<(), AllocError> {
+fn scores_are_reported_whatever_they_are(rt: HostRuntime) -> Result<(), AllocError> {
     let report = "score a b -170141183460469231731687303715884.105728\n\
         score a b 170141183460469231731687303715884.105727\nlinks 2 settled\n";
     assert!(rt; is_told(rt.alloc(), &LEAST_AND_GREATEST, 2, report)?);
@@ -345,9 +345,11 @@ static MEMBERS: [Life; 2] = [
     },
 ];
 
-/// All members are told ahead of the first score.
+/// All members are reported ahead of the first score.
 #[test]
-fn members_are_told_by_peer_in_the_order_that_is_given(rt: HostRuntime) -> Result<(), AllocError> {
+fn members_are_reported_by_peer_in_the_order_that_is_given(
+    rt: HostRuntime,
+) -> Result<(), AllocError> {
     let report = "mesh a blog b\nmesh a news a\nmesh a news \nmesh b news a\n\
         score a b 0.000000\nscore b b 0.000000\nlinks 2 settled\n";
     assert!(rt; is_told(rt.alloc(), &MEMBERS, 2, report)?);

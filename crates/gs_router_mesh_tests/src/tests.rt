@@ -18,7 +18,7 @@ use crate::tests::grafts::GRAFTS;
 use crate::tests::losses::LOSSES;
 use crate::tests::mends::MENDS;
 use crate::tests::traffic::TRAFFIC;
-use gs_router_calls::{Case, played};
+use gs_router_testkit::{Case, played};
 use std::alloc::AllocError;
 use std::process::Abort;
 

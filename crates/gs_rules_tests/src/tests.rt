@@ -9,9 +9,9 @@ use gs_rules::{
     a_heartbeat_moves_a_mesh_a_step, a_member_was_not_in_backoff,
     a_part_with_nothing_left_is_whole, a_promise_is_charged_once,
     each_mark_of_a_legal_trace_counts, gossip_is_of_what_is_kept, legal_entries_compose,
-    mesh_members_are_up, meshes_are_of_own_topics, nothing_changes_a_mesh_behind_a_shut,
-    nothing_changes_a_score_behind_a_shut, nothing_is_gathered_behind_a_cut,
-    nothing_is_said_behind_a_close, one_more_entry, only_a_cut_says_more_than_frames,
+    mesh_members_are_up, meshes_are_of_own_topics, nothing_changes_a_mesh_after_a_shut,
+    nothing_changes_a_score_after_a_shut, nothing_is_gathered_after_a_cut,
+    nothing_is_said_after_a_close, one_more_entry, only_a_cut_says_more_than_frames,
     own_topics_are_those_that_are_joined, what_is_given_draws_no_word, what_is_kept_is_gossiped,
     what_is_sent_is_spelled, what_was_said_is_handled, what_was_sent_is_handled,
     what_words_choose_is_legal, words_fix_the_next_entry, words_fix_what_follows_a_rule,
@@ -229,7 +229,7 @@ fn compares_heartbeats(events: &[Event]) -> bool {
     gossip == again && gossip != start && gossip != end && start != end
 }
 
-/// Marks of two neighbours, of which one has two, and of two verdicts.
+/// Marks of two neighbours, where one has two, and of two verdicts.
 fn marks(alloc: Global) -> Result<Vec<Mark>, AllocError> {
     let mut marks = Vec::new(alloc);
     for peer in [2, 2, 3] {
@@ -287,8 +287,8 @@ fn each_refusal_has_its_number(rt: HostRuntime) {
 fn laws_can_be_called(_rt: HostRuntime) {
     one_more_entry();
     only_a_cut_says_more_than_frames();
-    nothing_is_gathered_behind_a_cut();
-    nothing_is_said_behind_a_close();
+    nothing_is_gathered_after_a_cut();
+    nothing_is_said_after_a_close();
     a_delivery_is_not_repeated();
     legal_entries_compose::<SeededWords>();
     what_words_choose_is_legal::<SeededWords>();
@@ -307,8 +307,8 @@ fn laws_can_be_called(_rt: HostRuntime) {
     a_broken_promise_is_charged();
     what_is_kept_is_gossiped();
     each_mark_of_a_legal_trace_counts();
-    nothing_changes_a_score_behind_a_shut();
-    nothing_changes_a_mesh_behind_a_shut();
+    nothing_changes_a_score_after_a_shut();
+    nothing_changes_a_mesh_after_a_shut();
     mesh_members_are_up();
     a_member_was_not_in_backoff();
     meshes_are_of_own_topics();

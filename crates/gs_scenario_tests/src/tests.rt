@@ -31,7 +31,7 @@ fn edited(alloc: Global, text: &str, old: &str, new: &str) -> Result<String, All
     }
 }
 
-/// The scenario that says something in each table, with a line more behind one of its lines.
+/// The scenario that says something in each table, with one more line after one of its lines.
 fn with_line(alloc: Global, behind: &str, line: &str) -> Result<String, AllocError> {
     let lines = format!(in alloc; "{behind}{line}\n")?;
     edited(alloc, TABLES, behind, lines.as_str())
@@ -50,7 +50,7 @@ fn with_value(alloc: Global, key: &str, value: &str) -> Result<String, AllocErro
     Ok(text)
 }
 
-/// A text so many times, one behind the other.
+/// A text `count` times, one after the other.
 fn repeated(alloc: Global, text: &str, count: usize) -> Result<String, AllocError> {
     let mut all = String::new(alloc);
     for _ in 0..count {
@@ -59,13 +59,13 @@ fn repeated(alloc: Global, text: &str, count: usize) -> Result<String, AllocErro
     Ok(all)
 }
 
-/// A list of so many numbers, none of which is a table.
+/// A list of `count` numbers, and no table among them.
 fn numbers(alloc: Global, count: usize) -> Result<String, AllocError> {
     let items = repeated(alloc, "0, ", count)?;
     format!(in alloc; "[{items}]")
 }
 
-/// Lists in lists, so many deep.
+/// Lists in lists, `depth` deep.
 fn nested(alloc: Global, depth: usize) -> Result<String, AllocError> {
     let front = repeated(alloc, "[", depth)?;
     let back = repeated(alloc, "]", depth)?;
@@ -88,8 +88,8 @@ fn written(alloc: Global, text: &str) -> Result<String, AllocError> {
     }
 }
 
-/// What a line behind another line gives.
-fn outcome_behind(alloc: Global, behind: &str, line: &str) -> Result<String, AllocError> {
+/// What a line after another line gives.
+fn outcome_after(alloc: Global, behind: &str, line: &str) -> Result<String, AllocError> {
     let text = with_line(alloc, behind, line)?;
     outcome(alloc, text.as_str())
 }
@@ -114,10 +114,10 @@ fn check_edits<T: AllocGlobal + Abort>(
     Ok(())
 }
 
-/// Checks that each line behind another line gives what it must.
+/// Checks that each line after another line gives what it must.
 fn check_lines<T: AllocGlobal + Abort>(rt: &T, cases: &[Case]) -> Result<(), AllocError> {
     for (behind, line, want) in cases {
-        let given = outcome_behind(rt.alloc(), behind, line)?;
+        let given = outcome_after(rt.alloc(), behind, line)?;
         assert_eq!(rt; given.as_str(), *want, "{line}");
     }
     Ok(())
@@ -212,7 +212,7 @@ fn check_number<T: AllocGlobal + Abort>(
     want: &str,
 ) -> Result<(), AllocError> {
     let line = format!(in rt.alloc(); "{} = {value}", range.1)?;
-    let given = outcome_behind(rt.alloc(), range.0.behind, line.as_str())?;
+    let given = outcome_after(rt.alloc(), range.0.behind, line.as_str())?;
     assert_eq!(rt;
         given.as_str(),
         want,
@@ -300,7 +300,7 @@ fn a_table_has_its_keys(rt: HostRuntime) -> Result<(), AllocError> {
     Ok(())
 }
 
-/// The keys of a table, each with a space behind it.
+/// The keys of a table, each with a space after it.
 fn keys_in_order(alloc: Global, kind: TableKind) -> Result<String, AllocError> {
     let mut text = String::new(alloc);
     for key in kind.known_keys() {
@@ -315,7 +315,7 @@ fn topic(alloc: Global) -> Result<Topic, AllocError> {
 }
 
 #[test]
-fn what_is_told_has_its_word(rt: HostRuntime) -> Result<(), AllocError> {
+fn each_act_has_its_word(rt: HostRuntime) -> Result<(), AllocError> {
     let alloc = rt.alloc();
     assert_eq!(rt; what_word(&Act::Subscribe(topic(alloc)?)), "subscribe");
     assert_eq!(rt; what_word(&Act::Unsubscribe(topic(alloc)?)), "unsubscribe");

@@ -12,29 +12,20 @@ use gs_wire::{
     WireFault, a_body_spells_its_rpc, a_graft_fits_a_frame, a_joined_body_is_no_longer,
     a_message_by_itself_is_no_longer, a_prune_fits_a_frame, a_reader_holds_the_unread_end,
     a_request_fits_a_frame, a_stream_is_one, a_stream_may_be_cut_anywhere,
-    a_written_frame_is_read_back, an_offer_fits_a_frame,
-    bodies_behind_each_other_spell_the_joined_rpc, bytes_spell_one_list_of_records,
-    bytes_spell_one_rpc, decode, encode, encode_frame, every_list_of_bytes_is_a_stream,
-    no_frame_begins_another, publish_len, rpcs_are_joined_in_any_grouping,
-    the_written_varint_is_shortest, what_was_read_fits_a_frame,
+    a_written_frame_is_read_back, an_offer_fits_a_frame, bodies_in_a_row_spell_the_joined_rpc,
+    bytes_spell_one_list_of_records, bytes_spell_one_rpc, decode, encode, encode_frame,
+    every_list_of_bytes_is_a_stream, no_frame_begins_another, publish_len,
+    rpcs_are_joined_in_any_grouping, the_written_varint_is_shortest, what_was_read_fits_a_frame,
     what_was_read_is_no_longer_when_written,
 };
 use std::alloc::{AllocError, Global};
-
-fn empty(alloc: Global) -> Rpc {
-    Rpc {
-        subs: Seq::new(alloc),
-        publish: Seq::new(alloc),
-        control: None,
-    }
-}
 
 fn topic(alloc: Global, name: &[u8]) -> Result<Option<Topic>, AllocError> {
     Ok(Some(Topic(Bytes::copy_from_slice(alloc, name)?)))
 }
 
 fn subscription(alloc: Global, subscribe: Option<bool>, name: &[u8]) -> Result<Rpc, AllocError> {
-    let mut rpc = empty(alloc);
+    let mut rpc = Rpc::empty(alloc);
     rpc.subs.push(SubOpt {
         subscribe,
         topic: topic(alloc, name)?,
@@ -43,7 +34,7 @@ fn subscription(alloc: Global, subscribe: Option<bool>, name: &[u8]) -> Result<R
 }
 
 fn publication(alloc: Global, name: &[u8], payload: Bytes) -> Result<Rpc, AllocError> {
-    let mut rpc = empty(alloc);
+    let mut rpc = Rpc::empty(alloc);
     rpc.publish.push(Message {
         origin: None,
         payload: Some(payload),
@@ -80,17 +71,8 @@ fn frames_are_read_and_written(rt: HostRuntime) -> Result<(), AllocError> {
     let publish = b"\x0a\x12\x08\x12\x03\x61\x62\x63\x22\x01\x61";
     let abc = publication(alloc, b"a", Bytes::copy_from_slice(alloc, b"abc")?)?;
     assert!(rt; is_read_and_written(alloc, &publish[1..], &abc, publish));
-    assert!(rt; is_read_and_written(alloc, b"", &empty(alloc), b"\x00"));
+    assert!(rt; is_read_and_written(alloc, b"", &Rpc::empty(alloc), b"\x00"));
     Ok(())
-}
-
-fn no_control(alloc: Global) -> Control {
-    Control {
-        ihave: Seq::new(alloc),
-        iwant: Seq::new(alloc),
-        graft: Seq::new(alloc),
-        prune: Seq::new(alloc),
-    }
 }
 
 fn with_control(alloc: Global, control: Control) -> Rpc {
@@ -106,7 +88,7 @@ fn control_records_are_merged(rt: HostRuntime) -> Result<(), AllocError> {
     let alloc = rt.alloc();
     let body = b"\x78\x01\x1a\x05\x1a\x03\x0a\x01\x61\x1a\x05\x1a\x03\x0a\x01\x62";
     let frame = b"\x0c\x1a\x0a\x1a\x03\x0a\x01\x61\x1a\x03\x0a\x01\x62";
-    let mut control = no_control(alloc);
+    let mut control = Control::empty(alloc);
     control.graft.push(Graft {
         topic: topic(alloc, b"a")?,
     })?;
@@ -114,7 +96,7 @@ fn control_records_are_merged(rt: HostRuntime) -> Result<(), AllocError> {
         topic: topic(alloc, b"b")?,
     })?;
     assert!(rt; is_read_and_written(alloc, body, &with_control(alloc, control), frame));
-    let empty = with_control(alloc, no_control(alloc));
+    let empty = with_control(alloc, Control::empty(alloc));
     assert!(rt; is_read_and_written(alloc, b"\x1a\x00", &empty, b"\x02\x1a\x00"));
     assert!(rt; is_malformed(alloc, b"\x1a\x03\x1a\x02\x0a\x1a\x02\x01\x61"));
     Ok(())
@@ -226,7 +208,7 @@ fn laws_can_be_called(_rt: HostRuntime) {
     a_request_fits_a_frame();
     a_graft_fits_a_frame();
     a_prune_fits_a_frame();
-    bodies_behind_each_other_spell_the_joined_rpc();
+    bodies_in_a_row_spell_the_joined_rpc();
     a_joined_body_is_no_longer();
     rpcs_are_joined_in_any_grouping();
 }

@@ -1,4 +1,4 @@
-//! Parts of an RPC that is shared: the second of each kind, of which each list has two.
+//! Parts of an RPC that is shared: the second of each kind. Each list has two.
 use crate::tests::{message, topic};
 use bytes::Bytes;
 use gs_base::{

@@ -64,7 +64,7 @@ fn take_at_last<R: Wait>(rt: &R, rx: &mut LinkRx) -> Taken {
     Taken::Empty
 }
 
-/// Whether the pieces that come are the numbers in order, and the close comes behind them.
+/// Whether the pieces that come are the numbers in order, and the close comes after them.
 fn take_numbers<R: Wait>(rt: &R, mut rx: LinkRx) -> bool {
     for number in 0..PIECES {
         let Some(bytes) = bytes_of(take_at_last(rt, &mut rx)) else {

@@ -38,7 +38,7 @@ fn puts_for_both<R: Wait + Drop>(ends: &mut LinkEnds<R>, piece: Item) -> bool
     mark && piece && end
 }
 
-/// Whether the mark and the close came to 3, and the piece alone to 5.
+/// Whether the mark and the close came to 3, and only the piece to 5.
 fn came<R: Wait>(rt: &R, at_three: &mut LinkRx, at_five: &mut LinkRx, piece: Item) -> bool {
     let mark = at_three.take(rt) == Taken::Got(Item::Round(7));
     let end = at_three.take(rt) == Taken::Closed;
@@ -58,7 +58,7 @@ fn comes_of_three<R: Wait + Drop>(ends: &mut LinkEnds<R>) -> bool
 }
 
 #[test]
-fn an_item_goes_to_its_neighbour_alone(rt: HostRuntime) -> Result<(), Fail> {
+fn an_item_goes_only_to_its_neighbour(rt: HostRuntime) -> Result<(), Fail> {
     let (put, wanted) = (piece(rt.alloc(), b"abc")?, piece(rt.alloc(), b"abc")?);
     let (to_three, mut at_three) = open_link(rt.alloc(), 2)?;
     let (mut of_three, from_three) = open_link(rt.alloc(), 2)?;
@@ -237,9 +237,8 @@ fn each_neighbour_has_its_own_items(rt: HostRuntime) -> Result<(), Fail> {
     Ok(())
 }
 
-/// Behind the close of the second one its items are closed, and are not counted among those of which every second is
-/// refused.
-fn counts_none_behind_the_close(ends: &mut ListEnds) -> bool
+/// After the close of the second one its items are closed, and do not count where every second one is refused.
+fn counts_none_after_the_close(ends: &mut ListEnds) -> bool
     requires five { has (joints_in_lists ends.old) (record { 0 = 5 }) ≡ true }
     requires three { has (joints_in_lists ends.old) (record { 0 = 3 }) ≡ true }
 {
@@ -251,9 +250,9 @@ fn counts_none_behind_the_close(ends: &mut ListEnds) -> bool
 }
 
 #[test]
-fn behind_the_close_all_is_closed_and_not_counted(rt: HostRuntime) -> Result<(), Fail> {
+fn after_the_close_all_is_closed_and_not_counted(rt: HostRuntime) -> Result<(), Fail> {
     let mut ends = two(rt.alloc(), 4, 2)?;
-    assert!(rt; counts_none_behind_the_close(&mut ends));
+    assert!(rt; counts_none_after_the_close(&mut ends));
     Ok(())
 }
 

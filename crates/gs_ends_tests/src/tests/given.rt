@@ -26,7 +26,7 @@ enum Came<'a> {
     Closed,
 }
 
-/// What is taken in turns, where 9 is given two pieces with the end of a round behind each, 2 nothing, and 5 one mark.
+/// What is taken in turns, where 9 is given two pieces with the end of a round after each, 2 nothing, and 5 one mark.
 static TURNS: &[(Neighbour, Came<'static>)] = &[
     (Neighbour::Nine, Came::Piece(b"ab")),
     (Neighbour::Five, Came::Round(7)),
@@ -41,7 +41,7 @@ static TURNS: &[(Neighbour, Came<'static>)] = &[
     (Neighbour::Nine, Came::Closed),
 ];
 
-/// How many of the marks that are put to 2 in those turns are accepted, where every so many puts are refused.
+/// For some N, how many of the marks that are put to 2 in those turns are accepted, where every N-th put is refused.
 static ACCEPTED: &[(u64, usize)] = &[(0, 11), (1, 0), (2, 6), (3, 8)];
 
 /// Ends to three neighbours, from which these items come.
@@ -145,7 +145,7 @@ fn take_all_of_five(ends: &mut ListEnds) -> bool
 }
 
 #[test]
-fn behind_the_close_all_was_taken(rt: HostRuntime) -> Result<(), Fail> {
+fn after_the_close_all_was_taken(rt: HostRuntime) -> Result<(), Fail> {
     let mut ends = ends_of(rt.alloc(), 2)?;
     assert!(rt; take_all_of_five(&mut ends));
     Ok(())

@@ -147,7 +147,7 @@ fn a_link_of_one_slot_is_full_with_one(rt: HostRuntime) -> Result<(), Fail> {
     Ok(())
 }
 
-/// Behind the mark of round 1.
+/// After the mark of round 1.
 static ONE_AT_A_TIME: [(Asked, Answer); 4] = [
     (Asked::Take, Answer::Round(1)),
     (Asked::Send(2), Answer::Done),
@@ -180,7 +180,7 @@ fn a_link_of_1024_slots_is_full_with_1024(rt: HostRuntime) -> Result<(), Fail> {
     Ok(())
 }
 
-static BEHIND_THE_CLOSE: [(Asked, Answer); 10] = [
+static AFTER_THE_CLOSE: [(Asked, Answer); 10] = [
     (Asked::Send(0), Answer::Done),
     (Asked::Close, Answer::Done),
     (Asked::Close, Answer::Closed),
@@ -196,7 +196,7 @@ static BEHIND_THE_CLOSE: [(Asked, Answer); 10] = [
 #[test]
 fn after_the_close_all_is_closed_again_and_again(rt: HostRuntime) -> Result<(), Fail> {
     let (mut tx, mut rx) = open_link(rt.alloc(), 3)?;
-    assert_eq!(rt; right(&rt, &mut tx, &mut rx, &BEHIND_THE_CLOSE), 10);
+    assert_eq!(rt; right(&rt, &mut tx, &mut rx, &AFTER_THE_CLOSE), 10);
     Ok(())
 }
 

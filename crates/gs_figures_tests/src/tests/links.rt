@@ -1,5 +1,6 @@
 //! What goes over each link.
-use crate::tests::made::{Life, SILENT, bytes, own, peers_of, rpc};
+use crate::tests::made::{Life, SILENT, bytes, own, peers_of};
+use crate::tests::made_rpcs::{NO_PART, PartCounts, rpc};
 use gs_base::{Message, Millis, PeerNo, Rpc, Seq, Shared};
 use gs_figures::{LinkFigures, all_links};
 use gs_plan::{Act, Dial};
@@ -9,9 +10,9 @@ use std::alloc::{AllocError, Global};
 /// What peer 0 does.
 #[derive(Clone, Copy)]
 enum Step {
-    /// It sends these an RPC of so many subscriptions, messages, IHAVE, IWANT, GRAFT and PRUNE. None has a field.
-    Sends([usize; 6], &'static [u16]),
-    /// It sends a neighbour a message with a payload of so many bytes.
+    /// It sends these an RPC of this many parts. None has a field.
+    Sends(PartCounts, &'static [u16]),
+    /// It sends a neighbour a message with a payload of this many bytes.
     SendsLong(usize, u16),
     EndsRound,
     /// It puts bytes on the link to a neighbour.
@@ -22,13 +23,22 @@ enum Step {
     ShutsDown,
 }
 
-const ONE_SUBSCRIPTION: [usize; 6] = [1, 0, 0, 0, 0, 0];
+const ONE_SUBSCRIPTION: PartCounts = PartCounts { subs: 1, ..NO_PART };
 
-const ONE_MESSAGE: [usize; 6] = [0, 1, 0, 0, 0, 0];
+const ONE_MESSAGE: PartCounts = PartCounts {
+    publish: 1,
+    ..NO_PART
+};
 
-const ONE_OFFER: [usize; 6] = [0, 0, 1, 0, 0, 0];
+const ONE_OFFER: PartCounts = PartCounts {
+    ihave: 1,
+    ..NO_PART
+};
 
-const ONE_GRAFT: [usize; 6] = [0, 0, 0, 0, 1, 0];
+const ONE_GRAFT: PartCounts = PartCounts {
+    graft: 1,
+    ..NO_PART
+};
 
 /// What peer 0 does, and how many RPCs and bytes go from it to peers 1 and 2.
 struct Case {
@@ -213,7 +223,7 @@ fn push_step(alloc: Global, trace: &mut Trace, step: Step) -> Result<(), AllocEr
     })
 }
 
-/// Three peers, of which 0 dials 1, and 2 dials 0.
+/// Three peers: 0 dials 1, and 2 dials 0.
 static LIVES: [Life; 3] = [
     SILENT,
     Life { peer: 1, ..SILENT },

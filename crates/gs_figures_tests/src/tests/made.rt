@@ -1,12 +1,7 @@
 //! Traces that are made by hand.
-ghost use Rattle.std.specs.Prelude.{◌<◌, length, IfOk};
-ghost use Rattle.gs_base.specs.Rpcs.{grafts_in, offers_in, prunes_in, requests_in};
-
+use crate::tests::made_rpcs::{PartCounts, each_part, rpc};
 use bytes::Bytes;
-use gs_base::{
-    Control, Graft, IHave, IWant, Mark, Message, Millis, MsgId, PeerNo, Prune, Rpc, Seq, Shared,
-    SharedPart, SubOpt, Topic, Verdict,
-};
+use gs_base::{Mark, Millis, MsgId, PeerNo, Rpc, Seq, Shared, SharedPart, Topic, Verdict};
 use gs_plan::Act;
 use gs_report::Finished;
 use gs_rules::{Effects, Entry, Event, Refusal, RefusedLine, RpcPart, Trace};
@@ -38,7 +33,7 @@ pub(crate) enum Did {
     /// A GRAFT comes that counts as misbehaviour.
     EarlyGraft(u16),
     Prune(u16),
-    /// A heartbeat begins, and so many promises were broken.
+    /// A heartbeat begins, and this many promises were broken.
     Beat(usize),
     Subscribes(&'static str),
     Leaves(&'static str),
@@ -48,8 +43,8 @@ pub(crate) enum Did {
     PublishesOutside(&'static str, &'static [u8]),
     /// A payload on a topic is delivered: a new message of a neighbour.
     Delivers(&'static str, &'static [u8]),
-    /// A round ends, and this goes to these neighbours: subscriptions, messages, IHAVE, IWANT, GRAFT and PRUNE.
-    Sends([usize; 6], &'static [u16]),
+    /// A round ends, and an RPC of this many parts goes to these neighbours.
+    Sends(PartCounts, &'static [u16]),
 }
 
 /// What is left of a peer.
@@ -83,58 +78,6 @@ pub(crate) fn bytes(alloc: Global, text: &[u8]) -> Result<Bytes, AllocError> {
 
 pub(crate) fn topic(alloc: Global, name: &str) -> Result<Topic, AllocError> {
     Ok(Topic(bytes(alloc, name.as_bytes())?))
-}
-
-fn blank() -> Message {
-    Message {
-        origin: None,
-        payload: None,
-        seqno: None,
-        topic: None,
-        signature: None,
-        key: None,
-    }
-}
-
-fn each_control(alloc: Global) -> Result<Control, AllocError>
-    ensures offer { IfOk result (λ control. 0 < length control.ihave) }
-    ensures request { IfOk result (λ control. 0 < length control.iwant) }
-    ensures graft { IfOk result (λ control. 0 < length control.graft) }
-    ensures prune { IfOk result (λ control. 0 < length control.prune) }
-{
-    let offer = IHave {
-        topic: None,
-        ids: Seq::new(alloc),
-    };
-    let request = IWant {
-        ids: Seq::new(alloc),
-    };
-    let prune = Prune {
-        topic: None,
-        backoff: None,
-    };
-    Ok(Control {
-        ihave: Seq::only(alloc, offer)?,
-        iwant: Seq::only(alloc, request)?,
-        graft: Seq::only(alloc, Graft { topic: None })?,
-        prune: Seq::only(alloc, prune)?,
-    })
-}
-
-/// An RPC with one part of each kind that an event may bring, without any field.
-fn each_part(alloc: Global) -> Result<Shared<Rpc>, AllocError>
-    ensures message { IfOk result (λ rpc. 0 < length rpc.publish) }
-    ensures offer { IfOk result (λ rpc. 0 < length (offers_in rpc.control)) }
-    ensures request { IfOk result (λ rpc. 0 < length (requests_in rpc.control)) }
-    ensures graft { IfOk result (λ rpc. 0 < length (grafts_in rpc.control)) }
-    ensures prune { IfOk result (λ rpc. 0 < length (prunes_in rpc.control)) }
-{
-    let rpc = Rpc {
-        publish: Seq::only(alloc, blank())?,
-        control: Some(each_control(alloc)?),
-        ..Rpc::empty(alloc)
-    };
-    Shared::new(alloc, rpc)
 }
 
 /// A part of an RPC comes of a neighbour.
@@ -235,54 +178,6 @@ fn one_delivery(
     Seq::only(alloc, (topic, bytes(alloc, payload)?))
 }
 
-/// An RPC of so many subscriptions, messages, IHAVE, IWANT, GRAFT and PRUNE.
-pub(crate) fn rpc(alloc: Global, parts: [usize; 6]) -> Result<Rpc, AllocError> {
-    let mut rpc = Rpc::empty(alloc);
-    for _ in 0..parts[0] {
-        rpc.subs.push(SubOpt {
-            subscribe: None,
-            topic: None,
-        })?;
-    }
-    for _ in 0..parts[1] {
-        rpc.publish.push(blank())?;
-    }
-    if parts[2..] != [0, 0, 0, 0] {
-        rpc.control = Some(control(alloc, parts)?);
-    }
-    Ok(rpc)
-}
-
-fn control(alloc: Global, parts: [usize; 6]) -> Result<Control, AllocError> {
-    let mut control = Control {
-        ihave: Seq::new(alloc),
-        iwant: Seq::new(alloc),
-        graft: Seq::new(alloc),
-        prune: Seq::new(alloc),
-    };
-    for _ in 0..parts[2] {
-        control.ihave.push(IHave {
-            topic: None,
-            ids: Seq::new(alloc),
-        })?;
-    }
-    for _ in 0..parts[3] {
-        control.iwant.push(IWant {
-            ids: Seq::new(alloc),
-        })?;
-    }
-    for _ in 0..parts[4] {
-        control.graft.push(Graft { topic: None })?;
-    }
-    for _ in 0..parts[5] {
-        control.prune.push(Prune {
-            topic: None,
-            backoff: None,
-        })?;
-    }
-    Ok(control)
-}
-
 fn sends_of(alloc: Global, did: Did) -> Result<Seq<(PeerNo, Shared<Rpc>)>, AllocError> {
     let mut sends = Seq::new(alloc);
     if let Did::Sends(parts, neighbours) = did {
@@ -371,8 +266,8 @@ pub(crate) fn peers_of(
     Ok(peers)
 }
 
-/// So many subscribers, of which each delivers the same payload, the last one at once, and each one before it a round
-/// later; and one more peer that publishes it.
+/// `count` subscribers, and one more peer that publishes a payload. Each subscriber delivers it: the last one at once,
+/// and each one before it a round later.
 pub(crate) fn delivering(alloc: Global, count: u16) -> Result<Vec<(PeerNo, Finished)>, AllocError> {
     let mut peers = Vec::new(alloc);
     for number in 0..count {

@@ -1,5 +1,6 @@
 //! What is counted at each peer.
 use crate::tests::made::{Comes, Did, Life, SILENT, peers_of};
+use crate::tests::made_rpcs::{NO_PART, PartCounts};
 use gs_base::PeerNo;
 use gs_figures::{Counts, Fates, Parts, PeerFigures, Span, all_figures, counts_of_all};
 use std::alloc::{AllocError, Global};
@@ -29,7 +30,7 @@ const NO_COUNTS: Counts = Counts {
     refused_lines: 0,
 };
 
-/// The figures of a peer that did nothing, and of which nothing is known.
+/// The figures of a peer that did nothing. Nothing is known of it.
 const NOTHING: PeerFigures = PeerFigures {
     peer: PeerNo(0),
     counts: NO_COUNTS,
@@ -106,15 +107,64 @@ static CASES: [Case; 5] = [
         lives: &[
             Life {
                 trace: &[
-                    (0, Did::Sends([1, 2, 0, 0, 0, 0], &[1, 2, 3])),
-                    (0, Did::Sends([0, 0, 1, 2, 3, 4], &[1, 2])),
-                    (0, Did::Sends([5, 5, 5, 5, 5, 5], &[])),
+                    (
+                        0,
+                        Did::Sends(
+                            PartCounts {
+                                subs: 1,
+                                publish: 2,
+                                ..NO_PART
+                            },
+                            &[1, 2, 3],
+                        ),
+                    ),
+                    (
+                        0,
+                        Did::Sends(
+                            PartCounts {
+                                ihave: 1,
+                                iwant: 2,
+                                graft: 3,
+                                prune: 4,
+                                ..NO_PART
+                            },
+                            &[1, 2],
+                        ),
+                    ),
+                    (
+                        0,
+                        Did::Sends(
+                            PartCounts {
+                                subs: 5,
+                                publish: 5,
+                                ihave: 5,
+                                iwant: 5,
+                                graft: 5,
+                                prune: 5,
+                                ..NO_PART
+                            },
+                            &[],
+                        ),
+                    ),
                 ],
                 ..SILENT
             },
             Life {
                 peer: 1,
-                trace: &[(0, Did::Sends([0, 1, 1, 1, 1, 1], &[0]))],
+                trace: &[(
+                    0,
+                    Did::Sends(
+                        PartCounts {
+                            publish: 1,
+                            ihave: 1,
+                            iwant: 1,
+                            graft: 1,
+                            prune: 1,
+                            ..NO_PART
+                        },
+                        &[0],
+                    ),
+                )],
                 refused: 1,
                 ..SILENT
             },
@@ -230,7 +280,7 @@ static CASES: [Case; 5] = [
     },
 ];
 
-/// Two RPCs; eight messages, of which two are new, two again, one near, two invalid and one is ignored; the rest as it
+/// Two RPCs, and eight messages: two are new, two again, one near, two invalid and one is ignored. The rest is as it
 /// stands in the trace.
 const HEARD: Counts = Counts {
     rpcs_heard: 2,

@@ -79,7 +79,7 @@ Scores and meshes at the end
 none
 ";
 
-/// Whether the figures of these lives are told so.
+/// Whether this text tells the figures of these lives.
 fn are_told(alloc: Global, plan: &Plan, lives: &[Life], wanted: &str) -> Result<bool, AllocError> {
     let report = Report {
         peers: peers_of(alloc, lives)?,
@@ -100,7 +100,7 @@ fn tells(alloc: Global, lives: &[Life], wanted: &str) -> Result<bool, AllocError
 }
 
 #[test]
-fn two_peers_are_told_as_tables(rt: HostRuntime) -> Result<(), AllocError> {
+fn two_peers_are_written_as_tables(rt: HostRuntime) -> Result<(), AllocError> {
     assert!(rt; tells(rt.alloc(), &LIVES, TABLE)?);
     Ok(())
 }

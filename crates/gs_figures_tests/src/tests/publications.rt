@@ -4,8 +4,8 @@ use gs_base::{Millis, PeerNo};
 use gs_figures::{PublicationFigures, Spread, all_publications};
 use std::alloc::{AllocError, Global};
 
-/// What is to be told of a publication: its publisher and its moment, how many peers were on its topic and how many it
-/// was delivered to, and the first, the median, the 99th percentile and the last of the rounds.
+/// What figures are to say of a publication: its publisher and its moment, how many peers were on its topic and how
+/// many it was delivered to, and the first, the median, the 99th percentile and the last of the rounds.
 #[derive(Clone, Copy)]
 pub(crate) struct Row {
     pub peer: u16,

@@ -1,5 +1,6 @@
 //! What happened in each round, and its text.
 use crate::tests::made::{Comes, Did, Life, SILENT, entry, peers_of, topic};
+use crate::tests::made_rpcs::{NO_PART, PartCounts};
 use gs_base::{Mark, Millis, PeerNo, Seq};
 use gs_figures::{Form, RoundFigures, Span, rounds_of, rounds_text};
 use gs_plan::Plan;
@@ -26,7 +27,7 @@ struct Case {
     rounds: [RoundFigures; 3],
 }
 
-/// Rounds of 100 milliseconds, of which the last has number 2.
+/// Rounds of 100 milliseconds. The last has number 2.
 const SCENARIO: &str = r#"
 round_ms = 100
 rounds = 2
@@ -59,11 +60,16 @@ const NOTHING_2: RoundFigures = RoundFigures {
 };
 
 /// An RPC of one message without any field is 2 bytes, and 3 as a frame. One of a subscription and a message is 5.
-const ONE_MESSAGE: [usize; 6] = [0, 1, 0, 0, 0, 0];
+const ONE_MESSAGE: PartCounts = PartCounts {
+    publish: 1,
+    ..NO_PART
+};
 
-const ONE_OF_EACH: [usize; 6] = [1, 1, 0, 0, 0, 0];
-
-const NO_PART: [usize; 6] = [0; 6];
+const ONE_OF_EACH: PartCounts = PartCounts {
+    subs: 1,
+    publish: 1,
+    ..NO_PART
+};
 
 static CASES: [Case; 6] = [
     Case {
@@ -166,8 +172,8 @@ static CASES: [Case; 6] = [
             },
         ],
     },
-    // A frame goes out where its round ends: 3 bytes in round 0; in round 1 5 and 3, one each way. What goes to peer 7,
-    // with whom nobody is joined, counts for nothing.
+    // A frame goes out where its round ends: 3 bytes in round 0; in round 1 5 and 3, one each way. Nobody is joined
+    // with peer 7, so what goes to it counts for nothing.
     Case {
         name: "bytes of frames that go out where a round ends",
         first: &[
@@ -324,7 +330,7 @@ fn each_round_has_its_figures(rt: HostRuntime) -> Result<(), AllocError> {
 }
 
 #[test]
-fn rounds_are_told_as_csv_and_as_json(rt: HostRuntime) -> Result<(), AllocError> {
+fn rounds_are_written_as_csv_and_as_json(rt: HostRuntime) -> Result<(), AllocError> {
     assert!(rt; text_is(rt.alloc(), Form::Csv, &MIXED.rounds, CSV)?);
     assert!(rt; text_is(rt.alloc(), Form::Json, &MIXED.rounds, JSON)?);
     Ok(())

@@ -1,5 +1,6 @@
 //! The texts of the figures of a run of two peers.
 use crate::tests::made::{Did, Life, SILENT, peers_of};
+use crate::tests::made_rpcs::{NO_PART, PartCounts};
 use gs_figures::{figures_csv, figures_json, figures_of};
 use gs_plan::Plan;
 use gs_report::Report;
@@ -23,7 +24,16 @@ pub(crate) static LIVES: [Life; 2] = [
             (0, Did::Subscribes("news")),
             (0, Did::Hears(1)),
             (200, Did::Publishes("news", b"abc")),
-            (200, Did::Sends([0, 1, 0, 0, 0, 0], &[1])),
+            (
+                200,
+                Did::Sends(
+                    PartCounts {
+                        publish: 1,
+                        ..NO_PART
+                    },
+                    &[1],
+                ),
+            ),
         ],
         refused: 1,
         meshes: &[("news", 1)],
@@ -83,7 +93,7 @@ const JSON: &str = "\
 ]
 ";
 
-/// Whether the figures of the run are told so.
+/// Whether the texts tell the figures of the run.
 fn are_told(alloc: Global, plan: &Plan) -> Result<bool, AllocError> {
     let report = Report {
         peers: peers_of(alloc, &LIVES)?,
@@ -105,7 +115,7 @@ fn tells_two_peers(alloc: Global) -> Result<bool, AllocError> {
 }
 
 #[test]
-fn two_peers_are_told_as_csv_and_as_json(rt: HostRuntime) -> Result<(), AllocError> {
+fn two_peers_are_written_as_csv_and_as_json(rt: HostRuntime) -> Result<(), AllocError> {
     assert!(rt; tells_two_peers(rt.alloc())?);
     Ok(())
 }

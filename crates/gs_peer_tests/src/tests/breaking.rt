@@ -2,7 +2,7 @@
 use crate::tests::cases::{Case, FIELD_0, NOTHING, ROUND_0};
 use crate::tests::items::{PUBLISHES, SUBSCRIBES, Word};
 use gs_base::Millis;
-use gs_router_calls::{Call, Said, Seen};
+use gs_router_testkit::{Call, CasePart, Seen};
 use gs_rules::{Refusal, RefusedLine};
 
 // ---- hang-ups
@@ -10,8 +10,8 @@ use gs_rules::{Refusal, RefusedLine};
 /// The frame of the message `xyz` on `a`.
 const ANSWERS: &[u8] = b"\x0a\x12\x08\x12\x03xyz\x22\x01a";
 
-/// It hangs up behind a message, in round 1: the neighbour is told that message, and nothing of what comes behind. What the
-/// neighbour said in that round is late in the next, and its close makes no entry. More can't be done to the link.
+/// It hangs up after a message, in round 1. The neighbour hears that message, and nothing of what comes after it. What
+/// the neighbour said in that round is late in the next, and its close makes no entry. More can't be done to the link.
 const HANGS_UP: Case<'static> = Case {
     name: "a hang-up closes the link behind what was sent",
     script: &[
@@ -33,13 +33,13 @@ const HANGS_UP: Case<'static> = Case {
     events: &[
         Seen::Subscribe("a"),
         Seen::RoundEnd(0),
-        Seen::Heard(2, Said::On("a")),
-        Seen::Handled(2, Said::On("a")),
+        Seen::Heard(2, CasePart::On("a")),
+        Seen::Handled(2, CasePart::On("a")),
         Seen::Publish("a", b"abc"),
         Seen::HangUp(2),
         Seen::Publish("a", b"abd"),
         Seen::RoundEnd(1),
-        Seen::Late(2, Said::Message("a", b"xyz")),
+        Seen::Late(2, CasePart::Message("a", b"xyz")),
         Seen::RoundEnd(2),
         Seen::Shut,
     ],
@@ -63,7 +63,7 @@ const HANGS_UP: Case<'static> = Case {
     ..NOTHING
 };
 
-/// Not even the end of the round is told.
+/// Not even the end of the round is said.
 const HANGS_UP_AT_ONCE: Case<'static> = Case {
     name: "behind a hang-up bytes that spell no RPC are no fault",
     script: &[(0, 0, Call::HangUp(2))],

@@ -4,7 +4,7 @@ use crate::tests::items::{
 };
 use crate::tests::made::{ONE, Pair};
 use gs_base::Millis;
-use gs_router_calls::{Call, Said, Seen};
+use gs_router_testkit::{Call, CasePart, Seen};
 use gs_rules::{Refusal, RefusedLine};
 
 /// What a peer lives through.
@@ -21,7 +21,7 @@ pub struct Case<'a> {
     pub rounds: u64,
     /// How many items the neighbour takes.
     pub room: usize,
-    /// At every so many puts one is refused; 0 where none is. The case is played with each.
+    /// The case is played with each of these: one put in that many is refused; 0 where none is.
     pub refusals: &'a [u64],
     /// The events of its trace.
     pub events: &'a [Seen<'a>],
@@ -68,8 +68,8 @@ const SCRIPTED: Case<'static> = Case {
     events: &[
         Seen::Subscribe("a"),
         Seen::RoundEnd(0),
-        Seen::Heard(2, Said::On("a")),
-        Seen::Handled(2, Said::On("a")),
+        Seen::Heard(2, CasePart::On("a")),
+        Seen::Handled(2, CasePart::On("a")),
         Seen::Publish("a", b"abc"),
         Seen::RoundEnd(1),
         Seen::RoundEnd(2),
@@ -89,7 +89,7 @@ const SCRIPTED: Case<'static> = Case {
     ..NOTHING
 };
 
-/// A step of decay and a heartbeat come each second but the first, behind the lines of their round: in rounds of 100
+/// A step of decay and a heartbeat come each second but the first, after the lines of their round: in rounds of 100
 /// milliseconds in rounds 10 and 20. The first heartbeat grafts the neighbour, in one frame with what is published in its
 /// round. It is pruned then, stays out of the mesh at the second one, and is offered what was published. What it says in a
 /// round is heard in the next.
@@ -110,8 +110,8 @@ const WITH_HEARTBEATS: Case<'static> = Case {
     events: &[
         Seen::Subscribe("a"),
         Seen::RoundEnd(0),
-        Seen::Heard(2, Said::On("a")),
-        Seen::Handled(2, Said::On("a")),
+        Seen::Heard(2, CasePart::On("a")),
+        Seen::Handled(2, CasePart::On("a")),
         Seen::RoundEnd(1),
         Seen::RoundEnd(2),
         Seen::RoundEnd(3),
@@ -128,8 +128,8 @@ const WITH_HEARTBEATS: Case<'static> = Case {
         Seen::GossipBeat("a"),
         Seen::BeatEnd,
         Seen::RoundEnd(10),
-        Seen::Heard(2, Said::Prune("a", Some(60))),
-        Seen::Handled(2, Said::Prune("a", Some(60))),
+        Seen::Heard(2, CasePart::Prune("a", Some(60))),
+        Seen::Handled(2, CasePart::Prune("a", Some(60))),
         Seen::RoundEnd(11),
         Seen::RoundEnd(12),
         Seen::RoundEnd(13),
@@ -195,8 +195,8 @@ const WHOLE: Case<'static> = Case {
     hears: &[Word::Piece(SUBSCRIBES)],
     events: &[
         Seen::RoundEnd(0),
-        Seen::Heard(2, Said::On("a")),
-        Seen::Handled(2, Said::On("a")),
+        Seen::Heard(2, CasePart::On("a")),
+        Seen::Handled(2, CasePart::On("a")),
         Seen::Gone(2),
         Seen::RoundEnd(1),
         Seen::Shut,
@@ -211,8 +211,8 @@ const WHOLE_APART: Case<'static> = Case {
     ..WHOLE
 };
 
-/// What is malformed, with a frame behind it that is not handled: an eleventh byte of a length, a field 0, a group (wire type
-/// 3), and a length of 1,048,577, one above the limit.
+/// What is malformed, with a frame after it that is not handled: an eleventh byte of a length, a field 0, a group (wire
+/// type 3), and a length of 1,048,577, one above the limit.
 const ELEVENTH: &[u8] =
     b"\x80\x80\x80\x80\x80\x80\x80\x80\x80\x80\x00\x07\x0a\x05\x08\x01\x12\x01a";
 
@@ -275,8 +275,8 @@ pub static LONG: &[Case<'static>] = &[Case {
     hears: &[Word::Pieces(LONG_FRAME, 1)],
     events: &[
         Seen::RoundEnd(0),
-        Seen::Heard(2, Said::Message("a", LONG_PAYLOAD)),
-        Seen::Handled(2, Said::Message("a", LONG_PAYLOAD)),
+        Seen::Heard(2, CasePart::Message("a", LONG_PAYLOAD)),
+        Seen::Handled(2, CasePart::Message("a", LONG_PAYLOAD)),
         Seen::Gone(2),
         Seen::RoundEnd(1),
         Seen::Shut,

@@ -1,4 +1,4 @@
-//! Peers with many neighbours, and how far they come in so many polls.
+//! Peers with many neighbours, and how far they come in a number of polls.
 ghost use Rattle.std.specs.Prelude.{◌≡◌, ◌≤◌, [], IfOk, true};
 ghost use Rattle.std.specs.List.{All, AllByRecursion};
 ghost use Rattle.gs_base.specs.declared.names.PeerNo.{PeerNo as PeerNoValue};
@@ -17,7 +17,7 @@ use gs_base::PeerNo;
 use gs_ends::ListEnds;
 use gs_link::Item;
 use gs_peer::{PeerTask, Surroundings};
-use gs_router_calls::Call;
+use gs_router_testkit::Call;
 use std::alloc::{AllocError, AllocGlobal, Global};
 use std::io;
 use std::process::Abort;
@@ -40,7 +40,7 @@ struct Crowd<'a> {
     rounds: u64,
     /// How many slots each neighbour accepts.
     room: usize,
-    /// At every so many puts one is refused; 0 where none is.
+    /// One put in this many is refused; 0 where none is.
     every: u64,
     /// How often it is polled at most.
     polls: u32,

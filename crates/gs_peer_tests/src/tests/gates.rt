@@ -26,9 +26,9 @@ impl Gate for Turns {
     }
 }
 
-/// A gate is told of each round, once, in order, with the worker: of worker 4 in rounds 0, 1 and 2.
+/// A gate hears of each round, once, in order, with the worker: of worker 4 in rounds 0, 1 and 2.
 #[test]
-fn a_gate_is_told_of_each_round(rt: HostRuntime) -> Result<(), Fail> {
+fn a_gate_hears_of_each_round(rt: HostRuntime) -> Result<(), Fail> {
     let seen = Arc::new(rt.alloc(), AtomicU64::new(0))?;
     let surroundings = Surroundings {
         ends: lists(rt.alloc(), ONE.other, said(rt.alloc(), SUBSCRIBER)?, 10, 0)?,

@@ -1,7 +1,7 @@
 //! Lives of a peer that says several things to its neighbour in one round: they go out as one frame.
 use crate::tests::cases::{Case, NOTHING};
 use crate::tests::items::Word;
-use gs_router_calls::{Call, Said, Seen};
+use gs_router_testkit::{Call, CasePart, Seen};
 
 /// What subscribes to `news` and grafts it.
 const SUBSCRIBES_AND_GRAFTS: &[u8] =
@@ -17,8 +17,8 @@ const GRAFTS_AT_ONCE: Case<'static> = Case {
     ],
     events: &[
         Seen::RoundEnd(0),
-        Seen::Heard(2, Said::On("news")),
-        Seen::Handled(2, Said::On("news")),
+        Seen::Heard(2, CasePart::On("news")),
+        Seen::Handled(2, CasePart::On("news")),
         Seen::Subscribe("news"),
         Seen::RoundEnd(1),
         Seen::Shut,
@@ -53,10 +53,10 @@ const SAYS_MUCH: Case<'static> = Case {
     refusals: &[0, 2, 3],
     events: &[
         Seen::RoundEnd(0),
-        Seen::Heard(2, Said::On("a")),
-        Seen::Handled(2, Said::On("a")),
-        Seen::Heard(2, Said::On("b")),
-        Seen::Handled(2, Said::On("b")),
+        Seen::Heard(2, CasePart::On("a")),
+        Seen::Handled(2, CasePart::On("a")),
+        Seen::Heard(2, CasePart::On("b")),
+        Seen::Handled(2, CasePart::On("b")),
         Seen::Subscribe("a"),
         Seen::Publish("a", b"abc"),
         Seen::Subscribe("b"),

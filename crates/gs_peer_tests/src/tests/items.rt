@@ -3,7 +3,7 @@ use bytes::Bytes;
 use gs_base::{PeerNo, Rpc};
 use gs_link::Item;
 use gs_plan::Line;
-use gs_router_calls::{Call, act_of};
+use gs_router_testkit::{Call, act_of};
 use std::alloc::{AllocError, Global};
 
 /// The frame that subscribes to `a`.
@@ -29,13 +29,13 @@ pub const PRUNES: &[u8] = b"\x09\x1a\x07\x22\x05\x0a\x01a\x18\x3c";
 pub enum Word<'a> {
     /// These bytes, in one piece.
     Piece(&'a [u8]),
-    /// These bytes, in pieces of so many.
+    /// These bytes, in pieces of this many.
     Pieces(&'a [u8], usize),
     /// The ends of the rounds from one to another.
     Rounds(u64, u64),
 }
 
-/// Adds bytes in pieces of so many.
+/// Adds bytes in pieces of `size`.
 fn cut(alloc: Global, items: &mut Vec<Item>, bytes: &[u8], size: usize) -> Result<(), AllocError> {
     let mut at = 0;
     for _ in 0..bytes.len() {

@@ -236,7 +236,7 @@ pub fn lists(
     Ok(ends)
 }
 
-/// A future that gives up after so many polls.
+/// A future that gives up after `left` polls.
 #[derive(Drop)]
 pub struct AtMost<F: Future> {
     pub inner: F,
@@ -262,7 +262,7 @@ impl<F: Future> Future for AtMost<F> {
     }
 }
 
-/// The ends of the links to and from a neighbour, of which none was used.
+/// The ends of the links to and from a neighbour. None was used.
 pub fn links<R: Wait + Drop>(
     rt: R,
     alloc: Global,

@@ -12,7 +12,7 @@ use futures::future::join;
 use gs_ends::LinkEnds;
 use gs_link::{LinkRx, LinkTx, open_link};
 use gs_peer::{FinishedTask, NoGate, PeerFault, PeerTask};
-use gs_router_calls::{events_in, text_of_all};
+use gs_router_testkit::{events_in, text_of_all};
 use std::alloc::{AllocError, AllocGlobal, Global};
 use std::io;
 use std::process::Abort;
@@ -86,7 +86,7 @@ where
     Ok((first, second))
 }
 
-/// What two peers leave that hear each other over links of so many places.
+/// What two peers leave that hear each other over links of `capacity` places.
 fn hear_over<R>(rt: R, both: &Both<'_>, capacity: usize) -> Result<(Left, Left), Fail>
 where
     R: Wait + RandomSource + AllocGlobal + Copy + Drop,

@@ -1,12 +1,12 @@
-//! Two peers, of which each hears over lists what the other says. That is written by hand, so each is played by itself.
-//! The same two hear each other over links.
+//! Two peers. Each hears over lists what the other says: that is written by hand, so each is played by itself. The same
+//! two hear each other over links.
 use crate::tests::cases::{Case, NOTHING};
 use crate::tests::items::Word;
 use crate::tests::made::{ONE, TWO};
 use crate::tests::sides::{Both, Side};
 use gs_base::Topic;
 use gs_peer::FinishedTask;
-use gs_router_calls::{Call, Said, Seen};
+use gs_router_testkit::{Call, CasePart, Seen};
 use std::alloc::{AllocError, Global};
 
 /// The frame that subscribes to `news`.
@@ -24,12 +24,12 @@ const FIRST_SCRIPT: &[(usize, u64, Call<'static>)] = &[
     (2, 2, Call::Publish("news", b"abc")),
 ];
 
-/// It hears behind its last round what its neighbour says in that.
+/// It hears after its last round what its neighbour says in that.
 const FIRST_EVENTS: &[Seen<'static>] = &[
     Seen::Subscribe("news"),
     Seen::RoundEnd(0),
-    Seen::Heard(2, Said::On("news")),
-    Seen::Handled(2, Said::On("news")),
+    Seen::Heard(2, CasePart::On("news")),
+    Seen::Handled(2, CasePart::On("news")),
     Seen::RoundEnd(1),
     Seen::Publish("news", b"abc"),
     Seen::RoundEnd(2),
@@ -47,7 +47,7 @@ const FIRST_EVENTS: &[Seen<'static>] = &[
     Seen::BeatEnd,
     Seen::RoundEnd(10),
     Seen::Shut,
-    Seen::Late(2, Said::Graft("news")),
+    Seen::Late(2, CasePart::Graft("news")),
 ];
 
 /// What it says. The heartbeat of round 10 grafts its neighbour.
@@ -67,12 +67,12 @@ const SECOND_SCRIPT: &[(usize, u64, Call<'static>)] = &[(1, 0, Call::Subscribe("
 const SECOND_EVENTS: &[Seen<'static>] = &[
     Seen::Subscribe("news"),
     Seen::RoundEnd(0),
-    Seen::Heard(1, Said::On("news")),
-    Seen::Handled(1, Said::On("news")),
+    Seen::Heard(1, CasePart::On("news")),
+    Seen::Handled(1, CasePart::On("news")),
     Seen::RoundEnd(1),
     Seen::RoundEnd(2),
-    Seen::Heard(1, Said::Message("news", b"abc")),
-    Seen::Handled(1, Said::Message("news", b"abc")),
+    Seen::Heard(1, CasePart::Message("news", b"abc")),
+    Seen::Handled(1, CasePart::Message("news", b"abc")),
     Seen::RoundEnd(3),
     Seen::RoundEnd(4),
     Seen::RoundEnd(5),
@@ -87,7 +87,7 @@ const SECOND_EVENTS: &[Seen<'static>] = &[
     Seen::BeatEnd,
     Seen::RoundEnd(10),
     Seen::Shut,
-    Seen::Late(1, Said::Graft("news")),
+    Seen::Late(1, CasePart::Graft("news")),
 ];
 
 const SECOND_SAYS: &[Word<'static>] = &[

@@ -1,7 +1,7 @@
 //! Lives of two peers that hear each other, and what must be seen of them.
 use crate::tests::cases::SCRIPT;
 use crate::tests::over_lists::NEWS_OVER_LINKS;
-use gs_router_calls::{Call, Said, Seen};
+use gs_router_testkit::{Call, CasePart, Seen};
 
 /// What a peer does that another hears.
 #[derive(Clone, Copy, Debug)]
@@ -31,12 +31,12 @@ const PUBLISH: Both<'static> = Both {
         events: &[
             Seen::Subscribe("a"),
             Seen::RoundEnd(0),
-            Seen::Heard(2, Said::On("a")),
-            Seen::Handled(2, Said::On("a")),
+            Seen::Heard(2, CasePart::On("a")),
+            Seen::Handled(2, CasePart::On("a")),
             Seen::Publish("a", b"abc"),
             Seen::RoundEnd(1),
-            Seen::Heard(2, Said::Message("a", b"abc")),
-            Seen::Handled(2, Said::Message("a", b"abc")),
+            Seen::Heard(2, CasePart::Message("a", b"abc")),
+            Seen::Handled(2, CasePart::Message("a", b"abc")),
             Seen::RoundEnd(2),
             Seen::Shut,
         ],
@@ -46,12 +46,12 @@ const PUBLISH: Both<'static> = Both {
         events: &[
             Seen::Subscribe("a"),
             Seen::RoundEnd(0),
-            Seen::Heard(1, Said::On("a")),
-            Seen::Handled(1, Said::On("a")),
+            Seen::Heard(1, CasePart::On("a")),
+            Seen::Handled(1, CasePart::On("a")),
             Seen::Publish("a", b"abc"),
             Seen::RoundEnd(1),
-            Seen::Heard(1, Said::Message("a", b"abc")),
-            Seen::Handled(1, Said::Message("a", b"abc")),
+            Seen::Heard(1, CasePart::Message("a", b"abc")),
+            Seen::Handled(1, CasePart::Message("a", b"abc")),
             Seen::RoundEnd(2),
             Seen::Shut,
         ],
@@ -72,12 +72,12 @@ const HANG_UP: Both<'static> = Both {
         events: &[
             Seen::Subscribe("a"),
             Seen::RoundEnd(0),
-            Seen::Heard(2, Said::On("a")),
-            Seen::Handled(2, Said::On("a")),
+            Seen::Heard(2, CasePart::On("a")),
+            Seen::Handled(2, CasePart::On("a")),
             Seen::Publish("a", b"abc"),
             Seen::HangUp(2),
             Seen::RoundEnd(1),
-            Seen::Late(2, Said::Message("a", b"xyz")),
+            Seen::Late(2, CasePart::Message("a", b"xyz")),
             Seen::RoundEnd(2),
             Seen::RoundEnd(3),
             Seen::Shut,
@@ -91,12 +91,12 @@ const HANG_UP: Both<'static> = Both {
         events: &[
             Seen::Subscribe("a"),
             Seen::RoundEnd(0),
-            Seen::Heard(1, Said::On("a")),
-            Seen::Handled(1, Said::On("a")),
+            Seen::Heard(1, CasePart::On("a")),
+            Seen::Handled(1, CasePart::On("a")),
             Seen::Publish("a", b"xyz"),
             Seen::RoundEnd(1),
-            Seen::Heard(1, Said::Message("a", b"abc")),
-            Seen::Handled(1, Said::Message("a", b"abc")),
+            Seen::Heard(1, CasePart::Message("a", b"abc")),
+            Seen::Handled(1, CasePart::Message("a", b"abc")),
             Seen::Gone(1),
             Seen::RoundEnd(2),
             Seen::RoundEnd(3),
@@ -149,10 +149,10 @@ const RAW: Both<'static> = Both {
         script: &[],
         events: &[
             Seen::RoundEnd(0),
-            Seen::Heard(1, Said::On("a")),
-            Seen::Handled(1, Said::On("a")),
+            Seen::Heard(1, CasePart::On("a")),
+            Seen::Handled(1, CasePart::On("a")),
             Seen::RoundEnd(1),
-            Seen::Heard(1, Said::Parts(0)),
+            Seen::Heard(1, CasePart::Parts(0)),
             Seen::RoundEnd(2),
             Seen::Fault(1),
             Seen::RoundEnd(3),

@@ -1,4 +1,4 @@
-//! The plan whose runs are told.
+//! The plan whose runs are reported.
 use bytes::Bytes;
 use gs_base::{PeerNo, Seq, Text, Topic};
 use gs_params::{
@@ -16,7 +16,7 @@ pub(crate) fn topic(alloc: Global, name: &str) -> Result<Topic, AllocError> {
     Ok(Topic(bytes(alloc, name.as_bytes())?))
 }
 
-/// Peers `a` and `b`, of which `a` is told to do each thing that a peer can be told.
+/// Peers `a` and `b`. The script has `a` do each thing that a peer can do.
 pub(crate) fn plan(alloc: Global) -> Result<Plan, AllocError> {
     let mut peers = Seq::new(alloc);
     for name in ["a", "b"] {

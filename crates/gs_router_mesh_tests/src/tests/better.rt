@@ -1,14 +1,14 @@
 //! Better members for a poor mesh.
 use gs_params::{DEFAULT_TIMING, DEFAULT_TOPIC_FACTORS, Timing, TopicFactors};
-use gs_router_calls::Call::{Decay, Hear, HearEach, Heartbeat, Subscribe};
-use gs_router_calls::Id::Of;
-use gs_router_calls::Said::{Graft, Message, On};
-use gs_router_calls::Seen::{
+use gs_router_testkit::Call::{Decay, Hear, HearEach, Heartbeat, Subscribe};
+use gs_router_testkit::CasePart::{Graft, Message, On};
+use gs_router_testkit::Id::Of;
+use gs_router_testkit::Seen::{
     Accepted, Cached, Delivered, First, GossipBeat, Grafted, Members, MeshBeat, Sent,
 };
-use gs_router_calls::{Ask, Case, Kind, NO_RULES, NOTHING, Rules, Seen};
+use gs_router_testkit::{Ask, Case, Kind, NO_RULES, NOTHING, Rules, Seen};
 
-/// All neighbours are told that the router subscribes.
+/// The router tells all neighbours that it subscribes.
 const JOINED: &[Seen<'static>] = &[
     Sent(1, On("a")),
     Sent(2, On("a")),
@@ -30,7 +30,7 @@ const GETS_5: &[Seen<'static>] = &[
     Members("a", &[1, 2, 3, 4, 5]),
 ];
 
-/// Six neighbours, of which 5 scores 3, and the others nothing.
+/// Six neighbours: 5 scores 3, and the others nothing.
 const SIX: Case<'static> = Case {
     neighbours: 6,
     kinds: &[
@@ -60,7 +60,7 @@ pub static BETTER: &[Case<'static>] = &[
         ],
         ..SIX
     },
-    // At every second heartbeat alone.
+    // Only at every second heartbeat.
     Case {
         name: "a better member comes at every so many heartbeats",
         timing: Timing {

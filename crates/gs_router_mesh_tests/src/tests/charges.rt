@@ -1,13 +1,13 @@
 //! What is missing of deliveries in a mesh, and what whoever leaves it is charged with.
 use gs_params::{DEFAULT_TOPIC_FACTORS, TopicFactors};
-use gs_router_calls::Call::{Decay, Fault, Gone, Hear, HearEach, Subscribe, Unsubscribe};
-use gs_router_calls::Id::Of;
-use gs_router_calls::Said::{Graft, Message, Off, On, Prune};
-use gs_router_calls::Seen::{
+use gs_router_testkit::Call::{Decay, Fault, Gone, Hear, HearEach, Subscribe, Unsubscribe};
+use gs_router_testkit::CasePart::{Graft, Message, Off, On, Prune};
+use gs_router_testkit::Id::Of;
+use gs_router_testkit::Seen::{
     Accepted, Backoff, Cached, Deficit, Delivered, First, Grafted, Members, Near, Pruned, Score,
     Sent,
 };
-use gs_router_calls::{Ask, Case, NO_RULES, NOTHING, Rules};
+use gs_router_testkit::{Ask, Case, NO_RULES, NOTHING, Rules};
 
 /// Two deliveries should be there, and what is missing costs its square.
 const DEMANDING: Rules<'static> = Rules {
@@ -81,7 +81,7 @@ pub static CHARGES: &[Case<'static>] = &[
         ..NOTHING
     },
     // Neighbour 2 brings one of two deliveries, and the others bring none: the squares of what is missing are 1 and 4. From
-    // 5,000 on they cost as much in the mesh as they do behind it, and a decay halves what was charged. The end of the
+    // 5,000 on they cost as much in the mesh as they do after it, and a decay halves what was charged. The end of the
     // subscription bars for 10 seconds.
     Case {
         name: "whoever leaves a mesh, in whatever way, is charged with what is missing",

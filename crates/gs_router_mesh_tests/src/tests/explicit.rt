@@ -1,18 +1,18 @@
 //! Explicit neighbours, which stay outside meshes, and what goes to them.
 use gs_params::{DEFAULT_TIMING, Timing};
-use gs_router_calls::Call::{Gone, Hear, HearEach, Heartbeat, Publish, Subscribe};
-use gs_router_calls::Id::Of;
-use gs_router_calls::Said::{Graft, Message, Off, On, Prune};
-use gs_router_calls::Seen::{
+use gs_router_testkit::Call::{Gone, Hear, HearEach, Heartbeat, Publish, Subscribe};
+use gs_router_testkit::CasePart::{Graft, Message, Off, On, Prune};
+use gs_router_testkit::Id::Of;
+use gs_router_testkit::Seen::{
     Accepted, Backoff, Cached, Delivered, First, Grafted, Members, MeshBeat, Near, Pruned, Score,
     Sent,
 };
-use gs_router_calls::{Ask, Call, Case, Kind, NOTHING, Seen};
+use gs_router_testkit::{Ask, Call, Case, Kind, NOTHING, Seen};
 
 /// Who is in the mesh of `a`.
 const OF_A: &[Ask<'static>] = &[Ask::Members("a")];
 
-/// Both neighbours are told that the router subscribes.
+/// The router tells both neighbours that it subscribes.
 const JOINED_OF_TWO: &[Seen<'static>] = &[Sent(1, On("a")), Sent(2, On("a"))];
 
 /// All four neighbours are.
@@ -273,8 +273,8 @@ pub static EXPLICIT: &[Case<'static>] = &[
         ],
         ..NOTHING
     },
-    // Without flood publishing. Neighbour 1 is in the mesh; 2 and 4 are explicit, and 2 scores below each threshold; 3 is on
-    // the topic alone.
+    // Without flood publishing. Neighbour 1 is in the mesh; 2 and 4 are explicit, and 2 scores below each threshold; 3
+    // is on the topic, and no more.
     Case {
         name: "what is published goes to the mesh and to explicit neighbours",
         neighbours: 4,

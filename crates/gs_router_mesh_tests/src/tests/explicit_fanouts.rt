@@ -1,12 +1,12 @@
 //! Explicit neighbours, which stay outside fanouts, and what is published to them.
 use gs_params::{DEFAULT_DEGREES, Degrees};
-use gs_router_calls::Call::{Hear, HearEach, Heartbeat, Publish, Subscribe};
-use gs_router_calls::Id::Of;
-use gs_router_calls::Said::{Message, Off, On};
-use gs_router_calls::Seen::{
+use gs_router_testkit::Call::{Hear, HearEach, Heartbeat, Publish, Subscribe};
+use gs_router_testkit::CasePart::{Message, Off, On};
+use gs_router_testkit::Id::Of;
+use gs_router_testkit::Seen::{
     Accepted, Cached, Delivered, FanBeat, Fanned, GossipBeat, Members, Published, Sent, Unfanned,
 };
-use gs_router_calls::{Ask, Case, Kind, NOTHING};
+use gs_router_testkit::{Ask, Case, Kind, NOTHING};
 
 pub static EXPLICIT_FANOUTS: &[Case<'static>] = &[
     // Neighbour 3 scores -50.000001, below the threshold of publishing, and 2 scores less.
@@ -46,8 +46,9 @@ pub static EXPLICIT_FANOUTS: &[Case<'static>] = &[
         ],
         ..NOTHING
     },
-    // Two of 1, 3 and 4 become the fanout: the places 0 and 2 are exchanged, and 1 and 1, so the first two are then 4 and 3.
-    // One of them leaves, and 1 comes in its place. Neighbours 2 and 5 are explicit: they are no members and not told.
+    // Two of 1, 3 and 4 become the fanout: the places 0 and 2 are exchanged, and 1 and 1, so the first two are then 4
+    // and 3. One of them leaves, and 1 comes in its place. Neighbours 2 and 5 are explicit: they are no members, and
+    // get no gossip.
     Case {
         name: "a fanout is made and filled without explicit neighbours, and they get what it gets",
         neighbours: 5,
@@ -107,7 +108,7 @@ pub static EXPLICIT_FANOUTS: &[Case<'static>] = &[
         ],
         ..NOTHING
     },
-    // Nobody else is on the topic, so the fanout has no members. Nor has the mesh, behind a subscription.
+    // Nobody else is on the topic, so the fanout has no members. Nor has the mesh, after a subscription.
     Case {
         name: "explicit neighbours get a payload where there is nobody for a fanout",
         kinds: &[Kind::Explicit, Kind::ExplicitPraised],

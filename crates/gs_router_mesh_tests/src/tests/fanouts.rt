@@ -1,13 +1,13 @@
 //! Fanouts.
 use gs_params::{DEFAULT_DEGREES, DEFAULT_TOPIC_FACTORS, Degrees, TopicFactors};
-use gs_router_calls::Call::{Gone, Hear, Heartbeat, Publish, Subscribe, Unsubscribe};
-use gs_router_calls::Id::Of;
-use gs_router_calls::Said::{Graft, Have, Message, Off, On};
-use gs_router_calls::Seen::{
+use gs_router_testkit::Call::{Gone, Hear, Heartbeat, Publish, Subscribe, Unsubscribe};
+use gs_router_testkit::CasePart::{Graft, Have, Message, Off, On};
+use gs_router_testkit::Id::Of;
+use gs_router_testkit::Seen::{
     Accepted, Cached, FanBeat, FanEnd, Fanned, GossipBeat, Grafted, Invalid, Members, Published,
     Rejected, Sent, Unfanned,
 };
-use gs_router_calls::{Ask, Call, Case, Kind, NO_RULES, NOTHING, Rules};
+use gs_router_testkit::{Ask, Call, Case, Kind, NO_RULES, NOTHING, Rules};
 
 /// Neighbour 3 was dialled, and 4 scores -50.000001.
 const FOUR: &[Kind] = &[Kind::Plain, Kind::Plain, Kind::Dialled, Kind::Distrusted];
@@ -34,8 +34,9 @@ const ON_3: Call<'static> = Hear(3, &[On("a")]);
 const ON_4: Call<'static> = Hear(4, &[On("a")]);
 
 pub static FANOUTS: &[Case<'static>] = &[
-    // Two of three listeners become the fanout: the words make them 3 and 2. One of them leaves, and with the other any one of
-    // the rest comes into the mesh: the first one, by the word behind these. Neighbour 4 is below -50, and is not published to.
+    // Two of three listeners become the fanout: the words make them 3 and 2. One of them leaves, and with the other any
+    // one of the rest comes into the mesh: the first one, by the word after these. Neighbour 4 is below -50, and is not
+    // published to.
     Case {
         name: "a fanout is kept, and comes into the mesh first",
         neighbours: 4,
@@ -146,8 +147,9 @@ pub static FANOUTS: &[Case<'static>] = &[
         ],
         ..NOTHING
     },
-    // It is filled at a heartbeat where a member has left, and ends a minute after the last payload. Another payload makes a
-    // new one, of the two that are still on the topic. Who is told is on the topic, outside the fanout and not below -10.
+    // It is filled at a heartbeat where a member has left, and ends a minute after the last payload. Another payload
+    // makes a new one, of the two that are still on the topic. Gossip goes to who is on the topic, outside the fanout
+    // and not below -10.
     Case {
         name: "a fanout is filled, and ends",
         neighbours: 4,
@@ -219,8 +221,8 @@ pub static FANOUTS: &[Case<'static>] = &[
         ],
         ..NOTHING
     },
-    // On `b` what begins with `ff` is rejected, and costs 60: who passes it on is below -50, and the one listener that is left
-    // comes in its place. Neighbours 3 and 4 are below -10, so nobody is told.
+    // On `b` what begins with `ff` is rejected, and costs 60: who passes it on is below -50, and the one listener that
+    // is left comes in its place. Neighbours 3 and 4 are below -10, so the router gossips to nobody.
     Case {
         name: "who falls below the threshold of publishing leaves the fanout",
         neighbours: 4,
@@ -296,7 +298,7 @@ pub static FANOUTS: &[Case<'static>] = &[
         ],
         ..NOTHING
     },
-    // Of 1, 2 and 3 the first two change places, and of 1 and 3 both. Then 1 alone is on the topic outside the fanout.
+    // Of 1, 2 and 3 the first two change places, and of 1 and 3 both. Then only 1 is on the topic outside the fanout.
     Case {
         name: "a word chooses who comes into a fanout, and another who follows",
         neighbours: 4,

@@ -1,9 +1,9 @@
 //! GRAFT, PRUNE, and who comes into a mesh.
 use gs_params::{DEFAULT_DEGREES, DEFAULT_FACTORS, Degrees, Factors};
-use gs_router_calls::Call::{Hear, Subscribe, Unsubscribe};
-use gs_router_calls::Said::{Graft, Off, On, Prune};
-use gs_router_calls::Seen::{Backoff, Grafted, Members, Misbehaviour, Pruned, Sent};
-use gs_router_calls::{Ask, Call, Case, Kind, NOTHING, Seen};
+use gs_router_testkit::Call::{Hear, Subscribe, Unsubscribe};
+use gs_router_testkit::CasePart::{Graft, Off, On, Prune};
+use gs_router_testkit::Seen::{Backoff, Grafted, Members, Misbehaviour, Pruned, Sent};
+use gs_router_testkit::{Ask, Call, Case, Kind, NOTHING, Seen};
 
 /// Neighbour 3 was dialled, and 4 scores -50.000001.
 const FOUR: &[Kind] = &[Kind::Plain, Kind::Plain, Kind::Dialled, Kind::Distrusted];
@@ -11,7 +11,7 @@ const FOUR: &[Kind] = &[Kind::Plain, Kind::Plain, Kind::Dialled, Kind::Distruste
 /// Who is in the mesh of `a`.
 const OF_A: &[Ask<'static>] = &[Ask::Members("a")];
 
-/// All neighbours are told that the router subscribes.
+/// The router tells all neighbours that it subscribes.
 const JOINED: &[Seen<'static>] = &[
     Sent(1, On("a")),
     Sent(2, On("a")),

@@ -1,15 +1,15 @@
 //! What is missing of deliveries in a mesh, and who is charged with it.
 use gs_params::{DEFAULT_TOPIC_FACTORS, TopicFactors};
-use gs_router_calls::Call::{
+use gs_router_testkit::Call::{
     Decay, Fault, Gone, HangUp, Hear, HearEach, Publish, Subscribe, Unsubscribe,
 };
-use gs_router_calls::Id::Of;
-use gs_router_calls::Said::{Graft, Message, Off, On, Prune};
-use gs_router_calls::Seen::{
+use gs_router_testkit::CasePart::{Graft, Message, Off, On, Prune};
+use gs_router_testkit::Id::Of;
+use gs_router_testkit::Seen::{
     Accepted, Backoff, Cached, Deficit, Delivered, Fanned, First, Grafted, Members, Near, Pruned,
     Published, Score, Sent, Unfanned,
 };
-use gs_router_calls::{Ask, Case, NO_RULES, NOTHING, Rules};
+use gs_router_testkit::{Ask, Case, NO_RULES, NOTHING, Rules};
 
 /// Two deliveries should be there, and what is missing costs its square.
 const DEMANDING: Rules<'static> = Rules {
@@ -24,7 +24,8 @@ const DEMANDING: Rules<'static> = Rules {
 
 pub static LOSSES: &[Case<'static>] = &[
     // One delivery is missing of neighbour 1, and two are of the others: the squares are 1 and 4. They count from 5,000
-    // milliseconds in the mesh on, so that 5 is lost before. What is charged counts behind the mesh, and is halved in turn.
+    // milliseconds in the mesh on, so that 5 is lost before. What is charged counts after the mesh, too, and is halved
+    // in turn.
     Case {
         name: "who is lost, however that is, is charged with what is missing",
         neighbours: 5,

@@ -1,12 +1,12 @@
 //! What heartbeats do to a mesh.
 use gs_params::{DEFAULT_DEGREES, DEFAULT_TOPIC_FACTORS, Degrees, TopicFactors};
-use gs_router_calls::Call::{Hear, HearEach, Heartbeat, Subscribe};
-use gs_router_calls::Id::Of;
-use gs_router_calls::Said::{Graft, Message, On, Prune};
-use gs_router_calls::Seen::{
+use gs_router_testkit::Call::{Hear, HearEach, Heartbeat, Subscribe};
+use gs_router_testkit::CasePart::{Graft, Message, On, Prune};
+use gs_router_testkit::Id::Of;
+use gs_router_testkit::Seen::{
     Backoff, Deficit, Grafted, Invalid, Members, MeshBeat, Pruned, Rejected, Sent,
 };
-use gs_router_calls::{Ask, Call, Case, Kind, NO_RULES, NOTHING, Rules, Seen};
+use gs_router_testkit::{Ask, Call, Case, Kind, NO_RULES, NOTHING, Rules, Seen};
 
 /// Neighbour 3 was dialled, and 4 scores -50.000001.
 const FOUR: &[Kind] = &[Kind::Plain, Kind::Plain, Kind::Dialled, Kind::Distrusted];
@@ -35,7 +35,7 @@ const DEMANDING: Rules<'static> = Rules {
     ..NO_RULES
 };
 
-/// All neighbours are told that the router subscribes.
+/// The router tells all neighbours that it subscribes.
 const JOINED: &[Seen<'static>] = &[
     Sent(1, On("a")),
     Sent(2, On("a")),
@@ -156,8 +156,8 @@ pub static MENDS: &[Case<'static>] = &[
         ],
         ..NOTHING
     },
-    // Two deliveries should come of each member, and the square of what is missing counts: 4 from 5,000 milliseconds on. All
-    // who are put out are told before the one that comes in, whatever their numbers.
+    // Two deliveries should come of each member, and the square of what is missing counts: 4 from 5,000 milliseconds
+    // on. The router tells all who are put out before the one that comes in, whatever their numbers.
     Case {
         name: "who brings nothing is put out and charged",
         neighbours: 4,
@@ -225,7 +225,7 @@ pub static MENDS: &[Case<'static>] = &[
         ],
         ..NOTHING
     },
-    // One is wanted: a mesh of enough members, two, gets it, once it is a candidate. Neighbour 3 alone was dialled.
+    // One is missing: a mesh of enough members, two, gets it, once it is a candidate. Only neighbour 3 was dialled.
     Case {
         name: "a mesh gets the outbound members that it lacks",
         neighbours: 4,

@@ -1,12 +1,12 @@
 //! What goes through a mesh, and who leaves it.
 use gs_params::{DEFAULT_TOPIC_FACTORS, TopicFactors};
-use gs_router_calls::Call::{Fault, Gone, Hear, Publish, Subscribe};
-use gs_router_calls::Id::Of;
-use gs_router_calls::Said::{Graft, Message, Off, On};
-use gs_router_calls::Seen::{
+use gs_router_testkit::Call::{Fault, Gone, Hear, Publish, Subscribe};
+use gs_router_testkit::CasePart::{Graft, Message, Off, On};
+use gs_router_testkit::Id::Of;
+use gs_router_testkit::Seen::{
     Accepted, Cached, Delivered, First, Grafted, Invalid, Members, Near, Pruned, Rejected, Sent,
 };
-use gs_router_calls::{Ask, Call, Case, Kind, NO_RULES, NOTHING, Rules, Seen};
+use gs_router_testkit::{Ask, Call, Case, Kind, NO_RULES, NOTHING, Rules, Seen};
 
 /// Neighbour 3 was dialled, and 4 scores -50.000001.
 const FOUR: &[Kind] = &[Kind::Plain, Kind::Plain, Kind::Dialled, Kind::Distrusted];
@@ -24,7 +24,7 @@ const JUDGING: Rules<'static> = Rules {
     ..NO_RULES
 };
 
-/// All neighbours are told that the router subscribes.
+/// The router tells all neighbours that it subscribes.
 const JOINED: &[Seen<'static>] = &[
     Sent(1, On("a")),
     Sent(2, On("a")),
@@ -110,8 +110,8 @@ pub static TRAFFIC: &[Case<'static>] = &[
         ],
         ..NOTHING
     },
-    // Without flood publishing a payload goes to the mesh alone, but for a member that scores below the threshold: a rejected
-    // message costs it 60, and the threshold is -50. Neighbour 3 is on the topic, and outside the mesh.
+    // Without flood publishing a payload goes only to the mesh, but for a member that scores below the threshold: a
+    // rejected message costs it 60, and the threshold is -50. Neighbour 3 is on the topic, and outside the mesh.
     Case {
         name: "what is published goes to the mesh above the threshold",
         neighbours: 4,

@@ -1,17 +1,17 @@
 //! Peering agreements.
 use crate::tests::cases::{Case, TWO_PEERS};
 use crate::tests::keys::{IN_APP, TABLES};
-use crate::tests::{check_edits, outcome_behind};
+use crate::tests::{check_edits, outcome_after};
 use std::alloc::{AllocError, Global};
 use std::process::Abort;
 
-/// What an agreement's table holds, and what it gives: of the peers `a`, `b` and `c`, a dial joins `a` and `b` alone.
+/// What an agreement's table holds, and what it gives: of the peers `a`, `b` and `c`, a dial joins only `a` and `b`.
 type Agreement = (&'static str, &'static str);
 
 /// What an agreement's table gives that holds this.
 fn given(alloc: Global, keys: &str) -> Result<String, AllocError> {
     let table = format!(in alloc; "[[explicit]]\n{keys}")?;
-    outcome_behind(alloc, IN_APP, table.as_str())
+    outcome_after(alloc, IN_APP, table.as_str())
 }
 
 /// Checks that each agreement's table gives what it must.
@@ -163,7 +163,7 @@ fn agreements_are_walked_between_scores_and_the_script(rt: HostRuntime) -> Resul
 }
 
 #[test]
-fn the_list_of_agreements_is_looked_at_behind_that_of_scores(
+fn the_list_of_agreements_is_looked_at_after_that_of_scores(
     rt: HostRuntime,
 ) -> Result<(), AllocError> {
     static EDITS: [Case; 7] = [

@@ -31,7 +31,7 @@ fn a_dial_joins_both_sides(rt: HostRuntime) {
     assert!(rt; !are_joined(&dials, PeerNo(1), PeerNo(1)));
 }
 
-/// The line of round 2 in which peer 1 is told something.
+/// The line of round 2 that has peer 1 do something.
 fn line_of(what: Act) -> Line {
     Line {
         at: 2,

@@ -32,16 +32,16 @@ about = \"b\"
 value = 5
 ";
 
-/// What the lines of its parameters stand behind.
+/// What the lines of its parameters come after.
 pub const IN_PARAMS: &str = "[params]\n";
 
-/// What the lines of its topic stand behind.
+/// What the lines of its topic come after.
 pub const IN_TOPIC: &str = "name = \"news\"\n";
 
-/// What the lines of its second peer stand behind.
+/// What the lines of its second peer come after.
 pub const IN_PEER: &str = "name = \"b\"\n";
 
-/// What the lines of its score stand behind, and tables behind its own.
+/// What the lines of its score come after, and tables after its own.
 pub const IN_APP: &str = "value = 5\n";
 
 /// Where a parameter stands, its lowest number and one below.

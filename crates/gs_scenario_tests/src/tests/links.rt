@@ -1,16 +1,16 @@
 //! Lines of a script that are done to a neighbour's link.
 use crate::tests::keys::IN_APP;
-use crate::tests::{outcome_behind, repeated};
+use crate::tests::{outcome_after, repeated};
 use std::alloc::{AllocError, Global};
 use std::process::Abort;
 
-/// What a line of the script holds, and what it gives: of the peers `a`, `b` and `c`, a dial joins `a` and `b` alone.
+/// What a line of the script holds, and what it gives: of the peers `a`, `b` and `c`, a dial joins only `a` and `b`.
 type Line = (&'static str, &'static str);
 
 /// What a line of the script gives that holds this.
 fn given(alloc: Global, line: &str) -> Result<String, AllocError> {
     let table = format!(in alloc; "[[do]]\n{line}")?;
-    outcome_behind(alloc, IN_APP, table.as_str())
+    outcome_after(alloc, IN_APP, table.as_str())
 }
 
 /// Checks that each line of the script gives what it must.
@@ -79,7 +79,7 @@ fn a_peer_hangs_up_on_a_neighbour(rt: HostRuntime) -> Result<(), AllocError> {
 }
 
 #[test]
-fn a_line_has_the_keys_of_its_kind_alone(rt: HostRuntime) -> Result<(), AllocError> {
+fn a_line_has_only_the_keys_of_its_kind(rt: HostRuntime) -> Result<(), AllocError> {
     static LINES: [Line; 9] = [
         ("what='raw'\ntopic='news'", "27 do[0].topic"),
         (
@@ -133,7 +133,7 @@ fn who_is_looked_at_before_what_is_sent(rt: HostRuntime) -> Result<(), AllocErro
     check_links(&rt, &LINES)
 }
 
-/// What a line gives that puts so many bytes on a link.
+/// What a line gives that puts `count` bytes on a link.
 fn given_of(alloc: Global, count: usize) -> Result<String, AllocError> {
     let hex = repeated(alloc, "0f", count)?;
     let line = format!(in alloc; "what='raw'\nat=0\npeer='a'\nto='b'\nhex='{hex}'")?;

@@ -37,7 +37,7 @@ fn a_badly_formed_name_is_out_of_range_and_an_unknown_one_unknown(
 }
 
 #[test]
-fn negative_numbers_are_for_eight_keys_alone(rt: HostRuntime) -> Result<(), AllocError> {
+fn negative_numbers_are_only_for_eight_keys(rt: HostRuntime) -> Result<(), AllocError> {
     static LINES: [Case; 19] = [
         (IN_PARAMS, "gossip_threshold = -1", "a plan"),
         (IN_PARAMS, "publish_threshold = -80000000", "a plan"),

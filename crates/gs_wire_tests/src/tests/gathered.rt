@@ -166,7 +166,7 @@ fn joined_bodies_have_a_mebibyte_at_most(rt: HostRuntime) {
     }
 }
 
-/// The lengths of the frames that go out where the second publication is not joined to the first, and is gathered behind it.
+/// The lengths of the frames that go out where the second publication is gathered after the first, not joined to it.
 fn frames_one_by_one(alloc: Global, first: usize, second: usize) -> Option<(usize, usize)> {
     let mut gathered = Gathered::new(alloc);
     gather(alloc, &mut gathered, published(alloc, first)?)?;

@@ -67,10 +67,8 @@ fn said_on_news(alloc: Global) -> Result<Rpc, AllocError> {
         topic: topic(alloc, b"news")?,
     };
     rpc.control = Some(Control {
-        ihave: Seq::new(alloc),
-        iwant: Seq::new(alloc),
         graft: Seq::only(alloc, graft)?,
-        prune: Seq::new(alloc),
+        ..Control::empty(alloc)
     });
     Ok(rpc)
 }
@@ -95,7 +93,7 @@ fn the_values_are_joined(rt: HostRuntime) -> Result<(), AllocError> {
     Ok(())
 }
 
-/// Whether one that is alone is taken as it was.
+/// Whether a single one is taken as it was.
 fn is_taken_as_it_is(alloc: Global, rpc: Rpc) -> Option<bool> {
     let rpc = Shared::new(alloc, rpc).ok()?;
     let mut gathered = GatheredRpcs::new(alloc);

@@ -19,13 +19,13 @@ static BODIES: [(&[u8], &[u8], &[u8]); 10] = [
         b"\x12\x06\x12\x01d\x22\x01b",
         b"\x12\x08\x12\x03abc\x22\x01a\x12\x06\x12\x01d\x22\x01b",
     ),
-    // control messages of the first alone
+    // only control messages of the first
     (
         b"\x1a\x05\x1a\x03\x0a\x01a",
         b"\x0a\x05\x08\x01\x12\x01a",
         b"\x0a\x05\x08\x01\x12\x01a\x1a\x05\x1a\x03\x0a\x01a",
     ),
-    // control messages of the second alone
+    // only control messages of the second
     (
         b"\x0a\x05\x08\x01\x12\x01a",
         b"\x1a\x05\x1a\x03\x0a\x01a",

@@ -146,8 +146,8 @@ fn feed_piece(
     Ok((rpcs.len(), reader.pending()))
 }
 
-/// Feeds a subscription in three pieces. Behind its end the last one has a published message, and
-/// the front of a prune, of which the rest comes then.
+/// Feeds a subscription in three pieces. After its end the last one has a published message, and the front of a prune.
+/// The rest of the prune comes then.
 fn feed_four(
     alloc: Global,
     reader: &mut FrameReader,

@@ -1,8 +1,8 @@
-use Rattle.std.proofs.Common.{◌≡◌, ◌∙◌, ◌*◌, ℕ, List, length, map, refl, sym, ap, subst, arith, rules}
-use Rattle.std.specs.List.{All, AllByRecursion, range_with_len}
+use Rattle.std.proofs.Common.{◌∙◌, ◌*◌, ℕ, List, length, map, sym, ap, subst, arith}
+use Rattle.std.specs.List.{AllByRecursion, range_with_len}
 use Rattle.std.proofs.lemmas.List.Elements.{All-from_recursion}
 use Rattle.gs_plan.specs.declared.plan.Dial.{Dial}
-use Rattle.gs_net.specs.Dials.{AreWired, IsExchanged, JoinsTwoOf}
+use Rattle.gs_net.specs.Dials.{AreWired, IsExchanged}
 use Rattle.gs_seats.specs.Rounds.{IsRun, numbers, peer_no}
 use Rattle.gs_seats.proofs.FewDials.{links_fit}
 use Rattle.gs_seats.proofs.ByNumber.{as_long, as_many}
@@ -42,8 +42,8 @@ lives_of-requires g c =
 
 -- ---- once the tasks have given their lives
 
-wired_behind : (g : _) (c : goal.After-as_slice-2 g) → AreWired c.args.plan.now.dials c.in_ok-lives.lives.ends.items
-wired_behind g c =
+wired_after : (g : _) (c : goal.After-as_slice-2 g) → AreWired c.args.plan.now.dials c.in_ok-lives.lives.ends.items
+wired_after g c =
     let plan = c.args.plan.now in
     let ends = c.in_ok-ends.ends.items in
     let (givens, are, apart) = c.in_ok-lives.ensures.lives in
@@ -59,10 +59,10 @@ settle_all-settled-requires-clause-named g c =
     rw (c.as_slice-2.ensures, ends_as_many givens _ apart, as_many _ plan givens all) (dials_join plan c.requires)
 
 pub settle_all-settled-requires-clause-wired : goal.settle_all-settled-requires-clause-wired
-settle_all-settled-requires-clause-wired g c = subst (λ (dials : List Dial). AreWired dials c.in_ok-lives.lives.ends.items) (sym c.as_slice-2.ensures) (wired_behind g c)
+settle_all-settled-requires-clause-wired g c = subst (λ (dials : List Dial). AreWired dials c.in_ok-lives.lives.ends.items) (sym c.as_slice-2.ensures) (wired_after g c)
 
 pub settle_all-settled-requires-clause-apart : goal.settle_all-settled-requires-clause-apart
-settle_all-settled-requires-clause-apart g c p = ends_apart c.args.plan.now c.in_ok-lives.lives.ends.items p c.requires (wired_behind g c)
+settle_all-settled-requires-clause-apart g c p = ends_apart c.args.plan.now c.in_ok-lives.lives.ends.items p c.requires (wired_after g c)
 
 pub settle_all-settled-requires-clause-closed : goal.settle_all-settled-requires-clause-closed
 settle_all-settled-requires-clause-closed g c =
@@ -70,7 +70,7 @@ settle_all-settled-requires-clause-closed g c =
     let ends = c.in_ok-ends.ends.items in
     let (givens, are, apart) = c.in_ok-lives.ensures.lives in
     let all = gave plan ends c.in_ok-tasks.tasks.items c.in_ok-ran.ran.outputs.items givens c.in_ok-tasks.ensures c.in_ok-ran.ensures.given are in
-    ends_closed plan givens c.in_ok-lives.lives.ends.items c.requires (lives_each plan ends (numbers plan) givens all) (ends_left givens _ apart) (wired_behind g c)
+    ends_closed plan givens c.in_ok-lives.lives.ends.items c.requires (lives_each plan ends (numbers plan) givens all) (ends_left givens _ apart) (wired_after g c)
 
 pub settle_all-settled-requires-clause-few : goal.settle_all-settled-requires-clause-few
 settle_all-settled-requires-clause-few g c = rw c.as_slice-2.ensures (links_fit c.args.plan.now c.requires)

@@ -1,0 +1,3 @@
+//! Links of dials, and runs over them.
+mod dials;
+mod runs;

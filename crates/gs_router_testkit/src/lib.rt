@@ -1,0 +1,17 @@
+//! Cases of a router: what is done to it, and what must be seen then, each a value of a table.
+#![tactic(auto)]
+
+mod calls;
+mod cases;
+mod entries;
+mod play;
+mod routers;
+mod rpcs;
+mod shown;
+
+pub use calls::{Answer, act_of};
+pub use cases::{
+    Ask, Call, Case, CasePart, Fields, Id, Kind, NO_FIELDS, NO_RULES, NO_TOPIC, NOTHING, Rules,
+    Seen, Step,
+};
+pub use play::{Outcome, Player, events_in, left_by, played, text_of_all, wanted_of};

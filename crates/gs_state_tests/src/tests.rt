@@ -1,4 +1,0 @@
-//! What routers keep.
-mod caches;
-mod meshes;
-mod scores;
