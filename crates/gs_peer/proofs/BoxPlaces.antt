@@ -1,12 +1,13 @@
--- What outboxes hold at a place, where one of them changes.
-use Rattle.std.proofs.Common.{◌≡◌, ℕ, zero, suc, ◌<◌, ◌≤◌, Bool, true, false, nat_eq, nat_lt, cond, List, [], ◌∷◌, ◌++◌, length, get_or, slice_set, refl, sym, ap, ap₂, ◌∙◌, arith}
+-- What outboxes hold, where one of them changes.
+use Rattle.std.proofs.Common.{◌≡◌, ℕ, zero, suc, ◌<◌, ◌≤◌, Bool, true, false, nat_eq, nat_lt, cond, List, [], ◌∷◌, ◌++◌, length, refl, sym, ap, subst, ◌∙◌, true≢false, arith}
 use Rattle.std.proofs.Math.Bool.{and-true}
 use Rattle.std.proofs.Math.Dec.{eqb-zero-suc, eqb-suc-zero, eqb-suc-suc}
-use Rattle.std.proofs.lemmas.Option.{slice_get_past}
-use Rattle.std.proofs.lemmas.List.{nil_from_length}
-use Rattle.std.proofs.lemmas.List.Folds.{list_any-append}
 use Rattle.std.proofs.lemmas.Bool.{eqb-true, ltb-false}
-use Rattle.std.specs.Prelude.{◌==◌, ◌&&◌, ◌||◌, if◌then◌else◌, Option, None, option_map, unwrap_or, slice_get}
+use Rattle.std.proofs.lemmas.List.Folds.{list_any-append}
+use Rattle.std.specs.Prelude.{◌≢◌, ◌&&◌, ◌||◌, if◌then◌else◌, Option, Some, None, option_map, unwrap_or, slice_get}
+use Rattle.std.specs.Cmp.{nat_eq_equiv}
+use Rattle.std.specs.Map.{lookup, values_of}
+use Rattle.indexmap.specs.IndexMap.{set_value_at}
 use Rattle.gs_base.specs.declared.names.PeerNo.{PeerNo}
 use Rattle.gs_base.specs.declared.rpc.Rpc.{Rpc}
 use Rattle.gs_base.specs.Names.{same_peer}
@@ -17,61 +18,79 @@ use Rattle.gs_rules.specs.Saying.{Outgoing, behind_event, sending, sending_all}
 use Rattle.gs_link.specs.declared.item.Slot.{Slot}
 use Rattle.gs_link.specs.Flat.{flat}
 use Rattle.gs_peer.specs.declared.outbox.Outbox.{Outbox}
-use Rattle.gs_peer.specs.Outboxes.{is_neighbour, outgoing_of}
+use Rattle.gs_peer.specs.Outboxes.{is_neighbour, outgoing_of, place_in}
 
--- ---- one place of a list
+-- ---- one place
 
--- what f is of the element at a place
-abbrev pub at : {X Y : Type 0} → (X → Y) → Y → List X → ℕ → Y
-at f d xs k = unwrap_or (option_map f (slice_get xs k)) d
+module _ (q : PeerNo) where
+  place_set_by : (b : Bool) (old new : ℕ) → new ≡ old → (if b then 0 else suc new) ≡ (if b then 0 else suc old)
+  place_set_by b old new is = ap (λ (k : ℕ). if b then 0 else suc k) is
 
-pub at_set : {X Y : Type 0} (f : X → Y) (d : Y) (xs : List X) (place k : ℕ) (new : X) → place < length xs → at f d (slice_set xs place new) k ≡ cond (nat_eq place k) (f new) (at f d xs k)
-at_set f d [] place k new below = absurd (omega (arith, below))
-at_set f d (x ∷ xs) zero zero new below = refl
-at_set f d (x ∷ xs) zero (suc k) new below = sym (ap (λ (b : Bool). cond b (f new) (at f d xs k)) (eqb-zero-suc k))
-at_set f d (x ∷ xs) (suc place) zero new below = sym (ap (λ (b : Bool). cond b (f new) (f x)) (eqb-suc-zero place))
-at_set f d (x ∷ xs) (suc place) (suc k) new below =
-    at_set f d xs place k new (omega (arith, below)) ∙ ap (λ (b : Bool). cond b (f new) (at f d xs k)) (sym (eqb-suc-suc place k))
+  -- a change of a value moves nobody
+  pub place_set : (xs : List (PeerNo × Outbox)) (place : ℕ) (new : Outbox) → place_in (set_value_at xs place new) q ≡ place_in xs q
+  place_set [] place new = refl
+  place_set (x ∷ xs) zero new = refl
+  place_set (x ∷ xs) (suc place) new = place_set_by (same_peer q x.0) (place_in xs q) (place_in (set_value_at xs place new) q) (place_set xs place new)
 
--- what f cannot tell from the old element changes nothing
-pub at_same : {X Y : Type 0} (f : X → Y) (d : Y) (xs : List X) (place k : ℕ) (old new : X) → place < length xs → old ≡ get_or xs place old → f new ≡ f old → at f d (slice_set xs place new) k ≡ at f d xs k
-at_same f d [] place k old new below there is = absurd (omega (arith, below))
-at_same f d (x ∷ xs) zero zero old new below there is = is ∙ ap f there
-at_same f d (x ∷ xs) zero (suc k) old new below there is = refl
-at_same f d (x ∷ xs) (suc place) zero old new below there is = refl
-at_same f d (x ∷ xs) (suc place) (suc k) old new below there is = at_same f d xs place k old new (omega (arith, below)) there is
+  set_first : (b : Bool) (k : ℕ) (old new : Outbox) (rest : Option Outbox) → cond b (Some new) rest ≡ cond (nat_eq zero (if b then 0 else suc k)) (Some new) (cond b (Some old) rest)
+  set_first true k old new rest = refl
+  set_first false k old new rest = sym (ap (λ (b : Bool). cond b (Some new) rest) (eqb-zero-suc k))
 
-pub at_there : {X Y : Type 0} (f : X → Y) (d : Y) (xs : List X) (place : ℕ) (old : X) → place < length xs → old ≡ get_or xs place old → at f d xs place ≡ f old
-at_there f d [] place old below there = absurd (omega (arith, below))
-at_there f d (x ∷ xs) zero old below there = sym (ap f there)
-at_there f d (x ∷ xs) (suc place) old below there = at_there f d xs place old (omega (arith, below)) there
+  set_later : (b : Bool) (place k : ℕ) (old new : Outbox) (was now : Option Outbox) → now ≡ cond (nat_eq place k) (Some new) was → cond b (Some old) now ≡ cond (nat_eq (suc place) (if b then 0 else suc k)) (Some new) (cond b (Some old) was)
+  set_later true place k old new was now is = sym (ap (λ (b : Bool). cond b (Some new) (Some old)) (eqb-suc-zero place))
+  set_later false place k old new was now is = is ∙ sym (ap (λ (b : Bool). cond b (Some new) was) (eqb-suc-suc place k))
 
-pub at_past : {X Y : Type 0} (f : X → Y) (d : Y) (xs : List X) (k : ℕ) → length xs ≤ k → at f d xs k ≡ d
-at_past f d xs k past = ap (λ o. unwrap_or (option_map f o) d) (slice_get_past xs k past)
+  -- after a change at a place, it is there that the new one is found
+  pub found_set : (xs : List (PeerNo × Outbox)) (place : ℕ) (new : Outbox) → place < length xs → lookup (same_peer q) (set_value_at xs place new) ≡ cond (nat_eq place (place_in xs q)) (Some new) (lookup (same_peer q) xs)
+  found_set [] place new low = absurd (omega (arith, low))
+  found_set (x ∷ xs) zero new low = set_first (same_peer q x.0) (place_in xs q) x.1 new (lookup (same_peer q) xs)
+  found_set (x ∷ xs) (suc place) new low =
+      set_later (same_peer q x.0) place (place_in xs q) x.1 new (lookup (same_peer q) xs) (lookup (same_peer q) (set_value_at xs place new)) (found_set xs place new (omega (arith, low)))
 
--- one that is put behind them, of which f is what it is of none, changes nothing
-at_more : {X Y : Type 0} (f : X → Y) (d : Y) (xs : List X) (k : ℕ) (x : X) → f x ≡ d → at f d (xs ++ x ∷ []) k ≡ at f d xs k
-at_more f d [] zero x none = none
-at_more f d [] (suc k) x none = refl
-at_more f d (y ∷ ys) zero x none = refl
-at_more f d (y ∷ ys) (suc k) x none = at_more f d ys k x none
+  at_first : (b : Bool) (k : ℕ) (box : Outbox) (rest : Option Outbox) → nat_eq zero (if b then 0 else suc k) ≡ true → cond b (Some box) rest ≡ Some box
+  at_first true k box rest here = refl
+  at_first false k box rest here = absurd (true≢false (sym here ∙ eqb-zero-suc k))
 
-pub at_pushed : {X Y : Type 0} (f : X → Y) (d : Y) (xs ys : List X) (k : ℕ) (x : X) → ys ≡ xs ++ x ∷ [] → f x ≡ d → at f d ys k ≡ at f d xs k
-at_pushed f d xs ys k x is none = ap (λ zs. at f d zs k) is ∙ at_more f d xs k x none
+  at_later : (b : Bool) (place k : ℕ) (box : Outbox) (rest there : Option Outbox) → (nat_eq place k ≡ true → rest ≡ there) → nat_eq (suc place) (if b then 0 else suc k) ≡ true → cond b (Some box) rest ≡ there
+  at_later true place k box rest there later here = absurd (true≢false (sym here ∙ eqb-suc-zero place))
+  at_later false place k box rest there later here = later (sym (eqb-suc-suc place k) ∙ here)
 
--- ---- outboxes
+  -- at its place stands what is found
+  pub found_at : (xs : List (PeerNo × Outbox)) (place : ℕ) → nat_eq place (place_in xs q) ≡ true → lookup (same_peer q) xs ≡ slice_get (values_of xs) place
+  found_at [] place here = refl
+  found_at (x ∷ xs) zero here = at_first (same_peer q x.0) (place_in xs q) x.1 (lookup (same_peer q) xs) here
+  found_at (x ∷ xs) (suc place) here =
+      at_later (same_peer q x.0) place (place_in xs q) x.1 (lookup (same_peer q) xs) (slice_get (values_of xs) place) (found_at xs place) here
 
-abbrev pub slots_at : List Outbox → ℕ → List Slot
-slots_at = at (λ (box : Outbox). box.slots) []
+  absent_by : (b : Bool) (len k : ℕ) (box : Outbox) (rest : Option Outbox) → (len ≤ k → rest ≡ None) → suc len ≤ (if b then 0 else suc k) → cond b (Some box) rest ≡ None
+  absent_by true len k box rest later past = absurd (omega (arith, past))
+  absent_by false len k box rest later past = later (omega (arith, past))
 
-abbrev pub gathered_at : List Outbox → ℕ → Option Rpc
-gathered_at = at (λ (box : Outbox). box.gathered) None
+  -- who has no place among them has none
+  pub absent : (xs : List (PeerNo × Outbox)) → length xs ≤ place_in xs q → lookup (same_peer q) xs ≡ None
+  absent [] past = refl
+  absent (x ∷ xs) past = absent_by (same_peer q x.0) (length xs) (place_in xs q) x.1 (lookup (same_peer q) xs) (absent xs) past
 
-abbrev pub outgoing_at : List Outbox → ℕ → Outgoing
-outgoing_at xs k = record { said = flat (slots_at xs k); gathered = gathered_at xs k }
+-- ---- what is found
 
-abbrev pub open_at : List Outbox → ℕ → Bool
-open_at = at (λ (box : Outbox). box.is_open) false
+abbrev pub open_in : Option Outbox → Bool
+open_in found = unwrap_or (option_map (λ (box : Outbox). box.is_open) found) false
+
+abbrev pub slots_in : Option Outbox → List Slot
+slots_in found = unwrap_or (option_map (λ (box : Outbox). box.slots) found) []
+
+abbrev pub goes_in : Option Outbox → Outgoing
+goes_in found = record {
+  said = flat (slots_in found);
+  gathered = unwrap_or (option_map (λ (box : Outbox). box.gathered) found) None;
+}
+
+-- what f cannot tell from the old one is as it was
+pub same_by : {Y : Type 0} (f : Outbox → Y) (d : Y) (here : Bool) (old new : Outbox) (was now : Option Outbox) → now ≡ cond here (Some new) was → (here ≡ true → was ≡ Some old) → f new ≡ f old → unwrap_or (option_map f now) d ≡ unwrap_or (option_map f was) d
+same_by {Y} f d true old new was now is there same =
+    let at = λ (found : Option Outbox). unwrap_or (option_map f found) d in
+    ap at is ∙ same ∙ sym {A = Y} (ap at (there refl))
+same_by {Y} f d false old new was now is there same = ap (λ (found : Option Outbox). unwrap_or (option_map f found) d) is
 
 -- what f makes of what is to go out, where more may be said, and here
 abbrev pub told : (Outgoing → Outgoing) → Bool → Bool → Outgoing → Outgoing
@@ -86,85 +105,80 @@ told_elsewhere f true o = refl
 told_elsewhere f false o = refl
 
 -- one of them is told
-pub told_at : (f : Outgoing → Outgoing) (xs : List Outbox) (place k : ℕ) (old new : Outbox) → place < length xs → old ≡ get_or xs place old → outgoing_of new ≡ (if old.is_open then f (outgoing_of old) else outgoing_of old) → outgoing_at (slice_set xs place new) k ≡ told f (open_at xs k) (nat_eq place k) (outgoing_at xs k)
-told_at f [] place k old new below there is = absurd (omega (arith, below))
-told_at f (x ∷ xs) zero zero old new below there is =
-    is
-    ∙ ap (λ (o : Outbox). if o.is_open then f (outgoing_of o) else outgoing_of o) there
-    ∙ told_here f x.is_open (outgoing_of x)
-told_at f (x ∷ xs) zero (suc k) old new below there is =
-    told_elsewhere f (open_at xs k) (outgoing_at xs k)
-    ∙ ap (λ (b : Bool). told f (open_at xs k) b (outgoing_at xs k)) (sym (eqb-zero-suc k))
-told_at f (x ∷ xs) (suc place) zero old new below there is =
-    told_elsewhere f x.is_open (outgoing_of x)
-    ∙ ap (λ (b : Bool). told f x.is_open b (outgoing_of x)) (sym (eqb-suc-zero place))
-told_at f (x ∷ xs) (suc place) (suc k) old new below there is =
-    told_at f xs place k old new (omega (arith, below)) there is
-    ∙ ap (λ (b : Bool). told f (open_at xs k) b (outgoing_at xs k)) (sym (eqb-suc-suc place k))
+pub told_by : (f : Outgoing → Outgoing) (here : Bool) (old new : Outbox) (was now : Option Outbox) → now ≡ cond here (Some new) was → (here ≡ true → was ≡ Some old) → outgoing_of new ≡ (if old.is_open then f (outgoing_of old) else outgoing_of old) → goes_in now ≡ told f (open_in was) here (goes_in was)
+told_by f true old new was now is there says =
+    ap goes_in is
+    ∙ says
+    ∙ told_here f old.is_open (outgoing_of old)
+    ∙ sym (ap (λ (found : Option Outbox). told f (open_in found) true (goes_in found)) (there refl))
+told_by f false old new was now is there says = ap goes_in is ∙ told_elsewhere f (open_in was) (goes_in was)
 
--- there is none at this place
-pub told_past : (f : Outgoing → Outgoing) (xs : List Outbox) (place k : ℕ) → length xs ≤ place → outgoing_at xs k ≡ told f (open_at xs k) (nat_eq place k) (outgoing_at xs k)
-told_past f [] place k past = refl
-told_past f (x ∷ xs) zero k past = absurd (omega (arith, past))
-told_past f (x ∷ xs) (suc place) zero past =
-    told_elsewhere f x.is_open (outgoing_of x)
-    ∙ ap (λ (b : Bool). told f x.is_open b (outgoing_of x)) (sym (eqb-suc-zero place))
-told_past f (x ∷ xs) (suc place) (suc k) past =
-    told_past f xs place k (omega (arith, past))
-    ∙ ap (λ (b : Bool). told f (open_at xs k) b (outgoing_at xs k)) (sym (eqb-suc-suc place k))
+-- there is none here
+pub told_none : (f : Outgoing → Outgoing) (here : Bool) (was : Option Outbox) → (here ≡ true → was ≡ None) → goes_in was ≡ told f (open_in was) here (goes_in was)
+told_none f true was there = subst (λ (found : Option Outbox). goes_in found ≡ told f (open_in found) true (goes_in found)) (sym (there refl)) refl
+told_none f false was there = told_elsewhere f (open_in was) (goes_in was)
 
-pub both_false : (b : Bool) → false ≡ cond b false false
-both_false true = refl
-both_false false = refl
+-- one of them is shut
+pub shut_by : (here : Bool) (new : Outbox) (was now : Option Outbox) → now ≡ cond here (Some new) was → new.is_open ≡ false → open_in now ≡ cond here false (open_in was)
+shut_by true new was now is shut = ap open_in is ∙ shut
+shut_by false new was now is shut = ap open_in is
 
-pub open_past : (xs : List Outbox) (place k : ℕ) → length xs ≤ place → open_at xs k ≡ cond (nat_eq place k) false (open_at xs k)
-open_past [] place k past = both_false (nat_eq place k)
-open_past (x ∷ xs) zero k past = absurd (omega (arith, past))
-open_past (x ∷ xs) (suc place) zero past = ap (λ (b : Bool). cond b false x.is_open) (sym (eqb-suc-zero place))
-open_past (x ∷ xs) (suc place) (suc k) past =
-    open_past xs place k (omega (arith, past)) ∙ ap (λ (b : Bool). cond b false (open_at xs k)) (sym (eqb-suc-suc place k))
-
--- one is shut
-pub open_set : (xs : List Outbox) (place k : ℕ) (new : Outbox) → place < length xs → new.is_open ≡ false → open_at (slice_set xs place new) k ≡ cond (nat_eq place k) false (open_at xs k)
-open_set xs place k new below shut =
-    at_set (λ (box : Outbox). box.is_open) false xs place k new below
-    ∙ ap (λ (b : Bool). cond (nat_eq place k) b (open_at xs k)) shut
-
--- one is opened
-pub opened_set : (xs : List Outbox) (place k : ℕ) (new : Outbox) (was : Bool) → place < length xs → new.is_open ≡ true → open_at xs k ≡ was → open_at (slice_set xs place new) k ≡ (was || nat_eq place k)
-opened_set xs place k new was below opens before =
-    at_set (λ (box : Outbox). box.is_open) false xs place k new below
-    ∙ ap₂ (λ (b c : Bool). cond (nat_eq place k) b c) opens before
-    ∙ either (nat_eq place k) was
-  where
-    either : (here b : Bool) → cond here true b ≡ (b || here)
-    either true true = refl
-    either true false = refl
-    either false true = refl
-    either false false = refl
+pub shut_none : (here : Bool) (was : Option Outbox) → (here ≡ true → was ≡ None) → open_in was ≡ cond here false (open_in was)
+shut_none true was there = ap open_in (there refl)
+shut_none false was there = refl
 
 -- ---- all places
 
-open_below : (xs : List Outbox) (k : ℕ) (b : Bool) → nat_lt k (length xs) ≡ b → (open_at xs k && b) ≡ open_at xs k
-open_below xs k true is = and-true (open_at xs k)
-open_below xs k false is =
-    let shut : open_at xs k ≡ false = at_past (λ (box : Outbox). box.is_open) false xs k (ltb-false k (length xs) is) in
+both_so : {Y : Type 0} (b : Bool) (y : Y) → cond b y y ≡ y
+both_so true y = refl
+both_so false y = refl
+
+open_below : (q : PeerNo) (xs : List (PeerNo × Outbox)) (b : Bool) → nat_lt (place_in xs q) (length xs) ≡ b → (open_in (lookup (same_peer q) xs) && b) ≡ open_in (lookup (same_peer q) xs)
+open_below q xs true is = and-true (open_in (lookup (same_peer q) xs))
+open_below q xs false is =
+    let shut : open_in (lookup (same_peer q) xs) ≡ false = ap open_in (absent q xs (ltb-false (place_in xs q) (length xs) is)) in
     ap (λ (o : Bool). o && false) shut ∙ sym shut
 
-pub told_to_end : (f : Outgoing → Outgoing) (xs : List Outbox) (k i : ℕ) (old now : Outgoing) → i ≡ length xs → now ≡ told f (open_at xs k) (nat_lt k i) old → now ≡ (if open_at xs k then f old else old)
-told_to_end f xs k i old now ends is =
+pub told_to_end : (f : Outgoing → Outgoing) (q : PeerNo) (xs : List (PeerNo × Outbox)) (i : ℕ) (old now : Outgoing) → i ≡ length xs → now ≡ told f (open_in (lookup (same_peer q) xs)) (nat_lt (place_in xs q) i) old → now ≡ (if open_in (lookup (same_peer q) xs) then f old else old)
+told_to_end f q xs i old now ends is =
     is ∙ ap (λ (b : Bool). if b then f old else old)
-    (ap (λ (n : ℕ). open_at xs k && nat_lt k n) ends ∙ open_below xs k (nat_lt k (length xs)) refl)
+    (ap (λ (n : ℕ). open_in (lookup (same_peer q) xs) && nat_lt (place_in xs q) n) ends ∙ open_below q xs (nat_lt (place_in xs q) (length xs)) refl)
 
-pub shut_by : (xs : List Outbox) (k : ℕ) (b : Bool) → nat_lt k (length xs) ≡ b → cond b false (open_at xs k) ≡ false
-shut_by xs k true is = refl
-shut_by xs k false is = at_past (λ (box : Outbox). box.is_open) false xs k (ltb-false k (length xs) is)
+shut_below : (q : PeerNo) (xs : List (PeerNo × Outbox)) (b : Bool) → nat_lt (place_in xs q) (length xs) ≡ b → cond b false (open_in (lookup (same_peer q) xs)) ≡ false
+shut_below q xs true is = refl
+shut_below q xs false is = ap open_in (absent q xs (ltb-false (place_in xs q) (length xs) is))
 
-pub shut_all : (xs : List Outbox) (k : ℕ) → cond (nat_lt k (length xs)) false (open_at xs k) ≡ false
-shut_all xs k = shut_by xs k (nat_lt k (length xs)) refl
+pub shut_to_end : (q : PeerNo) (xs : List (PeerNo × Outbox)) (i : ℕ) (now : Bool) → i ≡ length xs → now ≡ cond (nat_lt (place_in xs q) i) false (open_in (lookup (same_peer q) xs)) → now ≡ false
+shut_to_end q xs i now ends is =
+    is ∙ ap (λ (n : ℕ). cond (nat_lt (place_in xs q) n) false (open_in (lookup (same_peer q) xs))) ends
+    ∙ shut_below q xs (nat_lt (place_in xs q) (length xs)) refl
 
-pub shut_to_end : (xs : List Outbox) (k i : ℕ) (now : Bool) → i ≡ length xs → now ≡ cond (nat_lt k i) false (open_at xs k) → now ≡ false
-shut_to_end xs k i now ends is = is ∙ ap (λ n. cond (nat_lt k n) false (open_at xs k)) ends ∙ shut_all xs k
+-- ---- one neighbour
+
+-- it is found under its number
+pub found_here : (to q : PeerNo) (xs : List (PeerNo × Outbox)) (found : Option Outbox) → lookup (same_peer to) xs ≡ found → same_peer to q ≡ true → lookup (same_peer q) xs ≡ found
+found_here to q xs found is same = sym (ap (λ (n : ℕ). lookup (λ (p : PeerNo). nat_eq n p.0) xs) (eqb-true to.0 q.0 same)) ∙ is
+
+-- what stands at a place is one box
+pub box_is : (k to : PeerNo) (old box : Outbox) (found : Option (PeerNo × Outbox)) → found ≡ Some (k, old) → found ≡ Some (to, box) → old ≡ box
+box_is k to old box found is there = ap (λ (x : Option (PeerNo × Outbox)). (unwrap_or x (to, box)).1) (sym is ∙ there)
+
+-- where one is put, it is found
+pub put_is : (to : PeerNo) (new : Outbox) (was now : Option Outbox) → now ≡ cond (same_peer to to) (Some new) was → now ≡ Some new
+put_is to new was now is = let laws = nat_eq_equiv in is ∙ ap (λ (b : Bool). cond b (Some new) was) (laws.refl to.0)
+
+pub emptied : {Y : Type 0} (b : Bool) (d now was : Y) → now ≡ cond b d was → was ≡ d → now ≡ d
+emptied b d now was is none = is ∙ ap (λ y. cond b d y) none ∙ both_so b d
+
+-- of another nothing changes
+pub stays_apart : (to q : PeerNo) (new : Outbox) (was now : Option Outbox) → now ≡ cond (same_peer to q) (Some new) was → q ≢ to → slots_in now ≡ slots_in was
+stays_apart to q new was now is apart = ap slots_in (is ∙ elsewhere (same_peer to q) refl)
+  where
+    elsewhere : (b : Bool) → same_peer to q ≡ b → cond b (Some new) was ≡ was
+    elsewhere true same =
+        let one : q ≡ to = ap (λ (n : ℕ). record { 0 = n }) (sym (eqb-true to.0 q.0 same)) in
+        absurd (apart one)
+    elsewhere false same = refl
 
 -- ---- what an entry says
 
@@ -202,39 +216,15 @@ entry_told c q false still given sends event old sent new are before same here =
     ∙ ap (λ (b : Bool). if b then behind_event c q sent event else sent) same
     ∙ before
 
--- ---- one that is empty
-
-pub silent_at : (xs ys : List Outbox) (place k : ℕ) (box : Outbox) (empty : Bool) → ys ≡ xs → place ≡ k → place < length ys → box ≡ get_or ys place box → empty ≡ (length box.slots == 0) → empty ≡ true → slots_at xs k ≡ []
-silent_at xs ys place k box empty lists places below there is is_so =
-    ap (λ zs. slots_at zs k) (sym lists)
-    ∙ ap (λ i. slots_at ys i) (sym places)
-    ∙ at_there (λ (b : Outbox). b.slots) [] ys place box below there
-    ∙ nil_from_length box.slots (eqb-true (length box.slots) 0 (sym is ∙ is_so))
-
-pub silent_past : (xs ys : List Outbox) (place k : ℕ) → ys ≡ xs → place ≡ k → length ys ≤ place → slots_at xs k ≡ []
-silent_past xs ys place k lists places past =
-    ap (λ zs. slots_at zs k) (sym lists)
-    ∙ ap (λ i. slots_at ys i) (sym places)
-    ∙ at_past (λ (b : Outbox). b.slots) [] ys place past
-
--- whether nothing waits at a place
-pub empty_at : (xs ys : List Outbox) (place k : ℕ) (box : Outbox) (empty : Bool) → ys ≡ xs → place ≡ k → place < length ys → box ≡ get_or ys place box → empty ≡ (length box.slots == 0) → empty ≡ (length (slots_at xs k) == 0)
-empty_at xs ys place k box empty lists places below there is =
-    is
-    ∙ ap (λ (slots : List Slot). length slots == 0)
-    (sym (at_there (λ (b : Outbox). b.slots) [] ys place box below there)
-    ∙ ap (λ i. slots_at ys i) places
-    ∙ ap (λ zs. slots_at zs k) lists)
-
-pub empty_past : (xs ys : List Outbox) (place k : ℕ) → ys ≡ xs → place ≡ k → length ys ≤ place → true ≡ (length (slots_at xs k) == 0)
-empty_past xs ys place k lists places past =
-    ap (λ (slots : List Slot). length slots == 0) (sym (silent_past xs ys place k lists places past))
-
 -- ---- whose outboxes are open
 
 or_false : (b : Bool) → (b || false) ≡ b
 or_false true = refl
 or_false false = refl
+
+-- who was open stays so
+pub stays_open : (was now : PeerNo → Bool) (p : PeerNo) → ((q : PeerNo) → now q ≡ (was q || same_peer p q)) → (q : PeerNo) → was q ≡ true → now q ≡ true
+stays_open was now p opens q before = opens q ∙ ap (λ (b : Bool). b || same_peer p q) before
 
 -- one neighbour more
 pub each_more : (was now : PeerNo → Bool) (p : PeerNo) (xs ys : List PeerNo)

@@ -11,7 +11,6 @@ use Rattle.gs_peer.specs.Inboxes.{InboxView, is_full}
 use Rattle.gs_peer.specs.Moves.{are_full, are_silent, is_closing, is_full_at, is_over, is_silent}
 use Rattle.gs_peer.specs.Outboxes.{waiting}
 use Rattle.gs_peer.specs.Running.{AllFull, AllSilent, IsOver}
-use Rattle.gs_peer.proofs.BoxPlaces.{at_there}
 
 -- ---- both of two
 
@@ -37,7 +36,9 @@ not_all (x ∷ xs) zero h = ap (λ (b : Bool). b && are_full xs) h
 not_all (x ∷ xs) (suc k) h = ap (λ (b : Bool). is_full x && b) (not_all xs k h) ∙ both_false (is_full x)
 
 pub full_there : (xs : List InboxView) (place : ℕ) (x : InboxView) (b : Bool) → place < length xs → x ≡ get_or xs place x → is_full x ≡ b → is_full_at xs place ≡ b
-full_there xs place x b below there is = at_there is_full true xs place x below there ∙ is
+full_there [] place x b below there is = absurd (omega (arith, below))
+full_there (y ∷ xs) zero x b below there is = sym (ap is_full there) ∙ is
+full_there (y ∷ xs) (suc place) x b below there is = full_there xs place x b (omega (arith, below)) there is
 
 -- one more was looked at
 pub full_more : (xs : List InboxView) (from place : ℕ) (x : InboxView) → place < length xs → x ≡ get_or xs place x → is_full x ≡ true

@@ -1,6 +1,7 @@
 -- What waits to go to each neighbour.
-use Rattle.std.specs.Prelude.{◌≡◌, ◌⊎◌, Bool, false, List, [], ◌∷◌, ◌++◌, Option, None, slice_get, option_map, unwrap_or, if◌then◌else◌}
+use Rattle.std.specs.Prelude.{◌≡◌, ◌⊎◌, ℕ, suc, Bool, false, List, [], ◌∷◌, ◌++◌, Option, None, option_map, unwrap_or, if◌then◌else◌}
 use Rattle.std.specs.List.{list_any}
+use Rattle.std.specs.Map.{lookup}
 use Rattle.gs_base.specs.declared.names.PeerNo.{PeerNo}
 use Rattle.gs_base.specs.declared.rpc.Rpc.{Rpc}
 use Rattle.gs_base.specs.Names.{same_peer}
@@ -13,13 +14,25 @@ use Rattle.gs_link.specs.declared.item.Slot.{Slot}
 use Rattle.gs_peer.specs.declared.outbox.Outbox.{Outbox}
 use Rattle.gs_peer.specs.declared.outboxes.Outboxes.{Outboxes}
 
+-- the outbox of a peer, where it has one
+abbrev pub box_of : Outboxes → PeerNo → Option Outbox
+box_of out q = lookup (same_peer q) out.boxes.entries
+
+-- the place of a peer's outbox in the order of the neighbours, and their number where it has none
+abbrev pub place_in : List (PeerNo × Outbox) → PeerNo → ℕ
+place_in [] q = 0
+place_in (x ∷ xs) q = if same_peer q x.0 then 0 else suc (place_in xs q)
+
+abbrev pub place_of : Outboxes → PeerNo → ℕ
+place_of out q = place_in out.boxes.entries q
+
 -- what waits for a peer, and nothing where it has no outbox
 abbrev pub waiting : Outboxes → PeerNo → List Slot
-waiting out q = unwrap_or (option_map (λ (box : Outbox). box.slots) (slice_get out.boxes.items q.0)) []
+waiting out q = unwrap_or (option_map (λ (box : Outbox). box.slots) (box_of out q)) []
 
 -- the RPC that is gathered for a peer, after what waits
 abbrev pub gathered_in : Outboxes → PeerNo → Option Rpc
-gathered_in out q = unwrap_or (option_map (λ (box : Outbox). box.gathered) (slice_get out.boxes.items q.0)) None
+gathered_in out q = unwrap_or (option_map (λ (box : Outbox). box.gathered) (box_of out q)) None
 
 -- what is to go to a peer
 abbrev pub outgoing_in : Outboxes → PeerNo → Outgoing
@@ -31,7 +44,7 @@ outgoing_of box = record { said = flat box.slots; gathered = box.gathered }
 
 -- more may be said to a peer
 abbrev pub is_open : Outboxes → PeerNo → Bool
-is_open out q = unwrap_or (option_map (λ (box : Outbox). box.is_open) (slice_get out.boxes.items q.0)) false
+is_open out q = unwrap_or (option_map (λ (box : Outbox). box.is_open) (box_of out q)) false
 
 -- a peer stands among these neighbours
 abbrev pub is_neighbour : List PeerNo → PeerNo → Bool

@@ -27,16 +27,16 @@ pub struct Outbox {
 }
 
 impl Outbox {
-    /// An outbox in which nothing waits, and to which nothing is said.
-    pub(crate) fn closed(alloc: Global) -> Outbox
+    /// An outbox in which nothing waits, and to which more may be said.
+    pub(crate) fn new(alloc: Global) -> Outbox
         ensures slots { result.slots ≡ [] }
         ensures gathered { result.gathered ≡ None }
-        ensures open { result.is_open ≡ false }
+        ensures open { result.is_open ≡ true }
     {
         Outbox {
             slots: SlotQueue::new(alloc),
             gathered: Gathered::new(alloc),
-            is_open: false,
+            is_open: true,
         }
     }
 

@@ -1,4 +1,4 @@
-ghost use Rattle.std.specs.Prelude.{◌≡◌, ◌≢◌, ◌<◌, ◌++◌, ◌∷◌, [], true, false, nat_eq, length, map, None, ◌&&◌, ◌||◌, if◌then◌else◌, OnOk, IfOk};
+ghost use Rattle.std.specs.Prelude.{◌≡◌, ◌≢◌, ◌<◌, ◌++◌, ◌∷◌, [], true, false, nat_eq, length, map, slice_get, Some, None, ◌&&◌, ◌||◌, if◌then◌else◌, OnOk, IfOk};
 ghost use Rattle.std.specs.List.{AllByRecursion};
 ghost use Rattle.gs_base.specs.declared.names.PeerNo.{PeerNo as PeerNoValue};
 ghost use Rattle.gs_base.specs.Names.{same_peer};
@@ -10,9 +10,10 @@ ghost use Rattle.gs_rules.specs.Modes.{sent_to};
 ghost use Rattle.gs_rules.specs.Saying.{AllFit, SendsFit, behind_entry, behind_event, cut_out, saying, sending, sending_all};
 ghost use Rattle.gs_link.specs.Flat.{flat};
 ghost use Rattle.gs_ends.specs.Ends.{OthersStay, has};
+ghost use Rattle.gs_peer.specs.declared.outbox.Outbox.{Outbox as OutboxValue};
 ghost use Rattle.gs_peer.specs.Moved.{MovesIf};
 ghost use Rattle.gs_peer.specs.Moves.{is_silent};
-ghost use Rattle.gs_peer.specs.Outboxes.{AcceptsOne, behind_entries, gathered_in, is_neighbour, is_open, opens_behind, outgoing_in, waiting};
+ghost use Rattle.gs_peer.specs.Outboxes.{AcceptsOne, behind_entries, box_of, gathered_in, is_neighbour, is_open, opens_behind, outgoing_in, place_of, waiting};
 
 use crate::frames::written_for;
 use crate::outbox::Outbox;
@@ -22,15 +23,16 @@ use gs_ends::Ends;
 use gs_plan::Act;
 use gs_rules::{Event, StoredEntry};
 use gs_wire::WrittenRpc;
+use indexmap::IndexMap;
 use std::alloc::{AllocError, Global};
 
-/// What waits to go to each neighbour, by its number: so a send searches nothing. What is sent is gathered, and waits
-/// as one frame from the next cut on: where a round ends, bytes go out as they are, the link is closed, or one more RPC
-/// does not fit. A frame waits whole and goes out in pieces, and so do bytes as they are. The frame of a single RPC is
-/// shared by all whom it goes to.
+/// What waits to go to each neighbour, in the order of the neighbours. What is sent is gathered, and waits as one frame
+/// from the next cut on: where a round ends, bytes go out as they are, the link is closed, or one more RPC does not fit.
+/// A frame waits whole and goes out in pieces, and so do bytes as they are. The frame of a single RPC is shared by all
+/// whom it goes to.
 #[derive(Drop)]
 pub struct Outboxes {
-    boxes: Vec<Outbox>,
+    boxes: IndexMap<PeerNo, Outbox>,
 }
 
 impl Outboxes {
@@ -45,7 +47,7 @@ impl Outboxes {
         ensures nothing { IfOk result (λ out. (q : PeerNoValue) → gathered_in out q ≡ None) }
     {
         let mut out = Outboxes {
-            boxes: Vec::new(alloc),
+            boxes: IndexMap::with_capacity(alloc, neighbours.len())?,
         };
         for neighbour in neighbours {
             out.open(alloc, *neighbour)?;
@@ -53,30 +55,16 @@ impl Outboxes {
         Ok(out)
     }
 
-    /// Opens the outbox of a neighbour.
+    /// Adds the outbox of a neighbour, in which nothing waits.
     fn open(&mut self, alloc: Global, peer: PeerNo) -> Result<(), AllocError>
         ensures opened { OnOk result (is_open self.new peer ≡ true) }
-        ensures others { OnOk result ((q : PeerNoValue) → is_open self.old q ≡ true → is_open self.new q ≡ true) }
         ensures alone { OnOk result ((q : PeerNoValue) → is_open self.new q ≡ (is_open self.old q || same_peer peer q)) }
-        ensures silent { OnOk result ((q : PeerNoValue) → waiting self.new q ≡ waiting self.old q) }
-        ensures gathered { OnOk result ((q : PeerNoValue) → gathered_in self.new q ≡ gathered_in self.old q) }
+        ensures silent { OnOk result ((q : PeerNoValue)
+            → waiting self.new q ≡ (if same_peer peer q then [] else waiting self.old q)) }
+        ensures gathered { OnOk result ((q : PeerNoValue)
+            → gathered_in self.new q ≡ (if same_peer peer q then None else gathered_in self.old q)) }
     {
-        let place = usize::from(peer.0);
-        self.reach(alloc, place)?;
-        self.boxes[place].is_open = true;
-        Ok(())
-    }
-
-    /// Makes closed outboxes up to this place.
-    fn reach(&mut self, alloc: Global, place: usize) -> Result<(), AllocError>
-        ensures reached { OnOk result (place < length self.new.boxes.items) }
-        ensures open { OnOk result ((q : PeerNoValue) → is_open self.new q ≡ is_open self.old q) }
-        ensures silent { OnOk result ((q : PeerNoValue) → waiting self.new q ≡ waiting self.old q) }
-        ensures gathered { OnOk result ((q : PeerNoValue) → gathered_in self.new q ≡ gathered_in self.old q) }
-    {
-        while self.boxes.len() <= place {
-            self.boxes.push(Outbox::closed(alloc))?;
-        }
+        self.boxes.insert(peer, Outbox::new(alloc))?;
         Ok(())
     }
 
@@ -127,27 +115,27 @@ impl Outboxes {
         let mut last = None;
         for (to, rpc) in sends {
             let written = written_for(alloc, &mut last, rpc)?;
-            self.send(alloc, usize::from(to.0), &written)?;
+            self.send(alloc, *to, &written)?;
         }
         Ok(())
     }
 
-    /// Gathers an RPC for the neighbour of this number.
+    /// Gathers an RPC for a neighbour.
     fn send(
         &mut self,
         alloc: Global,
-        place: usize,
+        to: PeerNo,
         rpc: &Shared<WrittenRpc>,
     ) -> Result<(), AllocError>
         requires { codec.fits rpc.now ≡ true }
         ensures told { OnOk result ((q : PeerNoValue)
             → outgoing_in self.new q
-            ≡ (if is_open self.old q && nat_eq place q.0
+            ≡ (if is_open self.old q && same_peer to q
             then sending codec (outgoing_in self.old q) rpc.now
             else outgoing_in self.old q)) }
         ensures open { OnOk result ((q : PeerNoValue) → is_open self.new q ≡ is_open self.old q) }
     {
-        match self.boxes.get_mut(place) {
+        match self.boxes.get_mut(&to) {
             Some(outbox) => {
                 outbox.send(alloc, rpc)?;
                 Ok(())
@@ -169,7 +157,7 @@ impl Outboxes {
             Event::RoundEnd(round) => self.mark_all(alloc, *round),
             Event::Shut => self.close_all(alloc),
             Event::Own(act) => self.tell_act(alloc, act.get()),
-            Event::Lost(peer, _) => self.close(alloc, usize::from(peer.0)),
+            Event::Lost(peer, _) => self.close(alloc, *peer),
             Event::Heard(_, _) => Ok(()),
             Event::Late(_, _) => Ok(()),
             Event::Part(_, _) => Ok(()),
@@ -190,24 +178,24 @@ impl Outboxes {
             → is_open self.new q ≡ up_after q (Own act.now) (is_open self.old q)) }
     {
         match act {
-            Act::Raw(to, bytes) => self.put_raw(alloc, usize::from(to.0), clone_of(bytes)?),
-            Act::HangUp(peer) => self.close(alloc, usize::from(peer.0)),
+            Act::Raw(to, bytes) => self.put_raw(alloc, *to, clone_of(bytes)?),
+            Act::HangUp(peer) => self.close(alloc, *peer),
             Act::Subscribe(_) => Ok(()),
             Act::Unsubscribe(_) => Ok(()),
             Act::Publish(_, _) => Ok(()),
         }
     }
 
-    /// Puts bytes as they are after what is gathered for the neighbour of this number.
-    fn put_raw(&mut self, alloc: Global, place: usize, bytes: Bytes) -> Result<(), AllocError>
+    /// Puts bytes as they are after what is gathered for a neighbour.
+    fn put_raw(&mut self, alloc: Global, to: PeerNo, bytes: Bytes) -> Result<(), AllocError>
         ensures told { OnOk result ((q : PeerNoValue)
             → outgoing_in self.new q
-            ≡ (if is_open self.old q && nat_eq place q.0
+            ≡ (if is_open self.old q && same_peer to q
             then saying (cut_out codec (outgoing_in self.old q)) (map Byte bytes)
             else outgoing_in self.old q)) }
         ensures open { OnOk result ((q : PeerNoValue) → is_open self.new q ≡ is_open self.old q) }
     {
-        match self.boxes.get_mut(place) {
+        match self.boxes.get_mut(&to) {
             Some(outbox) => {
                 outbox.put_raw(alloc, bytes)?;
                 Ok(())
@@ -226,21 +214,22 @@ impl Outboxes {
         ensures open { OnOk result ((q : PeerNoValue) → is_open self.new q ≡ is_open self.old q) }
     {
         for place in 0..self.boxes.len() {
-            self.mark(alloc, place, round)?;
+            self.mark_at(alloc, place, round)?;
         }
         Ok(())
     }
 
-    /// Ends a round for the neighbour of this number.
-    fn mark(&mut self, alloc: Global, place: usize, round: u64) -> Result<(), AllocError>
+    /// Ends a round for the neighbour at this place, where more may be said to it.
+    fn mark_at(&mut self, alloc: Global, place: usize, round: u64) -> Result<(), AllocError>
         ensures told { OnOk result ((q : PeerNoValue)
             → outgoing_in self.new q
-            ≡ (if is_open self.old q && nat_eq place q.0
+            ≡ (if is_open self.old q && nat_eq place (place_of self.old q)
             then saying (cut_out codec (outgoing_in self.old q)) (EndOf round ∷ [])
             else outgoing_in self.old q)) }
         ensures open { OnOk result ((q : PeerNoValue) → is_open self.new q ≡ is_open self.old q) }
+        ensures places { OnOk result ((q : PeerNoValue) → place_of self.new q ≡ place_of self.old q) }
     {
-        match self.boxes.get_mut(place) {
+        match self.boxes.get_index_mut(place) {
             Some(outbox) => {
                 outbox.mark(alloc, round)?;
                 Ok(())
@@ -249,17 +238,17 @@ impl Outboxes {
         }
     }
 
-    /// Says nothing more to the neighbour of this number, but what is gathered and the close after what waits.
-    fn close(&mut self, alloc: Global, place: usize) -> Result<(), AllocError>
+    /// Says nothing more to a neighbour, but what is gathered and the close after what waits.
+    fn close(&mut self, alloc: Global, to: PeerNo) -> Result<(), AllocError>
         ensures told { OnOk result ((q : PeerNoValue)
             → outgoing_in self.new q
-            ≡ (if is_open self.old q && nat_eq place q.0
+            ≡ (if is_open self.old q && same_peer to q
             then saying (cut_out codec (outgoing_in self.old q)) (Close ∷ [])
             else outgoing_in self.old q)) }
         ensures open { OnOk result ((q : PeerNoValue)
-            → is_open self.new q ≡ (if nat_eq place q.0 then false else is_open self.old q)) }
+            → is_open self.new q ≡ (if same_peer to q then false else is_open self.old q)) }
     {
-        match self.boxes.get_mut(place) {
+        match self.boxes.get_mut(&to) {
             Some(outbox) => {
                 outbox.close(alloc)?;
                 Ok(())
@@ -278,17 +267,42 @@ impl Outboxes {
         ensures open { OnOk result ((q : PeerNoValue) → is_open self.new q ≡ false) }
     {
         for place in 0..self.boxes.len() {
-            self.close(alloc, place)?;
+            self.close_at(alloc, place)?;
         }
         Ok(())
     }
 
+    /// Says nothing more to the neighbour at this place, but what is gathered and the close after what waits.
+    fn close_at(&mut self, alloc: Global, place: usize) -> Result<(), AllocError>
+        ensures told { OnOk result ((q : PeerNoValue)
+            → outgoing_in self.new q
+            ≡ (if is_open self.old q && nat_eq place (place_of self.old q)
+            then saying (cut_out codec (outgoing_in self.old q)) (Close ∷ [])
+            else outgoing_in self.old q)) }
+        ensures open { OnOk result ((q : PeerNoValue)
+            → is_open self.new q ≡ (if nat_eq place (place_of self.old q) then false else is_open self.old q)) }
+        ensures places { OnOk result ((q : PeerNoValue) → place_of self.new q ≡ place_of self.old q) }
+    {
+        match self.boxes.get_index_mut(place) {
+            Some(outbox) => {
+                outbox.close(alloc)?;
+                Ok(())
+            }
+            None => Ok(()),
+        }
+    }
+
     /// Offers a neighbour what waits first for it. True where something moved: a slot was accepted,
-    /// at most one.
+    /// at most one. Its outbox is looked for at a place first, and then by its number.
     ///
     /// # Errors
     /// `AllocError` where there was no memory to cut a frame.
-    pub fn offer<S: Ends>(&mut self, ends: &mut S, to: PeerNo) -> Result<bool, AllocError>
+    pub fn offer<S: Ends>(
+        &mut self,
+        ends: &mut S,
+        to: PeerNo,
+        near: usize,
+    ) -> Result<bool, AllocError>
         requires { has (S.joints ends.old) to ≡ true }
         ensures joints { S.joints ends.new ≡ S.joints ends.old }
         ensures grew { AcceptsOne (S.accepted ends.old to) (S.accepted ends.new to) }
@@ -304,12 +318,45 @@ impl Outboxes {
             MovesIf moved (S.accepted ends.old to) (S.accepted ends.new to)
             (waiting self.old to) (waiting self.new to)) }
     {
-        match self.boxes.get_mut(usize::from(to.0)) {
+        if self.is_at(to, near) {
+            let (_, outbox) = self.boxes.pair_mut(near);
+            let moved = outbox.offer(ends, to)?;
+            return Ok(moved);
+        }
+        match self.boxes.get_mut(&to) {
             Some(outbox) => {
-                let moved = outbox.offer(ends, to)?;
-                Ok(moved)
+                let offered = outbox.offer(ends, to)?;
+                Ok(offered)
             }
             None => Ok(false),
+        }
+    }
+
+    /// Whether the outbox of a neighbour stands at this place.
+    fn is_at(&self, to: PeerNo, place: usize) -> bool
+        ensures within { result ≡ true → place < length self.now.boxes.entries }
+        ensures there { result ≡ true → (box : OutboxValue)
+            × (slice_get self.now.boxes.entries place ≡ Some (to, box))
+            × (box_of self.now to ≡ Some box) }
+    {
+        match self.boxes.get_index(place) {
+            Some((peer, _)) => *peer == to,
+            None => false,
+        }
+    }
+
+    /// Whether nothing waits for a neighbour. Its outbox is looked for at a place first, and then by its number.
+    pub fn is_silent_near(&self, to: PeerNo, near: usize) -> bool
+        ensures { result ≡ is_silent self.now to }
+    {
+        match self.boxes.get_index(near) {
+            Some((peer, outbox)) => {
+                if *peer == to {
+                    return outbox.slots.is_empty();
+                }
+                self.is_silent(to)
+            }
+            None => self.is_silent(to),
         }
     }
 
@@ -318,7 +365,7 @@ impl Outboxes {
         ensures silent { result ≡ true → waiting self.now to ≡ [] }
         ensures exact { result ≡ is_silent self.now to }
     {
-        match self.boxes.get(usize::from(to.0)) {
+        match self.boxes.get(&to) {
             Some(outbox) => outbox.slots.is_empty(),
             None => true,
         }

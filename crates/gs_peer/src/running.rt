@@ -150,7 +150,7 @@ impl<G: Gate, S: Ends> Running<G, S> {
             return false;
         }
         let inbox = &self.player.inboxes[self.turn];
-        !inbox.is_full() || !self.outboxes.is_silent(inbox.peer())
+        !inbox.is_full() || !self.outboxes.is_silent_near(inbox.peer(), self.turn)
     }
 
     /// Takes what comes next from the neighbour whose turn it is, unless all is taken that is heard
@@ -197,7 +197,7 @@ impl<G: Gate, S: Ends> Running<G, S> {
             return Ok(false);
         }
         let peer = self.player.inboxes[self.turn].peer();
-        let offered = self.outboxes.offer(&mut self.ends, peer)?;
+        let offered = self.outboxes.offer(&mut self.ends, peer, self.turn)?;
         Ok(offered)
     }
 

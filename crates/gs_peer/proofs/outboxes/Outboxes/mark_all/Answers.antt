@@ -1,4 +1,4 @@
-use Rattle.std.proofs.Common.{rules, [], ◌∷◌, length, ◌≡◌}
+use Rattle.std.proofs.Common.{◌≡◌, length, rules, [], ◌∷◌}
 use Rattle.gs_base.specs.Tokens.{EndOf}
 use Rattle.gs_wire.specs.Codec.{codec}
 use Rattle.gs_rules.specs.Saying.{Outgoing, cut_out, saying}
@@ -8,5 +8,6 @@ use Rattle.gs_peer.proofs.outboxes.Outboxes.mark_all.Goals as goal
 
 pub returns-clause-told : goal.returns-clause-told
 returns-clause-told c =
-    let ends : c.loop-place.place ≡ length c.args.self.now.boxes.items = search rules in
-    λ q. told_to_end (λ (o : Outgoing). saying (cut_out codec o) (EndOf c.args.round ∷ [])) c.args.self.now.boxes.items q.0 c.loop-place.place (outgoing_in c.args.self.now q) (outgoing_in c.loop-place.self q) ends (c.loop-place.invariant.marked q)
+    let xs = c.args.self.now.boxes.entries in
+    let ends : c.loop-place.place ≡ length xs = search rules in
+    λ q. told_to_end (λ (o : Outgoing). saying (cut_out codec o) (EndOf c.args.round ∷ [])) q xs c.loop-place.place (outgoing_in c.args.self.now q) (outgoing_in c.loop-place.self q) ends (c.loop-place.invariant.marked q)

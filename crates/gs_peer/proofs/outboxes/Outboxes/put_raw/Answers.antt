@@ -1,16 +1,13 @@
-use Rattle.std.proofs.Common.{false, map}
-use Rattle.gs_base.specs.Tokens.{Byte}
-use Rattle.gs_wire.specs.Codec.{codec}
-use Rattle.gs_rules.specs.Saying.{Outgoing, cut_out, saying}
+use Rattle.std.proofs.Common.{false, refl, sym, subst}
+use Rattle.std.specs.Option.{IsSome}
+use Rattle.gs_base.specs.Names.{same_peer}
 use Rattle.gs_peer.specs.declared.outbox.Outbox.{Outbox}
-use Rattle.gs_peer.proofs.BoxPlaces.{at_same, told_at, told_past}
+use Rattle.gs_peer.proofs.BoxPlaces.{found_here, same_by}
 use Rattle.gs_peer.proofs.outboxes.Outboxes.put_raw.Goals as goal
 
-pub returns-in_ok-put_raw-in-Some-clause-told : goal.returns-in_ok-put_raw-in-Some-clause-told
-returns-in_ok-put_raw-in-Some-clause-told c = λ q. told_at (λ (o : Outgoing). saying (cut_out codec o) (map Byte c.args.bytes)) c.args.self.now.boxes.items c.args.place q.0 c.in-Some.outbox.now c.put_raw.new.self c.in-Some.ensures.item.3.0 c.in-Some.ensures.item.1 c.in_ok-put_raw-in-Some.ensures.told
-
-pub returns-in-None-clause-told : goal.returns-in-None-clause-told
-returns-in-None-clause-told c = λ q. told_past (λ (o : Outgoing). saying (cut_out codec o) (map Byte c.args.bytes)) c.args.self.now.boxes.items c.args.place q.0 c.in-None.ensures.item.3
-
 pub returns-in_ok-put_raw-in-Some-clause-open : goal.returns-in_ok-put_raw-in-Some-clause-open
-returns-in_ok-put_raw-in-Some-clause-open c = λ q. at_same (λ (box : Outbox). box.is_open) false c.args.self.now.boxes.items c.args.place q.0 c.in-Some.outbox.now c.put_raw.new.self c.in-Some.ensures.item.3.0 c.in-Some.ensures.item.1 c.in_ok-put_raw-in-Some.ensures.open
+returns-in_ok-put_raw-in-Some-clause-open c =
+    let xs = c.args.self.now.boxes.entries in
+    let new = c.put_raw.new.self in
+    let puts = (c.get_mut.follows.holds new).3 (subst IsSome c.in-Some.ensures.value refl) in
+    λ q. same_by (λ (box : Outbox). box.is_open) false (same_peer c.args.to q) c.in-Some.outbox.now new _ _ (puts.0 q) (found_here c.args.to q xs _ (sym c.in-Some.ensures.value)) c.in_ok-put_raw-in-Some.ensures.«open»
