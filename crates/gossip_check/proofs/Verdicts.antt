@@ -9,7 +9,7 @@ use Rattle.gs_streams.specs.Streams.{longest_input}
 use Rattle.gossip_check.specs.declared.answer.Verdict.TheVariants as verdicts
 use Rattle.gossip_check.specs.Program.{Answers}
 
--- an input that describes a plan is refused for want of memory alone, and that is no verdict
+-- an input that describes a plan is refused only where memory ran out, and that is no verdict
 pub accepted_or_refused : (bytes one other : List ℕ) → Answers verdicts.Accepted (Some bytes) one → Answers verdicts.Refused (Some bytes) other → ⊥
 accepted_or_refused bytes one other accepted refused = by refused.fault refused.judged refused.refused
   where

@@ -4,7 +4,7 @@ ghost use Rattle.std.specs.Process.{exit_status};
 ghost use Rattle.gossip_check.specs.Program.{Answers, EndsAs, status_of};
 
 use crate::answer::{Answer, NO_MEMORY_ANSWER, NoAnswer, Verdict, answer_to};
-use gs_streams::{tell, write_text};
+use gs_streams::{try_to_write, write_text};
 use std::alloc::Global;
 use std::io::{Read, Write};
 use std::process::ExitCode;
@@ -55,7 +55,7 @@ where
             )
         }
         Err(NoAnswer::InputFailed) => {
-            tell(errors, "input failed\n");
+            try_to_write(errors, "input failed\n");
             ExitStatus::InputFailed
         }
     }
@@ -69,7 +69,7 @@ where
         (W.contents output.old) (W.contents output.new) (E.contents errors.old) (E.contents errors.new) }
 {
     if write_text(output, answer).is_err() {
-        tell(errors, "output failed\n");
+        try_to_write(errors, "output failed\n");
         return ExitStatus::OutputFailed;
     }
     ExitStatus::Answered(verdict)

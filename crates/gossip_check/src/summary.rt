@@ -6,7 +6,7 @@ use gs_plan::Plan;
 use std::alloc::{AllocError, Global};
 use std::fmt;
 
-/// So many of something.
+/// How many there are of something.
 #[derive(Clone, Copy)]
 struct Count<'a> {
     number: u64,

@@ -7,7 +7,7 @@ use crate::change::changed;
 use crate::edits::NoChange;
 use crate::keys::are_edits;
 use crate::reasons::refusal_line;
-use gs_streams::{tell, write_text};
+use gs_streams::{try_to_write, write_text};
 use std::alloc::Global;
 use std::io::{ErrorKind, Read, Write};
 use std::process::ExitCode;
@@ -68,7 +68,7 @@ where
         (W.contents output.old) (W.contents output.new) (E.contents errors.old) (E.contents errors.new) }
 {
     if !are_edits(arguments) {
-        tell(errors, USAGE);
+        try_to_write(errors, USAGE);
         return ExitStatus::WrongArguments;
     }
     match changed(alloc, arguments, input) {
@@ -83,10 +83,10 @@ pub fn refuse_arguments<E: Write>(cause: ErrorKind, errors: &mut E) -> ExitStatu
     ensures memory { (result ≡ ExitStatus.NoMemory) ↔ (cause ≡ ErrorKind.OutOfMemory) }
 {
     if cause == ErrorKind::OutOfMemory {
-        tell(errors, NO_MEMORY);
+        try_to_write(errors, NO_MEMORY);
         return ExitStatus::NoMemory;
     }
-    tell(errors, USAGE);
+    try_to_write(errors, USAGE);
     ExitStatus::WrongArguments
 }
 
@@ -100,7 +100,7 @@ where
         (W.contents output.old) (W.contents output.new) (E.contents errors.old) (E.contents errors.new) }
 {
     if write_text(output, text.as_bytes()).is_err() {
-        tell(errors, "output failed\n");
+        try_to_write(errors, "output failed\n");
         return ExitStatus::OutputFailed;
     }
     ExitStatus::Changed
@@ -120,20 +120,20 @@ fn tell_cause<E: Write>(
     match cause {
         NoChange::Refused(refusal) => match refusal_line(alloc, arguments, refusal) {
             Ok(line) => {
-                tell(errors, line.as_str());
+                try_to_write(errors, line.as_str());
                 ExitStatus::EditRefused
             }
             Err(_) => {
-                tell(errors, NO_MEMORY);
+                try_to_write(errors, NO_MEMORY);
                 ExitStatus::NoMemory
             }
         },
         NoChange::InputFailed => {
-            tell(errors, "input failed\n");
+            try_to_write(errors, "input failed\n");
             ExitStatus::InputFailed
         }
         NoChange::NoMemory => {
-            tell(errors, NO_MEMORY);
+            try_to_write(errors, NO_MEMORY);
             ExitStatus::NoMemory
         }
     }

@@ -15,7 +15,7 @@ fn main(rt: HostRuntime) -> ExitCode {
         Err(fault) => return refuse_unread(fault.kind(), &mut rt.stderr(), USAGE),
     };
     match asked_of(&arguments) {
-        Some(asked) => program::ended(
+        Some(asked) => program::run_to_exit(
             rt.alloc(),
             asked,
             &mut rt.stdin(),

@@ -45,7 +45,7 @@ fn topic_in(alloc: Global, plan: &Plan, asked: Asked<'_>) -> Result<Topic, Alloc
 
 /// Runs the program over these streams, and gives the status that its process ends with. Its ends are those of
 /// `gossip_sim`, and its text is the picture of the run for a topic.
-pub fn ended<R, W, E>(
+pub fn run_to_exit<R, W, E>(
     alloc: Global,
     asked: Asked<'_>,
     input: &mut R,
@@ -63,5 +63,5 @@ where
         alloc,
         printer: PictureOf { asked },
     };
-    program.ended(input, output, errors)
+    program.run_to_exit(input, output, errors)
 }

@@ -1,6 +1,6 @@
 //! Pictures, worked out by hand.
 use crate::arguments::{Asked, asked_of, refuse};
-use crate::program::ended;
+use crate::program::run_to_exit;
 use std::alloc::{AllocError, Global};
 use std::process::ExitCode;
 use std::test::*;
@@ -159,7 +159,7 @@ static LEAVING_DRAWN: [&str; 7] = [
     "</g>\n</svg>\n",
 ];
 
-/// Twelve peers, of whom `p0` scores five: 0, at the gossip threshold, and below each threshold. `p0` alone subscribes.
+/// Twelve peers. `p0` scores five of them: 0, at the gossip threshold, and below each threshold. Only `p0` subscribes.
 const TWELVE: &str = "round_ms = 100\nrounds = 1\nworkers = 1\ncapacity = 1\nseed = 1\n\
     topic = [{ name = \"news\" }]\n\
     peer = [{ name = \"p0\" }, { name = \"p1\" }, { name = \"p2\" }, { name = \"p3\" }, \
@@ -266,7 +266,7 @@ fn is_made_of(text: &[u8], parts: &[&str]) -> bool {
 fn one_peer_is_drawn(rt: HostRuntime) {
     let mut output = Vec::new(rt.alloc());
     let mut errors = Vec::new(rt.alloc());
-    let code = ended(
+    let code = run_to_exit(
         rt.alloc(),
         Asked::First,
         &mut ALONE.as_bytes(),
@@ -281,7 +281,7 @@ fn one_peer_is_drawn(rt: HostRuntime) {
 fn two_peers_are_drawn_of_which_one_leaves(rt: HostRuntime) {
     let mut output = Vec::new(rt.alloc());
     let mut errors = Vec::new(rt.alloc());
-    let code = ended(
+    let code = run_to_exit(
         rt.alloc(),
         Asked::First,
         &mut LEAVING.as_bytes(),
@@ -296,7 +296,7 @@ fn two_peers_are_drawn_of_which_one_leaves(rt: HostRuntime) {
 fn twelve_peers_stand_at_their_degrees_and_have_their_classes(rt: HostRuntime) {
     let mut output = Vec::new(rt.alloc());
     let mut errors = Vec::new(rt.alloc());
-    let code = ended(
+    let code = run_to_exit(
         rt.alloc(),
         Asked::Named("news"),
         &mut TWELVE.as_bytes(),
@@ -312,7 +312,7 @@ fn markup_in_a_topic_is_escaped(rt: HostRuntime) {
     let mut output = Vec::new(rt.alloc());
     let mut errors = Vec::new(rt.alloc());
     let asked = Asked::Named("a&<b>\"'\u{e9}");
-    let code = ended(
+    let code = run_to_exit(
         rt.alloc(),
         asked,
         &mut TWELVE.as_bytes(),
@@ -327,7 +327,7 @@ fn markup_in_a_topic_is_escaped(rt: HostRuntime) {
 fn a_refused_scenario_has_no_picture(rt: HostRuntime) {
     let mut output = Vec::new(rt.alloc());
     let mut errors = Vec::new(rt.alloc());
-    let code = ended(
+    let code = run_to_exit(
         rt.alloc(),
         Asked::First,
         &mut b"rounds = 0\n".as_slice(),
@@ -362,7 +362,7 @@ fn arguments_ask_for_a_topic(rt: HostRuntime) -> Result<(), AllocError> {
 }
 
 #[test]
-fn other_arguments_are_told_how_the_program_is_called(rt: HostRuntime) {
+fn other_arguments_get_the_usage(rt: HostRuntime) {
     let mut errors = Vec::new(rt.alloc());
     assert!(rt; refuse(&mut errors) == ExitCode::from(64));
     assert!(rt; errors.as_slice() == b"usage: gossip_picture [TOPIC]\n".as_slice());

@@ -12,6 +12,6 @@ of_alike_plans input input' output output' errors errors' more more' other other
     (one, (report_text mine.plan mine.report, mine.text, subst (Appends other other') (sym one) theirs.text))
 
 pub of_alike_scenarios : AlikeScenariosWriteTheSame
-of_alike_scenarios input input' output output' errors errors' more more' other other' faults faults' my_way their_way mine theirs differ =
+of_alike_scenarios input input' output output' errors errors' more more' other other' faults faults' first_needs_threads second_needs_threads mine theirs differ =
     of_alike_plans input input' output output' errors errors' more more' other other' faults faults' mine theirs
     (plans_alike mine.scenario.text theirs.scenario.text mine.plan theirs.plan differ mine.scenario.described theirs.scenario.described)

@@ -30,9 +30,9 @@ abbrev pub AlikeScenariosWriteTheSame : Type 0
 AlikeScenariosWriteTheSame =
     (input input' output output' errors errors' : Option (List ℕ))
     (more more' other other' faults faults' : Option (List ℕ))
-    (my_way their_way : Bool)
-    (mine : EndsAs report_text my_way ends.Reported input input' output output' errors errors')
-    (theirs : EndsAs report_text their_way ends.Reported more more' other other' faults faults')
+    (first_needs_threads second_needs_threads : Bool)
+    (mine : EndsAs report_text first_needs_threads ends.Reported input input' output output' errors errors')
+    (theirs : EndsAs report_text second_needs_threads ends.Reported more more' other other' faults faults')
     → DifferInRunning mine.scenario.text theirs.scenario.text
     → (report_text mine.plan mine.report ≡ report_text theirs.plan theirs.report)
     × AddTheSame output output' other other'

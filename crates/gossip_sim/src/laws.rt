@@ -1,4 +1,4 @@
-//! One scenario has one output. The law holds of its definitions alone, and its function does nothing.
+//! One scenario has one output. The law is only about its definitions, and its function does nothing.
 ghost use Rattle.gossip_sim.specs.OneOutput.{AlikePlansWriteTheSame, AlikeScenariosWriteTheSame};
 
 /// Two runs that both report write one text, where the scenarios that they read differ at most in `workers` and `capacity`

@@ -50,13 +50,13 @@ where
         (W.contents output.old) (W.contents output.new) (E.contents errors.old) (E.contents errors.new) }
 {
     match asked_by(arguments) {
-        Some(way) => ended(rt, way, input, output, errors),
+        Some(way) => run_to_exit(rt, way, input, output, errors),
         None => refuse(errors),
     }
 }
 
 /// Runs the program over these streams, peers in this way, and gives the status that its process ends with.
-pub fn ended<T, R, W, E>(
+pub fn run_to_exit<T, R, W, E>(
     rt: &T,
     way: Way,
     input: &mut R,

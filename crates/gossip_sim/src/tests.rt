@@ -306,7 +306,7 @@ fn workers_and_capacity_change_no_report(rt: HostRuntime) -> Result<(), AllocErr
     Ok(())
 }
 
-/// Who delivers a thousand zero bytes when, and what stands behind these.
+/// Who delivers a thousand zero bytes when, and what follows these.
 static ZEROS: [(&str, &str); 6] = [
     ("p0 200", ""),
     ("p0 200", "01"),

@@ -84,13 +84,13 @@ where
         (W.contents output.old) (W.contents output.new) (E.contents errors.old) (E.contents errors.new) }
 {
     match asked_by(arguments) {
-        Some(asked) => ended(alloc, asked, input, output, errors),
+        Some(asked) => run_to_exit(alloc, asked, input, output, errors),
         None => refuse(errors),
     }
 }
 
 /// Runs the program for what is asked for.
-fn ended<R, W, E>(
+fn run_to_exit<R, W, E>(
     alloc: Global,
     asked: Asked,
     input: &mut R,
@@ -108,5 +108,5 @@ where
         alloc,
         printer: FiguresAs { asked },
     };
-    program.ended(input, output, errors)
+    program.run_to_exit(input, output, errors)
 }

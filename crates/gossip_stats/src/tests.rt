@@ -65,7 +65,7 @@ a                0              0              0             0
 b                0              0              0             0
 ";
 
-fn words_of(alloc: Global, words: &[&str]) -> Result<Vec<String>, AllocError> {
+fn argument_list(alloc: Global, words: &[&str]) -> Result<Vec<String>, AllocError> {
     let mut arguments = Vec::new(alloc);
     for word in words {
         arguments.push(String::from_str(alloc, word)?)?;
@@ -81,7 +81,7 @@ fn ends_so(
     status: u8,
     wanted: (&str, &str),
 ) -> Result<bool, AllocError> {
-    let arguments = words_of(alloc, words)?;
+    let arguments = argument_list(alloc, words)?;
     let mut output = Vec::new(alloc);
     let mut errors = Vec::new(alloc);
     let code = run(
@@ -183,7 +183,7 @@ fn a_refused_scenario_has_no_figures(rt: HostRuntime) -> Result<(), AllocError> 
 
 /// What arguments ask for.
 fn asked(alloc: Global, words: &[&str]) -> Result<Option<Asked>, AllocError> {
-    let arguments = words_of(alloc, words)?;
+    let arguments = argument_list(alloc, words)?;
     Ok(asked_by(arguments.as_slice()))
 }
 
@@ -221,7 +221,7 @@ fn arguments_ask_for_a_layout(rt: HostRuntime) -> Result<(), AllocError> {
 }
 
 #[test]
-fn other_arguments_are_told_how_the_program_is_called(rt: HostRuntime) -> Result<(), AllocError> {
+fn other_arguments_get_the_usage(rt: HostRuntime) -> Result<(), AllocError> {
     let told = ("", "usage: gossip_stats [--csv | --json] [--rounds]\n");
     assert!(rt; ends_so(rt.alloc(), &["--cvs"], SCENARIO, 64, told)?);
     Ok(())

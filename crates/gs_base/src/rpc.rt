@@ -1,6 +1,7 @@
 //! What two peers send each other: the messages of gossipsub's `rpc.proto`.
-ghost use Rattle.std.specs.Prelude.{◌≡◌, IfOk};
+ghost use Rattle.std.specs.Prelude.{◌≡◌, None, IfOk};
 ghost use Rattle.gs_base.specs.Names.{is_signed, payload_of, topic_of, topic_or_empty};
+ghost use Rattle.gs_base.specs.Rpcs.{unsigned};
 
 mod sent;
 
@@ -84,6 +85,38 @@ impl Clone for Message {
 }
 
 impl Message {
+    /// One without any field. It takes no memory.
+    pub fn bare() -> Message
+        ensures { result
+            ≡ record { origin = None; payload = None; seqno = None; topic = None; signature = None; key = None } }
+    {
+        Message {
+            origin: None,
+            payload: None,
+            seqno: None,
+            topic: None,
+            signature: None,
+            key: None,
+        }
+    }
+
+    /// One under StrictNoSign, with only a payload and a topic. It shares both.
+    ///
+    /// # Errors
+    /// `AllocError` where there was no memory for it.
+    pub fn unsigned(topic: &Topic, payload: &Bytes) -> Result<Message, AllocError>
+        ensures { IfOk result (λ message. message ≡ unsigned topic.now payload.now) }
+    {
+        Ok(Message {
+            origin: None,
+            payload: Some(clone_of(payload)?),
+            seqno: None,
+            topic: Some(clone_of(topic)?),
+            signature: None,
+            key: None,
+        })
+    }
+
     /// The topic that it is on; an absent one is the empty one.
     ///
     /// # Errors

@@ -47,7 +47,7 @@ fn carry<R: Wait>(rt: &R, tx: &mut LinkTx, rx: &mut LinkRx, count: u32) -> Resul
     Ok(sum)
 }
 
-/// Fills a link and empties it so many times.
+/// Fills a link and empties it `count` times.
 pub(crate) fn link_all<R: Wait>(rt: &R, alloc: Global, count: u32) -> Result<u32, BenchFault> {
     let (mut tx, mut rx) = open_link(alloc, SLOTS)?;
     carry(rt, &mut tx, &mut rx, count)
@@ -83,7 +83,7 @@ fn carry_plainly<R: Wait>(rt: &R, queue: &Queue, count: u32) -> Result<u32, Benc
     Ok(sum)
 }
 
-/// Fills a queue and empties it so many times.
+/// Fills a queue and empties it `count` times.
 pub(crate) fn queue_all<R: Wait>(rt: &R, alloc: Global, count: u32) -> Result<u32, BenchFault> {
     carry_plainly(rt, &ArrayQueue::new(alloc, SLOTS)?, count)
 }

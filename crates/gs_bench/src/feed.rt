@@ -18,8 +18,8 @@ fn add_cycle(alloc: Global, stream: &mut Vec<u8>) -> Result<[usize; 3], WireFaul
     Ok([first, second, stream.len()])
 }
 
-/// Fills a stream with so many cycles that a piece which begins in the first of them ends in the
-/// last, and answers where the frames of the first end.
+/// Fills a stream with enough cycles for a piece that begins in the first to end in the last, and answers where the
+/// frames of the first end.
 fn fill(alloc: Global, piece: usize, stream: &mut Vec<u8>) -> Result<[usize; 3], WireFault> {
     let ends = add_cycle(alloc, stream)?;
     for _ in 0..(piece / ends[2].max(1)).saturating_add(1) {
@@ -46,7 +46,7 @@ fn feed_one(
     Ok(sum)
 }
 
-/// How a stream is fed: in pieces of so many bytes, of cycles of so many, so many in all.
+/// How a stream is fed: the bytes of a piece, those of a cycle, and those of all.
 #[derive(Clone, Copy)]
 struct Portions {
     piece: usize,
@@ -55,7 +55,7 @@ struct Portions {
 }
 
 impl Portions {
-    /// So many frames, of which the three of a cycle end at these places.
+    /// Those of `count` frames, where the three of a cycle end at these places.
     fn of(piece: usize, ends: [usize; 3], count: u32) -> Portions {
         let [first, second, cycle] = ends;
         let tail = [0, first, second][(count % 3) as usize];
@@ -88,8 +88,8 @@ fn feed_each(
     Ok(sum)
 }
 
-/// Feeds a reader so many frames in pieces of so many bytes. The pieces are parts of a few cycles
-/// in a row: the whole stream is never built.
+/// Feeds a reader `count` frames in pieces of `piece` bytes. The pieces are parts of a few cycles in a row: the whole
+/// stream is never built.
 pub(crate) fn feed_all(alloc: Global, piece: usize, count: u32) -> Result<u32, BenchFault> {
     let mut stream = Vec::new(alloc);
     let ends = fill(alloc, piece, &mut stream)?;

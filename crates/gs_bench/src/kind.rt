@@ -16,17 +16,17 @@ pub(crate) enum Kind {
     Decode(Sample),
     /// An RPC into a buffer that is cleared and used again.
     Encode(Sample),
-    /// A stream of frames, in pieces of so many bytes.
+    /// A stream of frames, in pieces of this many bytes.
     Feed(usize),
     /// A link of 64 slots, filled with pieces and emptied.
     Link,
     /// A plain queue of 64 slots, filled with pieces and emptied, to compare the link with.
     Queue,
-    /// A mark of a neighbour that has counters on so many topics.
+    /// A mark of a neighbour that has counters on this many topics.
     Apply(u8),
     /// The score of such a neighbour.
     Score(u8),
-    /// The score of one with a counter on a topic, which lost a millionth in each of so many decays.
+    /// The score of one with a counter on a topic, which lost a millionth in each of this many decays.
     Decayed(u32),
 }
 

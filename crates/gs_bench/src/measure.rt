@@ -11,9 +11,9 @@ use gs_wire::{WireFault, decode, encode};
 use std::alloc::Global;
 use std::sync::Wait;
 
-/// Does what the kind says so many times, and answers the sum of what was found, modulo 2^32: the
-/// repeated elements of what was read, or the lengths of the bodies that were written, or of the
-/// pieces that were taken, or the deliveries that were counted, or the scores in millionths.
+/// Does what the kind says `count` times, and answers the sum of what was found, modulo 2^32. That is the repeated
+/// elements of what was read, or the lengths of the bodies that were written or of the pieces that were taken, or the
+/// deliveries that were counted, or the scores in millionths.
 pub(crate) fn checksum<R: Wait>(
     rt: &R,
     alloc: Global,
@@ -67,7 +67,7 @@ fn encode_each(rpc: &Rpc, count: u32, buffer: &mut Vec<u8>) -> Result<u32, WireF
     Ok(sum)
 }
 
-/// Writes the body of a sample so many times, each time into an empty buffer.
+/// Writes the body of a sample `count` times, each time into an empty buffer.
 fn encode_sample(
     alloc: Global,
     sample: Sample,

@@ -10,7 +10,7 @@ fn news(alloc: Global) -> Result<Topic, AllocError> {
     Ok(Topic(Bytes::copy_from_slice(alloc, b"news")?))
 }
 
-/// 1,000 bytes, of which byte i is i mod 256.
+/// 1,000 bytes: byte i is i mod 256.
 fn payload(alloc: Global) -> Result<Bytes, AllocError> {
     let mut bytes = [0u8; 1_000];
     for number in 0..bytes.len() {
@@ -24,7 +24,7 @@ fn add_identifier(alloc: Global, number: u8, ids: &mut Seq<Bytes>) -> Result<(),
     ids.push(id)
 }
 
-/// 50 identifiers, of which identifier k is 32 bytes k.
+/// 50 identifiers: identifier k is 32 bytes k.
 fn identifiers(alloc: Global) -> Result<Seq<Bytes>, AllocError> {
     let mut ids = Seq::new(alloc);
     for number in 0..50u8 {
@@ -37,15 +37,13 @@ fn offer(alloc: Global, topic: &Topic) -> Result<Rpc, AllocError> {
     let topic = Some(clone_of(topic)?);
     let ids = identifiers(alloc)?;
     let ihave = Seq::only(alloc, IHave { topic, ids })?;
+    let control = Control {
+        ihave,
+        ..Control::empty(alloc)
+    };
     Ok(Rpc {
-        subs: Seq::new(alloc),
-        publish: Seq::new(alloc),
-        control: Some(Control {
-            ihave,
-            iwant: Seq::new(alloc),
-            graft: Seq::new(alloc),
-            prune: Seq::new(alloc),
-        }),
+        control: Some(control),
+        ..Rpc::empty(alloc)
     })
 }
 

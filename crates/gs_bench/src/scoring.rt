@@ -26,7 +26,7 @@ fn add_topic(alloc: Global, number: u8, params: &mut Params) -> Result<(), Alloc
     params.topics.push((topic, one))
 }
 
-/// Parameters of so many topics, on each of which a first delivery counts 1.
+/// Parameters of this many topics, with a first delivery on each counting 1.
 fn params(alloc: Global, topics: u8) -> Result<Params, BenchFault>
     ensures { IfOk result AreInRange }
 {
@@ -62,7 +62,7 @@ fn scores(alloc: Global, topics: u8) -> Result<Scores, BenchFault> {
     scores_of(alloc, &params(alloc, topics)?)
 }
 
-/// A first delivery on each of so many topics.
+/// A first delivery on each of this many topics.
 fn firsts(alloc: Global, topics: u8) -> Result<Vec<Mark>, AllocError> {
     let mut marks = Vec::new(alloc);
     for number in 0..topics {
@@ -91,7 +91,7 @@ fn counted(scores: &Scores, marks: &[Mark]) -> u32 {
     sum
 }
 
-/// Applies so many marks, on one topic after the other.
+/// Applies `count` marks, on one topic after the other.
 fn apply_each(scores: &mut Scores, marks: &[Mark], count: u32) -> Result<u32, BenchFault> {
     let mut place: usize = 0;
     for _ in 0..count {
@@ -110,7 +110,7 @@ fn decay(scores: &mut Scores) {
     }
 }
 
-/// Applies each mark, and makes a score so many times, so many decays later.
+/// Applies each mark, lowers the counters `decays` times, and then makes a score `count` times.
 fn score_each(
     scores: &mut Scores,
     marks: &[Mark],
@@ -136,11 +136,11 @@ fn score_each(
 pub(crate) enum Work {
     /// Marks are applied.
     Apply,
-    /// A score is made over all topics, so many decays after the marks.
+    /// A score is made over all topics, this many decays after the marks.
     Score(u32),
 }
 
-/// Does so much work over so many topics with these scores.
+/// Does this work `count` times over this many topics, with these scores.
 fn work_on(
     alloc: Global,
     scores: &mut Scores,
@@ -155,7 +155,7 @@ fn work_on(
     }
 }
 
-/// Does so much work over so many topics.
+/// Does this work `count` times over this many topics.
 pub(crate) fn work_all(
     alloc: Global,
     topics: u8,

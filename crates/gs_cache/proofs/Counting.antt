@@ -38,7 +38,7 @@ counts_twice ttl now (Some s) = by (nat_lt (now - s.at.0) ttl) refl
     by true is = rw is refl
     by false is = refl
 
--- what stands behind a sighting matters only as far as it counts
+-- what stands in for a sighting that is missing matters only as far as it counts
 pub behind : (ttl now : ℕ) (s before after : Option Sighting) → counting ttl now after ≡ counting ttl now before
     → counting ttl now (option_or s after) ≡ counting ttl now (option_or s before)
 behind ttl now None before after same = same

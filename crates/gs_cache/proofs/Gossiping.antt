@@ -198,13 +198,13 @@ silent_here gossip topic ws k w within new is silent =
     ∙ append-nil (behind ws gossip topic (suc k))
     ∙ ap (behind ws gossip topic) next
 
-some_behind : (xs ys : List MsgId) → not (length ys == 0) ≡ true → not (length (xs ++ ys) == 0) ≡ true
-some_behind [] ys is = is
-some_behind (x ∷ xs) ys is = more_than_none (length (xs ++ ys))
+some_after : (xs ys : List MsgId) → not (length ys == 0) ≡ true → not (length (xs ++ ys) == 0) ≡ true
+some_after [] ys is = is
+some_after (x ∷ xs) ys is = more_than_none (length (xs ++ ys))
 
 -- one that announces something is enough
 pub heard_here : (gossip : ℕ) (topic : Topic) (ws : List Window) (k : ℕ) (w : Window) → k < length ws → k < gossip → get_or ws k w ≡ w
     → not (length (listed (take k ws) w topic) == 0) ≡ true → not (length (behind ws gossip topic k) == 0) ≡ true
 heard_here gossip topic ws k w within new is some =
     ap (λ (xs : List MsgId). not (length xs == 0)) (sym (one_more gossip topic ws k w within new is))
-    ∙ some_behind (behind ws gossip topic (suc k)) (listed (take k ws) w topic) some
+    ∙ some_after (behind ws gossip topic (suc k)) (listed (take k ws) w topic) some

@@ -121,8 +121,8 @@ module _ (fresh : Window) (no_order : fresh.order.items ≡ []) (no_puts : fresh
   put_behind : (ws : List Window) (id : MsgId) → put_in 0 (fresh ∷ ws) id ≡ put_in 1 ws id
   put_behind ws id = put_first 0 fresh ws id ∙ ap (λ (o : Option Kept). option_or (option_map (put_of 0) o) (put_in 1 ws id)) (nothing id)
 
-  cached_behind : (ws : List Window) (id : MsgId) → cached_in 0 (fresh ∷ ws) id ≡ cached_in 1 ws id
-  cached_behind ws id = ap (option_map (λ (p : Put). p.cached)) (put_behind ws id)
+  cached_after : (ws : List Window) (id : MsgId) → cached_in 0 (fresh ∷ ws) id ≡ cached_in 1 ws id
+  cached_after ws id = ap (option_map (λ (p : Put). p.cached)) (put_behind ws id)
 
   order_behind : (ws : List Window) → order_of (fresh ∷ ws) ≡ order_of ws
   order_behind ws =
@@ -133,12 +133,12 @@ module _ (fresh : Window) (no_order : fresh.order.items ≡ []) (no_puts : fresh
 
   shifted : (answers k : ℕ) (ws : List Window) → k + 1 ≡ length ws → IsShifted answers ws (fresh ∷ take k ws)
   shifted answers k ws fewer = record {
-    ages = λ id. cached_behind (take k ws) id ∙ cached_shifted (length ws) 0 k ws id (omega arith) fewer;
+    ages = λ id. cached_after (take k ws) id ∙ cached_shifted (length ws) 0 k ws id (omega arith) fewer;
     keeps = λ id q. ap (option_map (λ (p : Put). left_to answers q p.left)) (put_behind (take k ws) id) ∙ left_shifted answers 0 k ws id q
-        ∙ ap (λ (o : Option Cached). if is_some o then left_in answers 0 ws id q else None) (sym (cached_behind (take k ws) id));
+        ∙ ap (λ (o : Option Cached). if is_some o then left_in answers 0 ws id q else None) (sym (cached_after (take k ws) id));
     orders = order_behind (take k ws) ∙ order_shifted k ws
         ∙ filter_alike (λ id. is_some (kept_in (take k ws) id)) (λ id. is_some (cached_in 0 (fresh ∷ take k ws) id))
-        (λ id. sym (ap is_some (cached_behind (take k ws) id) ∙ held_kept 1 (take k ws) id)) (order_of ws);
+        (λ id. sym (ap is_some (cached_after (take k ws) id) ∙ held_kept 1 (take k ws) id)) (order_of ws);
   }
 
   pub is_shifted : (answers len : ℕ) (ws turned : List Window) → len ≡ length ws → 0 < length ws → turned ≡ drop (len - 1) ws ++ take (len - 1) ws → IsShifted answers ws (set turned 0 fresh)

@@ -3,7 +3,6 @@ use Rattle.std.proofs.Common.{◌≡◌, subst, ℕ, ◌+◌, ◌*◌, ◌-◌, 
 use Rattle.std.specs.Option.{option_or}
 use Rattle.gs_base.specs.declared.names.PeerNo.{PeerNo}
 use Rattle.gs_base.specs.declared.names.MsgId.{MsgId}
-use Rattle.gs_base.specs.declared.names.Millis.{Millis}
 use Rattle.gs_base.specs.Names.{same_id}
 use Rattle.gs_cache.specs.declared.seen.sighting.Sighting.{Sighting}
 use Rattle.gs_cache.specs.declared.seen.bucket.Bucket.{Bucket}

@@ -7,7 +7,7 @@ use crate::message_cache::MOST_ANNOUNCED;
 
 /// What counts after a step follows from what counted before it, and from nothing that was forgotten: so a
 /// cache that forgets agrees with a record of all sightings.
-pub fn a_step_needs_what_counts_alone()
+pub fn a_step_needs_only_what_counts()
     ensures { StepsNeedWhatCounts }
 {}
 

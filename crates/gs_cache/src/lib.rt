@@ -11,7 +11,7 @@ mod message_cache;
 mod payloads;
 mod seen;
 
-pub use laws::{a_step_needs_what_counts_alone, limit_of_announcements};
+pub use laws::{a_step_needs_only_what_counts, limit_of_announcements};
 pub use message_cache::{Answer, MOST_ANNOUNCED, MessageCache};
 pub use payloads::Payloads;
 pub use seen::{SeenCache, Sighting};

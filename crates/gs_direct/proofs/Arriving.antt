@@ -1,6 +1,6 @@
 -- What arrives in a round is what there is to hear in it.
-use Rattle.std.proofs.Common.{◌≡◌, ◌≤◌, append_assoc, ◌<◌, ◌+◌, ◌⊎◌, ℕ, zero, suc, Bool, true, false, cond, List, [], ◌∷◌, ◌++◌, map, filter, inl, inr, refl, sym, ap, ap₂, subst, ◌∙◌, append-nil, arith, zero-add}
-use Rattle.std.specs.List.{flat_map, range_with_len, zip, AllByRecursion, AllZip}
+use Rattle.std.proofs.Common.{◌≡◌, ◌≤◌, append_assoc, ◌<◌, ◌+◌, ℕ, zero, suc, Bool, true, false, cond, List, [], ◌∷◌, ◌++◌, map, filter, inl, inr, refl, sym, ap, subst, ◌∙◌, append-nil, arith, zero-add}
+use Rattle.std.specs.List.{range_with_len, AllZip}
 use Rattle.std.proofs.lemmas.Grind.{flat_map-append}
 use Rattle.std.proofs.lemmas.List.{map-append}
 use Rattle.std.proofs.lemmas.List.Elements.{filter-append}
@@ -20,7 +20,7 @@ use Rattle.gs_direct.specs.Letters.{LettersFit, all_heard, heard_of}
 use Rattle.gs_direct.specs.Runs.{ArriveFrom, Delivers, DeliversIf, HasEnded, said_so_far}
 use Rattle.gs_direct.proofs.Rounds.{Alike, Empty, alike_append, alike_same, more_ending}
 
--- the numbers of peers that are joined to p, of the first so many
+-- the numbers of peers that are joined to p, of the first n
 abbrev pub joined_of : List Dial → PeerNo → ℕ → List PeerNo
 joined_of dials p n = filter (are_joined dials p) (map peer_no (range_with_len 0 n))
 

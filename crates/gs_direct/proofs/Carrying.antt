@@ -25,7 +25,7 @@ use Rattle.gs_plan.specs.declared.plan.Act.TheVariants.{Raw, HangUp}
 use Rattle.gs_rules.specs.declared.trace.Entry.{Entry}
 use Rattle.gs_rules.specs.Modes.{sent_to}
 use Rattle.gs_rules.specs.Tables.{cuts_off, up_after}
-use Rattle.gs_rules.specs.Saying.{Outgoing, behind_entry, behind_event, cut_out, frames_of, is_cut, raw_to, saying, sending, sending_all, sign}
+use Rattle.gs_rules.specs.Saying.{Outgoing, behind_event, cut_out, frames_of, is_cut, raw_to, saying, sending, sending_all, sign}
 use Rattle.gs_rules.proofs.Fitting.{short_body}
 use Rattle.gs_rules.proofs.Spelled.{bytes_of_append, bytes_of_bytes, no_stream}
 use Rattle.gs_direct.specs.declared.outlet.Outlet.{Outlet}
@@ -149,20 +149,6 @@ sends_out old mid held v written fits cut is = subst (λ (h : Option Rpc). Follo
 
 -- ---- what is gathered goes out
 
--- nothing is
-pub puts_nothing : (old : Outlet) (held : Option Rpc) → old.gathered ≡ None → held ≡ None → Follows (cut_out codec) old (record old { gathered = held })
-puts_nothing old held none is = subst (λ (h : Option Rpc). Follows (cut_out codec) old (record old { gathered = h })) (sym is) (record {
-  to = refl;
-  is_over = refl;
-  is_open = refl;
-  carries = λ goes earlier c. record {
-    gathers = refl;
-    written = tt;
-    read = subst (λ (bytes : List ℕ). HasRead longest_body bytes (reader_of old) (earlier ++ old.rpcs.items))
-        (sym (ap (λ (h : Option Rpc). bytes_of (goes.said ++ frames_of codec (option_to_list h))) (sym c.gathers ∙ none) ∙ no_bytes goes.said)) c.read;
-  };
-})
-
 some_written : (held : Option Rpc) (v : Rpc) → held ≡ Some v → IfSome held IsWritten → IsWritten v
 some_written held v is written = subst (λ (h : Option Rpc). IfSome h IsWritten) is written
 
@@ -248,9 +234,6 @@ follows_then f g old mid new h k = record {
   carries = λ goes earlier c. k.carries (f goes) earlier (h.carries goes earlier c);
 }
 
-pub follows_none : (old : Outlet) → Follows (λ goes. goes) old old
-follows_none old = record { to = refl; is_over = refl; is_open = refl; carries = λ goes earlier c. c }
-
 pub follows_as : (f g : Outgoing → Outgoing) (old new : Outlet) → ((goes : Outgoing) → f goes ≡ g goes) → Follows f old new → Follows g old new
 follows_as f g old new same h = record {
   to = h.to;
@@ -291,9 +274,6 @@ closed old mid h = record {
       let still : Carries (record mid { is_open = false }) (cut_out codec goes) earlier = record { gathers = there.gathers; written = there.written; read = there.read } in
       carries_silent (record mid { is_open = false }) (cut_out codec goes) (Close ∷ []) earlier refl still;
 }
-
-pub not_closed : (old : Outlet) → Closes false old old
-not_closed old = record { to = refl; is_over = refl; is_open = refl; carries = λ goes earlier c. c }
 
 raw_if : (mine : Bool) (bytes : List ℕ) (goes : Outgoing)
     → saying (if mine then cut_out codec goes else goes) (map Byte (if mine then bytes else []) ++ [])
@@ -337,11 +317,11 @@ closing_told event off old new opens most h = record {
       (h.carries goes earlier c);
 }
 
--- whoever is lost is told no more
+-- nothing more is said to a neighbour that is lost
 pub lost_told : (peer : PeerNo) (loss : Loss) (old new : Outlet) → old.is_open ≡ true → Closes (same_peer peer old.to) old new → Tells (Lost peer loss) old new
 lost_told peer loss old new opens h = closing_told (Lost peer loss) (same_peer peer old.to) old new opens (record { cut = refl; raw = refl; signed = refl; down = refl }) h
 
--- and so is whom the peer hangs up on
+-- nor to one that the peer hangs up on
 pub hung_up_told : (peer : PeerNo) (old new : Outlet) → old.is_open ≡ true → Closes (same_peer peer old.to) old new → Tells (Own (HangUp peer)) old new
 hung_up_told peer old new opens h = closing_told (Own (HangUp peer)) (same_peer peer old.to) old new opens (record { cut = refl; raw = refl; signed = refl; down = refl }) h
 
@@ -359,16 +339,3 @@ said_entry e old mid new opens sends tells = record {
       subst₂ (λ (q : PeerNo) (b : Bool). Carries new (if b then behind_event codec q (sending_all codec goes (sent_to old.to e.effects.sends)) e.event else goes) earlier) sends.to (sym opens)
       (tells.carries (sending_all codec goes (sent_to old.to e.effects.sends)) earlier (sends.carries goes earlier c));
 }
-
--- whoever is down is told nothing
-pub said_nothing : (e : Entry) (old : Outlet) → old.is_open ≡ false → Says e old old
-said_nothing e old closed = record {
-  to = refl;
-  is_over = refl;
-  is_open = closed ∙ sym (ap (up_after old.to e.event) closed ∙ stays (cuts_off old.to e.event));
-  carries = λ goes earlier c. subst (λ (b : Bool). Carries old (if b then behind_entry codec old.to goes e else goes) earlier) (sym closed) c;
-}
-  where
-    stays : (b : Bool) → (if b then false else false) ≡ false
-    stays true = refl
-    stays false = refl

@@ -1,5 +1,5 @@
--- Behind the last round all shut down, and hear what is late: that is a run.
-use Rattle.std.proofs.Common.{◌≡◌, ◌≤◌, ◌<◌, ◌*◌, ◌⊎◌, ℕ, zero, suc, Bool, true, false, if◌then◌else◌, List, [], ◌∷◌, ◌++◌, length, map, Option, None, Some, inl, inr, refl, sym, ap, ap₂, subst, subst₂, ◌∙◌, append_assoc, append-nil, arith}
+-- After the last round all shut down, and hear what is late: that is a run.
+use Rattle.std.proofs.Common.{◌≡◌, ◌<◌, ◌*◌, ℕ, suc, Bool, true, false, if◌then◌else◌, List, [], ◌∷◌, ◌++◌, length, map, Option, None, Some, inl, inr, refl, sym, ap, ap₂, subst, subst₂, ◌∙◌, append-nil, arith}
 use Rattle.std.specs.Prelude.{option_map, unwrap_or, slice_get, option_to_list, Vec}
 use Rattle.std.specs.List.{flat_map, AllByRecursion, AllZip}
 use Rattle.std.specs.declared.alloc.Global.{Global}
@@ -8,40 +8,35 @@ use Rattle.gs_base.specs.declared.names.PeerNo.{PeerNo}
 use Rattle.gs_base.specs.declared.names.Millis.{Millis}
 use Rattle.gs_base.specs.declared.rpc.Rpc.{Rpc}
 use Rattle.gs_base.specs.Tokens.{Byte, Close, Said, bytes_of}
-use Rattle.gs_params.specs.Seeding.{SeededState, seeded_after, seeded_word}
+use Rattle.gs_params.specs.Seeding.{seeded_after, seeded_word}
 use Rattle.gs_plan.specs.declared.plan.Plan.{Plan}
-use Rattle.gs_plan.specs.Plans.{are_joined}
 use Rattle.gs_wire.specs.Codec.{codec}
-use Rattle.gs_wire.specs.Messages.{longest_body}
-use Rattle.gs_wire.specs.Stream.{IsStream}
 use Rattle.gs_rules.specs.declared.event.Event.{Event}
 use Rattle.gs_rules.specs.declared.event.Event.TheVariants.{Shut}
 use Rattle.gs_rules.specs.declared.trace.Entry.{Entry}
-use Rattle.gs_rules.specs.declared.refusal.RefusedLine.{RefusedLine}
-use Rattle.gs_rules.specs.Peers.{Peer as RulesPeer, links_of}
+use Rattle.gs_rules.specs.Peers.{Peer as RulesPeer}
 use Rattle.gs_rules.specs.Tables.{Entries, up, up_after}
-use Rattle.gs_rules.specs.Results.{meshes_of, scores_of}
+use Rattle.gs_rules.specs.Results.{scores_of}
 use Rattle.gs_rules.specs.Rules.{rule_of}
-use Rattle.gs_rules.specs.Modes.{Follows, exact, free, sent_to}
+use Rattle.gs_rules.specs.Modes.{Follows, exact, free}
 use Rattle.gs_rules.specs.Legal.{Comes, Legal, LegalOn}
 use Rattle.gs_rules.specs.Saying.{Outgoing, behind_entry, behind_event, gathered, out, outgoing, sending_all}
-use Rattle.gs_rules.specs.Hearing.{ComesAfter, ComesIn, Inbound, IsBetween, after, bytes_before, closes}
-use Rattle.gs_rules.specs.Rounds.{AfterRounds, Closing, Does, Hear, KeepsRounds, Plays, Seat, Stop, Todo, ending, hears, hears_of, moment_of}
+use Rattle.gs_rules.specs.Hearing.{ComesAfter, Inbound, IsBetween, after, bytes_before, closes}
+use Rattle.gs_rules.specs.Rounds.{AfterRounds, Closing, Does, Hear, KeepsRounds, Seat, Stop, Todo, ending, hears, hears_of, moment_of}
 use Rattle.gs_rules.proofs.Deliveries.{legal_before}
 use Rattle.gs_rules.proofs.Each.{each_weaker}
 use Rattle.gs_rules.proofs.Gathered.{gathered_after_rounds}
 use Rattle.gs_rules.proofs.Handled.{GoesOn, does_on}
-use Rattle.gs_rules.proofs.Legality.{exact_is_free, legal_newest, legal_weakly}
+use Rattle.gs_rules.proofs.Legality.{legal_newest}
 use Rattle.gs_rules.proofs.Spelled.{bytes_of_append}
 use Rattle.gs_report.specs.declared.finished.Finished.{Finished}
 use Rattle.gs_seats.specs.ListsByPeer.{list_at}
-use Rattle.gs_seats.specs.Rounds.{IsRun, first_words, neighbours, numbers, peer_in, peer_no, said_to, seat_in, trace_of}
-use Rattle.gs_seats.specs.Played.{IsPlayedLife, IsPlayedRun}
+use Rattle.gs_seats.specs.Rounds.{IsRun, first_words, neighbours, peer_in, peer_no, said_to, seat_in, trace_of}
+use Rattle.gs_seats.specs.Played.{IsPlayedLife}
 use Rattle.gs_seats.proofs.ByNumber.{as_many, at_number, each_by_number, zip_by_number}
 use Rattle.gs_seats.proofs.Joined.{IsJoined, joined_back, neighbours_joined, of_joined}
 use Rattle.gs_seats.proofs.Lives.{played_is_run}
 use Rattle.gs_seats.proofs.NeighbourLists.{links_in}
-use Rattle.gs_player.specs.Ended.{whole}
 use Rattle.gs_player.specs.Words.{StandsAfter}
 use Rattle.gs_player.proofs.Growing.{rounds_stay}
 use Rattle.gs_player.proofs.Growing as growing
@@ -51,13 +46,12 @@ use Rattle.gs_player.proofs.Since.{down_stays, out_no_more}
 use Rattle.gs_player.proofs.Spoken.{told_more}
 use Rattle.gs_player.proofs.Words.{bytes_stay, whole_before}
 use Rattle.gs_direct.specs.declared.letter.Letter.{Letter}
-use Rattle.gs_direct.specs.declared.outlet.Outlet.{Outlet}
 use Rattle.gs_direct.specs.declared.peer.Peer.{Peer}
-use Rattle.gs_direct.specs.Letters.{LettersFit, all_heard}
+use Rattle.gs_direct.specs.Letters.{all_heard}
 use Rattle.gs_direct.specs.Peers.{Closes, left_of}
-use Rattle.gs_direct.specs.Runs.{AreAt, Delivers, HaveClosed, IsAt, IsReady, said_so_far, trace_at}
-use Rattle.gs_direct.proofs.Arriving.{AreHeard, IsHeard, all_arrive, joined_of}
-use Rattle.gs_direct.proofs.Rounds.{Alike, Empty, alike_append, alike_does, alike_same, less_ending, more_ending}
+use Rattle.gs_direct.specs.Runs.{AreAt, Delivers, HaveClosed, IsAt, IsReady, said_so_far}
+use Rattle.gs_direct.proofs.Arriving.{AreHeard, IsHeard, all_arrive}
+use Rattle.gs_direct.proofs.Rounds.{Alike, alike_append, alike_does, alike_same, less_ending, more_ending}
 use Rattle.gs_direct.proofs.Turning.{of_tos, trace_is}
 
 -- ---- what a peer says at the end

@@ -1,6 +1,6 @@
 -- What one peer hands over to another in a round.
-use Rattle.std.proofs.Common.{◌≡◌, ◌<◌, ◌⊎◌, ℕ, suc, Bool, true, false, if◌then◌else◌, List, [], ◌∷◌, ◌++◌, length, map, inl, inr, refl, sym, ap, ap₂, subst, subst₂, ◌∙◌, append-nil, true≢false, eq-eqb}
-use Rattle.std.specs.List.{flat_map, AllByRecursion, AllZip}
+use Rattle.std.proofs.Common.{◌≡◌, Bool, false, if◌then◌else◌, List, [], ◌∷◌, ◌++◌, map, inl, inr, refl, sym, ap, ap₂, subst, subst₂, ◌∙◌, append-nil, eq-eqb}
+use Rattle.std.specs.List.{AllByRecursion, AllZip}
 use Rattle.gs_base.specs.declared.names.PeerNo.{PeerNo}
 use Rattle.gs_base.specs.Names.{same_peer}
 use Rattle.gs_rules.proofs.Handled.{StandsOnce}

@@ -1,12 +1,12 @@
 -- What an outlet hands over at the end of a round is what there is to hear of it.
-use Rattle.std.proofs.Common.{◌≡◌, ◌≤◌, ◌⊎◌, ℕ, zero, suc, Bool, true, false, not, nat_eq, ◌&&◌, ◌||◌, if◌then◌else◌, List, [], ◌∷◌, ◌++◌, length, map, reverse, Option, None, Some, is_none, unwrap_or, inl, inr, refl, sym, ap, ap₂, subst, subst₂, ◌∙◌, append-nil, append_assoc, arith, true≢false}
+use Rattle.std.proofs.Common.{◌≡◌, ◌≤◌, ◌⊎◌, ℕ, suc, Bool, true, false, not, nat_eq, ◌&&◌, ◌||◌, if◌then◌else◌, List, [], ◌∷◌, ◌++◌, length, map, reverse, Option, None, Some, is_none, unwrap_or, inl, inr, refl, sym, ap, ap₂, subst, subst₂, ◌∙◌, append-nil, arith, true≢false}
 use Rattle.std.specs.Prelude.{IfSome, is_some}
-use Rattle.std.specs.List.{flat_map, AllByRecursion}
+use Rattle.std.specs.List.{AllByRecursion}
 use Rattle.std.proofs.lemmas.Bool.{eqb-true, le-leb}
 use Rattle.std.proofs.lemmas.List.{reverse-reverse}
 use Rattle.gs_base.specs.declared.names.PeerNo.{PeerNo}
 use Rattle.gs_base.specs.declared.rpc.Rpc.{Rpc}
-use Rattle.gs_base.specs.Tokens.{Byte, Said, bytes_of}
+use Rattle.gs_base.specs.Tokens.{Said, bytes_of}
 use Rattle.gs_wire.specs.declared.frames.End.{End}
 use Rattle.gs_wire.specs.declared.frames.End.TheVariants as wire_ends
 use Rattle.gs_wire.specs.Codec.{codec}
@@ -16,28 +16,26 @@ use Rattle.gs_wire.proofs.Shorter.{stream_fits}
 use Rattle.gs_rules.specs.declared.trace.Entry.{Entry}
 use Rattle.gs_rules.specs.Tables.{Entries, up}
 use Rattle.gs_rules.specs.Saying.{Outgoing, gathered, out, outgoing}
-use Rattle.gs_rules.specs.Hearing.{ComesIn, Inbound, IsBetween, Spell, bytes_before, closes, said_in}
-use Rattle.gs_rules.specs.Rounds.{Todo, Hear, HearFault, HearGone, ending, hears_of, is_broken, is_fault}
-use Rattle.gs_player.specs.Ended.{close_if, whole}
+use Rattle.gs_rules.specs.Hearing.{ComesIn, Inbound, bytes_before, closes}
+use Rattle.gs_rules.specs.Rounds.{Todo, Hear, HearFault, HearGone, ending, hears_of, is_fault}
 use Rattle.gs_player.specs.Playing.{RpcsFit}
 use Rattle.gs_player.specs.Words.{StandsAfter}
 use Rattle.gs_player.proofs.Middle.{IsRoundOf}
-use Rattle.gs_player.proofs.RoundWords.{StandsNext, bytes_are, last_token, says_round, stands_closed, stands_open}
+use Rattle.gs_player.proofs.RoundWords.{StandsNext, bytes_are, says_round, stands_closed, stands_open}
 use Rattle.gs_player.proofs.Since.{down_stays, out_no_more}
 use Rattle.gs_player.proofs.Spoken.{told_more}
-use Rattle.gs_player.proofs.Words.{bytes_stay, comes_stays, whole_before}
-use Rattle.gs_direct.specs.declared.letter.Letter.{Letter}
+use Rattle.gs_player.proofs.Words.{bytes_stay}
 use Rattle.gs_direct.specs.declared.letter.Ending.{Ending}
 use Rattle.gs_direct.specs.declared.letter.Ending.TheVariants.{Fault, Gone}
 use Rattle.gs_direct.specs.declared.outlet.Outlet.{Outlet}
-use Rattle.gs_direct.specs.Letters.{LettersFit, all_heard, ending_heard, heard_of}
+use Rattle.gs_direct.specs.Letters.{LettersFit, all_heard, ending_heard}
 use Rattle.gs_direct.specs.Outlets.{Carries, IsHandedOver, IsWritten, SaysAll, ending_of, letters_of, reader_of}
 use Rattle.gs_direct.specs.Runs.{Delivers, HasEnded, IsReady}
 use Rattle.gs_direct.proofs.Rounds.{ended_stays}
 
 -- ---- how it ends
 
--- whether it ends is told by the reader and the close
+-- the reader and the close tell whether it ends
 ending_by : (from : PeerNo) (end : End) (rest : List ℕ) (is_open : Bool)
     → ending_heard from (if is_none (held_after end rest) then Some Fault else if is_open then None else if nat_eq (length (unwrap_or (held_after end rest) [])) 0 then Some Gone else Some Fault)
     ≡ (if is_fault end || (not is_open && not (nat_eq (length rest) 0)) then HearFault from ∷ [] else if not is_open then HearGone from ∷ [] else [])
@@ -179,7 +177,7 @@ module _ (r : ℕ) (K L : Entries) (o played handed : Outlet) (passes : Passes r
   held : (reader_of played).held ≡ held_after carries_after.read.end carries_after.read.rest
   held = ap (λ (h : Holding). h.held) carries_after.read.holds
 
-  -- how it ends, where nothing was told of that before
+  -- how it ends, where it had not ended before
   abbrev first_ending : Option (List ℕ) → Bool → Option Ending
   first_ending h is_open = if is_none h then Some Fault else if is_open then None else if nat_eq (length (unwrap_or h [])) 0 then Some Gone else Some Fault
 

@@ -76,7 +76,7 @@ longer now todos old new s t more told runs is =
     ap (λ (L : List Entry). length L) runs.appended.are ∙ length-append runs.appended.entries old.trace in
     omega (arith, many, is)
 
--- ---- to whom
+-- ---- to which neighbours
 
 still_within : (n : ℕ) (es : List Entry) (old new : List Outlet) → AllZip (SaysAll es) old new → AllByRecursion (Within n) old → AllByRecursion (Within n) new
 still_within n es [] [] says within = tt
@@ -85,7 +85,7 @@ still_within n es (x ∷ xs) [] says within = absurd says
 still_within n es (x ∷ xs) (y ∷ ys) says within =
     (subst (λ (q : PeerNo). q.0 < n) (sym says.0.to) within.0, still_within n es xs ys says.1 within.1)
 
--- what is told is told to the same
+-- what is said goes to the same neighbours
 pub told_within : (n : ℕ) (now : Millis) (todos : List Todo) (u v : RouterView) (s t : SeededState) (more : List RefusedLine) (old new : List Outlet)
     → Runs (exact seeded_word seeded_after) now todos u s v t more
     → SaysSince (length u.trace) v.trace old new

@@ -1,17 +1,16 @@
 -- The peers of a run, one after the other.
-use Rattle.std.proofs.Common.{◌≡◌, ◌≢◌, ◌≤◌, ◌<◌, ◌+◌, ◌*◌, ◌⊎◌, ℕ, zero, suc, pred, Bool, true, false, List, [], ◌∷◌, ◌++◌, length, map, set, get_or, Option, None, Some, inl, inr, refl, sym, ap, ap₂, subst, subst₂, ◌∙◌, append-nil, arith, true≢false, eq-or-lt_of_le}
+use Rattle.std.proofs.Common.{◌≡◌, ◌≢◌, ◌≤◌, ◌<◌, ◌+◌, ◌*◌, ◌⊎◌, ℕ, zero, suc, pred, Bool, true, false, List, [], ◌∷◌, ◌++◌, length, set, get_or, Some, inl, inr, refl, sym, ap, ap₂, subst, subst₂, ◌∙◌, arith, true≢false, eq-or-lt_of_le}
 use Rattle.std.specs.Prelude.{slice_get, Vec}
 use Rattle.std.specs.List.{AllByRecursion, AllZip}
 use Rattle.std.specs.declared.alloc.Global.{Global}
 use Rattle.std.proofs.lemmas.List.{length-set}
-use Rattle.std.proofs.lemmas.Option.{get_or_from_slice_get, same_Some, slice_get-get_or, slice_get_within}
+use Rattle.std.proofs.lemmas.Option.{get_or_from_slice_get}
 use Rattle.gs_base.specs.declared.names.PeerNo.{PeerNo}
 use Rattle.gs_base.specs.declared.names.Millis.{Millis}
 use Rattle.gs_params.specs.Seeding.{seeded_after, seeded_word}
 use Rattle.gs_plan.specs.declared.plan.Dial.{Dial}
 use Rattle.gs_plan.specs.declared.plan.Plan.{Plan}
 use Rattle.gs_plan.specs.Plans.{are_joined}
-use Rattle.gs_wire.specs.Codec.{codec}
 use Rattle.gs_wire.specs.Messages.{longest_body}
 use Rattle.gs_wire.specs.Stream.{HasRead, Holding}
 use Rattle.gs_wire.proofs.Readers.{read_nothing}
@@ -19,12 +18,11 @@ use Rattle.gs_rules.specs.Peers.{Peer as RulesPeer}
 use Rattle.gs_rules.specs.Tables.{Entries, last_moment}
 use Rattle.gs_rules.specs.Modes.{exact, free}
 use Rattle.gs_rules.specs.Legal.{Legal, LegalOn}
-use Rattle.gs_rules.specs.Rounds.{Closing, Playing, moment_of}
 use Rattle.gs_rules.proofs.Each.{each_weaker}
 use Rattle.gs_rules.proofs.Legality.{exact_is_free, legal_weakly}
 use Rattle.gs_router.specs.Router.{RouterView}
 use Rattle.gs_seats.specs.ListsByPeer.{list_at}
-use Rattle.gs_seats.specs.Rounds.{first_words, neighbours, numbers, peer_in, peer_no, seat_in}
+use Rattle.gs_seats.specs.Rounds.{first_words, neighbours, numbers, peer_in, peer_no}
 use Rattle.gs_seats.proofs.ByNumber.{as_many, at_number, each_kept}
 use Rattle.gs_seats.proofs.Joined.{IsJoined, neighbours_joined}
 use Rattle.gs_player.specs.Playing.{IsRunning}
@@ -36,7 +34,7 @@ use Rattle.gs_direct.specs.declared.peer.Peer.{Peer}
 use Rattle.gs_direct.specs.Letters.{LettersFit}
 use Rattle.gs_direct.specs.Outlets.{IsNew, Within}
 use Rattle.gs_direct.specs.Peers.{Closes, IsNewPeer}
-use Rattle.gs_direct.specs.Runs.{AreAt, Arrive, ArriveFrom, ClosesAt, DeliversIf, GivenTo, HasEnded, HaveClosed, HavePlayed, IsAt, IsReady, IsRoomFor, Turns, TurnsAt, said_so_far}
+use Rattle.gs_direct.specs.Runs.{AreAt, Arrive, ArriveFrom, ClosesAt, DeliversIf, GivenTo, HaveClosed, HavePlayed, IsAt, IsReady, IsRoomFor, Turns, TurnsAt, said_so_far}
 use Rattle.gs_direct.proofs.Giving.{tos}
 
 -- ---- the beginning
@@ -126,7 +124,7 @@ lt_or_le (suc a) (suc b) = elim (lt_or_le a b) [
   | inr past ↦ inr (omega (arith, past))
 ]
 
--- where each of the first so many was taken, nothing is left
+-- where each of the first `count` was taken, nothing is left
 pub all_taken : (mail : List (Vec Letter Global)) (count n : ℕ) → length mail ≡ count → ((k : ℕ) → k < count → list_at mail k ≡ []) → list_at mail n ≡ []
 all_taken mail count n many taken = elim (lt_or_le n count) [
   | inl lower ↦ taken n lower
@@ -260,9 +258,6 @@ one_played plan r now olds news mail mail' next mail'' next' n index d new befor
     ]
 
 -- ---- the end, peer by peer
-
-pub none_closed : (now : Millis) (olds : List Peer) (mail : List (Vec Letter Global)) → HaveClosed now olds mail 0 olds
-none_closed now olds mail = record { many = refl; left = λ k above. refl; done = λ k below. absurd (omega (arith, below)) }
 
 closed_stays : (now : Millis) (olds news news' : List Peer) (mail : List (Vec Letter Global)) (k : ℕ) → slice_get news' k ≡ slice_get news k → ClosesAt now olds mail k news → ClosesAt now olds mail k news'
 closed_stays now olds news news' mail k same c = record { old = c.old; new = c.new; was = c.was; is = same ∙ c.is; closes_so = c.closes_so }

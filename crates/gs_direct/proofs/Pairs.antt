@@ -1,7 +1,7 @@
--- Lists side by side, of which one is changed element after element.
-use Rattle.std.proofs.Common.{◌≡◌, ◌+◌, ◌<◌, ◌≤◌, ℕ, List, [], ◌∷◌, ◌++◌, length, take, drop, get_or, set, refl, sym, ap, subst, subst₂, ◌∙◌, append_assoc, append-nil, arith}
+-- Lists side by side, where one is changed element after element.
+use Rattle.std.proofs.Common.{◌≡◌, ◌+◌, ◌<◌, ℕ, List, [], ◌∷◌, ◌++◌, length, take, drop, get_or, set, sym, ap, subst, ◌∙◌, append_assoc, arith}
 use Rattle.std.specs.List.{AllZip}
-use Rattle.std.proofs.lemmas.List.{set_at, get_or_at, length-take-le, drop_all, drop_more, take_all, take_more}
+use Rattle.std.proofs.lemmas.List.{set_at, get_or_at, length-take-le, drop_more, take_more}
 use Rattle.std.proofs.lemmas.List.Elements.{length_all_zip}
 
 -- the last of both
@@ -23,14 +23,11 @@ zip_then R S T so [] (y ∷ ys) zs r s = absurd r
 zip_then R S T so (x ∷ xs) [] zs r s = absurd r
 zip_then R S T so (x ∷ xs) (y ∷ ys) [] r s = absurd s
 
--- The first so many are changed, and the others are as they were.
+-- The first n are changed, and the others are as they were.
 pub record Reached {A : Type 0} (R : A → A → Type 0) (n : ℕ) (xs ys : List A) : Type 0 where
   pub front : List A
   pub changed : AllZip R (take n xs) front
   pub rest : ys ≡ front ++ drop n xs
-
-pub reached_none : {A : Type 0} (R : A → A → Type 0) (xs : List A) → Reached R 0 xs xs
-reached_none R xs = record { front = []; changed = tt; rest = refl }
 
 front_long : {A : Type 0} (R : A → A → Type 0) (n : ℕ) (xs ys : List A) → n < length xs → (h : Reached R n xs ys) → length h.front ≡ n
 front_long R n xs ys low h = sym (length_all_zip R (take n xs) h.front h.changed) ∙ length-take-le n xs (omega (arith, low))
@@ -51,8 +48,3 @@ reached_more R n xs ys d y low h r = record {
       ∙ set_at h.front (get_or xs n d) (drop (n + 1) xs) y n (front_long R n xs ys low h)
       ∙ sym (append_assoc h.front (y ∷ []) (drop (n + 1) xs));
 }
-
--- all are
-pub reached_all : {A : Type 0} (R : A → A → Type 0) (n : ℕ) (xs ys : List A) → length xs ≤ n → Reached R n xs ys → AllZip R xs ys
-reached_all R n xs ys all h =
-    subst₂ (AllZip R) (take_all n xs all) (sym (h.rest ∙ ap (λ zs. h.front ++ zs) (drop_all n xs all) ∙ append-nil h.front)) h.changed

@@ -1,11 +1,10 @@
--- Whoever has ended is not up behind the round in which that is heard, and is heard no more.
-use Rattle.std.proofs.Common.{◌≡◌, ◌≤◌, ◌⊎◌, ℕ, zero, suc, Bool, true, false, if◌then◌else◌, List, [], ◌∷◌, ◌++◌, map, Option, None, Some, inl, inr, refl, sym, ap, ap₂, subst, ◌∙◌, append_assoc, append-nil, arith, true≢false, eq-eqb, eq-or-lt_of_le, le_of_suc-le-suc}
-use Rattle.std.specs.List.{AllByRecursion, AllZip}
+-- Whoever has ended is not up after the round in which that is heard, and is heard no more.
+use Rattle.std.proofs.Common.{◌≡◌, ◌≤◌, ◌⊎◌, ℕ, zero, suc, Bool, true, false, if◌then◌else◌, List, [], ◌∷◌, ◌++◌, map, Option, None, Some, inl, inr, refl, sym, ap, subst, ◌∙◌, append_assoc, append-nil, arith, true≢false, eq-eqb, eq-or-lt_of_le, le_of_suc-le-suc}
+use Rattle.std.specs.List.{AllZip}
 use Rattle.gs_base.specs.declared.names.PeerNo.{PeerNo}
 use Rattle.gs_base.specs.declared.names.Millis.{Millis}
 use Rattle.gs_base.specs.Names.{same_peer}
 use Rattle.gs_base.specs.Tokens.{Said}
-use Rattle.gs_wire.specs.Codec.{codec}
 use Rattle.gs_rules.specs.declared.event.Event.{Event}
 use Rattle.gs_rules.specs.declared.event.Event.TheVariants.{Lost}
 use Rattle.gs_rules.specs.declared.event.Loss.TheVariants.{Fault, Gone}
@@ -13,8 +12,8 @@ use Rattle.gs_rules.specs.declared.refusal.RefusedLine.{RefusedLine}
 use Rattle.gs_rules.specs.Peers.{Peer, links_of}
 use Rattle.gs_rules.specs.Tables.{Entries, up, up_after}
 use Rattle.gs_rules.specs.Legal.{Comes, Opens, losing}
-use Rattle.gs_rules.specs.Hearing.{ComesIn, Inbound, silence}
-use Rattle.gs_rules.specs.Rounds.{AfterRounds, Does, Hear, HearFault, HearGone, Phase, Playing, Plays, Seat, Todo, agenda, beats_in, decays_in, EndRound, ending, hears, hears_of, is_broken, lines_at, moment_of, noted, opening}
+use Rattle.gs_rules.specs.Hearing.{ComesIn, Inbound}
+use Rattle.gs_rules.specs.Rounds.{AfterRounds, Does, Hear, HearFault, HearGone, Playing, Plays, Seat, Todo, agenda, beats_in, decays_in, EndRound, ending, hears, hears_of, is_broken, lines_at, moment_of, noted}
 use Rattle.gs_rules.proofs.Handled.{GoesOn, does_on}
 use Rattle.gs_rules.proofs.RoundEnds.{does_parts}
 use Rattle.gs_player.specs.Ended.{whole}

@@ -145,13 +145,13 @@ says_more es e old mid new h k = record {
     newest : (K : Entries) → reverse (es ++ e ∷ []) ++ K ≡ e ∷ (reverse es ++ K)
     newest K = ap (λ (xs : List Entry). xs ++ K) (reverse-append es (e ∷ []))
 
--- what came since so many entries is written
+-- what came after the first `told` entries is written
 pub written_since : (p : Peer) (told : ℕ) (all : List Entry) (L : Entries) → reverse all ≡ L → Legal p L → AllWritten (take (length all - told) (drop told all))
 written_since p told all L is legal =
     subst (λ (entries : List Entry). AllWritten (take (length all - told) (drop told entries))) (sym (seen_as all L is))
     (fits_take (length all - told) (drop told (reverse L)) (fits_drop told (reverse L) (fits_reverse L (legal_written p L legal))))
 
--- it is told
+-- it is said
 pub says_since : (told : ℕ) (all : List Entry) (L : Entries) (old new : List Outlet) → reverse all ≡ L → AllZip (SaysAll (take (length all - told) (drop told all))) old new → SaysSince told L old new
 says_since told all L old new seen says = λ K es counted is. subst (λ (xs : List Entry). AllZip (SaysAll xs) old new) (take_rest all told ∙ since told all es K L seen is counted) says
 
@@ -163,16 +163,16 @@ given_more from xs x p =
     ∙ ap (λ (letters : List Letter). given from xs p ++ letters) (append-nil (if same_peer x.to p then letters_of from x else []))
 
 module _ (from : PeerNo) (xs : List Outlet) (x : Outlet) (before mail : List (Vec Letter Global)) (so_far : (p : PeerNo) → list_at mail p.0 ≡ list_at before p.0 ++ given from xs p) where
-  behind_all : (p : PeerNo) (letters : List Letter) → (if same_peer x.to p then letters_of from x else []) ≡ letters → list_at mail p.0 ++ letters ≡ list_at before p.0 ++ given from (xs ++ x ∷ []) p
-  behind_all p letters is =
+  after_all : (p : PeerNo) (letters : List Letter) → (if same_peer x.to p then letters_of from x else []) ≡ letters → list_at mail p.0 ++ letters ≡ list_at before p.0 ++ given from (xs ++ x ∷ []) p
+  after_all p letters is =
       ap (λ (ls : List Letter). ls ++ letters) (so_far p)
       ∙ append_assoc (list_at before p.0) (given from xs p) letters
       ∙ ap (λ (ls : List Letter). list_at before p.0 ++ ls) (sym (given_more from xs x p ∙ ap (λ (ls : List Letter). given from xs p ++ ls) is))
 
   none_behind : (p : PeerNo) → (if same_peer x.to p then letters_of from x else []) ≡ [] → list_at mail p.0 ≡ list_at before p.0 ++ given from (xs ++ x ∷ []) p
-  none_behind p is = sym (append-nil (list_at mail p.0)) ∙ behind_all p [] is
+  none_behind p is = sym (append-nil (list_at mail p.0)) ∙ after_all p [] is
 
-  -- a letter is put behind the others of its neighbour
+  -- a letter is put after the others of its neighbour
   pub letter_given : (letter : Letter) (new : List (Vec Letter Global)) → letters_of from x ≡ letter ∷ []
       → list_at new x.to.0 ≡ list_at mail x.to.0 ++ letter ∷ []
       → ((n : ℕ) → n ≢ x.to.0 → list_at new n ≡ list_at mail n)
@@ -182,7 +182,7 @@ module _ (from : PeerNo) (xs : List Outlet) (x : Outlet) (before mail : List (Ve
       by : (mine : Bool) → same_peer x.to p ≡ mine → list_at new p.0 ≡ list_at before p.0 ++ given from (xs ++ x ∷ []) p
       by true mine =
           subst (λ (n : ℕ). list_at new n ≡ list_at mail n ++ letter ∷ []) (eqb-true x.to.0 p.0 mine) put
-          ∙ behind_all p (letter ∷ []) (ap (λ (b : Bool). if b then letters_of from x else []) mine ∙ is)
+          ∙ after_all p (letter ∷ []) (ap (λ (b : Bool). if b then letters_of from x else []) mine ∙ is)
       by false other =
           others p.0 (λ same. eqb-false x.to.0 p.0 other (sym same))
           ∙ none_behind p (ap (λ (b : Bool). if b then letters_of from x else []) other)

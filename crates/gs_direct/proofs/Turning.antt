@@ -1,5 +1,5 @@
 -- Once all peers have played a round, they stand after it.
-use Rattle.std.proofs.Common.{◌≡◌, ◌≤◌, ◌<◌, ◌*◌, ◌⊎◌, ℕ, zero, suc, pred, Bool, true, false, List, [], ◌∷◌, ◌++◌, length, map, filter, reverse, Option, None, Some, inl, inr, refl, sym, ap, ap₂, subst, subst₂, ◌∙◌, append_assoc, append-nil, arith, true≢false, eq-or-lt_of_le, le_of_suc-le-suc}
+use Rattle.std.proofs.Common.{◌≡◌, ◌≤◌, ◌<◌, ◌*◌, ℕ, zero, suc, pred, Bool, true, false, List, [], ◌∷◌, ◌++◌, length, reverse, Option, Some, inl, inr, refl, sym, ap, subst, subst₂, ◌∙◌, arith, true≢false, eq-or-lt_of_le, le_of_suc-le-suc}
 use Rattle.std.specs.Prelude.{option_map, unwrap_or, slice_get, Vec}
 use Rattle.std.specs.List.{AllByRecursion, AllZip}
 use Rattle.std.specs.declared.alloc.Global.{Global}
@@ -17,23 +17,23 @@ use Rattle.gs_wire.specs.Codec.{codec}
 use Rattle.gs_rules.specs.declared.trace.Entry.{Entry}
 use Rattle.gs_rules.specs.declared.refusal.RefusedLine.{RefusedLine}
 use Rattle.gs_rules.specs.Peers.{Peer as RulesPeer, links_of}
-use Rattle.gs_rules.specs.Tables.{Entries, last_moment, up}
+use Rattle.gs_rules.specs.Tables.{Entries, last_moment}
 use Rattle.gs_rules.specs.Modes.{exact}
 use Rattle.gs_rules.specs.Legal.{Legal, LegalOn}
-use Rattle.gs_rules.specs.Saying.{gathered, out}
-use Rattle.gs_rules.specs.Hearing.{ComesIn, Inbound}
-use Rattle.gs_rules.specs.Rounds.{AfterRounds, ComesAt, Does, Playing, Plays, Seat, Todo, agenda, hears, moment_of}
+use Rattle.gs_rules.specs.Saying.{out}
+use Rattle.gs_rules.specs.Hearing.{ComesIn}
+use Rattle.gs_rules.specs.Rounds.{AfterRounds, Does, Playing, Plays, Seat, Todo, agenda, hears, moment_of}
 use Rattle.gs_rules.proofs.Each.{each_weaker}
 use Rattle.gs_rules.proofs.Gathered.{gathered_after_rounds}
 use Rattle.gs_rules.proofs.Handled.{GoesOn, StandsOnce, distinct_once, does_on}
 use Rattle.gs_seats.specs.ListsByPeer.{list_at}
-use Rattle.gs_seats.specs.Rounds.{first_words, lines_in, neighbours, numbers, peer_in, peer_no, seat_in}
+use Rattle.gs_seats.specs.Rounds.{first_words, lines_in, neighbours, peer_in, peer_no, seat_in}
 use Rattle.gs_seats.proofs.ByNumber.{as_many, at_number, zip_by_number}
 use Rattle.gs_seats.proofs.Joined.{IsJoined, joined_back, joined_both, neighbours_joined, of_joined}
 use Rattle.gs_seats.proofs.NeighbourLists.{links_ascend, links_in}
 use Rattle.gs_seats.proofs.Truths.{is_same}
 use Rattle.gs_player.specs.Ended.{whole}
-use Rattle.gs_player.specs.Playing.{Runs, behind_heard}
+use Rattle.gs_player.specs.Playing.{behind_heard}
 use Rattle.gs_player.proofs.Growing.{rounds_stay}
 use Rattle.gs_player.proofs.Growing as growing
 use Rattle.gs_player.proofs.Middle.{IsRoundOf, round_of}
@@ -45,9 +45,8 @@ use Rattle.gs_direct.specs.declared.outlet.Outlet.{Outlet}
 use Rattle.gs_direct.specs.declared.peer.Peer.{Peer}
 use Rattle.gs_direct.specs.Letters.{all_heard}
 use Rattle.gs_direct.specs.Outlets.{IsHandedOver, SaysAll, given, letters_of}
-use Rattle.gs_direct.specs.Peers.{PlaysRound}
-use Rattle.gs_direct.specs.Runs.{AreAt, Arrive, ArriveFrom, Delivers, DeliversIf, GivenTo, HasEnded, HavePlayed, IsAt, IsReady, Turns, TurnsAt, said_so_far, trace_at}
-use Rattle.gs_direct.proofs.Arriving.{AreHeard, all_arrive, joined_of, nothing_arrives, one_arrives}
+use Rattle.gs_direct.specs.Runs.{AreAt, Arrive, ArriveFrom, Delivers, DeliversIf, GivenTo, HavePlayed, IsAt, IsReady, Turns, TurnsAt, said_so_far, trace_at}
+use Rattle.gs_direct.proofs.Arriving.{AreHeard, all_arrive, nothing_arrives, one_arrives}
 use Rattle.gs_direct.proofs.Giving.{each_second, each_third, given_none, given_once, tos, tos_zip}
 use Rattle.gs_direct.proofs.Handing.{Passes, delivers, ready_next}
 use Rattle.gs_direct.proofs.Rounds.{IsAmongPeers, alike_append, alike_does, alike_same, ended_is_down}
@@ -59,7 +58,7 @@ trace_is peers q peer at = ap (λ (found : Option Peer). unwrap_or (option_map (
 
 -- ---- who has an outlet
 
--- what holds of the outlets holds of whom they are to
+-- what holds of the outlets holds of the neighbours that they lead to
 pub of_tos : (P : Outlet → Type 0) (Q : PeerNo → Type 0) → ((o : Outlet) → P o → Q o.to) → (outlets : List Outlet) → AllByRecursion P outlets → AllByRecursion Q (tos outlets)
 of_tos P Q so [] each = tt
 of_tos P Q so (o ∷ outlets) each = (so o each.0, of_tos P Q so outlets each.1)
@@ -93,7 +92,7 @@ module _ (plan : Plan) (r : ℕ) (olds news : List Peer) (mail mail' next : List
   abbrev now : Millis
   now = moment_of (seat_in plan (peer_no 0)) (Playing r)
 
-  -- the turn of one of the first so many
+  -- the turn of one of the first n
   turn_of : (p : PeerNo) (n k : ℕ) (letters : List Letter) → k < n → GivenTo r now olds news mail p n letters → (gives : PeerNo → List Letter) × TurnsAt r now olds news mail k gives
   turn_of p zero k letters below h = absurd (omega (arith, below))
   turn_of p (suc n) k letters below (earlier, gives, rest, turn, is) = elim (eq-or-lt_of_le (le_of_suc-le-suc below)) [

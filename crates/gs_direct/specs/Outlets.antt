@@ -82,8 +82,8 @@ pub record Tells (event : Event) (old new : Outlet) : Type 0 where
 -- ---- entries
 
 -- what goes to the neighbour after an entry: nothing more where it is closed
-abbrev pub goes_behind : Outlet → Entry → Outgoing → Outgoing
-goes_behind o e goes = if o.is_open then behind_entry codec o.to goes e else goes
+abbrev pub goes_after : Outlet → Entry → Outgoing → Outgoing
+goes_after o e goes = if o.is_open then behind_entry codec o.to goes e else goes
 
 -- The neighbour is sent what an entry says.
 pub record Says (e : Entry) (old new : Outlet) : Type 0 where
@@ -91,7 +91,7 @@ pub record Says (e : Entry) (old new : Outlet) : Type 0 where
   pub is_over : new.is_over ≡ old.is_over
   pub is_open : new.is_open ≡ up_after old.to e.event old.is_open
   pub carries : (goes : Outgoing) (earlier : List Rpc)
-      → Carries old goes earlier → Carries new (goes_behind old e goes) earlier
+      → Carries old goes earlier → Carries new (goes_after old e goes) earlier
 
 -- The neighbour is sent what these entries say, the first one first, after any trace.
 pub record SaysAll (entries : List Entry) (old new : Outlet) : Type 0 where

@@ -1,5 +1,5 @@
 -- How the peers of a run stand between two rounds, and what is on its way to each.
-use Rattle.std.specs.Prelude.{◌≡◌, ◌≤◌, ◌<◌, ◌⊎◌, ◌*◌, ℕ, zero, suc, pred, Bool, true, false, not, List, [], ◌++◌, length, map, option_map, unwrap_or, slice_get, None, Some, Vec}
+use Rattle.std.specs.Prelude.{◌≡◌, ◌≤◌, ◌<◌, ◌⊎◌, ◌*◌, ℕ, zero, suc, pred, Bool, true, false, List, [], ◌++◌, length, map, option_map, unwrap_or, slice_get, None, Some, Vec}
 use Rattle.std.specs.List.{AllByRecursion, AllZip}
 use Rattle.std.specs.declared.alloc.Global.{Global}
 use Rattle.gs_base.specs.declared.names.PeerNo.{PeerNo}

@@ -17,7 +17,7 @@ use gs_rules::{Event, StoredEntry};
 use gs_seats::put_last;
 use std::alloc::{AllocError, Global};
 
-/// An outlet to each of these neighbours, to whom nothing was said.
+/// An outlet to each of these neighbours. Nothing was said to them.
 ///
 /// # Errors
 /// `AllocError` where there was no memory for them.

@@ -68,7 +68,7 @@ got n all x rest is count =
       take_within (n + 1) all (omega (arith, count)) ∙ ap (λ l. as_slots l false) more.0 ∙ as_slots_snoc (take n all) x ∙ ap (λ l. l ++ slot_of x ∷ []) (sym before),
     )
 
--- the close is taken, behind the last item
+-- the close is taken, after the last item
 pub closed_now : (n : ℕ) (all : List Item) → n ≡ length all → take (suc n) (as_slots all true) ≡ with_close (take n (as_slots all true))
 closed_now n all is =
     let before : take n (as_slots all true) ≡ as_slots all false = take_within n all (omega (arith, is)) ∙ ap (λ k. as_slots (take k all) false) is ∙ ap (λ l. as_slots l false) (take_count all) in

@@ -9,7 +9,7 @@ use Rattle.std.specs.declared.alloc.Global.{Global}
 use Rattle.indexmap.specs.IndexMap.{IndexMap}
 use Rattle.gs_base.specs.Names.{same_topic}
 use Rattle.gs_rules.specs.Rules.{same_bytes}
-use Rattle.gs_figures.specs.declared.catalogue.Said.{Said}
+use Rattle.gs_figures.specs.declared.catalogue.TopicPayload.{TopicPayload}
 use Rattle.gs_figures.specs.declared.listed.Appearance.{Appearance}
 use Rattle.gs_figures.specs.declared.listed.Arrival.{Arrival}
 use Rattle.gs_figures.specs.Catalogues.{found_at, said_of, same_said}
@@ -26,20 +26,20 @@ abbrev arrival_of : Appearance → Arrival
 arrival_of x = record { peer = x.peer; at = x.at }
 
 -- who says the same is found in the same place
-same_key : (x y : Said) → same_said x y ≡ true → x ≡ y
+same_key : (x y : TopicPayload) → same_said x y ≡ true → x ≡ y
 same_key x y is =
     let topics = same_text x.topic.0 y.topic.0 (sym (first_so (same_topic x.topic y.topic) (same_bytes x.payload y.payload) is)) in
     let payloads = same_text x.payload y.payload (sym (second_so (same_topic x.topic y.topic) (same_bytes x.payload y.payload) is)) in
     ap₂ (λ (t b : List ℕ). said t b) topics payloads
   where
-    said : List ℕ → List ℕ → Said
+    said : List ℕ → List ℕ → TopicPayload
     said t b = record { topic = record { 0 = t }; payload = b }
 
 turned : (p one : Appearance) → same_said (said_of one) (said_of p) ≡ are_of_one p one
 turned p one = ap₂ (λ (s t : Bool). s && t) (nat_list_eq_equiv.symm one.topic.0 p.topic.0) (nat_list_eq_equiv.symm one.payload p.payload)
 
--- one stands behind those that say the same
-pub one_filed : {S : Type 0} (old new : IndexMap Said Arrivals S) (one p : Appearance) (said : Said) (was : Option Arrivals) (found : Arrivals)
+-- one stands after those that say the same
+pub one_filed : {S : Type 0} (old new : IndexMap TopicPayload Arrivals S) (one p : Appearance) (said : TopicPayload) (was : Option Arrivals) (found : Arrivals)
     → said ≡ said_of one
     → was ≡ lookup (same_said said) old.entries
     → found.items ≡ items_in was ++ record { peer = one.peer; at = one.at } ∷ []
@@ -47,7 +47,7 @@ pub one_filed : {S : Type 0} (old new : IndexMap Said Arrivals S) (one p : Appea
     → found_at new p ≡ found_at old p ++ arrivals p (one ∷ [])
 one_filed old new one p said was found is before more updates =
     ap items_in updates
-    ∙ ap (λ (x : Said). items_in (cond (same_said x (said_of p)) (Some found) (lookup (same_said (said_of p)) old.entries))) is
+    ∙ ap (λ (x : TopicPayload). items_in (cond (same_said x (said_of p)) (Some found) (lookup (same_said (said_of p)) old.entries))) is
     ∙ by (same_said (said_of one) (said_of p)) refl
     ∙ ap (λ (same : Bool). items_in (lookup (same_said (said_of p)) old.entries) ++ map arrival_of (cond same (one ∷ []) [])) (turned p one)
   where
@@ -57,5 +57,5 @@ one_filed old new one p said was found is before more updates =
     by true same =
         more
         ∙ ap (λ (o : Option Arrivals). items_in o ++ arrival_of one ∷ []) before
-        ∙ ap (λ (x : Said). items_in (lookup (same_said x) old.entries) ++ arrival_of one ∷ []) (is ∙ same_key (said_of one) (said_of p) same)
+        ∙ ap (λ (x : TopicPayload). items_in (lookup (same_said x) old.entries) ++ arrival_of one ∷ []) (is ∙ same_key (said_of one) (said_of p) same)
     by false same = sym (append-nil (items_in (lookup (same_said (said_of p)) old.entries)))

@@ -59,8 +59,8 @@ sign_silent q (RoundEnd r) = refl
 sign_silent q Shut = refl
 sign_silent q other = lost_silent (is_lost q (lost other))
 
-behind_length : (q : PeerNo) (o : Outgoing) (event : Event) → said_length (behind_event codec q o event) ≡ said_length o + frames_length (cut_frames (is_cut q event) o) + length (raw_to q event)
-behind_length q o event =
+after_length : (q : PeerNo) (o : Outgoing) (event : Event) → said_length (behind_event codec q o event) ≡ said_length o + frames_length (cut_frames (is_cut q event) o) + length (raw_to q event)
+after_length q o event =
     said_more (if is_cut q event then cut_out codec o else o).said (map Byte (raw_to q event) ++ sign q event)
     ∙ ap₂ (λ (j k : ℕ). j + k) (cut_length o (is_cut q event))
     (said_silent (map Byte (raw_to q event)) (sign q event) (sign_silent q event)
@@ -68,7 +68,7 @@ behind_length q o event =
 
 entry_length : (q : PeerNo) (o : Outgoing) (e : Entry) → said_length (behind_entry codec q o e) ≡ said_length o + frames_length (lets q o e) + length (raw_to q e.event)
 entry_length q o e =
-    behind_length q (sending_all codec o (sent_to q e.effects.sends)) e.event
+    after_length q (sending_all codec o (sent_to q e.effects.sends)) e.event
     ∙ ap (λ (k : ℕ). k + length (raw_to q e.event)) (ap (λ (k : ℕ). k + frames_length cut) (gathers (sent_to q e.effects.sends) o)
     ∙ (three (said_length o) (frames_length full) (frames_length cut)
     ∙ ap (λ (k : ℕ). said_length o + k) (sym (frames_both full cut))))

@@ -24,10 +24,10 @@ use Rattle.gs_figures.specs.Counts.{most_told}
 use Rattle.gs_report.specs.declared.finished.Finished.{Finished}
 use Rattle.gs_figures.specs.declared.links.LinkFigures.{LinkFigures}
 use Rattle.gs_figures.specs.Links.{fitting, frames_to, let_out, link_figures}
-use Rattle.gs_figures.specs.Lanes.{lane_behind, lane_closed, lane_cut, lane_event, lane_frame, lane_in, lane_raw, lane_sent, new_lane}
+use Rattle.gs_figures.specs.Lanes.{lane_after, lane_closed, lane_cut, lane_event, lane_frame, lane_in, lane_raw, lane_sent, new_lane}
 use Rattle.gs_figures.proofs.Sums.{plus_told}
 
--- a lane by which so many frames and bytes went out
+-- a lane by which n frames and b bytes went out
 abbrev lane_at : Bool → Option Rpc → ℕ → ℕ → Lane
 lane_at may held n b = record { gathered = held; is_open = may; rpcs = min n most_told; bytes = min b most_told }
 
@@ -135,11 +135,11 @@ cuts may o n = lets_out (option_to_list o.gathered) may o None n
 
 -- ---- events
 
--- what is said behind it has no byte
+-- what is said after it has no byte
 silently : (may : Bool) (o : Outgoing) (n : ℕ) (w : Said) → bytes_of w ≡ [] → lane_of may o n ≡ lane_of may (saying o w) n
 silently may o n w none = ap (λ (c : ℕ). lane_at may o.gathered n c) (sym (said_silent o.said w none))
 
--- a cut, and what has no byte behind it
+-- a cut, and what has no byte after it
 cuts_silently : (may : Bool) (o : Outgoing) (n : ℕ) (w : Said) → bytes_of w ≡ [] → lane_cut (lane_of may o n) ≡ lane_of may (saying (cut_out codec o) w) (n + length (option_to_list o.gathered))
 cuts_silently may o n w none = cuts may o n ∙ silently may (cut_out codec o) (n + length (option_to_list o.gathered)) w none
 
@@ -161,8 +161,8 @@ raws may o n bytes =
 abbrev pub cut_frames : Bool → Outgoing → List Rpc
 cut_frames is o = if is then option_to_list o.gathered else []
 
-abbrev IsBehind : PeerNo → Bool → Outgoing → ℕ → Event → Type 0
-IsBehind q may o n event =
+abbrev IsAfter : PeerNo → Bool → Outgoing → ℕ → Event → Type 0
+IsAfter q may o n event =
     lane_event q (lane_of may o n) event
     ≡ lane_of (up_after q event may) (behind_event codec q o event) (n + length (cut_frames (is_cut q event) o))
 
@@ -175,7 +175,7 @@ loses : (may : Bool) (o : Outgoing) (n : ℕ) (is : Bool) → (if is then lane_c
 loses may o n true = closes may o n
 loses may o n false = quiet may o n
 
-acts : (q : PeerNo) (may : Bool) (o : Outgoing) (n : ℕ) (act : Act) → IsBehind q may o n (Own act)
+acts : (q : PeerNo) (may : Bool) (o : Outgoing) (n : ℕ) (act : Act) → IsAfter q may o n (Own act)
 acts q may o n (HangUp p) = loses may o n (same_peer p q)
 acts q may o n (Subscribe t) = quiet may o n
 acts q may o n (Unsubscribe t) = quiet may o n
@@ -188,7 +188,7 @@ acts q may o n (Raw p bytes) = by (same_peer p q)
         ∙ raws may (cut_out codec o) (n + length (option_to_list o.gathered)) bytes
     by false = quiet may o n
 
-tells : (q : PeerNo) (may : Bool) (o : Outgoing) (n : ℕ) (event : Event) → IsBehind q may o n event
+tells : (q : PeerNo) (may : Bool) (o : Outgoing) (n : ℕ) (event : Event) → IsAfter q may o n event
 tells q may o n (RoundEnd r) = cuts_silently may o n (EndOf r ∷ []) refl
 tells q may o n Shut = closes may o n
 tells q may o n (Own act) = acts q may o n act
@@ -208,7 +208,7 @@ abbrev pub lets : PeerNo → Outgoing → Entry → List Rpc
 lets q o e =
     let_out o.gathered (sent_to q e.effects.sends) ++ cut_frames (is_cut q e.event) (sending_all codec o (sent_to q e.effects.sends))
 
-step : (q : PeerNo) (o : Outgoing) (vs : List Rpc) (e : Entry) (b : Bool) → lane_behind q (lane_of b o (length vs)) e ≡ lane_of (up_after q e.event b) (if b then behind_entry codec q o (fitting e) else o) (length (if b then vs ++ lets q o (fitting e) else vs))
+step : (q : PeerNo) (o : Outgoing) (vs : List Rpc) (e : Entry) (b : Bool) → lane_after q (lane_of b o (length vs)) e ≡ lane_of (up_after q e.event b) (if b then behind_entry codec q o (fitting e) else o) (length (if b then vs ++ lets q o (fitting e) else vs))
 step q o vs e true =
     ap (λ (l : Lane). lane_event q l e.event) (sends_all sends true o (length vs))
     ∙ (tells q true (sending_all codec o sends) (length vs + length (let_out o.gathered sends)) e.event
@@ -231,8 +231,8 @@ pub lane_is : (q : PeerNo) (L : Entries) → lane_in q (reverse L) ≡ lane_of (
 lane_is q [] = refl
 lane_is q (e ∷ L) =
     ap (λ (entries : List Entry). lane_in q entries) (reverse-append (e ∷ []) L)
-    ∙ (fold-append (lane_behind q) new_lane (reverse L) (e ∷ [])
-    ∙ (ap (λ (l : Lane). lane_behind q l e) (lane_is q L)
+    ∙ (fold-append (lane_after q) new_lane (reverse L) (e ∷ [])
+    ∙ (ap (λ (l : Lane). lane_after q l e) (lane_is q L)
     ∙ step q (outgoing codec (map fitting L) q) (frames_to (map fitting L) q) e (up (map fitting L) q)))
 
 -- ---- a link

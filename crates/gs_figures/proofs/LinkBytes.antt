@@ -7,7 +7,7 @@ use Rattle.gs_rules.specs.declared.trace.Entry.{Entry}
 use Rattle.gs_figures.specs.declared.lane.Lane.{Lane}
 use Rattle.gs_figures.specs.declared.shares.Share.{Share}
 use Rattle.gs_figures.specs.declared.shares.Share.TheVariants.{Bytes}
-use Rattle.gs_figures.specs.Lanes.{lane_behind, lane_in, new_lane}
+use Rattle.gs_figures.specs.Lanes.{lane_after, lane_in, new_lane}
 use Rattle.gs_figures.specs.Rounds.{link_shares, round_at, said_to}
 use Rattle.gs_figures.proofs.Lanes.{lane_is}
 
@@ -19,11 +19,11 @@ told q es =
 next : (entries : List Entry) (i : ℕ) (e : Entry) → i < length entries → e ≡ get_or entries i e → take (i + 1) entries ≡ take i entries ++ e ∷ []
 next entries i e below is = take_more entries i e below ∙ ap (λ (x : Entry). take i entries ++ x ∷ []) (sym is)
 
-pub lane_goes_on : (q : PeerNo) (entries : List Entry) (i : ℕ) (e : Entry) (before after : Lane) → i < length entries → e ≡ get_or entries i e → after ≡ lane_behind q before e → before ≡ lane_in q (take i entries) → after ≡ lane_in q (take (i + 1) entries)
+pub lane_goes_on : (q : PeerNo) (entries : List Entry) (i : ℕ) (e : Entry) (before after : Lane) → i < length entries → e ≡ get_or entries i e → after ≡ lane_after q before e → before ≡ lane_in q (take i entries) → after ≡ lane_in q (take (i + 1) entries)
 lane_goes_on q entries i e before after below is goes so_far =
     goes
-    ∙ (ap (λ (l : Lane). lane_behind q l e) so_far
-    ∙ (sym (fold-append (lane_behind q) new_lane (take i entries) (e ∷ []))
+    ∙ (ap (λ (l : Lane). lane_after q l e) so_far
+    ∙ (sym (fold-append (lane_after q) new_lane (take i entries) (e ∷ []))
     ∙ ap (λ (xs : List Entry). lane_in q xs) (sym (next entries i e below is))))
 
 pub shares_go_on : (round_ms : ℕ) (q : PeerNo) (entries : List Entry) (i : ℕ) (e : Entry) (before after : Lane) (count r : ℕ) (shares new : List (ℕ × Share))

@@ -47,7 +47,7 @@ of_order t Less xs ys zs = refl
 of_order t Equal xs ys zs = refl
 of_order t Greater xs ys zs = refl
 
--- behind one of the same topic, by their order
+-- after one of the same topic, by their order
 beside : (b c : Bool) (o : Ordering) (p q : PeerNo) (zs ps : List PeerNo)
     → b ≡ c
     → nat_cmp p.0 q.0 ≡ o
@@ -62,7 +62,7 @@ beside false false Less p q zs ps one is rest = rest
 beside false false Equal p q zs ps one is rest = refl
 beside false false Greater p q zs ps one is rest = refl
 
--- behind one of another topic
+-- after one of another topic
 past : (b c : Bool) (p q : PeerNo) (zs ps : List PeerNo)
     → (c ≡ true → b ≡ false)
     → zs ≡ (if c then put_in q ps else ps)

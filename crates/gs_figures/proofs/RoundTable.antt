@@ -27,7 +27,7 @@ above j r below = grind (arith, nat_tests)
 same : (j r : ℕ) → r ≡ j → nat_eq j r ≡ true
 same j r is = grind (arith, nat_tests)
 
--- rows behind a place
+-- rows after a place
 untouched : (f : ℕ → RoundFigures) (s : Share) (a n j : ℕ) → j < a → map f (range_with_len a n) ≡ map (turned f j s) (range_with_len a n)
 untouched f s a zero j below = refl
 untouched f s a (suc n) j below =

@@ -5,11 +5,11 @@ use Rattle.gs_figures.specs.declared.counts.Counts.{Counts}
 use Rattle.gs_figures.specs.Counts.{counts_of, counts_plus, most_told, no_counts, plus}
 use Rattle.gs_figures.specs.Sums.{AreSums, IsSum}
 
--- a sum that was told as the greatest stays that
+-- a sum that stands for all greater ones stays that
 pub plus_told : (a b : ℕ) → plus (min a most_told) b ≡ min (a + b) most_told
 plus_told a b = omega arith
 
--- a number of which a sum has the sum
+-- a number that a sum of counts has the sum of
 module _ (number : Counts → ℕ) (adds : (x y : Counts) → number (counts_plus x y) ≡ plus (number x) (number y)) where
   behind : (entries : List Entry) (before : Counts) (sum : ℕ) → number before ≡ min sum most_told → number (fold (λ c e. counts_plus c (counts_of e)) before entries) ≡ min (fold (λ s e. s + number (counts_of e)) sum entries) most_told
   behind [] before sum is = is

@@ -6,25 +6,25 @@ use Rattle.std.specs.declared.alloc.Global.{Global}
 use Rattle.indexmap.specs.IndexMap.{IndexMap}
 use Rattle.gs_base.specs.Names.{same_topic}
 use Rattle.gs_rules.specs.Rules.{same_bytes}
-use Rattle.gs_figures.specs.declared.catalogue.Said.{Said}
+use Rattle.gs_figures.specs.declared.catalogue.TopicPayload.{TopicPayload}
 use Rattle.gs_figures.specs.declared.listed.Appearance.{Appearance}
 use Rattle.gs_figures.specs.declared.listed.Arrival.{Arrival}
 use Rattle.gs_figures.specs.Publications.{arrivals}
 
 -- what one of them says
-abbrev pub said_of : Appearance → Said
+abbrev pub said_of : Appearance → TopicPayload
 said_of p = record { topic = p.topic; payload = p.payload }
 
-abbrev pub same_said : Said → Said → Bool
+abbrev pub same_said : TopicPayload → TopicPayload → Bool
 same_said x y = same_topic x.topic y.topic && same_bytes x.payload y.payload
 
 -- those that are found under it, and none where nothing is
-abbrev pub filed_under : {S : Type 0} → IndexMap Said (Vec Arrival Global) S → Said → List Arrival
+abbrev pub filed_under : {S : Type 0} → IndexMap TopicPayload (Vec Arrival Global) S → TopicPayload → List Arrival
 filed_under filed said = elim (lookup (same_said said) filed.entries) [ None ↦ [] | Some found ↦ found.items ]
 
-abbrev pub found_at : {S : Type 0} → IndexMap Said (Vec Arrival Global) S → Appearance → List Arrival
+abbrev pub found_at : {S : Type 0} → IndexMap TopicPayload (Vec Arrival Global) S → Appearance → List Arrival
 found_at filed p = filed_under filed (said_of p)
 
 -- whatever one looks for, those are found that say the same
-abbrev pub FilesAll : {S : Type 0} → IndexMap Said (Vec Arrival Global) S → List Appearance → Type 0
+abbrev pub FilesAll : {S : Type 0} → IndexMap TopicPayload (Vec Arrival Global) S → List Appearance → Type 0
 FilesAll filed all = (p : Appearance) → found_at filed p ≡ arrivals p all

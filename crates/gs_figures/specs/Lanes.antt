@@ -6,11 +6,10 @@ use Rattle.gs_base.specs.Names.{same_peer}
 use Rattle.gs_wire.specs.Codec.{codec}
 use Rattle.gs_wire.specs.Messages.{frame}
 use Rattle.gs_rules.specs.declared.event.Event.{Event}
-use Rattle.gs_rules.specs.declared.event.Event.TheVariants.{RoundEnd, Shut, Own}
+use Rattle.gs_rules.specs.declared.event.Event.TheVariants.{Heard, Late, BeatBegin, Decay, RoundEnd, Shut, Part, Step, Own, Lost}
 use Rattle.gs_plan.specs.declared.plan.Act.{Act}
 use Rattle.gs_plan.specs.declared.plan.Act.TheVariants.{Subscribe, Unsubscribe, Publish, Raw, HangUp}
 use Rattle.gs_rules.specs.declared.trace.Entry.{Entry}
-use Rattle.gs_rules.specs.Tables.{is_lost, lost}
 use Rattle.gs_rules.specs.Modes.{sent_to}
 use Rattle.gs_rules.specs.Saying.{gather}
 use Rattle.gs_figures.specs.declared.lane.Lane.{Lane}
@@ -54,13 +53,19 @@ abbrev pub lane_event : PeerNo → Lane → Event → Lane
 lane_event q l (RoundEnd r) = lane_cut l
 lane_event q l Shut = lane_closed l
 lane_event q l (Own act) = lane_act q l act
-lane_event q l other = if is_lost q (lost other) then lane_closed l else l
+lane_event q l (Lost p loss) = if same_peer p q then lane_closed l else l
+lane_event q l (Heard p rpc) = l
+lane_event q l (Late p rpc) = l
+lane_event q l (Part p part) = l
+lane_event q l BeatBegin = l
+lane_event q l (Step step) = l
+lane_event q l Decay = l
 
 -- after an entry
-abbrev pub lane_behind : PeerNo → Lane → Entry → Lane
-lane_behind q l e =
+abbrev pub lane_after : PeerNo → Lane → Entry → Lane
+lane_after q l e =
     if l.is_open then lane_event q (fold lane_sent l (sent_to q (fitting e).effects.sends)) e.event else l
 
 -- after these entries, the oldest one first
 abbrev pub lane_in : PeerNo → List Entry → Lane
-lane_in q entries = fold (lane_behind q) new_lane entries
+lane_in q entries = fold (lane_after q) new_lane entries

@@ -64,11 +64,11 @@ link_figures x q = record {
 abbrev pub link_between : List Dial → PeerNo × Finished → PeerNo → List LinkFigures
 link_between dials x q = if are_joined dials x.0 q then link_figures x q ∷ [] else []
 
--- the links from a peer, by whom they are to
+-- the links from a peer, by the peer that they lead to
 abbrev pub links_of : List Dial → List (PeerNo × Finished) → PeerNo × Finished → List LinkFigures
 links_of dials peers x = flat_map (λ y. link_between dials x y.0) peers
 
--- the links of all peers, by whom they are from
+-- the links of all peers, by the peer that they come from
 abbrev pub all_links : List Dial → List (PeerNo × Finished) → List LinkFigures
 all_links dials peers = flat_map (links_of dials peers) peers
 

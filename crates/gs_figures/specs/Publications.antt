@@ -105,7 +105,7 @@ on_topic changes t at peers = fold (λ sum x. plus sum (one_if (is_on changes t 
 abbrev pub are_of_one : Appearance → Appearance → Bool
 are_of_one x y = same_topic x.topic y.topic && same_bytes x.payload y.payload
 
--- at whom and when the payload of one appears on its topic, among these
+-- where and when the payload of one appears on its topic, among these
 abbrev pub arrivals : Appearance → List Appearance → List Arrival
 arrivals p all = map (λ (x : Appearance). record { peer = x.peer; at = x.at }) (filter (are_of_one p) all)
 
@@ -145,7 +145,7 @@ came_to l p =
 abbrev pub at_subscribers : List Change → Topic → Millis → List Arrival → List Arrival
 at_subscribers changes t at xs = filter (λ (x : Arrival). is_on changes t at x.peer) xs
 
--- whom a publication reached of those that were on its topic when it was published
+-- the peers that a publication reached, of those that were on its topic when it was published
 abbrev pub reached_by : Listed → Appearance → List Arrival
 reached_by l p = at_subscribers l.changes p.topic p.at (came_to l p)
 

@@ -37,13 +37,13 @@ put_member t q (x ∷ xs) =
     else x ∷ put_member t q xs
 
 -- it comes after another, which is of another topic or has a lower number
-abbrev pub stands_behind : Topic → PeerNo → Topic × PeerNo → Bool
-stands_behind t q x = not (same_topic x.0 t) || nat_lt x.1.0 q.0
+abbrev pub stands_after : Topic → PeerNo → Topic × PeerNo → Bool
+stands_after t q x = not (same_topic x.0 t) || nat_lt x.1.0 q.0
 
 -- it comes after none of these, as far as the first of them says
 abbrev pub is_place : Topic → PeerNo → List (Topic × PeerNo) → Bool
 is_place t q [] = true
-is_place t q (x ∷ xs) = not (stands_behind t q x)
+is_place t q (x ∷ xs) = not (stands_after t q x)
 
 -- all of these but a member of a topic's mesh
 abbrev pub without_member : Topic → PeerNo → List (Topic × PeerNo) → List (Topic × PeerNo)

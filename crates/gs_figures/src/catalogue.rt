@@ -16,13 +16,13 @@ use std::marker::Model;
 
 /// A payload on a topic, whoever published it.
 #[derive(Debug, Drop, PartialEq, Eq)]
-pub(crate) struct Said {
+pub(crate) struct TopicPayload {
     topic: Topic,
     payload: Bytes,
 }
 
 /// All of each is hashed at once, and not byte by byte.
-impl Hash for Said {
+impl Hash for TopicPayload {
     ghost use Rattle.std.specs.Prelude.{[], ◌∷◌};
     ghost use Rattle.std.proofs.Common.{rules};
 
@@ -41,8 +41,8 @@ impl Hash for Said {
 #[derive(Drop)]
 pub struct Catalogue {
     listed: Listed,
-    published: IndexMap<Said, Vec<Arrival>>,
-    delivered: IndexMap<Said, Vec<Arrival>>,
+    published: IndexMap<TopicPayload, Vec<Arrival>>,
+    delivered: IndexMap<TopicPayload, Vec<Arrival>>,
 }
 
 impl Model for Catalogue {
@@ -119,17 +119,17 @@ fn came_in(
 }
 
 /// What one of these says, wherever and whenever it does.
-fn said_of(one: &Appearance) -> Result<Said, AllocError>
+fn said_of(one: &Appearance) -> Result<TopicPayload, AllocError>
     ensures { IfOk result (λ said. said ≡ said_of one.now) }
 {
-    Ok(Said {
+    Ok(TopicPayload {
         topic: clone_of(&one.topic)?,
         payload: clone_of(&one.payload)?,
     })
 }
 
 /// Where and when it is said, in order.
-fn found<'a>(filed: &'a IndexMap<Said, Vec<Arrival>>, said: &Said) -> &'a [Arrival]
+fn found<'a>(filed: &'a IndexMap<TopicPayload, Vec<Arrival>>, said: &TopicPayload) -> &'a [Arrival]
     ensures { result.now ≡ filed_under filed.now said.now }
 {
     match filed.get(said) {
@@ -139,7 +139,10 @@ fn found<'a>(filed: &'a IndexMap<Said, Vec<Arrival>>, said: &Said) -> &'a [Arriv
 }
 
 /// Files all of these by what they say, and there in order.
-fn file_all(alloc: Global, all: &[Appearance]) -> Result<IndexMap<Said, Vec<Arrival>>, AllocError>
+fn file_all(
+    alloc: Global,
+    all: &[Appearance],
+) -> Result<IndexMap<TopicPayload, Vec<Arrival>>, AllocError>
     ensures { IfOk result (λ filed. FilesAll filed all.now) }
 {
     let mut filed = IndexMap::new(alloc);
@@ -152,7 +155,7 @@ fn file_all(alloc: Global, all: &[Appearance]) -> Result<IndexMap<Said, Vec<Arri
 /// Files one after those that say the same.
 fn file(
     alloc: Global,
-    filed: &mut IndexMap<Said, Vec<Arrival>>,
+    filed: &mut IndexMap<TopicPayload, Vec<Arrival>>,
     one: &Appearance,
 ) -> Result<(), AllocError>
     ensures { OnOk result ((p : AppearanceValue)

@@ -4,7 +4,7 @@ ghost use Rattle.gs_base.specs.Names.{same_peer};
 ghost use Rattle.gs_rules.specs.Modes.{sent_to};
 ghost use Rattle.gs_rules.specs.Tables.{is_lost};
 ghost use Rattle.gs_wire.specs.Codec.{codec};
-ghost use Rattle.gs_figures.specs.Lanes.{lane_act, lane_behind, lane_closed, lane_cut, lane_event, lane_in, lane_raw, lane_sent, new_lane};
+ghost use Rattle.gs_figures.specs.Lanes.{lane_act, lane_after, lane_closed, lane_cut, lane_event, lane_in, lane_raw, lane_sent, new_lane};
 
 use gs_base::{PeerNo, Rpc, Shared};
 use gs_plan::Act;
@@ -55,7 +55,7 @@ impl Lane {
         peer: PeerNo,
         entry: &StoredEntry,
     ) -> Result<u64, AllocError>
-        ensures lane { OnOk result (self.new ≡ lane_behind peer self.old entry.now) }
+        ensures lane { OnOk result (self.new ≡ lane_after peer self.old entry.now) }
         ensures bytes { IfOk result (λ count. count ≡ self.new.bytes - self.old.bytes) }
     {
         let before = self.bytes;
@@ -64,7 +64,7 @@ impl Lane {
     }
 
     fn tell(&mut self, alloc: Global, peer: PeerNo, entry: &StoredEntry) -> Result<(), AllocError>
-        ensures { OnOk result (self.new ≡ lane_behind peer self.old entry.now) }
+        ensures { OnOk result (self.new ≡ lane_after peer self.old entry.now) }
     {
         if !self.is_open {
             return Ok(());

@@ -20,7 +20,7 @@ pub struct LinkFigures {
     pub bytes: u64,
 }
 
-/// What goes over the links of all dials, by whom they are from and then by whom they are to.
+/// What goes over the links of all dials, by the peer that they come from and then by the one that they lead to.
 ///
 /// # Errors
 /// `AllocError` where there was no memory for them.

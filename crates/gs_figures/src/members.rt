@@ -2,7 +2,7 @@
 ghost use Rattle.std.specs.Prelude.{◌≡◌, ◌≤◌, ◌++◌, [], ◌∷◌, drop, length, OnOk, take, true};
 ghost use Rattle.gs_rules.specs.Tables.{after_marks};
 ghost use Rattle.gs_figures.specs.Peers.{subscribed_after};
-ghost use Rattle.gs_figures.specs.Rounds.{is_place, members_after, put_member, stands_behind, without_member};
+ghost use Rattle.gs_figures.specs.Rounds.{is_place, members_after, put_member, stands_after, without_member};
 
 use crate::peers::note;
 use gs_base::{Mark, PeerNo, Topic, clone_of};
@@ -98,15 +98,15 @@ fn place_of(members: &[(Topic, PeerNo)], topic: &Topic, peer: PeerNo) -> usize
     ensures first { is_place topic.now peer (drop result members.now) ≡ true }
 {
     let mut place = 0;
-    while place < members.len() && stands_behind(&members[place], topic, peer) {
+    while place < members.len() && stands_after(&members[place], topic, peer) {
         place += 1;
     }
     place
 }
 
 /// Whether a member of a topic's mesh comes after another.
-fn stands_behind(member: &(Topic, PeerNo), topic: &Topic, peer: PeerNo) -> bool
-    ensures { result ≡ stands_behind topic.now peer member.now }
+fn stands_after(member: &(Topic, PeerNo), topic: &Topic, peer: PeerNo) -> bool
+    ensures { result ≡ stands_after topic.now peer member.now }
 {
     member.0 != *topic || member.1.0 < peer.0
 }

@@ -224,12 +224,12 @@ fn is_on(changes: &[Change], topic: &Topic, at: Millis, peer: PeerNo) -> bool
 {
     let mut on = false;
     for change in changes {
-        on = is_on_behind(on, change, topic, at, peer);
+        on = is_on_after(on, change, topic, at, peer);
     }
     on
 }
 
-fn is_on_behind(before: bool, change: &Change, topic: &Topic, at: Millis, peer: PeerNo) -> bool
+fn is_on_after(before: bool, change: &Change, topic: &Topic, at: Millis, peer: PeerNo) -> bool
     ensures { result ≡ (if is_change_of peer topic.now at change.now then change.now.subscribes else before) }
 {
     if change.peer == peer && change.topic == *topic && change.at.0 <= at.0 {

@@ -13,13 +13,13 @@ use std::alloc::{AllocError, Global};
 /// What an entry adds to the figures of a round.
 #[derive(Clone, Copy, Debug, PartialEq, Eq)]
 pub(crate) enum Share {
-    /// So many deliveries to the peer's user.
+    /// The number of deliveries to the peer's user.
     Delivered(u64),
-    /// So many messages that neighbours passed on, and what became of them.
+    /// The number of messages that neighbours passed on, and what became of them.
     Messages(u64, Fates),
-    /// So many bytes that went out over a link.
+    /// The number of bytes that went out over a link.
     Bytes(u64),
-    /// So many members that a mesh had when the peer ended the round.
+    /// The number of members that a mesh had when the peer ended the round.
     Mesh(u64),
 }
 

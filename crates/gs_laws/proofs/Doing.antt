@@ -56,7 +56,7 @@ module _ {S : Type 0} (word : S → ℕ) (after : S → S) where
 
   -- ---- an event with what it owes
 
-  -- Behind some of what is owed all of it goes on, whatever entry comes first: it is the one that came.
+  -- After some of what is owed all of it goes on, whatever entry comes first: it is the one that came.
   goes_further : (p : Peer) (first : S) (at : Millis) (L : Entries) (x : Entry) (xs ys zs : List Entry) → ys ≡ zs ++ xs → ArePayments p at L (x ∷ xs) → ArePayments p at L ys → LegalByWords word after p first (x ∷ (xs ++ L)) → LegalByWords word after p first (ys ++ L) → owed p (ys ++ L) ≡ nothing → (ws : List Entry) × (ys ≡ ws ++ x ∷ xs)
   goes_further p first at L x xs ys [] is paid whole legal legal' done =
       absurd (paid.1 (ap (λ (debt : Debt). debt.events) (subst (λ (es : List Entry). owed p (es ++ L) ≡ nothing) is done)))

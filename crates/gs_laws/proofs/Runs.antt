@@ -9,7 +9,7 @@ use Rattle.gs_rules.specs.declared.refusal.RefusedLine.{RefusedLine}
 use Rattle.gs_rules.specs.Tables.{Entries}
 use Rattle.gs_rules.specs.Results.{meshes_of, scores_of}
 use Rattle.gs_report.specs.declared.finished.Finished.{Finished}
-use Rattle.gs_seats.specs.Rounds.{IsLife, IsRun, numbers, peer_in}
+use Rattle.gs_seats.specs.Rounds.{IsLifeInRun, IsRun, numbers, peer_in}
 use Rattle.gs_seats.proofs.ByNumber.{at_number}
 use Rattle.gs_seats.proofs.ByNumber.{as_many}
 use Rattle.gs_laws.specs.Runs.{ArePlayed, IsPlayed, RunsAreOne, refusals_of, traces_of}
@@ -20,7 +20,7 @@ use Rattle.gs_laws.proofs.Traces.{traces_one}
 
 -- a run is played
 played_of : (plan : Plan) (lives : List Finished) → IsRun plan lives → ArePlayed plan lives
-played_of plan lives run = zipped_weaker (IsLife plan lives) (IsPlayed plan lives) (λ p life is. record { chosen = is.chosen; keeps = is.keeps }) (numbers plan) lives run
+played_of plan lives run = zipped_weaker (IsLifeInRun plan lives) (IsPlayed plan lives) (λ p life is. record { chosen = is.chosen; keeps = is.keeps }) (numbers plan) lives run
 
 -- what two lists of lives have at a place, if they have the same at all
 at_both : {B : Type 0} (f : Finished → B) (lives others : List Finished) (k : ℕ) (one other : Finished) → slice_get lives k ≡ Some one → slice_get others k ≡ Some other → map f lives ≡ map f others → f one ≡ f other
@@ -38,14 +38,14 @@ of_parts f g trace refused meshes scores =
 pub runs_one : RunsAreOne
 runs_one plan other lives others alike run run' =
     let same = traces_one plan other lives others alike (played_of plan lives run) (played_of other others run') in
-    let many = as_many (IsLife plan lives) plan lives run in
-    let many' : length others ≡ length plan.peers = as_many (IsLife other others) other others run' ∙ sym (ap (λ (any : Plan). length any.peers) alike) in
+    let many = as_many (IsLifeInRun plan lives) plan lives run in
+    let many' : length others ≡ length plan.peers = as_many (IsLifeInRun other others) other others run' ∙ sym (ap (λ (any : Plan). length any.peers) alike) in
     same_places lives others (many ∙ sym many') (λ k below. one_place same (record { 0 = k }) (omega (arith, below, many)))
   where
     one_place : (traces_of lives ≡ traces_of others) × (refusals_of lives ≡ refusals_of others) → (p : PeerNo) → p.0 < length plan.peers → slice_get lives p.0 ≡ slice_get others p.0
     one_place same p below =
-        let (life, at, is) = at_number (IsLife plan lives) plan p lives below run in
-        let (life', at', is') = at_number (IsLife other others) other p others (subst (λ (any : Plan). p.0 < length any.peers) alike below) run' in
+        let (life, at, is) = at_number (IsLifeInRun plan lives) plan p lives below run in
+        let (life', at', is') = at_number (IsLifeInRun other others) other p others (subst (λ (any : Plan). p.0 < length any.peers) alike below) run' in
         let trace : life.trace ≡ life'.trace = at_both (λ (f : Finished). f.trace) lives others p.0 life life' at at' same.0 in
         let refused : life.refused ≡ life'.refused = at_both (λ (f : Finished). f.refused) lives others p.0 life life' at at' same.1 in
         let meshes : life.meshes ≡ life'.meshes = is.meshes ∙ ap meshes_of trace ∙ sym is'.meshes in

@@ -1,27 +1,23 @@
 -- What a peer has said by the end of a round stays as it is.
-use Rattle.std.proofs.Common.{◌≡◌, ℕ, zero, suc, Bool, true, false, nat_eq, ◌&&◌, if◌then◌else◌, List, [], ◌∷◌, ◌++◌, map, refl, sym, ap, ap₂, subst, subst₂, ◌∙◌, append_assoc, append-nil, true≢false, eq-eqb}
-use Rattle.gs_base.specs.declared.names.PeerNo.{PeerNo}
+use Rattle.std.proofs.Common.{◌≡◌, ℕ, zero, suc, Bool, true, false, if◌then◌else◌, List, ◌∷◌, ◌++◌, refl, sym, ap, ap₂, subst, subst₂, ◌∙◌, append_assoc}
 use Rattle.gs_base.specs.declared.names.Millis.{Millis}
 use Rattle.gs_base.specs.declared.rpc.Rpc.{Rpc}
-use Rattle.gs_base.specs.Tokens.{Byte, EndOf, Close, Said}
+use Rattle.gs_base.specs.Tokens.{Said}
 use Rattle.gs_wire.specs.Codec.{codec}
 use Rattle.gs_rules.specs.declared.event.Event.{Event}
-use Rattle.gs_rules.specs.declared.event.Event.TheVariants.{RoundEnd, Shut}
+use Rattle.gs_rules.specs.declared.event.Event.TheVariants.{Shut}
 use Rattle.gs_rules.specs.declared.trace.Entry.{Entry}
-use Rattle.gs_rules.specs.declared.refusal.RefusedLine.{RefusedLine}
 use Rattle.gs_rules.specs.Peers.{Peer, links_of}
 use Rattle.gs_rules.specs.Tables.{Entries, up, up_after}
 use Rattle.gs_rules.specs.Rules.{rule_of}
-use Rattle.gs_rules.specs.Modes.{Follows, free, sent_to}
+use Rattle.gs_rules.specs.Modes.{Follows, free}
 use Rattle.gs_rules.specs.Legal.{Legal}
-use Rattle.gs_rules.specs.Saying.{Outgoing, behind_entry, behind_event, out, outgoing, sending_all, sign}
+use Rattle.gs_rules.specs.Saying.{Outgoing, behind_entry, behind_event, out, outgoing, sending_all}
 use Rattle.gs_rules.specs.Hearing.{after}
-use Rattle.gs_rules.specs.Rounds.{Seat, Closing, Plays, AfterRounds, hears, moment_of}
+use Rattle.gs_rules.specs.Rounds.{Closing, hears, moment_of}
 use Rattle.gs_rules.proofs.Deliveries.{legal_before}
-use Rattle.gs_rules.proofs.Handled.{GoesOn, does_on}
+use Rattle.gs_rules.proofs.Handled.{does_on}
 use Rattle.gs_rules.proofs.Legality.{legal_newest}
-use Rattle.gs_rules.proofs.InOrder.{down_stays, entry_says, out_stays}
-use Rattle.gs_rules.proofs.RoundEnds.{has_ended}
 use Rattle.gs_player.specs.Ended.{whole}
 use Rattle.gs_player.proofs.Spoken.{rounds_whole, told_more, told_no_more}
 use Rattle.gs_player.proofs.Words.{said_in_stays, whole_before}
@@ -46,7 +42,7 @@ rounds_said seat said r L later refused q h = by (up L q) refl
         ap (first_rounds r) more.1 ∙ rounds_stay r (out codec L q) more.0 (rounds_whole seat said r L refused q h is_up)
     by false down = ap (first_rounds r) (told_no_more q L later down)
 
--- ---- behind the last one
+-- ---- after the last one
 
 pub all_said : AllIsSaidByTheEnd
 all_said seat said K L refused q legal plays =

@@ -40,7 +40,7 @@ goes_on_on K M L h k = (k.0 ++ h.0, k.1 ∙ ap (λ (N : Entries). k.0 ++ N) h.1 
 plays_on : (seat : Seat) (said : PeerNo → Said) (phase : Phase) (K L : Entries) (refused : List RefusedLine) → Plays seat said phase K L refused → GoesOn K L
 plays_on seat said phase K L refused plays = does_on seat.peer (moment_of seat phase) (agenda seat phase plays.inbound) K L refused plays.does
 
--- a trace after so many rounds, with another going on behind it
+-- a trace after r rounds, with another that goes on after it
 record Reached (seat : Seat) (said : PeerNo → Said) (r : ℕ) (L : Entries) : Type 0 where
   trace : Entries
   refused : List RefusedLine
@@ -112,7 +112,7 @@ of_neighbours plan p P all =
 
 -- ---- two runs
 
--- after so many rounds each peer has done the same, and refused the same
+-- after r rounds each peer has done the same, and refused the same
 abbrev SameAfter : Plan → List Finished → List Finished → ℕ → Type 0
 SameAfter plan lives others r =
     (p : PeerNo) (K J : Entries) (refused more : List RefusedLine)

@@ -51,12 +51,12 @@ no-rest : (xs ys : List Slot) → xs ++ ys ≡ [] → ys ≡ []
 no-rest [] ys is = is
 no-rest (x ∷ xs) ys is = absurd (true≢false (sym (ap is_nil is)))
 
-nothing-behind : (taken waiting : List Slot) → ClosesLast (taken ++ waiting) → closes taken ≡ true → waiting ≡ []
-nothing-behind [] waiting last closed = absurd (true≢false (sym closed))
-nothing-behind (Piece bytes ∷ taken) waiting last closed = nothing-behind taken waiting (λ before behind is. last (Piece bytes ∷ before) behind (ap (λ l. Piece bytes ∷ l) is)) closed
-nothing-behind (Round r ∷ taken) waiting last closed = nothing-behind taken waiting (λ before behind is. last (Round r ∷ before) behind (ap (λ l. Round r ∷ l) is)) closed
-nothing-behind (Close ∷ taken) waiting last closed = no-rest taken waiting (last [] (taken ++ waiting) refl)
+nothing-after : (taken waiting : List Slot) → ClosesLast (taken ++ waiting) → closes taken ≡ true → waiting ≡ []
+nothing-after [] waiting last closed = absurd (true≢false (sym closed))
+nothing-after (Piece bytes ∷ taken) waiting last closed = nothing-after taken waiting (λ before behind is. last (Piece bytes ∷ before) behind (ap (λ l. Piece bytes ∷ l) is)) closed
+nothing-after (Round r ∷ taken) waiting last closed = nothing-after taken waiting (λ before behind is. last (Round r ∷ before) behind (ap (λ l. Round r ∷ l) is)) closed
+nothing-after (Close ∷ taken) waiting last closed = no-rest taken waiting (last [] (taken ++ waiting) refl)
 
 -- where the close was taken, all was taken
 pub all-taken : (accepted taken waiting : List Slot) → accepted ≡ taken ++ waiting → ClosesLast accepted → closes taken ≡ true → accepted ≡ taken
-all-taken accepted taken waiting is last closed = is ∙ ap (λ w. taken ++ w) (nothing-behind taken waiting (subst ClosesLast is last) closed) ∙ append-nil taken
+all-taken accepted taken waiting is last closed = is ∙ ap (λ w. taken ++ w) (nothing-after taken waiting (subst ClosesLast is last) closed) ∙ append-nil taken

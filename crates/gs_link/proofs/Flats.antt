@@ -12,6 +12,6 @@ flat-append (Piece bytes ∷ before) behind = ap (λ w. map Byte bytes ++ w) (fl
 flat-append (Round r ∷ before) behind = ap (λ w. EndOf r ∷ w) (flat-append before behind)
 flat-append (Close ∷ before) behind = ap (λ w. Closing ∷ w) (flat-append before behind)
 
--- two pieces one behind the other say the bytes of both
+-- two pieces one after the other say the bytes of both
 pub flat-cut : (front rest : List ℕ) (behind : List Slot) → flat (Piece (front ++ rest) ∷ behind) ≡ flat (Piece front ∷ Piece rest ∷ behind)
 flat-cut front rest behind = ap (λ w. w ++ flat behind) (map-append Byte front rest) ∙ append_assoc (map Byte front) (map Byte rest) (flat behind)

@@ -9,7 +9,7 @@ use Rattle.gs_link.specs.declared.item.Slot.{Slot}
 use Rattle.gs_link.specs.declared.rule.Account.{Account}
 use Rattle.gs_link.specs.Items.{IsCarried}
 use Rattle.gs_link.specs.Runs.{closes, Run}
-use Rattle.gs_link.specs.Moves.{account, Fits, InOrder, made, split_sender, split_receiver, Pushes, FindsFull, Pops, FindsEmpty, join, spent, SeesWhole}
+use Rattle.gs_link.specs.Moves.{account, Fits, InOrder, made, split_sender, split_receiver, Pushes, FindsFull, Pops, FindsEmpty, join, spent}
 use Rattle.gs_link.proofs.Closes.{last-none, last-snoc}
 
 -- ---- passes by their numbers
@@ -118,7 +118,3 @@ joins pass v other u may_send may_take waiting accounts h at two at' = let both 
     let Now : ℕ → Account → Type 0 = λ j y. j ≢ other → Fits h.0 pass h.2 h.3 j y in
     let now : Each Now vs = each_set Now accounts pass both (λ _. ((λ _. mine.0 may_send), λ _. (refl, theirs.1))) (λ j y _ e apart. ((h.5 j y e).0, λ p. absurd (apart (((h.5 j y e).1 p).0 ∙ sym theirs.0)))) in
     (h.0, pass, h.2, h.3, h.4, each_set (Fits h.0 pass h.2 h.3) vs other spent ((λ p. absurd (true≢false (sym p))), λ p. absurd (true≢false (sym p))) (λ j y apart e. now j y e apart))
-
-pub sees_whole : (pass : ℕ) (v : Account) → v.sends ≡ true → v.takes ≡ true → fifo.Learns InOrder pass v (SeesWhole v)
-sees_whole pass v may_send may_take waiting accounts h at = let mine = h.5 pass v at in
-    subst (λ (l : List Slot × List Slot). Run l.0 l.1 waiting) (λ i. (sym (mine.0 may_send).1 i, sym (mine.1 may_take).1 i)) h.4

@@ -28,9 +28,9 @@ abbrev has_more : List Slot → Bool
 has_more [] = false
 has_more (slot ∷ slots) = true
 
--- nothing may stand behind a close, a second close neither
-behind-a-close : ¬ ClosesLast (Close ∷ Round 4 ∷ [])
-behind-a-close last = true≢false (ap has_more (last [] (Round 4 ∷ []) refl))
+-- nothing may come after a close, not even a second close
+after-a-close : ¬ ClosesLast (Close ∷ Round 4 ∷ [])
+after-a-close last = true≢false (ap has_more (last [] (Round 4 ∷ []) refl))
 
 closed-twice : ¬ ClosesLast (Close ∷ Close ∷ [])
 closed-twice last = true≢false (ap closes (last [] (Close ∷ []) refl))

@@ -2,7 +2,7 @@
 ghost use Rattle.gs_link.specs.Flat.{CuttingIsHidden, SaysInOrder};
 
 /// What stands later in a list is said later.
-pub fn what_stands_behind_is_said_later()
+pub fn what_stands_after_is_said_later()
     ensures { SaysInOrder }
 {}
 

@@ -14,7 +14,7 @@ mod settled;
 
 pub use fault::{CloseRefused, LinkFault, SendRefused};
 pub use item::{Item, LARGEST_CAPACITY, LONGEST_PIECE, Slot, is_capacity};
-pub use laws::{cutting_does_not_show, what_stands_behind_is_said_later};
+pub use laws::{cutting_does_not_show, what_stands_after_is_said_later};
 pub use opening::open_link;
 pub use receiver::{LinkRx, Taken};
 pub use sender::LinkTx;

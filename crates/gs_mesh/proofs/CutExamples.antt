@@ -62,13 +62,13 @@ pub a_word_for_each_that_is_picked : cut_words here next small eight 4 ≡ 6
 unfolding next_words after_words shuffled picked picked_words best_by_score outbound_lacking outbound_picked outbound_picked_words others_picked others_picked_words first_kept first_words cut_words
 a_word_for_each_that_is_picked = refl
 
--- seven, of which 4 to 7 are outbound
+-- seven members: 4 to 7 are outbound
 abbrev seven : List Member
 seven =
     member 1 (negsuc 4) false ∷ member 2 (pos 7) false ∷ member 3 (pos 9) false ∷ member 4 (pos 1) true ∷
     member 5 (negsuc 0) true ∷ member 6 (pos 9) true ∷ member 7 (pos 2) true ∷ []
 
--- four, of which two are best and two outbound
+-- four: two are best and two outbound
 abbrev four : Degrees
 four = record { d = 4; d_low = 3; d_high = 6; d_score = 2; d_out = 2; d_lazy = 4 }
 
@@ -88,7 +88,7 @@ one_word_for_each_pick = refl
 abbrev three : List Member
 three = member 1 (pos 5) false ∷ member 2 (pos 5) false ∷ member 3 (pos 1) true ∷ []
 
--- two, of which one is best and one outbound
+-- two: one is best and one outbound
 abbrev pair : Degrees
 pair = record { d = 2; d_low = 2; d_high = 2; d_score = 1; d_out = 1; d_lazy = 2 }
 

@@ -70,7 +70,7 @@ and_absorbed true b h = refl
 and_absorbed false true h = h refl
 and_absorbed false false h = refl
 
--- a list has so many of its part as the part has
+-- a list has as many of its part as the part has
 pub length_part : (part whole : List PeerNo) → IsDistinct same_peer part → IsAscending whole → All (Contains whole) part → length (filter (is_member same_peer part) whole) ≡ length part
 length_part part whole d up inside = length-from_same_keys same_peer_equiv (filter (is_member same_peer part) whole) part
     (distinct_from_ascending (filter (is_member same_peer part) whole) (ascending_filter (is_member same_peer part) whole up)) d

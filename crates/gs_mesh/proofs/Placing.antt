@@ -1,5 +1,5 @@
 -- A peer is put in its place among ascending ones.
-use Rattle.std.proofs.Common.{◌≡◌, ◌⊎◌, ◌≤◌, ◌<◌, ◌+◌, ◌-◌, ℕ, zero, suc, ⊎_elim, List, [], ◌∷◌, length, Less, Equal, Greater, refl, sym, ap, subst, ◌∙◌, arith}
+use Rattle.std.proofs.Common.{◌≡◌, ◌≤◌, ◌<◌, ◌+◌, ◌-◌, ℕ, zero, suc, ⊎_elim, List, [], ◌∷◌, length, Less, Equal, Greater, refl, sym, ap, subst, ◌∙◌, arith}
 use Rattle.std.specs.declared.cmp.Ordering.{Ordering}
 use Rattle.std.specs.FinMap.Entries.{by_order}
 use Rattle.std.specs.Prelude.{insert, get_or}
@@ -14,7 +14,7 @@ use Rattle.gs_base.specs.declared.names.PeerNo.{PeerNo}
 use Rattle.gs_params.specs.Picks.{IsAscending}
 use Rattle.gs_mesh.specs.Peers.{put_in}
 
--- an insert between those that stand before it and those that stand behind it
+-- an insert between those that stand before it and those that stand after it
 all_pairs_insert : {X : Type 0} (R : X → X → Type 0) (xs : List X) (i : ℕ) (y : X)
     → i ≤ length xs
     → AllPairs R xs

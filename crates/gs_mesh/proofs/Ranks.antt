@@ -58,7 +58,7 @@ one_below false false m n h le = omega arith
 one_more : (a b : Bool) (m n : ℕ) → a ≡ false → b ≡ true → m ≤ n → cond a 1 0 + m < cond b 1 0 + n
 one_more a b m n refuses passes le = rw (refuses, passes) (omega arith)
 
--- and one more does, where some element passes the second test alone
+-- and one more does, where some element passes only the second test
 pub one_more_passes : {X : Type 0} (p q : X → Bool) → ((x : X) → p x ≡ true → q x ≡ true) → (y : X) → p y ≡ false → q y ≡ true → (xs : List X) → Contains xs y → length (filter p xs) < length (filter q xs)
 one_more_passes p q f y refuses passes [] (k, within, e) = absurd (omega arith)
 one_more_passes p q f y refuses passes (x ∷ xs) h = rw (length_if (p x) x (filter p xs), length_if (q x) x (filter q xs)) (elim (first_or_later x xs y h) [

@@ -1,9 +1,7 @@
--- A step by words is a mesh step: so many as are called for, of those who are.
+-- A step by words is a mesh step: as many as are called for, of those who are.
 use Rattle.std.proofs.Common.{◌+◌, ◌-◌, ◌≤◌, ℕ, Bool, true, false, List, length, refl, ap}
-use Rattle.gs_base.specs.declared.names.PeerNo.{PeerNo}
 use Rattle.gs_mesh.specs.declared.members.Member.{Member}
 use Rattle.gs_params.specs.declared.params.Degrees.{Degrees}
-use Rattle.gs_params.specs.declared.params.Params.{Params}
 use Rattle.gs_params.specs.Picks.{IsAscending}
 use Rattle.gs_mesh.specs.Cuts.{cut, cut_words, outbound_of, outside, peers_of}
 use Rattle.gs_params.proofs.Picking.{picked_is_sample}
@@ -35,16 +33,16 @@ module _ {S : Type 0} (word : S → ℕ) (after : S → S) where
   are_opportunistic_grafts false most members candidates s ups = refl
 
   pub each_is_a_mesh_step : EachIsAMeshStep word after
-  each_is_a_mesh_step params tick mesh candidates s up ups room =
+  each_is_a_mesh_step params number mesh candidates s up ups room =
       let members = not_negative mesh in
       let first = mended_by_words word after params.degrees members candidates s in
       let made = mended_members members candidates first.0 first.1 in
-      let second = opportunistic_grafts_by_words word after params tick made candidates first.1 first.2 in
+      let second = opportunistic_grafts_by_words word after params number made candidates first.1 first.2 in
       record {
         kept = first.0;
         grafted = first.1;
         more = second.0;
         is_mended = is_mended (condition_of params.degrees members) params.degrees members candidates s (not_negative_ascend mesh up) ups room;
-        are_opportunistic_grafts = are_opportunistic_grafts (is_poor params tick made) params.timing.opportunistic_peers made (outside first.1 candidates) first.2 (outside_ascend first.1 candidates ups);
-        change_is = ap (λ (x : MeshChange × S). x.0) (put_together word after params tick mesh candidates s first.2 second.1 first.0 first.1 second.0 refl refl);
+        are_opportunistic_grafts = are_opportunistic_grafts (is_poor params number made) params.timing.opportunistic_peers made (outside first.1 candidates) first.2 (outside_ascend first.1 candidates ups);
+        change_is = ap (λ (x : MeshChange × S). x.0) (put_together word after params number mesh candidates s first.2 second.1 first.0 first.1 second.0 refl refl);
       }

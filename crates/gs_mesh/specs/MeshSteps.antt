@@ -45,8 +45,8 @@ above_median members candidates = filter (λ c. median_is_below members c.score)
 
 -- a mesh is poor at a multiple of `opportunistic_ticks` where its median score lies below the threshold
 abbrev pub is_poor : Params → ℕ → List Member → Bool
-is_poor params tick members =
-    nat_eq (tick % params.timing.opportunistic_ticks) 0
+is_poor params number members =
+    nat_eq (number % params.timing.opportunistic_ticks) 0
     && median_is_below members (pos params.thresholds.opportunistic_threshold)
 
 -- ---- the step
@@ -61,7 +61,7 @@ mesh_change mesh candidates kept grafted =
     record { pruned = peers_of (outside kept mesh); grafted = peers_of (among grafted candidates) }
 
 -- What follows is the step by what is chosen in it, and what comes of each choice: of any given number of some peers,
--- and of whom a cut keeps.
+-- and of the members that a cut keeps.
 
 module _ {R : Type 0} (any_of : ℕ → List PeerNo → (List PeerNo → R) → R) where
   -- where a mesh is poor, any `most` of those that score above its median come in
@@ -69,11 +69,11 @@ module _ {R : Type 0} (any_of : ℕ → List PeerNo → (List PeerNo → R) → 
   opportunistic_grafts true most members candidates next = any_of most (peers_of (above_median members candidates)) next
   opportunistic_grafts false most members candidates next = next []
 
-  -- so it is with the mesh as its number of members left it; whom that grafted does not come in twice
+  -- so it is with the mesh as its number of members left it; a peer that this grafted does not come in twice
   abbrev pub opportunistic_grafts_then :
       Params → ℕ → List Member → List Member → List PeerNo → (List PeerNo → R) → R
-  opportunistic_grafts_then params tick members candidates grafted next =
-      opportunistic_grafts (is_poor params tick members) params.timing.opportunistic_peers members
+  opportunistic_grafts_then params number members candidates grafted next =
+      opportunistic_grafts (is_poor params number members) params.timing.opportunistic_peers members
       (outside grafted candidates) next
 
 module _ {R : Type 0} (any_of : ℕ → List PeerNo → (List PeerNo → R) → R)
@@ -92,9 +92,9 @@ module _ {R : Type 0} (any_of : ℕ → List PeerNo → (List PeerNo → R) → 
 
   -- the whole step
   abbrev pub stepped : Params → ℕ → List Member → List Member → (MeshChange → R) → R
-  stepped params tick mesh candidates next =
+  stepped params number mesh candidates next =
       mended (condition_of params.degrees (not_negative mesh)) params.degrees (not_negative mesh) candidates (λ kept grafted.
-      opportunistic_grafts_then any_of params tick (mended_members (not_negative mesh) candidates kept grafted)
+      opportunistic_grafts_then any_of params number (mended_members (not_negative mesh) candidates kept grafted)
       candidates grafted (λ more.
       next (mesh_change mesh candidates kept (grafted ++ more))))
 
@@ -118,13 +118,13 @@ module _ {S : Type 0} (word : S → ℕ) (after : S → S) where
   -- who is grafted where it is poor, beside those that were, and the state after that
   abbrev pub opportunistic_grafts_by_words :
       Params → ℕ → List Member → List Member → List PeerNo → S → List PeerNo × S
-  opportunistic_grafts_by_words params tick members candidates grafted s =
-      opportunistic_grafts_then any_by_words params tick members candidates grafted (λ more t. (more, t)) s
+  opportunistic_grafts_by_words params number members candidates grafted s =
+      opportunistic_grafts_then any_by_words params number members candidates grafted (λ more t. (more, t)) s
 
   -- who goes and who comes in by the next words, and the state after them
   unfoldable pub step_by_words : Params → ℕ → List Member → List Member → S → MeshChange × S
-  step_by_words params tick mesh candidates s =
-      stepped any_by_words cut_by_words params tick mesh candidates (λ change t. (change, t)) s
+  step_by_words params number mesh candidates s =
+      stepped any_by_words cut_by_words params number mesh candidates (λ change t. (change, t)) s
 
 -- ---- any step
 
@@ -144,14 +144,15 @@ AreOpportunisticGrafts true most members candidates more = IsSample most (peers_
 AreOpportunisticGrafts false most members candidates more = more ≡ []
 
 -- Who goes and who comes in, by any choices.
-pub record IsMeshStep (params : Params) (tick : ℕ) (mesh candidates : List Member) (change : MeshChange) : Type 0 where
+pub record IsMeshStep (params : Params) (number : ℕ) (mesh candidates : List Member)
+    (change : MeshChange) : Type 0 where
   pub kept : List PeerNo
   pub grafted : List PeerNo
   pub more : List PeerNo
   pub is_mended
       : IsMended (condition_of params.degrees (not_negative mesh)) params.degrees (not_negative mesh) candidates kept grafted
   pub are_opportunistic_grafts
-      : AreOpportunisticGrafts (is_poor params tick (mended_members (not_negative mesh) candidates kept grafted))
+      : AreOpportunisticGrafts (is_poor params number (mended_members (not_negative mesh) candidates kept grafted))
       params.timing.opportunistic_peers
       (mended_members (not_negative mesh) candidates kept grafted)
       (outside grafted candidates)
@@ -163,8 +164,8 @@ pub record IsMeshStep (params : Params) (tick : ℕ) (mesh candidates : List Mem
 module _ {S : Type 0} (word : S → ℕ) (after : S → S) where
   abbrev pub EachIsAMeshStep : Type 0
   EachIsAMeshStep =
-      (params : Params) (tick : ℕ) (mesh candidates : List Member) (s : S)
+      (params : Params) (number : ℕ) (mesh candidates : List Member) (s : S)
       → IsAscending (peers_of mesh)
       → IsAscending (peers_of candidates)
       → params.degrees.d_score + params.degrees.d_out ≤ params.degrees.d
-      → IsMeshStep params tick mesh candidates (step_by_words word after params tick mesh candidates s).0
+      → IsMeshStep params number mesh candidates (step_by_words word after params number mesh candidates s).0

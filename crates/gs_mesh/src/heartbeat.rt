@@ -14,7 +14,7 @@ use std::alloc::{AllocError, Global};
 #[derive(Clone, Copy)]
 pub struct Heartbeat<'a> {
     pub params: &'a Params,
-    pub tick: u64,
+    pub number: u64,
 }
 
 /// Who leaves a mesh at a heartbeat, and who comes into it. Each list ascends by number.
@@ -53,7 +53,7 @@ pub fn choose_heartbeat<W: Words>(
     requires ticks { 1 ≤ heartbeat.params.now.timing.opportunistic_ticks }
     requires members { IsAscending (peers_of mesh.now) }
     requires candidates { IsAscending (peers_of candidates.now) }
-    ensures { IfOk result (λ change. step_by_words W.word W.after heartbeat.entry.params.now heartbeat.entry.tick
+    ensures { IfOk result (λ change. step_by_words W.word W.after heartbeat.entry.params.now heartbeat.entry.number
         mesh.now candidates.now words.old
         ≡ (change, words.new)) }
 {
@@ -104,7 +104,7 @@ fn mended_members(
 
 // ---- the number of members
 
-/// Whom a mesh keeps, and who comes into it, as its number of members wants it.
+/// Whom a mesh keeps, and who comes into it, as its number of members asks for it.
 fn mend<W: Words>(
     alloc: Global,
     degrees: &Degrees,
@@ -178,12 +178,12 @@ fn median_is_below(members: &[Member], score: &i128) -> bool
 }
 
 /// Whether a mesh of these members is to get better ones at a heartbeat of this number.
-fn is_poor(params: &Params, tick: u64, members: &[Member]) -> bool
+fn is_poor(params: &Params, number: u64, members: &[Member]) -> bool
     requires { 1 ≤ params.now.timing.opportunistic_ticks }
-    ensures { result ≡ is_poor params.now tick members.now }
+    ensures { result ≡ is_poor params.now number members.now }
 {
     let threshold = i128::from(params.thresholds.opportunistic_threshold);
-    tick % params.timing.opportunistic_ticks == 0 && median_is_below(members, &threshold)
+    number % params.timing.opportunistic_ticks == 0 && median_is_below(members, &threshold)
 }
 
 fn above_median(
@@ -212,11 +212,11 @@ impl Heartbeat<'_> {
     ) -> Result<Vec<PeerNo>, AllocError>
         requires ticks { 1 ≤ self.params.now.timing.opportunistic_ticks }
         requires candidates { IsAscending (peers_of candidates.now) }
-        ensures { IfOk result (λ more. opportunistic_grafts_by_words W.word W.after self.entry.params.now self.entry.tick
-            members.now candidates.now grafted.now words.old
+        ensures { IfOk result (λ more. opportunistic_grafts_by_words W.word W.after
+            self.entry.params.now self.entry.number members.now candidates.now grafted.now words.old
             ≡ (more.items, words.new)) }
     {
-        if !is_poor(self.params, self.tick, members) {
+        if !is_poor(self.params, self.number, members) {
             return Ok(Vec::new(alloc));
         }
         let others = outside(alloc, grafted, candidates)?;
@@ -229,9 +229,9 @@ impl Heartbeat<'_> {
 
 // ---- what choices keep
 
-/// Whatever the words, what a heartbeat chooses is what the rules allow: as many as they say, and of those whom they name.
-/// Members and candidates ascend by number, and `d` has room for `d_score` and `d_out`, as in parameters that pass their
-/// checks.
+/// Whatever the words, what a heartbeat chooses is what the rules allow: as many as they say, and of those that they
+/// name. Members and candidates ascend by number, and `d` has room for `d_score` and `d_out`, as in parameters that
+/// pass their checks.
 pub fn a_choice_by_words_is_a_mesh_step<W: Words>()
     ensures { EachIsAMeshStep W.word W.after }
 {}

@@ -11,9 +11,9 @@ use std::alloc::Global;
 pub struct TopicMesh {
     /// Whether the peer is subscribed to it.
     pub is_joined: bool,
-    /// To whom messages on it are passed on.
+    /// The neighbours that messages on it are passed on to.
     pub members: PeerList,
-    /// To whom messages go that the peer publishes without being subscribed.
+    /// The neighbours that get what the peer publishes without being subscribed.
     pub fanout: PeerList,
     /// When the peer last published on it without being subscribed, for as long as that keeps a fanout.
     pub last_published: Option<Millis>,

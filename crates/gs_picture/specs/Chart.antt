@@ -6,15 +6,9 @@ use Rattle.gs_picture.specs.declared.pieces.Piece.TheVariants.{TextEnds, TagEnds
 use Rattle.gs_picture.specs.declared.pieces.Part.TheVariants.{LevelBegins, LevelLabel, LevelEnds, TickBegins, TickLabel, TickText, CourseBegins, CourseLine, CourseEnds}
 use Rattle.gs_picture.specs.Pieces.{chart_words, part, piece}
 
--- where its axes begin and end
+-- where its axes meet
 abbrev pub left : ℕ
 left = 60
-
-abbrev pub right : ℕ
-right = 860
-
-abbrev pub top : ℕ
-top = 720
 
 abbrev pub bottom : ℕ
 bottom = 920

@@ -5,11 +5,22 @@ ghost use Rattle.gs_picture.specs.Pieces.{chart_words, legend_words, part, piece
 use crate::pen::push;
 use std::alloc::AllocError;
 
-const LEGEND_WORDS: &str =
-    "<text class=\"head\" x=\"60\" y=\"590\">Each disc is a peer, by the lowest score that a neighbour gives it at the end</text>\n<g class=\"disc off\" transform=\"translate(69 660)\"><circle r=\"9\"/></g><text x=\"85\" y=\"664\">hollow: not subscribed to the topic</text>\n<path class=\"both\" d=\"M316 660H340\"/><text x=\"345\" y=\"664\">each has the other in its mesh</text>\n<path class=\"tail\" d=\"M576 660H592\"/><path class=\"tip\" d=\"M592 655L602 660L592 665z\"/><text x=\"605\" y=\"664\">the tail alone has the head in its mesh</text>\n";
+const LEGEND_WORDS: &str = "\
+    <text class=\"head\" x=\"60\" y=\"590\">\
+    Each disc is a peer, by the lowest score that a neighbour gives it at the end</text>\n\
+    <g class=\"disc off\" transform=\"translate(69 660)\"><circle r=\"9\"/></g>\
+    <text x=\"85\" y=\"664\">hollow: not subscribed to the topic</text>\n\
+    <path class=\"both\" d=\"M316 660H340\"/>\
+    <text x=\"345\" y=\"664\">each has the other in its mesh</text>\n\
+    <path class=\"tail\" d=\"M576 660H592\"/>\
+    <path class=\"tip\" d=\"M592 655L602 660L592 665z\"/>\
+    <text x=\"605\" y=\"664\">the tail alone has the head in its mesh</text>\n";
 
-const CHART_WORDS: &str =
-    "<text class=\"head\" x=\"60\" y=\"700\">Share of the peers that each publication on the topic reached</text>\n<text class=\"middle\" x=\"460\" y=\"958\">rounds since it was published</text>\n";
+const CHART_WORDS: &str = "\
+    <text class=\"head\" x=\"60\" y=\"700\">\
+    Share of the peers that each publication on the topic reached</text>\n\
+    <text class=\"middle\" x=\"460\" y=\"958\">\
+    rounds since it was published</text>\n";
 
 const STYLE: &str = "\
 <style>
@@ -48,7 +59,9 @@ text,.off text{fill:#e6edf3}
 .course{stroke:#58a6ff}
 }
 </style>
-<defs><marker id=\"head\" refX=\"18\" refY=\"5\" markerWidth=\"10\" markerHeight=\"10\" markerUnits=\"userSpaceOnUse\" orient=\"auto\"><path d=\"M0 0L10 5L0 10z\"/></marker></defs>
+<defs><marker id=\"head\" refX=\"18\" refY=\"5\" \
+    markerWidth=\"10\" markerHeight=\"10\" markerUnits=\"userSpaceOnUse\" orient=\"auto\">\
+    <path d=\"M0 0L10 5L0 10z\"/></marker></defs>
 <rect class=\"back\" width=\"100%\" height=\"100%\"/>
 ";
 
@@ -98,7 +111,7 @@ pub(crate) enum Part {
 }
 
 #[tactic(auto, unfolding(crate::specs::Pieces::piece))]
-fn words_of(one: Piece) -> &'static str
+fn piece_text(one: Piece) -> &'static str
     ensures { result.now ≡ piece one }
 {
     match one {
@@ -152,7 +165,7 @@ fn text_of(one: Part) -> &'static str
 pub(crate) fn push_piece(text: &mut Vec<u8>, one: Piece) -> Result<(), AllocError>
     ensures { OnOk result (text.new.items ≡ text.old.items ++ piece one) }
 {
-    push(text, words_of(one))
+    push(text, piece_text(one))
 }
 
 /// Adds a text of what stands round the circle.

@@ -12,7 +12,7 @@ use Rattle.gs_rules.proofs.Each.{each_weaker}
 use Rattle.gs_player.specs.Ended.{whole}
 use Rattle.gs_player.proofs.Words.{comes_stays, whole_before}
 
--- a neighbour of which so many rounds have ended has said more
+-- a neighbour whose first n rounds have ended has said more
 abbrev pub GoesOn : ℕ → (PeerNo → Said) → (PeerNo → Said) → PeerNo → Type 0
 GoesOn n said said' q = (whole n (said q) ≡ true) × (more : Said) × (said' q ≡ said q ++ more)
 

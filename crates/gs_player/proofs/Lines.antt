@@ -4,7 +4,7 @@ use Rattle.std.proofs.lemmas.List.{drop_more}
 use Rattle.gs_plan.specs.declared.plan.Line.{Line}
 use Rattle.gs_rules.specs.Rounds.{Todo, obey}
 
--- one line more is done, and those behind it are left
+-- one line more is done, and those after it are left
 pub line_done : (xs : List (ℕ × Line)) (n : ℕ) (x : ℕ × Line) (done all : List Todo)
     → n < length xs
     → x ≡ get_or xs n x

@@ -73,7 +73,7 @@ opening_within p K at Beat work = tt
 opening_within p K at (EndRound r) work = absurd work
 opening_within p K at Stop work = tt
 
--- the one trace goes on behind the other, and no round ends in between
+-- the one trace goes on after the other, and no round ends in between
 abbrev pub GoesOnWithin : Entries → Entries → Type 0
 GoesOnWithin K L = (entries : List Entry) × (L ≡ entries ++ K) × AllWithin entries
 
@@ -165,7 +165,7 @@ abbrev event_or : Event → Entries → Event
 event_or d [] = d
 event_or d (e ∷ L) = e.event
 
--- behind the end nothing is paid
+-- after the end nothing is paid
 ends_alone : (p : Peer) (at : Millis) (r : ℕ) (M K before : Entries) (end first : Entry) (paid : List Entry)
     → K ≡ paid ++ first ∷ M → K ≡ end ∷ before → end.event ≡ RoundEnd r → AllByRecursion (λ (e : Entry). IsOwed e.event) paid → before ≡ M
 ends_alone p at r M K before end first [] is are is_end owed = ap rest_of (sym are ∙ is)

@@ -19,7 +19,7 @@ use Rattle.gs_player.proofs.Words.{after_stays, bytes_split, whole_stays}
 
 -- ---- within a round
 
--- whoever is lost is told no more, and nobody else is told an end
+-- nothing more is said to whoever is lost, and no end to anybody else
 sign_closes : (q : PeerNo) (event : Event) → IsWithin event → sign q event ≡ close_if (not (up_after q event true))
 sign_closes q (RoundEnd r) within = absurd within
 sign_closes q Shut within = refl
@@ -130,10 +130,10 @@ ends_last r [] true = ap (λ (b : Bool). if b then true else false) (eq-eqb r r 
 ends_last r [] false = refl
 ends_last r (b ∷ bytes) is_open = ends_last r bytes is_open
 
-behind_last : (r : ℕ) (bytes : List ℕ) (is_open : Bool) → behind r (map Byte bytes ++ last_token r is_open ∷ []) ≡ close_if (not is_open)
-behind_last r [] true = ap (λ (b : Bool). if b then [] else behind r []) (eq-eqb r r refl)
-behind_last r [] false = refl
-behind_last r (b ∷ bytes) is_open = behind_last r bytes is_open
+after_last : (r : ℕ) (bytes : List ℕ) (is_open : Bool) → behind r (map Byte bytes ++ last_token r is_open ∷ []) ≡ close_if (not is_open)
+after_last r [] true = ap (λ (b : Bool). if b then [] else behind r []) (eq-eqb r r refl)
+after_last r [] false = refl
+after_last r (b ∷ bytes) is_open = after_last r bytes is_open
 
 closes_last : (r : ℕ) (bytes : List ℕ) (is_open : Bool) → closes (front r (map Byte bytes ++ last_token r is_open ∷ [])) ≡ not is_open
 closes_last r [] true = ap (λ (b : Bool). closes (if b then [] else front r [])) (eq-eqb r r refl)
@@ -149,7 +149,7 @@ stands_open r w w' is_open bytes stands is =
     record {
       stands = record {
         ended = ap₂ (λ (a b : Bool). a && b) still (ap (ends r) there ∙ ends_last r bytes is_open);
-        rest = ap (behind r) there ∙ behind_last r bytes is_open;
+        rest = ap (behind r) there ∙ after_last r bytes is_open;
       };
       closes_so = ap (λ (v : Said). closes (front r v)) there ∙ closes_last r bytes is_open;
     }

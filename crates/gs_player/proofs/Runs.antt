@@ -1,12 +1,11 @@
 -- What a router that is called one thing after the other has done.
-use Rattle.std.proofs.Common.{◌≡◌, ◌≤◌, ℕ, Bool, false, List, [], ◌∷◌, ◌++◌, Option, None, Some, Ok, Err, Result, refl, sym, ap, subst, subst₂, ◌∙◌, append_assoc, append-nil, arith, if◌then◌else◌, true≢false}
+use Rattle.std.proofs.Common.{◌≡◌, ◌≤◌, ℕ, Bool, false, List, [], ◌∷◌, ◌++◌, Option, None, Some, Ok, Err, Result, refl, sym, ap, subst, ◌∙◌, append_assoc, append-nil, arith, if◌then◌else◌, true≢false}
 use Rattle.std.specs.Result.{IsOk}
 use Rattle.gs_base.specs.declared.names.Millis.{Millis}
 use Rattle.gs_plan.specs.declared.plan.Act.{Act}
 use Rattle.gs_rules.specs.declared.event.Event.{Event}
 use Rattle.gs_rules.specs.declared.event.Event.TheVariants.{Own}
 use Rattle.gs_rules.specs.declared.trace.Entry.{Entry}
-use Rattle.gs_rules.specs.declared.refusal.Refusal.{Refusal}
 use Rattle.gs_rules.specs.declared.refusal.Refusal.TheVariants.{Stopped}
 use Rattle.gs_rules.specs.declared.refusal.RefusedLine.{RefusedLine}
 use Rattle.gs_rules.specs.Peers.{Peer}
@@ -17,7 +16,6 @@ use Rattle.gs_rules.specs.Legal.{ArePayments, LegalOn, Opens, Comes}
 use Rattle.gs_rules.specs.Refusals.{refusal}
 use Rattle.gs_rules.specs.Rounds.{Todo, Obey, Does, opening, noted, note_of, unless_refused}
 use Rattle.gs_router.specs.declared.fault.RouterFault.{RouterFault}
-use Rattle.gs_router.specs.declared.fault.RouterFault.TheVariants.{Refused}
 use Rattle.gs_rules.proofs.Legality.{legal_then}
 use Rattle.gs_router.specs.State.{Appends}
 use Rattle.gs_router.specs.Router.{RouterView, Calls, refusal_of}
@@ -47,9 +45,6 @@ comes_moment p at None K L comes before = subst (λ (M : Entries). last_moment M
 comes_moment p at (Some event) K L comes before = omega (arith, opens_moment p at event K L comes)
 
 module _ (m : Mode) (now : Millis) where
-  pub runs_none : (v : RouterView) (s : m.State) → IsRunning now v → Runs m now [] v s v s []
-  runs_none v s running = record { does = (refl, refl); appended = record { entries = []; are = refl; legal = refl }; runs_on = running; peer = refl }
-
   appends_then : (p : Peer) (K L M : Entries) (s u t : m.State) → Appends m p K s L u → Appends m p L u M t → Appends m p K s M t
   appends_then p K L M s u t h k = record {
     entries = k.entries ++ h.entries;
@@ -74,7 +69,7 @@ module _ (m : Mode) (now : Millis) where
     peer = calls.peer;
   }
 
-  -- a call that only want of memory could have kept from being done
+  -- a call that only a lack of memory could have kept from being done
   pub told_runs : (todo : Todo) (event : Option Event) (v w : RouterView) (s t : m.State) (told : Result (Unit {0}) RouterFault) → IsOk told → opening v.peer v.trace now todo ≡ event → noted v.peer v.trace now todo ≡ [] → IsRunning now v → Calls m event now v s told w t → Runs m now (todo ∷ []) v s w t []
   told_runs todo event v w s t (Ok x) ok opens none running calls = call_runs todo event v w s t opens none running calls
   told_runs todo event v w s t (Err fault) ok opens none running calls = absurd (true≢false (sym ok))
@@ -90,20 +85,9 @@ module _ (m : Mode) (now : Millis) where
       let unrefused : refusal v.peer v.trace now.0 (Own what) ≡ None = sym (goes_on v (Own what) running.running) ∙ calls.answer.free in
       call_runs (Obey place what) (Some (Own what)) v w s t (ap (unless_refused (Own what)) unrefused) (ap (note_of now place) unrefused) running calls
 
-  -- a line that is refused
-  pub line_refused : (place : ℕ) (what : Act) (v w : RouterView) (s t : m.State) (why : Refusal) → IsRunning now v → Calls {A = Unit {0}} m (Some (Own what)) now v s (Err (Refused why)) w t → Runs m now (Obey place what ∷ []) v s w t (record { at = now; line = place; why = why } ∷ [])
-  line_refused place what v w s t why running calls =
-      let due : refusal v.peer v.trace now.0 (Own what) ≡ Some why = sym (goes_on v (Own what) running.running) ∙ calls.answer.first in
-      subst₂ (λ (u : RouterView) (e : m.State). Runs m now (Obey place what ∷ []) v s u e (record { at = now; line = place; why = why } ∷ [])) (sym calls.answer.unchanged) (sym calls.answer.undrawn) (record {
-        appended = record { entries = []; are = refl; legal = refl };
-        does = does_one v.peer now (Obey place what) v.trace v.trace _ (subst (λ (o : Option Refusal). Comes v.peer now (unless_refused (Own what) o) v.trace v.trace) (sym due) refl) (sym (ap (note_of now place) due));
-        runs_on = running;
-        peer = refl;
-      })
-
 -- ---- what is legal
 
--- more that is legal, behind what was
+-- more that is legal, after what was
 pub legal_more : (p q : Peer) (first s t : SeededState) (K L : Entries) → q ≡ p → LegalOn (exact seeded_word seeded_after) p first [] K s → Appends (exact seeded_word seeded_after) q K s L t → LegalOn (exact seeded_word seeded_after) p first [] L t
 legal_more p q first s t K L same legal more =
     let m = exact seeded_word seeded_after in

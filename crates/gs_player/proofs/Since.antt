@@ -1,4 +1,4 @@
--- The entries that came since so many, as a caller sees them: the oldest first.
+-- The entries that came after the first `told` ones, as a caller sees them: the oldest first.
 use Rattle.std.proofs.Common.{◌≡◌, ◌-◌, ℕ, Bool, true, false, if◌then◌else◌, List, [], ◌∷◌, ◌++◌, length, take, drop, reverse, refl, sym, ap, ap₂, subst, ◌∙◌, append_assoc}
 use Rattle.std.proofs.lemmas.List.{reverse-append, reverse-reverse, length-reverse, drop_at}
 use Rattle.gs_base.specs.declared.names.PeerNo.{PeerNo}
@@ -26,7 +26,7 @@ pub fits_since : (p : Peer) (told : ℕ) (all : List Entry) (L : Entries) → re
 fits_since p told all L is legal =
     subst (λ (entries : List Entry). AllFit codec (take (length all - told) (drop told entries))) (sym (seen_as all L is)) (legal_part_fits p L told (length all - told) legal)
 
--- behind so many entries stand those that came since
+-- the entries after the first `told` ones are those that came since
 pub since : (told : ℕ) (all es : List Entry) (K L : Entries) → reverse all ≡ L → L ≡ es ++ K → length K ≡ told → drop told all ≡ reverse es
 since told all es K L is added counted =
     ap₂ (λ (n : ℕ) (xs : List Entry). drop n xs) (sym counted) (seen_as all L is) ∙ newest K L es added
@@ -34,7 +34,7 @@ since told all es K L is added counted =
 pub counted : (all : List Entry) (L : Entries) → reverse all ≡ L → length all ≡ length L
 counted all L is = sym (length-reverse all) ∙ ap length is
 
--- ---- behind the close
+-- ---- after the close
 
 stays_down : (ends : Bool) → (if ends then false else false) ≡ false
 stays_down true = refl

@@ -34,7 +34,7 @@ pub one_whole : (r : ℕ) (w : Said) → whole r w ≡ true → whole (suc r) (w
 one_whole r w h =
     ap₂ (λ (a b : Bool). a && b) (whole_stays r w (EndOf r ∷ []) h) (ap (ends r) (after_stays r w (EndOf r ∷ []) h) ∙ end_stands r (after r w))
 
--- ---- what is down stays down, and is told nothing more
+-- ---- what is down stays down, and hears nothing more
 
 pub stays_down : (q : PeerNo) (L : Entries) (entries : List Entry) → up L q ≡ false → up (entries ++ L) q ≡ false
 stays_down q L [] down = down
@@ -82,7 +82,7 @@ end_said q r M e is is_up =
 
 -- ---- a round
 
--- in what is said to q, that is up, so many rounds have ended
+-- in what is said to q, that is up, r rounds have ended
 pub rounds_whole : (seat : Seat) (said : PeerNo → Said) (r : ℕ) (K : Entries) (refused : List RefusedLine) (q : PeerNo) → AfterRounds seat said r K refused → up K q ≡ true → whole r (out codec K q) ≡ true
 rounds_whole seat said zero K refused q h is_up = refl
 rounds_whole seat said (suc r) K refused q (J, earlier, more, before, plays, is) is_up =

@@ -1,4 +1,4 @@
--- What is said, when more is said behind it.
+-- What is said, when more is said after it.
 use Rattle.std.proofs.Common.{◌≡◌, ℕ, zero, suc, Bool, true, false, if◌then◌else◌, ◌&&◌, nat_eq, List, [], ◌∷◌, ◌++◌, refl, sym, ap, ap₂, subst, ◌∙◌, append_assoc, true≢false}
 use Rattle.gs_base.specs.Tokens.{Byte, EndOf, Close as Closing, Said, bytes_of}
 use Rattle.gs_rules.specs.Hearing.{after, behind, bytes_before, closes, front, said_in, Inbound, IsBetween, ComesIn}
@@ -96,7 +96,7 @@ whole_before r w h = and_left (whole r w) (ends r (after r w)) h
 whole_ends : (r : ℕ) (w : Said) → whole (suc r) w ≡ true → ends r (after r w) ≡ true
 whole_ends r w h = and_right (whole r w) (ends r (after r w)) h
 
--- where so many rounds have ended, more goes behind them
+-- where r rounds have ended, more goes after them
 pub after_stays : (r : ℕ) (v w : Said) → whole r v ≡ true → after r (v ++ w) ≡ after r v ++ w
 after_stays zero v w h = refl
 after_stays (suc r) v w h =
@@ -137,7 +137,7 @@ bytes_at r (EndOf k ∷ w) = either (nat_eq k r) (bytes_at r w)
     either false again = again
 bytes_at r (Closing ∷ w) = refl
 
--- the bytes of so many rounds, and those behind them
+-- the bytes of the first r rounds, and those after them
 pub bytes_split : (r : ℕ) (w : Said) → bytes_of w ≡ bytes_before r w ++ bytes_of (after r w)
 bytes_split zero w = refl
 bytes_split (suc r) w =
@@ -154,7 +154,7 @@ closes_behind r (EndOf k ∷ w) = either (nat_eq k r) (closes_behind r w)
     either false again = again
 closes_behind r (Closing ∷ w) = refl
 
--- a close stays behind all rounds
+-- a close stays after all rounds
 pub closes_after : (r : ℕ) (w : Said) → closes (after r w) ≡ closes w
 closes_after zero w = refl
 closes_after (suc r) w = closes_behind r (after r w) ∙ closes_after r w

@@ -1,5 +1,5 @@
 -- Which faults a run may meet.
-use Rattle.std.proofs.Common.{◌≡◌, Result, Ok, Err, IfErr, false, true, refl, rules}
+use Rattle.std.proofs.Common.{◌≡◌, Result, Ok, Err, IfErr, false, true, rules}
 use Rattle.gs_report.specs.declared.report.Report.{Report}
 use Rattle.gs_seats.specs.declared.fault.NetFault.{NetFault}
 use Rattle.gs_seats.specs.Faults.{number_of}

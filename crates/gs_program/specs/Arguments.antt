@@ -9,10 +9,11 @@ use Rattle.gs_program.specs.Program.{status_of}
 abbrev pub wrong_arguments : ℕ
 wrong_arguments = 64
 
--- what is said where there was no memory for them, as of a run, and the status
+-- what is said where there was no memory for them, as of a run
 abbrev pub no_memory : List ℕ
 no_memory = codes "run refused: 24\n"
 
+-- the status then, which is that of a refused run
 abbrev pub refused : ℕ
 refused = status_of RunRefused
 

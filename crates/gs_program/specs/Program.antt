@@ -93,8 +93,7 @@ status_of ends.OutputFailed = 3
 
 -- of a program that writes this text of a report
 module _ (text_of : Plan → Report → List ℕ) where
-  -- the whole text of a run of the scenario, of which nothing is left to read, is on the output, and nothing more on
-  -- errors
+  -- nothing is left to read of the scenario; the whole text of its run is on the output, and nothing more on errors
   pub record Reported (input input' output output' errors errors' : Option (List ℕ)) : Type 0 where
     pub plan : Plan
     pub scenario : IsScenario input plan

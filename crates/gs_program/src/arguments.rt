@@ -3,7 +3,7 @@ ghost use Rattle.std.specs.Prelude.{◌≡◌, ◌≢◌};
 ghost use Rattle.std.specs.Process.{exit_status};
 ghost use Rattle.gs_program.specs.Arguments.{IsRefusedSo, no_memory, refused, wrong_arguments};
 
-use gs_streams::tell;
+use gs_streams::try_to_write;
 use std::alloc::AllocGlobal;
 use std::env::{self, Env};
 use std::io::{self, ErrorKind, Write};
@@ -25,7 +25,7 @@ pub fn arguments_of<T: Env + AllocGlobal>(rt: &T) -> io::Result<Vec<String>> {
 pub fn refuse_arguments<E: Write>(errors: &mut E, usage: &str) -> ExitCode
     ensures { IsRefusedSo usage.now wrong_arguments (exit_status result) (E.contents errors.old) (E.contents errors.new) }
 {
-    tell(errors, usage);
+    try_to_write(errors, usage);
     ExitCode::from(64)
 }
 
@@ -37,7 +37,7 @@ pub fn refuse_unread<E: Write>(cause: ErrorKind, errors: &mut E, usage: &str) ->
         → IsRefusedSo usage.now wrong_arguments (exit_status result) (E.contents errors.old) (E.contents errors.new) }
 {
     if cause == ErrorKind::OutOfMemory {
-        tell(errors, "run refused: 24\n");
+        try_to_write(errors, "run refused: 24\n");
         return ExitCode::from(2);
     }
     refuse_arguments(errors, usage)

@@ -14,7 +14,7 @@ use gs_plan::Plan;
 use gs_report::Report;
 use gs_scenario::ScenarioFault;
 use gs_seats::NetFault;
-use gs_streams::{ReadFault, input_too_long, plan_from, read_input, tell, write_text};
+use gs_streams::{ReadFault, input_too_long, plan_from, read_input, try_to_write, write_text};
 use std::alloc::Global;
 use std::io::{Read, Write};
 use std::mem;
@@ -79,7 +79,7 @@ impl<P: Printer> Program<P> {
     }
 
     /// Runs the program over these streams, and gives the status that its process ends with.
-    pub fn ended<R, W, E>(&self, input: &mut R, output: &mut W, errors: &mut E) -> ExitCode
+    pub fn run_to_exit<R, W, E>(&self, input: &mut R, output: &mut W, errors: &mut E) -> ExitCode
     where
         R: Read,
         W: Write,
@@ -110,7 +110,7 @@ impl<P: Printer> Program<P> {
         match plan_in(self.alloc, input) {
             Ok(plan) => Ok(plan),
             Err(NoPlan::InputFailed) => {
-                tell(errors, "input failed\n");
+                try_to_write(errors, "input failed\n");
                 Err(ExitStatus::InputFailed)
             }
             Err(NoPlan::Refused(fault)) => {
@@ -146,7 +146,7 @@ impl<P: Printer> Program<P> {
             }
         };
         if write_text(output, &text).is_err() {
-            tell(errors, "output failed\n");
+            try_to_write(errors, "output failed\n");
             return ExitStatus::OutputFailed;
         }
         ExitStatus::Reported

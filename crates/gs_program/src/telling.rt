@@ -7,7 +7,7 @@ use gs_plan::Plan;
 use gs_report::name_of;
 use gs_scenario::ScenarioFault;
 use gs_seats::NetFault;
-use gs_streams::tell;
+use gs_streams::try_to_write;
 use std::alloc::{AllocError, Global};
 use std::io::Write;
 
@@ -17,8 +17,8 @@ pub fn tell_refusal<E: Write>(alloc: Global, errors: &mut E, fault: &ScenarioFau
     ensures { TellsRefusal fault.now (E.contents errors.old) (E.contents errors.new) }
 {
     match refusal_line(alloc, fault) {
-        Ok(line) => tell(errors, line.as_str()),
-        Err(_) => tell(errors, "scenario refused: 32\n"),
+        Ok(line) => try_to_write(errors, line.as_str()),
+        Err(_) => try_to_write(errors, "scenario refused: 32\n"),
     }
 }
 
@@ -34,8 +34,8 @@ pub fn tell_fault<E: Write>(alloc: Global, errors: &mut E, plan: &Plan, fault: N
     ensures { TellsFault plan.now fault (E.contents errors.old) (E.contents errors.new) }
 {
     match fault_line(alloc, plan, fault) {
-        Ok(line) => tell(errors, line.as_str()),
-        Err(_) => tell(errors, nameless_line(fault)),
+        Ok(line) => try_to_write(errors, line.as_str()),
+        Err(_) => try_to_write(errors, nameless_line(fault)),
     }
 }
 

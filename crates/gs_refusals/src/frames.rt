@@ -24,7 +24,7 @@ fn seen_as(answer: Result<(), WireFault>, is_same: bool) -> Seen {
     }
 }
 
-/// Writes an RPC behind what is written.
+/// Writes an RPC after what is written.
 fn try_writing(rpc: &Rpc, buffer: &mut Vec<u8>) -> Seen {
     let answer = encode(rpc, buffer);
     let body = seen_as(answer, buffer.as_slice() == b"xy".as_slice());
@@ -44,7 +44,7 @@ fn try_body(alloc: Global) -> Seen {
     }
 }
 
-/// Feeds a piece; where memory is wanting, the same piece again.
+/// Feeds a piece; where there is no memory, the same piece again.
 fn try_piece(alloc: Global, reader: &mut FrameReader, rpcs: &mut Vec<Rpc>, piece: &[u8]) -> Seen {
     let before = (reader.pending(), rpcs.len());
     match reader.feed(alloc, piece, rpcs) {

@@ -1,6 +1,6 @@
-//! Makes each call that can want memory, of the caches, scores, meshes, codec and reader, and has routers do what they do
-//! at some moments. For each of these it writes a line, `right` where all that is seen is allowed. It is run with one growth
-//! of its memory refused after the other.
+//! Makes each call that can run out of memory, of the caches, scores, meshes, codec and reader, and has routers do what
+//! they do at some moments. For each of these it writes a line, `right` where all that is seen is allowed. It is run
+//! with one growth of its memory refused after the other.
 #![tactic(auto)]
 
 mod frames;
@@ -24,19 +24,19 @@ use std::io::Write;
 
 /// Tries what a router stands on.
 fn tell_parts<W: Write>(alloc: Global, output: &mut W) {
-    try_codec(alloc).tell(output, "a body that is read and written");
-    try_reader(alloc).tell(output, "a stream that is read");
-    try_sightings(alloc).tell(output, "a cache of what was seen");
-    try_messages(alloc).tell(output, "a cache of messages");
-    try_standings(alloc).tell(output, "scores");
-    try_meshes(alloc).tell(output, "meshes");
+    try_codec(alloc).write_line(output, "a body that is read and written");
+    try_reader(alloc).write_line(output, "a stream that is read");
+    try_sightings(alloc).write_line(output, "a cache of what was seen");
+    try_messages(alloc).write_line(output, "a cache of messages");
+    try_standings(alloc).write_line(output, "scores");
+    try_meshes(alloc).write_line(output, "meshes");
 }
 
 /// Tries routers.
 fn tell_routers<W: Write>(alloc: Global, output: &mut W) {
     let moments: [&Moment; 3] = [&A_BACKOFF, &OFFERS, &GRAFTS];
     for moment in moments {
-        try_moment(alloc, moment).tell(output, moment.name);
+        try_moment(alloc, moment).write_line(output, moment.name);
     }
 }
 

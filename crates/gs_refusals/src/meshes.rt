@@ -90,7 +90,7 @@ fn try_all(meshes: &mut Meshes, topic: &Topic) -> Seen {
     seen
 }
 
-/// Tries each call of meshes that wants memory.
+/// Tries each call of meshes that needs memory.
 pub fn try_meshes(alloc: Global) -> Seen {
     let Ok(name) = Bytes::copy_from_slice(alloc, b"a") else {
         return Seen::NoMemory;

@@ -77,7 +77,7 @@ fn message(alloc: Global, number: u8) -> Result<SharedPart<Message>, AllocError>
     message.share(alloc)
 }
 
-/// Makes a call, and tells whether memory was wanting for the cache.
+/// Makes a call, and tells whether the cache ran out of memory.
 fn perform(alloc: Global, cache: &mut MessageCache, call: &Call) -> Result<Seen, AllocError> {
     let answer = match call {
         Call::Put(number) => {
@@ -121,7 +121,7 @@ fn try_all(alloc: Global, cache: &mut MessageCache, topic: &Topic) -> Seen {
     seen
 }
 
-/// Tries each call of a cache of messages that wants memory.
+/// Tries each call of a cache of messages that needs memory.
 pub fn try_messages(alloc: Global) -> Seen {
     let Ok(topic) = topic(alloc) else {
         return Seen::NoMemory;

@@ -1,20 +1,20 @@
-//! What routers do, of whom one may be short of memory.
+//! What routers do. One of them may be short of memory.
 use gs_params::{DEFAULT_FACTORS, Factors};
-use gs_router_calls::Call::{Hear, Heartbeat, Subscribe};
-use gs_router_calls::Id::Of;
-use gs_router_calls::Said::{Graft, Have, Message, Prune, Want};
-use gs_router_calls::{Call, Case, Id, Kind, NOTHING, Said};
+use gs_router_testkit::Call::{Hear, Heartbeat, Subscribe};
+use gs_router_testkit::CasePart::{Graft, Have, Message, Prune, Want};
+use gs_router_testkit::Id::Of;
+use gs_router_testkit::{Call, Case, CasePart, Id, Kind, NOTHING};
 
 /// What a router does at which moments, and what it has left of that in the end.
 pub struct Moment {
     pub name: &'static str,
     pub case: Case<'static>,
     pub calls: &'static [(u64, Call<'static>)],
-    pub ends: Ends,
+    pub ends: TraceEnd,
 }
 
 /// How a trace ends.
-pub struct Ends {
+pub struct TraceEnd {
     pub entries: usize,
     /// How many RPCs were sent.
     pub sends: usize,
@@ -24,9 +24,10 @@ pub struct Ends {
     pub members: &'static [u16],
 }
 
-const GRAFT: &[Said<'static>] = &[Graft("a")];
+const GRAFT: &[CasePart<'static>] = &[Graft("a")];
 
-/// Both neighbours are told of `a`. The first GRAFT comes in the backoff, is charged and answered; the second one does not.
+/// The router tells both neighbours of `a`. The first GRAFT comes in the backoff, is charged and answered; the second
+/// one does not.
 pub static A_BACKOFF: Moment = Moment {
     name: "a router that hears a PRUNE, and GRAFTs in its backoff and behind it",
     case: Case {
@@ -42,7 +43,7 @@ pub static A_BACKOFF: Moment = Moment {
         (999, Hear(1, GRAFT)),
         (60_999, Hear(1, GRAFT)),
     ],
-    ends: Ends {
+    ends: TraceEnd {
         entries: 7,
         sends: 3,
         charges: 1,
@@ -53,8 +54,9 @@ pub static A_BACKOFF: Moment = Moment {
 /// An identifier, four times.
 const FOUR_TIMES: &[Id<'static>] = &[Of(&[1]), Of(&[1]), Of(&[1]), Of(&[1])];
 
-/// Both neighbours are told of `a`. Ten of the twelve offers are answered, and three of the four requests. The promise of `00`
-/// alone is broken, and charged at the third heartbeat. What came is gossiped at three of the heartbeats, to nobody.
+/// The router tells both neighbours of `a`. Ten of the twelve offers are answered, and three of the four requests. Only
+/// the promise of `00` is broken, and charged at the third heartbeat. What came is gossiped at three of the heartbeats,
+/// to nobody.
 pub static OFFERS: Moment = Moment {
     name: "a router that hears twelve offers, nine messages and four requests, and has four heartbeats",
     case: NOTHING,
@@ -87,7 +89,7 @@ pub static OFFERS: Moment = Moment {
         (3_000, Heartbeat),
         (4_000, Heartbeat),
     ],
-    ends: Ends {
+    ends: TraceEnd {
         entries: 60,
         sends: 15,
         charges: 1,
@@ -95,8 +97,9 @@ pub static OFFERS: Moment = Moment {
     },
 };
 
-/// All thirteen are told of `a`, and come into its mesh, the last of them since it was dialled. Six stay: the four best, who
-/// are the three that the application praises and the first of the others, and the two that were dialled.
+/// The router tells all thirteen of `a`. They come into its mesh, the last of them since it was dialled. Six stay: the
+/// four best, who are the three that the application praises and the first of the others, and the two that were
+/// dialled.
 pub static GRAFTS: Moment = Moment {
     name: "a router that hears thirteen GRAFTs, and has a heartbeat",
     case: Case {
@@ -135,7 +138,7 @@ pub static GRAFTS: Moment = Moment {
         (0, Hear(13, GRAFT)),
         (1_000, Heartbeat),
     ],
-    ends: Ends {
+    ends: TraceEnd {
         entries: 30,
         sends: 20,
         charges: 0,

@@ -1,20 +1,20 @@
-//! Routers: two that do the same, of whom the second may be short of memory.
-use crate::moments::{Ends, Moment};
+//! Routers: two that do the same. The second may be short of memory.
+use crate::moments::{Moment, TraceEnd};
 use crate::seen::Seen;
 use gs_base::{Mark, Millis, PeerNo, Seq, Topic};
 use gs_router::{Router, RouterFault};
-use gs_router_calls::Call::{
+use gs_router_testkit::Call::{
     Decay, EndRound, Fault, Gone, HangUp, Hear, Heartbeat, Publish, Raw, Shut, Subscribe,
     Unsubscribe,
 };
-use gs_router_calls::{Call, Case, Player, Said};
+use gs_router_testkit::{Call, Case, CasePart, Player};
 use gs_rules::{Refusal, StoredEntry};
 use std::alloc::{AllocError, Global};
 
 /// Each call of a router; some of them may also be refused for another reason, and some have nothing to do.
 static CALLS: [Call<'static>; 15] = [
-    Hear(1, &[Said::On("a")]),
-    Hear(99, &[Said::On("a")]),
+    Hear(1, &[CasePart::On("a")]),
+    Hear(99, &[CasePart::On("a")]),
     Subscribe("b"),
     Subscribe("a"),
     Unsubscribe("a"),
@@ -111,7 +111,7 @@ fn are_members(meshes: &[(Topic, PeerNo)], numbers: &[u16]) -> bool {
     are
 }
 
-fn has_ended(router: &Router, ends: &Ends) -> Result<bool, AllocError> {
+fn has_ended(router: &Router, ends: &TraceEnd) -> Result<bool, AllocError> {
     let entries = router.trace().entries();
     let meshes = router.meshes()?;
     let are_sent = sends_in(entries) == ends.sends && charges_in(entries) == ends.charges;
@@ -153,7 +153,7 @@ impl Pair {
         before <= left && left < whole && self.is_front()
     }
 
-    /// Whether the second one, of whom this is told, refuses a call as stopped and does nothing.
+    /// Whether the second one refuses a call as stopped and does nothing. `before` is what it tells before.
     fn refuses(
         &mut self,
         before: &Reading,
@@ -179,7 +179,7 @@ impl Pair {
         Ok(true)
     }
 
-    /// What is seen of the second one, which had these many entries and met want of memory.
+    /// What is seen of the second one, which had this many entries and ran out of memory.
     fn seen_broken_off(&mut self, before: usize, now: Millis) -> Result<Seen, AllocError> {
         if !self.is_broken_off(before) {
             return Ok(Seen::Wrong);

@@ -1,15 +1,15 @@
-//! What can be seen where memory may be wanting.
-use gs_streams::tell;
+//! What can be seen where memory may be missing.
+use gs_streams::try_to_write;
 use std::io::Write;
 
 /// What was seen of some calls.
 #[derive(Clone, Copy, Debug, PartialEq, Eq)]
 pub enum Seen {
-    /// None of them wanted memory.
+    /// None of them ran out of memory.
     Whole,
     /// There was no memory for a value or an argument.
     NoMemory,
-    /// One of them met want of memory, and left behind what it must.
+    /// One of them ran out of memory, and left what it must.
     Refused,
     /// Something else was seen.
     Wrong,
@@ -26,7 +26,7 @@ impl Seen {
         }
     }
 
-    /// What was seen of a call that met want of memory, by whether what is read is the same as before.
+    /// What was seen of a call that ran out of memory, by whether what is read is the same as before.
     pub fn after(is_same: bool) -> Seen {
         match is_same {
             true => Seen::Refused,
@@ -44,9 +44,9 @@ impl Seen {
     }
 
     /// Writes a line on what was seen.
-    pub fn tell<W: Write>(self, output: &mut W, name: &str) {
-        tell(output, self.words());
-        tell(output, name);
-        tell(output, "\n");
+    pub fn write_line<W: Write>(self, output: &mut W, name: &str) {
+        try_to_write(output, self.words());
+        try_to_write(output, name);
+        try_to_write(output, "\n");
     }
 }

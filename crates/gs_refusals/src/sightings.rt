@@ -81,14 +81,14 @@ fn try_one(cache: &mut SeenCache, call: &Call) -> Seen
     }
 }
 
-/// Tries each call of a cache of what was seen that wants memory.
+/// Tries each call of a cache of what was seen that needs memory.
 pub fn try_sightings(alloc: Global) -> Seen {
     let mut cache = SeenCache::new(alloc, Millis(1_000));
     let mut seen = Seen::Whole;
     for call in &CALLS {
         seen = seen.and(try_one(&mut cache, call));
     }
-    // (so many that the table grows while it holds the first ones)
+    // (enough for the table to grow while it holds the first ones)
     for number in 4..100u8 {
         seen = seen.and(try_one(&mut cache, &Call::Mark(number, Verdict::Accept)));
     }

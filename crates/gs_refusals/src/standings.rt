@@ -30,7 +30,7 @@ static CALLS: [Call; 10] = [
     Call::First(2),
 ];
 
-/// What is told of a neighbour: its score, its counters on a topic, and what it misses.
+/// What scores tell of a neighbour: its score, its counters on a topic, and what it misses.
 #[derive(Clone, Copy, Debug, PartialEq, Eq)]
 struct Reading {
     score: i128,
@@ -89,7 +89,7 @@ fn graft(scores: &mut Scores, peer: PeerNo, topic: &Topic) -> Result<(), AllocEr
     }
 }
 
-/// Makes a call, and tells whether memory was wanting for the scores.
+/// Makes a call, and tells whether the scores ran out of memory.
 fn perform(alloc: Global, scores: &mut Scores, topic: &Topic, call: &Call) -> Seen {
     let Ok(mark) = mark_of(alloc, call) else {
         return Seen::NoMemory;
@@ -144,7 +144,7 @@ fn scores(alloc: Global) -> Result<Scores, AllocError> {
     Scores::new(alloc, &params, neighbours.as_slice())
 }
 
-/// Tries each call of scores that wants memory.
+/// Tries each call of scores that needs memory.
 pub fn try_standings(alloc: Global) -> Seen {
     let Ok(topic) = topic(alloc) else {
         return Seen::NoMemory;

@@ -157,7 +157,7 @@ module _ {V : Type 0} (test : V → Bool) where
 
 -- ---- the topics of a trace
 
--- what passes a test, where that asks for a topic's bytes alone
+-- what passes a test, where that asks only for a topic's bytes
 filter_finds : (test : Topic → Bool) (q : Topic) (ts : List Topic) → list_any (same_topic q) (filter test ts) ≡ (list_any (same_topic q) ts && test q)
 filter_finds test q [] = refl
 filter_finds test q (t ∷ ts) = by (same_topic q t) refl (test t) refl (filter_finds test q ts)

@@ -25,7 +25,7 @@ use Rattle.gs_router.specs.declared.state.State.{State}
 use Rattle.gs_router.specs.declared.fault.RouterFault.{RouterFault}
 use Rattle.gs_router.specs.declared.fault.RouterFault.TheVariants.{Refused}
 use Rattle.gs_router.specs.Known.{peer_with}
-use Rattle.gs_router.specs.State.{Ends}
+use Rattle.gs_router.specs.State.{WorkEnds}
 use Rattle.gs_router.specs.Router.{RouterView, Calls, IsPlain, answer_of, fails, refusal_if, refusal_of, view_of}
 
 -- what a router that goes on refuses
@@ -62,15 +62,15 @@ idles m now v s q event runs down legal = subst (λ (o : Option Event). Calls {A
 })
 
 module _ (m : Mode) {E : Type 0} (event : Event) (now : Millis) (a b : State) (s t : m.State) (stopped after : Bool) (runs : stopped ≡ false) where
-  -- what is not refused is done, or memory was wanting
-  pub ends_call : (done : Result (Unit {0}) E) (answer : Result (Unit {0}) RouterFault) → answer ≡ answer_of done → after ≡ (stopped || fails done) → refusal (peer_with a.known.setup) a.trace now.0 event ≡ None → Ends m event now a s done b t → Calls m (Some event) now (view_of a stopped) s answer (view_of b after) t
+  -- what is not refused is done, or memory ran out
+  pub ends_call : (done : Result (Unit {0}) E) (answer : Result (Unit {0}) RouterFault) → answer ≡ answer_of done → after ≡ (stopped || fails done) → refusal (peer_with a.known.setup) a.trace now.0 event ≡ None → WorkEnds m event now a s done b t → Calls m (Some event) now (view_of a stopped) s answer (view_of b after) t
   ends_call done answer answer_is after_is free ends =
       subst (λ (one : Result (Unit {0}) RouterFault). Calls m (Some event) now (view_of a stopped) s one (view_of b after) t) (sym answer_is) (by done after_is ends)
     where
       due : refusal_of (view_of a stopped) now.0 (Some event) ≡ None
       due = going (view_of a stopped) now.0 (Some event) runs ∙ free
 
-      by : (done : Result (Unit {0}) E) → after ≡ (stopped || fails done) → Ends m event now a s done b t → Calls m (Some event) now (view_of a stopped) s (answer_of done) (view_of b after) t
+      by : (done : Result (Unit {0}) E) → after ≡ (stopped || fails done) → WorkEnds m event now a s done b t → Calls m (Some event) now (view_of a stopped) s (answer_of done) (view_of b after) t
       by (Ok x) after_is ends = record {
         answer = record {
           free = due;
@@ -152,7 +152,7 @@ may_act p L at (Raw q bytes) free = may_put p L at q bytes free
 pub may_beat : (p : Peer) (L : Entries) (at : ℕ) → refusal p L at BeatBegin ≡ None → MayOpen p L at BeatBegin
 may_beat p L at free = (none_holds (reasons p L at BeatBegin) free).0
 
--- what needs no more than that the peer has not shut down is refused by that alone
+-- an event that only needs a peer that has not shut down is refused for nothing else
 pub refused_plainly : (p : Peer) (L : Entries) (at : ℕ) (event : Event) → IsPlain event → refusal p L at event ≡ first_of ((is_shut L, Stopped) ∷ [])
 refused_plainly p L at Decay plain = refl
 refused_plainly p L at (RoundEnd r) plain = refl

@@ -1,4 +1,4 @@
--- Those from whom something is chosen ascend by number.
+-- The peers that something is chosen from ascend by number.
 use Rattle.std.proofs.Common.{◌<◌, ℕ, Bool, List}
 use Rattle.std.specs.Prelude.{◌&&◌, filter, not}
 use Rattle.std.proofs.lemmas.List.Kept.{AllPairs-filter}

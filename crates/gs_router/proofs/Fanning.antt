@@ -21,7 +21,7 @@ use Rattle.gs_rules.specs.Tables.{Entries, after_marks, joined, joined_after, kn
 use Rattle.gs_rules.specs.Meshes.{dropped_after, ever_fanned, fanned_topics_after, has_mesh, last_published, published_after}
 use Rattle.gs_router.specs.declared.tables.mesh_topics.MeshOrFanout.{MeshOrFanout}
 use Rattle.gs_router.specs.declared.tables.mesh_topics.MeshTopics.{MeshTopics}
-use Rattle.gs_router.specs.Tables.{AgreesOnMeshTopics, HasTopics, dropped_by, fanned_by, mesh_or_fanout_in, neither_mesh_nor_fanout}
+use Rattle.gs_router.specs.Tables.{AgreesOnMeshTopics, HasTopics, dropped_by, fanned_by, neither_mesh_nor_fanout}
 use Rattle.gs_router.proofs.Keeping.{marks_more}
 use Rattle.gs_router.proofs.Noting.{or_true, same_order}
 
@@ -126,31 +126,6 @@ put_so old new topic mesh_or_fanout updates t =
 
 abbrev has : Bool → Bool → MeshOrFanout
 has mesh fanout = record { has_mesh = mesh; has_fanout = fanout }
-
-module _ (old new : MeshTopics) (topic : Topic) (mesh_or_fanout : MeshOrFanout) (puts : (t : Topic) → mesh_or_fanout_in new t ≡ (if same_topic topic t then mesh_or_fanout else mesh_or_fanout_in old t)) (meshes fanouts : Topic → Bool) (agrees : HasTopics old meshes fanouts) where
-  -- a topic of its own has a mesh, and no fanout
-  pub joins : mesh_or_fanout ≡ has true false → HasTopics new (λ t. if same_topic topic t then true else meshes t) (λ t. if same_topic topic t then false else fanouts t)
-  joins is = record { mesh_or_fanout = λ t. puts t ∙ by t (same_topic topic t) }
-    where
-      by : (t : Topic) (b : Bool) → (if b then mesh_or_fanout else mesh_or_fanout_in old t) ≡ has (if b then true else meshes t) (if b then false else fanouts t)
-      by t true = is
-      by t false = agrees.mesh_or_fanout t
-
-  -- one that is left has no mesh, and the fanout that it had
-  pub leaves : mesh_or_fanout ≡ has false (mesh_or_fanout_in old topic).has_fanout → HasTopics new (λ t. if same_topic topic t then false else meshes t) fanouts
-  leaves is = record { mesh_or_fanout = λ t. puts t ∙ by t (same_topic topic t) refl }
-    where
-      by : (t : Topic) (b : Bool) → same_topic topic t ≡ b → (if b then mesh_or_fanout else mesh_or_fanout_in old t) ≡ has (if b then false else meshes t) (fanouts t)
-      by t true same = is ∙ ap (λ (u : MeshOrFanout). has false u.has_fanout) (agrees.mesh_or_fanout topic) ∙ ap (λ (u : Topic). has false (fanouts u)) (same_are_one topic t same)
-      by t false same = agrees.mesh_or_fanout t
-
-  -- one on which the peer published has a fanout
-  pub publishes : mesh_or_fanout ≡ has (mesh_or_fanout_in old topic).has_mesh true → HasTopics new meshes (λ t. if same_topic topic t then true else fanouts t)
-  publishes is = record { mesh_or_fanout = λ t. puts t ∙ by t (same_topic topic t) refl }
-    where
-      by : (t : Topic) (b : Bool) → same_topic topic t ≡ b → (if b then mesh_or_fanout else mesh_or_fanout_in old t) ≡ has (meshes t) (if b then true else fanouts t)
-      by t true same = is ∙ ap (λ (u : MeshOrFanout). has u.has_mesh true) (agrees.mesh_or_fanout topic) ∙ ap (λ (u : Topic). has (meshes u) true) (same_are_one topic t same)
-      by t false same = agrees.mesh_or_fanout t
 
 -- ---- marks one by one
 

@@ -14,12 +14,12 @@ use Rattle.gs_rules.specs.Scoring.{is_graylisted}
 use Rattle.gs_rules.specs.Modes.{Mode}
 use Rattle.gs_router.specs.Known.{peer_with}
 use Rattle.gs_router.specs.declared.state.State.{State}
-use Rattle.gs_router.specs.State.{Ends, IsCutShort, IsDue, Paying, Steps}
-use Rattle.gs_router.specs.Parts.{behind_subs, events_of}
+use Rattle.gs_router.specs.State.{IsCutShort, IsDue, Paying, Steps, WorkEnds}
+use Rattle.gs_router.specs.Parts.{after_subs, events_of}
 use Rattle.gs_router.proofs.Steps.{hears_first, next_due, next_part, pays_next, pays_some}
 
--- the parts of an RPC, kind by kind, with nothing behind the last kind
-pub parts_by_kind : (q : PeerNo) (rpc : Rpc) → parts q rpc ≡ events_of Sub q rpc.subs ++ behind_subs q rpc
+-- the parts of an RPC, kind by kind, with nothing after the last kind
+pub parts_by_kind : (q : PeerNo) (rpc : Rpc) → parts q rpc ≡ events_of Sub q rpc.subs ++ after_subs q rpc
 parts_by_kind q rpc =
     ap (λ (prunes : List Event).
     events_of Sub q rpc.subs
@@ -29,7 +29,7 @@ parts_by_kind q rpc =
     ++ (events_of GraftIn q (grafts_in rpc.control) ++ prunes)))))
     (sym (append-nil (events_of PruneIn q (prunes_in rpc.control))))
 
--- the part at a place of a kind, which is this one, and those behind it
+-- the part at a place of a kind, which is this one, and those after it
 module _ (m : Mode) (now : Millis) (q : PeerNo) {P : Type 0} (as_part : P → RpcPart) (bare : P) (list : List P) (behind : List Event) (place : ℕ) (part : RpcPart) (below : place < length list) (is : part ≡ as_part (part_at bare list place)) where
   abbrev later : List Event
   later = events_of as_part q (drop (place + 1) list) ++ behind
@@ -54,12 +54,12 @@ on_err (Ok x) holds = tt
 on_err (Err e) holds = holds
 
 -- work that was cut short ends so
-pub ends_short : {A E : Type 0} {m : Mode} {now : Millis} {event : Event} {a c : State} {s u : m.State} {done : Result A E} → IsErr done → IsCutShort m now event a s c → Ends m event now a s done c u
+pub ends_short : {A E : Type 0} {m : Mode} {now : Millis} {event : Event} {a c : State} {s u : m.State} {done : Result A E} → IsErr done → IsCutShort m now event a s c → WorkEnds m event now a s done c u
 ends_short {A} {E} {m} {now} {event} {a} {c} {s} {u} {done} fails cut =
     pays_some m now event cut.left [] a cut.reached c s cut.words u done fails cut.paying cut.kept cut.setup
 
 -- where an RPC was heard, all its parts are left
-pub all_left : {A E : Type 0} {m : Mode} {now : Millis} {q : PeerNo} {rpc copy : Rpc} {a b : State} {s t : m.State} {x : A} → Steps {A = A} {E = E} m (Heard q copy) now a s (Ok x) b t → copy ≡ rpc → is_graylisted (peer_with a.known.setup) a.trace now.0 q ≡ false → Paying m now (Heard q rpc) a s b t (events_of Sub q rpc.subs ++ behind_subs q rpc) []
+pub all_left : {A E : Type 0} {m : Mode} {now : Millis} {q : PeerNo} {rpc copy : Rpc} {a b : State} {s t : m.State} {x : A} → Steps {A = A} {E = E} m (Heard q copy) now a s (Ok x) b t → copy ≡ rpc → is_graylisted (peer_with a.known.setup) a.trace now.0 q ≡ false → Paying m now (Heard q rpc) a s b t (events_of Sub q rpc.subs ++ after_subs q rpc) []
 all_left {A} {E} {m} {now} {q} {rpc} {copy} {a} {b} {s} {t} {x} steps same listened =
     subst (λ (left : List Event). Paying m now (Heard q rpc) a s b t left []) (parts_by_kind q rpc)
     (hears_first m now q rpc a b s t x listened (subst (λ (heard : Rpc). Steps {A = A} {E = E} m (Heard q heard) now a s (Ok x) b t) same steps))

@@ -1,6 +1,6 @@
 -- The table of kept messages, after a mark and after a heartbeat.
 use Rattle.std.proofs.Common.{◌≡◌, ℕ, ◌+◌, ◌-◌, ◌<◌, arith, Bool, true, false, if◌then◌else◌, cond, List, [], ◌∷◌, ◌++◌, Option, Some, None, option_map, is_some, refl, sym, ap, ap₂, subst, ◌∙◌, filter, length, take, get_or}
-use Rattle.std.specs.Prelude.{◌&&◌, ◌==◌, not, nat_lt}
+use Rattle.std.specs.Prelude.{◌==◌, not, nat_lt}
 use Rattle.std.proofs.lemmas.Bool.Decides.{nat_tests}
 use Rattle.std.proofs.lemmas.List.{take_more}
 use Rattle.std.proofs.lemmas.List.Elements.{filter-append}
@@ -10,8 +10,8 @@ use Rattle.gs_base.specs.declared.names.MsgId.{MsgId}
 use Rattle.gs_base.specs.declared.names.Topic.{Topic}
 use Rattle.gs_base.specs.declared.rpc.Message.{Message}
 use Rattle.gs_base.specs.declared.mark.Mark.{Mark}
-use Rattle.gs_base.specs.declared.mark.Mark.TheVariants.{Cached, Answered}
-use Rattle.gs_base.specs.Names.{same_id, same_peer}
+use Rattle.gs_base.specs.declared.mark.Mark.TheVariants.{Cached}
+use Rattle.gs_base.specs.Names.{same_id}
 use Rattle.gs_base.specs.Rpcs.{most_identifiers}
 use Rattle.gs_cache.specs.CachedMessages as cache
 use Rattle.gs_cache.proofs.Gossiping.{more_than_none}
@@ -197,32 +197,6 @@ module _ (old new : Messages) (last : MsgId → Option Keeping) (given : PeerNo 
       itself =
           ap (λ (b : Bool). is_some (keeping old.cache.len (if b then Some anew else last id))) (nat_list_eq_equiv.refl id.0)
           ∙ ap (λ (c : Bool). is_some (if c then Some anew else None)) young
-
-  -- a message was given to who asked
-  pub was_given : (event : Event) (p : PeerNo) (id : MsgId)
-      → ((other : MsgId) → cache.cached new.cache other ≡ cache.cached old.cache other)
-      → ((other : MsgId) (q : PeerNo) → cache.left new.cache other q ≡ cache.one_less id p other q (cache.left old.cache other q))
-      → new.cache.order ≡ old.cache.order
-      → HasKept new (λ other. kept_after other event (Answered p id) (last other)) (λ q other. answered_after q other (Answered p id) (given q other)) (order_after (Answered p id) order)
-  was_given event p id holds counts orders = record {
-    some = len_some;
-    keeps = λ other. ap (option_map to_keeping) (holds other) ∙ has.keeps other ∙ ap (λ (len : ℕ). keeping len (last other)) (sym alike.len);
-    leaves = λ q other.
-        counts other q
-        ∙ ap (cache.one_less id p other q) (has.leaves q other)
-        ∙ one (same_id id other) (same_peer p q) (keeping old.cache.len (last other)) (given q other)
-        ∙ ap₂ (λ (most len : ℕ). left_of most (keeping len (last other)) (answered_after q other (Answered p id) (given q other))) (sym alike.answers) (sym alike.len);
-    orders = orders ∙ has.orders ∙ (λ i. filter (λ other. is_some (keeping (sym alike.len i) (last other))) order);
-  }
-    where
-      one : (same mine : Bool) (k : Option Keeping) (n : ℕ) → (if same && mine then option_map (λ (m : ℕ). m - 1) (left_of old.cache.answers k n) else left_of old.cache.answers k n) ≡ left_of old.cache.answers k (if mine && same then n + 1 else n)
-      one true true None n = refl
-      one true true (Some k) n =
-          let less : old.cache.answers - n - 1 ≡ old.cache.answers - (n + 1) = omega arith in
-          ap Some less
-      one true false k n = refl
-      one false true k n = refl
-      one false false k n = refl
 
 -- ---- the marks of an entry
 

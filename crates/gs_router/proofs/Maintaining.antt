@@ -1,5 +1,5 @@
 -- What a heartbeat does to a mesh, by the words that choose it.
-use Rattle.std.proofs.Common.{◌≡◌, ◌+◌, ◌≤◌, ◌++◌, ℕ, Bool, true, false, List, [], ◌∷◌, refl, sym, ap, subst}
+use Rattle.std.proofs.Common.{◌≡◌, ◌+◌, ◌≤◌, ℕ, Bool, true, false, List, [], ◌∷◌, refl, sym, ap, subst}
 use Rattle.gs_base.specs.declared.names.PeerNo.{PeerNo}
 use Rattle.gs_mesh.specs.declared.members.Member.{Member}
 use Rattle.gs_params.specs.declared.params.Degrees.{Degrees}
@@ -9,7 +9,7 @@ use Rattle.gs_mesh.specs.Cuts.{outside, peers_of}
 use Rattle.gs_mesh.specs.declared.heartbeat.MeshChange.{MeshChange}
 use Rattle.gs_mesh.specs.declared.condition.Condition.{Condition}
 use Rattle.gs_mesh.specs.declared.condition.Condition.TheVariants.{Few, Many, FewOutbound, Balanced}
-use Rattle.gs_mesh.specs.MeshSteps.{any_by_words, condition_of, cut_by_words, is_poor, mended, mended_members, mesh_change, not_negative, opportunistic_grafts, step_by_words, stepped}
+use Rattle.gs_mesh.specs.MeshSteps.{any_by_words, condition_of, cut_by_words, is_poor, mended, mended_members, not_negative, opportunistic_grafts, step_by_words, stepped}
 use Rattle.gs_mesh.proofs.MemberLists.{above_median_ascend, not_negative_ascend, outbound_ascend, outside_ascend}
 use Rattle.gs_rules.specs.declared.trace.Effects.{Effects}
 use Rattle.gs_rules.specs.Peers.{Peer}
@@ -18,32 +18,10 @@ use Rattle.gs_rules.specs.BeatRules.{scored_members}
 use Rattle.gs_rules.specs.Rule.{AnyOf, CutOf, Gives, Rule}
 use Rattle.gs_rules.specs.Modes.{Follows, exact}
 
--- ---- whatever is chosen
-
--- What holds of a rule where it holds of whatever may be chosen holds of a step, where it holds of each of its effects.
-module _ (P : Rule → Type 0)
-    (any : (k : ℕ) (qs : List PeerNo) (rule : List PeerNo → Rule) → ((chosen : List PeerNo) → P (rule chosen)) → P (AnyOf k qs rule))
-    (cut : (degrees : Degrees) (members : List Member) (rule : List PeerNo → Rule) → ((kept : List PeerNo) → P (rule kept)) → P (CutOf degrees members rule)) where
-  of_mended : (condition : Condition) (degrees : Degrees) (members candidates : List Member) (next : List PeerNo → List PeerNo → Rule) → ((kept grafted : List PeerNo) → P (next kept grafted)) → P (mended AnyOf CutOf condition degrees members candidates next)
-  of_mended Few degrees members candidates next each = any _ _ _ (each (peers_of members))
-  of_mended Many degrees members candidates next each = cut _ _ _ (λ kept. each kept [])
-  of_mended FewOutbound degrees members candidates next each = any _ _ _ (each (peers_of members))
-  of_mended Balanced degrees members candidates next each = each (peers_of members) []
-
-  of_opportunistic_grafts : (poor : Bool) (most : ℕ) (members candidates : List Member) (next : List PeerNo → Rule) → ((more : List PeerNo) → P (next more)) → P (opportunistic_grafts AnyOf poor most members candidates next)
-  of_opportunistic_grafts true most members candidates next each = any _ _ _ each
-  of_opportunistic_grafts false most members candidates next each = each []
-
-  pub of_stepped : (params : Params) (tick : ℕ) (mesh candidates : List Member) (next : MeshChange → Rule) → ((change : MeshChange) → P (next change)) → P (stepped AnyOf CutOf params tick mesh candidates next)
-  of_stepped params tick mesh candidates next each =
-      of_mended (condition_of params.degrees (not_negative mesh)) params.degrees (not_negative mesh) candidates _ (λ kept grafted.
-      of_opportunistic_grafts (is_poor params tick (mended_members (not_negative mesh) candidates kept grafted)) params.timing.opportunistic_peers (mended_members (not_negative mesh) candidates kept grafted) (outside grafted candidates) _ (λ more.
-      each (mesh_change mesh candidates kept (grafted ++ more))))
-
 -- ---- by words
 
 module _ {S : Type 0} (word : S → ℕ) (after : S → S) (effects : MeshChange → Effects) where
-  -- the effects of this choice may follow a rule from a state, with that state behind it
+  -- the effects of this choice may follow a rule from a state, with that state after it
   abbrev Leads : Rule → S → MeshChange × S → Type 0
   Leads rule s x = Follows (exact word after) rule s (effects x.0) x.1
 
@@ -69,25 +47,25 @@ module _ {S : Type 0} (word : S → ℕ) (after : S → S) (effects : MeshChange
       (_, _, record { ascending = above_median_ascend members candidates ups; chosen_are = refl; words = refl }, each _ _)
   opportunistic_grafts_lead false most members candidates rule next s ups each = each [] s
 
-  stepped_leads : (params : Params) (tick : ℕ) (mesh candidates : List Member) (s : S)
+  stepped_leads : (params : Params) (number : ℕ) (mesh candidates : List Member) (s : S)
       → IsAscending (peers_of mesh)
       → IsAscending (peers_of candidates)
       → params.degrees.d_score + params.degrees.d_out ≤ params.degrees.d
-      → Leads (stepped AnyOf CutOf params tick mesh candidates (λ change. Gives (effects change))) s (step_by_words word after params tick mesh candidates s)
+      → Leads (stepped AnyOf CutOf params number mesh candidates (λ change. Gives (effects change))) s (step_by_words word after params number mesh candidates s)
   unfolding step_by_words
-  stepped_leads params tick mesh candidates s up ups room =
+  stepped_leads params number mesh candidates s up ups room =
       mended_leads (condition_of params.degrees (not_negative mesh)) params.degrees (not_negative mesh) candidates _ _ s (not_negative_ascend mesh up) ups room (λ kept grafted t.
-      opportunistic_grafts_lead (is_poor params tick (mended_members (not_negative mesh) candidates kept grafted)) params.timing.opportunistic_peers (mended_members (not_negative mesh) candidates kept grafted) (outside grafted candidates) _ _ t (outside_ascend grafted candidates ups) (λ more u. (refl, refl)))
+      opportunistic_grafts_lead (is_poor params number (mended_members (not_negative mesh) candidates kept grafted)) params.timing.opportunistic_peers (mended_members (not_negative mesh) candidates kept grafted) (outside grafted candidates) _ _ t (outside_ascend grafted candidates ups) (λ more u. (refl, refl)))
 
   -- where the words choose so, the effects of that follow
-  pub chosen_leads : (params : Params) (tick : ℕ) (mesh candidates : List Member) (s t : S) (change : MeshChange)
+  pub chosen_leads : (params : Params) (number : ℕ) (mesh candidates : List Member) (s t : S) (change : MeshChange)
       → IsAscending (peers_of mesh)
       → IsAscending (peers_of candidates)
       → params.degrees.d_score + params.degrees.d_out ≤ params.degrees.d
-      → step_by_words word after params tick mesh candidates s ≡ (change, t)
-      → Follows (exact word after) (stepped AnyOf CutOf params tick mesh candidates (λ change. Gives (effects change))) s (effects change) t
-  chosen_leads params tick mesh candidates s t change up ups room is =
-      subst (Leads (stepped AnyOf CutOf params tick mesh candidates (λ change. Gives (effects change))) s) is (stepped_leads params tick mesh candidates s up ups room)
+      → step_by_words word after params number mesh candidates s ≡ (change, t)
+      → Follows (exact word after) (stepped AnyOf CutOf params number mesh candidates (λ change. Gives (effects change))) s (effects change) t
+  chosen_leads params number mesh candidates s t change up ups room is =
+      subst (Leads (stepped AnyOf CutOf params number mesh candidates (λ change. Gives (effects change))) s) is (stepped_leads params number mesh candidates s up ups room)
 
 -- ---- members
 

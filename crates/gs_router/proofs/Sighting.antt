@@ -25,7 +25,7 @@ use Rattle.gs_router.proofs.Keeping.{marks_more}
 use Rattle.gs_router.proofs.Meshing.{one_peer}
 use Rattle.gs_router.proofs.Noting.{or_false, or_true}
 
--- ---- what counts of a message, told of a neighbour
+-- ---- what counts of a message, as seen from a neighbour
 
 abbrev told_from : PeerNo → Option Found → Option NeighbourSighting
 told_from q o = option_map (λ (s : Found). record { at = s.at.0; verdict = s.verdict; noted = is_noted q s }) o
@@ -198,7 +198,7 @@ passed_so ttl now b c (Some s) = by (nat_lt (now - s.at) ttl)
     by true = refl
     by false = refl
 
--- the verdict of what is told
+-- the verdict of what counts
 abbrev verdict_of : Option NeighbourSighting → Option Verdict
 verdict_of o = option_map (λ (s : NeighbourSighting). s.verdict) o
 

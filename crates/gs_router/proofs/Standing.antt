@@ -9,7 +9,7 @@ use Rattle.gs_base.specs.declared.mark.Mark.{Mark}
 use Rattle.gs_base.specs.declared.mark.Mark.TheVariants.{First, Near, Deficit, Invalid, Misbehaviour, Grafted, Pruned}
 use Rattle.gs_base.specs.Names.{most_topics}
 use Rattle.gs_score.specs.Ledgers.{Kept, has_room}
-use Rattle.gs_score.specs.Histories.{Agrees, Change, History, Setting, Marked, Left, accepts, decays}
+use Rattle.gs_score.specs.Histories.{Agrees, History, Setting, Marked, accepts, decays}
 use Rattle.gs_score.specs.Histories as histories
 use Rattle.gs_rules.specs.declared.event.Event.{Event}
 use Rattle.gs_rules.specs.declared.event.Event.TheVariants.{Decay}
@@ -61,21 +61,10 @@ counts p old new H (Grafted q t) accepted applied agrees = raises_nothing (setti
 counts p old new H mark accepted applied agrees =
     subst (λ (b : Bool). Agrees (setting_of p) new (if b then Marked mark ∷ H else H)) (sym accepted ∙ accepts_so p old H mark agrees) (applied (setting_of p) H agrees)
 
--- a mark that is not accepted leaves all as it is
-pub passes : (p : Peer) (k : Kept) (H : History) (mark : Mark) → accepts k.accounts mark ≡ false → Agrees (setting_of p) k H → Agrees (setting_of p) k (if is_counted p H mark then Marked mark ∷ H else H)
-passes p k H (Grafted q t) refused agrees = absurd cc
-passes p k H mark refused agrees =
-    subst (λ (b : Bool). Agrees (setting_of p) k (if b then Marked mark ∷ H else H)) (sym refused ∙ accepts_so p k H mark agrees) agrees
-
 -- a neighbour comes into a mesh where it has room
 pub grafts : (p : Peer) (old new : Kept) (H : History) (q : PeerNo) (t : Topic) (at : Millis) → has_room old.accounts q t ≡ true → ((s : Setting) (J : History) → Agrees s old J → Agrees s new (histories.Grafted q t at ∷ J)) → Agrees (setting_of p) old H → Agrees (setting_of p) new (marked_after p at (Grafted q t) H)
 grafts p old new H q t at room grafted agrees =
     subst (λ (b : Bool). Agrees (setting_of p) new (if b then histories.Grafted q t at ∷ H else H)) (sym room ∙ room_so p old H q t agrees) (grafted (setting_of p) H agrees)
-
--- where a neighbour has no room for a topic, to come into its mesh does not count
-pub grafts_nobody : (p : Peer) (k : Kept) (H : History) (q : PeerNo) (t : Topic) (at : Millis) → has_room k.accounts q t ≡ false → Agrees (setting_of p) k H → Agrees (setting_of p) k (marked_after p at (Grafted q t) H)
-grafts_nobody p k H q t at room agrees =
-    subst (λ (b : Bool). Agrees (setting_of p) k (if b then histories.Grafted q t at ∷ H else H)) (sym room ∙ room_so p k H q t agrees) agrees
 
 -- ---- marks one by one
 
@@ -123,5 +112,5 @@ decays_are_few p (e ∷ L) =
     let few = decays_are_few p L in
     omega (arith, marks, once, few)
 
-pub ticks_are_few : (p : Peer) (table : Standings) (L : Entries) → AgreesOnScores p table L → table.scores.tick ≤ length L
-ticks_are_few p table L agrees = let few = decays_are_few p L in omega (arith, agrees.decays, few)
+pub counted_decays_are_few : (p : Peer) (table : Standings) (L : Entries) → AgreesOnScores p table L → table.scores.decays ≤ length L
+counted_decays_are_few p table L agrees = let few = decays_are_few p L in omega (arith, agrees.decays, few)

@@ -24,7 +24,7 @@ use Rattle.gs_router.specs.declared.setup.Setup.{Setup}
 use Rattle.gs_router.specs.declared.state.State.{State}
 use Rattle.gs_router.specs.Tables.{Agrees, AgreesOnScores, AreMadeFor}
 use Rattle.gs_router.specs.Known.{IsFit, Knows, peer_with}
-use Rattle.gs_router.specs.State.{Appends, Ends, IsCurrent, IsReady, Paying, Steps, left_with}
+use Rattle.gs_router.specs.State.{Appends, IsCurrent, IsReady, Paying, Steps, WorkEnds, left_with}
 
 -- ---- what a router knows
 
@@ -45,7 +45,7 @@ module _ (m : Mode) (weakens : Weakens m free (λ u. tt)) where
   appended_legal p K L s t legal a = subst (Legal p) (sym a.are) (legal_on p K a.entries legal (legal_weakly m free (λ u. tt) weakens p s t K a.entries a.legal))
 
   module _ {A E : Type 0} where
-    -- an entry of effects that follow the rule was appended, or memory was wanting
+    -- an entry of effects that follow the rule was appended, or memory ran out
     pub followed : (event : Event) (now : Millis) (a b : State) (s t : m.State) (effects : Effects) (done : Result A E) → IsCurrent a → last_moment a.trace ≤ now.0 → IsNext (peer_with a.known.setup) a.trace now.0 (owed (peer_with a.known.setup) a.trace).events event → Follows m (rule_of (peer_with a.known.setup) a.trace now event) s effects t → OnOk done (b.trace ≡ entry_of now event effects ∷ a.trace) → OnOk done ((L : Entries) → Agrees a.known.tables L → Agrees b.known.tables (entry_of now event effects ∷ L)) → OnOk done ((p : Peer) (L : Entries) → AgreesOnScores p a.known.tables.standings L → AgreesOnScores p b.known.tables.standings (entry_of now event effects ∷ L)) → OnOk done ((p : Peer) → AreMadeFor a.known.tables p → AreMadeFor b.known.tables p) → OnErr done (b.trace ≡ a.trace) → b.known.setup ≡ a.known.setup → Steps m event now a s done b t
     followed event now a b s t effects (Ok x) current time next follows added agrees scores made kept setup =
         let p = peer_with a.known.setup in
@@ -64,8 +64,8 @@ module _ (m : Mode) (weakens : Weakens m free (λ u. tt)) where
         }
     followed event now a b s t effects (Err x) current time next follows added agrees scores made kept setup = record { added = tt; current = tt; kept = kept; setup = setup }
 
-    -- memory was wanting before anything came
-    pub breaks_off : (event : Event) (now : Millis) (a b : State) (s t : m.State) (e : E) → IsCurrent a → b.trace ≡ a.trace → b.known.setup ≡ a.known.setup → Ends {A = A} {E = E} m event now a s (Err e) b t
+    -- memory ran out before anything came
+    pub breaks_off : (event : Event) (now : Millis) (a b : State) (s t : m.State) (e : E) → IsCurrent a → b.trace ≡ a.trace → b.known.setup ≡ a.known.setup → WorkEnds {A = A} {E = E} m event now a s (Err e) b t
     breaks_off event now a b s t e current kept setup = record {
       opened = tt;
       appended = tt;
@@ -76,12 +76,12 @@ module _ (m : Mode) (weakens : Weakens m free (λ u. tt)) where
       setup = setup;
     }
 
-    pub stops : (event : Event) (now : Millis) (a b : State) (s t : m.State) (done : Result A E) → IsErr done → IsCurrent a → b.trace ≡ a.trace → b.known.setup ≡ a.known.setup → Ends m event now a s done b t
+    pub stops : (event : Event) (now : Millis) (a b : State) (s t : m.State) (done : Result A E) → IsErr done → IsCurrent a → b.trace ≡ a.trace → b.known.setup ≡ a.known.setup → WorkEnds m event now a s done b t
     stops event now a b s t (Ok x) fails current kept setup = absurd cc
     stops event now a b s t (Err e) fails current kept setup = breaks_off event now a b s t e current kept setup
 
     -- an event that owes nothing comes with its step
-    pub opens_alone : (event : Event) (now : Millis) (a b : State) (s t : m.State) (done : Result A E) → IsReady a → owes (peer_with a.known.setup) a.trace now.0 event ≡ [] → Steps m event now a s done b t → Ends m event now a s done b t
+    pub opens_alone : (event : Event) (now : Millis) (a b : State) (s t : m.State) (done : Result A E) → IsReady a → owes (peer_with a.known.setup) a.trace now.0 event ≡ [] → Steps m event now a s done b t → WorkEnds m event now a s done b t
     opens_alone event now a b s t (Ok x) ready none steps =
         let one = steps.added in
         let p = peer_with a.known.setup in
@@ -203,7 +203,7 @@ module _ (m : Mode) {A E : Type 0} where
       }
 
   -- nothing is left to pay
-  pub pays_all : (now : Millis) (event : Event) (a b : State) (s t : m.State) (x : A) → Paying m now event a s b t [] [] → Ends {A = A} {E = E} m event now a s (Ok x) b t
+  pub pays_all : (now : Millis) (event : Event) (a b : State) (s t : m.State) (x : A) → Paying m now event a s b t [] [] → WorkEnds {A = A} {E = E} m event now a s (Ok x) b t
   pays_all now event a b s t x h = record {
     opened = record { begun = h.begun; settled = h.owes };
     appended = h.appended;
@@ -214,8 +214,8 @@ module _ (m : Mode) {A E : Type 0} where
     setup = h.setup;
   }
 
-  -- memory was wanting for what is owed
-  pub pays_some : (now : Millis) (event : Event) (left : List Event) (groups : List Group) (a b c : State) (s t u : m.State) (done : Result A E) → IsErr done → Paying m now event a s b t left groups → c.trace ≡ b.trace → c.known.setup ≡ b.known.setup → Ends m event now a s done c u
+  -- memory ran out for what is owed
+  pub pays_some : (now : Millis) (event : Event) (left : List Event) (groups : List Group) (a b c : State) (s t u : m.State) (done : Result A E) → IsErr done → Paying m now event a s b t left groups → c.trace ≡ b.trace → c.known.setup ≡ b.known.setup → WorkEnds m event now a s done c u
   pays_some now event left groups a b c s t u (Ok x) fails h kept setup = absurd cc
   pays_some now event left groups a b c s t u (Err e) fails h kept setup = record {
     opened = tt;

@@ -5,11 +5,11 @@ use Rattle.gs_base.specs.declared.names.MsgId.{MsgId}
 use Rattle.gs_base.specs.Names.{same_id}
 use Rattle.gs_rules.specs.Peers.{Peer}
 use Rattle.gs_rules.specs.Tables.{Entries}
-use Rattle.gs_rules.specs.Rules.{is_wanted, once_behind}
+use Rattle.gs_rules.specs.Rules.{is_wanted, once_after}
 
 -- an identifier is put after those that are wanted, if it is wanted and not among them
 abbrev pub add_wanted : Peer → Entries → ℕ → List (List ℕ) → List ℕ → List (List ℕ)
-add_wanted p L at found bytes = if is_wanted p L at bytes then once_behind found bytes else found
+add_wanted p L at found bytes = if is_wanted p L at bytes then once_after found bytes else found
 
 -- how many answers are left for a message in the course of a request, where `at_first` were left at its start
 abbrev pub left_now : List (MsgId × ℕ) → MsgId → ℕ → ℕ

@@ -62,7 +62,7 @@ BreaksOff p now event K L = (L ≡ K) ⊎ Begins p now event K L
 
 -- How the work on an event ends: it came with all that it owes, by choices that lead from s to t, or broke off
 -- when memory ran out.
-pub record Ends {A E : Type 0} (m : Mode) (event : Event) (now : Millis)
+pub record WorkEnds {A E : Type 0} (m : Mode) (event : Event) (now : Millis)
     (old : State) (s : m.State) (result : Result A E) (new : State) (t : m.State) : Type 0 where
   pub opened : OnOk result (Opens (peer_of old) now event old.trace new.trace)
   pub appended : OnOk result (Appends m (peer_of old) old.trace s new.trace t)
@@ -75,12 +75,12 @@ pub record Ends {A E : Type 0} (m : Mode) (event : Event) (now : Millis)
 
 -- ---- what is owed is paid
 
--- these events are left of the group that was reached, and these groups are behind it
+-- these events are left of the group that was reached, and these groups come after it
 abbrev pub left_with : Peer → Entries → List Event → List Group → Debt
 left_with p L events groups = held_or events groups (reached p L groups)
 
--- Where an event has begun: its entry and those of some of what it owes stand behind the trace of a, by choices from s to t,
--- and these events are left, and then these groups.
+-- An event has begun. Its entry, and those of some of what it owes, come after the trace of a, by choices from s to t.
+-- These events are left, and then these groups.
 pub record Paying (m : Mode) (now : Millis) (event : Event) (a : State) (s : m.State) (b : State) (t : m.State)
     (left : List Event) (groups : List Group) : Type 0 where
   pub current : IsCurrent b

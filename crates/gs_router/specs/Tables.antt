@@ -14,7 +14,7 @@ use Rattle.gs_base.specs.declared.mark.Mark.TheVariants as marks
 use Rattle.gs_base.specs.Rpcs.{most_identifiers}
 use Rattle.gs_cache.specs.declared.seen.sighting.Sighting.{Sighting as Found}
 use Rattle.gs_cache.specs.Sightings.{is_noted, verdict_in, what_counts}
-use Rattle.gs_cache.specs.CachedMessages.{Cached, all_left, cached, left, one_less}
+use Rattle.gs_cache.specs.CachedMessages.{Cached, cached, left}
 use Rattle.gs_mesh.specs.Meshes as meshes
 use Rattle.gs_score.specs.Histories as histories
 use Rattle.gs_rules.specs.declared.event.Event.{Event}
@@ -139,12 +139,6 @@ pub record AgreesOnSightings (kept : Sightings) (L : Entries) : Type 0 where
 abbrev pub keeping_in : Messages → MsgId → Option Keeping
 keeping_in table id =
     option_map (λ (c : Cached). record { topic = c.topic; message = c.message; age = c.age }) (cached table.cache id)
-
--- what a mark leaves of the answers that are left to a neighbour, of `most` at first
-abbrev pub left_after : ℕ → PeerNo → MsgId → Mark → Option ℕ → Option ℕ
-left_after most q id (marks.Cached other t) before = all_left other most id before
-left_after most q id (marks.Answered p other) before = one_less other p id q before
-left_after most q id other before = before
 
 -- how many of `most` answers at first are left to a neighbour, where a message is kept
 abbrev pub left_of : ℕ → Option Keeping → ℕ → Option ℕ

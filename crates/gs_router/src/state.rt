@@ -9,7 +9,7 @@ ghost use Rattle.gs_rules.specs.Legal.{MayAct, MayHear, MayOpen, hearing};
 ghost use Rattle.gs_rules.specs.Peers.{Peer};
 ghost use Rattle.gs_rules.specs.Scoring.{is_graylisted};
 ghost use Rattle.gs_router.specs.Tables.{Agrees, AgreesOnScores, AreMadeFor};
-ghost use Rattle.gs_router.specs.State.{Ends, IsCurrent, IsDue, IsReady, Steps, peer_of};
+ghost use Rattle.gs_router.specs.State.{IsCurrent, IsDue, IsReady, Steps, WorkEnds, peer_of};
 
 mod hearing;
 mod heartbeat;
@@ -44,7 +44,7 @@ impl State {
     /// `AllocError` where there was no memory; the trace is then as it was.
     fn append(&mut self, entry: Entry) -> Result<(), AllocError>
         requires time { self.old.known.tables.sightings.cache.moment ≤ entry.at.0 }
-        requires few { self.old.known.tables.standings.scores.tick ≤ length self.old.trace }
+        requires few { self.old.known.tables.standings.scores.decays ≤ length self.old.trace }
         requires beats { self.old.known.tables.beats.count ≤ length self.old.trace }
         ensures added { OnOk result (self.new.trace ≡ entry ∷ self.old.trace) }
         ensures agrees { OnOk result ((L : Entries) → Agrees self.old.known.tables L → Agrees self.new.known.tables (entry ∷ L)) }
@@ -104,7 +104,7 @@ impl State {
         requires time { last_moment self.old.trace ≤ now.0 }
         requires may { MayOpen (peer_of self.old) self.old.trace now.0 event }
         requires alone { owes (peer_of self.old) self.old.trace now.0 event ≡ [] }
-        ensures { Ends (exact W.word W.after) event now self.old words.old result self.new words.new }
+        ensures { WorkEnds (exact W.word W.after) event now self.old words.old result self.new words.new }
     {
         self.step_with(payloads, event, now, words)
     }
@@ -120,7 +120,7 @@ impl State {
         requires ready { IsReady self.old }
         requires time { last_moment self.old.trace ≤ now.0 }
         requires may { MayAct (peer_of self.old) self.old.trace now.0 act }
-        ensures { Ends (exact W.word W.after) (events.Own act) now self.old words.old result self.new words.new }
+        ensures { WorkEnds (exact W.word W.after) (events.Own act) now self.old words.old result self.new words.new }
     {
         let act = Shared::new(self.known.alloc, act)?;
         self.open(payloads, Event::Own(act), now, words)
@@ -138,7 +138,7 @@ impl State {
         requires ready { IsReady self.old }
         requires time { last_moment self.old.trace ≤ now.0 }
         requires fits { codec.fits rpc ≡ true }
-        ensures { Ends (exact W.word W.after) (hearing self.old.trace from rpc) now
+        ensures { WorkEnds (exact W.word W.after) (hearing self.old.trace from rpc) now
             self.old words.old result self.new words.new }
     {
         let rpc = Shared::new(self.known.alloc, compact(payloads, rpc))?;
@@ -157,7 +157,7 @@ impl State {
         requires ready { IsReady self.old }
         requires time { last_moment self.old.trace ≤ now.0 }
         requires fits { codec.fits rpc ≡ true }
-        ensures { Ends (exact W.word W.after) (hearing self.old.trace from rpc) now
+        ensures { WorkEnds (exact W.word W.after) (hearing self.old.trace from rpc) now
             self.old words.old result self.new words.new }
     {
         if !self.known.tables.neighbours.is_up(from) {
@@ -182,7 +182,7 @@ impl State {
         requires time { last_moment self.old.trace ≤ now.0 }
         requires may { MayHear self.old.trace from rpc.now }
         requires listened { is_graylisted (peer_of self.old) self.old.trace now.0 from ≡ false }
-        ensures { Ends (exact W.word W.after) (events.Heard from rpc.now) now
+        ensures { WorkEnds (exact W.word W.after) (events.Heard from rpc.now) now
             self.old words.old result self.new words.new }
     {
         self.step(Event::Heard(from, clone_of(rpc)?), now, words)?;

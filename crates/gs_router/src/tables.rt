@@ -103,7 +103,7 @@ impl Tables {
     /// `AllocError` where there was no memory; some of the tables may then have noted it.
     pub fn note(&mut self, entry: &Entry) -> Result<(), AllocError>
         requires time { self.old.sightings.cache.moment ≤ entry.now.at.0 }
-        requires few { self.old.standings.scores.tick < 2 ^ 63 }
+        requires few { self.old.standings.scores.decays < 2 ^ 63 }
         requires beats { self.old.beats.count < 2 ^ 63 }
         ensures agrees { OnOk result ((L : Entries) → Agrees self.old L → Agrees self.new (entry.now ∷ L)) }
         ensures scores { OnOk result ((p : Peer) (L : Entries)

@@ -91,7 +91,7 @@ name_is earlier d h =
     past P (read_key section words_key) _ (λ firsts.
     one_peer_more earlier (record { name = text; address = address; words = firsts }) new h)))))
 
--- so many, with different names
+-- n peers, with different names
 abbrev pub PeersAre : ℕ → List PlannedPeer → Type 0
 PeersAre n peers = (length peers ≡ n) × NamesDiffer peers
 

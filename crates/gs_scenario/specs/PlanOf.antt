@@ -213,7 +213,7 @@ dial_in peers earlier d = do
 
 -- ---- what an application thinks of a neighbour
 
--- whom a table speaks of
+-- the peer that a table speaks of
 abbrev pub peer_key : List PlannedPeer → Key PeerNo
 peer_key peers = required (codes "peer") (reference names.Peer (peer_named peers))
 

@@ -228,6 +228,6 @@ opens_all old new p q r h =
     ∙ some_if (same_peer p q) (lookup (same_peer q) old) r
     ∙ ap (λ b. has_account old q || (b || r)) (sym (same_back p q))
 
-pub sum_of_none : (params : Params) (tick now : ℕ) (ts : List Topic) → Covers (held_in params tick []) ts → pos 0 ≡ topic_sum params now (held_in params tick []) ts
+pub sum_of_none : (params : Params) (decays now : ℕ) (ts : List Topic) → Covers (held_in params decays []) ts → pos 0 ≡ topic_sum params now (held_in params decays []) ts
 unfolding IsDistinct
-sum_of_none params tick now ts c = same_sum params tick now [] ts tt c
+sum_of_none params decays now ts c = same_sum params decays now [] ts tt c

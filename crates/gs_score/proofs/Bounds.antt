@@ -16,9 +16,6 @@ fits z m small less = fits_signed_from_abs w128 z (omega arith)
 pub back : (z : ℤ) (m : ℕ) → unsigned_abs z ≤ m → m < 2 ^ 127 → coded z ≡ z
 back z m small less = let f : FitsSigned w128 z = fits z m small less in to_z-of_z w128 z f
 
-pub product_fits : (a b : ℤ) (m n : ℕ) → unsigned_abs a ≤ m → unsigned_abs b ≤ n → m * n < 2 ^ 127 → FitsSigned w128 (a *ℤ b)
-product_fits a b m n p q less = fits (a *ℤ b) (m * n) (omega (arith, unsigned_abs-mul a b, mul-le-mul p q)) less
-
 -- a product of amounts is the same in either reading
 pub product_of_amounts : (a b : ℕ) → times (pos a) (pos b) ≡ pos (scaled a b)
 unfolding times

@@ -26,10 +26,10 @@ decayed-rest d x y m n h is =
     let e : n ≡ m + (n - m) = omega (arith, h) in
     ap (decayed d (n - m)) (sym is) ∙ sym (decayed-more d m (n - m) x) ∙ ap (λ k. decayed d k x) (sym e)
 
-pub read-later : (d : Decay) (c : Stored) (tick n : ℕ) → c.tick ≤ tick → read_at d (tick + n) c ≡ decayed d n (read_at d tick c)
-read-later d c tick n h =
-    let e : tick + n - c.tick ≡ (tick - c.tick) + n = omega arith in
-    rw e (decayed-more d (tick - c.tick) n c.value)
+pub read-later : (d : Decay) (c : Stored) (decays n : ℕ) → c.decays ≤ decays → read_at d (decays + n) c ≡ decayed d n (read_at d decays c)
+read-later d c decays n h =
+    let e : decays + n - c.decays ≡ (decays - c.decays) + n = omega arith in
+    rw e (decayed-more d (decays - c.decays) n c.value)
 
 -- ---- steps that take the same
 
@@ -42,7 +42,7 @@ leaves_less f x y small h =
     let all : f * x ≡ f * y + f * (x - y) = ap (λ n. f * n) e ∙ split in
     omega (arith, all, most)
 
--- between two amounts of which a step takes the same it takes that, too
+-- where a step takes the same of two amounts, it takes that of each between them, too
 takes_same : (f k low y x : ℕ) → f ≤ 1_000_000 → low + k ≤ y → y ≤ x → scaled f (low + k) ≡ low → scaled f x ≡ x - k → scaled f y ≡ y - k
 takes_same f k low y x small above below last first =
     omega (arith, leaves_less f x y small below, leaves_less f y (low + k) small above, first, last, above, below)

@@ -63,42 +63,42 @@ either P true x y p q = p
 either P false x y p q = q
 
 pub sound_put : (k : Kept) (es : List (PeerNo × Account)) (p : PeerNo) (t : Topic) (s : Standing)
-    → IsSound k → Puts k.accounts es p t s → AreFew es → IsUpTo k.tick s → IsSound (record k { accounts = es })
+    → IsSound k → Puts k.accounts es p t s → AreFew es → IsUpTo k.decays s → IsSound (record k { accounts = es })
 sound_put k es p t s h puts few past = record {
   in_range = h.in_range;
   few = few;
   standings = λ q u.
-      subst (IsUpTo k.tick) (sym (puts.standings q u))
-      (either (IsUpTo k.tick) (same_pair p t q u) s (standing_of k.accounts q u) past (h.standings q u));
-  misbehaviours = λ q. subst (λ (c : Stored). c.tick ≤ k.tick) (sym (puts.misbehaviours q)) (h.misbehaviours q);
+      subst (IsUpTo k.decays) (sym (puts.standings q u))
+      (either (IsUpTo k.decays) (same_pair p t q u) s (standing_of k.accounts q u) past (h.standings q u));
+  misbehaviours = λ q. subst (λ (c : Stored). c.decays ≤ k.decays) (sym (puts.misbehaviours q)) (h.misbehaviours q);
   apps = h.apps;
   addresses = h.addresses;
 }
 
-pub up_to_raised : (r : TopicRules) (kind : Kind) (by tick : ℕ) (s : Standing) → IsUpTo tick s → IsUpTo tick (raised_standing r kind by tick s)
-up_to_raised r First by tick s h First = omega arith
-up_to_raised r First by tick s h Near = h Near
-up_to_raised r First by tick s h Deficit = h Deficit
-up_to_raised r First by tick s h Invalid = h Invalid
-up_to_raised r Near by tick s h First = h First
-up_to_raised r Near by tick s h Near = omega arith
-up_to_raised r Near by tick s h Deficit = h Deficit
-up_to_raised r Near by tick s h Invalid = h Invalid
-up_to_raised r Deficit by tick s h First = h First
-up_to_raised r Deficit by tick s h Near = h Near
-up_to_raised r Deficit by tick s h Deficit = omega arith
-up_to_raised r Deficit by tick s h Invalid = h Invalid
-up_to_raised r Invalid by tick s h First = h First
-up_to_raised r Invalid by tick s h Near = h Near
-up_to_raised r Invalid by tick s h Deficit = h Deficit
-up_to_raised r Invalid by tick s h Invalid = omega arith
+pub up_to_raised : (r : TopicRules) (kind : Kind) (by decays : ℕ) (s : Standing) → IsUpTo decays s → IsUpTo decays (raised_standing r kind by decays s)
+up_to_raised r First by decays s h First = omega arith
+up_to_raised r First by decays s h Near = h Near
+up_to_raised r First by decays s h Deficit = h Deficit
+up_to_raised r First by decays s h Invalid = h Invalid
+up_to_raised r Near by decays s h First = h First
+up_to_raised r Near by decays s h Near = omega arith
+up_to_raised r Near by decays s h Deficit = h Deficit
+up_to_raised r Near by decays s h Invalid = h Invalid
+up_to_raised r Deficit by decays s h First = h First
+up_to_raised r Deficit by decays s h Near = h Near
+up_to_raised r Deficit by decays s h Deficit = omega arith
+up_to_raised r Deficit by decays s h Invalid = h Invalid
+up_to_raised r Invalid by decays s h First = h First
+up_to_raised r Invalid by decays s h Near = h Near
+up_to_raised r Invalid by decays s h Deficit = h Deficit
+up_to_raised r Invalid by decays s h Invalid = omega arith
 
 -- who comes into a mesh or leaves it keeps its counters
-pub up_to_since : (since : Option Millis) (tick : ℕ) (s : Standing) → IsUpTo tick s → IsUpTo tick (record s { since = since })
-up_to_since since tick s h First = h First
-up_to_since since tick s h Near = h Near
-up_to_since since tick s h Deficit = h Deficit
-up_to_since since tick s h Invalid = h Invalid
+pub up_to_since : (since : Option Millis) (decays : ℕ) (s : Standing) → IsUpTo decays s → IsUpTo decays (record s { since = since })
+up_to_since since decays s h First = h First
+up_to_since since decays s h Near = h Near
+up_to_since since decays s h Deficit = h Deficit
+up_to_since since decays s h Invalid = h Invalid
 
 -- ---- topics
 
@@ -169,7 +169,7 @@ pub record Concerns (c : Change) (p : PeerNo) (t : Topic) (step : TopicRules →
 
 agrees_put_here : (setting : Setting) (k : Kept) (es : List (PeerNo × Account)) (H : History) (c : Change) (p : PeerNo) (t : Topic) (s : Standing) (step : TopicRules → Held → Held)
     → Concerns c p t step → Puts k.accounts es p t s
-    → held (rules_of setting.params t) k.tick s ≡ step (rules_of setting.params t) (held (rules_of setting.params t) k.tick (standing_of k.accounts p t))
+    → held (rules_of setting.params t) k.decays s ≡ step (rules_of setting.params t) (held (rules_of setting.params t) k.decays (standing_of k.accounts p t))
     → ((q : PeerNo) → IsOn (topics_of es q) (named (c ∷ H) q))
     → Agrees setting k H
     → Agrees setting (record k { accounts = es }) (c ∷ H)
@@ -180,22 +180,22 @@ agrees_put_here setting k es H c p t s step concerns puts there on a = record {
   holds = λ q u. elim (pairs_tell p t q u) [
     | inl e ↦ (
         let r = rules_of setting.params t in
-        let at : held r k.tick (standing_of es p t) ≡ held_by setting.params (c ∷ H) p t
-        = ap (held r k.tick) (puts.standings p t ∙ rw (pair_self p t) refl)
+        let at : held r k.decays (standing_of es p t) ≡ held_by setting.params (c ∷ H) p t
+        = ap (held r k.decays) (puts.standings p t ∙ rw (pair_self p t) refl)
         ∙ there
         ∙ ap (step r) (a.holds p t)
         ∙ sym (concerns.here r (held_by setting.params H p t)) in
-        subst (λ x. held_in setting.params k.tick (topics_of es x) u ≡ held_by setting.params (c ∷ H) x u) e.1
-        (subst (λ y. held_in setting.params k.tick (topics_of es p) y ≡ held_by setting.params (c ∷ H) p y) e.2 at)
+        subst (λ x. held_in setting.params k.decays (topics_of es x) u ≡ held_by setting.params (c ∷ H) x u) e.1
+        (subst (λ y. held_in setting.params k.decays (topics_of es p) y ≡ held_by setting.params (c ∷ H) p y) e.2 at)
         )
     | inr e ↦ (
-        ap (held (rules_of setting.params u) k.tick) (puts.standings q u ∙ rw e refl)
+        ap (held (rules_of setting.params u) k.decays) (puts.standings q u ∙ rw e refl)
         ∙ a.holds q u
         ∙ sym (concerns.others (rules_of setting.params u) q u (held_by setting.params H q u) e)
         )
   ];
   misbehaves = λ q.
-      ap (read_at (misbehaviour_decay setting.params) k.tick) (puts.misbehaviours q)
+      ap (read_at (misbehaviour_decay setting.params) k.decays) (puts.misbehaviours q)
       ∙ a.misbehaves q
       ∙ sym (concerns.misbehaves (misbehaviour_decay setting.params) q (misbehaviour setting.params H q));
   knows = λ q. (on q).0;
@@ -205,13 +205,13 @@ agrees_put_here setting k es H c p t s step concerns puts there on a = record {
 
 pub agrees_put : (setting : Setting) (k new : Kept) (H : History) (c : Change) (p : PeerNo) (t : Topic) (s : Standing) (step : TopicRules → Held → Held)
     → Concerns c p t step → NamesTopic c p t → PutsIn k new p t s
-    → held (rules_of k.params t) k.tick s ≡ step (rules_of k.params t) (held (rules_of k.params t) k.tick (standing_of k.accounts p t))
+    → held (rules_of k.params t) k.decays s ≡ step (rules_of k.params t) (held (rules_of k.params t) k.decays (standing_of k.accounts p t))
     → Agrees setting k H
     → Agrees setting new (c ∷ H)
 agrees_put setting k new H c p t s step concerns names puts there a =
     subst (λ x. Agrees setting x (c ∷ H)) (sym puts.rest)
     (agrees_put_here setting k new.accounts H c p t s step concerns puts.puts
-    (subst (λ (x : Params). held (rules_of x t) k.tick s ≡ step (rules_of x t) (held (rules_of x t) k.tick (standing_of k.accounts p t))) a.params there)
+    (subst (λ (x : Params). held (rules_of x t) k.decays s ≡ step (rules_of x t) (held (rules_of x t) k.decays (standing_of k.accounts p t))) a.params there)
     (on_named k.accounts new.accounts H c p t names puts.adds (λ q. (a.knows q, a.counts q))) a)
 
 pub concerns_graft : (p : PeerNo) (t : Topic) (now : Millis) → Concerns (Grafted p t now) p t (λ r h. record h { since = Some now })
@@ -269,26 +269,26 @@ raise_names m p t kind by is q ts =
     ap (λ (o : Option Raise). option_map_or (λ (x : Raise). cond (same_peer x.peer q) (with_topic x.topic ts) ts) o ts) is
 
 pub agrees_raise : (setting : Setting) (k new : Kept) (H : History) (m : Mark) (p : PeerNo) (t : Topic) (kind : Kind) (by : ℕ)
-    → PutsIn k new p t (raised_standing (rules_of k.params t) kind by k.tick (standing_of k.accounts p t))
+    → PutsIn k new p t (raised_standing (rules_of k.params t) kind by k.decays (standing_of k.accounts p t))
     → raise_of m ≡ Some (record { peer = p; topic = t; kind = kind; by = by })
     → blamed m ≡ None
     → Agrees setting k H
     → Agrees setting new (Marked m ∷ H)
 agrees_raise setting k new H m p t kind by puts is none a =
-    agrees_put setting k new H (Marked m) p t (raised_standing (rules_of k.params t) kind by k.tick (standing_of k.accounts p t))
+    agrees_put setting k new H (Marked m) p t (raised_standing (rules_of k.params t) kind by k.decays (standing_of k.accounts p t))
     (λ r h. raised_held r kind by h) (concerns_raise m p t kind by is none) (raise_names m p t kind by is) puts
-    (held-raised (rules_of k.params t) kind by k.tick (standing_of k.accounts p t)) a
+    (held-raised (rules_of k.params t) kind by k.decays (standing_of k.accounts p t)) a
 
-pub agrees_decay : (setting : Setting) (k : Kept) (H : History) → IsSound k → Agrees setting k H → Agrees setting (record k { tick = k.tick + 1 }) (Decayed ∷ H)
+pub agrees_decay : (setting : Setting) (k : Kept) (H : History) → IsSound k → Agrees setting k H → Agrees setting (record k { decays = k.decays + 1 }) (Decayed ∷ H)
 agrees_decay setting k H sound a = record {
   params = a.params;
   neighbours = a.neighbours;
-  decays = let is : k.tick + 1 ≡ suc k.tick = omega arith in is ∙ ap suc a.decays;
+  decays = let is : k.decays + 1 ≡ suc k.decays = omega arith in is ∙ ap suc a.decays;
   holds = λ q u.
-      held-later (rules_of setting.params u) k.tick (standing_of k.accounts q u) (sound.standings q u)
+      held-later (rules_of setting.params u) k.decays (standing_of k.accounts q u) (sound.standings q u)
       ∙ ap (decayed_held (rules_of setting.params u)) (a.holds q u);
   misbehaves = λ q.
-      read-later (misbehaviour_decay setting.params) (misbehaviour_of k.accounts q) k.tick 1 (sound.misbehaviours q)
+      read-later (misbehaviour_decay setting.params) (misbehaviour_of k.accounts q) k.decays 1 (sound.misbehaviours q)
       ∙ ap (decay_step (misbehaviour_decay setting.params)) (a.misbehaves q);
   knows = a.knows;
   counts = a.counts;
@@ -307,18 +307,18 @@ sums_same params now f g e (t ∷ ts) = ap₂ (λ x y. x +ℤ y) (ap (topic_part
 pub score_says : (s : Setting) (k : Kept) (H : History) (p : PeerNo) (now : ℕ) (ts : List Topic) (sum : ℤ)
     → Agrees s k H
     → Covers (held_by s.params H p) ts
-    → ((us : List Topic) → Covers (held_in k.params k.tick (topics_of k.accounts p)) us → sum ≡ topic_sum k.params now (held_in k.params k.tick (topics_of k.accounts p)) us)
-    → score_of k.params.factors sum (app_of k.addresses p) (number_with k.addresses p) (read_at (misbehaviour_decay k.params) k.tick (misbehaviour_of k.accounts p))
+    → ((us : List Topic) → Covers (held_in k.params k.decays (topics_of k.accounts p)) us → sum ≡ topic_sum k.params now (held_in k.params k.decays (topics_of k.accounts p)) us)
+    → score_of k.params.factors sum (app_of k.addresses p) (number_with k.addresses p) (read_at (misbehaviour_decay k.params) k.decays (misbehaviour_of k.accounts p))
     ≡ score_in s now H p ts
 score_says s k H p now ts sum a covers h =
     let T = topics_of k.accounts p in
-    let at : Topic → Held = held_in s.params k.tick T in
+    let at : Topic → Held = held_in s.params k.decays T in
     let by : Topic → Held = held_by s.params H p in
     let sums : sum ≡ topic_sum s.params now by ts
-    = subst (λ (x : Params). (us : List Topic) → Covers (held_in x k.tick T) us → sum ≡ topic_sum x now (held_in x k.tick T) us) a.params h ts
+    = subst (λ (x : Params). (us : List Topic) → Covers (held_in x k.decays T) us → sum ≡ topic_sum x now (held_in x k.decays T) us) a.params h ts
     (covers_same at by ts (a.holds p) covers)
     ∙ sums_same s.params now at by (a.holds p) ts in
-    ap (λ (x : Params). score_of x.factors sum (app_of k.addresses p) (number_with k.addresses p) (read_at (misbehaviour_decay x) k.tick (misbehaviour_of k.accounts p))) a.params
-    ∙ ap (λ (x : ℤ). score_of s.params.factors x (app_of k.addresses p) (number_with k.addresses p) (read_at (misbehaviour_decay s.params) k.tick (misbehaviour_of k.accounts p))) sums
-    ∙ ap (λ (x : List (PeerNo × AddressEntry)). score_of s.params.factors (topic_sum s.params now by ts) (app_of x p) (number_with x p) (read_at (misbehaviour_decay s.params) k.tick (misbehaviour_of k.accounts p))) a.addresses
+    ap (λ (x : Params). score_of x.factors sum (app_of k.addresses p) (number_with k.addresses p) (read_at (misbehaviour_decay x) k.decays (misbehaviour_of k.accounts p))) a.params
+    ∙ ap (λ (x : ℤ). score_of s.params.factors x (app_of k.addresses p) (number_with k.addresses p) (read_at (misbehaviour_decay s.params) k.decays (misbehaviour_of k.accounts p))) sums
+    ∙ ap (λ (x : List (PeerNo × AddressEntry)). score_of s.params.factors (topic_sum s.params now by ts) (app_of x p) (number_with x p) (read_at (misbehaviour_decay s.params) k.decays (misbehaviour_of k.accounts p))) a.addresses
     ∙ ap (λ (x : ℕ). score_of s.params.factors (topic_sum s.params now by ts) (app_of (addresses_in s.neighbours H) p) (number_with (addresses_in s.neighbours H) p) x) (a.misbehaves p)

@@ -196,12 +196,12 @@ pub sound_first : (params : Params) (ns : List Neighbour) (accounts : List (Peer
     → All (λ (n : Neighbour). unsigned_abs n.app ≤ 10 ^ 12) ns
     → length ns ≤ 65_536
     → ((q : PeerNo) → account_of accounts q ≡ nothing_counted)
-    → IsSound (record { params = params; addresses = insert_all same_peer [] (map address_entry_of ns); accounts = accounts; tick = 0 })
+    → IsSound (record { params = params; addresses = insert_all same_peer [] (map address_entry_of ns); accounts = accounts; decays = 0 })
 sound_first params ns accounts range up apps few nothing = rw (all_placed ns up) (record {
   in_range = range;
   few = λ q. subst (λ (x : Account). length x.topics ≤ most_topics) (sym (nothing q)) (omega arith);
   standings = λ q t. subst (λ (x : Account). IsUpTo 0 (standing_in x.topics t)) (sym (nothing q)) up_to_first;
-  misbehaviours = λ q. subst (λ (x : Account). x.misbehaviour.tick ≤ 0) (sym (nothing q)) (omega arith);
+  misbehaviours = λ q. subst (λ (x : Account). x.misbehaviour.decays ≤ 0) (sym (nothing q)) (omega arith);
   apps = apps_within ns apps;
   addresses = omega (arith, length-map ns address_entry_of, few);
 })
@@ -216,7 +216,7 @@ pub agrees_first : (params : Params) (ns : List Neighbour) (accounts : List (Pee
     → IsAscending (peers_of ns)
     → ((q : PeerNo) → account_of accounts q ≡ nothing_counted)
     → ((q : PeerNo) → has_account accounts q ≡ list_any (λ (n : Neighbour). same_peer q n.peer) ns)
-    → Agrees (record { params = params; neighbours = ns }) (record { params = params; addresses = insert_all same_peer [] (map address_entry_of ns); accounts = accounts; tick = 0 }) []
+    → Agrees (record { params = params; neighbours = ns }) (record { params = params; addresses = insert_all same_peer [] (map address_entry_of ns); accounts = accounts; decays = 0 }) []
 agrees_first params ns accounts up nothing all = record {
   params = refl;
   neighbours = all;

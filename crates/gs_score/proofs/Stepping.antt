@@ -7,7 +7,7 @@ use Rattle.gs_score.specs.Ranges.{IsUpTo}
 use Rattle.gs_score.specs.Standings.{held, decayed_held, decay_of}
 use Rattle.gs_score.proofs.Decaying.{read-later}
 
-pub held-later : (r : TopicRules) (tick : ℕ) (s : Standing) → IsUpTo tick s → held r (tick + 1) s ≡ decayed_held r (held r tick s)
-held-later r tick s past =
-    rw (read-later (decay_of r First) s.first tick 1 (past First), read-later (decay_of r Near) s.near tick 1 (past Near), read-later (decay_of r Deficit) s.deficit tick 1 (past Deficit), read-later (decay_of r Invalid) s.invalid tick 1 (past Invalid))
+pub held-later : (r : TopicRules) (decays : ℕ) (s : Standing) → IsUpTo decays s → held r (decays + 1) s ≡ decayed_held r (held r decays s)
+held-later r decays s past =
+    rw (read-later (decay_of r First) s.first decays 1 (past First), read-later (decay_of r Near) s.near decays 1 (past Near), read-later (decay_of r Deficit) s.deficit decays 1 (past Deficit), read-later (decay_of r Invalid) s.invalid decays 1 (past Invalid))
     refl

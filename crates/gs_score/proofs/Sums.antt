@@ -25,7 +25,7 @@ use Rattle.std.proofs.lemmas.Option.{slice_get_within, get_or_from_slice_get}
 pub drop_first : {A : Type 0} (xs : List A) (i : ℕ) (x : A) → Some x ≡ slice_get xs i → drop i xs ≡ x ∷ drop (i + 1) xs
 drop_first xs i x h = drop_more xs i x (slice_get_within xs i x (sym h)) ∙ ap (λ y. y ∷ drop (i + 1) xs) (get_or_from_slice_get xs i x x (sym h))
 
--- none is the same as one behind it
+-- none is the same as one after it
 abbrev pub Apart : {A : Type 0} → (A → A → Bool) → List A → Type 0
 Apart eq [] = Unit {0}
 Apart eq (x ∷ xs) = (list_any (eq x) xs ≡ false) × Apart eq xs
@@ -138,9 +138,9 @@ pub decayed_nothing : (d : Decay) (n : ℕ) → decayed d n 0 ≡ 0
 decayed_nothing d zero = refl
 decayed_nothing d (suc n) = ap (decayed d n) (step_of_nothing d) ∙ decayed_nothing d n
 
-pub fresh_held : (r : TopicRules) (tick : ℕ) → held r tick fresh ≡ nothing_held
-fresh_held r tick =
-    rw (decayed_nothing (decay_of r First) (tick - 0), decayed_nothing (decay_of r Near) (tick - 0), decayed_nothing (decay_of r Deficit) (tick - 0), decayed_nothing (decay_of r Invalid) (tick - 0))
+pub fresh_held : (r : TopicRules) (decays : ℕ) → held r decays fresh ≡ nothing_held
+fresh_held r decays =
+    rw (decayed_nothing (decay_of r First) (decays - 0), decayed_nothing (decay_of r Near) (decays - 0), decayed_nothing (decay_of r Deficit) (decays - 0), decayed_nothing (decay_of r Invalid) (decays - 0))
     refl
 
 absent : (es : List (Topic × Standing)) (t : Topic) → list_any (same_topic t) (keys_of es) ≡ false → standing_in es t ≡ fresh
@@ -150,15 +150,15 @@ absent (e ∷ es) t h =
     rw two.0 (absent es t two.1)
 
 -- the sum over the topics that are kept is that over any topics that leave none out
-pub same_sum : (params : Params) (tick now : ℕ) (es : List (Topic × Standing)) (ts : List Topic)
+pub same_sum : (params : Params) (decays now : ℕ) (es : List (Topic × Standing)) (ts : List Topic)
     → IsDistinct same_topic (keys_of es)
-    → Covers (held_in params tick es) ts
-    → topic_sum params now (held_in params tick es) (keys_of es) ≡ topic_sum params now (held_in params tick es) ts
-same_sum params tick now es ts d c =
-    let f : Topic → ℤ = λ t. topic_part (rules_of params t) now (held_in params tick es t) in
-    let none : (t : Topic) → held_in params tick es t ≡ nothing_held → f t ≡ pos 0
+    → Covers (held_in params decays es) ts
+    → topic_sum params now (held_in params decays es) (keys_of es) ≡ topic_sum params now (held_in params decays es) ts
+same_sum params decays now es ts d c =
+    let f : Topic → ℤ = λ t. topic_part (rules_of params t) now (held_in params decays es t) in
+    let none : (t : Topic) → held_in params decays es t ≡ nothing_held → f t ≡ pos 0
     = λ t e. ap (topic_part (rules_of params t) now) e ∙ nothing_counts (rules_of params t) now in
     sum_same same_topic topics_tell (keys_of es) ts f
     (apart_from_distinct same_topic (keys_of es) d) (apart_from_distinct same_topic ts c.apart)
-    (λ t h. none t (ap (held (rules_of params t) tick) (absent es t h) ∙ fresh_held (rules_of params t) tick))
+    (λ t h. none t (ap (held (rules_of params t) decays) (absent es t h) ∙ fresh_held (rules_of params t) decays))
     (λ t h. none t (c.all t h))

@@ -65,6 +65,6 @@ pub record Covers (at : Topic → Held) (ts : List Topic) : Type 0 where
   pub apart : IsDistinct same_topic ts
   pub all : (t : Topic) → list_any (same_topic t) ts ≡ false → at t ≡ nothing_held
 
--- what is held on a topic at a tick
+-- what is held on a topic after this number of decays
 abbrev pub held_in : Params → ℕ → List (Topic × Standing) → Topic → Held
-held_in params tick topics t = held (rules_of params t) tick (standing_in topics t)
+held_in params decays topics t = held (rules_of params t) decays (standing_in topics t)

@@ -58,7 +58,7 @@ abbrev pub blamed : Mark → Option PeerNo
 blamed (marks.Misbehaviour p) = Some p
 blamed mark = None
 
--- whom a mark concerns is a neighbour, with room for the topic
+-- a mark concerns a neighbour, with room for the topic
 abbrev pub accepts : List (PeerNo × Account) → Mark → Bool
 accepts accounts (marks.First p t id) = has_room accounts p t
 accepts accounts (marks.Near p t id) = has_room accounts p t
@@ -67,10 +67,10 @@ accepts accounts (marks.Invalid p t) = has_room accounts p t
 accepts accounts (marks.Misbehaviour p) = has_account accounts p
 accepts accounts mark = true
 
--- a counter of a neighbour on a topic is raised, as it is at the tick
+-- a counter of a neighbour on a topic is raised, as it is after the decays so far
 abbrev pub RaisesIn : Kept → Kept → PeerNo → Topic → Kind → ℕ → Type 0
 RaisesIn old new p t kind by =
-    PutsIn old new p t (raised_standing (rules_of old.params t) kind by old.tick (standing_of old.accounts p t))
+    PutsIn old new p t (raised_standing (rules_of old.params t) kind by old.decays (standing_of old.accounts p t))
 
 -- what a mark makes of what is kept: what raises and blames nobody leaves it as it is
 abbrev pub Applies : Kept → Kept → Mark → Type 0
@@ -81,8 +81,8 @@ Applies old new (marks.Invalid p t) = RaisesIn old new p t Invalid one
 Applies old new (marks.Misbehaviour p) =
     BlamesIn old new p (record {
       value = raised most_counted one
-          (read_at (misbehaviour_decay old.params) old.tick (misbehaviour_of old.accounts p));
-      tick = old.tick;
+          (read_at (misbehaviour_decay old.params) old.decays (misbehaviour_of old.accounts p));
+      decays = old.decays;
     })
 Applies old new mark = new ≡ old
 
@@ -178,13 +178,13 @@ pub record Agrees (setting : Setting) (k : Kept) (H : History) : Type 0 where
   pub params : k.params ≡ setting.params
   pub neighbours
       : (q : PeerNo) → has_account k.accounts q ≡ list_any (λ (n : Neighbour). same_peer q n.peer) setting.neighbours
-  pub decays : k.tick ≡ decays H
+  pub decays : k.decays ≡ decays H
   pub holds
       : (q : PeerNo) (t : Topic)
-      → held_in setting.params k.tick (topics_of k.accounts q) t ≡ held_by setting.params H q t
+      → held_in setting.params k.decays (topics_of k.accounts q) t ≡ held_by setting.params H q t
   pub misbehaves
       : (q : PeerNo)
-      → read_at (misbehaviour_decay setting.params) k.tick (misbehaviour_of k.accounts q)
+      → read_at (misbehaviour_decay setting.params) k.decays (misbehaviour_of k.accounts q)
       ≡ misbehaviour setting.params H q
   -- it has something on the topics that are named, each once, and on no other
   pub knows : (q : PeerNo) (t : Topic) → has_topic (topics_of k.accounts q) t ≡ list_any (same_topic t) (named H q)

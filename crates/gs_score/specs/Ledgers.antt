@@ -83,15 +83,15 @@ pub record Kept : Type 0 where
   pub params : Params
   pub addresses : List (PeerNo × AddressEntry)
   pub accounts : List (PeerNo × Account)
-  pub tick : ℕ
+  pub decays : ℕ
 
--- what holds of it between calls: no counter was decayed past the tick, and nothing is so large that a score would not
--- be exact
+-- what holds of it between calls: no counter was decayed more often than all were, and nothing is so large that a
+-- score would not be exact
 pub record IsSound (k : Kept) : Type 0 where
   pub in_range : AreInRange k.params
   pub few : AreFew k.accounts
-  pub standings : (q : PeerNo) (t : Topic) → IsUpTo k.tick (standing_of k.accounts q t)
-  pub misbehaviours : (q : PeerNo) → (misbehaviour_of k.accounts q).tick ≤ k.tick
+  pub standings : (q : PeerNo) (t : Topic) → IsUpTo k.decays (standing_of k.accounts q t)
+  pub misbehaviours : (q : PeerNo) → (misbehaviour_of k.accounts q).decays ≤ k.decays
   pub apps : (q : PeerNo) → unsigned_abs (app_of k.addresses q) ≤ 10 ^ 12
   pub addresses : length k.addresses ≤ 65_536
 

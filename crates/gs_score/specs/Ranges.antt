@@ -11,6 +11,6 @@ pub record RulesAreInRange (r : TopicRules) : Type 0 where
   pub timing : TopicTimingIsInRange r.timing
   pub decay_to_zero : IsCap r.decay_to_zero
 
--- no counter was decayed past a tick
+-- no counter was decayed past this number of decays
 abbrev pub IsUpTo : ℕ → Standing → Type 0
-IsUpTo tick s = (kind : Kind) → (stored kind s).tick ≤ tick
+IsUpTo decays s = (kind : Kind) → (stored kind s).decays ≤ decays

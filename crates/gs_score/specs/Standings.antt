@@ -24,7 +24,7 @@ cap_of r Near = r.factors.p3_cap
 cap_of r Deficit = most_counted
 cap_of r Invalid = most_counted
 
--- ---- what a neighbour has on a topic at a tick
+-- ---- what a neighbour has on a topic after a number of decays
 
 -- since when it is in the mesh, where it is, and its counters, in millionths
 pub record Held : Type 0 where
@@ -79,27 +79,27 @@ with_stored Deficit c s = record s { deficit = c }
 with_stored Invalid c s = record s { invalid = c }
 
 abbrev pub read : TopicRules → ℕ → Standing → Kind → ℕ
-read r tick s kind = read_at (decay_of r kind) tick (stored kind s)
+read r decays s kind = read_at (decay_of r kind) decays (stored kind s)
 
--- what is held at a tick: each counter decayed by the steps that it lacks
+-- what is held after a number of decays: each counter decayed by the steps that it lacks
 abbrev pub held : TopicRules → ℕ → Standing → Held
-held r tick s = record {
+held r decays s = record {
   since = s.since;
-  first = read r tick s First;
-  near = read r tick s Near;
-  deficit = read r tick s Deficit;
-  invalid = read r tick s Invalid;
+  first = read r decays s First;
+  near = read r decays s Near;
+  deficit = read r decays s Deficit;
+  invalid = read r decays s Invalid;
 }
 
--- a raise keeps the counter as it is at the tick
+-- a raise keeps the counter as it is after these decays
 abbrev pub raised_stored : TopicRules → Kind → ℕ → ℕ → Standing → Stored
-raised_stored r kind by tick s = record { value = raised (cap_of r kind) by (read r tick s kind); tick = tick }
+raised_stored r kind by decays s = record { value = raised (cap_of r kind) by (read r decays s kind); decays = decays }
 
 abbrev pub raised_standing : TopicRules → Kind → ℕ → ℕ → Standing → Standing
-raised_standing r kind by tick s = with_stored kind (raised_stored r kind by tick s) s
+raised_standing r kind by decays s = with_stored kind (raised_stored r kind by decays s) s
 
 abbrev pub raised_by : Raise → Standing → Standing
-raised_by raise s = raised_standing raise.rules.now raise.kind raise.by raise.tick s
+raised_by raise s = raised_standing raise.rules.now raise.kind raise.by raise.decays s
 
 -- out of the mesh, with the counters that it had
 abbrev pub pruned : Standing → Standing
@@ -111,7 +111,7 @@ grafted now s = record s { since = Some now }
 
 -- nothing yet
 abbrev pub no_count : Stored
-no_count = record { value = 0; tick = 0 }
+no_count = record { value = 0; decays = 0 }
 
 abbrev pub fresh : Standing
 fresh = record { since = None; first = no_count; near = no_count; deficit = no_count; invalid = no_count }

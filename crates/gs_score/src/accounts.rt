@@ -93,8 +93,8 @@ pub(crate) fn has_room(accounts: &IndexMap<PeerNo, Account>, peer: PeerNo, topic
     }
 }
 
-/// Raises a counter of a neighbour on a topic, as it is at a tick. It takes memory only where the neighbour had nothing
-/// on the topic.
+/// Raises a counter of a neighbour on a topic, as it is after these decays. It takes memory only where the neighbour
+/// had nothing on the topic.
 ///
 /// # Errors
 /// `AllocError` where there was no memory; nothing is changed then.
@@ -164,23 +164,23 @@ pub(crate) fn prune_standing(accounts: &mut IndexMap<PeerNo, Account>, peer: Pee
     }
 }
 
-/// Raises how a neighbour misbehaved by an amount, as it is at a tick. It takes no memory.
+/// Raises how a neighbour misbehaved by an amount, as it is after these decays. It takes no memory.
 pub(crate) fn blame(
     accounts: &mut IndexMap<PeerNo, Account>,
     peer: PeerNo,
     by: u64,
     decay: Decay,
-    tick: u64,
+    decays: u64,
 )
     requires known { has_account accounts.old.entries peer ≡ true }
     requires factor { decay.factor ≤ 10 ^ 6 }
     ensures { Blames accounts.old.entries accounts.new.entries peer (record {
-      value = raised most_counted by (read_at decay tick (misbehaviour_of accounts.old.entries peer));
-      tick = tick;
+      value = raised most_counted by (read_at decay decays (misbehaviour_of accounts.old.entries peer));
+      decays = decays;
     }) }
 {
     if let Some(account) = accounts.get_mut(&peer) {
-        account.misbehaviour.raise(by, MOST_COUNTED, decay, tick);
+        account.misbehaviour.raise(by, MOST_COUNTED, decay, decays);
     }
 }
 
@@ -190,25 +190,25 @@ pub(crate) fn counts_of(
     accounts: &IndexMap<PeerNo, Account>,
     peer: PeerNo,
     rulebook: &Rulebook,
-    tick: u64,
+    decays: u64,
     now: Millis,
 ) -> (i128, u64)
     requires few { AreFew accounts.now.entries }
     ensures topics { (ts : List TopicValue)
-        → Covers (held_in rulebook.now tick (topics_of accounts.now.entries peer)) ts
-        → result.0 ≡ topic_sum rulebook.now now.0 (held_in rulebook.now tick (topics_of accounts.now.entries peer)) ts }
+        → Covers (held_in rulebook.now decays (topics_of accounts.now.entries peer)) ts
+        → result.0 ≡ topic_sum rulebook.now now.0 (held_in rulebook.now decays (topics_of accounts.now.entries peer)) ts }
     ensures bound { unsigned_abs result.0 ≤ 1_024 * 10 ^ 25 }
     ensures misbehaviour { result.1
-        ≡ read_at (misbehaviour_decay rulebook.now) tick (misbehaviour_of accounts.now.entries peer) }
+        ≡ read_at (misbehaviour_decay rulebook.now) decays (misbehaviour_of accounts.now.entries peer) }
     ensures most { result.1 ≤ 10 ^ 12 }
 {
     let decay = misbehaviour_decay(rulebook.params());
     match accounts.get(&peer) {
         Some(account) => {
-            let topics = account.topics.sum(rulebook, tick, now);
-            (topics, account.misbehaviour.read(decay, tick))
+            let topics = account.topics.sum(rulebook, decays, now);
+            (topics, account.misbehaviour.read(decay, decays))
         }
-        None => (0, Counter::new().read(decay, tick)),
+        None => (0, Counter::new().read(decay, decays)),
     }
 }
 

@@ -117,14 +117,14 @@ const FEW_STEPS: u64 = 8;
 /// Steps that fall faster take the same a few times in a row at most: by this many millionths of a millionth.
 const STEEP: u64 = 250_000;
 
-/// A counter that decays by steps, which are numbered by ticks from 1 on.
+/// A counter that decays by steps, which are numbered from 1 on.
 ///
-/// It keeps a value and the tick up to which that was decayed. A read applies the steps that are missing and
-/// keeps nothing of them; a raise applies them too, and keeps what it makes.
+/// It keeps a value and the number of decays up to which that was decayed. A read applies the steps that are missing
+/// and keeps nothing of them; a raise applies them too, and keeps what it makes.
 #[derive(Clone, Copy, Debug, PartialEq, Eq)]
 pub struct Counter {
     value: u64,
-    tick: u64,
+    decays: u64,
 }
 
 impl Model for Counter {
@@ -133,9 +133,9 @@ impl Model for Counter {
 
     ghost Value = { Stored };
 
-    ghost view = { λ c. record { value = c.value; tick = c.tick } };
+    ghost view = { λ c. record { value = c.value; decays = c.decays } };
 
-    ghost inverse = { λ s. record { value = s.value; tick = s.tick } };
+    ghost inverse = { λ s. record { value = s.value; decays = s.decays } };
 
     ghost invariant = { λ c. c.value ≤ 10 ^ 12 };
 }
@@ -143,43 +143,46 @@ impl Model for Counter {
 impl Counter {
     /// A counter of 0, before the first step.
     pub fn new() -> Counter
-        ensures { result ≡ record { value = 0; tick = 0 } }
+        ensures { result ≡ record { value = 0; decays = 0 } }
     {
-        Counter { value: 0, tick: 0 }
+        Counter {
+            value: 0,
+            decays: 0,
+        }
     }
 
-    /// The value after the steps up to a tick, in millionths: 0 to 10^12. A tick that was passed takes
+    /// The value after this number of decays, in millionths: 0 to 10^12. A number that was passed takes
     /// nothing back.
-    pub fn read(&self, decay: Decay, tick: u64) -> u64
+    pub fn read(&self, decay: Decay, decays: u64) -> u64
         requires factor { decay.factor ≤ 10 ^ 6 }
-        ensures value { result ≡ read_at decay tick self.now }
+        ensures value { result ≡ read_at decay decays self.now }
         ensures most { result ≤ 10 ^ 12 }
     {
-        let missing = tick.saturating_sub(self.tick);
+        let missing = decays.saturating_sub(self.decays);
         if missing == 0 {
             return self.value;
         }
         decay.after(self.value, missing)
     }
 
-    /// Raises the value that it has at a tick by an amount, up to a cap, in millionths.
-    pub fn raise(&mut self, by: u64, cap: u64, decay: Decay, tick: u64)
+    /// Raises the value that it has after these decays by an amount, up to a cap, in millionths.
+    pub fn raise(&mut self, by: u64, cap: u64, decay: Decay, decays: u64)
         requires factor { decay.factor ≤ 10 ^ 6 }
         requires cap { cap ≤ 10 ^ 12 }
         ensures value { self.new ≡ record {
-          value = raised cap by (read_at decay tick self.old);
-          tick = tick;
+          value = raised cap by (read_at decay decays self.old);
+          decays = decays;
         } }
     {
-        let value = self.read(decay, tick);
+        let value = self.read(decay, decays);
         self.value = value.saturating_add(by).min(cap);
-        self.tick = tick;
+        self.decays = decays;
     }
 
-    /// The kept value, in millionths, and the tick up to which it was decayed.
+    /// The kept value, in millionths, and the number of decays up to which it was decayed.
     pub fn stored(&self) -> (u64, u64)
-        ensures { result ≡ (self.now.value, self.now.tick) }
+        ensures { result ≡ (self.now.value, self.now.decays) }
     {
-        (self.value, self.tick)
+        (self.value, self.decays)
     }
 }

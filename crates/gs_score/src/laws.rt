@@ -26,16 +26,16 @@ pub fn products_of_amounts_are_scaled()
 
 /// What a counter is read as after some more steps is what those steps make of what it was read as before.
 pub fn a_later_read_decays_on()
-    ensures { (d : DecayValue) (c : Stored) (tick n : ℕ)
-        → c.tick ≤ tick
-        → read_at d (tick + n) c ≡ decayed d n (read_at d tick c) }
+    ensures { (d : DecayValue) (c : Stored) (decays n : ℕ)
+        → c.decays ≤ decays
+        → read_at d (decays + n) c ≡ decayed d n (read_at d decays c) }
 {}
 
 /// A step of decay makes of all that a standing holds what it makes of each counter.
 pub fn a_standing_decays_by_its_counters()
-    ensures { (r : TopicRulesValue) (tick : ℕ) (s : StandingValue)
-        → IsUpTo tick s
-        → held r (tick + 1) s ≡ decayed_held r (held r tick s) }
+    ensures { (r : TopicRulesValue) (decays : ℕ) (s : StandingValue)
+        → IsUpTo decays s
+        → held r (decays + 1) s ≡ decayed_held r (held r decays s) }
 {}
 
 /// The topics that a history names leave none out on which a neighbour has something, so that its score is that over

@@ -43,7 +43,7 @@ pub struct Scores {
     rulebook: Rulebook,
     addresses: Addresses,
     accounts: IndexMap<PeerNo, Account>,
-    tick: u64,
+    decays: u64,
 }
 
 impl Model for Scores {
@@ -55,14 +55,14 @@ impl Model for Scores {
       params = s.rulebook;
       addresses = s.addresses;
       accounts = s.accounts.entries;
-      tick = s.tick;
+      decays = s.decays;
     } };
 
     ghost invariant = { λ s. IsSound (record {
       params = s.rulebook;
       addresses = s.addresses;
       accounts = s.accounts.entries;
-      tick = s.tick;
+      decays = s.decays;
     }) };
 }
 
@@ -91,7 +91,7 @@ impl Scores {
             rulebook,
             addresses,
             accounts,
-            tick: 0,
+            decays: 0,
         })
     }
 
@@ -103,7 +103,7 @@ impl Scores {
         has_room(&self.accounts, peer, topic)
     }
 
-    /// Whether a mark may be applied: whom it concerns is a neighbour, with room for the topic.
+    /// Whether a mark may be applied: it concerns a neighbour, with room for the topic.
     pub fn accepts(&self, mark: &Mark) -> bool
         ensures { result ≡ accepts self.now.accounts mark.now }
     {
@@ -119,9 +119,9 @@ impl Scores {
 
     /// How often counters decayed.
     pub fn decays(&self) -> u64
-        ensures { result ≡ self.now.tick }
+        ensures { result ≡ self.now.decays }
     {
-        self.tick
+        self.decays
     }
 
     /// Raises the counter that a mark raises, if any (gossipsub v1.1, Peer Scoring): by one, or by the amount of a
@@ -193,7 +193,7 @@ impl Scores {
         ensures most { result ≤ 10 ^ 18 }
     {
         let rules = self.rulebook.of(topic);
-        standing_of(&self.accounts, peer, topic).missing(rules, self.tick, now)
+        standing_of(&self.accounts, peer, topic).missing(rules, self.decays, now)
     }
 
     /// A neighbour leaves the mesh of a topic. Its counters stay, and it is charged with nothing: the mark with what
@@ -208,14 +208,14 @@ impl Scores {
         prune_standing(&mut self.accounts, peer, topic);
     }
 
-    /// All counters decay by a step. Only a tick is counted, so that it costs the same however many counters there
-    /// are. It is called fewer than 2^63 times.
+    /// All counters decay by a step. Only the steps are counted, so that it costs the same however many counters
+    /// there are. It is called fewer than 2^63 times.
     pub fn decay(&mut self)
-        requires few { self.old.tick < 2 ^ 63 }
+        requires few { self.old.decays < 2 ^ 63 }
         ensures agrees { (s : Setting) (H : History) → Agrees s self.old H → Agrees s self.new (Decayed ∷ H) }
-        ensures counts { self.new ≡ record self.old { tick = self.old.tick + 1 } }
+        ensures counts { self.new ≡ record self.old { decays = self.old.decays + 1 } }
     {
-        self.tick += 1;
+        self.decays += 1;
     }
 
     /// A neighbour went for good: it counts no more at its address. It takes no memory.
@@ -227,30 +227,30 @@ impl Scores {
     }
 
     /// A counter of a neighbour on a topic, in millionths: 0 to 10^12. It is the value that `stored` gives, after the
-    /// steps of decay since its tick.
+    /// decays that it lacks.
     pub fn counter(&self, peer: PeerNo, topic: &Topic, kind: Kind) -> u64
         ensures value { (s : Setting) (H : History)
             → Agrees s self.now H
             → result ≡ count kind (held_by s.params H peer topic.now) }
         ensures decays { result
-            ≡ read_at (decay_of (rules_of self.now.params topic.now) kind) self.now.tick
+            ≡ read_at (decay_of (rules_of self.now.params topic.now) kind) self.now.decays
             (stored kind (standing_of self.now.accounts peer topic.now)) }
         ensures most { result ≤ 10 ^ 12 }
     {
         let rules = self.rulebook.of(topic);
-        standing_of(&self.accounts, peer, topic).count(kind, rules, self.tick)
+        standing_of(&self.accounts, peer, topic).count(kind, rules, self.decays)
     }
 
     /// How a neighbour misbehaved, whatever the topic, in millionths: 0 to 10^12. It is the value that
-    /// `stored_misbehaviour` gives, after the steps of decay since its tick.
+    /// `stored_misbehaviour` gives, after the decays that it lacks.
     pub fn misbehaviour(&self, peer: PeerNo) -> u64
         ensures value { (s : Setting) (H : History) → Agrees s self.now H → result ≡ misbehaviour s.params H peer }
         ensures decays { result
-            ≡ read_at (misbehaviour_decay self.now.params) self.now.tick (misbehaviour_of self.now.accounts peer) }
+            ≡ read_at (misbehaviour_decay self.now.params) self.now.decays (misbehaviour_of self.now.accounts peer) }
         ensures most { result ≤ 10 ^ 12 }
     {
         let decay = misbehaviour_decay(self.rulebook.params());
-        misbehaviour_of(&self.accounts, peer).read(decay, self.tick)
+        misbehaviour_of(&self.accounts, peer).read(decay, self.decays)
     }
 
     /// What is kept of a counter: a value in millionths, and the number of decays up to which it was decayed. Both
@@ -259,7 +259,7 @@ impl Scores {
         ensures { result
             ≡ (
               (stored kind (standing_of self.now.accounts peer topic.now)).value,
-              (stored kind (standing_of self.now.accounts peer topic.now)).tick,
+              (stored kind (standing_of self.now.accounts peer topic.now)).decays,
             ) }
     {
         standing_of(&self.accounts, peer, topic)
@@ -273,7 +273,7 @@ impl Scores {
         ensures { result
             ≡ (
               (misbehaviour_of self.now.accounts peer).value,
-              (misbehaviour_of self.now.accounts peer).tick,
+              (misbehaviour_of self.now.accounts peer).decays,
             ) }
     {
         misbehaviour_of(&self.accounts, peer).stored()
@@ -290,7 +290,7 @@ impl Scores {
             &self.accounts,
             peer,
             &self.rulebook,
-            self.tick,
+            self.decays,
             now,
         );
         let (app, number) = self.addresses.app_and_number(peer);
@@ -305,7 +305,7 @@ impl Scores {
     fn raise(&mut self, peer: PeerNo, topic: &Topic, kind: Kind, by: u64) -> Result<(), AllocError>
         requires room { has_room self.old.accounts peer topic.now ≡ true }
         ensures puts { OnOk result (PutsIn self.old self.new peer topic.now
-            (raised_standing (rules_of self.old.params topic.now) kind by self.old.tick
+            (raised_standing (rules_of self.old.params topic.now) kind by self.old.decays
             (standing_of self.old.accounts peer topic.now))) }
         ensures unchanged { OnErr result (self.new ≡ self.old) }
         ensures succeeds { has_topic (topics_of self.old.accounts peer) topic.now ≡ true → IsOk result }
@@ -315,7 +315,7 @@ impl Scores {
             kind,
             by,
             rules,
-            tick: self.tick,
+            decays: self.decays,
         };
         raise_standing(&mut self.accounts, peer, topic, raise)?;
         Ok(())
@@ -326,12 +326,12 @@ impl Scores {
         requires known { has_account self.old.accounts peer ≡ true }
         ensures { BlamesIn self.old self.new peer (record {
           value = raised most_counted one
-              (read_at (misbehaviour_decay self.old.params) self.old.tick (misbehaviour_of self.old.accounts peer));
-          tick = self.old.tick;
+              (read_at (misbehaviour_decay self.old.params) self.old.decays (misbehaviour_of self.old.accounts peer));
+          decays = self.old.decays;
         }) }
     {
         let decay = misbehaviour_decay(self.rulebook.params());
-        blame(&mut self.accounts, peer, ONE, decay, self.tick);
+        blame(&mut self.accounts, peer, ONE, decay, self.decays);
     }
 }
 

@@ -32,8 +32,8 @@ pub struct Raise<'a> {
     pub by: u64,
     /// How its topic is scored.
     pub rules: &'a TopicRules,
-    /// The counter is as it is at this tick.
-    pub tick: u64,
+    /// The counter is as it is after these decays.
+    pub decays: u64,
 }
 
 /// What a neighbour has on a topic: since when it is in the mesh, and its counters.
@@ -73,31 +73,31 @@ impl Standing {
         }
     }
 
-    /// A counter's value at a tick, in millionths.
-    pub fn count(&self, kind: Kind, rules: &TopicRules, tick: u64) -> u64
+    /// A counter's value after these decays, in millionths.
+    pub fn count(&self, kind: Kind, rules: &TopicRules, decays: u64) -> u64
         requires in_range { RulesAreInRange rules.now }
-        ensures value { result ≡ count kind (held rules.now tick self.now) }
+        ensures value { result ≡ count kind (held rules.now decays self.now) }
         ensures most { result ≤ 10 ^ 12 }
     {
-        self.counter(kind).read(rules.decay_of(kind), tick)
+        self.counter(kind).read(rules.decay_of(kind), decays)
     }
 
     /// Raises a counter by an amount, up to its cap.
     pub fn raise(&mut self, raise: Raise<'_>)
         requires in_range { RulesAreInRange raise.rules.now }
-        ensures raises { held raise.entry.rules.now raise.entry.tick self.new
+        ensures raises { held raise.entry.rules.now raise.entry.decays self.new
             ≡ raised_held raise.entry.rules.now raise.entry.kind raise.entry.by
-            (held raise.entry.rules.now raise.entry.tick self.old) }
+            (held raise.entry.rules.now raise.entry.decays self.old) }
         ensures keeps { self.new ≡ raised_by raise.entry self.old }
     {
         let Raise {
             kind,
             by,
             rules,
-            tick,
+            decays,
         } = raise;
         let mut counter = self.counter(kind);
-        counter.raise(by, rules.cap_of(kind), rules.decay_of(kind), tick);
+        counter.raise(by, rules.cap_of(kind), rules.decay_of(kind), decays);
         self.put(kind, counter);
     }
 
@@ -127,13 +127,13 @@ impl Standing {
     }
 
     /// The square of what is missing of its deliveries in the mesh, in millionths (P3): 0 to 10^18.
-    pub fn missing(&self, rules: &TopicRules, tick: u64, now: Millis) -> u64
+    pub fn missing(&self, rules: &TopicRules, decays: u64, now: Millis) -> u64
         requires in_range { RulesAreInRange rules.now }
-        ensures value { result ≡ p3 rules.now now.0 (held rules.now tick self.now) }
+        ensures value { result ≡ p3 rules.now now.0 (held rules.now decays self.now) }
         ensures most { result ≤ 10 ^ 18 }
     {
         let threshold = rules.factors.p3_threshold;
-        let near = self.count(Kind::Near, rules, tick);
+        let near = self.count(Kind::Near, rules, decays);
         if rules.is_active(self.since, now) && near < threshold {
             return squared(threshold - near);
         }
@@ -141,57 +141,57 @@ impl Standing {
     }
 
     /// A counter under a weight, in millionths: at most 10^21 either way. Under a weight of 0 it is not looked at.
-    fn weighed_count(&self, weight: i64, kind: Kind, rules: &TopicRules, tick: u64) -> i128
+    fn weighed_count(&self, weight: i64, kind: Kind, rules: &TopicRules, decays: u64) -> i128
         requires in_range { RulesAreInRange rules.now }
         requires weight { unsigned_abs weight ≤ 10 ^ 9 }
-        ensures value { result ≡ times weight (pos (count kind (held rules.now tick self.now))) }
+        ensures value { result ≡ times weight (pos (count kind (held rules.now decays self.now))) }
         ensures bound { unsigned_abs result ≤ 10 ^ 21 }
     {
         if weight == 0 {
             return 0;
         }
-        weighed(weight, self.count(kind, rules, tick))
+        weighed(weight, self.count(kind, rules, decays))
     }
 
     /// The square of a counter under a weight, in the same way.
-    fn weighed_square(&self, weight: i64, kind: Kind, rules: &TopicRules, tick: u64) -> i128
+    fn weighed_square(&self, weight: i64, kind: Kind, rules: &TopicRules, decays: u64) -> i128
         requires in_range { RulesAreInRange rules.now }
         requires weight { unsigned_abs weight ≤ 10 ^ 9 }
-        ensures value { result ≡ times weight (pos (squared (count kind (held rules.now tick self.now)))) }
+        ensures value { result ≡ times weight (pos (squared (count kind (held rules.now decays self.now)))) }
         ensures bound { unsigned_abs result ≤ 10 ^ 21 }
     {
         if weight == 0 {
             return 0;
         }
-        weighed(weight, squared(self.count(kind, rules, tick)))
+        weighed(weight, squared(self.count(kind, rules, decays)))
     }
 
     /// The square of what is missing under a weight, in the same way.
-    fn weighed_missing(&self, weight: i64, rules: &TopicRules, tick: u64, now: Millis) -> i128
+    fn weighed_missing(&self, weight: i64, rules: &TopicRules, decays: u64, now: Millis) -> i128
         requires in_range { RulesAreInRange rules.now }
         requires weight { unsigned_abs weight ≤ 10 ^ 9 }
-        ensures value { result ≡ times weight (pos (p3 rules.now now.0 (held rules.now tick self.now))) }
+        ensures value { result ≡ times weight (pos (p3 rules.now now.0 (held rules.now decays self.now))) }
         ensures bound { unsigned_abs result ≤ 10 ^ 21 }
     {
         if weight == 0 {
             return 0;
         }
-        weighed(weight, self.missing(rules, tick, now))
+        weighed(weight, self.missing(rules, decays, now))
     }
 
     /// What the topic gives, in millionths: at most 10^25 either way.
     #[tactic(auto, unfolding(crate::specs::Formula::topic_part))]
-    pub fn part(&self, rules: &TopicRules, tick: u64, now: Millis) -> i128
+    pub fn part(&self, rules: &TopicRules, decays: u64, now: Millis) -> i128
         requires in_range { RulesAreInRange rules.now }
-        ensures value { result ≡ topic_part rules.now now.0 (held rules.now tick self.now) }
+        ensures value { result ≡ topic_part rules.now now.0 (held rules.now decays self.now) }
         ensures bound { unsigned_abs result ≤ 10 ^ 25 }
     {
         let factors = &rules.factors;
         let present = weighed(factors.w1, rules.presence(self.since, now));
-        let first = self.weighed_count(factors.w2, Kind::First, rules, tick);
-        let missing = self.weighed_missing(factors.w3, rules, tick, now);
-        let deficit = self.weighed_count(factors.w3b, Kind::Deficit, rules, tick);
-        let invalid = self.weighed_square(factors.w4, Kind::Invalid, rules, tick);
+        let first = self.weighed_count(factors.w2, Kind::First, rules, decays);
+        let missing = self.weighed_missing(factors.w3, rules, decays, now);
+        let deficit = self.weighed_count(factors.w3b, Kind::Deficit, rules, decays);
+        let invalid = self.weighed_square(factors.w4, Kind::Invalid, rules, decays);
         let sum = sum_of_five(present, first, missing, deficit, invalid);
         weighed_sum(factors.topic_weight, sum)
     }

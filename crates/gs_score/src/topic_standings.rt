@@ -64,8 +64,8 @@ impl TopicStandings {
         has_few || self.standings.get(topic).is_some()
     }
 
-    /// Raises a counter on a topic, as it is at a tick, up to its cap. It takes memory only where it had nothing on the
-    /// topic.
+    /// Raises a counter on a topic, as it is after these decays, up to its cap. It takes memory only where it had
+    /// nothing on the topic.
     ///
     /// # Errors
     /// `AllocError` where there was no memory; nothing is changed then.
@@ -120,17 +120,17 @@ impl TopicStandings {
     }
 
     /// The sum over topics of what each gives, in millionths: at most 1,024 * 10^25 either way.
-    pub fn sum(&self, rulebook: &Rulebook, tick: u64, now: Millis) -> i128
+    pub fn sum(&self, rulebook: &Rulebook, decays: u64, now: Millis) -> i128
         requires few { length self.now ≤ most_topics }
         ensures value { (ts : List TopicValue)
-            → Covers (held_in rulebook.now tick self.now) ts
-            → result ≡ topic_sum rulebook.now now.0 (held_in rulebook.now tick self.now) ts }
+            → Covers (held_in rulebook.now decays self.now) ts
+            → result ≡ topic_sum rulebook.now now.0 (held_in rulebook.now decays self.now) ts }
         ensures bound { unsigned_abs result ≤ 1_024 * 10 ^ 25 }
     {
         if !rulebook.any_weighs() {
             return 0;
         }
-        sum_of(&self.standings, rulebook, tick, now)
+        sum_of(&self.standings, rulebook, decays, now)
     }
 }
 
@@ -231,19 +231,19 @@ fn prune_at(standings: &mut IndexMap<Topic, Standing>, topic: &Topic)
 fn sum_of(
     standings: &IndexMap<Topic, Standing>,
     rulebook: &Rulebook,
-    tick: u64,
+    decays: u64,
     now: Millis,
 ) -> i128
     requires few { length standings.now.entries ≤ most_topics }
     ensures value { result
-        ≡ topic_sum rulebook.now now.0 (held_in rulebook.now tick standings.now.entries)
+        ≡ topic_sum rulebook.now now.0 (held_in rulebook.now decays standings.now.entries)
         (keys_of standings.now.entries) }
     ensures apart { IsDistinct same_topic (keys_of standings.now.entries) }
     ensures bound { unsigned_abs result ≤ 1_024 * 10 ^ 25 }
 {
     let mut sum = 0;
     for place in 0..standings.len() {
-        sum += part_at(standings, rulebook, tick, now, place);
+        sum += part_at(standings, rulebook, decays, now, place);
     }
     sum
 }
@@ -252,20 +252,20 @@ fn sum_of(
 fn part_at(
     standings: &IndexMap<Topic, Standing>,
     rulebook: &Rulebook,
-    tick: u64,
+    decays: u64,
     now: Millis,
     place: usize,
 ) -> i128
     requires within { place < length standings.now.entries }
-    ensures part { topic_sum rulebook.now now.0 (held_in rulebook.now tick standings.now.entries)
+    ensures part { topic_sum rulebook.now now.0 (held_in rulebook.now decays standings.now.entries)
         (keys_of (drop place standings.now.entries))
         ≡ result
-        +ℤ topic_sum rulebook.now now.0 (held_in rulebook.now tick standings.now.entries)
+        +ℤ topic_sum rulebook.now now.0 (held_in rulebook.now decays standings.now.entries)
         (keys_of (drop (place + 1) standings.now.entries)) }
     ensures bound { unsigned_abs result ≤ 10 ^ 25 }
 {
     match standings.get_index(place) {
-        Some((topic, standing)) => standing.part(rulebook.of(topic), tick, now),
+        Some((topic, standing)) => standing.part(rulebook.of(topic), decays, now),
         None => 0,
     }
 }

@@ -1,5 +1,5 @@
 -- How many dials and links a plan has at most.
-use Rattle.std.proofs.Common.{◌≡◌, ◌≢◌, ℕ, suc, ◌+◌, ◌*◌, ◌^◌, ◌<◌, ◌≤◌, Bool, true, false, true≢false, eqb, ◌||◌, ◌&&◌, ⊎_elim, List, [], ◌∷◌, map, length, refl, sym, ◌∙◌, arith}
+use Rattle.std.proofs.Common.{◌≡◌, ◌≢◌, ℕ, suc, ◌+◌, ◌*◌, ◌^◌, ◌<◌, ◌≤◌, true, false, true≢false, eqb, ⊎_elim, List, [], ◌∷◌, map, length, refl, sym, ◌∙◌, arith}
 use Rattle.std.specs.Prelude.{AllPairs}
 use Rattle.std.specs.List.{AllByRecursion, IsDistinct, list_any}
 use Rattle.std.proofs.lemmas.List.{length-map}
@@ -26,15 +26,15 @@ codes_apart x y low_x low_y differ = ne_eqb (code x) (code y) (λ e.
     let same : join_the_same y x ≡ true = rw (eq-eqb x.from.0 y.from.0 from, eq-eqb x.to.0 y.to.0 to) refl in
     true≢false (sym same ∙ differ))
 
-codes_behind : (x : Dial) (dials : List Dial) → IsLow x → AllByRecursion IsLow dials → AllByRecursion (λ y. join_the_same y x ≡ false) dials → AllByRecursion (λ n. eqb (code x) n ≡ false) (map code dials)
-codes_behind x [] low lows differ = tt
-codes_behind x (y ∷ dials) low lows differ = (codes_apart x y low lows.0 differ.0, codes_behind x dials low lows.1 differ.1)
+codes_after : (x : Dial) (dials : List Dial) → IsLow x → AllByRecursion IsLow dials → AllByRecursion (λ y. join_the_same y x ≡ false) dials → AllByRecursion (λ n. eqb (code x) n ≡ false) (map code dials)
+codes_after x [] low lows differ = tt
+codes_after x (y ∷ dials) low lows differ = (codes_apart x y low lows.0 differ.0, codes_after x dials low lows.1 differ.1)
 
 codes_distinct : (dials : List Dial) → AllByRecursion IsLow dials → AllPairs (λ x y. join_the_same y x ≡ false) dials → IsDistinct eqb (map code dials)
 unfolding IsDistinct
 codes_distinct [] lows differ = tt
 codes_distinct (x ∷ dials) lows differ = IsDistinct-cons eqb (code x) (map code dials)
-    (codes_behind x dials lows.0 lows.1 (recursion_from_All (λ y. join_the_same y x ≡ false) dials (λ k d within. differ 0 (suc k) d (omega arith) (omega arith))))
+    (codes_after x dials lows.0 lows.1 (recursion_from_All (λ y. join_the_same y x ≡ false) dials (λ k d within. differ 0 (suc k) d (omega arith) (omega arith))))
     (codes_distinct dials lows.1 (λ i j d a b. differ (suc i) (suc j) d (omega arith) (omega arith)))
 
 codes_low : (dials : List Dial) → AllByRecursion IsLow dials → (n : ℕ) → list_any (eqb n) (map code dials) ≡ true → n < 4096

@@ -1,33 +1,31 @@
 -- Lives that were played are a run.
-use Rattle.std.proofs.Common.{◌≡◌, ◌<◌, List, [], length, Option, Some, None, sym, ap, subst, ◌∙◌}
+use Rattle.std.proofs.Common.{◌≡◌, List, [], Option, Some, None, sym, ap, subst, ◌∙◌}
 use Rattle.std.specs.Prelude.{option_map, unwrap_or, slice_get}
-use Rattle.std.specs.List.{AllZip, AllByRecursion}
+use Rattle.std.specs.List.{AllByRecursion}
 use Rattle.gs_base.specs.declared.names.PeerNo.{PeerNo}
-use Rattle.gs_base.specs.Tokens.{Said, bytes_of}
+use Rattle.gs_base.specs.Tokens.{bytes_of}
 use Rattle.gs_plan.specs.declared.plan.Plan.{Plan}
 use Rattle.gs_params.specs.Seeding.{seeded_after, seeded_word}
 use Rattle.gs_wire.specs.Codec.{codec}
 use Rattle.gs_wire.specs.Joining.{joined_rpcs}
-use Rattle.gs_rules.specs.Peers.{links_of}
 use Rattle.gs_rules.specs.Tables.{Entries}
 use Rattle.gs_rules.specs.Modes.{exact, free}
 use Rattle.gs_rules.specs.Legal.{Legal}
-use Rattle.gs_rules.specs.Saying.{SaysFramesAlone, gathered, handled, out, sent}
+use Rattle.gs_rules.specs.Saying.{SaysOnlyFrames, gathered, handled, out, sent}
 use Rattle.gs_rules.specs.Hearing.{Spell}
 use Rattle.gs_rules.specs.Rounds.{Seat, PutsNoBytes}
 use Rattle.gs_rules.proofs.Deliveries.{deliveries_apart}
-use Rattle.gs_rules.proofs.Each.{each_weaker}
 use Rattle.gs_rules.proofs.Gathered.{gathered_down, kept_down}
 use Rattle.gs_rules.proofs.Handled.{said_is_handled}
 use Rattle.gs_rules.proofs.Legality.{exact_is_free, legal_weakly}
 use Rattle.gs_rules.proofs.Scripts.{script_says_frames}
 use Rattle.gs_rules.proofs.Spelled.{handled_joined}
 use Rattle.gs_report.specs.declared.finished.Finished.{Finished}
-use Rattle.gs_seats.specs.Rounds.{IsLife, IsRun, first_words, neighbours, numbers, peer_in, said_to, seat_in, trace_of}
+use Rattle.gs_seats.specs.Rounds.{IsLifeInRun, IsRun, first_words, neighbours, numbers, peer_in, said_to, seat_in, trace_of}
 use Rattle.gs_seats.specs.Played.{IsPlayedLife, IsPlayedRun}
 use Rattle.gs_seats.proofs.ByNumber.{at_number, each_kept}
 use Rattle.gs_seats.proofs.Each.{each_of_both}
-use Rattle.gs_seats.proofs.Joined.{IsJoined, joined_back, neighbours_joined}
+use Rattle.gs_seats.proofs.Joined.{IsJoined, neighbours_joined}
 use Rattle.gs_seats.proofs.NeighbourLists.{links_ascend, links_in}
 
 -- what the words of a source choose is legal
@@ -54,13 +52,13 @@ was_sent plan lives p q L other theirs spell quiet =
     let is : trace_of lives q ≡ other.trace = trace_is lives q other theirs.at in
     let legal : Legal (peer_in plan q) other.trace = legal_of plan lives q other theirs.played in
     let keeps = theirs.played.keeps in
-    let frames : SaysFramesAlone p other.trace = script_says_frames (seat_in plan q) (said_to lives q) p other.trace other.refused keeps legal quiet in
+    let frames : SaysOnlyFrames p other.trace = script_says_frames (seat_in plan q) (said_to lives q) p other.trace other.refused keeps legal quiet in
     let none : gathered codec other.trace p ≡ None = gathered_down codec other.trace p (kept_down (seat_in plan q) (said_to lives q) other.trace other.refused p keeps) in
     let spelled : Spell (bytes_of (out codec other.trace p)) (handled L q) = subst (λ (K : Entries). Spell (bytes_of (out codec K p)) (handled L q)) is spell in
     handled_joined (peer_in plan q) other.trace p (handled L q) legal frames spelled none
     ∙ ap (λ (K : Entries). joined_rpcs (sent K p)) (sym is)
 
-one_life : (plan : Plan) (lives : List Finished) (p : PeerNo) (life : Finished) → IsPlayedRun plan lives → IsPlayedLife plan lives p life → IsLife plan lives p life
+one_life : (plan : Plan) (lives : List Finished) (p : PeerNo) (life : Finished) → IsPlayedRun plan lives → IsPlayedLife plan lives p life → IsLifeInRun plan lives p life
 one_life plan lives p life all is =
     let seat : Seat = seat_in plan p in
     let legal : Legal (peer_in plan p) life.trace = legal_of plan lives p life is in
@@ -85,4 +83,4 @@ one_life plan lives p life all is =
 
 -- all that a report says of lives follows from how they were played
 pub played_is_run : (plan : Plan) (lives : List Finished) → IsPlayedRun plan lives → IsRun plan lives
-played_is_run plan lives all = each_kept (IsPlayedLife plan lives) (IsLife plan lives) (λ p life is. one_life plan lives p life all is) (numbers plan) lives all
+played_is_run plan lives all = each_kept (IsPlayedLife plan lives) (IsLifeInRun plan lives) (λ p life is. one_life plan lives p life all is) (numbers plan) lives all

@@ -16,7 +16,7 @@ same_numbers : (f : PeerNo → Neighbour) → ((q : PeerNo) → (f q).peer ≡ q
 same_numbers f same [] = refl
 same_numbers f same (q ∷ qs) = ap₂ (λ (r : PeerNo) (rs : List PeerNo). r ∷ rs) (same q) (same_numbers f same qs)
 
--- the peers to whom a peer has a link are its neighbours
+-- the peers that a peer has a link to are its neighbours
 pub links_in : (plan : Plan) (p : PeerNo) → links_of (peer_in plan p) ≡ neighbours plan p
 links_in plan p = same_numbers (neighbour_in plan p) (λ q. refl) (neighbours plan p)
 

@@ -14,7 +14,7 @@ use Rattle.gs_seats.specs.Rounds.{is_for}
 abbrev pub own_from : ℕ → PeerNo → List Line → List (ℕ × Line)
 own_from place p script = filter (is_for p) (enumerate_from place script)
 
--- a line was put behind those of its peer, and the others stayed
+-- a line was put after those of its peer, and the others stayed
 pub put_own : (p : PeerNo) (line : ℕ × Line) (old new : List (ℕ × Line)) → (line.1.peer ≡ p → new ≡ old ++ line ∷ []) → (p.0 ≢ line.1.peer.0 → new ≡ old) → new ≡ old ++ filter (is_for p) (line ∷ [])
 put_own p line old new same other = by (same_peer line.1.peer p) refl
   where

@@ -1,4 +1,4 @@
--- Lists among lists: one is replaced, one more stands behind them.
+-- Lists among lists: one is replaced, one more stands after them.
 use Rattle.std.proofs.Common.{◌≡◌, ◌≢◌, ℕ, zero, suc, ◌<◌, List, [], ◌∷◌, ◌++◌, length, set, get_or, refl, sym, ap, ◌∙◌, arith, Vec}
 use Rattle.std.specs.declared.alloc.Global.{Global}
 use Rattle.gs_seats.specs.ListsByPeer.{list_at}

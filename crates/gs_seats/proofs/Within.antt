@@ -1,22 +1,21 @@
 -- What a plan gives its routers is in range.
-use Rattle.std.proofs.Common.{◌≡◌, ◌≤◌, ◌^◌, ◌≤ℤ◌, ℕ, ℤ, pos, neg_ℤ, unsigned_abs, arith, Bool, true, false, cond, List, [], ◌∷◌, map, option_map, unwrap_or, Option, Some, None, Result, Ok, Err, refl, sym, subst}
+use Rattle.std.proofs.Common.{◌≡◌, ◌≤◌, ◌^◌, ℤ, pos, unsigned_abs, arith, Bool, true, false, cond, List, [], ◌∷◌, map, option_map, unwrap_or, Option, Some, None, Ok, refl}
 use Rattle.std.specs.Prelude.{All}
 use Rattle.std.specs.List.{AllByRecursion, find}
 use Rattle.std.proofs.lemmas.Int.{ints}
 use Rattle.std.proofs.lemmas.List.Elements.{All-from_recursion, recursion_from_All}
 use Rattle.gs_base.specs.declared.names.PeerNo.{PeerNo}
 use Rattle.gs_base.specs.declared.neighbour.Neighbour.{Neighbour}
-use Rattle.gs_params.specs.Checks.{all_factor_checks, all_timing_checks, checked, degree_checks, first_broken, threshold_checks, unless_broken}
+use Rattle.gs_params.specs.Checks.{all_factor_checks, all_timing_checks, degree_checks, first_broken, threshold_checks, unless_broken}
 use Rattle.gs_params.specs.Params.{AreInRange}
 use Rattle.gs_plan.specs.Plans.{IsAppScore, IsInRange}
 use Rattle.gs_params.specs.declared.checks.Check.{Check}
 use Rattle.gs_params.specs.declared.params.Params.{Params}
-use Rattle.gs_params.specs.declared.param_fault.ParamFault.{ParamFault}
 use Rattle.gs_params.specs.declared.param_fault.ParamFault.TheVariants as faults
 use Rattle.gs_plan.specs.declared.plan.App.{App}
 use Rattle.gs_plan.specs.declared.plan.Plan.{Plan}
 use Rattle.gs_params.proofs.InRange.{from_checks}
-use Rattle.gs_seats.specs.Rounds.{app_of, is_about, neighbour_in, neighbours, neighbours_in}
+use Rattle.gs_seats.specs.Rounds.{is_about, neighbour_in, neighbours, neighbours_in}
 
 -- ---- parameters
 

@@ -2,7 +2,6 @@
 use Rattle.std.specs.Prelude.{◌≡◌, ℕ, ℤ, pos, ◌*◌, Bool, ◌&&◌, List, [], length, map, filter, option_map, unwrap_or, slice_get}
 use Rattle.std.specs.List.{enumerate_from, find, list_any, range_with_len, AllZip, AllByRecursion}
 use Rattle.gs_base.specs.declared.names.PeerNo.{PeerNo}
-use Rattle.gs_base.specs.declared.names.Millis.{Millis}
 use Rattle.gs_base.specs.declared.neighbour.Neighbour.{Neighbour}
 use Rattle.gs_base.specs.Names.{same_peer}
 use Rattle.gs_plan.specs.declared.plan.App.{App}
@@ -43,12 +42,12 @@ abbrev pub address_of : Plan → PeerNo → List ℕ
 address_of plan p = unwrap_or (option_map (λ (planned : PlannedPeer). planned.address) (slice_get plan.peers p.0)) []
 
 -- the random words that are listed for it
-abbrev pub words_of : Plan → PeerNo → List ℕ
-words_of plan p = unwrap_or (option_map (λ (planned : PlannedPeer). planned.words) (slice_get plan.peers p.0)) []
+abbrev pub listed_words : Plan → PeerNo → List ℕ
+listed_words plan p = unwrap_or (option_map (λ (planned : PlannedPeer). planned.words) (slice_get plan.peers p.0)) []
 
 -- the words that its choices are made by, before the first of them
 abbrev pub first_words : Plan → PeerNo → SeededState
-first_words plan p = new_seeded (words_of plan p) plan.seed p
+first_words plan p = new_seeded (listed_words plan p) plan.seed p
 
 abbrev pub is_dial : PeerNo → PeerNo → Dial → Bool
 is_dial p q dial = same_peer dial.from p && same_peer dial.to q
@@ -101,10 +100,6 @@ seat_in plan p = record {
   rounds = plan.rounds;
 }
 
--- the moment of a round
-abbrev pub moment : Plan → ℕ → Millis
-moment plan r = record { 0 = r * plan.round_ms }
-
 -- ---- a run
 
 -- the trace of a peer: of a number that is no peer's, the empty one
@@ -116,7 +111,7 @@ abbrev pub said_to : List Finished → PeerNo → PeerNo → Said
 said_to lives p q = out codec (trace_of lives q) p
 
 -- What is known of one peer of a run.
-pub record IsLife (plan : Plan) (lives : List Finished) (p : PeerNo) (life : Finished) : Type 0 where
+pub record IsLifeInRun (plan : Plan) (lives : List Finished) (p : PeerNo) (life : Finished) : Type 0 where
   -- each step is allowed by those before it
   pub legal : Legal (peer_in plan p) life.trace
   -- its choices are those of its words
@@ -140,4 +135,4 @@ pub record IsLife (plan : Plan) (lives : List Finished) (p : PeerNo) (life : Fin
 
 -- the lives of all peers of a plan, by their numbers
 abbrev pub IsRun : Plan → List Finished → Type 0
-IsRun plan lives = AllZip (IsLife plan lives) (numbers plan) lives
+IsRun plan lives = AllZip (IsLifeInRun plan lives) (numbers plan) lives

@@ -12,7 +12,7 @@ pub enum NetFault {
     #[error("there was no memory")]
     NoMemory(Option<PeerNo>),
     /// A worker thread could not be started, or could not wait.
-    #[error("a worker thread was wanting")]
+    #[error("a worker thread was missing")]
     NoThread,
 }
 

@@ -1,7 +1,7 @@
 //! The router of a peer before it has done anything, and the words that it chooses by.
 ghost use Rattle.std.specs.Prelude.{◌≡◌, IfOk};
 ghost use Rattle.gs_plan.specs.Plans.{IsInRange};
-ghost use Rattle.gs_seats.specs.Rounds.{first_words, neighbours_in, words_of};
+ghost use Rattle.gs_seats.specs.Rounds.{first_words, listed_words, neighbours_in};
 ghost use Rattle.gs_seats.specs.Routers.{new_router};
 
 use gs_base::{Neighbour, PeerNo, clone_of};
@@ -37,13 +37,13 @@ pub fn router_of(
 pub fn first_words(alloc: Global, plan: &Plan, number: PeerNo) -> Result<SeededWords, AllocError>
     ensures { IfOk result (λ words. words ≡ first_words plan.now number) }
 {
-    let list = words_of(alloc, plan, number)?;
+    let list = listed_words(alloc, plan, number)?;
     Ok(SeededWords::new(list, plan.seed, number))
 }
 
 /// The list of a peer's random words.
-fn words_of(alloc: Global, plan: &Plan, peer: PeerNo) -> Result<Vec<u32>, AllocError>
-    ensures { IfOk result (λ list. list.items ≡ words_of plan.now peer) }
+fn listed_words(alloc: Global, plan: &Plan, peer: PeerNo) -> Result<Vec<u32>, AllocError>
+    ensures { IfOk result (λ list. list.items ≡ listed_words plan.now peer) }
 {
     match plan.peers.as_slice().get(usize::from(peer.0)) {
         Some(planned) => {

@@ -121,7 +121,7 @@ pub fn write_text<W: Write>(output: &mut W, text: &[u8]) -> Result<(), WriteFail
 }
 
 /// Writes a line, or a front of it, to where there is nobody left to report to that this fails.
-pub fn tell<W: Write>(output: &mut W, line: &str)
+pub fn try_to_write<W: Write>(output: &mut W, line: &str)
     ensures { AppendsFront (W.contents output.old) (W.contents output.new) line.now }
 {
     let _ = write_text(output, line.as_bytes());

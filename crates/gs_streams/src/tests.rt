@@ -187,7 +187,7 @@ fn a_line_is_told_as_far_as_there_is_room(rt: HostRuntime) {
             room,
             fails: true,
         };
-        tell(&mut errors, "failed\n");
+        try_to_write(&mut errors, "failed\n");
         assert!(rt; errors.taken.as_slice() == &b"failed\n"[..room]);
     }
 }

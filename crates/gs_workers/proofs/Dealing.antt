@@ -29,9 +29,6 @@ total_less group after all rest next top is first behind =
     omega (arith, l, length-append after.items (top ∷ []), now, was)
 
 module _ {X Y : Type 0} (R : X → Y → Type 0) where
-  pub deals_one : (x : X) (xs : List X) (y : Y) (group : List Y) (groups all : List (List Y)) → R x y → all ≡ groups ++ group ∷ [] → IsDealt R xs all → IsDealt R (x ∷ xs) ((group ++ y ∷ []) ∷ groups)
-  deals_one x xs y group groups all holds is dealt = (group, y, refl, holds, subst (IsDealt R xs) is dealt)
-
   -- where the first group has y on top, that was dealt for the first item
   pub takes_one : (xs : List X) (group below : List Y) (y : Y) (groups : List (List Y)) → group ≡ below ++ y ∷ [] → IsDealt R xs (group ∷ groups)
       → (x : X) × (rest : List X) × (xs ≡ x ∷ rest) × R x y × IsDealt R rest (groups ++ below ∷ [])

@@ -1,12 +1,7 @@
--- Lists of which one element is written.
-use Rattle.std.proofs.Common.{ℕ, zero, suc, ◌+◌, ◌<◌, List, [], ◌∷◌, ◌++◌, length, take, get_or, set, sym, subst, arith}
+-- Lists with one element written anew.
+use Rattle.std.proofs.Common.{ℕ, zero, suc, ◌+◌, ◌<◌, List, [], ◌∷◌, ◌++◌, length, take, get_or, set, sym, subst}
 use Rattle.std.specs.List.{AllByRecursion, AllZip}
 use Rattle.std.proofs.lemmas.List.{take_more_set}
-
-pub all_at : {A : Type 0} (P : A → Type 0) (xs : List A) (i : ℕ) (d : A) → AllByRecursion P xs → i < length xs → P (get_or xs i d)
-all_at P [] i d all short = absurd (omega (arith, short))
-all_at P (x ∷ xs) zero d all short = all.0
-all_at P (x ∷ xs) (suc i) d all short = all_at P xs i d all.1 (omega (arith, short))
 
 pub all_set : {A : Type 0} (P : A → Type 0) (xs : List A) (i : ℕ) (y : A) → AllByRecursion P xs → P y → AllByRecursion P (set xs i y)
 all_set P [] i y all here = tt
@@ -24,7 +19,7 @@ pub all_push : {A : Type 0} (P : A → Type 0) (xs : List A) (x : A) → AllByRe
 all_push P [] x all here = (here, tt)
 all_push P (y ∷ xs) x all here = (all.0, all_push P xs x all.1 here)
 
--- all of the front, and then the element that is written behind it
+-- all of the front, and then the element that is written after it
 pub all_of_front : {A : Type 0} (P : A → Type 0) (xs : List A) (i : ℕ) (y : A) → i < length xs → AllByRecursion P (take i xs) → P y → AllByRecursion P (take (i + 1) (set xs i y))
 all_of_front P xs i y short all here = subst (AllByRecursion P) (sym (take_more_set xs i y short)) (all_push P (take i xs) y all here)
 

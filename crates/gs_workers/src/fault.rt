@@ -11,7 +11,7 @@ pub enum WorkerFault {
     #[error("there was no memory")]
     NoMemory(Raised),
     /// A worker thread could not be started, or could not wait.
-    #[error("a worker thread was wanting")]
+    #[error("a worker thread was missing")]
     NoThread(Raised),
 }
 

@@ -65,7 +65,7 @@ fn each_fault_has_its_text(rt: HostRuntime) -> Result<(), AllocError> {
     let raised = StopFlag::new().set();
     let faults = [
         (WorkerFault::NoMemory(raised), "there was no memory"),
-        (WorkerFault::NoThread(raised), "a worker thread was wanting"),
+        (WorkerFault::NoThread(raised), "a worker thread was missing"),
     ];
     for (fault, text) in &faults {
         let shown = format!(in rt.alloc(); "{fault}")?;

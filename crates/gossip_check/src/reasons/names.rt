@@ -90,7 +90,7 @@ fn dials_of(top: &Table) -> &[Value] {
     }
 }
 
-/// Writes whom dials join a peer to, in their order.
+/// Writes the peers that dials join a peer to, in their order.
 fn write_neighbours<W: fmt::Write>(
     f: &mut fmt::Formatter<W>,
     dials: &[Value],

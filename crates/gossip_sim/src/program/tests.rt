@@ -64,7 +64,7 @@ fn ends<T: Host, R: Read>(
 ) -> bool {
     let mut out = Vec::new(rt.alloc());
     let mut err = Vec::new(rt.alloc());
-    ended(rt, way, input, &mut out, &mut err) == ExitCode::from(status)
+    run_to_exit(rt, way, input, &mut out, &mut err) == ExitCode::from(status)
         && out.as_slice() == wanted.0.as_bytes()
         && err.as_slice() == wanted.1.as_bytes()
 }
@@ -89,7 +89,7 @@ fn writes_front<T: Host>(rt: &T, room: usize, fails: bool, status: u8, errors: &
     for way in WAYS {
         let mut output = narrow(rt.alloc(), 3, room, fails);
         let mut err = Vec::new(rt.alloc());
-        let code = ended(rt, way, &mut SCENARIO.as_bytes(), &mut output, &mut err);
+        let code = run_to_exit(rt, way, &mut SCENARIO.as_bytes(), &mut output, &mut err);
         let front = REPORT.len().min(room);
         if code != ExitCode::from(status)
             || output.taken.as_slice() != &REPORT.as_bytes()[..front]
@@ -138,7 +138,7 @@ fn tells_front<T: Host, R: Read>(
 ) -> bool {
     let mut output = narrow(rt.alloc(), 1, 0, true);
     let mut errors = narrow(rt.alloc(), 2, room, fails);
-    let code = ended(rt, Way::OverLinks, input, &mut output, &mut errors);
+    let code = run_to_exit(rt, Way::OverLinks, input, &mut output, &mut errors);
     let front = end.line.len().min(room);
     code == ExitCode::from(end.status)
         && output.taken.is_empty()

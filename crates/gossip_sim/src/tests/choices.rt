@@ -158,7 +158,7 @@ fn deliveries(alloc: Global) -> Result<String, AllocError> {
     Ok(text)
 }
 
-/// Those that stand behind its meshes.
+/// Those that come after its meshes.
 fn scores(alloc: Global) -> Result<String, AllocError> {
     let mut text = String::new(alloc);
     for from in 0..12u64 {

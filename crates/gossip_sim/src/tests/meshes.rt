@@ -18,7 +18,7 @@ const TEN_ROUNDS: &str = "round_ms = 100\nrounds = 9\nworkers = 2\ncapacity = 8\
 /// `a` has heard from round 1 on that `b` is on the topic, and grafts it where it subscribes then. Of two that
 /// subscribe in one round neither grafts the other, until the heartbeat in round 10.
 #[test]
-fn who_subscribes_behind_a_neighbour_grafts_it(rt: HostRuntime) -> Result<(), AllocError> {
+fn who_subscribes_after_a_neighbour_grafts_it(rt: HostRuntime) -> Result<(), AllocError> {
     for (front, joins, report) in [
         (TEN_ROUNDS, 0, APART),
         (TWO, 0, GRAFTED),
@@ -91,7 +91,7 @@ const PASSED_ON: &str = "delivered a 200 news 616263\ndelivered b 300 news 61626
     score a b 0.000000\nscore b a 0.000000\n\
     score b c 0.000000\nscore c b 0.000000\nlinks 4 settled\n";
 
-/// `c` comes into the mesh of `b` behind the message, at the heartbeat in round 5 or before, and members of a mesh are
+/// `c` comes into the mesh of `b` after the message, at the heartbeat in round 5 or before, and members of a mesh are
 /// offered nothing.
 const MISSED: &str = "delivered a 200 news 616263\ndelivered b 300 news 616263\n\
     mesh a news b\nmesh b news a\nmesh b news c\nmesh c news b\n\
@@ -202,7 +202,7 @@ const DEMANDING: &str = "round_ms = 100\nrounds = 58\nworkers = 2\ncapacity = 8\
 /// leaves 1.5 missing, and none of `a` leaves 2. Who leaves the mesh in round 56 or 57 is charged with as much. (To
 /// subscribe again is refused.)
 #[test]
-fn what_is_missing_of_a_member_costs_in_the_mesh_and_behind_it(
+fn what_is_missing_of_a_member_costs_in_the_mesh_and_after_it(
     rt: HostRuntime,
 ) -> Result<(), AllocError> {
     let stays = "delivered a 400 news 616263\ndelivered b 300 news 616263\n\

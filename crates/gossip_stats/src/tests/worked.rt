@@ -42,7 +42,7 @@ refused_lines,lowest_score,highest_score,smallest_mesh,largest_mesh
 ",
 };
 
-/// `b` publishes at 1,200 what the topic's parameters reject, behind the GRAFTs of the heartbeat before. So `a` scores
+/// `b` publishes at 1,200 what the topic's parameters reject, after the GRAFTs of the heartbeat before. So `a` scores
 /// it -10, and prunes it at 2,000; the PRUNE is late.
 const REJECTED: Case = Case {
     name: "a payload that is rejected",

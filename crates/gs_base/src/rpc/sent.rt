@@ -74,14 +74,7 @@ impl Rpc {
     pub fn publication(alloc: Global, topic: &Topic, payload: &Bytes) -> Result<Rpc, AllocError>
         ensures { IfOk result (λ rpc. rpc ≡ publication topic.now payload.now) }
     {
-        let message = Message {
-            origin: None,
-            payload: Some(clone_of(payload)?),
-            seqno: None,
-            topic: Some(clone_of(topic)?),
-            signature: None,
-            key: None,
-        };
+        let message = Message::unsigned(topic, payload)?;
         Ok(Rpc {
             publish: Seq::only(alloc, message)?,
             ..Rpc::empty(alloc)

@@ -18,8 +18,7 @@ fn short(alloc: Global) -> Narrow {
     }
 }
 
-/// Whether a fault of a run of the scenario is told by such a line, or by a front of it where
-/// there is room for no more.
+/// Whether such a line tells a fault of a run of the scenario, or a front of it where there is room for no more.
 fn tells(alloc: Global, fault: NetFault, line: &str) -> bool {
     let Ok(plan) = read_plan(alloc, SCENARIO) else {
         return false;
@@ -34,7 +33,7 @@ fn tells(alloc: Global, fault: NetFault, line: &str) -> bool {
 }
 
 #[test]
-fn a_fault_of_a_run_is_told_with_its_number_and_peer(rt: HostRuntime) {
+fn a_fault_of_a_run_is_reported_with_its_number_and_peer(rt: HostRuntime) {
     let alloc = rt.alloc();
     let no_memory = |number| NetFault::NoMemory(Some(PeerNo(number)));
     assert!(rt; tells(alloc, no_memory(0), "run refused: 24 a\n"));

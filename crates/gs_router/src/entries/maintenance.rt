@@ -123,7 +123,7 @@ pub fn mesh_beat<W: Words>(
     let candidates = scored_members(known, &near, now)?;
     let heartbeat = Heartbeat {
         params: &known.setup.params,
-        tick: known.tables.beats.count(),
+        number: known.tables.beats.count(),
     };
     let change = choose_heartbeat(known.alloc, heartbeat, &mesh, &candidates, words)?;
     let effects = mending(known, topic, &change, now)?;

@@ -222,7 +222,7 @@ fn rejected(
     Ok(marks)
 }
 
-/// A message by itself goes to each of these, but for whom it came from.
+/// A message by itself goes to each of these, but not to the neighbour that it came from.
 fn passed_on(
     alloc: Global,
     from: PeerNo,
@@ -236,7 +236,7 @@ fn passed_on(
     Ok(sends)
 }
 
-/// A message by itself goes to these and to these explicit neighbours, but for whom it came from.
+/// A message by itself goes to these and to these explicit neighbours, but not to the one that it came from.
 fn forwarded(
     alloc: Global,
     from: PeerNo,

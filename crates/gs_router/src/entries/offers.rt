@@ -121,7 +121,7 @@ fn copied_ids(alloc: Global, ids: &[Bytes]) -> Result<Seq<Bytes>, AllocError>
 
 // ---- what is asked
 
-/// The effects of an offer of which these identifiers are wanted, if any are.
+/// The effects of an offer, where these of its identifiers are wanted, if any are.
 fn ask<W: Words>(
     known: &Known,
     from: PeerNo,

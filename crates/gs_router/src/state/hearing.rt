@@ -8,7 +8,7 @@ ghost use Rattle.gs_rules.specs.declared.event.RpcPart.{RpcPart as RpcPartValue}
 ghost use Rattle.gs_rules.specs.declared.event.RpcPart.TheVariants as kinds;
 ghost use Rattle.gs_rules.specs.Modes.{exact};
 ghost use Rattle.gs_router.specs.State.{AreLeft, Pays, PaysInPart};
-ghost use Rattle.gs_router.specs.Parts.{behind_grafts, behind_messages, behind_offers, behind_prunes, behind_requests, behind_subs, events_of};
+ghost use Rattle.gs_router.specs.Parts.{after_grafts, after_messages, after_offers, after_prunes, after_requests, after_subs, events_of};
 
 use crate::state::State;
 use gs_base::{
@@ -25,7 +25,7 @@ pub trait HeardPart: Part {
     /// The part, as an event has it.
     ghost as_part: { Self → RpcPartValue };
 
-    /// What an RPC has behind its parts of this kind, as events.
+    /// What an RPC has after its parts of this kind, as events.
     ghost behind: { PeerNoValue → RpcValue → List EventValue };
 
     /// The part at a place of an RPC's list, as an event has it.
@@ -37,7 +37,7 @@ pub trait HeardPart: Part {
 impl HeardPart for SubOpt {
     ghost as_part = { kinds.Sub };
 
-    ghost behind = { behind_subs };
+    ghost behind = { after_subs };
 
     fn heard_at(rpc: Shared<Rpc>, place: usize) -> RpcPart {
         RpcPart::Sub(SharedPart::at(rpc, place))
@@ -47,7 +47,7 @@ impl HeardPart for SubOpt {
 impl HeardPart for Message {
     ghost as_part = { kinds.Msg };
 
-    ghost behind = { behind_messages };
+    ghost behind = { after_messages };
 
     fn heard_at(rpc: Shared<Rpc>, place: usize) -> RpcPart {
         RpcPart::Msg(SharedPart::at(rpc, place))
@@ -57,7 +57,7 @@ impl HeardPart for Message {
 impl HeardPart for IHave {
     ghost as_part = { kinds.Have };
 
-    ghost behind = { behind_offers };
+    ghost behind = { after_offers };
 
     fn heard_at(rpc: Shared<Rpc>, place: usize) -> RpcPart {
         RpcPart::Have(SharedPart::at(rpc, place))
@@ -67,7 +67,7 @@ impl HeardPart for IHave {
 impl HeardPart for IWant {
     ghost as_part = { kinds.Want };
 
-    ghost behind = { behind_requests };
+    ghost behind = { after_requests };
 
     fn heard_at(rpc: Shared<Rpc>, place: usize) -> RpcPart {
         RpcPart::Want(SharedPart::at(rpc, place))
@@ -77,7 +77,7 @@ impl HeardPart for IWant {
 impl HeardPart for Graft {
     ghost as_part = { kinds.GraftIn };
 
-    ghost behind = { behind_grafts };
+    ghost behind = { after_grafts };
 
     fn heard_at(rpc: Shared<Rpc>, place: usize) -> RpcPart {
         RpcPart::GraftIn(SharedPart::at(rpc, place))
@@ -87,7 +87,7 @@ impl HeardPart for Graft {
 impl HeardPart for Prune {
     ghost as_part = { kinds.PruneIn };
 
-    ghost behind = { behind_prunes };
+    ghost behind = { after_prunes };
 
     fn heard_at(rpc: Shared<Rpc>, place: usize) -> RpcPart {
         RpcPart::PruneIn(SharedPart::at(rpc, place))

@@ -12,7 +12,7 @@ ghost use Rattle.gs_rules.specs.Modes.{exact};
 ghost use Rattle.gs_rules.specs.Legal.{MayOpen};
 ghost use Rattle.gs_router.specs.Beats.{event_of};
 ghost use Rattle.gs_router.specs.Tables.{Agrees};
-ghost use Rattle.gs_router.specs.State.{Ends, IsCurrent, IsDue, IsReady, Steps, peer_of};
+ghost use Rattle.gs_router.specs.State.{IsCurrent, IsDue, IsReady, Steps, WorkEnds, peer_of};
 
 use crate::state::State;
 use gs_base::{Millis, Topic, clone_of};
@@ -45,7 +45,7 @@ impl State {
         requires ready { IsReady self.old }
         requires time { last_moment self.old.trace ≤ now.0 }
         requires may { MayOpen (peer_of self.old) self.old.trace now.0 events.BeatBegin }
-        ensures { Ends (exact W.word W.after) events.BeatBegin now self.old words.old result self.new words.new }
+        ensures { WorkEnds (exact W.word W.after) events.BeatBegin now self.old words.old result self.new words.new }
     {
         self.step(Event::BeatBegin, now, words)?;
         let own_topics = self.known.tables.topics.joined(self.known.alloc)?;

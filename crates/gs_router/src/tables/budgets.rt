@@ -25,7 +25,7 @@ pub struct Budget {
 pub struct Budgets {
     /// What each has at first.
     full: Budget,
-    /// What is left to those of whom an offer counted.
+    /// What is left to those that made an offer which counted.
     left: IndexMap<PeerNo, Budget>,
 }
 

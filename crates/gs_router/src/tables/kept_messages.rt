@@ -213,14 +213,7 @@ fn message_of_act(alloc: Global, act: &Act) -> Result<SharedPart<Message>, Alloc
         Act::Subscribe(_) => blank(alloc),
         Act::Unsubscribe(_) => blank(alloc),
         Act::Publish(topic, payload) => {
-            let message = Message {
-                origin: None,
-                payload: Some(clone_of(payload)?),
-                seqno: None,
-                topic: Some(clone_of(topic)?),
-                signature: None,
-                key: None,
-            };
+            let message = Message::unsigned(topic, payload)?;
             message.share(alloc)
         }
         Act::Raw(_, _) => blank(alloc),
@@ -232,13 +225,5 @@ fn message_of_act(alloc: Global, act: &Act) -> Result<SharedPart<Message>, Alloc
 fn blank(alloc: Global) -> Result<SharedPart<Message>, AllocError>
     ensures { IfOk result (λ message. message ≡ blank) }
 {
-    let message = Message {
-        origin: None,
-        payload: None,
-        seqno: None,
-        topic: None,
-        signature: None,
-        key: None,
-    };
-    message.share(alloc)
+    Message::bare().share(alloc)
 }

@@ -66,7 +66,7 @@ impl Standings {
     /// # Errors
     /// `AllocError` where there was no memory; some of its marks may then have been noted.
     pub fn note(&mut self, entry: &Entry) -> Result<(), AllocError>
-        requires few { self.old.scores.tick < 2 ^ 63 }
+        requires few { self.old.scores.decays < 2 ^ 63 }
         ensures { OnOk result ((p : Peer) (L : Entries)
             → AgreesOnScores p self.old L
             → AgreesOnScores p self.new (entry.now ∷ L)) }
@@ -77,7 +77,7 @@ impl Standings {
     }
 
     fn note_event(&mut self, event: &Event)
-        requires few { self.old.scores.tick < 2 ^ 63 }
+        requires few { self.old.scores.decays < 2 ^ 63 }
         ensures { (p : Peer) (H : History)
             → Agrees (setting_of p) self.old.scores H
             → Agrees (setting_of p) self.new.scores (changed_after event.now H) }
@@ -91,7 +91,7 @@ impl Standings {
     /// Notes an event that loses no neighbour.
     fn note_decay(&mut self, event: &Event)
         requires keeps { lost event.now ≡ None }
-        requires few { self.old.scores.tick < 2 ^ 63 }
+        requires few { self.old.scores.decays < 2 ^ 63 }
         ensures { (p : Peer) (H : History)
             → Agrees (setting_of p) self.old.scores H
             → Agrees (setting_of p) self.new.scores (changed_after event.now H) }

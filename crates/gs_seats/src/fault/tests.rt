@@ -8,7 +8,7 @@ static FAULTS: [(NetFault, u8, &str); 3] = [
         24,
         "there was no memory",
     ),
-    (NetFault::NoThread, 25, "a worker thread was wanting"),
+    (NetFault::NoThread, 25, "a worker thread was missing"),
 ];
 
 #[test]

@@ -43,7 +43,7 @@ impl<R: RandomSource> RandomSource for FailsFirst<R> {
 
 /// How futures ended that wait for a flag.
 #[derive(Drop)]
-struct Ends {
+struct EndCounts {
     by_flag: AtomicU64,
     in_vain: AtomicU64,
 }
@@ -52,7 +52,7 @@ struct Ends {
 #[derive(Drop)]
 struct Waiting<'w> {
     stop: &'w StopFlag,
-    ends: &'w Ends,
+    ends: &'w EndCounts,
     polls: u32,
 }
 
@@ -77,7 +77,7 @@ fn futures_that_wait<'w>(
     alloc: Global,
     count: u64,
     stop: &'w StopFlag,
-    ends: &'w Ends,
+    ends: &'w EndCounts,
 ) -> Result<Vec<Waiting<'w>>, AllocError> {
     let mut futures = Vec::new(alloc);
     for _ in 0..count {
@@ -92,13 +92,13 @@ fn futures_that_wait<'w>(
 
 /// Whether `workers` workers, each with one future that waits for the flag, end with `NoThread` where
 /// one of them has no random bytes; and each of the other futures ends by the flag.
-fn a_thread_is_wanting<R>(rt: R, workers: usize) -> Result<bool, AllocError>
+fn a_thread_is_missing<R>(rt: R, workers: usize) -> Result<bool, AllocError>
 where
     R: Threads + Wait + RandomSource + AllocGlobal + Sync + Drop,
     requires { 1 ≤ workers }
 {
     let stop = StopFlag::new();
-    let ends = Ends {
+    let ends = EndCounts {
         by_flag: AtomicU64::new(0),
         in_vain: AtomicU64::new(0),
     };
@@ -119,7 +119,7 @@ where
 #[test]
 fn a_thread_that_cannot_wait_stops_the_others(rt: HostRuntime) -> Result<(), Fail> {
     for workers in 1..4 {
-        assert!(rt; a_thread_is_wanting(&rt, workers)?);
+        assert!(rt; a_thread_is_missing(&rt, workers)?);
     }
     Ok(())
 }

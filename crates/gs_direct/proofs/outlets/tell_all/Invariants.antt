@@ -3,7 +3,7 @@ use Rattle.std.specs.List.{AllZip}
 use Rattle.gs_direct.specs.Outlets.{AllWritten, SaysAll}
 use Rattle.gs_direct.proofs.outlets.tell_all.Given as goal
 
--- those so far are told
+-- the entries so far are said
 abbrev pub invariant-loop-entry : goal.invariant-loop-entry
 invariant-loop-entry l = record {
   written : AllWritten (drop l.entry-index l.entries);

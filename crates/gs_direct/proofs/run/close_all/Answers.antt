@@ -1,6 +1,5 @@
-use Rattle.std.proofs.Common.{rules, ◌≡◌, ◌<◌, ◌*◌, ℕ, suc, length, List, sym, subst, ◌∙◌, arith}
+use Rattle.std.proofs.Common.{rules, ◌<◌, ◌*◌, suc, length, sym, subst, ◌∙◌, arith}
 use Rattle.gs_seats.proofs.ByNumber.{as_many}
-use Rattle.gs_direct.specs.declared.letter.Letter.{Letter}
 use Rattle.gs_direct.specs.Letters.{LettersFit}
 use Rattle.gs_direct.specs.Runs.{IsAt}
 use Rattle.gs_direct.proofs.Loops.{above_other, next_of, next_runs, one_closed}

@@ -1,8 +1,8 @@
-use Rattle.std.proofs.Common.{rules, ◌≡◌, ◌++◌, ◌*◌, false, suc, length, List, map, take, drop, sym, ap, subst, ◌∙◌, IfOk, Result, Ok, Err}
+use Rattle.std.proofs.Common.{rules, ◌≡◌, false, suc, length, map, sym, ap, subst, ◌∙◌, IfOk, Result, Ok, Err}
 use Rattle.std.specs.List.{AllByRecursion}
 use Rattle.gs_base.specs.declared.names.PeerNo.{PeerNo}
 use Rattle.gs_report.specs.declared.finished.Finished.{Finished}
-use Rattle.gs_seats.specs.Rounds.{IsRun, numbers}
+use Rattle.gs_seats.specs.Rounds.{IsRun}
 use Rattle.gs_seats.proofs.ByNumber.{as_many}
 use Rattle.gs_direct.specs.declared.peer.Peer.{Peer}
 use Rattle.gs_direct.specs.Peers.{IsNewPeer}

@@ -1,7 +1,7 @@
-use Rattle.std.proofs.Common.{rules, ◌≡◌, ◌<◌, ◌+◌, ℕ, length, List, map, sym, subst, subst₂, ◌∙◌, arith}
+use Rattle.std.proofs.Common.{rules, ◌≡◌, ℕ, length, List, map, sym, subst, subst₂, ◌∙◌, arith}
 use Rattle.std.specs.List.{range_with_len, AllZip}
 use Rattle.gs_base.specs.declared.names.PeerNo.{PeerNo}
-use Rattle.gs_seats.specs.Rounds.{numbers, peer_no}
+use Rattle.gs_seats.specs.Rounds.{peer_no}
 use Rattle.gs_seats.proofs.EachPeer.{numbers_more, zip_more}
 use Rattle.gs_direct.specs.declared.peer.Peer.{Peer}
 use Rattle.gs_direct.specs.Peers.{IsNewPeer}

@@ -1,8 +1,6 @@
-use Rattle.std.proofs.Common.{rules, ◌≡◌, ◌≤◌, ◌<◌, ◌*◌, ℕ, suc, length, List, sym, ap, subst, ◌∙◌, arith}
-use Rattle.gs_base.specs.declared.names.Millis.{Millis}
+use Rattle.std.proofs.Common.{rules, ◌≡◌, ◌<◌, ◌*◌, ℕ, suc, length, sym, ap, subst, ◌∙◌, arith}
 use Rattle.gs_seats.specs.ListsByPeer.{list_at}
 use Rattle.gs_seats.proofs.ByNumber.{as_many}
-use Rattle.gs_direct.specs.declared.letter.Letter.{Letter}
 use Rattle.gs_direct.specs.Letters.{LettersFit}
 use Rattle.gs_direct.specs.Runs.{AreAt, HavePlayed, IsAt}
 use Rattle.gs_direct.proofs.Loops.{all_taken, next_of, next_runs, next_within, none_played, one_played}

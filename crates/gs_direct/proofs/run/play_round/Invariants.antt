@@ -1,4 +1,3 @@
-use Rattle.std.proofs.Common.{◌≡◌}
 use Rattle.gs_direct.specs.Runs.{HavePlayed}
 use Rattle.gs_direct.proofs.run.play_round.Given as goal
 

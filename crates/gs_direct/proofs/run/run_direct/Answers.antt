@@ -1,4 +1,4 @@
-use Rattle.std.proofs.Common.{◌*◌, ◌^◌, ◌<◌, length, arith}
+use Rattle.std.proofs.Common.{arith}
 use Rattle.gs_seats.proofs.FewDials.{links_fit}
 use Rattle.gs_direct.proofs.run.run_direct.Goals as goal
 

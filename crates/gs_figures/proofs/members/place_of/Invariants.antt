@@ -5,7 +5,7 @@ use Rattle.gs_figures.proofs.members.place_of.Given as goal
 abbrev pub decreases-loop-place : goal.decreases-loop-place
 decreases-loop-place l = length l.members - l.place
 
--- the member stands behind those ahead of the place
+-- the member comes after those before the place
 abbrev pub invariant-loop-place : goal.invariant-loop-place
 invariant-loop-place l =
     (l.place ≤ length l.members)

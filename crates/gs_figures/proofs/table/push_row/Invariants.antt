@@ -3,7 +3,7 @@ use Rattle.std.specs.List.{enumerate_from, flat_map}
 use Rattle.gs_figures.specs.Tables.{cell_text, place_in}
 use Rattle.gs_figures.proofs.table.push_row.Given as goal
 
--- the cells so far, and those that are left, stand behind what was there
+-- the cells so far, and those that are left, come after what was there
 abbrev pub invariant-loop-column : goal.invariant-loop-column
 invariant-loop-column l =
     l.text.items ++ flat_map (λ x. cell_text l.layout (place_in (length l.row) x.0) x.1) (enumerate_from l.column (drop l.column l.row))

@@ -1,4 +1,4 @@
-use Rattle.std.proofs.Common.{◌≡◌, ◌++◌, ◌∙◌, List, filter, ap, ap₂}
+use Rattle.std.proofs.Common.{◌++◌, ◌∙◌, List, filter, ap, ap₂}
 use Rattle.std.specs.Set.{is_member}
 use Rattle.gs_base.specs.declared.names.PeerNo.{PeerNo}
 use Rattle.gs_base.specs.Names.{same_peer}

@@ -1,8 +1,8 @@
-use Rattle.std.proofs.Common.{◌≡◌, ◌++◌, ◌∙◌, ℕ, List, sym, ap, ap₂, subst}
+use Rattle.std.proofs.Common.{◌++◌, ◌∙◌, ℕ, List, sym, ap, ap₂, subst}
 use Rattle.gs_base.specs.declared.names.PeerNo.{PeerNo}
 use Rattle.gs_mesh.specs.declared.members.Member.{Member}
 use Rattle.gs_params.specs.Picks.{IsAscending, picked, picked_words}
-use Rattle.gs_mesh.specs.Cuts.{best_by_score, first_kept, first_words, outbound_lacking, outbound_of, outbound_picked, outbound_picked_words, outside, peers_of}
+use Rattle.gs_mesh.specs.Cuts.{first_kept, first_words, outbound_lacking, outbound_of, outbound_picked, outbound_picked_words, outside, peers_of}
 use Rattle.gs_mesh.proofs.MemberLists.{outbound_ascend, outside_ascend}
 use Rattle.gs_mesh.proofs.cut.first_kept.Goals as goal
 

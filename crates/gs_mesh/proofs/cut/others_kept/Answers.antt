@@ -1,7 +1,7 @@
 use Rattle.std.proofs.Common.{◌≡◌, ◌-◌, ◌∙◌, ℕ, List, length, sym, ap₂, subst, rules}
 use Rattle.gs_mesh.specs.declared.members.Member.{Member}
 use Rattle.gs_params.specs.Picks.{IsAscending, picked, picked_words}
-use Rattle.gs_mesh.specs.Cuts.{others_picked, others_picked_words, outside, peers_of}
+use Rattle.gs_mesh.specs.Cuts.{others_picked, others_picked_words, peers_of}
 use Rattle.gs_mesh.proofs.MemberLists.{outside_ascend}
 use Rattle.gs_mesh.proofs.cut.others_kept.Goals as goal
 

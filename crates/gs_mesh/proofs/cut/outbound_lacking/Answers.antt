@@ -1,5 +1,5 @@
-use Rattle.std.proofs.Common.{◌≡◌, ◌-◌, ◌∙◌, sym, ap, ap₂, min, length, rules}
-use Rattle.gs_mesh.specs.Cuts.{among, outbound_lacking, outbound_of}
+use Rattle.std.proofs.Common.{rules}
+use Rattle.gs_mesh.specs.Cuts.{outbound_lacking}
 use Rattle.gs_mesh.proofs.cut.outbound_lacking.Goals as goal
 
 pub returns : goal.returns

@@ -24,7 +24,7 @@ returns g c =
     let members_again : c.deref-2.result.now ≡ not_negative mesh = c.deref-2.ensures.value ∙ c.in_ok-members.ensures in
     let made : c.deref-5.result.now ≡ mended_members (not_negative mesh) candidates kept grafted = c.deref-5.ensures.value ∙ c.in_ok-made.ensures ∙ rw (members_again, c.deref-3.ensures.value, c.deref-4.ensures.value) refl in
     let first = subst (λ (ms : List Member). mended_by_words g.W.Words.word g.W.Words.after c.args.heartbeat.params.now.degrees ms candidates c.args.words.now ≡ (kept, grafted, c.mend.new.words)) members c.in_ok-mended.ensures in
-    let second = subst₂ (λ (ms : List Member) (gs : List PeerNo). opportunistic_grafts_by_words g.W.Words.word g.W.Words.after c.args.heartbeat.params.now c.args.heartbeat.tick ms candidates gs c.mend.new.words ≡ (more, c.opportunistic_grafts.new.words)) made c.deref-6.ensures.value c.in_ok-more.ensures in
+    let second = subst₂ (λ (ms : List Member) (gs : List PeerNo). opportunistic_grafts_by_words g.W.Words.word g.W.Words.after c.args.heartbeat.params.now c.args.heartbeat.number ms candidates gs c.mend.new.words ≡ (more, c.opportunistic_grafts.new.words)) made c.deref-6.ensures.value c.in_ok-more.ensures in
     let change = c.in_ok-change.ensures ∙ ap₂ (mesh_change mesh candidates) c.deref-7.ensures.value (c.deref-8.ensures.value ∙ c.in_ok-append.ensures.items) in
-    subst (λ (x : MeshChange). step_by_words g.W.Words.word g.W.Words.after c.args.heartbeat.params.now c.args.heartbeat.tick mesh candidates c.args.words.now ≡ (x, c.opportunistic_grafts.new.words)) (sym change)
-    (put_together g.W.Words.word g.W.Words.after c.args.heartbeat.params.now c.args.heartbeat.tick mesh candidates c.args.words.now c.mend.new.words c.opportunistic_grafts.new.words kept grafted more first second)
+    subst (λ (x : MeshChange). step_by_words g.W.Words.word g.W.Words.after c.args.heartbeat.params.now c.args.heartbeat.number mesh candidates c.args.words.now ≡ (x, c.opportunistic_grafts.new.words)) (sym change)
+    (put_together g.W.Words.word g.W.Words.after c.args.heartbeat.params.now c.args.heartbeat.number mesh candidates c.args.words.now c.mend.new.words c.opportunistic_grafts.new.words kept grafted more first second)

@@ -1,4 +1,4 @@
-use Rattle.std.proofs.Common.{sym, ◌∙◌}
+use Rattle.std.proofs.Common.{sym}
 use Rattle.gs_mesh.proofs.Placing.{ascending_with, found_is_there, placed, put_at_place}
 use Rattle.gs_mesh.proofs.peer_list.put.Goals as goal
 

@@ -3,6 +3,6 @@ use Rattle.std.specs.List.{flat_map}
 use Rattle.gs_picture.specs.Circle.{disc_text}
 use Rattle.gs_picture.proofs.circle.push_discs.Given as goal
 
--- the discs so far stand behind what was there
+-- the discs so far come after what was there
 abbrev pub invariant-loop-disc : goal.invariant-loop-disc
 invariant-loop-disc l = l.text.items ≡ l.initial.text.items ++ flat_map (disc_text l.count) (take l.disc-index l.discs)

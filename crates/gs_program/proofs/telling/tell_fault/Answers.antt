@@ -9,12 +9,12 @@ returns-in-Ok g c =
     record {
       told = c.args.fault;
       which = inl refl;
-      line = subst (λ (text : List ℕ). AppendsFront (g.E.Write.contents c.args.errors.now) (g.E.Write.contents c.tell.new.output) text) line c.tell.ensures;
+      line = subst (λ (text : List ℕ). AppendsFront (g.E.Write.contents c.args.errors.now) (g.E.Write.contents c.try_to_write.new.output) text) line c.try_to_write.ensures;
     }
 
 pub returns-in-Err : goal.returns-in-Err
 returns-in-Err g c = record {
   told = nameless c.args.fault;
   which = inr refl;
-  line = subst (λ (text : List ℕ). AppendsFront (g.E.Write.contents c.args.errors.now) (g.E.Write.contents c.tell-in-Err.new.output) text) (c.nameless_line.ensures c.args.plan.now) c.tell-in-Err.ensures;
+  line = subst (λ (text : List ℕ). AppendsFront (g.E.Write.contents c.args.errors.now) (g.E.Write.contents c.try_to_write-in-Err.new.output) text) (c.nameless_line.ensures c.args.plan.now) c.try_to_write-in-Err.ensures;
 }

@@ -13,5 +13,5 @@ returns-in-Some c =
     let changed : Changed old (c.get_mut.follows.lender is).entries c.args.peer was is = (sym c.in-Some.ensures.value, ((c.get_mut.follows.holds is).3 (subst IsSome c.in-Some.ensures.value refl)).0) in
     is_blamed old (c.get_mut.follows.lender is).entries c.args.peer _ was is changed refl
     (c.raise.ensures.value
-    ∙ ap (λ (a : Account). record { value = raised most_counted c.args.by (read_at c.args.decay c.args.tick a.misbehaviour); tick = c.args.tick })
+    ∙ ap (λ (a : Account). record { value = raised most_counted c.args.by (read_at c.args.decay c.args.decays a.misbehaviour); decays = c.args.decays })
     (sym (account_was old c.args.peer was (sym c.in-Some.ensures.value))))

@@ -16,5 +16,5 @@ returns-in-None-clause-topics c =
     let params = c.args.rulebook.now in
     let none : topics_of c.args.accounts.now.entries c.args.peer ≡ [] = ap (λ (o : Option Account). (unwrap_or o nothing_counted).topics) (sym c.in-None.ensures.value) in
     subst
-    (λ (es : List (Topic × Standing)). (ts : List Topic) → Covers (held_in params c.args.tick es) ts → pos 0 ≡ topic_sum params c.args.now.0 (held_in params c.args.tick es) ts)
-    (sym none) (sum_of_none params c.args.tick c.args.now.0)
+    (λ (es : List (Topic × Standing)). (ts : List Topic) → Covers (held_in params c.args.decays es) ts → pos 0 ≡ topic_sum params c.args.now.0 (held_in params c.args.decays es) ts)
+    (sym none) (sum_of_none params c.args.decays c.args.now.0)

@@ -14,6 +14,6 @@ returns-in-Some-clause-part c =
     let es = c.args.standings.now.entries in
     let topic = c.in-Some.topic.now in
     let is : standing_in es topic ≡ c.in-Some.standing.now = ap (λ (o : Option Standing). unwrap_or o fresh) c.in-Some.ensures.value in
-    let part : coded c.part.result ≡ topic_part (rules_of params topic) c.args.now.0 (held_in params c.args.tick es topic)
+    let part : coded c.part.result ≡ topic_part (rules_of params topic) c.args.now.0 (held_in params c.args.decays es topic)
     = back c.part.result (10 ^ 25) c.part.ensures.bound (lit< tt) ∙ c.part.ensures.value ∙ rw (c.of.ensures.value, is) refl in
     rw (drop_first es c.args.place (topic, c.in-Some.standing.now) c.in-Some.ensures.entry, part) refl

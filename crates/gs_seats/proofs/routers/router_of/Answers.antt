@@ -2,7 +2,6 @@ use Rattle.std.proofs.Common.{◌≤◌, ◌^◌, unsigned_abs, List, sym, subst
 use Rattle.std.specs.Prelude.{All}
 use Rattle.gs_base.specs.declared.neighbour.Neighbour.{Neighbour}
 use Rattle.gs_base.specs.Names.{peers_of}
-use Rattle.gs_params.specs.declared.params.Params.{Params}
 use Rattle.gs_params.specs.Params.{AreInRange}
 use Rattle.gs_params.specs.Picks.{IsAscending}
 use Rattle.gs_seats.proofs.NeighbourLists.{links_ascend}

@@ -1,4 +1,4 @@
-use Rattle.std.proofs.Common.{◌≡◌, [], Some, Ok, sym, ap, ◌∙◌}
+use Rattle.std.proofs.Common.{◌≡◌, [], Some, sym, ap, ◌∙◌}
 use Rattle.gs_scenario.specs.PlanOf.{plan_of}
 use Rattle.gs_laws.specs.Runs.{however_run}
 use Rattle.gs_laws.proofs.Scenarios.{got}

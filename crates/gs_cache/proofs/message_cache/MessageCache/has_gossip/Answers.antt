@@ -2,7 +2,6 @@ use Rattle.std.proofs.Common.{List, ap, ◌∙◌, length}
 use Rattle.std.specs.Prelude.{◌==◌, not}
 use Rattle.gs_base.specs.declared.names.MsgId.{MsgId}
 use Rattle.gs_cache.specs.declared.message_cache.window.Window.{Window}
-use Rattle.gs_cache.specs.CachedMessages.{cached, is_announced}
 use Rattle.gs_cache.specs.Windows.{announced_in}
 use Rattle.gs_cache.proofs.Gossiping.{announced_is, last_few}
 use Rattle.gs_cache.proofs.message_cache.MessageCache.has_gossip.Goals as goal

@@ -1,4 +1,4 @@
-use Rattle.std.proofs.Common.{◌≡◌, ℕ, List, Option, false, subst}
+use Rattle.std.proofs.Common.{ℕ, List, Option, false, subst}
 use Rattle.gs_program.specs.Program.{EndsAs}
 use Rattle.gs_program.proofs.Meets.{memory_only}
 use Rattle.gs_program.proofs.program.Program.run.Goals as goal

@@ -14,7 +14,7 @@ returns-then-is_err g c needs met input input' scenario at_end =
       report = report;
       run = run;
       text = subst (λ (line : List ℕ). AppendsFront (g.W.Write.contents c.args.output.now) (g.W.Write.contents c.write_text.new.output) line) (c.deref.ensures.value ∙ text) written;
-      line = c.tell.ensures;
+      line = c.try_to_write.ensures;
     }
 
 pub returns : goal.returns

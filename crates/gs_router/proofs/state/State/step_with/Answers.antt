@@ -4,13 +4,13 @@ use Rattle.gs_rules.proofs.Legality.{exact_is_free}
 use Rattle.gs_router.proofs.Steps.{followed, knows}
 use Rattle.gs_router.specs.Known.{peer_with}
 use Rattle.gs_router.proofs.Beating.{beats_are_few}
-use Rattle.gs_router.proofs.Standing.{ticks_are_few}
+use Rattle.gs_router.proofs.Standing.{counted_decays_are_few}
 use Rattle.gs_router.proofs.state.State.step_with.Goals as goal
 
 pub append-requires-clause-few : goal.append-requires-clause-few
 append-requires-clause-few g c =
     let a = c.args.self.now in
-    ticks_are_few (peer_with a.known.setup) a.known.tables.standings a.trace c.requires.current.scores
+    counted_decays_are_few (peer_with a.known.setup) a.known.tables.standings a.trace c.requires.current.scores
 
 pub append-requires-clause-beats : goal.append-requires-clause-beats
 append-requires-clause-beats g c =

@@ -11,16 +11,16 @@ invariant_of-self c = rw c.in_err-graft_standing.ensures.unchanged c.self.invari
 pub invariant_of-self-2 : goal.invariant_of-self-2
 invariant_of-self-2 c =
     let old = c.self.inside in
-    let k : Kept = record { params = old.rulebook; addresses = old.addresses; accounts = old.accounts.entries; tick = old.tick } in
+    let k : Kept = record { params = old.rulebook; addresses = old.addresses; accounts = old.accounts.entries; decays = old.decays } in
     let standing = standing_of k.accounts c.args.peer c.args.topic.now in
     sound_put k c.graft_standing.new.accounts.entries c.args.peer c.args.topic.now (grafted c.args.now standing)
     c.self.invariant c.in_ok-graft_standing.ensures.puts c.graft_standing.ensures.few
-    (up_to_since (Some c.args.now) k.tick standing (c.self.invariant.standings c.args.peer c.args.topic.now))
+    (up_to_since (Some c.args.now) k.decays standing (c.self.invariant.standings c.args.peer c.args.topic.now))
 
 pub returns-clause-agrees : goal.returns-clause-agrees
 returns-clause-agrees c =
     let old = c.self.inside in
-    let k : Kept = record { params = old.rulebook; addresses = old.addresses; accounts = old.accounts.entries; tick = old.tick } in
+    let k : Kept = record { params = old.rulebook; addresses = old.addresses; accounts = old.accounts.entries; decays = old.decays } in
     let es = c.graft_standing.new.accounts.entries in
     let p = c.args.peer in
     let t = c.args.topic.now in

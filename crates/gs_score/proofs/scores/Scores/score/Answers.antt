@@ -17,16 +17,16 @@ score_of-requires-clause-number c =
 pub returns : goal.returns
 returns c = λ s H topics a covers.
     let old = c.self.inside in
-    let k : Kept = record { params = old.rulebook; addresses = old.addresses; accounts = old.accounts.entries; tick = old.tick } in
+    let k : Kept = record { params = old.rulebook; addresses = old.addresses; accounts = old.accounts.entries; decays = old.decays } in
     let p = c.args.peer in
     let agrees : Agrees s k H = subst (λ x. Agrees s x H) (sym c.self.view_is) a in
-    let misbehaviour : c.counts_of-topics.result.1 ≡ read_at (misbehaviour_decay k.params) k.tick (misbehaviour_of k.accounts p) = c.counts_of-topics.ensures.misbehaviour in
+    let misbehaviour : c.counts_of-topics.result.1 ≡ read_at (misbehaviour_decay k.params) k.decays (misbehaviour_of k.accounts p) = c.counts_of-topics.ensures.misbehaviour in
     let app : c.app_and_number-app.result.0 ≡ app_of k.addresses p = c.app_and_number-app.ensures.app in
     let small : unsigned_abs c.app_and_number-app.result.0 ≤ 10 ^ 12 = rw app (c.self.invariant.apps p) in
     let params : c.params.result.now ≡ k.params = c.params.ensures.value in
     let as_numbers
     : score_of c.params.result.now.factors (coded c.counts_of-topics.result.0) (coded c.app_and_number-app.result.0) c.app_and_number-app.result.1 c.counts_of-topics.result.1
-    ≡ score_of k.params.factors c.counts_of-topics.result.0 (app_of k.addresses p) (number_with k.addresses p) (read_at (misbehaviour_decay k.params) k.tick (misbehaviour_of k.accounts p))
+    ≡ score_of k.params.factors c.counts_of-topics.result.0 (app_of k.addresses p) (number_with k.addresses p) (read_at (misbehaviour_decay k.params) k.decays (misbehaviour_of k.accounts p))
     = rw (params, back c.counts_of-topics.result.0 (1_024 * 10 ^ 25) c.counts_of-topics.ensures.bound (lit< tt), back c.app_and_number-app.result.0 (10 ^ 12) small (lit< tt), app, c.app_and_number-app.ensures.number, misbehaviour) refl in
     back c.score_of.result (10 ^ 30) c.score_of.ensures.bound (lit< tt)
     ∙ c.score_of.ensures.value

@@ -10,7 +10,7 @@ unfolding topic_part
 returns-clause-value c =
     let r = c.args.rules.now in
     let f = c.requires.in_range.factors in
-    let h = held r c.args.tick c.args.self.now in
+    let h = held r c.args.decays c.args.self.now in
     let e1 : c.weighed-present.result ≡ times r.factors.w1 (pos (p1 r c.args.now.0 h.since))
     = c.weighed-present.ensures.value ∙ ap₂ (λ w n. times w (pos n)) (reward_back r.factors.w1 f.w1) c.presence.ensures.value in
     let e2 : c.weighed_count-first.result ≡ times r.factors.w2 (pos (p2 h))

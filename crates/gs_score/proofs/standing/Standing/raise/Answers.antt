@@ -7,4 +7,4 @@ pub returns-clause-raises : goal.returns-clause-raises
 returns-clause-raises c =
     let r = c.args.raise in
     let is : c.put.new.self ≡ raised_by r c.args.self.now = search rules in
-    ap (held r.rules.now r.tick) is ∙ held-raised r.rules.now r.kind r.by r.tick c.args.self.now
+    ap (held r.rules.now r.decays) is ∙ held-raised r.rules.now r.kind r.by r.decays c.args.self.now

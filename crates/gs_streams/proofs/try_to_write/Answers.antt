@@ -1,7 +1,7 @@
 use Rattle.std.proofs.Common.{ℕ, List, subst}
 use Rattle.gs_streams.specs.Streams.{AppendsFront}
 use Rattle.gs_streams.proofs.Fronts.{whole_or_front}
-use Rattle.gs_streams.proofs.tell.Goals as goal
+use Rattle.gs_streams.proofs.try_to_write.Goals as goal
 
 pub returns : goal.returns
 returns g c =
