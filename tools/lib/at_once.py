@@ -23,7 +23,7 @@ class Found:
 
 @dataclass
 class Placed:
-    """An edit, and the functions in which it stands. One that stands elsewhere too is tried alone."""
+    """An edit, and the functions in which it stands. One that stands elsewhere too is tried by itself."""
 
     edit: Edit
     functions: set
@@ -62,7 +62,7 @@ def placed_in(edit, folder):
 
 
 def groups_of(placed, folder):
-    """Edits in groups. The first group has as many as there can be, and those that are tried alone come last."""
+    """Edits in groups. The first has as many as there can be, and those that are tried by themselves come last."""
     left, alone = [it for it in placed if not it.is_alone], [it for it in placed if it.is_alone]
     while left:
         group = Group()

@@ -131,7 +131,7 @@ def may_be_named(row, sweep, end):
     """The peers that a run may name. With a worker for each, it is the lowest whose task met a refusal."""
     if row.workers < len(row.peers) or "0" in end.met:
         return row.peers
-    # (a worker wants memory once more as it ends, so that one refusal of many says nothing of its peer)
+    # (a worker needs memory once more as it ends, so that one refusal of many says nothing of its peer)
     enough = 1 if sweep.how == "fail" else 2
     met = [number for number, many in collections.Counter(end.met).items() if many >= enough]
     return row.peers[int(min(met)) - 1 :][:1] if met else row.peers
@@ -140,7 +140,7 @@ def may_be_named(row, sweep, end):
 def allowed_after_growth(row, sweep, end):
     yield row.status, row.output, row.errors
     yield 1, "", "scenario refused: 32\n"
-    # (the arguments want memory, too)
+    # (the arguments need memory, too)
     yield NO_MEMORY
     if row.status == 0 and row.workers:
         yield NO_THREAD

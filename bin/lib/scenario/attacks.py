@@ -41,7 +41,7 @@ class Attack:
 
     @functools.cached_property
     def links(self):
-        """The links from attackers to those whom they attack."""
+        """The links from attackers to those that they attack."""
         return links_of(self.world, self.fields, self.names, self.names)
 
     def put(self, at, frames_of):

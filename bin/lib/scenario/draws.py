@@ -9,7 +9,7 @@ class Draws:
         self.label, self.calls = "/".join(map(str, labels)), 0
 
     def bytes(self, count):
-        """So many bytes: SHAKE256 of the labels and of how often this was called."""
+        """`count` bytes: SHAKE256 of the labels and of how often this was called."""
         self.calls += 1
         return hashlib.shake_256(f"{self.label}/{self.calls}".encode()).digest(count)
 

@@ -179,7 +179,7 @@ class Silence(unittest.TestCase):
         self.assertIn(b'"x1" subscribes to "news", and so would pass messages on; with topics = [] its group does not', in_file(text).stderr)
 
 
-# Twelve attackers, and two friends whom the victim dialled.
+# Twelve attackers, and two friends that the victim dialled.
 ECLIPSE = """until = "5 s"
 [[group]]
 prefix = "e"
