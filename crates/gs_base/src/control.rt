@@ -1,11 +1,14 @@
 //! The control messages of gossipsub v1.0 and v1.1, field by field as `rpc.proto` has them.
-ghost use Rattle.std.specs.Prelude.{◌≡◌};
+ghost use Rattle.std.specs.Prelude.{◌≡◌, [], None};
+ghost use Rattle.gs_base.specs.Rpcs.{empty_control, grafts_in, offers_in, prunes_in, requests_in};
 
 use crate::exact::{ExactClone, clone_option};
 use crate::names::Topic;
+use crate::part::Part;
+use crate::rpc::Rpc;
 use crate::seq::Seq;
 use bytes::Bytes;
-use std::alloc::AllocError;
+use std::alloc::{AllocError, Global};
 
 /// An offer of messages that the sender has seen (`ControlIHave`).
 #[derive(Debug, Drop, PartialEq, Eq)]
@@ -31,6 +34,19 @@ impl ExactClone for IHave {
     ghost exact = { λ source copy same. same };
 }
 
+impl Part for IHave {
+    ghost parts = { λ rpc. offers_in rpc.control };
+
+    ghost bare = { record { topic = None; ids = [] } };
+
+    fn parts_of(rpc: &Rpc) -> &[IHave] {
+        match &rpc.control {
+            Some(control) => control.ihave.as_slice(),
+            None => &[],
+        }
+    }
+}
+
 /// A request for messages (`ControlIWant`).
 #[derive(Debug, Drop, PartialEq, Eq)]
 pub struct IWant {
@@ -52,6 +68,19 @@ impl ExactClone for IWant {
     ghost exact = { λ source copy same. same };
 }
 
+impl Part for IWant {
+    ghost parts = { λ rpc. requests_in rpc.control };
+
+    ghost bare = { record { ids = [] } };
+
+    fn parts_of(rpc: &Rpc) -> &[IWant] {
+        match &rpc.control {
+            Some(control) => control.iwant.as_slice(),
+            None => &[],
+        }
+    }
+}
+
 /// The sender puts the receiver into its mesh (`ControlGraft`).
 #[derive(Debug, Drop, PartialEq, Eq)]
 pub struct Graft {
@@ -71,6 +100,19 @@ impl Clone for Graft {
 
 impl ExactClone for Graft {
     ghost exact = { λ source copy same. same };
+}
+
+impl Part for Graft {
+    ghost parts = { λ rpc. grafts_in rpc.control };
+
+    ghost bare = { record { topic = None } };
+
+    fn parts_of(rpc: &Rpc) -> &[Graft] {
+        match &rpc.control {
+            Some(control) => control.graft.as_slice(),
+            None => &[],
+        }
+    }
 }
 
 /// The sender takes the receiver out of its mesh (`ControlPrune`). Peers that it offers in exchange
@@ -98,6 +140,19 @@ impl ExactClone for Prune {
     ghost exact = { λ source copy same. same };
 }
 
+impl Part for Prune {
+    ghost parts = { λ rpc. prunes_in rpc.control };
+
+    ghost bare = { record { topic = None; backoff = None } };
+
+    fn parts_of(rpc: &Rpc) -> &[Prune] {
+        match &rpc.control {
+            Some(control) => control.prune.as_slice(),
+            None => &[],
+        }
+    }
+}
+
 /// What peers say of their meshes and of what they have seen (`ControlMessage`).
 #[derive(Debug, Drop, PartialEq, Eq)]
 pub struct Control {
@@ -105,6 +160,20 @@ pub struct Control {
     pub iwant: Seq<IWant>,
     pub graft: Seq<Graft>,
     pub prune: Seq<Prune>,
+}
+
+impl Control {
+    /// No control messages. It takes no memory.
+    pub fn empty(alloc: Global) -> Control
+        ensures { result ≡ empty_control }
+    {
+        Control {
+            ihave: Seq::new(alloc),
+            iwant: Seq::new(alloc),
+            graft: Seq::new(alloc),
+            prune: Seq::new(alloc),
+        }
+    }
 }
 
 impl Clone for Control {

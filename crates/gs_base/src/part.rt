@@ -1,9 +1,8 @@
 //! What RPCs have lists of, and one of them in an RPC that is shared.
-ghost use Rattle.std.specs.Prelude.{◌≡◌, ◌<◌, List, [], length, None, IfOk};
+ghost use Rattle.std.specs.Prelude.{◌≡◌, ◌<◌, List, length, None, IfOk};
 ghost use Rattle.gs_base.specs.declared.rpc.Rpc.{Rpc as RpcValue};
-ghost use Rattle.gs_base.specs.Rpcs.{grafts_in, offers_in, part_at, prunes_in, requests_in};
+ghost use Rattle.gs_base.specs.Rpcs.{part_at};
 
-use crate::control::{Graft, IHave, IWant, Prune};
 use crate::exact::{ExactClone, clone_of};
 use crate::rpc::{Message, Rpc, SubOpt};
 use crate::seq::Seq;
@@ -12,7 +11,7 @@ use std::alloc::{AllocError, Global};
 use std::fmt::{Debug, Error, Formatter, Write};
 use std::marker::{Model, PhantomData};
 
-/// What an RPC has a list of: changes of subscription, messages, and four kinds of control messages.
+/// What an RPC has a list of: changes of subscription, messages, and each kind of control message.
 pub trait Part: Drop {
     /// The list of an RPC.
     ghost parts: { RpcValue → List Self };
@@ -42,58 +41,6 @@ impl Part for Message {
 
     fn parts_of(rpc: &Rpc) -> &[Message] {
         rpc.publish.as_slice()
-    }
-}
-
-impl Part for IHave {
-    ghost parts = { λ rpc. offers_in rpc.control };
-
-    ghost bare = { record { topic = None; ids = [] } };
-
-    fn parts_of(rpc: &Rpc) -> &[IHave] {
-        match &rpc.control {
-            Some(control) => control.ihave.as_slice(),
-            None => &[],
-        }
-    }
-}
-
-impl Part for IWant {
-    ghost parts = { λ rpc. requests_in rpc.control };
-
-    ghost bare = { record { ids = [] } };
-
-    fn parts_of(rpc: &Rpc) -> &[IWant] {
-        match &rpc.control {
-            Some(control) => control.iwant.as_slice(),
-            None => &[],
-        }
-    }
-}
-
-impl Part for Graft {
-    ghost parts = { λ rpc. grafts_in rpc.control };
-
-    ghost bare = { record { topic = None } };
-
-    fn parts_of(rpc: &Rpc) -> &[Graft] {
-        match &rpc.control {
-            Some(control) => control.graft.as_slice(),
-            None => &[],
-        }
-    }
-}
-
-impl Part for Prune {
-    ghost parts = { λ rpc. prunes_in rpc.control };
-
-    ghost bare = { record { topic = None; backoff = None } };
-
-    fn parts_of(rpc: &Rpc) -> &[Prune] {
-        match &rpc.control {
-            Some(control) => control.prune.as_slice(),
-            None => &[],
-        }
     }
 }
 

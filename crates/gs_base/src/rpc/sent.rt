@@ -2,7 +2,7 @@
 ghost use Rattle.std.specs.Prelude.{◌≡◌, IfOk, map};
 ghost use Rattle.std.specs.List.{flat_map};
 ghost use Rattle.gs_base.specs.declared.names.MsgId.{MsgId as MsgIdValue};
-ghost use Rattle.gs_base.specs.Rpcs.{announcement, empty_control, empty_rpc, grafting, longest_backoff, most_identifiers, offering, passed_on, pruning, publication, requesting};
+ghost use Rattle.gs_base.specs.Rpcs.{announcement, empty_rpc, grafting, longest_backoff, most_identifiers, offering, passed_on, pruning, publication, requesting};
 
 use crate::control::{Control, Graft, IHave, IWant, Prune};
 use crate::exact::clone_of;
@@ -23,20 +23,6 @@ pub fn limits_of_rpcs()
     ensures backoff { LONGEST_BACKOFF ≡ longest_backoff }
     ensures identifiers { MOST_IDENTIFIERS ≡ most_identifiers }
 {}
-
-impl Control {
-    /// No control messages. It takes no memory.
-    pub fn empty(alloc: Global) -> Control
-        ensures { result ≡ empty_control }
-    {
-        Control {
-            ihave: Seq::new(alloc),
-            iwant: Seq::new(alloc),
-            graft: Seq::new(alloc),
-            prune: Seq::new(alloc),
-        }
-    }
-}
 
 impl Rpc {
     /// An RPC that says nothing. It takes no memory.

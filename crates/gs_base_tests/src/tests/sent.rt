@@ -1,4 +1,5 @@
 //! The RPCs that a router sends, and identifiers from bytes.
+use super::parts::control_text;
 use super::{message, topic};
 use bytes::Bytes;
 use gs_base::{Control, MsgId, Rpc, Seq, limits_of_rpcs};
@@ -15,48 +16,48 @@ enum Sent {
     Prune(u64),
 }
 
-/// Each with its text. A backoff is at most a day.
-static SENT: [(Sent, &str); 7] = [
-    (
-        Sent::Nothing,
-        "Rpc { subs: Seq { items: [] }, publish: Seq { items: [] }, control: None }",
-    ),
+/// What each publishes, and its control messages as their list and what stands in it. A backoff is at most a day.
+static SENT: [(Sent, &str, Option<(&str, &str)>); 7] = [
+    (Sent::Nothing, "", None),
     (
         Sent::PassedOn,
-        "Rpc { subs: Seq { items: [] }, publish: Seq { items: [Message { origin: None, payload: Some(b\"abc\"), \
-         seqno: None, topic: Some(Topic(b\"news\")), signature: None, key: None }] }, control: None }",
+        "Message { origin: None, payload: Some(b\"abc\"), seqno: None, topic: Some(Topic(b\"news\")), \
+         signature: None, key: None }",
+        None,
     ),
     (
         Sent::Offer,
-        "Rpc { subs: Seq { items: [] }, publish: Seq { items: [] }, \
-         control: Some(Control { ihave: Seq { items: [IHave { topic: Some(Topic(b\"news\")), \
-         ids: Seq { items: [b\"abcdefghijklmnopqrstuvwxyz012345\"] } }] }, iwant: Seq { items: [] }, \
-         graft: Seq { items: [] }, prune: Seq { items: [] } }) }",
+        "",
+        Some((
+            "ihave",
+            "IHave { topic: Some(Topic(b\"news\")), ids: Seq { items: [b\"abcdefghijklmnopqrstuvwxyz012345\"] } }",
+        )),
     ),
     (
         Sent::Request,
-        "Rpc { subs: Seq { items: [] }, publish: Seq { items: [] }, \
-         control: Some(Control { ihave: Seq { items: [] }, \
-         iwant: Seq { items: [IWant { ids: Seq { items: [b\"abc\"] } }] }, graft: Seq { items: [] }, \
-         prune: Seq { items: [] } }) }",
+        "",
+        Some(("iwant", "IWant { ids: Seq { items: [b\"abc\"] } }")),
     ),
     (
         Sent::Graft,
-        "Rpc { subs: Seq { items: [] }, publish: Seq { items: [] }, \
-         control: Some(Control { ihave: Seq { items: [] }, iwant: Seq { items: [] }, \
-         graft: Seq { items: [Graft { topic: Some(Topic(b\"news\")) }] }, prune: Seq { items: [] } }) }",
+        "",
+        Some(("graft", "Graft { topic: Some(Topic(b\"news\")) }")),
     ),
     (
         Sent::Prune(86_400),
-        "Rpc { subs: Seq { items: [] }, publish: Seq { items: [] }, \
-         control: Some(Control { ihave: Seq { items: [] }, iwant: Seq { items: [] }, graft: Seq { items: [] }, \
-         prune: Seq { items: [Prune { topic: Some(Topic(b\"news\")), backoff: Some(86400) }] } }) }",
+        "",
+        Some((
+            "prune",
+            "Prune { topic: Some(Topic(b\"news\")), backoff: Some(86400) }",
+        )),
     ),
     (
         Sent::Prune(86_401),
-        "Rpc { subs: Seq { items: [] }, publish: Seq { items: [] }, \
-         control: Some(Control { ihave: Seq { items: [] }, iwant: Seq { items: [] }, graft: Seq { items: [] }, \
-         prune: Seq { items: [Prune { topic: Some(Topic(b\"news\")), backoff: Some(86400) }] } }) }",
+        "",
+        Some((
+            "prune",
+            "Prune { topic: Some(Topic(b\"news\")), backoff: Some(86400) }",
+        )),
     ),
 ];
 
@@ -77,13 +78,33 @@ fn rpc_of(alloc: Global, what: Sent) -> Result<Rpc, AllocError> {
     }
 }
 
+/// An RPC of these messages and control messages, as it is shown.
+fn rpc_text(
+    alloc: Global,
+    messages: &str,
+    control: Option<(&str, &str)>,
+) -> Result<String, AllocError> {
+    let control = match control {
+        Some((list, items)) => format!(in alloc;
+            "Some({})",
+            control_text(alloc, list, items)?.as_str()
+        )?,
+        None => String::from_str(alloc, "None")?,
+    };
+    format!(in alloc;
+        "Rpc {{ subs: Seq {{ items: [] }}, publish: Seq {{ items: [{messages}] }}, control: {} }}",
+        control.as_str()
+    )
+}
+
 #[test]
 fn each_rpc_says_one_thing(rt: HostRuntime) -> Result<(), AllocError> {
-    for (what, text) in &SENT {
-        let rpc = rpc_of(rt.alloc(), *what)?;
+    let alloc = rt.alloc();
+    for (what, messages, control) in &SENT {
+        let rpc = rpc_of(alloc, *what)?;
         assert_eq!(rt;
-            format!(in rt.alloc(); "{rpc:?}")?.as_str(),
-            *text,
+            format!(in alloc; "{rpc:?}")?.as_str(),
+            rpc_text(alloc, messages, *control)?.as_str(),
             "{what:?}"
         );
     }
@@ -92,12 +113,9 @@ fn each_rpc_says_one_thing(rt: HostRuntime) -> Result<(), AllocError> {
 
 #[test]
 fn no_control_messages_are_no_control_messages(rt: HostRuntime) -> Result<(), AllocError> {
-    let empty = format!(in rt.alloc(); "{:?}", Control::empty(rt.alloc()))?;
-    assert_eq!(rt;
-        empty.as_str(),
-        "Control { ihave: Seq { items: [] }, iwant: Seq { items: [] }, graft: Seq { items: [] }, \
-         prune: Seq { items: [] } }"
-    );
+    let alloc = rt.alloc();
+    let empty = format!(in alloc; "{:?}", Control::empty(alloc))?;
+    assert_eq!(rt; empty.as_str(), control_text(alloc, "", "")?.as_str());
     Ok(())
 }
 
