@@ -79,6 +79,11 @@ $counted" '' bodies
 mutants: one/wrong_test.edit: refused by its module
 mutants: one/wrong_third.edit: refused by its module
 2 refused, 0 not refused" '' bodies --narrow --only '_t' one
+  expect_like 'a sample of wrong bodies' 0 'mutants: trying these, and again by: tools/mutants --sample 2 --by a
+  one/*mutants: copying the repository
+mutants: not kept, so proved anew: one
+*one/wrong_third.edit: refused by its module*
+2 refused, 0 not refused' '' bodies --sample 2 --by a one
   expect 'wrong bodies at once' 1 "$begun
 mutants: one/wrong_test.edit: refused by its module
 mutants: one: trying its edits (6) in 3 checks
@@ -135,6 +140,7 @@ check_words() {
   refused_words 'an unknown option' 'there is no option --speed; --help says more' --speed one
   refused_words 'a pattern that is missing' 'argument --only: expected one argument; --help says more' one --only
   refused_words 'two ways at once' 'argument --at-once: not allowed with argument --narrow; --help says more' --narrow --at-once
+  refused_words 'a word for no sample' '--by goes with --sample; --help says more' --by a one
   refused_words 'no commit' "git can't compare with none: fatal: bad revision 'none'" --since none one
   expect_like 'help on wrong bodies' 0 'Tries wrong bodies*Status*' '' bodies --help
 }

@@ -136,7 +136,7 @@ def silent(attack):
             attack.fields.fail("peer", f"{why}; with topics = [] its group does not")
     at = attack.fields.moment("from", 1)
     if not any(attack.world.subscribed.get((to, attack.topic), at + 1) <= at for _, to in attack.links):
-        attack.fields.fail("from", "nobody whom they attack is on the topic by then, and takes anybody into a mesh")
+        attack.fields.fail("from", "no peer that they attack is on the topic by then and takes anybody into a mesh")
     rpc = {
         "subscriptions": [wire.subscription(attack.topic, True)],
         "control": {"graft": [wire.graft(attack.topic)]},

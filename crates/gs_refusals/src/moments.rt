@@ -29,7 +29,7 @@ const GRAFT: &[CasePart<'static>] = &[Graft("a")];
 /// The router tells both neighbours of `a`. The first GRAFT comes in the backoff, is charged and answered; the second
 /// one does not.
 pub static A_BACKOFF: Moment = Moment {
-    name: "a router that hears a PRUNE, and GRAFTs in its backoff and behind it",
+    name: "a router that hears a PRUNE, and GRAFTs in its backoff and after it",
     case: Case {
         factors: Factors {
             w7: 0,

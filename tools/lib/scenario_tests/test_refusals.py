@@ -47,7 +47,7 @@ CASES = {
     GROUP + '[[attack]]\nkind = "spam"\npeer = "g1"\nto = "g1"\nevery = 3\n': '11: [[attack]] 1: to: "g1" is not joined to any of these',
     '[[group]]\nprefix = "g"\n[[attack]]\nkind = "spam"\npeer = "g"\nevery = 3\n': '8: [[attack]] 1: peer: "g" is not joined to anybody else',
     GROUP + '[[attack]]\nkind = "eclipse"\npeer = "g1"\n': "8: [[attack]] 1: to: an eclipse is of one peer",
-    '[[group]]\nprefix = "g"\nfrom = 2\n[[group]]\nprefix = "x"\ndials = "g"\n[[attack]]\nkind = "silent"\npeer = "x"\n': "10: [[attack]] 1: from: nobody whom they attack is on the topic by then, and takes anybody into a mesh",
+    '[[group]]\nprefix = "g"\nfrom = 2\n[[group]]\nprefix = "x"\ndials = "g"\n[[attack]]\nkind = "silent"\npeer = "x"\n': "10: [[attack]] 1: from: no peer that they attack is on the topic by then and takes anybody into a mesh",
     GROUP + '[[attack]]\nkind = "iwant_flood"\npeer = "g1"\nevery = 3\n': "8: [[attack]] 1: from: nothing is published before it on the topic, so there is nothing to ask for",
     GROUP + '[[attack]]\nkind = "spam"\npeer = "g1"\nevery = 3\nsize = 1000000\ncount = 3\n': "8: [[attack]] 1: 3000060 bytes would go out at once on a link, and a line may have at most 2097152",
     GROUP + '[[attack]]\nkind = "covert"\npeer = "g1"\ngood_every = 3\nfrom = 9\nhex = "00"\nevery = 5\n': "13: [[attack]] 1: hex: an attack by spam has no such key",
