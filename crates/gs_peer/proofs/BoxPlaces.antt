@@ -182,17 +182,17 @@ stays_apart to q new was now is apart = ap slots_in (is ∙ elsewhere (same_peer
 
 -- ---- what an entry says
 
--- what is to go to q behind these sends, the first one first
-abbrev pub behind_sends : Codec → PeerNo → Bool → Outgoing → List (PeerNo × Rpc) → Outgoing
-behind_sends c q may o [] = o
-behind_sends c q may o (x ∷ xs) = behind_sends c q may (if may && same_peer x.0 q then sending c o x.1 else o) xs
+-- what is to go to q after these sends, the first one first
+abbrev pub after_sends : Codec → PeerNo → Bool → Outgoing → List (PeerNo × Rpc) → Outgoing
+after_sends c q may o [] = o
+after_sends c q may o (x ∷ xs) = after_sends c q may (if may && same_peer x.0 q then sending c o x.1 else o) xs
 
 sent_more : (c : Codec) (o : Outgoing) (here : Bool) (rpc : Rpc) (rpcs : List Rpc) → sending_all c (if here then sending c o rpc else o) rpcs ≡ sending_all c o (if here then rpc ∷ rpcs else rpcs)
 sent_more c o true rpc rpcs = refl
 sent_more c o false rpc rpcs = refl
 
 -- of what is sent, q's part is gathered, where more may be said to it
-pub sends_told : (c : Codec) (q : PeerNo) (may : Bool) (o : Outgoing) (sends : List (PeerNo × Rpc)) → behind_sends c q may o sends ≡ (if may then sending_all c o (sent_to q sends) else o)
+pub sends_told : (c : Codec) (q : PeerNo) (may : Bool) (o : Outgoing) (sends : List (PeerNo × Rpc)) → after_sends c q may o sends ≡ (if may then sending_all c o (sent_to q sends) else o)
 sends_told c q true o [] = refl
 sends_told c q true o (x ∷ xs) =
     sends_told c q true (if same_peer x.0 q then sending c o x.1 else o) xs

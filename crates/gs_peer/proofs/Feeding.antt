@@ -15,7 +15,7 @@ fed old reader stage piece end h = (
   ap (λ (rpcs : List Rpc). record old { reader = reader; stage = rpcs }) h.added,
 )
 
--- behind a fault nothing is staged
+-- after a fault nothing is staged
 pub unfed : (old : InboxView) (reader : Holding) (stage : List Rpc) (piece : List ℕ)
     → old.reader.held ≡ None
     → reader ≡ old.reader

@@ -50,7 +50,7 @@ grew_then j k u v w a b = (
 pub grew_within : (j k : ℕ) (v w : PeerNo → List Slot) → j ≤ k → GrewBy j v w → GrewBy k v w
 grew_within j k v w low a = (a.0, (let x = a.1 in omega (arith, x, low)), a.2)
 
--- nothing more behind, or before
+-- nothing more after, or before
 pub grew_after : (k : ℕ) (u v w : PeerNo → List Slot) → GrewBy k u v → ((q : PeerNo) → w q ≡ v q) → GrewBy k u w
 grew_after k u v w a same = (a.0, a.1, λ q. same q ∙ a.2 q)
 

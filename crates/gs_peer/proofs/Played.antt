@@ -37,7 +37,7 @@ use Rattle.gs_player.proofs.Since.{down_stays, out_no_more}
 
 -- ---- what is done in a phase
 
--- what a seat has to do in a round behind what was heard
+-- what a seat has to do in a round after what was heard
 abbrev pub own_rest : Seat → ℕ → List Todo
 own_rest seat r = behind_heard seat.peer r (moment_of seat (Playing r)) seat.lines
 

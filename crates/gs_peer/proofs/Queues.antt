@@ -1,4 +1,4 @@
--- What lists of slots say when one is put at the back, taken off the front, or cut, and what is gathered behind them.
+-- What lists of slots say when one is put at the back, taken off the front, or cut, and what is gathered after them.
 use Rattle.std.proofs.Common.{◌≡◌, ℕ, Bool, true, List, [], ◌∷◌, ◌++◌, Option, Some, None, map, take, drop, sym, ap, ap₂, ◌∙◌, append-nil, append_assoc}
 use Rattle.std.specs.Prelude.{if◌then◌else◌, option_map}
 use Rattle.std.proofs.lemmas.List.{take-append-drop}
@@ -17,7 +17,7 @@ use Rattle.gs_rules.specs.Saying.{Outgoing, cut_out, frames_of, saying}
 abbrev pub goes_out : Said → Option Rpc → Outgoing
 goes_out said held = record { said = said; gathered = held }
 
--- what waits, and what is gathered behind it
+-- what waits, and what is gathered after it
 abbrev pub waits : List Slot → Option Rpc → Outgoing
 waits slots held = goes_out (flat slots) held
 
@@ -43,14 +43,14 @@ put_out c slots new (Some u) now text is taken puts =
     ∙ ap (λ (w : Said). flat slots ++ w) (frame_out c u text (some_same text (c.frame u) is)))
     taken
 
--- what is put at the back is said behind a cut, where more may be said
-pub put_behind : (c : Codec) (may : Bool) (before : Outgoing) (slots new : List Slot) (held : Option Rpc) (slot : Slot) (w : Said)
+-- what is put at the back is said after a cut, where more may be said
+pub put_at_back : (c : Codec) (may : Bool) (before : Outgoing) (slots new : List Slot) (held : Option Rpc) (slot : Slot) (w : Said)
     → may ≡ true
     → flat (slot ∷ []) ≡ w
     → waits slots held ≡ cut_out c before
     → new ≡ slots ++ slot ∷ []
     → waits new held ≡ (if may then saying (cut_out c before) w else before)
-put_behind c may before slots new held slot w may_be says cut puts =
+put_at_back c may before slots new held slot w may_be says cut puts =
     ap (λ (v : Said). goes_out v held) (ap flat puts ∙ flat-append slots (slot ∷ []) ∙ ap (λ (v : Said). flat slots ++ v) says)
     ∙ ap (λ (o : Outgoing). saying o w) cut
     ∙ sym (ap (λ (b : Bool). if b then saying (cut_out c before) w else before) may_be)

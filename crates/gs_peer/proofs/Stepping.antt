@@ -1,4 +1,4 @@
--- What moves at a step, and what has moved behind many.
+-- What moves at a step, and what has moved after many.
 use Rattle.std.proofs.Common.{◌≡◌, inl, inr, ◌<◌, ◌≤◌, ◌+◌, ◌^◌, ◌-◌, ℕ, zero, suc, min, Bool, true, false, not, if◌then◌else◌, List, [], ◌∷◌, ◌++◌, length, length-append, get_or, Option, Some, None, refl, sym, ap, ap₂, subst, ◌∙◌, true≢false, arith}
 use Rattle.std.specs.Prelude.{◌&&◌, ◌||◌, option_map}
 use Rattle.std.proofs.lemmas.Option.{slice_get_past, slice_get_read}
@@ -13,9 +13,9 @@ use Rattle.gs_peer.specs.declared.outboxes.Outboxes.{Outboxes}
 use Rattle.gs_peer.specs.declared.running.Running.{Running}
 use Rattle.gs_peer.specs.Inboxes.{InboxView, Listens}
 use Rattle.gs_peer.specs.Moved.{AllStay, GrewAt, GrewIf, MovesAt, MovesIf}
-use Rattle.gs_peer.specs.Moves.{are_full, has_more_at, is_closing, is_due, is_full_at, peer_at, phase_behind, turn_after, whose_turn}
+use Rattle.gs_peer.specs.Moves.{are_full, has_more_at, is_closing, is_due, is_full_at, peer_at, phase_after, turn_after, whose_turn}
 use Rattle.gs_peer.specs.Outboxes.{waiting}
-use Rattle.gs_peer.specs.Stepping.{ListensAlone, LooksAlone, Moves, OffersAlone, PlaysDue, Polls, Steps, StepsTo, Still}
+use Rattle.gs_peer.specs.Stepping.{OnlyListens, OnlyLooks, Moves, OnlyOffers, PlaysDue, Polls, Steps, StepsTo, Still}
 use Rattle.gs_peer.proofs.Fullness.{all_there, right_true}
 use Rattle.gs_peer.proofs.Grows.{all_stay, same_or}
 
@@ -99,16 +99,16 @@ module _ {G S : Type 0} (seen : EndsOf S) (t u v w : Running G S) (listened play
     (hears : GrewAt (whose_turn t) listened (seen.taken t.ends) (seen.taken u.ends))
     (full : is_full_at t.player.inboxes.items t.turn ≡ true → listened ≡ false)
     (quiet : listened ≡ false → u.player.inboxes.items ≡ t.player.inboxes.items)
-    (listens : ListensAlone t u)
+    (listens : OnlyListens t u)
     (unsent : (q : PeerNo) → seen.accepted u.ends q ≡ seen.accepted t.ends q)
     (due : played ≡ is_due u)
-    (looks : played ≡ false → LooksAlone u v)
-    (next : played ≡ true → v.phase ≡ phase_behind u.assignment.rounds u.phase)
+    (looks : played ≡ false → OnlyLooks u v)
+    (next : played ≡ true → v.phase ≡ phase_after u.assignment.rounds u.phase)
     (ends : v.ends ≡ u.ends)
     (turn : v.turn ≡ u.turn)
     (moves : MovesAt (whose_turn v) offered (seen.accepted v.ends) (seen.accepted w.ends) (waiting v.outboxes) (waiting w.outboxes))
     (says : offered ≡ false → (q : PeerNo) → flat (waiting w.outboxes q) ≡ flat (waiting v.outboxes q))
-    (offers : OffersAlone v w)
+    (offers : OnlyOffers v w)
     (untaken : (q : PeerNo) → seen.taken w.ends q ≡ seen.taken v.ends q) where
   -- what was taken and accepted in all
   taken_there : (q : PeerNo) → seen.taken w.ends q ≡ seen.taken u.ends q
@@ -149,16 +149,16 @@ module _ {G S : Type 0} (seen : EndsOf S) (t u v w : Running G S) (listened play
   due_looked none = ap (λ (r : Running G S). is_due r) offers ∙ ap (λ (r : Running G S). is_due r) (looks none) ∙ sym due ∙ none
 
   -- or the round was played
-  played_on : played ≡ true → w.phase ≡ phase_behind t.assignment.rounds t.phase
-  played_on some = ap (λ (r : Running G S). r.phase) offers ∙ next some ∙ ap (λ (r : Running G S). phase_behind r.assignment.rounds r.phase) listens
+  played_on : played ≡ true → w.phase ≡ phase_after t.assignment.rounds t.phase
+  played_on some = ap (λ (r : Running G S). r.phase) offers ∙ next some ∙ ap (λ (r : Running G S). phase_after r.assignment.rounds r.phase) listens
 
   plays_by : listened ≡ false → is_due t ≡ true → PlaysDue seen t w
   plays_by none is = (is, played_on (due ∙ due_still none ∙ is))
 
-  -- a round that is due behind the step is not the one before it
-  due_behind : (b : Bool) → played ≡ b → is_due w ≡ true → w.phase ≡ phase_behind t.assignment.rounds t.phase
-  due_behind true pb is = played_on pb
-  due_behind false pb is = absurd (true≢false (sym is ∙ due_looked pb))
+  -- a round that is due after the step is not the one before it
+  due_after : (b : Bool) → played ≡ b → is_due w ≡ true → w.phase ≡ phase_after t.assignment.rounds t.phase
+  due_after true pb is = played_on pb
+  due_after false pb is = absurd (true≢false (sym is ∙ due_looked pb))
 
   -- a neighbour of which all is taken is asked for nothing
   listens_not : is_due t ≡ true → listened ≡ false
@@ -200,7 +200,7 @@ module _ {G S : Type 0} (seen : EndsOf S) (t u v w : Running G S) (listened play
             record { taken = s.taken; accepted = s.accepted; says = s.says; phase = s.phase; router = s.router; inboxes = s.inboxes };
         moves = λ some. moves_by listened played offered refl refl refl (sym any ∙ some);
         plays = λ h. plays_by (listens_not h) h;
-        at_once = λ h. due_behind played refl h;
+        at_once = λ h. due_after played refl h;
         none_due = λ none. due_looked (second_false listened played offered (sym any ∙ none));
         turn = is ∙ ap (λ (b : Bool). turn_after w.turn (length w.player.inboxes.items) (moved && b)) has
             ∙ ap (λ (k : ℕ). turn_after k (length w.player.inboxes.items) (moved && has_more_at w k)) there;
@@ -217,7 +217,7 @@ module _ {G S : Type 0} (seen : EndsOf S) where
       by true e low = omega (arith, e)
       by false e low = omega (arith, e, low)
 
-  -- behind an idle step no round is due
+  -- after an idle step no round is due
   pub rests : (k idle n : ℕ) (old new : Running G S) → Steps seen k idle old new → n < idle → is_due new ≡ false
   rests zero idle n old new h low = let none = h.0 in absurd (omega (arith, none, low))
   rests (suc k) idle n old new (mid, before, moved, earlier, step, is) low = by moved step is

@@ -84,7 +84,7 @@ each_said : (L : Entries) (sent : PeerNo → Said) (boxes : Outboxes) (qs : List
 each_said L sent boxes [] k = tt
 each_said L sent boxes (q ∷ qs) k = (k.0.says, each_said L sent boxes qs k.1)
 
--- rounds are played whole, and behind the last one all neighbours are down
+-- rounds are played whole, and after the last one all neighbours are down
 none_by_trace : (seat : Seat) (said : PeerNo → Said) (phase : Phase) (L : Entries) (refused : List RefusedLine) (q : PeerNo)
     → Begun seat said phase L refused
     → gathered codec L q ≡ None

@@ -143,7 +143,7 @@ module _ {G S : Type 0} (seen : EndsOf S) where
   pub goes_nowhere : (t : Running G S) → IsKept seen t → Goes seen t t
   goes_nowhere t k = record { kept = k; seat = refl; first = refl; same_ends = refl }
 
--- behind the last round
+-- after the last round
 pub at_close : (seat : Seat) (said sent : PeerNo → Said) (phase : Phase) (xs : List InboxView) (boxes : Outboxes) (v : RouterView) (refused : List RefusedLine) (first words : SeededState)
     → phase ≡ Closing
     → Kept seat said sent (phase_of phase) xs boxes v refused first words

@@ -1,4 +1,4 @@
--- What is to go out behind entries, as the outboxes are told it.
+-- What is to go out after entries, as the outboxes are told it.
 use Rattle.std.proofs.Common.{◌≡◌, ◌-◌, ℕ, Bool, true, false, if◌then◌else◌, List, [], ◌∷◌, ◌++◌, length, map, take, drop, reverse, Option, refl, sym, ap, ap₂, subst, ◌∙◌, append_assoc}
 use Rattle.std.specs.List.{AllByRecursion}
 use Rattle.std.specs.Prelude.{option_to_list}
@@ -19,17 +19,17 @@ use Rattle.gs_rules.proofs.Fitting.{legal_part_fits}
 use Rattle.gs_player.proofs.Since.{next_first, since}
 use Rattle.gs_peer.specs.declared.outboxes.Outboxes.{Outboxes}
 use Rattle.gs_peer.specs.Kept.{BoxKept}
-use Rattle.gs_peer.specs.Outboxes.{behind_entries, is_open, opens_behind, outgoing_in}
+use Rattle.gs_peer.specs.Outboxes.{after_entries, is_open, opens_after, outgoing_in}
 
--- ---- entries behind a trace
+-- ---- entries after a trace
 
-up_behind : (K : Entries) (q : PeerNo) (es : List Entry) → up (reverse es ++ K) q ≡ opens_behind q (up K q) es
-up_behind K q [] = refl
-up_behind K q (e ∷ es) = ap (λ (L : Entries). up L q) (next_first K e es) ∙ up_behind (e ∷ K) q es
+up_after_entries : (K : Entries) (q : PeerNo) (es : List Entry) → up (reverse es ++ K) q ≡ opens_after q (up K q) es
+up_after_entries K q [] = refl
+up_after_entries K q (e ∷ es) = ap (λ (L : Entries). up L q) (next_first K e es) ∙ up_after_entries (e ∷ K) q es
 
-outgoing_behind : (K : Entries) (q : PeerNo) (es : List Entry) → outgoing codec (reverse es ++ K) q ≡ behind_entries q (up K q) (outgoing codec K q) es
-outgoing_behind K q [] = refl
-outgoing_behind K q (e ∷ es) = ap (λ (L : Entries). outgoing codec L q) (next_first K e es) ∙ outgoing_behind (e ∷ K) q es
+outgoing_after : (K : Entries) (q : PeerNo) (es : List Entry) → outgoing codec (reverse es ++ K) q ≡ after_entries q (up K q) (outgoing codec K q) es
+outgoing_after K q [] = refl
+outgoing_after K q (e ∷ es) = ap (λ (L : Entries). outgoing codec L q) (next_first K e es) ∙ outgoing_after (e ∷ K) q es
 
 -- ---- what is said ahead of all
 
@@ -66,10 +66,10 @@ entry_ahead q true w o e =
     ∙ event_ahead codec q w (sending_all codec o (sent_to q e.effects.sends)) e.event
 entry_ahead q false w o e = refl
 
-entries_ahead : (q : PeerNo) (may : Bool) (w : Said) (o : Outgoing) (es : List Entry) → behind_entries q may (ahead w o) es ≡ ahead w (behind_entries q may o es)
+entries_ahead : (q : PeerNo) (may : Bool) (w : Said) (o : Outgoing) (es : List Entry) → after_entries q may (ahead w o) es ≡ ahead w (after_entries q may o es)
 entries_ahead q may w o [] = refl
 entries_ahead q may w o (e ∷ es) =
-    ap (λ (p : Outgoing). behind_entries q (up_after q e.event may) p es) (entry_ahead q may w o e)
+    ap (λ (p : Outgoing). after_entries q (up_after q e.event may) p es) (entry_ahead q may w o e)
     ∙ entries_ahead q (up_after q e.event may) w (if may then behind_entry codec q o e else o) es
 
 -- ---- an outbox that is told them
@@ -79,25 +79,25 @@ goes_out said held = record { said = said; gathered = held }
 
 box_told : (K : Entries) (q : PeerNo) (es : List Entry) (sent : Said) (old new : Outboxes)
     → BoxKept K sent old q
-    → outgoing_in new q ≡ behind_entries q (is_open old q) (outgoing_in old q) es
-    → is_open new q ≡ opens_behind q (is_open old q) es
+    → outgoing_in new q ≡ after_entries q (is_open old q) (outgoing_in old q) es
+    → is_open new q ≡ opens_after q (is_open old q) es
     → BoxKept (reverse es ++ K) sent new q
 box_told K q es sent old new k told opens =
     let whole : ahead sent (outgoing_in new q) ≡ outgoing codec (reverse es ++ K) q =
     ap (ahead sent) told
     ∙ sym (entries_ahead q (is_open old q) sent (outgoing_in old q) es)
-    ∙ ap₂ (λ (may : Bool) (o : Outgoing). behind_entries q may o es) k.is_open (ap₂ goes_out k.says k.gathers)
-    ∙ sym (outgoing_behind K q es) in
+    ∙ ap₂ (λ (may : Bool) (o : Outgoing). after_entries q may o es) k.is_open (ap₂ goes_out k.says k.gathers)
+    ∙ sym (outgoing_after K q es) in
     record {
-      is_open = opens ∙ ap (λ (may : Bool). opens_behind q may es) k.is_open ∙ sym (up_behind K q es);
+      is_open = opens ∙ ap (λ (may : Bool). opens_after q may es) k.is_open ∙ sym (up_after_entries K q es);
       says = ap (λ (o : Outgoing). o.said) whole;
       gathers = ap (λ (o : Outgoing). o.gathered) whole;
     }
 
 pub boxes_told : (K L : Entries) (es : List Entry) (sent : PeerNo → Said) (old new : Outboxes) (qs : List PeerNo)
     → L ≡ reverse es ++ K
-    → ((q : PeerNo) → outgoing_in new q ≡ behind_entries q (is_open old q) (outgoing_in old q) es)
-    → ((q : PeerNo) → is_open new q ≡ opens_behind q (is_open old q) es)
+    → ((q : PeerNo) → outgoing_in new q ≡ after_entries q (is_open old q) (outgoing_in old q) es)
+    → ((q : PeerNo) → is_open new q ≡ opens_after q (is_open old q) es)
     → AllByRecursion (λ q. BoxKept K (sent q) old q) qs
     → AllByRecursion (λ q. BoxKept L (sent q) new q) qs
 boxes_told K L es sent old new [] is told opens k = tt
@@ -109,8 +109,8 @@ boxes_told K L es sent old new (q ∷ qs) is told opens k =
 pub tells : (told : ℕ) (all slice : List Entry) (L : Entries) (old new : Outboxes)
     → reverse all ≡ L
     → slice ≡ drop told all
-    → ((q : PeerNo) → outgoing_in new q ≡ behind_entries q (is_open old q) (outgoing_in old q) slice)
-    → ((q : PeerNo) → is_open new q ≡ opens_behind q (is_open old q) slice)
+    → ((q : PeerNo) → outgoing_in new q ≡ after_entries q (is_open old q) (outgoing_in old q) slice)
+    → ((q : PeerNo) → is_open new q ≡ opens_after q (is_open old q) slice)
     → (K : Entries) (sent : PeerNo → Said) (qs : List PeerNo)
     → length K ≡ told
     → (entries : List Entry) × (L ≡ entries ++ K)

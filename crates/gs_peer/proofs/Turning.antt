@@ -137,7 +137,7 @@ inboxes_turn seat r K L said refused xs names ascending k full played legal =
     all_turn_round seat r K L said xs k full
     (subst (AllByRecursion (λ q. Spell (bytes_before r (said q)) (handled L q))) (sym names) (rounds_spell seat said r L refused ascending played legal))
 
--- and behind the last one, where the peer has handled nothing more since
+-- and after the last one, where the peer has handled nothing more since
 pub inboxes_close : (seat : Seat) (K L M : Entries) (said : PeerNo → Said) (refused : List RefusedLine) (xs : List InboxView)
     → peers_of xs ≡ links_of seat.peer
     → IsAscending (links_of seat.peer)

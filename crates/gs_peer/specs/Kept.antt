@@ -33,9 +33,9 @@ is_whole (Playing r) w = whole r w
 is_whole Closing w = closes w
 
 -- in a round nothing but a close is taken after what is heard in it
-abbrev pub NothingBehind : Phase → Said → Bool → Type 0
-NothingBehind (Playing r) w closed = after r w ≡ close_if closed
-NothingBehind Closing w closed = Unit {0}
+abbrev pub NothingAfter : Phase → Said → Bool → Type 0
+NothingAfter (Playing r) w closed = after r w ≡ close_if closed
+NothingAfter Closing w closed = Unit {0}
 
 -- in a round what is heard ends with a close, where one is taken
 abbrev pub ClosesHere : Phase → Said → Bool → Type 0
@@ -48,7 +48,7 @@ pub record InboxKept (seat : Seat) (phase : Phase) (L : Entries) (said : Said) (
   pub stable : whole (rounds_ended seat phase) said ≡ true
   pub full : is_whole phase said ≡ is_full x
   pub closed : closes said ≡ x.is_closed
-  pub rest : NothingBehind phase said x.is_closed
+  pub rest : NothingAfter phase said x.is_closed
   pub here : ClosesHere phase said x.is_closed
   -- what was handled is what was said in them, and with what is staged it is all that was taken
   pub earlier : Spell (bytes_before (rounds_ended seat phase) said) (handled L x.peer)

@@ -45,9 +45,9 @@ abbrev pub is_due : {G S : Type 0} → Running G S → Bool
 is_due t = not (is_closing t.phase) && are_full t.player.inboxes.items
 
 -- what comes after a phase, where this is the last round: the next round, or the peer shuts down
-abbrev pub phase_behind : ℕ → Phase → Phase
-phase_behind last (Playing r) = if nat_lt r last then Playing (r + 1) else Closing
-phase_behind last Closing = Closing
+abbrev pub phase_after : ℕ → Phase → Phase
+phase_after last (Playing r) = if nat_lt r last then Playing (r + 1) else Closing
+phase_after last Closing = Closing
 
 -- the peer has shut down, each neighbour has closed, and all that was said is accepted
 abbrev pub is_over : {G S : Type 0} → Running G S → Bool

@@ -51,14 +51,14 @@ abbrev pub is_neighbour : List PeerNo → PeerNo → Bool
 is_neighbour neighbours q = list_any (λ n. same_peer n q) neighbours
 
 -- whether more may be said after these entries, the first one first
-abbrev pub opens_behind : PeerNo → Bool → List Entry → Bool
-opens_behind q may [] = may
-opens_behind q may (e ∷ es) = opens_behind q (up_after q e.event may) es
+abbrev pub opens_after : PeerNo → Bool → List Entry → Bool
+opens_after q may [] = may
+opens_after q may (e ∷ es) = opens_after q (up_after q e.event may) es
 
 -- what is to go to q after these entries, the first one first
-abbrev pub behind_entries : PeerNo → Bool → Outgoing → List Entry → Outgoing
-behind_entries q may o [] = o
-behind_entries q may o (e ∷ es) = behind_entries q (up_after q e.event may) (if may then behind_entry codec q o e else o) es
+abbrev pub after_entries : PeerNo → Bool → Outgoing → List Entry → Outgoing
+after_entries q may o [] = o
+after_entries q may o (e ∷ es) = after_entries q (up_after q e.event may) (if may then behind_entry codec q o e else o) es
 
 -- nothing more is accepted, or one slot
 abbrev pub AcceptsOne : List Slot → List Slot → Type 0

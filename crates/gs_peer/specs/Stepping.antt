@@ -5,23 +5,23 @@ use Rattle.gs_link.specs.Flat.{flat}
 use Rattle.gs_ends.specs.declared.ends.Ends.{Ghosts as EndsOf}
 use Rattle.gs_peer.specs.declared.running.Running.{Running}
 use Rattle.gs_peer.specs.Moved.{AllStay, GrewAt, MovesAt}
-use Rattle.gs_peer.specs.Moves.{has_more_at, is_due, phase_behind, turn_after, whose_turn}
+use Rattle.gs_peer.specs.Moves.{has_more_at, is_due, phase_after, turn_after, whose_turn}
 use Rattle.gs_peer.specs.Outboxes.{waiting}
 
 -- ---- the only things that change
 
 -- the inboxes and the ends, and nothing else
-abbrev pub ListensAlone : {G S : Type 0} → Running G S → Running G S → Type 0
-ListensAlone old new =
+abbrev pub OnlyListens : {G S : Type 0} → Running G S → Running G S → Type 0
+OnlyListens old new =
     new ≡ record old { player = record old.player { inboxes = new.player.inboxes }; ends = new.ends }
 
 -- the outboxes and the ends, and nothing else
-abbrev pub OffersAlone : {G S : Type 0} → Running G S → Running G S → Type 0
-OffersAlone old new = new ≡ record old { outboxes = new.outboxes; ends = new.ends }
+abbrev pub OnlyOffers : {G S : Type 0} → Running G S → Running G S → Type 0
+OnlyOffers old new = new ≡ record old { outboxes = new.outboxes; ends = new.ends }
 
 -- where it was last seen that not all is taken, and nothing else
-abbrev pub LooksAlone : {G S : Type 0} → Running G S → Running G S → Type 0
-LooksAlone old new = new ≡ record old { last_not_full = new.last_not_full }
+abbrev pub OnlyLooks : {G S : Type 0} → Running G S → Running G S → Type 0
+OnlyLooks old new = new ≡ record old { last_not_full = new.last_not_full }
 
 -- ---- a step
 
@@ -38,7 +38,7 @@ module _ {S : Type 0} (seen : EndsOf S) where
 
   -- the round was due, and was played
   abbrev pub PlaysDue : {G : Type 0} → Running G S → Running G S → Type 0
-  PlaysDue old new = (is_due old ≡ true) × (new.phase ≡ phase_behind old.assignment.rounds old.phase)
+  PlaysDue old new = (is_due old ≡ true) × (new.phase ≡ phase_after old.assignment.rounds old.phase)
 
   -- One slot more is taken of the neighbour whose turn it was, or the round was due and was played; or one slot more is
   -- accepted by that neighbour, or an empty frame was let go that waited first for it.
@@ -56,7 +56,7 @@ module _ {S : Type 0} (seen : EndsOf S) where
     -- A round that was due was played, and one that came to be due was played in the same step: one that is due
     -- then is the next one. None is where nothing moved.
     pub plays : is_due old ≡ true → PlaysDue old new
-    pub at_once : is_due new ≡ true → new.phase ≡ phase_behind old.assignment.rounds old.phase
+    pub at_once : is_due new ≡ true → new.phase ≡ phase_after old.assignment.rounds old.phase
     pub none_due : moved ≡ false → is_due new ≡ false
     -- the neighbour keeps its turn where something moved and more may move
     pub turn : new.turn ≡ turn_after old.turn (length new.player.inboxes.items) (moved && has_more_at new old.turn)

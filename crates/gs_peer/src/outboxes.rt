@@ -13,7 +13,7 @@ ghost use Rattle.gs_ends.specs.Ends.{OthersStay, has};
 ghost use Rattle.gs_peer.specs.declared.outbox.Outbox.{Outbox as OutboxValue};
 ghost use Rattle.gs_peer.specs.Moved.{MovesIf};
 ghost use Rattle.gs_peer.specs.Moves.{is_silent};
-ghost use Rattle.gs_peer.specs.Outboxes.{AcceptsOne, behind_entries, box_of, gathered_in, is_neighbour, is_open, opens_behind, outgoing_in, place_of, waiting};
+ghost use Rattle.gs_peer.specs.Outboxes.{AcceptsOne, after_entries, box_of, gathered_in, is_neighbour, is_open, opens_after, outgoing_in, place_of, waiting};
 
 use crate::frames::written_for;
 use crate::outbox::Outbox;
@@ -76,9 +76,9 @@ impl Outboxes {
         requires { AllFit codec entries.now }
         ensures told { OnOk result ((q : PeerNoValue)
             → outgoing_in self.new q
-            ≡ behind_entries q (is_open self.old q) (outgoing_in self.old q) entries.now) }
+            ≡ after_entries q (is_open self.old q) (outgoing_in self.old q) entries.now) }
         ensures open { OnOk result ((q : PeerNoValue)
-            → is_open self.new q ≡ opens_behind q (is_open self.old q) entries.now) }
+            → is_open self.new q ≡ opens_after q (is_open self.old q) entries.now) }
     {
         for entry in entries {
             self.tell(alloc, entry)?;

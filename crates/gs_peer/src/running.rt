@@ -7,10 +7,10 @@ ghost use Rattle.gs_link.specs.Flat.{flat};
 ghost use Rattle.gs_peer.specs.declared.phase.Phase.TheVariants.{Playing};
 ghost use Rattle.gs_peer.specs.Life.{IsLife};
 ghost use Rattle.gs_peer.specs.Moved.{GrewAt, MovesAt};
-ghost use Rattle.gs_peer.specs.Moves.{are_full, are_silent, has_more_at, is_due, is_full_at, is_over, phase_behind, turn_after, whose_turn};
+ghost use Rattle.gs_peer.specs.Moves.{are_full, are_silent, has_more_at, is_due, is_full_at, is_over, phase_after, turn_after, whose_turn};
 ghost use Rattle.gs_peer.specs.Outboxes.{waiting};
 ghost use Rattle.gs_peer.specs.Running.{AllFull, Goes, IsFresh, IsKept, IsOver, MayBegin, TellsSince, left_of, seat_of};
-ghost use Rattle.gs_peer.specs.Stepping.{ListensAlone, LooksAlone, OffersAlone, Polls, StepsTo};
+ghost use Rattle.gs_peer.specs.Stepping.{OnlyListens, OnlyLooks, OnlyOffers, Polls, StepsTo};
 
 use crate::assignment::Assignment;
 use crate::boxes::{Boxes, boxes_of};
@@ -166,7 +166,7 @@ impl<G: Gate, S: Ends> Running<G, S> {
             is_full_at self.old.player.inboxes.items self.old.turn ≡ true → moved ≡ false) }
         ensures still { IfOk result (λ moved.
             moved ≡ false → self.new.player.inboxes.items ≡ self.old.player.inboxes.items) }
-        ensures alone { OnOk result (ListensAlone self.old self.new) }
+        ensures alone { OnOk result (OnlyListens self.old self.new) }
     {
         if self.turn >= self.player.inboxes.len() {
             return Ok(false);
@@ -191,7 +191,7 @@ impl<G: Gate, S: Ends> Running<G, S> {
         ensures waits { IfOk result (λ moved. moved ≡ false
             → (q : PeerNoValue)
             → flat (waiting self.new.outboxes q) ≡ flat (waiting self.old.outboxes q)) }
-        ensures alone { OnOk result (OffersAlone self.old self.new) }
+        ensures alone { OnOk result (OnlyOffers self.old self.new) }
     {
         if self.turn >= self.player.inboxes.len() {
             return Ok(false);
@@ -208,9 +208,9 @@ impl<G: Gate, S: Ends> Running<G, S> {
         ensures ends { self.new.ends ≡ self.old.ends }
         ensures turn { OnOk result (self.new.turn ≡ self.old.turn) }
         ensures due { IfOk result (λ played. played ≡ is_due self.old) }
-        ensures still { IfOk result (λ played. played ≡ false → LooksAlone self.old self.new) }
+        ensures still { IfOk result (λ played. played ≡ false → OnlyLooks self.old self.new) }
         ensures phase { IfOk result (λ played.
-            played ≡ true → self.new.phase ≡ phase_behind self.old.assignment.rounds self.old.phase) }
+            played ≡ true → self.new.phase ≡ phase_after self.old.assignment.rounds self.old.phase) }
     {
         let Phase::Playing(round) = self.phase else {
             return Ok(false);
@@ -233,7 +233,7 @@ impl<G: Gate, S: Ends> Running<G, S> {
         ensures goes { OnOk result (Goes S.Ends self.old self.new) }
         ensures ends { self.new.ends ≡ self.old.ends }
         ensures turn { OnOk result (self.new.turn ≡ self.old.turn) }
-        ensures phase { OnOk result (self.new.phase ≡ phase_behind self.old.assignment.rounds self.old.phase) }
+        ensures phase { OnOk result (self.new.phase ≡ phase_after self.old.assignment.rounds self.old.phase) }
     {
         self.gate.begin_round(self.assignment.worker, round);
         let now = Millis(round * self.assignment.round_ms);
