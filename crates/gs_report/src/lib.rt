@@ -7,4 +7,4 @@ mod text;
 
 pub use finished::Finished;
 pub use report::Report;
-pub use text::{name_of, report_text};
+pub use text::{name_of, push_millionths, report_text, word_of};

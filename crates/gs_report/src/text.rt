@@ -284,8 +284,11 @@ fn push_score(
     text.extend_from_slice(b"\n")
 }
 
-/// Adds whole millionths as a number with six digits after the point.
-fn push_millionths(alloc: Global, text: &mut Vec<u8>, score: i128) -> Result<(), AllocError>
+/// Adds whole millionths as a number with six digits after the point, as a score is shown everywhere.
+///
+/// # Errors
+/// `AllocError` where there was no memory for it. A part of it may be there then.
+pub fn push_millionths(alloc: Global, text: &mut Vec<u8>, score: i128) -> Result<(), AllocError>
     ensures { OnOk result (text.new.items ≡ text.old.items ++ score_text score) }
 {
     let size = score.unsigned_abs();
@@ -333,7 +336,7 @@ pub fn name_of(plan: &Plan, number: PeerNo) -> &str
 }
 
 /// The word of the script's line at a place. A place that is no line's has the empty one.
-fn word_of(plan: &Plan, place: usize) -> &'static str
+pub fn word_of(plan: &Plan, place: usize) -> &'static str
     ensures { result.now ≡ word_of plan.now place }
 {
     match plan.script.as_slice().get(place) {

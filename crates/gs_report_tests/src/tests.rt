@@ -5,7 +5,7 @@ use crate::tests::plan::{bytes, plan, topic};
 use bytes::Bytes;
 use gs_base::{Millis, PeerNo, Seq, Shared, Topic};
 use gs_plan::Act;
-use gs_report::{Finished, Report, report_text};
+use gs_report::{Finished, Report, name_of, push_millionths, report_text, word_of};
 use gs_rules::{Effects, Entry, Event, Loss, Refusal, RefusedLine, Trace};
 use std::alloc::{AllocError, Global};
 
@@ -195,6 +195,39 @@ fn a_peer_has_the_name_of_its_number(rt: HostRuntime) -> Result<(), AllocError> 
     let report = "delivered b 200 news 31\ndelivered a 100 blog 32\n\
         refused b 400 subscribe 18\nrefused a 300 unsubscribe 19\nlinks 32 settled\n";
     assert!(rt; is_told(rt.alloc(), &SECOND_FIRST, 32, report)?);
+    Ok(())
+}
+
+/// Whether peers and lines have their names, and what is no peer or no line has none.
+fn are_named(alloc: Global) -> Result<bool, AllocError> {
+    let plan = plan(alloc)?;
+    let are_peers = name_of(&plan, PeerNo(1)) == "b" && name_of(&plan, PeerNo(2)) == "";
+    Ok(are_peers && word_of(&plan, 4) == "hang_up" && word_of(&plan, 5) == "")
+}
+
+#[test]
+fn a_peer_has_its_name_and_a_line_its_word(rt: HostRuntime) -> Result<(), AllocError> {
+    assert!(rt; are_named(rt.alloc())?);
+    Ok(())
+}
+
+/// Whether a score in millionths is shown so, after what stood there.
+fn is_shown(alloc: Global, score: i128, shown: &str) -> Result<bool, AllocError> {
+    let mut text = Vec::new(alloc);
+    text.extend_from_slice(b"score ")?;
+    push_millionths(alloc, &mut text, score)?;
+    let wanted = format!(in alloc; "score {shown}")?;
+    Ok(text.as_slice() == wanted.as_bytes())
+}
+
+#[test]
+fn a_score_has_six_digits_after_the_point(rt: HostRuntime) -> Result<(), AllocError> {
+    let alloc = rt.alloc();
+    assert!(rt; is_shown(alloc, -90_000_000, "-90.000000")?);
+    assert!(rt; is_shown(alloc, -4_356_179_772, "-4356.179772")?);
+    assert!(rt; is_shown(alloc, -1, "-0.000001")?);
+    assert!(rt; is_shown(alloc, 1_500_000, "1.500000")?);
+    assert!(rt; is_shown(alloc, 0, "0.000000")?);
     Ok(())
 }
 
