@@ -10,8 +10,7 @@ ghost use Rattle.gs_wire.specs.Records.{records_text};
 ghost use Rattle.gs_wire.specs.Sections.{control_length, control_of, control_part, section};
 
 use crate::encoding::put_len;
-use crate::field;
-use crate::rpc::{MAX_BODY, control_record_len};
+use crate::rpc::{MAX_BODY, RPC_CONTROL, control_record_len};
 use crate::sections::{Section, WrittenRpc};
 use crate::varint::{put_varint, varint_len};
 use bytes::Bytes;
@@ -137,7 +136,7 @@ fn copy_control(buffer: &mut Vec<u8>, parts: &[Shared<WrittenRpc>], len: Option<
     let Some(len) = len else {
         return;
     };
-    put_len(buffer, field::RPC_CONTROL, len);
+    put_len(buffer, RPC_CONTROL, len);
     copy_control_sections(buffer, parts);
 }
 
