@@ -1,5 +1,5 @@
 -- RPCs that are gathered, and what is written for all of them.
-use Rattle.std.proofs.Common.{◌≡◌, ℕ, ◌+◌, ◌^◌, ◌<◌, ◌≤◌, List, [], ◌∷◌, ◌++◌, length, get_or, take, min, Option, Some, None, refl, sym, ap, subst, ◌∙◌, append-nil, append_assoc, arith}
+use Rattle.std.proofs.Common.{◌≡◌, ℕ, ◌+◌, ◌^◌, ◌<◌, ◌≤◌, List, [], ◌∷◌, ◌++◌, length, get_or, take, min, Option, Some, None, refl, sym, ap, subst, ◌∙◌, append-nil, arith}
 use Rattle.std.specs.Prelude.{◌==◌, is_none, option_map, unwrap_or}
 use Rattle.std.specs.List.{flat_map}
 use Rattle.std.proofs.Math.Dec.{eqb-suc-zero}
@@ -9,9 +9,7 @@ use Rattle.std.proofs.lemmas.List.Folds.{length-flat_map-take}
 use Rattle.std.proofs.lemmas.Option.{same_Some}
 use Rattle.gs_base.specs.declared.control.Control.{Control}
 use Rattle.gs_base.specs.declared.rpc.Rpc.{Rpc}
-use Rattle.gs_base.specs.Rpcs.{empty_rpc}
 use Rattle.gs_wire.specs.declared.sections.Section.{Section}
-use Rattle.gs_wire.specs.declared.sections.Section.TheVariants.{Subscriptions, Messages, Offers, Requests, Grafts, Prunes}
 use Rattle.gs_wire.specs.Varint.{varint}
 use Rattle.gs_wire.specs.Records.{records_text}
 use Rattle.gs_wire.specs.Controls.{control_records, no_control}
@@ -19,7 +17,9 @@ use Rattle.gs_wire.specs.Messages.{body, longest_body}
 use Rattle.gs_wire.specs.Joining.{joined_control, joined_controls, joined_onto, joined_rpc, joined_rpcs, joined_to}
 use Rattle.gs_wire.specs.Sections.{control_length, control_of, control_part, plain_length, section}
 use Rattle.gs_wire.specs.Gathering.{IsMeasured, as_one}
-use Rattle.gs_wire.proofs.SectionTexts.{body_length, control_length-both, control_part_length, control_part_text, length_of_control, plain_length-joined, section-joined}
+use Rattle.gs_wire.proofs.JoinedLists.{joined_to-as_one, list-all}
+use Rattle.gs_wire.proofs.ControlKinds.{control_length-both, section-empty, section-joined}
+use Rattle.gs_wire.proofs.SectionTexts.{body_length, control_part_length, control_part_text, length_of_control, plain_length-joined}
 use Rattle.gs_wire.proofs.Written.{varint_ten}
 
 -- ---- one RPC more
@@ -38,29 +38,7 @@ pub joined_some : (vs : List Rpc) → 0 < length vs → joined_rpcs vs ≡ Some 
 joined_some [] some = absurd (omega (arith, some))
 joined_some (v ∷ vs) some = onto_some v vs
 
--- what holds nothing yet says nothing
-pub joined_to-as_one : (held : Option Rpc) (v : Rpc) → joined_to held v ≡ joined_rpc (as_one held) v
-joined_to-as_one None v = refl
-joined_to-as_one (Some u) v = refl
-
 -- ---- the sections of all of them
-
-section-empty : (wanted : Section) → section wanted empty_rpc ≡ []
-section-empty Subscriptions = refl
-section-empty Messages = refl
-section-empty Offers = refl
-section-empty Requests = refl
-section-empty Grafts = refl
-section-empty Prunes = refl
-
--- what joining two RPCs appends, as a list, is of all of them each one's list in order
-list-onto : {A : Type 0} (list : Rpc → List A) → ((u v : Rpc) → list (joined_rpc u v) ≡ list u ++ list v) → (held : Option Rpc) (vs : List Rpc) → list (as_one (joined_onto held vs)) ≡ list (as_one held) ++ flat_map list vs
-list-onto list both held [] = sym (append-nil (list (as_one held)))
-list-onto {A} list both held (v ∷ vs) =
-    list-onto list both (Some (joined_to held v)) vs ∙ ap (λ (u : Rpc). list u ++ flat_map list vs) (joined_to-as_one held v) ∙ ap (λ (t : List A). t ++ flat_map list vs) (both (as_one held) v) ∙ append_assoc (list (as_one held)) (list v) (flat_map list vs)
-
-pub list-all : {A : Type 0} (list : Rpc → List A) → ((u v : Rpc) → list (joined_rpc u v) ≡ list u ++ list v) → list empty_rpc ≡ [] → (vs : List Rpc) → list (as_one (joined_rpcs vs)) ≡ flat_map list vs
-list-all {A} list both nothing vs = list-onto list both None vs ∙ ap (λ (t : List A). t ++ flat_map list vs) nothing
 
 pub section-all : (wanted : Section) (vs : List Rpc) → section wanted (as_one (joined_rpcs vs)) ≡ flat_map (section wanted) vs
 section-all wanted vs = list-all (section wanted) (section-joined wanted) (section-empty wanted) vs
@@ -146,3 +124,14 @@ copied_more f vs i v below is =
 pub copied_room : (f : Rpc → List ℕ) (vs : List Rpc) (i : ℕ) (v : Rpc) → i < length vs → v ≡ get_or vs i v → length (flat_map f (take i vs)) + length (f v) ≤ length (flat_map f vs)
 copied_room f vs i v below is =
     omega (arith, length-flat_map-take f vs i v below, ap (λ (w : Rpc). length (f w)) is)
+
+-- ---- whether one has control messages
+
+-- an RPC has control messages exactly where they have a length
+pub some_control : (o : Option Control) (n : ℕ) → Some n ≡ length_of_control o → Some (unwrap_or o no_control) ≡ o
+some_control None n is = absurd cc
+some_control (Some c) n is = refl
+
+pub none_control : (o : Option Control) → None ≡ length_of_control o → None ≡ o
+none_control None is = refl
+none_control (Some c) is = absurd cc

@@ -1,4 +1,4 @@
-use Rattle.gs_wire.proofs.JoinedLists.{control_of_all}
+use Rattle.gs_wire.proofs.ControlKinds.{control_of_all}
 use Rattle.gs_wire.proofs.gathered_rpcs.control_of_all.Goals as goal
 
 pub returns : goal.returns

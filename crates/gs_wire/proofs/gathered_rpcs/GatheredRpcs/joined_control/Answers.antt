@@ -1,7 +1,7 @@
 use Rattle.std.proofs.Common.{sym, ◌∙◌}
 use Rattle.gs_wire.specs.Joining.{joined_rpcs}
 use Rattle.gs_wire.specs.Gathering.{as_one}
-use Rattle.gs_wire.proofs.JoinedLists.{none_control, some_control}
+use Rattle.gs_wire.proofs.Gathering.{none_control, some_control}
 use Rattle.gs_wire.proofs.gathered_rpcs.GatheredRpcs.joined_control.Goals as goal
 
 pub returns-in_ok-control_of_all-in-Some : goal.returns-in_ok-control_of_all-in-Some
