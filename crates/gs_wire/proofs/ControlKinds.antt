@@ -1,6 +1,6 @@
 -- What is proved of each kind of control message, and of control messages as a whole. A kind more needs a line or a lemma
 -- in each part of this file.
-use Rattle.std.proofs.Common.{◌≡◌, ℕ, ◌+◌, ◌<◌, ◌≤◌, ◌^◌, List, [], ◌++◌, length, Option, Some, None, refl, sym, ap, ◌∙◌, append_assoc, append-nil, arith, rules, inl, inr}
+use Rattle.std.proofs.Common.{◌≡◌, ℕ, ◌+◌, ◌<◌, ◌≤◌, ◌^◌, List, [], ◌∷◌, ◌++◌, length, Option, Some, None, refl, sym, ap, ◌∙◌, append_assoc, append-nil, arith, rules, inl, inr}
 use Rattle.std.specs.Prelude.{unwrap_or}
 use Rattle.std.specs.List.{AllZip, flat_map}
 use Rattle.gs_base.specs.declared.control.IHave.{IHave}
@@ -14,14 +14,14 @@ use Rattle.gs_wire.specs.declared.sections.Section.{Section}
 use Rattle.gs_wire.specs.declared.sections.Section.TheVariants.{Subscriptions, Messages, Offers, Requests, Grafts, Prunes}
 use Rattle.gs_wire.specs.Records.{Record, len_values, records_text}
 use Rattle.gs_wire.specs.Fields.{Spells, topic_of, number_of, topic_bytes, bytes_records, number_records, part_records}
-use Rattle.gs_wire.specs.Controls.{SaysIHave, SaysIWant, SaysGraft, SaysPrune, SaysControl, no_control, ihave_records, iwant_records, graft_records, prune_records, control_records}
+use Rattle.gs_wire.specs.Controls.{SaysControl, SaysGraft, SaysIHave, SaysIWant, SaysPrune, control_records, graft_records, ihave_records, iwant_records, joined_control, no_control, prune_records}
 use Rattle.gs_wire.specs.Messages.{IsPrune, IsControl, sub_records, message_records}
-use Rattle.gs_wire.specs.Joining.{joined_control, joined_rpc, joined_rpcs}
+use Rattle.gs_wire.specs.Joining.{joined_rpc, joined_rpcs}
 use Rattle.gs_wire.specs.Gathering.{as_one}
 use Rattle.gs_wire.specs.Sections.{control_of, section}
 use Rattle.gs_wire.proofs.Zips.{AllZip-append, AllZip-same}
 use Rattle.gs_wire.proofs.Parts.{one_said}
-use Rattle.gs_wire.proofs.Written.{part_length-append, part_text-append, sum_text}
+use Rattle.gs_wire.proofs.Written.{part_length-append, part_text-append, records_text-append, sum_text}
 use Rattle.gs_wire.proofs.Deciding.{Decided, part, zips}
 use Rattle.gs_wire.proofs.RoundTrip.{IsWritable, all-append, bytes_writable, number_writable, repeated_writable, records_spelled, values-append, numbers-append, bytes_values, number_values, no_bytes, no_numbers, part_values, repeated_values, last_own, last_number_own, own_topic, parts_spelled, Any, all_any}
 use Rattle.gs_wire.proofs.ShorterFields.{IsShorter, all_counted, all_spelled, no_fields, number_more, parts_more, repeated_more, topic_more}
@@ -200,6 +200,10 @@ section-empty Offers = refl
 section-empty Requests = refl
 section-empty Grafts = refl
 section-empty Prunes = refl
+
+-- what is written for control messages is their sections in order
+pub sections_of_control : (v : Rpc) → flat_map (λ (s : Section). section s v) (Offers ∷ Requests ∷ Grafts ∷ Prunes ∷ []) ≡ records_text (control_records (control_of v))
+sections_of_control v = simp (records_text-append, append_assoc, append-nil) refl
 
 -- a section of joined RPCs is that of the first and then that of the second
 pub section-joined : (wanted : Section) (u v : Rpc) → section wanted (joined_rpc u v) ≡ section wanted u ++ section wanted v

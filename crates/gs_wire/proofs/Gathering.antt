@@ -12,9 +12,9 @@ use Rattle.gs_base.specs.declared.rpc.Rpc.{Rpc}
 use Rattle.gs_wire.specs.declared.sections.Section.{Section}
 use Rattle.gs_wire.specs.Varint.{varint}
 use Rattle.gs_wire.specs.Records.{records_text}
-use Rattle.gs_wire.specs.Controls.{control_records, no_control}
+use Rattle.gs_wire.specs.Controls.{control_records, joined_control, no_control}
 use Rattle.gs_wire.specs.Messages.{body, longest_body}
-use Rattle.gs_wire.specs.Joining.{joined_control, joined_controls, joined_onto, joined_rpc, joined_rpcs, joined_to}
+use Rattle.gs_wire.specs.Joining.{joined_controls, joined_onto, joined_rpc, joined_rpcs, joined_to}
 use Rattle.gs_wire.specs.Sections.{control_length, control_of, control_part, plain_length, section}
 use Rattle.gs_wire.specs.Gathering.{IsMeasured, as_one}
 use Rattle.gs_wire.proofs.JoinedLists.{joined_to-as_one, list-all}
@@ -115,15 +115,15 @@ recorded v n is = of_option v.control n is
 
 -- ---- what is copied
 
--- what is copied of the parts so far and the next one
-pub copied_more : (f : Rpc → List ℕ) (vs : List Rpc) (i : ℕ) (v : Rpc) → i < length vs → v ≡ get_or vs i v → flat_map f (take (i + 1) vs) ≡ flat_map f (take i vs) ++ f v
-copied_more f vs i v below is =
-    ap (flat_map f) (take_more vs i v below ∙ ap (λ (w : Rpc). take i vs ++ w ∷ []) (sym is)) ∙ flat_map-append f (take i vs) (v ∷ []) ∙ ap (λ (t : List ℕ). flat_map f (take i vs) ++ t) (append-nil (f v))
+-- what is copied of those so far and the next one
+pub copied_more : {A : Type 0} (f : A → List ℕ) (vs : List A) (i : ℕ) (v : A) → i < length vs → v ≡ get_or vs i v → flat_map f (take (i + 1) vs) ≡ flat_map f (take i vs) ++ f v
+copied_more {A} f vs i v below is =
+    ap (flat_map f) (take_more vs i v below ∙ ap (λ (w : A). take i vs ++ w ∷ []) (sym is)) ∙ flat_map-append f (take i vs) (v ∷ []) ∙ ap (λ (t : List ℕ). flat_map f (take i vs) ++ t) (append-nil (f v))
 
 -- it is no longer than what is copied of all
-pub copied_room : (f : Rpc → List ℕ) (vs : List Rpc) (i : ℕ) (v : Rpc) → i < length vs → v ≡ get_or vs i v → length (flat_map f (take i vs)) + length (f v) ≤ length (flat_map f vs)
-copied_room f vs i v below is =
-    omega (arith, length-flat_map-take f vs i v below, ap (λ (w : Rpc). length (f w)) is)
+pub copied_room : {A : Type 0} (f : A → List ℕ) (vs : List A) (i : ℕ) (v : A) → i < length vs → v ≡ get_or vs i v → length (flat_map f (take i vs)) + length (f v) ≤ length (flat_map f vs)
+copied_room {A} f vs i v below is =
+    omega (arith, length-flat_map-take f vs i v below, ap (λ (w : A). length (f w)) is)
 
 -- ---- whether one has control messages
 

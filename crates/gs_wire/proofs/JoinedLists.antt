@@ -4,7 +4,8 @@ use Rattle.std.specs.List.{flat_map}
 use Rattle.gs_base.specs.declared.control.Control.{Control}
 use Rattle.gs_base.specs.declared.rpc.Rpc.{Rpc}
 use Rattle.gs_base.specs.Rpcs.{empty_rpc}
-use Rattle.gs_wire.specs.Joining.{joined_control, joined_controls, joined_onto, joined_rpc, joined_rpcs, joined_to}
+use Rattle.gs_wire.specs.Controls.{joined_control}
+use Rattle.gs_wire.specs.Joining.{joined_controls, joined_onto, joined_rpc, joined_rpcs, joined_to}
 use Rattle.gs_wire.specs.Gathering.{as_one}
 
 -- what holds nothing yet says nothing

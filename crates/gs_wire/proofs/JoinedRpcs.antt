@@ -8,9 +8,9 @@ use Rattle.gs_base.specs.declared.control.Control.{Control}
 use Rattle.gs_base.specs.declared.rpc.Rpc.{Rpc}
 use Rattle.gs_wire.specs.Records.{SpellRecords, len_values, record_text, records_text}
 use Rattle.gs_wire.specs.Fields.{Spells, len_record, part_records}
-use Rattle.gs_wire.specs.Controls.{SaysMerged, joined, control_records}
+use Rattle.gs_wire.specs.Controls.{SaysMerged, control_records, joined, joined_control}
 use Rattle.gs_wire.specs.Messages.{SaysSub, SaysMessage, SpellsRpc, IsInMemory, sub_records, message_records, body}
-use Rattle.gs_wire.specs.Joining.{joined_control, joined_controls, joined_rpc, joined_to, joined_options, joined_onto, joined_rpcs}
+use Rattle.gs_wire.specs.Joining.{joined_controls, joined_rpc, joined_to, joined_options, joined_onto, joined_rpcs}
 use Rattle.gs_wire.proofs.Zips.{AllZip-append}
 use Rattle.gs_wire.proofs.RecordLists.{records_append}
 use Rattle.gs_wire.proofs.RoundTrip.{values-append}

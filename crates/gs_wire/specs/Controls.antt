@@ -68,3 +68,14 @@ control_records v =
     ++ part_records iwant_records 2 v.iwant
     ++ part_records graft_records 3 v.graft
     ++ part_records prune_records 4 v.prune
+
+-- ---- two that are joined
+
+-- what both say, list by list
+abbrev pub joined_control : Control → Control → Control
+joined_control c d = record {
+  ihave = c.ihave ++ d.ihave;
+  iwant = c.iwant ++ d.iwant;
+  graft = c.graft ++ d.graft;
+  prune = c.prune ++ d.prune;
+}

@@ -1,7 +1,8 @@
 //! Two RPCs that are joined into one.
 ghost use Rattle.std.specs.Prelude.{◌≡◌, ◌++◌, Ok, true, false, IfOk, IfErr, OnOk, OnErr};
 ghost use Rattle.gs_wire.specs.Codec.{codec};
-ghost use Rattle.gs_wire.specs.Joining.{joined_control, joined_controls, joined_rpc};
+ghost use Rattle.gs_wire.specs.Controls.{joined_control};
+ghost use Rattle.gs_wire.specs.Joining.{joined_controls, joined_rpc};
 
 use crate::fault::WireFault;
 use crate::rpc::{MAX_BODY, control_len, full_len};

@@ -4,8 +4,7 @@ ghost use Rattle.gs_wire.specs.Records.{records_text};
 ghost use Rattle.gs_wire.specs.Fields.{part_records};
 ghost use Rattle.gs_wire.specs.Controls.{control_records, no_control};
 ghost use Rattle.gs_wire.specs.Messages.{body, frame, longest_body};
-ghost use Rattle.gs_wire.specs.Sections.{control_length, control_part, plain_length, section};
-ghost use Rattle.gs_wire.specs.Standing.{ControlStands, SectionsStand, place_of};
+ghost use Rattle.gs_wire.specs.Sections.{ControlStands, SectionsStand, control_length, control_part, place_of, plain_length, section};
 
 use crate::control::{CONTROL_GRAFT, CONTROL_IHAVE, CONTROL_IWANT, CONTROL_PRUNE};
 use crate::encoding::{Encode, put_len, put_parts};
@@ -27,6 +26,16 @@ pub(crate) enum Section {
     Requests,
     Grafts,
     Prunes,
+}
+
+impl Section {
+    /// Those of control messages, in their order.
+    pub(crate) const OF_CONTROL: [Section; 4] = [
+        Section::Offers,
+        Section::Requests,
+        Section::Grafts,
+        Section::Prunes,
+    ];
 }
 
 /// Where a section stands in a frame.
@@ -66,7 +75,7 @@ impl Model for WrittenRpc {
 
     ghost Value = { RpcValue };
 
-    ghost use Rattle.gs_wire.specs.Standing.{IsWritten};
+    ghost use Rattle.gs_wire.specs.Sections.{IsWritten};
 
     ghost view = { λ w. w.rpc };
 
