@@ -1,6 +1,6 @@
 -- What is proved of each kind of control message, and of control messages as a whole. A kind more needs a line or a lemma
 -- in each part of this file.
-use Rattle.std.proofs.Common.{◌≡◌, ℕ, ◌+◌, ◌<◌, ◌≤◌, ◌^◌, List, [], ◌∷◌, ◌++◌, length, Option, Some, None, refl, sym, ap, ◌∙◌, append_assoc, append-nil, arith, rules, inl, inr}
+use Rattle.std.proofs.Common.{◌≡◌, ℕ, ◌+◌, ◌<◌, ◌≤◌, ◌^◌, List, [], ◌∷◌, ◌++◌, length, map, Option, Some, None, refl, sym, ap, ◌∙◌, append_assoc, append-nil, arith, rules, inl, inr}
 use Rattle.std.specs.Prelude.{unwrap_or}
 use Rattle.std.specs.List.{AllZip, flat_map}
 use Rattle.gs_base.specs.declared.control.IHave.{IHave}
@@ -14,7 +14,7 @@ use Rattle.gs_wire.specs.declared.sections.Section.{Section}
 use Rattle.gs_wire.specs.declared.sections.Section.TheVariants.{Subscriptions, Messages, Offers, Requests, Grafts, Prunes}
 use Rattle.gs_wire.specs.Records.{Record, len_values, records_text}
 use Rattle.gs_wire.specs.Fields.{Spells, topic_of, number_of, topic_bytes, bytes_records, number_records, part_records}
-use Rattle.gs_wire.specs.Controls.{SaysControl, SaysGraft, SaysIHave, SaysIWant, SaysPrune, control_records, graft_records, ihave_records, iwant_records, joined_control, no_control, prune_records}
+use Rattle.gs_wire.specs.Controls.{all_control, SaysControl, SaysGraft, SaysIHave, SaysIWant, SaysPrune, control_records, graft_records, ihave_records, iwant_records, joined_control, no_control, prune_records}
 use Rattle.gs_wire.specs.Messages.{IsPrune, IsControl, sub_records, message_records}
 use Rattle.gs_wire.specs.Joining.{joined_rpc, joined_rpcs}
 use Rattle.gs_wire.specs.Gathering.{as_one}
@@ -225,13 +225,7 @@ by_lists : (o : Option Control) → unwrap_or o no_control ≡ record { ihave = 
 by_lists None = refl
 by_lists (Some c) = refl
 
--- all control messages are the lists of all, one after the other
-pub control_of_all : (vs : List Rpc)
-    → record {
-      ihave = flat_map (λ (v : Rpc). offers_in v.control) vs;
-      iwant = flat_map (λ (v : Rpc). requests_in v.control) vs;
-      graft = flat_map (λ (v : Rpc). grafts_in v.control) vs;
-      prune = flat_map (λ (v : Rpc). prunes_in v.control) vs;
-    } ≡ control_of (as_one (joined_rpcs vs))
-control_of_all vs =
-    rw (by_lists (as_one (joined_rpcs vs)).control, in_all offers_in refl (λ c d. refl) vs, in_all requests_in refl (λ c d. refl) vs, in_all grafts_in refl (λ c d. refl) vs, in_all prunes_in refl (λ c d. refl) vs) refl
+-- the control messages of all are the lists of all
+pub all_control_is : {A : Type 0} (rpc_of : A → Rpc) (xs : List A) → all_control rpc_of xs ≡ control_of (as_one (joined_rpcs (map rpc_of xs)))
+all_control_is rpc_of xs =
+    rw (by_lists (as_one (joined_rpcs (map rpc_of xs))).control, in_all offers_in refl (λ c d. refl) rpc_of xs, in_all requests_in refl (λ c d. refl) rpc_of xs, in_all grafts_in refl (λ c d. refl) rpc_of xs, in_all prunes_in refl (λ c d. refl) rpc_of xs) refl

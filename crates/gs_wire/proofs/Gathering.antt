@@ -124,14 +124,3 @@ copied_more {A} f vs i v below is =
 pub copied_room : {A : Type 0} (f : A → List ℕ) (vs : List A) (i : ℕ) (v : A) → i < length vs → v ≡ get_or vs i v → length (flat_map f (take i vs)) + length (f v) ≤ length (flat_map f vs)
 copied_room {A} f vs i v below is =
     omega (arith, length-flat_map-take f vs i v below, ap (λ (w : A). length (f w)) is)
-
--- ---- whether one has control messages
-
--- an RPC has control messages exactly where they have a length
-pub some_control : (o : Option Control) (n : ℕ) → Some n ≡ length_of_control o → Some (unwrap_or o no_control) ≡ o
-some_control None n is = absurd cc
-some_control (Some c) n is = refl
-
-pub none_control : (o : Option Control) → None ≡ length_of_control o → None ≡ o
-none_control None is = refl
-none_control (Some c) is = absurd cc

@@ -1,10 +1,12 @@
 -- The lists of RPCs that are joined: of all of them each list has what each one's has, in order.
-use Rattle.std.proofs.Common.{◌≡◌, List, [], ◌∷◌, ◌++◌, Option, Some, None, refl, sym, ap, ◌∙◌, append-nil, append_assoc}
+use Rattle.std.proofs.Common.{◌≡◌, List, [], ◌∷◌, ◌++◌, map, Option, Some, None, true, false, true≢false, refl, sym, ap, ◌∙◌, append-nil, append_assoc}
+use Rattle.std.specs.Prelude.{is_some, unwrap_or}
 use Rattle.std.specs.List.{flat_map}
+use Rattle.std.proofs.lemmas.List.Folds.{flat_map-map}
 use Rattle.gs_base.specs.declared.control.Control.{Control}
 use Rattle.gs_base.specs.declared.rpc.Rpc.{Rpc}
 use Rattle.gs_base.specs.Rpcs.{empty_rpc}
-use Rattle.gs_wire.specs.Controls.{joined_control}
+use Rattle.gs_wire.specs.Controls.{joined_control, no_control}
 use Rattle.gs_wire.specs.Joining.{joined_controls, joined_onto, joined_rpc, joined_rpcs, joined_to}
 use Rattle.gs_wire.specs.Gathering.{as_one}
 
@@ -29,16 +31,23 @@ in_both list nothing both (Some c) None = rw nothing (sym (append-nil (list (Som
 in_both list nothing both (Some c) (Some d) = both c d
 
 -- a list of all control messages
-pub in_all : {A : Type 0} (list : Option Control → List A) → list None ≡ [] → ((c d : Control) → list (Some (joined_control c d)) ≡ list (Some c) ++ list (Some d)) → (vs : List Rpc) → list (as_one (joined_rpcs vs)).control ≡ flat_map (λ (v : Rpc). list v.control) vs
-in_all list nothing both vs =
-    list-all (λ (v : Rpc). list v.control) (λ u v. in_both list nothing both u.control v.control) nothing vs
+pub in_all : {A B : Type 0} (list : Option Control → List A) → list None ≡ [] → ((c d : Control) → list (Some (joined_control c d)) ≡ list (Some c) ++ list (Some d)) → (rpc_of : B → Rpc) (xs : List B) → list (as_one (joined_rpcs (map rpc_of xs))).control ≡ flat_map (λ x. list (rpc_of x).control) xs
+in_all list nothing both rpc_of xs =
+    list-all (λ (v : Rpc). list v.control) (λ u v. in_both list nothing both u.control v.control) nothing (map rpc_of xs) ∙ flat_map-map (λ (v : Rpc). list v.control) rpc_of xs
 
 -- all of them as one RPC, which has the lists of all
-pub rpc_of_all : (vs : List Rpc)
+pub rpc_of_all : {A : Type 0} (rpc_of : A → Rpc) (xs : List A)
     → record {
-      subs = flat_map (λ (v : Rpc). v.subs) vs;
-      publish = flat_map (λ (v : Rpc). v.publish) vs;
-      control = (as_one (joined_rpcs vs)).control;
-    } ≡ as_one (joined_rpcs vs)
-rpc_of_all vs =
-    rw (← list-all (λ (v : Rpc). v.subs) (λ u v. refl) refl vs, ← list-all (λ (v : Rpc). v.publish) (λ u v. refl) refl vs) refl
+      subs = flat_map (λ x. (rpc_of x).subs) xs;
+      publish = flat_map (λ x. (rpc_of x).publish) xs;
+      control = (as_one (joined_rpcs (map rpc_of xs))).control;
+    } ≡ as_one (joined_rpcs (map rpc_of xs))
+rpc_of_all rpc_of xs =
+    let subs = list-all (λ (v : Rpc). v.subs) (λ u v. refl) refl (map rpc_of xs) ∙ flat_map-map (λ (v : Rpc). v.subs) rpc_of xs in
+    let publish = list-all (λ (v : Rpc). v.publish) (λ u v. refl) refl (map rpc_of xs) ∙ flat_map-map (λ (v : Rpc). v.publish) rpc_of xs in
+    rw (← subs, ← publish) refl
+
+-- where there are control messages, they are some
+pub some_control : (o : Option Control) → true ≡ is_some o → Some (unwrap_or o no_control) ≡ o
+some_control None is = absurd (true≢false is)
+some_control (Some c) is = refl
