@@ -6,9 +6,7 @@ use Rattle.gs_base.specs.declared.control.Control.{Control}
 use Rattle.gs_wire.specs.Records.{Record, SpellRecords}
 use Rattle.gs_wire.specs.Controls.{SaysControl, SaysMerged, joined, no_control}
 use Rattle.gs_wire.proofs.Zips.{AllZip-push, AllZip-split}
-
-pub none_says : SaysControl [] no_control
-none_says = record { ihave = tt; iwant = tt; graft = tt; prune = tt }
+use Rattle.gs_wire.proofs.ControlKinds.{none_says}
 
 joined-push : (lists : List (List Record)) (rs : List Record) → joined (lists ++ rs ∷ []) ≡ joined lists ++ rs
 joined-push lists rs = flat_map-append (λ (r : List Record). r) lists (rs ∷ []) ∙ ap (λ (t : List Record). joined lists ++ t) (append-nil rs)

@@ -1,110 +1,32 @@
 -- Every list of bytes is a stream: it is decided what bytes spell, and how a stream goes on.
-use Rattle.std.proofs.Common.{◌≡◌, ◌⊎◌, ℕ, zero, suc, ◌≤◌, List, [], ◌∷◌, ◌++◌, length, take, drop, Some, None, refl, sym, ap, subst, ◌∙◌, append_assoc, append-nil, take-append-drop, length-take, length-drop, arith, inl, inr}
-use Rattle.std.specs.List.{AllZip, AllByRecursion}
+use Rattle.std.proofs.Common.{◌≡◌, ◌⊎◌, ℕ, zero, suc, ◌≤◌, List, [], ◌∷◌, ◌++◌, length, take, drop, Some, None, refl, sym, ap, subst, ◌∙◌, append_assoc, take-append-drop, length-take, length-drop, arith, inl, inr}
+use Rattle.std.specs.List.{AllByRecursion}
 use Rattle.std.proofs.lemmas.Bool.{cases_lt}
 use Rattle.gs_base.specs.declared.rpc.Rpc.{Rpc}
 use Rattle.gs_wire.specs.declared.frames.End.{End}
 use Rattle.gs_wire.specs.declared.frames.End.TheVariants as ends
 use Rattle.gs_wire.specs.Varint.{IsVarint}
 use Rattle.gs_wire.specs.Records.{Record, SpellRecords, len_values}
-use Rattle.gs_wire.specs.Reading.{record_at, varint_at}
+use Rattle.gs_wire.specs.Reading.{varint_at}
 use Rattle.gs_wire.specs.Fields.{Spells}
-use Rattle.gs_wire.specs.Controls.{SaysIHave, SaysIWant, SaysGraft, SaysPrune, SaysControl, SaysMerged, joined}
+use Rattle.gs_wire.specs.Controls.{SaysControl, SaysMerged, joined}
 use Rattle.gs_wire.specs.Messages.{SaysSub, SaysMessage, SaysRpc, SpellsRpc}
 use Rattle.gs_wire.specs.Stream.{SpellsFrame, BeginsLength, HasLength, GoesOn, IsStream}
-use Rattle.gs_wire.proofs.RecordReading.{record_front, record_shorter}
-use Rattle.gs_wire.proofs.RecordLists.{one_list, records_after, records_stuck}
+use Rattle.gs_wire.proofs.RecordLists.{one_list}
 use Rattle.gs_wire.proofs.Zips.{AllZip-same}
 use Rattle.gs_wire.proofs.Parts.{sub_of, message_of}
-use Rattle.gs_wire.proofs.ControlParts.{ihave_of, iwant_of, graft_of, prune_of}
+use Rattle.gs_wire.proofs.Deciding.{Decided, part, records, zips}
+use Rattle.gs_wire.proofs.ControlKinds.{control_said}
 use Rattle.gs_wire.proofs.Lengths.{option_cases, length_found, length_shorter, no_length}
 use Rattle.gs_wire.proofs.FrameLists.{body_named}
 
--- some value is R of x, or none is
-abbrev Decided : {A B : Type 0} → (A → B → Type 0) → A → Type 0
-Decided {A} {B} R x = ((y : B) × R x y) ⊎ ((y : B) → ¬ (R x y))
-
--- ---- records
-
-records_upto : (fuel : ℕ) (bytes : List ℕ) → length bytes ≤ fuel → Decided SpellRecords bytes
-records_upto fuel [] few = inl ([], refl)
-records_upto zero (b ∷ bytes) few = absurd (omega arith)
-records_upto (suc fuel) (b ∷ bytes) few = elim (option_cases (record_at (b ∷ bytes))) [
-  | inl none ↦ inr (λ rs spelled. records_stuck rs (b ∷ bytes) (omega arith) none spelled)
-  | inr found ↦
-      let f = record_front (b ∷ bytes) found.0 found.1 in
-      elim (records_upto fuel found.0.1 (omega (arith, few, record_shorter (b ∷ bytes) found.0 found.1))) [
-        | inl more ↦ inl (found.0.0 ∷ more.0, (f.text, found.0.1, f.parts, f.has, more.1))
-        | inr none ↦
-            let first : SpellRecords f.text (found.0.0 ∷ []) = (f.text, [], sym (append-nil f.text), f.has, refl) in
-            inr (λ rs spelled. let after = records_after (found.0.0 ∷ []) rs f.text found.0.1 first (subst (λ (t : List ℕ). SpellRecords t rs) f.parts spelled) in none after.0 after.2)
-      ]
-]
-
-records : (bytes : List ℕ) → Decided SpellRecords bytes
-records bytes = records_upto (length bytes) bytes (omega arith)
-
--- a part whose value its records always give
-part : {V : Type 0} (Says : List Record → V → Type 0) (of : List Record → V) → ((rs : List Record) → Says rs (of rs)) → (bytes : List ℕ) → Decided (Spells Says) bytes
-part Says of says bytes = elim (records bytes) [
-  | inl h ↦ inl (of h.0, (h.0, h.1, says h.0))
-  | inr none ↦ inr (λ v spelled. none spelled.0 spelled.1)
-]
-
--- ---- lists
-
-zips : {A B : Type 0} (R : A → B → Type 0) → ((x : A) → Decided R x) → (xs : List A) → Decided (AllZip R) xs
-zips R one [] = inl ([], tt)
-zips {A} {B} R one (x ∷ xs) = elim (one x) [
-  | inr none ↦ inr (no_first none)
-  | inl first ↦ elim (zips R one xs) [
-    | inr none ↦ inr (no_more none)
-    | inl more ↦ inl (first.0 ∷ more.0, (first.1, more.1))
-  ]
-]
-  where
-    no_first : ((y : B) → ¬ (R x y)) → (ys : List B) → ¬ (AllZip R (x ∷ xs) ys)
-    no_first none [] h = absurd h
-    no_first none (y ∷ ys) h = none y h.0
-
-    no_more : ((ys : List B) → ¬ (AllZip R xs ys)) → (ys : List B) → ¬ (AllZip R (x ∷ xs) ys)
-    no_more none [] h = absurd h
-    no_more none (y ∷ ys) h = none ys h.1
-
 -- ---- control
-
-ihaves : (values : List (List ℕ)) → Decided (AllZip (Spells SaysIHave)) values
-ihaves values = zips (Spells SaysIHave) (part SaysIHave ihave_of (λ rs. refl)) values
-
-iwants : (values : List (List ℕ)) → Decided (AllZip (Spells SaysIWant)) values
-iwants values = zips (Spells SaysIWant) (part SaysIWant iwant_of (λ rs. refl)) values
-
-grafts : (values : List (List ℕ)) → Decided (AllZip (Spells SaysGraft)) values
-grafts values = zips (Spells SaysGraft) (part SaysGraft graft_of (λ rs. refl)) values
-
-prunes : (values : List (List ℕ)) → Decided (AllZip (Spells SaysPrune)) values
-prunes values = zips (Spells SaysPrune) (part SaysPrune prune_of (λ rs. refl)) values
-
-control : (rs : List Record) → Decided SaysControl rs
-control rs = elim (ihaves (len_values 1 rs)) [
-  | inr none ↦ inr (λ v h. none v.ihave h.ihave)
-  | inl ihave ↦ elim (iwants (len_values 2 rs)) [
-    | inr none ↦ inr (λ v h. none v.iwant h.iwant)
-    | inl iwant ↦ elim (grafts (len_values 3 rs)) [
-      | inr none ↦ inr (λ v h. none v.graft h.graft)
-      | inl graft ↦ elim (prunes (len_values 4 rs)) [
-        | inr none ↦ inr (λ v h. none v.prune h.prune)
-        | inl prune ↦ inl (record { ihave = ihave.0; iwant = iwant.0; graft = graft.0; prune = prune.0 }, record { ihave = ihave.1; iwant = iwant.1; graft = graft.1; prune = prune.1 })
-      ]
-    ]
-  ]
-]
 
 merged : (values : List (List ℕ)) → Decided SaysMerged values
 merged [] = inl (None, refl)
 merged (bytes ∷ values) = elim (zips SpellRecords records (bytes ∷ values)) [
   | inr none ↦ inr (λ c h. none h.1 h.3)
-  | inl lists ↦ elim (control (joined lists.0)) [
+  | inl lists ↦ elim (control_said (joined lists.0)) [
     | inl found ↦ inl (Some found.0, (found.0, lists.0, refl, lists.1, found.1))
     | inr none ↦ inr (λ c h. let same = AllZip-same SpellRecords (λ (t : List ℕ) (rs qs : List Record). one_list rs qs t) (bytes ∷ values) h.1 lists.0 h.3 lists.1 in none h.0 (subst (λ (ls : List (List Record)). SaysControl (joined ls) h.0) same h.4))
   ]

@@ -1,5 +1,5 @@
 -- RPCs that are gathered, and what is written for all of them.
-use Rattle.std.proofs.Common.{◌≡◌, ℕ, ◌+◌, ◌^◌, ◌<◌, ◌≤◌, List, [], ◌∷◌, ◌++◌, length, get_or, take, min, Option, Some, None, refl, sym, ap, subst, ◌∙◌, append-nil, append_assoc, arith}
+use Rattle.std.proofs.Common.{◌≡◌, ℕ, ◌+◌, ◌^◌, ◌<◌, ◌≤◌, List, [], ◌∷◌, ◌++◌, length, get_or, take, min, Option, Some, None, refl, sym, ap, subst, ◌∙◌, append-nil, arith}
 use Rattle.std.specs.Prelude.{◌==◌, is_none, option_map, unwrap_or}
 use Rattle.std.specs.List.{flat_map}
 use Rattle.std.proofs.Math.Dec.{eqb-suc-zero}
@@ -9,17 +9,17 @@ use Rattle.std.proofs.lemmas.List.Folds.{length-flat_map-take}
 use Rattle.std.proofs.lemmas.Option.{same_Some}
 use Rattle.gs_base.specs.declared.control.Control.{Control}
 use Rattle.gs_base.specs.declared.rpc.Rpc.{Rpc}
-use Rattle.gs_base.specs.Rpcs.{empty_rpc}
 use Rattle.gs_wire.specs.declared.sections.Section.{Section}
-use Rattle.gs_wire.specs.declared.sections.Section.TheVariants.{Subscriptions, Messages, Offers, Requests, Grafts, Prunes}
 use Rattle.gs_wire.specs.Varint.{varint}
 use Rattle.gs_wire.specs.Records.{records_text}
-use Rattle.gs_wire.specs.Controls.{control_records, no_control}
+use Rattle.gs_wire.specs.Controls.{control_records, joined_control, no_control}
 use Rattle.gs_wire.specs.Messages.{body, longest_body}
-use Rattle.gs_wire.specs.Joining.{joined_control, joined_controls, joined_onto, joined_rpc, joined_rpcs, joined_to}
+use Rattle.gs_wire.specs.Joining.{joined_controls, joined_onto, joined_rpc, joined_rpcs, joined_to}
 use Rattle.gs_wire.specs.Sections.{control_length, control_of, control_part, plain_length, section}
 use Rattle.gs_wire.specs.Gathering.{IsMeasured, as_one}
-use Rattle.gs_wire.proofs.SectionTexts.{body_length, control_length-both, control_part_length, control_part_text, length_of_control, plain_length-joined, section-joined}
+use Rattle.gs_wire.proofs.JoinedLists.{joined_to-as_one, list-all}
+use Rattle.gs_wire.proofs.ControlKinds.{control_length-both, section-empty, section-joined}
+use Rattle.gs_wire.proofs.SectionTexts.{body_length, control_part_length, control_part_text, length_of_control, plain_length-joined}
 use Rattle.gs_wire.proofs.Written.{varint_ten}
 
 -- ---- one RPC more
@@ -38,29 +38,7 @@ pub joined_some : (vs : List Rpc) → 0 < length vs → joined_rpcs vs ≡ Some 
 joined_some [] some = absurd (omega (arith, some))
 joined_some (v ∷ vs) some = onto_some v vs
 
--- what holds nothing yet says nothing
-pub joined_to-as_one : (held : Option Rpc) (v : Rpc) → joined_to held v ≡ joined_rpc (as_one held) v
-joined_to-as_one None v = refl
-joined_to-as_one (Some u) v = refl
-
 -- ---- the sections of all of them
-
-section-empty : (wanted : Section) → section wanted empty_rpc ≡ []
-section-empty Subscriptions = refl
-section-empty Messages = refl
-section-empty Offers = refl
-section-empty Requests = refl
-section-empty Grafts = refl
-section-empty Prunes = refl
-
--- what joining two RPCs appends, as a list, is of all of them each one's list in order
-list-onto : {A : Type 0} (list : Rpc → List A) → ((u v : Rpc) → list (joined_rpc u v) ≡ list u ++ list v) → (held : Option Rpc) (vs : List Rpc) → list (as_one (joined_onto held vs)) ≡ list (as_one held) ++ flat_map list vs
-list-onto list both held [] = sym (append-nil (list (as_one held)))
-list-onto {A} list both held (v ∷ vs) =
-    list-onto list both (Some (joined_to held v)) vs ∙ ap (λ (u : Rpc). list u ++ flat_map list vs) (joined_to-as_one held v) ∙ ap (λ (t : List A). t ++ flat_map list vs) (both (as_one held) v) ∙ append_assoc (list (as_one held)) (list v) (flat_map list vs)
-
-pub list-all : {A : Type 0} (list : Rpc → List A) → ((u v : Rpc) → list (joined_rpc u v) ≡ list u ++ list v) → list empty_rpc ≡ [] → (vs : List Rpc) → list (as_one (joined_rpcs vs)) ≡ flat_map list vs
-list-all {A} list both nothing vs = list-onto list both None vs ∙ ap (λ (t : List A). t ++ flat_map list vs) nothing
 
 pub section-all : (wanted : Section) (vs : List Rpc) → section wanted (as_one (joined_rpcs vs)) ≡ flat_map (section wanted) vs
 section-all wanted vs = list-all (section wanted) (section-joined wanted) (section-empty wanted) vs
@@ -137,12 +115,12 @@ recorded v n is = of_option v.control n is
 
 -- ---- what is copied
 
--- what is copied of the parts so far and the next one
-pub copied_more : (f : Rpc → List ℕ) (vs : List Rpc) (i : ℕ) (v : Rpc) → i < length vs → v ≡ get_or vs i v → flat_map f (take (i + 1) vs) ≡ flat_map f (take i vs) ++ f v
-copied_more f vs i v below is =
-    ap (flat_map f) (take_more vs i v below ∙ ap (λ (w : Rpc). take i vs ++ w ∷ []) (sym is)) ∙ flat_map-append f (take i vs) (v ∷ []) ∙ ap (λ (t : List ℕ). flat_map f (take i vs) ++ t) (append-nil (f v))
+-- what is copied of those so far and the next one
+pub copied_more : {A : Type 0} (f : A → List ℕ) (vs : List A) (i : ℕ) (v : A) → i < length vs → v ≡ get_or vs i v → flat_map f (take (i + 1) vs) ≡ flat_map f (take i vs) ++ f v
+copied_more {A} f vs i v below is =
+    ap (flat_map f) (take_more vs i v below ∙ ap (λ (w : A). take i vs ++ w ∷ []) (sym is)) ∙ flat_map-append f (take i vs) (v ∷ []) ∙ ap (λ (t : List ℕ). flat_map f (take i vs) ++ t) (append-nil (f v))
 
 -- it is no longer than what is copied of all
-pub copied_room : (f : Rpc → List ℕ) (vs : List Rpc) (i : ℕ) (v : Rpc) → i < length vs → v ≡ get_or vs i v → length (flat_map f (take i vs)) + length (f v) ≤ length (flat_map f vs)
-copied_room f vs i v below is =
-    omega (arith, length-flat_map-take f vs i v below, ap (λ (w : Rpc). length (f w)) is)
+pub copied_room : {A : Type 0} (f : A → List ℕ) (vs : List A) (i : ℕ) (v : A) → i < length vs → v ≡ get_or vs i v → length (flat_map f (take i vs)) + length (f v) ≤ length (flat_map f vs)
+copied_room {A} f vs i v below is =
+    omega (arith, length-flat_map-take f vs i v below, ap (λ (w : A). length (f w)) is)

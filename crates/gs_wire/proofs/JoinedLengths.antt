@@ -7,7 +7,8 @@ use Rattle.gs_wire.specs.Joining.{joined_controls, joined_rpc, joined_to}
 use Rattle.gs_wire.specs.Gathering.{IsMeasured, as_one}
 use Rattle.gs_wire.specs.Sections.{control_length_within, control_part, plain_length}
 use Rattle.gs_wire.proofs.SectionTexts.{body_length, control_part_length, length_of_control, plain_length-joined}
-use Rattle.gs_wire.proofs.Gathering.{exact_most, joined_to-as_one}
+use Rattle.gs_wire.proofs.JoinedLists.{joined_to-as_one}
+use Rattle.gs_wire.proofs.Gathering.{exact_most}
 
 -- a length up to a bound that it does not reach is exact
 most_exact : (o : Option Control) (len : Option ℕ) (most : ℕ) → len ≡ control_length_within most o → length (control_part o) < most → len ≡ length_of_control o

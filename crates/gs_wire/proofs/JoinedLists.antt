@@ -1,59 +1,53 @@
--- The lists of RPCs that are joined, one for each kind of part.
-use Rattle.std.proofs.Common.{◌≡◌, ℕ, List, [], ◌++◌, Option, Some, None, refl, sym, ap, append-nil}
-use Rattle.std.specs.Prelude.{unwrap_or}
+-- The lists of RPCs that are joined: of all of them each list has what each one's has, in order.
+use Rattle.std.proofs.Common.{◌≡◌, List, [], ◌∷◌, ◌++◌, map, Option, Some, None, true, false, true≢false, refl, sym, ap, ◌∙◌, append-nil, append_assoc}
+use Rattle.std.specs.Prelude.{is_some, unwrap_or}
 use Rattle.std.specs.List.{flat_map}
+use Rattle.std.proofs.lemmas.List.Folds.{flat_map-map}
 use Rattle.gs_base.specs.declared.control.Control.{Control}
 use Rattle.gs_base.specs.declared.rpc.Rpc.{Rpc}
-use Rattle.gs_base.specs.Rpcs.{grafts_in, offers_in, prunes_in, requests_in}
-use Rattle.gs_wire.specs.Controls.{no_control}
-use Rattle.gs_wire.specs.Joining.{joined_control, joined_controls, joined_rpcs}
+use Rattle.gs_base.specs.Rpcs.{empty_rpc}
+use Rattle.gs_wire.specs.Controls.{joined_control, no_control}
+use Rattle.gs_wire.specs.Joining.{joined_controls, joined_onto, joined_rpc, joined_rpcs, joined_to}
 use Rattle.gs_wire.specs.Gathering.{as_one}
-use Rattle.gs_wire.specs.Sections.{control_of}
-use Rattle.gs_wire.proofs.SectionTexts.{length_of_control}
-use Rattle.gs_wire.proofs.Gathering.{list-all}
+
+-- what holds nothing yet says nothing
+pub joined_to-as_one : (held : Option Rpc) (v : Rpc) → joined_to held v ≡ joined_rpc (as_one held) v
+joined_to-as_one None v = refl
+joined_to-as_one (Some u) v = refl
+
+-- what joining two RPCs appends, as a list, is of all of them each one's list in order
+list-onto : {A : Type 0} (list : Rpc → List A) → ((u v : Rpc) → list (joined_rpc u v) ≡ list u ++ list v) → (held : Option Rpc) (vs : List Rpc) → list (as_one (joined_onto held vs)) ≡ list (as_one held) ++ flat_map list vs
+list-onto list both held [] = sym (append-nil (list (as_one held)))
+list-onto {A} list both held (v ∷ vs) =
+    list-onto list both (Some (joined_to held v)) vs ∙ ap (λ (u : Rpc). list u ++ flat_map list vs) (joined_to-as_one held v) ∙ ap (λ (t : List A). t ++ flat_map list vs) (both (as_one held) v) ∙ append_assoc (list (as_one held)) (list v) (flat_map list vs)
+
+pub list-all : {A : Type 0} (list : Rpc → List A) → ((u v : Rpc) → list (joined_rpc u v) ≡ list u ++ list v) → list empty_rpc ≡ [] → (vs : List Rpc) → list (as_one (joined_rpcs vs)) ≡ flat_map list vs
+list-all {A} list both nothing vs = list-onto list both None vs ∙ ap (λ (t : List A). t ++ flat_map list vs) nothing
 
 -- a list of both control messages
-in_both : {A : Type 0} (list : Option Control → List A) → list None ≡ [] → ((c d : Control) → list (Some (joined_control c d)) ≡ list (Some c) ++ list (Some d)) → (o p : Option Control) → list (joined_controls o p) ≡ list o ++ list p
+pub in_both : {A : Type 0} (list : Option Control → List A) → list None ≡ [] → ((c d : Control) → list (Some (joined_control c d)) ≡ list (Some c) ++ list (Some d)) → (o p : Option Control) → list (joined_controls o p) ≡ list o ++ list p
 in_both {A} list nothing both None p = ap (λ (t : List A). t ++ list p) (sym nothing)
 in_both list nothing both (Some c) None = rw nothing (sym (append-nil (list (Some c))))
 in_both list nothing both (Some c) (Some d) = both c d
 
 -- a list of all control messages
-in_all : {A : Type 0} (list : Option Control → List A) → list None ≡ [] → ((c d : Control) → list (Some (joined_control c d)) ≡ list (Some c) ++ list (Some d)) → (vs : List Rpc) → list (as_one (joined_rpcs vs)).control ≡ flat_map (λ (v : Rpc). list v.control) vs
-in_all list nothing both vs =
-    list-all (λ (v : Rpc). list v.control) (λ u v. in_both list nothing both u.control v.control) nothing vs
-
--- control messages by their lists
-by_lists : (o : Option Control) → unwrap_or o no_control ≡ record { ihave = offers_in o; iwant = requests_in o; graft = grafts_in o; prune = prunes_in o }
-by_lists None = refl
-by_lists (Some c) = refl
-
--- all control messages are the lists of all, one after the other
-pub control_of_all : (vs : List Rpc)
-    → record {
-      ihave = flat_map (λ (v : Rpc). offers_in v.control) vs;
-      iwant = flat_map (λ (v : Rpc). requests_in v.control) vs;
-      graft = flat_map (λ (v : Rpc). grafts_in v.control) vs;
-      prune = flat_map (λ (v : Rpc). prunes_in v.control) vs;
-    } ≡ control_of (as_one (joined_rpcs vs))
-control_of_all vs =
-    rw (by_lists (as_one (joined_rpcs vs)).control, in_all offers_in refl (λ c d. refl) vs, in_all requests_in refl (λ c d. refl) vs, in_all grafts_in refl (λ c d. refl) vs, in_all prunes_in refl (λ c d. refl) vs) refl
-
--- an RPC has control messages exactly where they have a length
-pub some_control : (o : Option Control) (n : ℕ) → Some n ≡ length_of_control o → Some (unwrap_or o no_control) ≡ o
-some_control None n is = absurd cc
-some_control (Some c) n is = refl
-
-pub none_control : (o : Option Control) → None ≡ length_of_control o → None ≡ o
-none_control None is = refl
-none_control (Some c) is = absurd cc
+pub in_all : {A B : Type 0} (list : Option Control → List A) → list None ≡ [] → ((c d : Control) → list (Some (joined_control c d)) ≡ list (Some c) ++ list (Some d)) → (rpc_of : B → Rpc) (xs : List B) → list (as_one (joined_rpcs (map rpc_of xs))).control ≡ flat_map (λ x. list (rpc_of x).control) xs
+in_all list nothing both rpc_of xs =
+    list-all (λ (v : Rpc). list v.control) (λ u v. in_both list nothing both u.control v.control) nothing (map rpc_of xs) ∙ flat_map-map (λ (v : Rpc). list v.control) rpc_of xs
 
 -- all of them as one RPC, which has the lists of all
-pub rpc_of_all : (vs : List Rpc)
+pub rpc_of_all : {A : Type 0} (rpc_of : A → Rpc) (xs : List A)
     → record {
-      subs = flat_map (λ (v : Rpc). v.subs) vs;
-      publish = flat_map (λ (v : Rpc). v.publish) vs;
-      control = (as_one (joined_rpcs vs)).control;
-    } ≡ as_one (joined_rpcs vs)
-rpc_of_all vs =
-    rw (← list-all (λ (v : Rpc). v.subs) (λ u v. refl) refl vs, ← list-all (λ (v : Rpc). v.publish) (λ u v. refl) refl vs) refl
+      subs = flat_map (λ x. (rpc_of x).subs) xs;
+      publish = flat_map (λ x. (rpc_of x).publish) xs;
+      control = (as_one (joined_rpcs (map rpc_of xs))).control;
+    } ≡ as_one (joined_rpcs (map rpc_of xs))
+rpc_of_all rpc_of xs =
+    let subs = list-all (λ (v : Rpc). v.subs) (λ u v. refl) refl (map rpc_of xs) ∙ flat_map-map (λ (v : Rpc). v.subs) rpc_of xs in
+    let publish = list-all (λ (v : Rpc). v.publish) (λ u v. refl) refl (map rpc_of xs) ∙ flat_map-map (λ (v : Rpc). v.publish) rpc_of xs in
+    rw (← subs, ← publish) refl
+
+-- where there are control messages, they are some
+pub some_control : (o : Option Control) → true ≡ is_some o → Some (unwrap_or o no_control) ≡ o
+some_control None is = absurd (true≢false is)
+some_control (Some c) is = refl

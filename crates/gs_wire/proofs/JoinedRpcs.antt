@@ -3,26 +3,24 @@ use Rattle.std.proofs.Common.{◌≡◌, ℕ, ◌+◌, ◌≤◌, List, [], ◌�
 use Rattle.std.specs.Prelude.{option_to_list, ◌↔◌}
 use Rattle.std.specs.List.{concat}
 use Rattle.std.proofs.lemmas.Grind.{flat_map-append}
-use Rattle.std.proofs.lemmas.List.{map-append}
 use Rattle.std.proofs.lemmas.Option.{none-some}
 use Rattle.gs_base.specs.declared.control.Control.{Control}
 use Rattle.gs_base.specs.declared.rpc.Rpc.{Rpc}
-use Rattle.gs_wire.specs.Records.{Record, SpellRecords, len_values, record_text, records_text}
+use Rattle.gs_wire.specs.Records.{SpellRecords, len_values, record_text, records_text}
 use Rattle.gs_wire.specs.Fields.{Spells, len_record, part_records}
-use Rattle.gs_wire.specs.Controls.{SaysIHave, SaysIWant, SaysGraft, SaysPrune, SaysControl, SaysMerged, joined, ihave_records, iwant_records, graft_records, prune_records, control_records}
+use Rattle.gs_wire.specs.Controls.{SaysMerged, control_records, joined, joined_control}
 use Rattle.gs_wire.specs.Messages.{SaysSub, SaysMessage, SpellsRpc, IsInMemory, sub_records, message_records, body}
-use Rattle.gs_wire.specs.Joining.{joined_control, joined_controls, joined_rpc, joined_to, joined_options, joined_onto, joined_rpcs}
+use Rattle.gs_wire.specs.Joining.{joined_controls, joined_rpc, joined_to, joined_options, joined_onto, joined_rpcs}
 use Rattle.gs_wire.proofs.Zips.{AllZip-append}
 use Rattle.gs_wire.proofs.RecordLists.{records_append}
 use Rattle.gs_wire.proofs.RoundTrip.{values-append}
 use Rattle.gs_wire.proofs.RpcRoundTrip.{body_spelled}
-use Rattle.gs_wire.proofs.Written.{records_text-single, sum_text}
-use Rattle.gs_wire.proofs.Shorter.{len_shorter, joined_record}
+use Rattle.gs_wire.proofs.Written.{part_length-append, records_text-single, sum_text}
+use Rattle.gs_wire.proofs.ShorterFields.{len_shorter}
+use Rattle.gs_wire.proofs.Shorter.{joined_record}
+use Rattle.gs_wire.proofs.ControlKinds.{control_grouping, control_length-both, control_says_both}
 
 -- ---- in any grouping
-
-control_grouping : (b c d : Control) → joined_control (joined_control b c) d ≡ joined_control b (joined_control c d)
-control_grouping b c d = rw (append_assoc b.ihave c.ihave d.ihave, append_assoc b.iwant c.iwant d.iwant, append_assoc b.graft c.graft d.graft, append_assoc b.prune c.prune d.prune) refl
 
 controls_grouping : (b c d : Option Control) → joined_controls (joined_controls b c) d ≡ joined_controls b (joined_controls c d)
 controls_grouping None c d = refl
@@ -91,14 +89,6 @@ rpcs_absent (v ∷ vs) = (λ e. absurd (never_absent v vs e), λ e. absurd (omeg
 
 -- ---- what spells joined RPCs
 
-control_says_both : (rs qs : List Record) (c d : Control) → SaysControl rs c → SaysControl qs d → SaysControl (rs ++ qs) (joined_control c d)
-control_says_both rs qs c d h k = record {
-  ihave = rw (values-append 1 rs qs) (AllZip-append (Spells SaysIHave) (len_values 1 rs) c.ihave (len_values 1 qs) d.ihave h.ihave k.ihave);
-  iwant = rw (values-append 2 rs qs) (AllZip-append (Spells SaysIWant) (len_values 2 rs) c.iwant (len_values 2 qs) d.iwant h.iwant k.iwant);
-  graft = rw (values-append 3 rs qs) (AllZip-append (Spells SaysGraft) (len_values 3 rs) c.graft (len_values 3 qs) d.graft h.graft k.graft);
-  prune = rw (values-append 4 rs qs) (AllZip-append (Spells SaysPrune) (len_values 4 rs) c.prune (len_values 4 qs) d.prune h.prune k.prune);
-}
-
 merged_both : (xs ys : List (List ℕ)) (c d : Option Control) → SaysMerged xs c → SaysMerged ys d → SaysMerged (xs ++ ys) (joined_controls c d)
 merged_both [] ys c d h k = rw h k
 merged_both (x ∷ xs) [] c d (v, lists, is, spelled, says) k = rw (append-nil xs, is, k) (v, lists, refl, spelled, says)
@@ -126,33 +116,6 @@ both_bodies_spelled v w fits fits' = both_spelled (body v) (body w) v w (body_sp
 
 -- ---- how long they are
 
--- the parts of two lists
-parts_sum : {V : Type 0} (records_of : V → List Record) (field : ℕ) (vs ws : List V) → length (records_text (part_records records_of field (vs ++ ws))) ≡ length (records_text (part_records records_of field vs)) + length (records_text (part_records records_of field ws))
-parts_sum records_of field vs ws =
-    ap (λ (t : List Record). length (records_text t)) (map-append (λ v. len_record field (records_text (records_of v))) vs ws) ∙ sum_text (part_records records_of field vs) (part_records records_of field ws)
-
--- control messages, part by part
-control_sum : (c : Control) → length (records_text (control_records c)) ≡ length (records_text (part_records ihave_records 1 c.ihave)) + length (records_text (part_records iwant_records 2 c.iwant)) + length (records_text (part_records graft_records 3 c.graft)) + length (records_text (part_records prune_records 4 c.prune))
-control_sum c =
-    let A = part_records ihave_records 1 c.ihave in
-    let B = part_records iwant_records 2 c.iwant in
-    let C = part_records graft_records 3 c.graft in
-    let D = part_records prune_records 4 c.prune in
-    omega (arith, sum_text (A ++ B ++ C) D, sum_text (A ++ B) C, sum_text A B)
-
-pub both_controls : (c d : Control) → length (records_text (control_records (joined_control c d))) ≡ length (records_text (control_records c)) + length (records_text (control_records d))
-both_controls c d =
-    omega (
-      arith,
-      control_sum (joined_control c d),
-      control_sum c,
-      control_sum d,
-      parts_sum ihave_records 1 c.ihave d.ihave,
-      parts_sum iwant_records 2 c.iwant d.iwant,
-      parts_sum graft_records 3 c.graft d.graft,
-      parts_sum prune_records 4 c.prune d.prune,
-    )
-
 -- one record of both isn't longer than one of each
 abbrev controls_text : Option Control → List ℕ
 controls_text c = records_text (part_records control_records 3 (option_to_list c))
@@ -164,7 +127,7 @@ controls_shorter (Some c) (Some d) =
     let one = records_text (control_records c) in
     let other = records_text (control_records d) in
     let both = records_text (control_records (joined_control c d)) in
-    let len : length both ≤ length (concat (one ∷ other ∷ [])) = omega (arith, both_controls c d, length-append one (other ++ []), length-append other []) in
+    let len : length both ≤ length (concat (one ∷ other ∷ [])) = omega (arith, control_length-both c d, length-append one (other ++ []), length-append other []) in
     omega (
       arith,
       len_shorter 3 both (concat (one ∷ other ∷ [])) len,
@@ -187,7 +150,7 @@ joined_body_shorter v w =
       body_sum (joined_rpc v w),
       body_sum v,
       body_sum w,
-      parts_sum sub_records 1 v.subs w.subs,
-      parts_sum message_records 2 v.publish w.publish,
+      part_length-append sub_records 1 v.subs w.subs,
+      part_length-append message_records 2 v.publish w.publish,
       controls_shorter v.control w.control,
     )

@@ -8,13 +8,16 @@ pub mod RecordLists
 pub mod FieldValues
 pub mod Zips
 pub mod Parts
-pub mod ControlParts
+pub mod Written
+pub mod Lengths
+pub mod Deciding
+pub mod RoundTrip
+pub mod ShorterFields
+pub mod JoinedLists
+pub mod ControlKinds
 pub mod Controls
 pub mod Rpcs
-pub mod Written
-pub mod RoundTrip
 pub mod RpcRoundTrip
-pub mod Lengths
 pub mod FrameLists
 pub mod Shorter
 pub mod SentOn
@@ -23,5 +26,4 @@ pub mod EveryStream
 pub mod JoinedRpcs
 pub mod SectionTexts
 pub mod Gathering
-pub mod JoinedLists
 pub mod JoinedLengths

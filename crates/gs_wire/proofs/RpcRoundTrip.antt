@@ -4,64 +4,21 @@ use Rattle.std.specs.Prelude.{IfSome, option_to_list}
 use Rattle.std.specs.List.{AllByRecursion}
 use Rattle.std.proofs.lemmas.List.{take_at, drop_at}
 use Rattle.std.proofs.lemmas.Option.{some_pair_parts}
-use Rattle.gs_base.specs.declared.control.IHave.{IHave}
-use Rattle.gs_base.specs.declared.control.IWant.{IWant}
-use Rattle.gs_base.specs.declared.control.Graft.{Graft}
-use Rattle.gs_base.specs.declared.control.Prune.{Prune}
 use Rattle.gs_base.specs.declared.control.Control.{Control}
 use Rattle.gs_base.specs.declared.rpc.Rpc.{Rpc}
 use Rattle.gs_wire.specs.Varint.{varint}
 use Rattle.gs_wire.specs.Reading.{varint_at}
 use Rattle.gs_wire.specs.Records.{records_text}
-use Rattle.gs_wire.specs.Fields.{Spells, len_record, bytes_records, topic_bytes, number_records, part_records}
-use Rattle.gs_wire.specs.Controls.{SaysIHave, SaysIWant, SaysGraft, SaysPrune, SaysControl, SaysMerged, ihave_records, iwant_records, graft_records, prune_records, control_records}
-use Rattle.gs_wire.specs.Messages.{SaysSub, SaysMessage, SpellsRpc, sub_records, message_records, rpc_records, body, frame, IsPrune, IsControl, IsInMemory}
+use Rattle.gs_wire.specs.Fields.{len_record, part_records}
+use Rattle.gs_wire.specs.Controls.{SaysMerged, control_records}
+use Rattle.gs_wire.specs.Messages.{SaysSub, SaysMessage, SpellsRpc, sub_records, message_records, rpc_records, body, frame, IsControl, IsInMemory}
 use Rattle.gs_wire.proofs.Varints.{written_varint, varint_read}
 use Rattle.gs_wire.proofs.Rpcs.{one_rpc}
+use Rattle.gs_wire.proofs.ControlKinds.{control_says}
 use Rattle.gs_wire.proofs.Written.{records_text-single, len_text-length, sum_text}
-use Rattle.gs_wire.proofs.RoundTrip.{IsWritable, all-append, bytes_writable, number_writable, repeated_writable, parts_writable, records_spelled, values-append, numbers-append, bytes_values, number_values, no_bytes, no_numbers, part_values, repeated_values, last_own, last_number_own, own_topic, parts_spelled, Any, all_any, sub_spelled, message_spelled}
+use Rattle.gs_wire.proofs.RoundTrip.{IsWritable, all-append, parts_writable, records_spelled, values-append, part_values, parts_spelled, Any, all_any, sub_spelled, message_spelled}
 
--- ---- the parts of a control message
-
-ihave_spelled : (v : IHave) → Any v → length (records_text (ihave_records v)) < 2 ^ 64 → Spells SaysIHave (records_text (ihave_records v)) v
-ihave_spelled v any small = (
-  ihave_records v,
-  records_spelled (ihave_records v) (search (rules, all-append, bytes_writable, repeated_writable)) small,
-  sym (simp (values-append, bytes_values, repeated_values, append-nil, last_own, own_topic) refl),
-)
-
-iwant_spelled : (v : IWant) → Any v → length (records_text (iwant_records v)) < 2 ^ 64 → Spells SaysIWant (records_text (iwant_records v)) v
-iwant_spelled v any small = (
-  iwant_records v,
-  records_spelled (iwant_records v) (search (rules, repeated_writable)) small,
-  sym (simp repeated_values refl),
-)
-
-graft_spelled : (v : Graft) → Any v → length (records_text (graft_records v)) < 2 ^ 64 → Spells SaysGraft (records_text (graft_records v)) v
-graft_spelled v any small = (
-  graft_records v,
-  records_spelled (graft_records v) (search (rules, bytes_writable)) small,
-  sym (simp (bytes_values, last_own, own_topic) refl),
-)
-
-prune_spelled : (v : Prune) → IsPrune v → length (records_text (prune_records v)) < 2 ^ 64 → Spells SaysPrune (records_text (prune_records v)) v
-prune_spelled v fits small = (
-  prune_records v,
-  records_spelled (prune_records v) (all-append IsWritable (bytes_records 1 (topic_bytes v.topic)) (number_records 3 v.backoff) (bytes_writable 1 (topic_bytes v.topic) (omega arith) (omega arith)) (number_writable 3 v.backoff fits (omega arith) (omega arith))) small,
-  sym (simp (values-append, numbers-append, bytes_values, number_values, no_bytes, no_numbers, append-nil, last_own, last_number_own, own_topic) refl),
-)
-
--- ---- a control message
-
-control_says : (v : Control) → IsControl v → length (records_text (control_records v)) < 2 ^ 64 → SaysControl (control_records v) v
-control_says v fits small =
-    let few = simp sum_text at small in
-    record {
-      ihave = simp (values-append, part_values, append-nil) (parts_spelled SaysIHave Any ihave_records 1 v.ihave (omega arith) ihave_spelled (all_any v.ihave) (omega (arith, few)));
-      iwant = simp (values-append, part_values, append-nil) (parts_spelled SaysIWant Any iwant_records 2 v.iwant (omega arith) iwant_spelled (all_any v.iwant) (omega (arith, few)));
-      graft = simp (values-append, part_values, append-nil) (parts_spelled SaysGraft Any graft_records 3 v.graft (omega arith) graft_spelled (all_any v.graft) (omega (arith, few)));
-      prune = simp (values-append, part_values, append-nil) (parts_spelled SaysPrune IsPrune prune_records 4 v.prune (omega arith) prune_spelled fits (omega (arith, few)));
-    }
+-- ---- control messages, which are one record
 
 control_writable : (v : Control) → AllByRecursion IsWritable (control_records v)
 control_writable v = search (rules, all-append, parts_writable)

@@ -1,38 +1,17 @@
 -- Bytes spell one RPC at most.
 use Rattle.std.proofs.Common.{◌≡◌, ℕ, List, [], ◌∷◌, Option, Some, sym, ap, subst, ◌∙◌}
-use Rattle.gs_base.specs.declared.control.IHave.{IHave}
-use Rattle.gs_base.specs.declared.control.IWant.{IWant}
-use Rattle.gs_base.specs.declared.control.Graft.{Graft}
-use Rattle.gs_base.specs.declared.control.Prune.{Prune}
 use Rattle.gs_base.specs.declared.control.Control.{Control}
 use Rattle.gs_base.specs.declared.rpc.SubOpt.{SubOpt}
 use Rattle.gs_base.specs.declared.rpc.Message.{Message}
 use Rattle.gs_base.specs.declared.rpc.Rpc.{Rpc}
 use Rattle.gs_wire.specs.Records.{Record, SpellRecords, len_values}
 use Rattle.gs_wire.specs.Fields.{Spells}
-use Rattle.gs_wire.specs.Controls.{SaysIHave, SaysIWant, SaysGraft, SaysPrune, SaysControl, SaysMerged, joined}
+use Rattle.gs_wire.specs.Controls.{SaysControl, SaysMerged, joined}
 use Rattle.gs_wire.specs.Messages.{SaysSub, SaysMessage, SaysRpc, SpellsRpc}
 use Rattle.gs_wire.proofs.RecordLists.{one_list}
 use Rattle.gs_wire.proofs.Zips.{AllZip-same}
-use Rattle.gs_wire.proofs.Parts.{sub_of, message_of}
-use Rattle.gs_wire.proofs.ControlParts.{ihave_of, iwant_of, graft_of, prune_of}
-
--- ---- bytes spell one RPC at most
-
--- a part that is what records say of it
-one_said : {V : Type 0} (said : List Record → V) (bytes : List ℕ) (v w : V) → Spells (λ rs x. x ≡ said rs) bytes v → Spells (λ rs x. x ≡ said rs) bytes w → v ≡ w
-one_said said bytes v w p q = p.2 ∙ ap said (one_list p.0 q.0 bytes p.1 q.1) ∙ sym q.2
-
-same_control : (rs : List Record) (v w : Control) → SaysControl rs v → SaysControl rs w → v ≡ w
-same_control rs v w p q =
-    let ihave = AllZip-same (Spells SaysIHave) (one_said ihave_of) (len_values 1 rs) v.ihave w.ihave p.ihave q.ihave in
-    let iwant = AllZip-same (Spells SaysIWant) (one_said iwant_of) (len_values 2 rs) v.iwant w.iwant p.iwant q.iwant in
-    let graft = AllZip-same (Spells SaysGraft) (one_said graft_of) (len_values 3 rs) v.graft w.graft p.graft q.graft in
-    let prune = AllZip-same (Spells SaysPrune) (one_said prune_of) (len_values 4 rs) v.prune w.prune p.prune q.prune in
-    ap (λ (x : List IHave). record v { ihave = x }) ihave
-    ∙ ap (λ (x : List IWant). record v { ihave = w.ihave; iwant = x }) iwant
-    ∙ ap (λ (x : List Graft). record w { graft = x; prune = v.prune }) graft
-    ∙ ap (λ (x : List Prune). record w { prune = x }) prune
+use Rattle.gs_wire.proofs.Parts.{sub_of, message_of, one_said}
+use Rattle.gs_wire.proofs.ControlKinds.{same_control}
 
 same_merged : (values : List (List ℕ)) (c d : Option Control) → SaysMerged values c → SaysMerged values d → c ≡ d
 same_merged [] c d p q = p ∙ sym q

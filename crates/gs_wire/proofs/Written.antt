@@ -2,12 +2,12 @@
 use Rattle.std.proofs.Common.{◌≡◌, ℕ, ◌+◌, ◌*◌, ◌<◌, ◌≤◌, List, [], ◌∷◌, ◌++◌, length, map, take, get_or, min, Some, None, ap, ◌∙◌, append-nil, length-append, arith, inl, inr}
 use Rattle.std.proofs.lemmas.Bool.{cases_lt}
 use Rattle.std.proofs.lemmas.Grind.{flat_map-append}
-use Rattle.std.proofs.lemmas.List.{take_more, map_push}
+use Rattle.std.proofs.lemmas.List.{map-append, take_more, map_push}
 use Rattle.std.proofs.lemmas.List.Folds.{flat_map-map, length-flat_map-take}
 use Rattle.gs_base.specs.declared.names.Topic.{Topic}
 use Rattle.gs_wire.specs.Varint.{varint}
 use Rattle.gs_wire.specs.Records.{Record, record_text, records_text}
-use Rattle.gs_wire.specs.Fields.{len_record, varint_record, number_records, bytes_records}
+use Rattle.gs_wire.specs.Fields.{len_record, varint_record, number_records, bytes_records, part_records}
 use Rattle.gs_wire.specs.Messages.{message_records, body}
 use Rattle.gs_base.specs.Rpcs.{publication}
 use Rattle.gs_wire.proofs.Varints.{varint_small, written_len}
@@ -79,3 +79,15 @@ publication_text topic payload =
     let text : records_text (message_records (record { origin = None; payload = Some payload; seqno = None; topic = Some topic; signature = None; key = None })) ≡ record_text (len_record 2 payload) ++ record_text (len_record 4 topic.0) = ap (λ (t : List ℕ). record_text (len_record 2 payload) ++ t) (append-nil (record_text (len_record 4 topic.0))) in
     let message : List ℕ = records_text (message_records (record { origin = None; payload = Some payload; seqno = None; topic = Some topic; signature = None; key = None })) in
     records_text-single (len_record 2 message) ∙ ap (λ (t : List ℕ). record_text (len_record 2 t)) text
+
+-- ---- the parts of two lists
+
+-- the records of the parts of both
+pub part_text-append : {V : Type 0} (records_of : V → List Record) (field : ℕ) (vs ws : List V) → records_text (part_records records_of field (vs ++ ws)) ≡ records_text (part_records records_of field vs) ++ records_text (part_records records_of field ws)
+part_text-append {V} records_of field vs ws =
+    let one = λ (v : V). len_record field (records_text (records_of v)) in
+    ap records_text (map-append one vs ws) ∙ records_text-append (map one vs) (map one ws)
+
+-- how long the records of the parts of both are
+pub part_length-append : {V : Type 0} (records_of : V → List Record) (field : ℕ) (vs ws : List V) → length (records_text (part_records records_of field (vs ++ ws))) ≡ length (records_text (part_records records_of field vs)) + length (records_text (part_records records_of field ws))
+part_length-append records_of field vs ws = ap length (part_text-append records_of field vs ws) ∙ length-append (records_text (part_records records_of field vs)) (records_text (part_records records_of field ws))

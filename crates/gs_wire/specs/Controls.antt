@@ -7,6 +7,8 @@ use Rattle.gs_base.specs.declared.control.IWant.{IWant}
 use Rattle.gs_base.specs.declared.control.Graft.{Graft}
 use Rattle.gs_base.specs.declared.control.Prune.{Prune}
 use Rattle.gs_base.specs.declared.control.Control.{Control}
+use Rattle.gs_base.specs.declared.rpc.Rpc.{Rpc}
+use Rattle.gs_base.specs.Rpcs.{grafts_in, offers_in, prunes_in, requests_in}
 use Rattle.gs_wire.specs.Records.{Record, SpellRecords, len_values}
 use Rattle.gs_wire.specs.Fields.{Spells, topic_of, number_of, topic_bytes, bytes_records, number_records, repeated_records, part_records}
 
@@ -68,3 +70,23 @@ control_records v =
     ++ part_records iwant_records 2 v.iwant
     ++ part_records graft_records 3 v.graft
     ++ part_records prune_records 4 v.prune
+
+-- ---- several that are joined
+
+-- what two say, list by list
+abbrev pub joined_control : Control → Control → Control
+joined_control c d = record {
+  ihave = c.ihave ++ d.ihave;
+  iwant = c.iwant ++ d.iwant;
+  graft = c.graft ++ d.graft;
+  prune = c.prune ++ d.prune;
+}
+
+-- what all of these say, list by list, where each has an RPC
+abbrev pub all_control : {A : Type 0} → (A → Rpc) → List A → Control
+all_control rpc_of xs = record {
+  ihave = flat_map (λ x. offers_in (rpc_of x).control) xs;
+  iwant = flat_map (λ x. requests_in (rpc_of x).control) xs;
+  graft = flat_map (λ x. grafts_in (rpc_of x).control) xs;
+  prune = flat_map (λ x. prunes_in (rpc_of x).control) xs;
+}

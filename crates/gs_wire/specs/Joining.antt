@@ -2,15 +2,7 @@
 use Rattle.std.specs.Prelude.{◌++◌, List, [], ◌∷◌, Option, Some, None}
 use Rattle.gs_base.specs.declared.control.Control.{Control}
 use Rattle.gs_base.specs.declared.rpc.Rpc.{Rpc}
-
--- what both say of meshes and of messages, list by list
-abbrev pub joined_control : Control → Control → Control
-joined_control c d = record {
-  ihave = c.ihave ++ d.ihave;
-  iwant = c.iwant ++ d.iwant;
-  graft = c.graft ++ d.graft;
-  prune = c.prune ++ d.prune;
-}
+use Rattle.gs_wire.specs.Controls.{joined_control}
 
 -- the control messages of both, which are absent where neither has any
 abbrev pub joined_controls : Option Control → Option Control → Option Control

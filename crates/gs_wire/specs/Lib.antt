@@ -10,5 +10,4 @@ pub mod Stream
 pub mod Codec
 pub mod Joining
 pub mod Sections
-pub mod Standing
 pub mod Gathering

@@ -1,17 +1,15 @@
 //! RPCs that are gathered to go out as one.
 ghost use Rattle.std.specs.Prelude.{◌≡◌, ◌≤◌, ◌+◌, ◌++◌, None, Some, Ok, true, false, IfOk, IfSome, OnOk, OnErr, option_map, length, vec_len, vec_capacity};
+ghost use Rattle.std.specs.List.{flat_map};
 ghost use Rattle.gs_base.specs.declared.rpc.Rpc.{Rpc as RpcValue};
 ghost use Rattle.gs_wire.specs.Codec.{codec};
-ghost use Rattle.gs_wire.specs.Controls.{control_records};
 ghost use Rattle.gs_wire.specs.Gathering.{as_one};
 ghost use Rattle.gs_wire.specs.Joining.{joined_rpc, joined_rpcs, joined_to};
 ghost use Rattle.gs_wire.specs.Messages.{frame, longest_body};
-ghost use Rattle.gs_wire.specs.Records.{records_text};
-ghost use Rattle.gs_wire.specs.Sections.{control_length, control_of, control_part, section};
+ghost use Rattle.gs_wire.specs.Sections.{control_length, control_part, section};
 
 use crate::encoding::put_len;
-use crate::field;
-use crate::rpc::{MAX_BODY, control_record_len};
+use crate::rpc::{MAX_BODY, RPC_CONTROL, control_record_len};
 use crate::sections::{Section, WrittenRpc};
 use crate::varint::{put_varint, varint_len};
 use bytes::Bytes;
@@ -128,6 +126,19 @@ fn copy_section(buffer: &mut Vec<u8>, parts: &[Shared<WrittenRpc>], wanted: Sect
     }
 }
 
+/// Copies what stands for each of these sections, one section after the other.
+fn copy_sections(buffer: &mut Vec<u8>, parts: &[Shared<WrittenRpc>], wanted: &[Section])
+    requires room { vec_len buffer.old + length (flat_map (λ s. section s (as_one (joined_rpcs parts.now))) wanted.now)
+        ≤ vec_capacity buffer.old }
+    ensures written { buffer.new.items
+        ≡ buffer.old.items ++ flat_map (λ s. section s (as_one (joined_rpcs parts.now))) wanted.now }
+    ensures capacity { vec_capacity buffer.old ≤ vec_capacity buffer.new }
+{
+    for one in wanted {
+        copy_section(buffer, parts, *one);
+    }
+}
+
 /// Writes the record of all their control messages, which are of this length where there are some.
 fn copy_control(buffer: &mut Vec<u8>, parts: &[Shared<WrittenRpc>], len: Option<usize>)
     requires len { len ≡ control_length (as_one (joined_rpcs parts.now)) }
@@ -137,20 +148,8 @@ fn copy_control(buffer: &mut Vec<u8>, parts: &[Shared<WrittenRpc>], len: Option<
     let Some(len) = len else {
         return;
     };
-    put_len(buffer, field::RPC_CONTROL, len);
-    copy_control_sections(buffer, parts);
-}
-
-fn copy_control_sections(buffer: &mut Vec<u8>, parts: &[Shared<WrittenRpc>])
-    requires { vec_len buffer.old + length (records_text (control_records (control_of (as_one (joined_rpcs parts.now)))))
-        ≤ vec_capacity buffer.old }
-    ensures { buffer.new.items ≡ buffer.old.items
-        ++ records_text (control_records (control_of (as_one (joined_rpcs parts.now)))) }
-{
-    copy_section(buffer, parts, Section::Offers);
-    copy_section(buffer, parts, Section::Requests);
-    copy_section(buffer, parts, Section::Grafts);
-    copy_section(buffer, parts, Section::Prunes);
+    put_len(buffer, RPC_CONTROL, len);
+    copy_sections(buffer, parts, &Section::OF_CONTROL);
 }
 
 /// The length of joined control messages, by the lengths of both: none where neither RPC has some.

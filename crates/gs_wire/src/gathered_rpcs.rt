@@ -1,15 +1,14 @@
 //! RPCs that are gathered and handed over as one RPC, which is never written as bytes.
-ghost use Rattle.std.specs.Prelude.{◌≡◌, None, Some, Ok, true, false, IfOk, OnOk, OnErr, Option, is_none, length, min};
-ghost use Rattle.std.specs.List.{flat_map};
+ghost use Rattle.std.specs.Prelude.{◌≡◌, None, Some, Ok, true, false, IfOk, OnOk, OnErr, Option, is_none};
 ghost use Rattle.gs_base.specs.declared.control.Control.{Control as ControlValue};
 ghost use Rattle.gs_wire.specs.Codec.{codec};
 ghost use Rattle.gs_wire.specs.Gathering.{as_one};
-ghost use Rattle.gs_wire.specs.Joining.{joined_controls, joined_rpcs, joined_to};
-ghost use Rattle.gs_wire.specs.Sections.{control_length_within, control_of};
+ghost use Rattle.gs_wire.specs.Joining.{joined_controls, joined_to};
+ghost use Rattle.gs_wire.specs.Sections.{control_length_within};
 
-use crate::joining::push_clones;
+use crate::joining::joined;
 use crate::rpc::{MAX_BODY, control_len, control_record_len, plain_len};
-use gs_base::{Control, ExactClone, Part, Rpc, Seq, Shared, clone_of};
+use gs_base::{Rpc, Shared, clone_of};
 use std::alloc::{AllocError, Global};
 use std::marker::Model;
 
@@ -106,59 +105,13 @@ impl GatheredRpcs {
         self.control = None;
     }
 
+    /// The kept length says without a look at the RPCs whether one has control messages.
     fn joined(&self, alloc: Global) -> Result<Rpc, AllocError>
         ensures { IfOk result (λ rpc. rpc ≡ as_one self.now) }
     {
-        let rpcs = self.rpcs.as_slice();
-        Ok(Rpc {
-            subs: all_of(alloc, rpcs)?,
-            publish: all_of(alloc, rpcs)?,
-            control: self.joined_control(alloc)?,
-        })
+        let rpc = joined(alloc, self.rpcs.as_slice(), self.control.is_some())?;
+        Ok(rpc)
     }
-
-    /// The kept length says without a look at the RPCs whether one has control messages.
-    fn joined_control(&self, alloc: Global) -> Result<Option<Control>, AllocError>
-        ensures { IfOk result (λ control. control ≡ (as_one self.now).control) }
-    {
-        match self.control {
-            Some(_) => Ok(Some(control_of_all(alloc, self.rpcs.as_slice())?)),
-            None => Ok(None),
-        }
-    }
-}
-
-fn control_of_all(alloc: Global, rpcs: &[Shared<Rpc>]) -> Result<Control, AllocError>
-    ensures { IfOk result (λ control. control ≡ control_of (as_one (joined_rpcs rpcs.now))) }
-{
-    Ok(Control {
-        ihave: all_of(alloc, rpcs)?,
-        iwant: all_of(alloc, rpcs)?,
-        graft: all_of(alloc, rpcs)?,
-        prune: all_of(alloc, rpcs)?,
-    })
-}
-
-/// All that the RPCs have in their lists of one kind, in order.
-fn all_of<P: Part + ExactClone>(alloc: Global, rpcs: &[Shared<Rpc>]) -> Result<Seq<P>, AllocError>
-    ensures { IfOk result (λ parts. parts ≡ flat_map P.parts rpcs.now) }
-{
-    let mut parts = Vec::with_capacity(alloc, count_of::<P>(rpcs))?;
-    for rpc in rpcs {
-        push_clones(&mut parts, P::parts_of(rpc.get()))?;
-    }
-    Ok(Seq::from(parts))
-}
-
-/// How many parts of one kind the RPCs have, up to the largest `usize`.
-fn count_of<P: Part>(rpcs: &[Shared<Rpc>]) -> usize
-    ensures { result ≡ min usize.MAX (length (flat_map P.parts rpcs.now)) }
-{
-    let mut count: usize = 0;
-    for rpc in rpcs {
-        count = count.saturating_add(P::parts_of(rpc.get()).len());
-    }
-    count
 }
 
 /// The length of joined control messages, by the lengths of both: none where neither RPC has some. Lengths stop at the

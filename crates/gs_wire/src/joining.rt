@@ -1,11 +1,15 @@
-//! Two RPCs that are joined into one.
-ghost use Rattle.std.specs.Prelude.{◌≡◌, ◌++◌, Ok, true, false, IfOk, IfErr, OnOk, OnErr};
+//! RPCs that are joined into one.
+ghost use Rattle.std.specs.Prelude.{◌≡◌, ◌++◌, Ok, true, false, IfOk, IfErr, OnOk, OnErr, is_some, length, map, min};
+ghost use Rattle.std.specs.List.{flat_map};
+ghost use Rattle.gs_base.specs.declared.rpc.Rpc.{Rpc as RpcValue};
 ghost use Rattle.gs_wire.specs.Codec.{codec};
-ghost use Rattle.gs_wire.specs.Joining.{joined_control, joined_controls, joined_rpc};
+ghost use Rattle.gs_wire.specs.Controls.{all_control};
+ghost use Rattle.gs_wire.specs.Gathering.{as_one};
+ghost use Rattle.gs_wire.specs.Joining.{joined_rpc, joined_rpcs};
 
 use crate::fault::WireFault;
 use crate::rpc::{MAX_BODY, control_len, full_len};
-use gs_base::{Control, ExactClone, Rpc, Seq, clone_of};
+use gs_base::{Control, ExactClone, Part, Rpc, Seq, Shared, clone_of};
 use std::alloc::{AllocError, Global};
 
 /// Joins the second RPC to the first, if that fits a frame: the lists of the first are followed by those of the second, and
@@ -31,58 +35,107 @@ pub fn join(alloc: Global, rpc: &mut Rpc, more: &Rpc) -> Result<bool, WireFault>
 fn joined_rpc(alloc: Global, first: &Rpc, second: &Rpc) -> Result<Rpc, AllocError>
     ensures { IfOk result (λ rpc. rpc ≡ joined_rpc first.now second.now) }
 {
-    Ok(Rpc {
-        subs: both(alloc, first.subs.as_slice(), second.subs.as_slice())?,
-        publish: both(alloc, first.publish.as_slice(), second.publish.as_slice())?,
-        control: joined_controls(alloc, &first.control, &second.control)?,
-    })
+    let controlled = first.control.is_some() || second.control.is_some();
+    let rpc = joined(alloc, &[first, second], controlled)?;
+    Ok(rpc)
 }
 
-fn joined_controls(
-    alloc: Global,
-    first: &Option<Control>,
-    second: &Option<Control>,
-) -> Result<Option<Control>, AllocError>
-    ensures { IfOk result (λ control. control ≡ joined_controls first.now second.now) }
-{
-    match (first, second) {
-        (Some(first), Some(second)) => Ok(Some(joined_control(alloc, first, second)?)),
-        (Some(only), None) => Ok(Some(clone_of(only)?)),
-        (None, Some(only)) => Ok(Some(clone_of(only)?)),
-        (None, None) => Ok(None),
+/// Whoever holds an RPC, by a reference or shared.
+pub(crate) trait HoldsRpc {
+    /// The RPC.
+    ghost held: { Self → RpcValue };
+
+    /// The RPC.
+    fn held(&self) -> &Rpc
+        ensures { result.now ≡ held self.now };
+}
+
+impl HoldsRpc for &Rpc {
+    ghost held = { λ r. r.now };
+
+    fn held(&self) -> &Rpc {
+        self
     }
 }
 
-fn joined_control(alloc: Global, first: &Control, second: &Control) -> Result<Control, AllocError>
-    ensures { IfOk result (λ control. control ≡ joined_control first.now second.now) }
+impl HoldsRpc for Shared<Rpc> {
+    ghost held = { λ r. r };
+
+    fn held(&self) -> &Rpc {
+        self.get()
+    }
+}
+
+/// One RPC that says what all of these say, the first one's part first in each list. The caller knows whether one of them
+/// has control messages.
+pub(crate) fn joined<R: HoldsRpc>(
+    alloc: Global,
+    rpcs: &[R],
+    controlled: bool,
+) -> Result<Rpc, AllocError>
+    requires { controlled ≡ is_some (as_one (joined_rpcs (map R.held rpcs.now))).control }
+    ensures { IfOk result (λ rpc. rpc ≡ as_one (joined_rpcs (map R.held rpcs.now))) }
 {
-    Ok(Control {
-        ihave: both(alloc, first.ihave.as_slice(), second.ihave.as_slice())?,
-        iwant: both(alloc, first.iwant.as_slice(), second.iwant.as_slice())?,
-        graft: both(alloc, first.graft.as_slice(), second.graft.as_slice())?,
-        prune: both(alloc, first.prune.as_slice(), second.prune.as_slice())?,
+    Ok(Rpc {
+        subs: all_of(alloc, rpcs)?,
+        publish: all_of(alloc, rpcs)?,
+        control: joined_control(alloc, rpcs, controlled)?,
     })
 }
 
-/// The elements of both, the first one's first.
-fn both<T: ExactClone + Drop>(
+fn joined_control<R: HoldsRpc>(
     alloc: Global,
-    first: &[T],
-    second: &[T],
-) -> Result<Seq<T>, AllocError>
-    ensures { IfOk result (λ items. items ≡ first.now ++ second.now) }
+    rpcs: &[R],
+    controlled: bool,
+) -> Result<Option<Control>, AllocError>
+    requires { controlled ≡ is_some (as_one (joined_rpcs (map R.held rpcs.now))).control }
+    ensures { IfOk result (λ control. control ≡ (as_one (joined_rpcs (map R.held rpcs.now))).control) }
 {
-    let mut items = Vec::with_capacity(alloc, first.len().saturating_add(second.len()))?;
-    push_clones(&mut items, first)?;
-    push_clones(&mut items, second)?;
-    Ok(Seq::from(items))
+    if !controlled {
+        return Ok(None);
+    }
+    let control = all_control(alloc, rpcs)?;
+    Ok(Some(control))
+}
+
+fn all_control<R: HoldsRpc>(alloc: Global, rpcs: &[R]) -> Result<Control, AllocError>
+    ensures { IfOk result (λ control. control ≡ all_control R.held rpcs.now) }
+{
+    Ok(Control {
+        ihave: all_of(alloc, rpcs)?,
+        iwant: all_of(alloc, rpcs)?,
+        graft: all_of(alloc, rpcs)?,
+        prune: all_of(alloc, rpcs)?,
+    })
+}
+
+/// All that the RPCs have in their lists of one kind, in order.
+fn all_of<P: Part + ExactClone, R: HoldsRpc>(
+    alloc: Global,
+    rpcs: &[R],
+) -> Result<Seq<P>, AllocError>
+    ensures { IfOk result (λ parts. parts ≡ flat_map (λ r. P.parts (R.held r)) rpcs.now) }
+{
+    let mut parts = Vec::with_capacity(alloc, count_of::<P, R>(rpcs))?;
+    for rpc in rpcs {
+        push_clones(&mut parts, P::parts_of(rpc.held()))?;
+    }
+    Ok(Seq::from(parts))
+}
+
+/// How many parts of one kind the RPCs have, up to the largest `usize`.
+fn count_of<P: Part, R: HoldsRpc>(rpcs: &[R]) -> usize
+    ensures { result ≡ min usize.MAX (length (flat_map (λ r. P.parts (R.held r)) rpcs.now)) }
+{
+    let mut count: usize = 0;
+    for rpc in rpcs {
+        count = count.saturating_add(P::parts_of(rpc.held()).len());
+    }
+    count
 }
 
 /// Adds a clone of each element. After an error some of them were added.
-pub(crate) fn push_clones<T: ExactClone + Drop>(
-    items: &mut Vec<T>,
-    more: &[T],
-) -> Result<(), AllocError>
+fn push_clones<T: ExactClone + Drop>(items: &mut Vec<T>, more: &[T]) -> Result<(), AllocError>
     ensures { OnOk result (items.new.items ≡ items.old.items ++ more.now) }
 {
     for item in more {

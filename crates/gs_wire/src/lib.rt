@@ -2,11 +2,9 @@
 #![tactic(auto)]
 
 mod control;
-mod control_parts;
 mod decoding;
 mod encoding;
 mod fault;
-mod field;
 mod frame_reader;
 mod frames;
 mod gathered;

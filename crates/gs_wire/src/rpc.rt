@@ -13,14 +13,20 @@ ghost use Rattle.gs_base.specs.Rpcs.{publication};
 use crate::decoding::{Decode, DecodeError, merge_all};
 use crate::encoding::{Encode, len_record_len, parts_len, put_parts, put_sized_part};
 use crate::fault::WireFault;
-use crate::field;
 use crate::merging::merge_part;
 use crate::reader::Reader;
 use crate::record::Record;
 use crate::varint::{put_varint, varint_len};
 use bytes::Bytes;
-use gs_base::{Control, Rpc, Seq, Topic};
+use gs_base::{Control, Rpc, Topic};
 use std::alloc::Global;
+
+/// `RPC.subscriptions`, repeated `SubOpts` (libp2p pubsub, "The RPC": `rpc.proto`).
+pub(crate) const RPC_SUBSCRIPTIONS: u64 = 1;
+/// `RPC.publish`, repeated `Message`.
+pub(crate) const RPC_PUBLISH: u64 = 2;
+/// `RPC.control`, a `ControlMessage`.
+pub(crate) const RPC_CONTROL: u64 = 3;
 
 /// The longest body that is written, in bytes.
 pub const MAX_BODY: usize = 1_048_576;
@@ -57,7 +63,7 @@ fn merge_control(
         → (before after : List Spelled) (other : Option ControlValue)
         → ¬ SaysMerged (len_values 3 (before ++ view «record».now ∷ after)) other }
 {
-    let Some(bytes) = record.bytes_in(field::RPC_CONTROL) else {
+    let Some(bytes) = record.bytes_in(RPC_CONTROL) else {
         return Ok(());
     };
     *control = Some(merged(alloc, control.take(), bytes)?);
@@ -68,16 +74,12 @@ impl Decode for Rpc {
     ghost says = { SaysRpc };
 
     fn empty(alloc: Global) -> Rpc {
-        Rpc {
-            subs: Seq::new(alloc),
-            publish: Seq::new(alloc),
-            control: None,
-        }
+        Rpc::empty(alloc)
     }
 
     fn merge(&mut self, alloc: Global, record: Record<'_>) -> Result<(), DecodeError> {
-        merge_part(alloc, &record, field::RPC_SUBSCRIPTIONS, &mut self.subs)?;
-        merge_part(alloc, &record, field::RPC_PUBLISH, &mut self.publish)?;
+        merge_part(alloc, &record, RPC_SUBSCRIPTIONS, &mut self.subs)?;
+        merge_part(alloc, &record, RPC_PUBLISH, &mut self.publish)?;
         merge_control(alloc, &record, &mut self.control)?;
         Ok(())
     }
@@ -171,10 +173,10 @@ fn put_body(buffer: &mut Vec<u8>, rpc: &Rpc, control: Option<usize>)
     requires room { vec_len buffer.old + length (body rpc.now) ≤ vec_capacity buffer.old }
     ensures { buffer.new.items ≡ buffer.old.items ++ body rpc.now }
 {
-    put_parts(buffer, field::RPC_SUBSCRIPTIONS, rpc.subs.as_slice());
-    put_parts(buffer, field::RPC_PUBLISH, rpc.publish.as_slice());
+    put_parts(buffer, RPC_SUBSCRIPTIONS, rpc.subs.as_slice());
+    put_parts(buffer, RPC_PUBLISH, rpc.publish.as_slice());
     if let (Some(part), Some(len)) = (&rpc.control, control) {
-        put_sized_part(buffer, field::RPC_CONTROL, part, len);
+        put_sized_part(buffer, RPC_CONTROL, part, len);
     }
 }
 

@@ -4,13 +4,12 @@ ghost use Rattle.gs_wire.specs.Records.{records_text};
 ghost use Rattle.gs_wire.specs.Fields.{part_records};
 ghost use Rattle.gs_wire.specs.Controls.{control_records, no_control};
 ghost use Rattle.gs_wire.specs.Messages.{body, frame, longest_body};
-ghost use Rattle.gs_wire.specs.Sections.{control_length, control_part, plain_length, section};
-ghost use Rattle.gs_wire.specs.Standing.{ControlStands, SectionsStand, place_of};
+ghost use Rattle.gs_wire.specs.Sections.{ControlStands, SectionsStand, control_length, control_part, place_of, plain_length, section};
 
+use crate::control::{CONTROL_GRAFT, CONTROL_IHAVE, CONTROL_IWANT, CONTROL_PRUNE};
 use crate::encoding::{Encode, put_len, put_parts};
 use crate::fault::WireFault;
-use crate::field;
-use crate::rpc::{body_len, control_len};
+use crate::rpc::{RPC_CONTROL, RPC_PUBLISH, RPC_SUBSCRIPTIONS, body_len, control_len};
 use crate::varint::{put_varint, varint_len};
 use bytes::Bytes;
 use gs_base::{Control, Rpc, Shared, clone_of};
@@ -27,6 +26,16 @@ pub(crate) enum Section {
     Requests,
     Grafts,
     Prunes,
+}
+
+impl Section {
+    /// Those of control messages, in their order.
+    pub(crate) const OF_CONTROL: [Section; 4] = [
+        Section::Offers,
+        Section::Requests,
+        Section::Grafts,
+        Section::Prunes,
+    ];
 }
 
 /// Where a section stands in a frame.
@@ -66,7 +75,7 @@ impl Model for WrittenRpc {
 
     ghost Value = { RpcValue };
 
-    ghost use Rattle.gs_wire.specs.Standing.{IsWritten};
+    ghost use Rattle.gs_wire.specs.Sections.{IsWritten};
 
     ghost view = { λ w. w.rpc };
 
@@ -181,8 +190,8 @@ fn put_sections(buffer: &mut Vec<u8>, rpc: &Rpc, control: Option<usize>) -> Plac
     ensures written { buffer.new.items ≡ buffer.old.items ++ body rpc.now }
     ensures stand { SectionsStand buffer.new.items result rpc.now }
 {
-    let subscriptions = put_section(buffer, field::RPC_SUBSCRIPTIONS, rpc.subs.as_slice());
-    let messages = put_section(buffer, field::RPC_PUBLISH, rpc.publish.as_slice());
+    let subscriptions = put_section(buffer, RPC_SUBSCRIPTIONS, rpc.subs.as_slice());
+    let messages = put_section(buffer, RPC_PUBLISH, rpc.publish.as_slice());
     let control = put_control(buffer, &rpc.control, control);
     Places {
         subscriptions,
@@ -202,7 +211,7 @@ fn put_control(buffer: &mut Vec<u8>, control: &Option<Control>, len: Option<usiz
     let (Some(control), Some(len)) = (control, len) else {
         return no_sections(buffer.len());
     };
-    put_len(buffer, field::RPC_CONTROL, len);
+    put_len(buffer, RPC_CONTROL, len);
     put_control_sections(buffer, control)
 }
 
@@ -211,10 +220,10 @@ fn put_control_sections(buffer: &mut Vec<u8>, control: &Control) -> ControlPlace
     ensures written { buffer.new.items ≡ buffer.old.items ++ records_text (control_records control.now) }
     ensures stand { ControlStands buffer.new.items result control.now }
 {
-    let offers = put_section(buffer, field::CONTROL_IHAVE, control.ihave.as_slice());
-    let requests = put_section(buffer, field::CONTROL_IWANT, control.iwant.as_slice());
-    let grafts = put_section(buffer, field::CONTROL_GRAFT, control.graft.as_slice());
-    let prunes = put_section(buffer, field::CONTROL_PRUNE, control.prune.as_slice());
+    let offers = put_section(buffer, CONTROL_IHAVE, control.ihave.as_slice());
+    let requests = put_section(buffer, CONTROL_IWANT, control.iwant.as_slice());
+    let grafts = put_section(buffer, CONTROL_GRAFT, control.graft.as_slice());
+    let prunes = put_section(buffer, CONTROL_PRUNE, control.prune.as_slice());
     ControlPlaces {
         offers,
         requests,

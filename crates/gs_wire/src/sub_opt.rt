@@ -1,15 +1,19 @@
-//! Changes of subscription as records (`RPC.SubOpts`).
+//! Changes of subscription as records (`RPC.SubOpts`), with the numbers of their fields in `rpc.proto`.
 ghost use Rattle.gs_wire.specs.Messages.{SaysSub, sub_records};
 
 use crate::decoding::{Decode, DecodeError};
 use crate::encoding::{
     Encode, bool_number, bytes_of_topic, number_len, optional_len, put_number, put_optional,
 };
-use crate::field;
 use crate::merging::{merge_bool, merge_topic};
 use crate::record::Record;
 use gs_base::SubOpt;
 use std::alloc::Global;
+
+/// `SubOpts.subscribe`, a truth value.
+const SUB_SUBSCRIBE: u64 = 1;
+/// `SubOpts.topicid`.
+const SUB_TOPIC: u64 = 2;
 
 impl Decode for SubOpt {
     ghost says = { SaysSub };
@@ -22,8 +26,8 @@ impl Decode for SubOpt {
     }
 
     fn merge(&mut self, _alloc: Global, record: Record<'_>) -> Result<(), DecodeError> {
-        merge_bool(&record, field::SUB_SUBSCRIBE, &mut self.subscribe);
-        merge_topic(&record, field::SUB_TOPIC, &mut self.topic)?;
+        merge_bool(&record, SUB_SUBSCRIBE, &mut self.subscribe);
+        merge_topic(&record, SUB_TOPIC, &mut self.topic)?;
         Ok(())
     }
 }
@@ -38,7 +42,7 @@ impl Encode for SubOpt {
     }
 
     fn put(&self, buffer: &mut Vec<u8>) {
-        put_number(buffer, field::SUB_SUBSCRIBE, bool_number(self.subscribe));
-        put_optional(buffer, field::SUB_TOPIC, bytes_of_topic(&self.topic));
+        put_number(buffer, SUB_SUBSCRIBE, bool_number(self.subscribe));
+        put_optional(buffer, SUB_TOPIC, bytes_of_topic(&self.topic));
     }
 }

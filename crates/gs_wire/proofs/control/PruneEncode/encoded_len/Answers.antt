@@ -1,7 +1,7 @@
 use Rattle.std.proofs.Common.{arith, ◌∙◌}
 use Rattle.gs_wire.specs.Fields.{bytes_records, topic_bytes, number_records}
 use Rattle.gs_wire.proofs.Written.{sum_most}
-use Rattle.gs_wire.proofs.control_parts.PruneEncode.encoded_len.Goals as goal
+use Rattle.gs_wire.proofs.control.PruneEncode.encoded_len.Goals as goal
 
 pub returns : goal.returns
 returns c =
