@@ -1,0 +1,230 @@
+"""The events of go-libp2p-pubsub's `trace.proto`, made of the lines of a run's trace."""
+import base64
+import json
+import os
+import sys
+
+# The numbers of the types there.
+TYPES = {
+    "publishMessage": 0,
+    "rejectMessage": 1,
+    "duplicateMessage": 2,
+    "deliverMessage": 3,
+    "addPeer": 4,
+    "removePeer": 5,
+    "recvRPC": 6,
+    "sendRPC": 7,
+    "dropRPC": 8,
+    "join": 9,
+    "leave": 10,
+    "graft": 11,
+    "prune": 12,
+}
+# What go-libp2p-pubsub says of a message that is not passed on.
+REASONS = {"reject": "validation failed", "ignore": "validation ignored"}
+UNSIGNED = "unexpected signature"
+PROTOCOL = "/meshsub/1.1.0"
+NOTHING = {"subscriptions": [], "publish": [], "control": None}
+
+
+class BadLine(Exception):
+    """Says why a line is no line of a trace."""
+
+
+def of_name(name):
+    return base64.b64encode(str(name).encode()).decode()
+
+
+def of_hex(digits):
+    return base64.b64encode(bytes.fromhex(digits)).decode()
+
+
+def message_ids(publish):
+    """The messages of an RPC by identifier and topic. An RPC has no identifiers, so they are made here."""
+    import hashlib
+
+    return [
+        {"messageID": base64.b64encode(hashlib.sha256(bytes.fromhex(it["data"] or "")).digest()).decode(), **topic_of(it["topic"])}
+        for it in publish
+    ]
+
+
+def topic_of(topic):
+    return {} if topic is None else {"topic": topic}
+
+
+def control_of(control):
+    """The control messages of an RPC, with a list only where it has something."""
+    found = {
+        "ihave": [{**topic_of(it["topicID"]), "messageIDs": [of_hex(id) for id in it["messageIDs"]]} for it in control["ihave"]],
+        "iwant": [{"messageIDs": [of_hex(id) for id in it["messageIDs"]]} for it in control["iwant"]],
+        "graft": [topic_of(it["topicID"]) for it in control["graft"]],
+        "prune": [topic_of(it["topicID"]) for it in control["prune"]],
+    }
+    return {name: items for name, items in found.items() if items}
+
+
+def meta_of(rpc):
+    """What `RPCMeta` says of an RPC."""
+    found = {
+        "messages": message_ids(rpc["publish"]),
+        "subscription": [
+            {name: value for name, value in (("subscribe", it["subscribe"]), ("topic", it["topicid"])) if value is not None}
+            for it in rpc["subscriptions"]
+        ],
+        "control": control_of(rpc["control"]) if rpc["control"] else {},
+    }
+    return {name: value for name, value in found.items() if value}
+
+
+def joined(first, second):
+    """Two RPCs as one, list by list."""
+    controls = [it for it in (first["control"], second["control"]) if it]
+    names = "ihave", "iwant", "graft", "prune"
+    return {
+        "subscriptions": first["subscriptions"] + second["subscriptions"],
+        "publish": first["publish"] + second["publish"],
+        "control": {name: sum((it[name] for it in controls), []) for name in names} if controls else None,
+    }
+
+
+class Peer:
+    """What has to be remembered of a peer to say what a node's tracer says."""
+
+    def __init__(self, name):
+        self.name = name
+        self.topics = set()
+        self.gathered = {}
+
+    def event(self, at, kind, **fields):
+        return {
+            "type": TYPES[kind],
+            "peerID": of_name(self.name),
+            "timestamp": at * 1_000_000,
+            kind: {name: value for name, value in fields.items() if value is not None},
+        }
+
+    def send(self, at, names=None):
+        """What was gathered for these neighbours, or for all, goes out."""
+        for name in [it for it in self.gathered if names is None or it in names]:
+            yield self.event(at, "sendRPC", sendTo=of_name(name), meta=meta_of(self.gathered.pop(name)))
+
+    def gather(self, sent):
+        for it in sent:
+            self.gathered[it["to"]] = joined(self.gathered.get(it["to"], NOTHING), it["rpc"])
+
+    def told(self, line):
+        """The events of a line of the trace."""
+        at, word = line["at"], line["event"]
+        if word in ("gone", "fault", "hang_up"):
+            other = line.get("from", line.get("to"))
+            yield from self.send(at, [other])
+            yield self.event(at, "removePeer", peerID=of_name(other))
+        elif word == "raw":
+            yield from self.send(at, [line["to"]])
+        elif word == "heard":
+            yield self.event(at, "recvRPC", receivedFrom=of_name(line["from"]), meta=meta_of(line["rpc"]))
+        elif word == "message":
+            yield from self.judged(line)
+        elif word in ("subscribe", "unsubscribe"):
+            yield self.membership(line)
+        elif word == "publish":
+            yield self.event(at, "publishMessage", messageID=of_hex(line["id"]), topic=line["topic"])
+        yield from self.done(line)
+        if word in ("round_end", "shut"):
+            yield from self.send(at)
+
+    def membership(self, line):
+        joins = line["event"] == "subscribe"
+        (self.topics.add if joins else self.topics.discard)(line["topic"])
+        return self.event(line["at"], "join" if joins else "leave", topic=line["topic"])
+
+    def judged(self, line):
+        """What becomes of a message that is not delivered: it is rejected, or seen before. Off the peer's topics it is
+        passed over."""
+        topic = line["part"]["topic"] or ""
+        fields = {"messageID": of_hex(line["id"]), "receivedFrom": of_name(line["from"]), "topic": topic}
+        marks = {it["mark"]: it for it in line["marks"]}
+        verdict = marks.get("seen", {}).get("verdict")
+        if verdict in REASONS:
+            yield self.event(line["at"], "rejectMessage", reason=REASONS[verdict], **fields)
+        elif verdict is None and is_signed(line["part"]):
+            if topic in self.topics:
+                yield self.event(line["at"], "rejectMessage", reason=UNSIGNED, **fields)
+        elif verdict is None and "invalid" in marks:
+            yield self.event(line["at"], "rejectMessage", reason=REASONS["reject"], **fields)
+        elif verdict is None and topic in self.topics:
+            yield self.event(line["at"], "duplicateMessage", **fields)
+
+    def done(self, line):
+        """What the peer did about an event: deliveries, members that came and went, and what is to be sent."""
+        source = line["from"] if line["event"] == "message" else self.name
+        for it in line.get("delivered", ()):
+            yield self.event(
+                line["at"], "deliverMessage", messageID=of_hex(it["id"]), topic=it["topic"], receivedFrom=of_name(source)
+            )
+        for it in line.get("marks", ()):
+            kind = {"grafted": "graft", "pruned": "prune"}.get(it["mark"])
+            if kind:
+                yield self.event(line["at"], kind, peerID=of_name(it["peer"]), topic=it["topic"])
+        self.gather(line.get("sent", ()))
+
+
+def is_signed(message):
+    return any(message[it] is not None for it in ("from", "seqno", "signature", "key"))
+
+
+def begun(head, peers):
+    """Each peer meets its neighbours at the beginning."""
+    for it in head.get("dials", ()):
+        for one, other in ((it["from"], it["to"]), (it["to"], it["from"])):
+            yield peers[one].event(0, "addPeer", peerID=of_name(other), proto=PROTOCOL)
+
+
+def events(lines):
+    """The events of the lines of a trace, in their order."""
+    peers = None
+    for number, line in enumerate(lines, 1):
+        try:
+            told = json.loads(line)
+            if peers is None:
+                peers = {name: Peer(name) for name in told["peers"]}
+                yield from begun(told, peers)
+            elif told["event"] != "refused":
+                yield from peers[told["peer"]].told(told)
+        except (ValueError, KeyError, TypeError, AttributeError) as why:
+            raise BadLine(f"line {number} is no line of a trace: {type(why).__name__} {why}") from why
+
+
+def stop(status, why):
+    print(f"libp2p_trace: {why}", file=sys.stderr)
+    sys.exit(status)
+
+
+def opened(name):
+    if name == "-":
+        return sys.stdin
+    try:
+        return open(name, encoding="utf-8")
+    except OSError as why:
+        stop(66, f"{name} can't be read: {why.strerror}")
+
+
+def main(words, usage):
+    if words and words[0] in ("--help", "-h"):
+        print(usage)
+        return
+    if len(words) > 1 or (words and words[0].startswith("-") and words[0] != "-"):
+        stop(64, "it takes one file; --help says more")
+    try:
+        for it in events(opened(words[0] if words else "-")):
+            print(json.dumps(it, separators=(",", ":")))
+        sys.stdout.flush()
+    except BadLine as why:
+        sys.stdout.flush()
+        stop(1, why)
+    except BrokenPipeError:
+        os.dup2(os.open(os.devnull, os.O_WRONLY), sys.stdout.fileno())
+        sys.exit(3)
+    except (OSError, UnicodeDecodeError):
+        stop(3, "input or output failed")
