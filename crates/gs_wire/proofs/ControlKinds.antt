@@ -1,6 +1,6 @@
 -- What is proved of each kind of control message, and of control messages as a whole. A kind more needs a line or a lemma
 -- in each part of this file.
-use Rattle.std.proofs.Common.{◌≡◌, ℕ, ◌+◌, ◌<◌, ◌≤◌, ◌^◌, List, [], ◌∷◌, ◌++◌, length, map, Option, Some, None, refl, sym, ap, ◌∙◌, append_assoc, append-nil, arith, rules, inl, inr}
+use Rattle.std.proofs.Common.{◌≡◌, ℕ, ◌+◌, ◌<◌, ◌≤◌, ◌^◌, List, [], ◌∷◌, ◌++◌, length, length-append, map, Option, Some, None, refl, sym, ap, ◌∙◌, append_assoc, append-nil, arith, rules, inl, inr}
 use Rattle.std.specs.Prelude.{unwrap_or}
 use Rattle.std.specs.List.{AllZip, flat_map}
 use Rattle.gs_base.specs.declared.control.IHave.{IHave}
@@ -10,6 +10,7 @@ use Rattle.gs_base.specs.declared.control.Prune.{Prune}
 use Rattle.gs_base.specs.declared.control.Control.{Control}
 use Rattle.gs_base.specs.declared.rpc.Rpc.{Rpc}
 use Rattle.gs_base.specs.Rpcs.{empty_rpc, grafts_in, offers_in, prunes_in, requests_in}
+use Rattle.gs_wire.specs.declared.sections.ControlPlaces.{ControlPlaces}
 use Rattle.gs_wire.specs.declared.sections.Section.{Section}
 use Rattle.gs_wire.specs.declared.sections.Section.TheVariants.{Subscriptions, Messages, Offers, Requests, Grafts, Prunes}
 use Rattle.gs_wire.specs.Records.{Record, len_values, records_text}
@@ -18,7 +19,7 @@ use Rattle.gs_wire.specs.Controls.{all_control, SaysControl, SaysGraft, SaysIHav
 use Rattle.gs_wire.specs.Messages.{IsPrune, IsControl, sub_records, message_records}
 use Rattle.gs_wire.specs.Joining.{joined_rpc, joined_rpcs}
 use Rattle.gs_wire.specs.Gathering.{as_one}
-use Rattle.gs_wire.specs.Sections.{control_of, section}
+use Rattle.gs_wire.specs.Sections.{ControlStands, control_of, section}
 use Rattle.gs_wire.proofs.Zips.{AllZip-append, AllZip-same}
 use Rattle.gs_wire.proofs.Parts.{one_said}
 use Rattle.gs_wire.proofs.Written.{part_length-append, part_text-append, records_text-append, sum_text}
@@ -217,6 +218,32 @@ section-joined Grafts u v =
     ap (λ vs. records_text (part_records graft_records 3 vs)) (in_both (λ o. (unwrap_or o no_control).graft) refl (λ c d. refl) u.control v.control) ∙ part_text-append graft_records 3 (control_of u).graft (control_of v).graft
 section-joined Prunes u v =
     ap (λ vs. records_text (part_records prune_records 4 vs)) (in_both (λ o. (unwrap_or o no_control).prune) refl (λ c d. refl) u.control v.control) ∙ part_text-append prune_records 4 (control_of u).prune (control_of v).prune
+
+-- the places of sections that follow one another from here on
+pub record FollowFrom (start : ℕ) (places : ControlPlaces) (c : Control) : Type 0 where
+  pub offers : places.offers.start ≡ start
+  pub offers_end : places.offers.end ≡ places.offers.start + length (records_text (part_records ihave_records 1 c.ihave))
+  pub requests : places.requests.start ≡ places.offers.end
+  pub requests_end : places.requests.end ≡ places.requests.start + length (records_text (part_records iwant_records 2 c.iwant))
+  pub grafts : places.grafts.start ≡ places.requests.end
+  pub grafts_end : places.grafts.end ≡ places.grafts.start + length (records_text (part_records graft_records 3 c.graft))
+  pub prunes : places.prunes.start ≡ places.grafts.end
+  pub prunes_end : places.prunes.end ≡ places.prunes.start + length (records_text (part_records prune_records 4 c.prune))
+
+-- control messages that were written at the end stand there, section after section
+pub control_stands : (old text : List ℕ) (places : ControlPlaces) (c : Control) → text ≡ old ++ records_text (control_records c) → FollowFrom (length old) places c → ControlStands text places c
+control_stands old text places c is f =
+    let o = records_text (part_records ihave_records 1 c.ihave) in
+    let r = records_text (part_records iwant_records 2 c.iwant) in
+    let g = records_text (part_records graft_records 3 c.graft) in
+    let p = records_text (part_records prune_records 4 c.prune) in
+    record {
+      offers = record { before = old; behind = r ++ (g ++ p); parts = rw is (simp (records_text-append, append_assoc) refl); start = f.offers; end = omega (arith, f.offers, f.offers_end) };
+      requests = record { before = old ++ o; behind = g ++ p; parts = rw is (simp (records_text-append, append_assoc) refl); start = omega (arith, f.offers, f.offers_end, f.requests, length-append old o); end = omega (arith, f.offers, f.offers_end, f.requests, f.requests_end, length-append old o) };
+      grafts = record { before = old ++ (o ++ r); behind = p; parts = rw is (simp (records_text-append, append_assoc) refl); start = omega (arith, f.offers, f.offers_end, f.requests, f.requests_end, f.grafts, length-append old (o ++ r), length-append o r); end = omega (arith, f.offers, f.offers_end, f.requests, f.requests_end, f.grafts, f.grafts_end, length-append old (o ++ r), length-append o r) };
+      prunes = record { before = old ++ (o ++ (r ++ g)); behind = []; parts = rw is (simp (records_text-append, append_assoc, append-nil) refl); start = omega (arith, f.offers, f.offers_end, f.requests, f.requests_end, f.grafts, f.grafts_end, f.prunes, length-append old (o ++ (r ++ g)), length-append o (r ++ g), length-append r g); end = omega (arith, f.offers, f.offers_end, f.requests, f.requests_end, f.grafts, f.grafts_end, f.prunes, f.prunes_end, length-append old (o ++ (r ++ g)), length-append o (r ++ g), length-append r g) };
+      all = record { before = old; behind = []; parts = rw is (simp append-nil refl); start = f.offers; end = omega (arith, f.offers, f.offers_end, f.requests, f.requests_end, f.grafts, f.grafts_end, f.prunes, f.prunes_end, control_sum c) };
+    }
 
 -- ---- the lists of several RPCs
 

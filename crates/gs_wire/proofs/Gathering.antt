@@ -1,6 +1,6 @@
 -- RPCs that are gathered, and what is written for all of them.
 use Rattle.std.proofs.Common.{◌≡◌, ℕ, ◌+◌, ◌^◌, ◌<◌, ◌≤◌, List, [], ◌∷◌, ◌++◌, length, get_or, take, min, Option, Some, None, refl, sym, ap, subst, ◌∙◌, append-nil, arith}
-use Rattle.std.specs.Prelude.{◌==◌, is_none, option_map, unwrap_or}
+use Rattle.std.specs.Prelude.{◌==◌, IfSome, is_none, option_map, unwrap_or}
 use Rattle.std.specs.List.{flat_map}
 use Rattle.std.proofs.Math.Dec.{eqb-suc-zero}
 use Rattle.std.proofs.lemmas.Grind.{flat_map-append}
@@ -51,6 +51,21 @@ control_part-joined None p = omega arith
 control_part-joined (Some c) None = omega arith
 control_part-joined (Some c) (Some d) =
     omega (arith, control_part_length (joined_control c d), control_part_length c, control_part_length d, control_length-both c d, varint_ten (length (records_text (control_records (joined_control c d)))))
+
+-- the length of both
+pub both_length : (o p : Option Control) (m n : ℕ) → Some m ≡ length_of_control o → Some n ≡ length_of_control p → Some (m + n) ≡ length_of_control (joined_controls o p)
+both_length None p m n m_is n_is = absurd cc
+both_length (Some c) None m n m_is n_is = absurd cc
+both_length (Some c) (Some d) m n m_is n_is =
+    ap (λ (k : ℕ). Some k) (omega (arith, same_Some m (length (records_text (control_records c))) m_is, same_Some n (length (records_text (control_records d))) n_is, control_length-both c d))
+
+-- it is within the limit in an RPC that fits a frame
+pub control_within : (v : Rpc) (plain : ℕ) (control : Option ℕ) → IsMeasured v plain control → IfSome control (λ len. len ≤ longest_body)
+control_within v plain control is = rw is.inside (of_option v.control (omega (arith, body_length v, is.fits)))
+  where
+    of_option : (o : Option Control) → length (control_part o) ≤ longest_body → IfSome (length_of_control o) (λ len. len ≤ longest_body)
+    of_option None room = tt
+    of_option (Some c) room = omega (arith, control_part_length c, room)
 
 -- two RPCs that each fit a frame are joined to one whose length is a small number
 pub joined_small : (u v : Rpc) → length (body u) ≤ longest_body → length (body v) ≤ longest_body → length (body (joined_rpc u v)) < 2 ^ 22

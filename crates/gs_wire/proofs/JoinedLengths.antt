@@ -1,19 +1,30 @@
 -- How long gathered RPCs are with one more, by lengths that stop at a bound.
 use Rattle.std.proofs.Common.{◌≡◌, ℕ, ◌+◌, ◌<◌, ◌≤◌, length, min, Option, Some, None, ap, ◌∙◌, arith}
+use Rattle.std.proofs.lemmas.Option.{same_Some}
 use Rattle.gs_base.specs.declared.control.Control.{Control}
 use Rattle.gs_base.specs.declared.rpc.Rpc.{Rpc}
+use Rattle.gs_wire.specs.Records.{records_text}
+use Rattle.gs_wire.specs.Controls.{control_records}
 use Rattle.gs_wire.specs.Messages.{body, longest_body}
 use Rattle.gs_wire.specs.Joining.{joined_controls, joined_rpc, joined_to}
 use Rattle.gs_wire.specs.Gathering.{IsMeasured, as_one}
 use Rattle.gs_wire.specs.Sections.{control_length_within, control_part, plain_length}
 use Rattle.gs_wire.proofs.SectionTexts.{body_length, control_part_length, length_of_control, plain_length-joined}
 use Rattle.gs_wire.proofs.JoinedLists.{joined_to-as_one}
+use Rattle.gs_wire.proofs.ControlKinds.{control_length-both}
 use Rattle.gs_wire.proofs.Gathering.{exact_most}
 
 -- a length up to a bound that it does not reach is exact
 most_exact : (o : Option Control) (len : Option ℕ) (most : ℕ) → len ≡ control_length_within most o → length (control_part o) < most → len ≡ length_of_control o
 most_exact None len most is room = is
 most_exact (Some c) len most is room = is ∙ ap (λ (n : ℕ). Some n) (omega (arith, control_part_length c, room))
+
+-- the length of both, up to a bound
+pub both_length_within : (o p : Option Control) (m n most : ℕ) → Some m ≡ control_length_within most o → Some n ≡ control_length_within most p → Some (min (m + n) most) ≡ control_length_within most (joined_controls o p)
+both_length_within None p m n most m_is n_is = absurd cc
+both_length_within (Some c) None m n most m_is n_is = absurd cc
+both_length_within (Some c) (Some d) m n most m_is n_is =
+    ap (λ (k : ℕ). Some k) (omega (arith, same_Some m (min most (length (records_text (control_records c)))) m_is, same_Some n (min most (length (records_text (control_records d)))) n_is, control_length-both c d))
 
 -- what is known of the lengths of gathered RPCs and of one more
 pub record AreLengths (held : Option Rpc) (v : Rpc) (most plain more sum : ℕ) (before own both : Option ℕ) (control whole : ℕ) : Type 0 where

@@ -256,6 +256,7 @@ fn put_section<M: Encode>(buffer: &mut Vec<u8>, field: u64, parts: &[M]) -> Plac
     ensures capacity { vec_capacity buffer.old ≤ vec_capacity buffer.new }
     ensures start { result.start ≡ vec_len buffer.old }
     ensures end { result.end ≡ vec_len buffer.new }
+    ensures len { result.end ≡ result.start + length (records_text (part_records M.records field parts.now)) }
 {
     let start = buffer.len();
     put_parts(buffer, field, parts);

@@ -4,9 +4,12 @@ use Rattle.gs_wire.specs.Messages.{body, longest_body}
 use Rattle.gs_wire.specs.Joining.{joined_rpc, joined_rpcs, joined_to}
 use Rattle.gs_wire.specs.Gathering.{as_one}
 use Rattle.gs_wire.specs.Sections.{control_length, plain_length}
-use Rattle.gs_wire.proofs.Gathering.{grown, measured_more}
+use Rattle.gs_wire.proofs.Gathering.{control_within, grown, measured_more}
 use Rattle.gs_wire.proofs.JoinedRpcs.{rpcs_push}
 use Rattle.gs_wire.proofs.gathered.Gathered.gather.Goals as goal
+
+pub both_lens-control-requires-clause-first_fits : goal.both_lens-control-requires-clause-first_fits
+both_lens-control-requires-clause-first_fits c = control_within _ _ _ c.self.invariant
 
 pub overflow_add-plain-2 : goal.overflow_add-plain-2
 overflow_add-plain-2 c =
