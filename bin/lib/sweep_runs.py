@@ -13,32 +13,22 @@ from collections import namedtuple
 
 from until import Uncut, cut
 
+OF_RUNS = "status", "message", "proved"
 # (of publications: how many, the sums of two columns, and the largest of one)
 OF_PUBLICATIONS = "publications", "on_topic", "delivered", "last_round"
-SUMS = (
-    "rpcs_heard",
-    "bytes_heard",
-    "messages_heard",
-    "new",
-    "duplicates",
-    "ignored",
-    "invalid",
-    "ihave_heard",
-    "iwant_heard",
-    "graft_heard",
-    "prune_heard",
-    "rpcs_sent",
-    "bytes_sent",
-    "messages_sent",
-    "ihave_sent",
-    "iwant_sent",
-    "graft_sent",
-    "prune_sent",
-    "broken_promises",
-    "refused_lines",
-)
+# (of peers: the lowest of some columns, the highest of others, and the sums of all that gossip_stats has beside these)
 LOWEST, HIGHEST = ("lowest_score", "smallest_mesh"), ("highest_score", "largest_mesh")
-COLUMNS = ("status", "message", "proved", *OF_PUBLICATIONS, *SUMS, "lowest_score", "highest_score", "smallest_mesh", "largest_mesh")
+
+# A scenario in which nothing happens: its figures show which columns there are.
+NOTHING = b"""
+round_ms = 100
+rounds = 1
+workers = 1
+capacity = 1
+seed = 1
+topic = [{ name = "t" }]
+peer = [{ name = "a" }]
+"""
 
 # The statuses of runs that would end so again: with figures, or refused.
 KEPT_STATUSES = 0, 1
@@ -123,6 +113,13 @@ def numbers(rows, column):
     return [int(row[column]) for row in rows if row[column]]
 
 
+def of_several(column, values):
+    """What stands in a column where peers have these values there."""
+    if column in LOWEST:
+        return min(values, default="")
+    return max(values, default="") if column in HIGHEST else sum(values)
+
+
 def figures_of(text, peer):
     """The figures of a run, or of one of its peers, by column. None where it has no such peer."""
     publications, peers = tables_of(text)
@@ -133,9 +130,7 @@ def figures_of(text, peer):
     figures = {"publications": len(publications)}
     figures |= {it: sum(numbers(publications, it)) for it in ("on_topic", "delivered")}
     figures["last_round"] = max(numbers(publications, "last_round"), default="")
-    figures |= {it: sum(numbers(peers, it)) for it in SUMS}
-    figures |= {it: min(numbers(peers, it), default="") for it in LOWEST}
-    figures |= {it: max(numbers(peers, it), default="") for it in HIGHEST}
+    figures |= {it: of_several(it, numbers(peers, it)) for it in peers[0] if it != "peer"}
     return figures
 
 
@@ -190,9 +185,17 @@ class Sweep:
     def __init__(self, programs, is_proved, scenario, options, folder):
         self.programs, self.scenario, self.peer, self.folder = programs, scenario, options.peer, folder
         self.proved, self.until = "yes" if is_proved else "no", options.until
-        self.header = [*options.settings.values, *COLUMNS]
+        self.settings, self.columns, self.header = list(options.settings.values), (), []
         self.lock, self.live, self.is_stopped = threading.Lock(), set(), False
         self.source = [hash_of(scenario), *map(hash_in, programs.values()), options.peer, self.until, self.proved] if folder else []
+
+    def learn_columns(self):
+        """Asks gossip_stats which columns it has for peers. Gives whether it answers."""
+        end = self.call([self.programs["gossip_stats"], "--csv"], NOTHING)
+        rows = tables_of(end.output.decode(errors="replace"))[-1] if end.status == 0 else []
+        self.columns = (*OF_RUNS, *OF_PUBLICATIONS, *(it for row in rows[:1] for it in row if it != "peer"))
+        self.header = [*self.settings, *self.columns]
+        return bool(rows)
 
     def name_of(self, settings):
         """The name of a row's file: another one wherever the row might be another one."""
@@ -219,7 +222,7 @@ class Sweep:
             figures = figures_of(end.output, self.peer)
             end = end if figures else End(1, "", f"the scenario has no peer {self.peer}")
         cells = {"status": end.status, "message": end.message, "proved": self.proved, **(figures or {})}
-        return [cells.get(it, "") for it in COLUMNS]
+        return [cells.get(it, "") for it in self.columns]
 
     def ended(self, settings):
         """How a run ends: gossip_edit gives the scenario that gossip_stats runs, but for what --until leaves out."""
@@ -250,7 +253,12 @@ class Sweep:
             except (OSError, ValueError) as why:
                 return End(2, b"", f"{name} can't be started: {why}")
             self.live.add(child)
-        output, errors = child.communicate(data)
+        try:
+            output, errors = child.communicate(data)
+        except BaseException:
+            child.kill()
+            child.wait()
+            raise
         with self.lock:
             self.live.remove(child)
             if self.is_stopped:

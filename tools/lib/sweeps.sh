@@ -23,10 +23,16 @@ do = [
 END
 }
 
-columns='status,message,proved,publications,on_topic,delivered,last_round,rpcs_heard,bytes_heard,messages_heard,new,'
-columns+='duplicates,ignored,invalid,ihave_heard,iwant_heard,graft_heard,prune_heard,rpcs_sent,bytes_sent,messages_sent,'
-columns+='ihave_sent,iwant_sent,graft_sent,prune_sent,'
-columns+='broken_promises,refused_lines,lowest_score,highest_score,smallest_mesh,largest_mesh'
+own_columns=status,message,proved,publications,on_topic,delivered,last_round
+
+# The columns that gossip_stats has for peers.
+of_peers() {
+  "$top/bin/gossip_stats" --csv "$room/sweeps/three.toml" | sed -n 's/^peer,//p'
+}
+
+# Those that `three_rows` has.
+some_columns=$own_columns,rpcs_heard,bytes_heard,messages_heard,new,duplicates,graft_heard,rpcs_sent,bytes_sent,messages_sent
+some_columns+=,graft_sent,refused_lines,lowest_score,highest_score,smallest_mesh,largest_mesh
 
 # Subscriptions and GRAFTs are six RPCs each, two for each pair. The payload goes to `b` and `c`, and each of them, who has
 # it by then, gets it once more of the other: four RPCs. Without GRAFTs nobody passes it on. There is no round 12 where
@@ -34,11 +40,11 @@ columns+='broken_promises,refused_lines,lowest_score,highest_score,smallest_mesh
 # 12.
 three_rows() {
   cat <<END
-rounds,params.heartbeat_ms,$columns
-15,1000,0,,yes,1,3,3,1,16,180,4,2,2,0,0,0,0,6,0,16,180,4,0,0,6,0,0,0,0,0,2,2
-15,2000,0,,yes,1,3,3,1,8,90,2,2,0,0,0,0,0,0,0,8,90,2,0,0,0,0,0,0,0,0,0,0
-11,1000,1,scenario refused: 29 do[3].at,yes,,,,,,,,,,,,,,,,,,,,,,,,,,,,
-11,2000,1,scenario refused: 29 do[3].at,yes,,,,,,,,,,,,,,,,,,,,,,,,,,,,
+rounds,params.heartbeat_ms,$some_columns
+15,1000,0,,yes,1,3,3,1,16,180,4,2,2,6,16,180,4,6,0,0,0,2,2
+15,2000,0,,yes,1,3,3,1,8,90,2,2,0,0,8,90,2,0,0,0,0,0,0
+11,1000,1,scenario refused: 29 do[3].at,yes,,,,,,,,,,,,,,,,,,,
+11,2000,1,scenario refused: 29 do[3].at,yes,,,,,,,,,,,,,,,,,,,
 END
 }
 
@@ -93,7 +99,8 @@ check_sweep_rows() {
   local three=three.toml
   expect 'a sweep' 1 "$(three_rows)" \
     'sweep: 2 of 4 runs failed, first rounds=11 params.heartbeat_ms=1000: scenario refused: 29 do[3].at' \
-    in_sweeps --set rounds=15,11 --set params.heartbeat_ms=1000,2000 "$three"
+    in_sweeps --set rounds=15,11 --set params.heartbeat_ms=1000,2000 --columns "$some_columns" "$three"
+  expect 'a sweep with all columns' 0 "$(in_sweeps --columns "$own_columns,$(of_peers)" "$three")" '' in_sweeps "$three"
   expect 'a sweep of nothing' 0 $'new,duplicates\n2,2' '' in_sweeps --columns new,duplicates "$three"
   expect 'a sweep of a peer' 0 $'seed,publications,messages_sent,new\n1,1,2,0\n2,1,2,0' '' \
     in_sweeps --seeds 1..2 --peer a --columns publications,messages_sent,new "$three"
@@ -107,7 +114,7 @@ check_sweep_rows() {
   expect 'a list of commands' 0 "$(listed 7)"$'\n'"$(listed 8)" '' \
     in_sweeps --list --seeds 7..8 --columns new --peer a --into rows "$three"
   expect 'the commands one by one' 0 "$(three_rows | sed -n 2,3p)" '' \
-    one_by_one --set rounds=15 --set params.heartbeat_ms=1000,2000 "$three"
+    one_by_one --set rounds=15 --set params.heartbeat_ms=1000,2000 --columns "$some_columns" "$three"
 }
 
 check_sweep_folder() {

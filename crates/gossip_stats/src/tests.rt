@@ -1,10 +1,12 @@
 //! The program's figures, worked out by hand.
 use crate::arguments::{Asked, Layout, asked_by};
 use crate::program::run;
+use crate::tests::named::{named_in_csv, named_in_json};
 use std::alloc::{AllocError, Global};
 use std::process::ExitCode;
 use std::test::*;
 
+mod named;
 mod worked;
 
 /// `a` and `b` subscribe; at 200 `a` publishes `abc`, which `b` delivers a round later.
@@ -19,46 +21,40 @@ const SCENARIO: &str = "round_ms = 100\nrounds = 3\nworkers = 1\ncapacity = 1\ns
 ///
 /// A subscription is `08 01 12 04 news`: 8 bytes, 10 as a field, 11 as a frame. The message is `12 03 abc 22 04 news`:
 /// 11 bytes, 13 as a field, 14 as a frame.
-const AS_JSON: &str = "[\n\
-    {\"topic\":\"news\",\"payload\":\"616263\",\"publisher\":\"a\",\"at_ms\":200,\"on_topic\":2,\"delivered\":2,\
-    \"first_round\":0,\"median_round\":0,\"round_99\":1,\"last_round\":1},\n\
-    {\"peer\":\"a\",\"rpcs_heard\":1,\"bytes_heard\":11,\"messages_heard\":0,\"new\":0,\"duplicates\":0,\
-    \"ignored\":0,\"invalid\":0,\
-    \"ihave_heard\":0,\"iwant_heard\":0,\"graft_heard\":0,\"prune_heard\":0,\"rpcs_sent\":2,\"bytes_sent\":25,\
-    \"messages_sent\":1,\"ihave_sent\":0,\
-    \"iwant_sent\":0,\"graft_sent\":0,\"prune_sent\":0,\"broken_promises\":0,\"refused_lines\":0,\
-    \"lowest_score\":0,\"highest_score\":0,\"smallest_mesh\":0,\"largest_mesh\":0},\n\
-    {\"peer\":\"b\",\"rpcs_heard\":2,\"bytes_heard\":25,\"messages_heard\":1,\"new\":1,\"duplicates\":0,\
-    \"ignored\":0,\"invalid\":0,\
-    \"ihave_heard\":0,\"iwant_heard\":0,\"graft_heard\":0,\"prune_heard\":0,\"rpcs_sent\":1,\"bytes_sent\":11,\
-    \"messages_sent\":0,\"ihave_sent\":0,\
-    \"iwant_sent\":0,\"graft_sent\":0,\"prune_sent\":0,\"broken_promises\":0,\"refused_lines\":0,\
-    \"lowest_score\":0,\"highest_score\":0,\"smallest_mesh\":0,\"largest_mesh\":0},\n\
-    {\"peer\":\"(all)\",\"rpcs_heard\":3,\"bytes_heard\":36,\"messages_heard\":1,\"new\":1,\"duplicates\":0,\
-    \"ignored\":0,\"invalid\":0,\
-    \"ihave_heard\":0,\"iwant_heard\":0,\"graft_heard\":0,\"prune_heard\":0,\"rpcs_sent\":3,\"bytes_sent\":36,\
-    \"messages_sent\":1,\"ihave_sent\":0,\
-    \"iwant_sent\":0,\"graft_sent\":0,\"prune_sent\":0,\"broken_promises\":0,\"refused_lines\":0,\
-    \"lowest_score\":null,\"highest_score\":null,\"smallest_mesh\":null,\"largest_mesh\":null}\n]\n";
+const FIGURES: &str = "\
+topic=\"news\" payload=\"616263\" publisher=\"a\" at_ms=200 on_topic=2 delivered=2 round_99=1 last_round=1
 
-/// The same as tables.
-const AS_TABLE: &str = "\
+peer=\"a\" rpcs_heard=1 bytes_heard=11 rpcs_sent=2 bytes_sent=25 messages_sent=1
+peer=\"b\" rpcs_heard=2 bytes_heard=25 messages_heard=1 new=1 rpcs_sent=1 bytes_sent=11
+peer=\"(all)\" rpcs_heard=3 bytes_heard=36 messages_heard=1 new=1 rpcs_sent=3 bytes_sent=36 messages_sent=1 \
+lowest_score= highest_score= smallest_mesh= largest_mesh=
+";
+
+/// The same as JSON, without members of 0 (`named_in_json`).
+const JSON: &str = "\
+[
+{\"topic\":\"news\",\"payload\":\"616263\",\"publisher\":\"a\",\"at_ms\":200,\"on_topic\":2,\"delivered\":2,\
+\"round_99\":1,\"last_round\":1},
+{\"peer\":\"a\",\"rpcs_heard\":1,\"bytes_heard\":11,\"rpcs_sent\":2,\"bytes_sent\":25,\"messages_sent\":1,\
+\"largest_mesh\":0},
+{\"peer\":\"b\",\"rpcs_heard\":2,\"bytes_heard\":25,\"messages_heard\":1,\"new\":1,\"rpcs_sent\":1,\
+\"bytes_sent\":11,\"largest_mesh\":0},
+{\"peer\":\"(all)\",\"rpcs_heard\":3,\"bytes_heard\":36,\"messages_heard\":1,\"new\":1,\"rpcs_sent\":3,\
+\"bytes_sent\":36,\"messages_sent\":1,\"lowest_score\":null,\"highest_score\":null,\"smallest_mesh\":null,\
+\"largest_mesh\":null}
+]
+";
+
+/// The same as tables: how they begin and end. The whole of such tables stands in `stdout`.
+const FIRST_TABLE: &str = "\
 How far each message came
 topic  payload  from  at_ms  on topic  delivered  first  median  99%  last
 news   616263   a       200         2          2      0       0    1     1
 
 What each peer heard
-peer   RPCs  bytes  messages  new  duplicates  ignored  invalid  IHAVE  IWANT  GRAFT  PRUNE  broken promises
-a         1     11         0    0           0        0        0      0      0      0      0                0
-b         2     25         1    1           0        0        0      0      0      0      0                0
-(all)     3     36         1    1           0        0        0      0      0      0      0                0
+";
 
-What each peer sent
-peer   RPCs  bytes  messages  IHAVE  IWANT  GRAFT  PRUNE  refused lines
-a         2     25         1      0      0      0      0              0
-b         1     11         0      0      0      0      0              0
-(all)     3     36         1      0      0      0      0              0
-
+const LAST_TABLE: &str = "
 Scores and meshes at the end
 peer  lowest score  highest score  smallest mesh  largest mesh
 a                0              0              0             0
@@ -98,10 +94,48 @@ fn ends_so(
     )
 }
 
+/// What a run with these arguments writes, where it ends well and says nothing on errors.
+fn written(alloc: Global, words: &[&str], input: &str) -> Result<Vec<u8>, AllocError> {
+    let arguments = argument_list(alloc, words)?;
+    let mut output = Vec::new(alloc);
+    let mut errors = Vec::new(alloc);
+    let code = run(
+        alloc,
+        arguments.as_slice(),
+        &mut input.as_bytes(),
+        &mut output,
+        &mut errors,
+    );
+    if code != ExitCode::from(0) || !errors.is_empty() {
+        output.clear();
+    }
+    Ok(output)
+}
+
+/// Whether the CSV of a scenario says this, without zeros (`named_in_csv`).
+fn figures_are(alloc: Global, scenario: &str, wanted: &str) -> Result<bool, AllocError> {
+    let csv = written(alloc, &["--csv"], scenario)?;
+    let text = named_in_csv(alloc, csv.as_slice())?;
+    Ok(text.as_str() == wanted)
+}
+
+fn json_is(alloc: Global, scenario: &str, wanted: &str) -> Result<bool, AllocError> {
+    let json = written(alloc, &["--json"], scenario)?;
+    let text = named_in_json(alloc, json.as_slice())?;
+    Ok(text.as_str() == wanted)
+}
+
+/// Whether tables begin and end so.
+fn tables_are(alloc: Global, words: &[&str], first: &str, last: &str) -> Result<bool, AllocError> {
+    let text = written(alloc, words, SCENARIO)?;
+    Ok(text.starts_with(first.as_bytes()) && text.ends_with(last.as_bytes()))
+}
+
 #[test]
 fn two_subscribers_have_their_figures(rt: HostRuntime) -> Result<(), AllocError> {
-    assert!(rt; ends_so(rt.alloc(), &[], SCENARIO, 0, (AS_TABLE, ""))?);
-    assert!(rt; ends_so(rt.alloc(), &["--json"], SCENARIO, 0, (AS_JSON, ""))?);
+    assert!(rt; figures_are(rt.alloc(), SCENARIO, FIGURES)?);
+    assert!(rt; json_is(rt.alloc(), SCENARIO, JSON)?);
+    assert!(rt; tables_are(rt.alloc(), &[], FIRST_TABLE, LAST_TABLE)?);
     Ok(())
 }
 
@@ -156,21 +190,18 @@ const WITH_RAW: &str = "round_ms = 100\nrounds = 3\nworkers = 1\ncapacity = 1\ns
     [[do]]\nwhat = \"publish\"\nat = 2\npeer = \"a\"\ntopic = \"news\"\nhex = \"616263\"\n\
     [[do]]\nwhat = \"raw\"\nat = 1\npeer = \"a\"\nto = \"b\"\nhex = \"00\"\n";
 
-const WITH_RAW_AS_CSV: &str = "\
-topic,payload,publisher,at_ms,on_topic,delivered,first_round,median_round,round_99,last_round
-\"news\",\"616263\",\"a\",200,2,2,0,0,1,1
+const WITH_RAW_FIGURES: &str = "\
+topic=\"news\" payload=\"616263\" publisher=\"a\" at_ms=200 on_topic=2 delivered=2 round_99=1 last_round=1
 
-peer,rpcs_heard,bytes_heard,messages_heard,new,duplicates,ignored,invalid,ihave_heard,iwant_heard,graft_heard,\
-prune_heard,rpcs_sent,bytes_sent,messages_sent,ihave_sent,iwant_sent,graft_sent,prune_sent,broken_promises,\
-refused_lines,lowest_score,highest_score,smallest_mesh,largest_mesh
-\"a\",1,11,0,0,0,0,0,0,0,0,0,2,26,1,0,0,0,0,0,0,0,0,0,0
-\"b\",3,26,1,1,0,0,0,0,0,0,0,1,11,0,0,0,0,0,0,0,0,0,0,0
-\"(all)\",4,37,1,1,0,0,0,0,0,0,0,3,37,1,0,0,0,0,0,0,,,,
+peer=\"a\" rpcs_heard=1 bytes_heard=11 rpcs_sent=2 bytes_sent=26 messages_sent=1
+peer=\"b\" rpcs_heard=3 bytes_heard=26 messages_heard=1 new=1 rpcs_sent=1 bytes_sent=11
+peer=\"(all)\" rpcs_heard=4 bytes_heard=37 messages_heard=1 new=1 rpcs_sent=3 bytes_sent=37 messages_sent=1 \
+lowest_score= highest_score= smallest_mesh= largest_mesh=
 ";
 
 #[test]
 fn raw_bytes_are_bytes_and_no_rpc_of_the_sender(rt: HostRuntime) -> Result<(), AllocError> {
-    assert!(rt; ends_so(rt.alloc(), &["--csv"], WITH_RAW, 0, (WITH_RAW_AS_CSV, ""))?);
+    assert!(rt; figures_are(rt.alloc(), WITH_RAW, WITH_RAW_FIGURES)?);
     Ok(())
 }
 

@@ -1,7 +1,11 @@
 -- What counts of entries are in all, number by number.
-use Rattle.std.proofs.Common.{◌≡◌, ℕ, ◌+◌, min, List, [], ◌∷◌, fold, refl, ap, ◌∙◌, arith}
+use Rattle.std.proofs.Common.{◌≡◌, ℕ, ◌+◌, min, List, [], ◌∷◌, fold, map, refl, ap, ◌∙◌, arith}
+use Rattle.std.specs.List.{AllByRecursion}
+use Rattle.std.proofs.lemmas.List.Elements.{All-from_recursion}
 use Rattle.gs_rules.specs.declared.trace.Entry.{Entry}
+use Rattle.gs_figures.specs.declared.columns.Column.{Column}
 use Rattle.gs_figures.specs.declared.counts.Counts.{Counts}
+use Rattle.gs_figures.specs.Columns.{counted}
 use Rattle.gs_figures.specs.Counts.{counts_of, counts_plus, most_told, no_counts, plus}
 use Rattle.gs_figures.specs.Sums.{AreSums, IsSum}
 
@@ -19,26 +23,20 @@ module _ (number : Counts → ℕ) (adds : (x y : Counts) → number (counts_plu
   is_sum : number no_counts ≡ 0 → (entries : List Entry) → IsSum number entries
   is_sum none entries = behind entries no_counts 0 none
 
+abbrev head : List ℕ → ℕ
+head [] = 0
+head (n ∷ ns) = n
+
+abbrev tail : List ℕ → List ℕ
+tail [] = []
+tail (n ∷ ns) = ns
+
+-- The numbers of some columns, of which none is left out: where all together add, each is a sum.
+each_is_sum : (entries : List Entry) (columns : List (Column × (Counts → ℕ))) → ((x y : Counts) → map (λ c. c.1 (counts_plus x y)) columns ≡ map (λ c. plus (c.1 x) (c.1 y)) columns) → map (λ c. c.1 no_counts) columns ≡ map (λ c. 0) columns → AllByRecursion (λ c. IsSum c.1 entries) columns
+each_is_sum entries [] adds none = tt
+each_is_sum entries (c ∷ columns) adds none =
+    (is_sum c.1 (λ x y. ap head (adds x y)) (ap head none) entries, each_is_sum entries columns (λ x y. ap tail (adds x y)) (ap tail none))
+
 pub are_sums : (entries : List Entry) → AreSums entries
-are_sums entries = record {
-  rpcs_heard = is_sum (λ c. c.rpcs_heard) (λ x y. refl) refl entries;
-  bytes_heard = is_sum (λ c. c.bytes_heard) (λ x y. refl) refl entries;
-  heard_messages = is_sum (λ c. c.heard.messages) (λ x y. refl) refl entries;
-  heard_ihave = is_sum (λ c. c.heard.ihave) (λ x y. refl) refl entries;
-  heard_iwant = is_sum (λ c. c.heard.iwant) (λ x y. refl) refl entries;
-  heard_graft = is_sum (λ c. c.heard.graft) (λ x y. refl) refl entries;
-  heard_prune = is_sum (λ c. c.heard.prune) (λ x y. refl) refl entries;
-  fates_accepted = is_sum (λ c. c.fates.accepted) (λ x y. refl) refl entries;
-  fates_duplicate = is_sum (λ c. c.fates.duplicate) (λ x y. refl) refl entries;
-  fates_ignored = is_sum (λ c. c.fates.ignored) (λ x y. refl) refl entries;
-  fates_invalid = is_sum (λ c. c.fates.invalid) (λ x y. refl) refl entries;
-  rpcs_sent = is_sum (λ c. c.rpcs_sent) (λ x y. refl) refl entries;
-  bytes_sent = is_sum (λ c. c.bytes_sent) (λ x y. refl) refl entries;
-  sent_messages = is_sum (λ c. c.sent.messages) (λ x y. refl) refl entries;
-  sent_ihave = is_sum (λ c. c.sent.ihave) (λ x y. refl) refl entries;
-  sent_iwant = is_sum (λ c. c.sent.iwant) (λ x y. refl) refl entries;
-  sent_graft = is_sum (λ c. c.sent.graft) (λ x y. refl) refl entries;
-  sent_prune = is_sum (λ c. c.sent.prune) (λ x y. refl) refl entries;
-  broken_promises = is_sum (λ c. c.broken_promises) (λ x y. refl) refl entries;
-  refused_lines = is_sum (λ c. c.refused_lines) (λ x y. refl) refl entries;
-}
+unfolding counted
+are_sums entries = All-from_recursion (λ c. IsSum c.1 entries) counted (each_is_sum entries counted (λ x y. refl) refl)

@@ -8,6 +8,7 @@ pub mod Publications
 pub mod Catalogues
 pub mod Figures
 pub mod Rounds
+pub mod Columns
 pub mod Values
 pub mod Texts
 pub mod Tables

@@ -10,11 +10,12 @@ use Rattle.gs_figures.specs.declared.cells.Table.{Table}
 use Rattle.gs_figures.specs.declared.cells.Table.TheVariants.{Reach, Heard, Sent, Standing, Rounds}
 use Rattle.gs_figures.specs.declared.peers.PeerFigures.{PeerFigures}
 use Rattle.gs_figures.specs.declared.publications.PublicationFigures.{PublicationFigures}
-use Rattle.gs_figures.specs.declared.values.Column.{Column}
+use Rattle.gs_figures.specs.declared.columns.Column.{Column}
 use Rattle.gs_figures.specs.declared.values.Value.{Value}
 use Rattle.gs_figures.specs.Cells.{cells_in, headers_in, name_cell, payload_cell, title}
+use Rattle.gs_figures.specs.Columns.{peer_columns, publication_columns}
 use Rattle.gs_figures.specs.Tables.{table_text}
-use Rattle.gs_figures.specs.Values.{peer_columns, peer_values, publication_columns, publication_values, sum_values}
+use Rattle.gs_figures.specs.Values.{peer_values, publication_values, sum_values}
 
 -- ---- rows
 

@@ -2,12 +2,13 @@
 use Rattle.std.specs.Prelude.{ℕ, List, ◌∷◌, codes, map}
 use Rattle.gs_figures.specs.declared.rounds.RoundFigures.{RoundFigures}
 use Rattle.gs_figures.specs.declared.cells.Table.TheVariants.{Rounds}
-use Rattle.gs_figures.specs.declared.values.Column.{Column}
-use Rattle.gs_figures.specs.declared.values.Column.TheVariants.{MessagesHeard, BytesSent}
+use Rattle.gs_figures.specs.declared.columns.Column.{Column}
+use Rattle.gs_figures.specs.declared.columns.Column.TheVariants.{MessagesHeard, BytesSent}
 use Rattle.gs_figures.specs.declared.values.Value.{Value}
-use Rattle.gs_figures.specs.Cells.{header_text, value_cell}
+use Rattle.gs_figures.specs.Cells.{value_cell}
+use Rattle.gs_figures.specs.Columns.{header_text, round_columns}
 use Rattle.gs_figures.specs.People.{titled}
-use Rattle.gs_figures.specs.Values.{round_columns, round_values}
+use Rattle.gs_figures.specs.Values.{round_values}
 
 -- The header of a column. What was heard stands beside what was sent, so the header says which it is.
 abbrev pub round_header : Column → List ℕ

@@ -4,10 +4,11 @@ use Rattle.std.specs.List.{flat_map}
 use Rattle.gs_figures.specs.declared.rounds.RoundFigures.{RoundFigures}
 use Rattle.gs_figures.specs.declared.text.Form.{Form}
 use Rattle.gs_figures.specs.declared.text.Form.TheVariants.{Csv, Json}
-use Rattle.gs_figures.specs.declared.values.Column.{Column}
+use Rattle.gs_figures.specs.declared.columns.Column.{Column}
 use Rattle.gs_figures.specs.declared.values.Value.{Value}
+use Rattle.gs_figures.specs.Columns.{column_name, round_columns}
 use Rattle.gs_figures.specs.Texts.{column_text, numbers_text, value_text}
-use Rattle.gs_figures.specs.Values.{column_name, round_columns, round_values}
+use Rattle.gs_figures.specs.Values.{round_values}
 
 -- ---- a row
 

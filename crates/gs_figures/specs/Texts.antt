@@ -11,10 +11,11 @@ use Rattle.gs_figures.specs.declared.peers.PeerFigures.{PeerFigures}
 use Rattle.gs_figures.specs.declared.publications.PublicationFigures.{PublicationFigures}
 use Rattle.gs_figures.specs.declared.text.Form.{Form}
 use Rattle.gs_figures.specs.declared.text.Form.TheVariants.{Csv, Json}
-use Rattle.gs_figures.specs.declared.values.Column.{Column}
+use Rattle.gs_figures.specs.declared.columns.Column.{Column}
 use Rattle.gs_figures.specs.declared.values.Value.{Value}
 use Rattle.gs_figures.specs.declared.values.Value.TheVariants.{Count, Whole, Missing}
-use Rattle.gs_figures.specs.Values.{column_name, peer_columns, peer_values, publication_columns, publication_values, sum_values}
+use Rattle.gs_figures.specs.Columns.{column_name, peer_columns, publication_columns}
+use Rattle.gs_figures.specs.Values.{peer_values, publication_values, sum_values}
 
 -- ---- numbers
 

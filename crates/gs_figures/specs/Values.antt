@@ -1,7 +1,7 @@
 -- The numbers of figures, each in a column with a name. Each text of figures is made of these.
-use Rattle.std.specs.Prelude.{ℕ, codes, List, [], ◌∷◌, ◌++◌, map, Option, None, Some}
-use Rattle.gs_figures.specs.declared.values.Column.{Column}
-use Rattle.gs_figures.specs.declared.values.Column.TheVariants.{RpcsHeard, BytesHeard, MessagesHeard, NewMessages, Duplicates, Ignored, Invalid, IhaveHeard, IwantHeard, GraftHeard, PruneHeard, RpcsSent, BytesSent, MessagesSent, IhaveSent, IwantSent, GraftSent, PruneSent, BrokenPromises, RefusedLines, LowestScore, HighestScore, SmallestMesh, LargestMesh, At, OnTopic, Delivered, FirstRound, MedianRound, Round99, LastRound, Round}
+use Rattle.std.specs.Prelude.{List, [], ◌∷◌, ◌++◌, map, Option, None, Some}
+use Rattle.gs_figures.specs.declared.columns.Column.{Column}
+use Rattle.gs_figures.specs.declared.columns.Column.TheVariants.{MessagesHeard, NewMessages, Duplicates, BytesSent, LowestScore, HighestScore, SmallestMesh, LargestMesh, At, OnTopic, Delivered, FirstRound, MedianRound, Round99, LastRound, Round}
 use Rattle.gs_figures.specs.declared.values.Value.{Value}
 use Rattle.gs_figures.specs.declared.values.Value.TheVariants.{Count, Whole, Missing}
 use Rattle.gs_figures.specs.declared.counts.Counts.{Counts}
@@ -10,96 +10,11 @@ use Rattle.gs_figures.specs.declared.publications.PublicationFigures.{Publicatio
 use Rattle.gs_figures.specs.declared.ranks.Spread.{Spread}
 use Rattle.gs_figures.specs.declared.rounds.RoundFigures.{RoundFigures}
 use Rattle.gs_figures.specs.declared.span.Span.{Span}
+use Rattle.gs_figures.specs.Columns.{counted}
 
-abbrev pub column_name : Column → List ℕ
-column_name RpcsHeard = codes "rpcs_heard"
-column_name BytesHeard = codes "bytes_heard"
-column_name MessagesHeard = codes "messages_heard"
-column_name NewMessages = codes "new"
-column_name Duplicates = codes "duplicates"
-column_name Ignored = codes "ignored"
-column_name Invalid = codes "invalid"
-column_name IhaveHeard = codes "ihave_heard"
-column_name IwantHeard = codes "iwant_heard"
-column_name GraftHeard = codes "graft_heard"
-column_name PruneHeard = codes "prune_heard"
-column_name RpcsSent = codes "rpcs_sent"
-column_name BytesSent = codes "bytes_sent"
-column_name MessagesSent = codes "messages_sent"
-column_name IhaveSent = codes "ihave_sent"
-column_name IwantSent = codes "iwant_sent"
-column_name GraftSent = codes "graft_sent"
-column_name PruneSent = codes "prune_sent"
-column_name BrokenPromises = codes "broken_promises"
-column_name RefusedLines = codes "refused_lines"
-column_name LowestScore = codes "lowest_score"
-column_name HighestScore = codes "highest_score"
-column_name SmallestMesh = codes "smallest_mesh"
-column_name LargestMesh = codes "largest_mesh"
-column_name At = codes "at_ms"
-column_name OnTopic = codes "on_topic"
-column_name Delivered = codes "delivered"
-column_name FirstRound = codes "first_round"
-column_name MedianRound = codes "median_round"
-column_name Round99 = codes "round_99"
-column_name LastRound = codes "last_round"
-column_name Round = codes "round"
-
--- the columns of a peer, and of a publication
-unfoldable pub peer_columns : List Column
-peer_columns =
-    RpcsHeard
-    ∷ BytesHeard
-    ∷ MessagesHeard
-    ∷ NewMessages
-    ∷ Duplicates
-    ∷ Ignored
-    ∷ Invalid
-    ∷ IhaveHeard
-    ∷ IwantHeard
-    ∷ GraftHeard
-    ∷ PruneHeard
-    ∷ RpcsSent
-    ∷ BytesSent
-    ∷ MessagesSent
-    ∷ IhaveSent
-    ∷ IwantSent
-    ∷ GraftSent
-    ∷ PruneSent
-    ∷ BrokenPromises
-    ∷ RefusedLines
-    ∷ LowestScore
-    ∷ HighestScore
-    ∷ SmallestMesh
-    ∷ LargestMesh
-    ∷ []
-
-unfoldable pub publication_columns : List Column
-publication_columns = At ∷ OnTopic ∷ Delivered ∷ FirstRound ∷ MedianRound ∷ Round99 ∷ LastRound ∷ []
-
+-- what is counted
 unfoldable pub count_values : Counts → List (Column × Value)
-count_values c =
-    (RpcsHeard, Count c.rpcs_heard)
-    ∷ (BytesHeard, Count c.bytes_heard)
-    ∷ (MessagesHeard, Count c.heard.messages)
-    ∷ (NewMessages, Count c.fates.accepted)
-    ∷ (Duplicates, Count c.fates.duplicate)
-    ∷ (Ignored, Count c.fates.ignored)
-    ∷ (Invalid, Count c.fates.invalid)
-    ∷ (IhaveHeard, Count c.heard.ihave)
-    ∷ (IwantHeard, Count c.heard.iwant)
-    ∷ (GraftHeard, Count c.heard.graft)
-    ∷ (PruneHeard, Count c.heard.prune)
-    ∷ (RpcsSent, Count c.rpcs_sent)
-    ∷ (BytesSent, Count c.bytes_sent)
-    ∷ (MessagesSent, Count c.sent.messages)
-    ∷ (IhaveSent, Count c.sent.ihave)
-    ∷ (IwantSent, Count c.sent.iwant)
-    ∷ (GraftSent, Count c.sent.graft)
-    ∷ (PruneSent, Count c.sent.prune)
-    ∷ (BrokenPromises, Count c.broken_promises)
-    ∷ (RefusedLines, Count c.refused_lines)
-    ∷ []
+count_values c = map (λ x. (x.0, Count (x.1 c))) counted
 
 -- the lowest and the highest in their columns
 abbrev pub span_values : Column → Column → Option Span → List (Column × Value)
@@ -135,19 +50,6 @@ publication_values f =
     ∷ (OnTopic, Count f.on_topic)
     ∷ (Delivered, Count f.delivered)
     ∷ spread_values f.rounds
-
--- the columns of a round, and its numbers in them
-unfoldable pub round_columns : List Column
-round_columns =
-    Round
-    ∷ Delivered
-    ∷ MessagesHeard
-    ∷ NewMessages
-    ∷ Duplicates
-    ∷ BytesSent
-    ∷ SmallestMesh
-    ∷ LargestMesh
-    ∷ []
 
 unfoldable pub round_values : RoundFigures → List (Column × Value)
 round_values f =

@@ -1,12 +1,13 @@
-//! The cells of tables of figures, and which table shows which numbers.
+//! The cells of tables of figures, and which columns stand in a table.
 ghost use Rattle.std.specs.Prelude.{◌≡◌, ◌++◌, codes, IfOk, OnOk};
 ghost use Rattle.std.specs.List.{flat_map};
 ghost use Rattle.hex.specs.Hex.{encode_lower};
-ghost use Rattle.gs_figures.specs.Cells.{cells_in, header_text, headers_in, name_cell, number, payload_cell, printable, stands_in, table_of, title, value_cell};
+ghost use Rattle.gs_figures.specs.Cells.{cells_in, headers_in, name_cell, number, payload_cell, printable, stands_in, title, value_cell};
 
+use crate::columns::{Column, header_text, table_of};
 use crate::table::{Cell, Row};
 use crate::text::{push_count, push_signed};
-use crate::values::{Column, Value};
+use crate::values::Value;
 use gs_base::Seq;
 use std::alloc::{AllocError, Global};
 
@@ -39,46 +40,6 @@ pub(crate) fn title(table: Table) -> &'static str
     }
 }
 
-/// The table that shows a column's numbers. That of the rounds shows numbers of others, too.
-fn table_of(column: Column) -> Table
-    ensures { result ≡ table_of column }
-{
-    match column {
-        Column::RpcsHeard => Table::Heard,
-        Column::BytesHeard => Table::Heard,
-        Column::MessagesHeard => Table::Heard,
-        Column::NewMessages => Table::Heard,
-        Column::Duplicates => Table::Heard,
-        Column::Ignored => Table::Heard,
-        Column::Invalid => Table::Heard,
-        Column::IhaveHeard => Table::Heard,
-        Column::IwantHeard => Table::Heard,
-        Column::GraftHeard => Table::Heard,
-        Column::PruneHeard => Table::Heard,
-        Column::RpcsSent => Table::Sent,
-        Column::BytesSent => Table::Sent,
-        Column::MessagesSent => Table::Sent,
-        Column::IhaveSent => Table::Sent,
-        Column::IwantSent => Table::Sent,
-        Column::GraftSent => Table::Sent,
-        Column::PruneSent => Table::Sent,
-        Column::BrokenPromises => Table::Heard,
-        Column::RefusedLines => Table::Sent,
-        Column::LowestScore => Table::Standing,
-        Column::HighestScore => Table::Standing,
-        Column::SmallestMesh => Table::Standing,
-        Column::LargestMesh => Table::Standing,
-        Column::At => Table::Reach,
-        Column::OnTopic => Table::Reach,
-        Column::Delivered => Table::Reach,
-        Column::FirstRound => Table::Reach,
-        Column::MedianRound => Table::Reach,
-        Column::Round99 => Table::Reach,
-        Column::LastRound => Table::Reach,
-        Column::Round => Table::Rounds,
-    }
-}
-
 fn number(table: Table) -> u8
     ensures { result ≡ number table }
 {
@@ -95,46 +56,6 @@ fn stands_in(table: Table, column: Column) -> bool
     ensures { result ≡ stands_in table column }
 {
     number(table_of(column)) == number(table)
-}
-
-/// The header of a column.
-pub(crate) fn header_text(column: Column) -> &'static str
-    ensures { result.now ≡ header_text column }
-{
-    match column {
-        Column::RpcsHeard => "RPCs",
-        Column::BytesHeard => "bytes",
-        Column::MessagesHeard => "messages",
-        Column::NewMessages => "new",
-        Column::Duplicates => "duplicates",
-        Column::Ignored => "ignored",
-        Column::Invalid => "invalid",
-        Column::IhaveHeard => "IHAVE",
-        Column::IwantHeard => "IWANT",
-        Column::GraftHeard => "GRAFT",
-        Column::PruneHeard => "PRUNE",
-        Column::RpcsSent => "RPCs",
-        Column::BytesSent => "bytes",
-        Column::MessagesSent => "messages",
-        Column::IhaveSent => "IHAVE",
-        Column::IwantSent => "IWANT",
-        Column::GraftSent => "GRAFT",
-        Column::PruneSent => "PRUNE",
-        Column::BrokenPromises => "broken promises",
-        Column::RefusedLines => "refused lines",
-        Column::LowestScore => "lowest score",
-        Column::HighestScore => "highest score",
-        Column::SmallestMesh => "smallest mesh",
-        Column::LargestMesh => "largest mesh",
-        Column::At => "at_ms",
-        Column::OnTopic => "on topic",
-        Column::Delivered => "delivered",
-        Column::FirstRound => "first",
-        Column::MedianRound => "median",
-        Column::Round99 => "99%",
-        Column::LastRound => "last",
-        Column::Round => "round",
-    }
 }
 
 /// Adds the headers of those columns that stand in a table.

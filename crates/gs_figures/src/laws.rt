@@ -12,11 +12,12 @@ ghost use Rattle.gs_rules.specs.Peers.{Peer};
 ghost use Rattle.gs_rules.specs.Saying.{bytes_of, out};
 ghost use Rattle.gs_rules.specs.Tables.{Entries, joined};
 ghost use Rattle.gs_rules.specs.declared.trace.Entry.{Entry as EntryValue};
+ghost use Rattle.gs_figures.specs.Columns.{peer_columns, publication_columns, round_columns};
 ghost use Rattle.gs_figures.specs.Links.{fitting, frames_to, raws_to};
 ghost use Rattle.gs_figures.specs.Peers.{members_in, subscribed};
 ghost use Rattle.gs_figures.specs.Rounds.{members};
 ghost use Rattle.gs_figures.specs.Sums.{AreSums};
-ghost use Rattle.gs_figures.specs.Values.{columns_of, peer_columns, peer_values, publication_columns, publication_values, round_columns, round_values, sum_values};
+ghost use Rattle.gs_figures.specs.Values.{columns_of, peer_values, publication_values, round_values, sum_values};
 ghost use Rattle.gs_figures.specs.declared.counts.Counts.{Counts as CountsValue};
 ghost use Rattle.gs_figures.specs.declared.peers.PeerFigures.{PeerFigures as PeerFiguresValue};
 ghost use Rattle.gs_figures.specs.declared.publications.PublicationFigures.{PublicationFigures as PublicationFiguresValue};
@@ -45,7 +46,6 @@ pub fn all_of_a_legal_trace_counts()
 {}
 
 /// The numbers of each row stand in the columns of its header.
-#[tactic(auto, unfolding(crate::specs::Values::count_values, crate::specs::Values::peer_columns, crate::specs::Values::peer_values, crate::specs::Values::publication_columns, crate::specs::Values::publication_values, crate::specs::Values::round_columns, crate::specs::Values::round_values, crate::specs::Values::sum_values,))]
 pub fn values_stand_in_their_columns()
     ensures publications { (f : PublicationFiguresValue) → columns_of (publication_values f) ≡ publication_columns }
     ensures peers { (f : PeerFiguresValue) → columns_of (peer_values f) ≡ peer_columns }

@@ -3,6 +3,7 @@
 
 mod catalogue;
 mod cells;
+mod columns;
 mod counts;
 mod fate;
 mod figures;

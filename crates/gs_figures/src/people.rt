@@ -2,18 +2,18 @@
 ghost use Rattle.std.specs.Prelude.{◌≡◌, ◌++◌, ◌∷◌, [], codes, map, IfOk, OnOk};
 ghost use Rattle.std.specs.List.{flat_map};
 ghost use Rattle.gs_figures.specs.Cells.{cells_in};
+ghost use Rattle.gs_figures.specs.Columns.{peer_columns, publication_columns};
 ghost use Rattle.gs_figures.specs.People.{figures_table, header_row, peer_row, peer_rows, peers_text, publication_labels, publication_row, reach_rows, sum_rows, titled};
-ghost use Rattle.gs_figures.specs.Values.{peer_columns, publication_columns, sum_values};
+ghost use Rattle.gs_figures.specs.Values.{sum_values};
 
 use crate::cells::{Table, cell_of, name_cell, payload_cell, push_headers, push_values, title};
+use crate::columns::{peer_columns, publication_columns};
 use crate::counts::Counts;
 use crate::figures::Figures;
 use crate::peers::PeerFigures;
 use crate::publications::PublicationFigures;
 use crate::table::{Row, push_table};
-use crate::values::{
-    peer_columns, peer_values, publication_columns, publication_values, sum_values,
-};
+use crate::values::{peer_values, publication_values, sum_values};
 use gs_base::Seq;
 use gs_plan::Plan;
 use gs_report::name_of;

@@ -1,13 +1,14 @@
 //! The figures by rounds as a table that a person reads.
 ghost use Rattle.std.specs.Prelude.{◌≡◌, ◌++◌, map, IfOk, OnOk};
+ghost use Rattle.gs_figures.specs.Columns.{round_columns};
 ghost use Rattle.gs_figures.specs.RoundTables.{cells, headers, round_cells, round_header, round_table_rows, rounds_table};
-ghost use Rattle.gs_figures.specs.Values.{round_columns};
 
-use crate::cells::{Table, cell_of, header_text, value_cell};
+use crate::cells::{Table, cell_of, value_cell};
+use crate::columns::{Column, header_text, round_columns};
 use crate::people::push_titled;
 use crate::rounds::RoundFigures;
 use crate::table::Row;
-use crate::values::{Column, Value, round_columns, round_values};
+use crate::values::{Value, round_values};
 use gs_base::Seq;
 use std::alloc::{AllocError, Global};
 

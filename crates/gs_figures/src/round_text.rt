@@ -3,9 +3,10 @@ ghost use Rattle.std.specs.Prelude.{◌≡◌, ◌++◌, IfOk, OnOk};
 ghost use Rattle.std.specs.List.{flat_map};
 ghost use Rattle.gs_figures.specs.RoundTexts.{first_begins, later_begins, later_rows, lead_of, lead_text, listed_columns, listed_values, round_row, rounds_begin, rounds_close, rounds_rows, rounds_text, row_ends};
 
+use crate::columns::{Column, column_name, round_columns};
 use crate::rounds::RoundFigures;
 use crate::text::{Form, push_columns, push_numbers, push_value};
-use crate::values::{Column, Value, column_name, round_columns, round_values};
+use crate::values::{Value, round_values};
 use std::alloc::{AllocError, Global};
 
 /// The figures of these rounds: in CSV (RFC 4180) a header and a row for each, in JSON (RFC 8259) one list of rows with a

@@ -3,15 +3,13 @@ ghost use Rattle.std.specs.Prelude.{◌≡◌, ◌++◌, decimal, IfOk, OnOk};
 ghost use Rattle.std.specs.List.{flat_map};
 ghost use Rattle.gs_figures.specs.Texts.{ahead_of, begins, closes, column_text, ends, escaped, figures_csv, figures_json, figures_text, label_text, missing_text, name_text, number_text, numbers_text, peer_header, peer_row, publication_header, publication_labels, publication_row, published_text, quoted, signed, sum_row, value_text};
 
+use crate::columns::{Column, column_name, peer_columns, publication_columns};
 use crate::counts::Counts;
 use crate::figures::Figures;
 use crate::listed::Appearance;
 use crate::peers::PeerFigures;
 use crate::publications::PublicationFigures;
-use crate::values::{
-    Column, Value, column_name, peer_columns, peer_values, publication_columns, publication_values,
-    sum_values,
-};
+use crate::values::{Value, peer_values, publication_values, sum_values};
 use gs_plan::Plan;
 use gs_report::name_of;
 use std::alloc::{AllocError, Global};

@@ -2,7 +2,6 @@ mod links;
 mod made;
 mod made_rpcs;
 mod peers;
-mod people;
 mod percentiles;
 mod publications;
 mod rounds;

@@ -1,5 +1,5 @@
 -- The texts of a picture that depend on nothing.
-use Rattle.std.specs.Prelude.{ℕ, List, codes}
+use Rattle.std.specs.Prelude.{ℕ, ◌++◌, List, codes}
 use Rattle.gs_picture.specs.declared.pieces.Piece.{Piece}
 use Rattle.gs_picture.specs.declared.pieces.Piece.TheVariants.{EdgeBegins, EdgeFrom, EdgeTo, PathEnds, DiscBegins, MarkPlace, DiscMark, DiscEnds, NameBegins, NameTurn, NameText, TextEnds, WordsAcross, WordsDown, TagEnds}
 use Rattle.gs_picture.specs.declared.pieces.Part.{Part}
@@ -48,10 +48,38 @@ part CourseEnds = codes "H860\"/>\n"
 
 -- the legend but for the classes, what stands above and below the chart, and the style
 unfoldable pub legend_words : List ℕ
-legend_words = codes "<text class=\"head\" x=\"60\" y=\"590\">Each disc is a peer, by the lowest score that a neighbour gives it at the end</text>\n<g class=\"disc off\" transform=\"translate(69 660)\"><circle r=\"9\"/></g><text x=\"85\" y=\"664\">hollow: not subscribed to the topic</text>\n<path class=\"both\" d=\"M316 660H340\"/><text x=\"345\" y=\"664\">each has the other in its mesh</text>\n<path class=\"tail\" d=\"M576 660H592\"/><path class=\"tip\" d=\"M592 655L602 660L592 665z\"/><text x=\"605\" y=\"664\">the tail alone has the head in its mesh</text>\n"
+legend_words =
+    codes "<text class=\"head\" x=\"60\" y=\"590\">Each disc is a peer, by the lowest score that a neighbour "
+    ++ codes "gives it at the end</text>\n"
+    ++ codes "<g class=\"disc off\" transform=\"translate(69 660)\"><circle r=\"9\"/></g><text x=\"85\" y=\"664\">"
+    ++ codes "hollow: not subscribed to the topic</text>\n"
+    ++ codes "<path class=\"both\" d=\"M316 660H340\"/><text x=\"345\" y=\"664\">"
+    ++ codes "each has the other in its mesh</text>\n"
+    ++ codes "<path class=\"tail\" d=\"M576 660H592\"/><path class=\"tip\" d=\"M592 655L602 660L592 665z\"/>"
+    ++ codes "<text x=\"605\" y=\"664\">the tail alone has the head in its mesh</text>\n"
 
 unfoldable pub chart_words : List ℕ
-chart_words = codes "<text class=\"head\" x=\"60\" y=\"700\">Share of the peers that each publication on the topic reached</text>\n<text class=\"middle\" x=\"460\" y=\"958\">rounds since it was published</text>\n"
+chart_words =
+    codes "<text class=\"head\" x=\"60\" y=\"700\">Share of the peers that each publication on the topic "
+    ++ codes "reached</text>\n<text class=\"middle\" x=\"460\" y=\"958\">rounds since it was published</text>\n"
 
 unfoldable pub style_text : List ℕ
-style_text = codes "<style>\ntext{font-family:sans-serif;font-size:12px;fill:#1f2328}\n.back{fill:#fff}\n.title{font-size:18px;font-weight:bold}\n.head{font-weight:bold}\n.middle{text-anchor:middle}\n.end{text-anchor:end}\n.name{font-family:monospace;font-size:11px}\npath{fill:none}\n.both{stroke:#57606a;stroke-opacity:.55}\n.one,.tail{stroke:#bc4c00;stroke-width:1.5}\n.one{marker-end:url(#head)}\n#head path,.tip{fill:#bc4c00}\n.disc circle{stroke-width:2;stroke:#57606a}\n.disc text{font-size:11px;font-weight:bold;text-anchor:middle;fill:#fff}\n.fair circle{fill:#0969da;stroke:#0969da}\n.zero circle{fill:#e3b341;stroke:#9a6700}\n.zero text{fill:#1f2328}\n.gossip circle{fill:#e16f24;stroke:#bc4c00}\n.publish circle{fill:#cf222e;stroke:#cf222e}\n.graylist circle{fill:#6e40c9;stroke:#6e40c9}\n.unscored circle{fill:#6e7781;stroke:#6e7781}\n.off circle{fill:#fff}\n.off text{fill:#1f2328}\n.grid{stroke:#d0d7de}\n.course{stroke:#0969da;stroke-width:2}\n.some{stroke-opacity:.5}\n.many{stroke-opacity:.2}\n@media (prefers-color-scheme:dark){\ntext,.off text{fill:#e6edf3}\n.back,.off circle{fill:#0d1117}\n.both{stroke:#9198a1}\n.grid{stroke:#30363d}\n.course{stroke:#58a6ff}\n}\n</style>\n<defs><marker id=\"head\" refX=\"18\" refY=\"5\" markerWidth=\"10\" markerHeight=\"10\" markerUnits=\"userSpaceOnUse\" orient=\"auto\"><path d=\"M0 0L10 5L0 10z\"/></marker></defs>\n<rect class=\"back\" width=\"100%\" height=\"100%\"/>\n"
+style_text =
+    codes "<style>\ntext{font-family:sans-serif;font-size:12px;fill:#1f2328}\n.back{fill:#fff}\n"
+    ++ codes ".title{font-size:18px;font-weight:bold}\n.head{font-weight:bold}\n.middle{text-anchor:middle}\n"
+    ++ codes ".end{text-anchor:end}\n.name{font-family:monospace;font-size:11px}\npath{fill:none}\n"
+    ++ codes ".both{stroke:#57606a;stroke-opacity:.55}\n.one,.tail{stroke:#bc4c00;stroke-width:1.5}\n"
+    ++ codes ".one{marker-end:url(#head)}\n#head path,.tip{fill:#bc4c00}\n"
+    ++ codes ".disc circle{stroke-width:2;stroke:#57606a}\n"
+    ++ codes ".disc text{font-size:11px;font-weight:bold;text-anchor:middle;fill:#fff}\n"
+    ++ codes ".fair circle{fill:#0969da;stroke:#0969da}\n.zero circle{fill:#e3b341;stroke:#9a6700}\n"
+    ++ codes ".zero text{fill:#1f2328}\n.gossip circle{fill:#e16f24;stroke:#bc4c00}\n"
+    ++ codes ".publish circle{fill:#cf222e;stroke:#cf222e}\n.graylist circle{fill:#6e40c9;stroke:#6e40c9}\n"
+    ++ codes ".unscored circle{fill:#6e7781;stroke:#6e7781}\n.off circle{fill:#fff}\n.off text{fill:#1f2328}\n"
+    ++ codes ".grid{stroke:#d0d7de}\n.course{stroke:#0969da;stroke-width:2}\n.some{stroke-opacity:.5}\n"
+    ++ codes ".many{stroke-opacity:.2}\n@media (prefers-color-scheme:dark){\ntext,.off text{fill:#e6edf3}\n"
+    ++ codes ".back,.off circle{fill:#0d1117}\n.both{stroke:#9198a1}\n.grid{stroke:#30363d}\n"
+    ++ codes ".course{stroke:#58a6ff}\n}\n</style>\n"
+    ++ codes "<defs><marker id=\"head\" refX=\"18\" refY=\"5\" markerWidth=\"10\" markerHeight=\"10\" "
+    ++ codes "markerUnits=\"userSpaceOnUse\" orient=\"auto\"><path d=\"M0 0L10 5L0 10z\"/></marker></defs>\n"
+    ++ codes "<rect class=\"back\" width=\"100%\" height=\"100%\"/>\n"

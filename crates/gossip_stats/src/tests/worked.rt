@@ -3,14 +3,15 @@
 //! The frames that go out: a subscription to `news` or to `blog` takes 11 bytes, and those to both in one RPC 21. `abc`
 //! on either takes 14, `ff` 12. A GRAFT takes 11, GRAFTs of both topics 19, and a PRUNE with a backoff 13. A heartbeat
 //! comes each second, which is each tenth round.
-use super::ends_so;
+use super::figures_are;
 use std::alloc::AllocError;
 use std::test::*;
 
 struct Case {
     name: &'static str,
     scenario: &'static str,
-    csv: &'static str,
+    /// What its CSV says, without zeros (`named_in_csv`).
+    figures: &'static str,
 }
 
 /// Two subscribe to `news` and `blog`. `a` publishes `abc` on `news` at 200, on `blog` at 300, which is refused since it
@@ -28,17 +29,16 @@ const TWO_TOPICS: Case = Case {
         [[do]]\nat = 2\npeer = \"a\"\nwhat = \"publish\"\ntopic = \"news\"\nhex = \"616263\"\n\
         [[do]]\nat = 3\npeer = \"a\"\nwhat = \"publish\"\ntopic = \"blog\"\nhex = \"616263\"\n\
         [[do]]\nat = 7\npeer = \"a\"\nwhat = \"publish\"\ntopic = \"blog\"\nhex = \"616263\"\n",
-    csv: "\
-topic,payload,publisher,at_ms,on_topic,delivered,first_round,median_round,round_99,last_round
-\"news\",\"616263\",\"a\",200,2,2,0,0,1,1
-\"blog\",\"616263\",\"a\",700,2,2,0,0,1,1
+    figures: "\
+topic=\"news\" payload=\"616263\" publisher=\"a\" at_ms=200 on_topic=2 delivered=2 round_99=1 last_round=1
+topic=\"blog\" payload=\"616263\" publisher=\"a\" at_ms=700 on_topic=2 delivered=2 round_99=1 last_round=1
 
-peer,rpcs_heard,bytes_heard,messages_heard,new,duplicates,ignored,invalid,ihave_heard,iwant_heard,graft_heard,\
-prune_heard,rpcs_sent,bytes_sent,messages_sent,ihave_sent,iwant_sent,graft_sent,prune_sent,broken_promises,\
-refused_lines,lowest_score,highest_score,smallest_mesh,largest_mesh
-\"a\",2,40,0,0,0,0,0,0,0,0,0,4,68,2,0,0,2,0,0,1,0,0,1,1
-\"b\",4,68,2,2,0,0,0,0,0,0,0,2,40,0,0,0,2,0,0,0,0,0,1,1
-\"(all)\",6,108,2,2,0,0,0,0,0,0,0,6,108,2,0,0,4,0,0,1,,,,
+peer=\"a\" rpcs_heard=2 bytes_heard=40 rpcs_sent=4 bytes_sent=68 messages_sent=2 graft_sent=2 \
+refused_lines=1 smallest_mesh=1 largest_mesh=1
+peer=\"b\" rpcs_heard=4 bytes_heard=68 messages_heard=2 new=2 rpcs_sent=2 bytes_sent=40 graft_sent=2 \
+smallest_mesh=1 largest_mesh=1
+peer=\"(all)\" rpcs_heard=6 bytes_heard=108 messages_heard=2 new=2 rpcs_sent=6 bytes_sent=108 \
+messages_sent=2 graft_sent=4 refused_lines=1 lowest_score= highest_score= smallest_mesh= largest_mesh=
 ",
 };
 
@@ -52,16 +52,16 @@ const REJECTED: Case = Case {
         [[do]]\nat = 0\npeer = \"a\"\nwhat = \"subscribe\"\ntopic = \"news\"\n\
         [[do]]\nat = 0\npeer = \"b\"\nwhat = \"subscribe\"\ntopic = \"news\"\n\
         [[do]]\nat = 12\npeer = \"b\"\nwhat = \"publish\"\ntopic = \"news\"\nhex = \"ff\"\n",
-    csv: "\
-topic,payload,publisher,at_ms,on_topic,delivered,first_round,median_round,round_99,last_round
-\"news\",\"ff\",\"b\",1200,2,1,0,0,0,0
+    figures: "\
+topic=\"news\" payload=\"ff\" publisher=\"b\" at_ms=1200 on_topic=2 delivered=1
 
-peer,rpcs_heard,bytes_heard,messages_heard,new,duplicates,ignored,invalid,ihave_heard,iwant_heard,graft_heard,\
-prune_heard,rpcs_sent,bytes_sent,messages_sent,ihave_sent,iwant_sent,graft_sent,prune_sent,broken_promises,\
-refused_lines,lowest_score,highest_score,smallest_mesh,largest_mesh
-\"a\",3,34,1,0,0,0,1,0,0,1,0,3,35,0,0,0,1,1,0,0,0,0,0,0
-\"b\",3,35,0,0,0,0,0,0,0,1,0,3,34,1,0,0,1,0,0,0,-10000000,-10000000,1,1
-\"(all)\",6,69,1,0,0,0,1,0,0,2,0,6,69,1,0,0,2,1,0,0,,,,
+peer=\"a\" rpcs_heard=3 bytes_heard=34 messages_heard=1 invalid=1 graft_heard=1 rpcs_sent=3 bytes_sent=35 \
+graft_sent=1 prune_sent=1
+peer=\"b\" rpcs_heard=3 bytes_heard=35 graft_heard=1 rpcs_sent=3 bytes_sent=34 messages_sent=1 graft_sent=1 \
+lowest_score=-10000000 highest_score=-10000000 smallest_mesh=1 largest_mesh=1
+peer=\"(all)\" rpcs_heard=6 bytes_heard=69 messages_heard=1 invalid=1 graft_heard=2 rpcs_sent=6 \
+bytes_sent=69 messages_sent=1 graft_sent=2 prune_sent=1 lowest_score= highest_score= smallest_mesh= \
+largest_mesh=
 ",
 };
 
@@ -77,17 +77,18 @@ const HUNG_UP: Case = Case {
         [[do]]\nat = 0\npeer = \"c\"\nwhat = \"subscribe\"\ntopic = \"news\"\n\
         [[do]]\nat = 2\npeer = \"a\"\nwhat = \"publish\"\ntopic = \"news\"\nhex = \"616263\"\n\
         [[do]]\nat = 4\npeer = \"a\"\nwhat = \"hang_up\"\nto = \"b\"\n",
-    csv: "\
-topic,payload,publisher,at_ms,on_topic,delivered,first_round,median_round,round_99,last_round
-\"news\",\"616263\",\"a\",200,3,3,0,1,1,1
+    figures: "\
+topic=\"news\" payload=\"616263\" publisher=\"a\" at_ms=200 on_topic=3 delivered=3 median_round=1 \
+round_99=1 last_round=1
 
-peer,rpcs_heard,bytes_heard,messages_heard,new,duplicates,ignored,invalid,ihave_heard,iwant_heard,graft_heard,\
-prune_heard,rpcs_sent,bytes_sent,messages_sent,ihave_sent,iwant_sent,graft_sent,prune_sent,broken_promises,\
-refused_lines,lowest_score,highest_score,smallest_mesh,largest_mesh
-\"a\",3,33,0,0,0,0,0,0,0,0,0,5,61,2,0,0,1,0,0,0,0,0,1,1
-\"b\",4,47,1,1,0,0,0,0,0,0,0,3,33,0,0,0,1,0,0,0,0,0,1,1
-\"c\",5,58,1,1,0,0,0,0,0,0,0,4,44,0,0,0,2,0,0,0,0,0,2,2
-\"(all)\",12,138,2,2,0,0,0,0,0,0,0,12,138,2,0,0,4,0,0,0,,,,
+peer=\"a\" rpcs_heard=3 bytes_heard=33 rpcs_sent=5 bytes_sent=61 messages_sent=2 graft_sent=1 \
+smallest_mesh=1 largest_mesh=1
+peer=\"b\" rpcs_heard=4 bytes_heard=47 messages_heard=1 new=1 rpcs_sent=3 bytes_sent=33 graft_sent=1 \
+smallest_mesh=1 largest_mesh=1
+peer=\"c\" rpcs_heard=5 bytes_heard=58 messages_heard=1 new=1 rpcs_sent=4 bytes_sent=44 graft_sent=2 \
+smallest_mesh=2 largest_mesh=2
+peer=\"(all)\" rpcs_heard=12 bytes_heard=138 messages_heard=2 new=2 rpcs_sent=12 bytes_sent=138 \
+messages_sent=2 graft_sent=4 lowest_score= highest_score= smallest_mesh= largest_mesh=
 ",
 };
 
@@ -105,19 +106,22 @@ const LINE: Case = Case {
         [[do]]\nat = 0\npeer = \"p3\"\nwhat = \"subscribe\"\ntopic = \"news\"\n\
         [[do]]\nat = 0\npeer = \"p4\"\nwhat = \"subscribe\"\ntopic = \"news\"\n\
         [[do]]\nat = 12\npeer = \"p0\"\nwhat = \"publish\"\ntopic = \"news\"\nhex = \"616263\"\n",
-    csv: "\
-topic,payload,publisher,at_ms,on_topic,delivered,first_round,median_round,round_99,last_round
-\"news\",\"616263\",\"p0\",1200,5,5,0,2,4,4
+    figures: "\
+topic=\"news\" payload=\"616263\" publisher=\"p0\" at_ms=1200 on_topic=5 delivered=5 median_round=2 \
+round_99=4 last_round=4
 
-peer,rpcs_heard,bytes_heard,messages_heard,new,duplicates,ignored,invalid,ihave_heard,iwant_heard,graft_heard,\
-prune_heard,rpcs_sent,bytes_sent,messages_sent,ihave_sent,iwant_sent,graft_sent,prune_sent,broken_promises,\
-refused_lines,lowest_score,highest_score,smallest_mesh,largest_mesh
-\"p0\",2,22,0,0,0,0,0,0,0,1,0,3,36,1,0,0,1,0,0,0,0,0,1,1
-\"p1\",5,58,1,1,0,0,0,0,0,2,0,5,58,1,0,0,2,0,0,0,0,0,2,2
-\"p2\",5,58,1,1,0,0,0,0,0,2,0,5,58,1,0,0,2,0,0,0,0,0,2,2
-\"p3\",5,58,1,1,0,0,0,0,0,2,0,5,58,1,0,0,2,0,0,0,0,0,2,2
-\"p4\",3,36,1,1,0,0,0,0,0,1,0,2,22,0,0,0,1,0,0,0,0,0,1,1
-\"(all)\",20,232,4,4,0,0,0,0,0,8,0,20,232,4,0,0,8,0,0,0,,,,
+peer=\"p0\" rpcs_heard=2 bytes_heard=22 graft_heard=1 rpcs_sent=3 bytes_sent=36 messages_sent=1 \
+graft_sent=1 smallest_mesh=1 largest_mesh=1
+peer=\"p1\" rpcs_heard=5 bytes_heard=58 messages_heard=1 new=1 graft_heard=2 rpcs_sent=5 bytes_sent=58 \
+messages_sent=1 graft_sent=2 smallest_mesh=2 largest_mesh=2
+peer=\"p2\" rpcs_heard=5 bytes_heard=58 messages_heard=1 new=1 graft_heard=2 rpcs_sent=5 bytes_sent=58 \
+messages_sent=1 graft_sent=2 smallest_mesh=2 largest_mesh=2
+peer=\"p3\" rpcs_heard=5 bytes_heard=58 messages_heard=1 new=1 graft_heard=2 rpcs_sent=5 bytes_sent=58 \
+messages_sent=1 graft_sent=2 smallest_mesh=2 largest_mesh=2
+peer=\"p4\" rpcs_heard=3 bytes_heard=36 messages_heard=1 new=1 graft_heard=1 rpcs_sent=2 bytes_sent=22 \
+graft_sent=1 smallest_mesh=1 largest_mesh=1
+peer=\"(all)\" rpcs_heard=20 bytes_heard=232 messages_heard=4 new=4 graft_heard=8 rpcs_sent=20 \
+bytes_sent=232 messages_sent=4 graft_sent=8 lowest_score= highest_score= smallest_mesh= largest_mesh=
 ",
 };
 
@@ -126,7 +130,7 @@ static CASES: [Case; 4] = [TWO_TOPICS, REJECTED, HUNG_UP, LINE];
 #[test]
 fn whole_runs_have_their_figures(rt: HostRuntime) -> Result<(), AllocError> {
     for case in &CASES {
-        let told = ends_so(rt.alloc(), &["--csv"], case.scenario, 0, (case.csv, ""))?;
+        let told = figures_are(rt.alloc(), case.scenario, case.figures)?;
         assert_eq!(rt; (case.name, told), (case.name, true));
     }
     Ok(())

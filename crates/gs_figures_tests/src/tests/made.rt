@@ -1,7 +1,7 @@
 //! Traces that are made by hand.
-use crate::tests::made_rpcs::{PartCounts, each_part, rpc};
+use crate::tests::made_rpcs::{Kind, PartCounts, one_part, rpc};
 use bytes::Bytes;
-use gs_base::{Mark, Millis, MsgId, PeerNo, Rpc, Seq, Shared, SharedPart, Topic, Verdict};
+use gs_base::{Mark, Millis, MsgId, PeerNo, Rpc, Seq, Shared, Topic, Verdict};
 use gs_plan::Act;
 use gs_report::Finished;
 use gs_rules::{Effects, Entry, Event, Refusal, RefusedLine, RpcPart, Trace};
@@ -27,12 +27,10 @@ pub(crate) enum Did {
     HearsLate(u16),
     /// A message comes of a neighbour.
     Message(u16, Comes),
-    Offer(u16),
-    Request(u16),
-    Graft(u16),
+    /// A part of this kind comes of a neighbour.
+    Part(u16, Kind),
     /// A GRAFT comes that counts as misbehaviour.
     EarlyGraft(u16),
-    Prune(u16),
     /// A heartbeat begins, and this many promises were broken.
     Beat(usize),
     Subscribes(&'static str),
@@ -94,21 +92,15 @@ fn event_of(alloc: Global, did: Did) -> Result<Event, AllocError> {
     match did {
         Did::Hears(q) => Ok(Event::Heard(PeerNo(q), Shared::new(alloc, Rpc::empty(alloc))?)),
         Did::HearsLate(q) => Ok(Event::Late(PeerNo(q), Shared::new(alloc, Rpc::empty(alloc))?)),
-        Did::Message(q, _) => Ok(part_of(q, RpcPart::Msg(SharedPart::at(each_part(alloc)?, 0)))),
-        Did::Offer(q) => Ok(part_of(q, RpcPart::Have(SharedPart::at(each_part(alloc)?, 0)))),
-        Did::Request(q) => Ok(part_of(q, RpcPart::Want(SharedPart::at(each_part(alloc)?, 0)))),
-        Did::Graft(q) => Ok(part_of(q, RpcPart::GraftIn(SharedPart::at(each_part(alloc)?, 0)))),
-        Did::EarlyGraft(q) => Ok(part_of(
-            q,
-            RpcPart::GraftIn(SharedPart::at(each_part(alloc)?, 0)),
-        )),
-        Did::Prune(q) => Ok(part_of(q, RpcPart::PruneIn(SharedPart::at(each_part(alloc)?, 0)))),
+        Did::Message(q, _) => Ok(part_of(q, one_part(alloc, Kind::Message)?)),
+        Did::Part(q, kind) => Ok(part_of(q, one_part(alloc, kind)?)),
+        Did::EarlyGraft(q) => Ok(part_of(q, one_part(alloc, Kind::Graft)?)),
         Did::Beat(_) => Ok(Event::BeatBegin),
         Did::Subscribes(name) => own(alloc, Act::Subscribe(topic(alloc, name)?)),
         Did::Leaves(name) => own(alloc, Act::Unsubscribe(topic(alloc, name)?)),
         Did::Publishes(name, payload) => publish(alloc, name, payload),
         Did::PublishesOutside(name, payload) => publish(alloc, name, payload),
-        Did::Delivers(_, _) => Ok(part_of(0, RpcPart::Msg(SharedPart::at(each_part(alloc)?, 0)))),
+        Did::Delivers(_, _) => Ok(part_of(0, one_part(alloc, Kind::Message)?)),
         Did::Sends(_, _) => Ok(Event::RoundEnd(0)),
     }
 }

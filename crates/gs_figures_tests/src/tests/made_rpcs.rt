@@ -1,8 +1,9 @@
-//! RPCs that are made by hand.
+//! RPCs and their parts, made by hand.
 ghost use Rattle.std.specs.Prelude.{◌<◌, length, IfOk};
 ghost use Rattle.gs_base.specs.Rpcs.{grafts_in, offers_in, prunes_in, requests_in};
 
-use gs_base::{Control, Graft, IHave, IWant, Message, Prune, Rpc, Seq, Shared, SubOpt};
+use gs_base::{Control, Graft, IHave, IWant, Message, Prune, Rpc, Seq, Shared, SharedPart, SubOpt};
+use gs_rules::RpcPart;
 use std::alloc::{AllocError, Global};
 
 fn each_control(alloc: Global) -> Result<Control, AllocError>
@@ -31,7 +32,7 @@ fn each_control(alloc: Global) -> Result<Control, AllocError>
 }
 
 /// An RPC with one part of each kind that an event may bring, without any field.
-pub(crate) fn each_part(alloc: Global) -> Result<Shared<Rpc>, AllocError>
+fn each_part(alloc: Global) -> Result<Shared<Rpc>, AllocError>
     ensures message { IfOk result (λ rpc. 0 < length rpc.publish) }
     ensures offer { IfOk result (λ rpc. 0 < length (offers_in rpc.control)) }
     ensures request { IfOk result (λ rpc. 0 < length (requests_in rpc.control)) }
@@ -44,6 +45,28 @@ pub(crate) fn each_part(alloc: Global) -> Result<Shared<Rpc>, AllocError>
         ..Rpc::empty(alloc)
     };
     Shared::new(alloc, rpc)
+}
+
+/// A kind of parts that an event may bring.
+#[derive(Clone, Copy)]
+pub(crate) enum Kind {
+    Message,
+    Offer,
+    Request,
+    Graft,
+    Prune,
+}
+
+/// A part of this kind, without any field.
+pub(crate) fn one_part(alloc: Global, kind: Kind) -> Result<RpcPart, AllocError> {
+    let rpc = each_part(alloc)?;
+    Ok(match kind {
+        Kind::Message => RpcPart::Msg(SharedPart::at(rpc, 0)),
+        Kind::Offer => RpcPart::Have(SharedPart::at(rpc, 0)),
+        Kind::Request => RpcPart::Want(SharedPart::at(rpc, 0)),
+        Kind::Graft => RpcPart::GraftIn(SharedPart::at(rpc, 0)),
+        Kind::Prune => RpcPart::PruneIn(SharedPart::at(rpc, 0)),
+    })
 }
 
 /// How many parts of each kind an RPC has.

@@ -1,6 +1,6 @@
 //! What is counted at each peer.
 use crate::tests::made::{Comes, Did, Life, SILENT, peers_of};
-use crate::tests::made_rpcs::{NO_PART, PartCounts};
+use crate::tests::made_rpcs::{Kind, NO_PART, PartCounts};
 use gs_base::PeerNo;
 use gs_figures::{Counts, Fates, Parts, PeerFigures, Span, all_figures, counts_of_all};
 use std::alloc::{AllocError, Global};
@@ -79,16 +79,16 @@ static CASES: [Case; 5] = [
                 (100, Did::Message(2, Comes::Rejected)),
                 (100, Did::Message(2, Comes::Ignored)),
                 (100, Did::HearsLate(2)),
-                (200, Did::Offer(1)),
-                (200, Did::Request(1)),
-                (200, Did::Request(2)),
-                (200, Did::Graft(1)),
+                (200, Did::Part(1, Kind::Offer)),
+                (200, Did::Part(1, Kind::Request)),
+                (200, Did::Part(2, Kind::Request)),
+                (200, Did::Part(1, Kind::Graft)),
                 (200, Did::EarlyGraft(1)),
-                (200, Did::Graft(2)),
-                (200, Did::Prune(1)),
-                (200, Did::Prune(1)),
-                (200, Did::Prune(1)),
-                (200, Did::Prune(2)),
+                (200, Did::Part(2, Kind::Graft)),
+                (200, Did::Part(1, Kind::Prune)),
+                (200, Did::Part(1, Kind::Prune)),
+                (200, Did::Part(1, Kind::Prune)),
+                (200, Did::Part(2, Kind::Prune)),
                 (300, Did::Beat(2)),
                 (400, Did::Beat(0)),
                 (500, Did::Beat(1)),

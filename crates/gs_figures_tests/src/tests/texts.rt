@@ -1,13 +1,13 @@
-//! The texts of the figures of a run of two peers.
+//! The texts of figures: as CSV, as JSON, and as tables that a person reads.
 use crate::tests::made::{Did, Life, SILENT, peers_of};
-use crate::tests::made_rpcs::{NO_PART, PartCounts};
-use gs_figures::{figures_csv, figures_json, figures_of};
+use crate::tests::made_rpcs::{Kind, NO_PART, PartCounts};
+use gs_figures::{Figures, figures_csv, figures_json, figures_of, figures_table};
 use gs_plan::Plan;
 use gs_report::Report;
 use gs_scenario::read_plan;
 use std::alloc::{AllocError, Global};
 
-pub(crate) const SCENARIO: &str = r#"
+const SCENARIO: &str = r#"
 round_ms = 100
 rounds = 10
 workers = 1
@@ -18,7 +18,7 @@ peer = [{ name = "a" }, { name = "b" }]
 dial = [{ from = "a", to = "b" }]
 "#;
 
-pub(crate) static LIVES: [Life; 2] = [
+static LIVES: [Life; 2] = [
     Life {
         trace: &[
             (0, Did::Subscribes("news")),
@@ -44,7 +44,7 @@ pub(crate) static LIVES: [Life; 2] = [
         peer: 1,
         trace: &[
             (0, Did::Subscribes("news")),
-            (100, Did::Offer(0)),
+            (100, Did::Part(0, Kind::Offer)),
             (300, Did::Delivers("news", b"abc")),
             (500, Did::PublishesOutside("news", b"\"\n")),
         ],
@@ -93,29 +93,146 @@ const JSON: &str = "\
 ]
 ";
 
-/// Whether the texts tell the figures of the run.
-fn are_told(alloc: Global, plan: &Plan) -> Result<bool, AllocError> {
+const TABLE: &str = "\
+How far each message came
+topic  payload  from  at_ms  on topic  delivered  first  median  99%  last
+news   616263   a       200         2          2      0       0    1     1
+news   220a     b       500         2          0      -       -    -     -
+
+What each peer heard
+peer   RPCs  bytes  messages  new  duplicates  ignored  invalid  IHAVE  IWANT  GRAFT  PRUNE  broken promises
+a         1      0         0    0           0        0        0      0      0      0      0                0
+b         0      3         1    1           0        0        0      1      0      0      0                0
+(all)     1      3         1    1           0        0        0      1      0      0      0                0
+
+What each peer sent
+peer   RPCs  bytes  messages  IHAVE  IWANT  GRAFT  PRUNE  refused lines
+a         1      3         1      0      0      0      0              1
+b         0      0         0      0      0      0      0              0
+(all)     1      3         1      0      0      0      0              1
+
+Scores and meshes at the end
+peer  lowest score  highest score  smallest mesh  largest mesh
+a                -              -              1             1
+b         -1500000       -1500000              0             0
+";
+
+/// A payload of nine bytes on a topic whose name has a line break, a backslash and a letter of two bytes, and one of eight.
+static STRANGE: [Life; 1] = [Life {
+    trace: &[
+        (0, Did::PublishesOutside("a\n\\ä", b"123456789")),
+        (100, Did::PublishesOutside("a", b"12345678")),
+    ],
+    ..SILENT
+}];
+
+const STRANGE_TABLE: &str = "\
+How far each message came
+topic              payload             from  at_ms  on topic  delivered  first  median  99%  last
+a\\x0a\\x5c\\xc3\\xa4  3132333435363738..  a         0         0          0      -       -    -     -
+a                  3132333435363738    a       100         0          0      -       -    -     -
+
+What each peer heard
+peer   RPCs  bytes  messages  new  duplicates  ignored  invalid  IHAVE  IWANT  GRAFT  PRUNE  broken promises
+a         0      0         0    0           0        0        0      0      0      0      0                0
+(all)     0      0         0    0           0        0        0      0      0      0      0                0
+
+What each peer sent
+peer   RPCs  bytes  messages  IHAVE  IWANT  GRAFT  PRUNE  refused lines
+a         0      0         0      0      0      0      0              0
+(all)     0      0         0      0      0      0      0              0
+
+Scores and meshes at the end
+peer  lowest score  highest score  smallest mesh  largest mesh
+a                -              -              -             -
+";
+
+static NOBODY: [Life; 0] = [];
+
+const EMPTY_TABLE: &str = "\
+How far each message came
+none
+
+What each peer heard
+peer   RPCs  bytes  messages  new  duplicates  ignored  invalid  IHAVE  IWANT  GRAFT  PRUNE  broken promises
+(all)     0      0         0    0           0        0        0      0      0      0      0                0
+
+What each peer sent
+peer   RPCs  bytes  messages  IHAVE  IWANT  GRAFT  PRUNE  refused lines
+(all)     0      0         0      0      0      0      0              0
+
+Scores and meshes at the end
+none
+";
+
+/// A form of figures.
+#[derive(Clone, Copy)]
+enum Written {
+    Csv,
+    Json,
+    Table,
+}
+
+fn text_of(
+    alloc: Global,
+    plan: &Plan,
+    figures: &Figures,
+    form: Written,
+) -> Result<Vec<u8>, AllocError> {
+    match form {
+        Written::Csv => figures_csv(alloc, plan, figures),
+        Written::Json => figures_json(alloc, plan, figures),
+        Written::Table => figures_table(alloc, plan, figures),
+    }
+}
+
+/// Whether this text tells the figures of these lives.
+fn are_told(
+    alloc: Global,
+    plan: &Plan,
+    lives: &[Life],
+    form: Written,
+    wanted: &str,
+) -> Result<bool, AllocError> {
     let report = Report {
-        peers: peers_of(alloc, &LIVES)?,
+        peers: peers_of(alloc, lives)?,
         settled: 2,
     };
     let made = figures_of(alloc, plan, &report);
     drop(report);
     let figures = made?;
-    let csv = figures_csv(alloc, plan, &figures)?;
-    let json = figures_json(alloc, plan, &figures)?;
-    Ok(csv.as_slice() == CSV.as_bytes() && json.as_slice() == JSON.as_bytes())
+    let text = text_of(alloc, plan, &figures, form)?;
+    Ok(text.as_slice() == wanted.as_bytes())
 }
 
-fn tells_two_peers(alloc: Global) -> Result<bool, AllocError> {
+fn tells(alloc: Global, lives: &[Life], form: Written, wanted: &str) -> Result<bool, AllocError> {
     match read_plan(alloc, SCENARIO) {
-        Ok(plan) => are_told(alloc, &plan),
+        Ok(plan) => are_told(alloc, &plan, lives, form, wanted),
         Err(_) => Ok(false),
     }
 }
 
 #[test]
 fn two_peers_are_written_as_csv_and_as_json(rt: HostRuntime) -> Result<(), AllocError> {
-    assert!(rt; tells_two_peers(rt.alloc())?);
+    assert!(rt; tells(rt.alloc(), &LIVES, Written::Csv, CSV)?);
+    assert!(rt; tells(rt.alloc(), &LIVES, Written::Json, JSON)?);
+    Ok(())
+}
+
+#[test]
+fn two_peers_are_written_as_tables(rt: HostRuntime) -> Result<(), AllocError> {
+    assert!(rt; tells(rt.alloc(), &LIVES, Written::Table, TABLE)?);
+    Ok(())
+}
+
+#[test]
+fn a_long_payload_and_a_strange_name_keep_their_columns(rt: HostRuntime) -> Result<(), AllocError> {
+    assert!(rt; tells(rt.alloc(), &STRANGE, Written::Table, STRANGE_TABLE)?);
+    Ok(())
+}
+
+#[test]
+fn tables_without_rows_say_so(rt: HostRuntime) -> Result<(), AllocError> {
+    assert!(rt; tells(rt.alloc(), &NOBODY, Written::Table, EMPTY_TABLE)?);
     Ok(())
 }
