@@ -10,6 +10,7 @@ import re
 import subprocess
 import threading
 from collections import namedtuple
+from decimal import Decimal
 
 from until import Uncut, cut
 
@@ -108,9 +109,14 @@ def tables_of(text):
     return [list(csv.DictReader(io.StringIO(it))) for it in text.split("\n\n", 1)]
 
 
+def number(text):
+    """A count, or a score, which has six digits after the point."""
+    return Decimal(text) if "." in text else int(text)
+
+
 def numbers(rows, column):
     """The numbers of a column, but for the places where there is none."""
-    return [int(row[column]) for row in rows if row[column]]
+    return [number(row[column]) for row in rows if row[column]]
 
 
 def of_several(column, values):

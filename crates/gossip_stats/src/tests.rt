@@ -57,8 +57,8 @@ What each peer heard
 const LAST_TABLE: &str = "
 Scores and meshes at the end
 peer  lowest score  highest score  smallest mesh  largest mesh
-a                0              0              0             0
-b                0              0              0             0
+a         0.000000       0.000000              0             0
+b         0.000000       0.000000              0             0
 ";
 
 fn argument_list(alloc: Global, words: &[&str]) -> Result<Vec<String>, AllocError> {

@@ -6,9 +6,10 @@ use Rattle.gs_figures.specs.declared.cells.Table.{Table}
 use Rattle.gs_figures.specs.declared.cells.Table.TheVariants.{Reach, Heard, Sent, Standing, Rounds}
 use Rattle.gs_figures.specs.declared.columns.Column.{Column}
 use Rattle.gs_figures.specs.declared.values.Value.{Value}
-use Rattle.gs_figures.specs.declared.values.Value.TheVariants.{Count, Whole, Missing}
+use Rattle.gs_figures.specs.declared.values.Value.TheVariants.{Count, Whole, Score, Missing}
 use Rattle.gs_figures.specs.Columns.{header_text, table_of}
 use Rattle.gs_figures.specs.Texts.{signed}
+use Rattle.gs_report.specs.Text.{score_text}
 
 -- ---- tables
 
@@ -50,6 +51,7 @@ payload_cell payload = if nat_lt 8 (length payload) then encode_lower (take 8 pa
 abbrev pub value_cell : Value → List ℕ
 value_cell (Count n) = decimal n
 value_cell (Whole z) = signed z
+value_cell (Score z) = score_text z
 value_cell Missing = codes "-"
 
 -- the cell of a value that stands in the table

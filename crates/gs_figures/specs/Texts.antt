@@ -3,7 +3,7 @@ use Rattle.std.specs.Prelude.{ℕ, ℤ, pos, int_lt, nat_lt, unsigned_abs, ◌||
 use Rattle.std.specs.List.{flat_map}
 use Rattle.hex.specs.Hex.{encode_lower}
 use Rattle.gs_plan.specs.declared.plan.Plan.{Plan}
-use Rattle.gs_report.specs.Text.{name_of}
+use Rattle.gs_report.specs.Text.{name_of, score_text}
 use Rattle.gs_figures.specs.declared.counts.Counts.{Counts}
 use Rattle.gs_figures.specs.declared.figures.Figures.{Figures}
 use Rattle.gs_figures.specs.declared.listed.Appearance.{Appearance}
@@ -13,7 +13,7 @@ use Rattle.gs_figures.specs.declared.text.Form.{Form}
 use Rattle.gs_figures.specs.declared.text.Form.TheVariants.{Csv, Json}
 use Rattle.gs_figures.specs.declared.columns.Column.{Column}
 use Rattle.gs_figures.specs.declared.values.Value.{Value}
-use Rattle.gs_figures.specs.declared.values.Value.TheVariants.{Count, Whole, Missing}
+use Rattle.gs_figures.specs.declared.values.Value.TheVariants.{Count, Whole, Score, Missing}
 use Rattle.gs_figures.specs.Columns.{column_name, peer_columns, publication_columns}
 use Rattle.gs_figures.specs.Values.{peer_values, publication_values, sum_values}
 
@@ -31,6 +31,7 @@ missing_text Json = codes "null"
 abbrev pub value_text : Form → Value → List ℕ
 value_text form (Count n) = decimal n
 value_text form (Whole z) = signed z
+value_text form (Score z) = score_text z
 value_text form Missing = missing_text form
 
 -- what stands before a number: a comma, and in JSON the name of its column

@@ -3,7 +3,7 @@ use Rattle.std.specs.Prelude.{List, [], ◌∷◌, ◌++◌, map, Option, None, 
 use Rattle.gs_figures.specs.declared.columns.Column.{Column}
 use Rattle.gs_figures.specs.declared.columns.Column.TheVariants.{MessagesHeard, NewMessages, Duplicates, BytesSent, LowestScore, HighestScore, SmallestMesh, LargestMesh, At, OnTopic, Delivered, FirstRound, MedianRound, Round99, LastRound, Round}
 use Rattle.gs_figures.specs.declared.values.Value.{Value}
-use Rattle.gs_figures.specs.declared.values.Value.TheVariants.{Count, Whole, Missing}
+use Rattle.gs_figures.specs.declared.values.Value.TheVariants.{Count, Whole, Score, Missing}
 use Rattle.gs_figures.specs.declared.counts.Counts.{Counts}
 use Rattle.gs_figures.specs.declared.peers.PeerFigures.{PeerFigures}
 use Rattle.gs_figures.specs.declared.publications.PublicationFigures.{PublicationFigures}
@@ -16,22 +16,23 @@ use Rattle.gs_figures.specs.Columns.{counted}
 unfoldable pub count_values : Counts → List (Column × Value)
 count_values c = map (λ x. (x.0, Count (x.1 c))) counted
 
--- the lowest and the highest in their columns
-abbrev pub span_values : Column → Column → Option Span → List (Column × Value)
-span_values low high None = (low, Missing) ∷ (high, Missing) ∷ []
-span_values low high (Some span) = (low, Whole span.lowest) ∷ (high, Whole span.highest) ∷ []
+-- the lowest and the highest score
+abbrev pub score_values : Option Span → List (Column × Value)
+score_values None = (LowestScore, Missing) ∷ (HighestScore, Missing) ∷ []
+score_values (Some span) = (LowestScore, Score span.lowest) ∷ (HighestScore, Score span.highest) ∷ []
 
--- scores are in millionths
+-- how many members the smallest mesh has, and the largest
+abbrev pub mesh_values : Option Span → List (Column × Value)
+mesh_values None = (SmallestMesh, Missing) ∷ (LargestMesh, Missing) ∷ []
+mesh_values (Some span) = (SmallestMesh, Whole span.lowest) ∷ (LargestMesh, Whole span.highest) ∷ []
+
 unfoldable pub peer_values : PeerFigures → List (Column × Value)
 peer_values f =
-    count_values f.counts
-    ++ span_values LowestScore HighestScore f.scores
-    ++ span_values SmallestMesh LargestMesh f.members
+    count_values f.counts ++ score_values f.scores ++ mesh_values f.members
 
 -- the sums over all peers: there are none of scores and meshes
 unfoldable pub sum_values : Counts → List (Column × Value)
-sum_values counts =
-    count_values counts ++ span_values LowestScore HighestScore None ++ span_values SmallestMesh LargestMesh None
+sum_values counts = count_values counts ++ score_values None ++ mesh_values None
 
 -- where rounds lie, in their columns
 abbrev pub spread_values : Option Spread → List (Column × Value)
@@ -59,7 +60,7 @@ round_values f =
     ∷ (NewMessages, Count f.accepted)
     ∷ (Duplicates, Count f.duplicates)
     ∷ (BytesSent, Count f.bytes)
-    ∷ span_values SmallestMesh LargestMesh f.members
+    ∷ mesh_values f.members
 
 -- the columns that these values stand in
 abbrev pub columns_of : List (Column × Value) → List Column

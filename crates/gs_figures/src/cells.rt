@@ -9,6 +9,7 @@ use crate::table::{Cell, Row};
 use crate::text::{push_count, push_signed};
 use crate::values::Value;
 use gs_base::Seq;
+use gs_report::push_millionths;
 use std::alloc::{AllocError, Global};
 
 /// A table of figures.
@@ -188,6 +189,7 @@ fn push_value_text(alloc: Global, text: &mut Vec<u8>, value: &Value) -> Result<(
     match value {
         Value::Count(number) => push_count(alloc, text, *number),
         Value::Whole(number) => push_signed(alloc, text, number),
+        Value::Score(millionths) => push_millionths(alloc, text, *millionths),
         Value::Missing => text.extend_from_slice(b"-"),
     }
 }

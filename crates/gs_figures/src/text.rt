@@ -11,7 +11,7 @@ use crate::peers::PeerFigures;
 use crate::publications::PublicationFigures;
 use crate::values::{Value, peer_values, publication_values, sum_values};
 use gs_plan::Plan;
-use gs_report::name_of;
+use gs_report::{name_of, push_millionths};
 use std::alloc::{AllocError, Global};
 
 /// How figures are written.
@@ -359,6 +359,7 @@ pub(crate) fn push_value(
     match value {
         Value::Count(number) => push_count(alloc, text, *number),
         Value::Whole(number) => push_signed(alloc, text, number),
+        Value::Score(millionths) => push_millionths(alloc, text, *millionths),
         Value::Missing => push_missing(text, form),
     }
 }

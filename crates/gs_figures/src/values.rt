@@ -1,6 +1,6 @@
 //! The numbers of figures, each in a column with a name.
 ghost use Rattle.std.specs.Prelude.{◌≡◌, ◌++◌, IfOk, OnOk};
-ghost use Rattle.gs_figures.specs.Values.{peer_values, publication_values, round_values, span_values, spread_values, sum_values};
+ghost use Rattle.gs_figures.specs.Values.{mesh_values, peer_values, publication_values, round_values, score_values, spread_values, sum_values};
 
 use crate::columns::{Column, count_values};
 use crate::counts::Counts;
@@ -17,10 +17,12 @@ pub enum Value {
     Count(u64),
     /// It may be below 0.
     Whole(i128),
+    /// A score in millionths, which is shown as a number with six digits after the point.
+    Score(i128),
     Missing,
 }
 
-/// The numbers of a peer, in the order of their columns. Scores are in millionths.
+/// The numbers of a peer, in the order of their columns.
 #[tactic(auto, unfolding(crate::specs::Values::peer_values))]
 pub(crate) fn peer_values(
     alloc: Global,
@@ -29,18 +31,8 @@ pub(crate) fn peer_values(
     ensures { IfOk result (λ values. values.items ≡ peer_values figures.now) }
 {
     let mut values = count_values(alloc, &figures.counts)?;
-    push_span(
-        &mut values,
-        Column::LowestScore,
-        Column::HighestScore,
-        &figures.scores,
-    )?;
-    push_span(
-        &mut values,
-        Column::SmallestMesh,
-        Column::LargestMesh,
-        &figures.members,
-    )?;
+    push_scores(&mut values, &figures.scores)?;
+    push_meshes(&mut values, &figures.members)?;
     Ok(values)
 }
 
@@ -50,37 +42,37 @@ pub(crate) fn sum_values(alloc: Global, sum: &Counts) -> Result<Vec<(Column, Val
     ensures { IfOk result (λ values. values.items ≡ sum_values sum.now) }
 {
     let mut values = count_values(alloc, sum)?;
-    push_span(
-        &mut values,
-        Column::LowestScore,
-        Column::HighestScore,
-        &None,
-    )?;
-    push_span(
-        &mut values,
-        Column::SmallestMesh,
-        Column::LargestMesh,
-        &None,
-    )?;
+    push_scores(&mut values, &None)?;
+    push_meshes(&mut values, &None)?;
     Ok(values)
 }
 
-/// Adds the lowest and the highest in their columns.
-fn push_span(
-    values: &mut Vec<(Column, Value)>,
-    low: Column,
-    high: Column,
-    span: &Option<Span>,
-) -> Result<(), AllocError>
-    ensures { OnOk result (values.new.items ≡ values.old.items ++ span_values low high span.now) }
+/// Adds the lowest and the highest score.
+fn push_scores(values: &mut Vec<(Column, Value)>, span: &Option<Span>) -> Result<(), AllocError>
+    ensures { OnOk result (values.new.items ≡ values.old.items ++ score_values span.now) }
 {
-    match span {
-        Some(span) => values.extend_from_slice(&[
-            (low, Value::Whole(span.lowest)),
-            (high, Value::Whole(span.highest)),
-        ]),
-        None => values.extend_from_slice(&[(low, Value::Missing), (high, Value::Missing)]),
-    }
+    let (lowest, highest) = match span {
+        Some(span) => (Value::Score(span.lowest), Value::Score(span.highest)),
+        None => (Value::Missing, Value::Missing),
+    };
+    values.extend_from_slice(&[
+        (Column::LowestScore, lowest),
+        (Column::HighestScore, highest),
+    ])
+}
+
+/// Adds how many members the smallest mesh has, and the largest.
+fn push_meshes(values: &mut Vec<(Column, Value)>, span: &Option<Span>) -> Result<(), AllocError>
+    ensures { OnOk result (values.new.items ≡ values.old.items ++ mesh_values span.now) }
+{
+    let (smallest, largest) = match span {
+        Some(span) => (Value::Whole(span.lowest), Value::Whole(span.highest)),
+        None => (Value::Missing, Value::Missing),
+    };
+    values.extend_from_slice(&[
+        (Column::SmallestMesh, smallest),
+        (Column::LargestMesh, largest),
+    ])
 }
 
 /// The numbers of a publication, in the order of their columns.
@@ -136,11 +128,6 @@ pub(crate) fn round_values(
         (Column::Duplicates, Value::Count(figures.duplicates)),
         (Column::BytesSent, Value::Count(figures.bytes)),
     ]?;
-    push_span(
-        &mut values,
-        Column::SmallestMesh,
-        Column::LargestMesh,
-        &figures.members,
-    )?;
+    push_meshes(&mut values, &figures.members)?;
     Ok(values)
 }

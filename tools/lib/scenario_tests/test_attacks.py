@@ -1,6 +1,8 @@
 """What each attack does, in the figures and reports of the programs. The numbers are worked out in the comments."""
 import unittest
 
+from sweep_runs import number
+
 from .common import figures, in_file, plain, report
 
 # A victim in the middle of a line: `h`, `v` and `x`, who attacks. Nothing is forgiven, so counts stay whole.
@@ -23,7 +25,7 @@ def attack(kind, keys):
 
 def of(text, peer, *columns):
     row = figures(text)[1][peer]
-    return tuple(int(row[it]) for it in columns)
+    return tuple(number(row[it]) for it in columns)
 
 
 class Spam(unittest.TestCase):
@@ -38,12 +40,12 @@ class Spam(unittest.TestCase):
         # the square of 3 times -10 is -90, below the graylist threshold, -80
         text = LINE + PARAMS + REJECTING + self.FLOOD
         self.assertEqual(of(text, "v", "invalid"), (3,))
-        self.assertEqual(of(text, "x", "lowest_score"), (-90_000_000,))
+        self.assertEqual(of(text, "x", "lowest_score"), (-90,))
 
     def test_an_author_makes_a_message_invalid_too(self):
         text = LINE + PARAMS + TOPIC + "w4 = -10000000\n" + self.FLOOD
         self.assertEqual(of(text, "v", "invalid"), (3,))
-        self.assertEqual(of(text, "x", "lowest_score"), (-90_000_000,))
+        self.assertEqual(of(text, "x", "lowest_score"), (-90,))
 
     def test_messages_that_begin_well_are_delivered(self):
         text = LINE + PARAMS + REJECTING + attack("spam", 'until = "10 s"\nevery = "500 ms"\nbegins = "00"\nsize = 20\n')
@@ -89,7 +91,7 @@ class Floods(unittest.TestCase):
         # one offer; 3 seconds later its promise is broken, and the square of 1 times -10 is -10
         text = LINE + PARAMS + TOPIC + attack("ihave_flood", 'until = "2100 ms"\nevery = "1 s"\n')
         self.assertEqual(of(text, "v", "iwant_sent", "broken_promises"), (1, 1))
-        self.assertEqual(of(text, "x", "lowest_score"), (-10_000_000,))
+        self.assertEqual(of(text, "x", "lowest_score"), (-10,))
 
     def test_requests_get_a_message_as_often_as_they_may(self):
         # one message, asked for 4 * 10 times, is sent 3 times by default, and once where one is all
@@ -105,13 +107,13 @@ class Floods(unittest.TestCase):
         flood = attack("graft_flood", 'until = "6 s"\nevery = "1 s"\n')
         text = LINE + PARAMS + "w7 = -1000000\n" + TOPIC + flood
         self.assertEqual(of(text, "v", "graft_heard", "prune_sent"), (5, 4))  # (one GRAFT is of `h`)
-        self.assertEqual(of(text, "x", "lowest_score"), (-16_000_000,))
+        self.assertEqual(of(text, "x", "lowest_score"), (-16,))
 
     def test_grafts_in_backoff_are_heard_until_the_graylist(self):
         # by default the square of 3 times -10 is -90
         text = LINE + PARAMS + TOPIC + attack("graft_flood", 'until = "10 s"\nevery = "1 s"\n')
         self.assertEqual(of(text, "v", "graft_heard", "prune_sent"), (4, 3))
-        self.assertEqual(of(text, "x", "lowest_score"), (-90_000_000,))
+        self.assertEqual(of(text, "x", "lowest_score"), (-90,))
 
     def test_garbage_cuts_the_link(self):
         # sent in round 20, heard in round 21
@@ -244,20 +246,20 @@ every = "500 ms"
         # So a fourth one is heard, and 20 - 10 * 4 * 4 is -140. Without credit three are heard.
         with_credit = self.TEXT + REJECTING + "w2 = 1000000\n" + self.ATTACK
         self.assertEqual(of(with_credit, "v", "new", "invalid"), (20, 4))
-        self.assertEqual(of(with_credit, "x", "lowest_score", "highest_score"), (-140_000_000, -140_000_000))
+        self.assertEqual(of(with_credit, "x", "lowest_score", "highest_score"), (-140, -140))
         self.assertEqual(of(self.TEXT + REJECTING + self.ATTACK, "v", "new", "invalid"), (20, 3))
 
     def test_until_its_moment_it_is_good(self):
         # what it publishes in the rounds 15 to 34 is heard by the end, in round 35, and what it sends then is not
         early = self.TEXT.replace("12 s", "3500 ms") + REJECTING + "w2 = 1000000\n" + self.ATTACK
-        self.assertEqual(of(early, "x", "lowest_score"), (20_000_000,))
+        self.assertEqual(of(early, "x", "lowest_score"), (20,))
         self.assertEqual(of(early, "v", "invalid"), (0,))
 
     def test_it_may_do_something_else_then(self):
         attack_of = self.ATTACK.replace('from = "3500 ms"', 'from = "3500 ms"\nthen = "graft_flood"')
         text = self.TEXT + "w7 = -1000000\n" + TOPIC + attack_of
         # GRAFTs at 3.5 s to 9.5 s: 13, and the ninth makes it -81, below the graylist threshold
-        self.assertEqual(of(text, "x", "lowest_score"), (-81_000_000,))
+        self.assertEqual(of(text, "x", "lowest_score"), (-81,))
 
 
 class Partition(unittest.TestCase):

@@ -58,7 +58,7 @@ topic=\"news\" payload=\"ff\" publisher=\"b\" at_ms=1200 on_topic=2 delivered=1
 peer=\"a\" rpcs_heard=3 bytes_heard=34 messages_heard=1 invalid=1 graft_heard=1 rpcs_sent=3 bytes_sent=35 \
 graft_sent=1 prune_sent=1
 peer=\"b\" rpcs_heard=3 bytes_heard=35 graft_heard=1 rpcs_sent=3 bytes_sent=34 messages_sent=1 graft_sent=1 \
-lowest_score=-10000000 highest_score=-10000000 smallest_mesh=1 largest_mesh=1
+lowest_score=-10.000000 highest_score=-10.000000 smallest_mesh=1 largest_mesh=1
 peer=\"(all)\" rpcs_heard=6 bytes_heard=69 messages_heard=1 invalid=1 graft_heard=2 rpcs_sent=6 \
 bytes_sent=69 messages_sent=1 graft_sent=2 prune_sent=1 lowest_score= highest_score= smallest_mesh= \
 largest_mesh=

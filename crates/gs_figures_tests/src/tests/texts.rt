@@ -62,7 +62,7 @@ prune_heard,\
 rpcs_sent,bytes_sent,messages_sent,ihave_sent,iwant_sent,graft_sent,prune_sent,broken_promises,refused_lines,\
 lowest_score,highest_score,smallest_mesh,largest_mesh
 \"a\",1,0,0,0,0,0,0,0,0,0,0,1,3,1,0,0,0,0,0,1,,,1,1
-\"b\",0,3,1,1,0,0,0,1,0,0,0,0,0,0,0,0,0,0,0,0,-1500000,-1500000,0,0
+\"b\",0,3,1,1,0,0,0,1,0,0,0,0,0,0,0,0,0,0,0,0,-1.500000,-1.500000,0,0
 \"(all)\",1,3,1,1,0,0,0,1,0,0,0,1,3,1,0,0,0,0,0,1,,,,
 ";
 
@@ -83,7 +83,7 @@ const JSON: &str = "\
 \"ihave_heard\":1,\"iwant_heard\":0,\"graft_heard\":0,\"prune_heard\":0,\"rpcs_sent\":0,\"bytes_sent\":0,\
 \"messages_sent\":0,\"ihave_sent\":0,\
 \"iwant_sent\":0,\"graft_sent\":0,\"prune_sent\":0,\"broken_promises\":0,\"refused_lines\":0,\
-\"lowest_score\":-1500000,\"highest_score\":-1500000,\"smallest_mesh\":0,\"largest_mesh\":0},
+\"lowest_score\":-1.500000,\"highest_score\":-1.500000,\"smallest_mesh\":0,\"largest_mesh\":0},
 {\"peer\":\"(all)\",\"rpcs_heard\":1,\"bytes_heard\":3,\"messages_heard\":1,\"new\":1,\"duplicates\":0,\"ignored\":0,\
 \"invalid\":0,\
 \"ihave_heard\":1,\"iwant_heard\":0,\"graft_heard\":0,\"prune_heard\":0,\"rpcs_sent\":1,\"bytes_sent\":3,\
@@ -114,7 +114,7 @@ b         0      0         0      0      0      0      0              0
 Scores and meshes at the end
 peer  lowest score  highest score  smallest mesh  largest mesh
 a                -              -              1             1
-b         -1500000       -1500000              0             0
+b        -1.500000      -1.500000              0             0
 ";
 
 /// A payload of nine bytes on a topic whose name has a line break, a backslash and a letter of two bytes, and one of eight.
