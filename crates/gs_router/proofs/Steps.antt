@@ -14,7 +14,8 @@ use Rattle.gs_rules.specs.declared.trace.Entry.{Entry}
 use Rattle.gs_rules.specs.Peers.{Peer}
 use Rattle.gs_rules.specs.Tables.{Entries, last_moment}
 use Rattle.gs_rules.specs.Scoring.{is_graylisted}
-use Rattle.gs_rules.specs.Owed.{Debt, Group, PartsOf, events_in, heartbeat_groups, nothing, owed, owes, owing, paid, parts, reached}
+use Rattle.gs_rules.specs.Owed.{Debt, Group, PartsOf, events_in, heartbeat_groups, nothing, owed, owes, owing, paid, reached}
+use Rattle.gs_rules.specs.Parts.{parts}
 use Rattle.gs_rules.specs.Rules.{rule_of}
 use Rattle.gs_rules.specs.Modes.{Mode, Follows, free}
 use Rattle.gs_rules.specs.Legal.{Legal, LegalOn, IsNext, MayOpen, Begins}

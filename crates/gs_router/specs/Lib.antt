@@ -3,7 +3,6 @@ pub mod PeerLists
 pub mod Tables
 pub mod Known
 pub mod State
-pub mod Parts
 pub mod Router
 pub mod Offers
 pub mod Requests

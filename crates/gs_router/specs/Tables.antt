@@ -82,7 +82,8 @@ pub record NeighbourSighting : Type 0 where
 
 abbrev pub neighbour_sighting : Sightings → MsgId → PeerNo → ℕ → Option NeighbourSighting
 neighbour_sighting kept id q now =
-    option_map (λ (s : Found). record { at = s.at.0; verdict = s.verdict; noted = is_noted q s }) (what_counts kept.cache id now)
+    option_map (λ (s : Found). record { at = s.at.0; verdict = s.verdict; noted = is_noted q s })
+    (what_counts kept.cache id now)
 
 -- it counts for less than a time
 abbrev pub still : ℕ → ℕ → Option NeighbourSighting → Option NeighbourSighting

@@ -5,9 +5,8 @@ ghost use Rattle.gs_rules.specs.declared.event.Event.TheVariants as events;
 ghost use Rattle.gs_rules.specs.Tables.{Entries, last_moment, up};
 ghost use Rattle.gs_rules.specs.Owed.{owes};
 ghost use Rattle.gs_rules.specs.Modes.{exact};
-ghost use Rattle.gs_rules.specs.Legal.{MayAct, MayHear, MayOpen, hearing};
+ghost use Rattle.gs_rules.specs.Legal.{MayAct, MayOpen, hearing};
 ghost use Rattle.gs_rules.specs.Peers.{Peer};
-ghost use Rattle.gs_rules.specs.Scoring.{is_graylisted};
 ghost use Rattle.gs_router.specs.Tables.{Agrees, AgreesOnScores, AreMadeFor};
 ghost use Rattle.gs_router.specs.State.{IsCurrent, IsDue, IsReady, Steps, WorkEnds, peer_of};
 
@@ -18,9 +17,7 @@ mod scores;
 
 use crate::entries;
 use crate::known::Known;
-use gs_base::{
-    Graft, IHave, IWant, Message, Millis, PeerNo, Prune, Rpc, Seq, Shared, SubOpt, clone_of,
-};
+use gs_base::{Millis, PeerNo, Rpc, Seq, Shared};
 use gs_cache::Payloads;
 use gs_params::Words;
 use gs_plan::Act;
@@ -47,7 +44,9 @@ impl State {
         requires few { self.old.known.tables.standings.scores.decays ≤ length self.old.trace }
         requires beats { self.old.known.tables.beats.count ≤ length self.old.trace }
         ensures added { OnOk result (self.new.trace ≡ entry ∷ self.old.trace) }
-        ensures agrees { OnOk result ((L : Entries) → Agrees self.old.known.tables L → Agrees self.new.known.tables (entry ∷ L)) }
+        ensures agrees { OnOk result ((L : Entries)
+            → Agrees self.old.known.tables L
+            → Agrees self.new.known.tables (entry ∷ L)) }
         ensures scores { OnOk result ((p : Peer) (L : Entries)
             → AgreesOnScores p self.old.known.tables.standings L
             → AgreesOnScores p self.new.known.tables.standings (entry ∷ L)) }
@@ -167,32 +166,6 @@ impl State {
             return self.open(payloads, Event::Heard(from, rpc), now, words);
         }
         self.hear_up(payloads, from, &rpc, now, words)
-    }
-
-    /// Hears an RPC of a neighbour that is up and not on the graylist, and all its parts.
-    fn hear_up<W: Words>(
-        &mut self,
-        payloads: &mut Payloads,
-        from: PeerNo,
-        rpc: &Shared<Rpc>,
-        now: Millis,
-        words: &mut W,
-    ) -> Result<(), AllocError>
-        requires ready { IsReady self.old }
-        requires time { last_moment self.old.trace ≤ now.0 }
-        requires may { MayHear self.old.trace from rpc.now }
-        requires listened { is_graylisted (peer_of self.old) self.old.trace now.0 from ≡ false }
-        ensures { WorkEnds (exact W.word W.after) (events.Heard from rpc.now) now
-            self.old words.old result self.new words.new }
-    {
-        self.step(Event::Heard(from, clone_of(rpc)?), now, words)?;
-        self.hear_parts::<SubOpt, W>(payloads, from, rpc, now, words)?;
-        self.hear_parts::<Message, W>(payloads, from, rpc, now, words)?;
-        self.hear_parts::<IHave, W>(payloads, from, rpc, now, words)?;
-        self.hear_parts::<IWant, W>(payloads, from, rpc, now, words)?;
-        self.hear_parts::<Graft, W>(payloads, from, rpc, now, words)?;
-        self.hear_parts::<Prune, W>(payloads, from, rpc, now, words)?;
-        Ok(())
     }
 }
 

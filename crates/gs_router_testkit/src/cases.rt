@@ -1,4 +1,5 @@
 //! What is done to a router, and what must be seen of it then.
+use crate::parts::CasePart;
 use gs_params::{
     DEFAULT_DEGREES, DEFAULT_FACTORS, DEFAULT_FLOOD_PUBLISH, DEFAULT_TIMING, DEFAULT_TOPIC_FACTORS,
     Degrees, Factors, Timing, TopicFactors,
@@ -39,28 +40,6 @@ pub const NO_FIELDS: Fields<'static> = Fields {
     signature: None,
     key: None,
 };
-
-/// A part of an RPC, as cases write it.
-#[derive(Clone, Copy, Debug)]
-pub enum CasePart<'a> {
-    /// Its sender subscribes to a topic.
-    On(&'a str),
-    /// Its sender leaves a topic.
-    Off(&'a str),
-    /// A change of a subscription that does not say which.
-    Sub(&'a str),
-    /// A message with only a topic and a payload.
-    Message(&'a str, &'a [u8]),
-    /// Any other message.
-    Other(Fields<'a>),
-    Have(&'a str, &'a [Id<'a>]),
-    Want(&'a [Id<'a>]),
-    Graft(&'a str),
-    /// With the seconds of its backoff, if it names any.
-    Prune(&'a str, Option<u64>),
-    /// What shows that an RPC has not one part: how many it has.
-    Parts(usize),
-}
 
 /// A call of a router, or several calls of one kind.
 #[derive(Clone, Copy, Debug)]

@@ -1,37 +1,13 @@
 //! What is seen of the entries of a trace.
-use crate::cases::{CasePart, Seen};
-use crate::shown::{
-    Shown, Way, id_of, name_of, on_way, said_of_message, said_of_sub, say_have, say_rpc, say_want,
-    text_of,
-};
+use crate::cases::Seen;
+use crate::parts::say_part;
+use crate::shown::{Shown, Way, id_of, say_rpc, text_of};
 use gs_base::{Mark, Millis, MsgId, PeerNo, Verdict};
 use gs_plan::Act;
-use gs_rules::{BeatStep, Event, Loss, Promise, RpcPart, StoredEntry, Trace};
+use gs_rules::{BeatStep, Event, Loss, Promise, StoredEntry, Trace};
 use std::alloc::AllocError;
 
 // ---- events
-
-/// Adds a part of an RPC that is handled.
-fn say_part(shown: &mut Shown, peer: PeerNo, part: &RpcPart) -> Result<(), AllocError> {
-    let way = Way::Handled;
-    match part {
-        RpcPart::Sub(sub) => shown.add(on_way(way, peer, said_of_sub(sub.get()))),
-        RpcPart::Msg(message) => shown.add(on_way(way, peer, said_of_message(message.get()))),
-        RpcPart::Have(offer) => {
-            let offer = offer.get();
-            say_have(shown, way, peer, &offer.topic, offer.ids.as_slice())
-        }
-        RpcPart::Want(request) => say_want(shown, way, peer, request.get().ids.as_slice()),
-        RpcPart::GraftIn(graft) => {
-            shown.add(on_way(way, peer, CasePart::Graft(name_of(&graft.get().topic))))
-        }
-        RpcPart::PruneIn(prune) => {
-            let prune = prune.get();
-            let said = CasePart::Prune(name_of(&prune.topic), prune.backoff);
-            shown.add(on_way(way, peer, said))
-        }
-    }
-}
 
 /// What is seen of a step of a heartbeat.
 fn seen_of_step(step: &BeatStep) -> Seen<'_> {

@@ -4,6 +4,7 @@
 mod calls;
 mod cases;
 mod entries;
+mod parts;
 mod play;
 mod routers;
 mod rpcs;
@@ -11,7 +12,7 @@ mod shown;
 
 pub use calls::{Answer, act_of};
 pub use cases::{
-    Ask, Call, Case, CasePart, Fields, Id, Kind, NO_FIELDS, NO_RULES, NO_TOPIC, NOTHING, Rules,
-    Seen, Step,
+    Ask, Call, Case, Fields, Id, Kind, NO_FIELDS, NO_RULES, NO_TOPIC, NOTHING, Rules, Seen, Step,
 };
+pub use parts::CasePart;
 pub use play::{Outcome, Player, events_in, left_by, played, text_of_all, wanted_of};

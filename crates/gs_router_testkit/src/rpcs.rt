@@ -1,14 +1,13 @@
 //! RPCs of the parts that cases name.
-use crate::cases::{CasePart, Fields, Id, NO_FIELDS, NO_TOPIC};
+use crate::cases::{Fields, Id, NO_FIELDS, NO_TOPIC};
+use crate::parts::{CasePart, only_control};
 use crate::routers::topic_of;
 use bytes::Bytes;
-use gs_base::{
-    Control, Graft, IHave, IWant, Message, MsgId, Prune, Rpc, Seq, Shared, SubOpt, Topic,
-};
+use gs_base::{Message, MsgId, Rpc, Seq, Shared, SubOpt, Topic};
 use std::alloc::{AllocError, Global};
 
 /// The topic of this name, if it names one.
-fn named(alloc: Global, name: &str) -> Result<Option<Topic>, AllocError> {
+pub fn named(alloc: Global, name: &str) -> Result<Option<Topic>, AllocError> {
     if name == NO_TOPIC {
         return Ok(None);
     }
@@ -38,7 +37,7 @@ fn id_bytes(alloc: Global, id: Id<'_>) -> Result<Bytes, AllocError> {
     }
 }
 
-fn ids_of(alloc: Global, ids: &[Id<'_>]) -> Result<Seq<Bytes>, AllocError> {
+pub fn ids_of(alloc: Global, ids: &[Id<'_>]) -> Result<Seq<Bytes>, AllocError> {
     let mut list = Seq::new(alloc);
     for id in ids {
         list.push(id_bytes(alloc, *id)?)?;
@@ -79,37 +78,6 @@ fn bare<'a>(name: &'a str, payload: &'a [u8]) -> Fields<'a> {
     }
 }
 
-/// Adds an offer, a request, a GRAFT or a PRUNE.
-fn control(alloc: Global, control: &mut Control, said: CasePart<'_>) -> Result<(), AllocError> {
-    match said {
-        CasePart::Have(name, ids) => {
-            let topic = named(alloc, name)?;
-            let ids = ids_of(alloc, ids)?;
-            control.ihave.push(IHave { topic, ids })
-        }
-        CasePart::Want(ids) => {
-            let ids = ids_of(alloc, ids)?;
-            control.iwant.push(IWant { ids })
-        }
-        CasePart::Graft(name) => {
-            let topic = named(alloc, name)?;
-            control.graft.push(Graft { topic })
-        }
-        CasePart::Prune(name, backoff) => {
-            let topic = named(alloc, name)?;
-            control.prune.push(Prune { topic, backoff })
-        }
-        _ => Err(AllocError),
-    }
-}
-
-/// What an RPC has as its one offer, request, GRAFT or PRUNE.
-fn only_control(alloc: Global, said: CasePart<'_>) -> Result<Control, AllocError> {
-    let mut only = Control::empty(alloc);
-    control(alloc, &mut only, said)?;
-    Ok(only)
-}
-
 /// Adds a part to an RPC.
 fn add(alloc: Global, rpc: &mut Rpc, said: CasePart<'_>) -> Result<(), AllocError> {
     match said {
@@ -135,7 +103,7 @@ fn add_all(alloc: Global, rpc: &mut Rpc, parts: &[CasePart<'_>]) -> Result<(), A
     Ok(())
 }
 
-/// The RPC of these parts. At most one is an offer, a request, a GRAFT or a PRUNE.
+/// The RPC of these parts. At most one is a control message.
 pub fn rpc_of(alloc: Global, parts: &[CasePart<'_>]) -> Result<Rpc, AllocError> {
     let mut rpc = Rpc {
         subs: Seq::new(alloc),

@@ -1,7 +1,8 @@
 //! What is seen of a router, as text.
-use crate::cases::{CasePart, Fields, Id, NO_TOPIC, Seen};
+use crate::cases::{Fields, Id, NO_TOPIC, Seen};
+use crate::parts::{CasePart, controls_in, say_control};
 use bytes::Bytes;
-use gs_base::{Control, Message, MsgId, PeerNo, Rpc, Shared, SubOpt, Topic};
+use gs_base::{Message, MsgId, PeerNo, Rpc, Shared, SubOpt, Topic};
 use std::alloc::{AllocError, Global};
 
 /// The payloads by which identifiers are shown.
@@ -87,7 +88,8 @@ pub fn id_of(bytes: &[u8]) -> Id<'static> {
     Id::Unknown
 }
 
-fn ids_of(alloc: Global, list: &[Bytes]) -> Result<Vec<Id<'static>>, AllocError> {
+/// The identifiers of these bytes.
+pub fn seen_ids(alloc: Global, list: &[Bytes]) -> Result<Vec<Id<'static>>, AllocError> {
     let mut ids = Vec::new(alloc);
     for bytes in list {
         ids.push(id_of(bytes.as_slice()))?;
@@ -155,62 +157,6 @@ pub fn said_of_message(message: &Message) -> CasePart<'_> {
             CasePart::Message(text_of(topic), payload.as_slice())
         }
         _ => CasePart::Other(fields_of(message)),
-    }
-}
-
-pub fn say_have(
-    shown: &mut Shown,
-    way: Way,
-    peer: PeerNo,
-    topic: &Option<Topic>,
-    ids: &[Bytes],
-) -> Result<(), AllocError> {
-    let ids = ids_of(shown.alloc, ids)?;
-    shown.add(on_way(way, peer, CasePart::Have(name_of(topic), ids.as_slice())))
-}
-
-pub fn say_want(
-    shown: &mut Shown,
-    way: Way,
-    peer: PeerNo,
-    ids: &[Bytes],
-) -> Result<(), AllocError> {
-    let ids = ids_of(shown.alloc, ids)?;
-    shown.add(on_way(way, peer, CasePart::Want(ids.as_slice())))
-}
-
-fn say_control(
-    shown: &mut Shown,
-    way: Way,
-    peer: PeerNo,
-    control: &Control,
-) -> Result<(), AllocError> {
-    for offer in control.ihave.as_slice() {
-        say_have(shown, way, peer, &offer.topic, offer.ids.as_slice())?;
-    }
-    for request in control.iwant.as_slice() {
-        say_want(shown, way, peer, request.ids.as_slice())?;
-    }
-    for graft in control.graft.as_slice() {
-        shown.add(on_way(way, peer, CasePart::Graft(name_of(&graft.topic))))?;
-    }
-    for prune in control.prune.as_slice() {
-        let said = CasePart::Prune(name_of(&prune.topic), prune.backoff);
-        shown.add(on_way(way, peer, said))?;
-    }
-    Ok(())
-}
-
-/// How many offers, requests, GRAFTs and PRUNEs there are; an empty control counts as two.
-fn controls_in(control: &Option<Control>) -> usize {
-    let Some(control) = control else {
-        return 0;
-    };
-    let told = control.ihave.len().saturating_add(control.iwant.len());
-    let meshes = control.graft.len().saturating_add(control.prune.len());
-    match told.saturating_add(meshes) {
-        0 => 2,
-        count => count,
     }
 }
 

@@ -23,10 +23,10 @@ use Rattle.gs_rules.specs.declared.event.RpcPart.TheVariants.{Msg, GraftIn}
 use Rattle.gs_rules.specs.declared.event.BeatStep.TheVariants.{MeshBeat}
 use Rattle.gs_plan.specs.declared.plan.Act.TheVariants.{Subscribe}
 use Rattle.gs_rules.specs.declared.trace.Entry.{Entry}
-use Rattle.gs_rules.specs.Peers.{Peer}
+use Rattle.gs_rules.specs.Peers.{Peer, is_neighbour}
 use Rattle.gs_rules.specs.Tables.{Entries, after_marks, joined, known, known_after, lost}
 use Rattle.gs_rules.specs.Membership.{missing}
-use Rattle.gs_rules.specs.Scoring.{IsFromNeighbour, change_of, changed_after, has_counters, history, is_counted, is_neighbour, marked_after, shut_out}
+use Rattle.gs_rules.specs.Scoring.{IsFromNeighbour, change_of, changed_after, has_counters, history, is_counted, marked_after, shut_out}
 use Rattle.gs_rules.specs.Owed.{owed}
 use Rattle.gs_rules.specs.Legal.{IsNext, Legal}
 use Rattle.gs_rules.proofs.Each.{each_weaker}
@@ -34,7 +34,8 @@ use Rattle.gs_rules.proofs.Owed.{opens}
 use Rattle.gs_rules.proofs.OwnBeats.{IsOfOwn, next_of_own}
 use Rattle.gs_rules.proofs.Topics.{joined_known, still_known}
 use Rattle.gs_rules.proofs.Legality.{legal_newest}
-use Rattle.gs_rules.proofs.Marks.{ComesOf, GraftedBy, MayMark, entry_marks}
+use Rattle.gs_rules.proofs.Marks.{ComesOf, GraftedBy, MayMark}
+use Rattle.gs_rules.proofs.EntryMarks.{entry_marks}
 use Rattle.gs_rules.proofs.Members.{joins_then, member_joined, never, one_peer}
 
 -- the topic is one of these

@@ -22,10 +22,10 @@ use Rattle.gs_plan.specs.declared.plan.Act.TheVariants.{Publish, HangUp, Raw}
 use Rattle.gs_rules.specs.declared.event.Loss.TheVariants.{Gone}
 use Rattle.gs_rules.specs.declared.trace.Entry.{Entry}
 use Rattle.gs_rules.specs.Peers.{Peer}
-use Rattle.gs_rules.specs.Tables.{answered, kept, up}
-use Rattle.gs_base.specs.Rpcs.{unsigned}
+use Rattle.gs_rules.specs.Tables.{answered, blank, kept, up}
+use Rattle.gs_base.specs.Rpcs.{empty_control, unsigned}
 use Rattle.gs_rules.specs.Scoring.{score}
-use Rattle.gs_rules.specs.Owed.{parts}
+use Rattle.gs_rules.specs.Parts.{parts}
 use Rattle.gs_rules.specs.declared.refusal.Refusal.TheVariants.{NotOpen, Stopped}
 use Rattle.gs_rules.specs.Refusals.{reasons, refusal}
 use Rattle.gs_rules.specs.Rules.{Gives, answers, each_once, have_rule, ids_in, room_to_ask, no_effects}
@@ -103,7 +103,7 @@ abbrev leaves : SubOpt
 leaves = record { subscribe = Some false; topic = None }
 
 abbrev empty_message : Message
-empty_message = record { origin = None; payload = None; seqno = None; topic = None; signature = None; key = None }
+empty_message = blank
 
 subscriptions_come_first : parts q (record { subs = joins ∷ leaves ∷ []; publish = empty_message ∷ []; control = None }) ≡ Part q (Sub joins) ∷ Part q (Sub leaves) ∷ Part q (Msg empty_message) ∷ []
 subscriptions_come_first = refl
@@ -115,7 +115,7 @@ abbrev request : IWant
 request = record { ids = [] }
 
 abbrev controls : Control
-controls = record { ihave = offer ∷ []; iwant = request ∷ []; graft = []; prune = [] }
+controls = record empty_control { ihave = offer ∷ []; iwant = request ∷ [] }
 
 offers_and_requests_come_last : parts q (record { subs = joins ∷ []; publish = empty_message ∷ []; control = Some controls }) ≡ Part q (Sub joins) ∷ Part q (Msg empty_message) ∷ Part q (Have offer) ∷ Part q (Want request) ∷ []
 offers_and_requests_come_last = refl

@@ -23,14 +23,16 @@ use Rattle.gs_rules.specs.declared.trace.Entry.{Entry}
 use Rattle.gs_rules.specs.Peers.{Peer, windows}
 use Rattle.gs_rules.specs.Tables.{Entries, Keeping, after_marks, ended_after, fulfilled_after, keeping_order, kept, made, order_after, own_topics, promises}
 use Rattle.gs_rules.specs.Gossip.{IsKeptOn, gossip, is_gossiped}
-use Rattle.gs_rules.specs.Owed.{gossip_topics, heartbeat_groups, is_some_list, owed, parts}
+use Rattle.gs_rules.specs.Owed.{gossip_topics, heartbeat_groups, is_some_list, owed}
+use Rattle.gs_rules.specs.Parts.{parts}
 use Rattle.gs_rules.specs.Meshes.{mesh_topics}
 use Rattle.gs_rules.specs.Rules.{rule_of}
 use Rattle.gs_rules.specs.Modes.{Follows, free}
 use Rattle.gs_rules.specs.Legal.{IsNext, Legal}
 use Rattle.gs_rules.proofs.Each.{each_weaker, of_each}
 use Rattle.gs_rules.proofs.Legality.{legal_newest}
-use Rattle.gs_rules.proofs.Marks.{MayMark, entry_marks}
+use Rattle.gs_rules.proofs.Marks.{MayMark}
+use Rattle.gs_rules.proofs.EntryMarks.{entry_marks}
 use Rattle.gs_rules.proofs.MeshTopics.{mesh_topics_short}
 use Rattle.gs_rules.proofs.Owed.{OwesSuch, ReachesSuch, always_such, heartbeat_is_such, next_is_such, parts_are_such}
 use Rattle.gs_rules.proofs.Topics.{IsShort, passing_are}

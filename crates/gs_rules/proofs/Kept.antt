@@ -1,5 +1,5 @@
 -- Each message that a legal trace keeps fits a frame by itself, as it is sent to who asks for it.
-use Rattle.std.proofs.Common.{◌≡◌, refl, ℕ, zero, suc, ◌≤◌, arith, Bool, true, false, List, [], ◌∷◌, ◌++◌, length, map, ap, subst, if◌then◌else◌, Option, Some, None}
+use Rattle.std.proofs.Common.{◌≡◌, ℕ, ◌≤◌, arith, Bool, true, false, List, [], ◌∷◌, ◌++◌, length, ap, subst, if◌then◌else◌, Option, Some, None}
 use Rattle.std.specs.List.{AllByRecursion, IsAmong}
 use Rattle.std.specs.Prelude.{nat_lt, option_map}
 use Rattle.std.proofs.lemmas.Bool.{le-leb}
@@ -20,19 +20,21 @@ use Rattle.gs_wire.proofs.SentOn.{passed_on_shorter}
 use Rattle.gs_wire.proofs.Written.{len_text-length, records_text-single, varint_ten}
 use Rattle.gs_rules.specs.declared.event.Event.{Event}
 use Rattle.gs_rules.specs.declared.event.Event.TheVariants.{Heard, Part, Step, Own}
-use Rattle.gs_rules.specs.declared.event.RpcPart.TheVariants.{Sub, Msg, Have, Want, GraftIn, PruneIn}
+use Rattle.gs_rules.specs.declared.event.RpcPart.{RpcPart}
+use Rattle.gs_rules.specs.declared.event.RpcPart.TheVariants.{Msg}
 use Rattle.gs_rules.specs.declared.event.BeatStep.TheVariants.{MeshBeat, GossipBeat, BeatEnd}
 use Rattle.gs_plan.specs.declared.plan.Act.TheVariants.{Publish}
 use Rattle.gs_rules.specs.declared.trace.Entry.{Entry}
 use Rattle.gs_rules.specs.Peers.{Peer, windows}
 use Rattle.gs_rules.specs.Tables.{Entries, Keeping, after_marks, aged_after, blank, keeping, kept, kept_after, last_kept, message_in, older, own_topics}
-use Rattle.gs_base.specs.Rpcs.{grafts_in, offers_in, passed_on, prunes_in, requests_in}
-use Rattle.gs_rules.specs.Owed.{gossip_topics, heartbeat_groups, owed, parts}
+use Rattle.gs_base.specs.Rpcs.{passed_on}
+use Rattle.gs_rules.specs.Owed.{gossip_topics, heartbeat_groups, owed}
+use Rattle.gs_rules.specs.Parts.{parts}
 use Rattle.gs_rules.specs.Rules.{answer, answers, times_in, with_message}
 use Rattle.gs_rules.specs.Legal.{IsNext, Legal}
 use Rattle.gs_rules.proofs.Legality.{legal_newest}
 use Rattle.gs_rules.proofs.Each.{of_each}
-use Rattle.gs_rules.proofs.Owed.{OwesSuch, ReachesSuch, always_such, heartbeat_is_such, kind_of_parts, last_parts, next_is_such, opens}
+use Rattle.gs_rules.proofs.Owed.{IsMessageOf, OwesSuch, ReachesSuch, always_such, heartbeat_is_such, messages_are_such, next_is_such, opens}
 
 -- by itself it fits a frame
 abbrev pub FitsAlone : Message → Type 0
@@ -51,18 +53,12 @@ alone_fits rpc m fits among =
     let whole : length (body rpc) ≤ longest_body = grind (arith, nat_tests) in
     le-leb (length (body (passed_on m))) longest_body (omega (arith, whole, passed_on_shorter rpc m among))
 
-messages_fit : (q : PeerNo) (ms : List Message) (rest : List Event) → ((m : Message) → IsAmong ms m → FitsAlone m) → AllByRecursion BringsFitting rest → AllByRecursion BringsFitting (map (λ part. Part q (Msg part)) ms ++ rest)
-messages_fit q [] rest each h = h
-messages_fit q (m ∷ ms) rest each h =
-    (each m (zero, (omega arith, refl)), messages_fit q ms rest (λ n among. each n (suc among.0, (omega (arith, among.1.0), among.1.1))) h)
-
 parts_fit : (q : PeerNo) (rpc : Rpc) → codec.fits rpc ≡ true → AllByRecursion BringsFitting (parts q rpc)
-parts_fit q rpc fits =
-    kind_of_parts BringsFitting (λ part. Part q (Sub part)) rpc.subs _ (λ sub. tt)
-    (messages_fit q rpc.publish _ (λ m among. alone_fits rpc m fits among)
-    (kind_of_parts BringsFitting (λ part. Part q (Have part)) (offers_in rpc.control) _ (λ offer. tt)
-    (kind_of_parts BringsFitting (λ part. Part q (Want part)) (requests_in rpc.control) _ (λ request. tt)
-    (kind_of_parts BringsFitting (λ part. Part q (GraftIn part)) (grafts_in rpc.control) _ (λ graft. tt) (last_parts BringsFitting (λ part. Part q (PruneIn part)) (prunes_in rpc.control) (λ prune. tt))))))
+parts_fit q rpc fits = messages_are_such BringsFitting q rpc each
+  where
+    each : (part : RpcPart) → IsMessageOf rpc part → BringsFitting (Part q part)
+    each (Msg m) among = alone_fits rpc m fits among
+    each other among = tt
 
 -- after any trace
 abbrev FittingAnywhere : Entries → Event → Type 0

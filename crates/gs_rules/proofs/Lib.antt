@@ -6,7 +6,12 @@ pub mod Ruled
 pub mod Topics
 pub mod OwnBeats
 pub mod Offers
+pub mod Kept
+pub mod Fresh
+pub mod Written
 pub mod Marks
+pub mod PartRules
+pub mod EntryMarks
 pub mod MeshTopics
 pub mod Members
 pub mod Gossip
@@ -15,7 +20,6 @@ pub mod Gossiped
 pub mod Deliveries
 pub mod Handled
 pub mod Scripts
-pub mod Kept
 pub mod Fitting
 pub mod Spelled
 pub mod InOrder

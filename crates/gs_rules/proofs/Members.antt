@@ -34,7 +34,8 @@ use Rattle.gs_rules.specs.Modes.{Follows, free}
 use Rattle.gs_rules.specs.Legal.{Legal}
 use Rattle.gs_rules.proofs.Each.{each_passing, each_weaker}
 use Rattle.gs_rules.proofs.Legality.{legal_newest}
-use Rattle.gs_rules.proofs.Marks.{ComesOnto, MayMark, each_among, entry_marks}
+use Rattle.gs_rules.proofs.Marks.{ComesOnto, MayMark, each_among}
+use Rattle.gs_rules.proofs.EntryMarks.{entry_marks}
 use Rattle.gs_rules.proofs.OwnBeats.{IsOfOwn, next_of_own}
 use Rattle.gs_rules.proofs.Topics.{same_are_one}
 

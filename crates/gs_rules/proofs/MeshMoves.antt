@@ -23,7 +23,8 @@ use Rattle.gs_rules.specs.BeatRules.{mending, mesh_beat_rule, scored_members}
 use Rattle.gs_rules.specs.Rules.{AnyOf, CutOf, Gives, Rule}
 use Rattle.gs_rules.specs.Modes.{Follows, Mode, free}
 use Rattle.gs_rules.proofs.Legality.{Weakens}
-use Rattle.gs_rules.proofs.Marks.{each_among, members_are_such}
+use Rattle.gs_rules.proofs.Marks.{each_among}
+use Rattle.gs_rules.proofs.EntryMarks.{members_are_such}
 use Rattle.gs_rules.proofs.Ruled.{mesh_change_at}
 
 -- ---- a step by any choices

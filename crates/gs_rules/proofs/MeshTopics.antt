@@ -23,7 +23,8 @@ use Rattle.gs_rules.specs.Owed.{gossip_topics, is_some_list, owed}
 use Rattle.gs_rules.specs.Legal.{IsNext, Legal}
 use Rattle.gs_rules.proofs.Each.{each_weaker}
 use Rattle.gs_rules.proofs.Legality.{legal_newest}
-use Rattle.gs_rules.proofs.Marks.{MayMark, Publishes, entry_marks}
+use Rattle.gs_rules.proofs.Marks.{MayMark, Publishes}
+use Rattle.gs_rules.proofs.EntryMarks.{entry_marks}
 use Rattle.gs_rules.proofs.Owed.{opens}
 use Rattle.gs_rules.proofs.Topics.{IsShort, ascending_any, ascending_are, ascending_sorted, joined_known, joined_short, passing_are, same_are_one}
 

@@ -18,7 +18,8 @@ use Rattle.gs_rules.specs.Meshes.{dropped_after, fanout, fanout_after, mesh}
 use Rattle.gs_rules.specs.Legal.{Legal}
 use Rattle.gs_rules.proofs.Each.{each_passing, each_weaker}
 use Rattle.gs_rules.proofs.Legality.{legal_newest}
-use Rattle.gs_rules.proofs.Marks.{MayMark, entry_marks}
+use Rattle.gs_rules.proofs.Marks.{MayMark}
+use Rattle.gs_rules.proofs.EntryMarks.{entry_marks}
 use Rattle.gs_rules.proofs.Members.{ComesAs, members_are, of_member, put_are}
 
 abbrev Ordinary : Peer → PeerNo → Type 0

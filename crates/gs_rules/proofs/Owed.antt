@@ -1,6 +1,6 @@
 -- What is owed after an entry are parts of RPCs, and what a heartbeat does, and nothing else.
-use Rattle.std.proofs.Common.{◌≡◌, ◌≢◌, ℕ, Bool, true, false, if◌then◌else◌, List, [], ◌∷◌, ◌++◌, map, drop, refl, sym, ap, subst, ◌∙◌}
-use Rattle.std.specs.List.{AllByRecursion}
+use Rattle.std.proofs.Common.{◌≡◌, ◌≢◌, ℕ, zero, suc, arith, Bool, true, false, if◌then◌else◌, List, [], ◌∷◌, ◌++◌, drop, refl, sym, ap, subst, ◌∙◌}
+use Rattle.std.specs.List.{AllByRecursion, IsAmong}
 use Rattle.gs_base.specs.declared.names.PeerNo.{PeerNo}
 use Rattle.gs_base.specs.declared.names.Topic.{Topic}
 use Rattle.gs_base.specs.declared.rpc.Rpc.{Rpc}
@@ -16,7 +16,8 @@ use Rattle.gs_rules.specs.Meshes.{fanout_topics, is_stale, last_published}
 use Rattle.gs_rules.specs.BeatRules.{fan_event}
 use Rattle.gs_rules.specs.Scoring.{is_graylisted}
 use Rattle.gs_base.specs.Rpcs.{grafts_in, offers_in, prunes_in, requests_in}
-use Rattle.gs_rules.specs.Owed.{Group, PartsOf, Gossips, Debt, beats, events_in, gossip_topics, heartbeat_groups, held_or, nothing, owes, owing, owed, paid, parts, reached}
+use Rattle.gs_rules.specs.Owed.{Group, PartsOf, Gossips, Debt, beats, events_in, gossip_topics, heartbeat_groups, held_or, nothing, owes, owing, owed, paid, reached}
+use Rattle.gs_rules.specs.Parts.{events_of, parts}
 use Rattle.gs_rules.specs.Legal.{IsNext, Legal, MayOpen}
 use Rattle.gs_rules.proofs.Each.{each_mapped, each_weaker, of_each}
 use Rattle.gs_rules.proofs.Legality.{legal_newest}
@@ -36,25 +37,33 @@ IsOwed Shut = ⊥
 
 -- ---- what holds of events that are owed together
 
+-- where the part is a message, the RPC has it
+abbrev pub IsMessageOf : Rpc → RpcPart → Type 0
+IsMessageOf rpc (Msg m) = IsAmong rpc.publish m
+IsMessageOf rpc other = Unit {0}
+
 module _ (P : Event → Type 0) where
   -- parts of one kind, and those after them
-  pub kind_of_parts : {X : Type 0} (part : X → Event) (xs : List X) (rest : List Event) → ((x : X) → P (part x)) → AllByRecursion P rest → AllByRecursion P (map part xs ++ rest)
-  kind_of_parts part [] rest each h = h
-  kind_of_parts part (x ∷ xs) rest each h = (each x, kind_of_parts part xs rest each h)
+  kind_is_such : {X : Type 0} (q : PeerNo) (as_part : X → RpcPart) (xs : List X) (rest : List Event) → ((x : X) → IsAmong xs x → P (Part q (as_part x))) → AllByRecursion P rest → AllByRecursion P (events_of as_part q xs ++ rest)
+  kind_is_such q as_part [] rest each h = h
+  kind_is_such q as_part (x ∷ xs) rest each h = (
+    each x (zero, (omega arith, refl)),
+    kind_is_such q as_part xs rest (λ y among. each y (suc among.0, (omega (arith, among.1.0), among.1.1))) h,
+  )
 
-  pub last_parts : {X : Type 0} (part : X → Event) (xs : List X) → ((x : X) → P (part x)) → AllByRecursion P (map part xs)
-  last_parts part [] each = tt
-  last_parts part (x ∷ xs) each = (each x, last_parts part xs each)
+  -- The parts of an RPC. What holds of its messages may hold of these alone.
+  pub messages_are_such : (q : PeerNo) (rpc : Rpc) → ((part : RpcPart) → IsMessageOf rpc part → P (Part q part)) → AllByRecursion P (parts q rpc)
+  messages_are_such q rpc each =
+      kind_is_such q Sub rpc.subs _ (λ sub among. each (Sub sub) tt)
+      (kind_is_such q Msg rpc.publish _ (λ m among. each (Msg m) among)
+      (kind_is_such q Have (offers_in rpc.control) _ (λ offer among. each (Have offer) tt)
+      (kind_is_such q Want (requests_in rpc.control) _ (λ request among. each (Want request) tt)
+      (kind_is_such q GraftIn (grafts_in rpc.control) _ (λ graft among. each (GraftIn graft) tt)
+      (kind_is_such q PruneIn (prunes_in rpc.control) _ (λ prune among. each (PruneIn prune) tt)
+      tt)))))
 
-  -- the parts of an RPC
   pub parts_are_such : (q : PeerNo) (rpc : Rpc) → ((part : RpcPart) → P (Part q part)) → AllByRecursion P (parts q rpc)
-  parts_are_such q rpc each =
-      kind_of_parts (λ part. Part q (Sub part)) rpc.subs _ (λ sub. each (Sub sub))
-      (kind_of_parts (λ part. Part q (Msg part)) rpc.publish _ (λ m. each (Msg m))
-      (kind_of_parts (λ part. Part q (Have part)) (offers_in rpc.control) _ (λ offer. each (Have offer))
-      (kind_of_parts (λ part. Part q (Want part)) (requests_in rpc.control) _ (λ request. each (Want request))
-      (kind_of_parts (λ part. Part q (GraftIn part)) (grafts_in rpc.control) _ (λ graft. each (GraftIn graft))
-      (last_parts (λ part. Part q (PruneIn part)) (prunes_in rpc.control) (λ prune. each (PruneIn prune)))))))
+  parts_are_such q rpc each = messages_are_such q rpc (λ part among. each part)
 
   rest_are_such : (events : List Event) → AllByRecursion P events → AllByRecursion P (drop 1 events)
   rest_are_such [] h = tt

@@ -25,13 +25,14 @@ use Rattle.gs_rules.specs.declared.event.BeatStep.TheVariants.{GossipBeat, MeshB
 use Rattle.gs_plan.specs.declared.plan.Act.TheVariants.{HangUp, Subscribe}
 use Rattle.gs_rules.specs.declared.event.RpcPart.{RpcPart}
 use Rattle.gs_rules.specs.declared.trace.Entry.{Entry}
-use Rattle.gs_rules.specs.Peers.{Peer}
+use Rattle.gs_rules.specs.Peers.{Peer, is_neighbour}
 use Rattle.gs_rules.specs.Tables.{Entries, after_marks, is_shut, is_shut_after, own_topics, up, up_after}
 use Rattle.gs_rules.specs.Meshes.{backoff, mesh, mesh_after, mesh_topics}
 use Rattle.gs_rules.specs.Membership.{losing_marks, meshes_with}
 use Rattle.gs_rules.specs.MeshRules.{lost_rule}
-use Rattle.gs_rules.specs.Scoring.{IsFromNeighbour, is_neighbour}
-use Rattle.gs_rules.specs.Owed.{gossip_topics, heartbeat_groups, owed, parts}
+use Rattle.gs_rules.specs.Scoring.{IsFromNeighbour}
+use Rattle.gs_rules.specs.Owed.{gossip_topics, heartbeat_groups, owed}
+use Rattle.gs_rules.specs.Parts.{parts}
 use Rattle.gs_rules.specs.Rules.{rule_of}
 use Rattle.gs_rules.specs.Modes.{Follows, SaysTheSame, free}
 use Rattle.gs_rules.specs.Legal.{IsNext, Legal}
@@ -39,7 +40,8 @@ use Rattle.gs_rules.proofs.Counted.{grafted_near}
 use Rattle.gs_rules.proofs.Deliveries.{legal_before}
 use Rattle.gs_rules.proofs.Each.{each_passing, each_weaker, of_each}
 use Rattle.gs_rules.proofs.Legality.{legal_newest}
-use Rattle.gs_rules.proofs.Marks.{GraftedBy, MayMark, entry_marks}
+use Rattle.gs_rules.proofs.Marks.{GraftedBy, MayMark}
+use Rattle.gs_rules.proofs.EntryMarks.{entry_marks}
 use Rattle.gs_rules.proofs.Members.{ComesAs, GraftsNone, Stays, leaving_prunes, member_joined, members_are, members_stay, never, of_member, one_peer, pruned_with, prunes, put_are}
 use Rattle.gs_rules.proofs.MeshTopics.{joined_has_mesh}
 use Rattle.gs_rules.proofs.Owed.{IsOwed, OwesSuch, ReachesSuch, always_such, heartbeat_is_such, opens, parts_are_such}

@@ -71,4 +71,5 @@ fan_end L t = record no_effects { marks = unfanning t (fanout L t) }
 
 -- what a heartbeat does to a fanout at a moment: it ends where its time has come, and else is mended
 abbrev pub fan_event : Peer → Entries → ℕ → Topic → Event
-fan_event p L at t = if is_stale p.params.timing.fanout_ttl_ms at (last_published L t) then Step (FanEnd t) else Step (FanBeat t)
+fan_event p L at t =
+    if is_stale p.params.timing.fanout_ttl_ms at (last_published L t) then Step (FanEnd t) else Step (FanBeat t)

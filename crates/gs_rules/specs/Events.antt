@@ -1,6 +1,6 @@
 -- Which outer event an event is. Each of these names every one, so a new event needs a line here, and what reads an
 -- event by these hides none.
-use Rattle.std.specs.Prelude.{ℕ, Bool, true, false}
+use Rattle.std.specs.Prelude.{ℕ}
 use Rattle.gs_base.specs.declared.names.PeerNo.{PeerNo}
 use Rattle.gs_plan.specs.declared.plan.Act.{Act}
 use Rattle.gs_rules.specs.declared.event.Event.{Event}

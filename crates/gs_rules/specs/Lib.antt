@@ -1,5 +1,6 @@
 pub mod Events
 pub mod Peers
+pub mod Parts
 pub mod Tables
 pub mod Stored
 pub mod Meshes

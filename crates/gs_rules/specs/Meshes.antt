@@ -48,7 +48,8 @@ dropped_by_step t none BeatEnd before = before
 -- own (`FanEnd`, beside `FanBeat`), so that one rule judges its entry, and a table needs no `fanout_ttl_ms`.
 abbrev pub dropped_after : {A : Type 0} → Topic → A → Event → A → A
 dropped_after t none event before =
-    of_act (λ act. dropped_by_act t none act before) (of_step (λ step. dropped_by_step t none step before) before event) event
+    of_act (λ act. dropped_by_act t none act before)
+    (of_step (λ step. dropped_by_step t none step before) before event) event
 
 -- what a mark leaves of who is in the fanout of a topic
 abbrev pub fanout_after : Topic → Mark → List PeerNo → List PeerNo
@@ -68,7 +69,8 @@ published_after t at other before = before
 
 abbrev pub last_published : Entries → Topic → Option ℕ
 last_published [] t = None
-last_published (e ∷ L) t = after_marks (published_after t e.at.0) e.effects.marks (dropped_after t None e.event (last_published L t))
+last_published (e ∷ L) t =
+    after_marks (published_after t e.at.0) e.effects.marks (dropped_after t None e.event (last_published L t))
 
 -- the topics on which the peer ever published without being subscribed, each once, the first one first
 abbrev pub fanned_topics_after : Mark → List Topic → List Topic

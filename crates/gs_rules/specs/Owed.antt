@@ -5,13 +5,12 @@ use Rattle.gs_base.specs.declared.names.PeerNo.{PeerNo}
 use Rattle.gs_base.specs.declared.names.Topic.{Topic}
 use Rattle.gs_base.specs.declared.names.MsgId.{MsgId}
 use Rattle.gs_base.specs.declared.rpc.Rpc.{Rpc}
-use Rattle.gs_base.specs.Rpcs.{grafts_in, offers_in, prunes_in, requests_in}
 use Rattle.gs_rules.specs.declared.event.Event.{Event}
 use Rattle.gs_rules.specs.declared.event.Event.TheVariants.{Heard, Late, BeatBegin, Decay, RoundEnd, Shut, Part, Step, Own, Lost}
-use Rattle.gs_rules.specs.declared.event.RpcPart.TheVariants.{Sub, Msg, Have, Want, GraftIn, PruneIn}
 use Rattle.gs_rules.specs.declared.event.BeatStep.TheVariants.{MeshBeat, GossipBeat, BeatEnd}
 use Rattle.gs_rules.specs.declared.trace.Entry.{Entry}
 use Rattle.gs_rules.specs.Peers.{Peer}
+use Rattle.gs_rules.specs.Parts.{parts}
 use Rattle.gs_rules.specs.Tables.{Entries, own_topics}
 use Rattle.gs_rules.specs.Meshes.{fanout_topics, mesh_topics}
 use Rattle.gs_rules.specs.BeatRules.{fan_event}
@@ -30,16 +29,6 @@ pub data Group : Type 0 where
   FanBeats : ℕ → Group
   -- the gossip of a heartbeat, and its end
   Gossips : Group
-
--- the parts of an RPC: its subscriptions, messages, offers, requests, grafts and prunes, each as they stand in it
-abbrev pub parts : PeerNo → Rpc → List Event
-parts q rpc =
-    map (λ part. Part q (Sub part)) rpc.subs
-    ++ (map (λ part. Part q (Msg part)) rpc.publish
-    ++ (map (λ part. Part q (Have part)) (offers_in rpc.control)
-    ++ (map (λ part. Part q (Want part)) (requests_in rpc.control)
-    ++ (map (λ part. Part q (GraftIn part)) (grafts_in rpc.control)
-    ++ map (λ part. Part q (PruneIn part)) (prunes_in rpc.control)))))
 
 -- there is something to gossip on a topic
 abbrev pub is_some_list : List MsgId → Bool

@@ -1,7 +1,8 @@
 use Rattle.std.specs.Prelude.{ℕ, max, Bool, List, filter}
+use Rattle.std.specs.List.{list_any}
 use Rattle.gs_base.specs.declared.names.PeerNo.{PeerNo}
 use Rattle.gs_base.specs.declared.neighbour.Neighbour.{Neighbour}
-use Rattle.gs_base.specs.Names.{peers_of}
+use Rattle.gs_base.specs.Names.{peers_of, same_peer}
 use Rattle.gs_params.specs.declared.params.Params.{Params}
 use Rattle.gs_mesh.specs.Peers.{is_among}
 
@@ -15,6 +16,10 @@ pub record Peer : Type 0 where
 -- the numbers of its neighbours
 abbrev pub links_of : Peer → List PeerNo
 links_of p = peers_of p.neighbours
+
+-- whether a peer of this number is a neighbour
+abbrev pub is_neighbour : Peer → PeerNo → Bool
+is_neighbour p q = list_any (λ (n : Neighbour). same_peer q n.peer) p.neighbours
 
 -- its explicit neighbours, with which there is a peering agreement, ascending by number (gossipsub v1.1, "Explicit
 -- Peering Agreements")

@@ -1,37 +1,23 @@
 -- The scores of a peer's neighbours (gossipsub v1.1, "Peer Scoring"): what a trace says of each, and what a neighbour of
 -- low standing loses.
-use Rattle.std.specs.Prelude.{◌≡◌, ℕ, ℤ, int_lt, Bool, true, not, ◌&&◌, ◌||◌, nat_lt, if◌then◌else◌, [], ◌∷◌, length, Option, Some, None}
+use Rattle.std.specs.Prelude.{ℕ, ℤ, int_lt, Bool, true, not, ◌&&◌, ◌||◌, nat_lt, if◌then◌else◌, [], ◌∷◌, length, Option, Some, None}
 use Rattle.std.specs.List.{list_any}
 use Rattle.gs_base.specs.declared.names.PeerNo.{PeerNo}
 use Rattle.gs_base.specs.declared.names.Topic.{Topic}
-use Rattle.gs_base.specs.declared.neighbour.Neighbour.{Neighbour}
 use Rattle.gs_base.specs.declared.mark.Mark.{Mark}
 use Rattle.gs_base.specs.declared.names.Millis.{Millis}
 use Rattle.gs_base.specs.declared.mark.Mark.TheVariants.{First, Near, Deficit, Invalid, Misbehaviour, Grafted, Pruned}
-use Rattle.gs_base.specs.Names.{most_topics, same_peer, same_topic}
+use Rattle.gs_base.specs.Names.{most_topics, same_topic}
 use Rattle.gs_score.specs.Histories.{Change, History, Marked, Decayed, Left, ShutOut, Setting, named, score_in}
 use Rattle.gs_score.specs.Histories as histories
 use Rattle.gs_rules.specs.declared.event.Event.{Event}
 use Rattle.gs_rules.specs.declared.event.Event.TheVariants.{Heard, Late, BeatBegin, Decay, RoundEnd, Shut, Part, Step, Own, Lost}
 use Rattle.gs_rules.specs.Events.{of_decay}
-use Rattle.gs_rules.specs.declared.event.RpcPart.TheVariants.{GraftIn, Msg, Sub, Have, Want, PruneIn}
-use Rattle.gs_rules.specs.declared.event.RpcPart.{RpcPart}
-use Rattle.gs_rules.specs.Peers.{Peer, is_explicit}
+use Rattle.gs_rules.specs.Peers.{Peer, is_explicit, is_neighbour}
+use Rattle.gs_rules.specs.Parts.{IsPartFromNeighbour}
 use Rattle.gs_rules.specs.Tables.{Entries, after_marks, lost}
 
 -- ---- what happened to the neighbours
-
--- whether a peer of this number is a neighbour
-abbrev pub is_neighbour : Peer → PeerNo → Bool
-is_neighbour p q = list_any (λ (n : Neighbour). same_peer q n.peer) p.neighbours
-
-abbrev pub IsPartFromNeighbour : Peer → PeerNo → RpcPart → Type 0
-IsPartFromNeighbour p q (Msg m) = is_neighbour p q ≡ true
-IsPartFromNeighbour p q (GraftIn graft) = is_neighbour p q ≡ true
-IsPartFromNeighbour p q (Sub sub) = Unit {0}
-IsPartFromNeighbour p q (Have offer) = Unit {0}
-IsPartFromNeighbour p q (Want request) = Unit {0}
-IsPartFromNeighbour p q (PruneIn prune) = Unit {0}
 
 -- whoever a message or a GRAFT came from is a neighbour: of what neighbours say only these leave marks that count,
 -- whoever says it

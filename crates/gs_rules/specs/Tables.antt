@@ -16,11 +16,12 @@ use Rattle.gs_base.specs.Rpcs.{unsigned}
 use Rattle.gs_base.specs.declared.verdict.Verdict.{Verdict}
 use Rattle.gs_base.specs.declared.mark.Mark.{Mark}
 use Rattle.gs_base.specs.declared.rpc.Message.{Message}
+use Rattle.gs_base.specs.declared.rpc.SubOpt.{SubOpt}
 use Rattle.gs_base.specs.declared.mark.Mark.TheVariants.{Seen, Cached, Answered, Offered, Asked}
 use Rattle.gs_rules.specs.declared.event.Event.{Event}
 use Rattle.gs_rules.specs.declared.event.Event.TheVariants.{Heard, Late, BeatBegin, Decay, RoundEnd, Shut, Part, Step, Own, Lost}
 use Rattle.gs_rules.specs.Events.{of_act, of_beginning, of_part, of_shutdown, of_step}
-use Rattle.gs_rules.specs.declared.event.RpcPart.TheVariants.{Sub, Msg, Have, Want, GraftIn, PruneIn}
+use Rattle.gs_rules.specs.Parts.{brought_by, subscription_in}
 use Rattle.gs_rules.specs.declared.event.BeatStep.TheVariants.{BeatEnd, MeshBeat, FanBeat, FanEnd, GossipBeat}
 use Rattle.gs_rules.specs.declared.event.RpcPart.{RpcPart}
 use Rattle.gs_rules.specs.declared.event.BeatStep.{BeatStep}
@@ -96,15 +97,15 @@ abbrev pub up : Entries → PeerNo → Bool
 up [] q = true
 up (e ∷ L) q = up_after q e.event (up L q)
 
+-- what a change of a subscription leaves of that, if there is one
+abbrev pub on_by_sub : PeerNo → Topic → PeerNo → Option SubOpt → Bool → Bool
+on_by_sub q t p None before = before
+on_by_sub q t p (Some sub) before =
+    if same_peer p q && same_topic (topic_or_empty sub.topic) t then unwrap_or sub.subscribe false else before
+
 -- what a part of an RPC leaves of that: a change of subscription says it anew
 abbrev pub on_by : PeerNo → Topic → PeerNo → RpcPart → Bool → Bool
-on_by q t p (Sub sub) before =
-    if same_peer p q && same_topic (topic_or_empty sub.topic) t then unwrap_or sub.subscribe false else before
-on_by q t p (Msg m) before = before
-on_by q t p (Have offer) before = before
-on_by q t p (Want request) before = before
-on_by q t p (GraftIn graft) before = before
-on_by q t p (PruneIn prune) before = before
+on_by q t p part before = on_by_sub q t p (subscription_in part) before
 
 -- whether a neighbour is on a topic: what it said of the topic last
 abbrev pub on_after : PeerNo → Topic → Event → Bool → Bool
@@ -204,12 +205,7 @@ blank = record { origin = None; payload = None; seqno = None; topic = None; sign
 
 -- the message that a part of an RPC brings
 abbrev pub message_of_part : RpcPart → Message
-message_of_part (Sub sub) = blank
-message_of_part (Msg m) = m
-message_of_part (Have offer) = blank
-message_of_part (Want request) = blank
-message_of_part (GraftIn graft) = blank
-message_of_part (PruneIn prune) = blank
+message_of_part part = unwrap_or (brought_by part) blank
 
 -- the message that an act of the user brings
 abbrev pub message_of_act : Act → Message
@@ -339,4 +335,5 @@ made (Some promise) = promise ∷ []
 -- the promises that were neither kept nor ended, the oldest first
 abbrev pub promises : Entries → List Promise
 promises [] = []
-promises (e ∷ L) = after_marks fulfilled_after e.effects.marks (ended_after e.event e.at.0 (promises L)) ++ made e.effects.promise
+promises (e ∷ L) =
+    after_marks fulfilled_after e.effects.marks (ended_after e.event e.at.0 (promises L)) ++ made e.effects.promise

@@ -1,5 +1,6 @@
 //! What happens at a peer, by what decides about it.
-ghost use Rattle.std.specs.Prelude.{◌≡◌};
+ghost use Rattle.std.specs.Prelude.{◌≡◌, IfSome, IfNone, Some, None};
+ghost use Rattle.gs_rules.specs.Parts.{brought_by, subscription_in};
 ghost use Rattle.gs_rules.specs.Tables.{lost, lost_by};
 
 use gs_base::{
@@ -71,6 +72,38 @@ pub enum Loss {
     Gone,
     /// Its bytes spelled no RPC, or ended within one.
     Fault,
+}
+
+impl RpcPart {
+    /// The change of a subscription that it is, if it is one.
+    pub fn subscription(&self) -> Option<&SubOpt>
+        ensures some { IfSome result (λ sub. subscription_in self.now ≡ Some sub.now) }
+        ensures none { IfNone result (subscription_in self.now ≡ None) }
+    {
+        match self {
+            RpcPart::Sub(sub) => Some(sub.get()),
+            RpcPart::Msg(_) => None,
+            RpcPart::Have(_) => None,
+            RpcPart::Want(_) => None,
+            RpcPart::GraftIn(_) => None,
+            RpcPart::PruneIn(_) => None,
+        }
+    }
+
+    /// The message that it is, if it is one.
+    pub fn message(&self) -> Option<&SharedPart<Message>>
+        ensures some { IfSome result (λ message. brought_by self.now ≡ Some message.now) }
+        ensures none { IfNone result (brought_by self.now ≡ None) }
+    {
+        match self {
+            RpcPart::Sub(_) => None,
+            RpcPart::Msg(message) => Some(message),
+            RpcPart::Have(_) => None,
+            RpcPart::Want(_) => None,
+            RpcPart::GraftIn(_) => None,
+            RpcPart::PruneIn(_) => None,
+        }
+    }
 }
 
 impl Event {

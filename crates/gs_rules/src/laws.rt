@@ -24,12 +24,12 @@ ghost use Rattle.gs_rules.specs.declared.event.Event.{Event};
 ghost use Rattle.gs_rules.specs.declared.event.Event.TheVariants.{BeatBegin, Shut, Step};
 ghost use Rattle.gs_rules.specs.declared.event.BeatStep.TheVariants.{MeshBeat};
 ghost use Rattle.gs_rules.specs.declared.refusal.RefusedLine.{RefusedLine};
-ghost use Rattle.gs_rules.specs.Peers.{Peer, links_of, seen_ttl};
+ghost use Rattle.gs_rules.specs.Peers.{Peer, is_neighbour, links_of, seen_ttl};
 ghost use Rattle.gs_rules.specs.Tables.{Entries, Keeping, heartbeats, is_shut, joined, kept, keeping_order, own_topics, promises, topic_order, up};
 ghost use Rattle.gs_rules.specs.Meshes.{fanout_topics, mesh};
 ghost use Rattle.gs_rules.specs.Membership.{candidates};
 ghost use Rattle.gs_rules.specs.BeatRules.{fan_event, mending, mesh_beat_rule, scored_members};
-ghost use Rattle.gs_rules.specs.Scoring.{IsFromNeighbour, change_of, changed_after, has_counters, history, is_neighbour, score};
+ghost use Rattle.gs_rules.specs.Scoring.{IsFromNeighbour, change_of, changed_after, has_counters, history, score};
 ghost use Rattle.gs_rules.specs.Gossip.{IsKeptOn, IsOpen, WasLeftOpen, charges, gossip, gossipable, overdue};
 ghost use Rattle.gs_rules.specs.Owed.{FanBeats, Gossips, Group, MeshBeats, beats, events_in, gossip_topics, heartbeat_groups, owed, owes, reached};
 ghost use Rattle.gs_rules.specs.Rules.{Gives, Rule, rule_of};
@@ -326,7 +326,8 @@ pub fn each_mark_of_a_legal_trace_counts()
     ensures all { (p : Peer) (entries : Entries) (e : Entry)
         → Legal p (e ∷ entries)
         → IsFromNeighbour p e.event
-        → history p (e ∷ entries) ≡ reverse (map (change_of e.at) e.effects.marks) ++ changed_after e.event (history p entries) }
+        → history p (e ∷ entries)
+        ≡ reverse (map (change_of e.at) e.effects.marks) ++ changed_after e.event (history p entries) }
     ensures room { (p : Peer) (entries : Entries) (q : PeerNoValue) (t : Topic)
         → Legal p entries
         → is_neighbour p q ≡ true

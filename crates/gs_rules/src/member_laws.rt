@@ -7,11 +7,11 @@ ghost use Rattle.gs_base.specs.declared.mark.Mark.TheVariants.{Grafted};
 ghost use Rattle.gs_params.specs.Picks.{IsAscending};
 ghost use Rattle.gs_mesh.specs.Peers.{is_among};
 ghost use Rattle.gs_rules.specs.declared.trace.Entry.{Entry};
-ghost use Rattle.gs_rules.specs.Peers.{Peer, is_explicit};
+ghost use Rattle.gs_rules.specs.Peers.{Peer, is_explicit, is_neighbour};
 ghost use Rattle.gs_rules.specs.Tables.{Entries, is_shut, joined, up};
 ghost use Rattle.gs_rules.specs.Meshes.{backoff, fanout, mesh};
 ghost use Rattle.gs_rules.specs.Arrivals.{CameIn};
-ghost use Rattle.gs_rules.specs.Scoring.{IsFromNeighbour, is_neighbour};
+ghost use Rattle.gs_rules.specs.Scoring.{IsFromNeighbour};
 ghost use Rattle.gs_rules.specs.Legal.{Legal};
 
 /// Each member of a mesh of a legal trace is up, until the peer shuts down; and it is a neighbour, where all GRAFTs that

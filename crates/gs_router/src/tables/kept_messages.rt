@@ -196,13 +196,9 @@ fn message_in(alloc: Global, event: &Event) -> Result<SharedPart<Message>, Alloc
 fn message_of_part(alloc: Global, part: &RpcPart) -> Result<SharedPart<Message>, AllocError>
     ensures { IfOk result (λ message. message ≡ message_of_part part.now) }
 {
-    match part {
-        RpcPart::Sub(_) => blank(alloc),
-        RpcPart::Msg(message) => clone_of(message),
-        RpcPart::Have(_) => blank(alloc),
-        RpcPart::Want(_) => blank(alloc),
-        RpcPart::GraftIn(_) => blank(alloc),
-        RpcPart::PruneIn(_) => blank(alloc),
+    match part.message() {
+        Some(message) => clone_of(message),
+        None => blank(alloc),
     }
 }
 

@@ -73,18 +73,13 @@ impl Listeners {
         ensures { OnOk result ((q : PeerNoValue) (t : TopicValue)
             → listens self.new q t ≡ on_by q t peer part.now (listens self.old q t)) }
     {
-        match part {
-            RpcPart::Sub(sub) => {
-                let sub = sub.get();
+        match part.subscription() {
+            Some(sub) => {
                 let topic = sub.topic_or_empty()?;
                 self.put(topic, peer, sub.subscribe.unwrap_or(false))?;
                 Ok(())
             }
-            RpcPart::Msg(_) => Ok(()),
-            RpcPart::Have(_) => Ok(()),
-            RpcPart::Want(_) => Ok(()),
-            RpcPart::GraftIn(_) => Ok(()),
-            RpcPart::PruneIn(_) => Ok(()),
+            None => Ok(()),
         }
     }
 

@@ -181,7 +181,8 @@ impl MeshTopics {
 
     fn put(&mut self, topic: &Topic, mesh_or_fanout: MeshOrFanout) -> Result<(), AllocError>
         ensures { OnOk result ((t : TopicValue)
-            → mesh_or_fanout_in self.new t ≡ (if same_topic topic.now t then mesh_or_fanout else mesh_or_fanout_in self.old t)) }
+            → mesh_or_fanout_in self.new t
+            ≡ (if same_topic topic.now t then mesh_or_fanout else mesh_or_fanout_in self.old t)) }
     {
         self.topics.insert(clone_of(topic)?, mesh_or_fanout)?;
         Ok(())

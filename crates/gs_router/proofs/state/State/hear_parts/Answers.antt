@@ -6,7 +6,7 @@ use Rattle.gs_rules.specs.declared.event.Event.{Event as EventValue}
 use Rattle.gs_rules.specs.Modes.{exact}
 use Rattle.gs_router.specs.declared.state.State.{State}
 use Rattle.gs_router.specs.State.{AreLeft, Pays}
-use Rattle.gs_router.specs.Parts.{events_of}
+use Rattle.gs_rules.specs.Parts.{events_of}
 use Rattle.gs_router.proofs.Hearing.{on_err, part_is_due, part_is_paid}
 use Rattle.gs_router.proofs.state.State.hear_parts.Goals as goal
 
@@ -30,7 +30,7 @@ step_with-requires-clause-next g c =
     let is : c.heard_at-part.result ≡ g.P.HeardPart.as_part (part_at g.P.Part.bare (g.P.Part.parts c.args.rpc.now) c.loop-place.place) =
     c.heard_at-part.ensures ∙ ap (λ (rpc : RpcValue). g.P.HeardPart.as_part (part_at g.P.Part.bare (g.P.Part.parts rpc) c.loop-place.place)) c.in_ok-clone_of.ensures in
     let left = c.loop-place.invariant.0 in
-    part_is_due (exact g.W.Words.word g.W.Words.after) c.args.now c.args.from g.P.HeardPart.as_part g.P.Part.bare (g.P.Part.parts c.args.rpc.now) (g.P.HeardPart.behind c.args.from c.args.rpc.now) c.loop-place.place c.heard_at-part.result below is left.0 left.1 c.loop-place.self left.2 c.loop-place.words left.3
+    part_is_due (exact g.W.Words.word g.W.Words.after) c.args.now c.args.from g.P.HeardPart.as_part g.P.Part.bare (g.P.Part.parts c.args.rpc.now) (g.P.HeardPart.after c.args.from c.args.rpc.now) c.loop-place.place c.heard_at-part.result below is left.0 left.1 c.loop-place.self left.2 c.loop-place.words left.3
 
 pub returns-in_err-step_with-clause-breaks : goal.returns-in_err-step_with-clause-breaks
 returns-in_err-step_with-clause-breaks g c =
@@ -51,17 +51,17 @@ loop-place-preserved g c =
     c.heard_at-part.ensures ∙ ap (λ (rpc : RpcValue). g.P.HeardPart.as_part (part_at g.P.Part.bare (g.P.Part.parts rpc) c.loop-place.place)) c.in_ok-clone_of.ensures in
     let left = c.loop-place.invariant.0 in
     let paid = λ (event : EventValue) (a : State) (s : g.row.W.Denot).
-    part_is_paid (exact g.W.Words.word g.W.Words.after) c.args.now c.args.from g.P.HeardPart.as_part g.P.Part.bare (g.P.Part.parts c.args.rpc.now) (g.P.HeardPart.behind c.args.from c.args.rpc.now) c.loop-place.place c.heard_at-part.result below is event a c.loop-place.self c.step_with.new.self s c.loop-place.words c.step_with.new.words c.in_ok-step_with.field-0 c.in_ok-step_with.ensures in
+    part_is_paid (exact g.W.Words.word g.W.Words.after) c.args.now c.args.from g.P.HeardPart.as_part g.P.Part.bare (g.P.Part.parts c.args.rpc.now) (g.P.HeardPart.after c.args.from c.args.rpc.now) c.loop-place.place c.heard_at-part.result below is event a c.loop-place.self c.step_with.new.self s c.loop-place.words c.step_with.new.words c.in_ok-step_with.field-0 c.in_ok-step_with.ensures in
     ((left.0, left.1, left.2, paid left.0 left.1 left.2 left.3), λ event a s h. paid event a s (c.loop-place.invariant.1 event a s h))
 
 pub returns-clause-left : goal.returns-clause-left
 returns-clause-left g c =
     let none : drop c.loop-place.place (g.P.Part.parts c.args.rpc.now) ≡ [] = drop_all c.loop-place.place (g.P.Part.parts c.args.rpc.now) (omega (arith, c.loop-place-test.false, ap length (c.parts_of-place-end.ensures ∙ ap g.P.Part.parts c.get.ensures))) in
-    subst (λ xs. AreLeft (exact g.W.Words.word g.W.Words.after) c.args.now (events_of g.P.HeardPart.as_part c.args.from xs ++ (g.P.HeardPart.behind c.args.from c.args.rpc.now)) c.loop-place.self c.loop-place.words) none c.loop-place.invariant.0
+    subst (λ xs. AreLeft (exact g.W.Words.word g.W.Words.after) c.args.now (events_of g.P.HeardPart.as_part c.args.from xs ++ (g.P.HeardPart.after c.args.from c.args.rpc.now)) c.loop-place.self c.loop-place.words) none c.loop-place.invariant.0
 
 pub returns-clause-pays : goal.returns-clause-pays
 returns-clause-pays g c =
     let none : drop c.loop-place.place (g.P.Part.parts c.args.rpc.now) ≡ [] = drop_all c.loop-place.place (g.P.Part.parts c.args.rpc.now) (omega (arith, c.loop-place-test.false, ap length (c.parts_of-place-end.ensures ∙ ap g.P.Part.parts c.get.ensures))) in
     subst
-    (λ xs. Pays (exact g.W.Words.word g.W.Words.after) c.args.now (events_of g.P.HeardPart.as_part c.args.from (g.P.Part.parts c.args.rpc.now) ++ (g.P.HeardPart.behind c.args.from c.args.rpc.now)) c.args.self.now c.args.words.now (events_of g.P.HeardPart.as_part c.args.from xs ++ (g.P.HeardPart.behind c.args.from c.args.rpc.now)) c.loop-place.self c.loop-place.words)
+    (λ xs. Pays (exact g.W.Words.word g.W.Words.after) c.args.now (events_of g.P.HeardPart.as_part c.args.from (g.P.Part.parts c.args.rpc.now) ++ (g.P.HeardPart.after c.args.from c.args.rpc.now)) c.args.self.now c.args.words.now (events_of g.P.HeardPart.as_part c.args.from xs ++ (g.P.HeardPart.after c.args.from c.args.rpc.now)) c.loop-place.self c.loop-place.words)
     none c.loop-place.invariant.1
