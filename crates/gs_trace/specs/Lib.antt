@@ -1,0 +1,4 @@
+pub mod Texts
+pub mod Rpcs
+pub mod Events
+pub mod Lines
