@@ -1,19 +1,18 @@
-//! The lines of a run's trace.
-ghost use Rattle.std.specs.Prelude.{◌≡◌, ◌≤◌, ◌++◌, ◌+◌, codes, drop, suc, take, length, map, filter, reverse, IfOk, OnOk};
+//! The lines of a run's trace, round by round.
+ghost use Rattle.std.specs.Prelude.{◌≡◌, ◌≤◌, ◌++◌, ◌+◌, drop, suc, length, map, reverse, if◌then◌else◌, IfOk, OnOk, true, false};
 ghost use Rattle.std.specs.List.{flat_map, range_with_len};
-ghost use Rattle.gs_report.specs.Text.{word_of};
+ghost use Rattle.gs_rules.specs.Events.{of_round_end};
 ghost use Rattle.gs_trace.specs.Texts.{list_text, names_of, quoted};
-ghost use Rattle.gs_trace.specs.Events.{effects_members};
-ghost use Rattle.gs_trace.specs.Lines.{after_end, after_ends, head_text, in_round, is_refused_in, line_start, line_text, refusal_members, told, told_in, told_of, trace_text, up_to_end};
-ghost use Rattle.gs_trace.specs.Lines.Told.{Did, Refused};
+ghost use Rattle.gs_trace.specs.Lines.{head_text, line_text, told, told_of, trace_text, up_to_end};
+ghost use Rattle.gs_trace.specs.Starts.{start_in};
 
-use crate::events::{push_event, push_payload, push_rpc, push_topic, push_word};
-use crate::texts::{Shown, push_list, push_number, push_quoted};
-use bytes::Bytes;
-use gs_base::{Millis, PeerNo, Rpc, Shared, Topic};
-use gs_plan::{Plan, PlannedPeer, what_word};
+use crate::entries::push_entries;
+use crate::refusals::push_refusals;
+use crate::texts::{Shown, push_code, push_list, push_number, push_quoted};
+use gs_base::PeerNo;
+use gs_plan::{Plan, PlannedPeer};
 use gs_report::{Finished, Report};
-use gs_rules::{Event, Promise, RefusedLine, StoredEntry};
+use gs_rules::{Event, StoredEntry};
 use std::alloc::{AllocError, Global};
 
 /// The trace of a run as JSON Lines (docs/FORMATS.md has each field): first who the peers are, and then one line for each
@@ -25,9 +24,10 @@ use std::alloc::{AllocError, Global};
 pub fn trace_text(alloc: Global, plan: &Plan, report: &Report) -> Result<Vec<u8>, AllocError>
     ensures { IfOk result (λ text. text.items ≡ trace_text plan.now report.now) }
 {
+    let mut starts = first_starts(alloc, &report.peers)?;
     let mut out = Vec::new(alloc);
     push_head(plan, &mut out)?;
-    push_rounds(alloc, plan, &mut out, report)?;
+    push_rounds(plan, &mut out, &report.peers, &mut starts)?;
     Ok(out)
 }
 
@@ -35,60 +35,126 @@ pub fn trace_text(alloc: Global, plan: &Plan, report: &Report) -> Result<Vec<u8>
 fn push_head(plan: &Plan, out: &mut Vec<u8>) -> Result<(), AllocError>
     ensures { OnOk result (out.new.items ≡ out.old.items ++ head_text plan.now) }
 {
-    out.extend_from_slice(b"{\"peers\":")?;
-    push_list(plan, out, plan.peers.as_slice())?;
-    out.extend_from_slice(b",\"round_ms\":")?;
+    push_code(out, b"{\"peers\":")?;
+    push_names(plan, out)?;
+    push_code(out, b",\"round_ms\":")?;
     push_number(out, plan.round_ms)?;
-    out.extend_from_slice(b",\"last_round\":")?;
+    push_code(out, b",\"last_round\":")?;
     push_number(out, plan.rounds)?;
-    out.extend_from_slice(b"}\n")
+    push_code(out, b"}\n")
 }
 
-fn push_rounds(
-    alloc: Global,
-    plan: &Plan,
-    out: &mut Vec<u8>,
-    report: &Report,
-) -> Result<(), AllocError>
-    ensures { OnOk result (out.new.items
-        ≡ out.old.items ++ flat_map (line_text plan.now) (told plan.now report.now)) }
+/// Adds the names of all peers.
+fn push_names(plan: &Plan, out: &mut Vec<u8>) -> Result<(), AllocError>
+    ensures { OnOk result (out.new.items ≡ out.old.items ++ list_text quoted (names_of plan.now)) }
 {
-    let mut starts = Vec::with_capacity(alloc, report.peers.len())?;
-    for _ in &report.peers {
+    push_list(plan, out, plan.peers.as_slice())
+}
+
+impl Shown for PlannedPeer {
+    ghost text = { λ names planned. quoted planned.name };
+
+    fn push(&self, _plan: &Plan, out: &mut Vec<u8>) -> Result<(), AllocError> {
+        push_quoted(out, self.name.as_str().as_bytes())
+    }
+}
+
+/// Where the entries of each peer begin in the first round.
+fn first_starts(alloc: Global, peers: &[(PeerNo, Finished)]) -> Result<Vec<usize>, AllocError>
+    ensures { IfOk result (λ starts. starts.items ≡ map (start_in 0) peers.now) }
+{
+    let mut starts = Vec::with_capacity(alloc, peers.len())?;
+    for _peer in peers {
         starts.push(0)?;
     }
-    for round in 0..=plan.rounds {
-        push_round(plan, out, round, &report.peers, &mut starts)?;
-    }
-    Ok(())
+    Ok(starts)
 }
 
-/// Adds what is said of all peers in a round, where their entries of it begin at these places.
+/// Adds the lines of all rounds.
+fn push_rounds(
+    plan: &Plan,
+    out: &mut Vec<u8>,
+    peers: &[(PeerNo, Finished)],
+    starts: &mut [usize],
+) -> Result<(), AllocError>
+    requires { starts.old ≡ map (start_in 0) peers.now }
+    ensures { OnOk result (out.new.items ≡ out.old.items
+        ++ flat_map (line_text plan.now) (flat_map (λ r. flat_map (told_of plan.now r) peers.now) (range_with_len 0 (suc plan.now.rounds)))) }
+{
+    for round in 0..plan.rounds {
+        push_round(plan, out, round, peers, starts)?;
+    }
+    push_round(plan, out, plan.rounds, peers, starts)
+}
+
+/// Adds the lines of a round, in which the entries of each peer begin at these places. After it they are those of the next
+/// one.
 fn push_round(
     plan: &Plan,
     out: &mut Vec<u8>,
     round: u64,
     peers: &[(PeerNo, Finished)],
-    starts: &mut Vec<usize>,
-) -> Result<(), AllocError> {
+    starts: &mut [usize],
+) -> Result<(), AllocError>
+    requires { starts.old ≡ map (start_in round) peers.now }
+    ensures text { OnOk result (out.new.items
+        ≡ out.old.items ++ flat_map (line_text plan.now) (flat_map (told_of plan.now round) peers.now)) }
+    ensures starts { OnOk result (starts.new ≡ map (start_in (suc round)) peers.now) }
+{
     for place in 0..peers.len() {
-        let (peer, life) = &peers[place];
-        let start = starts[place];
-        let entries = life.trace.entries();
-        let end = end_of(entries, start, round == plan.rounds);
-        push_entries(plan, out, round, *peer, &entries[start..end])?;
-        push_refusals(plan, out, round, *peer, life.refused.as_slice())?;
-        starts[place] = end;
+        starts[place] = push_told(plan, out, round, &peers[place], starts[place])?;
     }
     Ok(())
 }
 
-/// Where the entries of a round end that begin at a place: after the next end of a round, and in the last one at the end.
-fn end_of(entries: &[StoredEntry], start: usize, is_last: bool) -> usize {
+/// Adds the lines of a peer in a round, in which its entries begin at a place, and gives that of the next round.
+fn push_told(
+    plan: &Plan,
+    out: &mut Vec<u8>,
+    round: u64,
+    peer: &(PeerNo, Finished),
+    start: usize,
+) -> Result<usize, AllocError>
+    requires { start ≡ start_in round peer.now }
+    ensures text { OnOk result (out.new.items
+        ≡ out.old.items ++ flat_map (line_text plan.now) (told_of plan.now round peer.now)) }
+    ensures next { IfOk result (λ next. next ≡ start_in (suc round) peer.now) }
+{
+    let (number, life) = peer;
+    let rest = rest_of(life, start);
+    let count = count_to_end(rest);
+    let entries = in_round(rest, count, round == plan.rounds);
+    push_entries(plan, out, round, *number, entries)?;
+    push_refusals(plan, out, round, *number, life.refused.as_slice())?;
+    Ok(start + count)
+}
+
+/// The entries of a peer from a place on.
+#[tactic(auto, using(crate::proofs::Starts::length_back))]
+fn rest_of(life: &Finished, start: usize) -> &[StoredEntry]
+    requires { start ≤ length life.now.trace }
+    ensures { result.now ≡ drop start (reverse life.now.trace) }
+{
+    &life.trace.entries()[start..]
+}
+
+/// The entries of a round, of those that are left: as many as there are up to its end, and in the last round all.
+#[tactic(auto, using(crate::proofs::Starts::front_is, crate::proofs::Starts::front_fits))]
+fn in_round(rest: &[StoredEntry], count: usize, is_last: bool) -> &[StoredEntry]
+    requires { count ≡ length (up_to_end rest.now) }
+    ensures { result.now ≡ (if is_last then rest.now else up_to_end rest.now) }
+{
     if is_last {
-        return entries.len();
+        return rest;
     }
-    for place in start..entries.len() {
+    &rest[..count]
+}
+
+/// How many entries there are up to the first end of a round, with it.
+fn count_to_end(entries: &[StoredEntry]) -> usize
+    ensures { result ≡ length (up_to_end entries.now) }
+{
+    for place in 0..entries.len() {
         if ends_round(entries[place].event()) {
             return place + 1;
         }
@@ -96,7 +162,9 @@ fn end_of(entries: &[StoredEntry], start: usize, is_last: bool) -> usize {
     entries.len()
 }
 
-fn ends_round(event: &Event) -> bool {
+fn ends_round(event: &Event) -> bool
+    ensures { result ≡ of_round_end (λ r. true) false event.now }
+{
     match event {
         Event::RoundEnd(_) => true,
         Event::Heard(_, _) => false,
@@ -108,178 +176,5 @@ fn ends_round(event: &Event) -> bool {
         Event::Lost(_, _) => false,
         Event::Decay => false,
         Event::Shut => false,
-    }
-}
-
-fn push_entries(
-    plan: &Plan,
-    out: &mut Vec<u8>,
-    round: u64,
-    peer: PeerNo,
-    entries: &[StoredEntry],
-) -> Result<(), AllocError>
-    ensures { OnOk result (out.new.items
-        ≡ out.old.items ++ flat_map (line_text plan.now) (map (Did round peer) entries.now)) }
-{
-    for entry in entries {
-        push_entry(plan, out, round, peer, entry)?;
-    }
-    Ok(())
-}
-
-/// Adds the line of an entry.
-fn push_entry(
-    plan: &Plan,
-    out: &mut Vec<u8>,
-    round: u64,
-    peer: PeerNo,
-    entry: &StoredEntry,
-) -> Result<(), AllocError>
-    ensures { OnOk result (out.new.items ≡ out.old.items ++ line_text plan.now (Did round peer entry.now)) }
-{
-    push_start(plan, out, round, entry.at(), peer)?;
-    push_event(plan, out, entry.event())?;
-    push_effects(plan, out, entry)?;
-    out.extend_from_slice(b"}\n")
-}
-
-/// Adds what begins a line of a peer.
-fn push_start(
-    plan: &Plan,
-    out: &mut Vec<u8>,
-    round: u64,
-    at: Millis,
-    peer: PeerNo,
-) -> Result<(), AllocError>
-    ensures { OnOk result (out.new.items ≡ out.old.items ++ line_start (names_of plan.now) round at peer) }
-{
-    out.extend_from_slice(b"{\"round\":")?;
-    push_number(out, round)?;
-    out.extend_from_slice(b",\"at\":")?;
-    at.push(plan, out)?;
-    out.extend_from_slice(b",\"peer\":")?;
-    peer.push(plan, out)?;
-    out.extend_from_slice(b",")
-}
-
-/// Adds what the peer did about the event.
-fn push_effects(plan: &Plan, out: &mut Vec<u8>, entry: &StoredEntry) -> Result<(), AllocError>
-    ensures { OnOk result (out.new.items ≡ out.old.items ++ effects_members (names_of plan.now) entry.now.effects) }
-{
-    out.extend_from_slice(b",\"sent\":")?;
-    push_list(plan, out, entry.sends())?;
-    out.extend_from_slice(b",\"delivered\":")?;
-    push_list(plan, out, entry.delivered())?;
-    out.extend_from_slice(b",\"promise\":")?;
-    match entry.promise() {
-        Some(promise) => promise.push(plan, out)?,
-        None => out.extend_from_slice(b"null")?,
-    }
-    out.extend_from_slice(b",\"marks\":")?;
-    push_list(plan, out, entry.marks())
-}
-
-impl Shown for PlannedPeer {
-    ghost text = { λ names planned. quoted planned.name };
-
-    fn push(&self, _plan: &Plan, out: &mut Vec<u8>) -> Result<(), AllocError> {
-        push_quoted(out, self.name.as_str().as_bytes())
-    }
-}
-
-impl Shown for (PeerNo, Shared<Rpc>) {
-    ghost use Rattle.gs_trace.specs.Events.{send_text};
-
-    ghost text = { send_text };
-
-    fn push(&self, plan: &Plan, out: &mut Vec<u8>) -> Result<(), AllocError> {
-        out.extend_from_slice(b"{\"to\":")?;
-        self.0.push(plan, out)?;
-        push_rpc(plan, out, self.1.get())?;
-        out.extend_from_slice(b"}")
-    }
-}
-
-impl Shown for (Topic, Bytes) {
-    ghost use Rattle.gs_trace.specs.Events.{delivery_text};
-
-    ghost text = { λ names delivery. delivery_text delivery };
-
-    fn push(&self, plan: &Plan, out: &mut Vec<u8>) -> Result<(), AllocError> {
-        out.extend_from_slice(b"{\"topic\":")?;
-        self.0.push(plan, out)?;
-        push_payload(plan, out, self.1.as_slice())?;
-        out.extend_from_slice(b"}")
-    }
-}
-
-impl Shown for Promise {
-    ghost use Rattle.gs_trace.specs.Events.{promise_text};
-
-    ghost text = { promise_text };
-
-    fn push(&self, plan: &Plan, out: &mut Vec<u8>) -> Result<(), AllocError> {
-        out.extend_from_slice(b"{\"from\":")?;
-        self.from.push(plan, out)?;
-        out.extend_from_slice(b",\"id\":")?;
-        self.id.push(plan, out)?;
-        out.extend_from_slice(b",\"until\":")?;
-        self.until.push(plan, out)?;
-        out.extend_from_slice(b"}")
-    }
-}
-
-fn push_refusals(
-    plan: &Plan,
-    out: &mut Vec<u8>,
-    round: u64,
-    peer: PeerNo,
-    refusals: &[RefusedLine],
-) -> Result<(), AllocError>
-    ensures { OnOk result (out.new.items ≡ out.old.items
-        ++ flat_map (line_text plan.now) (map (Refused round peer) (filter (is_refused_in plan.now.round_ms round) refusals.now))) }
-{
-    for refusal in refusals {
-        if Some(refusal.at.0) == plan.round_ms.checked_mul(round) {
-            push_refusal(plan, out, round, peer, *refusal)?;
-        }
-    }
-    Ok(())
-}
-
-/// Adds the line of a line of the script that was refused.
-fn push_refusal(
-    plan: &Plan,
-    out: &mut Vec<u8>,
-    round: u64,
-    peer: PeerNo,
-    refusal: RefusedLine,
-) -> Result<(), AllocError>
-    ensures { OnOk result (out.new.items ≡ out.old.items ++ line_text plan.now (Refused round peer refusal)) }
-{
-    push_start(plan, out, round, refusal.at, peer)?;
-    push_refused(plan, out, refusal)?;
-    out.extend_from_slice(b"}\n")
-}
-
-fn push_refused(plan: &Plan, out: &mut Vec<u8>, refusal: RefusedLine) -> Result<(), AllocError>
-    ensures { OnOk result (out.new.items ≡ out.old.items ++ refusal_members plan.now refusal) }
-{
-    push_word(out, b"refused")?;
-    out.extend_from_slice(b",\"line\":")?;
-    push_number(out, refusal.line as u64)?;
-    out.extend_from_slice(b",\"what\":")?;
-    push_quoted(out, word_of(plan, refusal.line).as_bytes())?;
-    out.extend_from_slice(b",\"number\":")?;
-    push_number(out, refusal.why.number() as u64)
-}
-
-/// The word of the script's line at a place. A place that is no line's has the empty one.
-fn word_of(plan: &Plan, place: usize) -> &'static str
-    ensures { result.now ≡ word_of plan.now place }
-{
-    match plan.script.as_slice().get(place) {
-        Some(line) => what_word(&line.what),
-        None => "",
     }
 }

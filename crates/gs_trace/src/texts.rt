@@ -4,7 +4,7 @@ ghost use Rattle.std.specs.List.{flat_map};
 ghost use Rattle.gs_trace.specs.Texts.{after_comma, escaped, hex_text, id_text, items_text, list_text, moment_text, name_or_number, names_of, optional_text, peer_text, quoted, topic_text, truth_text, whole_text};
 
 use bytes::Bytes;
-use gs_base::{Millis, MsgId, PeerNo, Shared, Topic};
+use gs_base::{Millis, MsgId, PeerNo, Seq, Shared, Topic};
 use gs_plan::Plan;
 use std::alloc::AllocError;
 
@@ -23,8 +23,8 @@ impl Shown for bool {
 
     fn push(&self, _plan: &Plan, out: &mut Vec<u8>) -> Result<(), AllocError> {
         match *self {
-            true => out.extend_from_slice(b"true"),
-            false => out.extend_from_slice(b"false"),
+            true => push_code(out, b"true"),
+            false => push_code(out, b"false"),
         }
     }
 }
@@ -86,8 +86,16 @@ impl<T: Shown> Shown for Option<T> {
     fn push(&self, plan: &Plan, out: &mut Vec<u8>) -> Result<(), AllocError> {
         match self {
             Some(value) => value.push(plan, out),
-            None => out.extend_from_slice(b"null"),
+            None => push_code(out, b"null"),
         }
+    }
+}
+
+impl<T: Shown> Shown for Seq<T> {
+    ghost text = { λ names values. list_text (T.text names) values };
+
+    fn push(&self, plan: &Plan, out: &mut Vec<u8>) -> Result<(), AllocError> {
+        push_list(plan, out, self.as_slice())
     }
 }
 
@@ -99,6 +107,13 @@ impl<T: Shown + Drop> Shown for Shared<T> {
     }
 }
 
+/// Adds a text as it is.
+pub(crate) fn push_code(out: &mut Vec<u8>, code: &[u8]) -> Result<(), AllocError>
+    ensures { OnOk result (out.new.items ≡ out.old.items ++ code.now) }
+{
+    out.extend_from_slice(code)
+}
+
 /// Adds values as a list.
 pub(crate) fn push_list<T: Shown>(
     plan: &Plan,
@@ -107,9 +122,9 @@ pub(crate) fn push_list<T: Shown>(
 ) -> Result<(), AllocError>
     ensures { OnOk result (out.new.items ≡ out.old.items ++ list_text (T.text (names_of plan.now)) values.now) }
 {
-    out.extend_from_slice(b"[")?;
+    push_code(out, b"[")?;
     push_items(plan, out, values)?;
-    out.extend_from_slice(b"]")
+    push_code(out, b"]")
 }
 
 fn push_items<T: Shown>(plan: &Plan, out: &mut Vec<u8>, values: &[T]) -> Result<(), AllocError>
@@ -128,7 +143,7 @@ fn push_items<T: Shown>(plan: &Plan, out: &mut Vec<u8>, values: &[T]) -> Result<
 fn push_next<T: Shown>(plan: &Plan, out: &mut Vec<u8>, value: &T) -> Result<(), AllocError>
     ensures { OnOk result (out.new.items ≡ out.old.items ++ after_comma (T.text (names_of plan.now)) value.now) }
 {
-    out.extend_from_slice(b",")?;
+    push_code(out, b",")?;
     value.push(plan, out)
 }
 
@@ -139,11 +154,18 @@ pub(crate) fn push_number(out: &mut Vec<u8>, number: u64) -> Result<(), AllocErr
     out.extend_from_slice(digits.as_bytes())
 }
 
-pub(crate) fn push_whole(out: &mut Vec<u8>, number: i128) -> Result<(), AllocError>
-    ensures { OnOk result (out.new.items ≡ out.old.items ++ whole_text number) }
+/// Adds a place or a count.
+pub(crate) fn push_size(out: &mut Vec<u8>, size: usize) -> Result<(), AllocError>
+    ensures { OnOk result (out.new.items ≡ out.old.items ++ decimal size) }
 {
-    if number < 0 {
-        out.extend_from_slice(b"-")?;
+    push_number(out, size as u64)
+}
+
+pub(crate) fn push_whole(out: &mut Vec<u8>, number: &i128) -> Result<(), AllocError>
+    ensures { OnOk result (out.new.items ≡ out.old.items ++ whole_text number.now) }
+{
+    if *number < 0 {
+        push_code(out, b"-")?;
     }
     let magnitude = number.unsigned_abs();
     let digits = format!(in *out.allocator(); "{magnitude}")?;
@@ -154,19 +176,19 @@ pub(crate) fn push_hex(out: &mut Vec<u8>, bytes: &[u8]) -> Result<(), AllocError
     ensures { OnOk result (out.new.items ≡ out.old.items ++ hex_text bytes.now) }
 {
     let digits = hex::encode(*out.allocator(), bytes)?;
-    out.extend_from_slice(b"\"")?;
+    push_code(out, b"\"")?;
     out.extend_from_slice(digits.as_bytes())?;
-    out.extend_from_slice(b"\"")
+    push_code(out, b"\"")
 }
 
 pub(crate) fn push_quoted(out: &mut Vec<u8>, bytes: &[u8]) -> Result<(), AllocError>
     ensures { OnOk result (out.new.items ≡ out.old.items ++ quoted bytes.now) }
 {
-    out.extend_from_slice(b"\"")?;
+    push_code(out, b"\"")?;
     for byte in bytes {
         push_escaped(out, *byte)?;
     }
-    out.extend_from_slice(b"\"")
+    push_code(out, b"\"")
 }
 
 /// Adds a byte of a text within quotes.
@@ -175,7 +197,7 @@ fn push_escaped(out: &mut Vec<u8>, byte: u8) -> Result<(), AllocError>
 {
     if byte < 32 || (byte == b'"' || (byte == b'\\' || byte > 126)) {
         let digits = hex::encode(*out.allocator(), &[byte])?;
-        out.extend_from_slice(b"\\u00")?;
+        push_code(out, b"\\u00")?;
         return out.extend_from_slice(digits.as_bytes());
     }
     out.extend_from_slice(&[byte])
