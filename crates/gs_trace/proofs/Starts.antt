@@ -1,6 +1,8 @@
 -- The entries of a round are those from its start up to the next one.
-use Rattle.std.proofs.Common.{◌≡◌, ◌≤◌, ℕ, zero, suc, ◌+◌, ◌<◌, Bool, true, false, if◌then◌else◌, List, [], ◌∷◌, ◌++◌, drop, take, length, map, get_or, set, refl, sym, ap, ◌∙◌, arith, length-drop, length-reverse, ⊥, ex_falso, reverse}
-use Rattle.std.proofs.lemmas.List.{drop-drop}
+use Rattle.std.proofs.Common.{◌≡◌, ◌≤◌, ℕ, zero, suc, ◌+◌, ◌<◌, Bool, true, false, if◌then◌else◌, List, [], ◌∷◌, ◌++◌, drop, take, length, map, get_or, set, refl, sym, ap, ◌∙◌, arith, length-drop, reverse, add-one, append-nil}
+use Rattle.std.specs.List.{flat_map, range_with_len}
+use Rattle.std.proofs.lemmas.Grind.{flat_map-append}
+use Rattle.std.proofs.lemmas.List.{drop-drop, length-reverse}
 use Rattle.gs_rules.specs.declared.trace.Entry.{Entry}
 use Rattle.gs_trace.specs.Lines.{after_end, after_ends, ends_round, up_to_end}
 use Rattle.gs_trace.specs.Starts.{start_of}
@@ -10,28 +12,28 @@ use Rattle.gs_trace.specs.Starts.{start_of}
 -- those up to the first end are a front of them
 pub front_is : (es : List Entry) → take (length (up_to_end es)) es ≡ up_to_end es
 front_is [] = refl
-front_is (e ∷ es) = by (ends_round e)
+front_is (e ∷ es) = by (ends_round e) (front_is es)
   where
-    by : (b : Bool) → take (length (e ∷ (if b then [] else up_to_end es))) (e ∷ es) ≡ e ∷ (if b then [] else up_to_end es)
-    by true = refl
-    by false = ap (λ (xs : List Entry). e ∷ xs) (front_is es)
+    by : (b : Bool) → take (length (up_to_end es)) es ≡ up_to_end es → take (length (e ∷ (if b then [] else up_to_end es))) (e ∷ es) ≡ e ∷ (if b then [] else up_to_end es)
+    by true more = refl
+    by false more = ap (λ (xs : List Entry). e ∷ xs) more
 
 -- and those after it the rest
 pub rest_is : (es : List Entry) → drop (length (up_to_end es)) es ≡ after_end es
 rest_is [] = refl
-rest_is (e ∷ es) = by (ends_round e)
+rest_is (e ∷ es) = by (ends_round e) (rest_is es)
   where
-    by : (b : Bool) → drop (length (e ∷ (if b then [] else up_to_end es))) (e ∷ es) ≡ (if b then es else after_end es)
-    by true = refl
-    by false = rest_is es
+    by : (b : Bool) → drop (length (up_to_end es)) es ≡ after_end es → drop (length (e ∷ (if b then [] else up_to_end es))) (e ∷ es) ≡ (if b then es else after_end es)
+    by true more = refl
+    by false more = more
 
 pub front_fits : (es : List Entry) → length (up_to_end es) ≤ length es
 front_fits [] = omega arith
-front_fits (e ∷ es) = by (ends_round e)
+front_fits (e ∷ es) = by (ends_round e) (front_fits es)
   where
-    by : (b : Bool) → length (e ∷ (if b then [] else up_to_end es)) ≤ length (e ∷ es)
-    by true = omega arith
-    by false = omega (arith, front_fits es)
+    by : (b : Bool) → length (up_to_end es) ≤ length es → length (e ∷ (if b then [] else up_to_end es)) ≤ length (e ∷ es)
+    by true more = omega arith
+    by false more = omega (arith, more)
 
 -- ---- starts
 
@@ -62,12 +64,29 @@ length_back es = length-reverse es
 
 -- what is at a place that the walk has not reached
 pub found : {X : Type 0} (f g : X → ℕ) (xs : List X) (i : ℕ) (d : X) (e : ℕ) → i < length xs → get_or (map f (take i xs) ++ map g (drop i xs)) i e ≡ g (get_or xs i d)
-found f g [] i d e low = let wrong : ⊥ = omega (arith, low) in ex_falso wrong
+found f g [] i d e low = absurd (omega (arith, low))
 found f g (x ∷ xs) zero d e low = refl
 found f g (x ∷ xs) (suc i) d e low = found f g xs i d e (omega (arith, low))
 
 -- and what the walk is when it has been there
-pub walked : {X : Type 0} (f g : X → ℕ) (xs : List X) (i : ℕ) (d : X) → i < length xs → set (map f (take i xs) ++ map g (drop i xs)) i (f (get_or xs i d)) ≡ map f (take (i + 1) xs) ++ map g (drop (i + 1) xs)
-walked f g [] i d low = let wrong : ⊥ = omega (arith, low) in ex_falso wrong
+walked : {X : Type 0} (f g : X → ℕ) (xs : List X) (i : ℕ) (d : X) → i < length xs → set (map f (take i xs) ++ map g (drop i xs)) i (f (get_or xs i d)) ≡ map f (take (suc i) xs) ++ map g (drop (suc i) xs)
+walked f g [] i d low = absurd (omega (arith, low))
 walked f g (x ∷ xs) zero d low = refl
 walked f g (x ∷ xs) (suc i) d low = ap (λ (ys : List ℕ). f x ∷ ys) (walked f g xs i d (omega (arith, low)))
+
+pub walk_more : {X : Type 0} (f g : X → ℕ) (xs : List X) (i : ℕ) (d : X) → i < length xs → set (map f (take i xs) ++ map g (drop i xs)) i (f (get_or xs i d)) ≡ map f (take (i + 1) xs) ++ map g (drop (i + 1) xs)
+walk_more f g xs i d low = walked f g xs i d low ∙ ap (λ (j : ℕ). map f (take j xs) ++ map g (drop j xs)) (sym (add-one i))
+
+-- ---- rounds
+
+counted : (a n j : ℕ) → a + n ≡ j → range_with_len a (suc n) ≡ range_with_len a n ++ j ∷ []
+counted a zero j is = let same : a ≡ j = omega (arith, is) in ap (λ (r : ℕ). r ∷ []) same
+counted a (suc n) j is = ap (λ (rs : List ℕ). a ∷ rs) (counted (a + 1) n j (omega (arith, is)))
+
+-- the text of one round more
+pub rounds_more : {X : Type 0} (line : X → List ℕ) (told : ℕ → List X) (n : ℕ)
+    → flat_map line (flat_map told (range_with_len 0 (suc n))) ≡ flat_map line (flat_map told (range_with_len 0 n)) ++ flat_map line (told n)
+rounds_more {X = X} line told n =
+    ap (λ (rs : List ℕ). flat_map line (flat_map told rs)) (counted 0 n n (omega arith))
+    ∙ ap (flat_map line) (flat_map-append told (range_with_len 0 n) (n ∷ []) ∙ ap (λ (last : List X). flat_map told (range_with_len 0 n) ++ last) (append-nil (told n)))
+    ∙ flat_map-append line (flat_map told (range_with_len 0 n)) (told n)

@@ -135,6 +135,12 @@ fn push_message(plan: &Plan, out: &mut Vec<u8>, message: &Message) -> Result<(),
 {
     message.push(plan, out)?;
     push_code(out, b",\"id\":")?;
+    push_message_id(plan, out, message)
+}
+
+fn push_message_id(plan: &Plan, out: &mut Vec<u8>, message: &Message) -> Result<(), AllocError>
+    ensures { OnOk result (out.new.items ≡ out.old.items ++ id_text (message_id (payload_of message.now))) }
+{
     push_id_of(plan, out, message.payload_bytes())
 }
 

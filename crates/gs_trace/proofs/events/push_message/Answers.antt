@@ -7,4 +7,4 @@ returns c =
     last out _ _ _ _ (then out _ _
     c.in_ok-push.ensures
     c.in_ok-push_code.ensures)
-    c.push_id_of.ensures
+    c.push_message_id.ensures

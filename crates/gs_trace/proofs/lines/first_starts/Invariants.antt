@@ -4,4 +4,4 @@ use Rattle.gs_trace.proofs.lines.first_starts.Given as goal
 
 -- a place for each peer so far
 abbrev pub invariant-loop-peer : goal.invariant-loop-peer
-invariant-loop-peer l = l.starts.items ≡ map (start_in 0) (take l.peer-index l.peers)
+invariant-loop-peer l = l.starts.items ≡ map (start_in 0) (take l._peer-index l.peers)
