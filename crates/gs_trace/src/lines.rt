@@ -1,10 +1,10 @@
 //! The lines of a run's trace, round by round.
-ghost use Rattle.std.specs.Prelude.{◌≡◌, ◌≤◌, ◌++◌, ◌+◌, drop, suc, length, map, reverse, if◌then◌else◌, IfOk, OnOk, true, false};
+ghost use Rattle.std.specs.Prelude.{◌≡◌, ◌≤◌, ◌++◌, ◌+◌, drop, suc, length, map, if◌then◌else◌, IfOk, OnOk, true, false};
 ghost use Rattle.std.specs.List.{flat_map, range_with_len};
 ghost use Rattle.gs_rules.specs.Events.{of_round_end};
 ghost use Rattle.gs_trace.specs.Texts.{list_text, names_of, quoted};
-ghost use Rattle.gs_trace.specs.Lines.{head_text, line_text, told, told_of, trace_text, up_to_end};
-ghost use Rattle.gs_trace.specs.Starts.{start_in};
+ghost use Rattle.gs_trace.specs.Lines.{head_text, line_text, told_of, trace_text, up_to_end};
+ghost use Rattle.gs_trace.specs.Starts.{start_in, told_by};
 
 use crate::entries::push_entries;
 use crate::refusals::push_refusals;
@@ -79,7 +79,7 @@ fn push_rounds(
 ) -> Result<(), AllocError>
     requires { starts.old ≡ map (start_in 0) peers.now }
     ensures { OnOk result (out.new.items ≡ out.old.items
-        ++ flat_map (line_text plan.now) (flat_map (λ r. flat_map (told_of plan.now r) peers.now) (range_with_len 0 (suc plan.now.rounds)))) }
+        ++ flat_map (line_text plan.now) (flat_map (told_by plan.now peers.now) (range_with_len 0 (suc plan.now.rounds)))) }
 {
     for round in 0..plan.rounds {
         push_round(plan, out, round, peers, starts)?;
@@ -98,7 +98,7 @@ fn push_round(
 ) -> Result<(), AllocError>
     requires { starts.old ≡ map (start_in round) peers.now }
     ensures text { OnOk result (out.new.items
-        ≡ out.old.items ++ flat_map (line_text plan.now) (flat_map (told_of plan.now round) peers.now)) }
+        ≡ out.old.items ++ flat_map (line_text plan.now) (told_by plan.now peers.now round)) }
     ensures starts { OnOk result (starts.new ≡ map (start_in (suc round)) peers.now) }
 {
     for place in 0..peers.len() {
@@ -121,21 +121,21 @@ fn push_told(
     ensures next { IfOk result (λ next. next ≡ start_in (suc round) peer.now) }
 {
     let (number, life) = peer;
-    let rest = rest_of(life, start);
-    let count = count_to_end(rest);
-    let entries = in_round(rest, count, round == plan.rounds);
-    push_entries(plan, out, round, *number, entries)?;
+    let entries = life.trace.entries();
+    let rest = rest_of(entries, start);
+    let end = end_of(entries, start);
+    let of_round = in_round(rest, end - start, round == plan.rounds);
+    push_entries(plan, out, round, *number, of_round)?;
     push_refusals(plan, out, round, *number, life.refused.as_slice())?;
-    Ok(start + count)
+    Ok(end)
 }
 
-/// The entries of a peer from a place on.
-#[tactic(auto, using(crate::proofs::Starts::length_back))]
-fn rest_of(life: &Finished, start: usize) -> &[StoredEntry]
-    requires { start ≤ length life.now.trace }
-    ensures { result.now ≡ drop start (reverse life.now.trace) }
+/// The entries from a place on.
+fn rest_of(entries: &[StoredEntry], start: usize) -> &[StoredEntry]
+    requires { start ≤ length entries.now }
+    ensures { result.now ≡ drop start entries.now }
 {
-    &life.trace.entries()[start..]
+    &entries[start..]
 }
 
 /// The entries of a round, of those that are left: as many as there are up to its end, and in the last round all.
@@ -150,11 +150,12 @@ fn in_round(rest: &[StoredEntry], count: usize, is_last: bool) -> &[StoredEntry]
     &rest[..count]
 }
 
-/// How many entries there are up to the first end of a round, with it.
-fn count_to_end(entries: &[StoredEntry]) -> usize
-    ensures { result ≡ length (up_to_end entries.now) }
+/// Where the entries of a round end that begin at a place: after the next end of a round.
+fn end_of(entries: &[StoredEntry], start: usize) -> usize
+    requires { start ≤ length entries.now }
+    ensures { result ≡ start + length (up_to_end (drop start entries.now)) }
 {
-    for place in 0..entries.len() {
+    for place in start..entries.len() {
         if ends_round(entries[place].event()) {
             return place + 1;
         }
