@@ -2,7 +2,7 @@ use Rattle.std.proofs.Common.{◌≡◌, ◌++◌, ℕ, List, map, add-one, sym,
 use Rattle.std.proofs.lemmas.Result.{on_ok_weaker}
 use Rattle.gs_trace.specs.Lines.{line_text}
 use Rattle.gs_trace.specs.Starts.{start_in, told_by}
-use Rattle.gs_trace.proofs.Appended.{then}
+use Rattle.gs_trace.proofs.Appended.{and_then}
 use Rattle.gs_trace.proofs.Starts.{round_last, round_more, text_to}
 use Rattle.gs_trace.proofs.lines.push_rounds.Goals as goal
 
@@ -16,7 +16,7 @@ loop-round-preserved c =
     record {
       low = search rules;
       starts = done.starts ∙ ap (λ (r : ℕ). map (start_in r) c.args.peers.now) (sym (add-one round));
-      text = then out _ _ c.loop-round.invariant.text done.text ∙ ap (λ (text : List ℕ). out ++ text) (round_more line told round);
+      text = and_then out _ _ c.loop-round.invariant.text done.text ∙ ap (λ (text : List ℕ). out ++ text) (round_more line told round);
     }
 
 pub returns : goal.returns
@@ -30,5 +30,5 @@ returns c =
     c.loop-round.invariant.text ∙ ap (λ (r : ℕ). out ++ text_to line told r) end in
     on_ok_weaker
     c.push_round-2.result
-    (λ done. then out _ _ so_far done ∙ ap (λ (text : List ℕ). out ++ text) (round_last line told plan.rounds))
+    (λ done. and_then out _ _ so_far done ∙ ap (λ (text : List ℕ). out ++ text) (round_last line told plan.rounds))
     c.push_round-2.ensures.text

@@ -5,7 +5,7 @@ use Rattle.gs_rules.specs.declared.refusal.RefusedLine.{RefusedLine}
 use Rattle.gs_rules.specs.declared.trace.Entry.{Entry}
 use Rattle.gs_trace.specs.Lines.{after_ends, in_round, is_refused_in, line_text, up_to_end}
 use Rattle.gs_trace.specs.Lines.Told.{Did, Refused}
-use Rattle.gs_trace.proofs.Appended.{then}
+use Rattle.gs_trace.proofs.Appended.{and_then}
 use Rattle.gs_trace.proofs.Starts.{forward, left_is, start_low}
 use Rattle.gs_trace.proofs.lines.push_told.Goals as goal
 
@@ -35,6 +35,6 @@ returns-clause-text c =
     let refused : c.push_refusals.new.out.items ≡ c.push_entries.new.out.items ++ flat_map line (map (Refused r q) (filter (is_refused_in plan.round_ms r) life.refused)) =
     c.in_ok-push_refusals.ensures
     ∙ ap (λ (lines : List RefusedLine). c.push_entries.new.out.items ++ flat_map line (map (Refused r q) (filter (is_refused_in plan.round_ms r) lines))) c.as_slice.ensures in
-    then out _ _ did refused
+    and_then out _ _ did refused
     ∙ ap (λ (text : List ℕ). out ++ text)
     (sym (flat_map-append line (map (Did r q) (in_round plan.rounds r (reverse life.trace))) (map (Refused r q) (filter (is_refused_in plan.round_ms r) life.refused))))
