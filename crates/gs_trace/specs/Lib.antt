@@ -1,0 +1,5 @@
+pub mod Texts
+pub mod Rpcs
+pub mod Events
+pub mod Lines
+pub mod Starts

@@ -1,0 +1,95 @@
+-- The lines of a run's trace: one for each entry, by round, then by peer, then in order. The first line says who the peers
+-- are.
+use Rattle.std.specs.Prelude.{ℕ, zero, suc, Bool, false, true, ◌*◌, ◌==◌, if◌then◌else◌, List, [], ◌∷◌, ◌++◌, codes, decimal, filter, map, reverse}
+use Rattle.std.specs.List.{flat_map, range_with_len}
+use Rattle.gs_base.specs.declared.names.Millis.{Millis}
+use Rattle.gs_base.specs.declared.names.PeerNo.{PeerNo}
+use Rattle.gs_plan.specs.declared.plan.Plan.{Plan}
+use Rattle.gs_rules.specs.declared.refusal.RefusedLine.{RefusedLine}
+use Rattle.gs_rules.specs.declared.trace.Entry.{Entry}
+use Rattle.gs_rules.specs.Events.{of_round_end}
+use Rattle.gs_rules.specs.Refusals.{number_of}
+use Rattle.gs_report.specs.declared.finished.Finished.{Finished}
+use Rattle.gs_report.specs.declared.report.Report.{Report}
+use Rattle.gs_report.specs.Text.{word_of}
+use Rattle.gs_trace.specs.Texts.{list_text, moment_text, names_of, peer_text, quoted}
+use Rattle.gs_trace.specs.Events.{effects_members, event_members, event_text}
+
+-- ---- what a peer did in a round
+
+-- Whether an entry is the end of a round.
+abbrev pub ends_round : Entry → Bool
+ends_round e = of_round_end (λ r. true) false e.event
+
+-- of entries, the oldest first: those up to the first end of a round, with it, and those after it
+abbrev pub up_to_end : List Entry → List Entry
+up_to_end [] = []
+up_to_end (e ∷ es) = e ∷ (if ends_round e then [] else up_to_end es)
+
+abbrev pub after_end : List Entry → List Entry
+after_end [] = []
+after_end (e ∷ es) = if ends_round e then es else after_end es
+
+-- those after this many ends of rounds
+abbrev pub after_ends : ℕ → List Entry → List Entry
+after_ends zero es = es
+after_ends (suc r) es = after_ends r (after_end es)
+
+-- those of a round. What comes after the end of the last one is of it, too.
+abbrev pub in_round : ℕ → ℕ → List Entry → List Entry
+in_round last r es = if r == last then after_ends r es else up_to_end (after_ends r es)
+
+-- ---- what there is to say
+
+-- What is said of a peer in a round: an entry of its trace, or a line of the script that it refused.
+pub data Told : Type 0 where
+  Did : ℕ → PeerNo → Entry → Told
+  Refused : ℕ → PeerNo → RefusedLine → Told
+
+-- refused at the moment of a round
+abbrev pub is_refused_in : ℕ → ℕ → RefusedLine → Bool
+is_refused_in round_ms r line = line.at.0 == r * round_ms
+
+abbrev pub told_of : Plan → ℕ → PeerNo × Finished → List Told
+told_of plan r x =
+    map (Did r x.0) (in_round plan.rounds r (reverse x.1.trace))
+    ++ map (Refused r x.0) (filter (is_refused_in plan.round_ms r) x.1.refused)
+
+abbrev pub told_in : Plan → Report → ℕ → List Told
+told_in plan report r = flat_map (told_of plan r) report.peers.items
+
+-- all of it: by round, then by peer, then in order
+abbrev pub told : Plan → Report → List Told
+told plan report = flat_map (told_in plan report) (range_with_len 0 (suc plan.rounds))
+
+-- ---- lines
+
+-- what begins a line of a peer
+abbrev pub line_start : List (List ℕ) → ℕ → Millis → PeerNo → List ℕ
+line_start names r at q =
+    codes "{\"round\":" ++ decimal r ++ codes ",\"at\":" ++ moment_text at ++ codes ",\"peer\":" ++ peer_text names q
+    ++ codes ","
+
+abbrev pub entry_members : List (List ℕ) → Entry → List ℕ
+entry_members names e = event_members names e.event ++ effects_members names e.effects
+
+-- which line of the script it is, what that asks for, and the number of the refusal
+abbrev pub refusal_members : Plan → RefusedLine → List ℕ
+refusal_members plan line =
+    event_text (codes "refused") ++ codes ",\"line\":" ++ decimal line.line
+    ++ codes ",\"what\":" ++ quoted (word_of plan line.line)
+    ++ codes ",\"number\":" ++ decimal (number_of line.why)
+
+abbrev pub line_text : Plan → Told → List ℕ
+line_text plan (Did r q e) = line_start (names_of plan) r e.at q ++ entry_members (names_of plan) e ++ codes "}\n"
+line_text plan (Refused r q line) =
+    line_start (names_of plan) r line.at q ++ refusal_members plan line ++ codes "}\n"
+
+-- the first line: the names of the peers by their numbers, and how long and how many the rounds are
+abbrev pub head_text : Plan → List ℕ
+head_text plan =
+    codes "{\"peers\":" ++ list_text quoted (names_of plan) ++ codes ",\"round_ms\":" ++ decimal plan.round_ms
+    ++ codes ",\"last_round\":" ++ decimal plan.rounds ++ codes "}\n"
+
+abbrev pub trace_text : Plan → Report → List ℕ
+trace_text plan report = head_text plan ++ flat_map (line_text plan) (told plan report)

@@ -1,0 +1,174 @@
+//! The line of an entry: what happened at a peer, and what it did about it.
+ghost use Rattle.std.specs.Prelude.{◌≡◌, ◌++◌, map, OnOk};
+ghost use Rattle.std.specs.List.{flat_map};
+ghost use Rattle.gs_trace.specs.Texts.{list_text, names_of, optional_text};
+ghost use Rattle.gs_trace.specs.Events.{delivery_text, effects_members, event_members, mark_object, promise_text, send_text};
+ghost use Rattle.gs_trace.specs.Lines.{entry_members, line_start, line_text};
+ghost use Rattle.gs_trace.specs.Lines.Told.{Did};
+
+use crate::events::{push_event, push_payload, push_shared_rpc};
+use crate::texts::{Shown, push_code, push_list, push_number};
+use bytes::Bytes;
+use gs_base::{Millis, PeerNo, Rpc, Shared, Topic};
+use gs_plan::Plan;
+use gs_rules::{Promise, StoredEntry};
+use std::alloc::AllocError;
+
+/// Adds the lines of a peer's entries in a round.
+pub(crate) fn push_entries(
+    plan: &Plan,
+    out: &mut Vec<u8>,
+    round: u64,
+    peer: PeerNo,
+    entries: &[StoredEntry],
+) -> Result<(), AllocError>
+    ensures { OnOk result (out.new.items
+        ≡ out.old.items ++ flat_map (line_text plan.now) (map (Did round peer) entries.now)) }
+{
+    for entry in entries {
+        push_entry(plan, out, round, peer, entry)?;
+    }
+    Ok(())
+}
+
+/// Adds the line of an entry.
+fn push_entry(
+    plan: &Plan,
+    out: &mut Vec<u8>,
+    round: u64,
+    peer: PeerNo,
+    entry: &StoredEntry,
+) -> Result<(), AllocError>
+    ensures { OnOk result (out.new.items ≡ out.old.items ++ line_text plan.now (Did round peer entry.now)) }
+{
+    push_start_of(plan, out, round, peer, entry)?;
+    push_members(plan, out, entry)?;
+    push_code(out, b"}\n")
+}
+
+/// Adds what happened, and what the peer did about it.
+fn push_members(plan: &Plan, out: &mut Vec<u8>, entry: &StoredEntry) -> Result<(), AllocError>
+    ensures { OnOk result (out.new.items ≡ out.old.items ++ entry_members (names_of plan.now) entry.now) }
+{
+    push_event_of(plan, out, entry)?;
+    push_effects(plan, out, entry)
+}
+
+fn push_event_of(plan: &Plan, out: &mut Vec<u8>, entry: &StoredEntry) -> Result<(), AllocError>
+    ensures { OnOk result (out.new.items ≡ out.old.items ++ event_members (names_of plan.now) entry.now.event) }
+{
+    push_event(plan, out, entry.event())
+}
+
+/// Adds what begins the line of an entry.
+fn push_start_of(
+    plan: &Plan,
+    out: &mut Vec<u8>,
+    round: u64,
+    peer: PeerNo,
+    entry: &StoredEntry,
+) -> Result<(), AllocError>
+    ensures { OnOk result (out.new.items ≡ out.old.items ++ line_start (names_of plan.now) round entry.now.at peer) }
+{
+    push_start(plan, out, round, entry.at(), peer)
+}
+
+/// Adds what begins a line of a peer.
+pub(crate) fn push_start(
+    plan: &Plan,
+    out: &mut Vec<u8>,
+    round: u64,
+    at: Millis,
+    peer: PeerNo,
+) -> Result<(), AllocError>
+    ensures { OnOk result (out.new.items ≡ out.old.items ++ line_start (names_of plan.now) round at peer) }
+{
+    push_code(out, b"{\"round\":")?;
+    push_number(out, round)?;
+    push_code(out, b",\"at\":")?;
+    at.push(plan, out)?;
+    push_code(out, b",\"peer\":")?;
+    peer.push(plan, out)?;
+    push_code(out, b",")
+}
+
+/// Adds what the peer did about the event.
+fn push_effects(plan: &Plan, out: &mut Vec<u8>, entry: &StoredEntry) -> Result<(), AllocError>
+    ensures { OnOk result (out.new.items ≡ out.old.items ++ effects_members (names_of plan.now) entry.now.effects) }
+{
+    push_code(out, b",\"sent\":")?;
+    push_sends(plan, out, entry)?;
+    push_code(out, b",\"delivered\":")?;
+    push_deliveries(plan, out, entry)?;
+    push_code(out, b",\"promise\":")?;
+    push_promise(plan, out, entry)?;
+    push_code(out, b",\"marks\":")?;
+    push_marks(plan, out, entry)
+}
+
+fn push_sends(plan: &Plan, out: &mut Vec<u8>, entry: &StoredEntry) -> Result<(), AllocError>
+    ensures { OnOk result (out.new.items
+        ≡ out.old.items ++ list_text (send_text (names_of plan.now)) entry.now.effects.sends) }
+{
+    push_list(plan, out, entry.sends())
+}
+
+fn push_deliveries(plan: &Plan, out: &mut Vec<u8>, entry: &StoredEntry) -> Result<(), AllocError>
+    ensures { OnOk result (out.new.items
+        ≡ out.old.items ++ list_text delivery_text entry.now.effects.delivered) }
+{
+    push_list(plan, out, entry.delivered())
+}
+
+fn push_promise(plan: &Plan, out: &mut Vec<u8>, entry: &StoredEntry) -> Result<(), AllocError>
+    ensures { OnOk result (out.new.items
+        ≡ out.old.items ++ optional_text (promise_text (names_of plan.now)) entry.now.effects.promise) }
+{
+    match entry.promise() {
+        Some(promise) => promise.push(plan, out),
+        None => push_code(out, b"null"),
+    }
+}
+
+fn push_marks(plan: &Plan, out: &mut Vec<u8>, entry: &StoredEntry) -> Result<(), AllocError>
+    ensures { OnOk result (out.new.items
+        ≡ out.old.items ++ list_text (mark_object (names_of plan.now)) entry.now.effects.marks) }
+{
+    push_list(plan, out, entry.marks())
+}
+
+impl Shown for (PeerNo, Shared<Rpc>) {
+    ghost text = { send_text };
+
+    fn push(&self, plan: &Plan, out: &mut Vec<u8>) -> Result<(), AllocError> {
+        push_code(out, b"{\"to\":")?;
+        self.0.push(plan, out)?;
+        push_shared_rpc(plan, out, &self.1)?;
+        push_code(out, b"}")
+    }
+}
+
+impl Shown for (Topic, Bytes) {
+    ghost text = { λ names delivery. delivery_text delivery };
+
+    fn push(&self, plan: &Plan, out: &mut Vec<u8>) -> Result<(), AllocError> {
+        push_code(out, b"{\"topic\":")?;
+        self.0.push(plan, out)?;
+        push_payload(plan, out, self.1.as_slice())?;
+        push_code(out, b"}")
+    }
+}
+
+impl Shown for Promise {
+    ghost text = { promise_text };
+
+    fn push(&self, plan: &Plan, out: &mut Vec<u8>) -> Result<(), AllocError> {
+        push_code(out, b"{\"from\":")?;
+        self.from.push(plan, out)?;
+        push_code(out, b",\"id\":")?;
+        self.id.push(plan, out)?;
+        push_code(out, b",\"until\":")?;
+        self.until.push(plan, out)?;
+        push_code(out, b"}")
+    }
+}

@@ -1,0 +1,12 @@
+//! The trace of a run as JSON Lines: what each peer heard, decided, sent and remembered, entry by entry.
+#![tactic(auto)]
+
+mod entries;
+mod events;
+mod lines;
+mod marks;
+mod refusals;
+mod rpcs;
+mod texts;
+
+pub use lines::trace_text;

@@ -1,0 +1,181 @@
+//! The lines of a run's trace, round by round.
+ghost use Rattle.std.specs.Prelude.{◌≡◌, ◌≤◌, ◌++◌, ◌+◌, drop, suc, length, map, if◌then◌else◌, IfOk, OnOk, true, false};
+ghost use Rattle.std.specs.List.{flat_map, range_with_len};
+ghost use Rattle.gs_rules.specs.Events.{of_round_end};
+ghost use Rattle.gs_trace.specs.Texts.{list_text, names_of, quoted};
+ghost use Rattle.gs_trace.specs.Lines.{head_text, line_text, told_of, trace_text, up_to_end};
+ghost use Rattle.gs_trace.specs.Starts.{start_in, told_by};
+
+use crate::entries::push_entries;
+use crate::refusals::push_refusals;
+use crate::texts::{Shown, push_code, push_list, push_number, push_quoted};
+use gs_base::PeerNo;
+use gs_plan::{Plan, PlannedPeer};
+use gs_report::{Finished, Report};
+use gs_rules::{Event, StoredEntry};
+use std::alloc::{AllocError, Global};
+
+/// The trace of a run as JSON Lines (docs/FORMATS.md has each field): first who the peers are, and then one line for each
+/// entry, by round, then by peer, then in order. The lines of the script that a peer refused in a round come after its
+/// entries.
+///
+/// # Errors
+/// `AllocError` where there was no memory for it.
+pub fn trace_text(alloc: Global, plan: &Plan, report: &Report) -> Result<Vec<u8>, AllocError>
+    ensures { IfOk result (λ text. text.items ≡ trace_text plan.now report.now) }
+{
+    let mut starts = first_starts(alloc, &report.peers)?;
+    let mut out = Vec::new(alloc);
+    push_head(plan, &mut out)?;
+    push_rounds(plan, &mut out, &report.peers, &mut starts)?;
+    Ok(out)
+}
+
+/// Adds the first line.
+fn push_head(plan: &Plan, out: &mut Vec<u8>) -> Result<(), AllocError>
+    ensures { OnOk result (out.new.items ≡ out.old.items ++ head_text plan.now) }
+{
+    push_code(out, b"{\"peers\":")?;
+    push_names(plan, out)?;
+    push_code(out, b",\"round_ms\":")?;
+    push_number(out, plan.round_ms)?;
+    push_code(out, b",\"last_round\":")?;
+    push_number(out, plan.rounds)?;
+    push_code(out, b"}\n")
+}
+
+/// Adds the names of all peers.
+fn push_names(plan: &Plan, out: &mut Vec<u8>) -> Result<(), AllocError>
+    ensures { OnOk result (out.new.items ≡ out.old.items ++ list_text quoted (names_of plan.now)) }
+{
+    push_list(plan, out, plan.peers.as_slice())
+}
+
+impl Shown for PlannedPeer {
+    ghost text = { λ names planned. quoted planned.name };
+
+    fn push(&self, _plan: &Plan, out: &mut Vec<u8>) -> Result<(), AllocError> {
+        push_quoted(out, self.name.as_str().as_bytes())
+    }
+}
+
+/// Where the entries of each peer begin in the first round.
+fn first_starts(alloc: Global, peers: &[(PeerNo, Finished)]) -> Result<Vec<usize>, AllocError>
+    ensures { IfOk result (λ starts. starts.items ≡ map (start_in 0) peers.now) }
+{
+    let mut starts = Vec::with_capacity(alloc, peers.len())?;
+    for _peer in peers {
+        starts.push(0)?;
+    }
+    Ok(starts)
+}
+
+/// Adds the lines of all rounds.
+fn push_rounds(
+    plan: &Plan,
+    out: &mut Vec<u8>,
+    peers: &[(PeerNo, Finished)],
+    starts: &mut [usize],
+) -> Result<(), AllocError>
+    requires { starts.old ≡ map (start_in 0) peers.now }
+    ensures { OnOk result (out.new.items ≡ out.old.items
+        ++ flat_map (line_text plan.now) (flat_map (told_by plan.now peers.now) (range_with_len 0 (suc plan.now.rounds)))) }
+{
+    for round in 0..plan.rounds {
+        push_round(plan, out, round, peers, starts)?;
+    }
+    push_round(plan, out, plan.rounds, peers, starts)
+}
+
+/// Adds the lines of a round, in which the entries of each peer begin at these places. After it they are those of the next
+/// one.
+fn push_round(
+    plan: &Plan,
+    out: &mut Vec<u8>,
+    round: u64,
+    peers: &[(PeerNo, Finished)],
+    starts: &mut [usize],
+) -> Result<(), AllocError>
+    requires { starts.old ≡ map (start_in round) peers.now }
+    ensures text { OnOk result (out.new.items
+        ≡ out.old.items ++ flat_map (line_text plan.now) (told_by plan.now peers.now round)) }
+    ensures starts { OnOk result (starts.new ≡ map (start_in (suc round)) peers.now) }
+{
+    for place in 0..peers.len() {
+        starts[place] = push_told(plan, out, round, &peers[place], starts[place])?;
+    }
+    Ok(())
+}
+
+/// Adds the lines of a peer in a round, in which its entries begin at a place, and gives that of the next round.
+fn push_told(
+    plan: &Plan,
+    out: &mut Vec<u8>,
+    round: u64,
+    peer: &(PeerNo, Finished),
+    start: usize,
+) -> Result<usize, AllocError>
+    requires { start ≡ start_in round peer.now }
+    ensures text { OnOk result (out.new.items
+        ≡ out.old.items ++ flat_map (line_text plan.now) (told_of plan.now round peer.now)) }
+    ensures next { IfOk result (λ next. next ≡ start_in (suc round) peer.now) }
+{
+    let (number, life) = peer;
+    let entries = life.trace.entries();
+    let rest = rest_of(entries, start);
+    let end = end_of(entries, start);
+    let of_round = in_round(rest, end - start, round == plan.rounds);
+    push_entries(plan, out, round, *number, of_round)?;
+    push_refusals(plan, out, round, *number, life.refused.as_slice())?;
+    Ok(end)
+}
+
+/// The entries from a place on.
+fn rest_of(entries: &[StoredEntry], start: usize) -> &[StoredEntry]
+    requires { start ≤ length entries.now }
+    ensures { result.now ≡ drop start entries.now }
+{
+    &entries[start..]
+}
+
+/// The entries of a round, of those that are left: as many as there are up to its end, and in the last round all.
+#[tactic(auto, using(crate::proofs::Starts::front_is, crate::proofs::Starts::front_fits))]
+fn in_round(rest: &[StoredEntry], count: usize, is_last: bool) -> &[StoredEntry]
+    requires { count ≡ length (up_to_end rest.now) }
+    ensures { result.now ≡ (if is_last then rest.now else up_to_end rest.now) }
+{
+    if is_last {
+        return rest;
+    }
+    &rest[..count]
+}
+
+/// Where the entries of a round end that begin at a place: after the next end of a round.
+fn end_of(entries: &[StoredEntry], start: usize) -> usize
+    requires { start ≤ length entries.now }
+    ensures { result ≡ start + length (up_to_end (drop start entries.now)) }
+{
+    for place in start..entries.len() {
+        if ends_round(entries[place].event()) {
+            return place + 1;
+        }
+    }
+    entries.len()
+}
+
+fn ends_round(event: &Event) -> bool
+    ensures { result ≡ of_round_end (λ r. true) false event.now }
+{
+    match event {
+        Event::RoundEnd(_) => true,
+        Event::Heard(_, _) => false,
+        Event::Late(_, _) => false,
+        Event::Part(_, _) => false,
+        Event::BeatBegin => false,
+        Event::Step(_) => false,
+        Event::Own(_) => false,
+        Event::Lost(_, _) => false,
+        Event::Decay => false,
+        Event::Shut => false,
+    }
+}
