@@ -2,3 +2,4 @@ pub mod Texts
 pub mod Rpcs
 pub mod Events
 pub mod Lines
+pub mod Stored
