@@ -2,3 +2,4 @@ pub mod Prefixes
 pub mod Numbers
 pub mod Quotes
 pub mod Values
+pub mod RpcTexts

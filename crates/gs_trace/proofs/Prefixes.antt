@@ -68,6 +68,11 @@ and_next {f = f} {g = g} {p = p} {q = q} first second begins = record {
     (λ i. (one.0 i, two.0 i), two.1);
 }
 
+-- one after the other, with a text between them
+pub next : {A B C : Type 0} {First After : List ℕ → Type 0} {Fits : A → Type 0} {f g : A → List ℕ} {p : A → B} {q : A → C}
+    → Tells First Fits f p → (k : List ℕ) → ((s : List ℕ) → First (k ++ s)) → Tells After Fits g q → Tells {B = B × C} After Fits (λ x. f x ++ k ++ g x) (λ x. (p x, q x))
+next first k begins second = and_then (back first k begins) second
+
 -- and what follows of what the first text tells
 pub and_its : {A B : Type 0} {After : List ℕ → Type 0} {Fits : A → Type 0} {f : A → List ℕ} {p : A → B}
     → Tells Anything Fits f p → (g : B → List ℕ) → Tells After Fits (λ x. f x ++ g (p x)) p

@@ -60,6 +60,12 @@ tell_optional {A = A} {After = After} {Fits = Fits} {f = f} told avoids = record
         let both = told.tell x y s t fs ft hx hy e in
         (ap Some both.0, both.1)
 
+pub tell_topic_or_null : TellsAll Anything (IfThere IsStoredTopic) (optional_text topic_text)
+tell_topic_or_null = tell_optional tell_topic (λ t s u h e. clashes _ _ refl e)
+
+pub tell_hex_or_null : TellsAll Anything (IfThere AreStoredBytes) (optional_text hex_text)
+tell_hex_or_null = tell_optional tell_hex (λ bytes s u h e. clashes _ _ refl e)
+
 -- ---- lists
 
 -- the text goes on with the end of a list
