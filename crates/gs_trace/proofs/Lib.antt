@@ -3,3 +3,4 @@ pub mod Numbers
 pub mod Quotes
 pub mod Values
 pub mod RpcTexts
+pub mod EventTexts
