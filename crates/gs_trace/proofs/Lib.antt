@@ -4,3 +4,4 @@ pub mod Quotes
 pub mod Values
 pub mod RpcTexts
 pub mod EventTexts
+pub mod MarkTexts
