@@ -5,3 +5,4 @@ pub mod Values
 pub mod RpcTexts
 pub mod EventTexts
 pub mod MarkTexts
+pub mod LineTexts
