@@ -6,3 +6,5 @@ pub mod RpcTexts
 pub mod EventTexts
 pub mod MarkTexts
 pub mod LineTexts
+pub mod Rounds
+pub mod Traces

@@ -3,3 +3,4 @@ pub mod Rpcs
 pub mod Events
 pub mod Lines
 pub mod Stored
+pub mod Traces

@@ -1,0 +1,27 @@
+-- What a report has of each peer's trace, and the numbers of a plan's peers.
+use Rattle.std.specs.Prelude.{ℕ, List, length, map}
+use Rattle.std.specs.List.{range_with_len}
+use Rattle.gs_base.specs.declared.names.PeerNo.{PeerNo}
+use Rattle.gs_plan.specs.declared.plan.Plan.{Plan}
+use Rattle.gs_rules.specs.declared.trace.Entry.{Entry}
+use Rattle.gs_report.specs.declared.finished.Finished.{Finished}
+use Rattle.gs_report.specs.declared.report.Report.{Report}
+
+abbrev pub peer_no : ℕ → PeerNo
+peer_no n = record { 0 = n }
+
+-- the numbers of a plan's peers: their places in the plan
+abbrev pub plan_numbers : Plan → List PeerNo
+plan_numbers plan = map peer_no (range_with_len 0 (length plan.peers))
+
+-- the numbers of the peers that a report has
+abbrev pub numbers_in : Report → List PeerNo
+numbers_in report = map (λ (x : PeerNo × Finished). x.0) report.peers.items
+
+-- a peer's number and its trace, the newest entry first
+abbrev pub traced : PeerNo × Finished → PeerNo × List Entry
+traced x = (x.0, x.1.trace)
+
+-- the traces that a report has, by the numbers of their peers
+abbrev pub traces : Report → List (PeerNo × List Entry)
+traces report = map traced report.peers.items
