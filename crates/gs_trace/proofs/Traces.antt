@@ -53,15 +53,15 @@ told_stored plan report h =
 
 -- ---- the entries of one peer
 
-abbrev kept : PeerNo → Option (PeerNo × Entry) → List Entry
+abbrev pub kept : PeerNo → Option (PeerNo × Entry) → List Entry
 kept q None = []
 kept q (Some x) = cond (eqb x.0.0 q.0) (x.1 ∷ []) []
 
-abbrev entries_for : PeerNo → List (Option (PeerNo × Entry)) → List Entry
+abbrev pub entries_for : PeerNo → List (Option (PeerNo × Entry)) → List Entry
 entries_for q xs = flat_map (kept q) xs
 
 -- the entries of a peer, of all that is told
-abbrev entries_in : PeerNo → List Told → List Entry
+abbrev pub entries_in : PeerNo → List Told → List Entry
 entries_in q xs = entries_for q (map entry_of xs)
 
 both_in : (q : PeerNo) (xs ys : List Told) → entries_in q (xs ++ ys) ≡ entries_in q xs ++ entries_in q ys
@@ -162,7 +162,7 @@ above_other q (x ∷ xs) a (suc n) lt e =
 
 module _ (plan : Plan) (report : Report) where
   -- the trace of a number, of all that is told
-  abbrev trace_for : PeerNo → PeerNo × List Entry
+  abbrev pub trace_for : PeerNo → PeerNo × List Entry
   trace_for q = (q, reverse (entries_in q (told plan report)))
 
   traces_from : (before later : List (PeerNo × Finished)) (a n : ℕ) → report.peers.items ≡ before ++ later → AllByRecursion (IsBelow a) before → map number later ≡ map peer_no (range_with_len a n)

@@ -1,11 +1,13 @@
--- What a report has of each peer's trace, and the numbers of a plan's peers.
-use Rattle.std.specs.Prelude.{ℕ, List, length, map}
+-- The traces that a report has, and which reports of a plan a text tells apart.
+use Rattle.std.specs.Prelude.{◌≡◌, ℕ, false, List, AllPairs, length, map}
 use Rattle.std.specs.List.{range_with_len}
 use Rattle.gs_base.specs.declared.names.PeerNo.{PeerNo}
+use Rattle.gs_plan.specs.Plans.{have_one_name}
 use Rattle.gs_plan.specs.declared.plan.Plan.{Plan}
 use Rattle.gs_rules.specs.declared.trace.Entry.{Entry}
 use Rattle.gs_report.specs.declared.finished.Finished.{Finished}
 use Rattle.gs_report.specs.declared.report.Report.{Report}
+use Rattle.gs_trace.specs.Stored.{IsStored}
 
 abbrev pub peer_no : ℕ → PeerNo
 peer_no n = record { 0 = n }
@@ -25,3 +27,10 @@ traced x = (x.0, x.1.trace)
 -- the traces that a report has, by the numbers of their peers
 abbrev pub traces : Report → List (PeerNo × List Entry)
 traces report = map traced report.peers.items
+
+-- A report of a plan as they are in memory: no two peers of the plan have one name, and the report has each of them by
+-- its number, in order.
+pub record IsReportOf (plan : Plan) (report : Report) : Type 0 where
+  pub names_differ : AllPairs (λ x y. have_one_name x y ≡ false) plan.peers
+  pub numbered : numbers_in report ≡ plan_numbers plan
+  pub stored : IsStored plan report
