@@ -1,5 +1,5 @@
 -- The text of an event tells it.
-use Rattle.std.proofs.Common.{◌≡◌, ℕ, ◌<◌, Bool, true, false, cond, eqb, List, [], ◌∷◌, ◌++◌, codes, decimal, drop, refl, sym, ap, ◌∙◌}
+use Rattle.std.proofs.Common.{◌≡◌, ℕ, Bool, true, false, cond, eqb, List, [], ◌∷◌, ◌++◌, codes, drop, refl, sym, ap, ◌∙◌}
 use Rattle.std.specs.List.{AllByRecursion}
 use Rattle.std.proofs.lemmas.Bool.{eqb-false}
 use Rattle.gs_base.specs.declared.names.PeerNo.{PeerNo}
@@ -22,10 +22,10 @@ use Rattle.gs_rules.specs.declared.event.BeatStep.{BeatStep}
 use Rattle.gs_rules.specs.declared.event.BeatStep.TheVariants.{MeshBeat, FanBeat, FanEnd, GossipBeat, BeatEnd}
 use Rattle.gs_rules.specs.declared.event.Loss.{Loss}
 use Rattle.gs_rules.specs.declared.event.Loss.TheVariants.{Gone, Fault}
-use Rattle.gs_trace.specs.Events.{act_members, event_members, event_text, from_text, loss_word, part_text, part_word, payload_members, rpc_member, step_members, topic_member}
-use Rattle.gs_trace.specs.Stored.{AreStoredBytes, IsStoredAct, IsStoredEvent, IsStoredMessage, IsStoredNumber, IsStoredPart, IsStoredPeer, IsStoredRpc, IsStoredStep, IsStoredTopic}
+use Rattle.gs_trace.specs.Events.{act_members, event_members, event_text, from_text, part_text, payload_members, rpc_member, step_members, topic_member}
+use Rattle.gs_trace.specs.Stored.{AreStoredBytes, IsStoredAct, IsStoredEvent, IsStoredMessage, IsStoredPart, IsStoredPeer, IsStoredRpc, IsStoredStep, IsStoredTopic}
 use Rattle.gs_trace.specs.Texts.{hex_text, id_text, peer_text}
-use Rattle.gs_trace.proofs.Prefixes.{Anything, NoDigit, Tells, TellsAll, and_its, and_next, and_then, back, clashes, front, next, of_part}
+use Rattle.gs_trace.proofs.Prefixes.{Anything, NoDigit, TellsAll, and_its, and_next, and_then, back, clashes, front, next, of_part}
 use Rattle.gs_trace.proofs.Quotes.{tell_hex}
 use Rattle.gs_trace.proofs.RpcTexts.{tell_graft, tell_ihave, tell_iwant, tell_message, tell_prune, tell_rpc, tell_sub}
 use Rattle.gs_trace.proofs.Values.{Differ, tell_number, tell_peer, tell_topic}
@@ -243,6 +243,6 @@ module _ (names : List (List ℕ)) (stored : AllByRecursion AreStoredBytes names
   pub tell_event : TellsAll NoDigit IsStoredEvent (event_members names)
   tell_event = record {
     tell = λ x y s t fs ft hx hy e.
-      let same : event_sort x ≡ event_sort y = sym (sort_told names x s) ∙ ap text_sort e ∙ sort_told names y t in
-      event_by x y s t fs ft hx hy same e;
+        let same : event_sort x ≡ event_sort y = sym (sort_told names x s) ∙ ap text_sort e ∙ sort_told names y t in
+        event_by x y s t fs ft hx hy same e;
   }

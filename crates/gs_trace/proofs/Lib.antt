@@ -8,4 +8,4 @@ pub mod MarkTexts
 pub mod LineTexts
 pub mod Rounds
 pub mod Traces
-pub mod Texts
+pub mod OneText

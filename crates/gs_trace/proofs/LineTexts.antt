@@ -1,31 +1,31 @@
--- The lines of a trace tell the entries, and the first line tells the names of the peers.
-use Rattle.std.proofs.Common.{◌≡◌, ℕ, zero, ◌<◌, ◌≤◌, ◌^◌, ◌&&◌, Bool, true, false, ltb, List, [], ◌∷◌, ◌++◌, codes, decimal, map, flat_map, slice_get, Option, None, Some, option_map, unwrap_or, refl, sym, ap, ◌∙◌, append_assoc, append-nil, arith, ltb-true}
+-- Each line of a trace tells what it is of, and the first one tells the names of the peers and the rounds.
+use Rattle.std.proofs.Common.{◌≡◌, ℕ, ◌&&◌, Bool, true, ltb, List, [], ◌∷◌, ◌++◌, codes, decimal, map, flat_map, slice_get, Option, None, Some, option_map, unwrap_or, refl, sym, ap, ◌∙◌, append_assoc, arith, ltb-true}
 use Rattle.std.specs.List.{AllByRecursion}
 use Rattle.std.proofs.lemmas.Bool.{and_parts, eqb-false}
 use Rattle.gs_base.specs.declared.names.Millis.{Millis}
 use Rattle.gs_base.specs.declared.names.PeerNo.{PeerNo}
 use Rattle.gs_plan.specs.Plans.{what_word}
 use Rattle.gs_plan.specs.declared.plan.Act.{Act}
-use Rattle.gs_plan.specs.declared.plan.Act.TheVariants.{Subscribe, Unsubscribe, Publish, Raw, HangUp}
+use Rattle.gs_plan.specs.declared.plan.Act.TheVariants.{Subscribe}
 use Rattle.gs_plan.specs.declared.plan.Line.{Line}
 use Rattle.gs_plan.specs.declared.plan.Plan.{Plan}
 use Rattle.gs_rules.specs.declared.event.Event.{Event}
 use Rattle.gs_rules.specs.declared.event.Event.TheVariants.{Heard}
 use Rattle.gs_rules.specs.declared.refusal.Refusal.{Refusal}
-use Rattle.gs_rules.specs.declared.refusal.Refusal.TheVariants.{AlreadySeen}
+use Rattle.gs_rules.specs.declared.refusal.Refusal.TheVariants.{AlreadySeen, TooLong, Joined, NotJoined, Stopped, NotOpen, TooMany}
 use Rattle.gs_rules.specs.declared.refusal.RefusedLine.{RefusedLine}
 use Rattle.gs_rules.specs.declared.trace.Effects.{Effects}
 use Rattle.gs_rules.specs.declared.trace.Entry.{Entry}
 use Rattle.gs_rules.specs.Refusals.{number_of}
 use Rattle.gs_report.specs.Text.{word_of}
 use Rattle.gs_trace.specs.Events.{effects_members, event_members, event_text}
-use Rattle.gs_trace.specs.Lines.{Told, Did, Refused, entry_members, head_text, line_start, line_text, refusal_members}
-use Rattle.gs_trace.specs.Stored.{AreStoredBytes, IsStoredByte, IsStoredEntry, IsStoredMoment, IsStoredNumber, IsStoredPeer, IsStoredRefusal}
-use Rattle.gs_trace.specs.Texts.{list_text, moment_text, names_of, peer_text, quoted}
+use Rattle.gs_trace.specs.Lines.{Told, Did, Refused, entry_members, head_text, line_start, line_text}
+use Rattle.gs_trace.specs.Stored.{AreStoredBytes, IsStoredEntry, IsStoredMoment, IsStoredNumber, IsStoredPeer, IsStoredRefusal}
+use Rattle.gs_trace.specs.Texts.{names_of, quoted}
 use Rattle.gs_trace.proofs.EventTexts.{event_sort, sort_told, tell_event, text_sort}
 use Rattle.gs_trace.proofs.MarkTexts.{tell_effects}
 use Rattle.gs_trace.proofs.Numbers.{IsShort, tell_decimal}
-use Rattle.gs_trace.proofs.Prefixes.{Anything, NoDigit, Tells, TellsAll, and_next, and_then, anywhere, back, clashes, front, made, next, of_part, tell_items}
+use Rattle.gs_trace.proofs.Prefixes.{Anything, NoDigit, Tells, TellsAll, and_next, and_then, anywhere, back, clashes, front, next, of_part, tell_items}
 use Rattle.gs_trace.proofs.Quotes.{tell_quoted}
 use Rattle.gs_trace.proofs.Values.{Differ, tell_list, tell_moment, tell_number, tell_peer}
 
@@ -36,20 +36,18 @@ pub record IsStoredHead (plan : Plan) : Type 0 where
   pub round_ms : IsStoredNumber plan.round_ms
   pub rounds : IsStoredNumber plan.rounds
 
-pub tell_head : Tells Anything IsStoredHead head_text names_of
-tell_head = made (back {After = NoDigit} (next (next
+-- what the first line tells
+abbrev pub head_of : Plan → (List (List ℕ) × ℕ) × ℕ
+head_of plan = ((names_of plan, plan.round_ms), plan.rounds)
+
+pub tell_head : Tells Anything IsStoredHead head_text head_of
+tell_head = back {After = NoDigit} (next (next
     (front (codes "{\"peers\":") (of_part {Fits = IsStoredHead} (tell_list (anywhere tell_quoted) (λ x s t h e. clashes _ _ refl e)) names_of (λ p h. h.names)))
     (codes ",\"round_ms\":") (λ s. tt) (of_part tell_number (λ (p : Plan). p.round_ms) (λ p h. h.round_ms)))
     (codes ",\"last_round\":") (λ s. refl) (of_part tell_number (λ (p : Plan). p.rounds) (λ p h. h.rounds)))
-    (codes "}\n") (λ s. refl))
-    (λ p. p.0.0)
+    (codes "}\n") (λ s. refl)
 
 -- ---- lines of peers
-
--- what a line tells: an entry and whose it is, and of a refused line nothing
-abbrev pub entry_of : Told → Option (PeerNo × Entry)
-entry_of (Did r q e) = Some (q, e)
-entry_of (Refused r q line) = None
 
 abbrev pub IsStoredTold : Told → Type 0
 IsStoredTold (Did r q e) = IsStoredNumber r × IsStoredPeer q × IsStoredEntry e
@@ -72,6 +70,23 @@ line_with names words (Refused r q line) = line_start names r line.at q ++ refus
 short_number : (why : Refusal) → IsShort (number_of why)
 short_number AlreadySeen = omega arith
 short_number why = omega arith
+
+-- a number tells the refusal
+number_told : (x y : Refusal) → number_of x ≡ number_of y → x ≡ y
+number_told AlreadySeen AlreadySeen e = refl
+number_told AlreadySeen y e = absurd (eqb-false _ _ refl e)
+number_told TooLong TooLong e = refl
+number_told TooLong y e = absurd (eqb-false _ _ refl e)
+number_told Joined Joined e = refl
+number_told Joined y e = absurd (eqb-false _ _ refl e)
+number_told NotJoined NotJoined e = refl
+number_told NotJoined y e = absurd (eqb-false _ _ refl e)
+number_told Stopped Stopped e = refl
+number_told Stopped y e = absurd (eqb-false _ _ refl e)
+number_told NotOpen NotOpen e = refl
+number_told NotOpen y e = absurd (eqb-false _ _ refl e)
+number_told TooMany TooMany e = refl
+number_told TooMany y e = absurd (eqb-false _ _ refl e)
 
 no_refused_event : (x : Event) → event_sort x ≡ 10 → ⊥
 no_refused_event (Heard q rpc) e = eqb-false _ _ refl e
@@ -147,17 +162,18 @@ module _ (names : List (List ℕ)) (stored : AllByRecursion AreStoredBytes names
   IsStoredWorded x = ((n : ℕ) → AreStoredBytes (x.0 n)) × IsStoredTold x.1
 
   line_by : (w v : Words) (x y : Told) (s t : List ℕ) → ((n : ℕ) → AreStoredBytes (w n)) → ((n : ℕ) → AreStoredBytes (v n)) → IsStoredTold x → IsStoredTold y
-      → line_with names w x ++ s ≡ line_with names v y ++ t → (entry_of x ≡ entry_of y) × (s ≡ t)
+      → line_with names w x ++ s ≡ line_with names v y ++ t → (x ≡ y) × (s ≡ t)
   line_by w v (Did r q x) (Did k p y) s t hw hv hx hy e =
       let both = tell_entry.tell ((r, q), x) ((k, p), y) s t tt tt hx hy e in
-      (ap (λ (z : Start × (Event × Effects)). Some (z.0.1, record { at = z.0.0.1; event = z.1.0; effects = z.1.1 })) both.0, both.1)
+      (ap (λ (z : Start × (Event × Effects)). Did z.0.0.0 z.0.1 (record { at = z.0.0.1; event = z.1.0; effects = z.1.1 })) both.0, both.1)
   line_by w v (Did r q x) (Refused k p line) s t hw hv hx hy e = absurd (no_both v r k q p x line s t hx hy e)
   line_by w v (Refused k p line) (Did r q x) s t hw hv hx hy e = absurd (no_both w r k q p x line t s hy hx (sym e))
   line_by w v (Refused r q x) (Refused k p y) s t hw hv hx hy e =
       let both = tell_refusal.tell ((r, q), (w, x)) ((k, p), (v, y)) s t tt tt (hx.0, hx.1, hx.2, hw) (hy.0, hy.1, hy.2, hv) e in
-      (refl, both.1)
+      let why = number_told x.why y.why (ap (λ (z : Start × ((ℕ × List ℕ) × ℕ)). z.1.1) both.0) in
+      (λ i. Refused (both.0 i).0.0.0 (both.0 i).0.1 (record { at = (both.0 i).0.0.1; line = (both.0 i).1.0.0; why = why i }), both.1)
 
-  tell_line : Tells Anything IsStoredWorded (λ x. line_with names x.0 x.1) (λ x. entry_of x.1)
+  tell_line : Tells Anything IsStoredWorded (λ x. line_with names x.0 x.1) (λ x. x.1)
   tell_line = record { tell = λ x y s t fs ft hx hy e. line_by x.0 y.0 x.1 y.1 s t hx.0 hy.0 hx.1 hy.1 e }
 
   abbrev IsEnd : List ℕ → Type 0
@@ -176,10 +192,10 @@ module _ (names : List (List ℕ)) (stored : AllByRecursion AreStoredBytes names
   words_text w [] = refl
   words_text w (x ∷ xs) = ap (λ (u : List ℕ). line_with names w x ++ u) (words_text w xs)
 
-  words_entries : (w : Words) (xs : List Told) → map (λ (x : Worded). entry_of x.1) (with_words w xs) ≡ map entry_of xs
+  words_told : (w : Words) (xs : List Told) → map (λ (x : Worded). x.1) (with_words w xs) ≡ xs
   unfolding with_words
-  words_entries w [] = refl
-  words_entries w (x ∷ xs) = ap (λ u. entry_of x ∷ u) (words_entries w xs)
+  words_told w [] = refl
+  words_told w (x ∷ xs) = ap (λ u. x ∷ u) (words_told w xs)
 
   words_stored : (w : Words) (xs : List Told) → ((n : ℕ) → AreStoredBytes (w n)) → AllByRecursion IsStoredTold xs → AllByRecursion IsStoredWorded (with_words w xs)
   unfolding with_words
@@ -187,13 +203,13 @@ module _ (names : List (List ℕ)) (stored : AllByRecursion AreStoredBytes names
   words_stored w (x ∷ xs) hw h = ((hw, h.0), words_stored w xs hw h.1)
 
   pub tell_lines : (w v : Words) (xs ys : List Told) → ((n : ℕ) → AreStoredBytes (w n)) → ((n : ℕ) → AreStoredBytes (v n)) → AllByRecursion IsStoredTold xs → AllByRecursion IsStoredTold ys
-      → flat_map (line_with names w) xs ≡ flat_map (line_with names v) ys → map entry_of xs ≡ map entry_of ys
+      → flat_map (line_with names w) xs ≡ flat_map (line_with names v) ys → xs ≡ ys
   tell_lines w v xs ys hw hv hx hy e =
       let text = λ (x : Worded). line_with names x.0 x.1 in
       let same : flat_map text (with_words w xs) ++ [] ≡ flat_map text (with_words v ys) ++ [] =
       ap (λ (u : List ℕ). u ++ []) (words_text w xs ∙ e ∙ sym (words_text v ys)) in
-      let both = tell_items Anything IsEnd IsStoredWorded text (λ x. entry_of x.1) tell_line no_end (λ s h. tt) (λ x s h. tt) (with_words w xs) (with_words v ys) [] [] (words_stored w xs hw hx) (words_stored v ys hv hy) refl refl same in
-      sym (words_entries w xs) ∙ both.0 ∙ words_entries v ys
+      let both = tell_items Anything IsEnd IsStoredWorded text (λ x. x.1) tell_line no_end (λ s h. tt) (λ x s h. tt) (with_words w xs) (with_words v ys) [] [] (words_stored w xs hw hx) (words_stored v ys hv hy) refl refl same in
+      sym (words_told w xs) ∙ both.0 ∙ words_told v ys
 
 -- ---- the lines of a plan
 

@@ -1,5 +1,5 @@
 -- The texts of marks, and of all that an entry says was done, tell them.
-use Rattle.std.proofs.Common.{◌≡◌, ℕ, ◌<◌, ◌≤◌, ◌^◌, ℤ, List, [], ◌∷◌, ◌++◌, codes, decimal, unsigned_abs, drop, refl, ap, arith}
+use Rattle.std.proofs.Common.{◌≡◌, ℕ, ◌<◌, ◌^◌, ℤ, List, ◌∷◌, ◌++◌, codes, decimal, drop, refl, ap, arith}
 use Rattle.std.specs.List.{AllByRecursion}
 use Rattle.gs_base.specs.declared.mark.Mark.{Mark}
 use Rattle.gs_base.specs.declared.mark.Mark.TheVariants.{Seen, First, Near, Invalid, Deficit, Misbehaviour, Cached, Answered, Offered, Asked, Grafted, Pruned, Fanned, Unfanned, Backoff, Published}
@@ -12,12 +12,12 @@ use Rattle.gs_base.specs.declared.verdict.Verdict.{Verdict}
 use Rattle.gs_base.specs.declared.verdict.Verdict.TheVariants.{Accept, Reject, Ignore}
 use Rattle.gs_rules.specs.declared.trace.Effects.{Effects}
 use Rattle.gs_rules.specs.declared.trace.Promise.{Promise}
-use Rattle.gs_trace.specs.Events.{delivery_text, effects_members, mark_members, mark_object, mark_of, mark_on, mark_text, promise_text, rpc_member, send_text, topic_member, payload_members, verdict_word}
-use Rattle.gs_trace.specs.Stored.{AreStoredBytes, IsStoredDelivery, IsStoredEffects, IsStoredId, IsStoredMark, IsStoredMoment, IsStoredPeer, IsStoredPromise, IsStoredSend, IsStoredTopic}
-use Rattle.gs_trace.specs.Texts.{id_text, moment_text, peer_text, whole_text}
+use Rattle.gs_trace.specs.Events.{delivery_text, effects_members, mark_members, mark_object, mark_of, mark_on, mark_text, promise_text, send_text, topic_member, verdict_word}
+use Rattle.gs_trace.specs.Stored.{AreStoredBytes, IsStoredDelivery, IsStoredEffects, IsStoredId, IsStoredMark, IsStoredPeer, IsStoredPromise, IsStoredSend, IsStoredTopic}
+use Rattle.gs_trace.specs.Texts.{id_text, peer_text}
 use Rattle.gs_trace.proofs.EventTexts.{tell_payload, tell_topic_member}
-use Rattle.gs_trace.proofs.Numbers.{IsWhole, tell_whole}
-use Rattle.gs_trace.proofs.Prefixes.{Anything, NoDigit, Tells, TellsAll, and_next, and_then, anywhere, back, clashes, front, made, next, of_part}
+use Rattle.gs_trace.proofs.Numbers.{tell_whole}
+use Rattle.gs_trace.proofs.Prefixes.{Anything, NoDigit, TellsAll, and_next, and_then, anywhere, back, clashes, front, made, next, of_part}
 use Rattle.gs_trace.proofs.RpcTexts.{tell_rpc}
 use Rattle.gs_trace.proofs.Values.{Differ, tell_id, tell_list, tell_moment, tell_number, tell_optional, tell_peer, tell_topic}
 

@@ -1,12 +1,12 @@
 -- A number's text tells it wherever no digit follows.
-use Rattle.std.proofs.Common.{◌≡◌, ℕ, suc, ◌<◌, ◌≤◌, ◌^◌, Bool, true, false, ◌&&◌, cond, leb, eqb, List, [], ◌∷◌, ◌++◌, length, ℤ, pos, negsuc, unsigned_abs, decimal, refl, sym, ap, ◌∙◌, subst, le-leb, le-ltb, arith, true≢false}
+use Rattle.std.proofs.Common.{◌≡◌, ℕ, suc, ◌<◌, ◌≤◌, ◌^◌, true, false, leb, List, [], ◌∷◌, ◌++◌, length, ℤ, pos, negsuc, unsigned_abs, decimal, refl, sym, ap, ◌∙◌, subst, le-leb, le-ltb, arith, true≢false}
 use Rattle.std.specs.Str.Parse.{AllDigits, digits_value}
 use Rattle.std.proofs.lemmas.Bool.{and_from}
 use Rattle.std.proofs.lemmas.Fmt.{decimal_is_IsNumeral_wide}
 use Rattle.std.proofs.lemmas.Str.Parse.{digit_from_value}
 use Rattle.std.specs.Char.{digit_value}
 use Rattle.gs_trace.specs.Texts.{whole_text}
-use Rattle.gs_trace.proofs.Prefixes.{Anything, NoDigit, Tells, TellsAll, Avoids, is_digit, of_part}
+use Rattle.gs_trace.proofs.Prefixes.{NoDigit, TellsAll, Avoids, is_digit}
 
 pub is_digit_from_value : (c : ℕ) → digit_value c < 10 → is_digit c ≡ true
 is_digit_from_value c h =
@@ -36,10 +36,10 @@ IsShort n = n < 10 ^ 64
 pub tell_decimal : TellsAll NoDigit IsShort decimal
 tell_decimal = record {
   tell = λ m n s t ns nt hm hn e.
-    let a = decimal_is_IsNumeral_wide m hm in
-    let b = decimal_is_IsNumeral_wide n hn in
-    let both = digits_end (decimal m) (decimal n) s t a.0.1 b.0.1 ns nt e in
-    (sym a.1 ∙ ap (digits_value 10) both.0 ∙ b.1, both.1);
+      let a = decimal_is_IsNumeral_wide m hm in
+      let b = decimal_is_IsNumeral_wide n hn in
+      let both = digits_end (decimal m) (decimal n) s t a.0.1 b.0.1 ns nt e in
+      (sym a.1 ∙ ap (digits_value 10) both.0 ∙ b.1, both.1);
 }
 
 first_digit : (u : List ℕ) (c : ℕ) (s t : List ℕ) → 0 < length u → AllDigits 10 u → u ++ s ≡ c ∷ t → is_digit c ≡ true

@@ -1,5 +1,5 @@
 -- Texts that tell what they are of and where they end, and how such texts are put together.
-use Rattle.std.proofs.Common.{◌≡◌, ℕ, ◌<◌, Bool, true, false, ◌&&◌, leb, eqb, cond, List, [], ◌∷◌, ◌++◌, map, flat_map, refl, sym, ap, ◌∙◌, subst, append_assoc, eq-eqb, true≢false}
+use Rattle.std.proofs.Common.{◌≡◌, ℕ, Bool, true, false, ◌&&◌, leb, eqb, cond, List, [], ◌∷◌, ◌++◌, map, flat_map, refl, sym, ap, ◌∙◌, subst, append_assoc, eq-eqb, true≢false}
 use Rattle.std.specs.List.{AllByRecursion}
 use Rattle.std.proofs.lemmas.List.{append_cancel_left}
 
@@ -36,7 +36,7 @@ pub front : {A B : Type 0} {After : List ℕ → Type 0} {Fits : A → Type 0} {
     → (k : List ℕ) → Tells After Fits f p → Tells After Fits (λ x. k ++ f x) p
 front {f = f} k told = record {
   tell = λ x y s t fs ft hx hy e.
-    told.tell x y s t fs ft hx hy (append_cancel_left k (f x ++ s) (f y ++ t) (sym (append_assoc k (f x) s) ∙ e ∙ append_assoc k (f y) t));
+      told.tell x y s t fs ft hx hy (append_cancel_left k (f x ++ s) (f y ++ t) (sym (append_assoc k (f x) s) ∙ e ∙ append_assoc k (f y) t));
 }
 
 -- a text at the end
@@ -44,8 +44,8 @@ pub back : {A B : Type 0} {After : List ℕ → Type 0} {Fits : A → Type 0} {f
     → Tells After Fits f p → (k : List ℕ) → ((s : List ℕ) → After (k ++ s)) → Tells Anything Fits (λ x. f x ++ k) p
 back {f = f} told k after = record {
   tell = λ x y s t fs ft hx hy e.
-    let both = told.tell x y (k ++ s) (k ++ t) (after s) (after t) hx hy (sym (append_assoc (f x) k s) ∙ e ∙ append_assoc (f y) k t) in
-    (both.0, append_cancel_left k s t both.1);
+      let both = told.tell x y (k ++ s) (k ++ t) (after s) (after t) hx hy (sym (append_assoc (f x) k s) ∙ e ∙ append_assoc (f y) k t) in
+      (both.0, append_cancel_left k s t both.1);
 }
 
 -- one after the other
@@ -53,9 +53,9 @@ pub and_then : {A B C : Type 0} {After : List ℕ → Type 0} {Fits : A → Type
     → Tells Anything Fits f p → Tells After Fits g q → Tells {B = B × C} After Fits (λ x. f x ++ g x) (λ x. (p x, q x))
 and_then {f = f} {g = g} {p = p} {q = q} first second = record {
   tell = λ x y s t fs ft hx hy e.
-    let one = first.tell x y (g x ++ s) (g y ++ t) tt tt hx hy (sym (append_assoc (f x) (g x) s) ∙ e ∙ append_assoc (f y) (g y) t) in
-    let two = second.tell x y s t fs ft hx hy one.1 in
-    (λ i. (one.0 i, two.0 i), two.1);
+      let one = first.tell x y (g x ++ s) (g y ++ t) tt tt hx hy (sym (append_assoc (f x) (g x) s) ∙ e ∙ append_assoc (f y) (g y) t) in
+      let two = second.tell x y s t fs ft hx hy one.1 in
+      (λ i. (one.0 i, two.0 i), two.1);
 }
 
 -- one after the other, where the second begins with what may follow the first
@@ -63,9 +63,9 @@ pub and_next : {A B C : Type 0} {First After : List ℕ → Type 0} {Fits : A �
     → Tells First Fits f p → Tells After Fits g q → ((x : A) (s : List ℕ) → First (g x ++ s)) → Tells {B = B × C} After Fits (λ x. f x ++ g x) (λ x. (p x, q x))
 and_next {f = f} {g = g} {p = p} {q = q} first second begins = record {
   tell = λ x y s t fs ft hx hy e.
-    let one = first.tell x y (g x ++ s) (g y ++ t) (begins x s) (begins y t) hx hy (sym (append_assoc (f x) (g x) s) ∙ e ∙ append_assoc (f y) (g y) t) in
-    let two = second.tell x y s t fs ft hx hy one.1 in
-    (λ i. (one.0 i, two.0 i), two.1);
+      let one = first.tell x y (g x ++ s) (g y ++ t) (begins x s) (begins y t) hx hy (sym (append_assoc (f x) (g x) s) ∙ e ∙ append_assoc (f y) (g y) t) in
+      let two = second.tell x y s t fs ft hx hy one.1 in
+      (λ i. (one.0 i, two.0 i), two.1);
 }
 
 -- one after the other, with a text between them
@@ -78,9 +78,9 @@ pub and_its : {A B : Type 0} {After : List ℕ → Type 0} {Fits : A → Type 0}
     → Tells Anything Fits f p → (g : B → List ℕ) → Tells After Fits (λ x. f x ++ g (p x)) p
 and_its {B = B} {f = f} {p = p} first g = record {
   tell = λ x y s t fs ft hx hy e.
-    let one = first.tell x y (g (p x) ++ s) (g (p y) ++ t) tt tt hx hy (sym (append_assoc (f x) (g (p x)) s) ∙ e ∙ append_assoc (f y) (g (p y)) t) in
-    let same : g (p x) ++ s ≡ g (p x) ++ t = one.1 ∙ ap (λ (b : B). g b ++ t) (sym one.0) in
-    (one.0, append_cancel_left (g (p x)) s t same);
+      let one = first.tell x y (g (p x) ++ s) (g (p y) ++ t) tt tt hx hy (sym (append_assoc (f x) (g (p x)) s) ∙ e ∙ append_assoc (f y) (g (p y)) t) in
+      let same : g (p x) ++ s ≡ g (p x) ++ t = one.1 ∙ ap (λ (b : B). g b ++ t) (sym one.0) in
+      (one.0, append_cancel_left (g (p x)) s t same);
 }
 
 -- the text of a part
@@ -93,8 +93,8 @@ pub made : {A B C : Type 0} {After : List ℕ → Type 0} {Fits : A → Type 0} 
     → Tells After Fits f p → (m : B → C) → Tells After Fits f (λ x. m (p x))
 made told m = record {
   tell = λ x y s t fs ft hx hy e.
-    let both = told.tell x y s t fs ft hx hy e in
-    (ap m both.0, both.1);
+      let both = told.tell x y s t fs ft hx hy e in
+      (ap m both.0, both.1);
 }
 
 -- ---- texts that differ

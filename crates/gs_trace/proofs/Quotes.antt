@@ -1,12 +1,11 @@
 -- Bytes in quotes, escaped or as hexadecimal digits, end at the first quotation mark.
-use Rattle.std.proofs.Common.{◌≡◌, ◌≢◌, ℕ, ◌+◌, ◌*◌, ◌/◌, ◌%◌, ◌<◌, Bool, true, false, ◌||◌, cond, ltb, eqb, List, [], ◌∷◌, ◌++◌, slice_index, flat_map, map, codes, Option, Some, None, refl, sym, ap, ◌∙◌, subst, eqb-true, eq-eqb, ne_eqb, arith, inl, inr, map-id, append_assoc, drop}
-use Rattle.std.specs.List.{AllByRecursion}
+use Rattle.std.proofs.Common.{◌≡◌, ℕ, ◌/◌, ◌%◌, ◌<◌, Bool, true, false, ◌||◌, ltb, eqb, List, [], ◌∷◌, ◌++◌, slice_index, flat_map, Some, None, refl, sym, ap, ◌∙◌, arith, inl, inr, map-id, append_assoc, drop}
 use Rattle.std.proofs.lemmas.Bool.{cases_Bool, or_parts, eqb-false}
 use Rattle.hex.specs.Hex.{encode_lower, encode_with, hex_digit_value, lower_digits}
 use Rattle.hex.proofs.HexLemmas.{IsDigits-lower_digits}
 use Rattle.gs_trace.specs.Stored.{IsStoredByte, AreStoredBytes}
 use Rattle.gs_trace.specs.Texts.{escaped, quoted, hex_text}
-use Rattle.gs_trace.proofs.Prefixes.{Anything, Tells, TellsAll, Avoids, tell_items, front, back, clashes}
+use Rattle.gs_trace.proofs.Prefixes.{Anything, TellsAll, tell_items}
 
 -- ---- hexadecimal digits
 
@@ -49,9 +48,9 @@ hex_told (b ∷ xs) (c ∷ ys) s t hx hy e =
 pub tell_hex : TellsAll Anything AreStoredBytes hex_text
 tell_hex = record {
   tell = λ x y s t fs ft hx hy e.
-    let inner : encode_lower x ++ 34 ∷ s ≡ encode_lower y ++ 34 ∷ t =
-    sym (append_assoc (encode_lower x) (34 ∷ []) s) ∙ ap (drop 1) e ∙ append_assoc (encode_lower y) (34 ∷ []) t in
-    hex_told x y s t hx hy inner;
+      let inner : encode_lower x ++ 34 ∷ s ≡ encode_lower y ++ 34 ∷ t =
+      sym (append_assoc (encode_lower x) (34 ∷ []) s) ∙ ap (drop 1) e ∙ append_assoc (encode_lower y) (34 ∷ []) t in
+      hex_told x y s t hx hy inner;
 }
 
 -- ---- escaped bytes
@@ -80,31 +79,31 @@ no_mark b h =
 tell_escaped : TellsAll Anything IsStoredByte escaped
 tell_escaped = record {
   tell = λ b c s t fs ft hb hc e.
-    elim (cases_Bool (is_escaped b)) [
-      | inl p ↦ elim (cases_Bool (is_escaped c)) [
-        | inl q ↦
-            let e2 : by_number b ++ s ≡ by_number c ++ t = rw (escaped_by_number b p, escaped_by_number c q) at e in
-            let high : slice_index lower_digits (b / 16) ≡ slice_index lower_digits (c / 16) = cc (e2) in
-            let low : slice_index lower_digits (b % 16) ≡ slice_index lower_digits (c % 16) = cc (e2) in
-            let rest : s ≡ t = cc (e2) in
-            (byte_told b c hb hc high low, rest)
-        | inr q ↦
-            let e2 : by_number b ++ s ≡ c ∷ t = rw (escaped_by_number b p, escaped_itself c q) at e in
-            let mark : c ≡ 92 = cc (e2) in
-            absurd ((no_mark c q).1 mark)
-      ]
-      | inr p ↦ elim (cases_Bool (is_escaped c)) [
-        | inl q ↦
-            let e2 : b ∷ s ≡ by_number c ++ t = rw (escaped_itself b p, escaped_by_number c q) at e in
-            let mark : b ≡ 92 = cc (e2) in
-            absurd ((no_mark b p).1 mark)
-        | inr q ↦
-            let e2 : b ∷ s ≡ c ∷ t = rw (escaped_itself b p, escaped_itself c q) at e in
-            let same : b ≡ c = cc (e2) in
-            let rest : s ≡ t = cc (e2) in
-            (same, rest)
-      ]
-    ];
+      elim (cases_Bool (is_escaped b)) [
+        | inl p ↦ elim (cases_Bool (is_escaped c)) [
+          | inl q ↦
+              let e2 : by_number b ++ s ≡ by_number c ++ t = rw (escaped_by_number b p, escaped_by_number c q) at e in
+              let high : slice_index lower_digits (b / 16) ≡ slice_index lower_digits (c / 16) = cc (e2) in
+              let low : slice_index lower_digits (b % 16) ≡ slice_index lower_digits (c % 16) = cc (e2) in
+              let rest : s ≡ t = cc (e2) in
+              (byte_told b c hb hc high low, rest)
+          | inr q ↦
+              let e2 : by_number b ++ s ≡ c ∷ t = rw (escaped_by_number b p, escaped_itself c q) at e in
+              let mark : c ≡ 92 = cc (e2) in
+              absurd ((no_mark c q).1 mark)
+        ]
+        | inr p ↦ elim (cases_Bool (is_escaped c)) [
+          | inl q ↦
+              let e2 : b ∷ s ≡ by_number c ++ t = rw (escaped_itself b p, escaped_by_number c q) at e in
+              let mark : b ≡ 92 = cc (e2) in
+              absurd ((no_mark b p).1 mark)
+          | inr q ↦
+              let e2 : b ∷ s ≡ c ∷ t = rw (escaped_itself b p, escaped_itself c q) at e in
+              let same : b ≡ c = cc (e2) in
+              let rest : s ≡ t = cc (e2) in
+              (same, rest)
+        ]
+      ];
 }
 
 -- the text goes on with a quotation mark
@@ -129,9 +128,9 @@ escaped_no_quote b s (c ∷ t) h q e = elim (cases_Bool (is_escaped b)) [
 pub tell_quoted : TellsAll Anything AreStoredBytes quoted
 tell_quoted = record {
   tell = λ x y s t fs ft hx hy e.
-    let inner : flat_map escaped x ++ 34 ∷ s ≡ flat_map escaped y ++ 34 ∷ t =
-    sym (append_assoc (flat_map escaped x) (34 ∷ []) s) ∙ ap (drop 1) e ∙ append_assoc (flat_map escaped y) (34 ∷ []) t in
-    let both = tell_items Anything IsQuote IsStoredByte escaped (λ b. b) tell_escaped escaped_no_quote (λ s h. tt) (λ b s h. tt) x y (34 ∷ s) (34 ∷ t) hx hy refl refl inner in
-    let rest : s ≡ t = ap (drop 1) both.1 in
-    (sym (map-id x) ∙ both.0 ∙ map-id y, rest);
+      let inner : flat_map escaped x ++ 34 ∷ s ≡ flat_map escaped y ++ 34 ∷ t =
+      sym (append_assoc (flat_map escaped x) (34 ∷ []) s) ∙ ap (drop 1) e ∙ append_assoc (flat_map escaped y) (34 ∷ []) t in
+      let both = tell_items Anything IsQuote IsStoredByte escaped (λ b. b) tell_escaped escaped_no_quote (λ s h. tt) (λ b s h. tt) x y (34 ∷ s) (34 ∷ t) hx hy refl refl inner in
+      let rest : s ≡ t = ap (drop 1) both.1 in
+      (sym (map-id x) ∙ both.0 ∙ map-id y, rest);
 }

@@ -1,5 +1,5 @@
 -- The rounds of a trace, one after the other, are the trace.
-use Rattle.std.proofs.Common.{◌≡◌, ℕ, zero, suc, ◌+◌, ◌<◌, ◌≤◌, Bool, true, false, cond, eqb, List, [], ◌∷◌, ◌++◌, flat_map, reverse, refl, sym, ap, ◌∙◌, subst, append_assoc, append-nil, arith, add-one, eq-eqb, ne_eqb}
+use Rattle.std.proofs.Common.{◌≡◌, ℕ, zero, suc, ◌+◌, ◌<◌, Bool, true, false, cond, eqb, List, [], ◌∷◌, ◌++◌, flat_map, reverse, refl, sym, ap, ◌∙◌, subst, append-nil, arith, add-one, eq-eqb, ne_eqb}
 use Rattle.std.specs.List.{AllByRecursion, range_with_len}
 use Rattle.std.proofs.lemmas.List.{reverse-append}
 use Rattle.gs_rules.specs.declared.trace.Entry.{Entry}

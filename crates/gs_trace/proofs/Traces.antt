@@ -1,8 +1,7 @@
 -- What is told of a run has the trace of each peer.
-use Rattle.std.proofs.Common.{◌≡◌, ℕ, zero, suc, ◌+◌, ◌<◌, ◌≤◌, ◌^◌, Bool, true, false, cond, eqb, List, [], ◌∷◌, ◌++◌, length, map, filter, flat_map, reverse, Option, None, Some, refl, sym, ap, ◌∙◌, subst, append_assoc, append-nil, arith, add-one, eq-eqb, ne_eqb}
+use Rattle.std.proofs.Common.{◌≡◌, ℕ, zero, suc, ◌+◌, ◌<◌, ◌≤◌, ◌^◌, Bool, true, false, cond, eqb, List, [], ◌∷◌, ◌++◌, length, map, filter, flat_map, reverse, refl, sym, ap, ◌∙◌, subst, append_assoc, append-nil, arith, eq-eqb, ne_eqb}
 use Rattle.std.specs.List.{AllByRecursion, range_with_len}
-use Rattle.std.proofs.lemmas.Bool.{cases_Bool}
-use Rattle.std.proofs.lemmas.List.{map-append, reverse-reverse}
+use Rattle.std.proofs.lemmas.List.{reverse-reverse}
 use Rattle.std.proofs.lemmas.List.Concat.{flat_map-append}
 use Rattle.gs_base.specs.declared.names.PeerNo.{PeerNo}
 use Rattle.gs_plan.specs.declared.plan.Plan.{Plan}
@@ -13,7 +12,7 @@ use Rattle.gs_report.specs.declared.report.Report.{Report}
 use Rattle.gs_trace.specs.Lines.{Told, Did, Refused, in_round, is_refused_in, told, told_in, told_of}
 use Rattle.gs_trace.specs.Stored.{IsStored, IsStoredEntry, IsStoredLife, IsStoredNumber, IsStoredPeer, IsStoredRefusal}
 use Rattle.gs_trace.specs.Traces.{numbers_in, peer_no, plan_numbers, traced, traces}
-use Rattle.gs_trace.proofs.LineTexts.{IsStoredTold, entry_of}
+use Rattle.gs_trace.proofs.LineTexts.{IsStoredTold}
 use Rattle.gs_trace.proofs.Rounds.{all_append, all_either, all_flat, all_in_round, all_reverse, rounds_are_all}
 
 -- ---- all that is told is stored
@@ -53,19 +52,16 @@ told_stored plan report h =
 
 -- ---- the entries of one peer
 
-abbrev pub kept : PeerNo → Option (PeerNo × Entry) → List Entry
-kept q None = []
-kept q (Some x) = cond (eqb x.0.0 q.0) (x.1 ∷ []) []
-
-abbrev pub entries_for : PeerNo → List (Option (PeerNo × Entry)) → List Entry
-entries_for q xs = flat_map (kept q) xs
+abbrev kept : PeerNo → Told → List Entry
+kept q (Did r p x) = cond (eqb p.0 q.0) (x ∷ []) []
+kept q (Refused r p line) = []
 
 -- the entries of a peer, of all that is told
 abbrev pub entries_in : PeerNo → List Told → List Entry
-entries_in q xs = entries_for q (map entry_of xs)
+entries_in q xs = flat_map (kept q) xs
 
 both_in : (q : PeerNo) (xs ys : List Told) → entries_in q (xs ++ ys) ≡ entries_in q xs ++ entries_in q ys
-both_in q xs ys = ap (entries_for q) (map-append entry_of xs ys) ∙ flat_map-append (kept q) (map entry_of xs) (map entry_of ys)
+both_in q xs ys = flat_map-append (kept q) xs ys
 
 all_in : {A : Type 0} (q : PeerNo) (f : A → List Told) (xs : List A) → entries_in q (flat_map f xs) ≡ flat_map (λ x. entries_in q (f x)) xs
 all_in q f [] = refl
@@ -160,13 +156,13 @@ above_other q (x ∷ xs) a (suc n) lt e =
     let rest : map number xs ≡ map peer_no (range_with_len (a + 1) n) = cc in
     (ne_eqb x.0.0 q.0 (λ s. omega arith), above_other q xs (a + 1) n (omega arith) rest)
 
-module _ (plan : Plan) (report : Report) where
-  -- the trace of a number, of all that is told
-  abbrev pub trace_for : PeerNo → PeerNo × List Entry
-  trace_for q = (q, reverse (entries_in q (told plan report)))
+-- the traces of some numbers, of all that is told
+abbrev pub traces_of : List PeerNo → List Told → List (PeerNo × List Entry)
+traces_of numbers xs = map (λ (q : PeerNo). (q, reverse (entries_in q xs))) numbers
 
+module _ (plan : Plan) (report : Report) where
   traces_from : (before later : List (PeerNo × Finished)) (a n : ℕ) → report.peers.items ≡ before ++ later → AllByRecursion (IsBelow a) before → map number later ≡ map peer_no (range_with_len a n)
-      → map traced later ≡ map trace_for (map number later)
+      → map traced later ≡ traces_of (map number later) (told plan report)
   traces_from before [] a n cut hb e = refl
   traces_from before (x ∷ later) a zero cut hb e = absurd cc
   traces_from before (x ∷ later) a (suc n) cut hb e =
@@ -179,5 +175,5 @@ module _ (plan : Plan) (report : Report) where
       let more = traces_from (before ++ x ∷ []) later (a + 1) n (cut ∙ sym (append_assoc before (x ∷ []) later)) (all_append (IsBelow (a + 1)) before (x ∷ []) (below_more a before hb) (self, tt)) rest in
       (λ i. (x.0, sym one i) ∷ more i)
 
-  pub traces_told : numbers_in report ≡ plan_numbers plan → traces report ≡ map trace_for (plan_numbers plan)
-  traces_told e = traces_from [] report.peers.items 0 (length plan.peers) refl tt e ∙ ap (map trace_for) e
+  pub traces_told : numbers_in report ≡ plan_numbers plan → traces report ≡ traces_of (plan_numbers plan) (told plan report)
+  traces_told e = traces_from [] report.peers.items 0 (length plan.peers) refl tt e ∙ ap (λ (numbers : List PeerNo). traces_of numbers (told plan report)) e

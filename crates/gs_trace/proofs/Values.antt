@@ -1,5 +1,5 @@
 -- The texts of plain values, of what may be absent, of lists and of peers tell what they are of.
-use Rattle.std.proofs.Common.{◌≡◌, ℕ, zero, suc, ◌<◌, ◌≤◌, ◌^◌, Bool, true, false, eqb, List, [], ◌∷◌, ◌++◌, length, get_or, slice_get, drop, flat_map, map, decimal, Option, Some, None, AllPairs, refl, sym, ap, ◌∙◌, subst, append_assoc, map-id, arith, inl, inr, eq-eqb, true≢false}
+use Rattle.std.proofs.Common.{◌≡◌, ℕ, zero, suc, ◌<◌, Bool, true, false, List, [], ◌∷◌, ◌++◌, length, get_or, slice_get, drop, flat_map, map, decimal, Option, Some, None, AllPairs, refl, sym, ap, ◌∙◌, subst, append_assoc, map-id, arith, inl, inr, eq-eqb, true≢false}
 use Rattle.std.specs.List.{AllByRecursion}
 use Rattle.std.specs.Prelude.{nat_eq}
 use Rattle.std.specs.Cmp.Lexicographic.{pointwise}
@@ -11,8 +11,8 @@ use Rattle.gs_base.specs.declared.names.Topic.{Topic}
 use Rattle.gs_plan.specs.Plans.{have_one_name}
 use Rattle.gs_plan.specs.declared.plan.PlannedPeer.{PlannedPeer}
 use Rattle.gs_trace.specs.Stored.{AreStoredBytes, IfThere, IsStoredId, IsStoredMoment, IsStoredNumber, IsStoredPeer, IsStoredTopic}
-use Rattle.gs_trace.specs.Texts.{after_comma, hex_text, id_text, items_text, list_text, moment_text, name_or_number, optional_text, peer_text, quoted, topic_text, truth_text}
-use Rattle.gs_trace.proofs.Prefixes.{Anything, NoDigit, Tells, TellsAll, Avoids, anywhere, clashes, front, made, of_part, tell_items}
+use Rattle.gs_trace.specs.Texts.{after_comma, hex_text, id_text, items_text, list_text, moment_text, name_or_number, optional_text, peer_text, topic_text, truth_text}
+use Rattle.gs_trace.proofs.Prefixes.{Anything, NoDigit, TellsAll, Avoids, clashes, front, made, of_part, tell_items}
 use Rattle.gs_trace.proofs.Numbers.{decimal_avoids, tell_decimal}
 use Rattle.gs_trace.proofs.Quotes.{tell_hex, tell_quoted}
 
@@ -88,9 +88,9 @@ pub tell_list : {A : Type 0} {Fits : A → Type 0} {f : A → List ℕ}
     → TellsAll NoDigit Fits f → Avoids 93 Fits f → TellsAll Anything (AllByRecursion Fits) (list_text f)
 tell_list {A = A} {Fits = Fits} {f = f} told avoids = record {
   tell = λ xs ys s t fs ft hx hy e.
-    let inner : items_text f xs ++ 93 ∷ s ≡ items_text f ys ++ 93 ∷ t =
-    sym (append_assoc (items_text f xs) (93 ∷ []) s) ∙ ap (drop 1) e ∙ append_assoc (items_text f ys) (93 ∷ []) t in
-    by xs ys s t hx hy inner;
+      let inner : items_text f xs ++ 93 ∷ s ≡ items_text f ys ++ 93 ∷ t =
+      sym (append_assoc (items_text f xs) (93 ∷ []) s) ∙ ap (drop 1) e ∙ append_assoc (items_text f ys) (93 ∷ []) t in
+      by xs ys s t hx hy inner;
 }
   where
     rest : List A → List ℕ → List ℕ
@@ -137,8 +137,8 @@ module _ (names : List (List ℕ)) (stored : AllByRecursion AreStoredBytes names
   pub tell_peer : TellsAll NoDigit IsStoredPeer (peer_text names)
   tell_peer = record {
     tell = λ q r s t ns nt hq hr e.
-      let both = by_option q r (slice_get names q.0) (slice_get names r.0) s t refl refl ns nt hq hr e in
-      (ap (λ (n : ℕ). record { 0 = n }) both.0, both.1);
+        let both = by_option q r (slice_get names q.0) (slice_get names r.0) s t refl refl ns nt hq hr e in
+        (ap (λ (n : ℕ). record { 0 = n }) both.0, both.1);
   }
 
 -- ---- names that differ pairwise

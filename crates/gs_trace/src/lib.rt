@@ -2,9 +2,11 @@
 #![tactic(auto)]
 
 mod events;
+mod laws;
 mod lines;
 mod marks;
 mod rpcs;
 mod texts;
 
+pub use laws::a_trace_tells_all;
 pub use lines::trace_text;
