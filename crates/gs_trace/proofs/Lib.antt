@@ -1,11 +1,11 @@
-pub mod Prefixes
-pub mod Numbers
-pub mod Quotes
-pub mod Values
-pub mod RpcTexts
-pub mod EventTexts
-pub mod MarkTexts
-pub mod LineTexts
-pub mod Rounds
-pub mod Traces
-pub mod OneText
+mod Prefixes
+mod Numbers
+mod Quotes
+mod Values
+mod RpcTexts
+mod EventTexts
+mod MarkTexts
+mod LineTexts
+mod Rounds
+mod Traces
+mod OneText

@@ -93,9 +93,6 @@ tell_list {A = A} {Fits = Fits} {f = f} told avoids = record {
       by xs ys s t hx hy inner;
 }
   where
-    rest : List A → List ℕ → List ℕ
-    rest xs s = flat_map (after_comma f) xs ++ 93 ∷ s
-
     no_digit : (xs : List A) (s : List ℕ) → NoDigit (flat_map (after_comma f) xs ++ 93 ∷ s)
     no_digit [] s = refl
     no_digit (x ∷ xs) s = refl

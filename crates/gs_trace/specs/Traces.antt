@@ -1,4 +1,4 @@
--- The traces that a report has, and which reports of a plan a text tells apart.
+-- The traces that a report has, and what is known of a plan and its report where one text tells all of both.
 use Rattle.std.specs.Prelude.{◌≡◌, ℕ, false, List, AllPairs, length, map}
 use Rattle.std.specs.List.{range_with_len}
 use Rattle.gs_base.specs.declared.names.PeerNo.{PeerNo}
