@@ -3,3 +3,5 @@ pub mod Rpcs
 pub mod Events
 pub mod Lines
 pub mod Starts
+pub mod Stored
+pub mod Traces

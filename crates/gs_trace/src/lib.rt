@@ -3,10 +3,12 @@
 
 mod entries;
 mod events;
+mod laws;
 mod lines;
 mod marks;
 mod refusals;
 mod rpcs;
 mod texts;
 
+pub use laws::a_trace_tells_all;
 pub use lines::trace_text;

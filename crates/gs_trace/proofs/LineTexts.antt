@@ -1,0 +1,240 @@
+-- Each line of a trace tells what it is of, and the first one tells the names of the peers and the rounds.
+use Rattle.std.proofs.Common.{◌≡◌, ℕ, ◌&&◌, Bool, true, ltb, List, [], ◌∷◌, ◌++◌, codes, decimal, map, flat_map, slice_get, Option, None, Some, option_map, unwrap_or, refl, sym, ap, ◌∙◌, append_assoc, arith, ltb-true}
+use Rattle.std.specs.List.{AllByRecursion}
+use Rattle.std.proofs.lemmas.Bool.{and_parts, eqb-false}
+use Rattle.gs_base.specs.declared.names.Millis.{Millis}
+use Rattle.gs_base.specs.declared.names.PeerNo.{PeerNo}
+use Rattle.gs_plan.specs.Plans.{what_word}
+use Rattle.gs_plan.specs.declared.plan.Act.{Act}
+use Rattle.gs_plan.specs.declared.plan.Act.TheVariants.{Subscribe}
+use Rattle.gs_plan.specs.declared.plan.Line.{Line}
+use Rattle.gs_plan.specs.declared.plan.Plan.{Plan}
+use Rattle.gs_rules.specs.declared.event.Event.{Event}
+use Rattle.gs_rules.specs.declared.event.Event.TheVariants.{Heard}
+use Rattle.gs_rules.specs.declared.refusal.Refusal.{Refusal}
+use Rattle.gs_rules.specs.declared.refusal.Refusal.TheVariants.{AlreadySeen, TooLong, Joined, NotJoined, Stopped, NotOpen, TooMany}
+use Rattle.gs_rules.specs.declared.refusal.RefusedLine.{RefusedLine}
+use Rattle.gs_rules.specs.declared.trace.Effects.{Effects}
+use Rattle.gs_rules.specs.declared.trace.Entry.{Entry}
+use Rattle.gs_rules.specs.Refusals.{number_of}
+use Rattle.gs_report.specs.Text.{word_of}
+use Rattle.gs_trace.specs.Events.{effects_members, event_members, event_text}
+use Rattle.gs_trace.specs.Lines.{Told, Did, Refused, entry_members, head_text, line_start, line_text}
+use Rattle.gs_trace.specs.Stored.{AreStoredBytes, IsStoredEntry, IsStoredMoment, IsStoredNumber, IsStoredPeer, IsStoredRefusal}
+use Rattle.gs_trace.specs.Texts.{names_of, quoted}
+use Rattle.gs_trace.proofs.EventTexts.{event_sort, sort_told, tell_event, text_sort}
+use Rattle.gs_trace.proofs.MarkTexts.{tell_effects}
+use Rattle.gs_trace.proofs.Numbers.{IsShort, tell_decimal}
+use Rattle.gs_trace.proofs.Prefixes.{Anything, NoDigit, Tells, TellsAll, and_next, and_then, anywhere, back, clashes, front, next, of_part, tell_items}
+use Rattle.gs_trace.proofs.Quotes.{tell_quoted}
+use Rattle.gs_trace.proofs.Values.{Differ, tell_list, tell_moment, tell_number, tell_peer}
+
+-- ---- the first line
+
+pub record IsStoredHead (plan : Plan) : Type 0 where
+  pub names : AllByRecursion AreStoredBytes (names_of plan)
+  pub round_ms : IsStoredNumber plan.round_ms
+  pub rounds : IsStoredNumber plan.rounds
+
+-- what the first line tells
+abbrev pub head_of : Plan → (List (List ℕ) × ℕ) × ℕ
+head_of plan = ((names_of plan, plan.round_ms), plan.rounds)
+
+pub tell_head : Tells Anything IsStoredHead head_text head_of
+tell_head = back {After = NoDigit} (next (next
+    (front (codes "{\"peers\":") (of_part {Fits = IsStoredHead} (tell_list (anywhere tell_quoted) (λ x s t h e. clashes _ _ refl e)) names_of (λ p h. h.names)))
+    (codes ",\"round_ms\":") (λ s. tt) (of_part tell_number (λ (p : Plan). p.round_ms) (λ p h. h.round_ms)))
+    (codes ",\"last_round\":") (λ s. refl) (of_part tell_number (λ (p : Plan). p.rounds) (λ p h. h.rounds)))
+    (codes "}\n") (λ s. refl)
+
+-- ---- lines of peers
+
+abbrev pub IsStoredTold : Told → Type 0
+IsStoredTold (Did r q e) = IsStoredNumber r × IsStoredPeer q × IsStoredEntry e
+IsStoredTold (Refused r q line) = IsStoredNumber r × IsStoredPeer q × IsStoredRefusal line
+
+-- the words of a script by their places
+abbrev Words : Type 0
+Words = ℕ → List ℕ
+
+abbrev refusal_with : Words → RefusedLine → List ℕ
+refusal_with words line =
+    event_text (codes "refused") ++ codes ",\"line\":" ++ decimal line.line ++ codes ",\"what\":" ++ quoted (words line.line)
+    ++ codes ",\"number\":" ++ decimal (number_of line.why)
+
+-- a line by the names and the words that it needs of a plan
+abbrev pub line_with : List (List ℕ) → Words → Told → List ℕ
+line_with names words (Did r q e) = line_start names r e.at q ++ entry_members names e ++ codes "}\n"
+line_with names words (Refused r q line) = line_start names r line.at q ++ refusal_with words line ++ codes "}\n"
+
+short_number : (why : Refusal) → IsShort (number_of why)
+short_number AlreadySeen = omega arith
+short_number why = omega arith
+
+-- a number tells the refusal
+number_told : (x y : Refusal) → number_of x ≡ number_of y → x ≡ y
+number_told AlreadySeen AlreadySeen e = refl
+number_told AlreadySeen y e = absurd (eqb-false _ _ refl e)
+number_told TooLong TooLong e = refl
+number_told TooLong y e = absurd (eqb-false _ _ refl e)
+number_told Joined Joined e = refl
+number_told Joined y e = absurd (eqb-false _ _ refl e)
+number_told NotJoined NotJoined e = refl
+number_told NotJoined y e = absurd (eqb-false _ _ refl e)
+number_told Stopped Stopped e = refl
+number_told Stopped y e = absurd (eqb-false _ _ refl e)
+number_told NotOpen NotOpen e = refl
+number_told NotOpen y e = absurd (eqb-false _ _ refl e)
+number_told TooMany TooMany e = refl
+number_told TooMany y e = absurd (eqb-false _ _ refl e)
+
+no_refused_event : (x : Event) → event_sort x ≡ 10 → ⊥
+no_refused_event (Heard q rpc) e = eqb-false _ _ refl e
+no_refused_event x e = eqb-false _ _ refl e
+
+three_parts : (a b c s : List ℕ) → a ++ b ++ c ++ s ≡ a ++ (b ++ (c ++ s))
+three_parts a b c s = simp append_assoc
+
+four_parts : (a b c d s : List ℕ) → a ++ (b ++ c) ++ d ++ s ≡ a ++ (b ++ (c ++ (d ++ s)))
+four_parts a b c d s = simp append_assoc
+
+module _ (names : List (List ℕ)) (stored : AllByRecursion AreStoredBytes names) (differ : Differ names) where
+  abbrev Start : Type 0
+  Start = (ℕ × Millis) × PeerNo
+
+  abbrev IsStoredStart : Start → Type 0
+  IsStoredStart x = IsStoredNumber x.0.0 × IsStoredMoment x.0.1 × IsStoredPeer x.1
+
+  tell_start : TellsAll Anything IsStoredStart (λ x. line_start names x.0.0 x.0.1 x.1)
+  tell_start = back {After = NoDigit} (next (next
+      (front (codes "{\"round\":") (of_part {Fits = IsStoredStart} tell_number (λ (x : Start). x.0.0) (λ x h. h.0)))
+      (codes ",\"at\":") (λ s. refl) (of_part tell_moment (λ (x : Start). x.0.1) (λ x h. h.1)))
+      (codes ",\"peer\":") (λ s. refl) (of_part (tell_peer names stored differ) (λ (x : Start). x.1) (λ x h. h.2)))
+      (codes ",") (λ s. refl)
+
+  abbrev Doing : Type 0
+  Doing = (ℕ × PeerNo) × Entry
+
+  abbrev IsStoredDoing : Doing → Type 0
+  IsStoredDoing x = IsStoredNumber x.0.0 × IsStoredPeer x.0.1 × IsStoredEntry x.1
+
+  tell_entry : Tells {B = Start × (Event × Effects)} Anything IsStoredDoing (λ x. line_with names (λ n. []) (Did x.0.0 x.0.1 x.1)) (λ x. (((x.0.0, x.1.at), x.0.1), (x.1.event, x.1.effects)))
+  tell_entry = back {After = Anything} (and_then
+      (of_part {Fits = IsStoredDoing} tell_start (λ (x : Doing). ((x.0.0, x.1.at), x.0.1)) (λ x h. (h.0, h.2.moment, h.1)))
+      (and_next (of_part (tell_event names stored differ) (λ (x : Doing). x.1.event) (λ x h. h.2.event))
+      (of_part (tell_effects names stored differ) (λ (x : Doing). x.1.effects) (λ x h. h.2.effects)) (λ x s. refl)))
+      (codes "}\n") (λ s. tt)
+
+  abbrev Refusing : Type 0
+  Refusing = (ℕ × PeerNo) × (Words × RefusedLine)
+
+  abbrev IsStoredRefusing : Refusing → Type 0
+  IsStoredRefusing x = IsStoredNumber x.0.0 × IsStoredPeer x.0.1 × IsStoredRefusal x.1.1 × ((n : ℕ) → AreStoredBytes (x.1.0 n))
+
+  tell_refusal : Tells {B = Start × ((ℕ × List ℕ) × ℕ)} Anything IsStoredRefusing (λ x. line_with names x.1.0 (Refused x.0.0 x.0.1 x.1.1)) (λ x. (((x.0.0, x.1.1.at), x.0.1), ((x.1.1.line, x.1.0 x.1.1.line), number_of x.1.1.why)))
+  tell_refusal = back {After = NoDigit} (and_then
+      (of_part {Fits = IsStoredRefusing} tell_start (λ (x : Refusing). ((x.0.0, x.1.1.at), x.0.1)) (λ x h. (h.0, h.2.moment, h.1)))
+      (next (next
+      (front (event_text (codes "refused") ++ codes ",\"line\":") (of_part {Fits = IsStoredRefusing} tell_number (λ (x : Refusing). x.1.1.line) (λ x h. h.2.place)))
+      (codes ",\"what\":") (λ s. refl) (of_part tell_quoted (λ (x : Refusing). x.1.0 x.1.1.line) (λ x h. h.3 x.1.1.line)))
+      (codes ",\"number\":") (λ s. tt) (of_part tell_decimal (λ (x : Refusing). number_of x.1.1.why) (λ x h. short_number x.1.1.why))))
+      (codes "}\n") (λ s. refl)
+
+  -- no line is of an entry and of a refused line
+  no_both : (words : Words) (r k : ℕ) (q p : PeerNo) (x : Entry) (line : RefusedLine) (s t : List ℕ) → IsStoredTold (Did r q x) → IsStoredTold (Refused k p line)
+      → line_with names words (Did r q x) ++ s ≡ line_with names words (Refused k p line) ++ t → ⊥
+  no_both words r k q p x line s t hx hy e =
+      let a = line_start names r x.at q in
+      let b = line_start names k line.at p in
+      let u = event_members names x.event ++ (effects_members names x.effects ++ (codes "}\n" ++ s)) in
+      let v = refusal_with words line ++ (codes "}\n" ++ t) in
+      let left : line_with names words (Did r q x) ++ s ≡ a ++ u = four_parts a (event_members names x.event) (effects_members names x.effects) (codes "}\n") s in
+      let right : line_with names words (Refused k p line) ++ t ≡ b ++ v = three_parts b (refusal_with words line) (codes "}\n") t in
+      let both = tell_start.tell ((r, x.at), q) ((k, line.at), p) u v tt tt (hx.0, hx.2.moment, hx.1) (hy.0, hy.2.moment, hy.1) (sym left ∙ e ∙ right) in
+      let refused : text_sort v ≡ 10 = refl in
+      no_refused_event x.event (sym (sort_told names x.event (effects_members names x.effects ++ (codes "}\n" ++ s))) ∙ ap text_sort both.1 ∙ refused)
+
+  -- a line, with the words of its plan
+  abbrev Worded : Type 0
+  Worded = Words × Told
+
+  abbrev IsStoredWorded : Worded → Type 0
+  IsStoredWorded x = ((n : ℕ) → AreStoredBytes (x.0 n)) × IsStoredTold x.1
+
+  line_by : (w v : Words) (x y : Told) (s t : List ℕ) → ((n : ℕ) → AreStoredBytes (w n)) → ((n : ℕ) → AreStoredBytes (v n)) → IsStoredTold x → IsStoredTold y
+      → line_with names w x ++ s ≡ line_with names v y ++ t → (x ≡ y) × (s ≡ t)
+  line_by w v (Did r q x) (Did k p y) s t hw hv hx hy e =
+      let both = tell_entry.tell ((r, q), x) ((k, p), y) s t tt tt hx hy e in
+      (ap (λ (z : Start × (Event × Effects)). Did z.0.0.0 z.0.1 (record { at = z.0.0.1; event = z.1.0; effects = z.1.1 })) both.0, both.1)
+  line_by w v (Did r q x) (Refused k p line) s t hw hv hx hy e = absurd (no_both v r k q p x line s t hx hy e)
+  line_by w v (Refused k p line) (Did r q x) s t hw hv hx hy e = absurd (no_both w r k q p x line t s hy hx (sym e))
+  line_by w v (Refused r q x) (Refused k p y) s t hw hv hx hy e =
+      let both = tell_refusal.tell ((r, q), (w, x)) ((k, p), (v, y)) s t tt tt (hx.0, hx.1, hx.2, hw) (hy.0, hy.1, hy.2, hv) e in
+      let why = number_told x.why y.why (ap (λ (z : Start × ((ℕ × List ℕ) × ℕ)). z.1.1) both.0) in
+      (λ i. Refused (both.0 i).0.0.0 (both.0 i).0.1 (record { at = (both.0 i).0.0.1; line = (both.0 i).1.0.0; why = why i }), both.1)
+
+  tell_line : Tells Anything IsStoredWorded (λ x. line_with names x.0 x.1) (λ x. x.1)
+  tell_line = record { tell = λ x y s t fs ft hx hy e. line_by x.0 y.0 x.1 y.1 s t hx.0 hy.0 hx.1 hy.1 e }
+
+  abbrev IsEnd : List ℕ → Type 0
+  IsEnd s = s ≡ []
+
+  no_end : (x : Worded) (s t : List ℕ) → IsStoredWorded x → IsEnd t → line_with names x.0 x.1 ++ s ≡ t → ⊥
+  no_end (w, Did r q x) s t h end e = let none : line_with names w (Did r q x) ++ s ≡ [] = e ∙ end in cc (none)
+  no_end (w, Refused r q x) s t h end e = let none : line_with names w (Refused r q x) ++ s ≡ [] = e ∙ end in cc (none)
+
+  with_words : Words → List Told → List Worded
+  with_words w [] = []
+  with_words w (x ∷ xs) = (w, x) ∷ with_words w xs
+
+  words_text : (w : Words) (xs : List Told) → flat_map (λ (x : Worded). line_with names x.0 x.1) (with_words w xs) ≡ flat_map (line_with names w) xs
+  unfolding with_words
+  words_text w [] = refl
+  words_text w (x ∷ xs) = ap (λ (u : List ℕ). line_with names w x ++ u) (words_text w xs)
+
+  words_told : (w : Words) (xs : List Told) → map (λ (x : Worded). x.1) (with_words w xs) ≡ xs
+  unfolding with_words
+  words_told w [] = refl
+  words_told w (x ∷ xs) = ap (λ u. x ∷ u) (words_told w xs)
+
+  words_stored : (w : Words) (xs : List Told) → ((n : ℕ) → AreStoredBytes (w n)) → AllByRecursion IsStoredTold xs → AllByRecursion IsStoredWorded (with_words w xs)
+  unfolding with_words
+  words_stored w [] hw h = tt
+  words_stored w (x ∷ xs) hw h = ((hw, h.0), words_stored w xs hw h.1)
+
+  pub tell_lines : (w v : Words) (xs ys : List Told) → ((n : ℕ) → AreStoredBytes (w n)) → ((n : ℕ) → AreStoredBytes (v n)) → AllByRecursion IsStoredTold xs → AllByRecursion IsStoredTold ys
+      → flat_map (line_with names w) xs ≡ flat_map (line_with names v) ys → xs ≡ ys
+  tell_lines w v xs ys hw hv hx hy e =
+      let text = λ (x : Worded). line_with names x.0 x.1 in
+      let same : flat_map text (with_words w xs) ++ [] ≡ flat_map text (with_words v ys) ++ [] =
+      ap (λ (u : List ℕ). u ++ []) (words_text w xs ∙ e ∙ sym (words_text v ys)) in
+      let both = tell_items Anything IsEnd IsStoredWorded text (λ x. x.1) tell_line no_end (λ s h. tt) (λ x s h. tt) (with_words w xs) (with_words v ys) [] [] (words_stored w xs hw hx) (words_stored v ys hv hy) refl refl same in
+      sym (words_told w xs) ∙ both.0 ∙ words_told v ys
+
+-- ---- the lines of a plan
+
+abbrev are_small : List ℕ → Bool
+are_small [] = true
+are_small (c ∷ cs) = ltb c 256 && are_small cs
+
+small_stored : (cs : List ℕ) → are_small cs ≡ true → AreStoredBytes cs
+small_stored [] h = tt
+small_stored (c ∷ cs) h =
+    let both = and_parts (ltb c 256) (are_small cs) h in
+    (ltb-true c 256 both.0, small_stored cs both.1)
+
+small_word : (act : Act) → are_small (what_word act) ≡ true
+small_word (Subscribe t) = refl
+small_word act = refl
+
+word_stored : (line : Option Line) → AreStoredBytes (unwrap_or (option_map (λ (l : Line). what_word l.what) line) [])
+word_stored None = tt
+word_stored (Some line) = small_stored (what_word line.what) (small_word line.what)
+
+pub words_of_plan : (plan : Plan) (n : ℕ) → AreStoredBytes (word_of plan n)
+words_of_plan plan n = word_stored (slice_get plan.script n)
+
+pub lines_of_plan : (plan : Plan) (xs : List Told) → flat_map (line_text plan) xs ≡ flat_map (line_with (names_of plan) (word_of plan)) xs
+lines_of_plan plan [] = refl
+lines_of_plan plan (Did r q x ∷ xs) = ap (λ (u : List ℕ). line_text plan (Did r q x) ++ u) (lines_of_plan plan xs)
+lines_of_plan plan (Refused r q x ∷ xs) = ap (λ (u : List ℕ). line_text plan (Refused r q x) ++ u) (lines_of_plan plan xs)

@@ -1,0 +1,32 @@
+//! What the text of a trace tells. The law holds of its definitions only, and its function does nothing.
+ghost use Rattle.std.specs.Prelude.{◌≡◌};
+ghost use Rattle.gs_plan.specs.declared.plan.Plan.{Plan as PlanValue};
+ghost use Rattle.gs_report.specs.declared.report.Report.{Report as ReportValue};
+ghost use Rattle.gs_trace.specs.Lines.{told, trace_text};
+ghost use Rattle.gs_trace.specs.Texts.{names_of};
+ghost use Rattle.gs_trace.specs.Traces.{IsReportOf, traces};
+
+/// The text of a run's trace tells all of it. Two runs with one text have peers of the same names and the same rounds,
+/// and there is the same to say of both. And each peer has the same trace in both.
+pub fn a_trace_tells_all()
+    ensures names { (p q : PlanValue) (r s : ReportValue)
+        → IsReportOf p r
+        → IsReportOf q s
+        → trace_text p r ≡ trace_text q s
+        → names_of p ≡ names_of q }
+    ensures rounds { (p q : PlanValue) (r s : ReportValue)
+        → IsReportOf p r
+        → IsReportOf q s
+        → trace_text p r ≡ trace_text q s
+        → (p.round_ms ≡ q.round_ms) × (p.rounds ≡ q.rounds) }
+    ensures told { (p q : PlanValue) (r s : ReportValue)
+        → IsReportOf p r
+        → IsReportOf q s
+        → trace_text p r ≡ trace_text q s
+        → told p r ≡ told q s }
+    ensures traces { (p q : PlanValue) (r s : ReportValue)
+        → IsReportOf p r
+        → IsReportOf q s
+        → trace_text p r ≡ trace_text q s
+        → traces r ≡ traces s }
+{}
