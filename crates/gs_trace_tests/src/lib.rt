@@ -1,0 +1,5 @@
+//! The lines of traces. A crate is proved once more with its own tests, so these stand apart from what they call.
+#![tactic(auto)]
+
+#[cfg(test)]
+mod tests;

@@ -1,0 +1,215 @@
+//! Runs of the peers `a` and `b`, and how their traces are told.
+mod events;
+mod marks;
+mod plan;
+
+use crate::tests::plan::{bytes, plan, topic};
+use gs_base::{Mark, Millis, MsgId, PeerNo, Rpc, Seq, Shared};
+use gs_report::{Finished, Report};
+use gs_rules::{Effects, Entry, Event, Promise, Refusal, RefusedLine, Trace};
+use gs_trace::trace_text;
+use std::alloc::{AllocError, Global};
+
+const HEAD: &[u8] = b"{\"peers\":[\"a\",\"b\"],\"round_ms\":100,\"last_round\":2}\n";
+
+fn finished(
+    alloc: Global,
+    trace: Trace,
+    refused: Seq<RefusedLine>,
+) -> Result<Finished, AllocError> {
+    Ok(Finished {
+        trace,
+        refused,
+        meshes: Seq::new(alloc),
+        scores: Seq::new(alloc),
+    })
+}
+
+/// Whether the trace of a run is told by the first line and this.
+fn is_told(alloc: Global, report: &Report, lines: &[u8]) -> Result<bool, AllocError> {
+    let told = trace_text(alloc, &plan(alloc)?, report)?;
+    let mut text = Vec::new(alloc);
+    text.extend_from_slice(HEAD)?;
+    text.extend_from_slice(lines)?;
+    Ok(told == text)
+}
+
+/// Whether peer `a` with one entry at 7 is told by this line.
+fn is_entry(
+    alloc: Global,
+    event: Event,
+    effects: Effects,
+    line: &[u8],
+) -> Result<bool, AllocError> {
+    let mut trace = Trace::new(alloc);
+    trace.push(Entry {
+        at: Millis(7),
+        event,
+        effects,
+    })?;
+    let mut report = Report {
+        peers: Vec::new(alloc),
+        settled: 0,
+    };
+    let life = finished(alloc, trace, Seq::new(alloc))?;
+    report.peers.push((PeerNo(0), life))?;
+    is_told(alloc, &report, line)
+}
+
+/// Whether an event is told by these members.
+fn is_event(alloc: Global, event: Event, members: &str) -> Result<bool, AllocError> {
+    let mut line = Vec::new(alloc);
+    line.extend_from_slice(b"{\"round\":0,\"at\":7,\"peer\":\"a\",")?;
+    line.extend_from_slice(members.as_bytes())?;
+    line.extend_from_slice(b",\"sent\":[],\"delivered\":[],\"promise\":null,\"marks\":[]}\n")?;
+    is_entry(alloc, event, Effects::none(alloc), &line)
+}
+
+/// Whether marks are told by these objects.
+fn are_marks(alloc: Global, marks: Seq<Mark>, objects: &str) -> Result<bool, AllocError> {
+    let mut line = Vec::new(alloc);
+    line.extend_from_slice(
+        b"{\"round\":0,\"at\":7,\"peer\":\"a\",\"event\":\"decay\",\"sent\":[],\"delivered\":[],\"promise\":null,\"marks\":[",
+    )?;
+    line.extend_from_slice(objects.as_bytes())?;
+    line.extend_from_slice(b"]}\n")?;
+    let effects = Effects {
+        marks,
+        ..Effects::none(alloc)
+    };
+    is_entry(alloc, Event::Decay, effects, &line)
+}
+
+/// Two RPCs are sent, two payloads delivered, and a promise made.
+fn much_done(alloc: Global) -> Result<Effects, AllocError> {
+    let mut effects = Effects::none(alloc);
+    for neighbour in [1, 0] {
+        let rpc = Shared::new(alloc, Rpc::empty(alloc))?;
+        effects.sends.push((PeerNo(neighbour), rpc))?;
+    }
+    for payload in ["abc", ""] {
+        let delivery = (topic(alloc, "news")?, bytes(alloc, payload.as_bytes())?);
+        effects.delivered.push(delivery)?;
+    }
+    let promise = Promise {
+        from: PeerNo(1),
+        id: MsgId([0x5a; 32]),
+        until: Millis(3_000),
+    };
+    effects.promise = Some(Shared::new(alloc, promise)?);
+    Ok(effects)
+}
+
+const MUCH_TOLD: &[u8] = b"{\"round\":0,\"at\":7,\"peer\":\"a\",\"event\":\"shut\",\
+\"sent\":[{\"to\":\"b\",\"rpc\":{\"subscriptions\":[],\"publish\":[],\"control\":null}},\
+{\"to\":\"a\",\"rpc\":{\"subscriptions\":[],\"publish\":[],\"control\":null}}],\
+\"delivered\":[{\"topic\":\"news\",\"data\":\"616263\",\
+\"id\":\"ba7816bf8f01cfea414140de5dae2223b00361a396177a9cb410ff61f20015ad\"},\
+{\"topic\":\"news\",\"data\":\"\",\
+\"id\":\"e3b0c44298fc1c149afbf4c8996fb92427ae41e4649b934ca495991b7852b855\"}],\
+\"promise\":{\"from\":\"b\",\"id\":\"5a5a5a5a5a5a5a5a5a5a5a5a5a5a5a5a5a5a5a5a5a5a5a5a5a5a5a5a5a5a5a5a\",\"until\":3000},\
+\"marks\":[]}\n";
+
+#[test]
+fn what_is_done_is_told_in_order(rt: HostRuntime) -> Result<(), AllocError> {
+    let effects = much_done(rt.alloc())?;
+    assert!(rt; is_entry(rt.alloc(), Event::Shut, effects, MUCH_TOLD)?);
+    Ok(())
+}
+
+/// What a peer does: `true` ends the round.
+#[derive(Clone, Copy)]
+struct Life {
+    peer: u16,
+    /// The moments of its entries, which end rounds or not.
+    trace: &'static [(u64, bool)],
+    /// The moments and places of lines that it refused.
+    refused: &'static [(u64, usize)],
+}
+
+fn trace_of(alloc: Global, life: Life) -> Result<Trace, AllocError> {
+    let mut trace = Trace::new(alloc);
+    for (at, ends) in life.trace {
+        trace.push(Entry {
+            at: Millis(*at),
+            event: if *ends {
+                Event::RoundEnd(9)
+            } else {
+                Event::Decay
+            },
+            effects: Effects::none(alloc),
+        })?;
+    }
+    Ok(trace)
+}
+
+fn refused_of(alloc: Global, life: Life) -> Result<Seq<RefusedLine>, AllocError> {
+    let mut refused = Seq::new(alloc);
+    for (at, line) in life.refused {
+        refused.push(RefusedLine {
+            at: Millis(*at),
+            line: *line,
+            why: Refusal::NotOpen,
+        })?;
+    }
+    Ok(refused)
+}
+
+/// Whether the rounds of a run are told by these lines.
+fn are_rounds(alloc: Global, lives: &[Life], lines: &str) -> Result<bool, AllocError> {
+    let mut report = Report {
+        peers: Vec::new(alloc),
+        settled: 0,
+    };
+    for life in lives {
+        let refused = refused_of(alloc, *life)?;
+        let told = finished(alloc, trace_of(alloc, *life)?, refused)?;
+        report.peers.push((PeerNo(life.peer), told))?;
+    }
+    is_told(alloc, &report, lines.as_bytes())
+}
+
+/// Peer `b` stands first. It refuses a line at a moment that no round begins at, and one after the last round.
+static TWO_LIVES: [Life; 2] = [
+    Life {
+        peer: 1,
+        trace: &[
+            (0, true),
+            (100, false),
+            (100, true),
+            (200, true),
+            (200, false),
+        ],
+        refused: &[(0, 3), (50, 3), (200, 4), (300, 4)],
+    },
+    Life {
+        peer: 0,
+        trace: &[(0, false)],
+        refused: &[(100, 0), (100, 9)],
+    },
+];
+
+const LINES_OF_TWO: &str = "\
+{\"round\":0,\"at\":0,\"peer\":\"b\",\"event\":\"round_end\",\"number\":9,\"sent\":[],\"delivered\":[],\"promise\":null,\"marks\":[]}
+{\"round\":0,\"at\":0,\"peer\":\"b\",\"event\":\"refused\",\"line\":3,\"what\":\"raw\",\"number\":33}
+{\"round\":0,\"at\":0,\"peer\":\"a\",\"event\":\"decay\",\"sent\":[],\"delivered\":[],\"promise\":null,\"marks\":[]}
+{\"round\":1,\"at\":100,\"peer\":\"b\",\"event\":\"decay\",\"sent\":[],\"delivered\":[],\"promise\":null,\"marks\":[]}
+{\"round\":1,\"at\":100,\"peer\":\"b\",\"event\":\"round_end\",\"number\":9,\"sent\":[],\"delivered\":[],\"promise\":null,\"marks\":[]}
+{\"round\":1,\"at\":100,\"peer\":\"a\",\"event\":\"refused\",\"line\":0,\"what\":\"subscribe\",\"number\":33}
+{\"round\":1,\"at\":100,\"peer\":\"a\",\"event\":\"refused\",\"line\":9,\"what\":\"\",\"number\":33}
+{\"round\":2,\"at\":200,\"peer\":\"b\",\"event\":\"round_end\",\"number\":9,\"sent\":[],\"delivered\":[],\"promise\":null,\"marks\":[]}
+{\"round\":2,\"at\":200,\"peer\":\"b\",\"event\":\"decay\",\"sent\":[],\"delivered\":[],\"promise\":null,\"marks\":[]}
+{\"round\":2,\"at\":200,\"peer\":\"b\",\"event\":\"refused\",\"line\":4,\"what\":\"hang_up\",\"number\":33}
+";
+
+#[test]
+fn lines_come_by_round_then_by_peer_then_in_order(rt: HostRuntime) -> Result<(), AllocError> {
+    assert!(rt; are_rounds(rt.alloc(), &TWO_LIVES, LINES_OF_TWO)?);
+    Ok(())
+}
+
+#[test]
+fn a_run_without_peers_has_the_first_line_alone(rt: HostRuntime) -> Result<(), AllocError> {
+    assert!(rt; are_rounds(rt.alloc(), &[], "")?);
+    Ok(())
+}
