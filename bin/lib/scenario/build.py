@@ -1,10 +1,10 @@
 """Makes a plain scenario of a description."""
+import platform
 from decimal import Decimal
 
 from . import attacks, groups, loads, plain, presets
-from .fault import Fault, no_such
+from .fault import Fault, Missing, no_such
 from .fields import HEX, Fields
-from .wire import module
 from .world import Published, Setting, World
 
 # The keys by which a text is a description, and no plain scenario.
@@ -163,7 +163,10 @@ def scenario_of(description, options, say):
 
 def read(text, end):
     """The values of a TOML text, floats as they are written. Where it is none, `end` gets the reason."""
-    tomllib = module("tomllib", "python3, 3.11 or later,")
+    try:
+        import tomllib
+    except ModuleNotFoundError:
+        raise Missing(f"this Python is {platform.python_version()}, and descriptions need 3.11 or later") from None
     try:
         return tomllib.loads(text, parse_float=Decimal)
     except (tomllib.TOMLDecodeError, RecursionError) as why:

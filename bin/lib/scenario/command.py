@@ -183,7 +183,7 @@ def main(words, usage):
             print_params(options)
         else:
             put(scenario_in(options, bytes_of(options.file)))
-    except Missing as package:
-        stop(4, f"the package {package} is missing: apt-get install {package} brings it")
+    except Missing as why:
+        stop(4, str(why))
     except KeyboardInterrupt:
         sys.exit(130)

@@ -10,7 +10,7 @@ class Fault(Exception):
 
 
 class Missing(Exception):
-    """A package that isn't installed."""
+    """What is not installed, and how to get it."""
 
 
 def words_of(path):

@@ -1,5 +1,6 @@
 """What bin/scenario refuses, with the line, and how it ends."""
 import os
+import platform
 import subprocess
 import sys
 import tempfile
@@ -153,17 +154,25 @@ class Ends(unittest.TestCase):
             ran = subprocess.run(command, stdout=full, stderr=subprocess.PIPE, check=False)
         self.assertEqual((ran.returncode, ran.stderr), (3, b"scenario: output failed\n"))
 
-    def test_a_missing_package_is_named(self):
-        # Python finds no package where it looks into no folder of them, as with -I -S, and Debian's folder is not there.
+    def test_no_package_is_needed(self):
+        # Python finds no package where it looks into no folder of them, as with -I -S.
         program = f"import sys; sys.path.insert(0, '{TOP}/bin/lib'); sys.dont_write_bytecode = True\n"
-        program += "from scenario import command, wire\nwire.DEBIAN = '/nowhere'\n"
-        for kind, status, said in (
-            ("[[send]]\npeer = 'g1'\nat = 2\n", 4, b"scenario: the package python3-protobuf is missing: apt-get install python3-protobuf brings it\n"),
-            ("[[load]]\npeer = 'g1'\nevery = '9 s'\n", 0, b""),
-        ):
-            with tempfile.TemporaryDirectory() as folder:
-                with open(f"{folder}/it.toml", "w", encoding="utf-8") as file:
-                    file.write(HEAD + GROUP + kind)
-                words = [sys.executable, "-I", "-S", "-c", program + f"command.main(['{folder}/it.toml'], '')"]
-                ran = subprocess.run(words, capture_output=True, check=False, env={**os.environ})
-                self.assertEqual((ran.returncode, ran.stderr), (status, said))
+        program += "from scenario import command\n"
+        text = HEAD + GROUP + '[[load]]\npeer = "g"\nat = 3\n' + "".join(
+            f'[[attack]]\nkind = "{kind}"\npeer = "g1"\nfrom = 5\nevery = 9\n'
+            for kind in ("spam", "ihave_flood", "iwant_flood", "graft_flood")
+        )
+        text += '[[send]]\npeer = "g1"\nat = 2\ngraft = "news"\n'
+        with tempfile.TemporaryDirectory() as folder:
+            with open(f"{folder}/it.toml", "w", encoding="utf-8") as file:
+                file.write(text)
+            words = [sys.executable, "-I", "-S", "-c", program + f"command.main(['{folder}/it.toml'], '')"]
+            ran = subprocess.run(words, capture_output=True, check=False, env={**os.environ})
+        self.assertEqual((ran.returncode, ran.stderr.decode(), ran.stdout.decode()), (0, "", printed(text)))
+
+    def test_an_old_python_is_named(self):
+        program = f"import sys; sys.path.insert(0, '{TOP}/bin/lib'); sys.dont_write_bytecode = True\n"
+        program += "sys.modules['tomllib'] = None\nfrom scenario import command\ncommand.main(['-'], '')\n"
+        ran = subprocess.run([sys.executable, "-c", program], input=HEAD.encode(), capture_output=True, check=False)
+        said = f"scenario: this Python is {platform.python_version()}, and descriptions need 3.11 or later\n"
+        self.assertEqual((ran.returncode, ran.stderr.decode()), (4, said))
