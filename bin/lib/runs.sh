@@ -143,7 +143,7 @@ cut_input() {
 
 # Whether the input is the scenario that is run. Else `prepare_scenario` makes it.
 is_as_it_comes() {
-  [ ${#edits[@]} -eq 0 ] && [ -z "$until" ] && ! is_description "${files[0]--}"
+  [ ${#edits[@]} -eq 0 ] && [ -z "$until" ] && ! { [ -f /dev/stdin ] && has_header /dev/stdin; }
 }
 
 # Makes the scenario that is run: a copy of the input, with the changes that the options make. It is standard input then.
@@ -186,6 +186,7 @@ print_answer() {
   [ "$status" -ne 1 ] || point refusal >"$room/lines"
   cat "$room/answer" "$room/lines" 2>/dev/null || fail 'output failed'
   [ "$status" -ne 0 ] || point warnings >&2
+  [ "$status" -ne 1 ] || say_unexpanded "${files[0]--}"
   exit "$status"
 }
 
@@ -213,7 +214,10 @@ run_changed() {
   fi
   [ "$program" != gossip_check ] || print_answer
   call "$program" "${arguments[@]}" || status=$?
-  [ "$status" -ne 1 ] || [ -z "$has_words" ] || print_words
+  if [ "$status" -eq 1 ]; then
+    [ -z "$has_words" ] || print_words
+    say_unexpanded "${files[0]--}"
+  fi
   exit "$status"
 }
 

@@ -110,6 +110,9 @@ check_hints() {
   points "go-libp2p's name of what has no counterpart" \
     $'params.prune_peers, line 2: prune_peers = 5\ngo-libp2p\'s PrunePeers has no counterpart here: there is no peer exchange' \
     '27 params.prune_peers\n' '[params]\nprune_peers = 5\n'
+  points "an object of go-libp2p's" \
+    $'GossipSubParams, line 1: [GossipSubParams]\ngo-libp2p\'s names go into a .json file, which a description takes: params_from = "FILE.json"' \
+    '27 GossipSubParams\n`GossipSubParams` is no key of the top table\n' '[GossipSubParams]\nD = 5\n'
   expect "go-libp2p's names in docs/COVERAGE.md" 0 True '' other_hints
   points 'a key of another table' $'d, by the change d=8\nd is a key of [params]: params.d?' \
     '27 d\n`d` is no key of the top table\n' 'd = 8\n' d=8

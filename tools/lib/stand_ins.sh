@@ -92,6 +92,17 @@ answered() {
   printf '%b' "$2" | answer=$1 in_tree tried=1 "${@:3}"
 }
 
+# A description on standard input, from a pipe.
+described() {
+  printf '[[group]]\n' | answer='27 group\nin words\n' in_tree "tried=$1" "${@:2}"
+}
+
+# And from a file, by proved programs, with nothing that reads it twice.
+described_in_file() {
+  printf '[[group]]\n' >"$room/described"
+  in_tree tried=1 "$@" <"$room/described"
+}
+
 # What is said of these programs where they are not proved.
 unproved() {
   printf '%s\n' "gossip_sim: this $1 does not come from a proved program: $2" \
@@ -135,6 +146,12 @@ check_unproved() {
     "$said*gossip_sim met a fault (signal 4): rt try in crates/gossip_sim says where" tried fault
   expect 'a closed output without proof' 3 '' "$said"$'\noutput failed' tried_to_closed_output
   expect 'a closed input without proof' 3 '' "$said"$'\ninput failed' tried_from_closed_input
+  said='*in words*: this looks like a description, and from standard input or a pipe none is read: bin/scenario - | bin/'
+  expect_like 'a description from a pipe' 1 '*' "${said#\*in words}gossip_sim" described 1 gossip_sim
+  expect_like 'its words' 1 '*' "${said}gossip_sim" described 1 gossip_sim --words
+  expect_like 'its check' 1 $'27 group\nin words\ngroup, line 1: [[group]]' "*${said#\*in words}gossip_sim" described 1 gossip_sim --check -
+  expect_like 'its figures' 1 '*' "${said#\*in words}gossip_stats" described 1 gossip_stats
+  expect_like 'a description as standard input' 1 '*' "${said#\*in words}gossip_sim" described_in_file gossip_sim
   expect 'nothing proved to run' 4 '' "gossip_sim: $one: bin/build proves and builds it" tried 0 --proved
   expect 'nothing proved to sweep' 4 '' \
     'sweep: gossip_edit is not built, and gossip_stats is not built: bin/build proves and builds it' \

@@ -185,9 +185,18 @@ def add_attack(world, table, place):
     RUN[attack.kind](attack)
 
 
+# What is said of keys that a partition has not: of those by which one might be to end.
+HEALS = (
+    "a closed link stays closed, so a partition has no end; one that heals is a group of gateways that leave the topic and "
+    'come back: docs/DESCRIPTIONS.md, "[[partition]]", shows it'
+)
+NOT_OF_PARTITIONS = dict.fromkeys("until to end ends duration for lasts heal heals heal_at heals_at".split(), HEALS)
+NOT_OF_PARTITIONS["from"] = "at says when a partition comes"
+
+
 def add_partition(world, table, place):
     """Hangs up on each link between two sides. No link comes back."""
-    fields = Fields(table, ("partition", place), ["at", "between"], world.setting.round_ms)
+    fields = Fields(table, ("partition", place), ["at", "between"], world.setting.round_ms, NOT_OF_PARTITIONS)
     at = world.check_moment(fields, "at", fields.moment("at"))
     sides = [world.members(it, lambda why: fields.fail("between", why)) for it in fields.texts("between")]
     if len(sides) != 2 or set(sides[0]) & set(sides[1]):

@@ -5,7 +5,7 @@ from decimal import Decimal
 
 from . import go_params, published
 from .fault import Fault, unknown
-from .fields import Fields, is_name, shown
+from .fields import Fields, is_name, shown, whole_hint
 from .plain import PARAMS, TOPIC
 
 # Keys of [params] and of topics that hold no number, and those that hold millionths.
@@ -91,10 +91,10 @@ def check_numbers(fields):
     for key, value in fields.table.items():
         if key in NO_NUMBERS or isinstance(value, int) and not isinstance(value, bool) and abs(value) <= 10**12:
             continue
-        why = f"{shown(value)} must be a whole number"
+        hint = whole_hint(key, value)
         if isinstance(value, Decimal) and value.is_finite() and abs(value) <= 10**6 and key in IN_MILLIONTHS:
-            why += f"; in millionths it is {go_params.millionths(value)}"
-        fields.fail(key, why)
+            hint = f"; in millionths it is {go_params.millionths(value)}"
+        fields.fail(key, f"{shown(value)} must be a whole number{hint}")
 
 
 def topics_of(tables, preset, comments):
