@@ -172,8 +172,14 @@ def hint_of(scenario, number, path):
     if number == 27:
         return unknown_hint(path)
     document = scenario.checked.document
-    if number == 29 and document is not None and is_at(document, path) and isinstance(value_at(document, path), float):
+    if document is None or not is_at(document, path):
+        return None
+    value = value_at(document, path)
+    if number == 29 and isinstance(value, float):
         return in_millionths(path, scenario.checked.raw_at(path) or "")
+    if number in (1, 2, 3, 4) and isinstance(value, int) and 0 < abs(value) < 10**6:
+        found = in_millionths(path, str(value))
+        return found and found.replace("millionths:", f"millionths, {value} is")
     return None
 
 

@@ -121,6 +121,13 @@ check_hints() {
   points 'millionths' $'params.gossip_factor, line 2: gossip_factor = 0.25\nin millionths: 250000' '29 params.gossip_factor\n' \
     '[params]\ngossip_factor = 0.25 # a part\n'
   points 'a number that counts no millionths' 'params.d, line 2: d = 6.0' '29 params.d\n' '[params]\nd = 6.0\n'
+  points 'a threshold that is not in millionths' $'params.graylist_threshold, line 2: graylist_threshold = -16000
+in millionths, -16000 is -16000000000' \
+    '3\n`params.graylist_threshold` is -16000: it must not be above `publish_threshold`, which is -50000000\n' \
+    '[params]\ngraylist_threshold = -16000\n'
+  points 'a threshold in millionths' 'params.graylist_threshold, line 2: graylist_threshold = -1_600_000' \
+    '3\n`params.graylist_threshold` is -1600000: it must not be above `publish_threshold`, which is -50000000\n' \
+    '[params]\ngraylist_threshold = -1_600_000\n'
   points 'a number without an end' 'params.w5, line 2: w5 = inf' '29 params.w5\n' '[params]\nw5 = inf\n'
 }
 
@@ -157,24 +164,50 @@ check_warnings() {
   dial=''
   warns 'a peer without neighbours' \
     "warning: peer[2].name, line 4: $named: no dial joins this peer to another, so it has no neighbour"
-  dial='{from = "c", to = "a"}' weights=', w3 = -1, p3_threshold = 9'
+  dial='{from = "c", to = "a"}' weights=', w3 = -2000, p3_threshold = 9000'
   warns 'a default window below a round' \
     "warning: topic[1], $listed$weights}]: p3_window_ms is left out, which means 10, and that is below round_ms, which is 100: $late"
-  weights=', w3b = -1, p3_threshold = 9, p3_window_ms = 99'
+  weights=', w3b = -2000, p3_threshold = 9000, p3_window_ms = 99'
   warns 'a window below a round' \
     "warning: topic[1].p3_window_ms, $listed$weights}]: it is below round_ms, which is 100: $late"
-  weights=', w3 = -1, p3_threshold = 9, p3_window_ms = 100' && warns 'a window of a round' ''
-  weights=', w3 = -1' && warns 'a window that nothing is missing in' ''
-  weights=', w3 = -1, p3_threshold = 9, topic_weight = 0' && warns 'a window of a topic without weight' ''
+  weights=', w3 = -2000, p3_threshold = 9000, p3_window_ms = 100' && warns 'a window of a round' ''
+  weights=', w3 = -2000' && warns 'a window that nothing is missing in' ''
+  weights=', w3 = -2000, p3_threshold = 9000, topic_weight = 0' && warns 'a window of a topic without weight' ''
   weights='' weightless='all weights are 0, so each score is 0 and this threshold does nothing'
   warns 'thresholds without weights' \
-    "warning: params.gossip_threshold, line 9: gossip_threshold = -5: $weightless" \
-    '[params]\nw6 = 0\nw7 = 0\ngossip_threshold = -5\ngraylist_threshold = -80_000_000'
-  warns 'thresholds with a weight' '' '[params]\nw6 = 0\ngossip_threshold = -5\n'
-  warns 'thresholds with values' '' '[params]\nw6 = 0\nw7 = 0\ngossip_threshold = -5\n[[app]]\nvalue = 1\n'
+    "warning: params.gossip_threshold, line 9: gossip_threshold = -5000: $weightless" \
+    '[params]\nw6 = 0\nw7 = 0\ngossip_threshold = -5000\ngraylist_threshold = -80_000_000'
+  warns 'thresholds with a weight' '' '[params]\nw6 = 0\ngossip_threshold = -5000\n'
+  warns 'thresholds with values' '' '[params]\nw6 = 0\nw7 = 0\ngossip_threshold = -5000\n[[app]]\nvalue = 1000\n'
   expect_like 'many doubts' 0 '*warning: there are 10 more warnings' '' pointed '' \
     "round_ms = 1\nrounds = 1\ntopic = []\npeer = [$(printf '{name = "%s"},' {1..60})]\n"
   points 'warnings of TOML 1.1' 'warning: this is no TOML 1.0, so there are no other warnings' '' 'a = {b = 1,}\n'
+}
+
+# Warnings of numbers: those that may be meant in ones, not in millionths, and shared addresses that cost nothing.
+check_numbers() {
+  local kind=warnings so='it counts millionths, so it is' peers most least
+  points 'numbers that are not in millionths' "warning: params.w7, line 2: params.w7 = -16: $so -0.000016; for -16 write -16000000
+warning: topic[0].topic_weight, line 5: topic_weight = 999: $so 0.000999; for 999 write 999000000
+warning: topic[0].w1, line 6: w1 = 99: $so 0.000099; for 99 write 99000000
+warning: app[0].value, line 11: value = 2: $so 0.000002; for 2 write 2000000" \
+    '' 'round_ms = 100\nparams.w7 = -16\npeer = []\n[[topic]]\ntopic_weight = 999\nw1 = 99\nw2 = 0\n[[topic]]\nname = "a"
+[[app]]\nvalue = 2\n'
+  points 'numbers that may be in millionths' '' '' \
+    'round_ms = 100\npeer = []\n[params]\ndecay_to_zero = 9\nd = 6\np7_decay = 1\n[[topic]]\nw1 = 100\nw4 = -1000\nw2 = 0\n'
+  peers='rounds = 9\nround_ms = 100\ntopic = []\ndial = [{from = "a", to = "b"}, {from = "c", to = "a"}]
+peer = [{name = "a"}, {name = "b", address = "x"}, {name = "c", address = "x"}]\n'
+  points 'an address of two, which cost' '' '' "$peers"
+  most='no peer has more than 2 neighbours at one address, and p6_threshold is 2'
+  most+=', so shared addresses cost nothing and w6 has no effect'
+  points 'an address of two, which cost nothing' "warning: params.p6_threshold, line 6: params.p6_threshold = 2: $most" '' \
+    "${peers}params.p6_threshold = 2\n"
+  least=${most//2/1}
+  least=${least/neighbours/neighbour}
+  points 'addresses that cost nothing by default' \
+    "warning: peer[1].address, line 5: peer = [{name = \"a\"}, {name = \"b\", address = \"x\"}, {name = \"c\", address = \"x\"}]: $least" \
+    '' "${peers/, to = \"a\"/, to = \"b\"}"
+  points 'addresses without w6' '' '' "${peers}params.p6_threshold = 2\nparams.w6 = 0\n"
 }
 
 # What the commands say, whose programs are the stand-ins.
@@ -200,4 +233,5 @@ check_points() {
   check_changed
   check_hints
   check_warnings
+  check_numbers
 }

@@ -169,6 +169,8 @@ class Plain(unittest.TestCase):
         invalid = [int(it["invalid"]) for name, it in peers.items() if name[0] in "ew"]
         self.assertEqual({it % 12 for it in invalid}, {0})
         self.assertEqual(sum(invalid), 10 * 3 * 12)
+        last = [it.split() for it in by_program("gossip_sim", text).splitlines() if it.startswith("score ")]
+        self.assertEqual({it[3] for it in last if it[2].startswith("sybil")}, {"-15978.309839"})
 
     def test_the_page_of_descriptions(self):
         with open(f"{TOP}/docs/DESCRIPTIONS.md", encoding="utf-8") as file:
