@@ -4,7 +4,7 @@ can be run, but does not do what it seems to. It is a script, and not proved.
 usage: point.py refusal|warnings ANSWER SCENARIO INPUT ORIGIN UNTIL [CHANGE..]
 
 ANSWER has the answer, and SCENARIO what was checked. INPUT is what the options changed into that, by each CHANGE and,
-where it is not empty, by UNTIL. ORIGIN is `description` where bin/scenario made INPUT, else `file`.
+where it is not empty, by UNTIL. ORIGIN is the description of which bin/scenario made INPUT, and empty where there is none.
 No line is named where it is not sure. It reads TOML 1.0, by Python 3.11 or later.
 """
 import re
@@ -16,6 +16,7 @@ if sys.version_info < (3, 11):
     sys.exit()
 import tomllib
 
+from described import Described
 from doubts import doubts
 from hints import OF_TOP, in_millionths, unknown_hint
 from spots import Spots, is_at, line_in, one_line, value_at
@@ -66,7 +67,7 @@ class Scenario:
         self.checked = Spots(checked)
         self.is_changed = bool(until or changes)
         self.given = Spots(given) if self.is_changed else self.checked
-        self.origin, self.until, self.changes = origin, until, changes
+        self.description, self.until, self.changes = Described(origin) if origin else None, until, changes
 
     def change_of(self, path):
         """The last change that made what is at a path, or a part of an element there; None where none did."""
@@ -93,8 +94,8 @@ class Scenario:
         """In which line a path stands, and what stands there, as `line 3: d = 6`; None where that is not sure."""
         if not self.is_changed or self.is_as_given(path):
             found, whose = self.given.line_at(path), ""
-            if self.origin == "description":
-                whose = " of what bin/scenario prints"
+            if self.description:
+                return self.description.line_of(path, self.given.document, found)
         else:
             found = None
         if found is None and self.is_changed:
@@ -124,7 +125,7 @@ def missing_in_top(scenario, key):
     header = spots.first_header()
     if header is not None:
         number, text = spots.line_at(header)
-        whose = " of what bin/scenario prints" if scenario.origin == "description" else ""
+        whose = " of what bin/scenario prints" if scenario.description else ""
         yield f"{key} goes above the first header, line {number}{whose}: {text}"
     if elsewhere and header is not None:
         yield scenario.pointer(min(elsewhere, key=spots.reader.begins.get))
@@ -187,7 +188,7 @@ def toml_lines(scenario, words):
     """The line in which the reader of TOML stops, of a scenario that is no TOML."""
     found = re.match(r"TOML parse error at line ([0-9]+), column [0-9]+\n", words)
     text = scenario.checked.text
-    if found and text and not scenario.is_changed and scenario.origin == "file":
+    if found and text and not scenario.is_changed and not scenario.description:
         number = int(found.group(1))
         shown = line_in(text, number)
         yield f"line {number}: {shown}" if shown else None

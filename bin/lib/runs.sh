@@ -157,9 +157,9 @@ prepare_scenario() {
 
 # Prints the lines of the scenario to which the answer of gossip_check points, or its warnings.
 point() {
-  local origin=file
+  local origin=
   command -v python3 >/dev/null || return 0
-  ! is_description "${files[0]--}" || origin=description
+  ! is_description "${files[0]--}" || origin=${files[0]}
   python3 "$top/bin/lib/point.py" "$1" "$room/answer" "$scenario" "$room/input" "$origin" "$until" "${edits[@]}"
 }
 

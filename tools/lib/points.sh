@@ -8,8 +8,19 @@ pointed() {
   printf '%b' "$1" >"$room/answer"
   printf '%b' "$2" >"$room/scenario"
   printf '%b' "${given-$2}" >"$room/given"
-  python3 "$top/bin/lib/point.py" "${kind-refusal}" "$room/answer" "$room/scenario" "$room/given" "${origin-file}" \
+  python3 "$top/bin/lib/point.py" "${kind-refusal}" "$room/answer" "$room/scenario" "$room/given" "${origin-}" \
     "${until-}" "${@:3}"
+}
+
+# described ANSWER DESCRIPTION [CHANGE..]: the same of a description, and of the plain scenario that comes of it.
+described() {
+  local origin=$room/it.toml given
+  printf '%b' "$2" >"$origin"
+  given=$("$top/bin/scenario" "$origin" 2>/dev/null) && pointed "$1" "${changed:-$given}" "${@:3}"
+}
+
+points_in_description() {
+  expect "$1" 0 "$2" '' described "${@:3}"
 }
 
 points() {
@@ -75,10 +86,30 @@ check_changed() {
   until=3
   points 'a line of a cut' "do[0].peer, line 3 $shown: peer = \"x\"" '30 do[0].peer\n' '[[do]]\nat = 1\npeer = "x"\n' do.0.peer=1
   points 'a parameter beside a cut' 'params.e, line 3: e = 5' '29 params.e\n' '[params]\nd = 6\ne = 5\n'
-  until='' origin=description
-  points 'a line of a description' 'params.e, line 3 of what bin/scenario prints: e = 5' '29 params.e\n' "$given"
-  points 'a change of a description' 'params.d, by the change params.d=7' '29 params.d\n' "$given" params.d=7
-  points 'a description that is no TOML' '' '26\nTOML parse error at line 1, column 1\nkey\n' 'a = = 1\n'
+}
+
+# Lines of a description: of keys that are handed through, and of what gave lines of the plain scenario.
+check_described() {
+  local text more printed='of what bin/scenario prints' changed kind
+  text='until = "2 s"\n[params]\nd = 6\n[[topic]]\nname = "news"\nw4 = -9000\n[[peer]]\nname = "a"\n[[group]]\nprefix = "b"\n'
+  text+='[[load]]\npeer = "b"\nat = "1 s"\n[[do]]\nat = "500 ms"\npeer = "a"\nwhat = "subscribe"\ntopic = "news"\n'
+  points_in_description 'a parameter of a description' 'params.d, line 3: d = 6' '29 params.d\n' "$text"
+  points_in_description 'a topic of a description' 'topic[0].w4, line 6: w4 = -9000' '29 topic[0].w4\n' "$text"
+  points_in_description 'a peer of a description' 'peer[0].name, line 8: name = "a"' '31 peer[0].name\n' "$text"
+  points_in_description 'a peer of a group' \
+    "peer[1].name, line 10: prefix = \"b\", which gives line 12 $printed: { name = \"b\" }," '31 peer[1].name\n' "$text"
+  points_in_description 'a line of a description' 'do[1].at, line 15: at = "500 ms"' '30 do[1].at\n' "$text"
+  more=$(described '30 do[2].at\n' "$text")
+  points_in_description 'a line of a load' \
+    "do[2].at, line 11: [[load]], which gives line 18 $printed: ${more##*"$printed": }" '30 do[2].at\n' "$text"
+  points_in_description 'the end of a description' "rounds, line 1: until = \"2 s\", which gives line 5 $printed: rounds = 20" \
+    '29 rounds\n' "$text"
+  points_in_description 'what a description leaves out' "capacity, line 7 $printed: capacity = 64" '29 capacity\n' "$text"
+  points_in_description 'a parameter by name' \
+    "params.d_low, line 1: params_from = \"filecoin\", which gives line 23 $printed: d_low = 6" \
+    '29 params.d_low\n' "params_from = \"filecoin\"\n${text//news/msgs}"
+  changed='[params]\nd = 7\n'
+  points_in_description 'a change of a description' 'params.d, by the change params.d=7' '29 params.d\n' "$text" params.d=7
 }
 
 # Prints the keys and names of docs/COVERAGE.md whose hint is another one.
@@ -231,6 +262,7 @@ check_points() {
   check_places
   check_refusals
   check_changed
+  check_described
   check_hints
   check_warnings
   check_numbers

@@ -135,7 +135,8 @@ def add_lines(world, lists, found):
 
 
 def scenario_of(description, options, say):
-    """The plain scenario of a description, and the comments of its keys. What it can't have is said."""
+    """The plain scenario of a description, the comments of its keys, and where its peers and its lines come from: a path of
+    the description for each. What it can't have is said."""
     top = Fields(description, (), TOP)
     setting = setting_of(top, options.seed)
     world, lists = World(setting), checked_lists(top)
@@ -155,10 +156,12 @@ def scenario_of(description, options, say):
         "explicit": opinions(world, "explicit", lists["explicit"], found),
     }
     add_lines(world, lists, found)
-    scenario["do"] = sorted(world.lines, key=lambda it: it["at"])
+    order = sorted(range(len(world.lines)), key=lambda it: world.lines[it]["at"])
+    scenario["do"] = [world.lines[it] for it in order]
+    origins = {"peer": world.peer_paths, "do": [world.line_paths[it] for it in order]}
     source = options.params or (top.text("params_from") if top.has("params_from") else None)
     comments = presets.apply(scenario, description, source, options, say)
-    return scenario, comments
+    return scenario, comments, origins
 
 
 def read(text, end):

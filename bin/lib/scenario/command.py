@@ -158,7 +158,7 @@ def scenario_in(options, data):
     if options.params is None and not set(description) & set(build.OF_DESCRIPTIONS):
         return data
     try:
-        scenario, comments = build.scenario_of(description, options, say)
+        scenario, comments, _ = build.scenario_of(description, options, say)
     except Fault as fault:
         return explain(options, places_in(text), fault)
     printed = scenario_text(scenario, comments, heading(options, data)).encode()

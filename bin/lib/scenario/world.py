@@ -18,6 +18,8 @@ class World:
         self.peers, self.groups, self.network, self.topics = {}, {}, [], {}
         self.dials, self.subscribed, self.lines, self.published = {}, {}, [], []
         self.payloads, self.size = set(), 0
+        # (which part of the description each peer and each line comes from)
+        self.peer_paths, self.line_paths = [], []
 
     def add_peer(self, path, table, is_in_network):
         name = table["name"]
@@ -26,6 +28,7 @@ class World:
         if len(self.peers) == MOST_PEERS:
             raise Fault(path, f"a scenario has at most {MOST_PEERS} peers")
         self.peers[name] = table
+        self.peer_paths.append(path)
         if is_in_network:
             self.network.append(name)
 
@@ -87,6 +90,7 @@ class World:
             raise Fault(path, f"the scenario would have more than {MOST_BYTES} bytes, which is all that is read")
         if line["at"] <= self.setting.rounds:
             self.lines.append(line)
+            self.line_paths.append(path)
 
     def publish(self, path, at, peer, topic, payload):
         """Adds a publication. A payload may be published once: its SHA-256 is the message's identifier."""
