@@ -21,15 +21,15 @@ print_options() {
   --seed N          with this seed,
   --set KEY=VALUE   with another value of any key, written as in TOML, as params.flood_publish=false;
                     these four can be repeated
-  --until ROUND     up to this round: the scenario is cut there, and later lines are left out
+  --until ROUND     up to this round, or to a time, as "150 s": the scenario is cut there, and later lines are left out
   --words           says of a refused scenario why and in which line, in words on standard error, as on a terminal
   --proved          runs only proved programs
   --help, -h        prints this
   --version, -V     prints the commit and the Rattle kit
   --                ends the options
 
-A program that is not proved yet is compiled, with checks at run time, in about two minutes, once for its sources. Standard
-error says so. bin/build proves and builds the programs.
+A program that is not proved yet is compiled, with checks at run time, in about a minute, once for its sources. Standard error
+says so. bin/build proves and builds the programs; bin/build --unproved compiles them all at once.
 
 Status: 0 $1; 1 the scenario is refused, or can't be changed so; 2 there
 was no memory, or no thread; 3 input or output failed; 4 the program is not built, with --proved, or can't be
@@ -65,7 +65,8 @@ change() {
 }
 
 cut_at() {
-  [[ $1 =~ ^[1-9][0-9]{0,5}$ ]] || stop 64 '--until takes a round, from 1 to 999999; --help says more'
+  local when='^([1-9][0-9]{0,5}|[0-9]{1,9}(\.[0-9]{1,9})? ?(ms|s|min|h))$'
+  [[ $1 =~ $when ]] || stop 64 '--until takes a round, from 1 to 999999, or a time, as "150 s"; --help says more'
   until=$1
 }
 

@@ -93,24 +93,23 @@ answered() {
 }
 
 # A description on standard input, from a pipe.
-described() {
+piped_description() {
   printf '[[group]]\n' | answer='27 group\nin words\n' in_tree "tried=$1" "${@:2}"
 }
 
 # And from a file, by proved programs, with nothing that reads it twice.
-described_in_file() {
+description_in_file() {
   printf '[[group]]\n' >"$room/described"
   in_tree tried=1 "$@" <"$room/described"
 }
 
 # What is said of these programs where they are not proved.
 unproved() {
-  printf '%s\n' "gossip_sim: this $1 does not come from a proved program: $2" \
-    'gossip_sim: to get the proved program, run bin/build, which takes half an hour on four processors'
+  echo "gossip_sim: this $1 does not come from a proved program: $2 (bin/build proves it, in half an hour)"
 }
 
 compiling() {
-  echo "gossip_sim: compiling $1 without proof, which takes about two minutes"
+  echo "gossip_sim: compiling $1 without proof, which takes about ${2-a minute}"
 }
 
 # What is run where nothing is proved.
@@ -120,14 +119,14 @@ check_unproved() {
   expect 'a report without proof' 0 'gossip_sim  scenario' "$said"$'\n'"$(compiling gossip_sim)"$'\ntold by gossip_sim' tried 0
   expect 'a status without proof' 2 'gossip_sim  scenario' "$said"$'\ntold by gossip_sim' tried 2
   expect 'words without proof' 1 'gossip_sim  scenario' \
-    "$said"$'\ntold by gossip_sim\n'"$(compiling gossip_check)"$'\ntold by gossip_check\nin words' tried 1 --words
+    "$said"$'\ntold by gossip_sim\n'"$(compiling gossip_check 'half a minute')"$'\ntold by gossip_check\nin words' tried 1 --words
   expect 'words without proof again' 1 'gossip_sim  scenario' "$said"$'\ntold by gossip_sim\ntold by gossip_check\nin words' \
     tried 1 --words
   expect 'an answer without proof' 0 $'gossip_check  scenario\nin words' \
     "$(unproved answer 'gossip_check is not built')"$'\ntold by gossip_check\nwarning: this is no TOML 1.0, so there are no other warnings' \
     tried 0 --check
   expect 'a change without proof' 0 'gossip_sim  gossip_edit seed=2 scenario' \
-    "$(unproved report "gossip_edit is not built, and $one"; compiling gossip_edit)"$'\ntold by gossip_edit\ntold by gossip_sim' \
+    "$(unproved report "gossip_edit is not built, and $one"; compiling gossip_edit 'half a minute')"$'\ntold by gossip_edit\ntold by gossip_sim' \
     tried 0 --seed 2
   expect 'a print without proof' 64 '' "$(unproved scenario 'gossip_edit is not built')"$'\ntold by gossip_edit' \
     tried 64 --print --seed 2
@@ -147,11 +146,11 @@ check_unproved() {
   expect 'a closed output without proof' 3 '' "$said"$'\noutput failed' tried_to_closed_output
   expect 'a closed input without proof' 3 '' "$said"$'\ninput failed' tried_from_closed_input
   said='*in words*: this looks like a description, and from standard input or a pipe none is read: bin/scenario - | bin/'
-  expect_like 'a description from a pipe' 1 '*' "${said#\*in words}gossip_sim" described 1 gossip_sim
-  expect_like 'its words' 1 '*' "${said}gossip_sim" described 1 gossip_sim --words
-  expect_like 'its check' 1 $'27 group\nin words\ngroup, line 1: [[group]]' "*${said#\*in words}gossip_sim" described 1 gossip_sim --check -
-  expect_like 'its figures' 1 '*' "${said#\*in words}gossip_stats" described 1 gossip_stats
-  expect_like 'a description as standard input' 1 '*' "${said#\*in words}gossip_sim" described_in_file gossip_sim
+  expect_like 'a description from a pipe' 1 '*' "${said#\*in words}gossip_sim" piped_description 1 gossip_sim
+  expect_like 'its words' 1 '*' "${said}gossip_sim" piped_description 1 gossip_sim --words
+  expect_like 'its check' 1 $'27 group\nin words\ngroup, line 1: [[group]]' "*${said#\*in words}gossip_sim" piped_description 1 gossip_sim --check -
+  expect_like 'its figures' 1 '*' "${said#\*in words}gossip_stats" piped_description 1 gossip_stats
+  expect_like 'a description as standard input' 1 '*' "${said#\*in words}gossip_sim" description_in_file gossip_sim
   expect 'nothing proved to run' 4 '' "gossip_sim: $one: bin/build proves and builds it" tried 0 --proved
   expect 'nothing proved to sweep' 4 '' \
     'sweep: gossip_edit is not built, and gossip_stats is not built: bin/build proves and builds it' \

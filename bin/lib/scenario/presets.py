@@ -31,6 +31,7 @@ class Preset:
             self.take_file(os.path.join(options.folder_of(source), source))
         else:
             raise Fault(("params_from",), unknown(source, [*published.NETWORKS, "a file with .json at its end"]))
+        self.reader.say_lacking()
 
     def take_network(self, network):
         groups = {it: published.values_of(network[it]) for it in ("params", "thresholds", "scores")}
