@@ -148,7 +148,7 @@ check_unproved() {
   said='*in words*: this looks like a description, and from standard input or a pipe none is read: bin/scenario - | bin/'
   expect_like 'a description from a pipe' 1 '*' "${said#\*in words}gossip_sim" piped_description 1 gossip_sim
   expect_like 'its words' 1 '*' "${said}gossip_sim" piped_description 1 gossip_sim --words
-  expect_like 'its check' 1 $'27 group\nin words\ngroup, line 1: [[group]]' "*${said#\*in words}gossip_sim" piped_description 1 gossip_sim --check -
+  expect_like 'its check' 1 '27 group*' "*${said#\*in words}gossip_sim" piped_description 1 gossip_sim --check -
   expect_like 'its figures' 1 '*' "${said#\*in words}gossip_stats" piped_description 1 gossip_stats
   expect_like 'a description as standard input' 1 '*' "${said#\*in words}gossip_sim" description_in_file gossip_sim
   expect 'nothing proved to run' 4 '' "gossip_sim: $one: bin/build proves and builds it" tried 0 --proved
@@ -158,6 +158,25 @@ check_unproved() {
   expect_like 'a sweep without proof' 1 $'seed,status,message,proved,*\n1,5,told by gossip_edit,no,*' \
     'sweep: this sweep does not come from a proved program: gossip_edit is not built, and gossip_stats is not built*1 of 1 runs *' \
     in_tree tried=5 sweep --seeds 1 "$example"
+}
+
+# bin/build --unproved, twice.
+check_compiled() {
+  local said='build: compiled without proof, or proved before:' all='gossip_sim gossip_check gossip_edit gossip_stats gossip_picture'
+  rm -rf "$room/tree/out/unproved"
+  expect 'a build without proof' 0 '' \
+    "build: compiling ${all// / and } without proof, which takes about a minute"$'\n'"$said $all" in_tree tried=0 build --unproved
+  expect 'a build without proof again' 0 '' "$said $all" in_tree tried=none build --unproved
+  expect 'a run of what was so built' 0 'gossip_sim  scenario' \
+    "$(unproved report 'gossip_sim is not built')"$'\ntold by gossip_sim' tried 0
+  rm -rf "$room/tree/out/unproved"
+  expect 'a build without proof of one' 0 '' \
+    "build: compiling gossip_check without proof, which takes about half a minute"$'\n'"$said gossip_check" \
+    in_tree tried=0 build --unproved gossip_check
+  expect_like 'a build without proof that fails' 4 '' '*build: gossip_edit could not be compiled, as the lines above say' \
+    in_tree tried=none build --unproved gossip_edit
+  expect 'a build without proof by jobs' 64 '' 'build: --jobs and --unproved do not go together; --help says more' \
+    in_tree tried=0 build --jobs 2 --unproved
 }
 
 # bin/build, and what is run of what it built.
