@@ -2,7 +2,7 @@
 that gave it."""
 from scenario import build
 from scenario.command import Options
-from scenario.fault import Fault
+from scenario.fault import Fault, Faults
 from spots import Spots, is_at, value_at
 
 PRINTED = " of what bin/scenario prints"
@@ -30,7 +30,7 @@ class Described:
             text = data.decode("utf-8-sig").replace("\r\n", "\n")
             self.scenario, _, self.origins = build.scenario_of(build.read(text, refuse), options, lambda why: None)
             self.spots = Spots(data)
-        except (OSError, UnicodeDecodeError, Fault, Refused):
+        except (OSError, UnicodeDecodeError, Fault, Faults, Refused):
             pass
 
     def is_handed(self, path, document):

@@ -187,7 +187,10 @@ print_answer() {
   [ "$status" -ne 1 ] || point refusal >"$room/lines"
   cat "$room/answer" "$room/lines" 2>/dev/null || fail 'output failed'
   [ "$status" -ne 0 ] || point warnings >&2
-  [ "$status" -ne 1 ] || say_unexpanded "${files[0]--}"
+  if [ "$status" -eq 1 ]; then
+    echo "$tool: this is the first fault, and there may be more" >&2
+    say_unexpanded "${files[0]--}"
+  fi
   exit "$status"
 }
 

@@ -243,7 +243,8 @@ peer = [{name = "a"}, {name = "b", address = "x"}, {name = "c", address = "x"}]\
 
 # What the commands say, whose programs are the stand-ins.
 check_pointing() {
-  local said scenario='seed = 1\n[params]\nd = 70\n' words='29 params.d\nin words\n'
+  local first said scenario='seed = 1\n[params]\nd = 70\n' words='29 params.d\nin words\n'
+  first=$(unproved answer 'gossip_check is not built')$'\ngossip_sim: this is the first fault, and there may be more'
   said=$'told by gossip_sim\nin words\nparams.d, line 3: d = 70'
   expect_like 'words that point' 1 'gossip_sim  seed = 1*' "*$said" answered "$words" "$scenario" gossip_sim --words
   expect_like 'figures that are refused' 1 'gossip_stats  seed = 1*' "*${said/sim/stats}" \
@@ -251,11 +252,11 @@ check_pointing() {
   expect_like 'a picture that is refused' 1 'gossip_picture  seed = 1*' "*${said/sim/picture}" \
     answered "$words" "$scenario" gossip_picture --words
   expect_like 'a refusal without words' 1 'gossip_sim  seed = 1*' '*told by gossip_sim' answered "$words" "$scenario" gossip_sim
-  expect 'a check that points' 1 $'29 params.d\nin words\nparams.d, line 3: d = 70' "$(unproved answer 'gossip_check is not built')" \
+  expect 'a check that points' 1 $'29 params.d\nin words\nparams.d, line 3: d = 70' "$first" \
     answered "$words" "$scenario" gossip_sim --check
   expect 'a check of a cut' 1 \
     $'29 rounds\nrounds, line 1 of the changed scenario (bin/gossip_sim --print shows it): rounds = 5' \
-    "$(unproved answer 'gossip_check is not built')" answered '29 rounds\n' 'rounds = 9\n' gossip_sim --check --until 5
+    "$first" answered '29 rounds\n' 'rounds = 9\n' gossip_sim --check --until 5
 }
 
 check_points() {

@@ -148,7 +148,7 @@ check_unproved() {
   said='*in words*: this looks like a description, and from standard input or a pipe none is read: bin/scenario - | bin/'
   expect_like 'a description from a pipe' 1 '*' "${said#\*in words}gossip_sim" piped_description 1 gossip_sim
   expect_like 'its words' 1 '*' "${said}gossip_sim" piped_description 1 gossip_sim --words
-  expect_like 'its check' 1 '27 group*' "*${said#\*in words}gossip_sim" piped_description 1 gossip_sim --check -
+  expect_like 'its check' 1 '27 group*' "*there may be more*${said#\*in words}gossip_sim" piped_description 1 gossip_sim --check -
   expect_like 'its figures' 1 '*' "${said#\*in words}gossip_stats" piped_description 1 gossip_stats
   expect_like 'a description as standard input' 1 '*' "${said#\*in words}gossip_sim" description_in_file gossip_sim
   expect 'nothing proved to run' 4 '' "gossip_sim: $one: bin/build proves and builds it" tried 0 --proved

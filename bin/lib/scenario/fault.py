@@ -13,6 +13,14 @@ class Fault(Exception):
         self.path, self.why = tuple(path), why
 
 
+class Faults(Exception):
+    """Some refusals. Where the description was not read to its end, there may be more."""
+
+    def __init__(self, faults, is_all):
+        super().__init__()
+        self.faults, self.is_all = faults, is_all
+
+
 class Missing(Exception):
     """What is not installed, and how to get it."""
 

@@ -60,17 +60,23 @@ def rounds_of(value, round_ms, fail):
     return milliseconds // round_ms
 
 
+def key_faults(table, path, known, hints):
+    """What is wrong with the keys of a table: a refusal for each that is not known."""
+    if not isinstance(table, dict):
+        yield Fault(path, f"{shown(table)} is no table")
+        return
+    for key in table:
+        if key not in known:
+            yield Fault((*path, key), unknown(key, known, hints.get(key) or unknown_hint((*path, key))))
+
+
 class Fields:
     """A table, and the path that leads to it."""
 
     def __init__(self, table, path, known, round_ms=None, hints=None):
         self.table, self.path, self.round_ms = table, tuple(path), round_ms
-        if not isinstance(table, dict):
-            raise Fault(path, f"{shown(table)} is no table")
-        for key in table:
-            if key not in known:
-                hint = (hints or {}).get(key) or unknown_hint((*path, key))
-                raise Fault((*path, key), unknown(key, known, hint))
+        for it in key_faults(table, self.path, known, hints or {}):
+            raise it
 
     def fail(self, key, why):
         raise Fault((*self.path, key) if key in self.table else self.path, why if key in self.table else f"{key}: {why}")

@@ -87,15 +87,15 @@ def check_times(scenario):
             raise Fault(("round_ms",), f"{key} is {value}, which is no multiple of it, {scenario['round_ms']}")
 
 
-def check_numbers(fields):
-    """The values of parameters must be whole numbers. Of one that is none, and is in millionths, the words say these."""
-    for key, value in fields.table.items():
+def number_faults(table, path):
+    """A refusal for each value of a parameter that is no whole number. Of one that is in millionths the words say these."""
+    for key, value in table.items() if isinstance(table, dict) else ():
         if key in NO_NUMBERS or isinstance(value, int) and not isinstance(value, bool) and abs(value) <= 10**12:
             continue
         hint = whole_hint(key, value)
         if isinstance(value, Decimal) and value.is_finite() and abs(value) <= 10**6 and key in IN_MILLIONTHS:
             hint = f"; in millionths it is {go_params.millionths(value)}"
-        fields.fail(key, f"{shown(value)} must be a whole number{hint}")
+        yield Fault((*path, key), f"{shown(value)} must be a whole number{hint}")
 
 
 def topics_of(tables, preset, comments):
@@ -118,7 +118,6 @@ def apply(scenario, description, source, options, say):
     """Gives a scenario its `params` and its topics, and gives the comments of keys that come from a preset."""
     own, tables, comments = description.get("params", {}), description["topic"], {}
     fields = Fields(own, ("params",), PARAMS)
-    check_numbers(fields)
     fields.truth("flood_publish", None)
     if source is None:
         for place, table in enumerate(tables):

@@ -88,11 +88,15 @@ CASES = {
 }
 
 
+MORE = "scenario: it.toml was not read to its end, so there may be more faults\n"
+
+
 class Refusals(unittest.TestCase):
     def said(self, text, *words):
         ran = in_file(text, *words)
         self.assertEqual((ran.returncode, ran.stdout), (1, b""), text)
-        return ran.stderr.decode()
+        # (a fault of peers or networks ends the reading)
+        return ran.stderr.decode().removesuffix(MORE)
 
     def test_each_names_its_line(self):
         for text, why in CASES.items():
@@ -115,6 +119,25 @@ class Refusals(unittest.TestCase):
         }.items():
             self.assertEqual(self.said(text + rest), f"scenario: {why}\n", text)
         self.assertEqual(self.said("until = 5\n" + GROUP), "scenario: it.toml: topic is missing: there must be a [[topic]] at least\n")
+
+    def test_keys_and_numbers_are_refused_at_once(self):
+        text = HEAD + GROUP + "evry = 3\n[params]\nDlo = 4\nd = 6.0\n[[load]]\npeer = 3\nevry = 4\n"
+        said = [
+            'it.toml:8: [[group]] 1: evry: "evry" is not known here; of 13 that are, the nearest are stagger, network and from',
+            "it.toml:10: [params]: Dlo: \"Dlo\" is not known here; go-libp2p's Dlo is d_low of [params] here",
+            "it.toml:11: [params]: d: 6.0 must be a whole number; write 6",
+            'it.toml:14: [[load]] 1: evry: "evry" is not known here; the nearest is every',
+        ]
+        self.assertEqual(in_file(text).stderr.decode(), "".join(f"scenario: {it}\n" for it in said) + MORE)
+
+    def test_tables_of_the_script_are_refused_at_once(self):
+        text = HEAD + GROUP + '[[attack]]\nkind = "spam"\npeer = "x"\n[[load]]\npeer = "g"\nevery = 0\nat = 9\n'
+        said = ['it.toml:10: [[attack]] 1: peer: there is no peer and no group "x"', "it.toml:13: [[load]] 1: every: it does not go with at"]
+        self.assertEqual(in_file(text).stderr.decode(), "".join(f"scenario: {it}\n" for it in said))
+
+    def test_many_faults_are_not_all_shown(self):
+        said = in_file(HEAD + GROUP + "".join(f"a{it} = 1\n" for it in range(23))).stderr.decode().splitlines()
+        self.assertEqual((len(said), said[-2]), (22, "scenario: 3 more are not shown"))
 
     def test_the_limits(self):
         topics = "".join(f'[[topic]]\nname = "t{it}"\n' for it in range(33))
@@ -157,7 +180,8 @@ class Ends(unittest.TestCase):
 
     def test_standard_input(self):
         ran = run("-", stdin=b"until = 5\n[[group]]\n")
-        self.ends(ran, 1, "scenario: standard input: topic is missing: there must be a [[topic]] at least\n")
+        why = "scenario: standard input: topic is missing: there must be a [[topic]] at least\n"
+        self.ends(ran, 1, why + MORE.replace("it.toml", "standard input"))
 
     def test_a_full_output(self):
         with open("/dev/full", "wb") as full:

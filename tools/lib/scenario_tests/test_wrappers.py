@@ -58,6 +58,7 @@ class Wrappers(unittest.TestCase):
 
     def test_a_description_that_is_refused(self):
         why = 'scenario: no.toml:3: [network]: kind: "rnig" is not known here; the nearest is ring\n'
+        why += "scenario: no.toml was not read to its end, so there may be more faults\n"
         for it in SHELL:
             self.assertEqual(self.run_in_tree(it, "--proved", "no.toml"), (1, b"", why), it)
         self.assertEqual(self.run_in_tree("sweep", "no.toml"), (1, b"", why))
