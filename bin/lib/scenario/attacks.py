@@ -56,7 +56,7 @@ class Attack:
     def flood(self, rpc_of):
         """Sends RPCs, `count` of them at each moment on each link."""
         count = self.fields.whole("count", 1, 10_000, 1)
-        for at in moments(self.world, self.fields):
+        for at in self.world.each(moments(self.world, self.fields)):
             self.put(at, lambda at=at: b"".join(wire.frame(rpc_of(at)) for _ in range(count)))
 
 

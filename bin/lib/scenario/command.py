@@ -156,7 +156,7 @@ def syntax_fault(options, why):
 def text_of(options, data):
     """A description as a text."""
     if len(data) > MOST_BYTES:
-        stop(1, f"{name_of(options)}: a description has at most {MOST_BYTES} bytes")
+        stop(1, f"{name_of(options)}: a description has at most {MOST_BYTES:,} bytes")
     try:
         return data.decode("utf-8-sig").replace("\r\n", "\n")
     except UnicodeDecodeError:
@@ -179,7 +179,7 @@ def scenario_in(options, data):
         return explain_all(options, places_in(text), [fault], False)
     printed = scenario_text(scenario, comments, heading(options, data)).encode()
     if len(printed) > MOST_BYTES:
-        stop(1, f"{name_of(options)}: the scenario would have more than {MOST_BYTES} bytes, which is all that is read")
+        stop(1, f"{name_of(options)}: the scenario has {len(printed):,} bytes, and only {MOST_BYTES:,} are read: shorten the script")
     return printed
 
 

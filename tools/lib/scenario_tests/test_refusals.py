@@ -144,8 +144,25 @@ class Refusals(unittest.TestCase):
         self.assertEqual(self.said("until = 5\n" + GROUP + topics), "scenario: it.toml:70: [[topic]] 33: a scenario has at most 32 of them\n")
         self.assertTrue(printed("until = 5\n" + GROUP + topics[: topics.rindex("[[topic]]")]))
         load = '[[load]]\npeer = "g"\nevery = 1\nsize = 100000\n'
-        more = "the scenario would have more than 8388608 bytes, which is all that is read"
-        self.assertEqual(self.said(HEAD + GROUP + load), f"scenario: it.toml:8: [[load]] 1: {more}\n")
+        # (101 payloads of 100,000 bytes, in hex)
+        more = "with it the scenario has about 20,2..,... bytes, and only 8,388,608 are read; a longer every or a smaller size makes it less"
+        flood = '[[attack]]\nkind = "ihave_flood"\npeer = "g1"\nevery = 1\nids = 3000\n'
+        less = more.replace("20,2..,...", "20,6..,...").replace("a longer every or a smaller", "fewer links .to., a longer every, or a smaller count, ids or")
+        said = self.said(HEAD + GROUP + load + flood + "to = 'g2'\n" + '[[load]]\npeer = "g1"\nat = 3\n')
+        self.assertRegex(said, rf"^scenario: it.toml:8: \[\[load\]\] 1: {more}\nscenario: it.toml:12: \[\[attack\]\] 1: {less}\n$")
+
+    def test_the_least_of_each_number(self):
+        clusters = '[network]\nkind = "clusters"\nclusters = 2\ndegree = 2\n'
+        for text, key in (
+            (clusters + "bridges = 0\n" + GROUP, "bridges: 0 must be a whole number from 1 to 2"),
+            (clusters.replace("clusters = 2", "clusters = 0") + GROUP, "clusters: 0 must be a whole number from 1 to 3"),
+            (GROUP + "dials_each = 0\n", "dials_each: 0 must be a whole number from 1 to 64"),
+            (GROUP + "addresses = 0\n", "addresses: 0 must be a whole number from 1 to 64"),
+            (GROUP + '[[attack]]\nkind = "spam"\npeer = "g1"\nevery = 3\ncount = 0\n', "count: 0 must be a whole number from 1 to 10000"),
+            (GROUP + '[[attack]]\nkind = "ihave_flood"\npeer = "g1"\nevery = 3\nids = 0\n', "ids: 0 must be a whole number from 1 to 5000"),
+            (GROUP + '[[send]]\npeer = "g1"\nat = 3\ncount = 0\n', "count: 0 must be a whole number from 1 to 10000"),
+        ):
+            self.assertTrue(self.said(HEAD + text).endswith(f": {key}\n"), self.said(HEAD + text))
 
     def test_intervals_must_be_whole_rounds(self):
         why = self.said('until = "7 s"\nround_ms = 1000\nparams_from = "ethereum"\n[[topic]]\nname = "news"\n' + GROUP)
