@@ -18,9 +18,24 @@ say_unexpanded() {
   fi
 }
 
+# Refuses changes of keys that only descriptions have: they are expanded before any change is made.
+refuse_edits() {
+  local it key
+  for it in "${edits[@]}"; do
+    key=${it%%=*}
+    case ${key%%.*} in
+      network | group | load | attack | send | partition | params_from | until)
+        stop 64 "$key: ${key%%.*} is a key of the description, which is expanded before --set; change it in $1, or take seeds of \
+the network by bin/sweep --networks"
+        ;;
+    esac
+  done
+}
+
 # Makes the plain scenario of a description the standard input, or ends as bin/scenario does.
 expand() {
   local plain
+  refuse_edits "$1"
   plain=$("$top/bin/scenario" -- "$1") || exit
   exec <<<"$plain"
 }
