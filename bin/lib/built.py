@@ -17,8 +17,8 @@ def lack_of(top, crate):
 
 
 def ready(top, tool, what, crates, option=None):
-    """The program of each crate, proved or not, by an option of bin/lib/ready. Ends the script where there is none, which is
-    said on standard error."""
+    """The program of each crate, proved or not, by an option of bin/lib/ready. Ends the script where there is none, which
+    is said on standard error."""
     words = [f"{top}/bin/lib/ready", *([option] if option else []), tool, what, *crates]
     ran = subprocess.run(words, stdout=subprocess.PIPE, stdin=subprocess.DEVNULL, check=False)
     if ran.returncode:

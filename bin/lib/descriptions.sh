@@ -13,20 +13,20 @@ is_description() {
 
 # Says of a refused input which is no file that it looks like a description. A file that is one was expanded before.
 say_unexpanded() {
+  local why='this looks like a description, and from standard input or a pipe none is read'
   if ! is_description "$1" && has_header "$room/input"; then
-    echo "$tool: this looks like a description, and from standard input or a pipe none is read: bin/scenario - | bin/$tool" >&2
+    echo "$tool: $why: bin/scenario - | bin/$tool" >&2
   fi
 }
 
 # Refuses changes of keys that only descriptions have: they are expanded before any change is made.
 refuse_edits() {
-  local it key
+  local it key part why='is a key of the description, which is expanded before --set'
   for it in "${edits[@]}"; do
-    key=${it%%=*}
-    case ${key%%.*} in
+    key=${it%%=*} part=${it%%[.=]*}
+    case $part in
       network | group | load | attack | send | partition | params_from | until)
-        stop 64 "$key: ${key%%.*} is a key of the description, which is expanded before --set; change it in $1, or take seeds of \
-the network by bin/sweep --networks"
+        stop 64 "$key: $part $why; change it in $1, or take seeds of the network by bin/sweep --networks"
         ;;
     esac
   done

@@ -12,7 +12,7 @@ DEFAULTS = {
 }
 OF_A_TOPIC = "w1", "w2", "w3", "w3b", "w4"
 # The weights, thresholds and caps. (A counter that is as good as 0 may well be a millionth.)
-SIZES = {it.name for names in (SCORES, THRESHOLDS, TOPIC) for it in names.values() if it.unit == "millionths"} - {"decay_to_zero"}
+SIZES = {it.name for it in {**SCORES, **THRESHOLDS, **TOPIC}.values() if it.unit == "millionths"} - {"decay_to_zero"}
 # Below this many millionths the whole number itself is likely to be meant. (Filecoin's w1 is 270.)
 SMALL, SMALL_W1 = 1_000, 100
 

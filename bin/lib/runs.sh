@@ -28,8 +28,8 @@ print_options() {
   --version, -V     prints the commit and the Rattle kit
   --                ends the options
 
-A program that is not proved yet is compiled, with checks at run time, in about a minute, once for its sources. Standard error
-says so. bin/build proves and builds the programs; bin/build --unproved compiles them all at once.
+A program that is not proved yet is compiled, with checks at run time, in about a minute, once for its sources. Standard
+error says so. bin/build proves and builds the programs; bin/build --unproved compiles them all at once.
 
 Status: 0 $1; 1 the scenario is refused, or can't be changed so; 2 there
 was no memory, or no thread; 3 input or output failed; 4 the program is not built, with --proved, or can't be

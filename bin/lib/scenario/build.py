@@ -14,8 +14,9 @@ TOP = [*plain.TOP, *OF_DESCRIPTIONS]
 OPINIONS = {"app": (plain.APP, groups.app_scores), "explicit": (plain.EXPLICIT, groups.agreements)}
 LISTS = "topic peer dial app explicit do group load attack send partition".split()
 # The keys of a list's tables. Those of an attack and of a line depend on its kind.
-KEYS = {"topic": [*plain.TOPIC, "like"], "peer": plain.PEER, "dial": plain.DIAL, "app": plain.APP, "explicit": plain.EXPLICIT}
-KEYS |= {"do": plain.DO, "group": groups.GROUP, "load": loads.LOAD, "send": loads.SEND, "partition": attacks.PARTITION}
+KEYS = {"topic": [*plain.TOPIC, "like"], "peer": plain.PEER, "dial": plain.DIAL, "do": plain.DO, "app": plain.APP}
+KEYS |= {"explicit": plain.EXPLICIT, "group": groups.GROUP, "load": loads.LOAD, "send": loads.SEND}
+KEYS["partition"] = attacks.PARTITION
 
 
 def setting_of(top, seed):
@@ -144,8 +145,8 @@ def first_faults(description, lists):
 
 
 def add_lines(world, lists, found):
-    """Adds the script: what groups subscribe to, the lines of the file, loads, attacks, RPCs and partitions. Of each table the
-    first fault is told."""
+    """Adds the script: what groups subscribe to, the lines of the file, loads, attacks, RPCs and partitions. Of each table
+    the first fault is told."""
     for fields, names in found:
         is_quiet = attacks.is_quiet(lists["attack"], fields.text("prefix"))
         groups.subscribe(world, fields, names, is_quiet)
@@ -170,7 +171,7 @@ def add_lines(world, lists, found):
 def scenario_of(description, options, say):
     """The plain scenario of a description, the comments of its keys, and where its peers and its lines come from: a path of
     the description for each. What it can't have is said."""
-    faults = first_faults(description, {it: description.get(it, []) for it in LISTS if isinstance(description.get(it), list)})
+    faults = first_faults(description, {it: description[it] for it in LISTS if isinstance(description.get(it), list)})
     if faults:
         raise Faults(faults, False)
     top = Fields(description, (), TOP)

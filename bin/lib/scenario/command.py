@@ -179,7 +179,8 @@ def scenario_in(options, data):
         return explain_all(options, places_in(text), [fault], False)
     printed = scenario_text(scenario, comments, heading(options, data)).encode()
     if len(printed) > MOST_BYTES:
-        stop(1, f"{name_of(options)}: the scenario has {len(printed):,} bytes, and only {MOST_BYTES:,} are read: shorten the script")
+        many = f"the scenario has {len(printed):,} bytes, and only {MOST_BYTES:,} are read"
+        stop(1, f"{name_of(options)}: {many}: shorten the script")
     return printed
 
 

@@ -94,7 +94,7 @@ class World:
         self.done = 0
 
     def too_much(self, path):
-        """Refuses a table by which the scenario has too many bytes. It tells how many they would be, by its moments so far."""
+        """Refuses a table by which the scenario has too many bytes. It tells how many they would be, by those so far."""
         less = {"load": "a longer every or a smaller size", "send": "fewer links (to), a longer every or a smaller count"}
         less["attack"] = "fewer links (to), a longer every, or a smaller count, ids or size"
         many = f"more than {self.size:,}"

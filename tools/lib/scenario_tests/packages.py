@@ -1,4 +1,4 @@
-"""Packages that only tests use: networkx, and protobuf's own library, which reads and writes RPCs beside bin/lib/scenario."""
+"""Packages that only tests use: networkx, and protobuf's own library, which reads and writes RPCs beside wire.py."""
 import functools
 import importlib
 import sys
