@@ -149,7 +149,6 @@ is_as_it_comes() {
 
 # Makes the scenario that is run: a copy of the input, with the changes that the options make. It is standard input then.
 prepare_scenario() {
-  ! is_description "${files[0]--}" || expand "${files[0]}"
   keep_input
   [ ${#edits[@]} -eq 0 ] || change_input
   [ -z "$until" ] || cut_input
@@ -208,6 +207,8 @@ run_changed() {
   fi
   guarded "${words[@]}"
   room=$TMPDIR
+  # (what is wrong with a description is said before anything is compiled)
+  ! is_description "${files[0]--}" || expand "${files[0]}"
   say_unproved
   compile_missing "${programs[@]}"
   say_reading

@@ -150,6 +150,10 @@ check_unproved() {
   expect_like 'its words' 1 '*' "${said}gossip_sim" piped_description 1 gossip_sim --words
   expect_like 'its check' 1 '27 group*' "*there may be more*${said#\*in words}gossip_sim" piped_description 1 gossip_sim --check -
   expect_like 'its figures' 1 '*' "${said#\*in words}gossip_stats" piped_description 1 gossip_stats
+  printf '[[group]]\nprefx = "a"\n' >"$room/misspelt"
+  expect 'a description that is refused before anything is compiled' 1 '' \
+    "scenario: $room/misspelt:2: [[group]] 1: prefx: \"prefx\" is not known here; the nearest is prefix
+scenario: $room/misspelt was not read to its end, so there may be more faults" in_tree tried=none gossip_sim "$room/misspelt"
   expect_like 'a description as standard input' 1 '*' "${said#\*in words}gossip_sim" description_in_file gossip_sim
   expect 'nothing proved to run' 4 '' "gossip_sim: $one: bin/build proves and builds it" tried 0 --proved
   expect 'nothing proved to sweep' 4 '' \
