@@ -9,6 +9,7 @@ No line is named where it is not sure. It reads TOML 1.0, by Python 3.11 or late
 """
 import re
 import sys
+from decimal import Decimal
 
 sys.dont_write_bytecode = True
 if sys.version_info < (3, 11):
@@ -19,9 +20,12 @@ import tomllib
 from described import Described
 from doubts import doubts
 from hints import OF_TOP, in_millionths, unknown_hint
+from scenario import build
+from scenario.fields import whole_hint
 from spots import Spots, is_at, line_in, one_line, value_at
 
-MOST_WARNINGS = 50
+MOST_WARNINGS, MOST_MORE = 50, 20
+LONGEST_WHY = 300  # characters of what is said of another fault
 LISTS = "topic", "peer", "dial", "app", "explicit", "do"
 PLACE = re.compile(rf"(params|({'|'.join(LISTS)})\[([0-9]+)\])(?:\.(.*))?")
 # What makes an element the same as an earlier one.
@@ -176,12 +180,27 @@ def hint_of(scenario, number, path):
     if document is None or not is_at(document, path):
         return None
     value = value_at(document, path)
-    if number == 29 and isinstance(value, float):
-        return in_millionths(path, scenario.checked.raw_at(path) or "")
+    if number == 29:
+        found = in_millionths(path, scenario.checked.raw_at(path) or "") if isinstance(value, float) else None
+        exact = Decimal(str(value)) if isinstance(value, float) else value
+        return found or whole_hint(path[-1], exact).lstrip("; ") or None
     if number in (1, 2, 3, 4) and isinstance(value, int) and 0 < abs(value) < 10**6:
         found = in_millionths(path, str(value))
         return found and found.replace("millionths:", f"millionths, {value} is")
     return None
+
+
+def more_faults(scenario, path):
+    """What else is wrong with keys, and with the numbers of parameters. (Of a description bin/scenario has said it.)"""
+    if scenario.checked.document is None or scenario.description:
+        return
+    document = build.read(scenario.checked.text, list)
+    lists = {it: document[it] for it in LISTS if isinstance(document.get(it), list)}
+    found = [it for it in build.first_faults(document, lists) if it.path != path]
+    for it in found[:MOST_MORE]:
+        yield f"also {scenario.pointer(it.path) or place_of(it.path)}: {one_line(it.why, LONGEST_WHY)}"
+    if len(found) > MOST_MORE:
+        yield f"also {len(found) - MOST_MORE} more of this kind"
 
 
 def toml_lines(scenario, words):
@@ -212,6 +231,8 @@ def of_refusal(scenario, answer):
     path = path_of(place, number == 27 and "` is no key of the top table" in words)
     yield from lines_of(scenario, number, path, words)
     yield hint_of(scenario, number, path)
+    if number == 27 or (number == 29 and path[0] in ("params", "topic")):
+        yield from more_faults(scenario, path)
 
 
 def of_warnings(scenario):

@@ -151,7 +151,7 @@ check_hints() {
     '27 params.w4\n' '[params]\nw4 = 1\n'
   points 'millionths' $'params.gossip_factor, line 2: gossip_factor = 0.25\nin millionths: 250000' '29 params.gossip_factor\n' \
     '[params]\ngossip_factor = 0.25 # a part\n'
-  points 'a number that counts no millionths' 'params.d, line 2: d = 6.0' '29 params.d\n' '[params]\nd = 6.0\n'
+  points 'a number that counts no millionths' $'params.d, line 2: d = 6.0\nwrite 6' '29 params.d\n' '[params]\nd = 6.0\n'
   points 'a threshold that is not in millionths' $'params.graylist_threshold, line 2: graylist_threshold = -16000
 in millionths, -16000 is -16000000000' \
     '3\n`params.graylist_threshold` is -16000: it must not be above `publish_threshold`, which is -50000000\n' \
@@ -159,6 +159,16 @@ in millionths, -16000 is -16000000000' \
   points 'a threshold in millionths' 'params.graylist_threshold, line 2: graylist_threshold = -1_600_000' \
     '3\n`params.graylist_threshold` is -1600000: it must not be above `publish_threshold`, which is -50000000\n' \
     '[params]\ngraylist_threshold = -1_600_000\n'
+  points 'a number with a unit' $'params.heartbeat_ms, line 2: heartbeat_ms = "0.7 s"\nwrite 700, in milliseconds' \
+    '29 params.heartbeat_ms\n' '[params]\nheartbeat_ms = "0.7 s"\n'
+  points 'other faults of the same kind' "params.D, line 2: D = 8
+go-libp2p's D is d of [params] here
+also topic[0].w_4, line 6: w_4 = 1: \"w_4\" is not known here; the nearest is w4
+also do[0].topik, line 9: topik = \"a\": \"topik\" is not known here; the nearest is topic
+also params.d_low, line 3: d_low = 6.0: 6.0 must be a whole number; write 6" \
+    '27 params.D\n' '[params]\nD = 8\nd_low = 6.0\n[[topic]]\nname = "a"\nw_4 = 1\n[[do]]\nwhat = "publish"\ntopik = "a"\n'
+  expect_like 'many other faults' 0 '*also 3 more of this kind' '' pointed '27 a\n`a` is no key of the top table\n' \
+    "a = 1\n$(printf 'a%d = 1\\n' {1..23})"
   points 'a number without an end' 'params.w5, line 2: w5 = inf' '29 params.w5\n' '[params]\nw5 = inf\n'
 }
 

@@ -23,9 +23,9 @@ def whole_hint(key, value):
         return ""
     milliseconds = milliseconds_of(value)
     if milliseconds is not None and key.endswith("_ms"):
-        return f", of milliseconds; write {milliseconds}"
+        return f"; write {milliseconds}, in milliseconds"
     if milliseconds is not None and key.endswith("_s") and milliseconds % 1_000 == 0:
-        return f", of seconds; write {milliseconds // 1_000}"
+        return f"; write {milliseconds // 1_000}, in seconds"
     return f"; write {int(value)}" if re.fullmatch("-?[0-9]{1,12}", value) else ""
 
 

@@ -8,8 +8,8 @@ from .fault import Fault, unknown
 from .fields import Fields, is_name, shown, whole_hint
 from .plain import PARAMS, TOPIC
 
-# Keys of [params] and of topics that hold no number, and those that hold millionths.
-NO_NUMBERS = "name", "like", "reject", "ignore", "flood_publish"
+# Keys of [params] and of topics that hold a number, and those that hold millionths.
+NUMBERS = {*PARAMS, *TOPIC} - {"name", "reject", "ignore", "flood_publish"}
 IN_MILLIONTHS = {
     key.name
     for keys in (go_params.PARAMS, go_params.THRESHOLDS, go_params.SCORES, go_params.TOPIC)
@@ -90,7 +90,7 @@ def check_times(scenario):
 def number_faults(table, path):
     """A refusal for each value of a parameter that is no whole number. Of one that is in millionths the words say these."""
     for key, value in table.items() if isinstance(table, dict) else ():
-        if key in NO_NUMBERS or isinstance(value, int) and not isinstance(value, bool) and abs(value) <= 10**12:
+        if key not in NUMBERS or isinstance(value, int) and not isinstance(value, bool) and abs(value) <= 10**12:
             continue
         hint = whole_hint(key, value)
         if isinstance(value, Decimal) and value.is_finite() and abs(value) <= 10**6 and key in IN_MILLIONTHS:
