@@ -145,6 +145,18 @@ check_unproved() {
     "$said*gossip_sim met a fault (signal 4): rt try in crates/gossip_sim says where" tried fault
   expect 'a closed output without proof' 3 '' "$said"$'\noutput failed' tried_to_closed_output
   expect 'a closed input without proof' 3 '' "$said"$'\ninput failed' tried_from_closed_input
+  expect 'nothing proved to run' 4 '' "gossip_sim: $one: bin/build proves and builds it" tried 0 --proved
+  expect 'nothing proved to sweep' 4 '' \
+    'sweep: gossip_edit is not built, and gossip_stats is not built: bin/build proves and builds it' \
+    in_tree tried=0 sweep --proved "$example"
+  expect_like 'a sweep without proof' 1 $'seed,status,message,proved,*\n1,5,told by gossip_edit,no,*' \
+    'sweep: this sweep does not come from a proved program: gossip_edit is not built, and gossip_stats is not built*1 of 1 runs *' \
+    in_tree tried=5 sweep --seeds 1 "$example"
+}
+
+# Descriptions where nothing is proved: on standard input, which are named, and a file that is refused.
+check_descriptions() {
+  local said
   said='*in words*: this looks like a description, and from standard input or a pipe none is read: bin/scenario - | bin/'
   expect_like 'a description from a pipe' 1 '*' "${said#\*in words}gossip_sim" piped_description 1 gossip_sim
   expect_like 'its words' 1 '*' "${said}gossip_sim" piped_description 1 gossip_sim --words
@@ -155,13 +167,6 @@ check_unproved() {
     "scenario: $room/misspelt:2: [[group]] 1: prefx: \"prefx\" is not known here; the nearest is prefix
 scenario: $room/misspelt was not read to its end, so there may be more faults" in_tree tried=none gossip_sim "$room/misspelt"
   expect_like 'a description as standard input' 1 '*' "${said#\*in words}gossip_sim" description_in_file gossip_sim
-  expect 'nothing proved to run' 4 '' "gossip_sim: $one: bin/build proves and builds it" tried 0 --proved
-  expect 'nothing proved to sweep' 4 '' \
-    'sweep: gossip_edit is not built, and gossip_stats is not built: bin/build proves and builds it' \
-    in_tree tried=0 sweep --proved "$example"
-  expect_like 'a sweep without proof' 1 $'seed,status,message,proved,*\n1,5,told by gossip_edit,no,*' \
-    'sweep: this sweep does not come from a proved program: gossip_edit is not built, and gossip_stats is not built*1 of 1 runs *' \
-    in_tree tried=5 sweep --seeds 1 "$example"
 }
 
 # bin/build --unproved, twice.
@@ -201,4 +206,6 @@ check_build() {
   printf '#!/bin/sh\nexit 1\n' >"$place/gossip_sim/out/gossip_sim"
   expect 'a refusal whose words are not built' 1 '' 'gossip_sim: bin/gossip_sim --check FILE tells why in words' \
     tried none --words
+  said='this looks like a description, and from standard input or a pipe none is read: bin/scenario - | bin/gossip_sim'
+  expect 'a description as the input of what was built' 1 '' "gossip_sim: $said" description_in_file gossip_sim
 }
