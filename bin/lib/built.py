@@ -16,9 +16,10 @@ def lack_of(top, crate):
     return ran.stdout.decode().strip()
 
 
-def ready(top, tool, what, crates, is_strict):
-    """The program of each crate, proved or not. Ends the script where there is none, which is said on standard error."""
-    words = [f"{top}/bin/lib/ready", *["--proved"] * is_strict, tool, what, *crates]
+def ready(top, tool, what, crates, option=None):
+    """The program of each crate, proved or not, by an option of bin/lib/ready. Ends the script where there is none, which
+    is said on standard error."""
+    words = [f"{top}/bin/lib/ready", *([option] if option else []), tool, what, *crates]
     ran = subprocess.run(words, stdout=subprocess.PIPE, stdin=subprocess.DEVNULL, check=False)
     if ran.returncode:
         sys.exit(ran.returncode)

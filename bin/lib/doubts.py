@@ -1,5 +1,8 @@
 """What may be meant otherwise in a scenario that can be run. It reads what gossip_check has taken."""
 import math
+from decimal import Decimal
+
+from scenario.go_params import MILLION, SCORES, THRESHOLDS, TOPIC
 
 DEFAULTS = {
     "gossip_threshold": -10_000_000,
@@ -8,6 +11,10 @@ DEFAULTS = {
     "opportunistic_threshold": 1_000_000,
 }
 OF_A_TOPIC = "w1", "w2", "w3", "w3b", "w4"
+# The weights, thresholds and caps. (A counter that is as good as 0 may well be a millionth.)
+SIZES = {it.name for it in {**SCORES, **THRESHOLDS, **TOPIC}.values() if it.unit == "millionths"} - {"decay_to_zero"}
+# Below this many millionths the whole number itself is likely to be meant. (Filecoin's w1 is 270.)
+SMALL, SMALL_W1 = 1_000, 100
 
 
 def weighs(topic, keys):
@@ -36,6 +43,52 @@ def thresholds(scenario):
     for key, default in DEFAULTS.items():
         if params.get(key, default) != default:
             yield ("params", key), "all weights are 0, so each score is 0 and this threshold does nothing"
+
+
+def small(scenario):
+    """Weights, thresholds, caps and values of the application that are next to nothing."""
+    tables = [("params",), *(("topic", it) for it in range(len(scenario["topic"])))]
+    for path in tables:
+        table = scenario.get("params", {}) if path == ("params",) else scenario["topic"][path[1]]
+        for key, value in table.items():
+            if key in SIZES and 0 < abs(value) < (SMALL_W1 if key == "w1" else SMALL):
+                yield (*path, key), in_words(value)
+    for place, table in enumerate(scenario.get("app", [])):
+        if 0 < abs(table["value"]) < SMALL:
+            yield ("app", place, "value"), in_words(table["value"])
+
+
+def in_words(value):
+    """What a number of millionths is, and what that number would be in millionths."""
+    return f"it counts millionths, so it is {Decimal(value) / MILLION:f}; for {value} write {value * MILLION}"
+
+
+def addresses(scenario):
+    """Addresses that peers share where that costs nobody anything."""
+    params, address_of, shared = scenario.get("params", {}), {}, {}
+    for place, it in enumerate(scenario["peer"]):
+        address_of[it["name"]] = it.get("address", it["name"])
+        if "address" in it:
+            shared.setdefault(it["address"], []).append(place)
+    free = params.get("p6_threshold", 1)
+    most = most_at_one_address(scenario, address_of)
+    if params.get("w6", -5_000_000) == 0 or most > free or all(len(it) < 2 for it in shared.values()):
+        return
+    first = min(it[0] for it in shared.values() if len(it) > 1)
+    path = ("params", "p6_threshold") if "p6_threshold" in params else ("peer", first, "address")
+    cost = f"no peer has more than {most} neighbour{'s' * (most != 1)} at one address, and p6_threshold is {free}"
+    yield path, f"{cost}, so shared addresses cost nothing and w6 has no effect"
+
+
+def most_at_one_address(scenario, address_of):
+    """How many neighbours at one address a peer has at most."""
+    most = 0
+    for near in neighbours_in(scenario).values():
+        counts = {}
+        for it in near:
+            counts[address_of[it]] = counts.get(address_of[it], 0) + 1
+        most = max([most, *counts.values()])
+    return most
 
 
 def neighbours_in(scenario):
@@ -85,5 +138,5 @@ def alone(scenario):
 
 def doubts(scenario):
     """What is said of a scenario, each with the path to which it points, in the order of the tables."""
-    for part in (thresholds, windows, alone, publications):
+    for part in (thresholds, small, windows, addresses, alone, publications):
         yield from part(scenario)

@@ -8,6 +8,8 @@ OF_PARAMS = {**PARAMS, **THRESHOLDS, **SCORES}
 OF_TOP = "round_ms", "rounds", "workers", "capacity", "seed"
 UNITS = {"ms": ", in milliseconds", "s": ", in seconds", "millionths": ", in millionths", "decay": ", in millionths"}
 IN_MILLIONTHS = "millionths", "decay"
+# The objects in which go-libp2p's names stand.
+GROUPS = "GossipSubParams", "PeerScoreParams", "PeerScoreThresholds", "TopicScoreParams", *OPTIONS
 
 
 def plain(name):
@@ -49,6 +51,8 @@ def own_hint(path):
 
 def unknown_hint(path):
     """What is said of an unknown key."""
+    if len(path) == 1 and path[0] in GROUPS:
+        return 'go-libp2p\'s names go into a .json file, which a description takes: params_from = "FILE.json"'
     return own_hint(path) or go_hint(path[-1])
 
 

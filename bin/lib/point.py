@@ -4,11 +4,12 @@ can be run, but does not do what it seems to. It is a script, and not proved.
 usage: point.py refusal|warnings ANSWER SCENARIO INPUT ORIGIN UNTIL [CHANGE..]
 
 ANSWER has the answer, and SCENARIO what was checked. INPUT is what the options changed into that, by each CHANGE and,
-where it is not empty, by UNTIL. ORIGIN is `description` where bin/scenario made INPUT, else `file`.
+where it is not empty, by UNTIL. ORIGIN is the description of which bin/scenario made INPUT, and empty where there is none.
 No line is named where it is not sure. It reads TOML 1.0, by Python 3.11 or later.
 """
 import re
 import sys
+from decimal import Decimal
 
 sys.dont_write_bytecode = True
 if sys.version_info < (3, 11):
@@ -16,11 +17,15 @@ if sys.version_info < (3, 11):
     sys.exit()
 import tomllib
 
+from described import Described
 from doubts import doubts
 from hints import OF_TOP, in_millionths, unknown_hint
+from scenario import build
+from scenario.fields import whole_hint
 from spots import Spots, is_at, line_in, one_line, value_at
 
-MOST_WARNINGS = 50
+MOST_WARNINGS, MOST_MORE = 50, 20
+LONGEST_WHY = 300  # characters of what is said of another fault
 LISTS = "topic", "peer", "dial", "app", "explicit", "do"
 PLACE = re.compile(rf"(params|({'|'.join(LISTS)})\[([0-9]+)\])(?:\.(.*))?")
 # What makes an element the same as an earlier one.
@@ -66,7 +71,7 @@ class Scenario:
         self.checked = Spots(checked)
         self.is_changed = bool(until or changes)
         self.given = Spots(given) if self.is_changed else self.checked
-        self.origin, self.until, self.changes = origin, until, changes
+        self.description, self.until, self.changes = Described(origin) if origin else None, until, changes
 
     def change_of(self, path):
         """The last change that made what is at a path, or a part of an element there; None where none did."""
@@ -93,8 +98,8 @@ class Scenario:
         """In which line a path stands, and what stands there, as `line 3: d = 6`; None where that is not sure."""
         if not self.is_changed or self.is_as_given(path):
             found, whose = self.given.line_at(path), ""
-            if self.origin == "description":
-                whose = " of what bin/scenario prints"
+            if self.description:
+                return self.description.line_of(path, self.given.document, found)
         else:
             found = None
         if found is None and self.is_changed:
@@ -124,7 +129,7 @@ def missing_in_top(scenario, key):
     header = spots.first_header()
     if header is not None:
         number, text = spots.line_at(header)
-        whose = " of what bin/scenario prints" if scenario.origin == "description" else ""
+        whose = " of what bin/scenario prints" if scenario.description else ""
         yield f"{key} goes above the first header, line {number}{whose}: {text}"
     if elsewhere and header is not None:
         yield scenario.pointer(min(elsewhere, key=spots.reader.begins.get))
@@ -172,16 +177,37 @@ def hint_of(scenario, number, path):
     if number == 27:
         return unknown_hint(path)
     document = scenario.checked.document
-    if number == 29 and document is not None and is_at(document, path) and isinstance(value_at(document, path), float):
-        return in_millionths(path, scenario.checked.raw_at(path) or "")
+    if document is None or not is_at(document, path):
+        return None
+    value = value_at(document, path)
+    if number == 29:
+        found = in_millionths(path, scenario.checked.raw_at(path) or "") if isinstance(value, float) else None
+        exact = Decimal(str(value)) if isinstance(value, float) else value
+        return found or whole_hint(path[-1], exact).lstrip("; ") or None
+    if number in (1, 2, 3, 4) and isinstance(value, int) and 0 < abs(value) < 10**6:
+        found = in_millionths(path, str(value))
+        return found and found.replace("millionths:", f"millionths, {value} is")
     return None
+
+
+def more_faults(scenario, path):
+    """What else is wrong with keys, and with the numbers of parameters. (Of a description bin/scenario has said it.)"""
+    if scenario.checked.document is None or scenario.description:
+        return
+    document = build.read(scenario.checked.text, list)
+    lists = {it: document[it] for it in LISTS if isinstance(document.get(it), list)}
+    found = [it for it in build.first_faults(document, lists) if it.path != path]
+    for it in found[:MOST_MORE]:
+        yield f"also {scenario.pointer(it.path) or place_of(it.path)}: {one_line(it.why, LONGEST_WHY)}"
+    if len(found) > MOST_MORE:
+        yield f"also {len(found) - MOST_MORE} more of this kind"
 
 
 def toml_lines(scenario, words):
     """The line in which the reader of TOML stops, of a scenario that is no TOML."""
     found = re.match(r"TOML parse error at line ([0-9]+), column [0-9]+\n", words)
     text = scenario.checked.text
-    if found and text and not scenario.is_changed and scenario.origin == "file":
+    if found and text and not scenario.is_changed and not scenario.description:
         number = int(found.group(1))
         shown = line_in(text, number)
         yield f"line {number}: {shown}" if shown else None
@@ -205,6 +231,8 @@ def of_refusal(scenario, answer):
     path = path_of(place, number == 27 and "` is no key of the top table" in words)
     yield from lines_of(scenario, number, path, words)
     yield hint_of(scenario, number, path)
+    if number == 27 or (number == 29 and path[0] in ("params", "topic")):
+        yield from more_faults(scenario, path)
 
 
 def of_warnings(scenario):

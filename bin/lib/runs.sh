@@ -21,15 +21,15 @@ print_options() {
   --seed N          with this seed,
   --set KEY=VALUE   with another value of any key, written as in TOML, as params.flood_publish=false;
                     these four can be repeated
-  --until ROUND     up to this round: the scenario is cut there, and later lines are left out
+  --until ROUND     up to this round, or to a time, as "150 s": the scenario is cut there, and later lines are left out
   --words           says of a refused scenario why and in which line, in words on standard error, as on a terminal
   --proved          runs only proved programs
   --help, -h        prints this
   --version, -V     prints the commit and the Rattle kit
   --                ends the options
 
-A program that is not proved yet is compiled, with checks at run time, in about two minutes, once for its sources. Standard
-error says so. bin/build proves and builds the programs.
+A program that is not proved yet is compiled, with checks at run time, in about a minute, once for its sources. Standard
+error says so. bin/build proves and builds the programs; bin/build --unproved compiles them all at once.
 
 Status: 0 $1; 1 the scenario is refused, or can't be changed so; 2 there
 was no memory, or no thread; 3 input or output failed; 4 the program is not built, with --proved, or can't be
@@ -65,7 +65,8 @@ change() {
 }
 
 cut_at() {
-  [[ $1 =~ ^[1-9][0-9]{0,5}$ ]] || stop 64 '--until takes a round, from 1 to 999999; --help says more'
+  local when='^([1-9][0-9]{0,5}|[0-9]{1,9}(\.[0-9]{1,9})? ?(ms|s|min|h))$'
+  [[ $1 =~ $when ]] || stop 64 '--until takes a round, from 1 to 999999, or a time, as "150 s"; --help says more'
   until=$1
 }
 
@@ -143,12 +144,11 @@ cut_input() {
 
 # Whether the input is the scenario that is run. Else `prepare_scenario` makes it.
 is_as_it_comes() {
-  [ ${#edits[@]} -eq 0 ] && [ -z "$until" ] && ! is_description "${files[0]--}"
+  [ ${#edits[@]} -eq 0 ] && [ -z "$until" ] && ! { [ -f /dev/stdin ] && has_header /dev/stdin; }
 }
 
 # Makes the scenario that is run: a copy of the input, with the changes that the options make. It is standard input then.
 prepare_scenario() {
-  ! is_description "${files[0]--}" || expand "${files[0]}"
   keep_input
   [ ${#edits[@]} -eq 0 ] || change_input
   [ -z "$until" ] || cut_input
@@ -157,9 +157,9 @@ prepare_scenario() {
 
 # Prints the lines of the scenario to which the answer of gossip_check points, or its warnings.
 point() {
-  local origin=file
+  local origin=
   command -v python3 >/dev/null || return 0
-  ! is_description "${files[0]--}" || origin=description
+  ! is_description "${files[0]--}" || origin=${files[0]}
   python3 "$top/bin/lib/point.py" "$1" "$room/answer" "$scenario" "$room/input" "$origin" "$until" "${edits[@]}"
 }
 
@@ -186,6 +186,10 @@ print_answer() {
   [ "$status" -ne 1 ] || point refusal >"$room/lines"
   cat "$room/answer" "$room/lines" 2>/dev/null || fail 'output failed'
   [ "$status" -ne 0 ] || point warnings >&2
+  if [ "$status" -eq 1 ]; then
+    echo "$tool: this is the first fault, and there may be more" >&2
+    say_unexpanded "${files[0]--}"
+  fi
   exit "$status"
 }
 
@@ -203,6 +207,8 @@ run_changed() {
   fi
   guarded "${words[@]}"
   room=$TMPDIR
+  # (what is wrong with a description is said before anything is compiled)
+  ! is_description "${files[0]--}" || expand "${files[0]}"
   say_unproved
   compile_missing "${programs[@]}"
   say_reading
@@ -213,7 +219,10 @@ run_changed() {
   fi
   [ "$program" != gossip_check ] || print_answer
   call "$program" "${arguments[@]}" || status=$?
-  [ "$status" -ne 1 ] || [ -z "$has_words" ] || print_words
+  if [ "$status" -eq 1 ]; then
+    [ -z "$has_words" ] || print_words
+    say_unexpanded "${files[0]--}"
+  fi
   exit "$status"
 }
 

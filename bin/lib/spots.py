@@ -9,9 +9,9 @@ from scenario.places import STRING, Places, Unreadable
 LONGEST = 100  # characters of a line that is shown
 
 
-def one_line(text):
+def one_line(text, longest=LONGEST):
     """A text in one line, cut where it is long. What doesn't print stands as in the words of gossip_check."""
-    shown = text if len(text) <= LONGEST else text[:LONGEST] + ".."
+    shown = text if len(text) <= longest else text[:longest] + ".."
     return "".join(it if it.isprintable() else f"\\u{{{ord(it):x}}}" for it in shown)
 
 

@@ -1,5 +1,6 @@
 """The runs of a sweep: which settings there are, what a run gives, and the rows that are kept. For bin/sweep."""
 import csv
+import functools
 import hashlib
 import io
 import itertools
@@ -30,6 +31,10 @@ seed = 1
 topic = [{ name = "t" }]
 peer = [{ name = "a" }]
 """
+
+# The column of the seeds by which a description is made anew.
+NETWORK = "network"
+SCENARIO = os.path.join(os.path.dirname(os.path.dirname(os.path.realpath(__file__))), "scenario")
 
 # The statuses of runs that would end so again: with figures, or refused.
 KEPT_STATUSES = 0, 1
@@ -188,12 +193,17 @@ def hash_in(file):
 class Sweep:
     """Runs a scenario with settings, on as many threads as call it."""
 
-    def __init__(self, programs, is_proved, scenario, options, folder):
+    def __init__(self, programs, is_proved, scenario, options, folder, checker):
         self.programs, self.scenario, self.peer, self.folder = programs, scenario, options.peer, folder
         self.proved, self.until = "yes" if is_proved else "no", options.until
         self.settings, self.columns, self.header = list(options.settings.values), (), []
         self.lock, self.live, self.is_stopped = threading.Lock(), set(), False
+        self.file, self.checker = options.file, functools.lru_cache(None)(checker)
+        self.scenario_of = functools.lru_cache(16)(self.made_anew)
+        self.explaining = threading.Lock()
         self.source = [hash_of(scenario), *map(hash_in, programs.values()), options.peer, self.until, self.proved] if folder else []
+        if folder and NETWORK in options.settings.values:
+            self.source.append(hash_in(options.file))
 
     def learn_columns(self):
         """Asks gossip_stats which columns it has for peers. Gives whether it answers."""
@@ -232,14 +242,32 @@ class Sweep:
 
     def ended(self, settings):
         """How a run ends: gossip_edit gives the scenario that gossip_stats runs, but for what --until leaves out."""
-        end = End(0, self.scenario, "")
-        if settings:
-            end = self.call([self.programs["gossip_edit"], *settings], self.scenario)
+        network = [it.partition("=")[2] for it in settings if it.startswith(f"{NETWORK}=")]
+        settings = [it for it in settings if not it.startswith(f"{NETWORK}=")]
+        end = self.scenario_of(network[0]) if network else End(0, self.scenario, "")
+        if settings and end.status == 0:
+            end = self.call([self.programs["gossip_edit"], *settings], end.output)
         if end.status == 0 and self.until is not None:
             end = self.cut(end.output)
         if end.status == 0:
-            end = self.call([self.programs["gossip_stats"], "--csv"], end.output)
+            scenario = end.output
+            end = self.explained(self.call([self.programs["gossip_stats"], "--csv"], scenario), scenario)
         return end._replace(output=end.output.decode(errors="replace"))
+
+    def made_anew(self, seed):
+        """The scenario that a description gives by another seed."""
+        return self.call([SCENARIO, "--seed", seed, "--", self.file], b"")
+
+    def explained(self, end, scenario):
+        """A run that was refused by a number alone gets the words of gossip_check, which have the key."""
+        if end.status != 1 or not re.fullmatch("scenario refused: [0-9]+", end.message):
+            return end
+        with self.explaining:
+            program = self.checker()
+        if program is None:
+            return end
+        words = self.call([program], scenario).output.decode(errors="replace").split("\n")[1:]
+        return end._replace(message="; ".join([end.message, *words]).strip("; "))
 
     def cut(self, scenario):
         try:

@@ -36,7 +36,7 @@ place_of() {
   echo "$kept/$1-${hash:0:32}"
 }
 
-# Finds out which of these programs are not proved, and says so: in two lines, or as the end where none may be run unproved.
+# Finds out which of these programs are not proved, and says so: in a line, or as the end where none may be run unproved.
 look_for() {
   local it lack lacks=
   for it; do
@@ -55,10 +55,7 @@ look_for() {
 # Says which programs are not proved.
 say_unproved() {
   [ -n "${lacking-}" ] || return 0
-  cat >&2 <<END
-$tool: this $what does not come from a proved program: $lacking
-$tool: to get the proved program, run bin/build, which takes half an hour on four processors
-END
+  echo "$tool: this $what does not come from a proved program: $lacking (bin/build proves it, in half an hour)" >&2
 }
 
 # Compiles a program to where it is kept, where no other run has done so meanwhile. Where a source has changed since it began,
@@ -80,15 +77,19 @@ compile() {
 # Says what is compiled, and how long that took the last time: on a terminal with the seconds that have gone by since, until
 # the compilers have ended.
 say_compiling() {
-  local begun=$SECONDS it seconds last='' said='' line columns
+  local begun=$SECONDS it seconds last='' said='' usual='half a minute' line columns
   for it in "${missing[@]}"; do
     said=${said:+$said and }$it
+    case $it in
+      gossip_check | gossip_edit) ;;
+      *) usual='a minute' ;;
+    esac
     { read -r seconds <"$kept/$it.seconds"; } 2>/dev/null || continue
     last=$((seconds > ${last:-0} ? seconds : ${last:-0}))
   done
   said="compiling $said without proof"
   if [ -z "$last" ]; then
-    said+=', which takes about two minutes'
+    said+=", which takes about $usual"
   else
     said+="; the last time it took $last seconds"
   fi

@@ -1,12 +1,21 @@
 """Cuts a scenario at a round: the run ends there, and the lines of the script that come later are left out. The text stays
 as it is otherwise, with its comments.
 
-usage: until.py ROUND <scenario >cut
+usage: until.py ROUND|TIME <scenario >cut
+
+TIME has a unit, as "150 s", and is a whole number of rounds.
 
 Status: 0; 1 `edit refused: ` and why; 3 `input failed` or `output failed`.
 """
 import re
 import sys
+
+sys.dont_write_bytecode = True
+from scenario.fields import milliseconds_of
+
+# What --until takes.
+WHEN = re.compile(r"[1-9][0-9]{0,5}|[0-9]{1,9}(?:\.[0-9]{1,9})? ?(?:ms|s|min|h)")
+TAKES = '--until takes a round, from 1 to 999999, or a time, as "150 s"'
 
 # What may not be cut within: comments and strings. Then what opens and closes, what ends a line, and all else.
 TOKEN = re.compile(
@@ -100,8 +109,23 @@ def pieces_of(text, scenario, last, load):
                 yield from ((*place, "") for place, line in zip(it.elements, lines) if is_later(line, last))
 
 
-def cut(data, last):
-    """The bytes of a scenario, cut at a round. One that ends sooner stays as it is."""
+def round_of(when, scenario):
+    """The round of what --until was given; None where a time is given, and the scenario has no length of a round."""
+    if when.isdigit():
+        return int(when)
+    step, milliseconds = scenario.get("round_ms"), milliseconds_of(when)
+    if not isinstance(step, int) or isinstance(step, bool) or step < 1:
+        return None
+    if not milliseconds:
+        raise Uncut(f"--until {when} leaves no round, and the first that it takes is {step} ms")
+    if milliseconds % step:
+        near = milliseconds // step * step
+        raise Uncut(f"--until {when} is no multiple of round_ms, which is {step}; near it is {near or step} ms")
+    return milliseconds // step
+
+
+def cut(data, when):
+    """The bytes of a scenario, cut at a round or a time, a text. One that ends sooner stays as it is."""
     try:
         import tomllib
     except ImportError:
@@ -111,8 +135,8 @@ def cut(data, last):
         scenario = tomllib.loads(text)
     except (UnicodeDecodeError, tomllib.TOMLDecodeError, RecursionError) as why:
         raise Uncut(f"--until can't read the scenario as TOML 1.0: {why}") from None
-    rounds, lines = scenario.get("rounds"), scenario.get("do")
-    if not isinstance(rounds, int) or isinstance(rounds, bool) or rounds <= last:
+    rounds, lines, last = scenario.get("rounds"), scenario.get("do"), round_of(when, scenario)
+    if last is None or not isinstance(rounds, int) or isinstance(rounds, bool) or rounds <= last:
         return data
     parts, at = [], 0
     for start, end, new in pieces_of(text, scenario, last, tomllib.loads):
@@ -144,7 +168,7 @@ def main():
     except OSError:
         return 3, "input failed"
     try:
-        data = cut(data, int(sys.argv[1]))
+        data = cut(data, sys.argv[1])
     except Uncut as why:
         return 1, f"edit refused: {why}"
     try:

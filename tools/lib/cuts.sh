@@ -21,6 +21,15 @@ check_cuts() {
   expect 'a scenario that ends sooner' 0 $'rounds = 9\ndo = [{at = 8}]' '' cut_at 9 'rounds = 9\ndo = [{at = 8}]\n'
   expect 'lines of which one has no round' 0 $'rounds = 1\n[[do]]\nat = "x"' '' cut_at 1 'rounds = 9\n[[do]]\nat = "x"\n'
   expect_like 'a cut of what is no TOML' 1 '' "edit refused: --until can't read the scenario as TOML 1.0: *" cut_at 1 'a = = 1\n'
-  expect 'a run that is cut' 64 '' 'gossip_sim: --until takes a round, from 1 to 999999; --help says more' with_options --until 0
+  expect 'a cut at a time' 0 $'round_ms = 700\nrounds = 3' '' cut_at '2.1 s' 'round_ms = 700\nrounds = 9\n'
+  expect 'a cut at no whole round' 1 '' \
+    'edit refused: --until 150 s is no multiple of round_ms, which is 700; near it is 149800 ms' \
+    cut_at '150 s' 'round_ms = 700\nrounds = 900\n'
+  expect 'a cut that leaves nothing' 1 '' 'edit refused: --until 0 s leaves no round, and the first that it takes is 700 ms' \
+    cut_at '0 s' 'round_ms = 700\nrounds = 900\n'
+  expect 'a cut at a time without the length of a round' 0 'rounds = 9' '' cut_at 1s 'rounds = 9\n'
+  expect 'a run that is cut' 64 '' \
+    'gossip_sim: --until takes a round, from 1 to 999999, or a time, as "150 s"; --help says more' with_options --until 0
+  expect 'an example that is cut at a time' 0 "$(sed 's/^rounds = 10\b/rounds = 2/' "$example")" '' with_options --until '200 ms'
   expect 'a cut of an example' 0 "$(sed 's/^rounds = 10\b/rounds = 2/' "$example")" '' with_options --until=2
 }

@@ -8,8 +8,19 @@ pointed() {
   printf '%b' "$1" >"$room/answer"
   printf '%b' "$2" >"$room/scenario"
   printf '%b' "${given-$2}" >"$room/given"
-  python3 "$top/bin/lib/point.py" "${kind-refusal}" "$room/answer" "$room/scenario" "$room/given" "${origin-file}" \
+  python3 "$top/bin/lib/point.py" "${kind-refusal}" "$room/answer" "$room/scenario" "$room/given" "${origin-}" \
     "${until-}" "${@:3}"
+}
+
+# described ANSWER DESCRIPTION [CHANGE..]: the same of a description, and of the plain scenario that comes of it.
+described() {
+  local origin=$room/it.toml given
+  printf '%b' "$2" >"$origin"
+  given=$("$top/bin/scenario" "$origin" 2>/dev/null) && pointed "$1" "${changed:-$given}" "${@:3}"
+}
+
+points_in_description() {
+  expect "$1" 0 "$2" '' described "${@:3}"
 }
 
 points() {
@@ -75,10 +86,30 @@ check_changed() {
   until=3
   points 'a line of a cut' "do[0].peer, line 3 $shown: peer = \"x\"" '30 do[0].peer\n' '[[do]]\nat = 1\npeer = "x"\n' do.0.peer=1
   points 'a parameter beside a cut' 'params.e, line 3: e = 5' '29 params.e\n' '[params]\nd = 6\ne = 5\n'
-  until='' origin=description
-  points 'a line of a description' 'params.e, line 3 of what bin/scenario prints: e = 5' '29 params.e\n' "$given"
-  points 'a change of a description' 'params.d, by the change params.d=7' '29 params.d\n' "$given" params.d=7
-  points 'a description that is no TOML' '' '26\nTOML parse error at line 1, column 1\nkey\n' 'a = = 1\n'
+}
+
+# Lines of a description: of keys that are handed through, and of what gave lines of the plain scenario.
+check_described() {
+  local text more printed='of what bin/scenario prints' changed kind
+  text='until = "2 s"\n[params]\nd = 6\n[[topic]]\nname = "news"\nw4 = -9000\n[[peer]]\nname = "a"\n[[group]]\nprefix = "b"\n'
+  text+='[[load]]\npeer = "b"\nat = "1 s"\n[[do]]\nat = "500 ms"\npeer = "a"\nwhat = "subscribe"\ntopic = "news"\n'
+  points_in_description 'a parameter of a description' 'params.d, line 3: d = 6' '29 params.d\n' "$text"
+  points_in_description 'a topic of a description' 'topic[0].w4, line 6: w4 = -9000' '29 topic[0].w4\n' "$text"
+  points_in_description 'a peer of a description' 'peer[0].name, line 8: name = "a"' '31 peer[0].name\n' "$text"
+  points_in_description 'a peer of a group' \
+    "peer[1].name, line 10: prefix = \"b\", which gives line 12 $printed: { name = \"b\" }," '31 peer[1].name\n' "$text"
+  points_in_description 'a line of a description' 'do[1].at, line 15: at = "500 ms"' '30 do[1].at\n' "$text"
+  more=$(described '30 do[2].at\n' "$text")
+  points_in_description 'a line of a load' \
+    "do[2].at, line 11: [[load]], which gives line 18 $printed: ${more##*"$printed": }" '30 do[2].at\n' "$text"
+  points_in_description 'the end of a description' "rounds, line 1: until = \"2 s\", which gives line 5 $printed: rounds = 20" \
+    '29 rounds\n' "$text"
+  points_in_description 'what a description leaves out' "capacity, line 7 $printed: capacity = 64" '29 capacity\n' "$text"
+  points_in_description 'a parameter by name' \
+    "params.d_low, line 1: params_from = \"filecoin\", which gives line 23 $printed: d_low = 6" \
+    '29 params.d_low\n' "params_from = \"filecoin\"\n${text//news/msgs}"
+  changed='[params]\nd = 7\n'
+  points_in_description 'a change of a description' 'params.d, by the change params.d=7' '29 params.d\n' "$text" params.d=7
 }
 
 # Prints the keys and names of docs/COVERAGE.md whose hint is another one.
@@ -110,6 +141,9 @@ check_hints() {
   points "go-libp2p's name of what has no counterpart" \
     $'params.prune_peers, line 2: prune_peers = 5\ngo-libp2p\'s PrunePeers has no counterpart here: there is no peer exchange' \
     '27 params.prune_peers\n' '[params]\nprune_peers = 5\n'
+  points "an object of go-libp2p's" \
+    $'GossipSubParams, line 1: [GossipSubParams]\ngo-libp2p\'s names go into a .json file, which a description takes: params_from = "FILE.json"' \
+    '27 GossipSubParams\n`GossipSubParams` is no key of the top table\n' '[GossipSubParams]\nD = 5\n'
   expect "go-libp2p's names in docs/COVERAGE.md" 0 True '' other_hints
   points 'a key of another table' $'d, by the change d=8\nd is a key of [params]: params.d?' \
     '27 d\n`d` is no key of the top table\n' 'd = 8\n' d=8
@@ -117,7 +151,24 @@ check_hints() {
     '27 params.w4\n' '[params]\nw4 = 1\n'
   points 'millionths' $'params.gossip_factor, line 2: gossip_factor = 0.25\nin millionths: 250000' '29 params.gossip_factor\n' \
     '[params]\ngossip_factor = 0.25 # a part\n'
-  points 'a number that counts no millionths' 'params.d, line 2: d = 6.0' '29 params.d\n' '[params]\nd = 6.0\n'
+  points 'a number that counts no millionths' $'params.d, line 2: d = 6.0\nwrite 6' '29 params.d\n' '[params]\nd = 6.0\n'
+  points 'a threshold that is not in millionths' $'params.graylist_threshold, line 2: graylist_threshold = -16000
+in millionths, -16000 is -16000000000' \
+    '3\n`params.graylist_threshold` is -16000: it must not be above `publish_threshold`, which is -50000000\n' \
+    '[params]\ngraylist_threshold = -16000\n'
+  points 'a threshold in millionths' 'params.graylist_threshold, line 2: graylist_threshold = -1_600_000' \
+    '3\n`params.graylist_threshold` is -1600000: it must not be above `publish_threshold`, which is -50000000\n' \
+    '[params]\ngraylist_threshold = -1_600_000\n'
+  points 'a number with a unit' $'params.heartbeat_ms, line 2: heartbeat_ms = "0.7 s"\nwrite 700, in milliseconds' \
+    '29 params.heartbeat_ms\n' '[params]\nheartbeat_ms = "0.7 s"\n'
+  points 'other faults of the same kind' "params.D, line 2: D = 8
+go-libp2p's D is d of [params] here
+also topic[0].w_4, line 6: w_4 = 1: \"w_4\" is not known here; the nearest is w4
+also do[0].topik, line 9: topik = \"a\": \"topik\" is not known here; the nearest is topic
+also params.d_low, line 3: d_low = 6.0: 6.0 must be a whole number; write 6" \
+    '27 params.D\n' '[params]\nD = 8\nd_low = 6.0\n[[topic]]\nname = "a"\nw_4 = 1\n[[do]]\nwhat = "publish"\ntopik = "a"\n'
+  expect_like 'many other faults' 0 '*also 3 more of this kind' '' pointed '27 a\n`a` is no key of the top table\n' \
+    "a = 1\n$(printf 'a%d = 1\\n' {1..23})"
   points 'a number without an end' 'params.w5, line 2: w5 = inf' '29 params.w5\n' '[params]\nw5 = inf\n'
 }
 
@@ -154,29 +205,56 @@ check_warnings() {
   dial=''
   warns 'a peer without neighbours' \
     "warning: peer[2].name, line 4: $named: no dial joins this peer to another, so it has no neighbour"
-  dial='{from = "c", to = "a"}' weights=', w3 = -1, p3_threshold = 9'
+  dial='{from = "c", to = "a"}' weights=', w3 = -2000, p3_threshold = 9000'
   warns 'a default window below a round' \
     "warning: topic[1], $listed$weights}]: p3_window_ms is left out, which means 10, and that is below round_ms, which is 100: $late"
-  weights=', w3b = -1, p3_threshold = 9, p3_window_ms = 99'
+  weights=', w3b = -2000, p3_threshold = 9000, p3_window_ms = 99'
   warns 'a window below a round' \
     "warning: topic[1].p3_window_ms, $listed$weights}]: it is below round_ms, which is 100: $late"
-  weights=', w3 = -1, p3_threshold = 9, p3_window_ms = 100' && warns 'a window of a round' ''
-  weights=', w3 = -1' && warns 'a window that nothing is missing in' ''
-  weights=', w3 = -1, p3_threshold = 9, topic_weight = 0' && warns 'a window of a topic without weight' ''
+  weights=', w3 = -2000, p3_threshold = 9000, p3_window_ms = 100' && warns 'a window of a round' ''
+  weights=', w3 = -2000' && warns 'a window that nothing is missing in' ''
+  weights=', w3 = -2000, p3_threshold = 9000, topic_weight = 0' && warns 'a window of a topic without weight' ''
   weights='' weightless='all weights are 0, so each score is 0 and this threshold does nothing'
   warns 'thresholds without weights' \
-    "warning: params.gossip_threshold, line 9: gossip_threshold = -5: $weightless" \
-    '[params]\nw6 = 0\nw7 = 0\ngossip_threshold = -5\ngraylist_threshold = -80_000_000'
-  warns 'thresholds with a weight' '' '[params]\nw6 = 0\ngossip_threshold = -5\n'
-  warns 'thresholds with values' '' '[params]\nw6 = 0\nw7 = 0\ngossip_threshold = -5\n[[app]]\nvalue = 1\n'
+    "warning: params.gossip_threshold, line 9: gossip_threshold = -5000: $weightless" \
+    '[params]\nw6 = 0\nw7 = 0\ngossip_threshold = -5000\ngraylist_threshold = -80_000_000'
+  warns 'thresholds with a weight' '' '[params]\nw6 = 0\ngossip_threshold = -5000\n'
+  warns 'thresholds with values' '' '[params]\nw6 = 0\nw7 = 0\ngossip_threshold = -5000\n[[app]]\nvalue = 1000\n'
   expect_like 'many doubts' 0 '*warning: there are 10 more warnings' '' pointed '' \
     "round_ms = 1\nrounds = 1\ntopic = []\npeer = [$(printf '{name = "%s"},' {1..60})]\n"
   points 'warnings of TOML 1.1' 'warning: this is no TOML 1.0, so there are no other warnings' '' 'a = {b = 1,}\n'
 }
 
+# Warnings of numbers: those that may be meant in ones, not in millionths, and shared addresses that cost nothing.
+check_numbers() {
+  local kind=warnings so='it counts millionths, so it is' peers most least
+  points 'numbers that are not in millionths' "warning: params.w7, line 2: params.w7 = -16: $so -0.000016; for -16 write -16000000
+warning: topic[0].topic_weight, line 5: topic_weight = 999: $so 0.000999; for 999 write 999000000
+warning: topic[0].w1, line 6: w1 = 99: $so 0.000099; for 99 write 99000000
+warning: app[0].value, line 11: value = 2: $so 0.000002; for 2 write 2000000" \
+    '' 'round_ms = 100\nparams.w7 = -16\npeer = []\n[[topic]]\ntopic_weight = 999\nw1 = 99\nw2 = 0\n[[topic]]\nname = "a"
+[[app]]\nvalue = 2\n'
+  points 'numbers that may be in millionths' '' '' \
+    'round_ms = 100\npeer = []\n[params]\ndecay_to_zero = 9\nd = 6\np7_decay = 1\n[[topic]]\nw1 = 100\nw4 = -1000\nw2 = 0\n'
+  peers='rounds = 9\nround_ms = 100\ntopic = []\ndial = [{from = "a", to = "b"}, {from = "c", to = "a"}]
+peer = [{name = "a"}, {name = "b", address = "x"}, {name = "c", address = "x"}]\n'
+  points 'an address of two, which cost' '' '' "$peers"
+  most='no peer has more than 2 neighbours at one address, and p6_threshold is 2'
+  most+=', so shared addresses cost nothing and w6 has no effect'
+  points 'an address of two, which cost nothing' "warning: params.p6_threshold, line 6: params.p6_threshold = 2: $most" '' \
+    "${peers}params.p6_threshold = 2\n"
+  least=${most//2/1}
+  least=${least/neighbours/neighbour}
+  points 'addresses that cost nothing by default' \
+    "warning: peer[1].address, line 5: peer = [{name = \"a\"}, {name = \"b\", address = \"x\"}, {name = \"c\", address = \"x\"}]: $least" \
+    '' "${peers/, to = \"a\"/, to = \"b\"}"
+  points 'addresses without w6' '' '' "${peers}params.p6_threshold = 2\nparams.w6 = 0\n"
+}
+
 # What the commands say, whose programs are the stand-ins.
 check_pointing() {
-  local said scenario='seed = 1\n[params]\nd = 70\n' words='29 params.d\nin words\n'
+  local first said scenario='seed = 1\n[params]\nd = 70\n' words='29 params.d\nin words\n'
+  first=$(unproved answer 'gossip_check is not built')$'\ngossip_sim: this is the first fault, and there may be more'
   said=$'told by gossip_sim\nin words\nparams.d, line 3: d = 70'
   expect_like 'words that point' 1 'gossip_sim  seed = 1*' "*$said" answered "$words" "$scenario" gossip_sim --words
   expect_like 'figures that are refused' 1 'gossip_stats  seed = 1*' "*${said/sim/stats}" \
@@ -184,17 +262,19 @@ check_pointing() {
   expect_like 'a picture that is refused' 1 'gossip_picture  seed = 1*' "*${said/sim/picture}" \
     answered "$words" "$scenario" gossip_picture --words
   expect_like 'a refusal without words' 1 'gossip_sim  seed = 1*' '*told by gossip_sim' answered "$words" "$scenario" gossip_sim
-  expect 'a check that points' 1 $'29 params.d\nin words\nparams.d, line 3: d = 70' "$(unproved answer 'gossip_check is not built')" \
+  expect 'a check that points' 1 $'29 params.d\nin words\nparams.d, line 3: d = 70' "$first" \
     answered "$words" "$scenario" gossip_sim --check
   expect 'a check of a cut' 1 \
     $'29 rounds\nrounds, line 1 of the changed scenario (bin/gossip_sim --print shows it): rounds = 5' \
-    "$(unproved answer 'gossip_check is not built')" answered '29 rounds\n' 'rounds = 9\n' gossip_sim --check --until 5
+    "$first" answered '29 rounds\n' 'rounds = 9\n' gossip_sim --check --until 5
 }
 
 check_points() {
   check_places
   check_refusals
   check_changed
+  check_described
   check_hints
   check_warnings
+  check_numbers
 }

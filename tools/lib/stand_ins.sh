@@ -92,14 +92,24 @@ answered() {
   printf '%b' "$2" | answer=$1 in_tree tried=1 "${@:3}"
 }
 
+# A description on standard input, from a pipe.
+piped_description() {
+  printf '[[group]]\n' | answer='27 group\nin words\n' in_tree "tried=$1" "${@:2}"
+}
+
+# And from a file, by proved programs, with nothing that reads it twice.
+description_in_file() {
+  printf '[[group]]\n' >"$room/described"
+  in_tree tried=1 "$@" <"$room/described"
+}
+
 # What is said of these programs where they are not proved.
 unproved() {
-  printf '%s\n' "gossip_sim: this $1 does not come from a proved program: $2" \
-    'gossip_sim: to get the proved program, run bin/build, which takes half an hour on four processors'
+  echo "gossip_sim: this $1 does not come from a proved program: $2 (bin/build proves it, in half an hour)"
 }
 
 compiling() {
-  echo "gossip_sim: compiling $1 without proof, which takes about two minutes"
+  echo "gossip_sim: compiling $1 without proof, which takes about ${2-a minute}"
 }
 
 # What is run where nothing is proved.
@@ -109,14 +119,14 @@ check_unproved() {
   expect 'a report without proof' 0 'gossip_sim  scenario' "$said"$'\n'"$(compiling gossip_sim)"$'\ntold by gossip_sim' tried 0
   expect 'a status without proof' 2 'gossip_sim  scenario' "$said"$'\ntold by gossip_sim' tried 2
   expect 'words without proof' 1 'gossip_sim  scenario' \
-    "$said"$'\ntold by gossip_sim\n'"$(compiling gossip_check)"$'\ntold by gossip_check\nin words' tried 1 --words
+    "$said"$'\ntold by gossip_sim\n'"$(compiling gossip_check 'half a minute')"$'\ntold by gossip_check\nin words' tried 1 --words
   expect 'words without proof again' 1 'gossip_sim  scenario' "$said"$'\ntold by gossip_sim\ntold by gossip_check\nin words' \
     tried 1 --words
   expect 'an answer without proof' 0 $'gossip_check  scenario\nin words' \
     "$(unproved answer 'gossip_check is not built')"$'\ntold by gossip_check\nwarning: this is no TOML 1.0, so there are no other warnings' \
     tried 0 --check
   expect 'a change without proof' 0 'gossip_sim  gossip_edit seed=2 scenario' \
-    "$(unproved report "gossip_edit is not built, and $one"; compiling gossip_edit)"$'\ntold by gossip_edit\ntold by gossip_sim' \
+    "$(unproved report "gossip_edit is not built, and $one"; compiling gossip_edit 'half a minute')"$'\ntold by gossip_edit\ntold by gossip_sim' \
     tried 0 --seed 2
   expect 'a print without proof' 64 '' "$(unproved scenario 'gossip_edit is not built')"$'\ntold by gossip_edit' \
     tried 64 --print --seed 2
@@ -144,6 +154,40 @@ check_unproved() {
     in_tree tried=5 sweep --seeds 1 "$example"
 }
 
+# Descriptions where nothing is proved: on standard input, which are named, and a file that is refused.
+check_descriptions() {
+  local said
+  said='*in words*: this looks like a description, and from standard input or a pipe none is read: bin/scenario - | bin/'
+  expect_like 'a description from a pipe' 1 '*' "${said#\*in words}gossip_sim" piped_description 1 gossip_sim
+  expect_like 'its words' 1 '*' "${said}gossip_sim" piped_description 1 gossip_sim --words
+  expect_like 'its check' 1 '27 group*' "*there may be more*${said#\*in words}gossip_sim" piped_description 1 gossip_sim --check -
+  expect_like 'its figures' 1 '*' "${said#\*in words}gossip_stats" piped_description 1 gossip_stats
+  printf '[[group]]\nprefx = "a"\n' >"$room/misspelt"
+  expect 'a description that is refused before anything is compiled' 1 '' \
+    "scenario: $room/misspelt:2: [[group]] 1: prefx: \"prefx\" is not known here; the nearest is prefix
+scenario: $room/misspelt was not read to its end, so there may be more faults" in_tree tried=none gossip_sim "$room/misspelt"
+  expect_like 'a description as standard input' 1 '*' "${said#\*in words}gossip_sim" description_in_file gossip_sim
+}
+
+# bin/build --unproved, twice.
+check_compiled() {
+  local said='build: compiled without proof, or proved before:' all='gossip_sim gossip_check gossip_edit gossip_stats gossip_picture'
+  rm -rf "$room/tree/out/unproved"
+  expect 'a build without proof' 0 '' \
+    "build: compiling ${all// / and } without proof, which takes about a minute"$'\n'"$said $all" in_tree tried=0 build --unproved
+  expect 'a build without proof again' 0 '' "$said $all" in_tree tried=none build --unproved
+  expect 'a run of what was so built' 0 'gossip_sim  scenario' \
+    "$(unproved report 'gossip_sim is not built')"$'\ntold by gossip_sim' tried 0
+  rm -rf "$room/tree/out/unproved"
+  expect 'a build without proof of one' 0 '' \
+    "build: compiling gossip_check without proof, which takes about half a minute"$'\n'"$said gossip_check" \
+    in_tree tried=0 build --unproved gossip_check
+  expect_like 'a build without proof that fails' 4 '' '*build: gossip_edit could not be compiled, as the lines above say' \
+    in_tree tried=none build --unproved gossip_edit
+  expect 'a build without proof by jobs' 64 '' 'build: --jobs and --unproved do not go together; --help says more' \
+    in_tree tried=0 build --jobs 2 --unproved
+}
+
 # bin/build, and what is run of what it built.
 check_build() {
   local place=$room/tree/crates said
@@ -162,4 +206,6 @@ check_build() {
   printf '#!/bin/sh\nexit 1\n' >"$place/gossip_sim/out/gossip_sim"
   expect 'a refusal whose words are not built' 1 '' 'gossip_sim: bin/gossip_sim --check FILE tells why in words' \
     tried none --words
+  said='this looks like a description, and from standard input or a pipe none is read: bin/scenario - | bin/gossip_sim'
+  expect 'a description as the input of what was built' 1 '' "gossip_sim: $said" description_in_file gossip_sim
 }

@@ -160,7 +160,7 @@ check_sweep_arguments() {
   refused_sweep 'too many runs' 'a sweep has at most 1,000,000 runs, not 1,002,001' \
     --seeds 1..1001 --set a=1..1001 three.toml
   refused_sweep 'an unknown column' 'there is no column old' --columns new,old three.toml
-  refused_sweep 'no round to cut at' '--until takes a round, from 1 to 999999' --until 0 three.toml
+  refused_sweep 'no round to cut at' '--until takes a round, from 1 to 999999, or a time, as "150 s"' --until 0 three.toml
   refused_sweep 'no jobs' '--jobs takes a number from 1 to 9999' --jobs 0 three.toml
   expect 'a sweep of a file that is not there' 66 '' 'sweep: there is no file none.toml' in_sweeps none.toml
   expect 'a sweep of a folder' 66 '' 'sweep: . is a folder, not a scenario' in_sweeps .

@@ -27,14 +27,18 @@ KINDS = list(KEYS)
 QUIET_KINDS = "silent", "eclipse"
 
 
+def known_keys(table):
+    """The keys that an attack of its kind may have."""
+    kind = table.get("kind") if isinstance(table, dict) else None
+    return [*COMMON, *(KEYS[kind] if isinstance(kind, str) and kind in KEYS else KEYS["covert"])]
+
+
 class Attack:
     """An attack: its keys, who attacks, on which topic, and from which round on."""
 
     def __init__(self, world, table, place):
         self.world, path = world, ("attack", place)
-        kind = table.get("kind") if isinstance(table, dict) else None
-        known = [*COMMON, *(KEYS[kind] if isinstance(kind, str) and kind in KEYS else KEYS["covert"])]
-        self.fields = Fields(table, path, known, world.setting.round_ms)
+        self.fields = Fields(table, path, known_keys(table), world.setting.round_ms)
         self.kind = self.fields.one_of("kind", KINDS)
         self.names, self.topic = world.named(self.fields, "peer"), world.topic(self.fields)
         self.draws = Draws(world.setting.seed, "attack", place)
@@ -52,7 +56,7 @@ class Attack:
     def flood(self, rpc_of):
         """Sends RPCs, `count` of them at each moment on each link."""
         count = self.fields.whole("count", 1, 10_000, 1)
-        for at in moments(self.world, self.fields):
+        for at in self.world.each(moments(self.world, self.fields)):
             self.put(at, lambda at=at: b"".join(wire.frame(rpc_of(at)) for _ in range(count)))
 
 
@@ -185,9 +189,19 @@ def add_attack(world, table, place):
     RUN[attack.kind](attack)
 
 
+# What is said of keys that a partition has not: of those by which one might be to end.
+HEALS = (
+    "a closed link stays closed, so a partition has no end; one that heals is a group of gateways that leave the topic and "
+    'come back: docs/DESCRIPTIONS.md, "[[partition]]", shows it'
+)
+NOT_OF_PARTITIONS = dict.fromkeys("until to end ends duration for lasts heal heals heal_at heals_at".split(), HEALS)
+PARTITION = "at between".split()
+NOT_OF_PARTITIONS["from"] = "at says when a partition comes"
+
+
 def add_partition(world, table, place):
     """Hangs up on each link between two sides. No link comes back."""
-    fields = Fields(table, ("partition", place), ["at", "between"], world.setting.round_ms)
+    fields = Fields(table, ("partition", place), PARTITION, world.setting.round_ms, NOT_OF_PARTITIONS)
     at = world.check_moment(fields, "at", fields.moment("at"))
     sides = [world.members(it, lambda why: fields.fail("between", why)) for it in fields.texts("between")]
     if len(sides) != 2 or set(sides[0]) & set(sides[1]):

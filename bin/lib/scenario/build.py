@@ -1,10 +1,10 @@
 """Makes a plain scenario of a description."""
+import platform
 from decimal import Decimal
 
 from . import attacks, groups, loads, plain, presets
-from .fault import Fault, no_such
-from .fields import HEX, Fields
-from .wire import module
+from .fault import Fault, Faults, Missing, no_such
+from .fields import HEX, Fields, key_faults
 from .world import Published, Setting, World
 
 # The keys by which a text is a description, and no plain scenario.
@@ -13,6 +13,10 @@ TOP = [*plain.TOP, *OF_DESCRIPTIONS]
 # The keys of both lists of what peers hold of neighbours, and what of them groups have.
 OPINIONS = {"app": (plain.APP, groups.app_scores), "explicit": (plain.EXPLICIT, groups.agreements)}
 LISTS = "topic peer dial app explicit do group load attack send partition".split()
+# The keys of a list's tables. Those of an attack and of a line depend on its kind.
+KEYS = {"topic": [*plain.TOPIC, "like"], "peer": plain.PEER, "dial": plain.DIAL, "do": plain.DO, "app": plain.APP}
+KEYS |= {"explicit": plain.EXPLICIT, "group": groups.GROUP, "load": loads.LOAD, "send": loads.SEND}
+KEYS["partition"] = attacks.PARTITION
 
 
 def setting_of(top, seed):
@@ -47,7 +51,6 @@ def add_topics(world, tables):
         for key in ("reject", "ignore"):
             if not all(isinstance(it, str) and HEX.fullmatch(it) for it in fields.list(key, [])):
                 fields.fail(key, "it must be a list of texts of pairs of hex digits")
-        presets.check_numbers(fields)
         world.topics[name] = {key: [bytes.fromhex(it) for it in table.get(key, [])] for key in ("reject", "ignore")}
 
 
@@ -117,8 +120,33 @@ def add_plain_line(world, table, place):
         world.published.append(Published(line["at"], line["peer"], line["topic"], payload))
 
 
+def known_keys(name, table):
+    """The keys that a table of a list may have."""
+    if name == "attack":
+        return attacks.known_keys(table)
+    if name == "do" and isinstance(table, dict) and isinstance(table.get("what"), str):
+        return ["what", "at", "peer", *plain.KEYS_OF_LINE.get(table["what"], plain.DO)]
+    return KEYS[name]
+
+
+def first_faults(description, lists):
+    """A refusal for each key that is not known, of the top table and of those below it, and for each parameter that is no
+    number."""
+    found = list(key_faults(description, (), TOP, {}))
+    for name, known in (("network", groups.NETWORK), ("params", plain.PARAMS)):
+        if name in description:
+            found += key_faults(description[name], (name,), known, {})
+    for name, tables in lists.items():
+        hints = attacks.NOT_OF_PARTITIONS if name == "partition" else {}
+        for place, table in enumerate(tables):
+            found += key_faults(table, (name, place), known_keys(name, table), hints)
+            found += presets.number_faults(table, (name, place)) if name == "topic" else []
+    return found + list(presets.number_faults(description.get("params"), ("params",)))
+
+
 def add_lines(world, lists, found):
-    """Adds the script: what groups subscribe to, the lines of the file, loads, attacks, RPCs and partitions."""
+    """Adds the script: what groups subscribe to, the lines of the file, loads, attacks, RPCs and partitions. Of each table
+    the first fault is told."""
     for fields, names in found:
         is_quiet = attacks.is_quiet(lists["attack"], fields.text("prefix"))
         groups.subscribe(world, fields, names, is_quiet)
@@ -129,13 +157,23 @@ def add_lines(world, lists, found):
         "send": loads.add_send,
         "partition": attacks.add_partition,
     }
+    faults = []
     for name, add in adders.items():
         for place, table in enumerate(lists[name]):
-            add(world, table, place)
+            try:
+                add(world, table, place)
+            except Fault as it:
+                faults.append(it)
+    if faults:
+        raise Faults(faults, True)
 
 
 def scenario_of(description, options, say):
-    """The plain scenario of a description, and the comments of its keys. What it can't have is said."""
+    """The plain scenario of a description, the comments of its keys, and where its peers and its lines come from: a path of
+    the description for each. What it can't have is said."""
+    faults = first_faults(description, {it: description[it] for it in LISTS if isinstance(description.get(it), list)})
+    if faults:
+        raise Faults(faults, False)
     top = Fields(description, (), TOP)
     setting = setting_of(top, options.seed)
     world, lists = World(setting), checked_lists(top)
@@ -155,15 +193,23 @@ def scenario_of(description, options, say):
         "explicit": opinions(world, "explicit", lists["explicit"], found),
     }
     add_lines(world, lists, found)
-    scenario["do"] = sorted(world.lines, key=lambda it: it["at"])
+    order = sorted(range(len(world.lines)), key=lambda it: world.lines[it]["at"])
+    scenario["do"] = [world.lines[it] for it in order]
+    origins = {"peer": world.peer_paths, "do": [world.line_paths[it] for it in order]}
     source = options.params or (top.text("params_from") if top.has("params_from") else None)
-    comments = presets.apply(scenario, description, source, options, say)
-    return scenario, comments
+    try:
+        comments = presets.apply(scenario, description, source, options, say)
+    except Fault as it:
+        raise Faults([it], True) from None
+    return scenario, comments, origins
 
 
 def read(text, end):
     """The values of a TOML text, floats as they are written. Where it is none, `end` gets the reason."""
-    tomllib = module("tomllib", "python3, 3.11 or later,")
+    try:
+        import tomllib
+    except ModuleNotFoundError:
+        raise Missing(f"this Python is {platform.python_version()}, and descriptions need 3.11 or later") from None
     try:
         return tomllib.loads(text, parse_float=Decimal)
     except (tomllib.TOMLDecodeError, RecursionError) as why:

@@ -5,12 +5,15 @@ import re
 import sys
 
 from . import build, presets
-from .fault import Fault, Missing, words_of
+from .fault import Fault, Faults, Missing, words_of
 from .places import Places, Unreadable
 from .plain import MOST_BYTES, one_line, scenario_text
 
 # A line by which a text may be a description. Where there is none, it is a plain scenario.
 HINT = re.compile(rb"^[ \t]*(?:\[\[?[ \t]*)?[\"']?(?:%s)\b" % "|".join(build.OF_DESCRIPTIONS).encode(), re.MULTILINE)
+
+
+MOST_FAULTS = 20
 
 
 class Options:
@@ -116,7 +119,18 @@ def explain(options, places, fault):
     """Says where a description is refused, and why."""
     line = places.line_of(fault.path) if places else None
     where = words_of(fault.path)
-    stop(1, ": ".join(one_line(it) for it in (name_of(options) + (f":{line}" if line else ""), where, fault.why) if it))
+    say(": ".join(one_line(it) for it in (name_of(options) + (f":{line}" if line else ""), where, fault.why) if it))
+
+
+def explain_all(options, places, faults, is_all):
+    """Says each refusal of a description, in the order of its lines."""
+    for it in sorted(faults, key=lambda it: places.line_of(it.path) or 0 if places else 0)[:MOST_FAULTS]:
+        explain(options, places, it)
+    if len(faults) > MOST_FAULTS:
+        say(f"{len(faults) - MOST_FAULTS} more are not shown")
+    if not is_all:
+        say(f"{name_of(options)} was not read to its end, so there may be more faults")
+    sys.exit(1)
 
 
 def heading(options, data):
@@ -142,7 +156,7 @@ def syntax_fault(options, why):
 def text_of(options, data):
     """A description as a text."""
     if len(data) > MOST_BYTES:
-        stop(1, f"{name_of(options)}: a description has at most {MOST_BYTES} bytes")
+        stop(1, f"{name_of(options)}: a description has at most {MOST_BYTES:,} bytes")
     try:
         return data.decode("utf-8-sig").replace("\r\n", "\n")
     except UnicodeDecodeError:
@@ -158,12 +172,15 @@ def scenario_in(options, data):
     if options.params is None and not set(description) & set(build.OF_DESCRIPTIONS):
         return data
     try:
-        scenario, comments = build.scenario_of(description, options, say)
+        scenario, comments, _ = build.scenario_of(description, options, say)
+    except Faults as it:
+        return explain_all(options, places_in(text), it.faults, it.is_all)
     except Fault as fault:
-        return explain(options, places_in(text), fault)
+        return explain_all(options, places_in(text), [fault], False)
     printed = scenario_text(scenario, comments, heading(options, data)).encode()
     if len(printed) > MOST_BYTES:
-        stop(1, f"{name_of(options)}: the scenario would have more than {MOST_BYTES} bytes, which is all that is read")
+        many = f"the scenario has {len(printed):,} bytes, and only {MOST_BYTES:,} are read"
+        stop(1, f"{name_of(options)}: {many}: shorten the script")
     return printed
 
 
@@ -183,7 +200,7 @@ def main(words, usage):
             print_params(options)
         else:
             put(scenario_in(options, bytes_of(options.file)))
-    except Missing as package:
-        stop(4, f"the package {package} is missing: apt-get install {package} brings it")
+    except Missing as why:
+        stop(4, str(why))
     except KeyboardInterrupt:
         sys.exit(130)

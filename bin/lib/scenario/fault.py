@@ -1,4 +1,8 @@
 """Why a description is refused, and where."""
+import difflib
+
+# How many known words are all named beside an unknown one.
+MOST_SHOWN = 8
 
 
 class Fault(Exception):
@@ -9,8 +13,16 @@ class Fault(Exception):
         self.path, self.why = tuple(path), why
 
 
+class Faults(Exception):
+    """Some refusals. Where the description was not read to its end, there may be more."""
+
+    def __init__(self, faults, is_all):
+        super().__init__()
+        self.faults, self.is_all = faults, is_all
+
+
 class Missing(Exception):
-    """A package that isn't installed."""
+    """What is not installed, and how to get it."""
 
 
 def words_of(path):
@@ -51,10 +63,15 @@ def nearest(word, known):
     return best
 
 
-def unknown(word, known):
-    """What is said of an unknown word."""
+def unknown(word, known, hint=None):
+    """What is said of an unknown word: a hint, or the nearest of the known ones, or all of these where they are few."""
     near = nearest(word, known)
-    return f'"{word}" is not known here; ' + (f"the nearest is {near}" if near else f"there are {', '.join(known)}")
+    if hint is None and near:
+        hint = f"the nearest is {near}"
+    elif hint is None and len(known) > MOST_SHOWN:
+        first, second, third = difflib.get_close_matches(word, known, 3, 0)
+        hint = f"of {len(known)} that are, the nearest are {first}, {second} and {third}"
+    return f'"{word}" is not known here; ' + (hint or f"there are {', '.join(known)}")
 
 
 def no_such(kind, name, known):

@@ -2,6 +2,8 @@
 import re
 from decimal import Decimal
 
+from hints import unknown_hint
+
 from .fault import Fault, unknown
 from .plain import value_text
 
@@ -11,6 +13,20 @@ MOMENT = re.compile(r"([0-9]+(?:\.[0-9]+)?) ?(ms|s|min|h)")
 NAME = re.compile(r"[a-z0-9_-]{1,32}")
 HEX = re.compile(r"(?:[0-9a-fA-F]{2})*")
 MOST_ROUNDS = 100_000
+
+
+def whole_hint(key, value):
+    """What to write in place of a value that is no whole number, for a key that holds one; empty where that is not sure."""
+    if isinstance(value, Decimal) and value.is_finite() and abs(value) <= 10**12 and value == int(value):
+        return f"; write {int(value)}"
+    if not isinstance(value, str):
+        return ""
+    milliseconds = milliseconds_of(value)
+    if milliseconds is not None and key.endswith("_ms"):
+        return f"; write {milliseconds}, in milliseconds"
+    if milliseconds is not None and key.endswith("_s") and milliseconds % 1_000 == 0:
+        return f"; write {milliseconds // 1_000}, in seconds"
+    return f"; write {int(value)}" if re.fullmatch("-?[0-9]{1,12}", value) else ""
 
 
 def shown(value):
@@ -44,16 +60,23 @@ def rounds_of(value, round_ms, fail):
     return milliseconds // round_ms
 
 
+def key_faults(table, path, known, hints):
+    """What is wrong with the keys of a table: a refusal for each that is not known."""
+    if not isinstance(table, dict):
+        yield Fault(path, f"{shown(table)} is no table")
+        return
+    for key in table:
+        if key not in known:
+            yield Fault((*path, key), unknown(key, known, hints.get(key) or unknown_hint((*path, key))))
+
+
 class Fields:
     """A table, and the path that leads to it."""
 
-    def __init__(self, table, path, known, round_ms=None):
+    def __init__(self, table, path, known, round_ms=None, hints=None):
         self.table, self.path, self.round_ms = table, tuple(path), round_ms
-        if not isinstance(table, dict):
-            raise Fault(path, f"{shown(table)} is no table")
-        for key in table:
-            if key not in known:
-                raise Fault((*path, key), unknown(key, known))
+        for it in key_faults(table, self.path, known, hints or {}):
+            raise it
 
     def fail(self, key, why):
         raise Fault((*self.path, key) if key in self.table else self.path, why if key in self.table else f"{key}: {why}")
@@ -61,7 +84,7 @@ class Fields:
     def has(self, key):
         return key in self.table
 
-    def get(self, key, default, is_right, must):
+    def get(self, key, default, is_right, must, hint=lambda key, value: ""):
         """What a key holds, where it is right, or its default."""
         if key not in self.table:
             if default is REQUIRED:
@@ -69,7 +92,7 @@ class Fields:
             return default
         value = self.table[key]
         if not is_right(value):
-            self.fail(key, f"{shown(value)} must be {must}")
+            self.fail(key, f"{shown(value)} must be {must}{hint(key, value)}")
         return value
 
     def text(self, key, default=REQUIRED):
@@ -82,7 +105,7 @@ class Fields:
         def is_right(it):
             return isinstance(it, int) and not isinstance(it, bool) and low <= it <= high
 
-        return self.get(key, default, is_right, f"a whole number from {low} to {high}")
+        return self.get(key, default, is_right, f"a whole number from {low} to {high}", whole_hint)
 
     def part(self, key, default=REQUIRED):
         """A part of 1, as 0.25, in millionths."""

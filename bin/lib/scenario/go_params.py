@@ -91,7 +91,8 @@ TOPIC = {
 NO_COUNTERPART = {
     "AcceptPXThreshold": "there is no peer exchange",
     "AppSpecificScore": "[[app]] has values of the application's score",
-    "BehaviourPenaltyThreshold": "each misbehaviour counts here, from the first on (P7)",
+    "BehaviourPenaltyThreshold": "each misbehaviour counts here, from the first on; Prysm and Lotus forgive 6, and "
+    "--set params.w7=0 compares without this penalty",
     "ConnectionTimeout": "",
     "Connectors": "",
     "DirectConnectInitialDelay": "",
@@ -141,7 +142,7 @@ class Reader:
 
     def __init__(self, say, fault, decay_ms=None):
         self.say, self.fault = say, fault
-        self.decay_ms, self.interval, self.changed = decay_ms, 10**9, []
+        self.decay_ms, self.interval, self.changed, self.lacking = decay_ms, 10**9, [], []
 
     def set_interval(self, scores):
         """Notes how long an interval is for which decays are given."""
@@ -182,8 +183,7 @@ class Reader:
             if name in names:
                 found[names[name].name] = self.value_of(name, names[name], value)
             elif name in NO_COUNTERPART:
-                why = NO_COUNTERPART[name]
-                self.say(f"{name} has no counterpart here" + (f": {why}" if why else ""))
+                self.lacking += [name] * (name not in self.lacking)
             else:
                 self.fault(unknown(name, [*fault_names, *NO_COUNTERPART]))
         return found
@@ -199,6 +199,12 @@ class Reader:
             self.changed.append("d_score")
             self.say(f"Dscore and Dout are more than D together, which is not taken here: d_score is {found['d_score']}")
         return found
+
+    def say_lacking(self):
+        """Says in one line what has no counterpart."""
+        words = [f"{it} ({NO_COUNTERPART[it]})" if NO_COUNTERPART[it] else it for it in self.lacking]
+        if words:
+            self.say(f"what has no counterpart here is left out: {', '.join(words)}")
 
     def topic(self, given):
         return self.table(TOPIC, given, list(TOPIC))

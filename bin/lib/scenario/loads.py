@@ -73,7 +73,7 @@ def add_load(world, table, place):
     is_one = len(times) == 1 and (len(names) == 1 or fields.text("by", "turn") != "all")
     make = payload_maker(world, fields, topic, is_one)
     draws = Draws(world.setting.seed, "publishers", *fields.path)
-    for number, at in enumerate(times):
+    for number, at in enumerate(world.each(times)):
         for name in publishers(fields, names, number, draws):
             world.publish(fields.path, at, name, topic, make())
 
@@ -154,6 +154,6 @@ def add_send(world, table, place):
         fields.fail("peer", f"the RPC has {len(encoded)} bytes, and an RPC may have at most {wire.MOST_BODY}")
     many = fields.whole("count", 1, 10_000, 1)
     links = links_of(world, fields, world.named(fields, "peer"))
-    for at in moment_or_more(world, fields):
+    for at in world.each(moment_or_more(world, fields)):
         for name, to in links:
             world.raw(fields.path, at, name, to, wire.framed(encoded) * many)

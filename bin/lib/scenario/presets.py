@@ -5,11 +5,11 @@ from decimal import Decimal
 
 from . import go_params, published
 from .fault import Fault, unknown
-from .fields import Fields, is_name, shown
+from .fields import Fields, is_name, shown, whole_hint
 from .plain import PARAMS, TOPIC
 
-# Keys of [params] and of topics that hold no number, and those that hold millionths.
-NO_NUMBERS = "name", "like", "reject", "ignore", "flood_publish"
+# Keys of [params] and of topics that hold a number, and those that hold millionths.
+NUMBERS = {*PARAMS, *TOPIC} - {"name", "reject", "ignore", "flood_publish"}
 IN_MILLIONTHS = {
     key.name
     for keys in (go_params.PARAMS, go_params.THRESHOLDS, go_params.SCORES, go_params.TOPIC)
@@ -31,6 +31,7 @@ class Preset:
             self.take_file(os.path.join(options.folder_of(source), source))
         else:
             raise Fault(("params_from",), unknown(source, [*published.NETWORKS, "a file with .json at its end"]))
+        self.reader.say_lacking()
 
     def take_network(self, network):
         groups = {it: published.values_of(network[it]) for it in ("params", "thresholds", "scores")}
@@ -86,15 +87,15 @@ def check_times(scenario):
             raise Fault(("round_ms",), f"{key} is {value}, which is no multiple of it, {scenario['round_ms']}")
 
 
-def check_numbers(fields):
-    """The values of parameters must be whole numbers. Of one that is none, and is in millionths, the words say these."""
-    for key, value in fields.table.items():
-        if key in NO_NUMBERS or isinstance(value, int) and not isinstance(value, bool) and abs(value) <= 10**12:
+def number_faults(table, path):
+    """A refusal for each value of a parameter that is no whole number. Of one that is in millionths the words say these."""
+    for key, value in table.items() if isinstance(table, dict) else ():
+        if key not in NUMBERS or isinstance(value, int) and not isinstance(value, bool) and abs(value) <= 10**12:
             continue
-        why = f"{shown(value)} must be a whole number"
+        hint = whole_hint(key, value)
         if isinstance(value, Decimal) and value.is_finite() and abs(value) <= 10**6 and key in IN_MILLIONTHS:
-            why += f"; in millionths it is {go_params.millionths(value)}"
-        fields.fail(key, why)
+            hint = f"; in millionths it is {go_params.millionths(value)}"
+        yield Fault((*path, key), f"{shown(value)} must be a whole number{hint}")
 
 
 def topics_of(tables, preset, comments):
@@ -117,7 +118,6 @@ def apply(scenario, description, source, options, say):
     """Gives a scenario its `params` and its topics, and gives the comments of keys that come from a preset."""
     own, tables, comments = description.get("params", {}), description["topic"], {}
     fields = Fields(own, ("params",), PARAMS)
-    check_numbers(fields)
     fields.truth("flood_publish", None)
     if source is None:
         for place, table in enumerate(tables):

@@ -1,13 +1,7 @@
-"""RPCs as bytes. Protobuf's own library encodes them, by the public `rpc.proto` of gossipsub v1.1."""
-import functools
+"""RPCs as bytes: protobuf's encoding, by the public `rpc.proto` of gossipsub v1.1. It needs no package.
+tools/check_scenarios compares it with protobuf's own library."""
 import hashlib
-import importlib
-import sys
 
-from .fault import Missing
-
-# Where Debian has the packages of its own Python, which another one on the path doesn't look into.
-DEBIAN = "/usr/lib/python3/dist-packages"
 MOST_BODY = 1_048_576
 
 # rpc.proto (libp2p pubsub, "The RPC", "The Message"; gossipsub v1.0 and v1.1, "Control messages"): the fields of each message.
@@ -35,75 +29,7 @@ MESSAGES = {
     "ControlPrune": ("optional bytes topicID 1", "repeated PeerInfo peers 2", "optional uint64 backoff 3"),
     "PeerInfo": ("optional bytes peerID 1", "optional bytes signedPeerRecord 2"),
 }
-
-
-def module(name, package):
-    """A module of a Debian package, where that is installed."""
-    try:
-        return importlib.import_module(name)
-    except ModuleNotFoundError:
-        sys.path.append(DEBIAN)
-    try:
-        return importlib.import_module(name)
-    except ModuleNotFoundError:
-        raise Missing(package) from None
-    finally:
-        sys.path.remove(DEBIAN)
-
-
-def describe(file, name, fields):
-    """Adds a message to a file of protobuf's."""
-    message = file.message_type.add(name=name)
-    for text in fields:
-        label, kind, name_of, number = text.split()
-        field = message.field.add(name=name_of, number=int(number))
-        field.label = field.LABEL_REPEATED if label == "repeated" else field.LABEL_OPTIONAL
-        if kind in MESSAGES:
-            field.type, field.type_name = field.TYPE_MESSAGE, f".pubsub.pb.{kind}"
-        else:
-            field.type = {"bool": field.TYPE_BOOL, "bytes": field.TYPE_BYTES, "uint64": field.TYPE_UINT64}[kind]
-
-
-@functools.lru_cache(maxsize=None)
-def rpc_class():
-    """Protobuf's class of an RPC."""
-    package = "python3-protobuf"
-    descriptors = module("google.protobuf.descriptor_pb2", package)
-    pools = module("google.protobuf.descriptor_pool", package)
-    factories = module("google.protobuf.message_factory", package)
-    file = descriptors.FileDescriptorProto(name="rpc.proto", package="pubsub.pb", syntax="proto2")
-    for name, fields in MESSAGES.items():
-        describe(file, name, fields)
-    pool = pools.DescriptorPool()
-    pool.Add(file)
-    found = pool.FindMessageTypeByName("pubsub.pb.RPC")
-    if hasattr(factories, "GetMessageClass"):
-        return factories.GetMessageClass(found)
-    return factories.MessageFactory(pool).GetPrototype(found)
-
-
-def fill(message, parts):
-    """Gives a message its fields: a dict has those of a message, a list those of a repeated one."""
-    for name, value in parts.items():
-        if isinstance(value, dict):
-            field = getattr(message, name)
-            field.SetInParent()
-            fill(field, value)
-        elif isinstance(value, list):
-            for it in value:
-                if isinstance(it, dict):
-                    fill(getattr(message, name).add(), it)
-                else:
-                    getattr(message, name).append(it)
-        else:
-            setattr(message, name, value)
-
-
-def body(parts):
-    """The encoding of an RPC."""
-    rpc = rpc_class()()
-    fill(rpc, parts)
-    return rpc.SerializeToString(deterministic=True)
+FIELDS = {name: [it.split() for it in fields] for name, fields in MESSAGES.items()}
 
 
 def varint(number):
@@ -117,6 +43,28 @@ def varint(number):
 
 def framed(encoded):
     return varint(len(encoded)) + encoded
+
+
+def record(kind, parts):
+    """The encoding of a message: its fields in the order of their numbers. A dict has them by their names."""
+    found = []
+    for label, of, name, number in FIELDS[kind]:
+        if name in parts:
+            values = parts[name] if label == "repeated" else [parts[name]]
+            found += [field(of, int(number), it) for it in values]
+    return b"".join(found)
+
+
+def field(kind, number, value):
+    """A field: its number with how it is written, 0 for a number and 2 for bytes with their length; and its value."""
+    if kind in ("bool", "uint64"):
+        return varint(8 * number) + varint(int(value))
+    return varint(8 * number + 2) + framed(value if kind == "bytes" else record(kind, value))
+
+
+def body(parts):
+    """The encoding of an RPC."""
+    return record("RPC", parts)
 
 
 def frame(parts):

@@ -18,6 +18,10 @@ class World:
         self.peers, self.groups, self.network, self.topics = {}, {}, [], {}
         self.dials, self.subscribed, self.lines, self.published = {}, {}, [], []
         self.payloads, self.size = set(), 0
+        # (how many bytes there were before the moments of a table, how many of these are done, and of how many)
+        self.before, self.done, self.moments, self.at_moment = 0, 0, 1, 0
+        # (which part of the description each peer and each line comes from)
+        self.peer_paths, self.line_paths = [], []
 
     def add_peer(self, path, table, is_in_network):
         name = table["name"]
@@ -26,6 +30,7 @@ class World:
         if len(self.peers) == MOST_PEERS:
             raise Fault(path, f"a scenario has at most {MOST_PEERS} peers")
         self.peers[name] = table
+        self.peer_paths.append(path)
         if is_in_network:
             self.network.append(name)
 
@@ -80,13 +85,34 @@ class World:
             fields.fail(key, f"it is later than the last round, {self.setting.rounds}")
         return at
 
+    def each(self, moments):
+        """Gives the moments of a table, and notes how far it has come."""
+        self.before, self.moments = self.size, len(moments)
+        for self.done, at in enumerate(moments):
+            self.at_moment = self.size
+            yield at
+        self.done = 0
+
+    def too_much(self, path):
+        """Refuses a table by which the scenario has too many bytes. It tells how many they would be, by those so far."""
+        less = {"load": "a longer every or a smaller size", "send": "fewer links (to), a longer every or a smaller count"}
+        less["attack"] = "fewer links (to), a longer every, or a smaller count, ids or size"
+        many = f"more than {self.size:,}"
+        if self.done:
+            many = f"about {self.before + (self.at_moment - self.before) * self.moments // self.done:,}"
+        hint = f"; {less[path[0]]} makes it less" if path[0] in less else ""
+        # (the tables after it are told for themselves)
+        self.size = self.done = 0
+        raise Fault(path, f"with it the scenario has {many} bytes, and only {MOST_BYTES:,} are read{hint}")
+
     def add_line(self, path, line):
         """Adds a line of the script, while the scenario still fits what the program reads."""
         self.size += sum(len(key) + len(str(value)) + 5 for key, value in line.items())
         if self.size > MOST_BYTES:
-            raise Fault(path, f"the scenario would have more than {MOST_BYTES} bytes, which is all that is read")
+            self.too_much(path)
         if line["at"] <= self.setting.rounds:
             self.lines.append(line)
+            self.line_paths.append(path)
 
     def publish(self, path, at, peer, topic, payload):
         """Adds a publication. A payload may be published once: its SHA-256 is the message's identifier."""

@@ -3,9 +3,9 @@ import unittest
 
 from scenario import networks
 from scenario.draws import Draws
-from scenario.wire import module
 
 from .common import plain
+from .packages import module
 
 nx = module("networkx", "python3-networkx")
 SIZES = 2, 3, 5, 8, 13, 40, 63, 64

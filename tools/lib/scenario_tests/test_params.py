@@ -9,6 +9,10 @@ from scenario import go_params, published
 from .common import HEAD, TOP, by_program, called, in_file, plain
 
 GROUP = '[[group]]\nprefix = "g"\ncount = 2\n'
+LENIENT = (
+    "BehaviourPenaltyThreshold (each misbehaviour counts here, from the first on; Prysm and Lotus forgive 6, and --set params.w7=0 "
+    "compares without this penalty)"
+)
 END = 'rounds = 9\n[[group]]\nprefix = "g"\n'
 
 
@@ -66,7 +70,9 @@ class Published(unittest.TestCase):
         # 0.01 ** (1 / 3600) and 0.01 ** (1 / 600)
         self.assertEqual((topics["blocks"]["p2_decay"], topics["msgs"]["p2_decay"]), (998_722, 992_354))
         self.assertIn(b"scenario: filecoin: Dscore and Dout are more than D together, which is not taken here: d_score is 5", ran.stderr)
-        self.assertIn(b"BehaviourPenaltyThreshold has no counterpart here: each misbehaviour counts here", ran.stderr)
+        lacking = "DirectConnectInitialDelay, AcceptPXThreshold (there is no peer exchange), " + LENIENT + ", RetainScore (a closed link stays closed)"
+        self.assertIn(f"scenario: filecoin: what has no counterpart here is left out: {lacking}\n", ran.stderr.decode())
+        self.assertEqual(len(ran.stderr.splitlines()), 2)
 
     def test_the_file_itself_comes_first(self):
         text = HEAD.replace("news", "beacon_block") + "w1 = 7\n[params]\nd_lazy = 9\n" + GROUP
@@ -145,14 +151,13 @@ class Json(unittest.TestCase):
         self.assertEqual(scenario["params"]["iwant_followup_ms"], 2)
         self.assertEqual(scenario["topic"][0]["w4"], -1_000_000_000)
         for why in (
-            "PrunePeers has no counterpart here: there is no peer exchange",
+            f"what has no counterpart here is left out: PrunePeers (there is no peer exchange), {LENIENT}",
             "IWantFollowupTime is rounded to whole milliseconds: iwant_followup_ms",
-            "BehaviourPenaltyThreshold has no counterpart here: each misbehaviour counts here, from the first on (P7)",
             "Dscore and Dout are more than D together, which is not taken here: d_score is 5",
             "InvalidMessageDeliveriesWeight is -2000, beyond what w4 takes: w4 is -1000000000",
         ):
             self.assertIn(f"scenario: p.json: {why}", said)
-        self.assertEqual(len(said), 5)
+        self.assertEqual(len(said), 4)
 
     def test_refusals(self):
         for values, why in (

@@ -10,7 +10,7 @@ import unittest
 from scenario import attacks, build, groups, loads
 from scenario.places import Places
 
-from .common import HEAD, TOP, by_program, called, figures_of, in_file, plain, printed, run
+from .common import HEAD, TOP, by_program, called, figures, figures_of, in_file, plain, printed, run
 
 EVERYTHING = (
     HEAD
@@ -169,14 +169,23 @@ class Plain(unittest.TestCase):
         invalid = [int(it["invalid"]) for name, it in peers.items() if name[0] in "ew"]
         self.assertEqual({it % 12 for it in invalid}, {0})
         self.assertEqual(sum(invalid), 10 * 3 * 12)
+        last = [it.split() for it in by_program("gossip_sim", text).splitlines() if it.startswith("score ")]
+        self.assertEqual({it[3] for it in last if it[2].startswith("sybil")}, {"-15978.309839"})
 
     def test_the_page_of_descriptions(self):
         with open(f"{TOP}/docs/DESCRIPTIONS.md", encoding="utf-8") as file:
             page = file.read()
         whole, *parts = re.findall(r"```toml\n(.*?)```", page, re.DOTALL)
         self.assertEqual(len(parts), 3)
-        for text in (whole, *(whole + it for it in parts)):
+        # (the part of partitions is a whole description, too)
+        self.assertTrue(parts[2].startswith("until"))
+        for text in (whole, *(whole + it for it in parts[:2]), parts[2]):
             self.assertTrue(by_program("gossip_check", printed(text)).startswith("ok\n"))
+        reached = {int(it["at_ms"]): it["delivered"] for it in figures(parts[2])[0]}
+        times = range(3_000, 40_001, 2_000)
+        # (what is published at 23 s is still offered when the gateways are back)
+        expected = ["15" if 10_000 < it < 22_000 else "30" if it == 23_000 else "32" for it in times]
+        self.assertEqual([reached[it] for it in times], expected)
         for kind in attacks.KINDS:
             self.assertIn(f'kind = "{kind}"', page)
         keys = [*groups.GROUP, *groups.NETWORK, *groups.KINDS, *loads.LOAD, *loads.SEND, *loads.MESSAGE, *loads.PRUNE, *loads.OFFER]

@@ -1,5 +1,6 @@
 """What bin/scenario refuses, with the line, and how it ends."""
 import os
+import platform
 import subprocess
 import sys
 import tempfile
@@ -59,12 +60,23 @@ CASES = {
     GROUP + '[[do]]\nat = 1\npeer = "g9"\nwhat = "subscribe"\ntopic = "news"\n': '10: [[do]] 1: peer: there is no peer "g9"',
     GROUP + '[[dial]]\nfrom = "g1"\nto = "g1"\n': "10: [[dial]] 1: to: the two are one peer, or are joined already",
     GROUP + "[params]\ngossip_factor = 0.25\n": "9: [params]: gossip_factor: 0.25 must be a whole number; in millionths it is 250000",
-    GROUP + '[params]\nd = "8"\n': '9: [params]: d: "8" must be a whole number',
+    GROUP + '[params]\nd = "8"\n': '9: [params]: d: "8" must be a whole number; write 8',
+    GROUP + "[params]\nd_low = 6.0\n": "9: [params]: d_low: 6.0 must be a whole number; write 6",
+    GROUP + '[params]\nheartbeat_ms = "700 ms"\n': '9: [params]: heartbeat_ms: "700 ms" must be a whole number; write 700, in milliseconds',
+    GROUP + '[params]\nprune_backoff_s = "1 min"\n': '9: [params]: prune_backoff_s: "1 min" must be a whole number; write 60, in seconds',
+    GROUP + "[params]\ngossip_factor = 1.0\n": "9: [params]: gossip_factor: 1.0 must be a whole number; in millionths it is 1000000",
+    GROUP + '[[load]]\npeer = "g"\nevery = 5\nsize = "300"\n': '11: [[load]] 1: size: "300" must be a whole number from 4 to 1000000; write 300',
     GROUP + '[[topic]]\nname = "other"\nw1 = true\n': "10: [[topic]] 2: w1: true must be a whole number",
     GROUP + '[[do]]\nat = 1\npeer = "g1"\nwhat = "raw"\nto = "g2"\nhex = "0"\n': '13: [[do]] 1: hex: "0" must be a text of pairs of hex digits',
     GROUP + '[[do]]\nat = 1\npeer = "g1"\nwhat = "hang_up"\nto = "g1"\n': '12: [[do]] 1: to: "g1" is no neighbour of "g1"',
     GROUP + '[[do]]\nat = 1\npeer = "g1"\nwhat = "hang"\nto = "g2"\n': '11: [[do]] 1: what: "hang" is not known here; there are subscribe, unsubscribe, publish, raw, hang_up',
     GROUP + '[[app]]\npeer = "g1"\nabout = "g2"\nvalue = 0.5\n': "11: [[app]] 1: value: 0.5 must be a whole number from -1000000000 to 1000000000",
+    GROUP + '[[partition]]\nat = 5\nuntil = 9\nbetween = ["g1", "g2"]\n': '10: [[partition]] 1: until: "until" is not known here; a closed link stays closed, so a partition has no end; one that heals is a group of gateways that leave the topic and come back: docs/DESCRIPTIONS.md, "[[partition]]", shows it',
+    GROUP + '[[partition]]\nfrom = 5\nbetween = ["g1", "g2"]\n': '9: [[partition]] 1: from: "from" is not known here; at says when a partition comes',
+    GROUP + "[params]\nDlo = 5\n": '9: [params]: Dlo: "Dlo" is not known here; go-libp2p\'s Dlo is d_low of [params] here',
+    GROUP + "[params]\nw4 = 5\n": '9: [params]: w4: "w4" is not known here; w4 is a key of each [[topic]]: topic.0.w4?',
+    GROUP + "[GossipSubParams]\nD = 5\n": '8: GossipSubParams: "GossipSubParams" is not known here; go-libp2p\'s names go into a .json file, which a description takes: params_from = "FILE.json"',
+    GROUP + "[params]\nmesh_size = 8\n": '9: [params]: mesh_size: "mesh_size" is not known here; of 33 that are, the nearest are mcache_gossip, max_ihave and d_score',
     GROUP + "[params]\ndlow = 3\n": '9: [params]: dlow: "dlow" is not known here; the nearest is d_low',
     GROUP + '[[topic]]\nname = "other"\nw3_b = 3\n': '10: [[topic]] 2: w3_b: "w3_b" is not known here; the nearest is w3b',
     GROUP + '[[topic]]\nname = "other"\nlike = "news"\n': "10: [[topic]] 2: like: it goes with params_from, which has topics that this one can be like",
@@ -76,11 +88,15 @@ CASES = {
 }
 
 
+MORE = "scenario: it.toml was not read to its end, so there may be more faults\n"
+
+
 class Refusals(unittest.TestCase):
     def said(self, text, *words):
         ran = in_file(text, *words)
         self.assertEqual((ran.returncode, ran.stdout), (1, b""), text)
-        return ran.stderr.decode()
+        # (a fault of peers or networks ends the reading)
+        return ran.stderr.decode().removesuffix(MORE)
 
     def test_each_names_its_line(self):
         for text, why in CASES.items():
@@ -104,13 +120,49 @@ class Refusals(unittest.TestCase):
             self.assertEqual(self.said(text + rest), f"scenario: {why}\n", text)
         self.assertEqual(self.said("until = 5\n" + GROUP), "scenario: it.toml: topic is missing: there must be a [[topic]] at least\n")
 
+    def test_keys_and_numbers_are_refused_at_once(self):
+        text = HEAD + GROUP + "evry = 3\n[params]\nDlo = 4\nd = 6.0\n[[load]]\npeer = 3\nevry = 4\n"
+        said = [
+            'it.toml:8: [[group]] 1: evry: "evry" is not known here; of 13 that are, the nearest are stagger, network and from',
+            "it.toml:10: [params]: Dlo: \"Dlo\" is not known here; go-libp2p's Dlo is d_low of [params] here",
+            "it.toml:11: [params]: d: 6.0 must be a whole number; write 6",
+            'it.toml:14: [[load]] 1: evry: "evry" is not known here; the nearest is every',
+        ]
+        self.assertEqual(in_file(text).stderr.decode(), "".join(f"scenario: {it}\n" for it in said) + MORE)
+
+    def test_tables_of_the_script_are_refused_at_once(self):
+        text = HEAD + GROUP + '[[attack]]\nkind = "spam"\npeer = "x"\n[[load]]\npeer = "g"\nevery = 0\nat = 9\n'
+        said = ['it.toml:10: [[attack]] 1: peer: there is no peer and no group "x"', "it.toml:13: [[load]] 1: every: it does not go with at"]
+        self.assertEqual(in_file(text).stderr.decode(), "".join(f"scenario: {it}\n" for it in said))
+
+    def test_many_faults_are_not_all_shown(self):
+        said = in_file(HEAD + GROUP + "".join(f"a{it} = 1\n" for it in range(23))).stderr.decode().splitlines()
+        self.assertEqual((len(said), said[-2]), (22, "scenario: 3 more are not shown"))
+
     def test_the_limits(self):
         topics = "".join(f'[[topic]]\nname = "t{it}"\n' for it in range(33))
         self.assertEqual(self.said("until = 5\n" + GROUP + topics), "scenario: it.toml:70: [[topic]] 33: a scenario has at most 32 of them\n")
         self.assertTrue(printed("until = 5\n" + GROUP + topics[: topics.rindex("[[topic]]")]))
         load = '[[load]]\npeer = "g"\nevery = 1\nsize = 100000\n'
-        more = "the scenario would have more than 8388608 bytes, which is all that is read"
-        self.assertEqual(self.said(HEAD + GROUP + load), f"scenario: it.toml:8: [[load]] 1: {more}\n")
+        # (101 payloads of 100,000 bytes, in hex)
+        more = "with it the scenario has about 20,2..,... bytes, and only 8,388,608 are read; a longer every or a smaller size makes it less"
+        flood = '[[attack]]\nkind = "ihave_flood"\npeer = "g1"\nevery = 1\nids = 3000\n'
+        less = more.replace("20,2..,...", "20,6..,...").replace("a longer every or a smaller", "fewer links .to., a longer every, or a smaller count, ids or")
+        said = self.said(HEAD + GROUP + load + flood + "to = 'g2'\n" + '[[load]]\npeer = "g1"\nat = 3\n')
+        self.assertRegex(said, rf"^scenario: it.toml:8: \[\[load\]\] 1: {more}\nscenario: it.toml:12: \[\[attack\]\] 1: {less}\n$")
+
+    def test_the_least_of_each_number(self):
+        clusters = '[network]\nkind = "clusters"\nclusters = 2\ndegree = 2\n'
+        for text, key in (
+            (clusters + "bridges = 0\n" + GROUP, "bridges: 0 must be a whole number from 1 to 2"),
+            (clusters.replace("clusters = 2", "clusters = 0") + GROUP, "clusters: 0 must be a whole number from 1 to 3"),
+            (GROUP + "dials_each = 0\n", "dials_each: 0 must be a whole number from 1 to 64"),
+            (GROUP + "addresses = 0\n", "addresses: 0 must be a whole number from 1 to 64"),
+            (GROUP + '[[attack]]\nkind = "spam"\npeer = "g1"\nevery = 3\ncount = 0\n', "count: 0 must be a whole number from 1 to 10000"),
+            (GROUP + '[[attack]]\nkind = "ihave_flood"\npeer = "g1"\nevery = 3\nids = 0\n', "ids: 0 must be a whole number from 1 to 5000"),
+            (GROUP + '[[send]]\npeer = "g1"\nat = 3\ncount = 0\n', "count: 0 must be a whole number from 1 to 10000"),
+        ):
+            self.assertTrue(self.said(HEAD + text).endswith(f": {key}\n"), self.said(HEAD + text))
 
     def test_intervals_must_be_whole_rounds(self):
         why = self.said('until = "7 s"\nround_ms = 1000\nparams_from = "ethereum"\n[[topic]]\nname = "news"\n' + GROUP)
@@ -145,7 +197,8 @@ class Ends(unittest.TestCase):
 
     def test_standard_input(self):
         ran = run("-", stdin=b"until = 5\n[[group]]\n")
-        self.ends(ran, 1, "scenario: standard input: topic is missing: there must be a [[topic]] at least\n")
+        why = "scenario: standard input: topic is missing: there must be a [[topic]] at least\n"
+        self.ends(ran, 1, why + MORE.replace("it.toml", "standard input"))
 
     def test_a_full_output(self):
         with open("/dev/full", "wb") as full:
@@ -153,17 +206,25 @@ class Ends(unittest.TestCase):
             ran = subprocess.run(command, stdout=full, stderr=subprocess.PIPE, check=False)
         self.assertEqual((ran.returncode, ran.stderr), (3, b"scenario: output failed\n"))
 
-    def test_a_missing_package_is_named(self):
-        # Python finds no package where it looks into no folder of them, as with -I -S, and Debian's folder is not there.
+    def test_no_package_is_needed(self):
+        # Python finds no package where it looks into no folder of them, as with -I -S.
         program = f"import sys; sys.path.insert(0, '{TOP}/bin/lib'); sys.dont_write_bytecode = True\n"
-        program += "from scenario import command, wire\nwire.DEBIAN = '/nowhere'\n"
-        for kind, status, said in (
-            ("[[send]]\npeer = 'g1'\nat = 2\n", 4, b"scenario: the package python3-protobuf is missing: apt-get install python3-protobuf brings it\n"),
-            ("[[load]]\npeer = 'g1'\nevery = '9 s'\n", 0, b""),
-        ):
-            with tempfile.TemporaryDirectory() as folder:
-                with open(f"{folder}/it.toml", "w", encoding="utf-8") as file:
-                    file.write(HEAD + GROUP + kind)
-                words = [sys.executable, "-I", "-S", "-c", program + f"command.main(['{folder}/it.toml'], '')"]
-                ran = subprocess.run(words, capture_output=True, check=False, env={**os.environ})
-                self.assertEqual((ran.returncode, ran.stderr), (status, said))
+        program += "from scenario import command\n"
+        text = HEAD + GROUP + '[[load]]\npeer = "g"\nat = 3\n' + "".join(
+            f'[[attack]]\nkind = "{kind}"\npeer = "g1"\nfrom = 5\nevery = 9\n'
+            for kind in ("spam", "ihave_flood", "iwant_flood", "graft_flood")
+        )
+        text += '[[send]]\npeer = "g1"\nat = 2\ngraft = "news"\n'
+        with tempfile.TemporaryDirectory() as folder:
+            with open(f"{folder}/it.toml", "w", encoding="utf-8") as file:
+                file.write(text)
+            words = [sys.executable, "-I", "-S", "-c", program + f"command.main(['{folder}/it.toml'], '')"]
+            ran = subprocess.run(words, capture_output=True, check=False, env={**os.environ})
+        self.assertEqual((ran.returncode, ran.stderr.decode(), ran.stdout.decode()), (0, "", printed(text)))
+
+    def test_an_old_python_is_named(self):
+        program = f"import sys; sys.path.insert(0, '{TOP}/bin/lib'); sys.dont_write_bytecode = True\n"
+        program += "sys.modules['tomllib'] = None\nfrom scenario import command\ncommand.main(['-'], '')\n"
+        ran = subprocess.run([sys.executable, "-c", program], input=HEAD.encode(), capture_output=True, check=False)
+        said = f"scenario: this Python is {platform.python_version()}, and descriptions need 3.11 or later\n"
+        self.assertEqual((ran.returncode, ran.stderr.decode()), (4, said))

@@ -1,9 +1,11 @@
-"""RPCs as bytes: against bytes that were worked out by hand, and read back by protobuf's own library."""
+"""RPCs as bytes: against bytes that were worked out by hand, and against protobuf's own library, which reads them back."""
 import hashlib
+import random
 import unittest
 
 from scenario import wire
 
+from . import packages
 from .common import HEAD, plain
 
 PEERS = '[[peer]]\nname = "a"\n[[peer]]\nname = "b"\n[[peer]]\nname = "c"\n[network]\nkind = "line"\n'
@@ -36,7 +38,7 @@ def raw_lines(text):
 def read_back(frame):
     """The RPC of a frame, read by protobuf."""
     assert frame[0] < 128 and len(frame) == frame[0] + 1
-    rpc = wire.rpc_class()()
+    rpc = packages.rpc_class()()
     rpc.ParseFromString(frame[1:])
     return rpc
 
@@ -64,7 +66,7 @@ def parts_of_attack(kind, keys):
     found = []
     for line in raw_lines(text):
         for body in frames_in(bytes.fromhex(line["hex"])):
-            rpc = wire.rpc_class()()
+            rpc = packages.rpc_class()()
             rpc.ParseFromString(body)
             fields = {field.name: len(value) for field, value in rpc.ListFields() if field.name != "control"}
             fields |= {field.name: len(value) for field, value in rpc.control.ListFields()}
@@ -72,7 +74,35 @@ def parts_of_attack(kind, keys):
     return found
 
 
+def drawn(dice, kind):
+    """A message of a kind, with fields by chance: none of them, empty ones, and those of lengths of one byte and of two."""
+    parts = {}
+    for label, of, name, _ in wire.FIELDS[kind]:
+        many = dice.randrange(4) if label == "repeated" else dice.randrange(2)
+        values = [drawn_value(dice, of) for _ in range(many)]
+        if values:
+            parts[name] = values if label == "repeated" else values[0]
+    return parts
+
+
+def drawn_value(dice, kind):
+    if kind == "bool":
+        return dice.random() < 0.5
+    if kind == "uint64":
+        return dice.choice([0, 1, 127, 128, 16_383, 16_384, 2**32, 2**63, 2**64 - 1])
+    return dice.randbytes(dice.choice([0, 1, 20, 127, 128, 300])) if kind == "bytes" else drawn(dice, kind)
+
+
 class Wire(unittest.TestCase):
+    def test_protobuf_writes_the_same(self):
+        dice, lengths = random.Random(1), set()
+        for _ in range(2_000):
+            parts = drawn(dice, "RPC")
+            body = wire.body(parts)
+            self.assertEqual(body, packages.by_protobuf(parts), parts)
+            lengths.add(len(body))
+        self.assertTrue(min(lengths) < 128 and max(lengths) > 2_000)
+
     def test_the_rpcs_of_attacks_are_read_back(self):
         twice = 'every = "1 s"\nuntil = "3 s"\ncount = 2\n'
         found = parts_of_attack("spam", twice + "size = 20\n")

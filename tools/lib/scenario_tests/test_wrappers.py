@@ -31,7 +31,7 @@ class Wrappers(unittest.TestCase):
             shutil.copy(f"{TOP}/bin/{it}", f"{self.folder}/bin/{it}")
         shutil.copytree(f"{TOP}/bin/lib", f"{self.folder}/bin/lib")
         with open(f"{self.folder}/crates.txt", "w", encoding="utf-8") as file:
-            file.write("gossip_sim:\ngossip_stats:\ngossip_picture:\ngossip_edit:\n")
+            file.write("gossip_sim:\ngossip_stats:\ngossip_picture:\ngossip_edit:\ngossip_check:\n")
         for it in (*SHELL, "gossip_edit"):
             self.put_program(it, "#!/bin/sh\nexec cat\n")
         for name, text in (("it.toml", DESCRIPTION), ("no.toml", DESCRIPTION.replace("ring", "rnig"))):
@@ -58,6 +58,7 @@ class Wrappers(unittest.TestCase):
 
     def test_a_description_that_is_refused(self):
         why = 'scenario: no.toml:3: [network]: kind: "rnig" is not known here; the nearest is ring\n'
+        why += "scenario: no.toml was not read to its end, so there may be more faults\n"
         for it in SHELL:
             self.assertEqual(self.run_in_tree(it, "--proved", "no.toml"), (1, b"", why), it)
         self.assertEqual(self.run_in_tree("sweep", "no.toml"), (1, b"", why))
@@ -68,6 +69,56 @@ class Wrappers(unittest.TestCase):
         for words in ([], ["-"], ["--seed", "2"], ["/dev/stdin"]):
             self.assertEqual(self.run_in_tree("gossip_sim", "--proved", *words, stdin=b"[load]\n"), (0, b"[load]\n", ""))
         self.assertEqual(self.run_in_tree("gossip_sim", "--proved", "plain.toml"), (0, b"# no [network]\nseed = 1\n", ""))
+
+    def test_a_change_of_what_only_descriptions_have(self):
+        why = "network.degree: network is a key of the description, which is expanded before --set; "
+        more = "change it in it.toml, or take seeds of the network by bin/sweep --networks\n"
+        for it in SHELL:
+            ended = self.run_in_tree(it, "--proved", "--set", "network.degree=3", "it.toml")
+            self.assertEqual(ended, (64, b"", f"{it}: {why}{more}"))
+        ended = self.run_in_tree("sweep", "--set", "network.degree=3,4", "it.toml")
+        self.assertEqual(ended, (64, b"", f"sweep: {why}--networks takes seeds of it; --help says more\n"))
+
+    def test_a_sweep_of_networks(self):
+        # (the stand-in prints what it is given, and so each network has a report of its own)
+        self.put_program("gossip_stats", f'#!/bin/sh\ncat >"{self.folder}/$$.seen"\nexec {PROGRAMS["gossip_stats"]} "$@" <"{self.folder}/$$.seen"\n')
+        with open(f"{self.folder}/it.toml", "w", encoding="utf-8") as file:
+            file.write(DESCRIPTION.replace('"ring"', '"random"\ndegree = 3').replace("count = 4", "count = 20"))
+        ended = self.run_in_tree("sweep", "--networks", "4,5", "--columns", "status,publications", "it.toml")
+        self.assertEqual(ended, (0, b"network,status,publications\n4,0,6\n5,0,6\n", ""))
+        seen = set()
+        for it in os.listdir(self.folder):
+            if it.endswith(".seen"):
+                with open(f"{self.folder}/{it}", "rb") as file:
+                    seen.add(file.read())
+        self.assertEqual(seen, {called("--seed", it, f"{self.folder}/it.toml").stdout for it in ("4", "5")})
+        ended = self.run_in_tree("sweep", "--list", "--networks", "4..5", "it.toml")
+        self.assertEqual([it.split(" --networks ")[1].split()[0] for it in ended[1].decode().splitlines()], ["4", "5"])
+
+    def test_networks_that_can_not_be(self):
+        for text, values, why in (
+            (DESCRIPTION, "a", "--networks takes seeds, as 1..5, not a"),
+            ("seed = 1\n", "1", "--networks goes with a description, and it.toml is a plain scenario"),
+            (
+                DESCRIPTION.replace("[network]", "[network]\nseed = 3"),
+                "1",
+                "[network] of it.toml has a seed of its own, so --networks would give one network: leave that seed out",
+            ),
+        ):
+            with open(f"{self.folder}/it.toml", "w", encoding="utf-8") as file:
+                file.write(text)
+            ended = self.run_in_tree("sweep", "--networks", values, "it.toml")
+            self.assertEqual(ended, (64, b"", f"sweep: {why}; --help says more\n"))
+
+    def test_a_refused_row_has_the_key(self):
+        for it in ("gossip_stats", "gossip_check"):
+            self.put_program(it, f'#!/bin/sh\nexec {PROGRAMS[it]} "$@"\n')
+        with open(f"{self.folder}/it.toml", "a", encoding="utf-8") as file:
+            file.write("[params]\nd_low = 7\n")
+        words = "scenario refused: 1; `params.d_low` is 7: it must not be above `d`, which is 6"
+        for options in ([], ["--proved"]):
+            ended = self.run_in_tree("sweep", *options, "--columns", "message", "it.toml")
+            self.assertEqual(ended, (1, f'message\n"{words}"\n'.encode(), f"sweep: 1 of 1 runs failed, first the one: {words}\n"))
 
     def test_a_sweep_of_a_description(self):
         self.put_program("gossip_stats", f'#!/bin/sh\nexec {PROGRAMS["gossip_stats"]} "$@"\n')
