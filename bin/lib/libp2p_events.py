@@ -142,19 +142,20 @@ class Peer:
     def judged(self, line):
         """What becomes of a message that is not delivered: it is rejected, or seen before. Off the peer's topics it is
         passed over."""
-        topic = line["part"]["topic"] or ""
-        fields = {"messageID": of_hex(line["id"]), "receivedFrom": of_name(line["from"]), "topic": topic}
+        topic, reason = line["part"]["topic"] or "", self.reason(line)
+        kind = "rejectMessage" if reason else "duplicateMessage"
+        marks = {it["mark"] for it in line["marks"]}
+        if reason or (topic in self.topics and "seen" not in marks):
+            fields = {"messageID": of_hex(line["id"]), "receivedFrom": of_name(line["from"]), "reason": reason, "topic": topic}
+            yield self.event(line["at"], kind, **fields)
+
+    def reason(self, line):
+        """Why a message is rejected; None where it is not."""
         marks = {it["mark"]: it for it in line["marks"]}
         verdict = marks.get("seen", {}).get("verdict")
-        if verdict in REASONS:
-            yield self.event(line["at"], "rejectMessage", reason=REASONS[verdict], **fields)
-        elif verdict is None and is_signed(line["part"]):
-            if topic in self.topics:
-                yield self.event(line["at"], "rejectMessage", reason=UNSIGNED, **fields)
-        elif verdict is None and "invalid" in marks:
-            yield self.event(line["at"], "rejectMessage", reason=REASONS["reject"], **fields)
-        elif verdict is None and topic in self.topics:
-            yield self.event(line["at"], "duplicateMessage", **fields)
+        if "seen" not in marks and "invalid" in marks:
+            return UNSIGNED if is_signed(line["part"]) else REASONS["reject"]
+        return REASONS.get(verdict)
 
     def done(self, line):
         """What the peer did about an event: deliveries, members that came and went, and what is to be sent."""

@@ -48,7 +48,7 @@ make_tree() {
   local crate
   mkdir -p "$room/fake/bin" "$room/temporary" "$room/tree/crates/gs_base/mutants"
   cp -r "$top/bin" "$top/tools" "$room/tree"
-  for crate in gossip_sim gossip_check gossip_edit gossip_stats gossip_picture gs_base; do
+  for crate in gossip_sim gossip_check gossip_edit gossip_stats gossip_picture gossip_trace gs_base; do
     mkdir -p "$room/tree/crates/$crate/src"
     touch "$room/tree/crates/$crate/src"/{tests,"$([ "$crate" = gs_base ] && echo lib || echo main)"}.rt
     echo text >"$room/tree/crates/$crate/stdout"
@@ -77,6 +77,10 @@ tried_figures() {
 
 tried_picture() {
   echo scenario | in_tree tried=0 gossip_picture "$@"
+}
+
+tried_trace() {
+  echo scenario | in_tree tried=0 gossip_trace "$@"
 }
 
 tried_to_closed_output() {
@@ -138,6 +142,9 @@ check_unproved() {
   expect_like 'figures without proof' 0 'gossip_stats --csv scenario' \
     'gossip_stats: this set of figures does not come from a proved program: gossip_stats is not built*told by gossip_stats' \
     tried_figures --csv
+  expect_like 'a trace without proof' 0 'gossip_trace  scenario' \
+    'gossip_trace: this trace does not come from a proved program: gossip_trace is not built*told by gossip_trace' \
+    tried_trace
   expect_like 'a picture without proof' 0 'gossip_picture news scenario' \
     'gossip_picture: this picture does not come from a proved program: gossip_picture is not built*told by gossip_picture' \
     tried_picture --topic news
@@ -171,7 +178,7 @@ scenario: $room/misspelt was not read to its end, so there may be more faults" i
 
 # bin/build --unproved, twice.
 check_compiled() {
-  local said='build: compiled without proof, or proved before:' all='gossip_sim gossip_check gossip_edit gossip_stats gossip_picture'
+  local said='build: compiled without proof, or proved before:' all='gossip_sim gossip_check gossip_edit gossip_stats gossip_picture gossip_trace'
   rm -rf "$room/tree/out/unproved"
   expect 'a build without proof' 0 '' \
     "build: compiling ${all// / and } without proof, which takes about a minute"$'\n'"$said $all" in_tree tried=0 build --unproved
@@ -194,7 +201,7 @@ check_build() {
   expect 'a program that is not there' 64 '' 'build: there is no program gs_base in crates.txt' in_tree unproved= build gs_base
   expect_like 'a proof that fails' 4 '' '*proving gs_base*gs_base is not proved*the log is crates/gs_base/out/build.log' \
     in_tree unproved=gs_base build
-  expect_like 'a build' 0 '' '*proved and built: gossip_sim gossip_check gossip_edit gossip_stats gossip_picture' in_tree unproved= build
+  expect_like 'a build' 0 '' '*proved and built: gossip_sim gossip_check gossip_edit gossip_stats gossip_picture gossip_trace' in_tree unproved= build
   expect 'a build where all stands' 0 '' 'build: proved and built: gossip_sim' in_tree unproved=gs_base build gossip_sim
   touch "$place/gs_base/src/tests.rt"
   expect 'a run of what was built' 0 'proved: scenario' '' tried none
