@@ -140,8 +140,8 @@ class Peer:
         return self.event(line["at"], "join" if joins else "leave", topic=line["topic"])
 
     def judged(self, line):
-        """What becomes of a message that is not delivered: it is rejected, or seen before. Off the peer's topics it is
-        passed over."""
+        """What becomes of a message that is not delivered: it is rejected, or was seen lately, whatever became of it then.
+        Off the peer's topics it is passed over."""
         topic, reason = line["part"]["topic"] or "", self.reason(line)
         kind = "rejectMessage" if reason else "duplicateMessage"
         marks = {it["mark"] for it in line["marks"]}
@@ -153,8 +153,8 @@ class Peer:
         """Why a message is rejected; None where it is not."""
         marks = {it["mark"]: it for it in line["marks"]}
         verdict = marks.get("seen", {}).get("verdict")
-        if "seen" not in marks and "invalid" in marks:
-            return UNSIGNED if is_signed(line["part"]) else REASONS["reject"]
+        if "invalid" in marks and is_signed(line["part"]):
+            return UNSIGNED
         return REASONS.get(verdict)
 
     def done(self, line):

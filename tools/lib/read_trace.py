@@ -77,6 +77,7 @@ class Trace:
         marks = collections.Counter(mark["mark"] for it in self.lines for mark in it.get("marks", ()))
         return {
             "PUBLISH_MESSAGE": words["publish"],
+            "REJECT_MESSAGE": self.rejected(),
             "DELIVER_MESSAGE": sum(len(it.get("delivered", ())) for it in self.lines),
             "RECV_RPC": words["heard"],
             "JOIN": words["subscribe"],
@@ -85,3 +86,14 @@ class Trace:
             "PRUNE": marks["pruned"],
             "REMOVE_PEER": words["gone"] + words["fault"] + words["hang_up"],
         }
+
+    def rejected(self):
+        """How many messages were found to be rejected or ignored, or were signed."""
+        count = 0
+        for it in self.lines:
+            if it["event"] == "message":
+                verdicts = [mark["verdict"] for mark in it["marks"] if mark["mark"] == "seen"]
+                is_signed = any(it["part"][key] is not None for key in ("from", "seqno", "signature", "key"))
+                is_invalid = any(mark["mark"] == "invalid" for mark in it["marks"])
+                count += verdicts in (["reject"], ["ignore"]) or (is_signed and is_invalid)
+        return count
