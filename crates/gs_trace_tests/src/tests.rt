@@ -56,12 +56,18 @@ fn is_entry(
     is_told(alloc, &report, line)
 }
 
-/// Whether an event is told by these members.
-fn is_event(alloc: Global, event: Event, members: &str) -> Result<bool, AllocError> {
+/// The line of an event about which nothing is done.
+fn event_line(alloc: Global, members: &str) -> Result<Vec<u8>, AllocError> {
     let mut line = Vec::new(alloc);
     line.extend_from_slice(b"{\"round\":0,\"at\":7,\"peer\":\"a\",")?;
     line.extend_from_slice(members.as_bytes())?;
     line.extend_from_slice(b",\"sent\":[],\"delivered\":[],\"promise\":null,\"marks\":[]}\n")?;
+    Ok(line)
+}
+
+/// Whether an event is told by these members.
+fn is_event(alloc: Global, event: Event, members: &str) -> Result<bool, AllocError> {
+    let line = event_line(alloc, members)?;
     is_entry(alloc, event, Effects::none(alloc), &line)
 }
 
