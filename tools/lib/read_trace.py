@@ -58,7 +58,7 @@ class Trace:
         for line in self.of(name):
             word = line["event"]
             if word in ("heard", "late"):
-                found["rpcs_heard"] += word == "heard"
+                found["rpcs_heard"] += 1
             elif word == "message":
                 found["messages_heard"] += 1
             elif word in ("ihave", "iwant", "graft", "prune"):
