@@ -3,6 +3,7 @@
 
 mod entries;
 mod events;
+mod head;
 mod laws;
 mod lines;
 mod marks;

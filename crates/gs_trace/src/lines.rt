@@ -2,15 +2,14 @@
 ghost use Rattle.std.specs.Prelude.{◌≡◌, ◌≤◌, ◌++◌, ◌+◌, drop, suc, length, map, if◌then◌else◌, IfOk, OnOk, true, false};
 ghost use Rattle.std.specs.List.{flat_map, range_with_len};
 ghost use Rattle.gs_rules.specs.Events.{of_round_end};
-ghost use Rattle.gs_trace.specs.Texts.{list_text, names_of, quoted};
-ghost use Rattle.gs_trace.specs.Lines.{head_text, line_text, told_of, trace_text, up_to_end};
+ghost use Rattle.gs_trace.specs.Lines.{line_text, told_of, trace_text, up_to_end};
 ghost use Rattle.gs_trace.specs.Starts.{start_in, told_by};
 
 use crate::entries::push_entries;
+use crate::head::push_head;
 use crate::refusals::push_refusals;
-use crate::texts::{Shown, push_code, push_list, push_number, push_quoted};
 use gs_base::PeerNo;
-use gs_plan::{Plan, PlannedPeer};
+use gs_plan::Plan;
 use gs_report::{Finished, Report};
 use gs_rules::{Event, StoredEntry};
 use std::alloc::{AllocError, Global};
@@ -29,34 +28,6 @@ pub fn trace_text(alloc: Global, plan: &Plan, report: &Report) -> Result<Vec<u8>
     push_head(plan, &mut out)?;
     push_rounds(plan, &mut out, &report.peers, &mut starts)?;
     Ok(out)
-}
-
-/// Adds the first line.
-fn push_head(plan: &Plan, out: &mut Vec<u8>) -> Result<(), AllocError>
-    ensures { OnOk result (out.new.items ≡ out.old.items ++ head_text plan.now) }
-{
-    push_code(out, b"{\"peers\":")?;
-    push_names(plan, out)?;
-    push_code(out, b",\"round_ms\":")?;
-    push_number(out, plan.round_ms)?;
-    push_code(out, b",\"last_round\":")?;
-    push_number(out, plan.rounds)?;
-    push_code(out, b"}\n")
-}
-
-/// Adds the names of all peers.
-fn push_names(plan: &Plan, out: &mut Vec<u8>) -> Result<(), AllocError>
-    ensures { OnOk result (out.new.items ≡ out.old.items ++ list_text quoted (names_of plan.now)) }
-{
-    push_list(plan, out, plan.peers.as_slice())
-}
-
-impl Shown for PlannedPeer {
-    ghost text = { λ names planned. quoted planned.name };
-
-    fn push(&self, _plan: &Plan, out: &mut Vec<u8>) -> Result<(), AllocError> {
-        push_quoted(out, self.name.as_str().as_bytes())
-    }
 }
 
 /// Where the entries of each peer begin in the first round.
