@@ -14,7 +14,7 @@ use Rattle.gs_report.specs.declared.finished.Finished.{Finished}
 use Rattle.gs_report.specs.declared.report.Report.{Report}
 use Rattle.gs_report.specs.Text.{word_of}
 use Rattle.gs_trace.specs.Texts.{list_text, moment_text, names_of, peer_text, quoted}
-use Rattle.gs_trace.specs.Events.{effects_members, event_members, event_text}
+use Rattle.gs_trace.specs.Events.{effects_members, event_members, event_text, refused_word}
 
 -- ---- what a peer did in a round
 
@@ -77,7 +77,7 @@ entry_members names e = event_members names e.event ++ effects_members names e.e
 -- which line of the script it is, what that asks for, and the number of the refusal
 abbrev pub refusal_members : Plan → RefusedLine → List ℕ
 refusal_members plan line =
-    event_text (codes "refused") ++ codes ",\"line\":" ++ decimal line.line
+    event_text refused_word ++ codes ",\"line\":" ++ decimal line.line
     ++ codes ",\"what\":" ++ quoted (word_of plan line.line)
     ++ codes ",\"number\":" ++ decimal (number_of line.why)
 

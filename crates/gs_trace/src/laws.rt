@@ -5,6 +5,7 @@ ghost use Rattle.gs_report.specs.declared.report.Report.{Report as ReportValue};
 ghost use Rattle.gs_trace.specs.Lines.{told, trace_text};
 ghost use Rattle.gs_trace.specs.Texts.{names_of};
 ghost use Rattle.gs_trace.specs.Traces.{IsReportOf, traces};
+ghost use Rattle.gs_trace.specs.Wanted.{no_wish, wanted_text};
 
 /// The text of a run's trace tells all of it. Two runs with one text have peers of the same names, the same rounds and
 /// the same dials, and there is the same to say of both. And each peer has the same trace in both.
@@ -34,4 +35,9 @@ pub fn a_trace_tells_all()
         → IsReportOf q s
         → trace_text p r ≡ trace_text q s
         → traces r ≡ traces s }
+{}
+
+/// Where nothing is wished for, the text has all lines.
+pub fn wanting_all_tells_all()
+    ensures { (p : PlanValue) (r : ReportValue) → wanted_text no_wish p r ≡ trace_text p r }
 {}

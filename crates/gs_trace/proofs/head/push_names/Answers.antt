@@ -1,4 +1,3 @@
-use Rattle.std.proofs.Common.{rules}
 use Rattle.gs_plan.specs.declared.plan.PlannedPeer.{PlannedPeer}
 use Rattle.gs_trace.specs.Texts.{quoted}
 use Rattle.gs_trace.proofs.Named.{named}
