@@ -1,6 +1,6 @@
 -- What is added to a text step by step. A search does not see through a text of many letters before another one, so
 -- these put the steps together by hand.
-use Rattle.std.proofs.Common.{◌≡◌, ℕ, List, ◌++◌, sym, ap, ◌∙◌, append_assoc}
+use Rattle.std.proofs.Common.{◌≡◌, ℕ, List, ◌++◌, ap, ◌∙◌, append_assoc}
 use Rattle.std.specs.Prelude.{OnOk, Result}
 use Rattle.std.proofs.lemmas.Result.{on_ok_weaker}
 

@@ -1,6 +1,7 @@
 mod Appended
 mod Named
 mod Starts
+mod Wanting
 mod Prefixes
 mod Numbers
 mod Quotes

@@ -1,5 +1,5 @@
 -- Each line of a trace tells what it is of, and the first one tells the names of the peers and the rounds.
-use Rattle.std.proofs.Common.{◌≡◌, ℕ, ◌&&◌, Bool, true, ltb, List, [], ◌∷◌, ◌++◌, codes, decimal, map, flat_map, slice_get, Option, None, Some, option_map, unwrap_or, refl, sym, ap, ◌∙◌, append_assoc, arith, ltb-true}
+use Rattle.std.proofs.Common.{◌≡◌, ℕ, ◌&&◌, Bool, true, ltb, List, [], ◌∷◌, ◌++◌, codes, decimal, drop, map, flat_map, slice_get, Option, None, Some, option_map, unwrap_or, refl, sym, ap, ◌∙◌, append_assoc, arith, ltb-true}
 use Rattle.std.specs.List.{AllByRecursion}
 use Rattle.std.proofs.lemmas.Bool.{and_parts, eqb-false}
 use Rattle.gs_base.specs.declared.names.Millis.{Millis}
@@ -7,6 +7,7 @@ use Rattle.gs_base.specs.declared.names.PeerNo.{PeerNo}
 use Rattle.gs_plan.specs.Plans.{what_word}
 use Rattle.gs_plan.specs.declared.plan.Act.{Act}
 use Rattle.gs_plan.specs.declared.plan.Act.TheVariants.{Subscribe}
+use Rattle.gs_plan.specs.declared.plan.Dial.{Dial}
 use Rattle.gs_plan.specs.declared.plan.Line.{Line}
 use Rattle.gs_plan.specs.declared.plan.Plan.{Plan}
 use Rattle.gs_rules.specs.declared.event.Event.{Event}
@@ -19,15 +20,20 @@ use Rattle.gs_rules.specs.declared.trace.Entry.{Entry}
 use Rattle.gs_rules.specs.Refusals.{number_of}
 use Rattle.gs_report.specs.Text.{word_of}
 use Rattle.gs_trace.specs.Events.{effects_members, event_members, event_text}
-use Rattle.gs_trace.specs.Lines.{Told, Did, Refused, entry_members, head_text, line_start, line_text}
-use Rattle.gs_trace.specs.Stored.{AreStoredBytes, IsStoredEntry, IsStoredMoment, IsStoredNumber, IsStoredPeer, IsStoredRefusal}
-use Rattle.gs_trace.specs.Texts.{names_of, quoted}
+use Rattle.gs_trace.specs.Lines.{Told, Did, Refused, dial_text, entry_members, head_text, line_start, line_text}
+use Rattle.gs_trace.specs.Stored.{AreStoredBytes, IsStoredDial, IsStoredEntry, IsStoredMoment, IsStoredNumber, IsStoredPeer, IsStoredRefusal}
+use Rattle.gs_trace.specs.Texts.{list_text, names_of, quoted}
 use Rattle.gs_trace.proofs.EventTexts.{event_sort, sort_told, tell_event, text_sort}
 use Rattle.gs_trace.proofs.MarkTexts.{tell_effects}
 use Rattle.gs_trace.proofs.Numbers.{IsShort, tell_decimal}
-use Rattle.gs_trace.proofs.Prefixes.{Anything, NoDigit, Tells, TellsAll, and_next, and_then, anywhere, back, clashes, front, next, of_part, tell_items}
+use Rattle.gs_trace.proofs.Prefixes.{Anything, NoDigit, Tells, TellsAll, and_next, and_then, anywhere, back, clashes, front, made, next, of_part, tell_items}
 use Rattle.gs_trace.proofs.Quotes.{tell_quoted}
 use Rattle.gs_trace.proofs.Values.{Differ, tell_list, tell_moment, tell_number, tell_peer}
+
+-- ---- texts of parts
+
+three_parts : (a b c s : List ℕ) → a ++ b ++ c ++ s ≡ a ++ (b ++ (c ++ s))
+three_parts a b c s = simp append_assoc
 
 -- ---- the first line
 
@@ -35,17 +41,56 @@ pub record IsStoredHead (plan : Plan) : Type 0 where
   pub names : AllByRecursion AreStoredBytes (names_of plan)
   pub round_ms : IsStoredNumber plan.round_ms
   pub rounds : IsStoredNumber plan.rounds
+  pub dials : AllByRecursion IsStoredDial plan.dials
 
--- what the first line tells
-abbrev pub head_of : Plan → (List (List ℕ) × ℕ) × ℕ
-head_of plan = ((names_of plan, plan.round_ms), plan.rounds)
+-- the first line up to who dials whom
+abbrev front_text : Plan → List ℕ
+front_text plan =
+    codes "{\"peers\":" ++ list_text quoted (names_of plan) ++ codes ",\"round_ms\":" ++ decimal plan.round_ms
+    ++ codes ",\"last_round\":" ++ decimal plan.rounds
 
-pub tell_head : Tells Anything IsStoredHead head_text head_of
-tell_head = back {After = NoDigit} (next (next
+-- what that tells
+abbrev Front : Type 0
+Front = (List (List ℕ) × ℕ) × ℕ
+
+abbrev front_of : Plan → Front
+front_of plan = ((names_of plan, plan.round_ms), plan.rounds)
+
+tell_front : Tells NoDigit IsStoredHead front_text front_of
+tell_front = next (next
     (front (codes "{\"peers\":") (of_part {Fits = IsStoredHead} (tell_list (anywhere tell_quoted) (λ x s t h e. clashes _ _ refl e)) names_of (λ p h. h.names)))
     (codes ",\"round_ms\":") (λ s. tt) (of_part tell_number (λ (p : Plan). p.round_ms) (λ p h. h.round_ms)))
-    (codes ",\"last_round\":") (λ s. refl) (of_part tell_number (λ (p : Plan). p.rounds) (λ p h. h.rounds)))
-    (codes "}\n") (λ s. refl)
+    (codes ",\"last_round\":") (λ s. refl) (of_part tell_number (λ (p : Plan). p.rounds) (λ p h. h.rounds))
+
+tell_dial : (names : List (List ℕ)) → AllByRecursion AreStoredBytes names → Differ names → TellsAll Anything IsStoredDial (dial_text names)
+tell_dial names stored differ = made (back {After = NoDigit} (next
+    (front (codes "{\"from\":") (of_part {Fits = IsStoredDial} (tell_peer names stored differ) (λ (d : Dial). d.from) (λ d h. h.0)))
+    (codes ",\"to\":") (λ s. refl) (of_part (tell_peer names stored differ) (λ (d : Dial). d.to) (λ d h. h.1)))
+    (codes "}") (λ s. refl)) (λ (x : PeerNo × PeerNo). record { from = x.0; to = x.1 })
+
+tell_dials : (names : List (List ℕ)) → AllByRecursion AreStoredBytes names → Differ names → TellsAll Anything (AllByRecursion IsStoredDial) (list_text (dial_text names))
+tell_dials names stored differ = tell_list (anywhere (tell_dial names stored differ)) (λ x s t h e. clashes _ _ refl e)
+
+-- what the first line tells
+abbrev pub head_of : Plan → Front × List Dial
+head_of plan = (front_of plan, plan.dials)
+
+head_cut : (plan : Plan) (s : List ℕ)
+    → head_text plan ++ s ≡ front_text plan ++ (codes ",\"dials\":" ++ (list_text (dial_text (names_of plan)) plan.dials ++ (codes "}\n" ++ s)))
+head_cut plan s =
+    three_parts (front_text plan ++ codes ",\"dials\":") (list_text (dial_text (names_of plan)) plan.dials) (codes "}\n") s
+    ∙ append_assoc (front_text plan) (codes ",\"dials\":") (list_text (dial_text (names_of plan)) plan.dials ++ (codes "}\n" ++ s))
+
+-- of a plan whose peers' names differ
+pub tell_head : (p q : Plan) (s t : List ℕ) → IsStoredHead p → IsStoredHead q → Differ (names_of p) → head_text p ++ s ≡ head_text q ++ t → (head_of p ≡ head_of q) × (s ≡ t)
+tell_head p q s t hp hq differ e =
+    let dials = λ (names : List (List ℕ)) (ds : List Dial) (u : List ℕ). list_text (dial_text names) ds ++ (codes "}\n" ++ u) in
+    let one = tell_front.tell p q (codes ",\"dials\":" ++ dials (names_of p) p.dials s) (codes ",\"dials\":" ++ dials (names_of q) q.dials t) refl refl hp hq
+    (sym (head_cut p s) ∙ e ∙ head_cut q t) in
+    let names : names_of p ≡ names_of q = ap (λ (f : Front). f.0.0) one.0 in
+    let two = (tell_dials (names_of p) hp.names differ).tell p.dials q.dials (codes "}\n" ++ s) (codes "}\n" ++ t) tt tt hp.dials hq.dials
+    (ap (drop 9) one.1 ∙ ap (λ (ns : List (List ℕ)). dials ns q.dials t) (sym names)) in
+    (λ i. (one.0 i, two.0 i), ap (drop 2) two.1)
 
 -- ---- lines of peers
 
@@ -91,9 +136,6 @@ number_told TooMany y e = absurd (eqb-false _ _ refl e)
 no_refused_event : (x : Event) → event_sort x ≡ 10 → ⊥
 no_refused_event (Heard q rpc) e = eqb-false _ _ refl e
 no_refused_event x e = eqb-false _ _ refl e
-
-three_parts : (a b c s : List ℕ) → a ++ b ++ c ++ s ≡ a ++ (b ++ (c ++ s))
-three_parts a b c s = simp append_assoc
 
 four_parts : (a b c d s : List ℕ) → a ++ (b ++ c) ++ d ++ s ≡ a ++ (b ++ (c ++ (d ++ s)))
 four_parts a b c d s = simp append_assoc

@@ -17,18 +17,21 @@ module _ (p q : Plan) (r s : Report) (hr : IsReportOf p r) (hs : IsReportOf q s)
   -- the first line, and the lines after it
   parts : (head_of p ≡ head_of q) × (flat_map (line_text p) (told p r) ≡ flat_map (line_text q) (told q s))
   parts =
-      let hp : IsStoredHead p = record { names = hr.stored.names; round_ms = hr.stored.round_ms; rounds = hr.stored.rounds } in
-      let hq : IsStoredHead q = record { names = hs.stored.names; round_ms = hs.stored.round_ms; rounds = hs.stored.rounds } in
-      tell_head.tell p q (flat_map (line_text p) (told p r)) (flat_map (line_text q) (told q s)) tt tt hp hq e
+      let hp : IsStoredHead p = record { names = hr.stored.names; round_ms = hr.stored.round_ms; rounds = hr.stored.rounds; dials = hr.stored.dials } in
+      let hq : IsStoredHead q = record { names = hs.stored.names; round_ms = hs.stored.round_ms; rounds = hs.stored.rounds; dials = hs.stored.dials } in
+      tell_head p q (flat_map (line_text p) (told p r)) (flat_map (line_text q) (told q s)) hp hq (names_differ p.peers hr.names_differ) e
 
   pub one_list_of_names : names_of p ≡ names_of q
-  one_list_of_names i = (parts.0 i).0.0
+  one_list_of_names i = (parts.0 i).0.0.0
 
   pub one_length_of_rounds : p.round_ms ≡ q.round_ms
-  one_length_of_rounds i = (parts.0 i).0.1
+  one_length_of_rounds i = (parts.0 i).0.0.1
 
   pub one_last_round : p.rounds ≡ q.rounds
-  one_last_round i = (parts.0 i).1
+  one_last_round i = (parts.0 i).0.1
+
+  pub one_list_of_dials : p.dials ≡ q.dials
+  one_list_of_dials i = (parts.0 i).1
 
   pub one_list_told : told p r ≡ told q s
   one_list_told =

@@ -8,6 +8,7 @@ use Rattle.gs_base.specs.declared.rpc.Rpc.{Rpc}
 use Rattle.gs_base.specs.declared.verdict.Verdict.{Verdict}
 use Rattle.gs_base.specs.declared.verdict.Verdict.TheVariants.{Accept, Reject, Ignore}
 use Rattle.gs_base.specs.Names.{message_id, payload_of}
+use Rattle.gs_plan.specs.Plans.{what_word}
 use Rattle.gs_plan.specs.declared.plan.Act.{Act}
 use Rattle.gs_plan.specs.declared.plan.Act.TheVariants.{Subscribe, Unsubscribe, Publish, Raw, HangUp}
 use Rattle.gs_rules.specs.declared.event.Event.{Event}
@@ -60,37 +61,63 @@ part_text (Want part) = iwant_text part
 part_text (GraftIn part) = graft_text part
 part_text (PruneIn part) = prune_text part
 
-abbrev pub step_members : BeatStep → List ℕ
-step_members (MeshBeat t) = event_text (codes "mesh") ++ topic_member t
-step_members (FanBeat t) = event_text (codes "fanout") ++ topic_member t
-step_members (FanEnd t) = event_text (codes "fanout_end") ++ topic_member t
-step_members (GossipBeat t) = event_text (codes "gossip") ++ topic_member t
-step_members BeatEnd = event_text (codes "heartbeat_end")
-
-abbrev pub act_members : List (List ℕ) → Act → List ℕ
-act_members names (Subscribe t) = event_text (codes "subscribe") ++ topic_member t
-act_members names (Unsubscribe t) = event_text (codes "unsubscribe") ++ topic_member t
-act_members names (Publish t payload) = event_text (codes "publish") ++ topic_member t ++ payload_members payload
-act_members names (Raw q bytes) =
-    event_text (codes "raw") ++ codes ",\"to\":" ++ peer_text names q ++ codes ",\"bytes\":" ++ hex_text bytes
-act_members names (HangUp q) = event_text (codes "hang_up") ++ codes ",\"to\":" ++ peer_text names q
+abbrev pub step_word : BeatStep → List ℕ
+step_word (MeshBeat t) = codes "mesh"
+step_word (FanBeat t) = codes "fanout"
+step_word (FanEnd t) = codes "fanout_end"
+step_word (GossipBeat t) = codes "gossip"
+step_word BeatEnd = codes "heartbeat_end"
 
 abbrev pub loss_word : Loss → List ℕ
 loss_word Gone = codes "gone"
 loss_word Fault = codes "fault"
 
+-- the word of an event
+abbrev pub event_word : Event → List ℕ
+event_word (Heard q rpc) = codes "heard"
+event_word (Late q rpc) = codes "late"
+event_word (Part q part) = part_word part
+event_word BeatBegin = codes "heartbeat"
+event_word (Step step) = step_word step
+event_word (Own act) = what_word act
+event_word (Lost q loss) = loss_word loss
+event_word Decay = codes "decay"
+event_word (RoundEnd r) = codes "round_end"
+event_word Shut = codes "shut"
+
+-- and that of a line of the script which was refused
+abbrev pub refused_word : List ℕ
+refused_word = codes "refused"
+
+abbrev pub step_members : BeatStep → List ℕ
+step_members (MeshBeat t) = event_text (step_word (MeshBeat t)) ++ topic_member t
+step_members (FanBeat t) = event_text (step_word (FanBeat t)) ++ topic_member t
+step_members (FanEnd t) = event_text (step_word (FanEnd t)) ++ topic_member t
+step_members (GossipBeat t) = event_text (step_word (GossipBeat t)) ++ topic_member t
+step_members BeatEnd = event_text (step_word BeatEnd)
+
+abbrev pub act_members : List (List ℕ) → Act → List ℕ
+act_members names (Subscribe t) = event_text (what_word (Subscribe t)) ++ topic_member t
+act_members names (Unsubscribe t) = event_text (what_word (Unsubscribe t)) ++ topic_member t
+act_members names (Publish t payload) =
+    event_text (what_word (Publish t payload)) ++ topic_member t ++ payload_members payload
+act_members names (Raw q bytes) =
+    event_text (what_word (Raw q bytes)) ++ codes ",\"to\":" ++ peer_text names q
+    ++ codes ",\"bytes\":" ++ hex_text bytes
+act_members names (HangUp q) = event_text (what_word (HangUp q)) ++ codes ",\"to\":" ++ peer_text names q
+
 abbrev pub event_members : List (List ℕ) → Event → List ℕ
-event_members names (Heard q rpc) = event_text (codes "heard") ++ from_text names q ++ rpc_member rpc
-event_members names (Late q rpc) = event_text (codes "late") ++ from_text names q ++ rpc_member rpc
+event_members names (Heard q rpc) = event_text (event_word (Heard q rpc)) ++ from_text names q ++ rpc_member rpc
+event_members names (Late q rpc) = event_text (event_word (Late q rpc)) ++ from_text names q ++ rpc_member rpc
 event_members names (Part q part) =
-    event_text (part_word part) ++ from_text names q ++ codes ",\"part\":" ++ part_text part
-event_members names BeatBegin = event_text (codes "heartbeat")
+    event_text (event_word (Part q part)) ++ from_text names q ++ codes ",\"part\":" ++ part_text part
+event_members names BeatBegin = event_text (event_word BeatBegin)
 event_members names (Step step) = step_members step
 event_members names (Own act) = act_members names act
-event_members names (Lost q loss) = event_text (loss_word loss) ++ from_text names q
-event_members names Decay = event_text (codes "decay")
-event_members names (RoundEnd r) = event_text (codes "round_end") ++ codes ",\"number\":" ++ decimal r
-event_members names Shut = event_text (codes "shut")
+event_members names (Lost q loss) = event_text (event_word (Lost q loss)) ++ from_text names q
+event_members names Decay = event_text (event_word Decay)
+event_members names (RoundEnd r) = event_text (event_word (RoundEnd r)) ++ codes ",\"number\":" ++ decimal r
+event_members names Shut = event_text (event_word Shut)
 
 -- ---- marks
 

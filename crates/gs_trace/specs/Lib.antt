@@ -1,7 +1,9 @@
 pub mod Texts
 pub mod Rpcs
 pub mod Events
+pub mod Topics
 pub mod Lines
+pub mod Wanted
 pub mod Starts
 pub mod Stored
 pub mod Traces

@@ -4,6 +4,7 @@ use Rattle.std.specs.Prelude.{ℕ, zero, suc, Bool, false, true, ◌*◌, ◌==�
 use Rattle.std.specs.List.{flat_map, range_with_len}
 use Rattle.gs_base.specs.declared.names.Millis.{Millis}
 use Rattle.gs_base.specs.declared.names.PeerNo.{PeerNo}
+use Rattle.gs_plan.specs.declared.plan.Dial.{Dial}
 use Rattle.gs_plan.specs.declared.plan.Plan.{Plan}
 use Rattle.gs_rules.specs.declared.refusal.RefusedLine.{RefusedLine}
 use Rattle.gs_rules.specs.declared.trace.Entry.{Entry}
@@ -13,7 +14,7 @@ use Rattle.gs_report.specs.declared.finished.Finished.{Finished}
 use Rattle.gs_report.specs.declared.report.Report.{Report}
 use Rattle.gs_report.specs.Text.{word_of}
 use Rattle.gs_trace.specs.Texts.{list_text, moment_text, names_of, peer_text, quoted}
-use Rattle.gs_trace.specs.Events.{effects_members, event_members, event_text}
+use Rattle.gs_trace.specs.Events.{effects_members, event_members, event_text, refused_word}
 
 -- ---- what a peer did in a round
 
@@ -76,7 +77,7 @@ entry_members names e = event_members names e.event ++ effects_members names e.e
 -- which line of the script it is, what that asks for, and the number of the refusal
 abbrev pub refusal_members : Plan → RefusedLine → List ℕ
 refusal_members plan line =
-    event_text (codes "refused") ++ codes ",\"line\":" ++ decimal line.line
+    event_text refused_word ++ codes ",\"line\":" ++ decimal line.line
     ++ codes ",\"what\":" ++ quoted (word_of plan line.line)
     ++ codes ",\"number\":" ++ decimal (number_of line.why)
 
@@ -85,11 +86,17 @@ line_text plan (Did r q e) = line_start (names_of plan) r e.at q ++ entry_member
 line_text plan (Refused r q line) =
     line_start (names_of plan) r line.at q ++ refusal_members plan line ++ codes "}\n"
 
--- the first line: the names of the peers by their numbers, and how long and how many the rounds are
+-- who dials whom
+abbrev pub dial_text : List (List ℕ) → Dial → List ℕ
+dial_text names d =
+    codes "{\"from\":" ++ peer_text names d.from ++ codes ",\"to\":" ++ peer_text names d.to ++ codes "}"
+
+-- the first line: the names of the peers by their numbers, how long and how many the rounds are, and who dials whom
 abbrev pub head_text : Plan → List ℕ
 head_text plan =
     codes "{\"peers\":" ++ list_text quoted (names_of plan) ++ codes ",\"round_ms\":" ++ decimal plan.round_ms
-    ++ codes ",\"last_round\":" ++ decimal plan.rounds ++ codes "}\n"
+    ++ codes ",\"last_round\":" ++ decimal plan.rounds
+    ++ codes ",\"dials\":" ++ list_text (dial_text (names_of plan)) plan.dials ++ codes "}\n"
 
 abbrev pub trace_text : Plan → Report → List ℕ
 trace_text plan report = head_text plan ++ flat_map (line_text plan) (told plan report)

@@ -17,6 +17,7 @@ use Rattle.gs_base.specs.declared.rpc.Rpc.{Rpc}
 use Rattle.gs_base.specs.declared.rpc.SubOpt.{SubOpt}
 use Rattle.gs_plan.specs.declared.plan.Act.{Act}
 use Rattle.gs_plan.specs.declared.plan.Act.TheVariants.{Subscribe, Unsubscribe, Publish, Raw, HangUp}
+use Rattle.gs_plan.specs.declared.plan.Dial.{Dial}
 use Rattle.gs_plan.specs.declared.plan.Plan.{Plan}
 use Rattle.gs_rules.specs.declared.event.BeatStep.{BeatStep}
 use Rattle.gs_rules.specs.declared.event.BeatStep.TheVariants.{MeshBeat, FanBeat, FanEnd, GossipBeat, BeatEnd}
@@ -185,9 +186,13 @@ pub record IsStoredLife (x : PeerNo × Finished) : Type 0 where
   pub trace : AllByRecursion IsStoredEntry x.1.trace
   pub refused : AllByRecursion IsStoredRefusal x.1.refused
 
+abbrev pub IsStoredDial : Dial → Type 0
+IsStoredDial d = IsStoredPeer d.from × IsStoredPeer d.to
+
 -- a plan and a report as they are in memory
 pub record IsStored (plan : Plan) (report : Report) : Type 0 where
   pub names : AllByRecursion AreStoredBytes (names_of plan)
   pub round_ms : IsStoredNumber plan.round_ms
   pub rounds : IsStoredNumber plan.rounds
+  pub dials : AllByRecursion IsStoredDial plan.dials
   pub lives : AllByRecursion IsStoredLife report.peers.items

@@ -5,28 +5,49 @@ ghost use Rattle.gs_trace.specs.Texts.{list_text, names_of, optional_text};
 ghost use Rattle.gs_trace.specs.Events.{delivery_text, effects_members, event_members, mark_object, promise_text, send_text};
 ghost use Rattle.gs_trace.specs.Lines.{entry_members, line_start, line_text};
 ghost use Rattle.gs_trace.specs.Lines.Told.{Did};
+ghost use Rattle.gs_trace.specs.Wanted.{line_if, wishes_of};
 
 use crate::events::{push_event, push_payload, push_shared_rpc};
 use crate::texts::{Shown, push_code, push_list, push_number};
+use crate::wanted::{Wanted, is_entry_wanted};
 use bytes::Bytes;
 use gs_base::{Millis, PeerNo, Rpc, Shared, Topic};
 use gs_plan::Plan;
 use gs_rules::{Promise, StoredEntry};
 use std::alloc::AllocError;
 
-/// Adds the lines of a peer's entries in a round.
+/// Adds the lines of a peer's entries in a round, those that are wanted.
 pub(crate) fn push_entries(
     plan: &Plan,
+    wanted: &Wanted<'_>,
     out: &mut Vec<u8>,
     round: u64,
     peer: PeerNo,
     entries: &[StoredEntry],
 ) -> Result<(), AllocError>
     ensures { OnOk result (out.new.items
-        ≡ out.old.items ++ flat_map (line_text plan.now) (map (Did round peer) entries.now)) }
+        ≡ out.old.items ++ flat_map (line_if (wishes_of wanted.now) plan.now) (map (Did round peer) entries.now)) }
 {
     for entry in entries {
-        push_entry(plan, out, round, peer, entry)?;
+        push_entry_if(plan, wanted, out, round, peer, entry)?;
+    }
+    Ok(())
+}
+
+/// Adds the line of an entry, if it is wanted.
+fn push_entry_if(
+    plan: &Plan,
+    wanted: &Wanted<'_>,
+    out: &mut Vec<u8>,
+    round: u64,
+    peer: PeerNo,
+    entry: &StoredEntry,
+) -> Result<(), AllocError>
+    ensures { OnOk result (out.new.items
+        ≡ out.old.items ++ line_if (wishes_of wanted.now) plan.now (Did round peer entry.now)) }
+{
+    if is_entry_wanted(plan, wanted, round, peer, entry) {
+        return push_entry(plan, out, round, peer, entry);
     }
     Ok(())
 }

@@ -3,11 +3,11 @@ ghost use Rattle.std.specs.Prelude.{◌≡◌, ◌++◌, OnOk, codes, decimal};
 ghost use Rattle.gs_base.specs.Names.{message_id, payload_of};
 ghost use Rattle.gs_trace.specs.Texts.{hex_text, id_text, names_of, peer_text};
 ghost use Rattle.gs_trace.specs.Rpcs.{message_text};
-ghost use Rattle.gs_trace.specs.Events.{act_members, event_members, event_text, from_text, loss_word, part_text, part_word, payload_members, rpc_member, step_members, topic_member};
+ghost use Rattle.gs_trace.specs.Events.{act_members, event_members, event_text, event_word, from_text, loss_word, part_text, part_word, payload_members, rpc_member, step_members, step_word, topic_member};
 
 use crate::texts::{Shown, push_code, push_hex, push_number};
 use gs_base::{Message, MsgId, PeerNo, Rpc, Shared, Topic};
-use gs_plan::{Act, Plan};
+use gs_plan::{Act, Plan, what_word};
 use gs_rules::{BeatStep, Event, Loss, RpcPart};
 use std::alloc::AllocError;
 
@@ -26,6 +26,45 @@ pub(crate) fn push_event(plan: &Plan, out: &mut Vec<u8>, event: &Event) -> Resul
         Event::Decay => push_word(out, b"decay"),
         Event::RoundEnd(round) => push_round_end(out, *round),
         Event::Shut => push_word(out, b"shut"),
+    }
+}
+
+/// The word of an event.
+pub(crate) fn event_word(event: &Event) -> &'static [u8]
+    ensures { result.now ≡ event_word event.now }
+{
+    match event {
+        Event::Heard(_, _) => b"heard",
+        Event::Late(_, _) => b"late",
+        Event::Part(_, part) => word_of_part(part),
+        Event::BeatBegin => b"heartbeat",
+        Event::Step(step) => step_word(step),
+        Event::Own(act) => what_word(act.get()).as_bytes(),
+        Event::Lost(_, loss) => loss_word(*loss),
+        Event::Decay => b"decay",
+        Event::RoundEnd(_) => b"round_end",
+        Event::Shut => b"shut",
+    }
+}
+
+fn step_word(step: &BeatStep) -> &'static [u8]
+    ensures { result.now ≡ step_word step.now }
+{
+    match step {
+        BeatStep::MeshBeat(_) => b"mesh",
+        BeatStep::FanBeat(_) => b"fanout",
+        BeatStep::FanEnd(_) => b"fanout_end",
+        BeatStep::GossipBeat(_) => b"gossip",
+        BeatStep::BeatEnd => b"heartbeat_end",
+    }
+}
+
+fn loss_word(loss: Loss) -> &'static [u8]
+    ensures { result.now ≡ loss_word loss }
+{
+    match loss {
+        Loss::Gone => b"gone",
+        Loss::Fault => b"fault",
     }
 }
 
@@ -253,9 +292,6 @@ fn push_loss(plan: &Plan, out: &mut Vec<u8>, from: PeerNo, loss: Loss) -> Result
     ensures { OnOk result (out.new.items
         ≡ out.old.items ++ (event_text (loss_word loss) ++ from_text (names_of plan.now) from)) }
 {
-    match loss {
-        Loss::Gone => push_word(out, b"gone")?,
-        Loss::Fault => push_word(out, b"fault")?,
-    }
+    push_word(out, loss_word(loss))?;
     push_from(plan, out, from)
 }

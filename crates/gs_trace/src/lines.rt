@@ -2,15 +2,16 @@
 ghost use Rattle.std.specs.Prelude.{◌≡◌, ◌≤◌, ◌++◌, ◌+◌, drop, suc, length, map, if◌then◌else◌, IfOk, OnOk, true, false};
 ghost use Rattle.std.specs.List.{flat_map, range_with_len};
 ghost use Rattle.gs_rules.specs.Events.{of_round_end};
-ghost use Rattle.gs_trace.specs.Texts.{list_text, names_of, quoted};
-ghost use Rattle.gs_trace.specs.Lines.{head_text, line_text, told_of, trace_text, up_to_end};
+ghost use Rattle.gs_trace.specs.Lines.{head_text, told, told_of, trace_text, up_to_end};
 ghost use Rattle.gs_trace.specs.Starts.{start_in, told_by};
+ghost use Rattle.gs_trace.specs.Wanted.{line_if, wanted_text, wishes_of};
 
 use crate::entries::push_entries;
+use crate::head::push_head;
 use crate::refusals::push_refusals;
-use crate::texts::{Shown, push_code, push_list, push_number, push_quoted};
+use crate::wanted::{Wanted, all_lines};
 use gs_base::PeerNo;
-use gs_plan::{Plan, PlannedPeer};
+use gs_plan::Plan;
 use gs_report::{Finished, Report};
 use gs_rules::{Event, StoredEntry};
 use std::alloc::{AllocError, Global};
@@ -24,39 +25,40 @@ use std::alloc::{AllocError, Global};
 pub fn trace_text(alloc: Global, plan: &Plan, report: &Report) -> Result<Vec<u8>, AllocError>
     ensures { IfOk result (λ text. text.items ≡ trace_text plan.now report.now) }
 {
+    let all = all_lines();
+    wanted_text(alloc, plan, report, &all)
+}
+
+/// The first line of a trace, and of the others those that are wanted.
+///
+/// # Errors
+/// `AllocError` where there was no memory for it.
+pub fn wanted_text(
+    alloc: Global,
+    plan: &Plan,
+    report: &Report,
+    wanted: &Wanted<'_>,
+) -> Result<Vec<u8>, AllocError>
+    ensures { IfOk result (λ text. text.items ≡ wanted_text (wishes_of wanted.now) plan.now report.now) }
+{
+    round_by_round(alloc, plan, report, wanted)
+}
+
+/// The same, made round by round.
+fn round_by_round(
+    alloc: Global,
+    plan: &Plan,
+    report: &Report,
+    wanted: &Wanted<'_>,
+) -> Result<Vec<u8>, AllocError>
+    ensures { IfOk result (λ text. text.items
+        ≡ head_text plan.now ++ flat_map (line_if (wishes_of wanted.now) plan.now) (told plan.now report.now)) }
+{
     let mut starts = first_starts(alloc, &report.peers)?;
     let mut out = Vec::new(alloc);
     push_head(plan, &mut out)?;
-    push_rounds(plan, &mut out, &report.peers, &mut starts)?;
+    push_rounds(plan, wanted, &mut out, &report.peers, &mut starts)?;
     Ok(out)
-}
-
-/// Adds the first line.
-fn push_head(plan: &Plan, out: &mut Vec<u8>) -> Result<(), AllocError>
-    ensures { OnOk result (out.new.items ≡ out.old.items ++ head_text plan.now) }
-{
-    push_code(out, b"{\"peers\":")?;
-    push_names(plan, out)?;
-    push_code(out, b",\"round_ms\":")?;
-    push_number(out, plan.round_ms)?;
-    push_code(out, b",\"last_round\":")?;
-    push_number(out, plan.rounds)?;
-    push_code(out, b"}\n")
-}
-
-/// Adds the names of all peers.
-fn push_names(plan: &Plan, out: &mut Vec<u8>) -> Result<(), AllocError>
-    ensures { OnOk result (out.new.items ≡ out.old.items ++ list_text quoted (names_of plan.now)) }
-{
-    push_list(plan, out, plan.peers.as_slice())
-}
-
-impl Shown for PlannedPeer {
-    ghost text = { λ names planned. quoted planned.name };
-
-    fn push(&self, _plan: &Plan, out: &mut Vec<u8>) -> Result<(), AllocError> {
-        push_quoted(out, self.name.as_str().as_bytes())
-    }
 }
 
 /// Where the entries of each peer begin in the first round.
@@ -73,24 +75,26 @@ fn first_starts(alloc: Global, peers: &[(PeerNo, Finished)]) -> Result<Vec<usize
 /// Adds the lines of all rounds.
 fn push_rounds(
     plan: &Plan,
+    wanted: &Wanted<'_>,
     out: &mut Vec<u8>,
     peers: &[(PeerNo, Finished)],
     starts: &mut [usize],
 ) -> Result<(), AllocError>
     requires { starts.old ≡ map (start_in 0) peers.now }
     ensures { OnOk result (out.new.items ≡ out.old.items
-        ++ flat_map (line_text plan.now) (flat_map (told_by plan.now peers.now) (range_with_len 0 (suc plan.now.rounds)))) }
+        ++ flat_map (line_if (wishes_of wanted.now) plan.now) (flat_map (told_by plan.now peers.now) (range_with_len 0 (suc plan.now.rounds)))) }
 {
     for round in 0..plan.rounds {
-        push_round(plan, out, round, peers, starts)?;
+        push_round(plan, wanted, out, round, peers, starts)?;
     }
-    push_round(plan, out, plan.rounds, peers, starts)
+    push_round(plan, wanted, out, plan.rounds, peers, starts)
 }
 
 /// Adds the lines of a round, in which the entries of each peer begin at these places. After it they are those of the next
 /// one.
 fn push_round(
     plan: &Plan,
+    wanted: &Wanted<'_>,
     out: &mut Vec<u8>,
     round: u64,
     peers: &[(PeerNo, Finished)],
@@ -98,11 +102,11 @@ fn push_round(
 ) -> Result<(), AllocError>
     requires { starts.old ≡ map (start_in round) peers.now }
     ensures text { OnOk result (out.new.items
-        ≡ out.old.items ++ flat_map (line_text plan.now) (told_by plan.now peers.now round)) }
+        ≡ out.old.items ++ flat_map (line_if (wishes_of wanted.now) plan.now) (told_by plan.now peers.now round)) }
     ensures starts { OnOk result (starts.new ≡ map (start_in (suc round)) peers.now) }
 {
     for place in 0..peers.len() {
-        starts[place] = push_told(plan, out, round, &peers[place], starts[place])?;
+        starts[place] = push_told(plan, wanted, out, round, &peers[place], starts[place])?;
     }
     Ok(())
 }
@@ -110,6 +114,7 @@ fn push_round(
 /// Adds the lines of a peer in a round, in which its entries begin at a place, and gives that of the next round.
 fn push_told(
     plan: &Plan,
+    wanted: &Wanted<'_>,
     out: &mut Vec<u8>,
     round: u64,
     peer: &(PeerNo, Finished),
@@ -117,7 +122,7 @@ fn push_told(
 ) -> Result<usize, AllocError>
     requires { start ≡ start_in round peer.now }
     ensures text { OnOk result (out.new.items
-        ≡ out.old.items ++ flat_map (line_text plan.now) (told_of plan.now round peer.now)) }
+        ≡ out.old.items ++ flat_map (line_if (wishes_of wanted.now) plan.now) (told_of plan.now round peer.now)) }
     ensures next { IfOk result (λ next. next ≡ start_in (suc round) peer.now) }
 {
     let (number, life) = peer;
@@ -125,8 +130,8 @@ fn push_told(
     let rest = rest_of(entries, start);
     let end = end_of(entries, start);
     let of_round = in_round(rest, end - start, round == plan.rounds);
-    push_entries(plan, out, round, *number, of_round)?;
-    push_refusals(plan, out, round, *number, life.refused.as_slice())?;
+    push_entries(plan, wanted, out, round, *number, of_round)?;
+    push_refusals(plan, wanted, out, round, *number, life.refused.as_slice())?;
     Ok(end)
 }
 

@@ -6,44 +6,66 @@ ghost use Rattle.gs_report.specs.Text.{word_of};
 ghost use Rattle.gs_trace.specs.Texts.{quoted};
 ghost use Rattle.gs_trace.specs.Lines.{is_refused_in, line_text, refusal_members};
 ghost use Rattle.gs_trace.specs.Lines.Told.{Refused};
+ghost use Rattle.gs_trace.specs.Wanted.{line_if, wishes_of};
 
 use crate::entries::push_start;
 use crate::events::push_word;
 use crate::texts::{push_code, push_number, push_quoted, push_size};
+use crate::wanted::{Wanted, is_refusal_wanted};
 use gs_base::PeerNo;
 use gs_plan::{Plan, what_word};
 use gs_rules::{Refusal, RefusedLine};
 use std::alloc::AllocError;
 
-/// Adds the lines of what a peer refused at the moment of a round.
+/// Adds the lines of what a peer refused at the moment of a round, those that are wanted.
 pub(crate) fn push_refusals(
     plan: &Plan,
+    wanted: &Wanted<'_>,
     out: &mut Vec<u8>,
     round: u64,
     peer: PeerNo,
     refusals: &[RefusedLine],
 ) -> Result<(), AllocError>
     ensures { OnOk result (out.new.items ≡ out.old.items
-        ++ flat_map (line_text plan.now) (map (Refused round peer) (filter (is_refused_in plan.now.round_ms round) refusals.now))) }
+        ++ flat_map (line_if (wishes_of wanted.now) plan.now) (map (Refused round peer) (filter (is_refused_in plan.now.round_ms round) refusals.now))) }
 {
     for refusal in refusals {
-        push_refusal_in(plan, out, round, peer, *refusal)?;
+        push_refusal_in(plan, wanted, out, round, peer, *refusal)?;
     }
     Ok(())
 }
 
-/// Adds the line of what was refused, if that was in the round.
+/// Adds the line of what was refused, if that was in the round and is wanted.
 fn push_refusal_in(
     plan: &Plan,
+    wanted: &Wanted<'_>,
     out: &mut Vec<u8>,
     round: u64,
     peer: PeerNo,
     refusal: RefusedLine,
 ) -> Result<(), AllocError>
     ensures { OnOk result (out.new.items ≡ out.old.items
-        ++ flat_map (line_text plan.now) (map (Refused round peer) (filter (is_refused_in plan.now.round_ms round) (refusal ∷ [])))) }
+        ++ flat_map (line_if (wishes_of wanted.now) plan.now) (map (Refused round peer) (filter (is_refused_in plan.now.round_ms round) (refusal ∷ [])))) }
 {
     if is_refused_in(plan.round_ms, round, refusal) {
+        return push_refusal_if(plan, wanted, out, round, peer, refusal);
+    }
+    Ok(())
+}
+
+/// Adds the line of what was refused, if it is wanted.
+fn push_refusal_if(
+    plan: &Plan,
+    wanted: &Wanted<'_>,
+    out: &mut Vec<u8>,
+    round: u64,
+    peer: PeerNo,
+    refusal: RefusedLine,
+) -> Result<(), AllocError>
+    ensures { OnOk result (out.new.items
+        ≡ out.old.items ++ line_if (wishes_of wanted.now) plan.now (Refused round peer refusal)) }
+{
+    if is_refusal_wanted(plan, wanted, round, peer, refusal) {
         return push_refusal(plan, out, round, peer, refusal);
     }
     Ok(())

@@ -2,8 +2,9 @@ use Rattle.std.proofs.Common.{◌≡◌, ◌++◌, ℕ, List, suc, drop, get_or,
 use Rattle.std.specs.List.{flat_map}
 use Rattle.gs_base.specs.declared.names.PeerNo.{PeerNo}
 use Rattle.gs_report.specs.declared.finished.Finished.{Finished}
-use Rattle.gs_trace.specs.Lines.{line_text, told_of}
+use Rattle.gs_trace.specs.Lines.{told_of}
 use Rattle.gs_trace.specs.Starts.{start_in}
+use Rattle.gs_trace.specs.Wanted.{line_if, wishes_of}
 use Rattle.gs_trace.proofs.Appended.{and_then}
 use Rattle.gs_trace.proofs.Starts.{peer_more, walk_more}
 use Rattle.gs_trace.proofs.lines.push_round.Goals as goal
@@ -16,7 +17,7 @@ loop-place-preserved c =
     let low = c.loop-place-test.true in
     let f = start_in (suc c.args.round) in
     let g = start_in c.args.round in
-    let line = line_text c.args.plan.now in
+    let line = line_if (wishes_of c.args.wanted.now) c.args.plan.now in
     let told = told_of c.args.plan.now c.args.round in
     let before = c.loop-place.out.items in
     let out = c.args.out.now.items in

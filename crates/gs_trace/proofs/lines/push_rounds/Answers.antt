@@ -1,14 +1,14 @@
 use Rattle.std.proofs.Common.{◌≡◌, ◌++◌, ℕ, List, map, add-one, sym, ap, ◌∙◌, arith, rules}
 use Rattle.std.proofs.lemmas.Result.{on_ok_weaker}
-use Rattle.gs_trace.specs.Lines.{line_text}
 use Rattle.gs_trace.specs.Starts.{start_in, told_by}
+use Rattle.gs_trace.specs.Wanted.{line_if, wishes_of}
 use Rattle.gs_trace.proofs.Appended.{and_then}
 use Rattle.gs_trace.proofs.Starts.{round_last, round_more, text_to}
 use Rattle.gs_trace.proofs.lines.push_rounds.Goals as goal
 
 pub loop-round-preserved : goal.loop-round-preserved
 loop-round-preserved c =
-    let line = line_text c.args.plan.now in
+    let line = line_if (wishes_of c.args.wanted.now) c.args.plan.now in
     let told = told_by c.args.plan.now c.args.peers.now in
     let out = c.args.out.now.items in
     let round = c.loop-round.round in
@@ -22,7 +22,7 @@ loop-round-preserved c =
 pub returns : goal.returns
 returns c =
     let plan = c.args.plan.now in
-    let line = line_text plan in
+    let line = line_if (wishes_of c.args.wanted.now) plan in
     let told = told_by plan c.args.peers.now in
     let out = c.args.out.now.items in
     let end : c.loop-round.round ≡ plan.rounds = omega (arith, c.loop-round.invariant.low, c.loop-round-test.false) in

@@ -3,8 +3,9 @@ use Rattle.std.specs.List.{flat_map}
 use Rattle.std.proofs.lemmas.Grind.{flat_map-append}
 use Rattle.gs_rules.specs.declared.refusal.RefusedLine.{RefusedLine}
 use Rattle.gs_rules.specs.declared.trace.Entry.{Entry}
-use Rattle.gs_trace.specs.Lines.{after_ends, in_round, is_refused_in, line_text, up_to_end}
+use Rattle.gs_trace.specs.Lines.{after_ends, in_round, is_refused_in, up_to_end}
 use Rattle.gs_trace.specs.Lines.Told.{Did, Refused}
+use Rattle.gs_trace.specs.Wanted.{line_if, wishes_of}
 use Rattle.gs_trace.proofs.Appended.{and_then}
 use Rattle.gs_trace.proofs.Starts.{forward, left_is, start_low}
 use Rattle.gs_trace.proofs.lines.push_told.Goals as goal
@@ -21,7 +22,7 @@ returns-clause-text c =
     let r = c.args.round in
     let q = c.args.peer.now.0 in
     let life = c.args.peer.now.1 in
-    let line = line_text plan in
+    let line = line_if (wishes_of c.args.wanted.now) plan in
     let out = c.args.out.now.items in
     let left : c.rest_of-rest.result.now ≡ after_ends r (reverse life.trace) =
     c.rest_of-rest.ensures

@@ -1,0 +1,187 @@
+//! Which lines of a trace are wanted.
+ghost use Rattle.std.specs.Prelude.{◌≡◌, ◌&&◌, drop};
+ghost use Rattle.gs_trace.specs.Events.{event_word, refused_word};
+ghost use Rattle.gs_trace.specs.Lines.Told.{Did, Refused};
+ghost use Rattle.gs_trace.specs.Wanted.{begins, is_about, is_among, is_event, is_in_rounds, is_line_about, is_of_peer, is_wanted, lies_in, no_wish, suits, wishes_of};
+
+use crate::events::event_word;
+use crate::topics::{entry_names, line_names};
+use gs_base::PeerNo;
+use gs_plan::Plan;
+use gs_report::name_of;
+use gs_rules::{RefusedLine, StoredEntry};
+
+/// Which lines of a trace are wanted, beside the first one: those that fulfil each of these wishes.
+#[derive(Clone, Copy, Debug, Drop)]
+pub struct Wanted<'a> {
+    /// Lines of the peer of this name.
+    pub peer: Wish<'a>,
+    /// Lines that name this topic: in the event, in an RPC that was sent, in a delivery or in a mark.
+    pub topic: Wish<'a>,
+    /// Lines of these rounds.
+    pub rounds: Option<RoundSpan>,
+    /// Lines of the events of these words, which have commas between them.
+    pub events: Wish<'a>,
+}
+
+/// A text that is wished for.
+#[derive(Clone, Copy, Debug, Drop)]
+pub enum Wish<'a> {
+    /// Any text will do.
+    Any,
+    Only(&'a str),
+}
+
+/// Rounds from one to another, with both.
+#[derive(Clone, Copy, Debug, PartialEq, Eq)]
+pub struct RoundSpan {
+    pub first: u64,
+    pub last: u64,
+}
+
+/// What wants all lines.
+pub fn all_lines<'a>() -> Wanted<'a>
+    ensures { wishes_of result ≡ no_wish }
+{
+    Wanted {
+        peer: Wish::Any,
+        topic: Wish::Any,
+        rounds: None,
+        events: Wish::Any,
+    }
+}
+
+/// Whether the line of an entry is wanted.
+pub(crate) fn is_entry_wanted(
+    plan: &Plan,
+    wanted: &Wanted<'_>,
+    round: u64,
+    peer: PeerNo,
+    entry: &StoredEntry,
+) -> bool
+    ensures { result ≡ is_wanted (wishes_of wanted.now) plan.now (Did round peer entry.now) }
+{
+    is_of(plan, wanted, round, peer) && tells(wanted, entry)
+}
+
+/// Whether the line of a refused line of the script is wanted.
+pub(crate) fn is_refusal_wanted(
+    plan: &Plan,
+    wanted: &Wanted<'_>,
+    round: u64,
+    peer: PeerNo,
+    refusal: RefusedLine,
+) -> bool
+    ensures { result ≡ is_wanted (wishes_of wanted.now) plan.now (Refused round peer refusal) }
+{
+    is_of(plan, wanted, round, peer) && tells_refusal(plan, wanted, refusal.line)
+}
+
+/// Whether a line is of the peer and of one of the rounds.
+fn is_of(plan: &Plan, wanted: &Wanted<'_>, round: u64, peer: PeerNo) -> bool
+    ensures { result ≡ (is_of_peer (wishes_of wanted.now) plan.now peer && is_in_rounds (wishes_of wanted.now) round) }
+{
+    is_of_peer(plan, wanted, peer) && is_in_rounds(wanted.rounds, round)
+}
+
+fn is_of_peer(plan: &Plan, wanted: &Wanted<'_>, peer: PeerNo) -> bool
+    ensures { result ≡ is_of_peer (wishes_of wanted.now) plan.now peer }
+{
+    match wanted.peer {
+        Wish::Any => true,
+        Wish::Only(name) => name_of(plan, peer) == name,
+    }
+}
+
+fn is_in_rounds(rounds: Option<RoundSpan>, round: u64) -> bool
+    ensures { result ≡ suits (lies_in round) rounds }
+{
+    match rounds {
+        None => true,
+        Some(rounds) => rounds.first <= round && round <= rounds.last,
+    }
+}
+
+/// Whether an entry has one of the events, and names the topic.
+fn tells(wanted: &Wanted<'_>, entry: &StoredEntry) -> bool
+    ensures { result ≡ (is_event (wishes_of wanted.now) (event_word entry.now.event) && is_about (wishes_of wanted.now) entry.now) }
+{
+    is_event(wanted, event_word(entry.event())) && is_about(wanted, entry)
+}
+
+/// Whether refused lines are among the events, and this one names the topic.
+fn tells_refusal(plan: &Plan, wanted: &Wanted<'_>, place: usize) -> bool
+    ensures { result ≡ (is_event (wishes_of wanted.now) refused_word && is_line_about (wishes_of wanted.now) plan.now place) }
+{
+    is_event(wanted, b"refused") && is_line_about(plan, wanted, place)
+}
+
+fn is_about(wanted: &Wanted<'_>, entry: &StoredEntry) -> bool
+    ensures { result ≡ is_about (wishes_of wanted.now) entry.now }
+{
+    match wanted.topic {
+        Wish::Any => true,
+        Wish::Only(topic) => entry_names(topic.as_bytes(), entry),
+    }
+}
+
+fn is_line_about(plan: &Plan, wanted: &Wanted<'_>, place: usize) -> bool
+    ensures { result ≡ is_line_about (wishes_of wanted.now) plan.now place }
+{
+    match wanted.topic {
+        Wish::Any => true,
+        Wish::Only(topic) => line_names(plan, topic.as_bytes(), place),
+    }
+}
+
+fn is_event(wanted: &Wanted<'_>, word: &[u8]) -> bool
+    ensures { result ≡ is_event (wishes_of wanted.now) word.now }
+{
+    match wanted.events {
+        Wish::Any => true,
+        Wish::Only(words) => is_among(word, words.as_bytes()),
+    }
+}
+
+/// Whether a word is one of those in a text, which have commas between them.
+fn is_among(word: &[u8], words: &[u8]) -> bool
+    ensures { result ≡ is_among word.now words.now }
+{
+    let mut fits = true;
+    let mut left = word;
+    let mut rest = words;
+    while let [byte, more @ ..] = rest {
+        rest = more;
+        if *byte == b',' {
+            if fits && left.is_empty() {
+                return true;
+            }
+            fits = true;
+            left = word;
+            continue;
+        }
+        fits = fits && begins(left, *byte);
+        left = after_one(left);
+    }
+    fits && left.is_empty()
+}
+
+/// Whether this is the first of some bytes.
+fn begins(bytes: &[u8], byte: u8) -> bool
+    ensures { result ≡ begins bytes.now byte }
+{
+    match bytes {
+        [first, ..] => *first == byte,
+        [] => false,
+    }
+}
+
+/// What comes after the first of some bytes.
+fn after_one(bytes: &[u8]) -> &[u8]
+    ensures { result.now ≡ drop 1 bytes.now }
+{
+    match bytes {
+        [_, more @ ..] => more,
+        [] => bytes,
+    }
+}
