@@ -2,6 +2,7 @@
 mod events;
 mod marks;
 mod plan;
+mod wanted;
 
 use crate::tests::plan::{bytes, plan, topic};
 use gs_base::{Mark, Millis, MsgId, PeerNo, Rpc, Seq, Shared};
@@ -10,7 +11,8 @@ use gs_rules::{Effects, Entry, Event, Promise, Refusal, RefusedLine, Trace};
 use gs_trace::trace_text;
 use std::alloc::{AllocError, Global};
 
-const HEAD: &[u8] = b"{\"peers\":[\"a\",\"b\"],\"round_ms\":100,\"last_round\":2}\n";
+pub(crate) const HEAD: &[u8] = b"{\"peers\":[\"a\",\"b\"],\"round_ms\":100,\"last_round\":2,\
+\"dials\":[{\"from\":\"b\",\"to\":\"a\"}]}\n";
 
 fn finished(
     alloc: Global,
@@ -120,102 +122,5 @@ const MUCH_TOLD: &[u8] = b"{\"round\":0,\"at\":7,\"peer\":\"a\",\"event\":\"shut
 fn what_is_done_is_told_in_order(rt: HostRuntime) -> Result<(), AllocError> {
     let effects = much_done(rt.alloc())?;
     assert!(rt; is_entry(rt.alloc(), Event::Shut, effects, MUCH_TOLD)?);
-    Ok(())
-}
-
-/// What a peer does: `true` ends the round.
-#[derive(Clone, Copy)]
-struct Life {
-    peer: u16,
-    /// The moments of its entries, which end rounds or not.
-    trace: &'static [(u64, bool)],
-    /// The moments and places of lines that it refused.
-    refused: &'static [(u64, usize)],
-}
-
-fn trace_of(alloc: Global, life: Life) -> Result<Trace, AllocError> {
-    let mut trace = Trace::new(alloc);
-    for (at, ends) in life.trace {
-        trace.push(Entry {
-            at: Millis(*at),
-            event: if *ends {
-                Event::RoundEnd(9)
-            } else {
-                Event::Decay
-            },
-            effects: Effects::none(alloc),
-        })?;
-    }
-    Ok(trace)
-}
-
-fn refused_of(alloc: Global, life: Life) -> Result<Seq<RefusedLine>, AllocError> {
-    let mut refused = Seq::new(alloc);
-    for (at, line) in life.refused {
-        refused.push(RefusedLine {
-            at: Millis(*at),
-            line: *line,
-            why: Refusal::NotOpen,
-        })?;
-    }
-    Ok(refused)
-}
-
-/// Whether the rounds of a run are told by these lines.
-fn are_rounds(alloc: Global, lives: &[Life], lines: &str) -> Result<bool, AllocError> {
-    let mut report = Report {
-        peers: Vec::new(alloc),
-        settled: 0,
-    };
-    for life in lives {
-        let refused = refused_of(alloc, *life)?;
-        let told = finished(alloc, trace_of(alloc, *life)?, refused)?;
-        report.peers.push((PeerNo(life.peer), told))?;
-    }
-    is_told(alloc, &report, lines.as_bytes())
-}
-
-/// Peer `b` stands first. It refuses a line at a moment that no round begins at, and one after the last round.
-static TWO_LIVES: [Life; 2] = [
-    Life {
-        peer: 1,
-        trace: &[
-            (0, true),
-            (100, false),
-            (100, true),
-            (200, true),
-            (200, false),
-        ],
-        refused: &[(0, 3), (50, 3), (200, 4), (300, 4)],
-    },
-    Life {
-        peer: 0,
-        trace: &[(0, false)],
-        refused: &[(100, 0), (100, 9)],
-    },
-];
-
-const LINES_OF_TWO: &str = "\
-{\"round\":0,\"at\":0,\"peer\":\"b\",\"event\":\"round_end\",\"number\":9,\"sent\":[],\"delivered\":[],\"promise\":null,\"marks\":[]}
-{\"round\":0,\"at\":0,\"peer\":\"b\",\"event\":\"refused\",\"line\":3,\"what\":\"raw\",\"number\":33}
-{\"round\":0,\"at\":0,\"peer\":\"a\",\"event\":\"decay\",\"sent\":[],\"delivered\":[],\"promise\":null,\"marks\":[]}
-{\"round\":1,\"at\":100,\"peer\":\"b\",\"event\":\"decay\",\"sent\":[],\"delivered\":[],\"promise\":null,\"marks\":[]}
-{\"round\":1,\"at\":100,\"peer\":\"b\",\"event\":\"round_end\",\"number\":9,\"sent\":[],\"delivered\":[],\"promise\":null,\"marks\":[]}
-{\"round\":1,\"at\":100,\"peer\":\"a\",\"event\":\"refused\",\"line\":0,\"what\":\"subscribe\",\"number\":33}
-{\"round\":1,\"at\":100,\"peer\":\"a\",\"event\":\"refused\",\"line\":9,\"what\":\"\",\"number\":33}
-{\"round\":2,\"at\":200,\"peer\":\"b\",\"event\":\"round_end\",\"number\":9,\"sent\":[],\"delivered\":[],\"promise\":null,\"marks\":[]}
-{\"round\":2,\"at\":200,\"peer\":\"b\",\"event\":\"decay\",\"sent\":[],\"delivered\":[],\"promise\":null,\"marks\":[]}
-{\"round\":2,\"at\":200,\"peer\":\"b\",\"event\":\"refused\",\"line\":4,\"what\":\"hang_up\",\"number\":33}
-";
-
-#[test]
-fn lines_come_by_round_then_by_peer_then_in_order(rt: HostRuntime) -> Result<(), AllocError> {
-    assert!(rt; are_rounds(rt.alloc(), &TWO_LIVES, LINES_OF_TWO)?);
-    Ok(())
-}
-
-#[test]
-fn a_run_without_peers_has_the_first_line_alone(rt: HostRuntime) -> Result<(), AllocError> {
-    assert!(rt; are_rounds(rt.alloc(), &[], "")?);
     Ok(())
 }

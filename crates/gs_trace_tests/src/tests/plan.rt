@@ -5,7 +5,7 @@ use gs_params::{
     DEFAULT_DEGREES, DEFAULT_FACTORS, DEFAULT_FLOOD_PUBLISH, DEFAULT_THRESHOLDS, DEFAULT_TIMING,
     Params,
 };
-use gs_plan::{Act, Line, Plan, PlannedPeer};
+use gs_plan::{Act, Dial, Line, Plan, PlannedPeer};
 use std::alloc::{AllocError, Global};
 
 pub(crate) fn bytes(alloc: Global, text: &[u8]) -> Result<Bytes, AllocError> {
@@ -55,7 +55,13 @@ pub(crate) fn plan(alloc: Global) -> Result<Plan, AllocError> {
             topics: Seq::new(alloc),
         },
         peers,
-        dials: Seq::new(alloc),
+        dials: Seq::only(
+            alloc,
+            Dial {
+                from: PeerNo(1),
+                to: PeerNo(0),
+            },
+        )?,
         apps: Seq::new(alloc),
         explicit: Seq::new(alloc),
         script,
