@@ -1,9 +1,11 @@
 //! Prints the trace of a run: reads a scenario, runs it, and writes what each peer heard, decided, sent and remembered.
 #![tactic(auto)]
 
+mod arguments;
 mod program;
+mod rounds;
 
-use crate::program::USAGE;
+use crate::arguments::USAGE;
 use gs_program::{arguments_of, refuse_unread};
 use std::process::ExitCode;
 
@@ -19,3 +21,6 @@ fn main(rt: HostRuntime) -> ExitCode {
         Err(fault) => refuse_unread(fault.kind(), &mut rt.stderr(), USAGE),
     }
 }
+
+#[cfg(test)]
+mod tests;

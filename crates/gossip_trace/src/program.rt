@@ -1,29 +1,37 @@
 //! The program: it writes the trace of the run of the scenario that it reads.
-ghost use Rattle.gs_trace.specs.Lines.{trace_text};
+ghost use Rattle.std.specs.Prelude.{◌≡◌, false, map, string_bytes};
+ghost use Rattle.std.specs.Process.{exit_status};
+ghost use Rattle.gs_program.specs.Program.{EndsWith};
+ghost use Rattle.gs_trace.specs.Wanted.{wanted_text, wishes_of};
+ghost use Rattle.gossip_trace.specs.Arguments.{asked_for};
+ghost use Rattle.gossip_trace.specs.Printed.{EndsFor};
 
+use crate::arguments::{asked_by, refuse};
 use gs_plan::Plan;
-use gs_program::{Printer, Program, refuse_arguments};
+use gs_program::{Printer, Program};
 use gs_report::Report;
-use gs_trace::trace_text;
+use gs_trace::{Wanted, wanted_text};
 use std::alloc::{AllocError, Global};
 use std::io::{Read, Write};
 use std::process::ExitCode;
 
-pub const USAGE: &str = "usage: gossip_trace\n";
-
-/// Makes the trace of a run.
+/// Makes the lines that are wanted of the trace of a run.
 #[derive(Clone, Copy, Debug, Drop)]
-struct Trace;
+struct TraceOf<'a> {
+    wanted: Wanted<'a>,
+}
 
-impl Printer for Trace {
-    ghost text = { λ printer plan report. trace_text plan report };
+impl<'a> Printer for TraceOf<'a> {
+    ghost text = { λ printer plan report. wanted_text (wishes_of printer.wanted) plan report };
 
     fn print(&self, alloc: Global, plan: &Plan, report: &Report) -> Result<Vec<u8>, AllocError> {
-        trace_text(alloc, plan, report)
+        wanted_text(alloc, plan, report, &self.wanted)
     }
 }
 
-/// Runs the program with these arguments over these streams, and gives the status that its process ends with.
+/// Runs the program with these arguments over these streams, and gives the status that its process ends with. Where the
+/// arguments ask for something, its ends are those of `gossip_sim`, and its text has the lines that they ask for. Else it
+/// reads no input, says on `errors` how it is called, and ends with 64.
 pub fn run<R, W, E>(
     alloc: Global,
     arguments: &[String],
@@ -35,13 +43,35 @@ where
     R: Read,
     W: Write,
     E: Write,
+    ensures { EndsFor (asked_for (map string_bytes arguments.now)) (exit_status result)
+        (R.remaining input.old) (R.remaining input.new)
+        (W.contents output.old) (W.contents output.new) (E.contents errors.old) (E.contents errors.new) }
 {
-    if !arguments.is_empty() {
-        return refuse_arguments(errors, USAGE);
+    match asked_by(arguments) {
+        Some(wanted) => run_to_exit(alloc, wanted, input, output, errors),
+        None => refuse(errors),
     }
+}
+
+/// Runs the program for the lines that are wanted.
+fn run_to_exit<R, W, E>(
+    alloc: Global,
+    wanted: Wanted<'_>,
+    input: &mut R,
+    output: &mut W,
+    errors: &mut E,
+) -> ExitCode
+where
+    R: Read,
+    W: Write,
+    E: Write,
+    ensures { EndsWith (wanted_text (wishes_of wanted.entry)) false (exit_status result)
+        (R.remaining input.old) (R.remaining input.new)
+        (W.contents output.old) (W.contents output.new) (E.contents errors.old) (E.contents errors.new) }
+{
     let program = Program {
         alloc,
-        printer: Trace,
+        printer: TraceOf { wanted },
     };
     program.run_to_exit(input, output, errors)
 }

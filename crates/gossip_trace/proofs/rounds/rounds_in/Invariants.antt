@@ -1,0 +1,7 @@
+use Rattle.std.proofs.Common.{◌≡◌, drop, Some}
+use Rattle.gossip_trace.specs.Rounds.{read_from, rounds_in}
+use Rattle.gossip_trace.proofs.rounds.rounds_in.Given as goal
+
+-- what the text spells is what the bytes that are left spell after what was read
+abbrev pub invariant-loop-byte : goal.invariant-loop-byte
+invariant-loop-byte l = read_from (Some l.reading) (drop l.byte-index l.text) ≡ rounds_in l.text
