@@ -76,6 +76,7 @@ class Trace:
         words = collections.Counter(it["event"] for it in self.lines)
         marks = collections.Counter(mark["mark"] for it in self.lines for mark in it.get("marks", ()))
         return {
+            "ADD_PEER": 2 * len(self.head["dials"]),
             "PUBLISH_MESSAGE": words["publish"],
             "REJECT_MESSAGE": self.rejected(),
             "DELIVER_MESSAGE": sum(len(it.get("delivered", ())) for it in self.lines),
