@@ -2,8 +2,8 @@
 //! each column that there is.
 use std::alloc::{AllocError, Global};
 
-/// What CSV says: a line for each row, and an empty one between two tables. A cell of 0 is left out, and each other one
-/// stands there as `name=cell`.
+/// What CSV says: a line for each row, and an empty one between two tables. A cell of 0 and a score of 0 are left out, and
+/// each other one stands there as `name=cell`.
 pub(crate) fn named_in_csv(alloc: Global, csv: &[u8]) -> Result<String, AllocError> {
     let mut text = String::new(alloc);
     for table in str::from_utf8(csv).unwrap_or("no UTF-8").split("\n\n") {
@@ -35,7 +35,7 @@ fn push_row(text: &mut String, header: &str, row: &str) -> Result<(), AllocError
 }
 
 fn push_cell(text: &mut String, name: &str, cell: &str) -> Result<(), AllocError> {
-    if cell == "0" {
+    if cell == "0" || cell == "0.000000" {
         return Ok(());
     }
     if !text.is_empty() && !text.ends_with('\n') {
@@ -53,7 +53,7 @@ pub(crate) fn named_in_json(alloc: Global, json: &[u8]) -> Result<String, AllocE
         .unwrap_or("no UTF-8")
         .split_inclusive(',')
     {
-        if !member.ends_with(":0,") {
+        if !member.ends_with(":0,") && !member.ends_with(":0.000000,") {
             text.push_str(member)?;
         }
     }
