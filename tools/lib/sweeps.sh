@@ -41,8 +41,8 @@ some_columns+=,graft_sent,refused_lines,lowest_score,highest_score,smallest_mesh
 three_rows() {
   cat <<END
 rounds,params.heartbeat_ms,$some_columns
-15,1000,0,,yes,1,3,3,1,16,180,4,2,2,6,16,180,4,6,0,0,0,2,2
-15,2000,0,,yes,1,3,3,1,8,90,2,2,0,0,8,90,2,0,0,0,0,0,0
+15,1000,0,,yes,1,3,3,1,16,180,4,2,2,6,16,180,4,6,0,0.000000,0.000000,2,2
+15,2000,0,,yes,1,3,3,1,8,90,2,2,0,0,8,90,2,0,0,0.000000,0.000000,0,0
 11,1000,1,scenario refused: 29 do[3].at,yes,,,,,,,,,,,,,,,,,,,
 11,2000,1,scenario refused: 29 do[3].at,yes,,,,,,,,,,,,,,,,,,,
 END
