@@ -33,7 +33,7 @@ def take_all(top, names):
     rt.Crate.allowed = rt.handles_of(top)
     crates = rt.crates_of(top)
     kept = rt.Kept(crates)
-    return [it.name for it in crates if it.name in names and not take(rt, kept, it)]
+    return [it.name for it in crates if it.name in names and not it.is_program and not take(rt, kept, it)]
 
 
 def take_libraries(top, names):
