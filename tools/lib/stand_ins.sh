@@ -118,7 +118,7 @@ compiling() {
 
 # What is run where nothing is proved.
 check_unproved() {
-  local one='gossip_sim is not built' said
+  local one='gossip_sim is not built' said usage
   said=$(unproved report "$one")
   expect 'a report without proof' 0 'gossip_sim  scenario' "$said"$'\n'"$(compiling gossip_sim)"$'\ntold by gossip_sim' tried 0
   expect 'a status without proof' 2 'gossip_sim  scenario' "$said"$'\ntold by gossip_sim' tried 2
@@ -145,6 +145,13 @@ check_unproved() {
   expect_like 'a trace without proof' 0 'gossip_trace  scenario' \
     'gossip_trace: this trace does not come from a proved program: gossip_trace is not built*told by gossip_trace' \
     tried_trace
+  expect_like 'some lines of a trace' 0 'gossip_trace --peer b --rounds 2..3 --events graft,prune --topic news scenario' '*' \
+    tried_trace --peer b --rounds=2..3 --events graft,prune --topic news
+  usage='usage: gossip_trace [--peer NAME] [--topic TOPIC] [--rounds A..B] [--events A,B,..]'
+  expect 'a trace of two peers' 64 '' "$usage" tried_trace --peer b --peer c
+  expect 'a trace of rounds that are none' 64 '' "$usage" tried_trace --rounds 3..2
+  expect 'a trace of a round without an end' 64 '' "$usage" tried_trace --rounds 3
+  expect 'a trace of no peer' 64 '' 'gossip_trace: --peer takes a value; --help says more' tried_trace --peer
   expect_like 'a picture without proof' 0 'gossip_picture news scenario' \
     'gossip_picture: this picture does not come from a proved program: gossip_picture is not built*told by gossip_picture' \
     tried_picture --topic news
