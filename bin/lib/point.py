@@ -4,7 +4,7 @@ can be run, but does not do what it seems to. It is a script, and not proved.
 usage: point.py refusal|warnings ANSWER SCENARIO INPUT ORIGIN UNTIL [CHANGE..]
 
 ANSWER has the answer, and SCENARIO what was checked. INPUT is what the options changed into that, by each CHANGE and,
-where it is not empty, by UNTIL. ORIGIN is the description of which bin/scenario made INPUT, and empty where there is none.
+where it is not empty, by UNTIL. ORIGIN is the description from which bin/scenario made INPUT, and empty where there is none.
 No line is named where it is not sure. It reads TOML 1.0, by Python 3.11 or later.
 """
 import re

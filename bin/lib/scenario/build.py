@@ -146,7 +146,7 @@ def first_faults(description, lists):
 
 def add_lines(world, lists, found):
     """Adds the script: what groups subscribe to, the lines of the file, loads, attacks, RPCs and partitions. Of each table
-    the first fault is told."""
+    the first fault is reported."""
     for fields, names in found:
         is_quiet = attacks.is_quiet(lists["attack"], fields.text("prefix"))
         groups.subscribe(world, fields, names, is_quiet)

@@ -101,7 +101,7 @@ class World:
         if self.done:
             many = f"about {self.before + (self.at_moment - self.before) * self.moments // self.done:,}"
         hint = f"; {less[path[0]]} makes it less" if path[0] in less else ""
-        # (the tables after it are told for themselves)
+        # (the tables after it are checked by themselves)
         self.size = self.done = 0
         raise Fault(path, f"with it the scenario has {many} bytes, and only {MOST_BYTES:,} are read{hint}")
 
