@@ -34,6 +34,7 @@ pub(crate) fn merge_part<M: Decode>(
 }
 
 /// Adds the bytes that a record holds to a repeated field.
+#[inline(always)]
 pub(crate) fn merge_item(
     record: &Record<'_>,
     wanted: u64,
@@ -50,6 +51,7 @@ pub(crate) fn merge_item(
     Ok(())
 }
 
+#[inline(always)]
 pub(crate) fn merge_topic(
     record: &Record<'_>,
     wanted: u64,
@@ -66,6 +68,7 @@ pub(crate) fn merge_topic(
     Ok(())
 }
 
+#[inline(always)]
 pub(crate) fn merge_bytes(
     record: &Record<'_>,
     wanted: u64,
@@ -83,6 +86,7 @@ pub(crate) fn merge_bytes(
 }
 
 /// The same for bytes that are seldom there.
+#[inline(always)]
 pub(crate) fn merge_shared(
     alloc: Global,
     record: &Record<'_>,
@@ -100,6 +104,7 @@ pub(crate) fn merge_shared(
     Ok(())
 }
 
+#[inline(always)]
 pub(crate) fn merge_number(record: &Record<'_>, wanted: u64, number: &mut Option<u64>)
     ensures { (before : List Spelled)
         → number.old ≡ number_of wanted before
@@ -111,6 +116,7 @@ pub(crate) fn merge_number(record: &Record<'_>, wanted: u64, number: &mut Option
 }
 
 /// A truth value is true where it isn't 0.
+#[inline(always)]
 pub(crate) fn merge_bool(record: &Record<'_>, wanted: u64, truth: &mut Option<bool>)
     ensures { (before : List Spelled)
         → truth.old ≡ bool_of wanted before

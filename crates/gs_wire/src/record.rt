@@ -23,6 +23,7 @@ pub(crate) struct Record<'a> {
 
 impl<'a> Record<'a> {
     /// What a record of this field holds, where that is bytes.
+    #[inline(always)]
     pub(crate) fn bytes_in(&self, wanted: u64) -> Option<Reader<'a>>
         ensures { result ≡ len_in wanted self.now.field (view_value self.now.value) }
     {
@@ -37,6 +38,7 @@ impl<'a> Record<'a> {
     }
 
     /// What a record of this field holds, where that is a number.
+    #[inline(always)]
     pub(crate) fn number_in(&self, wanted: u64) -> Option<u64>
         ensures { result ≡ varint_in wanted self.now.field (view_value self.now.value) }
     {
