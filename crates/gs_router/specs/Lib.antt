@@ -7,3 +7,4 @@ pub mod Router
 pub mod Offers
 pub mod Requests
 pub mod Beats
+pub mod Following

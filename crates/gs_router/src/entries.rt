@@ -11,6 +11,7 @@ ghost use Rattle.gs_router.specs.Tables.{Agrees};
 ghost use Rattle.gs_router.specs.Known.{IsFit, Knows, peer_with};
 
 mod departures;
+pub mod fallen;
 mod grafts;
 mod heartbeats;
 mod maintenance;

@@ -3,6 +3,7 @@
 
 mod entries;
 mod fault;
+mod follower;
 mod known;
 mod peer_lists;
 mod peer_set;
@@ -12,4 +13,5 @@ mod state;
 mod tables;
 
 pub use fault::RouterFault;
+pub use follower::{Followed, Follower};
 pub use router::Router;

@@ -21,7 +21,7 @@ use gs_base::{Millis, PeerNo, Rpc, Seq, Shared};
 use gs_cache::Payloads;
 use gs_params::Words;
 use gs_plan::Act;
-use gs_rules::{Entry, Event, Trace};
+use gs_rules::{Entry, Event, StoredEntry, Trace};
 use std::alloc::AllocError;
 
 /// What is given of a router, what it did, and what that says.
@@ -55,9 +55,9 @@ impl State {
         ensures setup { self.new.known.setup ≡ self.old.known.setup }
     {
         self.trace.prove_length_fits();
-        self.known.tables.note(&entry)?;
-        self.trace.push(entry)?;
-        Ok(())
+        let stored = StoredEntry::new(self.known.alloc, entry)?;
+        self.known.tables.note(&stored)?;
+        self.trace.push_stored(stored)
     }
 
     /// Does what the rule says of the event that comes next.

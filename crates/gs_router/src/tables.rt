@@ -34,7 +34,7 @@ use crate::tables::sightings::Sightings;
 use crate::tables::standings::Standings;
 use gs_base::{MOST_IDENTIFIERS, Millis, Neighbour};
 use gs_params::{Params, Timing};
-use gs_rules::Entry;
+use gs_rules::StoredEntry;
 use std::alloc::{AllocError, Global};
 
 /// What a router knows beside its trace.
@@ -101,7 +101,7 @@ impl Tables {
     ///
     /// # Errors
     /// `AllocError` where there was no memory; some of the tables may then have noted it.
-    pub fn note(&mut self, entry: &Entry) -> Result<(), AllocError>
+    pub fn note(&mut self, entry: &StoredEntry) -> Result<(), AllocError>
         requires time { self.old.sightings.cache.moment ≤ entry.now.at.0 }
         requires few { self.old.standings.scores.decays < 2 ^ 63 }
         requires beats { self.old.beats.count < 2 ^ 63 }

@@ -15,7 +15,8 @@ use Rattle.gs_mesh.specs.declared.condition.Condition.{Condition}
 use Rattle.gs_mesh.specs.declared.condition.Condition.TheVariants.{Few, Many, FewOutbound, Balanced}
 use Rattle.gs_mesh.specs.declared.heartbeat.MeshChange.{MeshChange}
 use Rattle.gs_mesh.specs.MeshSteps.{condition_of, is_poor, mended, mended_members, mesh_change, not_negative, opportunistic_grafts, opportunistic_grafts_then}
-use Rattle.gs_rules.specs.declared.outcome.GraftAnswer.TheVariants.{PassedOver, TooSoon, Refused, Taken}
+use Rattle.gs_rules.specs.declared.outcome.GraftAnswer.TheVariants.{PassedOver, Refused, Taken}
+use Rattle.gs_rules.specs.declared.outcome.GraftRefusal.TheVariants.{Explicit, TooSoon, Negative, Full}
 use Rattle.gs_rules.specs.declared.outcome.FanoutUse.TheVariants.{Unused, Kept, Filled}
 use Rattle.gs_rules.specs.declared.trace.Entry.{Entry}
 use Rattle.gs_rules.specs.declared.trace.Effects.{Effects}
@@ -47,10 +48,10 @@ of_a_graft P p L at q t none blamed refused comes =
     by : (joins member explicit soon negative full : Bool) → joined L t ≡ joins → is_explicit p q ≡ explicit → nat_lt at.0 (backoff L q t) ≡ soon
         → P (graft_effects p at q t (if not joins then PassedOver
         else if member then PassedOver
-        else if explicit then Refused
-        else if soon then TooSoon
-        else if negative then Refused
-        else if full then Refused
+        else if explicit then Refused Explicit
+        else if soon then Refused TooSoon
+        else if negative then Refused Negative
+        else if full then Refused Full
         else Taken))
     by false member explicit soon negative full on ordinary late = none
     by true true explicit soon negative full on ordinary late = none

@@ -14,6 +14,7 @@ pub mod MeshRules
 pub mod BeatRules
 pub mod Outcomes
 pub mod Rules
+pub mod FellAway
 pub mod Modes
 pub mod Legal
 pub mod Refusals

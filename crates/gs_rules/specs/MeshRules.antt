@@ -12,7 +12,9 @@ use Rattle.gs_base.specs.Names.{message_id, topic_or_empty}
 use Rattle.gs_base.specs.Rpcs.{announcement, publication, grafting, longest_backoff, pruning}
 use Rattle.gs_mesh.specs.Peers.{is_among}
 use Rattle.gs_rules.specs.declared.outcome.GraftAnswer.{GraftAnswer}
-use Rattle.gs_rules.specs.declared.outcome.GraftAnswer.TheVariants.{PassedOver, TooSoon, Refused, Taken}
+use Rattle.gs_rules.specs.declared.outcome.GraftAnswer.TheVariants.{PassedOver, Refused, Taken}
+use Rattle.gs_rules.specs.declared.outcome.GraftRefusal.{GraftRefusal}
+use Rattle.gs_rules.specs.declared.outcome.GraftRefusal.TheVariants.{Explicit, TooSoon, Negative, Full}
 use Rattle.gs_rules.specs.declared.outcome.FanoutUse.{FanoutUse}
 use Rattle.gs_rules.specs.declared.outcome.FanoutUse.TheVariants.{Unused, Kept, Filled}
 use Rattle.gs_rules.specs.declared.trace.Effects.{Effects}
@@ -48,16 +50,22 @@ abbrev pub graft_answer : Peer → Entries → ℕ → PeerNo → Topic → Graf
 graft_answer p L at q t =
     if not (joined L t) then PassedOver
     else if is_among (mesh L t) q then PassedOver
-    else if is_explicit p q then Refused
-    else if nat_lt at (backoff L q t) then TooSoon
-    else if is_negative p L at q then Refused
-    else if is_full_for p L q t then Refused
+    else if is_explicit p q then Refused Explicit
+    else if nat_lt at (backoff L q t) then Refused TooSoon
+    else if is_negative p L at q then Refused Negative
+    else if is_full_for p L q t then Refused Full
     else Taken
+
+-- what counts against the sender of a GRAFT that is refused
+abbrev pub charged : PeerNo → GraftRefusal → List Mark
+charged q Explicit = []
+charged q TooSoon = Misbehaviour q ∷ []
+charged q Negative = []
+charged q Full = []
 
 abbrev pub graft_effects : Peer → Millis → PeerNo → Topic → GraftAnswer → Effects
 graft_effects p at q t PassedOver = no_effects
-graft_effects p at q t TooSoon = refusing p at q t (Misbehaviour q ∷ [])
-graft_effects p at q t Refused = refusing p at q t []
+graft_effects p at q t (Refused why) = refusing p at q t (charged q why)
 graft_effects p at q t Taken = taking q t
 
 abbrev pub graft_rule : Peer → Entries → Millis → PeerNo → Topic → Effects

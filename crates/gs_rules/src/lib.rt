@@ -3,6 +3,7 @@
 #![tactic(auto)]
 
 mod event;
+mod fallen;
 mod laws;
 mod member_laws;
 mod outcome;
@@ -11,6 +12,7 @@ mod stored;
 mod trace;
 
 pub use event::{BeatStep, Event, Loss, RpcPart};
+pub use fallen::{Fallen, NoAnswer};
 pub use laws::{
     a_broken_promise_is_charged, a_delivery_is_not_repeated, a_heartbeat_mends_gossips_and_ends,
     a_heartbeat_moves_a_mesh_a_step, a_part_with_nothing_left_is_whole, a_promise_is_charged_once,
@@ -27,7 +29,7 @@ pub use member_laws::{
     a_member_was_not_in_backoff, explicit_neighbours_stay_outside, mesh_members_are_up,
     meshes_are_of_own_topics,
 };
-pub use outcome::{FanoutUse, GraftAnswer, Outcome};
+pub use outcome::{FanoutUse, GraftAnswer, GraftRefusal, Outcome};
 pub use refusal::{Refusal, RefusedLine};
 pub use stored::StoredEntry;
 pub use trace::{Effects, Entry, Promise, Trace};

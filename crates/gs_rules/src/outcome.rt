@@ -25,12 +25,23 @@ pub enum Outcome {
 pub enum GraftAnswer {
     /// Nothing: the peer isn't subscribed, or has its sender in the mesh.
     PassedOver,
-    /// It comes too soon: it counts against its sender, and is refused.
-    TooSoon,
-    /// It is refused: its sender is explicit, or scores below 0, or there is no room for it.
-    Refused,
+    /// It is refused: its sender is sent a PRUNE, and is not to come back for a while.
+    Refused(GraftRefusal),
     /// Its sender comes into the mesh.
     Taken,
+}
+
+/// Why a GRAFT is refused. The first reason that there is counts.
+#[derive(Clone, Copy, Debug, PartialEq, Eq)]
+pub enum GraftRefusal {
+    /// Its sender is explicit (gossipsub v1.1, "Explicit Peering Agreements").
+    Explicit,
+    /// It comes before the end of a backoff, which counts against its sender (gossipsub v1.1, "Prune Backoff").
+    TooSoon,
+    /// Its sender scores below 0.
+    Negative,
+    /// The mesh has no room for one that was not dialled.
+    Full,
 }
 
 /// What becomes of the fanout of a topic when the peer publishes on it (gossipsub v1.0, "Fanout maintenance").

@@ -131,7 +131,18 @@ impl Trace {
         ensures err { OnErr result (self.new ≡ self.old) }
     {
         let stored = StoredEntry::new(*self.entries.allocator(), entry)?;
-        self.entries.push(stored)?;
+        self.push_stored(stored)
+    }
+
+    /// Adds an entry that is stored as the newest.
+    ///
+    /// # Errors
+    /// `AllocError` where there was no memory; the trace is then as it was.
+    pub fn push_stored(&mut self, entry: StoredEntry) -> Result<(), AllocError>
+        ensures ok { OnOk result (self.new ≡ entry ∷ self.old) }
+        ensures err { OnErr result (self.new ≡ self.old) }
+    {
+        self.entries.push(entry)?;
         Ok(())
     }
 }

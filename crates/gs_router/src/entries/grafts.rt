@@ -3,7 +3,7 @@ ghost use Rattle.std.specs.Prelude.{◌≡◌, IfOk};
 ghost use Rattle.gs_base.specs.Names.{topic_or_empty};
 ghost use Rattle.gs_rules.specs.Tables.{Entries};
 ghost use Rattle.gs_rules.specs.Membership.{is_negative, is_outbound};
-ghost use Rattle.gs_rules.specs.MeshRules.{asked_backoff, graft_answer, graft_effects, graft_rule, is_full_for, prune_rule, pruned_by, refusing, taking};
+ghost use Rattle.gs_rules.specs.MeshRules.{asked_backoff, charged, graft_answer, graft_effects, graft_rule, is_full_for, prune_rule, pruned_by, refusing, taking};
 ghost use Rattle.gs_router.specs.Tables.{Agrees};
 ghost use Rattle.gs_router.specs.Known.{Knows, peer_with};
 
@@ -12,7 +12,7 @@ use crate::entries::selection::{is_explicit, is_outbound};
 use crate::entries::thresholds::is_negative;
 use crate::known::Known;
 use gs_base::{Graft, LONGEST_BACKOFF, Mark, Millis, PeerNo, Prune, Rpc, Seq, Shared, Topic};
-use gs_rules::{Effects, GraftAnswer};
+use gs_rules::{Effects, GraftAnswer, GraftRefusal};
 use std::alloc::{AllocError, Global};
 
 /// Whether there is no room in the mesh of a topic for one that was not dialled.
@@ -30,7 +30,7 @@ fn is_full_for(known: &Known, peer: PeerNo, topic: &Topic) -> bool
 // ---- a GRAFT
 
 /// What becomes of a GRAFT on a topic.
-fn graft_answer(known: &Known, from: PeerNo, topic: &Topic, now: Millis) -> GraftAnswer
+pub fn graft_answer(known: &Known, from: PeerNo, topic: &Topic, now: Millis) -> GraftAnswer
     ensures { (L : Entries)
         → Knows known.now now.0 L
         → result ≡ graft_answer (peer_with known.now.setup) L now.0 from topic.now }
@@ -42,16 +42,16 @@ fn graft_answer(known: &Known, from: PeerNo, topic: &Topic, now: Millis) -> Graf
         return GraftAnswer::PassedOver;
     }
     if is_explicit(known, from) {
-        return GraftAnswer::Refused;
+        return GraftAnswer::Refused(GraftRefusal::Explicit);
     }
     if now.0 < known.tables.memberships.backoff_until(from, topic).0 {
-        return GraftAnswer::TooSoon;
+        return GraftAnswer::Refused(GraftRefusal::TooSoon);
     }
     if is_negative(known, from, now) {
-        return GraftAnswer::Refused;
+        return GraftAnswer::Refused(GraftRefusal::Negative);
     }
     if is_full_for(known, from, topic) {
-        return GraftAnswer::Refused;
+        return GraftAnswer::Refused(GraftRefusal::Full);
     }
     GraftAnswer::Taken
 }
@@ -92,6 +92,18 @@ fn taking(alloc: Global, from: PeerNo, topic: &Topic) -> Result<Effects, AllocEr
     })
 }
 
+/// What counts against the sender of a GRAFT that is refused.
+fn charged(alloc: Global, from: PeerNo, why: GraftRefusal) -> Result<Seq<Mark>, AllocError>
+    ensures { IfOk result (λ marks. marks ≡ charged from why) }
+{
+    match why {
+        GraftRefusal::Explicit => Ok(Seq::new(alloc)),
+        GraftRefusal::TooSoon => Seq::only(alloc, Mark::Misbehaviour(from)),
+        GraftRefusal::Negative => Ok(Seq::new(alloc)),
+        GraftRefusal::Full => Ok(Seq::new(alloc)),
+    }
+}
+
 /// The effects of a GRAFT that is answered so.
 fn graft_effects(
     known: &Known,
@@ -105,13 +117,9 @@ fn graft_effects(
 {
     match answer {
         GraftAnswer::PassedOver => Ok(Effects::none(known.alloc)),
-        GraftAnswer::TooSoon => {
-            let charged = Seq::only(known.alloc, Mark::Misbehaviour(from))?;
+        GraftAnswer::Refused(why) => {
+            let charged = charged(known.alloc, from, why)?;
             let effects = refusing(known, from, topic, charged, now)?;
-            Ok(effects)
-        }
-        GraftAnswer::Refused => {
-            let effects = refusing(known, from, topic, Seq::new(known.alloc), now)?;
             Ok(effects)
         }
         GraftAnswer::Taken => {

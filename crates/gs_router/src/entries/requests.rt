@@ -1,5 +1,5 @@
 //! Requests: what a router sends to a neighbour that asks.
-ghost use Rattle.std.specs.Prelude.{◌≡◌, ◌++◌, ℕ, List, [], ◌∷◌, IfOk, OnOk, if◌then◌else◌};
+ghost use Rattle.std.specs.Prelude.{◌≡◌, ◌++◌, ℕ, List, [], ◌∷◌, IfOk, OnOk, if◌then◌else◌, is_some};
 ghost use Rattle.gs_base.specs.Names.{same_id};
 ghost use Rattle.gs_base.specs.declared.names.MsgId.{MsgId as MsgIdValue};
 ghost use Rattle.gs_base.specs.declared.mark.Mark.TheVariants as marks;
@@ -7,6 +7,7 @@ ghost use Rattle.gs_base.specs.declared.rpc.Message.{Message as MessageValue};
 ghost use Rattle.gs_base.specs.Rpcs.{passed_on};
 ghost use Rattle.gs_rules.specs.Tables.{Entries};
 ghost use Rattle.gs_rules.specs.Rules.{answer, answering, answers, ids_in, times_in, want_rule, with_message};
+ghost use Rattle.gs_rules.specs.FellAway.{why_no_answer, without_answers};
 ghost use Rattle.gs_router.specs.Tables.{Agrees, AreMadeFor};
 ghost use Rattle.gs_router.specs.Offers.{left_now};
 ghost use Rattle.gs_router.specs.Requests.{Gives, Replies};
@@ -18,7 +19,7 @@ use bytes::Bytes;
 use gs_base::{
     IWant, Mark, Message, Millis, MsgId, PeerNo, Rpc, Seq, Shared, SharedPart, clone_of,
 };
-use gs_rules::Effects;
+use gs_rules::{Effects, Fallen, NoAnswer};
 use indexmap::IndexMap;
 use std::alloc::{AllocError, Global};
 
@@ -58,7 +59,7 @@ fn answering(known: &Known, from: PeerNo, request: &IWant) -> Result<Effects, Al
 }
 
 /// The identifiers among these bytes: those of another length are passed over.
-fn ids_in(alloc: Global, all: &[Bytes]) -> Result<Vec<MsgId>, AllocError>
+pub fn ids_in(alloc: Global, all: &[Bytes]) -> Result<Vec<MsgId>, AllocError>
     ensures { IfOk result (λ ids. ids.items ≡ ids_in all.now) }
 {
     let mut ids = Vec::new(alloc);
@@ -80,6 +81,19 @@ struct Reply {
 }
 
 impl Reply {
+    /// Nothing so far.
+    fn none(alloc: Global) -> Reply
+        ensures sends { result.sends ≡ [] }
+        ensures marks { result.marks ≡ [] }
+        ensures left { result.left.entries ≡ [] }
+    {
+        Reply {
+            sends: Seq::new(alloc),
+            marks: Seq::new(alloc),
+            left: IndexMap::new(alloc),
+        }
+    }
+
     /// How many answers are left for a message, where `at_first` were left when the request came.
     fn left_now(&self, id: &MsgId, at_first: u64) -> u64
         ensures { result ≡ left_now self.now.left.entries id.now at_first }
@@ -143,13 +157,70 @@ fn reply_to(known: &Known, from: PeerNo, ids: &[MsgId]) -> Result<Reply, AllocEr
         → AreMadeFor known.now.tables (peer_with known.now.setup)
         → Gives from (answers (peer_with known.now.setup) L from [] ids.now) reply) }
 {
-    let mut reply = Reply {
-        sends: Seq::new(known.alloc),
-        marks: Seq::new(known.alloc),
-        left: IndexMap::new(known.alloc),
-    };
+    let mut reply = Reply::none(known.alloc);
     for id in ids {
         answer(known, from, id, &mut reply)?;
     }
     Ok(reply)
+}
+
+// ---- what is not answered
+
+/// Those of these identifiers that get no message.
+pub fn without_answers(
+    known: &Known,
+    from: PeerNo,
+    ids: &[MsgId],
+) -> Result<Vec<Fallen>, AllocError>
+    ensures { IfOk result (λ list. (L : Entries)
+        → Agrees known.now.tables L
+        → AreMadeFor known.now.tables (peer_with known.now.setup)
+        → list.items ≡ without_answers (peer_with known.now.setup) L from [] ids.now) }
+{
+    let mut reply = Reply::none(known.alloc);
+    let mut list = Vec::new(known.alloc);
+    for id in ids {
+        if !is_answered(known, from, id, &mut reply)? {
+            list.push(Fallen::Request(from, *id, why_no_answer(known, id, from)))?;
+        }
+    }
+    Ok(list)
+}
+
+/// Answers for one more identifier of a request, and says whether there was an answer.
+fn is_answered(
+    known: &Known,
+    from: PeerNo,
+    id: &MsgId,
+    reply: &mut Reply,
+) -> Result<bool, AllocError>
+    ensures replies { OnOk result ((L : Entries) (ahead : List MsgIdValue) (given : List (MsgIdValue × MessageValue))
+        → Agrees known.now.tables L
+        → AreMadeFor known.now.tables (peer_with known.now.setup)
+        → Replies (peer_with known.now.setup) L from ahead given reply.old
+        → Replies (peer_with known.now.setup) L from (ahead ++ id.now ∷ [])
+        (given ++ with_message id.now (answer (peer_with known.now.setup) L from id.now (times_in id.now ahead)))
+        reply.new) }
+    ensures answered { IfOk result (λ is. (L : Entries) (ahead : List MsgIdValue) (given : List (MsgIdValue × MessageValue))
+        → Agrees known.now.tables L
+        → AreMadeFor known.now.tables (peer_with known.now.setup)
+        → Replies (peer_with known.now.setup) L from ahead given reply.old
+        → is ≡ is_some (answer (peer_with known.now.setup) L from id.now (times_in id.now ahead))) }
+{
+    let before = reply.marks.len();
+    answer(known, from, id, reply)?;
+    Ok(before < reply.marks.len())
+}
+
+/// Why a neighbour gets no message for an identifier.
+fn why_no_answer(known: &Known, id: &MsgId, from: PeerNo) -> NoAnswer
+    ensures { (L : Entries)
+        → Agrees known.now.tables L
+        → AreMadeFor known.now.tables (peer_with known.now.setup)
+        → result ≡ why_no_answer (peer_with known.now.setup) L id.now }
+{
+    if known.tables.messages.is_kept(id, from) {
+        return NoAnswer::TooOften;
+    }
+    NoAnswer::NotKept
 }

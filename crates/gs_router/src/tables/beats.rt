@@ -2,7 +2,7 @@ ghost use Rattle.std.specs.Prelude.{◌≡◌, ◌<◌, ◌^◌, [], ◌∷◌};
 ghost use Rattle.gs_rules.specs.Tables.{Entries, heartbeats};
 ghost use Rattle.gs_router.specs.Tables.{AgreesOnBeats};
 
-use gs_rules::{Entry, Event};
+use gs_rules::{Event, StoredEntry};
 
 /// How many heartbeats began. By this count, every `opportunistic_ticks`-th one looks for better members.
 #[derive(Drop)]
@@ -26,11 +26,11 @@ impl Beats {
     }
 
     /// Counts the heartbeat that an entry begins (`Promises`).
-    pub fn note(&mut self, entry: &Entry)
+    pub fn note(&mut self, entry: &StoredEntry)
         requires few { self.old.count < 2 ^ 63 }
         ensures { (L : Entries) → AgreesOnBeats self.old L → AgreesOnBeats self.new (entry.now ∷ L) }
     {
-        match entry.event {
+        match entry.event() {
             Event::BeatBegin => self.count += 1,
             _ => {}
         }

@@ -7,7 +7,7 @@ ghost use Rattle.gs_rules.specs.Tables.{Entries};
 ghost use Rattle.gs_router.specs.Tables.{AgreesOnBudgets, budget_after, budget_in, budget_left, unmarked};
 
 use gs_base::{Mark, PeerNo};
-use gs_rules::{BeatStep, Entry, Event};
+use gs_rules::{BeatStep, Event, StoredEntry};
 use indexmap::IndexMap;
 use std::alloc::{AllocError, Global};
 
@@ -84,13 +84,13 @@ impl Budgets {
     ///
     /// # Errors
     /// `AllocError` where there was no memory; some of its marks may then have been noted.
-    pub fn note(&mut self, entry: &Entry) -> Result<(), AllocError>
+    pub fn note(&mut self, entry: &StoredEntry) -> Result<(), AllocError>
         ensures agrees { OnOk result ((L : Entries)
             → AgreesOnBudgets self.old L
             → AgreesOnBudgets self.new (entry.now ∷ L)) }
         ensures full { OnOk result (self.new.full ≡ self.old.full) }
     {
-        self.note_event(&entry.event);
+        self.note_event(entry.event());
         self.note_marks(entry)?;
         Ok(())
     }
@@ -126,13 +126,13 @@ impl Budgets {
         }
     }
 
-    fn note_marks(&mut self, entry: &Entry) -> Result<(), AllocError>
+    fn note_marks(&mut self, entry: &StoredEntry) -> Result<(), AllocError>
         ensures agrees { OnOk result ((L : Entries)
             → AgreesOnBudgets self.old (unmarked entry.now ∷ L)
             → AgreesOnBudgets self.new (entry.now ∷ L)) }
         ensures full { OnOk result (self.new.full ≡ self.old.full) }
     {
-        for mark in entry.effects.marks.as_slice() {
+        for mark in entry.marks() {
             self.note_mark(mark)?;
         }
         Ok(())

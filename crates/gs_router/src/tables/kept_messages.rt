@@ -1,4 +1,4 @@
-ghost use Rattle.std.specs.Prelude.{◌≡◌, ℕ, max, List, [], ◌∷◌, OnOk, IfOk, IfSome, IfNone, Option, Some, option_map};
+ghost use Rattle.std.specs.Prelude.{◌≡◌, ℕ, max, List, [], ◌∷◌, OnOk, IfOk, IfSome, IfNone, Option, Some, is_some, option_map};
 ghost use Rattle.gs_base.specs.declared.names.MsgId.{MsgId as MsgIdValue};
 ghost use Rattle.gs_base.specs.declared.names.PeerNo.{PeerNo as PeerNoValue};
 ghost use Rattle.gs_rules.specs.declared.event.Event.TheVariants as events;
@@ -12,7 +12,7 @@ ghost use Rattle.gs_router.specs.Tables.{AgreesOnMessages, HasKept, IsMadeAlike,
 use gs_base::{Mark, Message, MsgId, PeerNo, Seq, SharedPart, Topic, clone_of};
 use gs_cache::{Answer, MessageCache};
 use gs_plan::Act;
-use gs_rules::{BeatStep, Entry, Event, RpcPart};
+use gs_rules::{BeatStep, Event, RpcPart, StoredEntry};
 use std::alloc::{AllocError, Global};
 
 /// The messages that are kept, and how often each neighbour may still get one.
@@ -57,6 +57,19 @@ impl Messages {
             Answer::Given(message) => Some(message),
             Answer::Spent => None,
             Answer::Absent => None,
+        }
+    }
+
+    /// Whether a message is kept under an identifier, for whichever neighbour is asked about.
+    pub fn is_kept(&self, id: &MsgId, peer: PeerNo) -> bool
+        ensures { (L : Entries)
+            → AgreesOnMessages self.now L
+            → result ≡ is_some (kept self.now.cache.len L id.now) }
+    {
+        match self.cache.answer_for(id, peer) {
+            Answer::Given(_) => true,
+            Answer::Spent => true,
+            Answer::Absent => false,
         }
     }
 
@@ -155,25 +168,25 @@ impl Messages {
     ///
     /// # Errors
     /// `AllocError` where there was no memory; some of its marks may then have been noted.
-    pub fn note(&mut self, entry: &Entry) -> Result<(), AllocError>
+    pub fn note(&mut self, entry: &StoredEntry) -> Result<(), AllocError>
         ensures agrees { OnOk result ((L : Entries)
             → AgreesOnMessages self.old L
             → AgreesOnMessages self.new (entry.now ∷ L)) }
         ensures alike { OnOk result (IsMadeAlike self.old self.new) }
     {
-        self.note_event(&entry.event);
+        self.note_event(entry.event());
         self.note_marks(entry)?;
         Ok(())
     }
 
-    fn note_marks(&mut self, entry: &Entry) -> Result<(), AllocError>
+    fn note_marks(&mut self, entry: &StoredEntry) -> Result<(), AllocError>
         ensures agrees { OnOk result ((L : Entries)
             → AgreesOnMessages self.old (unmarked entry.now ∷ L)
             → AgreesOnMessages self.new (entry.now ∷ L)) }
         ensures alike { OnOk result (IsMadeAlike self.old self.new) }
     {
-        for mark in entry.effects.marks.as_slice() {
-            self.note_mark(mark, &entry.event)?;
+        for mark in entry.marks() {
+            self.note_mark(mark, entry.event())?;
         }
         Ok(())
     }

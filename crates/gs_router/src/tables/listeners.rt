@@ -8,7 +8,7 @@ ghost use Rattle.gs_router.specs.Tables.{AgreesOnListeners, listens};
 
 use crate::peer_set::PeerSet;
 use gs_base::{PeerNo, Topic};
-use gs_rules::{Entry, Event, RpcPart};
+use gs_rules::{Event, RpcPart, StoredEntry};
 use indexmap::IndexMap;
 use std::alloc::{AllocError, Global};
 
@@ -58,12 +58,12 @@ impl Listeners {
     ///
     /// # Errors
     /// `AllocError` where there was no memory.
-    pub fn note(&mut self, entry: &Entry) -> Result<(), AllocError>
+    pub fn note(&mut self, entry: &StoredEntry) -> Result<(), AllocError>
         ensures { OnOk result ((L : Entries)
             → AgreesOnListeners self.old L
             → AgreesOnListeners self.new (entry.now ∷ L)) }
     {
-        match &entry.event {
+        match entry.event() {
             Event::Part(peer, part) => self.note_part(*peer, part),
             _ => Ok(()),
         }

@@ -11,7 +11,7 @@ ghost use Rattle.gs_router.specs.Tables.{AgreesOnMeshes, HasMeshes};
 use gs_base::{Mark, Millis, PeerNo, Topic};
 use gs_mesh::Meshes;
 use gs_plan::Act;
-use gs_rules::{BeatStep, Entry, Event};
+use gs_rules::{BeatStep, Event, StoredEntry};
 use std::alloc::{AllocError, Global};
 
 /// Who is in the mesh and in the fanout of each topic, when the router last published on it without being subscribed,
@@ -80,11 +80,11 @@ impl Memberships {
     ///
     /// # Errors
     /// `AllocError` where there was no memory; some of its marks may then have been noted.
-    pub fn note(&mut self, entry: &Entry) -> Result<(), AllocError>
+    pub fn note(&mut self, entry: &StoredEntry) -> Result<(), AllocError>
         ensures { OnOk result ((L : Entries) → AgreesOnMeshes self.old L → AgreesOnMeshes self.new (entry.now ∷ L)) }
     {
-        self.note_event(&entry.event);
-        self.note_marks(entry.effects.marks.as_slice(), entry.at)?;
+        self.note_event(entry.event());
+        self.note_marks(entry.marks(), entry.at())?;
         Ok(())
     }
 

@@ -7,7 +7,7 @@ ghost use Rattle.gs_router.specs.Tables.{AgreesOnMeshTopics, HasTopics, dropped_
 
 use gs_base::{Mark, Topic, clone_of};
 use gs_plan::Act;
-use gs_rules::{BeatStep, Entry, Event};
+use gs_rules::{BeatStep, Event, StoredEntry};
 use std::alloc::{AllocError, Global};
 use std::collections::BTreeMap;
 
@@ -56,13 +56,13 @@ impl MeshTopics {
     ///
     /// # Errors
     /// `AllocError` where there was no memory; some of it may then have been noted.
-    pub fn note(&mut self, entry: &Entry) -> Result<(), AllocError>
+    pub fn note(&mut self, entry: &StoredEntry) -> Result<(), AllocError>
         ensures { OnOk result ((L : Entries)
             → AgreesOnMeshTopics self.old L
             → AgreesOnMeshTopics self.new (entry.now ∷ L)) }
     {
-        self.note_event(&entry.event)?;
-        self.note_marks(entry.effects.marks.as_slice())?;
+        self.note_event(entry.event())?;
+        self.note_marks(entry.marks())?;
         Ok(())
     }
 

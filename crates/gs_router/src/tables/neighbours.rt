@@ -4,7 +4,7 @@ ghost use Rattle.gs_router.specs.Tables.{AgreesOnNeighbours};
 
 use crate::peer_set::PeerSet;
 use gs_base::PeerNo;
-use gs_rules::{Entry, Event};
+use gs_rules::{Event, StoredEntry};
 use std::alloc::{AllocError, Global};
 
 /// Which neighbours are heard and sent to: after `Shut` none.
@@ -43,18 +43,18 @@ impl Neighbours {
     ///
     /// # Errors
     /// `AllocError` where there was no memory.
-    pub fn note(&mut self, entry: &Entry) -> Result<(), AllocError>
+    pub fn note(&mut self, entry: &StoredEntry) -> Result<(), AllocError>
         ensures { OnOk result ((L : Entries)
             → AgreesOnNeighbours self.old L
             → AgreesOnNeighbours self.new (entry.now ∷ L)) }
     {
-        match entry.event.lost() {
+        match entry.event().lost() {
             Some(peer) => {
                 self.lost.put(peer, true)?;
                 Ok(())
             }
             None => {
-                self.note_shut(&entry.event);
+                self.note_shut(entry.event());
                 Ok(())
             }
         }

@@ -9,7 +9,7 @@ ghost use Rattle.gs_router.specs.Tables.{AgreesOnTopics};
 use bytes::Bytes;
 use gs_base::{MOST_TOPICS, Topic, clone_of};
 use gs_plan::Act;
-use gs_rules::{Entry, Event};
+use gs_rules::{Event, StoredEntry};
 use std::alloc::{AllocError, Global};
 use std::collections::BTreeMap;
 
@@ -77,10 +77,10 @@ impl OwnTopics {
     ///
     /// # Errors
     /// `AllocError` where there was no memory.
-    pub fn note(&mut self, entry: &Entry) -> Result<(), AllocError>
+    pub fn note(&mut self, entry: &StoredEntry) -> Result<(), AllocError>
         ensures { OnOk result ((L : Entries) → AgreesOnTopics self.old L → AgreesOnTopics self.new (entry.now ∷ L)) }
     {
-        match &entry.event {
+        match entry.event() {
             Event::Own(act) => {
                 self.note_act(act.get())?;
                 Ok(())

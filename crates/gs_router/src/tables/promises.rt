@@ -1,11 +1,12 @@
 //! What neighbours promised by their offers, and have not sent yet.
 ghost use Rattle.std.specs.Prelude.{◌≡◌, ◌++◌, [], ◌∷◌, OnOk, filter, nat_lt, not};
+ghost use Rattle.std.specs.Option.{option_copied};
 ghost use Rattle.gs_base.specs.Names.{same_id};
 ghost use Rattle.gs_rules.specs.Tables.{Entries, ended_after, fulfilled_after, made, promises};
 ghost use Rattle.gs_router.specs.Tables.{AgreesOnPromises};
 
-use gs_base::{Mark, Millis, MsgId, Shared};
-use gs_rules::{Entry, Event, Promise};
+use gs_base::{Mark, Millis, MsgId};
+use gs_rules::{Event, Promise, StoredEntry};
 use std::alloc::{AllocError, Global};
 
 /// The promises whose messages did not come yet, the oldest first. There are few: no more than a neighbour's offers may
@@ -37,16 +38,16 @@ impl Promises {
     ///
     /// # Errors
     /// `AllocError` where there was no memory; what the entry ended or kept is then noted.
-    pub fn note(&mut self, entry: &Entry) -> Result<(), AllocError>
+    pub fn note(&mut self, entry: &StoredEntry) -> Result<(), AllocError>
         ensures { OnOk result ((L : Entries)
             → AgreesOnPromises self.old L
             → AgreesOnPromises self.new (entry.now ∷ L)) }
     {
-        self.end(&entry.event, entry.at);
-        for mark in entry.effects.marks.as_slice() {
+        self.end(entry.event(), entry.at());
+        for mark in entry.marks() {
             self.fulfil(mark);
         }
-        self.make(&entry.effects.promise)?;
+        self.make(entry.promise())?;
         Ok(())
     }
 
@@ -84,12 +85,12 @@ impl Promises {
         self.waiting.retain(|promise| *id != promise.id);
     }
 
-    fn make(&mut self, promise: &Option<Shared<Promise>>) -> Result<(), AllocError>
-        ensures { OnOk result (self.new.waiting.items ≡ self.old.waiting.items ++ made promise.now) }
+    fn make(&mut self, promise: Option<&Promise>) -> Result<(), AllocError>
+        ensures { OnOk result (self.new.waiting.items ≡ self.old.waiting.items ++ made (option_copied promise)) }
     {
         match promise {
             Some(promise) => {
-                self.waiting.push(*promise.get())?;
+                self.waiting.push(*promise)?;
                 Ok(())
             }
             None => Ok(()),

@@ -10,7 +10,7 @@ ghost use Rattle.gs_router.specs.Tables.{AgreesOnSightings, neighbour_sighting, 
 
 use gs_base::{Mark, Millis, MsgId, PeerNo};
 use gs_cache::{SeenCache, Sighting};
-use gs_rules::Entry;
+use gs_rules::StoredEntry;
 use std::alloc::{AllocError, Global};
 
 /// Which messages were seen lately. It forgets what no longer counts.
@@ -66,15 +66,15 @@ impl Sightings {
 
     /// Notes an entry, which comes no earlier than those before it. Whichever order its marks have, neighbours are noted
     /// for messages as they were seen with it.
-    pub fn note(&mut self, entry: &Entry) -> Result<(), AllocError>
+    pub fn note(&mut self, entry: &StoredEntry) -> Result<(), AllocError>
         requires { self.old.cache.moment ≤ entry.now.at.0 }
         ensures agrees { OnOk result ((L : Entries)
             → AgreesOnSightings self.old L
             → AgreesOnSightings self.new (entry.now ∷ L)) }
         ensures ttl { OnOk result (self.new.cache.ttl ≡ self.old.cache.ttl) }
     {
-        self.note_sightings(entry.effects.marks.as_slice(), entry.at)?;
-        self.note_neighbours(entry.effects.marks.as_slice())?;
+        self.note_sightings(entry.marks(), entry.at())?;
+        self.note_neighbours(entry.marks())?;
         Ok(())
     }
 

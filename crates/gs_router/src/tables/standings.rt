@@ -13,7 +13,7 @@ ghost use Rattle.gs_router.specs.Tables.{AgreesOnScores};
 
 use gs_base::{Mark, Millis, Neighbour, PeerNo, Topic};
 use gs_params::Params;
-use gs_rules::{Entry, Event};
+use gs_rules::{Event, StoredEntry};
 use gs_score::Scores;
 use std::alloc::{AllocError, Global};
 
@@ -65,14 +65,14 @@ impl Standings {
     ///
     /// # Errors
     /// `AllocError` where there was no memory; some of its marks may then have been noted.
-    pub fn note(&mut self, entry: &Entry) -> Result<(), AllocError>
+    pub fn note(&mut self, entry: &StoredEntry) -> Result<(), AllocError>
         requires few { self.old.scores.decays < 2 ^ 63 }
         ensures { OnOk result ((p : Peer) (L : Entries)
             → AgreesOnScores p self.old L
             → AgreesOnScores p self.new (entry.now ∷ L)) }
     {
-        self.note_event(&entry.event);
-        self.note_marks(entry.effects.marks.as_slice(), entry.at)?;
+        self.note_event(entry.event());
+        self.note_marks(entry.marks(), entry.at())?;
         Ok(())
     }
 

@@ -1,0 +1,46 @@
+-- What it is to follow a trace that stands.
+use Rattle.std.specs.Prelude.{◌≡◌, ◌≤◌, ◌<◌, ◌^◌, ℕ, List, [], ◌∷◌, ◌++◌, length, drop, reverse, take, Option, Some, None}
+use Rattle.gs_rules.specs.declared.fallen.Fallen.{Fallen}
+use Rattle.gs_rules.specs.declared.trace.Entry.{Entry}
+use Rattle.gs_rules.specs.Peers.{Peer}
+use Rattle.gs_rules.specs.Tables.{Entries, last_moment}
+use Rattle.gs_rules.specs.FellAway.{fell_away}
+use Rattle.gs_router.specs.declared.follower.Followed.{Followed}
+use Rattle.gs_router.specs.declared.follower.Follower.{Follower}
+use Rattle.gs_router.specs.Tables.{Agrees, AgreesOnScores, AreMadeFor}
+use Rattle.gs_router.specs.Known.{ListsExplicit, peer_with}
+
+-- no entry is earlier than the one before it
+abbrev pub AreInOrder : Entries → Type 0
+AreInOrder [] = Unit {0}
+AreInOrder (e ∷ L) = (last_moment L ≤ e.at.0) × AreInOrder L
+
+-- whose trace is followed, what of it was seen, the newest first, and what is left of it, the oldest first
+pub record Reading : Type 0 where
+  pub peer : Peer
+  pub before : Entries
+  pub left : List Entry
+
+-- the tables say what the entries before say
+pub record Follows (f : Follower) (v : Reading) : Type 0 where
+  pub peer : peer_with f.known.setup ≡ v.peer
+  pub before : v.before ≡ reverse (take f.place f.entries.now)
+  pub left : v.left ≡ drop f.place f.entries.now
+  pub within : f.place ≤ length f.entries.now
+  pub order : AreInOrder (reverse f.entries.now)
+  pub agrees : Agrees f.known.tables v.before
+  pub scores : AgreesOnScores v.peer f.known.tables.standings v.before
+  pub made : AreMadeFor f.known.tables v.peer
+  pub explicit : ListsExplicit f.known.setup
+
+-- the next entry is seen, with what came to nothing at it
+pub record Advances (v : Reading) (seen : Followed) (f : Follower) : Type 0 where
+  pub rest : List Entry
+  pub next : v.left ≡ seen.entry.now ∷ rest
+  pub fallen : seen.fallen.items ≡ fell_away v.peer v.before seen.entry.now.at seen.entry.now.event
+  pub follows : Follows f (record { peer = v.peer; before = seen.entry.now ∷ v.before; left = rest })
+
+-- nothing is left, or one entry more is seen
+abbrev pub GoesOn : Reading → Option Followed → Follower → Type 0
+GoesOn v None f = (v.left ≡ []) × Follows f v
+GoesOn v (Some seen) f = Advances v seen f

@@ -1,0 +1,111 @@
+//! Following a trace that stands: what its peer knew at each entry.
+ghost use Rattle.std.specs.Prelude.{◌≡◌, ◌≤◌, ◌<◌, ◌^◌, ◌∷◌, [], reverse, unsigned_abs, All, IfOk, OnOk};
+ghost use Rattle.gs_base.specs.Names.{peers_of};
+ghost use Rattle.gs_base.specs.declared.neighbour.Neighbour.{Neighbour as NeighbourValue};
+ghost use Rattle.gs_params.specs.Params.{AreInRange};
+ghost use Rattle.gs_params.specs.Picks.{IsAscending};
+ghost use Rattle.gs_rules.specs.Scoring.{score};
+ghost use Rattle.gs_router.specs.Following.{AreInOrder, Follows, GoesOn, Reading};
+
+use crate::entries::fallen::fell_away;
+use crate::known::Known;
+use crate::setup::{Setup, explicit_among};
+use crate::tables::Tables;
+use gs_base::{Millis, Neighbour, PeerNo};
+use gs_params::Params;
+use gs_rules::{Fallen, StoredEntry};
+use std::alloc::{AllocError, Global};
+
+/// A reader of a peer's trace. It says what its peer knew after the entries that it has seen. After it ran out of memory,
+/// nothing is known of its answers.
+#[derive(Drop)]
+pub struct Follower<'a> {
+    known: Known,
+    entries: &'a [StoredEntry],
+    place: usize,
+}
+
+/// An entry that was seen.
+#[derive(Drop)]
+pub struct Followed<'a> {
+    /// The entry.
+    pub entry: &'a StoredEntry,
+    /// What neighbours sent or promised that came to nothing at it.
+    pub fallen: Vec<Fallen>,
+}
+
+impl<'a> Follower<'a> {
+    /// A reader of these entries, the oldest first, that has seen none. They are of a peer with these parameters, which are
+    /// in range, and with these neighbours, ascending by number. No entry is earlier than the one before it. What the
+    /// application gives each neighbour is at most 10^12 millionths either way.
+    ///
+    /// # Errors
+    /// `AllocError` where there was no memory.
+    pub fn new(
+        alloc: Global,
+        params: Params,
+        neighbours: Vec<Neighbour>,
+        entries: &'a [StoredEntry],
+    ) -> Result<Follower<'a>, AllocError>
+        requires in_range { AreInRange params }
+        requires ascending { IsAscending (peers_of neighbours.items) }
+        requires apps { All (λ (n : NeighbourValue). unsigned_abs n.app ≤ 10 ^ 12) neighbours.items }
+        requires order { AreInOrder (reverse entries.now) }
+        ensures { IfOk result (λ follower. Follows follower (record {
+          peer = record { params = params; neighbours = neighbours.items };
+          before = [];
+          left = entries.now;
+        })) }
+    {
+        let tables = Tables::new(alloc, &params, neighbours.as_slice())?;
+        let explicit = explicit_among(alloc, neighbours.as_slice())?;
+        Ok(Follower {
+            known: Known {
+                alloc,
+                setup: Setup {
+                    params,
+                    neighbours,
+                    explicit,
+                },
+                tables,
+            },
+            entries,
+            place: 0,
+        })
+    }
+
+    /// Sees the next entry, if one is left.
+    ///
+    /// # Errors
+    /// `AllocError` where there was no memory.
+    pub fn advance(&mut self) -> Result<Option<Followed<'a>>, AllocError>
+        requires { (v : Reading) × Follows self.old v }
+        ensures { IfOk result (λ seen. (v : Reading) → Follows self.old v → GoesOn v seen self.new) }
+    {
+        match self.entries.get(self.place) {
+            Some(entry) => {
+                let seen = self.see(entry)?;
+                Ok(Some(seen))
+            }
+            None => Ok(None),
+        }
+    }
+
+    /// Sees the entry that comes next.
+    fn see(&mut self, entry: &'a StoredEntry) -> Result<Followed<'a>, AllocError>
+        requires { (v : Reading) × Follows self.old v }
+        ensures { IfOk result (λ seen. (v : Reading) → Follows self.old v → GoesOn v seen self.new) }
+    {
+        let fallen = fell_away(&self.known, entry.event(), entry.at())?;
+        self.known.tables.note(entry)?;
+        self.place += 1;
+        Ok(Followed { entry, fallen })
+    }
+
+    /// The score of a neighbour at a moment, in millionths (gossipsub v1.1, Peer Scoring, The Score Function).
+    pub fn score(&self, peer: PeerNo, now: Millis) -> i128
+        ensures { (v : Reading) → Follows self.now v → result ≡ score v.peer v.before now.0 peer }
+    {
+        self.known.tables.standings.score(peer, now)
+    }
+}
