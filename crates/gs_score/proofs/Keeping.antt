@@ -7,6 +7,7 @@ use Rattle.gs_base.specs.declared.names.PeerNo.{PeerNo}
 use Rattle.gs_base.specs.declared.names.Topic.{Topic}
 use Rattle.gs_base.specs.declared.names.Millis.{Millis}
 use Rattle.gs_base.specs.declared.mark.Mark.{Mark}
+use Rattle.gs_params.specs.declared.params.Factors.{Factors}
 use Rattle.gs_params.specs.declared.params.Params.{Params}
 use Rattle.gs_base.specs.Names.{same_peer, same_topic}
 use Rattle.gs_score.specs.declared.accounts.Account.{Account}
@@ -18,12 +19,12 @@ use Rattle.gs_score.specs.declared.standing.Standing.{Standing}
 use Rattle.gs_score.specs.Counters.{Stored, most_counted, raised, decay_step, read_at}
 use Rattle.gs_score.specs.Standings.{Held, decayed_held, held, pruned, raised_held, raised_standing}
 use Rattle.gs_score.specs.Accounts.{AddsTopic, Covers, KeepsTopics, has_topic, held_in, misbehaviour_decay, rules_of, topic_sum}
-use Rattle.gs_score.specs.Formula.{score_of, topic_part}
+use Rattle.gs_score.specs.Formula.{topic_part}
 use Rattle.gs_score.specs.Addresses.{app_of, number_with}
 use Rattle.gs_score.specs.declared.addresses.AddressEntry.{AddressEntry}
 use Rattle.gs_score.specs.Ranges.{IsUpTo}
 use Rattle.gs_score.specs.Ledgers.{Adds, AreFew, IsSound, Keeps, Kept, Puts, PutsIn, misbehaviour_of, same_pair, standing_of, topics_of}
-use Rattle.gs_score.specs.Histories.{Agrees, Change, Decayed, Grafted, History, Left, Marked, Raise, Setting, addresses_in, blamed, decays, held_after, held_by, misbehaved_after, misbehaviour, named, named_after, one, raise_of, score_in, with_topic}
+use Rattle.gs_score.specs.Histories.{Agrees, Change, Decayed, Grafted, History, Left, Marked, Raise, Setting, addresses_in, blamed, decays, held_after, held_by, misbehaved_after, misbehaviour, named, named_after, one, raise_of, with_topic}
 use Rattle.gs_score.proofs.Accounting.{peers_tell}
 use Rattle.gs_score.proofs.Decaying.{read-later}
 use Rattle.gs_score.proofs.Raising.{held-raised}
@@ -304,13 +305,14 @@ sums_same : (params : Params) (now : ℕ) (f g : Topic → Held) → ((t : Topic
 sums_same params now f g e [] = refl
 sums_same params now f g e (t ∷ ts) = ap₂ (λ x y. x +ℤ y) (ap (topic_part (rules_of params t) now) (e t)) (sums_same params now f g e ts)
 
-pub score_says : (s : Setting) (k : Kept) (H : History) (p : PeerNo) (now : ℕ) (ts : List Topic) (sum : ℤ)
+-- what is made of the parts of a score as they are kept is what is made of them by the history
+pub score_says : {X : Type 0} (f : Factors → ℤ → ℤ → ℕ → ℕ → X) (s : Setting) (k : Kept) (H : History) (p : PeerNo) (now : ℕ) (ts : List Topic) (sum : ℤ)
     → Agrees s k H
     → Covers (held_by s.params H p) ts
     → ((us : List Topic) → Covers (held_in k.params k.decays (topics_of k.accounts p)) us → sum ≡ topic_sum k.params now (held_in k.params k.decays (topics_of k.accounts p)) us)
-    → score_of k.params.factors sum (app_of k.addresses p) (number_with k.addresses p) (read_at (misbehaviour_decay k.params) k.decays (misbehaviour_of k.accounts p))
-    ≡ score_in s now H p ts
-score_says s k H p now ts sum a covers h =
+    → f k.params.factors sum (app_of k.addresses p) (number_with k.addresses p) (read_at (misbehaviour_decay k.params) k.decays (misbehaviour_of k.accounts p))
+    ≡ f s.params.factors (topic_sum s.params now (held_by s.params H p) ts) (app_of (addresses_in s.neighbours H) p) (number_with (addresses_in s.neighbours H) p) (misbehaviour s.params H p)
+score_says f s k H p now ts sum a covers h =
     let T = topics_of k.accounts p in
     let at : Topic → Held = held_in s.params k.decays T in
     let by : Topic → Held = held_by s.params H p in
@@ -318,7 +320,7 @@ score_says s k H p now ts sum a covers h =
     = subst (λ (x : Params). (us : List Topic) → Covers (held_in x k.decays T) us → sum ≡ topic_sum x now (held_in x k.decays T) us) a.params h ts
     (covers_same at by ts (a.holds p) covers)
     ∙ sums_same s.params now at by (a.holds p) ts in
-    ap (λ (x : Params). score_of x.factors sum (app_of k.addresses p) (number_with k.addresses p) (read_at (misbehaviour_decay x) k.decays (misbehaviour_of k.accounts p))) a.params
-    ∙ ap (λ (x : ℤ). score_of s.params.factors x (app_of k.addresses p) (number_with k.addresses p) (read_at (misbehaviour_decay s.params) k.decays (misbehaviour_of k.accounts p))) sums
-    ∙ ap (λ (x : List (PeerNo × AddressEntry)). score_of s.params.factors (topic_sum s.params now by ts) (app_of x p) (number_with x p) (read_at (misbehaviour_decay s.params) k.decays (misbehaviour_of k.accounts p))) a.addresses
-    ∙ ap (λ (x : ℕ). score_of s.params.factors (topic_sum s.params now by ts) (app_of (addresses_in s.neighbours H) p) (number_with (addresses_in s.neighbours H) p) x) (a.misbehaves p)
+    ap (λ (x : Params). f x.factors sum (app_of k.addresses p) (number_with k.addresses p) (read_at (misbehaviour_decay x) k.decays (misbehaviour_of k.accounts p))) a.params
+    ∙ ap (λ (x : ℤ). f s.params.factors x (app_of k.addresses p) (number_with k.addresses p) (read_at (misbehaviour_decay s.params) k.decays (misbehaviour_of k.accounts p))) sums
+    ∙ ap (λ (x : List (PeerNo × AddressEntry)). f s.params.factors (topic_sum s.params now by ts) (app_of x p) (number_with x p) (read_at (misbehaviour_decay s.params) k.decays (misbehaviour_of k.accounts p))) a.addresses
+    ∙ ap (λ (x : ℕ). f s.params.factors (topic_sum s.params now by ts) (app_of (addresses_in s.neighbours H) p) (number_with (addresses_in s.neighbours H) p) x) (a.misbehaves p)

@@ -39,7 +39,7 @@ distinct_raise : (q : PeerNo) (o : Option Raise) (ts : List Topic) → IsDistinc
 distinct_raise q None ts d = d
 distinct_raise q (Some x) ts d = distinct_if (same_peer x.peer q) x.topic ts d
 
-distinct_none : IsDistinct same_topic []
+pub distinct_none : IsDistinct same_topic []
 unfolding IsDistinct
 distinct_none = tt
 

@@ -8,3 +8,4 @@ pub mod Rulebooks
 pub mod Addresses
 pub mod Ledgers
 pub mod Histories
+pub mod Parts

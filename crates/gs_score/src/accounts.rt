@@ -1,6 +1,7 @@
 ghost use Rattle.std.specs.Prelude.{◌≡◌, ◌≤◌, ◌*◌, ◌^◌, ℕ, true, [], List, IfOk, IsOk, OnOk, OnErr, unsigned_abs};
-ghost use Rattle.std.specs.List.{list_any};
-ghost use Rattle.gs_base.specs.Names.{same_peer};
+ghost use Rattle.std.specs.List.{IsDistinct, list_any};
+ghost use Rattle.std.specs.Map.{keys_of};
+ghost use Rattle.gs_base.specs.Names.{same_peer, same_topic};
 ghost use Rattle.gs_base.specs.declared.names.PeerNo.{PeerNo as PeerNoValue};
 ghost use Rattle.gs_base.specs.declared.names.Topic.{Topic as TopicValue};
 ghost use Rattle.gs_base.specs.declared.neighbour.Neighbour.{Neighbour as NeighbourValue};
@@ -209,6 +210,27 @@ pub(crate) fn counts_of(
             (topics, account.misbehaviour.read(decay, decays))
         }
         None => (0, Counter::new().read(decay, decays)),
+    }
+}
+
+/// The topics on which something is kept of a neighbour, each once, in any order.
+///
+/// # Errors
+/// `AllocError` where there was no memory.
+pub(crate) fn topics_of(
+    alloc: Global,
+    accounts: &IndexMap<PeerNo, Account>,
+    peer: PeerNo,
+) -> Result<Vec<Topic>, AllocError>
+    ensures all { IfOk result (λ list. list.items ≡ keys_of (topics_of accounts.now.entries peer)) }
+    ensures distinct { IfOk result (λ list. IsDistinct same_topic list.items) }
+{
+    match accounts.get(&peer) {
+        Some(account) => {
+            let list = account.topics.topics(alloc)?;
+            Ok(list)
+        }
+        None => Ok(Vec::new(alloc)),
     }
 }
 

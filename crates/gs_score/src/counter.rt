@@ -1,6 +1,7 @@
 //! A counter that decays, and does so only when it is looked at.
 ghost use Rattle.std.specs.Prelude.{◌≡◌, ◌≤◌, ◌<◌, ◌^◌};
 ghost use Rattle.gs_score.specs.Counters.{decay_step, decayed, raised, read_at};
+ghost use Rattle.gs_score.specs.Histories.{capped_deficit};
 
 use crate::millionths::scaled;
 use std::marker::Model;
@@ -185,4 +186,15 @@ impl Counter {
     {
         (self.value, self.decays)
     }
+}
+
+/// What a deficit adds to a counter, which holds no more than 10^12. The amount comes by reference: a proof knows only
+/// the bits of a copied number.
+pub(crate) fn capped_deficit(amount: &i128) -> u64
+    ensures { result ≡ capped_deficit amount.now }
+{
+    if *amount < 0 {
+        return 0;
+    }
+    amount.unsigned_abs().min(MOST_COUNTED as u128) as u64
 }

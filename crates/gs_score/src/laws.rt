@@ -1,18 +1,20 @@
 //! Laws of scores. Each holds by its definitions only, and its function does nothing.
-ghost use Rattle.std.specs.Prelude.{◌≡◌, ℕ, ◌+◌, ◌≤◌, pos, Bool, true, [], List, length};
+ghost use Rattle.std.specs.Prelude.{◌≡◌, ℕ, ◌+◌, ◌+ℤ◌, ◌≤◌, pos, Bool, true, [], List, length, map};
 ghost use Rattle.std.specs.List.{AllByRecursion, list_any};
 ghost use Rattle.gs_base.specs.Names.{most_topics, same_peer, same_topic};
 ghost use Rattle.gs_base.specs.declared.names.PeerNo.{PeerNo as PeerNoValue};
 ghost use Rattle.gs_base.specs.declared.names.Topic.{Topic as TopicValue};
 ghost use Rattle.gs_base.specs.declared.neighbour.Neighbour.{Neighbour as NeighbourValue};
 ghost use Rattle.gs_params.specs.declared.params.Params.{Params as ParamsValue};
-ghost use Rattle.gs_score.specs.Accounts.{Covers};
-ghost use Rattle.gs_score.specs.Histories.{Agrees, History, Setting, held_by, named, named_after};
+ghost use Rattle.gs_score.specs.Accounts.{Covers, rules_of, total};
+ghost use Rattle.gs_score.specs.Formula.{capped};
+ghost use Rattle.gs_score.specs.Histories.{Agrees, History, Setting, held_by, named, named_after, score_in};
 ghost use Rattle.gs_score.specs.Counters.{Stored, decayed, most_counted, read_at};
 ghost use Rattle.gs_score.specs.Ledgers.{Kept, has_room};
 ghost use Rattle.gs_score.specs.Millionths.{scaled, times};
+ghost use Rattle.gs_score.specs.Parts.{score_parts, topic_parts};
 ghost use Rattle.gs_score.specs.Ranges.{IsUpTo};
-ghost use Rattle.gs_score.specs.Standings.{decayed_held, held};
+ghost use Rattle.gs_score.specs.Standings.{Held, decayed_held, held};
 ghost use Rattle.gs_score.specs.declared.rules.TopicRules.{TopicRules as TopicRulesValue};
 ghost use Rattle.gs_score.specs.declared.standing.Standing.{Standing as StandingValue};
 ghost use Rattle.gs_score.specs.declared.counter.Decay.{Decay as DecayValue};
@@ -61,6 +63,33 @@ pub fn there_is_room_for_what_fits_a_list()
         → list_any (same_topic t) ts ≡ true
         → Agrees s k H
         → has_room k.accounts q t ≡ true }
+{}
+
+/// A topic gives the sum of what its parts weigh, under its weight. A score is the capped sum of what its topics give,
+/// and what its other parts weigh.
+pub fn parts_make_up_a_score()
+    ensures topic { (r : TopicRulesValue) (now : ℕ) (h : Held)
+        → (topic_parts r now h).topic_score
+        ≡ times r.factors.topic_weight
+        ((topic_parts r now h).time_in_mesh.weighed
+        +ℤ (topic_parts r now h).first_message_deliveries.weighed
+        +ℤ (topic_parts r now h).mesh_message_deliveries.weighed
+        +ℤ (topic_parts r now h).mesh_failure_penalty.weighed
+        +ℤ (topic_parts r now h).invalid_message_deliveries.weighed) }
+    ensures sum { (s : Setting) (now : ℕ) (H : History) (q : PeerNoValue) (ts : List TopicValue)
+        → (score_parts s now H q ts).topic_sum
+        ≡ total (map (λ t. (topic_parts (rules_of s.params t) now (held_by s.params H q t)).topic_score) ts) }
+    ensures cap { (s : Setting) (now : ℕ) (H : History) (q : PeerNoValue) (ts : List TopicValue)
+        → (score_parts s now H q ts).capped_topic_sum
+        ≡ capped s.params.factors.topic_cap (score_parts s now H q ts).topic_sum }
+    ensures score { (s : Setting) (now : ℕ) (H : History) (q : PeerNoValue) (ts : List TopicValue)
+        → (score_parts s now H q ts).score
+        ≡ (score_parts s now H q ts).capped_topic_sum
+        +ℤ (score_parts s now H q ts).app_specific_score.weighed
+        +ℤ (score_parts s now H q ts).ip_colocation_factor
+        +ℤ (score_parts s now H q ts).behaviour_penalty.weighed }
+    ensures same { (s : Setting) (now : ℕ) (H : History) (q : PeerNoValue) (ts : List TopicValue)
+        → (score_parts s now H q ts).score ≡ score_in s now H q ts }
 {}
 
 /// The limit of counters is that of the definitions.

@@ -1,8 +1,11 @@
-ghost use Rattle.std.specs.Prelude.{◌≡◌, ◌≤◌, ◌^◌, unsigned_abs};
+ghost use Rattle.std.specs.Prelude.{◌≡◌, ◌≤◌, ◌^◌, pos, unsigned_abs};
 ghost use Rattle.gs_params.specs.Params.{FactorsAreInRange, IsCap};
-ghost use Rattle.gs_score.specs.Formula.{capped, p6, score_of};
+ghost use Rattle.gs_score.specs.Formula.{capped, p5, p6, p7, score_of};
+ghost use Rattle.gs_score.specs.Millionths.{times};
+ghost use Rattle.gs_score.specs.Parts.{score_parts_of};
 
 use crate::millionths::{squared, sum_of_four, weighed, weighed_sum};
+use crate::parts::{Part, ScoreParts};
 use gs_params::Factors;
 
 /// The score of a neighbour, in millionths (gossipsub v1.1, Peer Scoring, The Score Function), by the sum of
@@ -20,10 +23,75 @@ pub fn score_of(factors: &Factors, topics: i128, app: i128, number: u64, misbeha
     ensures bound { unsigned_abs result ≤ 10 ^ 30 }
 {
     let held = capped(factors.topic_cap, topics);
-    let given = weighed_sum(factors.w5, app);
-    let crowded = weighed(factors.w6, crowd(factors.p6_threshold, number));
-    let misbehaved = weighed(factors.w7, squared(misbehaviour));
+    let given = weighed_app(factors, app);
+    let crowded = weighed_crowd(factors, number);
+    let misbehaved = weighed_misbehaviour(factors, misbehaviour);
     sum_of_four(held, given, crowded, misbehaved)
+}
+
+/// The parts of the score that `score_of` gives for the same, each as it is counted and weighed.
+pub(crate) fn score_parts_of(
+    factors: &Factors,
+    topics: i128,
+    app: i128,
+    number: u64,
+    misbehaviour: u64,
+) -> ScoreParts
+    requires in_range { FactorsAreInRange factors.now }
+    requires topics { unsigned_abs topics ≤ 10 ^ 29 }
+    requires app { unsigned_abs app ≤ 10 ^ 12 }
+    requires number { number ≤ 10 ^ 6 }
+    requires misbehaviour { misbehaviour ≤ 10 ^ 12 }
+    ensures { result ≡ score_parts_of factors.now topics app number misbehaviour }
+{
+    ScoreParts {
+        topic_sum: topics,
+        capped_topic_sum: capped(factors.topic_cap, topics),
+        app_specific_score: Part {
+            counted: app,
+            weighed: weighed_app(factors, app),
+        },
+        neighbours_at_address: number,
+        ip_colocation_factor: weighed_crowd(factors, number),
+        behaviour_penalty: Part {
+            counted: misbehaviour as i128,
+            weighed: weighed_misbehaviour(factors, misbehaviour),
+        },
+        score: score_of(factors, topics, app, number, misbehaviour),
+    }
+}
+
+/// What the score of the application weighs (P5). It is inlined, as what follows: each score is made of it.
+#[inline(always)]
+fn weighed_app(factors: &Factors, app: i128) -> i128
+    requires in_range { FactorsAreInRange factors.now }
+    requires app { unsigned_abs app ≤ 10 ^ 12 }
+    ensures value { result ≡ times factors.now.w5 (p5 app) }
+    ensures bound { unsigned_abs result ≤ 10 ^ 25 }
+{
+    weighed_sum(factors.w5, app)
+}
+
+/// What the neighbours at an address weigh (P6).
+#[inline(always)]
+fn weighed_crowd(factors: &Factors, number: u64) -> i128
+    requires in_range { FactorsAreInRange factors.now }
+    requires number { number ≤ 10 ^ 6 }
+    ensures value { result ≡ times factors.now.w6 (pos (p6 factors.now.p6_threshold number)) }
+    ensures bound { unsigned_abs result ≤ 10 ^ 21 }
+{
+    weighed(factors.w6, crowd(factors.p6_threshold, number))
+}
+
+/// What misbehaviour weighs (P7).
+#[inline(always)]
+fn weighed_misbehaviour(factors: &Factors, misbehaviour: u64) -> i128
+    requires in_range { FactorsAreInRange factors.now }
+    requires misbehaviour { misbehaviour ≤ 10 ^ 12 }
+    ensures value { result ≡ times factors.now.w7 (pos (p7 misbehaviour)) }
+    ensures bound { unsigned_abs result ≤ 10 ^ 21 }
+{
+    weighed(factors.w7, squared(misbehaviour))
 }
 
 /// The square of how many more neighbours are at an address than may be, in millionths (P6): 0 to 10^18.

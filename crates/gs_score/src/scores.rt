@@ -1,6 +1,7 @@
 ghost use Rattle.std.specs.Prelude.{◌≡◌, ◌≤◌, ◌<◌, ◌+◌, ◌^◌, ℕ, true, List, [], ◌∷◌, length, unsigned_abs, All, IfOk};
 ghost use Rattle.std.specs.Prelude.{IfSome, IsOk, OnErr, OnOk};
-ghost use Rattle.gs_base.specs.Names.{peers_of};
+ghost use Rattle.std.specs.List.{IsDistinct, list_any};
+ghost use Rattle.gs_base.specs.Names.{peers_of, same_topic};
 ghost use Rattle.gs_base.specs.declared.names.Topic.{Topic as TopicValue};
 ghost use Rattle.gs_base.specs.declared.neighbour.Neighbour.{Neighbour as NeighbourValue};
 ghost use Rattle.gs_params.specs.Params.{AreInRange, FactorsAreInRange};
@@ -9,21 +10,23 @@ ghost use Rattle.gs_score.specs.Accounts.{Covers, has_topic, misbehaviour_decay,
 ghost use Rattle.gs_score.specs.Counters.{most_counted, raised, read_at};
 ghost use Rattle.gs_score.specs.Formula.{p3};
 ghost use Rattle.gs_score.specs.Histories.{Agrees, Applies, Decayed, Grafted, History, Left, Marked, Setting};
-ghost use Rattle.gs_score.specs.Histories.{ShutOut, accepts, capped_deficit, held_by, is_known, misbehaviour, one};
+ghost use Rattle.gs_score.specs.Histories.{ShutOut, accepts, held_by, is_known, misbehaviour, named, one};
 ghost use Rattle.gs_score.specs.Histories.{raise_of, score_in};
 ghost use Rattle.gs_score.specs.Ledgers.{BlamesIn, PutsIn, ReplacesIn, has_account, has_room, misbehaviour_of};
 ghost use Rattle.gs_score.specs.Ledgers.{standing_of, topics_of};
 ghost use Rattle.gs_score.specs.Addresses.{shut_out};
+ghost use Rattle.gs_score.specs.Parts.{score_parts, topic_parts};
 ghost use Rattle.gs_score.specs.Standings.{count, decay_of, grafted, pruned, raised_standing, stored};
 
 use crate::accounts::{
     Account, blame, counts_of, graft_standing, has_account, has_room, misbehaviour_decay,
-    misbehaviour_of, open_accounts, prune_standing, raise_standing, standing_of,
+    misbehaviour_of, open_accounts, prune_standing, raise_standing, standing_of, topics_of,
 };
 use crate::addresses::Addresses;
-use crate::counter::MOST_COUNTED;
+use crate::counter::capped_deficit;
+use crate::parts::{ScoreParts, TopicParts};
 use crate::rulebook::Rulebook;
-use crate::score::score_of;
+use crate::score::{score_of, score_parts_of};
 use crate::standing::{Kind, Raise};
 use gs_base::{Mark, Millis, Neighbour, PeerNo, Topic};
 use gs_params::Params;
@@ -298,6 +301,49 @@ impl Scores {
         score_of(factors, topics, app, number, misbehaviour)
     }
 
+    /// The parts of a neighbour's score at a moment, over all topics. Their score is what `score` gives.
+    pub fn score_parts(&self, peer: PeerNo, now: Millis) -> ScoreParts
+        ensures { (s : Setting) (H : History) (topics : List TopicValue)
+            → Agrees s self.now H
+            → Covers (held_by s.params H peer) topics
+            → result ≡ score_parts s now.0 H peer topics }
+    {
+        let (topics, misbehaviour) = counts_of(
+            &self.accounts,
+            peer,
+            &self.rulebook,
+            self.decays,
+            now,
+        );
+        let (app, number) = self.addresses.app_and_number(peer);
+        let factors = &self.rulebook.params().factors;
+        score_parts_of(factors, topics, app, number, misbehaviour)
+    }
+
+    /// The parts of what a topic gives a neighbour at a moment.
+    pub fn topic_parts(&self, peer: PeerNo, topic: &Topic, now: Millis) -> TopicParts
+        ensures { (s : Setting) (H : History)
+            → Agrees s self.now H
+            → result ≡ topic_parts (rules_of s.params topic.now) now.0 (held_by s.params H peer topic.now) }
+    {
+        let rules = self.rulebook.of(topic);
+        standing_of(&self.accounts, peer, topic).parts(rules, self.decays, now)
+    }
+
+    /// The topics on which something is kept of a neighbour, each once, in any order.
+    ///
+    /// # Errors
+    /// `AllocError` where there was no memory.
+    pub fn topics(&self, alloc: Global, peer: PeerNo) -> Result<Vec<Topic>, AllocError>
+        ensures each { IfOk result (λ list. (s : Setting) (H : History) (t : TopicValue)
+            → Agrees s self.now H
+            → list_any (same_topic t) list.items ≡ list_any (same_topic t) (named H peer)) }
+        ensures distinct { IfOk result (λ list. IsDistinct same_topic list.items) }
+    {
+        let list = topics_of(alloc, &self.accounts, peer)?;
+        Ok(list)
+    }
+
     /// Raises a counter of a neighbour on a topic.
     ///
     /// # Errors
@@ -333,17 +379,6 @@ impl Scores {
         let decay = misbehaviour_decay(self.rulebook.params());
         blame(&mut self.accounts, peer, ONE, decay, self.decays);
     }
-}
-
-/// What a deficit adds to a counter, which holds no more than 10^12. The amount comes by reference: a proof knows only
-/// the bits of a copied number.
-fn capped_deficit(amount: &i128) -> u64
-    ensures { result ≡ capped_deficit amount.now }
-{
-    if *amount < 0 {
-        return 0;
-    }
-    amount.unsigned_abs().min(MOST_COUNTED as u128) as u64
 }
 
 /// Neighbours with ascending numbers are at most 65,536, as numbers have 16 bits.

@@ -1,12 +1,15 @@
-ghost use Rattle.std.specs.Prelude.{◌≡◌, ◌≤◌, ◌^◌, pos, unsigned_abs};
+ghost use Rattle.std.specs.Prelude.{◌≡◌, ◌≤◌, ◌^◌, ℕ, pos, unsigned_abs};
 ghost use Rattle.gs_score.specs.Formula.{p3, topic_part};
 ghost use Rattle.gs_score.specs.Millionths.{squared, times};
+ghost use Rattle.gs_score.specs.Parts.{first_message_deliveries, invalid_message_deliveries, mesh_failure_penalty};
+ghost use Rattle.gs_score.specs.Parts.{mesh_message_deliveries, time_in_mesh, topic_parts};
 ghost use Rattle.gs_score.specs.Ranges.{RulesAreInRange};
 ghost use Rattle.gs_score.specs.Standings.{count, fresh, grafted, held, pruned, raised_by, raised_held, stored};
 ghost use Rattle.gs_score.specs.Standings.{with_stored};
 
 use crate::counter::Counter;
 use crate::millionths::{squared, sum_of_five, weighed, weighed_sum};
+use crate::parts::{Part, TopicParts};
 use crate::rules::TopicRules;
 use gs_base::Millis;
 
@@ -194,5 +197,72 @@ impl Standing {
         let invalid = self.weighed_square(factors.w4, Kind::Invalid, rules, decays);
         let sum = sum_of_five(present, first, missing, deficit, invalid);
         weighed_sum(factors.topic_weight, sum)
+    }
+
+    /// The parts of what the topic gives, each as it is counted and weighed, in millionths. `topic_score` is what
+    /// `part` gives.
+    pub fn parts(&self, rules: &TopicRules, decays: u64, now: Millis) -> TopicParts
+        requires in_range { RulesAreInRange rules.now }
+        ensures { result ≡ topic_parts rules.now now.0 (held rules.now decays self.now) }
+    {
+        TopicParts {
+            time_in_mesh: self.time_in_mesh(rules, now),
+            first_message_deliveries: self.first_message_deliveries(rules, decays),
+            mesh_message_deliveries: self.mesh_message_deliveries(rules, decays, now),
+            mesh_failure_penalty: self.mesh_failure_penalty(rules, decays),
+            invalid_message_deliveries: self.invalid_message_deliveries(rules, decays),
+            topic_score: self.part(rules, decays, now),
+        }
+    }
+
+    fn time_in_mesh(&self, rules: &TopicRules, now: Millis) -> Part
+        requires in_range { RulesAreInRange rules.now }
+        ensures { (decays : ℕ) → result ≡ time_in_mesh rules.now now.0 (held rules.now decays self.now) }
+    {
+        let presence = rules.presence(self.since, now);
+        Part {
+            counted: presence as i128,
+            weighed: weighed(rules.factors.w1, presence),
+        }
+    }
+
+    fn first_message_deliveries(&self, rules: &TopicRules, decays: u64) -> Part
+        requires in_range { RulesAreInRange rules.now }
+        ensures { result ≡ first_message_deliveries rules.now (held rules.now decays self.now) }
+    {
+        Part {
+            counted: self.count(Kind::First, rules, decays) as i128,
+            weighed: self.weighed_count(rules.factors.w2, Kind::First, rules, decays),
+        }
+    }
+
+    fn mesh_message_deliveries(&self, rules: &TopicRules, decays: u64, now: Millis) -> Part
+        requires in_range { RulesAreInRange rules.now }
+        ensures { result ≡ mesh_message_deliveries rules.now now.0 (held rules.now decays self.now) }
+    {
+        Part {
+            counted: self.count(Kind::Near, rules, decays) as i128,
+            weighed: self.weighed_missing(rules.factors.w3, rules, decays, now),
+        }
+    }
+
+    fn mesh_failure_penalty(&self, rules: &TopicRules, decays: u64) -> Part
+        requires in_range { RulesAreInRange rules.now }
+        ensures { result ≡ mesh_failure_penalty rules.now (held rules.now decays self.now) }
+    {
+        Part {
+            counted: self.count(Kind::Deficit, rules, decays) as i128,
+            weighed: self.weighed_count(rules.factors.w3b, Kind::Deficit, rules, decays),
+        }
+    }
+
+    fn invalid_message_deliveries(&self, rules: &TopicRules, decays: u64) -> Part
+        requires in_range { RulesAreInRange rules.now }
+        ensures { result ≡ invalid_message_deliveries rules.now (held rules.now decays self.now) }
+    {
+        Part {
+            counted: self.count(Kind::Invalid, rules, decays) as i128,
+            weighed: self.weighed_square(rules.factors.w4, Kind::Invalid, rules, decays),
+        }
     }
 }

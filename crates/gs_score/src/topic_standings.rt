@@ -1,5 +1,5 @@
 ghost use Rattle.std.specs.Prelude.{◌≡◌, ◌+◌, ◌≤◌, ◌<◌, ◌*◌, ◌^◌, ◌+ℤ◌, ◌||◌, nat_lt, true, if◌then◌else◌, [], List};
-ghost use Rattle.std.specs.Prelude.{drop, length, unsigned_abs, IsOk, OnOk, OnErr};
+ghost use Rattle.std.specs.Prelude.{drop, length, unsigned_abs, IfOk, IsOk, OnOk, OnErr};
 ghost use Rattle.std.specs.List.{IsDistinct};
 ghost use Rattle.std.specs.Map.{keys_of};
 ghost use Rattle.gs_base.specs.Names.{most_topics, same_topic};
@@ -131,6 +131,18 @@ impl TopicStandings {
             return 0;
         }
         sum_of(&self.standings, rulebook, decays, now)
+    }
+
+    /// The topics on which it has something, each once, in any order.
+    ///
+    /// # Errors
+    /// `AllocError` where there was no memory.
+    pub fn topics(&self, alloc: Global) -> Result<Vec<Topic>, AllocError>
+        ensures all { IfOk result (λ list. list.items ≡ keys_of self.now) }
+        ensures distinct { IfOk result (λ list. IsDistinct same_topic list.items) }
+    {
+        let list = topics_of(alloc, &self.standings)?;
+        Ok(list)
     }
 }
 
@@ -268,4 +280,19 @@ fn part_at(
         Some((topic, standing)) => standing.part(rulebook.of(topic), decays, now),
         None => 0,
     }
+}
+
+/// The topics for which something is kept, in their order.
+///
+/// # Errors
+/// `AllocError` where there was no memory.
+fn topics_of(alloc: Global, standings: &IndexMap<Topic, Standing>) -> Result<Vec<Topic>, AllocError>
+    ensures all { IfOk result (λ list. list.items ≡ keys_of standings.now.entries) }
+    ensures distinct { IfOk result (λ list. IsDistinct same_topic list.items) }
+{
+    let mut list = Vec::new(alloc);
+    for topic in standings.keys() {
+        list.push(clone_of(topic)?)?;
+    }
+    Ok(list)
 }

@@ -3,6 +3,7 @@ mod counters;
 mod formula;
 mod kept;
 mod neighbours;
+mod parts;
 mod places;
 mod products;
 mod rulebooks;

@@ -179,14 +179,19 @@ fn params(alloc: Global) -> Result<Params, AllocError> {
     })
 }
 
-fn topic_params(alloc: Global, factors: TopicFactors) -> TopicParams {
+pub(super) fn topic_params(alloc: Global, factors: TopicFactors) -> TopicParams {
     TopicParams {
         factors,
         ..TopicParams::new(alloc)
     }
 }
 
-fn neighbour(alloc: Global, peer: u16, address: u8, app: i128) -> Result<Neighbour, AllocError>
+pub(super) fn neighbour(
+    alloc: Global,
+    peer: u16,
+    address: u8,
+    app: i128,
+) -> Result<Neighbour, AllocError>
     ensures peer { IfOk result (λ n. n.peer.0 ≡ peer) }
     ensures app { IfOk result (λ n. n.app ≡ app) }
 {
@@ -249,7 +254,7 @@ fn mark_of(alloc: Global, call: &Call) -> Result<Option<Mark>, AllocError> {
     Ok(Some(mark))
 }
 
-fn perform(alloc: Global, scores: &mut Scores, call: &Call) -> Result<(), AllocError> {
+pub(super) fn perform(alloc: Global, scores: &mut Scores, call: &Call) -> Result<(), AllocError> {
     if let Some(mark) = mark_of(alloc, call)? {
         return apply(scores, &mark);
     }

@@ -31,4 +31,4 @@ returns c = λ s H topics a covers.
     back c.score_of.result (10 ^ 30) c.score_of.ensures.bound (lit< tt)
     ∙ c.score_of.ensures.value
     ∙ as_numbers
-    ∙ score_says s k H p c.args.now.0 topics c.counts_of-topics.result.0 agrees covers c.counts_of-topics.ensures.topics
+    ∙ score_says score_of s k H p c.args.now.0 topics c.counts_of-topics.result.0 agrees covers c.counts_of-topics.ensures.topics
