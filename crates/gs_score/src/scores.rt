@@ -308,15 +308,10 @@ impl Scores {
             → Covers (held_by s.params H peer) topics
             → result ≡ score_parts s now.0 H peer topics }
     {
-        let (topics, misbehaviour) = counts_of(
-            &self.accounts,
-            peer,
-            &self.rulebook,
-            self.decays,
-            now,
-        );
+        let rulebook = &self.rulebook;
+        let (topics, misbehaviour) = counts_of(&self.accounts, peer, rulebook, self.decays, now);
         let (app, number) = self.addresses.app_and_number(peer);
-        let factors = &self.rulebook.params().factors;
+        let factors = &rulebook.params().factors;
         score_parts_of(factors, topics, app, number, misbehaviour)
     }
 
