@@ -24,19 +24,21 @@ loop-id-preserved c = λ L agrees made.
     let q = c.args.from in
     let ids : List MsgId = c.args.ids.now in
     let i = c.loop-id.id-index in
+    let x : MsgId = get_or ids i (record { 0 = [] }) in
     let new = c.is_answered.new.reply in
-    let behind = drop_more ids i _ c.loop-id-test.true in
-    let ahead = take_more ids i _ c.loop-id-test.true in
+    let list = c.if-not-branch.list in
+    let behind = drop_more ids i (record { 0 = [] }) c.loop-id-test.true in
+    let ahead = take_more ids i (record { 0 = [] }) c.loop-id-test.true in
     let before = subst (λ (left : List MsgId). Missing p L q ids (take i ids) left c.loop-id.reply c.loop-id.list.items) behind (c.loop-id.invariant L agrees made) in
     let answered = c.in_ok-is_answered.ensures.answered L (take i ids) before.given agrees made before.so_far in
     elim c.if-not-branch.branch [
-      | then-not-branch+in_ok-push w ↦ subst (λ (taken : List MsgId). Missing p L q ids taken (drop (i + 1) ids) new c.if-not-branch.list.items) (sym ahead)
-          (goes_on_missing p L q ids (take i ids) (drop (i + 1) ids) _ c.loop-id.reply new c.loop-id.list.items c.if-not-branch.list.items (λ given so_far. c.in_ok-is_answered.ensures.replies L (take i ids) given agrees made so_far)
+      | then-not-branch+in_ok-push w ↦ subst (λ (taken : List MsgId). Missing p L q ids taken (drop (i + 1) ids) new list.items) (sym ahead)
+          (goes_on_missing p L q ids (take i ids) (drop (i + 1) ids) x c.loop-id.reply new c.loop-id.list.items list.items (λ given so_far. c.in_ok-is_answered.ensures.replies L (take i ids) given agrees made so_far)
           (sym answered ∙ w.if-not-branch.true)
-          (ap (λ (v : Vec Fallen Global). v.items) w.list-is ∙ w.in_ok-push.ensures.items ∙ ap (λ (why : NoAnswer). c.loop-id.list.items ++ fallen.Request q (get_or ids i _) why ∷ []) (w.why_no_answer.ensures L agrees made))
+          (ap (λ (v : Vec Fallen Global). v.items) w.list-is ∙ w.in_ok-push.ensures.items ∙ ap (λ (why : NoAnswer). c.loop-id.list.items ++ fallen.Request q x why ∷ []) (w.why_no_answer.ensures L agrees made))
           before)
-      | else-not-branch w ↦ subst (λ (taken : List MsgId). Missing p L q ids taken (drop (i + 1) ids) new c.if-not-branch.list.items) (sym ahead)
-          (goes_on_answered p L q ids (take i ids) (drop (i + 1) ids) _ c.loop-id.reply new c.if-not-branch.list.items (λ given so_far. c.in_ok-is_answered.ensures.replies L (take i ids) given agrees made so_far)
+      | else-not-branch w ↦ subst (λ (taken : List MsgId). Missing p L q ids taken (drop (i + 1) ids) new list.items) (sym ahead)
+          (goes_on_answered p L q ids (take i ids) (drop (i + 1) ids) x c.loop-id.reply new list.items (λ given so_far. c.in_ok-is_answered.ensures.replies L (take i ids) given agrees made so_far)
           (sym answered ∙ w.if-not-branch.false)
-          (subst (λ (v : Vec Fallen Global). Missing p L q ids (take i ids) (get_or ids i _ ∷ drop (i + 1) ids) c.loop-id.reply v.items) (sym w.list-is) before))
+          (subst (λ (v : Vec Fallen Global). Missing p L q ids (take i ids) (x ∷ drop (i + 1) ids) c.loop-id.reply v.items) (sym w.list-is) before))
     ]
