@@ -1,6 +1,7 @@
 //! Runs of the peers `a` and `b`, and how their traces are told.
 mod events;
 mod marks;
+mod pages;
 mod plan;
 mod wanted;
 
