@@ -5,5 +5,7 @@ pub mod Topics
 pub mod Lines
 pub mod Wanted
 pub mod Starts
+pub mod Turns
+pub mod Pages
 pub mod Stored
 pub mod Traces

@@ -3,16 +3,20 @@
 
 mod entries;
 mod events;
+mod fault;
 mod head;
 mod laws;
 mod lines;
 mod marks;
+mod pages;
 mod refusals;
 mod rpcs;
 mod texts;
 mod topics;
+mod turn;
 mod wanted;
 
+pub use fault::TraceFault;
 pub use laws::{a_trace_tells_all, wanting_all_tells_all};
-pub use lines::{trace_text, wanted_text};
+pub use lines::write_trace;
 pub use wanted::{RoundSpan, Wanted, Wish, all_lines};
