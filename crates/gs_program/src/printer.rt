@@ -2,6 +2,8 @@
 ghost use Rattle.std.specs.Prelude.{Bool, IfErr, IfOk, IsErrOf, List, ℕ, ◌≡◌, false};
 ghost use Rattle.gs_plan.specs.declared.plan.Plan.{Plan as PlanValue};
 ghost use Rattle.gs_report.specs.declared.report.Report.{Report as ReportValue};
+ghost use Rattle.gs_plan.specs.Plans.{IsInRange};
+ghost use Rattle.gs_seats.specs.Reports.{IsReport};
 ghost use Rattle.gs_program.specs.Printing.{Prints};
 
 use gs_plan::Plan;
@@ -18,7 +20,7 @@ pub trait Printer: Drop {
     // Whether it writes a part of its text before it has made the rest.
     ghost in_parts: { Bool };
 
-    /// Makes the text, and writes it to the output.
+    /// Makes the text of a report of a plan in range, and writes it to the output.
     ///
     /// # Errors
     /// One where the text was not written to its end. Each says what the output has then.
@@ -29,6 +31,8 @@ pub trait Printer: Drop {
         report: &Report,
         output: &mut W,
     ) -> Result<(), PrintFault>
+        requires in_range { IsInRange plan.now }
+        requires report { IsReport plan.now report.now }
         ensures { Prints in_parts (text self.now plan.now report.now) (W.contents output.old) (W.contents output.new) result };
 }
 

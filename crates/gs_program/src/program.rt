@@ -124,7 +124,7 @@ impl<P: Printer> Program<P> {
         }
     }
 
-    /// Writes a text of what a run of this plan left to the output. Where it left no report, or there is no memory for the
+    /// Writes a text of what a run of this plan, which is in range, left to the output. Where it left no report, or there is no memory for the
     /// text, `errors` has a line that says why.
     pub fn write<W, E>(
         &self,
@@ -136,7 +136,8 @@ impl<P: Printer> Program<P> {
     where
         W: Write,
         E: Write,
-        requires { IfOk ran (IsReport plan.now) }
+        requires in_range { IsInRange plan.now }
+        requires report { IfOk ran (IsReport plan.now) }
         ensures { (needs : Bool) → IfErr ran (MayMeet needs)
             → (input input' : Option (List ℕ)) → IsScenario input plan.now → IsAtEnd input'
             → EndsAs (P.text self.now.printer) P.in_parts needs result input input'
