@@ -2,9 +2,9 @@
 
 usage: view.py NAME ROUNDS PEER SCORES PAGE <TRACE
 
-ROUNDS and PEER are empty where all are wanted, and SCORES, a file of lines, where there are none. PAGE is written. Status: 0
-it is; 1 there are too many events; 3 output failed; 4 a package is missing; 64 there is no such peer, or no such round; 65 a
-line is none.
+ROUNDS and PEER are empty where all are wanted, and SCORES, a file of lines, where there are none. PAGE is written. Status:
+0 it is; 1 there are too many events; 3 output failed; 4 a package is missing; 64 there is no such peer, or no such round;
+65 a line is none.
 """
 import json
 import os

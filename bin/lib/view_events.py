@@ -1,13 +1,13 @@
 """The lines of a trace as short lists of numbers, which a page of a run carries. bin/lib/view/words.js says them in words.
 
 An event is [peer, kind, who, topic, item, count, effects]: `kind` is a place in KINDS, `item` one in the messages of the
-page, and -1 stands for what is not there. What nothing follows is left out at the end. `count` of a message is a place in
-FATES. An effect is a list, too: its first number is a place in EFFECTS, and `effects_of` says what follows.
+page, and -1 stands for what is not there. At the end of a list it is left out. `count` of a message is a place in FATES. An
+effect is a list, too: its first number is a place in EFFECTS, and `effects_of` says what follows.
 """
 
 KINDS = (
-    "heard late subscription message ihave iwant graft prune heartbeat heartbeat_end mesh fanout gossip fanout_end subscribe"
-    " unsubscribe publish raw hang_up gone fault decay round_end shut refused"
+    "heard late subscription message ihave iwant graft prune heartbeat heartbeat_end mesh fanout gossip fanout_end"
+    " subscribe unsubscribe publish raw hang_up gone fault decay round_end shut refused"
 ).split()
 FATES = "new duplicate near ignored rejected signed again off_topic".split()
 EFFECTS = (
@@ -81,8 +81,8 @@ class Events:
         return [[id[:12], *self.payloads.get(number, ["", -1])] for number, id in enumerate(self.ids.texts)]
 
     def event_of(self, line, fate=None, is_so=False):
-        """A line as a list; None where there is nothing to say of it. Of a message it is given what became of it; of a GRAFT,
-        whether its sender is in the mesh after it; of an RPC, whether the peer had shut down before."""
+        """A line as a list; None where there is nothing to say of it. Of a message it is given what became of it; of a
+        GRAFT, whether its sender is in the mesh after it; of an RPC, whether the peer had shut down before."""
         word = line["event"]
         who, topic, item, count = getattr(self, f"of_{word}", self.of_other)(line)
         if fate:

@@ -1,5 +1,6 @@
-"""Puts a page of a run together: bin/lib/view/ has its parts, and a package of Debian's the library that draws. Run by itself,
-it only looks whether the library is there, and ends with status 4 where it is not.
+"""Puts a page of a run together: bin/lib/view/ has its parts, and a package of Debian's the library that draws.
+
+Run by itself it only looks whether the library is there, and ends with status 4 where it is not.
 """
 import base64
 import gzip

@@ -1,4 +1,4 @@
-"""What a page of a run has of its trace: who was in whose mesh, who was subscribed, the figures of each round, and its events."""
+"""What a page of a run has of its trace: who was in whose mesh and on which topic, figures of each round, and events."""
 import json
 import re
 
@@ -8,7 +8,7 @@ from view_events import PARTS, Events, fate_of
 MOST_EVENTS = 1_000_000
 # What each line begins with, but for the first.
 BEGINNING = re.compile(r'\{"round":(\d+),"at":\d+,"peer":("(?:[^"\\]|\\.)*"|\d+),"event":"(\w+)"')
-# What stands in the lines of events of which nothing came, in the order of a trace's keys; but these change memberships, or count.
+# What stands in the lines of events of which nothing came, in the order of a trace's keys. Some events count even so.
 NOTHING_CAME = '"sent":[],"delivered":[],"promise":null,"marks":[]'
 COUNTING = "message", "subscribe", "unsubscribe", "gone", "fault", "hang_up"
 DELIVERED, MESSAGES, NEW, DUPLICATES, SMALLEST, LARGEST = range(6)
@@ -123,7 +123,8 @@ class Run:
         # (who has shut down has no mesh any more; its last one is that of the last round)
         for mark in line["marks"] if word != "shut" else ():
             if mark["mark"] in ("grafted", "pruned"):
-                self.change_mesh(mark["mark"], round, peer, self.events.peer(mark["peer"]), self.events.topic(mark["topic"]))
+                what = peer, self.events.peer(mark["peer"]), self.events.topic(mark["topic"])
+                self.change_mesh(mark["mark"] == "grafted", round, what)
         if word == "subscribe":
             self.subscribed.begin((peer, self.events.topic(line["topic"])), round)
         elif word == "unsubscribe":
@@ -133,14 +134,15 @@ class Run:
         elif word == "shut":
             self.ended.add(peer)
 
-    def change_mesh(self, mark, round, peer, other, topic):
+    def change_mesh(self, comes, round, what):
+        peer, other, topic = what
         members = self.members.setdefault((peer, topic), set())
-        if mark == "grafted":
+        if comes:
             members.add(other)
-            self.meshes.begin((peer, other, topic), round)
+            self.meshes.begin(what, round)
         else:
             members.discard(other)
-            self.meshes.end((peer, other, topic), round)
+            self.meshes.end(what, round)
 
     def count_in(self, round, line, fate):
         row = self.figures[round]

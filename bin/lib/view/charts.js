@@ -27,7 +27,8 @@ class Chart {
       .range([CHART.left, CHART.width - CHART.right]);
     this.grid = this.svg.append('g').attr('class', 'grid');
     this.body = this.svg.append('g');
-    this.cursor = this.svg.append('line').attr('class', 'cursor').attr('y1', CHART.top).attr('y2', CHART.height - CHART.bottom);
+    this.cursor = this.svg.append('line').attr('class', 'cursor').attr('y1', CHART.top)
+      .attr('y2', CHART.height - CHART.bottom);
     const below = d3.svg.axis().scale(this.x).orient('bottom').ticks(Math.min(8, Math.max(run.roundCount - 1, 1)))
       .tickFormat(d3.format('d')).tickSize(3);
     this.svg.append('g').attr('class', 'axis').attr('transform', `translate(0,${CHART.height - CHART.bottom})`).call(below);
@@ -57,6 +58,12 @@ class Chart {
     this.level(ticks);
   }
 
+  // A scale of whole numbers from 0.
+  setCounts(highest) {
+    const ticks = d3.scale.linear().domain([0, highest]).ticks(4).filter(Number.isInteger);
+    this.setScale(0, highest * 1.05, ticks.map((it) => [it, short(it)]));
+  }
+
   // The levels of the chart, as [value, text, name].
   level(ticks) {
     const levels = this.grid.selectAll('g').data(ticks);
@@ -65,7 +72,8 @@ class Chart {
     fresh.append('text').attr('dy', '0.32em');
     levels.exit().remove();
     levels.attr('class', (it) => it[2] || '').attr('transform', (it) => `translate(0,${this.y(it[0]).toFixed(1)})`);
-    levels.select('text').text((it) => it[1]).attr('x', (it) => (it[2] ? CHART.width - CHART.right + 3 : CHART.left - 5))
+    const side = (it) => (it[2] ? CHART.width - CHART.right + 3 : CHART.left - 5);
+    levels.select('text').text((it) => it[1]).attr('x', side)
       .attr('text-anchor', (it) => (it[2] ? 'start' : 'end'));
   }
 
@@ -103,8 +111,10 @@ class ScoreChart extends Chart {
     this.scale();
     this.lines = this.body.selectAll('path').data(this.rows).enter().append('path').attr('class', 'line');
     this.lines.attr('d', (row) => this.steps(row)).append('title').text((_, number) => run.peers[number]);
+    this.pair = this.body.append('path').attr('class', 'line pair');
     state.listen((_, changed) => {
-      if (changed.has('round') || changed.has('peer')) this.draw();
+      if (['peer', 'other', 'gives'].some((key) => changed.has(key))) this.drawPair();
+      if (['round', 'peer', 'other', 'gives'].some((key) => changed.has(key))) this.draw();
     });
   }
 
@@ -118,9 +128,24 @@ class ScoreChart extends Chart {
     const round = [-1e6, -1e5, -1e4, -1000, -100, -10, -1, 0, 1, 10, 100, 1000, 1e4, 1e5];
     const ticks = round.map((it) => [bent(it), short(it)]).filter(([it]) => it >= low - 0.01 && it <= high + 0.01);
     const names = ['gossip', 'publish', 'graylist'];
-    const level = shown.map((it) => [bent(it), names[thresholds.indexOf(it)], `threshold ${names[thresholds.indexOf(it)]}`]);
+    const level = shown.map((it, number) => [bent(it), names[number], 'threshold']);
     const gap = (high - low) * 0.05;
     this.setScale(low - gap, high + gap, [...apart(ticks, (high - low) * 0.09), ...level]);
+    this.y.clamp(true);
+  }
+
+  // Who gives the score that is looked at, and who has it.
+  looked() {
+    const { peer, other, gives } = this.state;
+    if (peer === null || other === null) return null;
+    return gives ? [peer, other] : [other, peer];
+  }
+
+  // The course of the score that is looked at.
+  drawPair() {
+    const pair = this.looked();
+    const values = pair && this.run.valuesOf(...pair).map((it) => (it === null ? null : bent(it)));
+    this.pair.attr('d', values ? this.steps(values) : '');
   }
 
   draw() {
@@ -128,7 +153,8 @@ class ScoreChart extends Chart {
     this.point();
     this.lines.attr('class', (_, number) => {
       const name = run.classAt(number, state.round).name;
-      return `line ${name}${state.peer === number ? ' chosen' : state.peer === null ? '' : ' pale'}`;
+      if (state.peer === null) return `line ${name}`;
+      return `line ${name} ${state.peer === number && state.other === null ? 'chosen' : 'pale'}`;
     });
     d3.select('#score-words').text(this.told());
   }
@@ -136,6 +162,11 @@ class ScoreChart extends Chart {
   told() {
     const { run, words, state } = this;
     if (!run.scores) return 'scores: no program of this tree gives them';
+    const pair = this.looked();
+    if (pair) {
+      const it = run.scoreOf(...pair, state.round);
+      return `score that ${words.peer(pair[0])} gives ${words.peer(pair[1])}: ${it ? it.body[0] : 'none yet'}`;
+    }
     const title = 'lowest score that a neighbour gives';
     if (state.peer !== null) {
       const it = run.lowestOf(state.peer, state.round);
@@ -165,16 +196,16 @@ class ScoreChart extends Chart {
 
 // Those of some levels that are so far apart that their texts can be read.
 function apart(levels, gap) {
-  return levels.filter((it, number) => Math.abs(it[0]) < 1e-9 || (Math.abs(it[0]) >= gap && number >= 0
-    && levels.every((other, place) => place === number || Math.abs(other[0] - it[0]) >= gap || Math.abs(other[0]) > Math.abs(it[0]))));
+  const isNear = (one, other) => Math.abs(other[0] - one[0]) < gap && Math.abs(other[0]) < Math.abs(one[0]);
+  return levels.filter((it) => !levels.some((other) => isNear(it, other)));
 }
 
 class MeshChart extends Chart {
   constructor(run, words, state) {
     super('#mesh-chart', run, state);
     this.words = words;
-    const highest = Math.max(1, ...run.topics.map((_, topic) => Math.max(...run.sizesOf(topic).map((row) => Math.max(...row)))));
-    this.setScale(0, highest * 1.05, d3.scale.linear().domain([0, highest]).ticks(4).filter(Number.isInteger).map((it) => [it, it]));
+    const sizes = run.topics.flatMap((_, topic) => run.sizesOf(topic).map((row) => d3.max(row)));
+    this.setCounts(Math.max(1, ...sizes));
     this.area = this.body.append('path').attr('class', 'area');
     this.own = this.body.append('path').attr('class', 'line chosen');
     this.middle = this.body.append('path').attr('class', 'line middle');
@@ -195,14 +226,16 @@ class MeshChart extends Chart {
     const of = (which) => this.spread.map((it) => it && it[which]);
     this.area.attr('d', this.band(this.spread));
     this.middle.attr('d', this.steps(of(1)));
-    this.own.attr('d', state.peer === null ? '' : this.steps(Array.from(rows[state.peer], (it) => (it < 0 ? null : it))));
+    const own = state.peer === null ? [] : Array.from(rows[state.peer], (it) => (it < 0 ? null : it));
+    this.own.attr('d', this.steps(own));
   }
 
   band(spread) {
     const x = (place) => this.x(this.run.first + place).toFixed(1);
     const y = (value) => this.y(value).toFixed(1);
     const next = (place) => x(Math.min(place + 1, spread.length - 1));
-    return spread.map((it, place) => (it ? `M${x(place)},${y(it[0])}V${y(it[2])}H${next(place)}V${y(it[0])}z` : '')).join('');
+    const box = ([low, , high], place) => `M${x(place)},${y(low)}V${y(high)}H${next(place)}V${y(low)}z`;
+    return spread.map((it, place) => (it ? box(it, place) : '')).join('');
   }
 
   draw() {
@@ -221,7 +254,7 @@ class DeliveryChart extends Chart {
     super('#delivery-chart', run, state);
     const values = run.figures.map((it) => it[0]);
     const highest = Math.max(1, ...values);
-    this.setScale(0, highest * 1.05, d3.scale.linear().domain([0, highest]).ticks(4).filter(Number.isInteger).map((it) => [it, short(it)]));
+    this.setCounts(highest);
     const width = Math.max(1, Math.min(8, (this.x(1) - this.x(0)) * 0.8));
     this.body.selectAll('rect').data(values).enter().append('rect').attr('class', 'bar')
       .attr('x', (_, place) => this.x(run.first + place) - width / 2).attr('width', width)

@@ -4,12 +4,12 @@
 
 // The classes of scores, from the best, with the marks and the words that the page has for them.
 const CLASSES = [
-  { name: 'fair', mark: '+', words: '0 or more' },
-  { name: 'zero', mark: '−', words: 'below 0' },
-  { name: 'gossip', mark: 'g', words: 'below the gossip threshold' },
-  { name: 'publish', mark: 'p', words: 'below the publish threshold' },
-  { name: 'graylist', mark: 'x', words: 'below the graylist threshold' },
-  { name: 'unscored', mark: '?', words: 'no neighbour scores it' },
+  { name: 'fair', mark: '+', short: '≥ 0', words: '0 or more' },
+  { name: 'zero', mark: '−', short: '< 0', words: 'below 0' },
+  { name: 'gossip', mark: 'g', short: '< gossip', words: 'below the gossip threshold' },
+  { name: 'publish', mark: 'p', short: '< publish', words: 'below the publish threshold' },
+  { name: 'graylist', mark: 'x', short: '< graylist', words: 'below the graylist threshold' },
+  { name: 'unscored', mark: '?', short: 'no score yet', words: 'not known: no neighbour has scored it' },
 ];
 const SCORE_EVENTS = ['heartbeat', 'decay', 'end of the run'];
 
@@ -64,7 +64,8 @@ class RunData {
 
   figuresOf(round) {
     const [delivered, messages, fresh, duplicates, smallest, largest] = this.figures[round - this.first];
-    return { delivered, messages_heard: messages, new: fresh, duplicates, smallest_mesh: smallest, largest_mesh: largest };
+    const meshes = { smallest_mesh: smallest, largest_mesh: largest };
+    return { delivered, messages_heard: messages, new: fresh, duplicates, ...meshes };
   }
 
   // The links of a topic's mesh at the end of a round: from the peer whose mesh it is, to the member; `both` where each has
@@ -93,7 +94,8 @@ class RunData {
     return this.lost.some((it) => it[0] === peer && it[1] === other && holdsAt(it, round));
   }
 
-  // How many members the meshes of a topic have at the end of each round: a row for each peer, -1 where it is not subscribed.
+  // How many members the meshes of a topic have at the end of each round: a row for each peer, with -1 where it is not
+  // subscribed.
   sizesOf(topic) {
     if (!this.sizes.has(topic)) {
       const rows = this.peers.map(() => new Int16Array(this.roundCount).fill(-1));
@@ -101,7 +103,8 @@ class RunData {
         const end = Math.min(span[span.length - 1], this.last + 1);
         for (let round = Math.max(span[span.length - 2], this.first); round < end; round++) change(round - this.first);
       };
-      this.subscribed.filter((it) => it[1] === topic).forEach((it) => each(it, (place) => { rows[it[0]][place] = 0; }));
+      const joined = this.subscribed.filter((it) => it[1] === topic);
+      joined.forEach((it) => each(it, (place) => { rows[it[0]][place] = 0; }));
       this.meshes.filter((it) => it[2] === topic).forEach((it) => each(it, (place) => {
         if (rows[it[0]][place] >= 0) rows[it[0]][place]++;
       }));
@@ -142,6 +145,11 @@ class RunData {
     let place = 0;
     while (place + 3 < course.length && course[place + 3] <= round) place += 3;
     return { round: course[place], event: SCORE_EVENTS[course[place + 1]], body: this.scores.bodies[course[place + 2]] };
+  }
+
+  // The scores that a peer gives another, round by round; null where there is none.
+  valuesOf(peer, other) {
+    return d3.range(this.first, this.last + 1).map((round) => this.scoreOf(peer, other, round)?.body[0] ?? null);
   }
 
   // The lowest score that a neighbour gives a peer at the end of a round, and which neighbour.

@@ -6,9 +6,9 @@ const VIEW = { width: 560, height: 500 };
 class Network {
   constructor(run, words, state) {
     Object.assign(this, { run, words, state });
-    this.svg = d3.select('#circle').attr('viewBox', `0 0 ${VIEW.width} ${VIEW.height}`);
     this.isLarge = run.count > 16;
-    this.disc = run.count > 40 ? 9 : run.count > 16 ? 11 : 15;
+    this.svg = d3.select('#circle').attr('viewBox', `0 0 ${VIEW.width} ${VIEW.height}`).classed('large', this.isLarge);
+    this.disc = run.count > 40 ? 8 : run.count > 16 ? 11 : 15;
     this.places = run.peers.map((_, number) => this.placeOf(number));
     this.addHeads();
     this.links = this.svg.append('g');
@@ -33,8 +33,9 @@ class Network {
   }
 
   addHeads() {
-    const heads = this.svg.append('defs').selectAll('marker').data(['fresh', 'duplicate', 'refused', 'unheard', 'one']);
-    heads.enter().append('marker').attr('id', (it) => `head-${it}`).attr('viewBox', '0 0 8 8').attr('refX', 7).attr('refY', 4)
+    const names = ['fresh', 'duplicate', 'refused', 'unheard', 'one'];
+    const heads = this.svg.append('defs').selectAll('marker').data(names).enter().append('marker');
+    heads.attr('id', (it) => `head-${it}`).attr('viewBox', '0 0 8 8').attr('refX', 7).attr('refY', 4)
       .attr('markerWidth', 7).attr('markerHeight', 7).attr('markerUnits', 'userSpaceOnUse').attr('orient', 'auto')
       .append('path').attr('class', (it) => `head ${it}`).attr('d', 'M0,0L8,4L0,8z');
   }
@@ -46,9 +47,10 @@ class Network {
     this.discs.append('title');
     this.discs.append('circle').attr('class', 'ring').attr('r', this.disc + 4);
     this.discs.append('circle').attr('class', 'disc').attr('r', this.disc);
-    this.discs.append('text').attr('class', 'mark').attr('dy', '0.35em').style('font-size', `${Math.round(this.disc * 1.2)}px`);
-    const names = this.discs.append('text').attr('class', 'name').attr('dy', '0.35em').text((name) => this.shortened(name));
-    names.each((_, number, group) => this.setName(number));
+    this.discs.append('text').attr('class', 'mark').attr('dy', '0.35em')
+      .style('font-size', `${Math.round(this.disc * 1.2)}px`);
+    const names = this.discs.append('text').attr('class', 'name').attr('dy', '0.35em');
+    names.text((name) => this.shortened(name)).each((_, number) => this.setName(number));
   }
 
   // A name stands outward of its disc: level up to 16 peers, else along the radius.
@@ -85,18 +87,23 @@ class Network {
       draw(it.append('svg').attr('width', 26).attr('height', 14));
       it.append('span').text(words);
     };
-    const short = ['0 or more', 'below 0', 'gossip', 'publish', 'graylist', 'no score'];
-    CLASSES.forEach((it, number) => item(short[number], (svg) => {
+    CLASSES.forEach((it) => item(it.short, (svg) => {
       svg.append('circle').attr('class', `disc ${it.name}`).attr('cx', 13).attr('cy', 7).attr('r', 6);
       svg.append('text').attr('class', `mark ${it.name}`).attr('x', 13).attr('y', 10).text(it.mark);
     }, `the lowest score that a neighbour gives the peer is ${it.words}`));
-    item('not subscribed', (svg) => svg.append('circle').attr('class', 'disc fair off').attr('cx', 13).attr('cy', 7).attr('r', 6));
+    item('not subscribed', (svg) => {
+      svg.append('circle').attr('class', 'disc fair off').attr('cx', 13).attr('cy', 7).attr('r', 6);
+    });
+    this.addLines(item);
+  }
+
+  addLines(item) {
     const line = (name, marker) => (svg) => {
       const path = svg.append('path').attr('class', name).attr('d', 'M2,7H24');
       if (marker) path.attr('marker-end', `url(#head-${marker})`);
     };
     item('mesh', line('link both'), 'each has the other in its mesh');
-    item('one-sided', line('link one', 'one'), 'the peer at the tail has the other in its mesh, and not the other way round');
+    item('one-sided', line('link one', 'one'), 'only the peer at the tail has the other in its mesh');
     item('new', line('arrow fresh', 'fresh'), 'a message that was new to whom it came to');
     item('duplicate', line('arrow duplicate', 'duplicate'), 'a message that had come before');
     item('refused', line('arrow refused', 'refused'), 'a message that was rejected or ignored');
@@ -169,14 +176,14 @@ class Network {
 
   drawDiscs(subscribers) {
     const { run, state } = this;
-    this.discs.each((name, number, group) => {
+    this.discs.each((name, number) => {
       const it = run.classAt(number, state.round);
       const isOn = subscribers.has(number);
       const lowest = run.lowestOf(number, state.round);
       const disc = d3.select(this.discs[0][number]);
       const isPale = state.peer !== null && state.peer !== number && !run.neighbours[state.peer].includes(number);
-      disc.attr('class', `peer ${it.name}${isOn ? '' : ' off'}${state.peer === number ? ' chosen' : ''}${isPale ? ' pale' : ''}`)
-        .classed('other', state.other === number);
+      disc.attr('class', `peer ${it.name}`)
+        .classed({ off: !isOn, chosen: state.peer === number, other: state.other === number, pale: isPale });
       disc.attr('aria-label', `peer ${name}`).select('.mark').text(it.mark);
       disc.select('title').text(`${name}: ${lowest ? `lowest score ${lowest.score}, by ${run.peers[lowest.by]}` : it.words}`
         + `${isOn ? '' : '; not subscribed'}`);

@@ -40,8 +40,8 @@ class EventList {
   constructor(run, words, state) {
     Object.assign(this, { run, words, state });
     const choice = d3.select('#peer');
-    choice.selectAll('option').data(['(all)', ...run.peers]).enter().append('option').attr('value', (_, number) => number - 1)
-      .text((it) => it);
+    choice.selectAll('option').data(['(all)', ...run.peers]).enter().append('option')
+      .attr('value', (_, number) => number - 1).text((it) => it);
     choice.on('change', () => state.choose(+choice.node().value < 0 ? null : +choice.node().value));
     d3.select('#scope-round').on('change', () => state.set({ isWhole: false }));
     d3.select('#scope-run').on('change', () => state.set({ isWhole: true }));
@@ -52,7 +52,8 @@ class EventList {
   changed(changed) {
     const { state } = this;
     d3.select('#peer').node().value = state.peer ?? -1;
-    if (changed.has('peer') || changed.has('isWhole') || changed.has('filter') || (changed.has('round') && !state.isWhole)) {
+    const isNew = ['peer', 'isWhole', 'filter'].some((key) => changed.has(key));
+    if (isNew || (changed.has('round') && !state.isWhole)) {
       this.draw();
     } else if (changed.has('round')) {
       this.mark();
@@ -87,11 +88,12 @@ class EventList {
     const list = d3.select('#events').html('');
     const items = list.selectAll('li').data(rows).enter().append('li').classed('bad', (it) => words.isBad(it[1]));
     if (state.isWhole) {
-      items.append('button').text((it) => it[0]).attr('title', (it) => `go to round ${it[0]}`).on('click', (it) => state.go(it[0]));
+      items.append('button').text((it) => it[0]).attr('title', (it) => `go to round ${it[0]}`)
+        .on('click', (it) => state.go(it[0]));
     }
     if (state.peer === null) {
-      items.append('button').attr('class', 'who').text((it) => words.peer(it[1][0])).attr('title', 'look at this peer')
-        .on('click', (it) => state.choose(it[1][0]));
+      items.append('button').attr('class', 'who').text((it) => words.peer(it[1][0]))
+        .attr('title', 'look at this peer').on('click', (it) => state.choose(it[1][0]));
     }
     items.append('span').text((it) => it[2]);
     d3.select('#events-more span').text(this.remark(rows.length, isCut));
@@ -119,8 +121,8 @@ class EventList {
     const isAll = state.peer !== null && !state.isWhole;
     if (isCut) return `only the first ${MOST_ROWS} events; words to look for leave fewer`;
     if (state.filter) return `${several(count, 'event')} of ${where} with these words`;
-    if (run.only !== null && state.peer !== run.only) return `this page has only the events of ${words.peer(run.only)}`;
-    return isAll ? `${several(count, 'event')} in ${where}` : `${several(count, 'event')} of ${where}, without what is ordinary`;
+    if (run.only !== null && state.peer !== run.only) return `this page has only events of ${words.peer(run.only)}`;
+    return `${several(count, 'event')} of ${where}${isAll ? '' : '; ordinary ones are left out'}`;
   }
 
   mark() {
@@ -146,7 +148,7 @@ class ScorePanel {
     const { run, words, state } = this;
     const place = d3.select('#neighbours').html('');
     if (state.peer === null) {
-      place.append('p').text('Click a peer for its events, and for the scores that it gives its neighbours and has from them.');
+      place.append('p').text('Click a peer for its events, and for the scores that it gives and has.');
       if (run.scores) this.drawLowest(place.append('table'));
       return;
     }
@@ -154,9 +156,10 @@ class ScorePanel {
     const table = place.append('table');
     const head = table.append('thead').append('tr');
     head.append('th').text('neighbour');
-    head.append('th').text(`${name} gives it`);
-    head.append('th').text(`it gives ${name}`);
-    head.append('th').text('mesh').attr('title', `whether ${name} has it in its mesh of the topic, and the other way round`);
+    head.append('th').attr('class', 'number').text(`${name} gives it`);
+    head.append('th').attr('class', 'number').text(`it gives ${name}`);
+    head.append('th').text('mesh')
+      .attr('title', `whether ${name} has it in its mesh of the topic, and the other way round`);
     const members = new Set(run.linksOf(state.topic, state.round).flatMap((it) => (it.both
       ? [`${it.from} ${it.to}`, `${it.to} ${it.from}`] : [`${it.from} ${it.to}`])));
     const rows = table.append('tbody').selectAll('tr').data(run.neighbours[state.peer]).enter().append('tr')
@@ -171,15 +174,18 @@ class ScorePanel {
   // Each peer's lowest score, the lowest one first.
   drawLowest(table) {
     const { run, words, state } = this;
-    const found = run.peers.map((_, peer) => ({ peer, lowest: run.lowestOf(peer, state.round) })).filter((it) => it.lowest)
-      .sort((one, other) => one.lowest.score - other.lowest.score);
+    const found = run.peers.map((_, peer) => ({ peer, lowest: run.lowestOf(peer, state.round) }))
+      .filter((it) => it.lowest).sort((one, other) => one.lowest.score - other.lowest.score);
     const head = table.append('thead').append('tr');
-    ['peer', 'lowest score', 'by'].forEach((it) => head.append('th').text(it));
+    head.append('th').text('peer');
+    head.append('th').attr('class', 'number').text(found.length ? 'lowest score' : 'there is no score yet');
+    head.append('th').text(found.length ? 'by' : '');
     const rows = table.append('tbody').selectAll('tr').data(found).enter().append('tr');
     rows.append('td').append('button').text((it) => words.peer(it.peer)).on('click', (it) => state.choose(it.peer));
     const cells = rows.append('td').attr('class', 'number').append('button').attr('title', 'this score in parts')
       .on('click', (it) => state.look(it.peer, it.lowest.by, false));
-    cells.append('i').attr('class', (it) => `badge ${run.classOf(it.lowest.score).name}`).text((it) => run.classOf(it.lowest.score).mark);
+    const classOf = (it) => run.classOf(it.lowest.score);
+    cells.append('i').attr('class', (it) => `badge ${classOf(it).name}`).text((it) => classOf(it).mark);
     cells.append('span').text((it) => it.lowest.score.toFixed(2));
     rows.append('td').text((it) => words.peer(it.lowest.by));
   }
@@ -223,7 +229,8 @@ class ScorePanel {
       return;
     }
     const [gossip, publish, graylist] = run.scores.thresholds;
-    place.append('p').text(`${score.body[0]}: ${run.classOf(score.body[0]).words}. It has been so since the ${score.event} of round ${score.round}. `
+    place.append('p').text(`${score.body[0]}: ${run.classOf(score.body[0]).words}. `
+      + `It has been so since the ${score.event} of round ${score.round}. `
       + `Thresholds: gossip ${short(gossip)}, publish ${short(publish)}, graylist ${short(graylist)}.`);
     if (score.body.length > 1) this.addParts(place.append('table'), score.body);
     else place.append('p').text('This page has no parts of it: --peer left them out.');
@@ -234,17 +241,22 @@ class ScorePanel {
     const rows = [];
     for (const [topic, all, ...values] of topics) {
       rows.push({ name: `topic ${this.words.topic(topic)}`, weighed: all, isHead: true });
-      TOPIC_PARTS.forEach(([code, name], number) => rows.push({ code, name, counted: values[2 * number], weighed: values[2 * number + 1] }));
+      TOPIC_PARTS.forEach(([code, name], number) => {
+        rows.push({ code, name, counted: values[2 * number], weighed: values[2 * number + 1] });
+      });
     }
     rows.push({ name: 'all topics', weighed: sum, isHead: true });
     if (capped !== sum) rows.push({ name: 'all topics, capped', weighed: capped, isHead: true });
     const rest = [[ownCount, own], [addresses, colocation], [faults, behaviour]];
-    OTHER_PARTS.forEach(([code, name], number) => rows.push({ code, name, counted: rest[number][0], weighed: rest[number][1] }));
+    OTHER_PARTS.forEach(([code, name], number) => {
+      rows.push({ code, name, counted: rest[number][0], weighed: rest[number][1] });
+    });
     rows.push({ name: 'score', weighed: score, isHead: true });
     const head = table.append('thead').append('tr');
     ['part', 'counted', 'weighed'].forEach((it) => head.append('th').text(it));
     const lines = table.append('tbody').selectAll('tr').data(rows).enter().append('tr')
-      .classed('head', (it) => it.isHead).classed('bad', (it) => it.weighed < 0).classed('none', (it) => !it.isHead && !it.weighed && !it.counted);
+      .classed('head', (it) => it.isHead).classed('bad', (it) => it.weighed < 0)
+      .classed('none', (it) => !it.isHead && !it.weighed && !it.counted);
     lines.append('td').text((it) => (it.code ? `${it.code} ${it.name}` : it.name));
     lines.append('td').attr('class', 'number').text((it) => it.counted ?? '');
     lines.append('td').attr('class', 'number').text((it) => it.weighed);

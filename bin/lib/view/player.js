@@ -60,7 +60,9 @@ class Player {
     const isText = tagName === 'SELECT' || (tagName === 'INPUT' && type === 'search');
     if (event.ctrlKey || event.altKey || event.metaKey || document.querySelector('dialog[open]')) return;
     if (event.key === 'Escape' && !isText) this.state.choose(null);
-    if (isText || (event.key === ' ' && (tagName === 'BUTTON' || tagName === 'SUMMARY' || type === 'checkbox' || type === 'radio'))) return;
+    // (a space presses the button that has the focus)
+    const isButton = tagName === 'BUTTON' || type === 'checkbox' || type === 'radio';
+    if (isText || (event.key === ' ' && isButton)) return;
     const act = this.acts()[event.key];
     if (act) {
       event.preventDefault();

@@ -65,6 +65,10 @@ class Words {
     return bytes <= 8 ? payload || '(empty)' : `${payload.slice(0, 12)}.. (${several(bytes, 'byte')})`;
   }
 
+  refusal(number) {
+    return REFUSALS[this.run.words[number]] || this.run.words[number];
+  }
+
   // What happened, and what came of it.
   sentence(event) {
     const effects = this.byName(event[6] || []);
@@ -82,8 +86,10 @@ class Words {
 
   of_heard([, , who], effects) {
     const lost = this.unheard(effects);
-    const why = effects.graylisted ? ' is below its graylist threshold' : '';
-    if (why) return [`did not hear an RPC from ${this.peer(who)}${lost}: ${this.peer(who)}${why}`, ['graylisted', 'not_heard']];
+    if (effects.graylisted) {
+      const why = `${this.peer(who)} is below the graylist threshold`;
+      return [`did not hear an RPC from ${this.peer(who)}${lost}: ${why}`, ['graylisted', 'not_heard']];
+    }
     return [`heard an RPC from ${this.peer(who)}${lost}, and handled no part of it`, ['not_heard']];
   }
 
@@ -122,7 +128,9 @@ class Words {
   of_graft([, , who, topic, , isMember], effects) {
     const graft = `heard a GRAFT from ${this.peer(who)} on ${this.topic(topic)}`;
     if (effects.grafted) return [`${graft}: taken into the mesh`, ['grafted']];
-    if (effects.graft_refused) return [`${graft}: refused, ${REFUSALS[this.run.words[effects.graft_refused[0][2]]]}`, ['graft_refused']];
+    if (effects.graft_refused) {
+      return [`${graft}: refused, ${this.refusal(effects.graft_refused[0][2])}`, ['graft_refused']];
+    }
     if (effects.sent_prune) return [`${graft}: refused`];
     return [`${graft}: ${isMember ? 'it is in the mesh already' : 'passed over, for the peer is not subscribed'}`];
   }
@@ -190,8 +198,9 @@ class Words {
   }
 
   clauses_of_charges(name, items) {
-    if (name === 'deficit') return items.map(([who, , value]) => `missing deliveries count against ${this.peer(who)} (P3b): ${value}`);
-    return items.map(([who]) => `counts against ${this.peer(who)} (P7)`);
+    return items.map(([who, , value]) => (name === 'deficit'
+      ? `missing deliveries count against ${this.peer(who)} (P3b): ${value}`
+      : `counts against ${this.peer(who)} (P7)`));
   }
 
   clauses_of_backoff(name, items) {
@@ -217,13 +226,14 @@ class Words {
     const words = {
       delivered: () => 'delivered to its own user',
       promise: ([who, until]) => `${this.peer(who)} is to send one by ${moment(until)}`,
-      broken: ([who, item, until]) => `${this.peer(who)} broke its promise of message ${this.message(item)}, due by ${moment(until)}`,
+      broken: ([who, item, until]) => (
+        `${this.peer(who)} broke its promise of message ${this.message(item)}, due by ${moment(until)}`),
       asked: ([who, count]) => `asked ${this.peer(who)} for ${several(count, 'message')}`,
       answered: ([who, item]) => `sent ${this.message(item)} to ${this.peer(who)}`,
       not_heard: ([topic, count]) => `${several(count, 'message')} on ${this.topic(topic)} not heard`,
-      graylisted: ([who]) => `${this.peer(who)} is below its graylist threshold`,
+      graylisted: ([who]) => `${this.peer(who)} is below the graylist threshold`,
       came_late: ([who]) => `${this.peer(who)} was lost before`,
-      graft_refused: ([, , why]) => `refused, ${REFUSALS[this.run.words[why]]}`,
+      graft_refused: ([, , why]) => `refused, ${this.refusal(why)}`,
     };
     return items.map((it) => words[name](it));
   }
@@ -231,7 +241,7 @@ class Words {
   clauses_of_unanswered(name, items) {
     const counts = new Map();
     items.forEach(([, , why]) => counts.set(why, (counts.get(why) || 0) + 1));
-    return [...counts].map(([why, count]) => `${count} not answered, ${REFUSALS[this.run.words[why]]}`);
+    return [...counts].map(([why, count]) => `${count} not answered, ${this.refusal(why)}`);
   }
 
   // Whether an event is worth a line where no peer is chosen.
@@ -255,8 +265,10 @@ class Words {
 }
 
 const SORTS = {
-  grafted: 'members', pruned: 'members', fanned: 'members', unfanned: 'members', deficit: 'charges', misbehaviour: 'charges',
-  backoff: 'backoff', passed_on: 'sends', sent_ihave: 'sends', sent_iwant: 'sends', sent_graft: 'sends', sent_prune: 'sends',
-  announced: 'sends', not_answered: 'unanswered', delivered: 'rest', promise: 'rest', broken: 'rest', asked: 'rest',
-  answered: 'rest', not_heard: 'rest', graylisted: 'rest', came_late: 'rest', graft_refused: 'rest',
+  grafted: 'members', pruned: 'members', fanned: 'members', unfanned: 'members',
+  deficit: 'charges', misbehaviour: 'charges', backoff: 'backoff', not_answered: 'unanswered',
+  passed_on: 'sends', sent_ihave: 'sends', sent_iwant: 'sends', sent_graft: 'sends', sent_prune: 'sends',
+  announced: 'sends',
+  delivered: 'rest', promise: 'rest', broken: 'rest', asked: 'rest', answered: 'rest', not_heard: 'rest',
+  graylisted: 'rest', came_late: 'rest', graft_refused: 'rest',
 };
