@@ -13,9 +13,10 @@ import sys
 HERE = os.path.join(os.path.dirname(os.path.realpath(__file__)), "view")
 SCRIPTS = "data.js words.js state.js network.js charts.js panel.js player.js main.js".split()
 PACKAGE = "libjs-d3"
-# (tests look for the library at another place)
-LIBRARY = os.environ.get("GUNTHARU_D3", "/usr/share/javascript/d3/d3.min.js")
-LICENCE = f"/usr/share/doc/{PACKAGE}/copyright"
+# (tests have another folder with both)
+FOLDER = os.environ.get("GUNTHARU_D3")
+LIBRARY = f"{FOLDER or '/usr/share/javascript/d3'}/d3.min.js"
+LICENCE = f"{FOLDER or f'/usr/share/doc/{PACKAGE}'}/copyright"
 PLACE = re.compile(r"<!--\[(\w+)\]-->")
 
 

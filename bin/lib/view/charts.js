@@ -244,7 +244,7 @@ class MeshChart extends Chart {
     const it = this.spread[state.round - run.first];
     const own = state.peer === null ? -1 : run.sizesOf(state.topic)[state.peer][state.round - run.first];
     const of = state.peer === null ? '' : `; ${words.peer(state.peer)}: ${own < 0 ? 'not subscribed' : own}`;
-    const sizes = it ? `smallest ${it[0]}, median ${it[1]}, largest ${it[2]}${of}` : 'none';
+    const sizes = it ? `${it[0]} to ${it[2]}, median ${it[1]}${of}` : 'none';
     d3.select('#mesh-words').text(`members of meshes of ${words.topic(state.topic)}: ${sizes}`);
   }
 }

@@ -64,16 +64,23 @@ class EventList {
   *found() {
     const { run, words, state } = this;
     const rounds = state.isWhole ? d3.range(run.first, run.last + 1) : [state.round];
-    const terms = state.filter.split(/\s+/).filter(Boolean);
+    const terms = state.filter.split(/\s+/).filter(Boolean).map((it) => this.termOf(it));
     for (const round of rounds) {
       for (const event of run.eventsOf(round)) {
         if (state.peer === null ? !terms.length && !words.isNotable(event) : event[0] !== state.peer) continue;
         if (state.isWhole && !terms.length && !words.isNotable(event)) continue;
         const said = words.sentence(event);
         const text = `${words.peer(event[0])} ${said}`.toLowerCase();
-        if (terms.every((it) => text.includes(it))) yield [round, event, said];
+        if (terms.every((it) => it.test(text))) yield [round, event, said];
       }
     }
+  }
+
+  // What a word finds: itself anywhere; but the name of a peer only as a word.
+  termOf(word) {
+    const plain = word.replace(/[.*+?^${}()|[\]\\]/g, '\\$&');
+    const isName = this.run.peers.some((it) => it.toLowerCase() === word);
+    return new RegExp(isName ? `(?<![\\w-])${plain}(?![\\w-])` : plain);
   }
 
   draw() {
@@ -97,7 +104,6 @@ class EventList {
     }
     items.append('span').text((it) => it[2]);
     d3.select('#events-more span').text(this.remark(rows.length, isCut));
-    this.setNearest();
     list.node().scrollTop = 0;
     this.mark();
   }
@@ -127,6 +133,7 @@ class EventList {
 
   mark() {
     const { state } = this;
+    this.setNearest();
     d3.select('#events').selectAll('li').classed('now', (it) => state.isWhole && it[0] === state.round);
   }
 }
