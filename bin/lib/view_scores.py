@@ -17,7 +17,7 @@ class Scores:
     """The lines, taken in one by one. What stays the same for a pair of peers is kept once, and so is what pairs share."""
 
     def __init__(self, head, events, only=None):
-        self.thresholds = [head["thresholds"][it] for it in THRESHOLDS]
+        self.thresholds = [plain(head["thresholds"][it]) for it in THRESHOLDS]
         self.events, self.only = events, only
         self.numbers, self.bodies, self.pairs = {}, [], {}
 

@@ -48,6 +48,7 @@ check_views() {
 gossip_view: line 1 of the trace: *' tried_view
   expect_like 'a page of a scenario that is refused' 1 '' '*told by gossip_*' refused_view
   check_pages
+  check_scores
 }
 
 refused_view() {
@@ -93,6 +94,40 @@ events [[], [[0, 3, 1, 0, 0, 0], [0, 3, 1, 0, 0, 1]], []]" '' run_of '' b "$head
   expect 'a page of rounds after the last one' 64 '' 'gossip_view: the last round is 2, before those of --rounds' \
     made_view 3..4 '' '' "$head"
   expect 'a page of a trace that ends at once' 65 '' 'gossip_view: the trace has no line' no_lines
+}
+
+# What a page has of these lines of scores.
+scores_of() {
+  printf '%s\n' "${@:2}" >"$room/scores"
+  python3 -c '
+import sys
+sys.dont_write_bytecode = True
+sys.path.insert(0, sys.argv[1])
+from view import scores_of
+from view_events import Events
+for key, it in scores_of(sys.argv[2], Events(["a", "b"]), sys.argv[3] or None).items():
+    print(key, it)
+' "$top/bin/lib" "$room/scores" "$1"
+}
+
+# A score that stays the same is kept once. One of -90 has three invalid messages, squared and weighed by -10, and 0.01 of P1.
+check_scores() {
+  local head none topics rest line
+  head='{"peers":["a","b"],"round_ms":100,"last_round":2,"thresholds":{"gossip_threshold":-10.000000,"publish_threshold":-50.000000,"graylist_threshold":-80.000000}}'
+  none='{"counted":0.000000,"weighed":0.000000}'
+  topics='{"topic":"news","time_in_mesh":{"counted":1.000000,"weighed":0.010000},"first_message_deliveries":'$none
+  topics+=',"mesh_message_deliveries":'$none',"mesh_failure_penalty":'$none
+  topics+=',"invalid_message_deliveries":{"counted":3.000000,"weighed":-90.000000},"topic_score":-89.990000}'
+  rest='"app_specific_score":'$none',"ip_colocation_factor":{"neighbours":1,"weighed":0.000000},"behaviour_penalty":'$none'}'
+  line='"neighbour":"b","score":0.000000,"topics":[],"topic_sum":0.000000,"capped_topic_sum":0.000000,'$rest
+  expect 'what a page has of scores' 0 "thresholds [-10, -50, -80]
+bodies [[0, 0, 0, 0, 0, 1, 0, 0, 0, []], [-89.99, -89.99, -89.99, 0, 0, 1, 0, 0, 0, [[0, -89.99, 1, 0.01, 0, 0, 0, 0, 0, 0, 3, -90]]]]
+pairs [[0, 1, [0, 0, 0, 2, 1, 1]]]" '' scores_of '' "$head" '{"round":0,"at":0,"peer":"a","event":"heartbeat",'"$line" \
+    '{"round":1,"at":100,"peer":"a","event":"heartbeat",'"$line" \
+    '{"round":2,"at":200,"peer":"a","event":"decay","neighbour":"b","score":-89.990000,"topics":['"$topics"'],"topic_sum":-89.990000,"capped_topic_sum":-89.990000,'"$rest"
+  expect 'what a page of another peer has of scores' 0 'thresholds [-10, -50, -80]
+bodies [[0]]
+pairs [[0, 1, [0, 0, 0]]]' '' scores_of c "$head" '{"round":0,"at":0,"peer":"a","event":"heartbeat",'"$line"
 }
 
 no_lines() {
