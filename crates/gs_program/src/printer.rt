@@ -29,7 +29,8 @@ pub trait Printer: Drop {
         report: &Report,
         output: &mut W,
     ) -> Result<(), PrintFault>
-        ensures { Prints in_parts (text self.now plan.now report.now) (W.contents output.old) (W.contents output.new) result };
+        ensures { Prints in_parts (text self.now plan.now report.now)
+            (W.contents output.old) (W.contents output.new) result };
 }
 
 /// Why a text was not written to its end.
