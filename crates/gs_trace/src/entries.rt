@@ -94,8 +94,11 @@ fn push_start_of(
     push_start(plan, out, round, entry.at(), peer)
 }
 
-/// Adds what begins a line of a peer.
-pub(crate) fn push_start(
+/// Adds what begins a line of a peer: the round, the moment and the name.
+///
+/// # Errors
+/// `AllocError` where there was no memory for it. A part of it may be there then.
+pub fn push_start(
     plan: &Plan,
     out: &mut Vec<u8>,
     round: u64,

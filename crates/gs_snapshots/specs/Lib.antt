@@ -1,0 +1,6 @@
+pub mod Moments
+pub mod Snapshots
+pub mod Wishes
+pub mod Json
+pub mod Csv
+pub mod Scores
