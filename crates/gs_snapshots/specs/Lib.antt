@@ -3,4 +3,5 @@ pub mod Snapshots
 pub mod Wishes
 pub mod Json
 pub mod Csv
+pub mod Forms
 pub mod Scores

@@ -1,5 +1,5 @@
 -- The scores of a run over time: by peer, by moment, by neighbour.
-use Rattle.std.specs.Prelude.{ℕ, Bool, List, ◌++◌, Option, Some, None, filter}
+use Rattle.std.specs.Prelude.{ℕ, Bool, List, ◌++◌, filter}
 use Rattle.std.specs.List.{flat_map}
 use Rattle.gs_base.specs.declared.names.PeerNo.{PeerNo}
 use Rattle.gs_plan.specs.declared.plan.Plan.{Plan}
@@ -9,25 +9,10 @@ use Rattle.gs_report.specs.declared.finished.Finished.{Finished}
 use Rattle.gs_report.specs.declared.report.Report.{Report}
 use Rattle.gs_seats.specs.Rounds.{peer_in}
 use Rattle.gs_snapshots.specs.declared.moments.Moment.{Moment}
-use Rattle.gs_snapshots.specs.declared.snapshot.Snapshot.{Snapshot}
-use Rattle.gs_snapshots.specs.declared.wanted.Form.{Form}
-use Rattle.gs_snapshots.specs.declared.wanted.Form.TheVariants as form
-use Rattle.gs_snapshots.specs.Csv.{csv_head, csv_rows}
-use Rattle.gs_snapshots.specs.Json.{json_head, json_line}
+use Rattle.gs_snapshots.specs.Forms.{head_text, snapshot_text}
 use Rattle.gs_snapshots.specs.Moments.{moments}
 use Rattle.gs_snapshots.specs.Snapshots.{snapshot_of}
 use Rattle.gs_snapshots.specs.Wishes.{Wishes, has_name, is_in_rounds}
-
--- JSON where no form is wished for
-abbrev pub head_text : Option Form → Plan → List ℕ
-head_text None plan = json_head plan
-head_text (Some form.Json) plan = json_head plan
-head_text (Some form.Csv) plan = csv_head
-
-abbrev pub snapshot_text : Option Form → Plan → Snapshot → List ℕ
-snapshot_text None plan s = json_line plan s
-snapshot_text (Some form.Json) plan s = json_line plan s
-snapshot_text (Some form.Csv) plan s = csv_rows plan s
 
 -- the neighbours of a peer that are wanted, by number
 abbrev pub wanted_neighbours : Wishes → Plan → PeerNo → List PeerNo

@@ -14,7 +14,11 @@ use gs_trace::{push_code, push_number, push_peer, push_quoted};
 use std::alloc::{AllocError, Global};
 
 /// Adds the rows of a snapshot.
-pub(crate) fn push_rows(plan: &Plan, out: &mut Vec<u8>, snapshot: &Snapshot) -> Result<(), AllocError>
+pub(crate) fn push_rows(
+    plan: &Plan,
+    out: &mut Vec<u8>,
+    snapshot: &Snapshot,
+) -> Result<(), AllocError>
     ensures { OnOk result (out.new.items ≡ out.old.items ++ csv_rows plan.now snapshot.now) }
 {
     let start = row_start(*out.allocator(), plan, snapshot)?;

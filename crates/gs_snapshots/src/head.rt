@@ -3,7 +3,7 @@ ghost use Rattle.std.specs.Prelude.{◌≡◌, ◌++◌, OnOk};
 ghost use Rattle.gs_report.specs.Text.{score_text};
 ghost use Rattle.gs_snapshots.specs.Csv.{csv_head};
 ghost use Rattle.gs_snapshots.specs.Json.{json_head, thresholds_text};
-ghost use Rattle.gs_snapshots.specs.Scores.{head_text};
+ghost use Rattle.gs_snapshots.specs.Forms.{head_text};
 
 use crate::wanted::Form;
 use gs_params::Thresholds;
@@ -13,7 +13,11 @@ use gs_trace::{push_code, push_names, push_number};
 use std::alloc::AllocError;
 
 /// Adds what begins the text in a form.
-pub(crate) fn push_head(plan: &Plan, form: Option<Form>, out: &mut Vec<u8>) -> Result<(), AllocError>
+pub(crate) fn push_head(
+    plan: &Plan,
+    form: Option<Form>,
+    out: &mut Vec<u8>,
+) -> Result<(), AllocError>
     ensures { OnOk result (out.new.items ≡ out.old.items ++ head_text form plan.now) }
 {
     match form {

@@ -15,7 +15,11 @@ use gs_trace::{Shown, push_code, push_list, push_number, push_peer, push_start, 
 use std::alloc::AllocError;
 
 /// Adds the line of a snapshot.
-pub(crate) fn push_line(plan: &Plan, out: &mut Vec<u8>, snapshot: &Snapshot) -> Result<(), AllocError>
+pub(crate) fn push_line(
+    plan: &Plan,
+    out: &mut Vec<u8>,
+    snapshot: &Snapshot,
+) -> Result<(), AllocError>
     ensures { OnOk result (out.new.items ≡ out.old.items ++ json_line plan.now snapshot.now) }
 {
     push_moment(plan, out, snapshot.moment)?;
@@ -91,11 +95,7 @@ fn push_score_parts(out: &mut Vec<u8>, parts: &ScoreParts) -> Result<(), AllocEr
     push_amount(out, b"topic_sum", parts.topic_sum)?;
     push_amount(out, b"capped_topic_sum", parts.capped_topic_sum)?;
     push_part(out, b"app_specific_score", parts.app_specific_score)?;
-    push_colocation(
-        out,
-        parts.neighbours_at_address,
-        parts.ip_colocation_factor,
-    )?;
+    push_colocation(out, parts.neighbours_at_address, parts.ip_colocation_factor)?;
     push_part(out, b"behaviour_penalty", parts.behaviour_penalty)
 }
 

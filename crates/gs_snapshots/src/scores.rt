@@ -5,7 +5,8 @@ ghost use Rattle.gs_plan.specs.Plans.{IsInRange};
 ghost use Rattle.gs_router.specs.Following.{AreInOrder, Follows, Reading};
 ghost use Rattle.gs_seats.specs.Reports.{IsReport};
 ghost use Rattle.gs_seats.specs.Rounds.{peer_in};
-ghost use Rattle.gs_snapshots.specs.Scores.{is_at_wanted_round, is_wanted_peer, scores_text, snapshot_text, text_about, text_at, text_of_peer, wanted_neighbours};
+ghost use Rattle.gs_snapshots.specs.Forms.{snapshot_text};
+ghost use Rattle.gs_snapshots.specs.Scores.{is_at_wanted_round, is_wanted_peer, scores_text, text_about, text_at, text_of_peer, wanted_neighbours};
 ghost use Rattle.gs_snapshots.specs.Wishes.{wishes_of};
 
 use crate::csv::push_rows;
@@ -112,8 +113,7 @@ fn wanted_moment(
     wanted: &Wanted<'_>,
     number: PeerNo,
     entry: &StoredEntry,
-) -> Option<Moment>
-{
+) -> Option<Moment> {
     match moment_of(plan, number, entry) {
         Some(moment) => {
             if is_in_rounds(wanted, moment.round) {
@@ -133,8 +133,7 @@ fn push_moment(
     follower: &Follower<'_>,
     moment: Moment,
     neighbours: &[PeerNo],
-) -> Result<(), AllocError>
-{
+) -> Result<(), AllocError> {
     for neighbour in neighbours {
         let snapshot = snapshot_of(*out.allocator(), follower, moment, *neighbour)?;
         push_snapshot(plan, form, out, &snapshot)?;

@@ -1,4 +1,4 @@
-mod Appended
+pub mod Appended
 mod Named
 mod Starts
 mod Wanting

@@ -134,11 +134,7 @@ pub fn push_code(out: &mut Vec<u8>, code: &[u8]) -> Result<(), AllocError>
 ///
 /// # Errors
 /// `AllocError` where there was no memory for it. A part of it may be there then.
-pub fn push_list<T: Shown>(
-    plan: &Plan,
-    out: &mut Vec<u8>,
-    values: &[T],
-) -> Result<(), AllocError>
+pub fn push_list<T: Shown>(plan: &Plan, out: &mut Vec<u8>, values: &[T]) -> Result<(), AllocError>
     ensures { OnOk result (out.new.items ≡ out.old.items ++ list_text (T.text (names_of plan.now)) values.now) }
 {
     push_code(out, b"[")?;
