@@ -42,7 +42,7 @@ topic_parts_rows start parts =
     ++ part_row start (codes "invalid_message_deliveries") parts.invalid_message_deliveries
     ++ amount_row start (codes "topic_score") parts.topic_score
 
-abbrev pub topic_rows : List ℕ → OnTopic → List ℕ
+unfoldable pub topic_rows : List ℕ → OnTopic → List ℕ
 topic_rows start x = topic_parts_rows (start ++ topic_text x.topic) x.parts
 
 -- what is of no topic
@@ -55,7 +55,7 @@ score_parts_rows start parts =
     ++ part_row start (codes "behaviour_penalty") parts.behaviour_penalty
 
 -- the score, the parts of each topic, and those of none
-abbrev pub rows_from : List ℕ → Snapshot → List ℕ
+unfoldable pub rows_from : List ℕ → Snapshot → List ℕ
 rows_from start s =
     amount_row start (codes "score") s.parts.score
     ++ flat_map (topic_rows start) s.topics

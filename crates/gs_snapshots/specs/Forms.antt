@@ -14,7 +14,7 @@ head_text (Some form.Json) plan = json_head plan
 head_text (Some form.Csv) plan = csv_head
 
 -- what a neighbour scores at a moment
-abbrev pub snapshot_text : Option Form → Plan → Snapshot → List ℕ
+unfoldable pub snapshot_text : Option Form → Plan → Snapshot → List ℕ
 snapshot_text None plan s = json_line plan s
 snapshot_text (Some form.Json) plan s = json_line plan s
 snapshot_text (Some form.Csv) plan s = csv_rows plan s

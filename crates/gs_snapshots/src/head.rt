@@ -1,14 +1,13 @@
 //! What begins the text of scores.
 ghost use Rattle.std.specs.Prelude.{◌≡◌, ◌++◌, OnOk};
-ghost use Rattle.gs_report.specs.Text.{score_text};
 ghost use Rattle.gs_snapshots.specs.Csv.{csv_head};
 ghost use Rattle.gs_snapshots.specs.Json.{json_head, thresholds_text};
 ghost use Rattle.gs_snapshots.specs.Forms.{head_text};
 
+use crate::amounts::push_threshold;
 use crate::wanted::Form;
 use gs_params::Thresholds;
 use gs_plan::Plan;
-use gs_report::push_millionths;
 use gs_trace::{push_code, push_names, push_number};
 use std::alloc::AllocError;
 
@@ -48,25 +47,19 @@ fn push_json_head(plan: &Plan, out: &mut Vec<u8>) -> Result<(), AllocError>
     push_code(out, b",\"last_round\":")?;
     push_number(out, plan.rounds)?;
     push_code(out, b",\"thresholds\":")?;
-    push_thresholds(out, plan.params.thresholds)?;
+    push_thresholds(out, &plan.params.thresholds)?;
     push_code(out, b"}\n")
 }
 
 /// Adds the scores that neighbours need.
-fn push_thresholds(out: &mut Vec<u8>, thresholds: Thresholds) -> Result<(), AllocError>
-    ensures { OnOk result (out.new.items ≡ out.old.items ++ thresholds_text thresholds) }
+fn push_thresholds(out: &mut Vec<u8>, thresholds: &Thresholds) -> Result<(), AllocError>
+    ensures { OnOk result (out.new.items ≡ out.old.items ++ thresholds_text thresholds.now) }
 {
     push_code(out, b"{\"gossip_threshold\":")?;
-    push_score(out, thresholds.gossip_threshold)?;
+    push_threshold(out, &thresholds.gossip_threshold)?;
     push_code(out, b",\"publish_threshold\":")?;
-    push_score(out, thresholds.publish_threshold)?;
+    push_threshold(out, &thresholds.publish_threshold)?;
     push_code(out, b",\"graylist_threshold\":")?;
-    push_score(out, thresholds.graylist_threshold)?;
+    push_threshold(out, &thresholds.graylist_threshold)?;
     push_code(out, b"}")
-}
-
-fn push_score(out: &mut Vec<u8>, score: i64) -> Result<(), AllocError>
-    ensures { OnOk result (out.new.items ≡ out.old.items ++ score_text score) }
-{
-    push_millionths(*out.allocator(), out, i128::from(score))
 }

@@ -6,10 +6,10 @@ ghost use Rattle.gs_trace.specs.Texts.{list_text, names_of};
 ghost use Rattle.gs_snapshots.specs.Json.{amount_member, colocation_member, json_line, part_member, score_parts_members, topic_object, topic_parts_members};
 ghost use Rattle.gs_snapshots.specs.Moments.{occasion_word};
 
+use crate::amounts::push_shown;
 use crate::moments::{Moment, occasion_word};
 use crate::snapshot::{OnTopic, Snapshot};
 use gs_plan::Plan;
-use gs_report::push_millionths;
 use gs_score::{Part, ScoreParts, TopicParts};
 use gs_trace::{Shown, push_code, push_list, push_number, push_peer, push_start, push_word};
 use std::alloc::AllocError;
@@ -26,7 +26,7 @@ pub(crate) fn push_line(
     push_occasion(out, snapshot.moment)?;
     push_code(out, b",\"neighbour\":")?;
     push_peer(plan, out, snapshot.neighbour)?;
-    push_amount(out, b"score", snapshot.parts.score)?;
+    push_amount(out, b"score", &snapshot.parts.score)?;
     push_code(out, b",\"topics\":")?;
     push_topics(plan, out, snapshot)?;
     push_score_parts(out, &snapshot.parts)?;
@@ -68,67 +68,71 @@ impl Shown for OnTopic {
 fn push_topic_parts(out: &mut Vec<u8>, parts: &TopicParts) -> Result<(), AllocError>
     ensures { OnOk result (out.new.items ≡ out.old.items ++ topic_parts_members parts.now) }
 {
-    push_part(out, b"time_in_mesh", parts.time_in_mesh)?;
+    push_part(out, b"time_in_mesh", &parts.time_in_mesh)?;
     push_part(
         out,
         b"first_message_deliveries",
-        parts.first_message_deliveries,
+        &parts.first_message_deliveries,
     )?;
     push_part(
         out,
         b"mesh_message_deliveries",
-        parts.mesh_message_deliveries,
+        &parts.mesh_message_deliveries,
     )?;
-    push_part(out, b"mesh_failure_penalty", parts.mesh_failure_penalty)?;
+    push_part(out, b"mesh_failure_penalty", &parts.mesh_failure_penalty)?;
     push_part(
         out,
         b"invalid_message_deliveries",
-        parts.invalid_message_deliveries,
+        &parts.invalid_message_deliveries,
     )?;
-    push_amount(out, b"topic_score", parts.topic_score)
+    push_amount(out, b"topic_score", &parts.topic_score)
 }
 
 /// Adds what is of no topic.
 fn push_score_parts(out: &mut Vec<u8>, parts: &ScoreParts) -> Result<(), AllocError>
     ensures { OnOk result (out.new.items ≡ out.old.items ++ score_parts_members parts.now) }
 {
-    push_amount(out, b"topic_sum", parts.topic_sum)?;
-    push_amount(out, b"capped_topic_sum", parts.capped_topic_sum)?;
-    push_part(out, b"app_specific_score", parts.app_specific_score)?;
-    push_colocation(out, parts.neighbours_at_address, parts.ip_colocation_factor)?;
-    push_part(out, b"behaviour_penalty", parts.behaviour_penalty)
+    push_amount(out, b"topic_sum", &parts.topic_sum)?;
+    push_amount(out, b"capped_topic_sum", &parts.capped_topic_sum)?;
+    push_part(out, b"app_specific_score", &parts.app_specific_score)?;
+    push_colocation(
+        out,
+        parts.neighbours_at_address,
+        &parts.ip_colocation_factor,
+    )?;
+    push_part(out, b"behaviour_penalty", &parts.behaviour_penalty)
 }
 
 /// Adds how many neighbours are at the address, and what that weighs.
-fn push_colocation(out: &mut Vec<u8>, neighbours: u64, weighed: i128) -> Result<(), AllocError>
-    ensures { OnOk result (out.new.items ≡ out.old.items ++ colocation_member neighbours weighed) }
+fn push_colocation(out: &mut Vec<u8>, neighbours: u64, weighed: &i128) -> Result<(), AllocError>
+    ensures { OnOk result (out.new.items ≡ out.old.items ++ colocation_member neighbours weighed.now) }
 {
     push_code(out, b",\"ip_colocation_factor\":{\"neighbours\":")?;
     push_number(out, neighbours)?;
     push_code(out, b",\"weighed\":")?;
-    push_millionths(*out.allocator(), out, weighed)?;
+    push_shown(out, weighed)?;
     push_code(out, b"}")
 }
 
 /// Adds an amount by its name.
-fn push_amount(out: &mut Vec<u8>, name: &[u8], amount: i128) -> Result<(), AllocError>
-    ensures { OnOk result (out.new.items ≡ out.old.items ++ amount_member name.now amount) }
+fn push_amount(out: &mut Vec<u8>, name: &[u8], amount: &i128) -> Result<(), AllocError>
+    ensures { OnOk result (out.new.items ≡ out.old.items ++ amount_member name.now amount.now) }
 {
     push_code(out, b",\"")?;
     push_code(out, name)?;
     push_code(out, b"\":")?;
-    push_millionths(*out.allocator(), out, amount)
+    push_shown(out, amount)
 }
 
 /// Adds what is counted, and what that weighs.
-fn push_part(out: &mut Vec<u8>, name: &[u8], part: Part) -> Result<(), AllocError>
-    ensures { OnOk result (out.new.items ≡ out.old.items ++ part_member name.now part) }
+fn push_part(out: &mut Vec<u8>, name: &[u8], part: &Part) -> Result<(), AllocError>
+    ensures { OnOk result (out.new.items ≡ out.old.items ++ part_member name.now part.now) }
 {
     push_code(out, b",\"")?;
     push_code(out, name)?;
     push_code(out, b"\":{\"counted\":")?;
-    push_millionths(*out.allocator(), out, part.counted)?;
+    push_shown(out, &part.counted)?;
     push_code(out, b",\"weighed\":")?;
-    push_millionths(*out.allocator(), out, part.weighed)?;
+    push_shown(out, &part.weighed)?;
     push_code(out, b"}")
 }

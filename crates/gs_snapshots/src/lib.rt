@@ -2,6 +2,7 @@
 //! its shutdown.
 #![tactic(auto)]
 
+mod amounts;
 mod csv;
 mod head;
 mod json;

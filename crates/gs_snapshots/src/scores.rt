@@ -142,6 +142,7 @@ fn push_moment(
 }
 
 /// Adds a snapshot in a form.
+#[tactic(auto, unfolding(crate::specs::Forms::snapshot_text))]
 fn push_snapshot(
     plan: &Plan,
     form: Option<Form>,

@@ -44,7 +44,7 @@ pub fn all_scores<'a>() -> Wanted<'a>
 
 /// Whether the name that is wished for is that of a number.
 pub(crate) fn has_name(wish: Wish<'_>, plan: &Plan, number: PeerNo) -> bool
-    ensures { result ≡ has_name (spelled wish) plan.now number }
+    ensures { result ≡ has_name (spelled wish.entry) plan.now number }
 {
     match wish {
         Wish::Any => true,

@@ -11,5 +11,5 @@ returns c =
     c.in_ok-push_code-4.ensures)
     c.in_ok-push_code-5.ensures)
     c.in_ok-push_code-6.ensures)
-    c.in_ok-push_millionths.ensures)
+    c.in_ok-push_shown.ensures)
     c.push_code-7.ensures

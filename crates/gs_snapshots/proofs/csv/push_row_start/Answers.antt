@@ -11,7 +11,7 @@ returns c =
     c.in_ok-push_code-2.ensures)
     c.in_ok-push_peer.ensures)
     c.in_ok-push_code-3.ensures)
+    c.in_ok-push_occasion.ensures)
     c.in_ok-push_code-4.ensures)
-    c.in_ok-push_code-5.ensures)
     c.in_ok-push_peer-2.ensures)
-    c.push_code-6.ensures
+    c.push_code-5.ensures

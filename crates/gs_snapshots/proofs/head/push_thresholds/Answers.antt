@@ -6,9 +6,9 @@ returns c =
     let out = c.args.out.now.items in
     last out _ _ _ _ (and_then out _ _ (and_then out _ _ (and_then out _ _ (and_then out _ _ (and_then out _ _
     c.in_ok-push_code.ensures
-    c.in_ok-push_score.ensures)
+    c.in_ok-push_threshold.ensures)
     c.in_ok-push_code-2.ensures)
-    c.in_ok-push_score-2.ensures)
+    c.in_ok-push_threshold-2.ensures)
     c.in_ok-push_code-3.ensures)
-    c.in_ok-push_score-3.ensures)
+    c.in_ok-push_threshold-3.ensures)
     c.push_code-4.ensures

@@ -8,4 +8,4 @@ returns c =
     c.in_ok-push_code.ensures
     c.in_ok-push_code-2.ensures)
     c.in_ok-push_code-3.ensures)
-    c.push_millionths.ensures
+    c.push_shown.ensures

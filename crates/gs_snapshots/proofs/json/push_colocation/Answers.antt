@@ -8,5 +8,5 @@ returns c =
     c.in_ok-push_code.ensures
     c.in_ok-push_number.ensures)
     c.in_ok-push_code-2.ensures)
-    c.in_ok-push_millionths.ensures)
+    c.in_ok-push_shown.ensures)
     c.push_code-3.ensures

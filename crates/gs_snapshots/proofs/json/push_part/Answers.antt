@@ -8,7 +8,7 @@ returns c =
     c.in_ok-push_code.ensures
     c.in_ok-push_code-2.ensures)
     c.in_ok-push_code-3.ensures)
-    c.in_ok-push_millionths.ensures)
+    c.in_ok-push_shown.ensures)
     c.in_ok-push_code-4.ensures)
-    c.in_ok-push_millionths-2.ensures)
+    c.in_ok-push_shown-2.ensures)
     c.push_code-5.ensures
