@@ -5,3 +5,4 @@ pub mod Json
 pub mod Csv
 pub mod Forms
 pub mod Scores
+pub mod Telling

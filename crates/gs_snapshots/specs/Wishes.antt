@@ -30,5 +30,5 @@ abbrev pub has_name : Option (List ℕ) → Plan → PeerNo → Bool
 has_name wish plan q = suits (same_bytes (name_of plan q)) wish
 
 -- it is one of the rounds that are wished for
-abbrev pub is_in_rounds : Wishes → ℕ → Bool
-is_in_rounds w r = suits (lies_in r) w.rounds
+abbrev pub is_in_rounds : Option RoundSpan → ℕ → Bool
+is_in_rounds rounds r = suits (lies_in r) rounds

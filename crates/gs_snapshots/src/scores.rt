@@ -1,12 +1,18 @@
 //! The scores of a run over time: by peer, by moment, by neighbour.
-ghost use Rattle.std.specs.Prelude.{◌≡◌, ◌++◌, ◌∷◌, [], IfOk, OnOk, filter, if◌then◌else◌};
-ghost use Rattle.std.specs.List.{flat_map};
+ghost use Rattle.std.specs.Prelude.{◌≡◌, ◌<◌, ◌++◌, ◌∷◌, [], IfOk, List, OnOk, filter, reverse};
+ghost use Rattle.std.specs.List.{flat_map, AllByRecursion};
+ghost use Rattle.gs_base.specs.declared.names.PeerNo.{PeerNo as PeerNoValue};
 ghost use Rattle.gs_plan.specs.Plans.{IsInRange};
+ghost use Rattle.gs_report.specs.declared.finished.Finished.{Finished as FinishedValue};
 ghost use Rattle.gs_router.specs.Following.{AreInOrder, Follows, Reading};
+ghost use Rattle.gs_rules.specs.declared.trace.Entry.{Entry as EntryValue};
+ghost use Rattle.gs_rules.specs.Peers.{Peer};
+ghost use Rattle.gs_rules.specs.Tables.{Entries};
 ghost use Rattle.gs_seats.specs.Reports.{IsReport};
-ghost use Rattle.gs_seats.specs.Rounds.{peer_in};
 ghost use Rattle.gs_snapshots.specs.Forms.{snapshot_text};
-ghost use Rattle.gs_snapshots.specs.Scores.{is_at_wanted_round, is_wanted_peer, scores_text, text_about, text_at, text_of_peer, wanted_neighbours};
+ghost use Rattle.gs_snapshots.specs.Moments.{moments, newest_moment};
+ghost use Rattle.gs_snapshots.specs.Scores.{is_at_wanted_round, is_wanted_peer, scores_text, text_at, text_of_peer, wanted_neighbours};
+ghost use Rattle.gs_snapshots.specs.Telling.{FollowsPeer};
 ghost use Rattle.gs_snapshots.specs.Wishes.{wishes_of};
 
 use crate::csv::push_rows;
@@ -20,8 +26,21 @@ use gs_plan::Plan;
 use gs_report::{Finished, Report};
 use gs_router::Follower;
 use gs_rules::StoredEntry;
-use gs_seats::{follower_of, neighbours_of};
+use gs_seats::{follower_of, neighbours_of, traces_of_a_report_are_in_order};
+use gs_trace::RoundSpan;
 use std::alloc::{AllocError, Global};
+
+/// What is wanted of a peer.
+#[derive(Drop)]
+struct Asked {
+    peer: PeerNo,
+    /// Of which neighbours, by number.
+    neighbours: Vec<PeerNo>,
+    /// In which rounds.
+    rounds: Option<RoundSpan>,
+    /// How it is told.
+    form: Option<Form>,
+}
 
 /// The scores of a run that are wanted (docs/FORMATS.md has each field): by peer, then by moment, then by neighbour, each
 /// after what the peer did at that moment.
@@ -38,12 +57,29 @@ pub fn scores_text(
     requires run { IsReport plan.now report.now }
     ensures { IfOk result (λ text. text.items ≡ scores_text (wishes_of wanted.now) plan.now report.now) }
 {
+    traces_of_a_report_are_in_order();
     let mut out = Vec::new(alloc);
     push_head(plan, wanted.form, &mut out)?;
-    for peer in &report.peers {
-        push_peer_if(plan, wanted, &mut out, peer)?;
-    }
+    push_peers(plan, wanted, &mut out, &report.peers)?;
     Ok(out)
+}
+
+/// Adds what is told of each peer that is wanted.
+fn push_peers(
+    plan: &Plan,
+    wanted: &Wanted<'_>,
+    out: &mut Vec<u8>,
+    peers: &[(PeerNo, Finished)],
+) -> Result<(), AllocError>
+    requires range { IsInRange plan.now }
+    requires order { AllByRecursion (λ (x : PeerNoValue × FinishedValue). AreInOrder x.1.trace) peers.now }
+    ensures { OnOk result (out.new.items ≡ out.old.items
+        ++ flat_map (text_of_peer (wishes_of wanted.now) plan.now) (filter (is_wanted_peer (wishes_of wanted.now) plan.now) peers.now)) }
+{
+    for peer in peers {
+        push_peer_if(plan, wanted, out, peer)?;
+    }
+    Ok(())
 }
 
 /// Adds what is told of a peer, if it is wanted.
@@ -77,15 +113,14 @@ fn push_peer(
 {
     let (number, life) = peer;
     let alloc = *out.allocator();
-    let neighbours = wanted_neighbours(alloc, plan, wanted, *number)?;
+    let asked = Asked {
+        peer: *number,
+        neighbours: wanted_neighbours(alloc, plan, wanted, *number)?,
+        rounds: wanted.rounds,
+        form: wanted.form,
+    };
     let mut follower = follower_of(alloc, plan, *number, &life.trace)?;
-    for entry in life.trace.entries() {
-        follower.advance()?;
-        if let Some(moment) = wanted_moment(plan, wanted, *number, entry) {
-            push_moment(plan, wanted.form, out, &follower, moment, &neighbours)?;
-        }
-    }
-    Ok(())
+    push_entries(plan, &asked, out, &mut follower, life.trace.entries())
 }
 
 /// The neighbours of a peer that are wanted, by number.
@@ -98,8 +133,9 @@ fn wanted_neighbours(
     requires { IsInRange plan.now }
     ensures { IfOk result (λ list. list.items ≡ wanted_neighbours (wishes_of wanted.now) plan.now number) }
 {
+    let neighbours = neighbours_of(alloc, plan, number)?;
     let mut list = Vec::new(alloc);
-    for neighbour in &neighbours_of(alloc, plan, number)? {
+    for neighbour in &neighbours {
         if has_name(wanted.neighbour, plan, neighbour.peer) {
             list.push(neighbour.peer)?;
         }
@@ -107,36 +143,91 @@ fn wanted_neighbours(
     Ok(list)
 }
 
-/// The moment of an entry, if scores are told then and it is wanted.
-fn wanted_moment(
+/// Adds what is told of a peer at each of its entries, of which its reader has seen none.
+fn push_entries(
     plan: &Plan,
-    wanted: &Wanted<'_>,
-    number: PeerNo,
+    asked: &Asked,
+    out: &mut Vec<u8>,
+    follower: &mut Follower<'_>,
+    entries: &[StoredEntry],
+) -> Result<(), AllocError>
+    requires range { 0 < plan.now.round_ms }
+    requires follows { FollowsPeer follower.old plan.now asked.now.peer [] entries.now }
+    ensures { OnOk result (out.new.items ≡ out.old.items
+        ++ flat_map (text_at asked.now.form plan.now asked.now.neighbours.items) (filter (is_at_wanted_round asked.now.rounds) (moments plan.now asked.now.peer (reverse entries.now)))) }
+{
+    for entry in entries {
+        see_next(follower)?;
+        push_entry(plan, asked, out, follower, entry)?;
+    }
+    Ok(())
+}
+
+/// Has a reader see the next entry.
+fn see_next(follower: &mut Follower<'_>) -> Result<(), AllocError>
+    requires { (v : Reading) × Follows follower.old v }
+    ensures { OnOk result ((p : Peer) (L : Entries) (e : EntryValue) (left : List EntryValue)
+        → Follows follower.old (record { peer = p; before = L; left = e ∷ left })
+        → Follows follower.new (record { peer = p; before = e ∷ L; left = left })) }
+{
+    follower.advance()?;
+    Ok(())
+}
+
+/// Adds what is told at an entry, the newest that the peer's reader has seen.
+fn push_entry(
+    plan: &Plan,
+    asked: &Asked,
+    out: &mut Vec<u8>,
+    follower: &Follower<'_>,
     entry: &StoredEntry,
-) -> Option<Moment> {
-    match moment_of(plan, number, entry) {
-        Some(moment) => {
-            if is_in_rounds(wanted, moment.round) {
-                return Some(moment);
-            }
-            None
-        }
-        None => None,
+) -> Result<(), AllocError>
+    requires { 0 < plan.now.round_ms }
+    ensures { OnOk result ((L : Entries) (left : List EntryValue)
+        → FollowsPeer follower.now plan.now asked.now.peer (entry.now ∷ L) left
+        → out.new.items ≡ out.old.items
+        ++ flat_map (text_at asked.now.form plan.now asked.now.neighbours.items) (filter (is_at_wanted_round asked.now.rounds) (newest_moment plan.now asked.now.peer (entry.now ∷ L)))) }
+{
+    match moment_of(plan, asked.peer, entry) {
+        Some(moment) => push_moment_if(plan, asked, out, follower, moment),
+        None => Ok(()),
     }
 }
 
-/// Adds what is told of these neighbours at a moment.
-fn push_moment(
+/// Adds what is told at a moment, if it is in a round that is wanted.
+fn push_moment_if(
     plan: &Plan,
-    form: Option<Form>,
+    asked: &Asked,
     out: &mut Vec<u8>,
     follower: &Follower<'_>,
     moment: Moment,
-    neighbours: &[PeerNo],
-) -> Result<(), AllocError> {
-    for neighbour in neighbours {
+) -> Result<(), AllocError>
+    ensures { OnOk result ((L : Entries) (left : List EntryValue)
+        → FollowsPeer follower.now plan.now moment.peer L left
+        → out.new.items ≡ out.old.items
+        ++ flat_map (text_at asked.now.form plan.now asked.now.neighbours.items) (filter (is_at_wanted_round asked.now.rounds) ((moment, L) ∷ []))) }
+{
+    if is_in_rounds(asked.rounds, moment.round) {
+        return push_moment(plan, asked, out, follower, moment);
+    }
+    Ok(())
+}
+
+/// Adds what is told at a moment of each neighbour that is wanted.
+fn push_moment(
+    plan: &Plan,
+    asked: &Asked,
+    out: &mut Vec<u8>,
+    follower: &Follower<'_>,
+    moment: Moment,
+) -> Result<(), AllocError>
+    ensures { OnOk result ((L : Entries) (left : List EntryValue)
+        → FollowsPeer follower.now plan.now moment.peer L left
+        → out.new.items ≡ out.old.items ++ text_at asked.now.form plan.now asked.now.neighbours.items (moment, L)) }
+{
+    for neighbour in &asked.neighbours {
         let snapshot = snapshot_of(*out.allocator(), follower, moment, *neighbour)?;
-        push_snapshot(plan, form, out, &snapshot)?;
+        push_snapshot(plan, asked.form, out, &snapshot)?;
     }
     Ok(())
 }

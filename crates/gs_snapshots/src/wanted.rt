@@ -53,10 +53,10 @@ pub(crate) fn has_name(wish: Wish<'_>, plan: &Plan, number: PeerNo) -> bool
 }
 
 /// Whether it is one of the rounds that are wished for.
-pub(crate) fn is_in_rounds(wanted: &Wanted<'_>, round: u64) -> bool
-    ensures { result ≡ is_in_rounds (wishes_of wanted.now) round }
+pub(crate) fn is_in_rounds(rounds: Option<RoundSpan>, round: u64) -> bool
+    ensures { result ≡ is_in_rounds rounds round }
 {
-    match wanted.rounds {
+    match rounds {
         None => true,
         Some(rounds) => rounds.first <= round && round <= rounds.last,
     }
