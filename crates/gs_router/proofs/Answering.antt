@@ -1,9 +1,9 @@
 -- What a neighbour gets for a request, one identifier after the other.
-use Rattle.std.proofs.Common.{◌≡◌, ◌<◌, ℕ, ◌+◌, ◌-◌, arith, Bool, true, false, if◌then◌else◌, cond, List, [], ◌∷◌, ◌++◌, length, filter, Option, Some, None, option_map, unwrap_or, refl, sym, ap, ◌∙◌, length-append, append-nil, subst}
+use Rattle.std.proofs.Common.{◌≡◌, ◌<◌, ℕ, ◌+◌, ◌-◌, arith, Bool, true, false, if◌then◌else◌, cond, List, [], ◌∷◌, ◌++◌, length, filter, Option, Some, None, option_map, is_some, unwrap_or, refl, sym, ap, ◌∙◌, length-append, append-nil, subst}
 use Rattle.std.specs.Prelude.{nat_lt}
 use Rattle.std.proofs.lemmas.Bool.Decides.{nat_tests}
 use Rattle.std.proofs.lemmas.List.Elements.{filter-append}
-use Rattle.std.proofs.lemmas.List.{map-append, append_assoc}
+use Rattle.std.proofs.lemmas.List.{map-append, append_assoc, length-map}
 use Rattle.std.proofs.lemmas.Cmp.{nat_list_eq_equiv}
 use Rattle.std.proofs.lemmas.Slice.Eq.{bytes_eq-Decides}
 use Rattle.gs_base.specs.declared.names.PeerNo.{PeerNo}
@@ -17,6 +17,9 @@ use Rattle.gs_base.specs.Rpcs.{passed_on}
 use Rattle.gs_rules.specs.Peers.{Peer, windows}
 use Rattle.gs_rules.specs.Tables.{Entries, Keeping, answered, kept}
 use Rattle.gs_rules.specs.Rules.{answer, answers, times_in, with_message}
+use Rattle.gs_rules.specs.FellAway.{why_no_answer, without_answer, without_answers}
+use Rattle.gs_rules.specs.declared.fallen.Fallen.{Fallen}
+use Rattle.gs_rules.specs.declared.fallen.Fallen.TheVariants as fallen
 use Rattle.gs_router.specs.declared.entries.requests.Reply.{Reply}
 use Rattle.gs_router.specs.Tables.{answers_left, left_of}
 use Rattle.gs_router.specs.Offers.{left_now}
@@ -153,3 +156,76 @@ pub ends : (p : Peer) (L : Entries) (q : PeerNo) (all ahead left : List MsgId) (
 ends p L q all ahead left reply none replying =
     let are : replying.given ≡ answers p L q [] all = sym (append-nil replying.given) ∙ ap (λ (ids : List MsgId). replying.given ++ answers p L q ahead ids) (sym none) ∙ replying.leads in
     subst (λ (list : List (MsgId × Message)). Gives q list reply) are replying.so_far.gives
+
+-- ---- those without an answer
+
+-- Where these identifiers stand ahead and those are left, what is missing so far leads to all that is missing.
+pub record Missing (p : Peer) (L : Entries) (q : PeerNo) (all ahead left : List MsgId) (reply : Reply) (missing : List Fallen) : Type 0 where
+  pub given : List (MsgId × Message)
+  pub so_far : Replies p L q ahead given reply
+  pub leads : missing ++ without_answers p L q ahead left ≡ without_answers p L q [] all
+
+pub begins_missing : (p : Peer) (L : Entries) (q : PeerNo) (all : List MsgId) (reply : Reply) (missing : List Fallen) → reply.sends ≡ [] → reply.marks ≡ [] → reply.left.entries ≡ [] → missing ≡ [] → Missing p L q all [] all reply missing
+begins_missing p L q all reply missing sends marks_are left none = record {
+  given = [];
+  so_far = record {
+    gives = record { sends = sends; marks = marks_are };
+    leaves = λ id n at. ap (λ (spent : List (MsgId × ℕ)). left_now spent id n) left ∙ omega arith;
+  };
+  leads = ap (λ (list : List Fallen). list ++ without_answers p L q [] all) none;
+}
+
+-- how many marks a reply has
+marks_are_many : (q : PeerNo) (given : List (MsgId × Message)) (reply : Reply) → Gives q given reply → length reply.marks ≡ length given
+marks_are_many q given reply gives = ap length gives.marks ∙ length-map (λ (x : MsgId × Message). marks.Answered q x.0) given
+
+-- an identifier was answered where the reply has more marks than before
+pub answered_by_count : (p : Peer) (L : Entries) (q : PeerNo) (ahead : List MsgId) (given : List (MsgId × Message)) (x : MsgId) (old new : Reply)
+    → Replies p L q ahead given old
+    → Replies p L q (ahead ++ x ∷ []) (given ++ with_message x (answer p L q x (times_in x ahead))) new
+    → nat_lt (length old.marks) (length new.marks) ≡ is_some (answer p L q x (times_in x ahead))
+answered_by_count p L q ahead given x old new before after =
+    by (answer p L q x (times_in x ahead)) (marks_are_many q given old before.gives)
+    (marks_are_many q (given ++ with_message x (answer p L q x (times_in x ahead))) new after.gives ∙ length-append given (with_message x (answer p L q x (times_in x ahead))))
+  where
+    by : (o : Option Message) → length old.marks ≡ length given → length new.marks ≡ length given + length (with_message x o) → nat_lt (length old.marks) (length new.marks) ≡ is_some o
+    by None few many = grind (arith, nat_tests)
+    by (Some m) few many = grind (arith, nat_tests)
+
+-- one identifier more, which is answered
+pub goes_on_answered : (p : Peer) (L : Entries) (q : PeerNo) (all ahead left : List MsgId) (x : MsgId) (old new : Reply) (missing : List Fallen)
+    → ((given : List (MsgId × Message)) → Replies p L q ahead given old → Replies p L q (ahead ++ x ∷ []) (given ++ with_message x (answer p L q x (times_in x ahead))) new)
+    → is_some (answer p L q x (times_in x ahead)) ≡ true
+    → Missing p L q all ahead (x ∷ left) old missing → Missing p L q all (ahead ++ x ∷ []) left new missing
+goes_on_answered p L q all ahead left x old new missing step some m = record {
+  given = m.given ++ with_message x (answer p L q x (times_in x ahead));
+  so_far = step m.given m.so_far;
+  leads = ap (λ (list : List Fallen). missing ++ (list ++ without_answers p L q (ahead ++ x ∷ []) left)) (sym (nothing (answer p L q x (times_in x ahead)) some)) ∙ m.leads;
+}
+  where
+    nothing : (o : Option Message) → is_some o ≡ true → without_answer q x (why_no_answer p L x) o ≡ []
+    nothing None is = absurd cc
+    nothing (Some y) is = refl
+
+-- and one that is not
+pub goes_on_missing : (p : Peer) (L : Entries) (q : PeerNo) (all ahead left : List MsgId) (x : MsgId) (old new : Reply) (missing longer : List Fallen)
+    → ((given : List (MsgId × Message)) → Replies p L q ahead given old → Replies p L q (ahead ++ x ∷ []) (given ++ with_message x (answer p L q x (times_in x ahead))) new)
+    → is_some (answer p L q x (times_in x ahead)) ≡ false
+    → longer ≡ missing ++ fallen.Request q x (why_no_answer p L x) ∷ []
+    → Missing p L q all ahead (x ∷ left) old missing → Missing p L q all (ahead ++ x ∷ []) left new longer
+goes_on_missing p L q all ahead left x old new missing longer step some is m = record {
+  given = m.given ++ with_message x (answer p L q x (times_in x ahead));
+  so_far = step m.given m.so_far;
+  leads =
+      ap (λ (list : List Fallen). list ++ without_answers p L q (ahead ++ x ∷ []) left) (is ∙ ap (λ (list : List Fallen). missing ++ list) (sym (one (answer p L q x (times_in x ahead)) some)))
+      ∙ append_assoc missing (without_answer q x (why_no_answer p L x) (answer p L q x (times_in x ahead))) (without_answers p L q (ahead ++ x ∷ []) left)
+      ∙ m.leads;
+}
+  where
+    one : (o : Option Message) → is_some o ≡ false → without_answer q x (why_no_answer p L x) o ≡ fallen.Request q x (why_no_answer p L x) ∷ []
+    one None none = refl
+    one (Some y) none = absurd cc
+
+pub ends_missing : (p : Peer) (L : Entries) (q : PeerNo) (all ahead left : List MsgId) (reply : Reply) (missing : List Fallen) → left ≡ [] → Missing p L q all ahead left reply missing → missing ≡ without_answers p L q [] all
+ends_missing p L q all ahead left reply missing none m =
+    sym (append-nil missing) ∙ ap (λ (ids : List MsgId). missing ++ without_answers p L q ahead ids) (sym none) ∙ m.leads

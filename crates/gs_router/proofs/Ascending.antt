@@ -1,7 +1,7 @@
 -- The topics of a table in order are those that the trace says, ascending.
-use Rattle.std.proofs.Common.{◌≡◌, ℕ, Bool, true, false, cond, List, [], ◌∷◌, ◌++◌, map, filter, Option, Some, None, is_some, unwrap_or, refl, sym, ap, ap₂, subst, ◌∙◌, if◌then◌else◌}
+use Rattle.std.proofs.Common.{◌≡◌, ◌<◌, ◌+◌, length, take, get_or, ℕ, Bool, true, false, cond, List, [], ◌∷◌, ◌++◌, map, filter, Option, Some, None, is_some, unwrap_or, refl, sym, ap, ap₂, subst, ◌∙◌, if◌then◌else◌}
 use Rattle.std.specs.Prelude.{◌||◌, ◌&&◌, T}
-use Rattle.std.specs.List.{list_any, AllByRecursion}
+use Rattle.std.specs.List.{list_any, AllByRecursion, IsDistinct}
 use Rattle.std.specs.Map.{lookup, keys_of}
 use Rattle.std.specs.Cmp.{IsTotalOrder}
 use Rattle.std.specs.Cmp.Lexicographic.{nat_list_cmp_total}
@@ -12,8 +12,12 @@ use Rattle.std.specs.Ordering.{is_eq, is_lt}
 use Rattle.std.specs.FinMap.Entries.{below_all, by_order, find, find-put, is_sorted, is_sorted-put, put, same_entries}
 use Rattle.std.proofs.lemmas.Map.Text.{is_eq-slice_cmp}
 use Rattle.std.proofs.lemmas.Slice.Eq.{bytes_eq-Decides}
+use Rattle.std.proofs.lemmas.Cmp.{nat_list_eq_equiv}
+use Rattle.std.proofs.lemmas.List.{take_more}
 use Rattle.gs_base.specs.declared.names.Topic.{Topic}
 use Rattle.gs_base.specs.Names.{same_topic}
+use Rattle.gs_score.specs.Accounts.{Covers}
+use Rattle.gs_score.specs.Standings.{Held}
 use Rattle.gs_rules.specs.Tables.{Entries, ascending, joined, known, own_topics, placed, topic_order}
 use Rattle.gs_rules.specs.Meshes.{ever_fanned, has_mesh, mesh_topics}
 use Rattle.gs_router.specs.declared.tables.own_topics.OwnTopics.{OwnTopics}
@@ -213,3 +217,100 @@ used_so table L sorted agrees =
     ∙ ap is_used (agrees.mesh_or_fanout q)
     ∙ used_is_listed L q
     ∙ sym (filter_finds (has_mesh L) q (known L ++ ever_fanned L)))
+
+-- ---- topics put in order
+
+-- whether a list of topics finds one, as a tree with `true` at each of them would
+abbrev pub listed_if : Bool → Option Bool
+listed_if b = if b then Some true else None
+
+listed_more : (b c : Bool) → cond c (Some true) (listed_if b) ≡ listed_if (b || c)
+listed_more true true = refl
+listed_more true false = refl
+listed_more false true = refl
+listed_more false false = refl
+
+listed_passes : (b : Bool) → passes (λ (x : Bool). x) (listed_if b) ≡ b
+listed_passes true = refl
+listed_passes false = refl
+
+-- whether a topic stands in a list with one more
+any_more : (q t : Topic) (ts : List Topic) → list_any (same_topic q) (ts ++ t ∷ []) ≡ (list_any (same_topic q) ts || same_topic q t)
+any_more q t [] = or_false (same_topic q t)
+  where
+    or_false : (b : Bool) → (b || false) ≡ b
+    or_false true = refl
+    or_false false = refl
+any_more q t (u ∷ us) = ap (λ (b : Bool). same_topic q u || b) (any_more q t us) ∙ or_assoc (same_topic q u) (list_any (same_topic q) us) (same_topic q t)
+  where
+    or_assoc : (a b c : Bool) → (a || (b || c)) ≡ ((a || b) || c)
+    or_assoc true b c = refl
+    or_assoc false b c = refl
+
+abbrev look : List (Topic × Bool) → Topic → Option Bool
+look es q = lookup (λ u. is_eq (topic_order q u)) es
+
+-- a tree that has those that stand in a list, and one more
+pub listed_after : (ts : List Topic) (i : ℕ) (t key : Topic) (old new : List (Topic × Bool)) → i < length ts → t ≡ get_or ts i t → key ≡ t
+    → ((q : Topic) → look new q ≡ cond (is_eq (topic_order key q)) (Some true) (look old q))
+    → ((q : Topic) → look old q ≡ listed_if (list_any (same_topic q) (take i ts)))
+    → (q : Topic) → look new q ≡ listed_if (list_any (same_topic q) (take (i + 1) ts))
+listed_after ts i t key old new below is same updates before q =
+    updates q
+    ∙ ap₂ (λ (b : Bool) (o : Option Bool). cond b (Some true) o) (same_order key q ∙ ap (λ (u : Topic). same_topic u q) same ∙ nat_list_eq_equiv.symm t.0 q.0) (before q)
+    ∙ listed_more (list_any (same_topic q) (take i ts)) (same_topic q t)
+    ∙ ap listed_if (sym (any_more q t (take i ts)))
+    ∙ ap (λ (us : List Topic). listed_if (list_any (same_topic q) us)) (sym (take_more ts i t below ∙ ap (λ (u : Topic). take i ts ++ u ∷ []) (sym is)))
+
+-- what a tree lists that has just these topics
+pub put_in_order : (ts : List Topic) (es : List (Topic × Bool)) → IsStrictlySortedBy topic_order (keys_of es)
+    → ((q : Topic) → lookup (λ u. is_eq (topic_order q u)) es ≡ listed_if (list_any (same_topic q) ts))
+    → joined_in es ≡ ascending ts
+put_in_order ts es sorted has =
+    ascending_alone (joined_in es) ts (passing_sorted (λ (b : Bool). b) es sorted) (λ q.
+    passing_finds (λ (b : Bool). b) q es sorted ∙ ap (passes (λ (b : Bool). b)) (has q) ∙ listed_passes (list_any (same_topic q) ts))
+
+pub any_ascending : (q : Topic) (ts : List Topic) → list_any (same_topic q) (ascending ts) ≡ list_any (same_topic q) ts
+any_ascending q ts = both (list_any (same_topic q) (ascending ts)) (list_any (same_topic q) ts) (sym (list_finds q (ascending ts)) ∙ ascending_finds q ts)
+  where
+    both : (a b : Bool) → found_if a ≡ found_if b → a ≡ b
+    both true true is = refl
+    both false false is = refl
+    both true false is = absurd cc
+    both false true is = absurd cc
+
+-- lists with the same members have one ascending list
+pub one_ascending : (ts us : List Topic) → ((q : Topic) → list_any (same_topic q) ts ≡ list_any (same_topic q) us) → ascending ts ≡ ascending us
+one_ascending ts us same =
+    ascending_alone (ascending ts) us (ascending_sorted ts) (λ q. any_ascending q ts ∙ same q)
+
+-- no topic of an ascending list is one that comes later
+none_below : (t : Topic) (ts : List Topic) → T (below_all topic_order t (units ts)) → AllByRecursion (λ u. same_topic t u ≡ false) ts
+none_below t [] below = tt
+none_below t (u ∷ us) below = by (topic_order t u) refl below (none_below t us)
+  where
+    by : (o : Ordering) → topic_order t u ≡ o → T (is_lt o && below_all topic_order t (units us)) → (T (below_all topic_order t (units us)) → AllByRecursion (λ v. same_topic t v ≡ false) us) → AllByRecursion (λ v. same_topic t v ≡ false) (u ∷ us)
+    by Less is rest later = (sym (same_order t u) ∙ ap is_eq is, later rest)
+    by Equal is rest later = absurd rest
+    by Greater is rest later = absurd rest
+
+second : (a b : Bool) → T (a && b) → T b
+second true b p = p
+second false b p = absurd p
+
+first : (a b : Bool) → T (a && b) → T a
+first true b p = tt
+first false b p = absurd p
+
+distinct_if_sorted : (ts : List Topic) → T (is_sorted topic_order (units ts)) → IsDistinct same_topic ts
+unfolding IsDistinct
+distinct_if_sorted [] sorted = tt
+distinct_if_sorted (t ∷ ts) sorted =
+    (none_below t ts (first (below_all topic_order t (units ts)) (is_sorted topic_order (units ts)) sorted), distinct_if_sorted ts (second (below_all topic_order t (units ts)) (is_sorted topic_order (units ts)) sorted))
+
+-- topics that leave none out leave none out in their order
+pub ascending_covers : (at : Topic → Held) (ts : List Topic) → Covers at ts → Covers at (ascending ts)
+ascending_covers at ts covers = record {
+  apart = distinct_if_sorted (ascending ts) (ascending_sorted ts);
+  all = λ t none. covers.all t (sym (any_ascending t ts) ∙ none);
+}

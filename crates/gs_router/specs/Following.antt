@@ -24,10 +24,10 @@ pub record Reading : Type 0 where
 -- the tables say what the entries before say
 pub record Follows (f : Follower) (v : Reading) : Type 0 where
   pub peer : peer_with f.known.setup ≡ v.peer
-  pub before : v.before ≡ reverse (take f.place f.entries.now)
-  pub left : v.left ≡ drop f.place f.entries.now
-  pub within : f.place ≤ length f.entries.now
-  pub order : AreInOrder (reverse f.entries.now)
+  pub before : v.before ≡ reverse (take f.place (reverse f.trace.now))
+  pub left : v.left ≡ drop f.place (reverse f.trace.now)
+  pub within : f.place ≤ length f.trace.now
+  pub order : AreInOrder f.trace.now
   pub agrees : Agrees f.known.tables v.before
   pub scores : AgreesOnScores v.peer f.known.tables.standings v.before
   pub made : AreMadeFor f.known.tables v.peer

@@ -1,19 +1,21 @@
 //! Following a trace that stands: what its peer knew at each entry.
-ghost use Rattle.std.specs.Prelude.{◌≡◌, ◌≤◌, ◌<◌, ◌^◌, ◌∷◌, [], reverse, unsigned_abs, All, IfOk, OnOk};
+ghost use Rattle.std.specs.Prelude.{◌≡◌, ◌≤◌, ◌<◌, ◌^◌, ◌∷◌, [], reverse, unsigned_abs, All, IfOk, Some, slice_get};
 ghost use Rattle.gs_base.specs.Names.{peers_of};
 ghost use Rattle.gs_base.specs.declared.neighbour.Neighbour.{Neighbour as NeighbourValue};
 ghost use Rattle.gs_params.specs.Params.{AreInRange};
 ghost use Rattle.gs_params.specs.Picks.{IsAscending};
 ghost use Rattle.gs_rules.specs.Scoring.{score};
+ghost use Rattle.gs_rules.specs.Scored.{parts_of_score, parts_on_topic, topics_of_neighbour};
 ghost use Rattle.gs_router.specs.Following.{AreInOrder, Follows, GoesOn, Reading};
 
 use crate::entries::fallen::fell_away;
 use crate::known::Known;
 use crate::setup::{Setup, explicit_among};
 use crate::tables::Tables;
-use gs_base::{Millis, Neighbour, PeerNo};
+use gs_base::{Millis, Neighbour, PeerNo, Topic};
 use gs_params::Params;
-use gs_rules::{Fallen, StoredEntry};
+use gs_rules::{Fallen, StoredEntry, Trace};
+use gs_score::{ScoreParts, TopicParts};
 use std::alloc::{AllocError, Global};
 
 /// A reader of a peer's trace. It says what its peer knew after the entries that it has seen. After it ran out of memory,
@@ -21,7 +23,7 @@ use std::alloc::{AllocError, Global};
 #[derive(Drop)]
 pub struct Follower<'a> {
     known: Known,
-    entries: &'a [StoredEntry],
+    trace: &'a Trace,
     place: usize,
 }
 
@@ -35,8 +37,8 @@ pub struct Followed<'a> {
 }
 
 impl<'a> Follower<'a> {
-    /// A reader of these entries, the oldest first, that has seen none. They are of a peer with these parameters, which are
-    /// in range, and with these neighbours, ascending by number. No entry is earlier than the one before it. What the
+    /// A reader of a trace that has seen none of its entries. The trace is of a peer with these parameters, which are in
+    /// range, and with these neighbours, ascending by number. No entry is earlier than the one before it. What the
     /// application gives each neighbour is at most 10^12 millionths either way.
     ///
     /// # Errors
@@ -45,16 +47,16 @@ impl<'a> Follower<'a> {
         alloc: Global,
         params: Params,
         neighbours: Vec<Neighbour>,
-        entries: &'a [StoredEntry],
+        trace: &'a Trace,
     ) -> Result<Follower<'a>, AllocError>
         requires in_range { AreInRange params }
         requires ascending { IsAscending (peers_of neighbours.items) }
         requires apps { All (λ (n : NeighbourValue). unsigned_abs n.app ≤ 10 ^ 12) neighbours.items }
-        requires order { AreInOrder (reverse entries.now) }
+        requires order { AreInOrder trace.now }
         ensures { IfOk result (λ follower. Follows follower (record {
           peer = record { params = params; neighbours = neighbours.items };
           before = [];
-          left = entries.now;
+          left = reverse trace.now;
         })) }
     {
         let tables = Tables::new(alloc, &params, neighbours.as_slice())?;
@@ -69,7 +71,7 @@ impl<'a> Follower<'a> {
                 },
                 tables,
             },
-            entries,
+            trace,
             place: 0,
         })
     }
@@ -82,7 +84,7 @@ impl<'a> Follower<'a> {
         requires { (v : Reading) × Follows self.old v }
         ensures { IfOk result (λ seen. (v : Reading) → Follows self.old v → GoesOn v seen self.new) }
     {
-        match self.entries.get(self.place) {
+        match self.trace.entries().get(self.place) {
             Some(entry) => {
                 let seen = self.see(entry)?;
                 Ok(Some(seen))
@@ -93,9 +95,11 @@ impl<'a> Follower<'a> {
 
     /// Sees the entry that comes next.
     fn see(&mut self, entry: &'a StoredEntry) -> Result<Followed<'a>, AllocError>
-        requires { (v : Reading) × Follows self.old v }
-        ensures { IfOk result (λ seen. (v : Reading) → Follows self.old v → GoesOn v seen self.new) }
+        requires follows { (v : Reading) × Follows self.old v }
+        requires next { slice_get (reverse self.old.trace.now) self.old.place ≡ Some entry.now }
+        ensures { IfOk result (λ seen. (v : Reading) → Follows self.old v → GoesOn v (Some seen) self.new) }
     {
+        self.trace.prove_length_fits();
         let fallen = fell_away(&self.known, entry.event(), entry.at())?;
         self.known.tables.note(entry)?;
         self.place += 1;
@@ -107,5 +111,36 @@ impl<'a> Follower<'a> {
         ensures { (v : Reading) → Follows self.now v → result ≡ score v.peer v.before now.0 peer }
     {
         self.known.tables.standings.score(peer, now)
+    }
+
+    /// The parts of a neighbour's score at a moment.
+    pub fn score_parts(&self, peer: PeerNo, now: Millis) -> ScoreParts
+        ensures { (v : Reading) → Follows self.now v → result ≡ parts_of_score v.peer v.before now.0 peer }
+    {
+        self.known.tables.standings.score_parts(peer, now)
+    }
+
+    /// The parts of what a topic gives a neighbour at a moment.
+    pub fn topic_parts(&self, peer: PeerNo, topic: &Topic, now: Millis) -> TopicParts
+        ensures { (v : Reading)
+            → Follows self.now v
+            → result ≡ parts_on_topic v.peer v.before now.0 peer topic.now }
+    {
+        self.known
+            .tables
+            .standings
+            .topic_parts(peer, topic, now)
+    }
+
+    /// The topics on which anything is known of a neighbour, in the order of their bytes.
+    ///
+    /// # Errors
+    /// `AllocError` where there was no memory.
+    pub fn topics(&self, peer: PeerNo) -> Result<Vec<Topic>, AllocError>
+        ensures { IfOk result (λ list. (v : Reading)
+            → Follows self.now v
+            → list.items ≡ topics_of_neighbour v.peer v.before peer) }
+    {
+        self.known.tables.standings.topics(self.known.alloc, peer)
     }
 }

@@ -11,6 +11,7 @@ mod router;
 mod setup;
 mod state;
 mod tables;
+mod topic_order;
 
 pub use fault::RouterFault;
 pub use follower::{Followed, Follower};

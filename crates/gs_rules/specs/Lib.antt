@@ -15,6 +15,7 @@ pub mod BeatRules
 pub mod Outcomes
 pub mod Rules
 pub mod FellAway
+pub mod Scored
 pub mod Modes
 pub mod Legal
 pub mod Refusals

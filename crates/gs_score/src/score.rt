@@ -12,6 +12,8 @@ use gs_params::Factors;
 /// what its topics give (at most 10^29 either way), the score that the application gives it (P5, at most 10^12
 /// either way), how many neighbours are at its address (P6, at most 10^6) and its misbehaviour (P7, at most
 /// 10^12). It is at most 10^30 either way.
+// Each score takes this way: inlined, it costs as much as where nothing else calls it.
+#[inline(always)]
 #[tactic(auto, unfolding(crate::specs::Formula::score_of))]
 pub fn score_of(factors: &Factors, topics: i128, app: i128, number: u64, misbehaviour: u64) -> i128
     requires in_range { FactorsAreInRange factors.now }
@@ -61,7 +63,8 @@ pub(crate) fn score_parts_of(
     }
 }
 
-/// What the score of the application weighs (P5). It is inlined, as what follows: each score is made of it.
+/// What the score of the application weighs (P5).
+// Each score takes this way: inlined, it costs as much as where nothing else calls it.
 #[inline(always)]
 fn weighed_app(factors: &Factors, app: i128) -> i128
     requires in_range { FactorsAreInRange factors.now }
@@ -73,6 +76,7 @@ fn weighed_app(factors: &Factors, app: i128) -> i128
 }
 
 /// What the neighbours at an address weigh (P6).
+// Each score takes this way: inlined, it costs as much as where nothing else calls it.
 #[inline(always)]
 fn weighed_crowd(factors: &Factors, number: u64) -> i128
     requires in_range { FactorsAreInRange factors.now }
@@ -84,6 +88,7 @@ fn weighed_crowd(factors: &Factors, number: u64) -> i128
 }
 
 /// What misbehaviour weighs (P7).
+// Each score takes this way: inlined, it costs as much as where nothing else calls it.
 #[inline(always)]
 fn weighed_misbehaviour(factors: &Factors, misbehaviour: u64) -> i128
     requires in_range { FactorsAreInRange factors.now }

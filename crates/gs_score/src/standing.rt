@@ -170,6 +170,8 @@ impl Standing {
     }
 
     /// The square of what is missing under a weight, in the same way.
+    // Each score takes this way: inlined, it costs as much as where nothing else calls it.
+    #[inline(always)]
     fn weighed_missing(&self, weight: i64, rules: &TopicRules, decays: u64, now: Millis) -> i128
         requires in_range { RulesAreInRange rules.now }
         requires weight { unsigned_abs weight ≤ 10 ^ 9 }
@@ -183,6 +185,8 @@ impl Standing {
     }
 
     /// What the topic gives, in millionths: at most 10^25 either way.
+    // Each score takes this way: inlined, it costs as much as where nothing else calls it.
+    #[inline(always)]
     #[tactic(auto, unfolding(crate::specs::Formula::topic_part))]
     pub fn part(&self, rules: &TopicRules, decays: u64, now: Millis) -> i128
         requires in_range { RulesAreInRange rules.now }

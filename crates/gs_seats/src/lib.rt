@@ -3,12 +3,14 @@
 #![tactic(auto)]
 
 mod fault;
+mod followers;
 mod lines;
 mod lists_by_peer;
 mod neighbours;
 mod routers;
 
 pub use fault::NetFault;
+pub use followers::{follower_of, traces_of_a_report_are_in_order};
 pub use lines::lines_by_peer;
 pub use lists_by_peer::{empty_lists, put_last, take_last, take_list};
 pub use neighbours::neighbours_of;

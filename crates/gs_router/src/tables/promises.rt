@@ -86,7 +86,7 @@ impl Promises {
     }
 
     fn make(&mut self, promise: Option<&Promise>) -> Result<(), AllocError>
-        ensures { OnOk result (self.new.waiting.items ≡ self.old.waiting.items ++ made (option_copied promise)) }
+        ensures { OnOk result (self.new.waiting.items ≡ self.old.waiting.items ++ made (option_copied promise.entry)) }
     {
         match promise {
             Some(promise) => {

@@ -9,12 +9,14 @@ ghost use Rattle.gs_score.specs.Histories.{Agrees, History, Marked, held_by};
 ghost use Rattle.gs_rules.specs.Peers.{Peer};
 ghost use Rattle.gs_rules.specs.Tables.{Entries, after_marks, lost};
 ghost use Rattle.gs_rules.specs.Scoring.{changed_after, history, is_counted, marked_after, score, setting_of};
+ghost use Rattle.gs_rules.specs.Scored.{parts_of_score, parts_on_topic, topics_of_neighbour};
 ghost use Rattle.gs_router.specs.Tables.{AgreesOnScores};
 
+use crate::topic_order::in_order;
 use gs_base::{Mark, Millis, Neighbour, PeerNo, Topic};
 use gs_params::Params;
 use gs_rules::{Event, StoredEntry};
-use gs_score::Scores;
+use gs_score::{ScoreParts, Scores, TopicParts};
 use std::alloc::{AllocError, Global};
 
 /// What counts of each neighbour, from which its score is made.
@@ -59,6 +61,38 @@ impl Standings {
             → result ≡ p3 (rules_of p.params topic.now) now.0 (held_by p.params (history p L) peer topic.now) }
     {
         self.scores.missing(peer, topic, now)
+    }
+
+    /// The parts of a neighbour's score at a moment.
+    pub fn score_parts(&self, peer: PeerNo, now: Millis) -> ScoreParts
+        ensures { (p : Peer) (L : Entries)
+            → AgreesOnScores p self.now L
+            → result ≡ parts_of_score p L now.0 peer }
+    {
+        self.scores.score_parts(peer, now)
+    }
+
+    /// The parts of what a topic gives a neighbour at a moment.
+    pub fn topic_parts(&self, peer: PeerNo, topic: &Topic, now: Millis) -> TopicParts
+        ensures { (p : Peer) (L : Entries)
+            → AgreesOnScores p self.now L
+            → result ≡ parts_on_topic p L now.0 peer topic.now }
+    {
+        self.scores.topic_parts(peer, topic, now)
+    }
+
+    /// The topics on which anything is known of a neighbour, in the order of their bytes.
+    ///
+    /// # Errors
+    /// `AllocError` where there was no memory.
+    pub fn topics(&self, alloc: Global, peer: PeerNo) -> Result<Vec<Topic>, AllocError>
+        ensures { IfOk result (λ list. (p : Peer) (L : Entries)
+            → AgreesOnScores p self.now L
+            → list.items ≡ topics_of_neighbour p L peer) }
+    {
+        let topics = self.scores.topics(alloc, peer)?;
+        let list = in_order(alloc, topics.as_slice())?;
+        Ok(list)
     }
 
     /// Notes what an entry says of neighbours: its marks raise counters, and its event lowers them or shuts one out.
