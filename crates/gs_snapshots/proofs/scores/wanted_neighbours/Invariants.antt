@@ -6,4 +6,4 @@ use Rattle.gs_snapshots.proofs.scores.wanted_neighbours.Given as goal
 -- those of the neighbours so far that are wanted
 abbrev pub invariant-loop-neighbour : goal.invariant-loop-neighbour
 invariant-loop-neighbour l =
-    l.list.items ≡ filter (has_name (wishes_of l.wanted).neighbour l.plan) (peers_of (take l.neighbour-index l.neighbours.items))
+    l.list.items ≡ filter (has_name (wishes_of l.wanted).neighbour l.plan) (peers_of (take l.neighbour-index l.neighbour-items))

@@ -8,4 +8,4 @@ abbrev pub invariant-loop-topic : goal.invariant-loop-topic
 invariant-loop-topic l =
     (v : Reading)
     → Follows l.follower v
-    → l.list ≡ map (on_topic v.peer v.before l.at.0 l.neighbour) (take l.topic-index l.topics.items)
+    → l.list ≡ map (on_topic v.peer v.before l.at.0 l.neighbour) (take l.topic-index l.topic-items)
