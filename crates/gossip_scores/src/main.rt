@@ -21,3 +21,6 @@ fn main(rt: HostRuntime) -> ExitCode {
         Err(fault) => refuse_unread(fault.kind(), &mut rt.stderr(), USAGE),
     }
 }
+
+#[cfg(test)]
+mod tests;
