@@ -177,7 +177,7 @@ begins_missing p L q all reply missing sends marks_are left none = record {
 
 -- how many marks a reply has
 marks_are_many : (q : PeerNo) (given : List (MsgId × Message)) (reply : Reply) → Gives q given reply → length reply.marks ≡ length given
-marks_are_many q given reply gives = ap length gives.marks ∙ length-map (λ (x : MsgId × Message). marks.Answered q x.0) given
+marks_are_many q given reply gives = ap length gives.marks ∙ length-map given (λ (x : MsgId × Message). marks.Answered q x.0)
 
 -- an identifier was answered where the reply has more marks than before
 pub answered_by_count : (p : Peer) (L : Entries) (q : PeerNo) (ahead : List MsgId) (given : List (MsgId × Message)) (x : MsgId) (old new : Reply)

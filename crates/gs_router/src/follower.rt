@@ -126,10 +126,7 @@ impl<'a> Follower<'a> {
             → Follows self.now v
             → result ≡ parts_on_topic v.peer v.before now.0 peer topic.now }
     {
-        self.known
-            .tables
-            .standings
-            .topic_parts(peer, topic, now)
+        self.known.tables.standings.topic_parts(peer, topic, now)
     }
 
     /// The topics on which anything is known of a neighbour, in the order of their bytes.

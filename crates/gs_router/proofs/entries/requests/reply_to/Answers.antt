@@ -6,7 +6,7 @@ use Rattle.gs_router.proofs.Answering.{Replying, begins, goes_on, ends}
 use Rattle.gs_router.proofs.entries.requests.reply_to.Goals as goal
 
 pub loop-id-init : goal.loop-id-init
-loop-id-init c = λ L agrees made. begins (peer_with c.args.known.now.setup) L c.args.from c.args.ids.now _ c.new.ensures c.new-2.ensures c.new-3.ensures.empty
+loop-id-init c = λ L agrees made. begins (peer_with c.args.known.now.setup) L c.args.from c.args.ids.now _ c.none-reply.ensures.sends c.none-reply.ensures.marks c.none-reply.ensures.left
 
 pub loop-id-preserved : goal.loop-id-preserved
 loop-id-preserved c = λ L agrees made.
