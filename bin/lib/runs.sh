@@ -1,8 +1,8 @@
 # shellcheck shell=bash disable=SC2154,SC2034
-# What bin/gossip_sim, gossip_stats, gossip_picture, gossip_trace and gossip_scores have in common: the options of a run, its
-# input, and its programs, proved or not. Each of them sets `top` to the repository's folder, `tool` to its own name, `program` to the
-# program that it runs (none where the scenario is printed) and `what` to what that prints, and has `usage`, and `take_option`
-# for the options of its own.
+# What bin/gossip_sim, gossip_stats, gossip_picture, gossip_trace, gossip_scores and gossip_view have in common: the options
+# of a run, its input, and its programs, proved or not. Each of them sets `top` to the repository's folder, `tool` to its own
+# name, `program` to the program that it runs (none where the scenario is printed) and `what` to what that prints, and has
+# `usage`, and `take_option` for the options of its own.
 # shellcheck source-path=SCRIPTDIR
 # shellcheck source=crates.sh
 . "$top/bin/lib/crates.sh"
@@ -193,6 +193,24 @@ print_answer() {
   exit "$status"
 }
 
+# Makes these programs and the scenario ready, in a folder of its own. The scenario is standard input then.
+make_ready() {
+  guarded "${words[@]}"
+  room=$TMPDIR
+  # (what is wrong with a description is said before anything is compiled)
+  ! is_description "${files[0]--}" || expand "${files[0]}"
+  say_unproved
+  compile_missing "$@"
+  say_reading
+  prepare_scenario
+}
+
+# Says of a refused scenario, after the program, what more is known.
+explain_refusal() {
+  [ -z "$has_words" ] || print_words
+  say_unexpanded "${files[0]--}"
+}
+
 # Runs `program` with `arguments` on the scenario as the options change it, and ends with its status.
 run_changed() {
   local programs=() status=0
@@ -205,24 +223,14 @@ run_changed() {
     say_reading
     GLIBC_TUNABLES=$tunables exec "$(program_of "$program")" "${arguments[@]}"
   fi
-  guarded "${words[@]}"
-  room=$TMPDIR
-  # (what is wrong with a description is said before anything is compiled)
-  ! is_description "${files[0]--}" || expand "${files[0]}"
-  say_unproved
-  compile_missing "${programs[@]}"
-  say_reading
-  prepare_scenario
+  make_ready "${programs[@]}"
   if [ -z "$program" ]; then
     cat "$scenario" 2>/dev/null || fail 'output failed'
     exit
   fi
   [ "$program" != gossip_check ] || print_answer
   call "$program" "${arguments[@]}" || status=$?
-  if [ "$status" -eq 1 ]; then
-    [ -z "$has_words" ] || print_words
-    say_unexpanded "${files[0]--}"
-  fi
+  [ "$status" -ne 1 ] || explain_refusal
   exit "$status"
 }
 

@@ -90,6 +90,7 @@ check_signals() {
   check_end 'a picture' HUP tried=long "$bin/gossip_picture"
   check_end 'a trace' TERM tried=long "$bin/gossip_trace"
   check_end 'scores' TERM tried=long "$bin/gossip_scores"
+  check_end 'a page' INT tried=long "GUNTHARU_D3=$room/library" "$bin/gossip_view"
   check_end 'a sweep' 'INT TERM HUP' tried=long "$bin/sweep" --jobs 2 "$example"
   check_end 'a build' 'INT TERM' tried=slow "$bin/build"
   check_end 'a build to be measured' TERM tried=slow "$tools/profile_build" "$room/measured"

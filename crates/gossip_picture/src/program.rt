@@ -9,7 +9,7 @@ use bytes::Bytes;
 use gs_base::{Topic, clone_of};
 use gs_picture::{first_topic, picture_svg};
 use gs_plan::Plan;
-use gs_program::{Printer, Program};
+use gs_program::{PrintFault, Printer, Program, print_whole};
 use gs_report::Report;
 use std::alloc::{AllocError, Global};
 use std::io::{Read, Write};
@@ -24,10 +24,30 @@ struct PictureOf<'a> {
 impl<'a> Printer for PictureOf<'a> {
     ghost text = { λ printer plan report. printed printer.asked plan report };
 
-    fn print(&self, alloc: Global, plan: &Plan, report: &Report) -> Result<Vec<u8>, AllocError> {
-        let topic = topic_in(alloc, plan, self.asked)?;
-        picture_svg(alloc, plan, report, &topic)
+    ghost in_parts = { false };
+
+    fn print<W: Write>(
+        &self,
+        alloc: Global,
+        plan: &Plan,
+        report: &Report,
+        output: &mut W,
+    ) -> Result<(), PrintFault> {
+        print_whole(printed(alloc, self.asked, plan, report), output)
     }
+}
+
+/// The picture of a run for the topic that is asked for.
+fn printed(
+    alloc: Global,
+    asked: Asked<'_>,
+    plan: &Plan,
+    report: &Report,
+) -> Result<Vec<u8>, AllocError>
+    ensures { IfOk result (λ text. text.items ≡ printed asked.entry plan.now report.now) }
+{
+    let topic = topic_in(alloc, plan, asked)?;
+    picture_svg(alloc, plan, report, &topic)
 }
 
 /// The topic that is asked for. Where the script subscribes to none, the first one is the empty one.
@@ -56,7 +76,7 @@ where
     R: Read,
     W: Write,
     E: Write,
-    ensures { EndsWith (printed asked.entry) false (exit_status result) (R.remaining input.old) (R.remaining input.new)
+    ensures { EndsWith (printed asked.entry) false false (exit_status result) (R.remaining input.old) (R.remaining input.new)
         (W.contents output.old) (W.contents output.new) (E.contents errors.old) (E.contents errors.new) }
 {
     let program = Program {

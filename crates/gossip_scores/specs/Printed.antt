@@ -10,4 +10,4 @@ abbrev pub EndsFor : Option Wishes → (status : ℕ) (input input' output outpu
 EndsFor None status input input' output output' errors errors' =
     IsMisused usage status input input' output output' errors errors'
 EndsFor (Some wishes) status input input' output output' errors errors' =
-    EndsWith (scores_text wishes) false status input input' output output' errors errors'
+    EndsWith (scores_text wishes) false false status input input' output output' errors errors'

@@ -9,10 +9,10 @@ ghost use Rattle.gossip_scores.specs.Printed.{EndsFor};
 
 use crate::arguments::{asked_by, refuse};
 use gs_plan::Plan;
-use gs_program::{Printer, Program};
+use gs_program::{PrintFault, Printer, Program, print_whole};
 use gs_report::Report;
 use gs_snapshots::{Wanted, scores_text};
-use std::alloc::{AllocError, Global};
+use std::alloc::Global;
 use std::io::{Read, Write};
 use std::process::ExitCode;
 
@@ -25,8 +25,16 @@ struct ScoresOf<'a> {
 impl<'a> Printer for ScoresOf<'a> {
     ghost text = { λ printer plan report. scores_text (wishes_of printer.wanted) plan report };
 
-    fn print(&self, alloc: Global, plan: &Plan, report: &Report) -> Result<Vec<u8>, AllocError> {
-        scores_text(alloc, plan, report, &self.wanted)
+    ghost in_parts = { false };
+
+    fn print<W: Write>(
+        &self,
+        alloc: Global,
+        plan: &Plan,
+        report: &Report,
+        output: &mut W,
+    ) -> Result<(), PrintFault> {
+        print_whole(scores_text(alloc, plan, report, &self.wanted), output)
     }
 }
 
@@ -66,7 +74,7 @@ where
     R: Read,
     W: Write,
     E: Write,
-    ensures { EndsWith (scores_text (wishes_of wanted.entry)) false (exit_status result)
+    ensures { EndsWith (scores_text (wishes_of wanted.entry)) false false (exit_status result)
         (R.remaining input.old) (R.remaining input.new)
         (W.contents output.old) (W.contents output.new) (E.contents errors.old) (E.contents errors.new) }
 {

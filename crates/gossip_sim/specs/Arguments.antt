@@ -27,4 +27,4 @@ abbrev pub EndsFor : Option Way → (status : ℕ) (input input' output output' 
 EndsFor None status input input' output output' errors errors' =
     IsMisused usage status input input' output output' errors errors'
 EndsFor (Some way) status input input' output output' errors errors' =
-    EndsWith report_text (needs_threads way) status input input' output output' errors errors'
+    EndsWith report_text false (needs_threads way) status input input' output output' errors errors'

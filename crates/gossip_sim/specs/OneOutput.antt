@@ -31,8 +31,8 @@ AlikeScenariosWriteTheSame =
     (input input' output output' errors errors' : Option (List ℕ))
     (more more' other other' faults faults' : Option (List ℕ))
     (first_needs_threads second_needs_threads : Bool)
-    (mine : EndsAs report_text first_needs_threads ends.Reported input input' output output' errors errors')
-    (theirs : EndsAs report_text second_needs_threads ends.Reported more more' other other' faults faults')
+    (mine : EndsAs report_text false first_needs_threads ends.Reported input input' output output' errors errors')
+    (theirs : EndsAs report_text false second_needs_threads ends.Reported more more' other other' faults faults')
     → DifferInRunning mine.scenario.text theirs.scenario.text
     → (report_text mine.plan mine.report ≡ report_text theirs.plan theirs.report)
     × AddTheSame output output' other other'

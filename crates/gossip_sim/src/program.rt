@@ -9,9 +9,9 @@ use crate::arguments::{Way, asked_by, refuse};
 use gs_net::run_net;
 use gs_peer::{Gate, NoGate};
 use gs_plan::Plan;
-use gs_program::{ExitStatus, Printer, Program};
+use gs_program::{ExitStatus, PrintFault, Printer, Program, print_whole};
 use gs_report::{Report, report_text};
-use std::alloc::{AllocError, AllocGlobal, Global};
+use std::alloc::{AllocGlobal, Global};
 use std::io::{Read, Write};
 use std::process::ExitCode;
 use std::random::RandomSource;
@@ -25,8 +25,16 @@ struct Lines;
 impl Printer for Lines {
     ghost text = { λ _ plan report. report_text plan report };
 
-    fn print(&self, alloc: Global, plan: &Plan, report: &Report) -> Result<Vec<u8>, AllocError> {
-        report_text(alloc, plan, report)
+    ghost in_parts = { false };
+
+    fn print<W: Write>(
+        &self,
+        alloc: Global,
+        plan: &Plan,
+        report: &Report,
+        output: &mut W,
+    ) -> Result<(), PrintFault> {
+        print_whole(report_text(alloc, plan, report), output)
     }
 }
 
@@ -68,7 +76,7 @@ where
     R: Read,
     W: Write,
     E: Write,
-    ensures { EndsWith report_text (needs_threads way) (exit_status result) (R.remaining input.old) (R.remaining input.new)
+    ensures { EndsWith report_text false (needs_threads way) (exit_status result) (R.remaining input.old) (R.remaining input.new)
         (W.contents output.old) (W.contents output.new) (E.contents errors.old) (E.contents errors.new) }
 {
     match way {
@@ -93,7 +101,7 @@ where
     R: Read,
     W: Write,
     E: Write,
-    ensures { EndsAs report_text true result (R.remaining input.old) (R.remaining input.new)
+    ensures { EndsAs report_text false true result (R.remaining input.old) (R.remaining input.new)
         (W.contents output.old) (W.contents output.new) (E.contents errors.old) (E.contents errors.new) }
 {
     let program = Program {
@@ -120,7 +128,7 @@ where
     R: Read,
     W: Write,
     E: Write,
-    ensures { EndsAs report_text false result (R.remaining input.old) (R.remaining input.new)
+    ensures { EndsAs report_text false false result (R.remaining input.old) (R.remaining input.new)
         (W.contents output.old) (W.contents output.new) (E.contents errors.old) (E.contents errors.new) }
 {
     let program = Program {

@@ -41,4 +41,4 @@ abbrev pub EndsFor : Option Asked → (status : ℕ) (input input' output output
 EndsFor None status input input' output output' errors errors' =
     IsMisused usage status input input' output output' errors errors'
 EndsFor (Some asked) status input input' output output' errors errors' =
-    EndsWith (printed asked) false status input input' output output' errors errors'
+    EndsWith (printed asked) false false status input input' output output' errors errors'

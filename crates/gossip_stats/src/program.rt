@@ -11,7 +11,7 @@ use gs_figures::{
     rounds_table, rounds_text,
 };
 use gs_plan::Plan;
-use gs_program::{Printer, Program};
+use gs_program::{PrintFault, Printer, Program, print_whole};
 use gs_report::Report;
 use std::alloc::{AllocError, Global};
 use std::io::{Read, Write};
@@ -26,14 +26,29 @@ struct FiguresAs {
 impl Printer for FiguresAs {
     ghost text = { λ printer plan report. printed printer.asked plan report };
 
-    fn print(&self, alloc: Global, plan: &Plan, report: &Report) -> Result<Vec<u8>, AllocError> {
-        if self.asked.rounds {
-            let rounds = rounds_of(alloc, plan, report)?;
-            return rounds_laid_out(alloc, self.asked.layout, rounds.as_slice());
-        }
-        let figures = figures_of(alloc, plan, report)?;
-        laid_out(alloc, self.asked.layout, plan, &figures)
+    ghost in_parts = { false };
+
+    fn print<W: Write>(
+        &self,
+        alloc: Global,
+        plan: &Plan,
+        report: &Report,
+        output: &mut W,
+    ) -> Result<(), PrintFault> {
+        print_whole(printed(alloc, self.asked, plan, report), output)
     }
+}
+
+/// The figures of a run as they are asked for.
+fn printed(alloc: Global, asked: Asked, plan: &Plan, report: &Report) -> Result<Vec<u8>, AllocError>
+    ensures { IfOk result (λ text. text.items ≡ printed asked plan.now report.now) }
+{
+    if asked.rounds {
+        let rounds = rounds_of(alloc, plan, report)?;
+        return rounds_laid_out(alloc, asked.layout, rounds.as_slice());
+    }
+    let figures = figures_of(alloc, plan, report)?;
+    laid_out(alloc, asked.layout, plan, &figures)
 }
 
 fn laid_out(
@@ -101,7 +116,7 @@ where
     R: Read,
     W: Write,
     E: Write,
-    ensures { EndsWith (printed asked) false (exit_status result) (R.remaining input.old) (R.remaining input.new)
+    ensures { EndsWith (printed asked) false false (exit_status result) (R.remaining input.old) (R.remaining input.new)
         (W.contents output.old) (W.contents output.new) (E.contents errors.old) (E.contents errors.new) }
 {
     let program = Program {

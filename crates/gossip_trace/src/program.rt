@@ -1,17 +1,17 @@
 //! The program: it writes the trace of the run of the scenario that it reads.
-ghost use Rattle.std.specs.Prelude.{◌≡◌, false, map, string_bytes};
+ghost use Rattle.std.specs.Prelude.{◌≡◌, false, true, map, string_bytes};
 ghost use Rattle.std.specs.Process.{exit_status};
 ghost use Rattle.gs_program.specs.Program.{EndsWith};
 ghost use Rattle.gs_trace.specs.Wanted.{wanted_text, wishes_of};
 ghost use Rattle.gossip_trace.specs.Arguments.{asked_for};
-ghost use Rattle.gossip_trace.specs.Printed.{EndsFor};
+ghost use Rattle.gossip_trace.specs.Printed.{EndsFor, as_printed};
 
 use crate::arguments::{asked_by, refuse};
 use gs_plan::Plan;
-use gs_program::{Printer, Program};
+use gs_program::{PrintFault, Printer, Program};
 use gs_report::Report;
-use gs_trace::{Wanted, wanted_text};
-use std::alloc::{AllocError, Global};
+use gs_trace::{TraceFault, Wanted, write_trace};
+use std::alloc::Global;
 use std::io::{Read, Write};
 use std::process::ExitCode;
 
@@ -24,14 +24,36 @@ struct TraceOf<'a> {
 impl<'a> Printer for TraceOf<'a> {
     ghost text = { λ printer plan report. wanted_text (wishes_of printer.wanted) plan report };
 
-    fn print(&self, alloc: Global, plan: &Plan, report: &Report) -> Result<Vec<u8>, AllocError> {
-        wanted_text(alloc, plan, report, &self.wanted)
+    ghost in_parts = { true };
+
+    fn print<W: Write>(
+        &self,
+        alloc: Global,
+        plan: &Plan,
+        report: &Report,
+        output: &mut W,
+    ) -> Result<(), PrintFault> {
+        match write_trace(alloc, plan, report, &self.wanted, output) {
+            Ok(()) => Ok(()),
+            Err(fault) => Err(as_printed(fault)),
+        }
+    }
+}
+
+/// What a fault of a trace is to a printer. Where there was no memory, a front of the text may have been written.
+fn as_printed(fault: TraceFault) -> PrintFault
+    ensures { result ≡ as_printed fault }
+{
+    match fault {
+        TraceFault::NoMemory => PrintFault::CutOff,
+        TraceFault::WriteFailed => PrintFault::WriteFailed,
     }
 }
 
 /// Runs the program with these arguments over these streams, and gives the status that its process ends with. Where the
-/// arguments ask for something, its ends are those of `gossip_sim`, and its text has the lines that they ask for. Else it
-/// reads no input, says on `errors` how it is called, and ends with 64.
+/// arguments ask for something, its ends are those of `gossip_sim`, and its text has the lines that they ask for. Where it
+/// runs out of memory for the rest of them, a front of the text is on the output. Else it reads no input, says on `errors`
+/// how it is called, and ends with 64.
 pub fn run<R, W, E>(
     alloc: Global,
     arguments: &[String],
@@ -65,7 +87,7 @@ where
     R: Read,
     W: Write,
     E: Write,
-    ensures { EndsWith (wanted_text (wishes_of wanted.entry)) false (exit_status result)
+    ensures { EndsWith (wanted_text (wishes_of wanted.entry)) true false (exit_status result)
         (R.remaining input.old) (R.remaining input.new)
         (W.contents output.old) (W.contents output.new) (E.contents errors.old) (E.contents errors.new) }
 {

@@ -1,5 +1,5 @@
 -- How a run of a program ends, and what it has then written.
-use Rattle.std.specs.Prelude.{◌≡◌, ◌++◌, ℕ, Bool, false, List, [], codes, decimal, Option, Some, None, IfSome, ◌⊎◌}
+use Rattle.std.specs.Prelude.{◌≡◌, ◌++◌, ℕ, Bool, false, true, List, [], codes, decimal, Option, Some, None, IfSome, ◌⊎◌}
 use Rattle.std.specs.Io.KnownBytes.{Appends, IsAtEnd, Keeps}
 use Rattle.gs_scenario.specs.declared.fault.ScenarioFault.{ScenarioFault}
 use Rattle.gs_scenario.specs.declared.fault.ScenarioFault.TheVariants.{NoMemory}
@@ -88,6 +88,7 @@ abbrev pub status_of : ExitStatus → ℕ
 status_of ends.Reported = 0
 status_of ends.ScenarioRefused = 1
 status_of ends.RunRefused = 2
+status_of ends.TextRefused = 2
 status_of ends.InputFailed = 3
 status_of ends.OutputFailed = 3
 
@@ -112,18 +113,32 @@ module _ (text_of : Plan → Report → List ℕ) where
     pub text : AppendsFront output output' (text_of plan report)
     pub line : AppendsFront errors errors' (codes "output failed\n")
 
-  -- of one whose runs need threads, or none: what each status says
+  -- a run of the scenario ended, and there was no memory for the rest of its text: a front of it is on the output, and
+  -- errors has the line of that, or a front of it
+  pub record TextRefused (input output output' errors errors' : Option (List ℕ)) : Type 0 where
+    pub plan : Plan
+    pub scenario : IsScenario input plan
+    pub report : Report
+    pub run : IsReport plan report
+    pub text : AppendsFront output output' (text_of plan report)
+    pub line : AppendsFront errors errors' (codes "run refused: 24\n")
+
+-- of one that writes this text, in parts or as a whole
+module _ (text_of : Plan → Report → List ℕ) (in_parts : Bool) where
+  -- where its runs need threads, or none: what each status says
   abbrev pub EndsAs : (needs_threads : Bool) → ExitStatus → (input input' output output' errors errors' : Option (List ℕ))
       → Type 0
   EndsAs needs ends.Reported input input' output output' errors errors' =
-      Reported input input' output output' errors errors'
+      Reported text_of input input' output output' errors errors'
   EndsAs needs ends.ScenarioRefused input input' output output' errors errors' =
       ScenarioRefused input output output' errors errors'
   EndsAs needs ends.RunRefused input input' output output' errors errors' =
       RunRefused needs input output output' errors errors'
+  EndsAs needs ends.TextRefused input input' output output' errors errors' =
+      (in_parts ≡ true) × TextRefused text_of input output output' errors errors'
   EndsAs needs ends.InputFailed input input' output output' errors errors' = InputFailed output output' errors errors'
   EndsAs needs ends.OutputFailed input input' output output' errors errors' =
-      OutputFailed input output output' errors errors'
+      OutputFailed text_of input output output' errors errors'
 
   -- the status is that of an end which the streams show
   pub record EndsWith (needs_threads : Bool) (status : ℕ) (input input' output output' errors errors' : Option (List ℕ))

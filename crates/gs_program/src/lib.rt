@@ -7,5 +7,5 @@ mod program;
 mod telling;
 
 pub use arguments::{arguments_of, refuse_arguments, refuse_unread};
-pub use printer::Printer;
+pub use printer::{PrintFault, Printer, print_whole};
 pub use program::{ExitStatus, Program};

@@ -5,16 +5,18 @@ ghost use Rattle.std.specs.Process.{exit_status};
 ghost use Rattle.gs_plan.specs.Plans.{IsInRange};
 ghost use Rattle.gs_seats.specs.Reports.{IsReport};
 ghost use Rattle.gs_streams.specs.Inputs.{IsRefusal, IsScenario};
+ghost use Rattle.gs_report.specs.declared.report.Report.{Report as ReportValue};
+ghost use Rattle.gs_program.specs.Printing.{Prints, StopsPrinting};
 ghost use Rattle.gs_program.specs.Program.{EndsAs, EndsWith, MayMeet, status_of};
 
-use crate::printer::Printer;
+use crate::printer::{PrintFault, Printer};
 use crate::telling::{tell_fault, tell_refusal};
 use gs_direct::run_direct;
 use gs_plan::Plan;
 use gs_report::Report;
 use gs_scenario::ScenarioFault;
 use gs_seats::NetFault;
-use gs_streams::{ReadFault, input_too_long, plan_from, read_input, try_to_write, write_text};
+use gs_streams::{ReadFault, input_too_long, plan_from, read_input, try_to_write};
 use std::alloc::Global;
 use std::io::{Read, Write};
 use std::mem;
@@ -29,6 +31,8 @@ pub enum ExitStatus {
     ScenarioRefused,
     /// The run met a fault, or there was no memory for its text.
     RunRefused,
+    /// There was no memory for the rest of the text. A front of it is on the output.
+    TextRefused,
     /// A read of the input failed, or it was read `MOST_READS` times and had not ended.
     InputFailed,
     /// The text could not be written.
@@ -42,7 +46,7 @@ impl From<ExitStatus> for ExitCode {
         ExitCode::from(match status {
             ExitStatus::Reported => 0u8,
             ExitStatus::ScenarioRefused => 1,
-            ExitStatus::RunRefused => 2,
+            ExitStatus::RunRefused | ExitStatus::TextRefused => 2,
             ExitStatus::InputFailed | ExitStatus::OutputFailed => 3,
         })
     }
@@ -66,7 +70,7 @@ impl<P: Printer> Program<P> {
         R: Read,
         W: Write,
         E: Write,
-        ensures { EndsAs (P.text self.now.printer) false result (R.remaining input.old) (R.remaining input.new)
+        ensures { EndsAs (P.text self.now.printer) P.in_parts false result (R.remaining input.old) (R.remaining input.new)
             (W.contents output.old) (W.contents output.new) (E.contents errors.old) (E.contents errors.new) }
     {
         match self.read(input, errors) {
@@ -84,7 +88,7 @@ impl<P: Printer> Program<P> {
         R: Read,
         W: Write,
         E: Write,
-        ensures { EndsWith (P.text self.now.printer) false (exit_status result)
+        ensures { EndsWith (P.text self.now.printer) P.in_parts false (exit_status result)
             (R.remaining input.old) (R.remaining input.new)
             (W.contents output.old) (W.contents output.new) (E.contents errors.old) (E.contents errors.new) }
     {
@@ -104,7 +108,7 @@ impl<P: Printer> Program<P> {
         ensures in_range { IfOk result (λ plan. IsInRange plan) }
         ensures silent { OnOk result (E.contents errors.new ≡ E.contents errors.old) }
         ensures refused { IfErr result (λ status. (needs : Bool) (output : Option (List ℕ))
-            → EndsAs (P.text self.now.printer) needs status (R.remaining input.old) (R.remaining input.new)
+            → EndsAs (P.text self.now.printer) P.in_parts needs status (R.remaining input.old) (R.remaining input.new)
             output output (E.contents errors.old) (E.contents errors.new)) }
     {
         match plan_in(self.alloc, input) {
@@ -120,7 +124,7 @@ impl<P: Printer> Program<P> {
         }
     }
 
-    /// Writes a text of what a run of this plan left to the output. Where it left no report, or there is no memory for the
+    /// Writes a text of what a run of this plan, which is in range, left to the output. Where it left no report, or there is no memory for the
     /// text, `errors` has a line that says why.
     pub fn write<W, E>(
         &self,
@@ -132,45 +136,70 @@ impl<P: Printer> Program<P> {
     where
         W: Write,
         E: Write,
-        requires { IfOk ran (IsReport plan.now) }
+        requires in_range { IsInRange plan.now }
+        requires report { IfOk ran (IsReport plan.now) }
         ensures { (needs : Bool) → IfErr ran (MayMeet needs)
             → (input input' : Option (List ℕ)) → IsScenario input plan.now → IsAtEnd input'
-            → EndsAs (P.text self.now.printer) needs result input input'
+            → EndsAs (P.text self.now.printer) P.in_parts needs result input input'
             (W.contents output.old) (W.contents output.new) (E.contents errors.old) (E.contents errors.new) }
     {
-        let text = match self.text_of(plan, ran) {
-            Ok(text) => text,
+        match ran {
+            Ok(report) => {
+                let printed = self.printer.print(self.alloc, plan, &report, output);
+                // The program ends after its text, and its memory goes back as a whole: to take the
+                // traces apart first, entry by entry, is a tenth of a run.
+                mem::forget(report);
+                self.tell_end(plan, printed, errors)
+            }
             Err(fault) => {
                 tell_fault(self.alloc, errors, plan, fault);
-                return ExitStatus::RunRefused;
+                ExitStatus::RunRefused
             }
-        };
-        if write_text(output, &text).is_err() {
-            try_to_write(errors, "output failed\n");
-            return ExitStatus::OutputFailed;
         }
-        ExitStatus::Reported
     }
 
-    /// The text of what a run left.
-    fn text_of(&self, plan: &Plan, ran: Result<Report, NetFault>) -> Result<Vec<u8>, NetFault>
-        requires { IfOk ran (IsReport plan.now) }
-        ensures text { IfOk result (λ text. (report : Report)
-            × IsReport plan.now report
-            × (text.items ≡ P.text self.now.printer plan.now report)) }
-        ensures fault { (needs : Bool) → IfErr ran (MayMeet needs) → IfErr result (MayMeet needs) }
+    /// Says how it ends after its text was printed, or was not.
+    fn tell_end<E: Write>(
+        &self,
+        plan: &Plan,
+        printed: Result<(), PrintFault>,
+        errors: &mut E,
+    ) -> ExitStatus
+        ensures { (needs : Bool) (report : ReportValue) → IsReport plan.now report
+            → (output output' : Option (List ℕ))
+            → Prints P.in_parts (P.text self.now.printer plan.now report) output output' printed
+            → (input input' : Option (List ℕ)) → IsScenario input plan.now → IsAtEnd input'
+            → EndsAs (P.text self.now.printer) P.in_parts needs result input input' output output'
+            (E.contents errors.old) (E.contents errors.new) }
     {
-        let report = match ran {
-            Ok(report) => report,
-            Err(fault) => return Err(fault),
-        };
-        let text = self.printer.print(self.alloc, plan, &report);
-        // The program ends after its text, and its memory goes back as a whole: to take the traces
-        // apart first, entry by entry, is a tenth of a run.
-        mem::forget(report);
-        match text {
-            Ok(text) => Ok(text),
-            Err(_) => Err(NetFault::NoMemory(None)),
+        match printed {
+            Ok(()) => ExitStatus::Reported,
+            Err(fault) => self.tell_unprinted(plan, fault, errors),
+        }
+    }
+
+    /// Says why its text was not printed to the end.
+    fn tell_unprinted<E: Write>(&self, plan: &Plan, fault: PrintFault, errors: &mut E) -> ExitStatus
+        ensures { (needs : Bool) (report : ReportValue) → IsReport plan.now report
+            → (output output' : Option (List ℕ))
+            → StopsPrinting P.in_parts (P.text self.now.printer plan.now report) output output' fault
+            → (input input' : Option (List ℕ)) → IsScenario input plan.now
+            → EndsAs (P.text self.now.printer) P.in_parts needs result input input' output output'
+            (E.contents errors.old) (E.contents errors.new) }
+    {
+        match fault {
+            PrintFault::NoMemory => {
+                tell_fault(self.alloc, errors, plan, NetFault::NoMemory(None));
+                ExitStatus::RunRefused
+            }
+            PrintFault::CutOff => {
+                try_to_write(errors, "run refused: 24\n");
+                ExitStatus::TextRefused
+            }
+            PrintFault::WriteFailed => {
+                try_to_write(errors, "output failed\n");
+                ExitStatus::OutputFailed
+            }
         }
     }
 }

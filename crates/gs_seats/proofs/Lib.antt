@@ -10,3 +10,4 @@ pub mod SameWords
 pub mod Truths
 pub mod Within
 pub mod Lives
+pub mod Ordered

@@ -11,7 +11,7 @@ use crate::moments::{Moment, occasion_word};
 use crate::snapshot::{OnTopic, Snapshot};
 use gs_plan::Plan;
 use gs_score::{Part, ScoreParts, TopicParts};
-use gs_trace::{Shown, push_code, push_list, push_number, push_peer, push_start, push_word};
+use gs_trace::{Shown, push_code, push_list, push_number, push_peer, push_word};
 use std::alloc::AllocError;
 
 /// Adds the line of a snapshot.
@@ -38,7 +38,13 @@ fn push_moment(plan: &Plan, out: &mut Vec<u8>, moment: Moment) -> Result<(), All
     ensures { OnOk result (out.new.items
         ≡ out.old.items ++ line_start (names_of plan.now) moment.round moment.at moment.peer) }
 {
-    push_start(plan, out, moment.round, moment.at, moment.peer)
+    push_code(out, b"{\"round\":")?;
+    push_number(out, moment.round)?;
+    push_code(out, b",\"at\":")?;
+    push_number(out, moment.at.0)?;
+    push_code(out, b",\"peer\":")?;
+    push_peer(plan, out, moment.peer)?;
+    push_code(out, b",")
 }
 
 /// Adds what happened.

@@ -1,7 +1,9 @@
 pub mod Appended
+pub mod Writing
 mod Named
 mod Starts
 mod Wanting
+mod TurnTexts
 mod Prefixes
 mod Numbers
 mod Quotes

@@ -1,11 +1,12 @@
 -- The entries of a round are those from its start up to the next one.
-use Rattle.std.proofs.Common.{◌≡◌, ◌≤◌, ℕ, zero, suc, ◌+◌, ◌<◌, Bool, true, false, if◌then◌else◌, List, [], ◌∷◌, ◌++◌, drop, take, length, map, get_or, set, refl, sym, ap, ◌∙◌, arith, length-drop, reverse, add-one, append-nil}
+use Rattle.std.proofs.Common.{◌≡◌, ◌≤◌, ℕ, zero, suc, ◌+◌, ◌<◌, Bool, true, false, if◌then◌else◌, List, [], ◌∷◌, ◌++◌, drop, take, length, map, get_or, nat_eq, set, refl, sym, ap, ◌∙◌, arith, length-drop, reverse, add-one, append-nil, append_assoc}
 use Rattle.std.specs.List.{flat_map, range_with_len}
 use Rattle.std.proofs.lemmas.Grind.{flat_map-append}
 use Rattle.std.proofs.lemmas.List.{drop-drop, reverse-reverse, take_more}
 use Rattle.gs_rules.specs.declared.trace.Entry.{Entry}
-use Rattle.gs_trace.specs.Lines.{after_end, after_ends, ends_round, up_to_end}
+use Rattle.gs_trace.specs.Lines.{after_end, after_ends, ends_round, in_round, up_to_end}
 use Rattle.gs_trace.specs.Starts.{start_of}
+use Rattle.gs_trace.proofs.Writing.{parts}
 
 -- ---- up to an end
 
@@ -66,6 +67,21 @@ start_low r start entries trace is begins =
     let same : start ≡ start_of r entries = begins ∙ ap (start_of r) (sym (forward entries trace is)) in
     omega (arith, fits, same)
 
+-- the entries that are taken from a start on are those of the round
+pub of_round : (start round rounds : ℕ) (entries rest mine trace : List Entry)
+    → reverse entries ≡ trace
+    → rest ≡ drop start entries
+    → start ≡ start_of round (reverse trace)
+    → mine ≡ (if nat_eq round rounds then rest else up_to_end rest)
+    → mine ≡ in_round rounds round (reverse trace)
+of_round start round rounds entries rest mine trace is left begins cut =
+    let after : rest ≡ after_ends round (reverse trace) =
+    left
+    ∙ ap (drop start) (forward entries trace is)
+    ∙ ap (λ (n : ℕ). drop n (reverse trace)) begins
+    ∙ left_is round (reverse trace) in
+    cut ∙ ap (λ (es : List Entry). if nat_eq round rounds then es else up_to_end es) after
+
 -- ---- a walk over the peers
 
 -- what is at a place that the walk has not reached
@@ -114,3 +130,17 @@ round_last {X = X} line told n =
 
 pub round_more : {X : Type 0} (line : X → List ℕ) (told : ℕ → List X) (n : ℕ) → text_to line told n ++ flat_map line (told n) ≡ text_to line told (n + 1)
 round_more line told n = round_last line told n ∙ ap (text_to line told) (sym (add-one n))
+
+-- the text of some rounds is a front of that of more rounds
+pub rounds_front : {X : Type 0} (line : X → List ℕ) (told : ℕ → List X) (r k n : ℕ) → r + k ≡ n → (rest : List ℕ) × (text_to line told n ≡ text_to line told r ++ rest)
+rounds_front line told r zero n is =
+    let same : n ≡ r = omega (arith, is) in
+    ([], ap (text_to line told) same ∙ sym (append-nil (text_to line told r)))
+rounds_front line told r (suc k) n is =
+    let (rest, front) = rounds_front line told (r + 1) k n (omega (arith, is)) in
+    (flat_map line (told r) ++ rest, front ∙ ap (λ (text : List ℕ). text ++ rest) (sym (round_more line told r)) ∙ append_assoc (text_to line told r) (flat_map line (told r)) rest)
+
+-- the text of some peers is a front of that of all
+pub peers_parts : {X Y : Type 0} (line : Y → List ℕ) (told : X → List Y) (xs : List X) (i : ℕ)
+    → flat_map line (flat_map told xs) ≡ flat_map line (flat_map told (take i xs)) ++ flat_map line (flat_map told (drop i xs))
+peers_parts line told xs i = ap (flat_map line) (parts told xs i) ∙ flat_map-append line (flat_map told (take i xs)) (flat_map told (drop i xs))

@@ -6,5 +6,7 @@ pub mod Lines
 pub mod Wanted
 pub mod Spans
 pub mod Starts
+pub mod Turns
+pub mod Pages
 pub mod Stored
 pub mod Traces

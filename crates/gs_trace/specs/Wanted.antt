@@ -1,6 +1,6 @@
 -- Which lines of a trace are wanted. The first line always is.
 use Rattle.std.specs.Prelude.{ℕ, nat_le, Bool, true, false, ◌&&◌, ◌==◌, if◌then◌else◌, List, [], ◌∷◌, ◌++◌, drop, filter, length, Option, None, Some}
-use Rattle.std.specs.List.{flat_map}
+use Rattle.std.specs.List.{flat_map, list_any, slice_split}
 use Rattle.gs_base.specs.declared.names.PeerNo.{PeerNo}
 use Rattle.gs_plan.specs.declared.plan.Plan.{Plan}
 use Rattle.gs_rules.specs.declared.trace.Entry.{Entry}
@@ -44,21 +44,9 @@ suits test (Some wish) = test wish
 
 -- ---- words with commas between them
 
--- this is the first of some bytes
-abbrev pub begins : List ℕ → ℕ → Bool
-begins [] byte = false
-begins (c ∷ cs) byte = c == byte
-
--- Whether a word stands among these, where this is left of it, and the bytes so far fit it or not.
-abbrev pub stands_from : List ℕ → Bool → List ℕ → List ℕ → Bool
-stands_from word fits left [] = fits && (length left == 0)
-stands_from word fits left (byte ∷ more) =
-    if byte == 44 then (if fits && (length left == 0) then true else stands_from word true word more)
-    else stands_from word (fits && begins left byte) (drop 1 left) more
-
--- whether a word is one of those in a text, which have commas between them
+-- whether a word is one of those that a text has between commas
 abbrev pub is_among : List ℕ → List ℕ → Bool
-is_among word words = stands_from word true word words
+is_among word words = list_any (λ one. same_bytes one word) (slice_split (λ byte. byte == 44) words)
 
 -- ---- lines
 

@@ -1,69 +1,40 @@
 //! The line of an entry: what happened at a peer, and what it did about it.
-ghost use Rattle.std.specs.Prelude.{◌≡◌, ◌++◌, map, OnOk};
-ghost use Rattle.std.specs.List.{flat_map};
+ghost use Rattle.std.specs.Prelude.{◌≡◌, ◌++◌, OnOk};
 ghost use Rattle.gs_trace.specs.Texts.{list_text, names_of, optional_text};
 ghost use Rattle.gs_trace.specs.Events.{delivery_text, effects_members, event_members, mark_object, promise_text, send_text};
 ghost use Rattle.gs_trace.specs.Lines.{entry_members, line_start, line_text};
 ghost use Rattle.gs_trace.specs.Lines.Told.{Did};
-ghost use Rattle.gs_trace.specs.Wanted.{line_if, wishes_of};
+ghost use Rattle.gs_trace.specs.Turns.{entry_line};
 
 use crate::events::{push_event, push_payload, push_shared_rpc};
+use crate::pages::Told;
 use crate::texts::{Shown, push_code, push_list, push_number};
-use crate::wanted::{Wanted, is_entry_wanted};
+use crate::turn::Turn;
+use crate::wanted::is_entry_wanted;
 use bytes::Bytes;
 use gs_base::{Millis, PeerNo, Rpc, Shared, Topic};
 use gs_plan::Plan;
 use gs_rules::{Promise, StoredEntry};
 use std::alloc::AllocError;
 
-/// Adds the lines of a peer's entries in a round, those that are wanted.
-pub(crate) fn push_entries(
-    plan: &Plan,
-    wanted: &Wanted<'_>,
-    out: &mut Vec<u8>,
-    round: u64,
-    peer: PeerNo,
-    entries: &[StoredEntry],
-) -> Result<(), AllocError>
-    ensures { OnOk result (out.new.items
-        ≡ out.old.items ++ flat_map (line_if (wishes_of wanted.now) plan.now) (map (Did round peer) entries.now)) }
-{
-    for entry in entries {
-        push_entry_if(plan, wanted, out, round, peer, entry)?;
-    }
-    Ok(())
-}
+impl Told for StoredEntry {
+    ghost line = { entry_line };
 
-/// Adds the line of an entry, if it is wanted.
-fn push_entry_if(
-    plan: &Plan,
-    wanted: &Wanted<'_>,
-    out: &mut Vec<u8>,
-    round: u64,
-    peer: PeerNo,
-    entry: &StoredEntry,
-) -> Result<(), AllocError>
-    ensures { OnOk result (out.new.items
-        ≡ out.old.items ++ line_if (wishes_of wanted.now) plan.now (Did round peer entry.now)) }
-{
-    if is_entry_wanted(plan, wanted, round, peer, entry) {
-        return push_entry(plan, out, round, peer, entry);
+    fn push(&self, turn: &Turn<'_>, page: &mut Vec<u8>) -> Result<(), AllocError> {
+        if is_entry_wanted(turn, self) {
+            return push_entry(turn, page, self);
+        }
+        Ok(())
     }
-    Ok(())
 }
 
 /// Adds the line of an entry.
-fn push_entry(
-    plan: &Plan,
-    out: &mut Vec<u8>,
-    round: u64,
-    peer: PeerNo,
-    entry: &StoredEntry,
-) -> Result<(), AllocError>
-    ensures { OnOk result (out.new.items ≡ out.old.items ++ line_text plan.now (Did round peer entry.now)) }
+fn push_entry(turn: &Turn<'_>, out: &mut Vec<u8>, entry: &StoredEntry) -> Result<(), AllocError>
+    ensures { OnOk result (out.new.items
+        ≡ out.old.items ++ line_text turn.now.plan.now (Did turn.now.round turn.now.peer entry.now)) }
 {
-    push_start_of(plan, out, round, peer, entry)?;
-    push_members(plan, out, entry)?;
+    push_start_of(turn, out, entry)?;
+    push_members(turn.plan, out, entry)?;
     push_code(out, b"}\n")
 }
 
@@ -82,37 +53,24 @@ fn push_event_of(plan: &Plan, out: &mut Vec<u8>, entry: &StoredEntry) -> Result<
 }
 
 /// Adds what begins the line of an entry.
-fn push_start_of(
-    plan: &Plan,
-    out: &mut Vec<u8>,
-    round: u64,
-    peer: PeerNo,
-    entry: &StoredEntry,
-) -> Result<(), AllocError>
-    ensures { OnOk result (out.new.items ≡ out.old.items ++ line_start (names_of plan.now) round entry.now.at peer) }
+fn push_start_of(turn: &Turn<'_>, out: &mut Vec<u8>, entry: &StoredEntry) -> Result<(), AllocError>
+    ensures { OnOk result (out.new.items
+        ≡ out.old.items ++ line_start (names_of turn.now.plan.now) turn.now.round entry.now.at turn.now.peer) }
 {
-    push_start(plan, out, round, entry.at(), peer)
+    push_start(turn, out, entry.at())
 }
 
-/// Adds what begins a line of a peer: the round, the moment and the name.
-///
-/// # Errors
-/// `AllocError` where there was no memory for it. A part of it may be there then.
-pub fn push_start(
-    plan: &Plan,
-    out: &mut Vec<u8>,
-    round: u64,
-    at: Millis,
-    peer: PeerNo,
-) -> Result<(), AllocError>
-    ensures { OnOk result (out.new.items ≡ out.old.items ++ line_start (names_of plan.now) round at peer) }
+/// Adds what begins a line of a turn.
+pub(crate) fn push_start(turn: &Turn<'_>, out: &mut Vec<u8>, at: Millis) -> Result<(), AllocError>
+    ensures { OnOk result (out.new.items
+        ≡ out.old.items ++ line_start (names_of turn.now.plan.now) turn.now.round at turn.now.peer) }
 {
     push_code(out, b"{\"round\":")?;
-    push_number(out, round)?;
+    push_number(out, turn.round)?;
     push_code(out, b",\"at\":")?;
-    at.push(plan, out)?;
+    at.push(turn.plan, out)?;
     push_code(out, b",\"peer\":")?;
-    peer.push(plan, out)?;
+    turn.peer.push(turn.plan, out)?;
     push_code(out, b",")
 }
 

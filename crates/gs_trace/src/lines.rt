@@ -1,64 +1,64 @@
 //! The lines of a run's trace, round by round.
-ghost use Rattle.std.specs.Prelude.{◌≡◌, ◌≤◌, ◌++◌, ◌+◌, drop, suc, length, map, if◌then◌else◌, IfOk, OnOk, true, false};
-ghost use Rattle.std.specs.List.{flat_map, range_with_len};
+ghost use Rattle.std.specs.Io.KnownBytes.{Appends};
+ghost use Rattle.std.specs.Prelude.{◌≡◌, ◌≤◌, ◌++◌, ◌+◌, drop, suc, length, map, if◌then◌else◌, IfOk, OnErr, OnOk, true, false};
 ghost use Rattle.gs_rules.specs.Events.{of_round_end};
-ghost use Rattle.gs_trace.specs.Lines.{head_text, told, told_of, trace_text, up_to_end};
-ghost use Rattle.gs_trace.specs.Starts.{start_in, told_by};
-ghost use Rattle.gs_trace.specs.Wanted.{line_if, wanted_text, wishes_of};
+ghost use Rattle.gs_streams.specs.Streams.{AppendsFront};
+ghost use Rattle.gs_trace.specs.Lines.{up_to_end};
+ghost use Rattle.gs_trace.specs.Pages.{Adds};
+ghost use Rattle.gs_trace.specs.Starts.{start_in};
+ghost use Rattle.gs_trace.specs.Turns.{round_text, rounds_text, turn_text};
+ghost use Rattle.gs_trace.specs.Wanted.{wanted_text, wishes_of};
 
-use crate::entries::push_entries;
+use crate::fault::TraceFault;
 use crate::head::push_head;
-use crate::refusals::push_refusals;
-use crate::wanted::{Wanted, all_lines};
+use crate::pages::{write_lines, write_page};
+use crate::turn::Turn;
+use crate::wanted::Wanted;
 use gs_base::PeerNo;
 use gs_plan::Plan;
 use gs_report::{Finished, Report};
 use gs_rules::{Event, StoredEntry};
 use std::alloc::{AllocError, Global};
+use std::io::Write;
 
-/// The trace of a run as JSON Lines (docs/FORMATS.md has each field): first who the peers are, and then one line for each
-/// entry, by round, then by peer, then in order. The lines of the script that a peer refused in a round come after its
-/// entries.
-///
-/// # Errors
-/// `AllocError` where there was no memory for it.
-pub fn trace_text(alloc: Global, plan: &Plan, report: &Report) -> Result<Vec<u8>, AllocError>
-    ensures { IfOk result (λ text. text.items ≡ trace_text plan.now report.now) }
-{
-    let all = all_lines();
-    wanted_text(alloc, plan, report, &all)
+/// A walk over the peers of a run, round by round.
+#[derive(Clone, Copy)]
+struct Walk<'a> {
+    plan: &'a Plan,
+    wanted: &'a Wanted<'a>,
+    peers: &'a [(PeerNo, Finished)],
 }
 
-/// The first line of a trace, and of the others those that are wanted.
+/// Writes the trace of a run as JSON Lines (docs/FORMATS.md has each field). First it says who the peers are. Then comes
+/// a line for each entry, by round, then by peer, then in order; the lines of the script that a peer refused in a round
+/// come after its entries. Of these lines it writes those that are wanted. Some 64 KiB of lines wait at most, and one
+/// line more.
 ///
 /// # Errors
-/// `AllocError` where there was no memory for it.
-pub fn wanted_text(
+/// One where there was no memory, or a write failed. A front of the text has then been written.
+pub fn write_trace<W: Write>(
     alloc: Global,
     plan: &Plan,
     report: &Report,
     wanted: &Wanted<'_>,
-) -> Result<Vec<u8>, AllocError>
-    ensures { IfOk result (λ text. text.items ≡ wanted_text (wishes_of wanted.now) plan.now report.now) }
+    output: &mut W,
+) -> Result<(), TraceFault>
+    ensures whole { OnOk result (Appends (W.contents output.old) (W.contents output.new)
+        (wanted_text (wishes_of wanted.now) plan.now report.now)) }
+    ensures front { OnErr result (AppendsFront (W.contents output.old) (W.contents output.new)
+        (wanted_text (wishes_of wanted.now) plan.now report.now)) }
 {
-    round_by_round(alloc, plan, report, wanted)
-}
-
-/// The same, made round by round.
-fn round_by_round(
-    alloc: Global,
-    plan: &Plan,
-    report: &Report,
-    wanted: &Wanted<'_>,
-) -> Result<Vec<u8>, AllocError>
-    ensures { IfOk result (λ text. text.items
-        ≡ head_text plan.now ++ flat_map (line_if (wishes_of wanted.now) plan.now) (told plan.now report.now)) }
-{
+    let mut page = Vec::new(alloc);
     let mut starts = first_starts(alloc, &report.peers)?;
-    let mut out = Vec::new(alloc);
-    push_head(plan, &mut out)?;
-    push_rounds(plan, wanted, &mut out, &report.peers, &mut starts)?;
-    Ok(out)
+    push_head(plan, &mut page)?;
+    let walk = Walk {
+        plan,
+        wanted,
+        peers: &report.peers,
+    };
+    write_rounds(&walk, &mut starts, &mut page, output)?;
+    write_page(&mut page, output)?;
+    Ok(())
 }
 
 /// Where the entries of each peer begin in the first round.
@@ -72,66 +72,75 @@ fn first_starts(alloc: Global, peers: &[(PeerNo, Finished)]) -> Result<Vec<usize
     Ok(starts)
 }
 
-/// Adds the lines of all rounds.
-fn push_rounds(
-    plan: &Plan,
-    wanted: &Wanted<'_>,
-    out: &mut Vec<u8>,
-    peers: &[(PeerNo, Finished)],
+/// Writes the lines of all rounds.
+fn write_rounds<W: Write>(
+    walk: &Walk<'_>,
     starts: &mut [usize],
-) -> Result<(), AllocError>
-    requires { starts.old ≡ map (start_in 0) peers.now }
-    ensures { OnOk result (out.new.items ≡ out.old.items
-        ++ flat_map (line_if (wishes_of wanted.now) plan.now) (flat_map (told_by plan.now peers.now) (range_with_len 0 (suc plan.now.rounds)))) }
+    page: &mut Vec<u8>,
+    output: &mut W,
+) -> Result<(), TraceFault>
+    requires { starts.old ≡ map (start_in 0) walk.now.peers.now }
+    ensures added { OnOk result (Adds (rounds_text walk.now)
+        page.old.items page.new.items (W.contents output.old) (W.contents output.new)) }
+    ensures front { OnErr result (AppendsFront (W.contents output.old) (W.contents output.new)
+        (page.old.items ++ rounds_text walk.now)) }
 {
-    for round in 0..plan.rounds {
-        push_round(plan, wanted, out, round, peers, starts)?;
+    for round in 0..walk.plan.rounds {
+        write_round(walk, round, starts, page, output)?;
     }
-    push_round(plan, wanted, out, plan.rounds, peers, starts)
+    write_round(walk, walk.plan.rounds, starts, page, output)
 }
 
-/// Adds the lines of a round, in which the entries of each peer begin at these places. After it they are those of the next
-/// one.
-fn push_round(
-    plan: &Plan,
-    wanted: &Wanted<'_>,
-    out: &mut Vec<u8>,
+/// Writes the lines of a round, in which the entries of each peer begin at these places. After it they are those of the
+/// next one.
+fn write_round<W: Write>(
+    walk: &Walk<'_>,
     round: u64,
-    peers: &[(PeerNo, Finished)],
     starts: &mut [usize],
-) -> Result<(), AllocError>
-    requires { starts.old ≡ map (start_in round) peers.now }
-    ensures text { OnOk result (out.new.items
-        ≡ out.old.items ++ flat_map (line_if (wishes_of wanted.now) plan.now) (told_by plan.now peers.now round)) }
-    ensures starts { OnOk result (starts.new ≡ map (start_in (suc round)) peers.now) }
+    page: &mut Vec<u8>,
+    output: &mut W,
+) -> Result<(), TraceFault>
+    requires { starts.old ≡ map (start_in round) walk.now.peers.now }
+    ensures added { OnOk result (Adds (round_text walk.now round)
+        page.old.items page.new.items (W.contents output.old) (W.contents output.new)) }
+    ensures starts { OnOk result (starts.new ≡ map (start_in (suc round)) walk.now.peers.now) }
+    ensures front { OnErr result (AppendsFront (W.contents output.old) (W.contents output.new)
+        (page.old.items ++ round_text walk.now round)) }
 {
-    for place in 0..peers.len() {
-        starts[place] = push_told(plan, wanted, out, round, &peers[place], starts[place])?;
+    for place in 0..walk.peers.len() {
+        let (peer, life) = &walk.peers[place];
+        let turn = Turn {
+            plan: walk.plan,
+            wanted: walk.wanted,
+            round,
+            peer: *peer,
+        };
+        starts[place] = write_turn(&turn, life, starts[place], page, output)?;
     }
     Ok(())
 }
 
-/// Adds the lines of a peer in a round, in which its entries begin at a place, and gives that of the next round.
-fn push_told(
-    plan: &Plan,
-    wanted: &Wanted<'_>,
-    out: &mut Vec<u8>,
-    round: u64,
-    peer: &(PeerNo, Finished),
+/// Writes the lines of a peer's turn, in which its entries begin at a place, and gives that of the next round.
+fn write_turn<W: Write>(
+    turn: &Turn<'_>,
+    life: &Finished,
     start: usize,
-) -> Result<usize, AllocError>
-    requires { start ≡ start_in round peer.now }
-    ensures text { OnOk result (out.new.items
-        ≡ out.old.items ++ flat_map (line_if (wishes_of wanted.now) plan.now) (told_of plan.now round peer.now)) }
-    ensures next { IfOk result (λ next. next ≡ start_in (suc round) peer.now) }
+    page: &mut Vec<u8>,
+    output: &mut W,
+) -> Result<usize, TraceFault>
+    requires { start ≡ start_in turn.now.round (turn.now.peer, life.now) }
+    ensures added { OnOk result (Adds (turn_text turn.now life.now)
+        page.old.items page.new.items (W.contents output.old) (W.contents output.new)) }
+    ensures next { IfOk result (λ next. next ≡ start_in (suc turn.now.round) (turn.now.peer, life.now)) }
+    ensures front { OnErr result (AppendsFront (W.contents output.old) (W.contents output.new)
+        (page.old.items ++ turn_text turn.now life.now)) }
 {
-    let (number, life) = peer;
     let entries = life.trace.entries();
     let rest = rest_of(entries, start);
     let end = end_of(entries, start);
-    let of_round = in_round(rest, end - start, round == plan.rounds);
-    push_entries(plan, wanted, out, round, *number, of_round)?;
-    push_refusals(plan, wanted, out, round, *number, life.refused.as_slice())?;
+    let of_round = in_round(rest, end - start, turn.round == turn.plan.rounds);
+    write_lines(turn, of_round, page, output)?;
+    write_lines(turn, life.refused.as_slice(), page, output)?;
     Ok(end)
 }
 

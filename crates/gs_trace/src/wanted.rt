@@ -1,11 +1,12 @@
 //! Which lines of a trace are wanted.
-ghost use Rattle.std.specs.Prelude.{◌≡◌, ◌&&◌, drop};
+ghost use Rattle.std.specs.Prelude.{◌≡◌, ◌&&◌};
 ghost use Rattle.gs_trace.specs.Events.{event_word, refused_word};
 ghost use Rattle.gs_trace.specs.Lines.Told.{Did, Refused};
-ghost use Rattle.gs_trace.specs.Wanted.{begins, is_about, is_among, is_event, is_in_rounds, is_line_about, is_of_peer, is_wanted, lies_in, no_wish, suits, wishes_of};
+ghost use Rattle.gs_trace.specs.Wanted.{is_about, is_among, is_event, is_in_rounds, is_line_about, is_of_peer, is_wanted, lies_in, no_wish, suits, wishes_of};
 
 use crate::events::event_word;
 use crate::topics::{entry_names, line_names};
+use crate::turn::Turn;
 use gs_base::PeerNo;
 use gs_plan::Plan;
 use gs_report::name_of;
@@ -52,36 +53,27 @@ pub fn all_lines<'a>() -> Wanted<'a>
 }
 
 /// Whether the line of an entry is wanted.
-pub(crate) fn is_entry_wanted(
-    plan: &Plan,
-    wanted: &Wanted<'_>,
-    round: u64,
-    peer: PeerNo,
-    entry: &StoredEntry,
-) -> bool
-    ensures { result ≡ is_wanted (wishes_of wanted.now) plan.now (Did round peer entry.now) }
+pub(crate) fn is_entry_wanted(turn: &Turn<'_>, entry: &StoredEntry) -> bool
+    ensures { result ≡ is_wanted (wishes_of turn.now.wanted.now) turn.now.plan.now
+        (Did turn.now.round turn.now.peer entry.now) }
 {
-    is_of(plan, wanted, round, peer) && tells(wanted, entry)
+    is_of(turn) && tells(turn.wanted, entry)
 }
 
 /// Whether the line of a refused line of the script is wanted.
-pub(crate) fn is_refusal_wanted(
-    plan: &Plan,
-    wanted: &Wanted<'_>,
-    round: u64,
-    peer: PeerNo,
-    refusal: RefusedLine,
-) -> bool
-    ensures { result ≡ is_wanted (wishes_of wanted.now) plan.now (Refused round peer refusal) }
+pub(crate) fn is_refusal_wanted(turn: &Turn<'_>, refusal: RefusedLine) -> bool
+    ensures { result ≡ is_wanted (wishes_of turn.now.wanted.now) turn.now.plan.now
+        (Refused turn.now.round turn.now.peer refusal) }
 {
-    is_of(plan, wanted, round, peer) && tells_refusal(plan, wanted, refusal.line)
+    is_of(turn) && tells_refusal(turn.plan, turn.wanted, refusal.line)
 }
 
-/// Whether a line is of the peer and of one of the rounds.
-fn is_of(plan: &Plan, wanted: &Wanted<'_>, round: u64, peer: PeerNo) -> bool
-    ensures { result ≡ (is_of_peer (wishes_of wanted.now) plan.now peer && is_in_rounds (wishes_of wanted.now) round) }
+/// Whether a turn is of the peer and in one of the rounds.
+fn is_of(turn: &Turn<'_>) -> bool
+    ensures { result ≡ (is_of_peer (wishes_of turn.now.wanted.now) turn.now.plan.now turn.now.peer
+        && is_in_rounds (wishes_of turn.now.wanted.now) turn.now.round) }
 {
-    is_of_peer(plan, wanted, peer) && is_in_rounds(wanted.rounds, round)
+    is_of_peer(turn.plan, turn.wanted, turn.peer) && is_in_rounds(turn.wanted.rounds, turn.round)
 }
 
 fn is_of_peer(plan: &Plan, wanted: &Wanted<'_>, peer: PeerNo) -> bool
@@ -104,14 +96,16 @@ fn is_in_rounds(rounds: Option<RoundSpan>, round: u64) -> bool
 
 /// Whether an entry has one of the events, and names the topic.
 fn tells(wanted: &Wanted<'_>, entry: &StoredEntry) -> bool
-    ensures { result ≡ (is_event (wishes_of wanted.now) (event_word entry.now.event) && is_about (wishes_of wanted.now) entry.now) }
+    ensures { result ≡ (is_event (wishes_of wanted.now) (event_word entry.now.event)
+        && is_about (wishes_of wanted.now) entry.now) }
 {
     is_event(wanted, event_word(entry.event())) && is_about(wanted, entry)
 }
 
 /// Whether refused lines are among the events, and this one names the topic.
 fn tells_refusal(plan: &Plan, wanted: &Wanted<'_>, place: usize) -> bool
-    ensures { result ≡ (is_event (wishes_of wanted.now) refused_word && is_line_about (wishes_of wanted.now) plan.now place) }
+    ensures { result ≡ (is_event (wishes_of wanted.now) refused_word
+        && is_line_about (wishes_of wanted.now) plan.now place) }
 {
     is_event(wanted, b"refused") && is_line_about(plan, wanted, place)
 }
@@ -139,49 +133,13 @@ fn is_event(wanted: &Wanted<'_>, word: &[u8]) -> bool
 {
     match wanted.events {
         Wish::Any => true,
-        Wish::Only(words) => is_among(word, words.as_bytes()),
+        Wish::Only(words) => is_among(word, words),
     }
 }
 
 /// Whether a word is one of those in a text, which have commas between them.
-fn is_among(word: &[u8], words: &[u8]) -> bool
+fn is_among(word: &[u8], words: &str) -> bool
     ensures { result ≡ is_among word.now words.now }
 {
-    let mut fits = true;
-    let mut left = word;
-    let mut rest = words;
-    while let [byte, more @ ..] = rest {
-        rest = more;
-        if *byte == b',' {
-            if fits && left.is_empty() {
-                return true;
-            }
-            fits = true;
-            left = word;
-            continue;
-        }
-        fits = fits && begins(left, *byte);
-        left = after_one(left);
-    }
-    fits && left.is_empty()
-}
-
-/// Whether this is the first of some bytes.
-fn begins(bytes: &[u8], byte: u8) -> bool
-    ensures { result ≡ begins bytes.now byte }
-{
-    match bytes {
-        [first, ..] => *first == byte,
-        [] => false,
-    }
-}
-
-/// What comes after the first of some bytes.
-fn after_one(bytes: &[u8]) -> &[u8]
-    ensures { result.now ≡ drop 1 bytes.now }
-{
-    match bytes {
-        [_, more @ ..] => more,
-        [] => bytes,
-    }
+    words.split(',').any(|one| one.as_bytes() == word)
 }

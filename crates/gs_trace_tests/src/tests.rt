@@ -1,14 +1,16 @@
 //! Runs of the peers `a` and `b`, and how their traces are told.
 mod events;
 mod marks;
+mod pages;
 mod plan;
 mod wanted;
 
 use crate::tests::plan::{bytes, plan, topic};
 use gs_base::{Mark, Millis, MsgId, PeerNo, Rpc, Seq, Shared};
+use gs_plan::Plan;
 use gs_report::{Finished, Report};
 use gs_rules::{Effects, Entry, Event, Promise, Refusal, RefusedLine, Trace};
-use gs_trace::trace_text;
+use gs_trace::{Wanted, all_lines, write_trace};
 use std::alloc::{AllocError, Global};
 
 pub(crate) const HEAD: &[u8] = b"{\"peers\":[\"a\",\"b\"],\"round_ms\":100,\"last_round\":2,\
@@ -27,9 +29,23 @@ fn finished(
     })
 }
 
+/// What is written of a run.
+fn text_of(
+    alloc: Global,
+    plan: &Plan,
+    report: &Report,
+    wanted: &Wanted<'_>,
+) -> Result<Vec<u8>, AllocError> {
+    let mut text = Vec::new(alloc);
+    match write_trace(alloc, plan, report, wanted, &mut text) {
+        Ok(()) => Ok(text),
+        Err(_) => Err(AllocError),
+    }
+}
+
 /// Whether the trace of a run is told by the first line and this.
 fn is_told(alloc: Global, report: &Report, lines: &[u8]) -> Result<bool, AllocError> {
-    let told = trace_text(alloc, &plan(alloc)?, report)?;
+    let told = text_of(alloc, &plan(alloc)?, report, &all_lines())?;
     let mut text = Vec::new(alloc);
     text.extend_from_slice(HEAD)?;
     text.extend_from_slice(lines)?;

@@ -40,6 +40,7 @@ pub(super) fn output_of<T: Host>(rt: &T, text: &str) -> Option<Vec<u8>>
         ExitStatus::Reported => Some(output),
         ExitStatus::ScenarioRefused
         | ExitStatus::RunRefused
+        | ExitStatus::TextRefused
         | ExitStatus::InputFailed
         | ExitStatus::OutputFailed => None,
     }
@@ -56,6 +57,7 @@ fn direct_output_of(alloc: Global, text: &str) -> Option<Vec<u8>>
         ExitStatus::Reported => Some(output),
         ExitStatus::ScenarioRefused
         | ExitStatus::RunRefused
+        | ExitStatus::TextRefused
         | ExitStatus::InputFailed
         | ExitStatus::OutputFailed => None,
     }

@@ -1,13 +1,10 @@
 //! Rounds of a run, and which of their lines are wanted.
 use crate::tests::plan::plan;
-use crate::tests::{HEAD, finished};
+use crate::tests::{HEAD, finished, text_of};
 use gs_base::{Millis, PeerNo, Seq};
 use gs_report::Report;
 use gs_rules::{Effects, Entry, Event, Refusal, RefusedLine, Trace};
-use gs_trace::{
-    RoundSpan, Wanted, Wish, a_trace_tells_all, all_lines, trace_text, wanted_text,
-    wanting_all_tells_all,
-};
+use gs_trace::{RoundSpan, Wanted, Wish, a_trace_tells_all, all_lines, wanting_all_tells_all};
 use std::alloc::{AllocError, Global};
 
 /// What a peer does: `true` ends the round.
@@ -172,7 +169,7 @@ static WISHES: [(Wanted<'static>, &[usize]); 8] = [
 /// Whether what is wanted of a run are the lines at these places.
 fn are_told(alloc: Global, wanted: &Wanted<'_>, places: &[usize]) -> Result<bool, AllocError> {
     let report = report_of(alloc, &TWO_LIVES)?;
-    let told = wanted_text(alloc, &plan(alloc)?, &report, wanted)?;
+    let told = text_of(alloc, &plan(alloc)?, &report, wanted)?;
     Ok(told == lines_at(alloc, places)?)
 }
 
@@ -187,9 +184,8 @@ fn lines_that_are_wanted_come_by_round_then_by_peer(rt: HostRuntime) -> Result<(
 /// Whether all lines are told where nothing is wished for.
 fn are_all_told(alloc: Global) -> Result<bool, AllocError> {
     let report = report_of(alloc, &TWO_LIVES)?;
-    let plan = plan(alloc)?;
-    let told = trace_text(alloc, &plan, &report)?;
-    Ok(told == wanted_text(alloc, &plan, &report, &all_lines())?)
+    let told = text_of(alloc, &plan(alloc)?, &report, &all_lines())?;
+    Ok(told == lines_at(alloc, &[0, 1, 2, 3, 4, 5, 6, 7, 8, 9])?)
 }
 
 #[test]
