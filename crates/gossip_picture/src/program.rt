@@ -76,7 +76,8 @@ where
     R: Read,
     W: Write,
     E: Write,
-    ensures { EndsWith (printed asked.entry) false false (exit_status result) (R.remaining input.old) (R.remaining input.new)
+    ensures { EndsWith (printed asked.entry) false false (exit_status result)
+        (R.remaining input.old) (R.remaining input.new)
         (W.contents output.old) (W.contents output.new) (E.contents errors.old) (E.contents errors.new) }
 {
     let program = Program {

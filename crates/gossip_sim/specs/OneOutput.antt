@@ -1,5 +1,5 @@
 -- What two runs of the program write.
-use Rattle.std.specs.Prelude.{◌≡◌, ℕ, Bool, List, Option}
+use Rattle.std.specs.Prelude.{◌≡◌, ℕ, Bool, false, List, Option}
 use Rattle.std.specs.Io.KnownBytes.{Appends}
 use Rattle.gs_report.specs.Text.{report_text}
 use Rattle.gs_laws.specs.Runs.{AreAlike}

@@ -76,7 +76,8 @@ where
     R: Read,
     W: Write,
     E: Write,
-    ensures { EndsWith report_text false (needs_threads way) (exit_status result) (R.remaining input.old) (R.remaining input.new)
+    ensures { EndsWith report_text false (needs_threads way) (exit_status result)
+        (R.remaining input.old) (R.remaining input.new)
         (W.contents output.old) (W.contents output.new) (E.contents errors.old) (E.contents errors.new) }
 {
     match way {
@@ -85,8 +86,8 @@ where
     }
 }
 
-/// Reads a scenario from the input, runs it over links, and writes its report to the output once the run has ended. The gate
-/// hears of each round that a peer begins. Why there is no report is a line on `errors`; where that can't be written, the
+/// Reads a scenario from the input, runs it over links, and writes its report to the output once the run has ended. The
+/// gate hears of each round that a peer begins. Why there is no report is a line on `errors`; where that can't be written, the
 /// status stays the same.
 pub fn run<T, G, R, W, E>(
     rt: &T,

@@ -33,7 +33,8 @@ pub trait Printer: Drop {
     ) -> Result<(), PrintFault>
         requires in_range { IsInRange plan.now }
         requires report { IsReport plan.now report.now }
-        ensures { Prints in_parts (text self.now plan.now report.now) (W.contents output.old) (W.contents output.new) result };
+        ensures { Prints in_parts (text self.now plan.now report.now)
+            (W.contents output.old) (W.contents output.new) result };
 }
 
 /// Why a text was not written to its end.
