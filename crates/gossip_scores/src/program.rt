@@ -1,17 +1,18 @@
 //! The program: it writes the scores of the run of the scenario that it reads.
-ghost use Rattle.std.specs.Prelude.{◌≡◌, false, map, string_bytes};
+ghost use Rattle.std.specs.Prelude.{◌≡◌, false, true, map, string_bytes};
 ghost use Rattle.std.specs.Process.{exit_status};
 ghost use Rattle.gs_program.specs.Program.{EndsWith};
 ghost use Rattle.gs_snapshots.specs.Scores.{scores_text};
 ghost use Rattle.gs_snapshots.specs.Wishes.{wishes_of};
 ghost use Rattle.gossip_scores.specs.Arguments.{asked_for};
-ghost use Rattle.gossip_scores.specs.Printed.{EndsFor};
+ghost use Rattle.gossip_scores.specs.Printed.{EndsFor, as_printed};
 
 use crate::arguments::{asked_by, refuse};
 use gs_plan::Plan;
-use gs_program::{PrintFault, Printer, Program, print_whole};
+use gs_program::{PrintFault, Printer, Program};
 use gs_report::Report;
-use gs_snapshots::{Wanted, scores_text};
+use gs_snapshots::{Wanted, write_scores};
+use gs_trace::TraceFault;
 use std::alloc::Global;
 use std::io::{Read, Write};
 use std::process::ExitCode;
@@ -25,7 +26,7 @@ struct ScoresOf<'a> {
 impl<'a> Printer for ScoresOf<'a> {
     ghost text = { λ printer plan report. scores_text (wishes_of printer.wanted) plan report };
 
-    ghost in_parts = { false };
+    ghost in_parts = { true };
 
     fn print<W: Write>(
         &self,
@@ -34,7 +35,20 @@ impl<'a> Printer for ScoresOf<'a> {
         report: &Report,
         output: &mut W,
     ) -> Result<(), PrintFault> {
-        print_whole(scores_text(alloc, plan, report, &self.wanted), output)
+        match write_scores(alloc, plan, report, &self.wanted, output) {
+            Ok(()) => Ok(()),
+            Err(fault) => Err(as_printed(fault)),
+        }
+    }
+}
+
+/// What a fault of scores is to a printer. Where there was no memory, a front of the text may have been written.
+fn as_printed(fault: TraceFault) -> PrintFault
+    ensures { result ≡ as_printed fault }
+{
+    match fault {
+        TraceFault::NoMemory => PrintFault::CutOff,
+        TraceFault::WriteFailed => PrintFault::WriteFailed,
     }
 }
 
@@ -74,7 +88,7 @@ where
     R: Read,
     W: Write,
     E: Write,
-    ensures { EndsWith (scores_text (wishes_of wanted.entry)) false false (exit_status result)
+    ensures { EndsWith (scores_text (wishes_of wanted.entry)) true false (exit_status result)
         (R.remaining input.old) (R.remaining input.new)
         (W.contents output.old) (W.contents output.new) (E.contents errors.old) (E.contents errors.new) }
 {

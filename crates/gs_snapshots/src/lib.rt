@@ -12,6 +12,6 @@ mod snapshot;
 mod wanted;
 
 pub use moments::{Moment, Occasion};
-pub use scores::scores_text;
+pub use scores::write_scores;
 pub use snapshot::{OnTopic, Snapshot};
 pub use wanted::{Form, Wanted, all_scores};

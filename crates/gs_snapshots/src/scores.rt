@@ -1,5 +1,6 @@
 //! The scores of a run over time: by peer, by moment, by neighbour.
-ghost use Rattle.std.specs.Prelude.{◌≡◌, ◌<◌, ◌++◌, ◌∷◌, [], IfOk, List, OnOk, filter, reverse};
+ghost use Rattle.std.specs.Io.KnownBytes.{Appends};
+ghost use Rattle.std.specs.Prelude.{◌≡◌, ◌<◌, ◌++◌, ◌∷◌, [], IfOk, List, OnErr, OnOk, filter, reverse};
 ghost use Rattle.std.specs.List.{flat_map, AllByRecursion};
 ghost use Rattle.gs_base.specs.declared.names.PeerNo.{PeerNo as PeerNoValue};
 ghost use Rattle.gs_plan.specs.Plans.{IsInRange};
@@ -9,10 +10,12 @@ ghost use Rattle.gs_rules.specs.declared.trace.Entry.{Entry as EntryValue};
 ghost use Rattle.gs_rules.specs.Peers.{Peer};
 ghost use Rattle.gs_rules.specs.Tables.{Entries};
 ghost use Rattle.gs_seats.specs.Reports.{IsReport};
+ghost use Rattle.gs_streams.specs.Streams.{AppendsFront};
+ghost use Rattle.gs_trace.specs.Pages.{Adds};
 ghost use Rattle.gs_snapshots.specs.Forms.{snapshot_text};
-ghost use Rattle.gs_snapshots.specs.Moments.{moments, newest_moment};
-ghost use Rattle.gs_snapshots.specs.Scores.{is_at_wanted_round, is_wanted_peer, scores_text, text_at, text_of_peer, wanted_neighbours};
-ghost use Rattle.gs_snapshots.specs.Telling.{FollowsPeer};
+ghost use Rattle.gs_snapshots.specs.Moments.{newest_moment};
+ghost use Rattle.gs_snapshots.specs.Scores.{is_at_wanted_round, scores_text, text_at, text_of_peer, wanted_neighbours};
+ghost use Rattle.gs_snapshots.specs.Telling.{FollowsPeer, text_if, told_at};
 ghost use Rattle.gs_snapshots.specs.Wishes.{wishes_of};
 
 use crate::csv::push_rows;
@@ -27,12 +30,14 @@ use gs_report::{Finished, Report};
 use gs_router::Follower;
 use gs_rules::StoredEntry;
 use gs_seats::{follower_of, neighbours_of, traces_of_a_report_are_in_order};
-use gs_trace::RoundSpan;
+use gs_trace::{RoundSpan, TraceFault, write_full, write_page};
 use std::alloc::{AllocError, Global};
+use std::io::Write;
 
-/// What is wanted of a peer.
+/// What is wanted of a peer of a plan.
 #[derive(Drop)]
-struct Asked {
+struct Asked<'a> {
+    plan: &'a Plan,
     peer: PeerNo,
     /// Of which neighbours, by number.
     neighbours: Vec<PeerNo>,
@@ -42,85 +47,101 @@ struct Asked {
     form: Option<Form>,
 }
 
-/// The scores of a run that are wanted (docs/FORMATS.md has each field): by peer, then by moment, then by neighbour, each
-/// after what the peer did at that moment.
+/// Writes the scores of a run that are wanted (docs/FORMATS.md has each field): by peer, then by moment, then by neighbour,
+/// each after what the peer did at that moment. Some 64 KiB of text wait at most, and that of one moment more.
 ///
 /// # Errors
-/// `AllocError` where there was no memory for it.
-pub fn scores_text(
+/// One where there was no memory, or a write failed. A front of the text has then been written.
+pub fn write_scores<W: Write>(
     alloc: Global,
     plan: &Plan,
     report: &Report,
     wanted: &Wanted<'_>,
-) -> Result<Vec<u8>, AllocError>
+    output: &mut W,
+) -> Result<(), TraceFault>
     requires range { IsInRange plan.now }
     requires run { IsReport plan.now report.now }
-    ensures { IfOk result (λ text. text.items ≡ scores_text (wishes_of wanted.now) plan.now report.now) }
+    ensures whole { OnOk result (Appends (W.contents output.old) (W.contents output.new)
+        (scores_text (wishes_of wanted.now) plan.now report.now)) }
+    ensures front { OnErr result (AppendsFront (W.contents output.old) (W.contents output.new)
+        (scores_text (wishes_of wanted.now) plan.now report.now)) }
 {
     traces_of_a_report_are_in_order();
-    let mut out = Vec::new(alloc);
-    push_head(plan, wanted.form, &mut out)?;
-    push_peers(plan, wanted, &mut out, &report.peers)?;
-    Ok(out)
+    let mut page = Vec::new(alloc);
+    push_head(plan, wanted.form, &mut page)?;
+    write_peers(plan, wanted, &report.peers, &mut page, output)?;
+    write_page(&mut page, output)?;
+    Ok(())
 }
 
-/// Adds what is told of each peer that is wanted.
-fn push_peers(
+/// Writes what is told of each peer that is wanted.
+fn write_peers<W: Write>(
     plan: &Plan,
     wanted: &Wanted<'_>,
-    out: &mut Vec<u8>,
     peers: &[(PeerNo, Finished)],
-) -> Result<(), AllocError>
+    page: &mut Vec<u8>,
+    output: &mut W,
+) -> Result<(), TraceFault>
     requires range { IsInRange plan.now }
     requires order { AllByRecursion (λ (x : PeerNoValue × FinishedValue). AreInOrder x.1.trace) peers.now }
-    ensures { OnOk result (out.new.items ≡ out.old.items
-        ++ flat_map (text_of_peer (wishes_of wanted.now) plan.now) (filter (is_wanted_peer (wishes_of wanted.now) plan.now) peers.now)) }
+    ensures added { OnOk result (Adds (flat_map (text_if (wishes_of wanted.now) plan.now) peers.now)
+        page.old.items page.new.items (W.contents output.old) (W.contents output.new)) }
+    ensures front { OnErr result (AppendsFront (W.contents output.old) (W.contents output.new)
+        (page.old.items ++ flat_map (text_if (wishes_of wanted.now) plan.now) peers.now)) }
 {
     for peer in peers {
-        push_peer_if(plan, wanted, out, peer)?;
+        write_peer_if(plan, wanted, peer, page, output)?;
     }
     Ok(())
 }
 
-/// Adds what is told of a peer, if it is wanted.
-fn push_peer_if(
+/// Writes what is told of a peer, if it is wanted.
+fn write_peer_if<W: Write>(
     plan: &Plan,
     wanted: &Wanted<'_>,
-    out: &mut Vec<u8>,
     peer: &(PeerNo, Finished),
-) -> Result<(), AllocError>
+    page: &mut Vec<u8>,
+    output: &mut W,
+) -> Result<(), TraceFault>
     requires range { IsInRange plan.now }
     requires order { AreInOrder peer.now.1.trace }
-    ensures { OnOk result (out.new.items ≡ out.old.items
-        ++ flat_map (text_of_peer (wishes_of wanted.now) plan.now) (filter (is_wanted_peer (wishes_of wanted.now) plan.now) (peer.now ∷ []))) }
+    ensures added { OnOk result (Adds (text_if (wishes_of wanted.now) plan.now peer.now)
+        page.old.items page.new.items (W.contents output.old) (W.contents output.new)) }
+    ensures front { OnErr result (AppendsFront (W.contents output.old) (W.contents output.new)
+        (page.old.items ++ text_if (wishes_of wanted.now) plan.now peer.now)) }
 {
     if has_name(wanted.peer, plan, peer.0) {
-        return push_peer(plan, wanted, out, peer);
+        return write_peer(plan, wanted, peer, page, output);
     }
     Ok(())
 }
 
-/// Adds what is told of a peer.
-fn push_peer(
+/// Writes what is told of a peer.
+fn write_peer<W: Write>(
     plan: &Plan,
     wanted: &Wanted<'_>,
-    out: &mut Vec<u8>,
     peer: &(PeerNo, Finished),
-) -> Result<(), AllocError>
+    page: &mut Vec<u8>,
+    output: &mut W,
+) -> Result<(), TraceFault>
     requires range { IsInRange plan.now }
     requires order { AreInOrder peer.now.1.trace }
-    ensures { OnOk result (out.new.items ≡ out.old.items ++ text_of_peer (wishes_of wanted.now) plan.now peer.now) }
+    ensures added { OnOk result (Adds (text_of_peer (wishes_of wanted.now) plan.now peer.now)
+        page.old.items page.new.items (W.contents output.old) (W.contents output.new)) }
+    ensures front { OnErr result (AppendsFront (W.contents output.old) (W.contents output.new)
+        (page.old.items ++ text_of_peer (wishes_of wanted.now) plan.now peer.now)) }
 {
     let (number, life) = peer;
-    let alloc = *out.allocator();
+    let alloc = *page.allocator();
     let asked = Asked {
+        plan,
         peer: *number,
         neighbours: wanted_neighbours(alloc, plan, wanted, *number)?,
         rounds: wanted.rounds,
         form: wanted.form,
     };
     let mut follower = follower_of(alloc, plan, *number, &life.trace)?;
-    push_entries(plan, &asked, out, &mut follower, life.trace.entries())
+    write_entries(&asked, &mut follower, life.trace.entries(), page, output)
 }
 
 /// The neighbours of a peer that are wanted, by number.
@@ -143,22 +164,25 @@ fn wanted_neighbours(
     Ok(list)
 }
 
-/// Adds what is told of a peer at each of its entries, of which its reader has seen none.
-fn push_entries(
-    plan: &Plan,
-    asked: &Asked,
-    out: &mut Vec<u8>,
+/// Writes what is told of a peer at each of its entries, of which its reader has seen none.
+fn write_entries<W: Write>(
+    asked: &Asked<'_>,
     follower: &mut Follower<'_>,
     entries: &[StoredEntry],
-) -> Result<(), AllocError>
-    requires range { 0 < plan.now.round_ms }
-    requires follows { FollowsPeer follower.old plan.now asked.now.peer [] entries.now }
-    ensures { OnOk result (out.new.items ≡ out.old.items
-        ++ flat_map (text_at asked.now.form plan.now asked.now.neighbours.items) (filter (is_at_wanted_round asked.now.rounds) (moments plan.now asked.now.peer (reverse entries.now)))) }
+    page: &mut Vec<u8>,
+    output: &mut W,
+) -> Result<(), TraceFault>
+    requires range { 0 < asked.now.plan.now.round_ms }
+    requires follows { FollowsPeer follower.old asked.now.plan.now asked.now.peer [] entries.now }
+    ensures added { OnOk result (Adds (told_at asked.now (reverse entries.now))
+        page.old.items page.new.items (W.contents output.old) (W.contents output.new)) }
+    ensures front { OnErr result (AppendsFront (W.contents output.old) (W.contents output.new)
+        (page.old.items ++ told_at asked.now (reverse entries.now))) }
 {
     for entry in entries {
         see_next(follower)?;
-        push_entry(plan, asked, out, follower, entry)?;
+        push_entry(asked, page, follower, entry)?;
+        write_full(page, output)?;
     }
     Ok(())
 }
@@ -176,58 +200,55 @@ fn see_next(follower: &mut Follower<'_>) -> Result<(), AllocError>
 
 /// Adds what is told at an entry, the newest that the peer's reader has seen.
 fn push_entry(
-    plan: &Plan,
-    asked: &Asked,
+    asked: &Asked<'_>,
     out: &mut Vec<u8>,
     follower: &Follower<'_>,
     entry: &StoredEntry,
 ) -> Result<(), AllocError>
-    requires { 0 < plan.now.round_ms }
+    requires { 0 < asked.now.plan.now.round_ms }
     ensures { OnOk result ((L : Entries) (left : List EntryValue)
-        → FollowsPeer follower.now plan.now asked.now.peer (entry.now ∷ L) left
+        → FollowsPeer follower.now asked.now.plan.now asked.now.peer (entry.now ∷ L) left
         → out.new.items ≡ out.old.items
-        ++ flat_map (text_at asked.now.form plan.now asked.now.neighbours.items) (filter (is_at_wanted_round asked.now.rounds) (newest_moment plan.now asked.now.peer (entry.now ∷ L)))) }
+        ++ flat_map (text_at asked.now.form asked.now.plan.now asked.now.neighbours.items) (filter (is_at_wanted_round asked.now.rounds) (newest_moment asked.now.plan.now asked.now.peer (entry.now ∷ L)))) }
 {
-    match moment_of(plan, asked.peer, entry) {
-        Some(moment) => push_moment_if(plan, asked, out, follower, moment),
+    match moment_of(asked.plan, asked.peer, entry) {
+        Some(moment) => push_moment_if(asked, out, follower, moment),
         None => Ok(()),
     }
 }
 
 /// Adds what is told at a moment, if it is in a round that is wanted.
 fn push_moment_if(
-    plan: &Plan,
-    asked: &Asked,
+    asked: &Asked<'_>,
     out: &mut Vec<u8>,
     follower: &Follower<'_>,
     moment: Moment,
 ) -> Result<(), AllocError>
     ensures { OnOk result ((L : Entries) (left : List EntryValue)
-        → FollowsPeer follower.now plan.now moment.peer L left
+        → FollowsPeer follower.now asked.now.plan.now moment.peer L left
         → out.new.items ≡ out.old.items
-        ++ flat_map (text_at asked.now.form plan.now asked.now.neighbours.items) (filter (is_at_wanted_round asked.now.rounds) ((moment, L) ∷ []))) }
+        ++ flat_map (text_at asked.now.form asked.now.plan.now asked.now.neighbours.items) (filter (is_at_wanted_round asked.now.rounds) ((moment, L) ∷ []))) }
 {
     if is_in_rounds(asked.rounds, moment.round) {
-        return push_moment(plan, asked, out, follower, moment);
+        return push_moment(asked, out, follower, moment);
     }
     Ok(())
 }
 
 /// Adds what is told at a moment of each neighbour that is wanted.
 fn push_moment(
-    plan: &Plan,
-    asked: &Asked,
+    asked: &Asked<'_>,
     out: &mut Vec<u8>,
     follower: &Follower<'_>,
     moment: Moment,
 ) -> Result<(), AllocError>
     ensures { OnOk result ((L : Entries) (left : List EntryValue)
-        → FollowsPeer follower.now plan.now moment.peer L left
-        → out.new.items ≡ out.old.items ++ text_at asked.now.form plan.now asked.now.neighbours.items (moment, L)) }
+        → FollowsPeer follower.now asked.now.plan.now moment.peer L left
+        → out.new.items ≡ out.old.items ++ text_at asked.now.form asked.now.plan.now asked.now.neighbours.items (moment, L)) }
 {
     for neighbour in &asked.neighbours {
         let snapshot = snapshot_of(*out.allocator(), follower, moment, *neighbour)?;
-        push_snapshot(plan, asked.form, out, &snapshot)?;
+        push_snapshot(asked.plan, asked.form, out, &snapshot)?;
     }
     Ok(())
 }

@@ -33,7 +33,7 @@ loop-entry-preserved c =
       text =
           and_then out _ _ c.loop-entry.invariant.text (c.in_ok-push_entry.ensures L left seen)
           ∙ ap (λ (more : List ℕ). out ++ more) (
-            told_more text test plan asked.peer e L
-            ∙ ap (λ (trace : Entries). flat_map text (filter test (moments plan asked.peer trace))) newest
+          told_more text test plan asked.peer e L
+          ∙ ap (λ (trace : Entries). flat_map text (filter test (moments plan asked.peer trace))) newest
           );
     }

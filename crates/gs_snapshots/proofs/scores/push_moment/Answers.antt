@@ -21,11 +21,11 @@ loop-neighbour-preserved c L left follows =
     let none : PeerNo = record { 0 = 0 } in
     let before = c.loop-neighbour.out.items in
     and_then out _ _ (c.loop-neighbour.invariant L left follows) (
-      c.in_ok-push_snapshot.ensures
-      ∙ ap (λ (s : Snapshot). before ++ snapshot_text form plan s) (c.in_ok-snapshot.ensures (record { peer = peer_in plan c.args.moment.peer; before = L; left = left }) follows)
+    c.in_ok-push_snapshot.ensures
+    ∙ ap (λ (s : Snapshot). before ++ snapshot_text form plan s) (c.in_ok-snapshot.ensures (record { peer = peer_in plan c.args.moment.peer; before = L; left = left }) follows)
     )
     ∙ ap (λ (more : List ℕ). out ++ more) (
-      ap (λ (qs : List PeerNo). flat_map text (take i qs) ++ text (get_or xs i none)) (sym is)
-      ∙ front_more text xs i none c.loop-neighbour-test.true
-      ∙ ap (λ (qs : List PeerNo). flat_map text (take (i + 1) qs)) is
+    ap (λ (qs : List PeerNo). flat_map text (take i qs) ++ text (get_or xs i none)) (sym is)
+    ∙ front_more text xs i none c.loop-neighbour-test.true
+    ∙ ap (λ (qs : List PeerNo). flat_map text (take (i + 1) qs)) is
     )

@@ -29,6 +29,6 @@ loop-peer-preserved c =
     c.in_ok-push_peer_if.ensures ∙ ap (λ (x : PeerNo × Finished). c.loop-peer.out.items ++ flat_map text (filter test (x ∷ []))) c.peer-item.is in
     and_then out _ _ c.loop-peer.invariant next
     ∙ ap (λ (more : List ℕ). out ++ more) (
-      text_more text test (take i xs) (get_or xs i d ∷ [])
-      ∙ ap (λ (front : List (PeerNo × Finished)). flat_map text (filter test front)) (sym (take_more xs i d c.loop-peer-test.true))
+    text_more text test (take i xs) (get_or xs i d ∷ [])
+    ∙ ap (λ (front : List (PeerNo × Finished)). flat_map text (filter test front)) (sym (take_more xs i d c.loop-peer-test.true))
     )
