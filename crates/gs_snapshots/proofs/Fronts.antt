@@ -1,5 +1,5 @@
 -- One element more: what is told so far, and then what is told of it.
-use Rattle.std.proofs.Common.{◌≡◌, ◌<◌, ◌+◌, ℕ, zero, suc, Bool, cond, List, [], ◌∷◌, ◌++◌, filter, flat_map, get_or, length, map, reverse, take, sym, ap, ◌∙◌, append-nil, arith}
+use Rattle.std.proofs.Common.{◌≡◌, ◌<◌, ◌+◌, ℕ, zero, suc, Bool, cond, List, [], ◌∷◌, ◌++◌, filter, flat_map, get_or, length, map, reverse, take, drop, sym, ap, ◌∙◌, append_assoc, append-nil, take-append-drop, arith}
 use Rattle.std.specs.List.{AllByRecursion}
 use Rattle.std.proofs.lemmas.List.{map-append, reverse-append, take_more}
 use Rattle.std.proofs.lemmas.List.Elements.{filter-append}
@@ -21,16 +21,8 @@ each_of P [] i d low all = absurd (omega (arith, low))
 each_of P (x ∷ xs) zero d low all = all.0
 each_of P (x ∷ xs) (suc i) d low all = each_of P xs i d (omega (arith, low)) all.1
 
--- the text of a front, and then that of the next element
-pub front_more : {A : Type 0} (text : A → List ℕ) (xs : List A) (i : ℕ) (d : A) → i < length xs
-    → flat_map text (take i xs) ++ text (get_or xs i d) ≡ flat_map text (take (i + 1) xs)
-front_more text xs i d low =
-    ap (λ (last : List ℕ). flat_map text (take i xs) ++ last) (sym (append-nil (text (get_or xs i d))))
-    ∙ sym (flat_map-append text (take i xs) (get_or xs i d ∷ []))
-    ∙ ap (flat_map text) (sym (take_more xs i d low))
-
 -- two lists one after the other, as far as they pass a test, each element as a text
-pub text_more : {A : Type 0} (text : A → List ℕ) (test : A → Bool) (xs ys : List A)
+text_more : {A : Type 0} (text : A → List ℕ) (test : A → Bool) (xs ys : List A)
     → flat_map text (filter test xs) ++ flat_map text (filter test ys) ≡ flat_map text (filter test (xs ++ ys))
 text_more text test xs ys =
     sym (flat_map-append text (filter test xs) (filter test ys))
@@ -68,3 +60,30 @@ pub told_more : (text : Moment × Entries → List ℕ) (test : Moment × Entrie
 told_more text test plan p e L =
     text_more text test (moments plan p L) (newest_moment plan p (e ∷ L))
     ∙ ap (λ (all : List (Moment × Entries)). flat_map text (filter test all)) (sym (moments_more plan p e L))
+
+-- the moments of entries that come after others, the newest entry first
+abbrev later : Plan → PeerNo → Entries → Entries → List (Moment × Entries)
+later plan p [] L = []
+later plan p (k ∷ K) L = later plan p K L ++ newest_moment plan p (k ∷ (K ++ L))
+
+later_moments : (plan : Plan) (p : PeerNo) (K L : Entries) → moments plan p (K ++ L) ≡ moments plan p L ++ later plan p K L
+later_moments plan p [] L = sym (append-nil (moments plan p L))
+later_moments plan p (k ∷ K) L =
+    moments_more plan p k (K ++ L)
+    ∙ ap (λ (so_far : List (Moment × Entries)). so_far ++ newest_moment plan p (k ∷ (K ++ L))) (later_moments plan p K L)
+    ∙ append_assoc (moments plan p L) (later plan p K L) (newest_moment plan p (k ∷ (K ++ L)))
+
+-- what is told at the entries that are left after a front of them
+abbrev pub told_later : (text : Moment × Entries → List ℕ) (test : Moment × Entries → Bool) → Plan → PeerNo → List Entry → ℕ → List ℕ
+told_later text test plan p es i = flat_map text (filter test (later plan p (reverse (drop i es)) (reverse (take i es))))
+
+-- what is told at a front of entries, the oldest first, and then at the others
+pub told_parts : (text : Moment × Entries → List ℕ) (test : Moment × Entries → Bool) (plan : Plan) (p : PeerNo) (es : List Entry) (i : ℕ)
+    → flat_map text (filter test (moments plan p (reverse es))) ≡ flat_map text (filter test (moments plan p (reverse (take i es)))) ++ told_later text test plan p es i
+told_parts text test plan p es i =
+    let K = reverse (drop i es) in
+    let L = reverse (take i es) in
+    let both : reverse es ≡ K ++ L = ap (λ (all : List Entry). reverse all) (sym (take-append-drop i es)) ∙ reverse-append (take i es) (drop i es) in
+    ap (λ (trace : Entries). flat_map text (filter test (moments plan p trace))) both
+    ∙ ap (λ (all : List (Moment × Entries)). flat_map text (filter test all)) (later_moments plan p K L)
+    ∙ sym (text_more text test (moments plan p L) (later plan p K L))

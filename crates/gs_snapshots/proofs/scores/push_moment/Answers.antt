@@ -6,12 +6,12 @@ use Rattle.gs_seats.specs.Rounds.{peer_in}
 use Rattle.gs_trace.proofs.Appended.{and_then}
 use Rattle.gs_snapshots.specs.Forms.{snapshot_text}
 use Rattle.gs_snapshots.specs.Scores.{text_about}
-use Rattle.gs_snapshots.proofs.Fronts.{front_more}
+use Rattle.gs_trace.proofs.Writing.{one_more}
 use Rattle.gs_snapshots.proofs.scores.push_moment.Goals as goal
 
 pub loop-neighbour-preserved : goal.loop-neighbour-preserved
 loop-neighbour-preserved c L left follows =
-    let plan = c.args.plan.now in
+    let plan = c.args.asked.now.plan.now in
     let form = c.args.asked.now.form in
     let text = text_about form plan (c.args.moment, L) in
     let out = c.args.out.now.items in
@@ -26,6 +26,6 @@ loop-neighbour-preserved c L left follows =
     )
     ∙ ap (λ (more : List ℕ). out ++ more) (
     ap (λ (qs : List PeerNo). flat_map text (take i qs) ++ text (get_or xs i none)) (sym is)
-    ∙ front_more text xs i none c.loop-neighbour-test.true
+    ∙ one_more text xs i none c.loop-neighbour-test.true
     ∙ ap (λ (qs : List PeerNo). flat_map text (take (i + 1) qs)) is
     )

@@ -10,5 +10,5 @@ use Rattle.gs_snapshots.proofs.scores.push_moment.Given as goal
 abbrev pub invariant-loop-neighbour : goal.invariant-loop-neighbour
 invariant-loop-neighbour l =
     (L : Entries) (left : List Entry)
-    → FollowsPeer l.follower l.plan l.moment.peer L left
-    → l.out.items ≡ l.initial.out.items ++ flat_map (text_about l.asked.form l.plan (l.moment, L)) (take l.neighbour-index l.asked.neighbours.items)
+    → FollowsPeer l.follower l.asked.plan.now l.moment.peer L left
+    → l.out.items ≡ l.initial.out.items ++ flat_map (text_about l.asked.form l.asked.plan.now (l.moment, L)) (take l.neighbour-index l.asked.neighbours.items)
