@@ -64,7 +64,7 @@ change_library() {
 
 compile_all() {
   local it
-  for it in 'gossip_sim --check' 'gossip_sim --seed 1' gossip_stats gossip_picture gossip_trace; do
+  for it in 'gossip_sim --check' 'gossip_sim --seed 1' gossip_stats gossip_picture gossip_trace gossip_scores; do
     # shellcheck disable=SC2086 # (they are words)
     in_tree tried=0 $it <"$example" >/dev/null 2>&1
   done
@@ -89,6 +89,7 @@ check_signals() {
   check_end 'figures' INT tried=long "$bin/gossip_stats" --csv
   check_end 'a picture' HUP tried=long "$bin/gossip_picture"
   check_end 'a trace' TERM tried=long "$bin/gossip_trace"
+  check_end 'scores' TERM tried=long "$bin/gossip_scores"
   check_end 'a page' INT tried=long "GUNTHARU_D3=$room/library" "$bin/gossip_view"
   check_end 'a sweep' 'INT TERM HUP' tried=long "$bin/sweep" --jobs 2 "$example"
   check_end 'a build' 'INT TERM' tried=slow "$bin/build"

@@ -48,7 +48,7 @@ make_tree() {
   local crate
   mkdir -p "$room/fake/bin" "$room/temporary" "$room/tree/crates/gs_base/mutants"
   cp -r "$top/bin" "$top/tools" "$room/tree"
-  for crate in gossip_sim gossip_check gossip_edit gossip_stats gossip_picture gossip_trace gs_base; do
+  for crate in gossip_sim gossip_check gossip_edit gossip_stats gossip_picture gossip_trace gossip_scores gs_base; do
     mkdir -p "$room/tree/crates/$crate/src"
     touch "$room/tree/crates/$crate/src"/{tests,"$([ "$crate" = gs_base ] && echo lib || echo main)"}.rt
     echo text >"$room/tree/crates/$crate/stdout"
@@ -81,6 +81,10 @@ tried_picture() {
 
 tried_trace() {
   echo scenario | in_tree tried=0 gossip_trace "$@"
+}
+
+tried_scores() {
+  echo scenario | in_tree tried=0 gossip_scores "$@"
 }
 
 tried_to_closed_output() {
@@ -152,6 +156,16 @@ check_unproved() {
   expect 'a trace of rounds that are none' 64 '' "$usage" tried_trace --rounds 3..2
   expect 'a trace of a round without an end' 64 '' "$usage" tried_trace --rounds 3
   expect 'a trace of no peer' 64 '' 'gossip_trace: --peer takes a value; --help says more' tried_trace --peer
+  expect_like 'scores without proof' 0 'gossip_scores  scenario' \
+    'gossip_scores: this set of scores does not come from a proved program: gossip_scores is not built*told by gossip_scores' \
+    tried_scores
+  expect_like 'some scores' 0 'gossip_scores --peer b --neighbour s --rounds 2..3 --format csv scenario' '*' \
+    tried_scores --peer b --neighbour=s --rounds 2..3 --format=csv
+  usage='usage: gossip_scores [--peer NAME] [--neighbour NAME] [--rounds A..B] [--format json|csv]'
+  expect 'scores of two neighbours' 64 '' "$usage" tried_scores --neighbour b --neighbour c
+  expect 'scores of rounds that are none' 64 '' "$usage" tried_scores --rounds 3..2
+  expect 'scores in no format' 64 '' "$usage" tried_scores --format xml
+  expect 'scores of no neighbour' 64 '' 'gossip_scores: --neighbour takes a value; --help says more' tried_scores --neighbour
   expect_like 'a picture without proof' 0 'gossip_picture news scenario' \
     'gossip_picture: this picture does not come from a proved program: gossip_picture is not built*told by gossip_picture' \
     tried_picture --topic news
@@ -185,7 +199,7 @@ scenario: $room/misspelt was not read to its end, so there may be more faults" i
 
 # bin/build --unproved, twice.
 check_compiled() {
-  local said='build: compiled without proof, or proved before:' all='gossip_sim gossip_check gossip_edit gossip_stats gossip_picture gossip_trace'
+  local said='build: compiled without proof, or proved before:' all='gossip_sim gossip_check gossip_edit gossip_stats gossip_picture gossip_trace gossip_scores'
   rm -rf "$room/tree/out/unproved"
   expect 'a build without proof' 0 '' \
     "build: compiling ${all// / and } without proof, which takes about a minute"$'\n'"$said $all" in_tree tried=0 build --unproved
@@ -208,7 +222,7 @@ check_build() {
   expect 'a program that is not there' 64 '' 'build: there is no program gs_base in crates.txt' in_tree unproved= build gs_base
   expect_like 'a proof that fails' 4 '' '*proving gs_base*gs_base is not proved*the log is crates/gs_base/out/build.log' \
     in_tree unproved=gs_base build
-  expect_like 'a build' 0 '' '*proved and built: gossip_sim gossip_check gossip_edit gossip_stats gossip_picture gossip_trace' in_tree unproved= build
+  expect_like 'a build' 0 '' '*proved and built: gossip_sim gossip_check gossip_edit gossip_stats gossip_picture gossip_trace gossip_scores' in_tree unproved= build
   expect 'a build where all stands' 0 '' 'build: proved and built: gossip_sim' in_tree unproved=gs_base build gossip_sim
   touch "$place/gs_base/src/tests.rt"
   expect 'a run of what was built' 0 'proved: scenario' '' tried none

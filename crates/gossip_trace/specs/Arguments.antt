@@ -3,7 +3,7 @@ use Rattle.std.specs.Prelude.{ℕ, List, [], ◌∷◌, codes, Option, Some, Non
 use Rattle.gs_rules.specs.Rules.{same_bytes}
 use Rattle.gs_trace.specs.declared.wanted.RoundSpan.{RoundSpan}
 use Rattle.gs_trace.specs.Wanted.{Wishes, no_wish}
-use Rattle.gossip_trace.specs.Rounds.{rounds_in}
+use Rattle.gs_trace.specs.Spans.{rounds_in}
 
 -- one wish more, where there was none of its kind
 abbrev pub once : {A : Type 0} → Option A → Option Wishes → Option Wishes

@@ -5,9 +5,8 @@ ghost use Rattle.gs_program.specs.Arguments.{IsRefusedSo, wrong_arguments};
 ghost use Rattle.gs_trace.specs.Wanted.{wishes_of};
 ghost use Rattle.gossip_trace.specs.Arguments.{asked_for, asked_from, usage, with_events, with_option, with_peer, with_rounds, with_topic};
 
-use crate::rounds::rounds_in;
 use gs_program::refuse_arguments;
-use gs_trace::{RoundSpan, Wanted, Wish, all_lines};
+use gs_trace::{RoundSpan, Wanted, Wish, all_lines, rounds_in};
 use std::io::Write;
 use std::process::ExitCode;
 

@@ -3,7 +3,6 @@
 
 mod arguments;
 mod program;
-mod rounds;
 
 use crate::arguments::USAGE;
 use gs_program::{arguments_of, refuse_unread};

@@ -1,5 +1,5 @@
-mod Appended
-mod Writing
+pub mod Appended
+pub mod Writing
 mod Named
 mod Starts
 mod Wanting

@@ -4,6 +4,7 @@ pub mod Events
 pub mod Topics
 pub mod Lines
 pub mod Wanted
+pub mod Spans
 pub mod Starts
 pub mod Turns
 pub mod Pages

@@ -68,8 +68,11 @@ fn loss_word(loss: Loss) -> &'static [u8]
     }
 }
 
-/// Adds which event it is.
-pub(crate) fn push_word(out: &mut Vec<u8>, word: &[u8]) -> Result<(), AllocError>
+/// Adds which event it is, by its word.
+///
+/// # Errors
+/// `AllocError` where there was no memory for it. A part of it may be there then.
+pub fn push_word(out: &mut Vec<u8>, word: &[u8]) -> Result<(), AllocError>
     ensures { OnOk result (out.new.items ≡ out.old.items ++ event_text word.now) }
 {
     push_code(out, b"\"event\":\"")?;

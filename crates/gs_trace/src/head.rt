@@ -22,8 +22,11 @@ pub(crate) fn push_head(plan: &Plan, out: &mut Vec<u8>) -> Result<(), AllocError
     push_code(out, b"}\n")
 }
 
-/// Adds the names of all peers.
-fn push_names(plan: &Plan, out: &mut Vec<u8>) -> Result<(), AllocError>
+/// Adds the names of all peers, as a list.
+///
+/// # Errors
+/// `AllocError` where there was no memory for it. A part of it may be there then.
+pub fn push_names(plan: &Plan, out: &mut Vec<u8>) -> Result<(), AllocError>
     ensures { OnOk result (out.new.items ≡ out.old.items ++ list_text quoted (names_of plan.now)) }
 {
     push_list(plan, out, plan.peers.as_slice())

@@ -11,12 +11,18 @@ mod marks;
 mod pages;
 mod refusals;
 mod rpcs;
+mod spans;
 mod texts;
 mod topics;
 mod turn;
 mod wanted;
 
+pub use events::push_word;
 pub use fault::TraceFault;
+pub use head::push_names;
 pub use laws::{a_trace_tells_all, wanting_all_tells_all};
 pub use lines::write_trace;
+pub use pages::{write_full, write_page};
+pub use spans::rounds_in;
+pub use texts::{Shown, push_code, push_list, push_number, push_peer, push_quoted};
 pub use wanted::{RoundSpan, Wanted, Wish, all_lines};

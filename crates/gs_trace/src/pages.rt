@@ -1,4 +1,4 @@
-//! The page of a trace: lines that wait to be written together.
+//! The page of a text: lines that wait to be written together.
 ghost use Rattle.std.specs.Prelude.{◌≡◌, ◌++◌, List, [], ℕ, OnErr, OnOk};
 ghost use Rattle.std.specs.List.{flat_map};
 ghost use Rattle.gs_streams.specs.Streams.{AppendsFront};
@@ -43,8 +43,11 @@ pub(crate) fn write_lines<T: Told, W: Write>(
     Ok(())
 }
 
-/// Writes a page that is full.
-fn write_full<W: Write>(page: &mut Vec<u8>, output: &mut W) -> Result<(), WriteFailed>
+/// Writes a page that is full, and clears it: one that has 65,536 bytes.
+///
+/// # Errors
+/// `WriteFailed` where a write failed, or took nothing. A front of the page has then been written.
+pub fn write_full<W: Write>(page: &mut Vec<u8>, output: &mut W) -> Result<(), WriteFailed>
     ensures added { OnOk result (Adds [] page.old.items page.new.items (W.contents output.old) (W.contents output.new)) }
     ensures front { OnErr result (AppendsFront (W.contents output.old) (W.contents output.new) page.old.items) }
 {
@@ -55,7 +58,10 @@ fn write_full<W: Write>(page: &mut Vec<u8>, output: &mut W) -> Result<(), WriteF
 }
 
 /// Writes a page, and clears it.
-pub(crate) fn write_page<W: Write>(page: &mut Vec<u8>, output: &mut W) -> Result<(), WriteFailed>
+///
+/// # Errors
+/// `WriteFailed` where a write failed, or took nothing. A front of the page has then been written.
+pub fn write_page<W: Write>(page: &mut Vec<u8>, output: &mut W) -> Result<(), WriteFailed>
     ensures added { OnOk result (Adds [] page.old.items page.new.items (W.contents output.old) (W.contents output.new)) }
     ensures clear { OnOk result (page.new.items ≡ []) }
     ensures front { OnErr result (AppendsFront (W.contents output.old) (W.contents output.new) page.old.items) }

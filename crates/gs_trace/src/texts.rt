@@ -8,12 +8,15 @@ use gs_base::{Millis, MsgId, PeerNo, Seq, Shared, Topic};
 use gs_plan::Plan;
 use std::alloc::AllocError;
 
-/// What a trace shows, over the names of a plan's peers.
-pub(crate) trait Shown {
+/// What is shown as JSON, over the names of a plan's peers.
+pub trait Shown {
     /// Its text.
     ghost text: { List (List ℕ) → Self → List ℕ };
 
-    /// Adds its text. After an error a part of it may be there.
+    /// Adds its text.
+    ///
+    /// # Errors
+    /// `AllocError` where there was no memory for it. A part of it may be there then.
     fn push(&self, plan: &Plan, out: &mut Vec<u8>) -> Result<(), AllocError>
         ensures { OnOk result (out.new.items ≡ out.old.items ++ text (names_of plan.now) self.now) };
 }
@@ -107,19 +110,31 @@ impl<T: Shown + Drop> Shown for Shared<T> {
     }
 }
 
+/// Adds a peer by its name in quotes, and by its number where the plan has no such peer.
+///
+/// # Errors
+/// `AllocError` where there was no memory for it. A part of it may be there then.
+pub fn push_peer(plan: &Plan, out: &mut Vec<u8>, peer: PeerNo) -> Result<(), AllocError>
+    ensures { OnOk result (out.new.items ≡ out.old.items ++ peer_text (names_of plan.now) peer) }
+{
+    peer.push(plan, out)
+}
+
 /// Adds a text as it is.
-pub(crate) fn push_code(out: &mut Vec<u8>, code: &[u8]) -> Result<(), AllocError>
+///
+/// # Errors
+/// `AllocError` where there was no memory for it. The text before it is as it was.
+pub fn push_code(out: &mut Vec<u8>, code: &[u8]) -> Result<(), AllocError>
     ensures { OnOk result (out.new.items ≡ out.old.items ++ code.now) }
 {
     out.extend_from_slice(code)
 }
 
 /// Adds values as a list.
-pub(crate) fn push_list<T: Shown>(
-    plan: &Plan,
-    out: &mut Vec<u8>,
-    values: &[T],
-) -> Result<(), AllocError>
+///
+/// # Errors
+/// `AllocError` where there was no memory for it. A part of it may be there then.
+pub fn push_list<T: Shown>(plan: &Plan, out: &mut Vec<u8>, values: &[T]) -> Result<(), AllocError>
     ensures { OnOk result (out.new.items ≡ out.old.items ++ list_text (T.text (names_of plan.now)) values.now) }
 {
     push_code(out, b"[")?;
@@ -147,7 +162,11 @@ fn push_next<T: Shown>(plan: &Plan, out: &mut Vec<u8>, value: &T) -> Result<(), 
     value.push(plan, out)
 }
 
-pub(crate) fn push_number(out: &mut Vec<u8>, number: u64) -> Result<(), AllocError>
+/// Adds a whole number.
+///
+/// # Errors
+/// `AllocError` where there was no memory for it. The text before it is as it was.
+pub fn push_number(out: &mut Vec<u8>, number: u64) -> Result<(), AllocError>
     ensures { OnOk result (out.new.items ≡ out.old.items ++ decimal number) }
 {
     let digits = format!(in *out.allocator(); "{number}")?;
@@ -181,7 +200,11 @@ pub(crate) fn push_hex(out: &mut Vec<u8>, bytes: &[u8]) -> Result<(), AllocError
     push_code(out, b"\"")
 }
 
-pub(crate) fn push_quoted(out: &mut Vec<u8>, bytes: &[u8]) -> Result<(), AllocError>
+/// Adds bytes as a text in quotes.
+///
+/// # Errors
+/// `AllocError` where there was no memory for it. A part of it may be there then.
+pub fn push_quoted(out: &mut Vec<u8>, bytes: &[u8]) -> Result<(), AllocError>
     ensures { OnOk result (out.new.items ≡ out.old.items ++ quoted bytes.now) }
 {
     push_code(out, b"\"")?;

@@ -1,6 +1,6 @@
 use Rattle.std.proofs.Common.{◌≡◌, drop, Some}
-use Rattle.gossip_trace.specs.Rounds.{read_from, rounds_in}
-use Rattle.gossip_trace.proofs.rounds.rounds_in.Given as goal
+use Rattle.gs_trace.specs.Spans.{read_from, rounds_in}
+use Rattle.gs_trace.proofs.spans.rounds_in.Given as goal
 
 -- what the text spells is what the bytes that are left spell after what was read
 abbrev pub invariant-loop-byte : goal.invariant-loop-byte

@@ -1,8 +1,8 @@
 -- How an argument spells rounds: `A..B`, two decimal numbers.
 use Rattle.std.specs.Prelude.{ℕ, nat_le, nat_lt, ◌*◌, ◌+◌, ◌-◌, ◌^◌, ◌==◌, if◌then◌else◌, List, [], ◌∷◌, Option, Some, None}
 use Rattle.gs_trace.specs.declared.wanted.RoundSpan.{RoundSpan}
-use Rattle.gossip_trace.specs.declared.rounds.Reading.{Reading}
-use Rattle.gossip_trace.specs.declared.rounds.Reading.TheVariants.{Nothing, First, Dot, Dots, Last}
+use Rattle.gs_trace.specs.declared.spans.Reading.{Reading}
+use Rattle.gs_trace.specs.declared.spans.Reading.TheVariants.{Nothing, First, Dot, Dots, Last}
 
 -- a number with one decimal digit more, where the byte is one and the number fits
 abbrev pub with_digit : ℕ → ℕ → Option ℕ

@@ -1,8 +1,8 @@
 //! Rounds from one to another, as an argument spells them: `A..B`.
 ghost use Rattle.std.specs.Prelude.{◌≡◌};
-ghost use Rattle.gossip_trace.specs.Rounds.{after_byte, first_of, in_order, last_of, rounds_in, with_digit};
+ghost use Rattle.gs_trace.specs.Spans.{after_byte, first_of, in_order, last_of, rounds_in, with_digit};
 
-use gs_trace::RoundSpan;
+use crate::wanted::RoundSpan;
 
 /// What was read of `A..B`.
 #[derive(Clone, Copy, Debug)]

@@ -1,0 +1,26 @@
+//! Prints the scores of a run over time: reads a scenario, runs it, and writes what each peer's neighbours score at its
+//! heartbeats, at its decays and at its shutdown, part by part.
+#![tactic(auto)]
+
+mod arguments;
+mod program;
+
+use crate::arguments::USAGE;
+use gs_program::{arguments_of, refuse_unread};
+use std::process::ExitCode;
+
+fn main(rt: HostRuntime) -> ExitCode {
+    match arguments_of(&rt) {
+        Ok(arguments) => program::run(
+            rt.alloc(),
+            arguments.as_slice(),
+            &mut rt.stdin(),
+            &mut rt.stdout(),
+            &mut rt.stderr(),
+        ),
+        Err(fault) => refuse_unread(fault.kind(), &mut rt.stderr(), USAGE),
+    }
+}
+
+#[cfg(test)]
+mod tests;

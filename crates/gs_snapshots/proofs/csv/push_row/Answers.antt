@@ -1,0 +1,15 @@
+use Rattle.gs_trace.proofs.Appended.{and_then, last}
+use Rattle.gs_snapshots.proofs.csv.push_row.Goals as goal
+
+pub returns : goal.returns
+returns c =
+    let out = c.args.out.now.items in
+    last out _ _ _ _ (and_then out _ _ (and_then out _ _ (and_then out _ _ (and_then out _ _ (and_then out _ _ (and_then out _ _
+    c.in_ok-push_code.ensures
+    c.in_ok-push_code-2.ensures)
+    c.in_ok-push_code-3.ensures)
+    c.in_ok-push_code-4.ensures)
+    c.in_ok-push_code-5.ensures)
+    c.in_ok-push_code-6.ensures)
+    c.in_ok-push_shown.ensures)
+    c.push_code-7.ensures

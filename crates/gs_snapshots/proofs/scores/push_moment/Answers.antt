@@ -1,0 +1,31 @@
+use Rattle.std.proofs.Common.{◌++◌, ◌+◌, ℕ, List, get_or, take, sym, ap, ◌∙◌}
+use Rattle.std.specs.List.{flat_map}
+use Rattle.gs_base.specs.declared.names.PeerNo.{PeerNo}
+use Rattle.gs_snapshots.specs.declared.snapshot.Snapshot.{Snapshot}
+use Rattle.gs_seats.specs.Rounds.{peer_in}
+use Rattle.gs_trace.proofs.Appended.{and_then}
+use Rattle.gs_snapshots.specs.Forms.{snapshot_text}
+use Rattle.gs_snapshots.specs.Scores.{text_about}
+use Rattle.gs_trace.proofs.Writing.{one_more}
+use Rattle.gs_snapshots.proofs.scores.push_moment.Goals as goal
+
+pub loop-neighbour-preserved : goal.loop-neighbour-preserved
+loop-neighbour-preserved c L left follows =
+    let plan = c.args.asked.now.plan.now in
+    let form = c.args.asked.now.form in
+    let text = text_about form plan (c.args.moment, L) in
+    let out = c.args.out.now.items in
+    let xs = c.deref-neighbour-items.result.now in
+    let is = c.deref-neighbour-items.ensures.value in
+    let i = c.loop-neighbour.neighbour-index in
+    let none : PeerNo = record { 0 = 0 } in
+    let before = c.loop-neighbour.out.items in
+    and_then out _ _ (c.loop-neighbour.invariant L left follows) (
+    c.in_ok-push_snapshot.ensures
+    ∙ ap (λ (s : Snapshot). before ++ snapshot_text form plan s) (c.in_ok-snapshot.ensures (record { peer = peer_in plan c.args.moment.peer; before = L; left = left }) follows)
+    )
+    ∙ ap (λ (more : List ℕ). out ++ more) (
+    ap (λ (qs : List PeerNo). flat_map text (take i qs) ++ text (get_or xs i none)) (sym is)
+    ∙ one_more text xs i none c.loop-neighbour-test.true
+    ∙ ap (λ (qs : List PeerNo). flat_map text (take (i + 1) qs)) is
+    )

@@ -1,0 +1,34 @@
+-- Which scores are wanted.
+use Rattle.std.specs.Prelude.{ℕ, Bool, List, Option, Some, None}
+use Rattle.gs_base.specs.declared.names.PeerNo.{PeerNo}
+use Rattle.gs_plan.specs.declared.plan.Plan.{Plan}
+use Rattle.gs_rules.specs.Rules.{same_bytes}
+use Rattle.gs_report.specs.Text.{name_of}
+use Rattle.gs_trace.specs.declared.wanted.RoundSpan.{RoundSpan}
+use Rattle.gs_trace.specs.Wanted.{lies_in, spelled, suits}
+use Rattle.gs_snapshots.specs.declared.wanted.Form.{Form}
+use Rattle.gs_snapshots.specs.declared.wanted.Wanted.{Wanted}
+
+-- What is wished for. Where a part is None, there is no such wish.
+pub record Wishes : Type 0 where
+  -- the scores that the peer of this name gives
+  pub peer : Option (List ℕ)
+  -- those that the neighbour of this name gets
+  pub neighbour : Option (List ℕ)
+  pub rounds : Option RoundSpan
+  pub form : Option Form
+
+abbrev pub wishes_of : Wanted → Wishes
+wishes_of w =
+    record { peer = spelled w.peer; neighbour = spelled w.neighbour; rounds = w.rounds; form = w.form }
+
+abbrev pub no_wish : Wishes
+no_wish = record { peer = None; neighbour = None; rounds = None; form = None }
+
+-- the name that is wished for, if any, is that of this number
+abbrev pub has_name : Option (List ℕ) → Plan → PeerNo → Bool
+has_name wish plan q = suits (same_bytes (name_of plan q)) wish
+
+-- it is one of the rounds that are wished for
+abbrev pub is_in_rounds : Option RoundSpan → ℕ → Bool
+is_in_rounds rounds r = suits (lies_in r) rounds
