@@ -1,6 +1,7 @@
 use super::*;
 use gs_streams::LONGEST_INPUT;
 use gs_streams::fakes::{Broken, Narrow};
+use std::alloc::AllocError;
 use std::io;
 
 const SCENARIO: &str = r#"
