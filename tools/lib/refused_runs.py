@@ -6,6 +6,9 @@ import itertools
 HEAD = "round_ms = 100\nrounds = 10\nworkers = {}\ncapacity = {}\nseed = 1\n[[topic]]\nname = 'news'\n"
 STEP = 20  # bytes
 PARTS = "the parts of a peer"
+TRACE = "a trace"
+# what may become of a read or a write
+MOVES = "fail", "all", "interrupt", "one", "less", "none"
 
 # (workers: how many threads there are, and none where the run goes without links)
 Row = collections.namedtuple("Row", "name text status output errors peers workers")
@@ -60,8 +63,12 @@ def scenario(workers, capacity, peers, dials, *lines):
     return text + do(2, "a", "publish", hex="616263") + "".join(lines)
 
 
+# Its trace has some pages, which gossip_trace writes one after the other.
+TRACED = scenario(1, 8, "ab", ["ab"], do(3, "a", "publish", hex="5a" * 20_000))
+
+
 def rows(parts):
-    """What is run; gs_refusals, where no call fails, writes `parts`."""
+    """What is run; gs_refusals, where no call fails, writes `parts`. (Of gossip_trace the text is not known here.)"""
     for workers, name in (1, "1 worker"), (3, "3 workers"), (0, "no links"):
         text = scenario(workers or 1, 8, "ab", ["ab"])
         yield Row(f"two peers, {name}", text, 0, TWO_REPORT, "", "ab", workers)
@@ -70,6 +77,7 @@ def rows(parts):
     text = scenario(1, 8, "ab", ["ab"]).replace("seed = 1\n", "")
     yield Row("a refused scenario", text, 1, "", "scenario refused: 28 seed\n", "ab", 1)
     yield Row(PARTS, "", 0, parts, "", "", 0)
+    yield Row(TRACE, TRACED, 0, "", "", "ab", 0)
 
 
 def sweeps(row):
@@ -77,6 +85,9 @@ def sweeps(row):
     if row.name == PARTS:
         return
     yield Sweep("growth", "all", 0)
+    if row.name == TRACE:
+        yield from (Sweep("write", how, 0) for how in MOVES)
+        return
     if row.workers > 1:
         yield Sweep("growth", "workers", 0)
     for what in "thread", "random":
@@ -84,7 +95,7 @@ def sweeps(row):
             yield Sweep(what, how, 0)
     for step in 0, STEP:
         for what in "read", "write":
-            for how in "fail", "all", "interrupt", "one", "less", "none":
+            for how in MOVES:
                 yield Sweep(what, how, step)
 
 
@@ -148,6 +159,17 @@ def allowed_after_growth(row, sweep, end):
             yield 2, "", f"run refused: 24 {peer}\n"
 
 
+def is_trace_right(row, sweep, end):
+    """Whether a run ended as it may that writes in parts: where it is refused, a front of its text may be there."""
+    if end[:3] == (row.status, row.output, row.errors):
+        return sweep.what == "growth" or sweep.how in ("one", "less")
+    is_front = row.output.startswith(end.output) and end.output != row.output
+    if sweep.what == "growth":
+        return end[:3] == (1, "", "scenario refused: 32\n") or is_front and (end.status, end.errors) == (2, NO_MEMORY[2])
+    said = "" if sweep.how == "all" else "output failed\n"
+    return is_front and (end.status, end.errors) == (3, said)
+
+
 def allowed_after_write(row, sweep, at):
     """How a run may end whose write did not take what it was to take."""
     if sweep.how in ("one", "less"):
@@ -192,6 +214,8 @@ def is_right(row, sweep, at, end):
         return are_parts_right(row, end)
     if not end.met:
         return end[:3] == (row.status, row.output, row.errors)
+    if row.name == TRACE:
+        return is_trace_right(row, sweep, end)
     if sweep.how == "starve" and STARVED not in end.met:
         return False
     return end[:3] in allowed(row, sweep, at, end)
@@ -226,6 +250,8 @@ def asked_of_all(row, sweep, ends):
         yield f"first are named, in order, {names or 'no peers'}", names == row.peers
     if (sweep.what, sweep.how) == ("thread", "fail") and row.status == 0:
         yield f"starts are {len(ends)}, workers {row.workers}", len(ends) == row.workers
+    if row.name == TRACE and sweep.what == "growth":
+        yield "a run is refused after a front of its lines", any(end.status == 2 and end.output for end in ends)
     if sweep.how == "workers":
         yield "a run refuses growths in two workers", any(met_in_two_workers(end) for end in ends)
 
@@ -237,8 +263,10 @@ def in_short(row, end):
     said = end.errors.strip().replace(row.errors.strip() or "\0", "its own refusal")
     if named(end):
         said = "run refused: 24 PEER"
+    elif end.status == 2 and end.output:
+        said += ", after a front of the lines"
     elif end.status == 0 and not said:
-        said = "the report"
+        said = "the trace" if row.name == TRACE else "the report"
     elif end.status == row.status != 0 and row.errors.startswith(end.errors) and end.errors != row.errors:
         said = "a front of its own refusal"
     return said or "nothing said"

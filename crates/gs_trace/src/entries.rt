@@ -1,7 +1,8 @@
 //! The line of an entry: what happened at a peer, and what it did about it.
 ghost use Rattle.std.specs.Prelude.{◌≡◌, ◌++◌, OnOk};
 ghost use Rattle.gs_trace.specs.Texts.{list_text, names_of, optional_text};
-ghost use Rattle.gs_trace.specs.Events.{delivery_text, effects_members, event_members, mark_object, promise_text, send_text};
+ghost use Rattle.gs_trace.specs.Events.{delivery_text, effects_members, event_members};
+ghost use Rattle.gs_trace.specs.Events.{mark_object, promise_text, send_text};
 ghost use Rattle.gs_trace.specs.Lines.{entry_members, line_start, line_text};
 ghost use Rattle.gs_trace.specs.Lines.Told.{Did};
 ghost use Rattle.gs_trace.specs.Turns.{entry_line};

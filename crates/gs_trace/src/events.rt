@@ -173,7 +173,8 @@ fn push_part(plan: &Plan, out: &mut Vec<u8>, part: &RpcPart) -> Result<(), Alloc
 /// Adds a message, and its identifier.
 fn push_message(plan: &Plan, out: &mut Vec<u8>, message: &Message) -> Result<(), AllocError>
     ensures { OnOk result (out.new.items
-        ≡ out.old.items ++ (message_text message.now ++ codes ",\"id\":" ++ id_text (message_id (payload_of message.now)))) }
+        ≡ out.old.items ++ (message_text message.now ++ codes ",\"id\":"
+        ++ id_text (message_id (payload_of message.now)))) }
 {
     message.push(plan, out)?;
     push_code(out, b",\"id\":")?;

@@ -1,6 +1,7 @@
 //! The lines of a run's trace, round by round.
 ghost use Rattle.std.specs.Io.KnownBytes.{Appends};
-ghost use Rattle.std.specs.Prelude.{◌≡◌, ◌≤◌, ◌++◌, ◌+◌, drop, suc, length, map, if◌then◌else◌, IfOk, OnErr, OnOk, true, false};
+ghost use Rattle.std.specs.Prelude.{◌≡◌, ◌≤◌, ◌++◌, ◌+◌, drop, suc, length, map, if◌then◌else◌, true, false};
+ghost use Rattle.std.specs.Result.{IfOk, OnErr, OnOk};
 ghost use Rattle.gs_rules.specs.Events.{of_round_end};
 ghost use Rattle.gs_streams.specs.Streams.{AppendsFront};
 ghost use Rattle.gs_trace.specs.Lines.{up_to_end};

@@ -2,7 +2,8 @@
 ghost use Rattle.std.specs.Prelude.{◌≡◌, ◌&&◌};
 ghost use Rattle.gs_trace.specs.Events.{event_word, refused_word};
 ghost use Rattle.gs_trace.specs.Lines.Told.{Did, Refused};
-ghost use Rattle.gs_trace.specs.Wanted.{is_about, is_among, is_event, is_in_rounds, is_line_about, is_of_peer, is_wanted, lies_in, no_wish, suits, wishes_of};
+ghost use Rattle.gs_trace.specs.Wanted.{is_about, is_among, is_event, is_in_rounds, is_line_about, is_of_peer, is_wanted};
+ghost use Rattle.gs_trace.specs.Wanted.{lies_in, no_wish, suits, wishes_of};
 
 use crate::events::event_word;
 use crate::topics::{entry_names, line_names};

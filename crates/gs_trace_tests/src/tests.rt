@@ -93,7 +93,8 @@ fn is_event(alloc: Global, event: Event, members: &str) -> Result<bool, AllocErr
 fn are_marks(alloc: Global, marks: Seq<Mark>, objects: &str) -> Result<bool, AllocError> {
     let mut line = Vec::new(alloc);
     line.extend_from_slice(
-        b"{\"round\":0,\"at\":7,\"peer\":\"a\",\"event\":\"decay\",\"sent\":[],\"delivered\":[],\"promise\":null,\"marks\":[",
+        b"{\"round\":0,\"at\":7,\"peer\":\"a\",\"event\":\"decay\",\
+        \"sent\":[],\"delivered\":[],\"promise\":null,\"marks\":[",
     )?;
     line.extend_from_slice(objects.as_bytes())?;
     line.extend_from_slice(b"]}\n")?;
