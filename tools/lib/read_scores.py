@@ -6,7 +6,8 @@ import json
 import tomllib
 
 ONE, MOST = 1_000_000, 10**12
-FACTORS = {"p7_decay": 900_000, "w5": ONE, "w6": -5 * ONE, "w7": -10 * ONE, "topic_cap": 0, "decay_to_zero": 10_000, "p6_threshold": 1}
+FACTORS = {"p7_decay": 900_000, "w5": ONE, "w6": -5 * ONE, "w7": -10 * ONE}
+FACTORS |= {"topic_cap": 0, "decay_to_zero": 10_000, "p6_threshold": 1}
 THRESHOLDS = {"gossip_threshold": -10 * ONE, "publish_threshold": -50 * ONE, "graylist_threshold": -80 * ONE}
 TOPIC = (
     {"topic_weight": ONE, "p3_threshold": 0, "p1_quantum_ms": 1_000, "p3_activation_ms": 5_000}
@@ -15,7 +16,8 @@ TOPIC = (
     | dict.fromkeys(("p1_cap", "p2_cap", "p3_cap"), 100 * ONE)
 )
 # Each counter, its decay, and its cap where it has one of its own.
-COUNTERS = {"first": ("p2_decay", "p2_cap"), "near": ("p3_decay", "p3_cap"), "deficit": ("p3b_decay", ""), "invalid": ("p4_decay", "")}
+COUNTERS = {"first": ("p2_decay", "p2_cap"), "near": ("p3_decay", "p3_cap")}
+COUNTERS |= {"deficit": ("p3b_decay", ""), "invalid": ("p4_decay", "")}
 EVENTS = "heartbeat", "decay", "shut"
 PARTS = (
     "time_in_mesh first_message_deliveries mesh_message_deliveries mesh_failure_penalty invalid_message_deliveries "
@@ -47,8 +49,8 @@ class Scored:
         self.params = FACTORS | {key: value for key, value in plan.get("params", {}).items() if key in FACTORS}
         self.topics = {it["name"]: TOPIC | it for it in reversed(plan["topic"])}
         peers = [it["name"] for it in plan["peer"]]
-        near = {it["to"] for it in plan.get("dial", ()) if it["from"] == name} | {it["from"] for it in plan.get("dial", ()) if it["to"] == name}
-        self.neighbours = sorted(near, key=peers.index)
+        dials = [{it["from"], it["to"]} for it in plan.get("dial", ())]
+        self.neighbours = sorted(set().union(*(it for it in dials if name in it)) - {name}, key=peers.index)
         self.address = {it["name"]: it.get("address", it["name"]) for it in plan["peer"]}
         self.apps = {it["about"]: it["value"] for it in plan.get("app", ()) if it["peer"] == name}
         self.lost, self.blamed, self.held = set(), dict.fromkeys(self.neighbours, 0), {it: {} for it in self.neighbours}
@@ -98,7 +100,8 @@ class Scored:
             "mesh_failure_penalty": part(held["deficit"], it["w3b"]),
             "invalid_message_deliveries": part(held["invalid"], it["w4"], squared(held["invalid"])),
         }
-        return {"topic": topic} | parts | {"topic_score": times(it["topic_weight"], sum(each["weighed"] for each in parts.values()))}
+        total = sum(each["weighed"] for each in parts.values())
+        return {"topic": topic} | parts | {"topic_score": times(it["topic_weight"], total)}
 
     def about(self, now, peer):
         """The score of a neighbour, and its parts."""
@@ -106,11 +109,12 @@ class Scored:
         topics = [self.on_topic(now, topic, self.held[peer][topic]) for topic in sorted(self.held[peer], key=str.encode)]
         total = sum(each["topic_score"] for each in topics)
         count = sum(self.address[other] == self.address[peer] and other not in self.lost for other in self.neighbours)
+        too_many = squared(ONE * max(count - it["p6_threshold"], 0))
         others = {
             "topic_sum": total,
             "capped_topic_sum": min(total, it["topic_cap"]) if it["topic_cap"] else total,
             "app_specific_score": part(self.apps.get(peer, 0), it["w5"]),
-            "ip_colocation_factor": {"neighbours": count, "weighed": times(it["w6"], squared(ONE * max(count - it["p6_threshold"], 0)))},
+            "ip_colocation_factor": {"neighbours": count, "weighed": times(it["w6"], too_many)},
             "behaviour_penalty": part(self.blamed[peer], it["w7"], squared(self.blamed[peer])),
         }
         score = others["capped_topic_sum"] + sum(others[each]["weighed"] for each in PARTS[5:])
@@ -160,8 +164,8 @@ def differences(scenario, trace, lines, rows):
         yield f"{len(found)} lines of scores, and {len(wanted)} by the trace"
     for number, (line, it) in enumerate(zip(found, wanted)):
         if line != it:
-            names = [key for key in it if line.get(key) != it[key]]
-            yield f"line {number + 1} of scores: {', '.join(f'{key} is {line.get(key)}, and {it[key]} by the trace' for key in names)}"
+            for key in (key for key in it if line.get(key) != it[key]):
+                yield f"line {number + 1} of scores: {key} is {line.get(key)}, and {it[key]} by the trace"
     header = "round,at,peer,event,neighbour,topic,part,counted,weighed".split(",")
     if list(csv.reader(io.StringIO(rows))) != [header, *(row for line in found[1:] for row in rows_of(line))]:
         yield "the rows of scores are not those of its lines"

@@ -22,8 +22,8 @@ pub fn asked_by(arguments: &[String]) -> Option<Wanted<'_>>
     asked_from(all_scores(), arguments)
 }
 
-/// What options ask for beside others, each with its value. An option comes once at most, so this calls itself four times at
-/// most.
+/// What options ask for beside others, each with its value. An option comes once at most, so this calls itself four times
+/// at most.
 fn asked_from<'a>(wanted: Wanted<'a>, arguments: &'a [String]) -> Option<Wanted<'a>>
     ensures { option_map wishes_of result ≡ asked_from (Some (wishes_of wanted.entry)) (map string_bytes arguments.now) }
 {

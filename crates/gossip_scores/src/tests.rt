@@ -4,8 +4,8 @@ use std::alloc::{AllocError, Global};
 use std::process::ExitCode;
 use std::test::*;
 
-/// `b` rejects what `a` publishes at 200 and it hears at 300: P4 counts 1, which two decays leave 0.5 and 0.25 of, at 400 and
-/// 600. Its square weighs -1, and the topic a half.
+/// `b` rejects what `a` publishes at 200 and it hears at 300: P4 counts 1. The decays at 400 and 600 leave 0.5 and 0.25 of
+/// it. Its square weighs -1, and the topic a half.
 const REJECTED: &str = "round_ms = 100\nrounds = 6\nworkers = 1\ncapacity = 1\nseed = 1\n\
     [params]\nheartbeat_ms = 300\ndecay_ms = 200\n\
     [[topic]]\nname = \"news\"\ntopic_weight = 500000\nw4 = -1000000\np4_decay = 500000\nreject = [\"ff\"]\n\
@@ -14,7 +14,7 @@ const REJECTED: &str = "round_ms = 100\nrounds = 6\nworkers = 1\ncapacity = 1\ns
     [[do]]\nwhat = \"subscribe\"\nat = 0\npeer = \"b\"\ntopic = \"news\"\n\
     [[do]]\nwhat = \"publish\"\nat = 2\npeer = \"a\"\ntopic = \"news\"\nhex = \"ff01\"\n";
 
-/// Each takes the other into its mesh at 100, and nobody publishes. From 300 on 2 deliveries are missing, of which the square
+/// Each takes the other into its mesh at 100, and nobody publishes. From 300 on 2 deliveries are missing. Their square
 /// weighs -1.5. So the heartbeat at 300 prunes the other: P3b counts 4, which weighs -1, and the decay at 500 leaves 2.
 const PRUNED: &str = "round_ms = 100\nrounds = 5\nworkers = 1\ncapacity = 1\nseed = 1\n\
     [params]\nheartbeat_ms = 100\ndecay_ms = 500\n\

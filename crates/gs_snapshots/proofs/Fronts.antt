@@ -1,5 +1,5 @@
 -- One element more: what is told so far, and then what is told of it.
-use Rattle.std.proofs.Common.{◌≡◌, ◌<◌, ◌+◌, ℕ, zero, suc, Bool, cond, List, [], ◌∷◌, ◌++◌, filter, flat_map, get_or, length, map, reverse, take, drop, sym, ap, ◌∙◌, append_assoc, append-nil, take-append-drop, arith}
+use Rattle.std.proofs.Common.{◌≡◌, ◌<◌, ◌+◌, ℕ, zero, suc, Bool, cond, Option, Some, None, option_map, List, [], ◌∷◌, ◌++◌, filter, flat_map, get_or, length, map, reverse, take, drop, sym, ap, ◌∙◌, append_assoc, append-nil, take-append-drop, arith}
 use Rattle.std.specs.List.{AllByRecursion}
 use Rattle.std.proofs.lemmas.List.{map-append, reverse-append, take_more}
 use Rattle.std.proofs.lemmas.List.Elements.{filter-append}
@@ -11,7 +11,8 @@ use Rattle.gs_plan.specs.declared.plan.Plan.{Plan}
 use Rattle.gs_rules.specs.declared.trace.Entry.{Entry}
 use Rattle.gs_rules.specs.Tables.{Entries}
 use Rattle.gs_snapshots.specs.declared.moments.Moment.{Moment}
-use Rattle.gs_snapshots.specs.Moments.{moments, newest_moment, traces_so_far}
+use Rattle.gs_snapshots.specs.declared.moments.Occasion.{Occasion}
+use Rattle.gs_snapshots.specs.Moments.{moment_of, moments, newest_moment, traces_so_far, with_trace}
 
 -- ---- lists
 
@@ -54,6 +55,14 @@ moments_more plan p e L =
     ap (flat_map (newest_moment plan p)) (reverse-append ((e ∷ L) ∷ []) (traces_so_far L))
     ∙ flat_map-append (newest_moment plan p) (reverse (traces_so_far L)) ((e ∷ L) ∷ [])
     ∙ ap (λ (more : List (Moment × Entries)). moments plan p L ++ more) (append-nil (newest_moment plan p (e ∷ L)))
+
+-- a moment that there is of an entry is that of the trace with it, and of its peer
+pub moment_given : (plan : Plan) (p : PeerNo) (e : Entry) (L : Entries) (o : Option Occasion) (m : Moment) → option_map (moment_of plan p e) o ≡ Some m
+    → (with_trace plan p e L o ≡ (m, e ∷ L) ∷ []) × (m.peer ≡ p)
+moment_given plan p e L None m is = absurd cc
+moment_given plan p e L (Some o) m is =
+    let same : moment_of plan p e o ≡ m = cc in
+    (ap (λ (x : Moment). (x, e ∷ L) ∷ []) same, sym (ap (λ (x : Moment). x.peer) same))
 
 pub told_more : (text : Moment × Entries → List ℕ) (test : Moment × Entries → Bool) (plan : Plan) (p : PeerNo) (e : Entry) (L : Entries)
     → flat_map text (filter test (moments plan p L)) ++ flat_map text (filter test (newest_moment plan p (e ∷ L))) ≡ flat_map text (filter test (moments plan p (e ∷ L)))

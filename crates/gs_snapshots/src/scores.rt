@@ -13,9 +13,8 @@ ghost use Rattle.gs_seats.specs.Reports.{IsReport};
 ghost use Rattle.gs_streams.specs.Streams.{AppendsFront};
 ghost use Rattle.gs_trace.specs.Pages.{Adds};
 ghost use Rattle.gs_snapshots.specs.Forms.{snapshot_text};
-ghost use Rattle.gs_snapshots.specs.Moments.{newest_moment};
-ghost use Rattle.gs_snapshots.specs.Scores.{is_at_wanted_round, scores_text, text_at, text_of_peer, wanted_neighbours};
-ghost use Rattle.gs_snapshots.specs.Telling.{FollowsPeer, text_if, told_at};
+ghost use Rattle.gs_snapshots.specs.Scores.{scores_text, text_of_peer, wanted_neighbours};
+ghost use Rattle.gs_snapshots.specs.Telling.{FollowsPeer, text_if, told_at, told_newest, told_of, told_of_each};
 ghost use Rattle.gs_snapshots.specs.Wishes.{wishes_of};
 
 use crate::csv::push_rows;
@@ -208,8 +207,7 @@ fn push_entry(
     requires { 0 < asked.now.plan.now.round_ms }
     ensures { OnOk result ((L : Entries) (left : List EntryValue)
         → FollowsPeer follower.now asked.now.plan.now asked.now.peer (entry.now ∷ L) left
-        → out.new.items ≡ out.old.items
-        ++ flat_map (text_at asked.now.form asked.now.plan.now asked.now.neighbours.items) (filter (is_at_wanted_round asked.now.rounds) (newest_moment asked.now.plan.now asked.now.peer (entry.now ∷ L)))) }
+        → out.new.items ≡ out.old.items ++ told_newest asked.now (entry.now ∷ L)) }
 {
     match moment_of(asked.plan, asked.peer, entry) {
         Some(moment) => push_moment_if(asked, out, follower, moment),
@@ -226,8 +224,7 @@ fn push_moment_if(
 ) -> Result<(), AllocError>
     ensures { OnOk result ((L : Entries) (left : List EntryValue)
         → FollowsPeer follower.now asked.now.plan.now moment.peer L left
-        → out.new.items ≡ out.old.items
-        ++ flat_map (text_at asked.now.form asked.now.plan.now asked.now.neighbours.items) (filter (is_at_wanted_round asked.now.rounds) ((moment, L) ∷ []))) }
+        → out.new.items ≡ out.old.items ++ told_of_each asked.now ((moment, L) ∷ [])) }
 {
     if is_in_rounds(asked.rounds, moment.round) {
         return push_moment(asked, out, follower, moment);
@@ -244,7 +241,7 @@ fn push_moment(
 ) -> Result<(), AllocError>
     ensures { OnOk result ((L : Entries) (left : List EntryValue)
         → FollowsPeer follower.now asked.now.plan.now moment.peer L left
-        → out.new.items ≡ out.old.items ++ text_at asked.now.form asked.now.plan.now asked.now.neighbours.items (moment, L)) }
+        → out.new.items ≡ out.old.items ++ told_of asked.now (moment, L)) }
 {
     for neighbour in &asked.neighbours {
         let snapshot = snapshot_of(*out.allocator(), follower, moment, *neighbour)?;

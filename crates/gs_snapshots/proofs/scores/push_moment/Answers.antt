@@ -1,4 +1,5 @@
-use Rattle.std.proofs.Common.{◌++◌, ◌+◌, ℕ, List, get_or, take, sym, ap, ◌∙◌}
+use Rattle.std.proofs.Common.{◌≡◌, ◌≤◌, ◌++◌, ◌+◌, ℕ, List, get_or, length, take, sym, ap, ◌∙◌, arith}
+use Rattle.std.proofs.lemmas.List.{take_all}
 use Rattle.std.specs.List.{flat_map}
 use Rattle.gs_base.specs.declared.names.PeerNo.{PeerNo}
 use Rattle.gs_snapshots.specs.declared.snapshot.Snapshot.{Snapshot}
@@ -29,3 +30,13 @@ loop-neighbour-preserved c L left follows =
     ∙ one_more text xs i none c.loop-neighbour-test.true
     ∙ ap (λ (qs : List PeerNo). flat_map text (take (i + 1) qs)) is
     )
+
+pub returns : goal.returns
+returns c L left follows =
+    let text = text_about c.args.asked.now.form c.args.asked.now.plan.now (c.args.moment, L) in
+    let qs = c.args.asked.now.neighbours.items in
+    let i = c.loop-neighbour.neighbour-index in
+    let out = c.args.out.now.items in
+    let same : length c.deref-neighbour-items.result.now ≡ length qs = ap (λ (all : List PeerNo). length all) c.deref-neighbour-items.ensures.value in
+    let end : length qs ≤ i = omega (arith, same, c.loop-neighbour-test.false) in
+    c.loop-neighbour.invariant L left follows ∙ ap (λ (front : List PeerNo). out ++ flat_map text front) (take_all i qs end)
