@@ -37,7 +37,7 @@ pub fn follower_of<'a>(
 {
     let neighbours = neighbours_of(alloc, plan, number)?;
     let params = clone_of(&plan.params)?;
-    let follower = Follower::new(alloc, params, neighbours, trace.entries())?;
+    let follower = Follower::new(alloc, params, neighbours, trace)?;
     Ok(follower)
 }
 
