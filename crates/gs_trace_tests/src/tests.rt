@@ -89,19 +89,16 @@ fn event_line(alloc: Global, members: &str, fallen: &str) -> Result<Vec<u8>, All
     let mut line = Vec::new(alloc);
     line.extend_from_slice(b"{\"round\":0,\"at\":7,\"peer\":\"a\",")?;
     line.extend_from_slice(members.as_bytes())?;
-    line.extend_from_slice(b",\"sent\":[],\"delivered\":[],\"promise\":null,\"marks\":[],\"fell_away\":[")?;
+    line.extend_from_slice(
+        b",\"sent\":[],\"delivered\":[],\"promise\":null,\"marks\":[],\"fell_away\":[",
+    )?;
     line.extend_from_slice(fallen.as_bytes())?;
     line.extend_from_slice(b"]}\n")?;
     Ok(line)
 }
 
 /// Whether an event is told by these members, and what came to nothing at it by these objects.
-fn is_event(
-    alloc: Global,
-    event: Event,
-    members: &str,
-    fallen: &str,
-) -> Result<bool, AllocError> {
+fn is_event(alloc: Global, event: Event, members: &str, fallen: &str) -> Result<bool, AllocError> {
     let line = event_line(alloc, members, fallen)?;
     is_entry(alloc, event, Effects::none(alloc), &line)
 }

@@ -5,9 +5,7 @@ ghost use Rattle.gs_base.specs.Rpcs.{grafts_in, requests_in};
 
 use crate::tests::plan::{bytes, plan_of, topic};
 use crate::tests::{finished, text_of};
-use gs_base::{
-    Control, Graft, IWant, Mark, Millis, MsgId, PeerNo, Rpc, Seq, Shared, SharedPart,
-};
+use gs_base::{Control, Graft, IWant, Mark, Millis, MsgId, PeerNo, Rpc, Seq, Shared, SharedPart};
 use gs_plan::Act;
 use gs_report::Report;
 use gs_rules::{Effects, Entry, Event, Loss, Promise, RpcPart, Trace};
@@ -205,7 +203,11 @@ static GRAFTS: [Case; 8] = [
     },
     Case {
         scenario: AGREED,
-        trace: &[(0, Happens::Joins), (0, Happens::Grafted(1)), (7, Happens::Grafts(1))],
+        trace: &[
+            (0, Happens::Joins),
+            (0, Happens::Grafted(1)),
+            (7, Happens::Grafts(1)),
+        ],
         told: "",
     },
     Case {
@@ -215,12 +217,20 @@ static GRAFTS: [Case; 8] = [
     },
     Case {
         scenario: DISLIKED,
-        trace: &[(0, Happens::Joins), (0, Happens::Barred(60_000)), (59_999, Happens::Grafts(1))],
+        trace: &[
+            (0, Happens::Joins),
+            (0, Happens::Barred(60_000)),
+            (59_999, Happens::Grafts(1)),
+        ],
         told: "{\"what\":\"graft\",\"from\":\"b\",\"topic\":\"news\",\"why\":\"backoff\"}",
     },
     Case {
         scenario: PLAIN,
-        trace: &[(0, Happens::Joins), (0, Happens::Barred(60_000)), (60_000, Happens::Grafts(1))],
+        trace: &[
+            (0, Happens::Joins),
+            (0, Happens::Barred(60_000)),
+            (60_000, Happens::Grafts(1)),
+        ],
         told: "",
     },
     Case {
@@ -230,7 +240,11 @@ static GRAFTS: [Case; 8] = [
     },
     Case {
         scenario: NARROW,
-        trace: &[(0, Happens::Joins), (0, Happens::Grafted(1)), (7, Happens::Grafts(2))],
+        trace: &[
+            (0, Happens::Joins),
+            (0, Happens::Grafted(1)),
+            (7, Happens::Grafts(2)),
+        ],
         told: "{\"what\":\"graft\",\"from\":\"c\",\"topic\":\"news\",\"why\":\"full\"}",
     },
 ];
@@ -283,7 +297,11 @@ static OTHERS: [Case; 9] = [
     },
     Case {
         scenario: PLAIN,
-        trace: &[(0, Happens::Promised(3_000)), (7, Happens::Loses), (3_000, Happens::Beats)],
+        trace: &[
+            (0, Happens::Promised(3_000)),
+            (7, Happens::Loses),
+            (3_000, Happens::Beats),
+        ],
         told: "",
     },
 ];
