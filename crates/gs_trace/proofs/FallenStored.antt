@@ -1,5 +1,5 @@
 -- What came to nothing at entries in memory is in memory.
-use Rattle.std.proofs.Common.{◌≡◌, ℕ, Bool, List, [], ◌∷◌, ◌++◌, filter, flat_map, map, nat_eq, length, Option, None, Some}
+use Rattle.std.proofs.Common.{ℕ, List, [], ◌∷◌, ◌++◌, filter, flat_map, map, nat_eq, length, Option, None, Some}
 use Rattle.std.specs.List.{AllByRecursion}
 use Rattle.gs_base.specs.declared.control.IWant.{IWant}
 use Rattle.gs_base.specs.declared.mark.Mark.{Mark}
@@ -9,12 +9,10 @@ use Rattle.gs_base.specs.declared.names.MsgId.{MsgId}
 use Rattle.gs_base.specs.declared.names.PeerNo.{PeerNo}
 use Rattle.gs_base.specs.declared.names.Topic.{Topic}
 use Rattle.gs_base.specs.declared.rpc.Message.{Message}
-use Rattle.gs_base.specs.Names.{same_id, topic_or_empty}
+use Rattle.gs_base.specs.Names.{topic_or_empty}
 use Rattle.gs_rules.specs.declared.event.Event.{Event}
-use Rattle.gs_rules.specs.declared.event.Event.TheVariants.{Heard, Late, BeatBegin, Decay, RoundEnd, Shut, Part, Step, Own, Lost}
-use Rattle.gs_rules.specs.declared.event.RpcPart.{RpcPart}
-use Rattle.gs_rules.specs.declared.event.RpcPart.TheVariants.{Sub, Msg, Have, Want, GraftIn, PruneIn}
-use Rattle.gs_rules.specs.declared.fallen.Fallen.{Fallen}
+use Rattle.gs_rules.specs.declared.event.Event.TheVariants.{Heard, Late, BeatBegin, Part}
+use Rattle.gs_rules.specs.declared.event.RpcPart.TheVariants.{Want, GraftIn}
 use Rattle.gs_rules.specs.declared.fallen.Fallen.TheVariants as fallen
 use Rattle.gs_rules.specs.declared.fallen.NoAnswer.{NoAnswer}
 use Rattle.gs_rules.specs.declared.fallen.NoAnswer.TheVariants.{Ignored}
@@ -31,7 +29,7 @@ use Rattle.gs_rules.specs.Scoring.{is_graylisted, is_ignored}
 use Rattle.gs_rules.specs.Tables.{Entries, after_marks, ended_after, fulfilled_after, made, promises, up}
 use Rattle.gs_trace.specs.Lines.{seen}
 use Rattle.gs_trace.specs.Lines as lines
-use Rattle.gs_trace.specs.Stored.{AreStoredBytes, IfThere, IsStoredEntry, IsStoredEvent, IsStoredId, IsStoredPart, IsStoredPeer, IsStoredPromise, IsStoredTopic, IsStoredIWant}
+use Rattle.gs_trace.specs.Stored.{AreStoredBytes, IfThere, IsStoredEntry, IsStoredEvent, IsStoredId, IsStoredPeer, IsStoredPromise, IsStoredTopic, IsStoredIWant}
 use Rattle.gs_trace.proofs.FallenTexts.{IsStoredFallen}
 use Rattle.gs_trace.proofs.Rounds.{all_append, all_either, all_filter}
 

@@ -15,7 +15,7 @@ use Rattle.gs_rules.specs.declared.trace.Promise.{Promise}
 use Rattle.gs_trace.specs.Events.{topic_member}
 use Rattle.gs_trace.specs.Fallen.{fallen_members, fallen_object, fallen_of, fell_away_member, no_answer_word, refusal_word, why_member}
 use Rattle.gs_trace.specs.Stored.{AreStoredBytes, IsStoredId, IsStoredPeer, IsStoredPromise, IsStoredTopic}
-use Rattle.gs_trace.specs.Texts.{id_text, moment_text, peer_text}
+use Rattle.gs_trace.specs.Texts.{id_text, moment_text}
 use Rattle.gs_trace.proofs.EventTexts.{tell_topic_member}
 use Rattle.gs_trace.proofs.Prefixes.{Anything, NoDigit, TellsAll, and_next, and_then, anywhere, back, clashes, front, made, next, of_part}
 use Rattle.gs_trace.proofs.Values.{Differ, tell_id, tell_list, tell_moment, tell_peer}

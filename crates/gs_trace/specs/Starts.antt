@@ -3,8 +3,6 @@ use Rattle.std.specs.Prelude.{◌≡◌, ◌≤◌, ℕ, zero, suc, Bool, if◌t
 use Rattle.std.specs.List.{flat_map}
 use Rattle.gs_base.specs.declared.names.PeerNo.{PeerNo}
 use Rattle.gs_plan.specs.declared.plan.Plan.{Plan}
-use Rattle.gs_rules.specs.declared.trace.Entry.{Entry}
-use Rattle.gs_rules.specs.Tables.{Entries}
 use Rattle.gs_router.specs.declared.follower.Followed.{Followed}
 use Rattle.gs_router.specs.declared.follower.Follower.{Follower}
 use Rattle.gs_router.specs.Following.{Follows, Reading}

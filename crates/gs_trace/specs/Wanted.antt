@@ -1,5 +1,5 @@
 -- Which lines of a trace are wanted. The first line always is.
-use Rattle.std.specs.Prelude.{ℕ, nat_le, Bool, true, false, ◌&&◌, ◌==◌, if◌then◌else◌, List, [], ◌∷◌, ◌++◌, drop, filter, length, Option, None, Some}
+use Rattle.std.specs.Prelude.{ℕ, nat_le, Bool, true, ◌&&◌, ◌==◌, if◌then◌else◌, List, [], ◌++◌, filter, Option, None, Some}
 use Rattle.std.specs.List.{flat_map, list_any, slice_split}
 use Rattle.gs_base.specs.declared.names.PeerNo.{PeerNo}
 use Rattle.gs_plan.specs.declared.plan.Plan.{Plan}

@@ -1,4 +1,4 @@
-use Rattle.std.proofs.Common.{◌≡◌, ◌++◌, ◌+◌, ◌<◌, ℕ, List, suc, drop, get_or, length, slice_set, take, add-one, arith, subst, sym, ap, ◌∙◌}
+use Rattle.std.proofs.Common.{◌≡◌, ◌++◌, ◌+◌, ℕ, List, drop, get_or, slice_set, take, add-one, arith, subst, sym, ap, ◌∙◌}
 use Rattle.std.specs.List.{flat_map}
 use Rattle.gs_trace.specs.Lines.{told_of}
 use Rattle.gs_trace.specs.Pages.{Adds}

@@ -1,8 +1,7 @@
-use Rattle.std.proofs.Common.{◌≡◌, ◌++◌, List, [], ℕ, append-nil, subst, sym, ap, ◌∙◌}
+use Rattle.std.proofs.Common.{◌++◌, List, [], ℕ, append-nil, subst, sym, ap, ◌∙◌}
 use Rattle.std.specs.Io.KnownBytes.{Appends}
 use Rattle.gs_trace.specs.declared.lines.Walk.{Walk}
 use Rattle.gs_trace.specs.Lines.{head_text}
-use Rattle.gs_trace.specs.Pages.{Adds}
 use Rattle.gs_trace.specs.Turns.{rounds_text}
 use Rattle.gs_trace.specs.Wanted.{wanted_text, wishes_of}
 use Rattle.gs_trace.proofs.TurnTexts.{all_parts}
