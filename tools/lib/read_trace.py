@@ -98,3 +98,60 @@ class Trace:
                 is_invalid = any(mark["mark"] == "invalid" for mark in it["marks"])
                 count += verdicts in (["reject"], ["ignore"]) or (is_signed and is_invalid)
         return count
+
+    def strange_falls(self):
+        """What is wrong with what came to nothing, by the lines themselves."""
+        for name in self.names:
+            bars = {}
+            for line in self.of(name):
+                if line["event"] != "refused":
+                    right = self.right_falls(line, bars)
+                    if line["fell_away"] != right:
+                        yield f"{name} at {line['at']}, {line['event']}: {line['fell_away']} fell away, and {right} by the line"
+                    for it in (mark for mark in line["marks"] if mark["mark"] == "backoff"):
+                        place = it["peer"], it["topic"]
+                        bars[place] = max(bars.get(place, 0), it["until"])
+
+    def right_falls(self, line, bars):
+        """What came to nothing by what the peer did. Reasons that no line tells are taken as they stand."""
+        word, told = line["event"], line["fell_away"]
+        if word == "late":
+            return [{"what": "late", "from": line["from"]}]
+        if word == "heard":
+            return [{"what": "graylisted", "from": line["from"]}] if told else []
+        if word == "graft":
+            return self.right_graft(line, bars)
+        if word == "iwant":
+            return self.right_requests(line)
+        if word == "heartbeat":
+            charged = [it["peer"] for it in line["marks"] if it["mark"] == "misbehaviour"]
+            keys = ["what", "from", "id", "until"]
+            is_right = [it["from"] for it in told] == charged and all(list(it) == keys and it["until"] <= line["at"] for it in told)
+            return told if is_right else [{"what": "promise", "from": it} for it in charged]
+        return []
+
+    def right_graft(self, line, bars):
+        """A GRAFT that is refused gets a PRUNE. Its sender is charged where it comes within a backoff."""
+        sender, topic = line["from"], line["part"]["topicID"] or ""
+        if not any(it["to"] == sender and (it["rpc"]["control"] or {}).get("prune") for it in line["sent"]):
+            return []
+        whys = [it.get("why") for it in line["fell_away"]]
+        if any(it["mark"] == "misbehaviour" for it in line["marks"]):
+            why = "backoff" if line["at"] < bars.get((sender, topic), 0) else None
+        else:
+            why = whys[0] if whys and whys[0] in ("explicit", "score", "full") else None
+        return [{"what": "graft", "from": sender, "topic": topic, "why": why}]
+
+    def right_requests(self, line):
+        """Each identifier of 32 bytes is answered or not, in order."""
+        left = [mark["id"] for mark in line["marks"] if mark["mark"] == "answered"]
+        whys = iter([it.get("why") for it in line["fell_away"]])
+        found, answered = [], set(left)
+        for one in (it for it in line["part"]["messageIDs"] if len(it) == 64):
+            if left[:1] == [one]:
+                left.pop(0)
+                continue
+            why = next(whys, None)
+            is_known = why == "too_often" if one in answered else why in ("score", "not_kept", "too_often")
+            found.append({"what": "iwant", "from": line["from"], "id": one, "why": why if is_known else None})
+        return found

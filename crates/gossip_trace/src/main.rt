@@ -1,4 +1,4 @@
-//! Prints the trace of a run: reads a scenario, runs it, and writes what each peer heard, decided, sent and remembered.
+//! Prints the trace of a run: reads a scenario, runs it, and writes what each peer heard, decided, sent and remembered, and what came to nothing.
 #![tactic(auto)]
 
 mod arguments;

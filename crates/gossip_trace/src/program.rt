@@ -10,6 +10,7 @@ use crate::arguments::{asked_by, refuse};
 use gs_plan::Plan;
 use gs_program::{PrintFault, Printer, Program};
 use gs_report::Report;
+use gs_seats::traces_of_a_report_are_in_order;
 use gs_trace::{TraceFault, Wanted, write_trace};
 use std::alloc::Global;
 use std::io::{Read, Write};
@@ -33,6 +34,7 @@ impl<'a> Printer for TraceOf<'a> {
         report: &Report,
         output: &mut W,
     ) -> Result<(), PrintFault> {
+        traces_of_a_report_are_in_order();
         match write_trace(alloc, plan, report, &self.wanted, output) {
             Ok(()) => Ok(()),
             Err(fault) => Err(as_printed(fault)),

@@ -31,11 +31,11 @@ const OF_B_IN_ROUND_1: &str = "\
 {\"peers\":[\"a\",\"b\"],\"round_ms\":100,\"last_round\":3,\"dials\":[{\"from\":\"a\",\"to\":\"b\"}]}
 {\"round\":1,\"at\":100,\"peer\":\"b\",\"event\":\"heard\",\"from\":\"a\",\"rpc\":{\"subscriptions\":\
 [{\"subscribe\":true,\"topicid\":\"news\"}],\"publish\":[],\"control\":null},\"sent\":[],\"delivered\":[],\
-\"promise\":null,\"marks\":[]}
+\"promise\":null,\"marks\":[],\"fell_away\":[]}
 {\"round\":1,\"at\":100,\"peer\":\"b\",\"event\":\"subscription\",\"from\":\"a\",\"part\":\
-{\"subscribe\":true,\"topicid\":\"news\"},\"sent\":[],\"delivered\":[],\"promise\":null,\"marks\":[]}
+{\"subscribe\":true,\"topicid\":\"news\"},\"sent\":[],\"delivered\":[],\"promise\":null,\"marks\":[],\"fell_away\":[]}
 {\"round\":1,\"at\":100,\"peer\":\"b\",\"event\":\"round_end\",\"number\":1,\"sent\":[],\"delivered\":[],\
-\"promise\":null,\"marks\":[]}
+\"promise\":null,\"marks\":[],\"fell_away\":[]}
 ";
 
 /// The end of round 0 names no topic.
@@ -43,19 +43,19 @@ const ON_NEWS_IN_ROUND_0: &str = "\
 {\"peers\":[\"a\",\"b\"],\"round_ms\":100,\"last_round\":3,\"dials\":[{\"from\":\"a\",\"to\":\"b\"}]}
 {\"round\":0,\"at\":0,\"peer\":\"a\",\"event\":\"subscribe\",\"topic\":\"news\",\"sent\":[{\"to\":\"b\",\"rpc\":\
 {\"subscriptions\":[{\"subscribe\":true,\"topicid\":\"news\"}],\"publish\":[],\"control\":null}}],\"delivered\":[],\
-\"promise\":null,\"marks\":[]}
+\"promise\":null,\"marks\":[],\"fell_away\":[]}
 {\"round\":0,\"at\":0,\"peer\":\"b\",\"event\":\"subscribe\",\"topic\":\"news\",\"sent\":[{\"to\":\"a\",\"rpc\":\
 {\"subscriptions\":[{\"subscribe\":true,\"topicid\":\"news\"}],\"publish\":[],\"control\":null}}],\"delivered\":[],\
-\"promise\":null,\"marks\":[]}
+\"promise\":null,\"marks\":[],\"fell_away\":[]}
 ";
 
 /// A refused line is of a topic by the line of the script.
 const ENDS_AND_REFUSALS_OF_A: &str = "\
 {\"peers\":[\"a\",\"b\"],\"round_ms\":100,\"last_round\":3,\"dials\":[{\"from\":\"a\",\"to\":\"b\"}]}
 {\"round\":2,\"at\":200,\"peer\":\"a\",\"event\":\"round_end\",\"number\":2,\"sent\":[],\"delivered\":[],\
-\"promise\":null,\"marks\":[]}
+\"promise\":null,\"marks\":[],\"fell_away\":[]}
 {\"round\":3,\"at\":300,\"peer\":\"a\",\"event\":\"round_end\",\"number\":3,\"sent\":[],\"delivered\":[],\
-\"promise\":null,\"marks\":[]}
+\"promise\":null,\"marks\":[],\"fell_away\":[]}
 {\"round\":3,\"at\":300,\"peer\":\"a\",\"event\":\"refused\",\"line\":3,\"what\":\"publish\",\"number\":16}
 ";
 

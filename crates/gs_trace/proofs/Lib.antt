@@ -2,6 +2,7 @@ pub mod Appended
 pub mod Writing
 mod Named
 mod Starts
+mod Seeing
 mod Wanting
 mod TurnTexts
 mod Prefixes
@@ -11,6 +12,8 @@ mod Values
 mod RpcTexts
 mod EventTexts
 mod MarkTexts
+mod FallenTexts
+mod FallenStored
 mod LineTexts
 mod Rounds
 mod Traces

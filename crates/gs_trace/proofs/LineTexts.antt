@@ -12,6 +12,7 @@ use Rattle.gs_plan.specs.declared.plan.Line.{Line}
 use Rattle.gs_plan.specs.declared.plan.Plan.{Plan}
 use Rattle.gs_rules.specs.declared.event.Event.{Event}
 use Rattle.gs_rules.specs.declared.event.Event.TheVariants.{Heard}
+use Rattle.gs_rules.specs.declared.fallen.Fallen.{Fallen}
 use Rattle.gs_rules.specs.declared.refusal.Refusal.{Refusal}
 use Rattle.gs_rules.specs.declared.refusal.Refusal.TheVariants.{AlreadySeen, TooLong, Joined, NotJoined, Stopped, NotOpen, TooMany}
 use Rattle.gs_rules.specs.declared.refusal.RefusedLine.{RefusedLine}
@@ -20,10 +21,12 @@ use Rattle.gs_rules.specs.declared.trace.Entry.{Entry}
 use Rattle.gs_rules.specs.Refusals.{number_of}
 use Rattle.gs_report.specs.Text.{word_of}
 use Rattle.gs_trace.specs.Events.{effects_members, event_members, event_text}
+use Rattle.gs_trace.specs.Fallen.{fell_away_member}
 use Rattle.gs_trace.specs.Lines.{Told, Did, Refused, dial_text, entry_members, head_text, line_start, line_text}
 use Rattle.gs_trace.specs.Stored.{AreStoredBytes, IsStoredDial, IsStoredEntry, IsStoredMoment, IsStoredNumber, IsStoredPeer, IsStoredRefusal}
 use Rattle.gs_trace.specs.Texts.{list_text, names_of, quoted}
 use Rattle.gs_trace.proofs.EventTexts.{event_sort, sort_told, tell_event, text_sort}
+use Rattle.gs_trace.proofs.FallenTexts.{IsStoredFallen, tell_fell_away}
 use Rattle.gs_trace.proofs.MarkTexts.{tell_effects}
 use Rattle.gs_trace.proofs.Numbers.{IsShort, tell_decimal}
 use Rattle.gs_trace.proofs.Prefixes.{Anything, NoDigit, Tells, TellsAll, and_next, and_then, anywhere, back, clashes, front, made, next, of_part, tell_items}
@@ -95,7 +98,7 @@ tell_head p q s t hp hq differ e =
 -- ---- lines of peers
 
 abbrev pub IsStoredTold : Told → Type 0
-IsStoredTold (Did r q e) = IsStoredNumber r × IsStoredPeer q × IsStoredEntry e
+IsStoredTold (Did r q e fallen) = IsStoredNumber r × IsStoredPeer q × IsStoredEntry e × AllByRecursion IsStoredFallen fallen
 IsStoredTold (Refused r q line) = IsStoredNumber r × IsStoredPeer q × IsStoredRefusal line
 
 -- the words of a script by their places
@@ -109,7 +112,7 @@ refusal_with words line =
 
 -- a line by the names and the words that it needs of a plan
 abbrev pub line_with : List (List ℕ) → Words → Told → List ℕ
-line_with names words (Did r q e) = line_start names r e.at q ++ entry_members names e ++ codes "}\n"
+line_with names words (Did r q e fallen) = line_start names r e.at q ++ entry_members names e fallen ++ codes "}\n"
 line_with names words (Refused r q line) = line_start names r line.at q ++ refusal_with words line ++ codes "}\n"
 
 short_number : (why : Refusal) → IsShort (number_of why)
@@ -137,8 +140,8 @@ no_refused_event : (x : Event) → event_sort x ≡ 10 → ⊥
 no_refused_event (Heard q rpc) e = eqb-false _ _ refl e
 no_refused_event x e = eqb-false _ _ refl e
 
-four_parts : (a b c d s : List ℕ) → a ++ (b ++ c) ++ d ++ s ≡ a ++ (b ++ (c ++ (d ++ s)))
-four_parts a b c d s = simp append_assoc
+five_parts : (a b c d e s : List ℕ) → a ++ (b ++ c ++ d) ++ e ++ s ≡ a ++ (b ++ (c ++ (d ++ (e ++ s))))
+five_parts a b c d e s = simp append_assoc
 
 module _ (names : List (List ℕ)) (stored : AllByRecursion AreStoredBytes names) (differ : Differ names) where
   abbrev Start : Type 0
@@ -155,16 +158,21 @@ module _ (names : List (List ℕ)) (stored : AllByRecursion AreStoredBytes names
       (codes ",") (λ s. refl)
 
   abbrev Doing : Type 0
-  Doing = (ℕ × PeerNo) × Entry
+  Doing = (ℕ × PeerNo) × (Entry × List Fallen)
 
   abbrev IsStoredDoing : Doing → Type 0
-  IsStoredDoing x = IsStoredNumber x.0.0 × IsStoredPeer x.0.1 × IsStoredEntry x.1
+  IsStoredDoing x = IsStoredNumber x.0.0 × IsStoredPeer x.0.1 × IsStoredEntry x.1.0 × AllByRecursion IsStoredFallen x.1.1
 
-  tell_entry : Tells {B = Start × (Event × Effects)} Anything IsStoredDoing (λ x. line_with names (λ n. []) (Did x.0.0 x.0.1 x.1)) (λ x. (((x.0.0, x.1.at), x.0.1), (x.1.event, x.1.effects)))
+  -- what an entry tells, and what came to nothing at it
+  abbrev Done : Type 0
+  Done = (Event × Effects) × List Fallen
+
+  tell_entry : Tells {B = Start × Done} Anything IsStoredDoing (λ x. line_with names (λ n. []) (Did x.0.0 x.0.1 x.1.0 x.1.1)) (λ x. (((x.0.0, x.1.0.at), x.0.1), ((x.1.0.event, x.1.0.effects), x.1.1)))
   tell_entry = back {After = Anything} (and_then
-      (of_part {Fits = IsStoredDoing} tell_start (λ (x : Doing). ((x.0.0, x.1.at), x.0.1)) (λ x h. (h.0, h.2.moment, h.1)))
-      (and_next (of_part (tell_event names stored differ) (λ (x : Doing). x.1.event) (λ x h. h.2.event))
-      (of_part (tell_effects names stored differ) (λ (x : Doing). x.1.effects) (λ x h. h.2.effects)) (λ x s. refl)))
+      (of_part {Fits = IsStoredDoing} tell_start (λ (x : Doing). ((x.0.0, x.1.0.at), x.0.1)) (λ x h. (h.0, h.2.moment, h.1)))
+      (and_then (and_next (of_part (tell_event names stored differ) (λ (x : Doing). x.1.0.event) (λ x h. h.2.event))
+      (of_part (tell_effects names stored differ) (λ (x : Doing). x.1.0.effects) (λ x h. h.2.effects)) (λ x s. refl))
+      (of_part (tell_fell_away names stored differ) (λ (x : Doing). x.1.1) (λ x h. h.3))))
       (codes "}\n") (λ s. tt)
 
   abbrev Refusing : Type 0
@@ -183,18 +191,20 @@ module _ (names : List (List ℕ)) (stored : AllByRecursion AreStoredBytes names
       (codes "}\n") (λ s. refl)
 
   -- no line is of an entry and of a refused line
-  no_both : (words : Words) (r k : ℕ) (q p : PeerNo) (x : Entry) (line : RefusedLine) (s t : List ℕ) → IsStoredTold (Did r q x) → IsStoredTold (Refused k p line)
-      → line_with names words (Did r q x) ++ s ≡ line_with names words (Refused k p line) ++ t → ⊥
-  no_both words r k q p x line s t hx hy e =
+  no_both : (words : Words) (r k : ℕ) (q p : PeerNo) (x : Entry) (fallen : List Fallen) (line : RefusedLine) (s t : List ℕ) → IsStoredTold (Did r q x fallen) → IsStoredTold (Refused k p line)
+      → line_with names words (Did r q x fallen) ++ s ≡ line_with names words (Refused k p line) ++ t → ⊥
+  no_both words r k q p x fallen line s t hx hy e =
       let a = line_start names r x.at q in
       let b = line_start names k line.at p in
-      let u = event_members names x.event ++ (effects_members names x.effects ++ (codes "}\n" ++ s)) in
+      let more = effects_members names x.effects ++ (fell_away_member names fallen ++ (codes "}\n" ++ s)) in
+      let u = event_members names x.event ++ more in
       let v = refusal_with words line ++ (codes "}\n" ++ t) in
-      let left : line_with names words (Did r q x) ++ s ≡ a ++ u = four_parts a (event_members names x.event) (effects_members names x.effects) (codes "}\n") s in
+      let left : line_with names words (Did r q x fallen) ++ s ≡ a ++ u =
+      five_parts a (event_members names x.event) (effects_members names x.effects) (fell_away_member names fallen) (codes "}\n") s in
       let right : line_with names words (Refused k p line) ++ t ≡ b ++ v = three_parts b (refusal_with words line) (codes "}\n") t in
       let both = tell_start.tell ((r, x.at), q) ((k, line.at), p) u v tt tt (hx.0, hx.2.moment, hx.1) (hy.0, hy.2.moment, hy.1) (sym left ∙ e ∙ right) in
       let refused : text_sort v ≡ 10 = refl in
-      no_refused_event x.event (sym (sort_told names x.event (effects_members names x.effects ++ (codes "}\n" ++ s))) ∙ ap text_sort both.1 ∙ refused)
+      no_refused_event x.event (sym (sort_told names x.event more) ∙ ap text_sort both.1 ∙ refused)
 
   -- a line, with the words of its plan
   abbrev Worded : Type 0
@@ -205,11 +215,11 @@ module _ (names : List (List ℕ)) (stored : AllByRecursion AreStoredBytes names
 
   line_by : (w v : Words) (x y : Told) (s t : List ℕ) → ((n : ℕ) → AreStoredBytes (w n)) → ((n : ℕ) → AreStoredBytes (v n)) → IsStoredTold x → IsStoredTold y
       → line_with names w x ++ s ≡ line_with names v y ++ t → (x ≡ y) × (s ≡ t)
-  line_by w v (Did r q x) (Did k p y) s t hw hv hx hy e =
-      let both = tell_entry.tell ((r, q), x) ((k, p), y) s t tt tt hx hy e in
-      (ap (λ (z : Start × (Event × Effects)). Did z.0.0.0 z.0.1 (record { at = z.0.0.1; event = z.1.0; effects = z.1.1 })) both.0, both.1)
-  line_by w v (Did r q x) (Refused k p line) s t hw hv hx hy e = absurd (no_both v r k q p x line s t hx hy e)
-  line_by w v (Refused k p line) (Did r q x) s t hw hv hx hy e = absurd (no_both w r k q p x line t s hy hx (sym e))
+  line_by w v (Did r q x f) (Did k p y g) s t hw hv hx hy e =
+      let both = tell_entry.tell ((r, q), (x, f)) ((k, p), (y, g)) s t tt tt hx hy e in
+      (ap (λ (z : Start × Done). Did z.0.0.0 z.0.1 (record { at = z.0.0.1; event = z.1.0.0; effects = z.1.0.1 }) z.1.1) both.0, both.1)
+  line_by w v (Did r q x f) (Refused k p line) s t hw hv hx hy e = absurd (no_both v r k q p x f line s t hx hy e)
+  line_by w v (Refused k p line) (Did r q x f) s t hw hv hx hy e = absurd (no_both w r k q p x f line t s hy hx (sym e))
   line_by w v (Refused r q x) (Refused k p y) s t hw hv hx hy e =
       let both = tell_refusal.tell ((r, q), (w, x)) ((k, p), (v, y)) s t tt tt (hx.0, hx.1, hx.2, hw) (hy.0, hy.1, hy.2, hv) e in
       let why = number_told x.why y.why (ap (λ (z : Start × ((ℕ × List ℕ) × ℕ)). z.1.1) both.0) in
@@ -222,7 +232,7 @@ module _ (names : List (List ℕ)) (stored : AllByRecursion AreStoredBytes names
   IsEnd s = s ≡ []
 
   no_end : (x : Worded) (s t : List ℕ) → IsStoredWorded x → IsEnd t → line_with names x.0 x.1 ++ s ≡ t → ⊥
-  no_end (w, Did r q x) s t h end e = let none : line_with names w (Did r q x) ++ s ≡ [] = e ∙ end in cc (none)
+  no_end (w, Did r q x f) s t h end e = let none : line_with names w (Did r q x f) ++ s ≡ [] = e ∙ end in cc (none)
   no_end (w, Refused r q x) s t h end e = let none : line_with names w (Refused r q x) ++ s ≡ [] = e ∙ end in cc (none)
 
   with_words : Words → List Told → List Worded
@@ -278,5 +288,5 @@ words_of_plan plan n = word_stored (slice_get plan.script n)
 
 pub lines_of_plan : (plan : Plan) (xs : List Told) → flat_map (line_text plan) xs ≡ flat_map (line_with (names_of plan) (word_of plan)) xs
 lines_of_plan plan [] = refl
-lines_of_plan plan (Did r q x ∷ xs) = ap (λ (u : List ℕ). line_text plan (Did r q x) ++ u) (lines_of_plan plan xs)
+lines_of_plan plan (Did r q x f ∷ xs) = ap (λ (u : List ℕ). line_text plan (Did r q x f) ++ u) (lines_of_plan plan xs)
 lines_of_plan plan (Refused r q x ∷ xs) = ap (λ (u : List ℕ). line_text plan (Refused r q x) ++ u) (lines_of_plan plan xs)

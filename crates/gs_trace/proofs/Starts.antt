@@ -1,103 +1,86 @@
--- The entries of a round are those from its start up to the next one.
-use Rattle.std.proofs.Common.{◌≡◌, ◌≤◌, ℕ, zero, suc, ◌+◌, ◌<◌, Bool, true, false, if◌then◌else◌, List, [], ◌∷◌, ◌++◌, drop, take, length, map, get_or, nat_eq, set, refl, sym, ap, ◌∙◌, arith, length-drop, reverse, add-one, append-nil, append_assoc}
-use Rattle.std.specs.List.{flat_map, range_with_len}
+-- What the readers of traces see of a round, and the text of the rounds.
+use Rattle.std.proofs.Common.{◌≡◌, ◌≤◌, ℕ, zero, suc, ◌+◌, ◌<◌, Bool, false, List, [], ◌∷◌, ◌++◌, drop, take, length, map, get_or, nat_eq, ne_eqb, set, refl, sym, ap, ◌∙◌, arith, add-one, append-nil, append_assoc}
+use Rattle.std.specs.List.{AllByRecursion, flat_map, range_with_len}
 use Rattle.std.proofs.lemmas.Grind.{flat_map-append}
-use Rattle.std.proofs.lemmas.List.{drop-drop, reverse-reverse, take_more}
-use Rattle.gs_rules.specs.declared.trace.Entry.{Entry}
-use Rattle.gs_trace.specs.Lines.{after_end, after_ends, ends_round, in_round, up_to_end}
-use Rattle.gs_trace.specs.Starts.{start_of}
+use Rattle.std.proofs.lemmas.List.{take_more}
+use Rattle.gs_base.specs.declared.names.PeerNo.{PeerNo}
+use Rattle.gs_plan.specs.declared.plan.Plan.{Plan}
+use Rattle.gs_router.specs.declared.follower.Followed.{Followed}
+use Rattle.gs_router.specs.declared.follower.Follower.{Follower}
+use Rattle.gs_report.specs.declared.finished.Finished.{Finished}
+use Rattle.gs_trace.specs.Lines.{Seen, after_end, after_ends, in_round, seen_by}
+use Rattle.gs_trace.specs.Starts.{Sees, StandAt, StandsAt, after_round, entry_of, left_in, of_round}
 use Rattle.gs_trace.proofs.Writing.{parts}
 
--- ---- up to an end
-
--- those up to the first end are a front of them
-pub front_is : (es : List Entry) → take (length (up_to_end es)) es ≡ up_to_end es
-front_is [] = refl
-front_is (e ∷ es) = by (ends_round e) (front_is es)
-  where
-    by : (b : Bool) → take (length (up_to_end es)) es ≡ up_to_end es → take (length (e ∷ (if b then [] else up_to_end es))) (e ∷ es) ≡ e ∷ (if b then [] else up_to_end es)
-    by true more = refl
-    by false more = ap (λ (xs : List Entry). e ∷ xs) more
-
--- and those after it the rest
-pub rest_is : (es : List Entry) → drop (length (up_to_end es)) es ≡ after_end es
-rest_is [] = refl
-rest_is (e ∷ es) = by (ends_round e) (rest_is es)
-  where
-    by : (b : Bool) → drop (length (up_to_end es)) es ≡ after_end es → drop (length (e ∷ (if b then [] else up_to_end es))) (e ∷ es) ≡ (if b then es else after_end es)
-    by true more = refl
-    by false more = more
-
-pub front_fits : (es : List Entry) → length (up_to_end es) ≤ length es
-front_fits [] = omega arith
-front_fits (e ∷ es) = by (ends_round e) (front_fits es)
-  where
-    by : (b : Bool) → length (up_to_end es) ≤ length es → length (e ∷ (if b then [] else up_to_end es)) ≤ length (e ∷ es)
-    by true more = omega arith
-    by false more = omega (arith, more)
-
--- ---- starts
+-- ---- one reader
 
 -- the last of some ends may be taken last
-after_more : (r : ℕ) (es : List Entry) → after_end (after_ends r es) ≡ after_ends (suc r) es
-after_more zero es = refl
-after_more (suc r) es = after_more r (after_end es)
+pub after_more : (r : ℕ) (xs : List Seen) → after_end (after_ends r xs) ≡ after_ends (suc r) xs
+after_more zero xs = refl
+after_more (suc r) xs = after_more r (after_end xs)
 
--- what a start leaves of entries
-pub left_is : (r : ℕ) (es : List Entry) → drop (start_of r es) es ≡ after_ends r es
-left_is zero es = refl
-left_is (suc r) es =
-    sym (drop-drop (length (up_to_end (drop (start_of r es) es))) (start_of r es) es)
-    ∙ rest_is (drop (start_of r es) es)
-    ∙ ap after_end (left_is r es)
-    ∙ after_more r es
+module _ {plan : Plan} {r : ℕ} {x : PeerNo × Finished} {f f' : Follower} {list : List Followed} (stands : StandsAt plan r x f) (low : r ≤ plan.rounds) (sees : Sees (nat_eq r plan.rounds) stands.view list f') where
+  -- what was seen are the entries of the round
+  pub taken_is : map entry_of list ≡ in_round plan.rounds r (seen_by plan x)
+  taken_is = sees.taken ∙ ap (of_round (nat_eq r plan.rounds)) (stands.left low)
 
--- a start lies within them
-pub start_fits : (r : ℕ) (es : List Entry) → start_of r es ≤ length es
-start_fits zero es = omega arith
-start_fits (suc r) es = omega (arith, start_fits r es, front_fits (drop (start_of r es) es), length-drop (start_of r es) es)
+  -- and the reader stands at the beginning of the next one
+  pub stands_next : StandsAt plan (suc r) x f'
+  stands_next = record {
+    view = sees.next;
+    follows = sees.follows;
+    peer = sees.peer ∙ stands.peer;
+    left = λ more.
+        let apart : nat_eq r plan.rounds ≡ false = ne_eqb r plan.rounds (λ e. omega (arith, more, e)) in
+        sees.left
+        ∙ ap (λ (is_last : Bool). after_round is_last (left_in stands.view)) apart
+        ∙ ap after_end (stands.left low)
+        ∙ after_more r (seen_by plan x);
+  }
 
--- entries that are a trace the other way round
-pub forward : (entries trace : List Entry) → reverse entries ≡ trace → entries ≡ reverse trace
-forward entries trace is = sym (reverse-reverse entries) ∙ ap reverse is
+-- ---- the readers of all peers
 
-pub start_low : (r start : ℕ) (entries trace : List Entry) → reverse entries ≡ trace → start ≡ start_of r (reverse trace) → start ≤ length entries
-start_low r start entries trace is begins =
-    let fits = start_fits r entries in
-    let same : start ≡ start_of r entries = begins ∙ ap (start_of r) (sym (forward entries trace is)) in
-    omega (arith, fits, same)
+pub all_at : {A : Type 0} (P : A → Type 0) (xs : List A) (i : ℕ) (d : A) → AllByRecursion P xs → i < length xs → P (get_or xs i d)
+all_at P [] i d h low = absurd (omega (arith, low))
+all_at P (x ∷ xs) zero d h low = h.0
+all_at P (x ∷ xs) (suc i) d h low = all_at P xs i d h.1 (omega (arith, low))
 
--- the entries that are taken from a start on are those of the round
-pub of_round : (start round rounds : ℕ) (entries rest mine trace : List Entry)
-    → reverse entries ≡ trace
-    → rest ≡ drop start entries
-    → start ≡ start_of round (reverse trace)
-    → mine ≡ (if nat_eq round rounds then rest else up_to_end rest)
-    → mine ≡ in_round rounds round (reverse trace)
-of_round start round rounds entries rest mine trace is left begins cut =
-    let after : rest ≡ after_ends round (reverse trace) =
-    left
-    ∙ ap (drop start) (forward entries trace is)
-    ∙ ap (λ (n : ℕ). drop n (reverse trace)) begins
-    ∙ left_is round (reverse trace) in
-    cut ∙ ap (λ (es : List Entry). if nat_eq round rounds then es else up_to_end es) after
+module _ (plan : Plan) (r : ℕ) where
+  -- one peer more
+  pub stand_more : (xs : List (PeerNo × Finished)) (fs : List Follower) (x : PeerNo × Finished) (f : Follower) → StandAt plan r 0 xs fs → StandsAt plan r x f → StandAt plan r 0 (xs ++ x ∷ []) (fs ++ f ∷ [])
+  stand_more [] [] x f h one = (one, tt)
+  stand_more [] (g ∷ fs) x f h one = absurd h
+  stand_more (y ∷ xs) [] x f h one = absurd h
+  stand_more (y ∷ xs) (g ∷ fs) x f h one = (h.0, stand_more xs fs x f h.1 one)
 
--- ---- a walk over the peers
+  pub as_many : (n : ℕ) (xs : List (PeerNo × Finished)) (fs : List Follower) → StandAt plan r n xs fs → length fs ≡ length xs
+  as_many n [] [] h = refl
+  as_many n [] (f ∷ fs) h = absurd h
+  as_many n (x ∷ xs) [] h = absurd h
+  as_many zero (x ∷ xs) (f ∷ fs) h = ap suc (as_many zero xs fs h.1)
+  as_many (suc n) (x ∷ xs) (f ∷ fs) h = ap suc (as_many n xs fs h.1)
 
--- what is at a place that the walk has not reached
-pub found : {X : Type 0} (f g : X → ℕ) (xs : List X) (i : ℕ) (d : X) (e : ℕ) → i < length xs → get_or (map f (take i xs) ++ map g (drop i xs)) i e ≡ g (get_or xs i d)
-found f g [] i d e low = absurd (omega (arith, low))
-found f g (x ∷ xs) zero d e low = refl
-found f g (x ∷ xs) (suc i) d e low = found f g xs i d e (omega (arith, low))
+  -- the next one that reads
+  pub stand_there : (n : ℕ) (xs : List (PeerNo × Finished)) (fs : List Follower) (d : PeerNo × Finished) (e : Follower) → n < length xs → StandAt plan r n xs fs → StandsAt plan r (get_or xs n d) (get_or fs n e)
+  stand_there n [] fs d e low h = absurd (omega (arith, low))
+  stand_there n (x ∷ xs) [] d e low h = absurd h
+  stand_there zero (x ∷ xs) (f ∷ fs) d e low h = h.0
+  stand_there (suc n) (x ∷ xs) (f ∷ fs) d e low h = stand_there n xs fs d e (omega (arith, low)) h.1
 
--- and what the walk is when it has been there
-walked : {X : Type 0} (f g : X → ℕ) (xs : List X) (i : ℕ) (d : X) → i < length xs → set (map f (take i xs) ++ map g (drop i xs)) i (f (get_or xs i d)) ≡ map f (take (suc i) xs) ++ map g (drop (suc i) xs)
-walked f g [] i d low = absurd (omega (arith, low))
-walked f g (x ∷ xs) zero d low = refl
-walked f g (x ∷ xs) (suc i) d low = ap (λ (ys : List ℕ). f x ∷ ys) (walked f g xs i d (omega (arith, low)))
+  -- after it read
+  pub stand_on : (n : ℕ) (xs : List (PeerNo × Finished)) (fs : List Follower) (d : PeerNo × Finished) (f : Follower) → n < length xs → StandAt plan r n xs fs → StandsAt plan (suc r) (get_or xs n d) f → StandAt plan r (suc n) xs (set fs n f)
+  stand_on n [] fs d f low h one = absurd (omega (arith, low))
+  stand_on n (x ∷ xs) [] d f low h one = absurd h
+  stand_on zero (x ∷ xs) (g ∷ fs) d f low h one = (one, h.1)
+  stand_on (suc n) (x ∷ xs) (g ∷ fs) d f low h one = (h.0, stand_on n xs fs d f (omega (arith, low)) h.1 one)
 
-pub walk_more : {X : Type 0} (f g : X → ℕ) (xs : List X) (i : ℕ) (d : X) → i < length xs → set (map f (take i xs) ++ map g (drop i xs)) i (f (get_or xs i d)) ≡ map f (take (i + 1) xs) ++ map g (drop (i + 1) xs)
-walk_more f g xs i d low = walked f g xs i d low ∙ ap (λ (j : ℕ). map f (take j xs) ++ map g (drop j xs)) (sym (add-one i))
+  -- after all read
+  pub stand_all : (n : ℕ) (xs : List (PeerNo × Finished)) (fs : List Follower) → length xs ≤ n → StandAt plan r n xs fs → StandAt plan (suc r) 0 xs fs
+  stand_all n [] [] low h = tt
+  stand_all n [] (f ∷ fs) low h = absurd h
+  stand_all n (x ∷ xs) [] low h = absurd h
+  stand_all zero (x ∷ xs) (f ∷ fs) low h = absurd (omega (arith, low))
+  stand_all (suc n) (x ∷ xs) (f ∷ fs) low h = (h.0, stand_all n xs fs (omega (arith, low)) h.1)
 
 -- the text of one peer more
 pub peer_more : {X Y : Type 0} (line : Y → List ℕ) (told : X → List Y) (xs : List X) (i : ℕ) (d : X) → i < length xs

@@ -1,31 +1,29 @@
 -- What is told of a run has the trace of each peer.
-use Rattle.std.proofs.Common.{◌≡◌, ℕ, zero, suc, ◌+◌, ◌<◌, ◌≤◌, ◌^◌, Bool, true, false, cond, eqb, List, [], ◌∷◌, ◌++◌, length, map, filter, flat_map, reverse, refl, sym, ap, ◌∙◌, subst, append_assoc, append-nil, arith, eq-eqb, ne_eqb}
+use Rattle.std.proofs.Common.{◌≡◌, ℕ, zero, suc, ◌+◌, ◌<◌, ◌≤◌, ◌^◌, true, false, cond, eqb, List, [], ◌∷◌, ◌++◌, length, map, filter, flat_map, reverse, refl, sym, ap, ◌∙◌, subst, append_assoc, append-nil, arith, eq-eqb, ne_eqb}
 use Rattle.std.specs.List.{AllByRecursion, range_with_len}
-use Rattle.std.proofs.lemmas.List.{reverse-reverse}
+use Rattle.std.proofs.lemmas.List.{map-append, reverse-reverse}
 use Rattle.std.proofs.lemmas.List.Concat.{flat_map-append}
 use Rattle.gs_base.specs.declared.names.PeerNo.{PeerNo}
 use Rattle.gs_plan.specs.declared.plan.Plan.{Plan}
 use Rattle.gs_rules.specs.declared.refusal.RefusedLine.{RefusedLine}
 use Rattle.gs_rules.specs.declared.trace.Entry.{Entry}
+use Rattle.gs_rules.specs.Peers.{Peer}
+use Rattle.gs_rules.specs.Tables.{Entries}
+use Rattle.gs_seats.specs.Rounds.{peer_in}
 use Rattle.gs_report.specs.declared.finished.Finished.{Finished}
 use Rattle.gs_report.specs.declared.report.Report.{Report}
-use Rattle.gs_trace.specs.Lines.{Told, Did, Refused, in_round, is_refused_in, told, told_in, told_of}
+use Rattle.gs_trace.specs.Lines.{Seen, Told, Did, Refused, did, in_round, is_refused_in, seen, seen_by, told, told_in, told_of}
 use Rattle.gs_trace.specs.Stored.{IsStored, IsStoredEntry, IsStoredLife, IsStoredNumber, IsStoredPeer, IsStoredRefusal}
 use Rattle.gs_trace.specs.Traces.{numbers_in, peer_no, plan_numbers, traced, traces}
+use Rattle.gs_trace.proofs.FallenStored.{IsStoredSeen, seen_stored}
 use Rattle.gs_trace.proofs.LineTexts.{IsStoredTold}
-use Rattle.gs_trace.proofs.Rounds.{all_append, all_either, all_flat, all_in_round, all_reverse, rounds_are_all}
+use Rattle.gs_trace.proofs.Rounds.{all_append, all_filter, all_flat, all_in_round, all_reverse, rounds_are_all}
 
 -- ---- all that is told is stored
 
-all_filter : {A : Type 0} (P : A → Type 0) (test : A → Bool) (xs : List A) → AllByRecursion P xs → AllByRecursion P (filter test xs)
-all_filter P test [] h = tt
-all_filter P test (x ∷ xs) h =
-    let more = all_filter P test xs h.1 in
-    all_either P (test x) (x ∷ filter test xs) (filter test xs) (h.0, more) more
-
-done_stored : (r : ℕ) (q : PeerNo) (es : List Entry) → IsStoredNumber r → IsStoredPeer q → AllByRecursion IsStoredEntry es → AllByRecursion IsStoredTold (map (Did r q) es)
+done_stored : (r : ℕ) (q : PeerNo) (xs : List Seen) → IsStoredNumber r → IsStoredPeer q → AllByRecursion IsStoredSeen xs → AllByRecursion IsStoredTold (map (did r q) xs)
 done_stored r q [] hr hq h = tt
-done_stored r q (x ∷ es) hr hq h = ((hr, hq, h.0), done_stored r q es hr hq h.1)
+done_stored r q (x ∷ xs) hr hq h = ((hr, hq, h.0.0, h.0.1), done_stored r q xs hr hq h.1)
 
 refused_stored : (r : ℕ) (q : PeerNo) (ls : List RefusedLine) → IsStoredNumber r → IsStoredPeer q → AllByRecursion IsStoredRefusal ls → AllByRecursion IsStoredTold (map (Refused r q) ls)
 refused_stored r q [] hr hq h = tt
@@ -33,10 +31,11 @@ refused_stored r q (x ∷ ls) hr hq h = ((hr, hq, h.0), refused_stored r q ls hr
 
 life_stored : (plan : Plan) (r : ℕ) (x : PeerNo × Finished) → IsStoredNumber r → IsStoredLife x → AllByRecursion IsStoredTold (told_of plan r x)
 life_stored plan r x hr h =
-    let es = in_round plan.rounds r (reverse x.1.trace) in
+    let xs = in_round plan.rounds r (seen_by plan x) in
     let ls = filter (is_refused_in plan.round_ms r) x.1.refused in
-    all_append IsStoredTold (map (Did r x.0) es) (map (Refused r x.0) ls)
-    (done_stored r x.0 es hr h.number (all_in_round IsStoredEntry plan.rounds r (reverse x.1.trace) (all_reverse IsStoredEntry x.1.trace h.trace)))
+    all_append IsStoredTold (map (did r x.0) xs) (map (Refused r x.0) ls)
+    (done_stored r x.0 xs hr h.number
+    (all_in_round IsStoredSeen plan.rounds r (seen_by plan x) (seen_stored (peer_in plan x.0) [] (reverse x.1.trace) tt (all_reverse IsStoredEntry x.1.trace h.trace))))
     (refused_stored r x.0 ls hr h.number (all_filter IsStoredRefusal (is_refused_in plan.round_ms r) x.1.refused h.refused))
 
 rounds_stored : (a n : ℕ) → a + n ≤ 2 ^ 64 → AllByRecursion IsStoredNumber (range_with_len a n)
@@ -53,7 +52,7 @@ told_stored plan report h =
 -- ---- the entries of one peer
 
 abbrev kept : PeerNo → Told → List Entry
-kept q (Did r p x) = cond (eqb p.0 q.0) (x ∷ []) []
+kept q (Did r p x fallen) = cond (eqb p.0 q.0) (x ∷ []) []
 kept q (Refused r p line) = []
 
 -- the entries of a peer, of all that is told
@@ -67,13 +66,25 @@ all_in : {A : Type 0} (q : PeerNo) (f : A → List Told) (xs : List A) → entri
 all_in q f [] = refl
 all_in q f (x ∷ xs) = both_in q (f x) (flat_map f xs) ∙ ap (λ (l : List Entry). entries_in q (f x) ++ l) (all_in q f xs)
 
-own_done : (r : ℕ) (q p : PeerNo) (es : List Entry) → eqb p.0 q.0 ≡ true → entries_in q (map (Did r p) es) ≡ es
-own_done r q p [] h = refl
-own_done r q p (x ∷ es) h = rw h (ap (λ l. x ∷ l) (own_done r q p es h))
+-- the entries of what was seen
+abbrev entries : List Seen → List Entry
+entries xs = map (λ (x : Seen). x.0) xs
 
-other_done : (r : ℕ) (q p : PeerNo) (es : List Entry) → eqb p.0 q.0 ≡ false → entries_in q (map (Did r p) es) ≡ []
+seen_entries : (p : Peer) (L : Entries) (es : List Entry) → entries (seen p L es) ≡ es
+seen_entries p L [] = refl
+seen_entries p L (e ∷ es) = ap (λ (l : List Entry). e ∷ l) (seen_entries p (e ∷ L) es)
+
+all_entries : {A : Type 0} (f : A → List Seen) (xs : List A) → flat_map (λ x. entries (f x)) xs ≡ entries (flat_map f xs)
+all_entries f [] = refl
+all_entries f (x ∷ xs) = ap (λ (l : List Entry). entries (f x) ++ l) (all_entries f xs) ∙ sym (map-append (λ (y : Seen). y.0) (f x) (flat_map f xs))
+
+own_done : (r : ℕ) (q p : PeerNo) (xs : List Seen) → eqb p.0 q.0 ≡ true → entries_in q (map (did r p) xs) ≡ entries xs
+own_done r q p [] h = refl
+own_done r q p (x ∷ xs) h = rw h (ap (λ (l : List Entry). x.0 ∷ l) (own_done r q p xs h))
+
+other_done : (r : ℕ) (q p : PeerNo) (xs : List Seen) → eqb p.0 q.0 ≡ false → entries_in q (map (did r p) xs) ≡ []
 other_done r q p [] h = refl
-other_done r q p (x ∷ es) h = rw h (other_done r q p es h)
+other_done r q p (x ∷ xs) h = rw h (other_done r q p xs h)
 
 none_refused : (r : ℕ) (q p : PeerNo) (ls : List RefusedLine) → entries_in q (map (Refused r p) ls) ≡ []
 none_refused r q p [] = refl
@@ -84,21 +95,21 @@ abbrev IsOther : PeerNo → PeerNo × Finished → Type 0
 IsOther q x = eqb x.0.0 q.0 ≡ false
 
 module _ (plan : Plan) (q : PeerNo) where
-  own_told : (r : ℕ) (x : PeerNo × Finished) → eqb x.0.0 q.0 ≡ true → entries_in q (told_of plan r x) ≡ in_round plan.rounds r (reverse x.1.trace)
+  own_told : (r : ℕ) (x : PeerNo × Finished) → eqb x.0.0 q.0 ≡ true → entries_in q (told_of plan r x) ≡ entries (in_round plan.rounds r (seen_by plan x))
   own_told r x h =
-      let es = in_round plan.rounds r (reverse x.1.trace) in
+      let es = in_round plan.rounds r (seen_by plan x) in
       let ls = filter (is_refused_in plan.round_ms r) x.1.refused in
       let done = own_done r q x.0 es h in
       let none = none_refused r q x.0 ls in
-      both_in q (map (Did r x.0) es) (map (Refused r x.0) ls) ∙ (λ i. done i ++ none i) ∙ append-nil es
+      both_in q (map (did r x.0) es) (map (Refused r x.0) ls) ∙ (λ i. done i ++ none i) ∙ append-nil (entries es)
 
   other_told : (r : ℕ) (x : PeerNo × Finished) → eqb x.0.0 q.0 ≡ false → entries_in q (told_of plan r x) ≡ []
   other_told r x h =
-      let es = in_round plan.rounds r (reverse x.1.trace) in
+      let es = in_round plan.rounds r (seen_by plan x) in
       let ls = filter (is_refused_in plan.round_ms r) x.1.refused in
       let done = other_done r q x.0 es h in
       let none = none_refused r q x.0 ls in
-      both_in q (map (Did r x.0) es) (map (Refused r x.0) ls) ∙ (λ i. done i ++ none i)
+      both_in q (map (did r x.0) es) (map (Refused r x.0) ls) ∙ (λ i. done i ++ none i)
 
   others_told : (r : ℕ) (xs : List (PeerNo × Finished)) → AllByRecursion (IsOther q) xs → entries_in q (flat_map (told_of plan r) xs) ≡ []
   others_told r [] h = refl
@@ -109,7 +120,7 @@ module _ (plan : Plan) (q : PeerNo) where
 
   -- of a round
   peer_told : (r : ℕ) (before later : List (PeerNo × Finished)) (x : PeerNo × Finished) → AllByRecursion (IsOther q) before → AllByRecursion (IsOther q) later → eqb x.0.0 q.0 ≡ true
-      → entries_in q (flat_map (told_of plan r) (before ++ x ∷ later)) ≡ in_round plan.rounds r (reverse x.1.trace)
+      → entries_in q (flat_map (told_of plan r) (before ++ x ∷ later)) ≡ entries (in_round plan.rounds r (seen_by plan x))
   peer_told r before later x hb hl h =
       let none = others_told r before hb in
       let one = own_told r x h in
@@ -117,16 +128,19 @@ module _ (plan : Plan) (q : PeerNo) where
       ap (entries_in q) (flat_map-append (told_of plan r) before (x ∷ later))
       ∙ both_in q (flat_map (told_of plan r) before) (told_of plan r x ++ flat_map (told_of plan r) later)
       ∙ (λ i. none i ++ both_in q (told_of plan r x) (flat_map (told_of plan r) later) i)
-      ∙ (λ i. one i ++ last i) ∙ append-nil (in_round plan.rounds r (reverse x.1.trace))
+      ∙ (λ i. one i ++ last i) ∙ append-nil (entries (in_round plan.rounds r (seen_by plan x)))
 
   -- of all rounds
   trace_told : (report : Report) (before later : List (PeerNo × Finished)) (x : PeerNo × Finished) → report.peers.items ≡ before ++ x ∷ later → AllByRecursion (IsOther q) before → AllByRecursion (IsOther q) later → eqb x.0.0 q.0 ≡ true
       → reverse (entries_in q (told plan report)) ≡ x.1.trace
   trace_told report before later x cut hb hl h =
-      let each : (r : ℕ) → entries_in q (told_in plan report r) ≡ in_round plan.rounds r (reverse x.1.trace) =
+      let each : (r : ℕ) → entries_in q (told_in plan report r) ≡ entries (in_round plan.rounds r (seen_by plan x)) =
       λ r. ap (λ (l : List (PeerNo × Finished)). entries_in q (flat_map (told_of plan r) l)) cut ∙ peer_told r before later x hb hl h in
       let rounds = range_with_len 0 (suc plan.rounds) in
-      ap reverse (all_in q (told_in plan report) rounds ∙ (λ i. flat_map (λ r. each r i) rounds) ∙ rounds_are_all plan.rounds (reverse x.1.trace))
+      ap reverse (all_in q (told_in plan report) rounds ∙ (λ i. flat_map (λ r. each r i) rounds)
+      ∙ all_entries (λ r. in_round plan.rounds r (seen_by plan x)) rounds
+      ∙ ap entries (rounds_are_all plan.rounds (seen_by plan x))
+      ∙ seen_entries (peer_in plan x.0) [] (reverse x.1.trace))
       ∙ reverse-reverse x.1.trace
 
 -- ---- the traces of all peers

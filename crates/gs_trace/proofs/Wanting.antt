@@ -15,7 +15,7 @@ lines_if w plan (x ∷ xs) = by (is_wanted w plan x) (lines_if w plan xs)
     by false more = more
 
 all_wanted : (plan : Plan) (x : Told) → is_wanted no_wish plan x ≡ true
-all_wanted plan (Did r q e) = refl
+all_wanted plan (Did r q e fallen) = refl
 all_wanted plan (Refused r q line) = refl
 
 all_left : (plan : Plan) (xs : List Told) → filter (is_wanted no_wish plan) xs ≡ xs

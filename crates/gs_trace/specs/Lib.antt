@@ -1,6 +1,7 @@
 pub mod Texts
 pub mod Rpcs
 pub mod Events
+pub mod Fallen
 pub mod Topics
 pub mod Lines
 pub mod Wanted

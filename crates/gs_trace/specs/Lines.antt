@@ -1,59 +1,85 @@
 -- The lines of a run's trace: one for each entry, by round, then by peer, then in order. The first line says who the peers
--- are.
+-- are. The line of an entry ends with what came to nothing at it.
 use Rattle.std.specs.Prelude.{ℕ, zero, suc, Bool, false, true, ◌*◌, ◌==◌, if◌then◌else◌, List, [], ◌∷◌, ◌++◌, codes, decimal, filter, map, reverse}
 use Rattle.std.specs.List.{flat_map, range_with_len}
 use Rattle.gs_base.specs.declared.names.Millis.{Millis}
 use Rattle.gs_base.specs.declared.names.PeerNo.{PeerNo}
 use Rattle.gs_plan.specs.declared.plan.Dial.{Dial}
 use Rattle.gs_plan.specs.declared.plan.Plan.{Plan}
+use Rattle.gs_rules.specs.declared.fallen.Fallen.{Fallen}
 use Rattle.gs_rules.specs.declared.refusal.RefusedLine.{RefusedLine}
 use Rattle.gs_rules.specs.declared.trace.Entry.{Entry}
 use Rattle.gs_rules.specs.Events.{of_round_end}
+use Rattle.gs_rules.specs.FellAway.{fell_away}
+use Rattle.gs_rules.specs.Peers.{Peer}
 use Rattle.gs_rules.specs.Refusals.{number_of}
+use Rattle.gs_rules.specs.Tables.{Entries}
 use Rattle.gs_report.specs.declared.finished.Finished.{Finished}
 use Rattle.gs_report.specs.declared.report.Report.{Report}
 use Rattle.gs_report.specs.Text.{word_of}
+use Rattle.gs_seats.specs.Rounds.{peer_in}
 use Rattle.gs_trace.specs.Texts.{list_text, moment_text, names_of, peer_text, quoted}
 use Rattle.gs_trace.specs.Events.{effects_members, event_members, event_text, refused_word}
+use Rattle.gs_trace.specs.Fallen.{fell_away_member}
+
+-- ---- what came to nothing
+
+-- an entry, and what came to nothing at it
+abbrev pub Seen : Type 0
+Seen = Entry × List Fallen
+
+-- the entries of a peer that come after others, each with what came to nothing at it: those after are the oldest first,
+-- and those before the newest first
+abbrev pub seen : Peer → Entries → List Entry → List Seen
+seen p L [] = []
+seen p L (e ∷ es) = (e, fell_away p L e.at e.event) ∷ seen p (e ∷ L) es
+
+-- those of a whole trace
+abbrev pub seen_by : Plan → PeerNo × Finished → List Seen
+seen_by plan x = seen (peer_in plan x.0) [] (reverse x.1.trace)
 
 -- ---- what a peer did in a round
 
 -- Whether an entry is the end of a round.
-abbrev pub ends_round : Entry → Bool
-ends_round e = of_round_end (λ r. true) false e.event
+abbrev pub ends_round : Seen → Bool
+ends_round x = of_round_end (λ r. true) false x.0.event
 
 -- of entries, the oldest first: those up to the first end of a round, with it, and those after it
-abbrev pub up_to_end : List Entry → List Entry
+abbrev pub up_to_end : List Seen → List Seen
 up_to_end [] = []
-up_to_end (e ∷ es) = e ∷ (if ends_round e then [] else up_to_end es)
+up_to_end (x ∷ xs) = x ∷ (if ends_round x then [] else up_to_end xs)
 
-abbrev pub after_end : List Entry → List Entry
+abbrev pub after_end : List Seen → List Seen
 after_end [] = []
-after_end (e ∷ es) = if ends_round e then es else after_end es
+after_end (x ∷ xs) = if ends_round x then xs else after_end xs
 
 -- those after this many ends of rounds
-abbrev pub after_ends : ℕ → List Entry → List Entry
-after_ends zero es = es
-after_ends (suc r) es = after_ends r (after_end es)
+abbrev pub after_ends : ℕ → List Seen → List Seen
+after_ends zero xs = xs
+after_ends (suc r) xs = after_ends r (after_end xs)
 
 -- those of a round. What comes after the end of the last one is of it, too.
-abbrev pub in_round : ℕ → ℕ → List Entry → List Entry
-in_round last r es = if r == last then after_ends r es else up_to_end (after_ends r es)
+abbrev pub in_round : ℕ → ℕ → List Seen → List Seen
+in_round last r xs = if r == last then after_ends r xs else up_to_end (after_ends r xs)
 
 -- ---- what there is to say
 
--- What is said of a peer in a round: an entry of its trace, or a line of the script that it refused.
+-- What is said of a peer in a round: an entry of its trace with what came to nothing at it, or a line of the script that it
+-- refused.
 pub data Told : Type 0 where
-  Did : ℕ → PeerNo → Entry → Told
+  Did : ℕ → PeerNo → Entry → List Fallen → Told
   Refused : ℕ → PeerNo → RefusedLine → Told
 
 -- refused at the moment of a round
 abbrev pub is_refused_in : ℕ → ℕ → RefusedLine → Bool
 is_refused_in round_ms r line = line.at.0 == r * round_ms
 
+abbrev pub did : ℕ → PeerNo → Seen → Told
+did r q x = Did r q x.0 x.1
+
 abbrev pub told_of : Plan → ℕ → PeerNo × Finished → List Told
 told_of plan r x =
-    map (Did r x.0) (in_round plan.rounds r (reverse x.1.trace))
+    map (did r x.0) (in_round plan.rounds r (seen_by plan x))
     ++ map (Refused r x.0) (filter (is_refused_in plan.round_ms r) x.1.refused)
 
 abbrev pub told_in : Plan → Report → ℕ → List Told
@@ -71,8 +97,9 @@ line_start names r at q =
     codes "{\"round\":" ++ decimal r ++ codes ",\"at\":" ++ moment_text at ++ codes ",\"peer\":" ++ peer_text names q
     ++ codes ","
 
-abbrev pub entry_members : List (List ℕ) → Entry → List ℕ
-entry_members names e = event_members names e.event ++ effects_members names e.effects
+abbrev pub entry_members : List (List ℕ) → Entry → List Fallen → List ℕ
+entry_members names e fallen =
+    event_members names e.event ++ effects_members names e.effects ++ fell_away_member names fallen
 
 -- which line of the script it is, what that asks for, and the number of the refusal
 abbrev pub refusal_members : Plan → RefusedLine → List ℕ
@@ -82,7 +109,8 @@ refusal_members plan line =
     ++ codes ",\"number\":" ++ decimal (number_of line.why)
 
 abbrev pub line_text : Plan → Told → List ℕ
-line_text plan (Did r q e) = line_start (names_of plan) r e.at q ++ entry_members (names_of plan) e ++ codes "}\n"
+line_text plan (Did r q e fallen) =
+    line_start (names_of plan) r e.at q ++ entry_members (names_of plan) e fallen ++ codes "}\n"
 line_text plan (Refused r q line) =
     line_start (names_of plan) r line.at q ++ refusal_members plan line ++ codes "}\n"
 

@@ -3,7 +3,7 @@ use Rattle.std.specs.Prelude.{ℕ, suc, if◌then◌else◌, List, []}
 use Rattle.std.specs.List.{flat_map, range_with_len}
 use Rattle.gs_report.specs.declared.finished.Finished.{Finished}
 use Rattle.gs_rules.specs.declared.refusal.RefusedLine.{RefusedLine}
-use Rattle.gs_rules.specs.declared.trace.Entry.{Entry}
+use Rattle.gs_router.specs.declared.follower.Followed.{Followed}
 use Rattle.gs_trace.specs.declared.lines.Walk.{Walk}
 use Rattle.gs_trace.specs.declared.turn.Turn.{Turn}
 use Rattle.gs_trace.specs.Lines.{Told, is_refused_in, told_of}
@@ -15,8 +15,8 @@ use Rattle.gs_trace.specs.Wanted.{line_if, wishes_of}
 abbrev pub line_in : Turn → Told → List ℕ
 line_in turn = line_if (wishes_of turn.wanted.now) turn.plan.now
 
-abbrev pub entry_line : Turn → Entry → List ℕ
-entry_line turn e = line_in turn (Did turn.round turn.peer e)
+abbrev pub entry_line : Turn → Followed → List ℕ
+entry_line turn followed = line_in turn (Did turn.round turn.peer followed.entry.now followed.fallen.items)
 
 -- of a line of the script, where it was refused in the round
 abbrev pub refusal_line : Turn → RefusedLine → List ℕ

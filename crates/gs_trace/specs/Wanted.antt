@@ -1,5 +1,5 @@
 -- Which lines of a trace are wanted. The first line always is.
-use Rattle.std.specs.Prelude.{ℕ, nat_le, Bool, true, false, ◌&&◌, ◌==◌, if◌then◌else◌, List, [], ◌∷◌, ◌++◌, drop, filter, length, Option, None, Some}
+use Rattle.std.specs.Prelude.{ℕ, nat_le, Bool, true, ◌&&◌, ◌==◌, if◌then◌else◌, List, [], ◌++◌, filter, Option, None, Some}
 use Rattle.std.specs.List.{flat_map, list_any, slice_split}
 use Rattle.gs_base.specs.declared.names.PeerNo.{PeerNo}
 use Rattle.gs_plan.specs.declared.plan.Plan.{Plan}
@@ -72,7 +72,7 @@ abbrev pub is_line_about : Wishes → Plan → ℕ → Bool
 is_line_about w plan place = suits (λ (topic : List ℕ). line_names plan topic place) w.topic
 
 abbrev pub is_wanted : Wishes → Plan → Told → Bool
-is_wanted w plan (Did r q e) =
+is_wanted w plan (Did r q e fallen) =
     (is_of_peer w plan q && is_in_rounds w r) && (is_event w (event_word e.event) && is_about w e)
 is_wanted w plan (Refused r q line) =
     (is_of_peer w plan q && is_in_rounds w r) && (is_event w refused_word && is_line_about w plan line.line)

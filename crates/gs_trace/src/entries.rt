@@ -1,8 +1,9 @@
-//! The line of an entry: what happened at a peer, and what it did about it.
+//! The line of an entry: what happened at a peer, what it did about it, and what came to nothing.
 ghost use Rattle.std.specs.Prelude.{◌≡◌, ◌++◌, OnOk};
 ghost use Rattle.gs_trace.specs.Texts.{list_text, names_of, optional_text};
 ghost use Rattle.gs_trace.specs.Events.{delivery_text, effects_members, event_members};
 ghost use Rattle.gs_trace.specs.Events.{mark_object, promise_text, send_text};
+ghost use Rattle.gs_trace.specs.Fallen.{fell_away_member};
 ghost use Rattle.gs_trace.specs.Lines.{entry_members, line_start, line_text};
 ghost use Rattle.gs_trace.specs.Lines.Told.{Did};
 ghost use Rattle.gs_trace.specs.Turns.{entry_line};
@@ -15,10 +16,11 @@ use crate::wanted::is_entry_wanted;
 use bytes::Bytes;
 use gs_base::{Millis, PeerNo, Rpc, Shared, Topic};
 use gs_plan::Plan;
-use gs_rules::{Promise, StoredEntry};
+use gs_router::Followed;
+use gs_rules::{Fallen, Promise, StoredEntry};
 use std::alloc::AllocError;
 
-impl Told for StoredEntry {
+impl<'a> Told for Followed<'a> {
     ghost line = { entry_line };
 
     fn push(&self, turn: &Turn<'_>, page: &mut Vec<u8>) -> Result<(), AllocError> {
@@ -30,21 +32,23 @@ impl Told for StoredEntry {
 }
 
 /// Adds the line of an entry.
-fn push_entry(turn: &Turn<'_>, out: &mut Vec<u8>, entry: &StoredEntry) -> Result<(), AllocError>
-    ensures { OnOk result (out.new.items
-        ≡ out.old.items ++ line_text turn.now.plan.now (Did turn.now.round turn.now.peer entry.now)) }
+fn push_entry(turn: &Turn<'_>, out: &mut Vec<u8>, followed: &Followed<'_>) -> Result<(), AllocError>
+    ensures { OnOk result (out.new.items ≡ out.old.items ++ line_text turn.now.plan.now
+        (Did turn.now.round turn.now.peer followed.now.entry.now followed.now.fallen.items)) }
 {
-    push_start_of(turn, out, entry)?;
-    push_members(turn.plan, out, entry)?;
+    push_start_of(turn, out, followed.entry)?;
+    push_members(turn.plan, out, followed)?;
     push_code(out, b"}\n")
 }
 
-/// Adds what happened, and what the peer did about it.
-fn push_members(plan: &Plan, out: &mut Vec<u8>, entry: &StoredEntry) -> Result<(), AllocError>
-    ensures { OnOk result (out.new.items ≡ out.old.items ++ entry_members (names_of plan.now) entry.now) }
+/// Adds what happened, what the peer did about it, and what came to nothing.
+fn push_members(plan: &Plan, out: &mut Vec<u8>, followed: &Followed<'_>) -> Result<(), AllocError>
+    ensures { OnOk result (out.new.items ≡ out.old.items
+        ++ entry_members (names_of plan.now) followed.now.entry.now followed.now.fallen.items) }
 {
-    push_event_of(plan, out, entry)?;
-    push_effects(plan, out, entry)
+    push_event_of(plan, out, followed.entry)?;
+    push_effects(plan, out, followed.entry)?;
+    push_fell_away(plan, out, &followed.fallen)
 }
 
 fn push_event_of(plan: &Plan, out: &mut Vec<u8>, entry: &StoredEntry) -> Result<(), AllocError>
@@ -73,6 +77,14 @@ pub(crate) fn push_start(turn: &Turn<'_>, out: &mut Vec<u8>, at: Millis) -> Resu
     push_code(out, b",\"peer\":")?;
     turn.peer.push(turn.plan, out)?;
     push_code(out, b",")
+}
+
+/// Adds what came to nothing at an entry.
+fn push_fell_away(plan: &Plan, out: &mut Vec<u8>, fallen: &[Fallen]) -> Result<(), AllocError>
+    ensures { OnOk result (out.new.items ≡ out.old.items ++ fell_away_member (names_of plan.now) fallen.now) }
+{
+    push_code(out, b",\"fell_away\":")?;
+    push_list(plan, out, fallen)
 }
 
 /// Adds what the peer did about the event.

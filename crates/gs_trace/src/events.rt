@@ -80,7 +80,7 @@ pub fn push_word(out: &mut Vec<u8>, word: &[u8]) -> Result<(), AllocError>
     push_code(out, b"\"")
 }
 
-fn push_from(plan: &Plan, out: &mut Vec<u8>, from: PeerNo) -> Result<(), AllocError>
+pub(crate) fn push_from(plan: &Plan, out: &mut Vec<u8>, from: PeerNo) -> Result<(), AllocError>
     ensures { OnOk result (out.new.items ≡ out.old.items ++ from_text (names_of plan.now) from) }
 {
     push_code(out, b",\"from\":")?;

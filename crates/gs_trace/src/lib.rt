@@ -1,14 +1,16 @@
-//! The trace of a run as JSON Lines: what each peer heard, decided, sent and remembered, entry by entry.
+//! The trace of a run as JSON Lines: what each peer heard, decided, sent and remembered, entry by entry, and what came to nothing.
 #![tactic(auto)]
 
 mod entries;
 mod events;
+mod fallen;
 mod fault;
 mod head;
 mod laws;
 mod lines;
 mod marks;
 mod pages;
+mod readers;
 mod refusals;
 mod rpcs;
 mod spans;

@@ -11,6 +11,7 @@ use crate::turn::Turn;
 use gs_base::PeerNo;
 use gs_plan::Plan;
 use gs_report::name_of;
+use gs_router::Followed;
 use gs_rules::{RefusedLine, StoredEntry};
 
 /// Which lines of a trace are wanted, beside the first one: those that fulfil each of these wishes.
@@ -54,11 +55,11 @@ pub fn all_lines<'a>() -> Wanted<'a>
 }
 
 /// Whether the line of an entry is wanted.
-pub(crate) fn is_entry_wanted(turn: &Turn<'_>, entry: &StoredEntry) -> bool
+pub(crate) fn is_entry_wanted(turn: &Turn<'_>, followed: &Followed<'_>) -> bool
     ensures { result ≡ is_wanted (wishes_of turn.now.wanted.now) turn.now.plan.now
-        (Did turn.now.round turn.now.peer entry.now) }
+        (Did turn.now.round turn.now.peer followed.now.entry.now followed.now.fallen.items) }
 {
-    is_of(turn) && tells(turn.wanted, entry)
+    is_of(turn) && tells(turn.wanted, followed.entry)
 }
 
 /// Whether the line of a refused line of the script is wanted.

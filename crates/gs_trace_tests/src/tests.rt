@@ -1,10 +1,15 @@
 //! Runs of the peers `a` and `b`, and how their traces are told.
+ghost use Rattle.gs_plan.specs.Plans.{IsInRange};
+
 mod events;
+mod fallen;
 mod marks;
+mod order;
 mod pages;
 mod plan;
 mod wanted;
 
+use crate::tests::order::are_in_order;
 use crate::tests::plan::{bytes, plan, topic};
 use gs_base::{Mark, Millis, MsgId, PeerNo, Rpc, Seq, Shared};
 use gs_plan::Plan;
@@ -29,13 +34,18 @@ fn finished(
     })
 }
 
-/// What is written of a run.
+/// What is written of a run, where the entries of each trace are in order.
 fn text_of(
     alloc: Global,
     plan: &Plan,
     report: &Report,
     wanted: &Wanted<'_>,
-) -> Result<Vec<u8>, AllocError> {
+) -> Result<Vec<u8>, AllocError>
+    requires { IsInRange plan.now }
+{
+    if !are_in_order(&report.peers) {
+        return Err(AllocError);
+    }
     let mut text = Vec::new(alloc);
     match write_trace(alloc, plan, report, wanted, &mut text) {
         Ok(()) => Ok(text),
@@ -74,18 +84,22 @@ fn is_entry(
     is_told(alloc, &report, line)
 }
 
-/// The line of an event about which nothing is done.
-fn event_line(alloc: Global, members: &str) -> Result<Vec<u8>, AllocError> {
+/// The line of an event about which nothing is done, and at which this came to nothing.
+fn event_line(alloc: Global, members: &str, fallen: &str) -> Result<Vec<u8>, AllocError> {
     let mut line = Vec::new(alloc);
     line.extend_from_slice(b"{\"round\":0,\"at\":7,\"peer\":\"a\",")?;
     line.extend_from_slice(members.as_bytes())?;
-    line.extend_from_slice(b",\"sent\":[],\"delivered\":[],\"promise\":null,\"marks\":[]}\n")?;
+    line.extend_from_slice(
+        b",\"sent\":[],\"delivered\":[],\"promise\":null,\"marks\":[],\"fell_away\":[",
+    )?;
+    line.extend_from_slice(fallen.as_bytes())?;
+    line.extend_from_slice(b"]}\n")?;
     Ok(line)
 }
 
-/// Whether an event is told by these members.
-fn is_event(alloc: Global, event: Event, members: &str) -> Result<bool, AllocError> {
-    let line = event_line(alloc, members)?;
+/// Whether an event is told by these members, and what came to nothing at it by these objects.
+fn is_event(alloc: Global, event: Event, members: &str, fallen: &str) -> Result<bool, AllocError> {
+    let line = event_line(alloc, members, fallen)?;
     is_entry(alloc, event, Effects::none(alloc), &line)
 }
 
@@ -97,7 +111,7 @@ fn are_marks(alloc: Global, marks: Seq<Mark>, objects: &str) -> Result<bool, All
         \"sent\":[],\"delivered\":[],\"promise\":null,\"marks\":[",
     )?;
     line.extend_from_slice(objects.as_bytes())?;
-    line.extend_from_slice(b"]}\n")?;
+    line.extend_from_slice(b"],\"fell_away\":[]}\n")?;
     let effects = Effects {
         marks,
         ..Effects::none(alloc)
@@ -133,7 +147,7 @@ const MUCH_TOLD: &[u8] = b"{\"round\":0,\"at\":7,\"peer\":\"a\",\"event\":\"shut
 {\"topic\":\"news\",\"data\":\"\",\
 \"id\":\"e3b0c44298fc1c149afbf4c8996fb92427ae41e4649b934ca495991b7852b855\"}],\
 \"promise\":{\"from\":\"b\",\"id\":\"5a5a5a5a5a5a5a5a5a5a5a5a5a5a5a5a5a5a5a5a5a5a5a5a5a5a5a5a5a5a5a5a\",\"until\":3000},\
-\"marks\":[]}\n";
+\"marks\":[],\"fell_away\":[]}\n";
 
 #[test]
 fn what_is_done_is_told_in_order(rt: HostRuntime) -> Result<(), AllocError> {

@@ -1,4 +1,5 @@
 //! Traces of several pages, and outputs that take less than a whole one.
+use crate::tests::order::are_in_order;
 use crate::tests::plan::plan;
 use crate::tests::{HEAD, finished};
 use gs_base::{Millis, PeerNo, Seq};
@@ -8,11 +9,11 @@ use gs_streams::fakes::Narrow;
 use gs_trace::{TraceFault, all_lines, write_trace};
 use std::alloc::{AllocError, Global};
 
-/// How often the counters of peer `a` decay. The lines of that take 145,500 bytes.
+/// How often the counters of peer `a` decay. The lines of that take 168,000 bytes.
 const STEPS: usize = 1_500;
 
 const LINE: &[u8] = b"{\"round\":0,\"at\":7,\"peer\":\"a\",\"event\":\"decay\",\
-\"sent\":[],\"delivered\":[],\"promise\":null,\"marks\":[]}\n";
+\"sent\":[],\"delivered\":[],\"promise\":null,\"marks\":[],\"fell_away\":[]}\n";
 
 fn long_report(alloc: Global) -> Result<Report, AllocError> {
     let mut trace = Trace::new(alloc);
@@ -50,6 +51,9 @@ fn are_taken(alloc: Global, room: usize, fault: Option<TraceFault>) -> Result<bo
         fails: true,
     };
     let report = long_report(alloc)?;
+    if !are_in_order(&report.peers) {
+        return Ok(false);
+    }
     let ended = write_trace(alloc, &plan(alloc)?, &report, &all_lines(), &mut output);
     let text = long_text(alloc)?;
     let is_front = text.starts_with(&output.taken) && output.taken.len() == room.min(text.len());
@@ -62,7 +66,7 @@ static ROOMS: [(usize, Option<TraceFault>); 6] = [
     (100, Some(TraceFault::WriteFailed)),
     (65_536, Some(TraceFault::WriteFailed)),
     (140_000, Some(TraceFault::WriteFailed)),
-    (145_500, Some(TraceFault::WriteFailed)),
+    (168_000, Some(TraceFault::WriteFailed)),
     (200_000, None),
 ];
 

@@ -1,11 +1,11 @@
-//! The plan whose runs are told.
+//! The plans whose runs are told.
+ghost use Rattle.std.specs.Prelude.{IfOk};
+ghost use Rattle.gs_plan.specs.Plans.{IsInRange};
+
 use bytes::Bytes;
-use gs_base::{PeerNo, Seq, Text, Topic};
-use gs_params::{
-    DEFAULT_DEGREES, DEFAULT_FACTORS, DEFAULT_FLOOD_PUBLISH, DEFAULT_THRESHOLDS, DEFAULT_TIMING,
-    Params,
-};
-use gs_plan::{Act, Dial, Line, Plan, PlannedPeer};
+use gs_base::Topic;
+use gs_plan::Plan;
+use gs_scenario::read_plan;
 use std::alloc::{AllocError, Global};
 
 pub(crate) fn bytes(alloc: Global, text: &[u8]) -> Result<Bytes, AllocError> {
@@ -17,53 +17,27 @@ pub(crate) fn topic(alloc: Global, name: &str) -> Result<Topic, AllocError> {
 }
 
 /// Peers `a` and `b`. The script has `a` do each thing that a peer can do.
-pub(crate) fn plan(alloc: Global) -> Result<Plan, AllocError> {
-    let mut peers = Seq::new(alloc);
-    for name in ["a", "b"] {
-        peers.push(PlannedPeer {
-            name: Text::from_str(alloc, name)?,
-            address: Text::from_str(alloc, name)?,
-            words: Seq::new(alloc),
-        })?;
+const SCENARIO: &str = "round_ms = 100\nrounds = 2\nworkers = 2\ncapacity = 8\nseed = 1\n\
+    [[topic]]\nname = \"news\"\n[[peer]]\nname = \"a\"\n[[peer]]\nname = \"b\"\n\
+    [[dial]]\nfrom = \"b\"\nto = \"a\"\n\
+    [[do]]\nat = 0\npeer = \"a\"\nwhat = \"subscribe\"\ntopic = \"news\"\n\
+    [[do]]\nat = 0\npeer = \"a\"\nwhat = \"unsubscribe\"\ntopic = \"news\"\n\
+    [[do]]\nat = 0\npeer = \"a\"\nwhat = \"publish\"\ntopic = \"news\"\nhex = \"616263\"\n\
+    [[do]]\nat = 0\npeer = \"a\"\nwhat = \"raw\"\nto = \"b\"\nhex = \"ff\"\n\
+    [[do]]\nat = 0\npeer = \"a\"\nwhat = \"hang_up\"\nto = \"b\"\n";
+
+pub(crate) fn plan(alloc: Global) -> Result<Plan, AllocError>
+    ensures { IfOk result (λ plan. IsInRange plan) }
+{
+    plan_of(alloc, SCENARIO)
+}
+
+/// The plan of a scenario.
+pub(crate) fn plan_of(alloc: Global, scenario: &str) -> Result<Plan, AllocError>
+    ensures { IfOk result (λ plan. IsInRange plan) }
+{
+    match read_plan(alloc, scenario) {
+        Ok(plan) => Ok(plan),
+        Err(_) => Err(AllocError),
     }
-    let mut script = Seq::new(alloc);
-    for what in [
-        Act::Subscribe(topic(alloc, "news")?),
-        Act::Unsubscribe(topic(alloc, "news")?),
-        Act::Publish(topic(alloc, "news")?, bytes(alloc, b"abc")?),
-        Act::Raw(PeerNo(1), bytes(alloc, b"\xff")?),
-        Act::HangUp(PeerNo(1)),
-    ] {
-        script.push(Line {
-            at: 0,
-            peer: PeerNo(0),
-            what,
-        })?;
-    }
-    Ok(Plan {
-        round_ms: 100,
-        rounds: 2,
-        workers: 2,
-        capacity: 8,
-        seed: 1,
-        params: Params {
-            degrees: DEFAULT_DEGREES,
-            thresholds: DEFAULT_THRESHOLDS,
-            factors: DEFAULT_FACTORS,
-            timing: DEFAULT_TIMING,
-            flood_publish: DEFAULT_FLOOD_PUBLISH,
-            topics: Seq::new(alloc),
-        },
-        peers,
-        dials: Seq::only(
-            alloc,
-            Dial {
-                from: PeerNo(1),
-                to: PeerNo(0),
-            },
-        )?,
-        apps: Seq::new(alloc),
-        explicit: Seq::new(alloc),
-        script,
-    })
 }

@@ -81,20 +81,20 @@ static TWO_LIVES: [Life; 2] = [
 /// Their lines: by round, then by peer, then in order. A refused line comes after the entries of its round.
 static LINES: [&str; 10] = [
     "{\"round\":0,\"at\":0,\"peer\":\"b\",\"event\":\"round_end\",\"number\":9,\
-    \"sent\":[],\"delivered\":[],\"promise\":null,\"marks\":[]}\n",
+    \"sent\":[],\"delivered\":[],\"promise\":null,\"marks\":[],\"fell_away\":[]}\n",
     "{\"round\":0,\"at\":0,\"peer\":\"b\",\"event\":\"refused\",\"line\":3,\"what\":\"raw\",\"number\":33}\n",
     "{\"round\":0,\"at\":0,\"peer\":\"a\",\"event\":\"decay\",\
-    \"sent\":[],\"delivered\":[],\"promise\":null,\"marks\":[]}\n",
+    \"sent\":[],\"delivered\":[],\"promise\":null,\"marks\":[],\"fell_away\":[]}\n",
     "{\"round\":1,\"at\":100,\"peer\":\"b\",\"event\":\"decay\",\
-    \"sent\":[],\"delivered\":[],\"promise\":null,\"marks\":[]}\n",
+    \"sent\":[],\"delivered\":[],\"promise\":null,\"marks\":[],\"fell_away\":[]}\n",
     "{\"round\":1,\"at\":100,\"peer\":\"b\",\"event\":\"round_end\",\"number\":9,\
-    \"sent\":[],\"delivered\":[],\"promise\":null,\"marks\":[]}\n",
+    \"sent\":[],\"delivered\":[],\"promise\":null,\"marks\":[],\"fell_away\":[]}\n",
     "{\"round\":1,\"at\":100,\"peer\":\"a\",\"event\":\"refused\",\"line\":0,\"what\":\"subscribe\",\"number\":33}\n",
     "{\"round\":1,\"at\":100,\"peer\":\"a\",\"event\":\"refused\",\"line\":9,\"what\":\"\",\"number\":33}\n",
     "{\"round\":2,\"at\":200,\"peer\":\"b\",\"event\":\"round_end\",\"number\":9,\
-    \"sent\":[],\"delivered\":[],\"promise\":null,\"marks\":[]}\n",
+    \"sent\":[],\"delivered\":[],\"promise\":null,\"marks\":[],\"fell_away\":[]}\n",
     "{\"round\":2,\"at\":200,\"peer\":\"b\",\"event\":\"decay\",\
-    \"sent\":[],\"delivered\":[],\"promise\":null,\"marks\":[]}\n",
+    \"sent\":[],\"delivered\":[],\"promise\":null,\"marks\":[],\"fell_away\":[]}\n",
     "{\"round\":2,\"at\":200,\"peer\":\"b\",\"event\":\"refused\",\"line\":4,\"what\":\"hang_up\",\"number\":33}\n",
 ];
 

@@ -1,8 +1,8 @@
-use Rattle.std.proofs.Common.{◌≡◌, ◌++◌, ◌+◌, ◌-◌, ℕ, List, [], suc, map, add-one, append-nil, subst, sym, ap, ◌∙◌, arith, rules}
+use Rattle.std.proofs.Common.{◌≡◌, ◌++◌, ◌+◌, ◌-◌, ℕ, List, [], suc, add-one, append-nil, subst, sym, ap, ◌∙◌, arith, rules}
 use Rattle.std.specs.List.{flat_map}
 use Rattle.std.proofs.lemmas.Result.{on_err_weaker, on_ok_weaker}
 use Rattle.gs_trace.specs.Pages.{Adds}
-use Rattle.gs_trace.specs.Starts.{start_in, told_by}
+use Rattle.gs_trace.specs.Starts.{StandAt, told_by}
 use Rattle.gs_trace.specs.Turns.{rounds_text}
 use Rattle.gs_trace.specs.Wanted.{line_if, wishes_of}
 use Rattle.gs_trace.proofs.Starts.{round_last, round_more, rounds_front, text_to}
@@ -30,7 +30,7 @@ loop-round-preserved g c =
     let done = c.in_ok-write_round.ensures in
     record {
       low = search rules;
-      starts = done.starts ∙ ap (λ (r : ℕ). map (start_in r) walk.peers.now) (sym (add-one round));
+      readers = subst (λ (r : ℕ). StandAt walk.plan.now r 0 walk.peers.now c.write_round.new.readers) (sym (add-one round)) done.readers;
       text = subst (λ (text : List ℕ). Adds text c.args.page.now.items c.write_round.new.page.items (g.W.Write.contents c.args.output.now) (g.W.Write.contents c.write_round.new.output)) (round_more line told round)
           (and_more c.loop-round.invariant.text done.added);
     }

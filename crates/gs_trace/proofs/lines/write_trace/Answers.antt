@@ -1,13 +1,22 @@
-use Rattle.std.proofs.Common.{◌≡◌, ◌++◌, List, [], ℕ, append-nil, subst, sym, ap, ◌∙◌}
+use Rattle.std.proofs.Common.{◌++◌, List, [], ℕ, append-nil, subst, sym, ap, ◌∙◌}
 use Rattle.std.specs.Io.KnownBytes.{Appends}
 use Rattle.gs_trace.specs.declared.lines.Walk.{Walk}
 use Rattle.gs_trace.specs.Lines.{head_text}
-use Rattle.gs_trace.specs.Pages.{Adds}
 use Rattle.gs_trace.specs.Turns.{rounds_text}
 use Rattle.gs_trace.specs.Wanted.{wanted_text, wishes_of}
 use Rattle.gs_trace.proofs.TurnTexts.{all_parts}
-use Rattle.gs_trace.proofs.Writing.{all_written, and_more, at_err, cut_off, cut_page, no_text, pushed, turned}
+use Rattle.gs_trace.proofs.Writing.{all_written, and_more, at_err, cut_off, cut_page, no_text, pushed, turned, unwritten}
 use Rattle.gs_trace.proofs.lines.write_trace.Goals as goal
+
+pub returns-in_err-readers-clause-front : goal.returns-in_err-readers-clause-front
+returns-in_err-readers-clause-front g c =
+    at_err c.from_residual.result
+    (unwritten (g.W.Write.contents c.args.output.now) (wanted_text (wishes_of c.args.wanted.now) c.args.plan.now c.args.report.now))
+
+pub returns-in_err-push_head-clause-front : goal.returns-in_err-push_head-clause-front
+returns-in_err-push_head-clause-front g c =
+    at_err c.from_residual-in_err-push_head.result
+    (unwritten (g.W.Write.contents c.args.output.now) (wanted_text (wishes_of c.args.wanted.now) c.args.plan.now c.args.report.now))
 
 pub returns-in_err-write_rounds-clause-front : goal.returns-in_err-write_rounds-clause-front
 returns-in_err-write_rounds-clause-front g c =

@@ -1,4 +1,4 @@
-use Rattle.std.proofs.Common.{List, arith, rules, ℕ}
+use Rattle.std.proofs.Common.{arith, rules}
 use Rattle.gs_rules.specs.Rules.{same_bytes}
 use Rattle.std.proofs.lemmas.Iterator.Search.{any_from_yields_List}
 use Rattle.std.proofs.lemmas.Iterator.Splits.{YieldsList-from_str_split}
