@@ -10,6 +10,7 @@ MOST_EVENTS = 1_000_000
 BEGINNING = re.compile(r'\{"round":(\d+),"at":\d+,"peer":("(?:[^"\\]|\\.)*"|\d+),"event":"(\w+)"')
 # What stands in the lines of events of which nothing came, in the order of a trace's keys. Some events count even so.
 NOTHING_CAME = '"sent":[],"delivered":[],"promise":null,"marks":[]'
+SOMETHING_FELL = '"fell_away":[{'
 COUNTING = "message", "subscribe", "unsubscribe", "gone", "fault", "hang_up"
 DELIVERED, MESSAGES, NEW, DUPLICATES, SMALLEST, LARGEST = range(6)
 AS_DUPLICATES = "duplicate", "near", "off_topic"
@@ -69,8 +70,13 @@ class Run:
             self.pending = round, text
         elif word == "round_end":
             self.end_round(round, self.events.peer(name))
-        elif not (self.is_left_out(round, name) and NOTHING_CAME in text and word not in COUNTING):
+        elif not (self.is_left_out(round, name) and self.is_empty(text) and word not in COUNTING):
             self.keep(round, text)
+
+    @staticmethod
+    def is_empty(text):
+        """Whether an entry did nothing, and nothing came to nothing at it."""
+        return NOTHING_CAME in text and SOMETHING_FELL not in text
 
     def name_of(self, text):
         """A peer's name, as JSON has it."""
