@@ -1,5 +1,6 @@
-"""The libraries that rt ci proved and keeps on this machine. rt itself says which of them were made of the same sources, over
-the same libraries, so its own code is asked here. Where another kit has other code, no library is taken."""
+"""The libraries that rt ci proved on this machine. A kit that keeps them says itself which were made of the same sources, over
+the same libraries, so its own code is asked here. A kit that keeps nothing leaves them in the out/ of each crate: those are
+taken that are newer than all sources below them. Where a kit has other code, no library is taken."""
 import importlib.machinery
 import importlib.util
 import os
@@ -36,10 +37,36 @@ def take_all(top, names):
     return [it.name for it in crates if it.name in names and not it.is_program and not take(rt, kept, it)]
 
 
-def take_libraries(top, names):
-    """Takes the libraries of these crates of a repository where rt ci keeps them. Returns the crates that are left, whose
-    libraries rt makes anew."""
+def newest_source(folder):
+    """When the newest source of a crate was changed, in nanoseconds."""
+    files = [f"{at}/{it}" for part in ("src", "specs", "proofs") for at, _, names in os.walk(f"{folder}/{part}") for it in names]
+    return max(os.stat(it).st_mtime_ns for it in files)
+
+
+def stamp_all(made_in, top, names):
+    """Stamps the libraries of these crates that rt ci made in a repository, and that stand in a copy of it without a stamp.
+    Returns the names of those that can't be taken."""
+    rtlib = importlib.import_module("rtlib")
+    taken, left = set(), []
+    for it in rtlib.crates_below(top):
+        made = f"{made_in}/crates/{it.name}"
+        is_above = all(dep.name in taken for dep in it.deps)
+        is_there = os.path.isdir(it.rlib) and os.path.isdir(f"{made}/out/rlib")
+        if is_above and is_there and (it.is_built() or os.stat(f"{made}/out/rlib").st_mtime_ns > newest_source(made)):
+            with open(f"{it.folder}/out/rlib/stamp", "w", encoding="utf-8") as stream:
+                stream.write(it.stamp())
+            taken.add(it.name)
+        elif it.name in names:
+            left.append(it.name)
+    return left
+
+
+def take_libraries(made_in, top, names):
+    """Takes the libraries of these crates of a repository, where rt ci keeps them, or left them in the repository of which
+    this one is a copy. Returns the crates that are left, whose libraries rt makes anew."""
     try:
-        return take_all(top, names)
+        if hasattr(code_of_rt(), "Kept"):
+            return take_all(top, names)
+        return stamp_all(made_in, top, names)
     except (ImportError, SyntaxError, AttributeError, TypeError, OSError, SystemExit):
         return list(names)
