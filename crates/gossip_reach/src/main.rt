@@ -1,0 +1,26 @@
+//! Prints how far each message of a run came: reads a scenario, runs it, and says which subscribers each message reached, and in
+//! how many rounds.
+#![tactic(auto)]
+
+mod arguments;
+mod program;
+
+use crate::arguments::USAGE;
+use gs_program::{arguments_of, refuse_unread};
+use std::process::ExitCode;
+
+fn main(rt: HostRuntime) -> ExitCode {
+    match arguments_of(&rt) {
+        Ok(arguments) => program::run(
+            rt.alloc(),
+            arguments.as_slice(),
+            &mut rt.stdin(),
+            &mut rt.stdout(),
+            &mut rt.stderr(),
+        ),
+        Err(fault) => refuse_unread(fault.kind(), &mut rt.stderr(), USAGE),
+    }
+}
+
+#[cfg(test)]
+mod tests;

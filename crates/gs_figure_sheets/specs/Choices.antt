@@ -1,0 +1,35 @@
+-- Which peers count, by their names.
+use Rattle.std.specs.Prelude.{ℕ, Bool, true, false, ◌&&◌, ◌==◌, if◌then◌else◌, List, [], ◌∷◌, filter, Option, None, Some}
+use Rattle.std.specs.List.{list_any, slice_split}
+use Rattle.gs_base.specs.declared.names.PeerNo.{PeerNo}
+use Rattle.gs_plan.specs.declared.plan.Plan.{Plan}
+use Rattle.gs_report.specs.Text.{name_of}
+use Rattle.gs_report.specs.declared.report.Report.{Report}
+use Rattle.gs_reach.specs.Messages.{numbers_of}
+use Rattle.gs_reach.specs.declared.chosen.Chosen.{Chosen}
+use Rattle.gs_reach.specs.declared.chosen.Chosen.TheVariants as chosen
+use Rattle.gs_figure_sheets.specs.declared.choice.Choice.{Choice}
+use Rattle.gs_figure_sheets.specs.declared.choice.Choice.TheVariants.{Any, Named}
+
+-- the text that names them
+abbrev pub spelled : Choice → Option (List ℕ)
+spelled Any = None
+spelled (Named words) = Some words.now
+
+-- a word is a name, or has a `*` at its end that stands for the rest of the name
+abbrev pub fits : List ℕ → List ℕ → Bool
+fits [] [] = true
+fits [] (byte ∷ more) = false
+fits (42 ∷ []) name = true
+fits (first ∷ rest) [] = false
+fits (first ∷ rest) (byte ∷ more) = first == byte && fits rest more
+
+-- one of several words, which have commas between them, fits a name
+abbrev pub is_named : List ℕ → List ℕ → Bool
+is_named words name = list_any (λ word. fits word name) (slice_split (λ byte. byte == 44) words)
+
+-- the peers of a run whose names fit
+abbrev pub chosen_by : Plan → Report → Option (List ℕ) → Chosen
+chosen_by plan report None = chosen.Any
+chosen_by plan report (Some words) =
+    chosen.Only (filter (λ p. is_named words (name_of plan p)) (numbers_of report.peers.items))

@@ -1,0 +1,183 @@
+//! The columns of sheets.
+ghost use Rattle.std.specs.Prelude.{◌≡◌, ◌++◌, IfOk, OnOk, map};
+ghost use Rattle.gs_figure_sheets.specs.Columns.{column_name, column_of, header_text, limit_columns, message_columns, spread_columns};
+
+use gs_base::Seq;
+use gs_sheets::{Column as SheetColumn, bytes_of};
+use std::alloc::{AllocError, Global};
+
+/// A column of figures.
+#[derive(Clone, Copy, Debug)]
+pub enum Column {
+    Topic,
+    Payload,
+    /// Who published a message first.
+    Publisher,
+    /// What validation says of a payload.
+    Verdict,
+    /// How many peers published a message at its moment.
+    Publishers,
+    /// When, in milliseconds.
+    At,
+    /// How many peers could be reached.
+    Subscribers,
+    Reached,
+    Missed,
+    /// In how many rounds the first subscriber was reached.
+    First,
+    /// In how many rounds half of the subscribers were.
+    Median,
+    /// In how many rounds 90 in a hundred were.
+    Ninetieth,
+    /// In how many rounds 99 in a hundred were.
+    NinetyNinth,
+    /// In how many rounds all were.
+    Last,
+    /// Whether subscribers were reached or missed.
+    Outcome,
+    /// Within how many rounds.
+    Within,
+    /// How many pairs of a message and a subscriber there are.
+    Pairs,
+    /// Which share of all pairs that is, in per cent.
+    Share,
+}
+
+/// The name of a column in CSV and JSON.
+fn column_name(column: Column) -> &'static str
+    ensures { result.now ≡ column_name column }
+{
+    match column {
+        Column::Topic => "topic",
+        Column::Payload => "payload",
+        Column::Publisher => "publisher",
+        Column::Verdict => "verdict",
+        Column::Publishers => "publishers",
+        Column::At => "at_ms",
+        Column::Subscribers => "subscribers",
+        Column::Reached => "reached",
+        Column::Missed => "missed",
+        Column::First => "first_round",
+        Column::Median => "median_round",
+        Column::Ninetieth => "round_90",
+        Column::NinetyNinth => "round_99",
+        Column::Last => "last_round",
+        Column::Outcome => "outcome",
+        Column::Within => "within_rounds",
+        Column::Pairs => "pairs",
+        Column::Share => "share",
+    }
+}
+
+/// The header of a column in a table for a person.
+fn header_text(column: Column) -> &'static str
+    ensures { result.now ≡ header_text column }
+{
+    match column {
+        Column::Topic => "topic",
+        Column::Payload => "payload",
+        Column::Publisher => "from",
+        Column::Verdict => "verdict",
+        Column::Publishers => "publishers",
+        Column::At => "at_ms",
+        Column::Subscribers => "subscribers",
+        Column::Reached => "reached",
+        Column::Missed => "missed",
+        Column::First => "first",
+        Column::Median => "median",
+        Column::Ninetieth => "90%",
+        Column::NinetyNinth => "99%",
+        Column::Last => "last",
+        Column::Outcome => "outcome",
+        Column::Within => "within rounds",
+        Column::Pairs => "pairs",
+        Column::Share => "% of pairs",
+    }
+}
+
+/// The columns of a message.
+pub(crate) fn message_columns(alloc: Global) -> Result<Seq<SheetColumn>, AllocError>
+    ensures { IfOk result (λ columns. columns ≡ map column_of message_columns) }
+{
+    let columns = message_list(alloc)?;
+    columns_of(alloc, &columns)
+}
+
+#[tactic(auto, unfolding(crate::specs::Columns::message_columns))]
+fn message_list(alloc: Global) -> Result<Vec<Column>, AllocError>
+    ensures { IfOk result (λ columns. columns.items ≡ message_columns) }
+{
+    let list = vec![in alloc;
+        Column::Topic,
+        Column::Payload,
+        Column::Publisher,
+        Column::Verdict,
+        Column::Publishers,
+        Column::At,
+        Column::Subscribers,
+        Column::Reached,
+        Column::Missed,
+        Column::First,
+        Column::Median,
+        Column::Ninetieth,
+        Column::Last,
+    ]?;
+    Ok(list)
+}
+
+/// The columns of limits of rounds.
+pub(crate) fn limit_columns(alloc: Global) -> Result<Seq<SheetColumn>, AllocError>
+    ensures { IfOk result (λ columns. columns ≡ map column_of limit_columns) }
+{
+    let columns = limit_list(alloc)?;
+    columns_of(alloc, &columns)
+}
+
+#[tactic(auto, unfolding(crate::specs::Columns::limit_columns))]
+fn limit_list(alloc: Global) -> Result<Vec<Column>, AllocError>
+    ensures { IfOk result (λ columns. columns.items ≡ limit_columns) }
+{
+    let list = vec![in alloc; Column::Outcome, Column::Within, Column::Pairs, Column::Share]?;
+    Ok(list)
+}
+
+/// The columns of parts of all subscribers.
+pub(crate) fn spread_columns(alloc: Global) -> Result<Seq<SheetColumn>, AllocError>
+    ensures { IfOk result (λ columns. columns ≡ map column_of spread_columns) }
+{
+    let columns = spread_list(alloc)?;
+    columns_of(alloc, &columns)
+}
+
+#[tactic(auto, unfolding(crate::specs::Columns::spread_columns))]
+fn spread_list(alloc: Global) -> Result<Vec<Column>, AllocError>
+    ensures { IfOk result (λ columns. columns.items ≡ spread_columns) }
+{
+    let list = vec![in alloc;
+        Column::Pairs,
+        Column::First,
+        Column::Median,
+        Column::Ninetieth,
+        Column::NinetyNinth,
+        Column::Last,
+    ]?;
+    Ok(list)
+}
+
+fn columns_of(alloc: Global, columns: &[Column]) -> Result<Seq<SheetColumn>, AllocError>
+    ensures { IfOk result (λ list. list ≡ map column_of columns.now) }
+{
+    let mut list = Seq::new(alloc);
+    for column in columns {
+        list.push(column_of(alloc, *column)?)?;
+    }
+    Ok(list)
+}
+
+fn column_of(alloc: Global, column: Column) -> Result<SheetColumn, AllocError>
+    ensures { IfOk result (λ made. made ≡ column_of column) }
+{
+    let name = bytes_of(alloc, column_name(column).as_bytes())?;
+    let header = bytes_of(alloc, header_text(column).as_bytes())?;
+    Ok(SheetColumn { name, header })
+}

@@ -1,0 +1,9 @@
+use Rattle.std.proofs.Common.{◌≡◌, ◌++◌, drop}
+use Rattle.std.specs.List.{enumerate_from, flat_map}
+use Rattle.gs_sheets.specs.Sheets.{sheet_json}
+use Rattle.gs_sheets.proofs.json.push_sheets.Given as goal
+
+-- what was added so far, and what is left, come after what was there
+abbrev pub invariant-loop-place : goal.invariant-loop-place
+invariant-loop-place l =
+    l.text.items ++ flat_map (sheet_json) (enumerate_from l.place (drop l.place l.sheets)) ≡ l.initial.text.items ++ flat_map (sheet_json) (enumerate_from 0 l.sheets)
