@@ -15,11 +15,23 @@ from decimal import Decimal
 
 from until import Uncut, cut
 
-OF_RUNS = "status", "message", "proved"
-# (of publications: how many, the sums of two columns, and the largest of one)
-OF_PUBLICATIONS = "publications", "on_topic", "delivered", "last_round"
-# (of peers: the lowest of some columns, the highest of others, and the sums of all that gossip_stats has beside these)
-LOWEST, HIGHEST = ("lowest_score", "smallest_mesh"), ("highest_score", "largest_mesh")
+# The columns that say how a run ended, and all that are no figures.
+HOW_ENDED = "status", "message"
+OF_RUNS = *HOW_ENDED, "proved"
+
+
+def lowest(values):
+    return min(values, default="")
+
+
+def highest(values):
+    return max(values, default="")
+
+
+# What stands for a run in a column where gossip_stats has several rows: of publications these columns, and how many there
+# were; of peers all columns, whose sums are taken where nothing else stands here.
+OF_PUBLICATIONS = {"on_topic": sum, "delivered": sum, "last_round": highest}
+OF_PEERS = {"lowest_score": lowest, "highest_score": highest, "smallest_mesh": lowest, "largest_mesh": highest}
 
 # A scenario in which nothing happens: its figures show which columns there are.
 NOTHING = b"""
@@ -99,8 +111,18 @@ class Settings:
             self.refuse(f"{key} goes from {first} to {last}, which is less")
         return range(first, last + 1)
 
-    def count(self):
-        return math.prod(sum(map(size, it)) for it in self.values.values())
+    def count(self, keys):
+        """How many combinations of values these keys have."""
+        return math.prod(sum(map(size, self.values[it])) for it in keys)
+
+    def repeated(self, key):
+        """A value that stands twice for a key. None where all are different."""
+        seen = set()
+        for it in map(str, itertools.chain(*self.values[key])):
+            if it in seen:
+                return it
+            seen.add(it)
+        return None
 
     def combinations(self):
         """Each combination, as a tuple of KEY=VALUE, where the last changes first."""
@@ -124,13 +146,6 @@ def numbers(rows, column):
     return [number(row[column]) for row in rows if row[column]]
 
 
-def of_several(column, values):
-    """What stands in a column where peers have these values there."""
-    if column in LOWEST:
-        return min(values, default="")
-    return max(values, default="") if column in HIGHEST else sum(values)
-
-
 def figures_of(text, peer):
     """The figures of a run, or of one of its peers, by column. None where it has no such peer."""
     publications, peers = tables_of(text)
@@ -139,9 +154,8 @@ def figures_of(text, peer):
     if not peers:
         return None
     figures = {"publications": len(publications)}
-    figures |= {it: sum(numbers(publications, it)) for it in ("on_topic", "delivered")}
-    figures["last_round"] = max(numbers(publications, "last_round"), default="")
-    figures |= {it: of_several(it, numbers(peers, it)) for it in peers[0] if it != "peer"}
+    figures |= {it: of_all(numbers(publications, it)) for it, of_all in OF_PUBLICATIONS.items()}
+    figures |= {it: OF_PEERS.get(it, sum)(numbers(peers, it)) for it in peers[0] if it != "peer"}
     return figures
 
 
@@ -201,7 +215,9 @@ class Sweep:
         self.file, self.checker = options.file, functools.lru_cache(None)(checker)
         self.scenario_of = functools.lru_cache(16)(self.made_anew)
         self.explaining = threading.Lock()
-        self.source = [hash_of(scenario), *map(hash_in, programs.values()), options.peer, self.until, self.proved] if folder else []
+        self.source = []
+        if folder:
+            self.source = [hash_of(scenario), *map(hash_in, programs.values()), options.peer, self.until, self.proved]
         if folder and NETWORK in options.settings.values:
             self.source.append(hash_in(options.file))
 
@@ -209,7 +225,7 @@ class Sweep:
         """Asks gossip_stats which columns it has for peers. Gives whether it answers."""
         end = self.call([self.programs["gossip_stats"], "--csv"], NOTHING)
         rows = tables_of(end.output.decode(errors="replace"))[-1] if end.status == 0 else []
-        self.columns = (*OF_RUNS, *OF_PUBLICATIONS, *(it for row in rows[:1] for it in row if it != "peer"))
+        self.columns = (*OF_RUNS, "publications", *OF_PUBLICATIONS, *(it for row in rows[:1] for it in row if it != "peer"))
         self.header = [*self.settings, *self.columns]
         return bool(rows)
 

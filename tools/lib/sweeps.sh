@@ -1,6 +1,6 @@
 # shellcheck shell=bash disable=SC2154
-# Runs bin/sweep on tiny scenarios. tools/check_statuses reads this file. It sets `top` to the repository's folder and `room`
-# to one for files, and has `expect` and `expect_like`.
+# Runs bin/sweep on tiny scenarios. tools/check_statuses reads this file, and so does tools/check_scripts for what needs no
+# proved program. They set `top` to the repository's folder and `room` to one for files, and have `expect` and `expect_like`.
 
 # Three peers, all joined, who subscribe in round 0. At the heartbeat in round 10 each grafts the two others. In round 12 `a`
 # publishes.
@@ -169,6 +169,56 @@ check_sweep_arguments() {
   expect 'rows that can not be written' 3 '' 'sweep: output failed' to_full_device_of in_sweeps three.toml
 }
 
+# Rows that are joined, of true programs. Each seed gives the figures that `three_rows` has. Two runs with 2 duplicates and
+# with none have a mean of 1, and a deviation that is the root of 2: divided by the root of the number of runs it is 1.
+check_joined_rows() {
+  local beats=(--set 'params.heartbeat_ms=1000,2000') columns=(--columns duplicates three.toml) header rows
+  header=runs,failed,duplicates_mean,duplicates_lowest,duplicates_highest,duplicates_interval
+  rows=$'1000,2,0,2.000000,2,2,0.000000\n2000,2,0,0.000000,0,0,0.000000'
+  expect 'rows over seeds' 0 "params.heartbeat_ms,$header"$'\n'"$rows" '' \
+    in_sweeps "${beats[@]}" --seeds 1..2 --over seed "${columns[@]}"
+  expect 'rows over seeds without a header' 0 "$rows" '' \
+    in_sweeps --no-header "${beats[@]}" --seeds 1..2 --over seed "${columns[@]}"
+  rows=$'1,2,0,1.000000,0,2,12.706000\n2,2,0,1.000000,0,2,12.706000'
+  expect 'rows over another key' 0 "seed,$header"$'\n'"$rows" '' \
+    in_sweeps "${beats[@]}" --seeds 1..2 --over params.heartbeat_ms "${columns[@]}"
+  expect 'rows over all keys' 0 $'runs  failed       duplicates\n   2       0  1 ± 13 (0 to 2)' '' \
+    in_sweeps "${beats[@]}" --over params.heartbeat_ms --table "${columns[@]}"
+  expect 'joined rows of a peer, cut' 0 $'runs  failed    publications\n   2       0  0 ± 0 (0 to 0)' '' \
+    in_sweeps --seeds 1..2 --over seed --peer a --until 11 --columns publications --table three.toml
+  expect 'a list of commands for joined rows' 0 "$(in_sweeps --list --seeds 1..2 "${columns[@]}")" '' \
+    in_sweeps --list --seeds 1..2 --over seed --table "${columns[@]}"
+  expect 'joined rows to a closed output' 3 '' 'sweep: output failed' \
+    to_closed_output_of in_sweeps --seeds 1..2 --over seed three.toml
+}
+
+# Rows over networks. A peer publishes once a second, from 0 to 2 seconds.
+check_rows_over_networks() {
+  local networks=(--networks '4,5' --columns publications --table ring.toml) rows
+  cat >"$room/sweeps/ring.toml" <<'END'
+until = "2 s"
+[network]
+kind = "ring"
+[[topic]]
+name = "news"
+[[group]]
+prefix = "n"
+count = 4
+[[load]]
+peer = "n"
+every = "1 s"
+END
+  rows=$'1        2       0  3 ± 0 (3 to 3)\n2        2       0  3 ± 0 (3 to 3)'
+  expect 'rows over networks' 0 $'seed  runs  failed    publications\n'"$rows" '' \
+    in_sweeps --seeds 1..2 --over network "${networks[@]}"
+  expect 'rows over seeds and networks' 0 $'runs  failed    publications\n   4       0  3 ± 0 (3 to 3)' '' \
+    in_sweeps --seeds 1..2 --over seed,network "${networks[@]}"
+}
+
+to_closed_output_of() {
+  "$@" >&-
+}
+
 to_full_device_of() {
   "$@" >/dev/full
 }
@@ -177,7 +227,127 @@ check_sweeps() {
   mkdir "$room/sweeps"
   three_peers >"$room/sweeps/three.toml"
   check_sweep_rows
+  check_joined_rows
+  check_rows_over_networks
   check_kept_rows
   check_sweep_folder
   check_sweep_arguments
+}
+
+# A tree with two stand-ins. gossip_edit prints the settings of a run in order. gossip_stats has figures for them in a file,
+# or none: a line has `new` and `lowest_score`, which may be left out. The first line is for the scenario by which a sweep
+# learns of columns. That ends with a peer.
+make_stand_ins_for_sweeps() {
+  local place=$room/joined/crates
+  mkdir -p "$place/gossip_edit/out" "$place/gossip_stats/out"
+  cp -r "$top/bin" "$room/joined"
+  printf 'gossip_edit:\ngossip_stats:\n' >"$room/joined/crates.txt"
+  touch "$room/joined/it.toml"
+  cat >"$room/joined/figures" <<'END'
+peer = [{ name = "a" }]: 0 0.000000
+d=4 seed=1: 1 -0.000001
+d=4 seed=2: 2 0.000000
+d=4 seed=3: 6 0.000000
+d=6 seed=1: 30 -80.000000
+d=6 seed=3: 31 -60.500000
+d=7 seed=1: 5 -1.500000
+d=7 seed=2: 5
+d=7 seed=3: 5 -80.000000
+d=8 seed=2: 5
+END
+  printf '#!/bin/sh\nprintf "%%s\\n" "$@" | sort | xargs\n' >"$place/gossip_edit/out/gossip_edit"
+  cat >"$place/gossip_stats/out/gossip_stats" <<END
+#!/bin/sh
+figures=\$(grep -F "\$(tail -n 1):" "$room/joined/figures") || { echo 'none of that' >&2 && exit 1; }
+set -- \${figures##*:}
+printf 'topic\n\npeer,new,lowest_score\na,%s,%s\n' "\$1" "\$2"
+END
+  chmod +x "$place"/*/out/*
+}
+
+in_joined() {
+  (cd "$room/joined" && bin/sweep "$@")
+}
+
+# A sweep with them over seeds, of all columns that they have figures for.
+with_stand_ins() {
+  in_joined --columns new,lowest_score,proved --over seed "$@" it.toml
+}
+
+# For 1, 2 and 6 the mean is 3, and the squares of the deviations 2, 1 and 3 are 14 in all: the interval is 4.303 times the
+# root of 7/3. Of scores of -1, 0 and 0 millionths it is 4.303/3 millionths. For two runs it is 12.706 times half of what
+# they differ by: 1, and 19.5.
+joined_rows() {
+  local of_new=new_mean,new_lowest,new_highest,new_interval it=lowest_score
+  cat <<END
+d,runs,failed,$of_new,${it}_mean,${it}_lowest,${it}_highest,${it}_interval,proved
+4,3,0,3.000000,1,6,6.572941,0.000000,-0.000001,0.000000,0.000001,yes
+6,2,1,30.500000,30,31,6.353000,-70.250000,-80.000000,-60.500000,123.883500,yes
+7,3,0,5.000000,5,5,0.000000,,-80.000000,-1.500000,,yes
+8,1,2,5.000000,5,5,,,,,,yes
+9,0,3,,,,,,,,,yes
+END
+}
+
+joined_table() {
+  cat <<'END'
+d  runs  failed                    new                          lowest_score  proved
+4     3       0     3.0 ± 6.6 (1 to 6)  0.000000 ± 0.000001 (-0.000001 to 0)     yes
+6     2       1  30.5 ± 6.4 (30 to 31)              -70 ± 124 (-80 to -60.5)     yes
+7     3       0         5 ± 0 (5 to 5)               none in 1 (-80 to -1.5)     yes
+8     1       2                      5                                     -     yes
+9     0       3                      -                                     -     yes
+END
+}
+
+# Prints the degrees of freedom whose point is wrong, and then the points of some others. A point is right where the area
+# below Student's t out to half of its last digit less is below 95 %, and out to as much more above it (by Simpson's rule).
+t_points() {
+  (cd "$top/bin/lib" && python3 -B) <<'END'
+from math import exp, lgamma, pi, sqrt
+from sweep_joined import T_POINTS, t_point
+
+def area(end, freedom, parts=1000):
+    scale = exp(lgamma((freedom + 1) / 2) - lgamma(freedom / 2)) / sqrt(freedom * pi)
+    heights = [(1 + (end * it / parts) ** 2 / freedom) ** (-(freedom + 1) / 2) for it in range(parts + 1)]
+    return 2 * scale * end / parts / 3 * (heights[0] + 4 * sum(heights[1::2]) + 2 * sum(heights[2:-1:2]) + heights[-1])
+
+print(*[it for it in T_POINTS if not area(t_point(it) - 0.0005, it) < 0.95 < area(t_point(it) + 0.0005, it)])
+print(*map(t_point, (1, 2, 30, 39, 40, 4999, 5000, 999999)))
+END
+}
+
+refused_joined() {
+  expect "$1" 64 '' "sweep: $2; --help says more" "${@:3}"
+}
+
+check_joined_arguments() {
+  local why='--over takes keys that are swept, and'
+  refused_joined 'rows over a key that is not swept' "$why seed is not" with_stand_ins --set d=4
+  refused_joined 'rows over no key' "$why an empty one is not" in_joined --seeds 1 --over= it.toml
+  refused_joined 'rows over a key twice' '--over has d twice' in_joined --set d=4 --over d,d it.toml
+  refused_joined 'a run twice' '--over joins different runs, and seed has 3 twice' with_stand_ins --seeds 1..4,3
+  refused_joined 'a setting twice' '--over joins different runs, and d has 4 twice' with_stand_ins --seeds 1 --set d=4,5,4
+  refused_joined 'how a joined run ended' 'status is of one run: with --over, runs and failed say how many have figures' \
+    in_joined --seeds 1 --over seed --columns new,status it.toml
+  refused_joined 'an unknown column of joined rows' 'there is no column runs' \
+    in_joined --seeds 1 --over seed --columns runs it.toml
+  refused_joined 'a table of single runs' '--table goes with --over' in_joined --table it.toml
+}
+
+# What runs give together, of which some fail, and some lack a number. Of two rows that are kept it says that their programs
+# were not proved.
+check_joined() {
+  local said='sweep: 6 of 15 runs failed, first d=6 seed=2: none of that' all=(--set 'd=4,6,7,8,9' --seeds 1..3)
+  make_stand_ins_for_sweeps
+  expect 'points of Student'"'"'s t' 0 $'\n12.706 4.303 2.042 2.042 2.021 1.984 1.96 1.96' '' t_points
+  expect 'rows that are joined' 1 "$(joined_rows)" "$said" with_stand_ins "${all[@]}"
+  expect 'rows that are joined over the first key' 1 "$(joined_rows)" "${said/d=6 seed=2/seed=1 d=8}" \
+    with_stand_ins --seeds 1..3 --set d=4,6,7,8,9
+  expect 'a table of joined rows' 1 "$(joined_table)" "$said" with_stand_ins --table "${all[@]}"
+  expect 'rows to keep, and to join' 1 "$(joined_rows)" "$said" with_stand_ins --into rows "${all[@]}"
+  sed -i 's/^4,2,0,,yes/4,2,0,,no/; s/^8,3,1,\(.*\),yes/8,3,1,\1,no/' "$room/joined/rows"/*.csv
+  expect 'rows of which few are proved' 1 "$(joined_rows | sed '/^[48]/s/yes/mixed/')" "$said" \
+    with_stand_ins --into rows "${all[@]}"
+  check_joined_arguments
 }
