@@ -1,0 +1,226 @@
+//! How far messages come, worked out by hand from the scenario and the rules.
+use crate::program::run;
+use std::alloc::{AllocError, Global};
+use std::process::ExitCode;
+use std::test::*;
+
+/// `h2` stands between `h1` and `x`. All subscribe, and no heartbeat comes, so nobody has a mesh. What `h1` and `x` publish goes
+/// to all neighbours on the topic. So `h2` delivers both a round later, and passes none on.
+const LINE: &str = "round_ms = 100\nrounds = 6\nworkers = 1\ncapacity = 1\nseed = 1\n\
+    [[topic]]\nname = \"news\"\nreject = [\"ff\"]\n\
+    [[peer]]\nname = \"h1\"\n[[peer]]\nname = \"h2\"\n[[peer]]\nname = \"x\"\n\
+    [[dial]]\nfrom = \"h1\"\nto = \"h2\"\n[[dial]]\nfrom = \"h2\"\nto = \"x\"\n\
+    [[do]]\nwhat = \"subscribe\"\nat = 0\npeer = \"h1\"\ntopic = \"news\"\n\
+    [[do]]\nwhat = \"subscribe\"\nat = 0\npeer = \"h2\"\ntopic = \"news\"\n\
+    [[do]]\nwhat = \"subscribe\"\nat = 0\npeer = \"x\"\ntopic = \"news\"\n\
+    [[do]]\nwhat = \"publish\"\nat = 2\npeer = \"h1\"\ntopic = \"news\"\nhex = \"aa\"\n\
+    [[do]]\nwhat = \"publish\"\nat = 3\npeer = \"x\"\ntopic = \"news\"\nhex = \"bb\"\n";
+
+/// `a` is on no topic. It publishes a payload, and one that is rejected. Then `a` and `b` publish another at one moment. `b`
+/// subscribes to `late` in the round of the publication there.
+const MISLEADING: &str = "round_ms = 100\nrounds = 6\nworkers = 1\ncapacity = 1\nseed = 1\n\
+    [[topic]]\nname = \"news\"\nreject = [\"ff\"]\n[[topic]]\nname = \"late\"\n\
+    [[peer]]\nname = \"a\"\n[[peer]]\nname = \"b\"\n[[dial]]\nfrom = \"a\"\nto = \"b\"\n\
+    [[do]]\nwhat = \"subscribe\"\nat = 0\npeer = \"b\"\ntopic = \"news\"\n\
+    [[do]]\nwhat = \"publish\"\nat = 2\npeer = \"a\"\ntopic = \"news\"\nhex = \"aa\"\n\
+    [[do]]\nwhat = \"publish\"\nat = 3\npeer = \"a\"\ntopic = \"news\"\nhex = \"ff\"\n\
+    [[do]]\nwhat = \"publish\"\nat = 4\npeer = \"a\"\ntopic = \"news\"\nhex = \"cc\"\n\
+    [[do]]\nwhat = \"publish\"\nat = 4\npeer = \"b\"\ntopic = \"news\"\nhex = \"cc\"\n\
+    [[do]]\nwhat = \"subscribe\"\nat = 5\npeer = \"b\"\ntopic = \"late\"\n\
+    [[do]]\nwhat = \"publish\"\nat = 5\npeer = \"a\"\ntopic = \"late\"\nhex = \"dd\"\n";
+
+const USAGE: &str = "usage: gossip_reach [--by PEERS] [--of PEERS] [--format table|csv|json]\n";
+
+/// What is printed of a scenario for some options.
+struct Case {
+    scenario: &'static str,
+    options: &'static [&'static str],
+    text: &'static str,
+}
+
+/// Half of the subscribers of each message are reached, in one round, and half never.
+const TABLES: &str = "\
+How far each message came
+topic  payload  from  verdict  publishers  at_ms  subscribers  reached  missed  first  median  90%  last
+news   aa       h1    accept            1    200            2        1       1      1       1    -     -
+news   bb       x     accept            1    300            2        1       1      1       1    -     -
+
+Within how many rounds, of all pairs of an accepted message and a subscriber
+outcome  within rounds  pairs  % of pairs
+reached              1      2       50.00
+missed               -      2       50.00
+all                  -      4      100.00
+
+In how many rounds parts of all these pairs were reached
+pairs  first  median  90%  99%  last
+    4      1       1    -    -     -
+";
+
+const ROWS: &str = "\
+topic,payload,publisher,verdict,publishers,at_ms,subscribers,reached,missed,first_round,median_round,round_90,last_round
+\"news\",\"aa\",\"h1\",\"accept\",1,200,2,1,1,1,1,,
+\"news\",\"bb\",\"x\",\"accept\",1,300,2,1,1,1,1,,
+
+outcome,within_rounds,pairs,share
+\"reached\",1,2,50.00
+\"missed\",,2,50.00
+\"all\",,4,100.00
+
+pairs,first_round,median_round,round_90,round_99,last_round
+4,1,1,,,
+";
+
+/// Among `h1` and `h2`, all that `h1` publishes comes.
+const AMONG_H: &str = "\
+{
+\"messages\":[
+{\"topic\":\"news\",\"payload\":\"aa\",\"publisher\":\"h1\",\"verdict\":\"accept\",\"publishers\":1,\"at_ms\":200,\
+\"subscribers\":1,\"reached\":1,\"missed\":0,\"first_round\":1,\"median_round\":1,\"round_90\":1,\"last_round\":1}
+],
+\"within\":[
+{\"outcome\":\"reached\",\"within_rounds\":1,\"pairs\":1,\"share\":100.00},
+{\"outcome\":\"missed\",\"within_rounds\":null,\"pairs\":0,\"share\":0.00},
+{\"outcome\":\"all\",\"within_rounds\":null,\"pairs\":1,\"share\":100.00}
+],
+\"parts\":[
+{\"pairs\":1,\"first_round\":1,\"median_round\":1,\"round_90\":1,\"round_99\":1,\"last_round\":1}
+]
+}
+";
+
+/// Nobody has the name.
+const BY_NOBODY: &str = "\
+topic,payload,publisher,verdict,publishers,at_ms,subscribers,reached,missed,first_round,median_round,round_90,last_round
+
+outcome,within_rounds,pairs,share
+\"reached\",1,0,0.00
+\"missed\",,0,0.00
+\"all\",,0,0.00
+
+pairs,first_round,median_round,round_90,round_99,last_round
+0,,,,,
+";
+
+/// The rejected payload is in no pair. That of both publishers has no subscriber, as each has it. The last one has none, as
+/// nobody could know of its subscriber.
+const NOT_MISLED: &str = "\
+topic,payload,publisher,verdict,publishers,at_ms,subscribers,reached,missed,first_round,median_round,round_90,last_round
+\"news\",\"aa\",\"a\",\"accept\",1,200,1,1,0,1,1,1,1
+\"news\",\"ff\",\"a\",\"reject\",1,300,1,0,1,,,,
+\"news\",\"cc\",\"a\",\"accept\",2,400,0,0,0,,,,
+\"late\",\"dd\",\"a\",\"accept\",1,500,0,0,0,,,,
+
+outcome,within_rounds,pairs,share
+\"reached\",1,1,100.00
+\"missed\",,0,0.00
+\"all\",,1,100.00
+
+pairs,first_round,median_round,round_90,round_99,last_round
+1,1,1,1,1,1
+";
+
+static CASES: [Case; 8] = [
+    Case {
+        scenario: LINE,
+        options: &[],
+        text: TABLES,
+    },
+    Case {
+        scenario: LINE,
+        options: &["--format", "table", "--by", "*", "--of", "h1,h2,x"],
+        text: TABLES,
+    },
+    Case {
+        scenario: LINE,
+        options: &["--format", "csv"],
+        text: ROWS,
+    },
+    Case {
+        scenario: LINE,
+        options: &["--by", "h*", "--of", "h*", "--format", "json"],
+        text: AMONG_H,
+    },
+    Case {
+        scenario: LINE,
+        options: &["--of", "h2,h1", "--format", "json", "--by", "h1"],
+        text: AMONG_H,
+    },
+    Case {
+        scenario: LINE,
+        options: &["--by", "h,hh*,h1x,", "--format", "csv"],
+        text: BY_NOBODY,
+    },
+    Case {
+        scenario: LINE,
+        options: &["--by", "", "--format", "csv"],
+        text: BY_NOBODY,
+    },
+    Case {
+        scenario: MISLEADING,
+        options: &["--format", "csv"],
+        text: NOT_MISLED,
+    },
+];
+
+/// Arguments that ask for nothing that there is.
+static REFUSED: [&[&str]; 8] = [
+    &["h1"],
+    &["--by"],
+    &["--to", "h1"],
+    &["--by", "h1", "--by", "h1"],
+    &["--of", "h1", "--format", "csv", "--of", "x"],
+    &["--format", "csv", "--format", "csv"],
+    &["--format", "CSV"],
+    &["--by", "h1", "csv"],
+];
+
+fn argument_list(alloc: Global, words: &[&str]) -> Result<Vec<String>, AllocError> {
+    let mut arguments = Vec::new(alloc);
+    for word in words {
+        arguments.push(String::from_str(alloc, word)?)?;
+    }
+    Ok(arguments)
+}
+
+/// Whether a run of a scenario with these arguments ends so: with this status, and these texts on the output and on errors.
+fn ends_so(
+    alloc: Global,
+    scenario: &str,
+    words: &[&str],
+    status: u8,
+    wanted: (&str, &str),
+) -> Result<bool, AllocError> {
+    let arguments = argument_list(alloc, words)?;
+    let mut output = Vec::new(alloc);
+    let mut errors = Vec::new(alloc);
+    let code = run(
+        alloc,
+        arguments.as_slice(),
+        &mut scenario.as_bytes(),
+        &mut output,
+        &mut errors,
+    );
+    Ok(
+        code == ExitCode::from(status)
+            && (output.as_slice() == wanted.0.as_bytes()
+                && errors.as_slice() == wanted.1.as_bytes()),
+    )
+}
+
+#[test]
+fn figures_are_those_of_the_run(rt: HostRuntime) -> Result<(), AllocError> {
+    for case in &CASES {
+        let ends = ends_so(rt.alloc(), case.scenario, case.options, 0, (case.text, ""))?;
+        assert_eq!(rt; (case.options, ends), (case.options, true));
+    }
+    Ok(())
+}
+
+#[test]
+fn other_arguments_end_with_64(rt: HostRuntime) -> Result<(), AllocError> {
+    for words in &REFUSED {
+        let ends = ends_so(rt.alloc(), LINE, words, 64, ("", USAGE))?;
+        assert_eq!(rt; (*words, ends), (*words, true));
+    }
+    Ok(())
+}
