@@ -34,7 +34,7 @@ class Chart {
     const below = d3.svg.axis().scale(this.x).orient('bottom').ticks(Math.min(8, Math.max(run.roundCount - 1, 1)))
       .tickFormat(d3.format('d')).tickSize(3);
     this.svg.append('g').attr('class', 'axis').attr('transform', `translate(0,${CHART.height - CHART.bottom})`).call(below)
-      .append('text').attr('x', CHART.left - 8).attr('y', 6).attr('dy', '0.71em').attr('text-anchor', 'end').text('round');
+      .append('text').attr('x', CHART.left - 16).attr('y', 6).attr('dy', '0.71em').attr('text-anchor', 'end').text('round');
     const drag = () => this.moved();
     this.svg.on('click', () => this.clicked()).on('mousemove', () => { if (d3.event.buttons === 1) drag(); });
   }
@@ -75,7 +75,7 @@ class Chart {
     fresh.append('text').attr('dy', '0.32em');
     levels.exit().remove();
     levels.attr('class', (it) => it[2] || '').attr('transform', (it) => `translate(0,${this.y(it[0]).toFixed(1)})`);
-    const side = (it) => (it[2] ? this.right + 3 : CHART.left - 5);
+    const side = (it) => (it[2] ? this.right + 3 : CHART.left - 6);
     const lifts = this.lifts(ticks.filter((it) => it[2]));
     levels.select('text').text((it) => it[1]).attr('x', side).attr('y', (it) => -(lifts.get(it) || 0))
       .attr('text-anchor', (it) => (it[2] ? 'start' : 'end'));
@@ -124,8 +124,8 @@ class ScoreChart extends Chart {
   constructor(run, words, state) {
     super('#score-chart', run, state, BESIDE.width);
     this.words = words;
-    this.svg.append('text').attr('x', this.right + 3).attr('y', CHART.height - CHART.bottom + 6).attr('dy', '0.71em')
-      .text('log scale');
+    this.svg.append('text').attr('x', CHART.width).attr('y', CHART.height - CHART.bottom + 6).attr('dy', '0.71em')
+      .attr('text-anchor', 'end').text('log scale');
     this.rows = run.lowest.map((row) => Array.from(row, (it) => (it === Infinity ? null : bent(it))));
     this.scale();
     this.lines = this.body.selectAll('path').data(this.rows).enter().append('path').attr('class', 'line');
