@@ -124,8 +124,8 @@ class ScoreChart extends Chart {
   constructor(run, words, state) {
     super('#score-chart', run, state, BESIDE.width);
     this.words = words;
-    this.svg.append('text').attr('x', CHART.width).attr('y', CHART.height - CHART.bottom + 6).attr('dy', '0.71em')
-      .attr('text-anchor', 'end').text('log scale');
+    this.svg.append('text').attr('x', this.right + 16).attr('y', CHART.height - CHART.bottom + 6).attr('dy', '0.71em')
+      .text('log scale');
     this.rows = run.lowest.map((row) => Array.from(row, (it) => (it === Infinity ? null : bent(it))));
     this.scale();
     this.lines = this.body.selectAll('path').data(this.rows).enter().append('path').attr('class', 'line');

@@ -47,9 +47,11 @@ class Network {
     this.discs.append('title');
     this.discs.append('circle').attr('class', 'ring').attr('r', this.disc + 4);
     this.discs.append('circle').attr('class', 'disc').attr('r', this.disc);
-    const corner = 0.8 * this.disc;
+    // (inward and aside: the name stands outward, and most arrows come from the middle)
+    const turn = Math.PI / 4;
     this.discs.append('circle').attr('class', 'reached').attr('r', Math.max(4, 0.4 * this.disc))
-      .attr('cx', corner).attr('cy', -corner);
+      .attr('cx', (_, number) => -this.disc * Math.sin(this.places[number].angle + turn))
+      .attr('cy', (_, number) => this.disc * Math.cos(this.places[number].angle + turn));
     this.discs.append('text').attr('class', 'mark').attr('dy', '0.35em')
       .style('font-size', `${Math.round(this.disc * 1.2)}px`);
     const names = this.discs.append('text').attr('class', 'name').attr('dy', '0.35em');

@@ -255,7 +255,7 @@ class ScorePanel {
     const [gossip, publish, graylist] = run.scores.thresholds;
     const its = run.classOf(score.body[0]);
     const below = its === CLASSES[0] ? '' : `, ${its.words}`;
-    place.append('p').text(`${score.body[0]}${below}: so since round ${score.round} (${score.event}). `
+    place.append('p').text(`${score.body[0]}${below}; first noted in round ${score.round} (${score.event}). `
       + `Thresholds: gossip ${gossip}, publish ${publish}, graylist ${graylist}.`);
     if (score.body.length > 1) this.addParts(place.append('table'), score.body);
     else place.append('p').text('This page has no parts of it: --peer left them out.');

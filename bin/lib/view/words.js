@@ -190,13 +190,13 @@ class Words {
     return [...counts].map(([words, count]) => (count > 1 ? `${words}, ${count} times` : words));
   }
 
-  // A score that came to another class, with the parts that cost it most.
+  // A score that came to another class since it was noted last, with the parts that are below 0.
   of_scored([, , who, before, after]) {
     const { scores } = this.run;
     const [score] = scores.bodies[after];
     const was = before < 0 ? '' : `; it was ${scores.bodies[before][0]}`;
     const costs = this.costs(scores.bodies[after]);
-    return [`scores ${this.peer(who)} ${score}, ${this.run.classOf(score).words}${was}${costs}`];
+    return [`noted a score of ${score} for ${this.peer(who)}, ${this.run.classOf(score).words}${was}${costs}`];
   }
 
   // The parts of a score that are below 0, the lowest one first.
