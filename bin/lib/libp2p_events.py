@@ -204,6 +204,8 @@ def stop(status, why):
 
 def opened(name):
     if name == "-":
+        if sys.stdin.isatty():
+            print("libp2p_trace: reading a trace from the terminal; end it with Ctrl-D", file=sys.stderr)
         return sys.stdin
     try:
         return open(name, encoding="utf-8")

@@ -1,10 +1,10 @@
 """Makes a page of a run of the lines of gossip_trace and gossip_scores. bin/gossip_view runs it.
 
-usage: view.py NAME ROUNDS PEER SCORES PAGE <TRACE
+usage: view.py NAME ROUNDS PEER SCORES UNPROVED PAGE <TRACE
 
-ROUNDS and PEER are empty where all are wanted, and SCORES, a file of lines, where there are none. PAGE is written. Status:
-0 it is; 1 there are too many events; 3 output failed; 4 a package is missing; 64 there is no such peer, or no such round;
-65 a line is none.
+ROUNDS and PEER are empty where all are wanted, SCORES, a file of lines, where there are none, and UNPROVED where the
+programs that made the lines are proved. PAGE is written. Status: 0 it is; 1 there are too many events; 3 output failed; 4 a
+package is missing; 64 there is no such peer, or no such round; 65 a line is none.
 """
 import json
 import os
@@ -71,11 +71,12 @@ def scores_of(file, events, only):
     return scores and scores.data()
 
 
-def make(name, rounds, only, scores, page):
+def make(name, rounds, only, scores, unproved, page):
     rounds = tuple(map(int, rounds.split(".."))) if rounds else None
     run = run_of(sys.stdin, rounds, only or None)
     found = scores_of(scores, run.events, only or None)
-    data = {"name": name, **run.data(), "scores": found, "kinds": KINDS, "fates": FATES, "effects": EFFECTS}
+    words = {"kinds": KINDS, "fates": FATES, "effects": EFFECTS}
+    data = {"name": name, "unproved": bool(unproved), **run.data(), "scores": found, **words}
     text = page_of(data)
     with open(page, "w", encoding="utf-8") as it:
         it.write(text)

@@ -11,7 +11,7 @@ import re
 import sys
 
 HERE = os.path.join(os.path.dirname(os.path.realpath(__file__)), "view")
-SCRIPTS = "data.js words.js state.js network.js charts.js panel.js player.js main.js".split()
+SCRIPTS = "data.js words.js state.js network.js messages.js charts.js panel.js player.js main.js".split()
 PACKAGE = "libjs-d3"
 # (tests have another folder with both)
 FOLDER = os.environ.get("GUNTHARU_D3")

@@ -155,6 +155,9 @@ check_unproved() {
     tried_trace
   expect_like 'some lines of a trace' 0 'gossip_trace --peer b --rounds 2..3 --events graft,prune --topic news scenario' '*' \
     tried_trace --peer b --rounds=2..3 --events graft,prune --topic news
+  expect_like 'lines of a word that is no event' 0 'gossip_trace --events publised,refused scenario' \
+    'gossip_trace: no line has the event publised; --help lists them
+*gossip_trace is not built*' tried_trace --events publised,refused
   usage='usage: gossip_trace [--peer NAME] [--topic TOPIC] [--rounds A..B] [--events A,B,..]'
   expect 'a trace of two peers' 64 '' "$usage" tried_trace --peer b --peer c
   expect 'a trace of rounds that are none' 64 '' "$usage" tried_trace --rounds 3..2

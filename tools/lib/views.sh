@@ -23,7 +23,7 @@ for it in sys.argv[4:]:
 }
 
 made_view() {
-  printf '%s\n' "${@:4}" | python3 "$top/bin/lib/view.py" run "$1" "$2" "$3" "$room/page"
+  printf '%s\n' "${@:4}" | python3 "$top/bin/lib/view.py" run "$1" "$2" "$3" '' "$room/page"
 }
 
 check_views() {
@@ -39,6 +39,8 @@ check_views() {
   expect 'a page of a topic' 64 '' 'gossip_view: there is no option --topic; --help says which there are' tried_view --topic news
   expect 'a page of two runs' 64 '' 'gossip_view: one scenario at a time, not 2; --help says more' tried_view a b
   expect 'a page of a file that is not there' 66 '' "gossip_view: there is no file $room/none" tried_view "$room/none"
+  expect_like 'a page on a terminal' 64 '*gossip_view: a page is for a browser, and not for a terminal: *' '' \
+    on_terminal "$top/bin/gossip_view" "$example"
   expect 'a page without the library' 4 '' "gossip_view: $room/lost/d3.min.js can't be read; apt-get install libjs-d3 brings it" \
     env "GUNTHARU_D3=$room/lost" "$top/bin/gossip_view" "$example"
   expect_like 'a page with --proved' 4 '' 'gossip_view: gossip_trace is not built*: bin/build proves and builds it' \
@@ -49,6 +51,11 @@ gossip_view: line 1 of the trace: *' tried_view
   expect_like 'a page of a scenario that is refused' 1 '' '*told by gossip_*' refused_view
   check_pages
   check_scores
+}
+
+# Runs a command on a terminal.
+on_terminal() {
+  python3 -c 'import os, pty, sys; sys.exit(os.waitstatus_to_exitcode(pty.spawn(sys.argv[1:])))' "$@"
 }
 
 refused_view() {
@@ -131,5 +138,5 @@ pairs [[0, 1, [0, 0, 0]]]' '' scores_of c "$head" '{"round":0,"at":0,"peer":"a",
 }
 
 no_lines() {
-  python3 "$top/bin/lib/view.py" run '' '' '' "$room/page"
+  python3 "$top/bin/lib/view.py" run '' '' '' '' "$room/page"
 }

@@ -1,7 +1,9 @@
 'use strict';
 // Lines over rounds, with a cursor at the round that is shown: lowest scores, sizes of meshes, deliveries.
 
-const CHART = { width: 410, height: 148, left: 40, right: 40, top: 8, bottom: 20 };
+const CHART = { width: 410, height: 148, left: 44, right: 14, top: 8, bottom: 20 };
+// How wide the words beside a chart are, and how high a line of them.
+const BESIDE = { width: 78, height: 11 };
 // Scores are drawn by their size's logarithm, above this one.
 const LEVEL = 1;
 // How near to a line a click has to be, in the units of the picture.
@@ -20,18 +22,19 @@ function short(value) {
 }
 
 class Chart {
-  constructor(place, run, state) {
+  constructor(place, run, state, right = CHART.right) {
     Object.assign(this, { run, state });
     this.svg = d3.select(place).attr('viewBox', `0 0 ${CHART.width} ${CHART.height}`);
-    this.x = d3.scale.linear().domain([run.first, Math.max(run.last, run.first + 1)])
-      .range([CHART.left, CHART.width - CHART.right]);
+    this.right = CHART.width - right;
+    this.x = d3.scale.linear().domain([run.first, Math.max(run.last, run.first + 1)]).range([CHART.left, this.right]);
     this.grid = this.svg.append('g').attr('class', 'grid');
     this.body = this.svg.append('g');
     this.cursor = this.svg.append('line').attr('class', 'cursor').attr('y1', CHART.top)
       .attr('y2', CHART.height - CHART.bottom);
     const below = d3.svg.axis().scale(this.x).orient('bottom').ticks(Math.min(8, Math.max(run.roundCount - 1, 1)))
       .tickFormat(d3.format('d')).tickSize(3);
-    this.svg.append('g').attr('class', 'axis').attr('transform', `translate(0,${CHART.height - CHART.bottom})`).call(below);
+    this.svg.append('g').attr('class', 'axis').attr('transform', `translate(0,${CHART.height - CHART.bottom})`).call(below)
+      .append('text').attr('x', CHART.left - 16).attr('y', 6).attr('dy', '0.71em').attr('text-anchor', 'end').text('round');
     const drag = () => this.moved();
     this.svg.on('click', () => this.clicked()).on('mousemove', () => { if (d3.event.buttons === 1) drag(); });
   }
@@ -68,13 +71,27 @@ class Chart {
   level(ticks) {
     const levels = this.grid.selectAll('g').data(ticks);
     const fresh = levels.enter().append('g');
-    fresh.append('line').attr('x1', CHART.left).attr('x2', CHART.width - CHART.right);
+    fresh.append('line').attr('x1', CHART.left).attr('x2', this.right);
     fresh.append('text').attr('dy', '0.32em');
     levels.exit().remove();
     levels.attr('class', (it) => it[2] || '').attr('transform', (it) => `translate(0,${this.y(it[0]).toFixed(1)})`);
-    const side = (it) => (it[2] ? CHART.width - CHART.right + 3 : CHART.left - 5);
-    levels.select('text').text((it) => it[1]).attr('x', side)
+    const side = (it) => (it[2] ? this.right + 3 : CHART.left - 6);
+    const lifts = this.lifts(ticks.filter((it) => it[2]));
+    levels.select('text').text((it) => it[1]).attr('x', side).attr('y', (it) => -(lifts.get(it) || 0))
       .attr('text-anchor', (it) => (it[2] ? 'start' : 'end'));
+  }
+
+  // By how much the words of levels are lifted, so that none lies on another one.
+  lifts(levels) {
+    const found = new Map();
+    let below = Infinity;
+    for (const it of [...levels].sort((one, other) => one[0] - other[0])) {
+      const level = this.y(it[0]);
+      const place = Math.min(level, below - BESIDE.height);
+      found.set(it, level - place);
+      below = place;
+    }
+    return found;
   }
 
   // The path of values, one for each round, as steps; it leaves out what is not there.
@@ -105,8 +122,10 @@ class Chart {
 
 class ScoreChart extends Chart {
   constructor(run, words, state) {
-    super('#score-chart', run, state);
+    super('#score-chart', run, state, BESIDE.width);
     this.words = words;
+    this.svg.append('text').attr('x', this.right + 16).attr('y', CHART.height - CHART.bottom + 6).attr('dy', '0.71em')
+      .text('log scale');
     this.rows = run.lowest.map((row) => Array.from(row, (it) => (it === Infinity ? null : bent(it))));
     this.scale();
     this.lines = this.body.selectAll('path').data(this.rows).enter().append('path').attr('class', 'line');
@@ -128,7 +147,7 @@ class ScoreChart extends Chart {
     const round = [-1e6, -1e5, -1e4, -1000, -100, -10, -1, 0, 1, 10, 100, 1000, 1e4, 1e5];
     const ticks = round.map((it) => [bent(it), short(it)]).filter(([it]) => it >= low - 0.01 && it <= high + 0.01);
     const names = ['gossip', 'publish', 'graylist'];
-    const level = shown.map((it, number) => [bent(it), names[number], 'threshold']);
+    const level = shown.map((it, number) => [bent(it), `${names[number]} ${short(it)}`, 'threshold']);
     const gap = (high - low) * 0.05;
     this.setScale(low - gap, high + gap, [...apart(ticks, (high - low) * 0.09), ...level]);
     this.y.clamp(true);
@@ -162,22 +181,22 @@ class ScoreChart extends Chart {
   told() {
     const { run, words, state } = this;
     if (!run.scores) return 'scores: no program of this tree gives them';
+    if (!Number.isFinite(d3.min(run.lowest, (row) => d3.min(row)))) return 'scores: there is none in these rounds';
     const pair = this.looked();
     if (pair) {
       const it = run.scoreOf(...pair, state.round);
       return `score that ${words.peer(pair[0])} gives ${words.peer(pair[1])}: ${it ? it.body[0] : 'none yet'}`;
     }
-    const title = 'lowest score that a neighbour gives';
     if (state.peer !== null) {
       const it = run.lowestOf(state.peer, state.round);
-      return `${title} ${words.peer(state.peer)}: ${it ? `${it.score}, by ${words.peer(it.by)}` : 'none yet'}`;
+      return `lowest score of ${words.peer(state.peer)}: ${it ? `${it.score}, by ${words.peer(it.by)}` : 'none yet'}`;
     }
     let worst = null;
     run.peers.forEach((_, peer) => {
       const value = run.lowest[peer][state.round - run.first];
       if (value !== Infinity && (worst === null || value < worst.value)) worst = { peer, value };
     });
-    return `${title} each peer${worst ? `; lowest: ${words.peer(worst.peer)} ${worst.value}` : ''}`;
+    return `lowest score of each peer: ${worst ? `down to ${worst.value}, of ${words.peer(worst.peer)}` : 'none yet'}`;
   }
 
   // A click near a line looks at the lowest score of its peer.
@@ -243,9 +262,15 @@ class MeshChart extends Chart {
     this.point();
     const it = this.spread[state.round - run.first];
     const own = state.peer === null ? -1 : run.sizesOf(state.topic)[state.peer][state.round - run.first];
-    const of = state.peer === null ? '' : `; ${words.peer(state.peer)}: ${own < 0 ? 'not subscribed' : own}`;
-    const sizes = it ? `${it[0]} to ${it[2]}, median ${it[1]}${of}` : 'none';
-    d3.select('#mesh-words').text(`members of meshes of ${words.topic(state.topic)}: ${sizes}`);
+    const caption = d3.select('#mesh-words').text(`members of meshes of ${words.topic(state.topic)}:${it ? '' : ' none'}`);
+    const add = (kind, told) => {
+      const key = caption.append('span').attr('class', 'key');
+      key.append('i').attr('class', `swatch ${kind}`);
+      key.append('span').text(told);
+    };
+    if (it) add('spread', `${it[0]} to ${it[2]}`);
+    if (it) add('middle', `median ${it[1]}`);
+    if (state.peer !== null) add('own', `${words.peer(state.peer)}: ${own < 0 ? 'not subscribed' : own}`);
   }
 }
 

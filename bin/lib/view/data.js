@@ -11,7 +11,21 @@ const CLASSES = [
   { name: 'graylist', mark: 'x', short: '< graylist', words: 'below the graylist threshold' },
   { name: 'unscored', mark: '?', short: 'no score yet', words: 'not known: no neighbour has scored it' },
 ];
+// When scores are noted: the words for it, and the events of a peer.
 const SCORE_EVENTS = ['heartbeat', 'decay', 'end of the run'];
+const SCORE_KINDS = ['heartbeat', 'decay', 'shut'];
+const TOPIC_PARTS = [
+  ['P1', 'time in mesh'],
+  ['P2', 'first message deliveries'],
+  ['P3', 'mesh message deliveries'],
+  ['P3b', 'mesh failure penalty'],
+  ['P4', 'invalid message deliveries'],
+];
+const OTHER_PARTS = [
+  ['P5', 'application-specific score'],
+  ['P6', 'IP colocation factor'],
+  ['P7', 'behaviour penalty'],
+];
 
 async function unpacked(text) {
   const bytes = Uint8Array.from(atob(text), (it) => it.charCodeAt(0));
@@ -24,9 +38,23 @@ function holdsAt(span, round) {
   return span[span.length - 2] <= round && round < span[span.length - 1];
 }
 
+// The parts of a score that a topic has: of each what is counted, and what that weighs.
+function topicParts([topic, , ...values]) {
+  return TOPIC_PARTS.map(([code, name], number) => (
+    { code, name, topic, counted: values[2 * number], weighed: values[2 * number + 1] }));
+}
+
+// The parts of a score that are of no topic.
+function otherParts([, , , ownCount, own, addresses, colocation, faults, behaviour]) {
+  const values = [[ownCount, own], [addresses, colocation], [faults, behaviour]];
+  return OTHER_PARTS.map(([code, name], number) => (
+    { code, name, counted: values[number][0], weighed: values[number][1] }));
+}
+
 class RunData {
   constructor(data) {
     Object.assign(this, data);
+    this.kinds.push('scored');
     this.count = this.peers.length;
     this.roundCount = this.last - this.first + 1;
     this.kindNumber = Object.fromEntries(this.kinds.map((it, number) => [it, number]));
@@ -39,6 +67,8 @@ class RunData {
     this.neighbours.forEach((it) => it.sort((one, other) => one - other));
     this.sizes = new Map();
     this.setScores();
+    this.setTurns();
+    this.setPublications();
   }
 
   // The courses of scores by who gives them and who has them, and the lowest score of each peer, round by round.
@@ -56,6 +86,72 @@ class RunData {
         }
       }
     }
+  }
+
+  // Adds an event for each score that came to another class: [peer, kind, neighbour, the score before, the new one].
+  setTurns() {
+    for (const [peer, other, course] of this.scores ? this.scores.pairs : []) {
+      for (let place = 0; place < course.length; place += 3) {
+        const [round, moment, after] = course.slice(place, place + 3);
+        const before = place ? course[place - 1] : -1;
+        const isShown = round >= this.first && round <= this.last
+          && (this.only === null || [peer, other].includes(this.only));
+        if (isShown && this.classOfBody(before) !== this.classOfBody(after)) {
+          this.addTurn(round, SCORE_KINDS[moment], [peer, this.kindNumber.scored, other, before, after]);
+        }
+      }
+    }
+  }
+
+  // (who has no score yet is as one that has 0)
+  classOfBody(number) {
+    return this.classOf(number < 0 ? 0 : this.scores.bodies[number][0]);
+  }
+
+  // A turn stands after the event at which it was noted.
+  addTurn(round, kind, turn) {
+    const events = this.eventsOf(round);
+    let place = 1 + events.findIndex((it) => it[0] === turn[0] && this.kinds[it[1]] === kind);
+    if (!place) place = events.length;
+    while (place < events.length && this.kinds[events[place][1]] === 'scored') place++;
+    events.splice(place, 0, turn);
+  }
+
+  // Each publication: who was subscribed at the end of its round, and when it was delivered to whom, until the same was
+  // published again. A page of one peer has none, since it does not have all deliveries.
+  setPublications() {
+    this.publications = [];
+    const latest = new Map();
+    for (let round = this.first; this.only === null && round <= this.last; round++) {
+      for (const event of this.eventsOf(round)) {
+        const [peer, , , topic, item] = event;
+        const kind = this.kinds[event[1]];
+        const key = `${topic} ${item}`;
+        if (kind === 'publish') {
+          const same = latest.get(key);
+          const delivered = same && same.round === round ? same.delivered : new Map();
+          latest.set(key, { peer, topic, item, round, delivered, subscribers: this.subscribersOf(topic, round) });
+          this.publications.push(latest.get(key));
+        }
+        if (this.isDelivery(event) && latest.has(key)) latest.get(key).delivered.set(peer, round);
+      }
+    }
+  }
+
+  isDelivery(event) {
+    const kind = this.kinds[event[1]];
+    if (kind === 'message') return this.fates[event[5]] === 'new';
+    return kind === 'publish' && (event[6] || []).some((it) => this.effects[it[0]] === 'delivered');
+  }
+
+  // Of those who were subscribed, to whom a publication was delivered up to the end of a round, and to whom not.
+  reachOf(publication, round) {
+    const came = [];
+    const lacking = [];
+    for (const peer of publication.subscribers) {
+      (publication.delivered.get(peer) <= round ? came : lacking).push(peer);
+    }
+    return { came, lacking };
   }
 
   eventsOf(round) {
@@ -113,8 +209,9 @@ class RunData {
     return this.sizes.get(topic);
   }
 
-  // The messages of a topic that came in a round, counted by who sent them to whom.
-  wayOf(topic, round) {
+  // The messages of a topic that came in a round, counted by who sent them to whom; of a publication, only that message. Of
+  // an RPC that was not heard it is not known which messages it had.
+  wayOf(topic, round, publication) {
     const found = new Map();
     const add = (from, to, what, count) => {
       const key = from * this.count + to;
@@ -123,7 +220,8 @@ class RunData {
     };
     for (const it of this.eventsOf(round)) {
       const kind = this.kinds[it[1]];
-      if (kind === 'message' && it[3] === topic) add(it[2], it[0], this.sortOf(this.fates[it[5]]), 1);
+      const isShown = it[3] === topic && (!publication || it[4] === publication.item);
+      if (kind === 'message' && isShown) add(it[2], it[0], this.sortOf(this.fates[it[5]]), 1);
       if (kind === 'heard' || kind === 'late') {
         for (const effect of it[6] || []) {
           if (this.effects[effect[0]] === 'not_heard' && effect[1] === topic) add(it[2], it[0], 'unheard', effect[2]);

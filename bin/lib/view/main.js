@@ -35,9 +35,10 @@ async function begin() {
     return;
   }
   const run = new RunData(await unpacked(document.getElementById('run').textContent));
+  document.getElementById('unproved').hidden = !run.unproved;
   const words = new Words(run);
   const state = new State(run);
-  const parts = [Network, FiguresPanel, EventList, ScorePanel, ScoreChart, MeshChart, DeliveryChart, Player];
+  const parts = [Network, MessageChoice, FiguresPanel, EventList, ScorePanel, ScoreChart, MeshChart, DeliveryChart, Player];
   parts.forEach((Part) => new Part(run, words, state));
   state.tell();
   document.documentElement.dataset.ready = 'yes';

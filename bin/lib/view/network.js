@@ -16,7 +16,7 @@ class Network {
     this.addDiscs();
     this.addLegend();
     state.listen((it, changed) => {
-      if (['round', 'topic', 'peer', 'other', 'shown'].some((key) => changed.has(key))) this.draw();
+      if (['round', 'topic', 'publication', 'peer', 'other', 'shown'].some((key) => changed.has(key))) this.draw();
     });
   }
 
@@ -47,6 +47,11 @@ class Network {
     this.discs.append('title');
     this.discs.append('circle').attr('class', 'ring').attr('r', this.disc + 4);
     this.discs.append('circle').attr('class', 'disc').attr('r', this.disc);
+    // (inward and aside: the name stands outward, and most arrows come from the middle)
+    const turn = Math.PI / 4;
+    this.discs.append('circle').attr('class', 'reached').attr('r', Math.max(4, 0.4 * this.disc))
+      .attr('cx', (_, number) => -this.disc * Math.sin(this.places[number].angle + turn))
+      .attr('cy', (_, number) => this.disc * Math.cos(this.places[number].angle + turn));
     this.discs.append('text').attr('class', 'mark').attr('dy', '0.35em')
       .style('font-size', `${Math.round(this.disc * 1.2)}px`);
     const names = this.discs.append('text').attr('class', 'name').attr('dy', '0.35em');
@@ -81,29 +86,39 @@ class Network {
   }
 
   addLegend() {
-    const legend = d3.select('#legend');
+    let group = null;
+    const begin = (words) => {
+      group = d3.select('#legend').append('div').attr('class', 'group');
+      group.append('b').text(words);
+    };
     const item = (words, draw, title) => {
-      const it = legend.append('span').attr('class', 'item').attr('title', title || words);
+      const it = group.append('span').attr('class', 'item').attr('title', title || words);
       draw(it.append('svg').attr('width', 26).attr('height', 14));
       it.append('span').text(words);
     };
+    begin('peers, by their lowest score:');
     CLASSES.forEach((it) => item(it.short, (svg) => {
       svg.append('circle').attr('class', `disc ${it.name}`).attr('cx', 13).attr('cy', 7).attr('r', 6);
       svg.append('text').attr('class', `mark ${it.name}`).attr('x', 13).attr('y', 10).text(it.mark);
     }, `the lowest score that a neighbour gives the peer is ${it.words}`));
     item('not subscribed', (svg) => {
       svg.append('circle').attr('class', 'disc fair off').attr('cx', 13).attr('cy', 7).attr('r', 6);
-    });
-    this.addLines(item);
+    }, 'the peer is not subscribed to the topic');
+    item('has the message', (svg) => {
+      svg.append('circle').attr('class', 'reached legend').attr('cx', 13).attr('cy', 7).attr('r', 4.5);
+    }, 'the message that is chosen below was delivered to the peer');
+    this.addLines(item, begin);
   }
 
-  addLines(item) {
+  addLines(item, begin) {
     const line = (name, marker) => (svg) => {
       const path = svg.append('path').attr('class', name).attr('d', 'M2,7H24');
       if (marker) path.attr('marker-end', `url(#head-${marker})`);
     };
-    item('mesh', line('link both'), 'each has the other in its mesh');
-    item('one-sided', line('link one', 'one'), 'only the peer at the tail has the other in its mesh');
+    begin('meshes:');
+    item('of both', line('link both'), 'each has the other in its mesh');
+    item('one-sided', line('link one', 'one'), 'only the peer at the tail has the other one in its mesh');
+    begin('messages heard in the round:');
     item('new', line('arrow fresh', 'fresh'), 'a message that was new to whom it came to');
     item('duplicate', line('arrow duplicate', 'duplicate'), 'a message that had come before');
     item('refused', line('arrow refused', 'refused'), 'a message that was rejected or ignored');
@@ -113,7 +128,7 @@ class Network {
   draw() {
     const { run, state } = this;
     this.drawLinks(run.linksOf(state.topic, state.round));
-    this.drawArrows(run.wayOf(state.topic, state.round));
+    this.drawArrows(run.wayOf(state.topic, state.round, state.publication));
     this.drawDiscs(run.subscribersOf(state.topic, state.round));
   }
 
@@ -183,7 +198,8 @@ class Network {
       const disc = d3.select(this.discs[0][number]);
       const isPale = state.peer !== null && state.peer !== number && !run.neighbours[state.peer].includes(number);
       disc.attr('class', `peer ${it.name}`)
-        .classed({ off: !isOn, chosen: state.peer === number, other: state.other === number, pale: isPale });
+        .classed({ off: !isOn, chosen: state.peer === number, other: state.other === number, pale: isPale })
+        .classed('has', Boolean(state.publication) && state.publication.delivered.get(number) <= state.round);
       disc.attr('aria-label', `peer ${name}`).select('.mark').text(it.mark);
       disc.select('title').text(`${name}: ${lowest ? `lowest score ${lowest.score}, by ${run.peers[lowest.by]}` : it.words}`
         + `${isOn ? '' : '; not subscribed'}`);

@@ -8,25 +8,19 @@ const FIGURES = [
   ['messages_heard', 'heard', 'messages that were heard from neighbours'],
   ['new', 'new', 'those that were new to the peer'],
   ['duplicates', 'duplicates', 'those that had come before, or came on a topic off which the peer is'],
-  ['smallest_mesh', 'smallest mesh', 'members of the smallest mesh, over all topics'],
-  ['largest_mesh', 'largest mesh', 'members of the largest mesh, over all topics'],
+  ['smallest_mesh', 'smallest', 'members of the smallest mesh, over all topics'],
+  ['largest_mesh', 'largest', 'members of the largest mesh, over all topics'],
 ];
-const TOPIC_PARTS = [
-  ['P1', 'time in mesh'],
-  ['P2', 'first message deliveries'],
-  ['P3', 'mesh message deliveries'],
-  ['P3b', 'mesh failure penalty'],
-  ['P4', 'invalid message deliveries'],
-];
-const OTHER_PARTS = [
-  ['P5', 'application-specific score'],
-  ['P6', 'IP colocation factor'],
-  ['P7', 'behaviour penalty'],
+const FIGURE_GROUPS = [
+  ['messages in this round, all topics', 4],
+  ['members of a mesh', 2],
 ];
 
 class FiguresPanel {
   constructor(run, words, state) {
     const table = d3.select('#figures');
+    table.append('tr').selectAll('th').data(FIGURE_GROUPS).enter().append('th')
+      .attr('colspan', (it) => it[1]).attr('class', 'group').text((it) => it[0]);
     const cells = (row, tag) => row.selectAll(tag).data(FIGURES).enter().append(tag);
     cells(table.append('tr'), 'th').text((it) => it[1]).attr('title', (it) => it[2]);
     const values = cells(table.append('tr'), 'td').attr('data-figure', (it) => it[0]);
@@ -66,14 +60,28 @@ class EventList {
     const rounds = state.isWhole ? d3.range(run.first, run.last + 1) : [state.round];
     const terms = state.filter.split(/\s+/).filter(Boolean).map((it) => this.termOf(it));
     for (const round of rounds) {
-      for (const event of run.eventsOf(round)) {
-        if (state.peer === null ? !terms.length && !words.isNotable(event) : event[0] !== state.peer) continue;
-        if (state.isWhole && !terms.length && !words.isNotable(event)) continue;
+      for (const event of this.eventsOf(round)) {
+        if ((state.peer === null || state.isWhole) && !terms.length && !words.isNotable(event)) continue;
         const said = words.sentence(event);
         const text = `${words.peer(event[0])} ${said}`.toLowerCase();
         if (terms.every((it) => it.test(text))) yield [round, event, said];
       }
     }
+  }
+
+  // The events of a round that may be listed: all, or those of the peer that is looked at, and after them those about it.
+  eventsOf(round) {
+    const { run, state } = this;
+    const events = run.eventsOf(round);
+    if (state.peer === null) return events;
+    const isOwn = (it) => it[0] === state.peer;
+    return [...events.filter(isOwn), ...events.filter((it) => !isOwn(it) && this.concerns(it))];
+  }
+
+  // Whether an event is of the peer that is looked at, or about it.
+  concerns(event) {
+    const { words, state } = this;
+    return event[0] === state.peer || words.isAbout(event, state.peer);
   }
 
   // What a word finds: itself anywhere; but the name of a peer only as a word.
@@ -98,27 +106,35 @@ class EventList {
       items.append('button').text((it) => it[0]).attr('title', (it) => `go to round ${it[0]}`)
         .on('click', (it) => state.go(it[0]));
     }
-    if (state.peer === null) {
-      items.append('button').attr('class', 'who').text((it) => words.peer(it[1][0]))
-        .attr('title', 'look at this peer').on('click', (it) => state.choose(it[1][0]));
-    }
+    items.filter((it) => it[1][0] !== state.peer).append('button').attr('class', 'who')
+      .text((it) => words.peer(it[1][0])).attr('title', 'look at this peer').on('click', (it) => state.choose(it[1][0]));
     items.append('span').text((it) => it[2]);
     d3.select('#events-more span').text(this.remark(rows.length, isCut));
     list.node().scrollTop = 0;
     this.mark();
   }
 
-  // The buttons lead to the nearest rounds in which the peer has an event.
+  // The buttons lead to the nearest rounds with an event of the peer, or about it.
   setNearest() {
-    const { run, state } = this;
-    const has = (round) => run.eventsOf(round).some((it) => it[0] === state.peer);
-    for (const [id, step] of [['before', -1], ['after', 1]]) {
-      let round = state.round + step;
-      while (state.peer !== null && round >= run.first && round <= run.last && !has(round)) round += step;
-      const isThere = state.peer !== null && round >= run.first && round <= run.last;
-      d3.select(`#${id}`).style('display', state.peer === null ? 'none' : null).property('disabled', !isThere)
+    const { state } = this;
+    const rounds = state.peer === null ? [] : this.rounds();
+    const before = rounds[d3.bisectLeft(rounds, state.round) - 1];
+    const after = rounds[d3.bisectRight(rounds, state.round)];
+    for (const [id, round, words] of [['before', before, `< round ${before}`], ['after', after, `round ${after} >`]]) {
+      d3.select(`#${id}`).style('display', round === undefined ? 'none' : null).text(words)
         .on('click', () => state.go(round));
     }
+  }
+
+  // The rounds with an event of the peer that is looked at, or about it.
+  rounds() {
+    const { run, state } = this;
+    if (this.concerned?.peer !== state.peer) {
+      const all = d3.range(run.first, run.last + 1);
+      const rounds = all.filter((round) => run.eventsOf(round).some((it) => this.concerns(it)));
+      this.concerned = { peer: state.peer, rounds };
+    }
+    return this.concerned.rounds;
   }
 
   remark(count, isCut) {
@@ -218,7 +234,8 @@ class ScorePanel {
     const has = members.has(`${state.peer} ${other}`);
     const had = members.has(`${other} ${state.peer}`);
     if (has && had) return 'both';
-    return has ? 'has it' : had ? 'is in it' : '';
+    const name = this.words.peer(state.peer);
+    return has ? `${name} has it` : had ? `it has ${name}` : '';
   }
 
   drawParts() {
@@ -236,29 +253,21 @@ class ScorePanel {
       return;
     }
     const [gossip, publish, graylist] = run.scores.thresholds;
-    place.append('p').text(`${score.body[0]}: ${run.classOf(score.body[0]).words}. `
-      + `It has been so since the ${score.event} of round ${score.round}. `
-      + `Thresholds: gossip ${short(gossip)}, publish ${short(publish)}, graylist ${short(graylist)}.`);
+    const its = run.classOf(score.body[0]);
+    const below = its === CLASSES[0] ? '' : `, ${its.words}`;
+    place.append('p').text(`${score.body[0]}${below}; first noted in round ${score.round} (${score.event}). `
+      + `Thresholds: gossip ${gossip}, publish ${publish}, graylist ${graylist}.`);
     if (score.body.length > 1) this.addParts(place.append('table'), score.body);
     else place.append('p').text('This page has no parts of it: --peer left them out.');
   }
 
   addParts(table, body) {
-    const [score, sum, capped, ownCount, own, addresses, colocation, faults, behaviour, topics] = body;
-    const rows = [];
-    for (const [topic, all, ...values] of topics) {
-      rows.push({ name: `topic ${this.words.topic(topic)}`, weighed: all, isHead: true });
-      TOPIC_PARTS.forEach(([code, name], number) => {
-        rows.push({ code, name, counted: values[2 * number], weighed: values[2 * number + 1] });
-      });
-    }
-    rows.push({ name: 'all topics', weighed: sum, isHead: true });
-    if (capped !== sum) rows.push({ name: 'all topics, capped', weighed: capped, isHead: true });
-    const rest = [[ownCount, own], [addresses, colocation], [faults, behaviour]];
-    OTHER_PARTS.forEach(([code, name], number) => {
-      rows.push({ code, name, counted: rest[number][0], weighed: rest[number][1] });
-    });
-    rows.push({ name: 'score', weighed: score, isHead: true });
+    const [score, sum, capped] = body;
+    const total = (name, weighed) => ({ name, weighed, isHead: true });
+    const rows = body[9].flatMap((it) => [total(`topic ${this.words.topic(it[0])}`, it[1]), ...topicParts(it)]);
+    rows.push(total('all topics', sum));
+    if (capped !== sum) rows.push(total('all topics, capped', capped));
+    rows.push(...otherParts(body), total('score', score));
     const head = table.append('thead').append('tr');
     ['part', 'counted', 'weighed'].forEach((it) => head.append('th').text(it));
     const lines = table.append('tbody').selectAll('tr').data(rows).enter().append('tr')

@@ -3,6 +3,8 @@
 
 // How long each round stands while the page plays.
 const PAUSE_MS = 350;
+// The keys that scroll a list, where it has the focus and is longer than its place.
+const SCROLL_KEYS = ['ArrowUp', 'ArrowDown', 'PageUp', 'PageDown', 'Home', 'End'];
 
 class Player {
   constructor(run, words, state) {
@@ -18,7 +20,7 @@ class Player {
     click('end', () => state.go(run.last));
     this.topic = document.getElementById('topic');
     run.topics.forEach((_, number) => this.topic.add(new Option(words.topic(number), number)));
-    this.topic.addEventListener('change', () => state.set({ topic: +this.topic.value }));
+    this.topic.addEventListener('change', () => state.set({ topic: +this.topic.value, publication: null }));
     for (const key of ['mesh', 'new', 'duplicates']) {
       document.getElementById(`show-${key}`).addEventListener('change', (it) => {
         state.set({ shown: { ...state.shown, [key]: it.target.checked } });
@@ -62,12 +64,18 @@ class Player {
     if (event.key === 'Escape' && !isText) this.state.choose(null);
     // (a space presses the button that has the focus)
     const isButton = tagName === 'BUTTON' || type === 'checkbox' || type === 'radio';
-    if (isText || (event.key === ' ' && isButton)) return;
+    if (isText || (event.key === ' ' && isButton) || this.scrolls(event)) return;
     const act = this.acts()[event.key];
     if (act) {
       event.preventDefault();
       act();
     }
+  }
+
+  // Whether a key scrolls the list that has the focus.
+  scrolls({ key, target }) {
+    const list = target.closest('#events, #neighbours, #parts');
+    return SCROLL_KEYS.includes(key) && list !== null && list.scrollHeight > list.clientHeight;
   }
 
   acts() {

@@ -1,6 +1,7 @@
 'use strict';
-// What is shown: the round, the topic, the peer that is looked at and the neighbour whose score is, and what is drawn. Who
-// draws something is called after each change with the state, and with the names of what changed.
+// What is shown: the round, the topic, one publication on it or all, the peer that is looked at and the neighbour whose
+// score is, and what is drawn. Who draws something is called after each change with the state, and with the names of what
+// changed.
 
 class State {
   constructor(run) {
@@ -8,6 +9,7 @@ class State {
     this.listeners = [];
     this.round = run.first;
     this.topic = 0;
+    this.publication = null;
     this.peer = run.only;
     this.other = null;
     this.gives = true;

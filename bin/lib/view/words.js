@@ -190,6 +190,24 @@ class Words {
     return [...counts].map(([words, count]) => (count > 1 ? `${words}, ${count} times` : words));
   }
 
+  // A score that came to another class since it was noted last, with the parts that are below 0.
+  of_scored([, , who, before, after]) {
+    const { scores } = this.run;
+    const [score] = scores.bodies[after];
+    const was = before < 0 ? '' : `; it was ${scores.bodies[before][0]}`;
+    const costs = this.costs(scores.bodies[after]);
+    return [`noted a score of ${score} for ${this.peer(who)}, ${this.run.classOf(score).words}${was}${costs}`];
+  }
+
+  // The parts of a score that are below 0, the lowest one first.
+  costs(body) {
+    if (body.length === 1) return '';
+    const parts = [...body[9].flatMap(topicParts), ...otherParts(body)].filter((it) => it.weighed < 0);
+    const words = parts.sort((one, other) => one.weighed - other.weighed).map((it) => (
+      `${it.code} ${it.name}${it.topic === undefined ? '' : ` on ${this.topic(it.topic)}`} (${it.counted} counted)`));
+    return words.length ? `; by ${words.join(', ')}` : '';
+  }
+
   clauses_of_members(name, items) {
     const verbs = { grafted: ['joins', 'join', 'mesh'], pruned: ['leaves', 'leave', 'mesh'],
       fanned: ['joins', 'join', 'fanout'], unfanned: ['leaves', 'leave', 'fanout'] };
@@ -259,10 +277,28 @@ class Words {
     if (['heard', 'fault', 'refused'].includes(kind)) return true;
     if (kind === 'late') return !event[5];
     if (kind === 'message') return this.run.sortOf(this.run.fates[event[5]]) === 'refused';
+    if (kind === 'scored') return !this.isRise(event);
     const bad = ['deficit', 'misbehaviour', 'graft_refused', 'not_answered', 'broken', 'pruned'];
     return (event[6] || []).some((it) => bad.includes(this.run.effects[it[0]]));
   }
+
+  isRise([, , , before, after]) {
+    const { bodies } = this.run.scores;
+    return before >= 0 && bodies[after][0] > bodies[before][0];
+  }
+
+  // Whether an event of another peer is told where this one is looked at: it was scored, refused, lost or charged, or joined
+  // or left the other's mesh.
+  isAbout(event, peer) {
+    const kind = this.run.kinds[event[1]];
+    if (kind === 'refused') return false;
+    if (event[2] === peer && (this.isBad(event) || ['scored', 'gone', 'hang_up'].includes(kind))) return true;
+    return (event[6] || []).some((it) => ABOUT.includes(this.run.effects[it[0]]) && it[1] === peer);
+  }
 }
+
+// What an event may say of another peer than the one that it came from.
+const ABOUT = ['grafted', 'pruned', 'deficit', 'misbehaviour', 'broken'];
 
 const SORTS = {
   grafted: 'members', pruned: 'members', fanned: 'members', unfanned: 'members',
