@@ -37,6 +37,12 @@ def take_all(top, names):
     return [it.name for it in crates if it.name in names and not it.is_program and not take(rt, kept, it)]
 
 
+def crates_of(top):
+    """The crates of a repository as rt sees them, the lowest first."""
+    code_of_rt()
+    return importlib.import_module("rtlib").crates_below(top)
+
+
 def newest_source(folder):
     """When the newest source of a crate was changed, in nanoseconds."""
     files = [f"{at}/{it}" for part in ("src", "specs", "proofs") for at, _, names in os.walk(f"{folder}/{part}") for it in names]
@@ -46,9 +52,8 @@ def newest_source(folder):
 def stamp_all(made_in, top, names):
     """Stamps the libraries of these crates that rt ci made in a repository, and that stand in a copy of it without a stamp.
     Returns the names of those that can't be taken."""
-    rtlib = importlib.import_module("rtlib")
     taken, left = set(), []
-    for it in rtlib.crates_below(top):
+    for it in crates_of(top):
         made = f"{made_in}/crates/{it.name}"
         is_above = all(dep.name in taken for dep in it.deps)
         is_there = os.path.isdir(it.rlib) and os.path.isdir(f"{made}/out/rlib")
