@@ -1,0 +1,5 @@
+pub mod Ordered
+pub mod FirstOnes
+pub mod Counted
+pub mod Publishers
+pub mod Filings

@@ -1,0 +1,10 @@
+use Rattle.std.proofs.Common.{◌≡◌, ◌≤◌, take}
+use Rattle.gs_reach.specs.Reached.{reached}
+use Rattle.gs_reach.proofs.pairs.reached.Given as goal
+
+-- those so far are counted
+abbrev pub invariant-loop-pair : goal.invariant-loop-pair
+invariant-loop-pair l = record {
+  counted : l.count ≡ reached (take l.pair-index l.pairs);
+  below : l.count ≤ l.pair-index;
+}

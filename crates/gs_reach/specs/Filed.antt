@@ -1,0 +1,44 @@
+-- Values that are filed under keys.
+use Rattle.std.specs.Prelude.{◌≡◌, ℕ, Bool, ◌&&◌, List, [], Option, Some, None}
+use Rattle.std.specs.Map.{lookup}
+use Rattle.std.specs.declared.vec.Vec.{Vec}
+use Rattle.std.specs.declared.alloc.Global.{Global}
+use Rattle.indexmap.specs.IndexMap.{IndexMap}
+use Rattle.gs_base.specs.declared.names.Topic.{Topic}
+use Rattle.gs_base.specs.Names.{same_topic}
+use Rattle.gs_rules.specs.Rules.{same_bytes}
+use Rattle.gs_reach.specs.declared.keys.Payload.{Payload}
+use Rattle.gs_reach.specs.declared.keys.TopicPayload.{TopicPayload}
+use Rattle.gs_reach.specs.declared.listed.Appearance.{Appearance}
+use Rattle.gs_reach.specs.declared.listed.Arrival.{Arrival}
+use Rattle.gs_reach.specs.declared.listed.Change.{Change}
+use Rattle.gs_reach.specs.declared.listed.Turn.{Turn}
+use Rattle.gs_reach.specs.Messages.{appearances, arrivals, turns}
+
+-- those that are found under a key, and none where nothing is
+abbrev pub found : {K V S : Type 0} → (K → K → Bool) → IndexMap K (Vec V Global) S → K → List V
+found same filed key = elim (lookup (same key) filed.entries) [ None ↦ [] | Some values ↦ values.items ]
+
+-- ---- what is filed
+
+-- what a publication says, wherever and whenever it does
+abbrev pub said_of : Appearance → TopicPayload
+said_of m = record { topic = m.topic; payload = m.payload }
+
+abbrev pub same_said : TopicPayload → TopicPayload → Bool
+same_said x y = same_topic x.topic y.topic && same_bytes x.payload y.payload
+
+abbrev pub same_payload : Payload → Payload → Bool
+same_payload x y = same_bytes x.0 y.0
+
+-- whatever payload on whatever topic one looks for, its publications are found
+abbrev pub FilesPublished : {S : Type 0} → IndexMap TopicPayload (Vec Arrival Global) S → List Appearance → Type 0
+FilesPublished filed all = (m : Appearance) → found same_said filed (said_of m) ≡ appearances m all
+
+-- whatever payload one looks for, its deliveries are found
+abbrev pub FilesDelivered : {S : Type 0} → IndexMap Payload (Vec Arrival Global) S → List Appearance → Type 0
+FilesDelivered filed all = (payload : List ℕ) → found same_payload filed (record { 0 = payload }) ≡ arrivals payload all
+
+-- whatever topic one looks for, who turned to it or away from it is found
+abbrev pub FilesTurns : {S : Type 0} → IndexMap Topic (Vec Turn Global) S → List Change → Type 0
+FilesTurns filed all = (t : Topic) → found same_topic filed t ≡ turns t all

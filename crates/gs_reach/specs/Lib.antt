@@ -1,0 +1,7 @@
+pub mod Order
+pub mod Filed
+pub mod Tables
+pub mod Listed
+pub mod Messages
+pub mod Reached
+pub mod Chosen

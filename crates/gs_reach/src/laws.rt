@@ -1,0 +1,48 @@
+//! What the definitions of reach say in other words.
+ghost use Rattle.std.specs.Prelude.{◌≡◌, ◌≤◌, ◌<◌, ◌+◌, ◌-◌, ℕ, All, IfSome, IsNone, List, Some, None, length, filter, false, not};
+ghost use Rattle.std.specs.List.{AllByRecursion};
+ghost use Rattle.gs_base.specs.Names.{same_peer};
+ghost use Rattle.gs_plan.specs.declared.plan.Plan.{Plan as PlanValue};
+ghost use Rattle.gs_report.specs.declared.report.Report.{Report as ReportValue};
+ghost use Rattle.gs_reach.specs.Chosen.{is_by};
+ghost use Rattle.gs_reach.specs.Messages.{messages};
+ghost use Rattle.gs_reach.specs.Reached.{fewest, missed, reached, reached_within};
+ghost use Rattle.gs_reach.specs.declared.chosen.Chosen.{Chosen as ChosenValue};
+ghost use Rattle.gs_reach.specs.declared.messages.MessageReach.{MessageReach as MessageReachValue};
+ghost use Rattle.gs_reach.specs.declared.pairs.Pair.{Pair as PairValue};
+
+/// Those that were reached and those that were not are all subscribers.
+pub fn reached_and_missed_are_all()
+    ensures { (pairs : List PairValue) → reached pairs + missed pairs ≡ length pairs }
+{}
+
+/// In more rounds no fewer are reached.
+pub fn more_rounds_reach_no_less()
+    ensures { (pairs : List PairValue) (few many : ℕ)
+        → few ≤ many → reached_within few pairs ≤ reached_within many pairs }
+{}
+
+/// Where a rank has a number of rounds, so many are reached within it, and fewer within one round less. Where it has none,
+/// fewer are reached at all.
+pub fn a_percentile_has_its_rank()
+    ensures within { (rank n : ℕ) (pairs : List PairValue)
+        → 1 ≤ rank → fewest rank pairs ≡ Some n → rank ≤ reached_within n pairs }
+    ensures not_before { (rank n : ℕ) (pairs : List PairValue)
+        → 1 ≤ rank → 1 ≤ n → fewest rank pairs ≡ Some n → reached_within (n - 1) pairs < rank }
+    ensures none { (rank : ℕ) (pairs : List PairValue)
+        → 1 ≤ rank → fewest rank pairs ≡ None → reached pairs < rank }
+{}
+
+/// No publisher is a subscriber of its message.
+pub fn publishers_are_no_subscribers()
+    ensures { (plan : PlanValue) (report : ReportValue)
+        → AllByRecursion (λ (m : MessageReachValue).
+        AllByRecursion (λ (x : PairValue). same_peer x.subscriber m.publication.peer ≡ false) m.pairs)
+        (messages plan report) }
+{}
+
+/// Each message is by one of a group or by another.
+pub fn all_messages_are_by_a_group_or_by_others()
+    ensures { (group : ChosenValue) (list : List MessageReachValue)
+        → length (filter (is_by group) list) + length (filter (λ m. not (is_by group m)) list) ≡ length list }
+{}

@@ -1,0 +1,5 @@
+mod chosen;
+mod distributions;
+mod made;
+mod messages;
+mod spreads;
