@@ -1,5 +1,5 @@
 -- Which peers count, by their names.
-use Rattle.std.specs.Prelude.{ℕ, Bool, true, false, ◌&&◌, ◌==◌, if◌then◌else◌, List, [], ◌∷◌, filter, Option, None, Some}
+use Rattle.std.specs.Prelude.{ℕ, Bool, false, ◌&&◌, ◌||◌, ◌==◌, List, [], ◌∷◌, filter, length, Option, None, Some}
 use Rattle.std.specs.List.{list_any, slice_split}
 use Rattle.gs_base.specs.declared.names.PeerNo.{PeerNo}
 use Rattle.gs_plan.specs.declared.plan.Plan.{Plan}
@@ -16,13 +16,16 @@ abbrev pub spelled : Choice → Option (List ℕ)
 spelled Any = None
 spelled (Named words) = Some words.now
 
+-- a word that is only a `*`
+abbrev pub is_star : List ℕ → Bool
+is_star [] = false
+is_star (first ∷ rest) = first == 42 && length rest == 0
+
 -- a word is a name, or has a `*` at its end that stands for the rest of the name
 abbrev pub fits : List ℕ → List ℕ → Bool
-fits [] [] = true
-fits [] (byte ∷ more) = false
-fits (42 ∷ []) name = true
-fits (first ∷ rest) [] = false
-fits (first ∷ rest) (byte ∷ more) = first == byte && fits rest more
+fits [] name = length name == 0
+fits (first ∷ rest) [] = is_star (first ∷ rest)
+fits (first ∷ rest) (byte ∷ more) = is_star (first ∷ rest) || (first == byte && fits rest more)
 
 -- one of several words, which have commas between them, fits a name
 abbrev pub is_named : List ℕ → List ℕ → Bool

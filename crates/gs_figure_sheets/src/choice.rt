@@ -2,7 +2,7 @@
 ghost use Rattle.std.specs.Prelude.{◌≡◌, ◌++◌, filter, IfOk};
 ghost use Rattle.gs_reach.specs.Messages.{numbers_of};
 ghost use Rattle.gs_report.specs.Text.{name_of};
-ghost use Rattle.gs_figure_sheets.specs.Choices.{chosen_by, fits, is_named, spelled};
+ghost use Rattle.gs_figure_sheets.specs.Choices.{chosen_by, fits, is_named, is_star, spelled};
 
 use gs_base::{PeerNo, Seq};
 use gs_plan::Plan;
@@ -73,10 +73,19 @@ fn fits(word: &[u8], name: &[u8]) -> bool
 {
     match word {
         [] => name.is_empty(),
-        [b'*'] => true,
         [first, rest @ ..] => match name {
-            [] => false,
-            [byte, more @ ..] => first == byte && fits(rest, more),
+            [] => is_star(word),
+            [byte, more @ ..] => is_star(word) || (first == byte && fits(rest, more)),
         },
+    }
+}
+
+/// Whether a word is only a `*`.
+fn is_star(word: &[u8]) -> bool
+    ensures { result ≡ is_star word.now }
+{
+    match word {
+        [] => false,
+        [first, rest @ ..] => *first == b'*' && rest.is_empty(),
     }
 }

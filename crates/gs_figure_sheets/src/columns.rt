@@ -137,7 +137,12 @@ pub(crate) fn limit_columns(alloc: Global) -> Result<Seq<SheetColumn>, AllocErro
 fn limit_list(alloc: Global) -> Result<Vec<Column>, AllocError>
     ensures { IfOk result (λ columns. columns.items ≡ limit_columns) }
 {
-    let list = vec![in alloc; Column::Outcome, Column::Within, Column::Pairs, Column::Share]?;
+    let list = vec![in alloc;
+        Column::Outcome,
+        Column::Within,
+        Column::Pairs,
+        Column::Share,
+    ]?;
     Ok(list)
 }
 

@@ -9,7 +9,8 @@ use crate::rows::{limit_rows, message_row, spread_row};
 use gs_base::Seq;
 use gs_plan::Plan;
 use gs_reach::{
-    Chosen, Distribution, MessageReach, accepted_pairs, chosen_messages, distribution_of, messages_of,
+    Chosen, Distribution, MessageReach, accepted_pairs, chosen_messages, distribution_of,
+    messages_of,
 };
 use gs_report::Report;
 use gs_sheets::{Row, Sheet, bytes_of};
@@ -56,11 +57,7 @@ fn sheets_among(
 }
 
 #[tactic(auto, unfolding(crate::specs::Reach::message_sheet))]
-fn message_sheet(
-    alloc: Global,
-    plan: &Plan,
-    messages: &[MessageReach],
-) -> Result<Sheet, AllocError>
+fn message_sheet(alloc: Global, plan: &Plan, messages: &[MessageReach]) -> Result<Sheet, AllocError>
     ensures { IfOk result (λ sheet. sheet ≡ message_sheet plan.now messages.now) }
 {
     let name = bytes_of(alloc, b"messages")?;
@@ -115,7 +112,10 @@ fn spread_sheet(alloc: Global, distribution: &Distribution) -> Result<Sheet, All
     ensures { IfOk result (λ sheet. sheet ≡ spread_sheet distribution.now) }
 {
     let name = bytes_of(alloc, b"parts")?;
-    let title = bytes_of(alloc, b"In how many rounds parts of all these pairs were reached")?;
+    let title = bytes_of(
+        alloc,
+        b"In how many rounds parts of all these pairs were reached",
+    )?;
     let columns = spread_columns(alloc)?;
     let rows = Seq::only(alloc, spread_row(alloc, distribution)?)?;
     Ok(Sheet {

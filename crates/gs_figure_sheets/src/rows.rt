@@ -115,10 +115,7 @@ fn push_rounds(row: &mut Row, spread: &Spread) -> Result<(), AllocError>
 /// # Errors
 /// `AllocError` where there was no memory for them.
 #[tactic(auto, unfolding(crate::specs::Reach::limit_rows))]
-pub(crate) fn limit_rows(
-    alloc: Global,
-    distribution: &Distribution,
-) -> Result<Seq<Row>, AllocError>
+pub(crate) fn limit_rows(alloc: Global, distribution: &Distribution) -> Result<Seq<Row>, AllocError>
     ensures { IfOk result (λ rows. rows ≡ limit_rows distribution.now) }
 {
     let all = distribution.pairs;
@@ -146,7 +143,13 @@ fn push_limits(
 fn within_row(alloc: Global, all: u64, within: Within) -> Result<Row, AllocError>
     ensures { IfOk result (λ row. row ≡ within_row all within) }
 {
-    outcome_row(alloc, "reached", Value::Count(within.limit), within.reached, all)
+    outcome_row(
+        alloc,
+        "reached",
+        Value::Count(within.limit),
+        within.reached,
+        all,
+    )
 }
 
 fn outcome_row(
