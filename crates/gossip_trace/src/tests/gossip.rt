@@ -269,7 +269,47 @@ const OF_OFFERS: &str = "\
 \"promise\":null,\"marks\":[],\"fell_away\":[]}
 ";
 
-static CASES: [Case; 6] = [
+/// `b` is just at `gossip_threshold`, and `c` just at `graylist_threshold`. So the one is answered, and the other is
+/// heard.
+const AT_THRESHOLDS: &str = "\
+round_ms = 100
+rounds = 1
+workers = 1
+capacity = 1
+seed = 1
+peer = [{ name = 'a' }, { name = 'b' }, { name = 'c' }]
+dial = [{ from = 'a', to = 'b' }, { from = 'a', to = 'c' }]
+topic = [{ name = 'news' }]
+app = [
+  { peer = 'a', about = 'b', value = -10000000 },
+  { peer = 'a', about = 'c', value = -80000000 },
+]
+do = [
+  { what = 'subscribe', at = 0, peer = 'a', topic = 'news' },
+  { what = 'publish', at = 0, peer = 'a', topic = 'news', hex = '616263' },
+  { what = 'raw', at = 0, peer = 'b', to = 'a', \
+hex = '261a2412220a20ba7816bf8f01cfea414140de5dae2223b00361a396177a9cb410ff61f20015ad' },
+  { what = 'raw', at = 0, peer = 'c', to = 'a', hex = '0a1a081a060a046e657773' },
+]
+";
+
+const OF_SCORES_AT_THRESHOLDS: &str = "\
+{\"peers\":[\"a\",\"b\",\"c\"],\"round_ms\":100,\"last_round\":1,\"dials\":[{\"from\":\"a\",\"to\":\"b\"},\
+{\"from\":\"a\",\"to\":\"c\"}]}
+{\"round\":1,\"at\":100,\"peer\":\"a\",\"event\":\"iwant\",\"from\":\"b\",\
+\"part\":{\"messageIDs\":[\"ba7816bf8f01cfea414140de5dae2223b00361a396177a9cb410ff61f20015ad\"]},\
+\"sent\":[{\"to\":\"b\",\"rpc\":{\"subscriptions\":[],\"publish\":[{\"from\":null,\"data\":\"616263\",\"seqno\":null,\
+\"topic\":\"news\",\"signature\":null,\"key\":null}],\"control\":null}}],\"delivered\":[],\"promise\":null,\
+\"marks\":[{\"mark\":\"answered\",\"peer\":\"b\",\"id\":\
+\"ba7816bf8f01cfea414140de5dae2223b00361a396177a9cb410ff61f20015ad\"}],\"fell_away\":[]}
+{\"round\":1,\"at\":100,\"peer\":\"a\",\"event\":\"graft\",\"from\":\"c\",\"part\":{\"topicID\":\"news\"},\
+\"sent\":[{\"to\":\"c\",\"rpc\":{\"subscriptions\":[],\"publish\":[],\"control\":{\"ihave\":[],\"iwant\":[],\
+\"graft\":[],\"prune\":[{\"topicID\":\"news\",\"backoff\":60}]}}}],\"delivered\":[],\"promise\":null,\
+\"marks\":[{\"mark\":\"backoff\",\"peer\":\"c\",\"topic\":\"news\",\"until\":60100}],\
+\"fell_away\":[{\"what\":\"graft\",\"from\":\"c\",\"topic\":\"news\",\"why\":\"score\"}]}
+";
+
+static CASES: [Case; 7] = [
     Case {
         scenario: PROMISING,
         options: &["--peer", "a", "--events", "ihave,heartbeat"],
@@ -299,6 +339,11 @@ static CASES: [Case; 6] = [
         scenario: OFFERING,
         options: &["--peer", "a", "--events", "ihave"],
         lines: OF_OFFERS,
+    },
+    Case {
+        scenario: AT_THRESHOLDS,
+        options: &["--peer", "a", "--rounds", "1..1", "--events", "iwant,graft"],
+        lines: OF_SCORES_AT_THRESHOLDS,
     },
 ];
 

@@ -206,7 +206,47 @@ const OF_A_BETTER_MESH: &str = "\
 \"topic\":\"news\",\"until\":60400}],\"fell_away\":[]}
 ";
 
-static CASES: [Case; 5] = [
+/// `b` and `c` send a PRUNE of one second (`0c`; `1a 0a`; `22 08`; `0a 04 news`, `18 01`). The GRAFT of `c` is heard
+/// after 900 milliseconds, and that of `b` after 1,000.
+const RETURNING: &str = "\
+round_ms = 100
+rounds = 11
+workers = 1
+capacity = 1
+seed = 1
+peer = [{ name = 'a' }, { name = 'b' }, { name = 'c' }]
+dial = [{ from = 'a', to = 'b' }, { from = 'a', to = 'c' }]
+topic = [{ name = 'news' }]
+do = [
+  { what = 'subscribe', at = 0, peer = 'a', topic = 'news' },
+  { what = 'raw', at = 0, peer = 'b', to = 'a', hex = '0c1a0a22080a046e6577731801' },
+  { what = 'raw', at = 0, peer = 'c', to = 'a', hex = '0c1a0a22080a046e6577731801' },
+  { what = 'raw', at = 9, peer = 'c', to = 'a', hex = '0a1a081a060a046e657773' },
+  { what = 'raw', at = 10, peer = 'b', to = 'a', hex = '0a1a081a060a046e657773' },
+]
+";
+
+/// At the very end of its backoff `b` may come.
+const AT_THE_END_OF_A_BACKOFF: &str = "\
+{\"peers\":[\"a\",\"b\",\"c\"],\"round_ms\":100,\"last_round\":11,\"dials\":[{\"from\":\"a\",\"to\":\"b\"},\
+{\"from\":\"a\",\"to\":\"c\"}]}
+{\"round\":1,\"at\":100,\"peer\":\"a\",\"event\":\"prune\",\"from\":\"b\",\"part\":{\"topicID\":\"news\",\
+\"backoff\":1},\"sent\":[],\"delivered\":[],\"promise\":null,\"marks\":[{\"mark\":\"backoff\",\"peer\":\"b\",\
+\"topic\":\"news\",\"until\":1100}],\"fell_away\":[]}
+{\"round\":1,\"at\":100,\"peer\":\"a\",\"event\":\"prune\",\"from\":\"c\",\"part\":{\"topicID\":\"news\",\
+\"backoff\":1},\"sent\":[],\"delivered\":[],\"promise\":null,\"marks\":[{\"mark\":\"backoff\",\"peer\":\"c\",\
+\"topic\":\"news\",\"until\":1100}],\"fell_away\":[]}
+{\"round\":10,\"at\":1000,\"peer\":\"a\",\"event\":\"graft\",\"from\":\"c\",\"part\":{\"topicID\":\"news\"},\
+\"sent\":[{\"to\":\"c\",\"rpc\":{\"subscriptions\":[],\"publish\":[],\"control\":{\"ihave\":[],\"iwant\":[],\
+\"graft\":[],\"prune\":[{\"topicID\":\"news\",\"backoff\":60}]}}}],\"delivered\":[],\"promise\":null,\
+\"marks\":[{\"mark\":\"misbehaviour\",\"peer\":\"c\"},{\"mark\":\"backoff\",\"peer\":\"c\",\"topic\":\"news\",\
+\"until\":61000}],\"fell_away\":[{\"what\":\"graft\",\"from\":\"c\",\"topic\":\"news\",\"why\":\"backoff\"}]}
+{\"round\":11,\"at\":1100,\"peer\":\"a\",\"event\":\"graft\",\"from\":\"b\",\"part\":{\"topicID\":\"news\"},\
+\"sent\":[],\"delivered\":[],\"promise\":null,\"marks\":[{\"mark\":\"grafted\",\"peer\":\"b\",\"topic\":\"news\"}],\
+\"fell_away\":[]}
+";
+
+static CASES: [Case; 6] = [
     Case {
         scenario: COMING_TOO_SOON,
         options: &["--rounds", "4..6", "--events", "subscription,prune,graft"],
@@ -238,6 +278,11 @@ static CASES: [Case; 5] = [
         scenario: BETTERING,
         options: &["--peer", "a", "--events", "mesh,graft"],
         lines: OF_A_BETTER_MESH,
+    },
+    Case {
+        scenario: RETURNING,
+        options: &["--peer", "a", "--events", "prune,graft"],
+        lines: AT_THE_END_OF_A_BACKOFF,
     },
 ];
 

@@ -197,7 +197,55 @@ const OF_PARTS: &str = "\
 \"promise\":null,\"marks\":[],\"fell_away\":[]}
 ";
 
-static CASES: [Case; 5] = [
+/// `b` puts `hi` on the link three times (`0c`; `12 0a`; `12 02 hi`, `22 04 news`). A message is seen for 200
+/// milliseconds.
+const FORGETTING: &str = "\
+round_ms = 100
+rounds = 3
+workers = 1
+capacity = 1
+seed = 1
+peer = [{ name = 'a' }, { name = 'b' }]
+dial = [{ from = 'a', to = 'b' }]
+topic = [{ name = 'news' }]
+do = [
+  { what = 'subscribe', at = 0, peer = 'a', topic = 'news' },
+  { what = 'raw', at = 0, peer = 'b', to = 'a', hex = '0c120a1202686922046e657773' },
+  { what = 'raw', at = 1, peer = 'b', to = 'a', hex = '0c120a1202686922046e657773' },
+  { what = 'raw', at = 2, peer = 'b', to = 'a', hex = '0c120a1202686922046e657773' },
+]
+[params]
+seen_ttl_ms = 200
+";
+
+/// At 200 it was seen 100 milliseconds ago. At 300 it was seen 200 milliseconds ago, and is new again.
+const OF_A_MESSAGE_THAT_IS_FORGOTTEN: &str = "\
+{\"peers\":[\"a\",\"b\"],\"round_ms\":100,\"last_round\":3,\"dials\":[{\"from\":\"a\",\"to\":\"b\"}]}
+{\"round\":1,\"at\":100,\"peer\":\"a\",\"event\":\"message\",\"from\":\"b\",\"part\":{\"from\":null,\"data\":\"6869\",\
+\"seqno\":null,\"topic\":\"news\",\"signature\":null,\"key\":null},\
+\"id\":\"8f434346648f6b96df89dda901c5176b10a6d83961dd3c1ac88b59b2dc327aa4\",\"sent\":[],\
+\"delivered\":[{\"topic\":\"news\",\"data\":\"6869\",\"id\":\
+\"8f434346648f6b96df89dda901c5176b10a6d83961dd3c1ac88b59b2dc327aa4\"}],\"promise\":null,\"marks\":[{\"mark\":\"seen\",\
+\"id\":\"8f434346648f6b96df89dda901c5176b10a6d83961dd3c1ac88b59b2dc327aa4\",\"verdict\":\"accept\"},\
+{\"mark\":\"first\",\"peer\":\"b\",\"topic\":\"news\",\"id\":\
+\"8f434346648f6b96df89dda901c5176b10a6d83961dd3c1ac88b59b2dc327aa4\"},{\"mark\":\"cached\",\
+\"id\":\"8f434346648f6b96df89dda901c5176b10a6d83961dd3c1ac88b59b2dc327aa4\",\"topic\":\"news\"}],\"fell_away\":[]}
+{\"round\":2,\"at\":200,\"peer\":\"a\",\"event\":\"message\",\"from\":\"b\",\"part\":{\"from\":null,\"data\":\"6869\",\
+\"seqno\":null,\"topic\":\"news\",\"signature\":null,\"key\":null},\
+\"id\":\"8f434346648f6b96df89dda901c5176b10a6d83961dd3c1ac88b59b2dc327aa4\",\"sent\":[],\"delivered\":[],\
+\"promise\":null,\"marks\":[],\"fell_away\":[]}
+{\"round\":3,\"at\":300,\"peer\":\"a\",\"event\":\"message\",\"from\":\"b\",\"part\":{\"from\":null,\"data\":\"6869\",\
+\"seqno\":null,\"topic\":\"news\",\"signature\":null,\"key\":null},\
+\"id\":\"8f434346648f6b96df89dda901c5176b10a6d83961dd3c1ac88b59b2dc327aa4\",\"sent\":[],\
+\"delivered\":[{\"topic\":\"news\",\"data\":\"6869\",\"id\":\
+\"8f434346648f6b96df89dda901c5176b10a6d83961dd3c1ac88b59b2dc327aa4\"}],\"promise\":null,\"marks\":[{\"mark\":\"seen\",\
+\"id\":\"8f434346648f6b96df89dda901c5176b10a6d83961dd3c1ac88b59b2dc327aa4\",\"verdict\":\"accept\"},\
+{\"mark\":\"first\",\"peer\":\"b\",\"topic\":\"news\",\"id\":\
+\"8f434346648f6b96df89dda901c5176b10a6d83961dd3c1ac88b59b2dc327aa4\"},{\"mark\":\"cached\",\
+\"id\":\"8f434346648f6b96df89dda901c5176b10a6d83961dd3c1ac88b59b2dc327aa4\",\"topic\":\"news\"}],\"fell_away\":[]}
+";
+
+static CASES: [Case; 6] = [
     Case {
         scenario: REJECTING,
         options: &[
@@ -243,6 +291,11 @@ static CASES: [Case; 5] = [
             "subscription,message",
         ],
         lines: OF_PARTS,
+    },
+    Case {
+        scenario: FORGETTING,
+        options: &["--peer", "a", "--events", "message"],
+        lines: OF_A_MESSAGE_THAT_IS_FORGOTTEN,
     },
 ];
 
