@@ -1,5 +1,4 @@
-//! What scores over time promise, beyond what each snapshot is. The law holds of its definitions only, and its function does
-//! nothing.
+//! What each snapshot of a score promises. The law holds of its definitions only, and its function does nothing.
 ghost use Rattle.std.specs.Prelude.{◌≡◌, map};
 ghost use Rattle.gs_base.specs.declared.names.PeerNo.{PeerNo as PeerNoValue};
 ghost use Rattle.gs_score.specs.Accounts.{total};
