@@ -22,17 +22,27 @@ TYPES = {
 }
 # What go-libp2p-pubsub says of a message that is not passed on.
 REASONS = {"reject": "validation failed", "ignore": "validation ignored"}
-UNSIGNED = "unexpected signature"
+SIGNED, OF_AN_AUTHOR = "unexpected signature", "unexpected auth info"
 PROTOCOL = "/meshsub/1.1.0"
 NOTHING = {"subscriptions": [], "publish": [], "control": None}
 
 
-class BadLine(Exception):
-    """Says why a line is no line of a trace."""
+class BadTrace(Exception):
+    """Says why a line is no line of a trace, or what the trace lacks."""
+
+
+def bytes_of(text):
+    """The bytes that a text of a trace stands for, one for each character."""
+    return text.encode("latin-1")
 
 
 def of_name(name):
-    return base64.b64encode(str(name).encode()).decode()
+    return base64.b64encode(bytes_of(str(name))).decode()
+
+
+def of_topic(topic):
+    """A topic as a string of protobuf, which is UTF-8: a byte that is none stands as U+FFFD."""
+    return bytes_of(topic).decode("utf-8", "replace")
 
 
 def of_hex(digits):
@@ -50,7 +60,7 @@ def message_ids(publish):
 
 
 def topic_of(topic):
-    return {} if topic is None else {"topic": topic}
+    return {} if topic is None else {"topic": of_topic(topic)}
 
 
 def control_of(control):
@@ -69,7 +79,7 @@ def meta_of(rpc):
     found = {
         "messages": message_ids(rpc["publish"]),
         "subscription": [
-            {name: value for name, value in (("subscribe", it["subscribe"]), ("topic", it["topicid"])) if value is not None}
+            {**({} if it["subscribe"] is None else {"subscribe": it["subscribe"]}), **topic_of(it["topicid"])}
             for it in rpc["subscriptions"]
         ],
         "control": control_of(rpc["control"]) if rpc["control"] else {},
@@ -95,6 +105,8 @@ class Peer:
         self.name = name
         self.topics = set()
         self.gathered = {}
+        self.rounds = 0
+        self.is_down = False
 
     def event(self, at, kind, **fields):
         return {
@@ -129,15 +141,17 @@ class Peer:
         elif word in ("subscribe", "unsubscribe"):
             yield self.membership(line)
         elif word == "publish":
-            yield self.event(at, "publishMessage", messageID=of_hex(line["id"]), topic=line["topic"])
+            yield self.event(at, "publishMessage", messageID=of_hex(line["id"]), topic=of_topic(line["topic"]))
         yield from self.done(line)
         if word in ("round_end", "shut"):
             yield from self.send(at)
+            self.rounds += word == "round_end"
+            self.is_down = self.is_down or word == "shut"
 
     def membership(self, line):
         joins = line["event"] == "subscribe"
         (self.topics.add if joins else self.topics.discard)(line["topic"])
-        return self.event(line["at"], "join" if joins else "leave", topic=line["topic"])
+        return self.event(line["at"], "join" if joins else "leave", topic=of_topic(line["topic"]))
 
     def judged(self, line):
         """What becomes of a message that is not delivered: it is rejected, or was seen lately, whatever became of it then.
@@ -146,33 +160,34 @@ class Peer:
         kind = "rejectMessage" if reason else "duplicateMessage"
         marks = {it["mark"] for it in line["marks"]}
         if reason or (topic in self.topics and "seen" not in marks):
-            fields = {"messageID": of_hex(line["id"]), "receivedFrom": of_name(line["from"]), "reason": reason, "topic": topic}
-            yield self.event(line["at"], kind, **fields)
+            fields = {"messageID": of_hex(line["id"]), "receivedFrom": of_name(line["from"]), "reason": reason}
+            yield self.event(line["at"], kind, **fields, topic=of_topic(topic))
 
     def reason(self, line):
         """Why a message is rejected; None where it is not."""
         marks = {it["mark"]: it for it in line["marks"]}
         verdict = marks.get("seen", {}).get("verdict")
-        if "invalid" in marks and is_signed(line["part"]):
-            return UNSIGNED
-        return REASONS.get(verdict)
+        forbidden = what_is_forbidden(line["part"])
+        return forbidden if "invalid" in marks and forbidden else REASONS.get(verdict)
 
     def done(self, line):
         """What the peer did about an event: deliveries, members that came and went, and what is to be sent."""
         source = line["from"] if line["event"] == "message" else self.name
         for it in line.get("delivered", ()):
-            yield self.event(
-                line["at"], "deliverMessage", messageID=of_hex(it["id"]), topic=it["topic"], receivedFrom=of_name(source)
-            )
+            fields = {"messageID": of_hex(it["id"]), "topic": of_topic(it["topic"]), "receivedFrom": of_name(source)}
+            yield self.event(line["at"], "deliverMessage", **fields)
         for it in line.get("marks", ()):
             kind = {"grafted": "graft", "pruned": "prune"}.get(it["mark"])
             if kind:
-                yield self.event(line["at"], kind, peerID=of_name(it["peer"]), topic=it["topic"])
+                yield self.event(line["at"], kind, peerID=of_name(it["peer"]), topic=of_topic(it["topic"]))
         self.gather(line.get("sent", ()))
 
 
-def is_signed(message):
-    return any(message[it] is not None for it in ("from", "seqno", "signature", "key"))
+def what_is_forbidden(message):
+    """What a message carries that StrictNoSign forbids, as go-libp2p-pubsub says it; None where it has nothing of it."""
+    if message["signature"] is not None:
+        return SIGNED
+    return OF_AN_AUTHOR if any(message[it] is not None for it in ("from", "seqno", "key")) else None
 
 
 def begun(head, peers):
@@ -182,19 +197,32 @@ def begun(head, peers):
             yield peers[one].event(0, "addPeer", peerID=of_name(other), proto=PROTOCOL)
 
 
+def lack_of(peers, rounds):
+    """What the lines of a run leave out, where each peer ends these rounds and shuts down; None where nothing."""
+    for it in peers.values():
+        if it.rounds != rounds:
+            return f"{it.name} ends {it.rounds} rounds of {rounds}"
+        if not it.is_down:
+            return f"{it.name} does not shut down"
+    return None
+
+
 def events(lines):
     """The events of the lines of a trace, in their order."""
-    peers = None
+    peers, rounds = None, 0
     for number, line in enumerate(lines, 1):
         try:
             told = json.loads(line)
             if peers is None:
-                peers = {name: Peer(name) for name in told["peers"]}
+                peers, rounds = {name: Peer(name) for name in told["peers"]}, told["last_round"] + 1
                 yield from begun(told, peers)
             elif told["event"] != "refused":
                 yield from peers[told["peer"]].told(told)
         except (ValueError, KeyError, TypeError, AttributeError) as why:
-            raise BadLine(f"line {number} is no line of a trace: {type(why).__name__} {why}") from why
+            raise BadTrace(f"line {number} is no line of a trace: {type(why).__name__} {why}") from why
+    lack = "it has no line" if peers is None else lack_of(peers, rounds)
+    if lack:
+        raise BadTrace(f"this is not a whole trace, and gives too few events: {lack}")
 
 
 def stop(status, why):
@@ -223,7 +251,7 @@ def main(words, usage):
         for it in events(opened(words[0] if words else "-")):
             print(json.dumps(it, separators=(",", ":")))
         sys.stdout.flush()
-    except BadLine as why:
+    except BadTrace as why:
         sys.stdout.flush()
         stop(1, why)
     except BrokenPipeError:

@@ -2,6 +2,27 @@
 import collections
 import json
 
+# The columns of gossip_stats that a peer's lines give.
+COLUMNS = (
+    "rpcs_heard messages_heard ihave_heard iwant_heard graft_heard prune_heard "
+    "messages_sent ihave_sent iwant_sent graft_sent prune_sent broken_promises refused_lines"
+).split()
+PARTS = "subscription", "message", "ihave", "iwant", "graft", "prune"
+
+
+def parts_in(rpc):
+    """How many parts an RPC has."""
+    return sum(len(it) for it in (rpc["subscriptions"], rpc["publish"], *(rpc["control"] or {}).values()))
+
+
+def is_signed(message):
+    """Whether a message carries what StrictNoSign forbids."""
+    return any(message[key] is not None for key in ("from", "seqno", "signature", "key"))
+
+
+def is_invalid(line):
+    return any(mark["mark"] == "invalid" for mark in line["marks"])
+
 
 class Trace:
     """The names of the peers, and the lines of their entries."""
@@ -53,8 +74,8 @@ class Trace:
         return [*self.deliveries(), *self.refusals(), *self.faults(), *self.meshes()]
 
     def counts(self, name):
-        """What gossip_stats counts of a peer, by its columns."""
-        found = collections.Counter()
+        """What gossip_stats counts of a peer, by its columns. Each is there, so that one that is 0 is compared, too."""
+        found = dict.fromkeys(COLUMNS, 0)
         for line in self.of(name):
             word = line["event"]
             if word in ("heard", "late"):
@@ -65,6 +86,7 @@ class Trace:
                 found[f"{word}_heard"] += 1
             elif word == "refused":
                 found["refused_lines"] += 1
+            found["broken_promises"] += sum(it["what"] == "promise" for it in line.get("fell_away", ()))
             for it in line.get("sent", ()):
                 found["messages_sent"] += len(it["rpc"]["publish"])
                 for kind, items in (it["rpc"]["control"] or {}).items():
@@ -72,7 +94,7 @@ class Trace:
         return found
 
     def libp2p_counts(self):
-        """How many events of a kind there are in the trace of go-libp2p's tracer."""
+        """How many events of a kind go-libp2p's tracer has, but for SEND_RPC and DUPLICATE_MESSAGE."""
         words = collections.Counter(it["event"] for it in self.lines)
         marks = collections.Counter(mark["mark"] for it in self.lines for mark in it.get("marks", ()))
         return {
@@ -88,37 +110,56 @@ class Trace:
             "REMOVE_PEER": words["gone"] + words["fault"] + words["hang_up"],
         }
 
+    def off_topics(self):
+        """How many messages came on a topic that their peer is not subscribed to, and have no mark: it passes them over."""
+        count = 0
+        for name in self.names:
+            topics = set()
+            for it in self.of(name):
+                if it["event"] == "subscribe":
+                    topics.add(it["topic"])
+                elif it["event"] == "unsubscribe":
+                    topics.discard(it["topic"])
+                elif it["event"] == "message":
+                    count += (it["part"]["topic"] or "") not in topics and not it["marks"]
+        return count
+
     def rejected(self):
         """How many messages were found to be rejected or ignored, or were signed."""
         count = 0
-        for it in self.lines:
-            if it["event"] == "message":
-                verdicts = [mark["verdict"] for mark in it["marks"] if mark["mark"] == "seen"]
-                is_signed = any(it["part"][key] is not None for key in ("from", "seqno", "signature", "key"))
-                is_invalid = any(mark["mark"] == "invalid" for mark in it["marks"])
-                count += verdicts in (["reject"], ["ignore"]) or (is_signed and is_invalid)
+        for it in self.messages():
+            verdicts = [mark["verdict"] for mark in it["marks"] if mark["mark"] == "seen"]
+            count += verdicts in (["reject"], ["ignore"]) or (is_signed(it["part"]) and is_invalid(it))
         return count
+
+    def rejected_again(self):
+        """How many messages came again that were rejected: they count as invalid once more, and were seen before."""
+        unsigned = [it for it in self.messages() if not is_signed(it["part"])]
+        return sum(is_invalid(it) and all(mark["mark"] != "seen" for mark in it["marks"]) for it in unsigned)
+
+    def messages(self):
+        return [it for it in self.lines if it["event"] == "message"]
 
     def strange_falls(self):
         """What is wrong with what came to nothing, by the lines themselves."""
         for name in self.names:
-            bars = {}
-            for line in self.of(name):
-                if line["event"] != "refused":
-                    right = self.right_falls(line, bars)
-                    if line["fell_away"] != right:
-                        yield f"{name} at {line['at']}, {line['event']}: {line['fell_away']} fell away, and {right} by the line"
-                    for it in (mark for mark in line["marks"] if mark["mark"] == "backoff"):
-                        place = it["peer"], it["topic"]
-                        bars[place] = max(bars.get(place, 0), it["until"])
+            bars, lines = {}, [it for it in self.of(name) if it["event"] != "refused"]
+            for line, after in zip(lines, [*lines[1:], None]):
+                right = self.right_falls(line, after, bars)
+                if line["fell_away"] != right:
+                    yield f"{name} at {line['at']}, {line['event']}: {line['fell_away']} fell away, and {right} by the line"
+                for it in (mark for mark in line["marks"] if mark["mark"] == "backoff"):
+                    place = it["peer"], it["topic"]
+                    bars[place] = max(bars.get(place, 0), it["until"])
 
-    def right_falls(self, line, bars):
-        """What came to nothing by what the peer did. Reasons that no line tells are taken as they stand."""
+    def right_falls(self, line, after, bars):
+        """What came to nothing by what the peer did, at a line and at the one after it. Reasons that no line tells are
+        taken as they stand."""
         word, told = line["event"], line["fell_away"]
         if word == "late":
             return [{"what": "late", "from": line["from"]}]
         if word == "heard":
-            return [{"what": "graylisted", "from": line["from"]}] if told else []
+            return self.right_hearing(line, after)
         if word == "graft":
             return self.right_graft(line, bars)
         if word == "iwant":
@@ -129,6 +170,11 @@ class Trace:
             is_right = [it["from"] for it in told] == charged and all(list(it) == keys and it["until"] <= line["at"] for it in told)
             return told if is_right else [{"what": "promise", "from": it} for it in charged]
         return []
+
+    def right_hearing(self, line, after):
+        """An RPC whose parts do not follow came of a graylisted neighbour. One without parts may have come of any."""
+        is_lost = after is None or after["event"] not in PARTS if parts_in(line["rpc"]) else bool(line["fell_away"])
+        return [{"what": "graylisted", "from": line["from"]}] if is_lost else []
 
     def right_graft(self, line, bars):
         """A GRAFT that is refused gets a PRUNE. Its sender is charged where it comes within a backoff."""

@@ -4,6 +4,13 @@ use std::alloc::{AllocError, Global};
 use std::process::ExitCode;
 use std::test::*;
 
+mod agreements;
+mod fanouts;
+mod gossip;
+mod grafts;
+mod losses;
+mod messages;
+
 /// `a` and `b` subscribe; at 200 `a` publishes `abc`, which `b` delivers a round later. A second line to publish it is
 /// refused.
 const SCENARIO: &str = "round_ms = 100\nrounds = 3\nworkers = 1\ncapacity = 1\nseed = 1\n\
@@ -17,8 +24,9 @@ const SCENARIO: &str = "round_ms = 100\nrounds = 3\nworkers = 1\ncapacity = 1\ns
 const USAGE: &str =
     "usage: gossip_trace [--peer NAME] [--topic TOPIC] [--rounds A..B] [--events A,B,..]\n";
 
-/// What is printed for some options.
+/// What is printed of a run for some options.
 struct Case {
+    scenario: &'static str,
     options: &'static [&'static str],
     lines: &'static str,
 }
@@ -66,18 +74,22 @@ const REFUSALS_ON_NEWS: &str = "\
 
 static CASES: [Case; 9] = [
     Case {
+        scenario: SCENARIO,
         options: &["--peer", "b", "--rounds", "1..1"],
         lines: OF_B_IN_ROUND_1,
     },
     Case {
+        scenario: SCENARIO,
         options: &["--rounds", "1..1", "--peer", "b"],
         lines: OF_B_IN_ROUND_1,
     },
     Case {
+        scenario: SCENARIO,
         options: &["--topic", "news", "--rounds", "0..0"],
         lines: ON_NEWS_IN_ROUND_0,
     },
     Case {
+        scenario: SCENARIO,
         options: &[
             "--events",
             "refused,round_end",
@@ -89,22 +101,27 @@ static CASES: [Case; 9] = [
         lines: ENDS_AND_REFUSALS_OF_A,
     },
     Case {
+        scenario: SCENARIO,
         options: &["--events", "refused,round_end", "--topic", "news"],
         lines: REFUSALS_ON_NEWS,
     },
     Case {
+        scenario: SCENARIO,
         options: &["--peer", "c"],
         lines: HEAD,
     },
     Case {
+        scenario: SCENARIO,
         options: &["--topic", "new"],
         lines: HEAD,
     },
     Case {
+        scenario: SCENARIO,
         options: &["--events", "round_en,round_ends,end"],
         lines: HEAD,
     },
     Case {
+        scenario: SCENARIO,
         options: &["--rounds", "4..9"],
         lines: HEAD,
     },
@@ -137,6 +154,7 @@ fn argument_list(alloc: Global, words: &[&str]) -> Result<Vec<String>, AllocErro
 /// Whether a run with these arguments ends so: with this status, and these texts on the output and on errors.
 fn ends_so(
     alloc: Global,
+    scenario: &str,
     words: &[&str],
     status: u8,
     wanted: (&str, &str),
@@ -147,7 +165,7 @@ fn ends_so(
     let code = run(
         alloc,
         arguments.as_slice(),
-        &mut SCENARIO.as_bytes(),
+        &mut scenario.as_bytes(),
         &mut output,
         &mut errors,
     );
@@ -158,11 +176,16 @@ fn ends_so(
     )
 }
 
+/// Whether a run prints just the lines of the case, ends with 0, and says nothing on errors.
+fn prints_its_lines(alloc: Global, case: &Case) -> Result<bool, AllocError> {
+    ends_so(alloc, case.scenario, case.options, 0, (case.lines, ""))
+}
+
 #[test]
 fn options_choose_lines(rt: HostRuntime) -> Result<(), AllocError> {
     for case in &CASES {
-        let ends = ends_so(rt.alloc(), case.options, 0, (case.lines, ""))?;
-        assert_eq!(rt; (case.options, ends), (case.options, true));
+        let prints = prints_its_lines(rt.alloc(), case)?;
+        assert_eq!(rt; (case.options, prints), (case.options, true));
     }
     Ok(())
 }
@@ -170,7 +193,7 @@ fn options_choose_lines(rt: HostRuntime) -> Result<(), AllocError> {
 #[test]
 fn other_arguments_end_with_64(rt: HostRuntime) -> Result<(), AllocError> {
     for words in &REFUSED {
-        let ends = ends_so(rt.alloc(), words, 64, ("", USAGE))?;
+        let ends = ends_so(rt.alloc(), SCENARIO, words, 64, ("", USAGE))?;
         assert_eq!(rt; (*words, ends), (*words, true));
     }
     Ok(())

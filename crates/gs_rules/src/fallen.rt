@@ -8,7 +8,7 @@ use gs_base::{MsgId, PeerNo, Topic};
 pub enum Fallen {
     /// An RPC was not heard, since its sender is on the graylist (gossipsub v1.1, "Peer Scoring").
     Graylisted(PeerNo),
-    /// An RPC came after its sender was lost.
+    /// An RPC came after its sender was lost, or after the peer itself had shut down.
     Late(PeerNo),
     /// A GRAFT on a topic was refused.
     Graft(PeerNo, Topic, GraftRefusal),

@@ -6,11 +6,13 @@ mod amounts;
 mod csv;
 mod head;
 mod json;
+mod laws;
 mod moments;
 mod scores;
 mod snapshot;
 mod wanted;
 
+pub use laws::a_snapshot_adds_up;
 pub use moments::{Moment, Occasion};
 pub use scores::write_scores;
 pub use snapshot::{OnTopic, Snapshot};

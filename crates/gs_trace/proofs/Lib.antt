@@ -18,3 +18,5 @@ mod LineTexts
 mod Rounds
 mod Traces
 mod OneText
+mod ToldRefusals
+mod FallenLaws

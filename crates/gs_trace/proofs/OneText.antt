@@ -6,9 +6,10 @@ use Rattle.gs_plan.specs.declared.plan.Plan.{Plan}
 use Rattle.gs_plan.specs.declared.plan.PlannedPeer.{PlannedPeer}
 use Rattle.gs_report.specs.declared.report.Report.{Report}
 use Rattle.gs_report.specs.Text.{word_of}
+use Rattle.gs_seats.specs.Rounds.{numbers, peer_no}
 use Rattle.gs_trace.specs.Lines.{line_text, told, trace_text}
 use Rattle.gs_trace.specs.Texts.{names_of}
-use Rattle.gs_trace.specs.Traces.{IsReportOf, peer_no, plan_numbers, traces}
+use Rattle.gs_trace.specs.Traces.{IsReportOf, traces}
 use Rattle.gs_trace.proofs.LineTexts.{IsStoredHead, head_of, line_with, lines_of_plan, tell_head, tell_lines, words_of_plan}
 use Rattle.gs_trace.proofs.Traces.{told_stored, traces_of, traces_told}
 use Rattle.gs_trace.proofs.Values.{names_differ}
@@ -19,7 +20,7 @@ module _ (p q : Plan) (r s : Report) (hr : IsReportOf p r) (hs : IsReportOf q s)
   parts =
       let hp : IsStoredHead p = record { names = hr.stored.names; round_ms = hr.stored.round_ms; rounds = hr.stored.rounds; dials = hr.stored.dials } in
       let hq : IsStoredHead q = record { names = hs.stored.names; round_ms = hs.stored.round_ms; rounds = hs.stored.rounds; dials = hs.stored.dials } in
-      tell_head p q (flat_map (line_text p) (told p r)) (flat_map (line_text q) (told q s)) hp hq (names_differ p.peers hr.names_differ) e
+      tell_head p q (flat_map (line_text p) (told p r)) (flat_map (line_text q) (told q s)) hp hq (names_differ p.peers hr.in_range.names_differ) e
 
   pub one_list_of_names : names_of p ≡ names_of q
   one_list_of_names i = (parts.0 i).0.0.0
@@ -38,10 +39,10 @@ module _ (p q : Plan) (r s : Report) (hr : IsReportOf p r) (hs : IsReportOf q s)
       let lines : flat_map (line_with (names_of p) (word_of p)) (told p r) ≡ flat_map (line_with (names_of p) (word_of q)) (told q s) =
       sym (lines_of_plan p (told p r)) ∙ parts.1 ∙ lines_of_plan q (told q s)
       ∙ ap (λ (names : List (List ℕ)). flat_map (line_with names (word_of q)) (told q s)) (sym one_list_of_names) in
-      tell_lines (names_of p) hr.stored.names (names_differ p.peers hr.names_differ) (word_of p) (word_of q) (told p r) (told q s)
+      tell_lines (names_of p) hr.stored.names (names_differ p.peers hr.in_range.names_differ) (word_of p) (word_of q) (told p r) (told q s)
       (words_of_plan p) (words_of_plan q) (told_stored p r hr.stored) (told_stored q s hs.stored) lines
 
-  one_list_of_numbers : plan_numbers p ≡ plan_numbers q
+  one_list_of_numbers : numbers p ≡ numbers q
   one_list_of_numbers =
       let name = λ (planned : PlannedPeer). planned.name in
       let same : length p.peers ≡ length q.peers = sym (length-map p.peers name) ∙ ap (λ (names : List (List ℕ)). length names) one_list_of_names ∙ length-map q.peers name in
@@ -49,6 +50,6 @@ module _ (p q : Plan) (r s : Report) (hr : IsReportOf p r) (hs : IsReportOf q s)
 
   pub one_list_of_traces : traces r ≡ traces s
   one_list_of_traces =
-      traces_told p r hr.numbered
+      traces_told p r hr.run.numbers_are
       ∙ (λ i. traces_of (one_list_of_numbers i) (one_list_told i))
-      ∙ sym (traces_told q s hs.numbered)
+      ∙ sym (traces_told q s hs.run.numbers_are)

@@ -9,12 +9,12 @@ use Rattle.gs_rules.specs.declared.refusal.RefusedLine.{RefusedLine}
 use Rattle.gs_rules.specs.declared.trace.Entry.{Entry}
 use Rattle.gs_rules.specs.Peers.{Peer}
 use Rattle.gs_rules.specs.Tables.{Entries}
-use Rattle.gs_seats.specs.Rounds.{peer_in}
+use Rattle.gs_seats.specs.Rounds.{numbers, peer_in, peer_no}
 use Rattle.gs_report.specs.declared.finished.Finished.{Finished}
 use Rattle.gs_report.specs.declared.report.Report.{Report}
 use Rattle.gs_trace.specs.Lines.{Seen, Told, Did, Refused, did, in_round, is_refused_in, seen, seen_by, told, told_in, told_of}
 use Rattle.gs_trace.specs.Stored.{IsStored, IsStoredEntry, IsStoredLife, IsStoredNumber, IsStoredPeer, IsStoredRefusal}
-use Rattle.gs_trace.specs.Traces.{numbers_in, peer_no, plan_numbers, traced, traces}
+use Rattle.gs_trace.specs.Traces.{traced, traces}
 use Rattle.gs_trace.proofs.FallenStored.{IsStoredSeen, seen_stored}
 use Rattle.gs_trace.proofs.LineTexts.{IsStoredTold}
 use Rattle.gs_trace.proofs.Rounds.{all_append, all_filter, all_flat, all_in_round, all_reverse, rounds_are_all}
@@ -91,7 +91,7 @@ none_refused r q p [] = refl
 none_refused r q p (x ∷ ls) = none_refused r q p ls
 
 -- it has another number
-abbrev IsOther : PeerNo → PeerNo × Finished → Type 0
+abbrev pub IsOther : PeerNo → PeerNo × Finished → Type 0
 IsOther q x = eqb x.0.0 q.0 ≡ false
 
 module _ (plan : Plan) (q : PeerNo) where
@@ -145,23 +145,23 @@ module _ (plan : Plan) (q : PeerNo) where
 
 -- ---- the traces of all peers
 
-abbrev IsBelow : ℕ → PeerNo × Finished → Type 0
+abbrev pub IsBelow : ℕ → PeerNo × Finished → Type 0
 IsBelow a x = x.0.0 < a
 
-abbrev number : PeerNo × Finished → PeerNo
+abbrev pub number : PeerNo × Finished → PeerNo
 number x = x.0
 
-below_more : (a : ℕ) (xs : List (PeerNo × Finished)) → AllByRecursion (IsBelow a) xs → AllByRecursion (IsBelow (a + 1)) xs
+pub below_more : (a : ℕ) (xs : List (PeerNo × Finished)) → AllByRecursion (IsBelow a) xs → AllByRecursion (IsBelow (a + 1)) xs
 below_more a [] h = tt
 below_more a (x ∷ xs) h = (let l = h.0 in omega arith, below_more a xs h.1)
 
-below_other : (q : PeerNo) (xs : List (PeerNo × Finished)) → AllByRecursion (IsBelow q.0) xs → AllByRecursion (IsOther q) xs
+pub below_other : (q : PeerNo) (xs : List (PeerNo × Finished)) → AllByRecursion (IsBelow q.0) xs → AllByRecursion (IsOther q) xs
 below_other q [] h = tt
 below_other q (x ∷ xs) h =
     let lt : x.0.0 < q.0 = h.0 in
     (ne_eqb x.0.0 q.0 (λ e. omega arith), below_other q xs h.1)
 
-above_other : (q : PeerNo) (xs : List (PeerNo × Finished)) (a n : ℕ) → q.0 < a → map number xs ≡ map peer_no (range_with_len a n) → AllByRecursion (IsOther q) xs
+pub above_other : (q : PeerNo) (xs : List (PeerNo × Finished)) (a n : ℕ) → q.0 < a → map number xs ≡ map peer_no (range_with_len a n) → AllByRecursion (IsOther q) xs
 above_other q [] a n lt e = tt
 above_other q (x ∷ xs) a zero lt e = absurd cc
 above_other q (x ∷ xs) a (suc n) lt e =
@@ -172,7 +172,7 @@ above_other q (x ∷ xs) a (suc n) lt e =
 
 -- the traces of some numbers, of all that is told
 abbrev pub traces_of : List PeerNo → List Told → List (PeerNo × List Entry)
-traces_of numbers xs = map (λ (q : PeerNo). (q, reverse (entries_in q xs))) numbers
+traces_of peers xs = map (λ (q : PeerNo). (q, reverse (entries_in q xs))) peers
 
 module _ (plan : Plan) (report : Report) where
   traces_from : (before later : List (PeerNo × Finished)) (a n : ℕ) → report.peers.items ≡ before ++ later → AllByRecursion (IsBelow a) before → map number later ≡ map peer_no (range_with_len a n)
@@ -189,5 +189,5 @@ module _ (plan : Plan) (report : Report) where
       let more = traces_from (before ++ x ∷ []) later (a + 1) n (cut ∙ sym (append_assoc before (x ∷ []) later)) (all_append (IsBelow (a + 1)) before (x ∷ []) (below_more a before hb) (self, tt)) rest in
       (λ i. (x.0, sym one i) ∷ more i)
 
-  pub traces_told : numbers_in report ≡ plan_numbers plan → traces report ≡ traces_of (plan_numbers plan) (told plan report)
-  traces_told e = traces_from [] report.peers.items 0 (length plan.peers) refl tt e ∙ ap (λ (numbers : List PeerNo). traces_of numbers (told plan report)) e
+  pub traces_told : map number report.peers.items ≡ numbers plan → traces report ≡ traces_of (numbers plan) (told plan report)
+  traces_told e = traces_from [] report.peers.items 0 (length plan.peers) refl tt e ∙ ap (λ (peers : List PeerNo). traces_of peers (told plan report)) e

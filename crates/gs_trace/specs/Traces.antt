@@ -1,24 +1,18 @@
--- The traces that a report has, and what is known of a plan and its report where one text tells all of both.
-use Rattle.std.specs.Prelude.{◌≡◌, ℕ, false, List, AllPairs, length, map}
-use Rattle.std.specs.List.{range_with_len}
+-- The traces and the refused lines that a report has, and what is known of a plan and its report where one text tells all
+-- of both.
+use Rattle.std.specs.Prelude.{if◌then◌else◌, List, [], ◌∷◌, map}
+use Rattle.std.specs.List.{flat_map}
 use Rattle.gs_base.specs.declared.names.PeerNo.{PeerNo}
-use Rattle.gs_plan.specs.Plans.{have_one_name}
+use Rattle.gs_base.specs.Names.{same_peer}
+use Rattle.gs_plan.specs.Plans.{IsInRange}
 use Rattle.gs_plan.specs.declared.plan.Plan.{Plan}
+use Rattle.gs_rules.specs.declared.refusal.RefusedLine.{RefusedLine}
 use Rattle.gs_rules.specs.declared.trace.Entry.{Entry}
 use Rattle.gs_report.specs.declared.finished.Finished.{Finished}
 use Rattle.gs_report.specs.declared.report.Report.{Report}
+use Rattle.gs_seats.specs.Reports.{IsReport}
+use Rattle.gs_trace.specs.Lines.{Told, Did, Refused}
 use Rattle.gs_trace.specs.Stored.{IsStored}
-
-abbrev pub peer_no : ℕ → PeerNo
-peer_no n = record { 0 = n }
-
--- the numbers of a plan's peers: their places in the plan
-abbrev pub plan_numbers : Plan → List PeerNo
-plan_numbers plan = map peer_no (range_with_len 0 (length plan.peers))
-
--- the numbers of the peers that a report has
-abbrev pub numbers_in : Report → List PeerNo
-numbers_in report = map (λ (x : PeerNo × Finished). x.0) report.peers.items
 
 -- a peer's number and its trace, the newest entry first
 abbrev pub traced : PeerNo × Finished → PeerNo × List Entry
@@ -28,9 +22,16 @@ traced x = (x.0, x.1.trace)
 abbrev pub traces : Report → List (PeerNo × List Entry)
 traces report = map traced report.peers.items
 
--- A report of a plan as they are in memory: no two peers of the plan have one name, and the report has each of them by
--- its number, in order.
+-- the lines of the script that a peer refused, of all that is told
+abbrev pub refusal_of : PeerNo → Told → List RefusedLine
+refusal_of q (Did r p e fallen) = []
+refusal_of q (Refused r p line) = if same_peer p q then line ∷ [] else []
+
+abbrev pub refusals_in : PeerNo → List Told → List RefusedLine
+refusals_in q all = flat_map (refusal_of q) all
+
+-- The report of a run of a plan that was read, both as they are in memory.
 pub record IsReportOf (plan : Plan) (report : Report) : Type 0 where
-  pub names_differ : AllPairs (λ x y. have_one_name x y ≡ false) plan.peers
-  pub numbered : numbers_in report ≡ plan_numbers plan
+  pub in_range : IsInRange plan
+  pub run : IsReport plan report
   pub stored : IsStored plan report

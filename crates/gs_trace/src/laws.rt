@@ -1,10 +1,28 @@
-//! What the text of a trace tells. The law holds of its definitions only, and its function does nothing.
-ghost use Rattle.std.specs.Prelude.{◌≡◌};
+//! What the text of a trace tells, and what came to nothing. Each law holds of its definitions only, and its function does
+//! nothing.
+ghost use Rattle.std.specs.Prelude.{◌≡◌, ℕ, ◌+◌, List, [], ◌∷◌, length, map};
+ghost use Rattle.gs_base.specs.declared.mark.Mark.TheVariants.{Misbehaviour};
+ghost use Rattle.gs_base.specs.declared.names.Millis.{Millis as MillisValue};
+ghost use Rattle.gs_base.specs.declared.names.MsgId.{MsgId as MsgIdValue};
+ghost use Rattle.gs_base.specs.declared.names.PeerNo.{PeerNo as PeerNoValue};
+ghost use Rattle.gs_base.specs.declared.rpc.Rpc.{Rpc as RpcValue};
+ghost use Rattle.gs_plan.specs.Plans.{IsInRange};
 ghost use Rattle.gs_plan.specs.declared.plan.Plan.{Plan as PlanValue};
+ghost use Rattle.gs_rules.specs.FellAway.{broken, fell_away, without_answers};
+ghost use Rattle.gs_rules.specs.Gossip.{all_charges};
+ghost use Rattle.gs_rules.specs.Owed.{PartsOf, owes};
+ghost use Rattle.gs_rules.specs.Peers.{Peer};
+ghost use Rattle.gs_rules.specs.Rules.{answers};
+ghost use Rattle.gs_rules.specs.Tables.{Entries};
+ghost use Rattle.gs_rules.specs.declared.event.Event.TheVariants.{Heard};
+ghost use Rattle.gs_rules.specs.declared.fallen.Fallen.{Fallen as FallenValue};
+ghost use Rattle.gs_rules.specs.declared.trace.Promise.{Promise as PromiseValue};
+ghost use Rattle.gs_report.specs.declared.finished.Finished.{Finished as FinishedValue};
 ghost use Rattle.gs_report.specs.declared.report.Report.{Report as ReportValue};
+ghost use Rattle.gs_seats.specs.Reports.{IsReport};
 ghost use Rattle.gs_trace.specs.Lines.{told, trace_text};
 ghost use Rattle.gs_trace.specs.Texts.{names_of};
-ghost use Rattle.gs_trace.specs.Traces.{IsReportOf, traces};
+ghost use Rattle.gs_trace.specs.Traces.{IsReportOf, refusals_in, traces};
 ghost use Rattle.gs_trace.specs.Wanted.{no_wish, wanted_text};
 
 /// The text of a run's trace tells all of it. Two runs with one text have peers of the same names, the same rounds and
@@ -40,4 +58,37 @@ pub fn a_trace_tells_all()
 /// Where nothing is wished for, the text has all lines.
 pub fn wanting_all_tells_all()
     ensures { (p : PlanValue) (r : ReportValue) → wanted_text no_wish p r ≡ trace_text p r }
+{}
+
+/// Of each peer of a run the lines of the script that it refused are told, each once, in their order.
+pub fn each_refused_line_is_told_once()
+    ensures { (p : PlanValue) (r : ReportValue)
+        → IsInRange p
+        → IsReport p r
+        → map (λ (x : PeerNoValue × FinishedValue). refusals_in x.0 (told p r)) r.peers.items
+        ≡ map (λ (x : PeerNoValue × FinishedValue). x.1.refused) r.peers.items }
+{}
+
+/// The promises that came to nothing at a heartbeat are those for which it charges their makers, one by one.
+pub fn broken_promises_are_charged()
+    ensures { (p : Peer) (L : Entries) (at : ℕ)
+        → map (λ (x : PromiseValue). Misbehaviour x.from) (broken p L at) ≡ all_charges p L at }
+{}
+
+/// The messages for a request, and what came to nothing of it, are as many as its identifiers.
+pub fn each_identifier_is_answered_or_told()
+    ensures { (p : Peer) (L : Entries) (q : PeerNoValue) (ids : List MsgIdValue)
+        → length (answers p L q [] ids) + length (without_answers p L q [] ids) ≡ length ids }
+{}
+
+/// The parts of an RPC that is heard must come next where nothing of it came to nothing, and nothing must where something
+/// did.
+pub fn what_came_to_nothing_owes_no_parts()
+    ensures follow { (p : Peer) (L : Entries) (at : MillisValue) (q : PeerNoValue) (rpc : RpcValue)
+        → fell_away p L at (Heard q rpc) ≡ []
+        → owes p L at.0 (Heard q rpc) ≡ PartsOf q rpc ∷ [] }
+    ensures none { (p : Peer) (L : Entries) (at : MillisValue) (q : PeerNoValue) (rpc : RpcValue)
+        (one : FallenValue) (more : List FallenValue)
+        → fell_away p L at (Heard q rpc) ≡ one ∷ more
+        → owes p L at.0 (Heard q rpc) ≡ [] }
 {}

@@ -22,7 +22,10 @@ mod wanted;
 pub use events::push_word;
 pub use fault::TraceFault;
 pub use head::push_names;
-pub use laws::{a_trace_tells_all, wanting_all_tells_all};
+pub use laws::{
+    a_trace_tells_all, broken_promises_are_charged, each_identifier_is_answered_or_told,
+    each_refused_line_is_told_once, wanting_all_tells_all, what_came_to_nothing_owes_no_parts,
+};
 pub use lines::write_trace;
 pub use pages::{write_full, write_page};
 pub use spans::rounds_in;

@@ -1,5 +1,5 @@
 //! The page of a text: lines that wait to be written together.
-ghost use Rattle.std.specs.Prelude.{◌≡◌, ◌++◌, List, [], ℕ, OnErr, OnOk};
+ghost use Rattle.std.specs.Prelude.{◌≡◌, ◌<◌, ◌++◌, List, [], ℕ, OnErr, OnOk, length};
 ghost use Rattle.std.specs.List.{flat_map};
 ghost use Rattle.gs_streams.specs.Streams.{AppendsFront};
 ghost use Rattle.gs_trace.specs.Pages.{Adds};
@@ -43,12 +43,13 @@ pub(crate) fn write_lines<T: Told, W: Write>(
     Ok(())
 }
 
-/// Writes a page that is full, and clears it: one that has 65,536 bytes.
+/// Writes a page that is full, and clears it: one that has 65,536 bytes or more.
 ///
 /// # Errors
 /// `WriteFailed` where a write failed, or took nothing. A front of the page has then been written.
 pub fn write_full<W: Write>(page: &mut Vec<u8>, output: &mut W) -> Result<(), WriteFailed>
     ensures added { OnOk result (Adds [] page.old.items page.new.items (W.contents output.old) (W.contents output.new)) }
+    ensures short { OnOk result (length page.new.items < 65_536) }
     ensures front { OnErr result (AppendsFront (W.contents output.old) (W.contents output.new) page.old.items) }
 {
     if page.len() < PAGE_SIZE {

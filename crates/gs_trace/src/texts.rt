@@ -123,7 +123,7 @@ pub fn push_peer(plan: &Plan, out: &mut Vec<u8>, peer: PeerNo) -> Result<(), All
 /// Adds a text as it is.
 ///
 /// # Errors
-/// `AllocError` where there was no memory for it. The text before it is as it was.
+/// `AllocError` where there was no memory for it. A part of it may be there then.
 pub fn push_code(out: &mut Vec<u8>, code: &[u8]) -> Result<(), AllocError>
     ensures { OnOk result (out.new.items ≡ out.old.items ++ code.now) }
 {
@@ -165,7 +165,7 @@ fn push_next<T: Shown>(plan: &Plan, out: &mut Vec<u8>, value: &T) -> Result<(), 
 /// Adds a whole number.
 ///
 /// # Errors
-/// `AllocError` where there was no memory for it. The text before it is as it was.
+/// `AllocError` where there was no memory for it. A part of it may be there then.
 pub fn push_number(out: &mut Vec<u8>, number: u64) -> Result<(), AllocError>
     ensures { OnOk result (out.new.items ≡ out.old.items ++ decimal number) }
 {

@@ -32,13 +32,16 @@ pub struct Wanted<'a> {
 pub enum Wish<'a> {
     /// Any text will do.
     Any,
+    /// This text, and no other.
     Only(&'a str),
 }
 
 /// Rounds from one to another, with both.
 #[derive(Clone, Copy, Debug, PartialEq, Eq)]
 pub struct RoundSpan {
+    /// The first one. The first round of a run is 0.
     pub first: u64,
+    /// The last one. Where it is below the first, no round is among them.
     pub last: u64,
 }
 

@@ -4,7 +4,11 @@ use crate::tests::{HEAD, finished, text_of};
 use gs_base::{Millis, PeerNo, Seq};
 use gs_report::Report;
 use gs_rules::{Effects, Entry, Event, Refusal, RefusedLine, Trace};
-use gs_trace::{RoundSpan, Wanted, Wish, a_trace_tells_all, all_lines, wanting_all_tells_all};
+use gs_trace::{
+    RoundSpan, Wanted, Wish, a_trace_tells_all, all_lines, broken_promises_are_charged,
+    each_identifier_is_answered_or_told, each_refused_line_is_told_once, wanting_all_tells_all,
+    what_came_to_nothing_owes_no_parts,
+};
 use std::alloc::{AllocError, Global};
 
 /// What a peer does: `true` ends the round.
@@ -205,4 +209,8 @@ fn without_a_wish_all_lines_are_told(rt: HostRuntime) -> Result<(), AllocError> 
 fn laws_of_traces_hold(_rt: HostRuntime) {
     a_trace_tells_all();
     wanting_all_tells_all();
+    each_refused_line_is_told_once();
+    broken_promises_are_charged();
+    each_identifier_is_answered_or_told();
+    what_came_to_nothing_owes_no_parts();
 }
