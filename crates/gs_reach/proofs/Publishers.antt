@@ -1,5 +1,5 @@
 -- No publisher is a subscriber of its message.
-use Rattle.std.proofs.Common.{◌≡◌, ◌≤◌, ◌++◌, ◌∙◌, ◌&&◌, ◌||◌, ℕ, Bool, true, false, not, cond, eqb, leb, List, [], ◌∷◌, map, refl, sym, ap, ap₂, inl, inr}
+use Rattle.std.proofs.Common.{◌≡◌, ◌∙◌, ◌&&◌, ◌||◌, ℕ, Bool, true, false, not, cond, eqb, leb, List, [], ◌∷◌, map, refl, sym, ap, inl, inr}
 use Rattle.std.specs.List.{filter, list_any, AllByRecursion}
 use Rattle.std.proofs.lemmas.Bool.{cond_both, eq-eqb, eqb-true, false≢true, cases_Bool, or_right, or_left, and_from}
 use Rattle.std.proofs.lemmas.Cmp.{nat_list_eq_equiv}

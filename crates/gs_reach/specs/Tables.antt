@@ -1,5 +1,5 @@
 -- Values by the numbers of peers, and which tables are those of a message.
-use Rattle.std.specs.Prelude.{◌≡◌, ℕ, Bool, true, false, nat_le, Option, slice_get, unwrap_or, List}
+use Rattle.std.specs.Prelude.{◌≡◌, ℕ, Bool, true, false, nat_le, slice_get, unwrap_or, List}
 use Rattle.gs_base.specs.declared.names.PeerNo.{PeerNo}
 use Rattle.gs_base.specs.declared.names.Millis.{Millis}
 use Rattle.gs_plan.specs.declared.plan.Dial.{Dial}

@@ -11,7 +11,7 @@ use std::alloc::{AllocError, Global};
 #[derive(Clone, Copy, Debug, PartialEq, Eq)]
 pub struct Within {
     pub limit: u64,
-    /// How many were reached in so few rounds or fewer.
+    /// How many were reached in that number of rounds or fewer.
     pub reached: u64,
 }
 

@@ -1,5 +1,5 @@
 //! What the definitions of reach say in other words.
-ghost use Rattle.std.specs.Prelude.{◌≡◌, ◌≤◌, ◌<◌, ◌+◌, ◌-◌, ℕ, All, IfSome, IsNone, List, Some, None, length, filter, false, not};
+ghost use Rattle.std.specs.Prelude.{◌≡◌, ◌≤◌, ◌<◌, ◌+◌, ◌-◌, ℕ, List, Some, None, length, filter, false, not};
 ghost use Rattle.std.specs.List.{AllByRecursion};
 ghost use Rattle.gs_base.specs.Names.{same_peer};
 ghost use Rattle.gs_plan.specs.declared.plan.Plan.{Plan as PlanValue};
@@ -22,8 +22,8 @@ pub fn more_rounds_reach_no_less()
         → few ≤ many → reached_within few pairs ≤ reached_within many pairs }
 {}
 
-/// Where a rank has a number of rounds, so many are reached within it, and fewer within one round less. Where it has none,
-/// fewer are reached at all.
+/// Where a rank has a number of rounds, at least as many subscribers as its rank are reached within it, and fewer within
+/// one round less. Where it has none, fewer are reached at all.
 pub fn a_percentile_has_its_rank()
     ensures within { (rank n : ℕ) (pairs : List PairValue)
         → 1 ≤ rank → fewest rank pairs ≡ Some n → rank ≤ reached_within n pairs }

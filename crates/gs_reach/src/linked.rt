@@ -3,7 +3,7 @@ ghost use Rattle.std.specs.Prelude.{◌≡◌, ℕ, not, ◌&&◌, ◌||◌, IfO
 ghost use Rattle.gs_base.specs.declared.names.Millis.{Millis as MillisValue};
 ghost use Rattle.gs_base.specs.declared.names.PeerNo.{PeerNo as PeerNoValue};
 ghost use Rattle.gs_base.specs.Names.{same_peer};
-ghost use Rattle.gs_reach.specs.Messages.{had_lost, is_loss_of, still_joins, was_linked};
+ghost use Rattle.gs_reach.specs.Messages.{had_lost, is_loss_of, still_joins};
 ghost use Rattle.gs_reach.specs.Tables.{AreLinks, cell, is_linked_at};
 
 use crate::listed::Loss;

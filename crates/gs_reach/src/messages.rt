@@ -18,8 +18,8 @@ use std::alloc::{AllocError, Global};
 
 /// How far a message came: a payload that was published on a topic at a moment.
 ///
-/// A subscriber is a peer that did not publish it, was subscribed to its topic before its moment, and then had at least one
-/// neighbour that it had not lost. Whoever does as of that very moment came too late.
+/// A subscriber is a peer that does not publish it, was subscribed to its topic before its moment, and had at least one
+/// neighbour that it had not lost before. A peer that subscribes at that moment comes too late.
 #[derive(Debug, Drop, PartialEq, Eq)]
 pub struct MessageReach {
     /// The first publication of it: by the lowest place among the peers, and there the oldest one.

@@ -1,6 +1,6 @@
 //! A message and a subscriber of it, and how many subscribers were reached.
 ghost use Rattle.std.specs.Prelude.{◌≡◌, ◌++◌, if◌then◌else◌, IfOk, OnOk, option_to_list};
-ghost use Rattle.gs_reach.specs.Reached.{is_at_most, is_reached, is_reached_within, missed, reached, reached_within, rounds_of};
+ghost use Rattle.gs_reach.specs.Reached.{is_reached_within, missed, reached, reached_within, rounds_of};
 
 use gs_base::PeerNo;
 use std::alloc::{AllocError, Global};

@@ -1,7 +1,7 @@
 //! In how many rounds parts of all subscribers were reached.
-ghost use Rattle.std.specs.Prelude.{◌≡◌, ◌≤◌, IfOk, slice_get, ◌-◌};
+ghost use Rattle.std.specs.Prelude.{◌≡◌, IfOk, slice_get, ◌-◌};
 ghost use Rattle.gs_reach.specs.Order.{ascending};
-ghost use Rattle.gs_reach.specs.Reached.{fewest, percentile, rank, rounds_of, spread};
+ghost use Rattle.gs_reach.specs.Reached.{rank, spread};
 
 use crate::pairs::{Pair, rounds_of};
 use std::alloc::{AllocError, Global};

@@ -2,4 +2,6 @@ mod chosen;
 mod distributions;
 mod made;
 mod messages;
+mod repeats;
 mod spreads;
+mod subscribers;

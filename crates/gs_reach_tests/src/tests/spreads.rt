@@ -22,49 +22,101 @@ pub(crate) fn pairs(alloc: Global, reached: u16, missed: u16) -> Result<Vec<Pair
 }
 
 /// How many are reached and missed, and the first, the median, the 90th and the 99th percentile and the last.
-static SPREADS: [(u16, u16, [Option<u64>; 5]); 13] = [
-    (0, 0, [None, None, None, None, None]),
-    (1, 0, [Some(1), Some(1), Some(1), Some(1), Some(1)]),
-    (0, 1, [None, None, None, None, None]),
-    (2, 0, [Some(1), Some(1), Some(2), Some(2), Some(2)]),
-    (1, 1, [Some(1), Some(1), None, None, None]),
-    (3, 0, [Some(1), Some(2), Some(3), Some(3), Some(3)]),
-    (2, 1, [Some(1), Some(2), None, None, None]),
-    (10, 0, [Some(1), Some(5), Some(9), Some(10), Some(10)]),
-    (9, 1, [Some(1), Some(5), Some(9), None, None]),
-    (99, 0, [Some(1), Some(50), Some(90), Some(99), Some(99)]),
-    (99, 1, [Some(1), Some(50), Some(90), Some(99), None]),
-    (100, 0, [Some(1), Some(50), Some(90), Some(99), Some(100)]),
-    (100, 1, [Some(1), Some(51), Some(91), Some(100), None]),
+struct Case {
+    reached: u16,
+    missed: u16,
+    spread: &'static [Option<u64>],
+}
+
+static CASES: [Case; 13] = [
+    Case {
+        reached: 0,
+        missed: 0,
+        spread: &[None, None, None, None, None],
+    },
+    Case {
+        reached: 1,
+        missed: 0,
+        spread: &[Some(1), Some(1), Some(1), Some(1), Some(1)],
+    },
+    Case {
+        reached: 0,
+        missed: 1,
+        spread: &[None, None, None, None, None],
+    },
+    Case {
+        reached: 2,
+        missed: 0,
+        spread: &[Some(1), Some(1), Some(2), Some(2), Some(2)],
+    },
+    Case {
+        reached: 1,
+        missed: 1,
+        spread: &[Some(1), Some(1), None, None, None],
+    },
+    Case {
+        reached: 3,
+        missed: 0,
+        spread: &[Some(1), Some(2), Some(3), Some(3), Some(3)],
+    },
+    Case {
+        reached: 2,
+        missed: 1,
+        spread: &[Some(1), Some(2), None, None, None],
+    },
+    Case {
+        reached: 10,
+        missed: 0,
+        spread: &[Some(1), Some(5), Some(9), Some(10), Some(10)],
+    },
+    Case {
+        reached: 9,
+        missed: 1,
+        spread: &[Some(1), Some(5), Some(9), None, None],
+    },
+    Case {
+        reached: 99,
+        missed: 0,
+        spread: &[Some(1), Some(50), Some(90), Some(99), Some(99)],
+    },
+    Case {
+        reached: 99,
+        missed: 1,
+        spread: &[Some(1), Some(50), Some(90), Some(99), None],
+    },
+    Case {
+        reached: 100,
+        missed: 0,
+        spread: &[Some(1), Some(50), Some(90), Some(99), Some(100)],
+    },
+    Case {
+        reached: 100,
+        missed: 1,
+        spread: &[Some(1), Some(51), Some(91), Some(100), None],
+    },
 ];
 
-fn spread(numbers: [Option<u64>; 5]) -> Spread {
-    let [first, median, ninetieth, ninety_ninth, last] = numbers;
-    Spread {
+fn has_spread(alloc: Global, case: &Case) -> Result<bool, AllocError> {
+    let pairs = pairs(alloc, case.reached, case.missed)?;
+    let Spread {
         first,
         median,
         ninetieth,
         ninety_ninth,
         last,
-    }
-}
-
-fn has_spread(
-    alloc: Global,
-    counts: (u16, u16),
-    wanted: [Option<u64>; 5],
-) -> Result<bool, AllocError> {
-    let pairs = pairs(alloc, counts.0, counts.1)?;
-    let told = spread_of(alloc, &pairs)?;
-    Ok(told == spread(wanted))
+    } = spread_of(alloc, &pairs)?;
+    let told = [first, median, ninetieth, ninety_ninth, last];
+    Ok(told.as_slice() == case.spread)
 }
 
 #[test]
 fn percentiles_are_of_all_subscribers(rt: HostRuntime) -> Result<(), AllocError> {
-    for (reached, missed, wanted) in &SPREADS {
+    for case in &CASES {
         assert!(rt;
-            has_spread(rt.alloc(), (*reached, *missed), *wanted)?,
-            "{reached} {missed}"
+            has_spread(rt.alloc(), case)?,
+            "{} {}",
+            case.reached,
+            case.missed
         );
     }
     Ok(())
