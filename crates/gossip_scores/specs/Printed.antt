@@ -1,22 +1,29 @@
 -- How the program ends by what its arguments ask for.
-use Rattle.std.specs.Prelude.{ℕ, false, true, List, Option, Some, None}
+use Rattle.std.specs.Prelude.{ℕ, false, true, if◌then◌else◌, List, Option, Some, None}
+use Rattle.gs_plan.specs.declared.plan.Plan.{Plan}
 use Rattle.gs_program.specs.Arguments.{IsMisused}
 use Rattle.gs_program.specs.Program.{EndsWith}
 use Rattle.gs_program.specs.declared.printer.PrintFault.{PrintFault}
 use Rattle.gs_program.specs.declared.printer.PrintFault.TheVariants as prints
+use Rattle.gs_report.specs.declared.report.Report.{Report}
 use Rattle.gs_trace.specs.declared.fault.TraceFault.{TraceFault}
 use Rattle.gs_trace.specs.declared.fault.TraceFault.TheVariants as faults
 use Rattle.gs_snapshots.specs.Scores.{scores_text}
-use Rattle.gs_snapshots.specs.Wishes.{Wishes}
-use Rattle.gossip_scores.specs.Arguments.{usage}
+use Rattle.gs_snapshots.specs.SummaryText.{summary_text}
+use Rattle.gossip_scores.specs.Arguments.{Asked, usage}
 
 -- what a fault of scores is to a printer
 abbrev pub as_printed : TraceFault → PrintFault
 as_printed faults.NoMemory = prints.CutOff
 as_printed faults.WriteFailed = prints.WriteFailed
 
-abbrev pub EndsFor : Option Wishes → (status : ℕ) (input input' output output' errors errors' : Option (List ℕ)) → Type 0
+-- what is printed
+abbrev pub printed_for : Asked → Plan → Report → List ℕ
+printed_for a plan report =
+    if a.is_summary then summary_text a.wishes plan report else scores_text a.wishes plan report
+
+abbrev pub EndsFor : Option Asked → (status : ℕ) (input input' output output' errors errors' : Option (List ℕ)) → Type 0
 EndsFor None status input input' output output' errors errors' =
     IsMisused usage status input input' output output' errors errors'
-EndsFor (Some wishes) status input input' output output' errors errors' =
-    EndsWith (scores_text wishes) true false status input input' output output' errors errors'
+EndsFor (Some asked) status input input' output output' errors errors' =
+    EndsWith (printed_for asked) true false status input input' output output' errors errors'

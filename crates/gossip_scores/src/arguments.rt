@@ -3,7 +3,7 @@ ghost use Rattle.std.specs.Prelude.{◌≡◌, Some, map, option_map, string_byt
 ghost use Rattle.std.specs.Process.{exit_status};
 ghost use Rattle.gs_program.specs.Arguments.{IsRefusedSo, wrong_arguments};
 ghost use Rattle.gs_snapshots.specs.Wishes.{wishes_of};
-ghost use Rattle.gossip_scores.specs.Arguments.{asked_for, asked_from, form_in, usage, with_form, with_neighbour, with_option, with_peer, with_rounds};
+ghost use Rattle.gossip_scores.specs.Arguments.{asked_for, asked_from, asked_of, form_in, is_word, usage, with_form, with_neighbour, with_option, with_peer, with_rounds, with_wish, with_word};
 
 use gs_program::refuse_arguments;
 use gs_snapshots::{Form, Wanted, all_scores};
@@ -13,33 +13,95 @@ use std::process::ExitCode;
 
 /// How the program is called.
 pub const USAGE: &str =
-    "usage: gossip_scores [--peer NAME] [--neighbour NAME] [--rounds A..B] [--format json|csv]\n";
+    "usage: gossip_scores [--peer NAME] [--neighbour NAME] [--rounds A..B] [--format json|csv | --summary]\n";
 
-/// The scores that the arguments ask for: all where there are none. None where they ask for nothing that there is.
-pub fn asked_by(arguments: &[String]) -> Option<Wanted<'_>>
-    ensures { option_map wishes_of result ≡ asked_for (map string_bytes arguments.now) }
-{
-    asked_from(all_scores(), arguments)
+/// What the arguments ask for.
+#[derive(Clone, Copy, Debug, Drop)]
+pub struct Asked<'a> {
+    /// Which scores.
+    pub wanted: Wanted<'a>,
+    /// Whether they are summed up.
+    pub is_summary: bool,
 }
 
-/// What options ask for beside others, each with its value. An option comes once at most, so this calls itself four times
-/// at most.
-fn asked_from<'a>(wanted: Wanted<'a>, arguments: &'a [String]) -> Option<Wanted<'a>>
-    ensures { option_map wishes_of result ≡ asked_from (Some (wishes_of wanted.entry)) (map string_bytes arguments.now) }
+/// What the arguments ask for: all scores where there are none. None where they ask for nothing that there is.
+pub fn asked_by(arguments: &[String]) -> Option<Asked<'_>>
+    ensures { option_map asked_of result ≡ asked_for (map string_bytes arguments.now) }
+{
+    let asked = Asked {
+        wanted: all_scores(),
+        is_summary: false,
+    };
+    asked_from(asked, arguments)
+}
+
+/// What options ask for beside others. Each but `--summary` has a value. An option comes once at most, so this calls
+/// itself five times at most.
+fn asked_from<'a>(asked: Asked<'a>, arguments: &'a [String]) -> Option<Asked<'a>>
+    ensures { option_map asked_of result ≡ asked_from (Some (asked_of asked.entry)) (map string_bytes arguments.now) }
 {
     match arguments {
-        [] => Some(wanted),
-        [_] => None,
-        [name, value, more @ ..] => match with_option(wanted, name, value) {
-            Some(next) => asked_from(next, more),
-            None => None,
-        },
+        [] => Some(asked),
+        [name] => with_word(asked, name),
+        [name, value, more @ ..] => {
+            if is_word(name) {
+                return match with_word(asked, name) {
+                    Some(next) => asked_from(next, &arguments[1..]),
+                    None => None,
+                };
+            }
+            match with_option(asked, name, value) {
+                Some(next) => asked_from(next, more),
+                None => None,
+            }
+        }
     }
 }
 
-/// What an option asks for beside others. None where there is no such option, or it came before.
-fn with_option<'a>(wanted: Wanted<'a>, name: &str, value: &'a str) -> Option<Wanted<'a>>
-    ensures { option_map wishes_of result ≡ with_option (wishes_of wanted.entry) name.now value.now }
+/// Whether it is an option without a value.
+fn is_word(name: &str) -> bool
+    ensures { result ≡ is_word name.now }
+{
+    name == "--summary"
+}
+
+/// What an option without a value asks for beside others. None where there is no such option, it came before, or a form is
+/// asked for.
+fn with_word<'a>(asked: Asked<'a>, name: &str) -> Option<Asked<'a>>
+    ensures { option_map asked_of result ≡ with_word (asked_of asked.entry) name.now }
+{
+    if !is_word(name) {
+        return None;
+    }
+    if asked.is_summary {
+        return None;
+    }
+    match asked.wanted.form {
+        None => Some(Asked {
+            is_summary: true,
+            ..asked
+        }),
+        Some(_) => None,
+    }
+}
+
+/// What an option asks for beside others. None where there is no such option, it came before, or it asks for a form of
+/// what is summed up.
+fn with_option<'a>(asked: Asked<'a>, name: &str, value: &'a str) -> Option<Asked<'a>>
+    ensures { option_map asked_of result ≡ with_option (asked_of asked.entry) name.now value.now }
+{
+    if asked.is_summary && name == "--format" {
+        return None;
+    }
+    match with_wish(asked.wanted, name, value) {
+        Some(wanted) => Some(Asked { wanted, ..asked }),
+        None => None,
+    }
+}
+
+/// What an option asks for beside other wishes. None where there is no such option, or it came before.
+fn with_wish<'a>(wanted: Wanted<'a>, name: &str, value: &'a str) -> Option<Wanted<'a>>
+    ensures { option_map wishes_of result ≡ with_wish (wishes_of wanted.entry) name.now value.now }
 {
     if name == "--peer" {
         return with_peer(wanted, value);

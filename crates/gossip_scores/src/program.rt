@@ -1,30 +1,32 @@
 //! The program: it writes the scores of the run of the scenario that it reads.
-ghost use Rattle.std.specs.Prelude.{◌≡◌, false, true, map, string_bytes};
+ghost use Rattle.std.specs.Io.KnownBytes.{Appends};
+ghost use Rattle.std.specs.Prelude.{◌≡◌, OnErr, OnOk, false, true, map, string_bytes};
 ghost use Rattle.std.specs.Process.{exit_status};
+ghost use Rattle.gs_plan.specs.Plans.{IsInRange};
 ghost use Rattle.gs_program.specs.Program.{EndsWith};
-ghost use Rattle.gs_snapshots.specs.Scores.{scores_text};
-ghost use Rattle.gs_snapshots.specs.Wishes.{wishes_of};
-ghost use Rattle.gossip_scores.specs.Arguments.{asked_for};
-ghost use Rattle.gossip_scores.specs.Printed.{EndsFor, as_printed};
+ghost use Rattle.gs_seats.specs.Reports.{IsReport};
+ghost use Rattle.gs_streams.specs.Streams.{AppendsFront};
+ghost use Rattle.gossip_scores.specs.Arguments.{asked_for, asked_of};
+ghost use Rattle.gossip_scores.specs.Printed.{EndsFor, as_printed, printed_for};
 
-use crate::arguments::{asked_by, refuse};
+use crate::arguments::{Asked, asked_by, refuse};
 use gs_plan::Plan;
 use gs_program::{PrintFault, Printer, Program};
 use gs_report::Report;
-use gs_snapshots::{Wanted, write_scores};
+use gs_snapshots::{write_scores, write_summary};
 use gs_trace::TraceFault;
 use std::alloc::Global;
 use std::io::{Read, Write};
 use std::process::ExitCode;
 
-/// Makes the text of the scores that are wanted.
+/// Makes the text of the scores that are asked for, or sums them up.
 #[derive(Clone, Copy, Debug, Drop)]
 struct ScoresOf<'a> {
-    wanted: Wanted<'a>,
+    asked: Asked<'a>,
 }
 
 impl<'a> Printer for ScoresOf<'a> {
-    ghost text = { λ printer plan report. scores_text (wishes_of printer.wanted) plan report };
+    ghost text = { λ printer plan report. printed_for (asked_of printer.asked) plan report };
 
     ghost in_parts = { true };
 
@@ -35,11 +37,32 @@ impl<'a> Printer for ScoresOf<'a> {
         report: &Report,
         output: &mut W,
     ) -> Result<(), PrintFault> {
-        match write_scores(alloc, plan, report, &self.wanted, output) {
+        match write_asked(alloc, plan, report, &self.asked, output) {
             Ok(()) => Ok(()),
             Err(fault) => Err(as_printed(fault)),
         }
     }
+}
+
+/// Writes what is asked for.
+fn write_asked<W: Write>(
+    alloc: Global,
+    plan: &Plan,
+    report: &Report,
+    asked: &Asked<'_>,
+    output: &mut W,
+) -> Result<(), TraceFault>
+    requires range { IsInRange plan.now }
+    requires run { IsReport plan.now report.now }
+    ensures whole { OnOk result (Appends (W.contents output.old) (W.contents output.new)
+        (printed_for (asked_of asked.now) plan.now report.now)) }
+    ensures front { OnErr result (AppendsFront (W.contents output.old) (W.contents output.new)
+        (printed_for (asked_of asked.now) plan.now report.now)) }
+{
+    if asked.is_summary {
+        return write_summary(alloc, plan, report, &asked.wanted, output);
+    }
+    write_scores(alloc, plan, report, &asked.wanted, output)
 }
 
 /// What a fault of scores is to a printer. Where there was no memory, a front of the text may have been written.
@@ -71,15 +94,15 @@ where
         (W.contents output.old) (W.contents output.new) (E.contents errors.old) (E.contents errors.new) }
 {
     match asked_by(arguments) {
-        Some(wanted) => run_to_exit(alloc, wanted, input, output, errors),
+        Some(asked) => run_to_exit(alloc, asked, input, output, errors),
         None => refuse(errors),
     }
 }
 
-/// Runs the program for the scores that are wanted.
+/// Runs the program for what is asked for.
 fn run_to_exit<R, W, E>(
     alloc: Global,
-    wanted: Wanted<'_>,
+    asked: Asked<'_>,
     input: &mut R,
     output: &mut W,
     errors: &mut E,
@@ -88,13 +111,13 @@ where
     R: Read,
     W: Write,
     E: Write,
-    ensures { EndsWith (scores_text (wishes_of wanted.entry)) true false (exit_status result)
+    ensures { EndsWith (printed_for (asked_of asked.entry)) true false (exit_status result)
         (R.remaining input.old) (R.remaining input.new)
         (W.contents output.old) (W.contents output.new) (E.contents errors.old) (E.contents errors.new) }
 {
     let program = Program {
         alloc,
-        printer: ScoresOf { wanted },
+        printer: ScoresOf { asked },
     };
     program.run_to_exit(input, output, errors)
 }

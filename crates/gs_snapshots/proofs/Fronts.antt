@@ -50,7 +50,7 @@ front_reversed {A = A} xs i d low is =
 -- ---- traces
 
 -- the moments of a trace, and then that of one entry more
-moments_more : (plan : Plan) (p : PeerNo) (e : Entry) (L : Entries) → moments plan p (e ∷ L) ≡ moments plan p L ++ newest_moment plan p (e ∷ L)
+pub moments_more : (plan : Plan) (p : PeerNo) (e : Entry) (L : Entries) → moments plan p (e ∷ L) ≡ moments plan p L ++ newest_moment plan p (e ∷ L)
 moments_more plan p e L =
     ap (flat_map (newest_moment plan p)) (reverse-append ((e ∷ L) ∷ []) (traces_so_far L))
     ∙ flat_map-append (newest_moment plan p) (reverse (traces_so_far L)) ((e ∷ L) ∷ [])

@@ -1,2 +1,9 @@
+mod Counts
 mod Fronts
 mod Adding
+mod Lowest
+mod Mapped
+mod Noted
+mod Said
+mod Seeing
+mod Summed

@@ -6,3 +6,12 @@ pub mod Csv
 pub mod Forms
 pub mod Scores
 pub mod Telling
+pub mod Lowest
+pub mod Courses
+pub mod Falls
+pub mod Loads
+pub mod Summary
+pub mod TraceSummaries
+pub mod SummaryText
+pub mod Noting
+pub mod Summing

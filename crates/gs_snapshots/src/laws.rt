@@ -1,5 +1,5 @@
-//! What each snapshot of a score promises. The law holds of its definitions only, and its function does nothing.
-ghost use Rattle.std.specs.Prelude.{◌≡◌, map};
+//! What snapshots of scores and their summaries promise. Each law holds of definitions only, and its function does nothing.
+ghost use Rattle.std.specs.Prelude.{◌≡◌, [], int_lt, false, map, List, None, Some};
 ghost use Rattle.gs_base.specs.declared.names.PeerNo.{PeerNo as PeerNoValue};
 ghost use Rattle.gs_score.specs.Accounts.{total};
 ghost use Rattle.gs_rules.specs.Peers.{Peer};
@@ -8,6 +8,12 @@ ghost use Rattle.gs_rules.specs.Tables.{Entries};
 ghost use Rattle.gs_snapshots.specs.Snapshots.{snapshot_of};
 ghost use Rattle.gs_snapshots.specs.declared.moments.Moment.{Moment as MomentValue};
 ghost use Rattle.gs_snapshots.specs.declared.snapshot.OnTopic.{OnTopic as OnTopicValue};
+ghost use Rattle.std.specs.List.{AllByRecursion};
+ghost use Rattle.gs_params.specs.declared.params.Params.{Params as ParamsValue};
+ghost use Rattle.gs_snapshots.specs.declared.snapshot.Snapshot.{Snapshot as SnapshotValue};
+ghost use Rattle.gs_snapshots.specs.Loads.{Load, amount_of, heaviest, loads};
+ghost use Rattle.gs_snapshots.specs.Lowest.{lowest};
+ghost use Rattle.gs_snapshots.specs.Summary.{score_in};
 
 /// The topics of a snapshot add up to its sum over topics. And its score is the one that decides what the neighbour gets at
 /// that moment, after that trace.
@@ -17,4 +23,16 @@ pub fn a_snapshot_adds_up()
         ≡ total (map (λ (x : OnTopicValue). x.parts.topic_score) (snapshot_of p m q).topics) }
     ensures decides { (p : Peer) (m : MomentValue × Entries) (q : PeerNoValue)
         → (snapshot_of p m q).parts.score ≡ score p m.1 m.0.at.0 q }
+{}
+
+/// Nothing is below the lowest: no score of a list of snapshots, and no part of a score. Only a list of nothing has no
+/// lowest.
+pub fn nothing_is_below_the_lowest()
+    ensures scores { (ss : List SnapshotValue) (s : SnapshotValue)
+        → lowest score_in ss ≡ Some s
+        → AllByRecursion (λ (other : SnapshotValue). int_lt other.parts.score s.parts.score ≡ false) ss }
+    ensures some_score { (ss : List SnapshotValue) → lowest score_in ss ≡ None → ss ≡ [] }
+    ensures parts { (params : ParamsValue) (s : SnapshotValue) (x : Load)
+        → heaviest params s ≡ Some x
+        → AllByRecursion (λ (other : Load). int_lt other.amount x.amount ≡ false) (loads params s) }
 {}

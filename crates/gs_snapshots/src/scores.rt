@@ -144,7 +144,7 @@ fn write_peer<W: Write>(
 }
 
 /// The neighbours of a peer that are wanted, by number.
-fn wanted_neighbours(
+pub(crate) fn wanted_neighbours(
     alloc: Global,
     plan: &Plan,
     wanted: &Wanted<'_>,
