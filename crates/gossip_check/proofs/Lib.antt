@@ -1,2 +1,4 @@
 pub mod PlainPlaces
 pub mod Verdicts
+pub mod Nearer
+pub mod Readings

@@ -11,13 +11,9 @@ use Rattle.gossip_check.specs.declared.answer.Verdict.TheVariants as verdicts
 use Rattle.gossip_check.specs.declared.program.ExitStatus.{ExitStatus}
 use Rattle.gossip_check.specs.declared.program.ExitStatus.TheVariants as ends
 use Rattle.gossip_check.specs.FirstLine.{first_line}
+use Rattle.gossip_check.specs.Summary.{summary}
 
 -- ---- answers
-
--- `ok` in a line of its own, and then some words
-pub record IsAcceptance (answer : List ℕ) : Type 0 where
-  pub words : List ℕ
-  pub text : answer ≡ codes "ok\n" ++ words
 
 -- the refusal's number and place in a line of their own, and then some words
 pub record IsRefusalText (fault : ScenarioFault) (answer : List ℕ) : Type 0 where
@@ -29,11 +25,11 @@ abbrev pub no_memory_answer : List ℕ
 no_memory_answer =
     codes "32\nthere is not enough memory to read the scenario, or to say what is wrong with it\n"
 
--- it says `ok`, and the whole input describes a plan
+-- it says `ok` and how much the plan has of each thing that the whole input describes
 pub record Accepts (input : Option (List ℕ)) (answer : List ℕ) : Type 0 where
   pub plan : Plan
   pub scenario : IsScenario input plan
-  pub text : IsAcceptance answer
+  pub text : answer ≡ summary plan
 
 -- it says the number and the place of the input's refusal, which is not out of memory
 pub record Refuses (input : Option (List ℕ)) (answer : List ℕ) : Type 0 where

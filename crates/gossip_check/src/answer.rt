@@ -1,15 +1,15 @@
-ghost use Rattle.std.specs.Prelude.{◌≡◌, ◌≤◌, IfOk, IfSome, List, Option, Some, ℕ, length};
+ghost use Rattle.std.specs.Prelude.{◌≡◌, ◌≤◌, Err, IfErr, IfOk, List, Ok, Some, ℕ, length};
+ghost use Rattle.gs_scenario.specs.declared.fault.ScenarioFault.TheVariants.{NoMemory};
 ghost use Rattle.gossip_check.specs.Program.{Answers, IsRefusalText, no_memory_answer};
-ghost use Rattle.gs_streams.specs.Inputs.{IsRefusal};
+ghost use Rattle.gossip_check.specs.Readings.{AnswersText, AnswersUnread, RefusesAs};
 ghost use Rattle.gs_streams.specs.Streams.{longest_input};
 
 use crate::first_line::first_line;
 use crate::reasons::reason;
 use crate::summary::summary;
 use gs_scenario::ScenarioFault;
-use gs_streams::{ReadFault, input_too_long, plan_from, read_input};
+use gs_streams::{ReadFault, input_too_long, plan_from};
 use std::alloc::{AllocError, Global};
-use std::io::Read;
 
 /// What an answer says of a scenario.
 #[derive(Clone, Copy, Debug, PartialEq, Eq)]
@@ -42,37 +42,39 @@ pub enum NoAnswer {
     NoMemory,
 }
 
-impl From<AllocError> for NoAnswer {
-    fn from(_error: AllocError) -> NoAnswer {
-        NoAnswer::NoMemory
+/// The answer to what was read of an input.
+///
+/// # Errors
+/// `InputFailed` where a read failed or the reads ran out, and `NoMemory`.
+pub fn answer_after(alloc: Global, reading: Result<Vec<u8>, ReadFault>) -> Result<Answer, NoAnswer>
+    requires short { IfOk reading (λ bytes. length bytes.items ≤ longest_input) }
+    ensures read { IfOk reading (λ bytes. AnswersText bytes.items result) }
+    ensures unread { IfErr reading (λ fault. AnswersUnread fault result) }
+{
+    match reading {
+        Ok(bytes) => answer_of(alloc, &bytes),
+        Err(fault) => answer_unread(alloc, fault),
     }
 }
 
-/// The answer to what an input holds.
-pub fn answer_to<R: Read>(alloc: Global, input: &mut R) -> Result<Answer, NoAnswer>
-    ensures { IfOk result (λ answer. Answers answer.verdict (R.remaining input.old) answer.text.items) }
+/// The answer to an input that was not read to its end.
+fn answer_unread(alloc: Global, fault: ReadFault) -> Result<Answer, NoAnswer>
+    ensures { AnswersUnread fault result }
 {
-    match read_input(alloc, input) {
-        Ok(bytes) => answer_of(alloc, &bytes),
-        Err(ReadFault::TooLong) => refusal_of(alloc, b"", &input_too_long(alloc)),
-        Err(ReadFault::Failed) => Err(NoAnswer::InputFailed),
-        Err(ReadFault::NoMemory) => Err(NoAnswer::NoMemory),
+    match fault {
+        ReadFault::Failed => Err(NoAnswer::InputFailed),
+        ReadFault::TooLong => refusal_of(alloc, b"", &input_too_long(alloc)),
+        ReadFault::NoMemory => Err(NoAnswer::NoMemory),
     }
 }
 
 /// The answer to the bytes of a whole input.
 fn answer_of(alloc: Global, bytes: &[u8]) -> Result<Answer, NoAnswer>
     requires { length bytes.now ≤ longest_input }
-    ensures { IfOk result (λ answer. Answers answer.verdict (Some bytes.now) answer.text.items) }
+    ensures { AnswersText bytes.now result }
 {
     match plan_from(alloc, bytes) {
-        Ok(plan) => {
-            let text = summary(alloc, &plan)?;
-            Ok(Answer {
-                verdict: Verdict::Accepted,
-                text,
-            })
-        }
+        Ok(plan) => answered(Verdict::Accepted, summary(alloc, &plan)),
         Err(fault) => refusal_of(alloc, bytes, &fault),
     }
 }
@@ -80,18 +82,24 @@ fn answer_of(alloc: Global, bytes: &[u8]) -> Result<Answer, NoAnswer>
 /// The answer to a scenario that is refused. The words are made from the bytes where they are no
 /// TOML.
 fn refusal_of(alloc: Global, bytes: &[u8], fault: &ScenarioFault) -> Result<Answer, NoAnswer>
-    ensures { IfOk result (λ answer. (input : Option (List ℕ))
-        → IfSome input (λ given. IsRefusal given fault.now)
-        → Answers answer.verdict input answer.text.items) }
+    ensures refuses { RefusesAs fault.now result }
+    ensures memory { fault.now ≡ NoMemory → result ≡ Err NoAnswer.NoMemory }
 {
     if fault.number() == 32 {
         return Err(NoAnswer::NoMemory);
     }
-    let text = refusal_text(alloc, bytes, fault)?;
-    Ok(Answer {
-        verdict: Verdict::Refused,
-        text,
-    })
+    answered(Verdict::Refused, refusal_text(alloc, bytes, fault))
+}
+
+/// The answer with a verdict and its text, if there was memory for that.
+fn answered(verdict: Verdict, made: Result<Vec<u8>, AllocError>) -> Result<Answer, NoAnswer>
+    ensures text { IfOk made (λ text. result ≡ Ok (record { verdict = verdict; text = text })) }
+    ensures none { IfErr made (λ _. result ≡ Err NoAnswer.NoMemory) }
+{
+    match made {
+        Ok(text) => Ok(Answer { verdict, text }),
+        Err(_) => Err(NoAnswer::NoMemory),
+    }
 }
 
 /// The text of a refusal: its first line, and then its reason in words.

@@ -1,10 +1,12 @@
 //! The program: what it reads, what it writes and how it ends.
-ghost use Rattle.std.specs.Prelude.{◌≡◌, List, Option, ℕ};
+ghost use Rattle.std.specs.Prelude.{◌≡◌, ◌≤◌, ◌↔◌, ◌⊎◌, Err, IfOk, List, Option, ℕ, length};
 ghost use Rattle.std.specs.Process.{exit_status};
+ghost use Rattle.gs_streams.specs.Streams.{longest_input};
 ghost use Rattle.gossip_check.specs.Program.{Answers, EndsAs, status_of};
+ghost use Rattle.gossip_check.specs.Readings.{EndsFor, IsReading};
 
-use crate::answer::{Answer, NO_MEMORY_ANSWER, NoAnswer, Verdict, answer_to};
-use gs_streams::{try_to_write, write_text};
+use crate::answer::{Answer, NO_MEMORY_ANSWER, NoAnswer, Verdict, answer_after};
+use gs_streams::{ReadFault, read_input, try_to_write, write_text};
 use std::alloc::Global;
 use std::io::{Read, Write};
 use std::process::ExitCode;
@@ -44,7 +46,40 @@ where
     ensures { EndsAs result (R.remaining input.old)
         (W.contents output.old) (W.contents output.new) (E.contents errors.old) (E.contents errors.new) }
 {
-    match answer_to(alloc, input) {
+    let reading = read_input(alloc, input);
+    finish(alloc, reading, output, errors)
+}
+
+/// Answers what was read, or says why there is no answer.
+fn finish<W, E>(
+    alloc: Global,
+    reading: Result<Vec<u8>, ReadFault>,
+    output: &mut W,
+    errors: &mut E,
+) -> ExitStatus
+where
+    W: Write,
+    E: Write,
+    requires short { IfOk reading (λ bytes. length bytes.items ≤ longest_input) }
+    ensures failed { (result ≡ ExitStatus.InputFailed) ↔ (reading ≡ Err ReadFault.Failed) }
+    ensures no_memory { reading ≡ Err ReadFault.NoMemory
+        → (result ≡ ExitStatus.Answered Verdict.NoMemory) ⊎ (result ≡ ExitStatus.OutputFailed) }
+    ensures ends { (input : Option (List ℕ)) → IsReading input reading → EndsAs result input
+        (W.contents output.old) (W.contents output.new) (E.contents errors.old) (E.contents errors.new) }
+{
+    tell(answer_after(alloc, reading), output, errors)
+}
+
+fn tell<W, E>(made: Result<Answer, NoAnswer>, output: &mut W, errors: &mut E) -> ExitStatus
+where
+    W: Write,
+    E: Write,
+    ensures end { EndsFor made result }
+    ensures ends { (input : Option (List ℕ))
+        → IfOk made (λ answer. Answers answer.verdict input answer.text.items) → EndsAs result input
+        (W.contents output.old) (W.contents output.new) (E.contents errors.old) (E.contents errors.new) }
+{
+    match made {
         Ok(Answer { verdict, text }) => tell_answer(verdict, &text, output, errors),
         Err(NoAnswer::NoMemory) => {
             tell_answer(
@@ -65,7 +100,8 @@ fn tell_answer<W, E>(verdict: Verdict, answer: &[u8], output: &mut W, errors: &m
 where
     W: Write,
     E: Write,
-    ensures { (input : Option (List ℕ)) → Answers verdict input answer.now → EndsAs result input
+    ensures end { (result ≡ ExitStatus.Answered verdict) ⊎ (result ≡ ExitStatus.OutputFailed) }
+    ensures ends { (input : Option (List ℕ)) → Answers verdict input answer.now → EndsAs result input
         (W.contents output.old) (W.contents output.new) (E.contents errors.old) (E.contents errors.new) }
 {
     if write_text(output, answer).is_err() {

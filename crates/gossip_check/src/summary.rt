@@ -1,6 +1,7 @@
 //! What is said of a scenario that is fine.
-ghost use Rattle.std.specs.Prelude.{IfOk};
-ghost use Rattle.gossip_check.specs.Program.{IsAcceptance};
+ghost use Rattle.std.specs.Prelude.{◌≡◌, IfOk, OnOk, Some, ◌++◌, string_bytes};
+ghost use Rattle.gs_plan.specs.Plans.{IsInRange};
+ghost use Rattle.gossip_check.specs.Summary.{connections_text, counted, length_text, links_text, peers_text, rounds_text, script_text, seconds, summary, three_digits, time_text, topics_text};
 
 use gs_plan::Plan;
 use std::alloc::{AllocError, Global};
@@ -15,18 +16,22 @@ struct Count<'a> {
 }
 
 impl<'a> fmt::Display for Count<'a> {
+    ghost output = { λ count. Some (counted count.number count.one.now count.many.now) };
+
     fn fmt<W: fmt::Write>(&self, f: &mut fmt::Formatter<W>) -> fmt::Result {
-        let noun = if self.number == 1 {
-            self.one
-        } else {
-            self.many
-        };
-        write!(f, "{} {noun}", self.number)
+        if self.number == 1 {
+            return write!(f, "{} {}", self.number, self.one);
+        }
+        write!(f, "{} {}", self.number, self.many)
     }
 }
 
 impl<'a> Count<'a> {
-    fn of(number: usize, one: &'a str, many: &'a str) -> Count<'a> {
+    fn of(number: usize, one: &'a str, many: &'a str) -> Count<'a>
+        ensures number { result.number ≡ number }
+        ensures one { result.one.now ≡ one.now }
+        ensures many { result.many.now ≡ many.now }
+    {
         Count {
             number: number as u64,
             one,
@@ -40,45 +45,108 @@ impl<'a> Count<'a> {
 struct Seconds(u64);
 
 impl fmt::Display for Seconds {
+    ghost output = { λ time. Some (seconds time.0) };
+
     fn fmt<W: fmt::Write>(&self, f: &mut fmt::Formatter<W>) -> fmt::Result {
-        let whole = self.0 / 1000;
-        match self.0 % 1000 {
-            0 => write!(f, "{whole} s"),
-            part => write!(f, "{whole}.{part:03} s"),
+        let (whole, part) = (self.0 / 1000, self.0 % 1000);
+        if part == 0 {
+            return write!(f, "{whole} s");
         }
+        write!(f, "{whole}.{} s", Thousandths(part))
     }
 }
 
-/// `ok`, and how much the plan has of each thing. A dial is one connection of two links. The rounds
-/// begin with round 0, so there is one more than the number of the last.
+/// A number below 1000, which is shown in three digits.
+#[derive(Clone, Copy)]
+struct Thousandths(u64);
+
+impl fmt::Display for Thousandths {
+    ghost output = { λ part. Some (three_digits part.0) };
+
+    fn fmt<W: fmt::Write>(&self, f: &mut fmt::Formatter<W>) -> fmt::Result {
+        let (hundreds, tens, ones) = (self.0 / 100, self.0 / 10 % 10, self.0 % 10);
+        write!(f, "{hundreds}{tens}{ones}")
+    }
+}
+
+/// `ok`, and how much a plan has of each thing: who takes part, what happens, and for how long.
 pub fn summary(alloc: Global, plan: &Plan) -> Result<Vec<u8>, AllocError>
-    ensures { IfOk result (λ text. IsAcceptance text.items) }
+    requires { IsInRange plan.now }
+    ensures { IfOk result (λ text. text.items ≡ summary plan.now) }
 {
     let mut text = Vec::new(alloc);
     text.extend_from_slice(b"ok\n")?;
-    text.extend_from_slice(network(alloc, plan)?.as_bytes())?;
-    text.extend_from_slice(course(alloc, plan)?.as_bytes())?;
+    text.extend_from_slice(peers_text(alloc, plan)?.as_bytes())?;
+    text.extend_from_slice(connections_text(alloc, plan)?.as_bytes())?;
+    text.extend_from_slice(links_text(alloc, plan)?.as_bytes())?;
+    text.extend_from_slice(topics_text(alloc, plan)?.as_bytes())?;
+    text.extend_from_slice(rounds_text(alloc, plan)?.as_bytes())?;
+    text.extend_from_slice(length_text(alloc, plan)?.as_bytes())?;
+    text.extend_from_slice(time_text(alloc, plan)?.as_bytes())?;
+    text.extend_from_slice(script_text(alloc, plan)?.as_bytes())?;
     Ok(text)
 }
 
-/// Who takes part.
-fn network(alloc: Global, plan: &Plan) -> Result<String, AllocError> {
+fn peers_text(alloc: Global, plan: &Plan) -> Result<String, AllocError>
+    ensures { IfOk result (λ text. string_bytes text ≡ peers_text plan.now) }
+{
     let peers = Count::of(plan.peers.len(), "peer", "peers");
-    let connections = Count::of(plan.dials.len(), "connection", "connections");
-    let links = Count::of(plan.dials.len().saturating_mul(2), "link", "links");
-    let topics = Count::of(plan.params.topics.len(), "topic", "topics");
-    format!(in alloc; "{peers}, {connections} ({links}), {topics}\n")
+    format!(in alloc; "{peers}, ")
 }
 
-/// What happens, and for how long.
-fn course(alloc: Global, plan: &Plan) -> Result<String, AllocError> {
+fn connections_text(alloc: Global, plan: &Plan) -> Result<String, AllocError>
+    ensures { IfOk result (λ text. string_bytes text ≡ connections_text plan.now) }
+{
+    let connections = Count::of(plan.dials.len(), "connection", "connections");
+    format!(in alloc; "{connections} (")
+}
+
+/// A dial is one connection of two links.
+fn links_text(alloc: Global, plan: &Plan) -> Result<String, AllocError>
+    ensures { IfOk result (λ text. string_bytes text ≡ links_text plan.now) }
+{
+    let links = Count::of(plan.dials.len().saturating_mul(2), "link", "links");
+    format!(in alloc; "{links}), ")
+}
+
+fn topics_text(alloc: Global, plan: &Plan) -> Result<String, AllocError>
+    ensures { IfOk result (λ text. string_bytes text ≡ topics_text plan.now) }
+{
+    let topics = Count::of(plan.params.topics.len(), "topic", "topics");
+    format!(in alloc; "{topics}\n")
+}
+
+/// The rounds begin with round 0, so there is one more than the number of the last.
+fn rounds_text(alloc: Global, plan: &Plan) -> Result<String, AllocError>
+    requires { IsInRange plan.now }
+    ensures { IfOk result (λ text. string_bytes text ≡ rounds_text plan.now) }
+{
     let rounds = Count {
-        number: plan.rounds.saturating_add(1),
+        number: plan.rounds + 1,
         one: "round",
         many: "rounds",
     };
+    format!(in alloc; "{rounds} of ")
+}
+
+fn length_text(alloc: Global, plan: &Plan) -> Result<String, AllocError>
+    ensures { IfOk result (λ text. string_bytes text ≡ length_text plan.now) }
+{
     let length = plan.round_ms;
-    let time = Seconds(rounds.number.saturating_mul(length));
+    format!(in alloc; "{length} ms: ")
+}
+
+fn time_text(alloc: Global, plan: &Plan) -> Result<String, AllocError>
+    requires { IsInRange plan.now }
+    ensures { IfOk result (λ text. string_bytes text ≡ time_text plan.now) }
+{
+    let time = Seconds((plan.rounds + 1) * plan.round_ms);
+    format!(in alloc; "{time} of simulated time\n")
+}
+
+fn script_text(alloc: Global, plan: &Plan) -> Result<String, AllocError>
+    ensures { IfOk result (λ text. string_bytes text ≡ script_text plan.now) }
+{
     let lines = Count::of(plan.script.len(), "line", "lines");
-    format!(in alloc; "{rounds} of {length} ms: {time} of simulated time\n{lines} in the script\n")
+    format!(in alloc; "{lines} in the script\n")
 }

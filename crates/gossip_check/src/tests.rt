@@ -1,13 +1,15 @@
 //! Whole answers, and whole runs.
 mod agreements;
 mod cases;
+mod keys;
 mod params;
 mod values;
 
 use crate::answer::{NO_MEMORY_ANSWER, Verdict};
 use crate::program::{ExitStatus, run};
 use crate::tests::agreements::AGREEMENTS;
-use crate::tests::cases::{Case, FINE, KEYS, LINE, MISSING, NO_TOML, SCENARIO};
+use crate::tests::cases::{Case, FINE, LINE, MISSING, NO_TOML, SCENARIO};
+use crate::tests::keys::KEYS;
 use crate::tests::params::{BOUNDS, BOUNDS_OF_TOPIC, Bounds, OF_TOPIC, OutOfRange, PARAMS, SHARED};
 use crate::tests::values::{NAMES, VALUES};
 use gs_streams::fakes::{Broken, Narrow};

@@ -6,7 +6,7 @@ use Rattle.toml.specs.Data.{Members}
 use Rattle.toml.specs.Parse.{parse_document}
 use Rattle.gossip_edit.specs.Edits.{and_then, edited, edited_by}
 use Rattle.gossip_edit.specs.Endings.{Explains, Gives}
-use Rattle.gossip_edit.specs.Program.{IsNotChanged}
+use Rattle.gossip_edit.specs.Program.{IsNotMade}
 use Rattle.gossip_edit.specs.declared.edits.EditFault.{EditFault}
 use Rattle.gossip_edit.specs.declared.edits.Refusal.TheVariants.{Edit, NoToml, NotWritable, TooLong}
 use Rattle.gossip_edit.specs.declared.edits.NoChange.{NoChange}
@@ -40,18 +40,18 @@ explains-all one all step InputFailed is why = why
 explains-all one all step NoMemory is why = tt
 
 -- what explains that arguments were not followed explains that the scenario was not changed
-pub not_changed : (arguments : List (List ℕ)) (bytes : List ℕ) (before : Members) (cause : NoChange) → parse_document bytes ≡ Some before → Explains (edited 1 arguments before) cause
-    → IsNotChanged arguments (Some bytes) cause
-not_changed arguments bytes before (Refused (Edit fault)) holds why = record { before = before; holds = holds; refused = why }
-not_changed arguments bytes before (Refused TooLong) holds why = absurd why
-not_changed arguments bytes before (Refused NoToml) holds why = absurd why
-not_changed arguments bytes before (Refused NotWritable) holds why = absurd why
-not_changed arguments bytes before InputFailed holds why = absurd why
-not_changed arguments bytes before NoMemory holds why = tt
+pub not_made : (arguments : List (List ℕ)) (bytes : List ℕ) (before : Members) (cause : NoChange) → parse_document bytes ≡ Some before → Explains (edited 1 arguments before) cause
+    → IsNotMade arguments bytes cause
+not_made arguments bytes before (Refused (Edit fault)) holds why = record { before = before; holds = holds; refused = why }
+not_made arguments bytes before (Refused TooLong) holds why = absurd why
+not_made arguments bytes before (Refused NoToml) holds why = absurd why
+not_made arguments bytes before (Refused NotWritable) holds why = absurd why
+not_made arguments bytes before InputFailed holds why = absurd why
+not_made arguments bytes before NoMemory holds why = tt
 
 -- what is known of an error, where a `?` passes it on
-pub not_changed_err : {A : Type 0} (r : Result A NoChange) (arguments : List (List ℕ)) (bytes : List ℕ) (before : Members) (e : NoChange) (Q : NoChange → Type 0)
+pub not_made_err : {A : Type 0} (r : Result A NoChange) (arguments : List (List ℕ)) (bytes : List ℕ) (before : Members) (e : NoChange) (Q : NoChange → Type 0)
     → IsErrAnd r Q → ((y : NoChange) → Q y → y ≡ e) → parse_document bytes ≡ Some before → Explains (edited 1 arguments before) e
-    → IfErr r (IsNotChanged arguments (Some bytes))
-not_changed_err (Ok a) arguments bytes before e Q h same holds why = absurd h
-not_changed_err (Err y) arguments bytes before e Q h same holds why = rw (same y h) (not_changed arguments bytes before e holds why)
+    → IfErr r (IsNotMade arguments bytes)
+not_made_err (Ok a) arguments bytes before e Q h same holds why = absurd h
+not_made_err (Err y) arguments bytes before e Q h same holds why = rw (same y h) (not_made arguments bytes before e holds why)

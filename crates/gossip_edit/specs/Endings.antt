@@ -1,8 +1,11 @@
 -- How making a changed document ends.
-use Rattle.std.specs.Prelude.{◌≡◌, ⊤, Ok, Err, Result, MatchResult}
+use Rattle.std.specs.Prelude.{◌≡◌, ⊤, ℕ, Ok, Err, Result, MatchResult}
 use Rattle.gossip_edit.specs.declared.edits.EditFault.{EditFault}
+use Rattle.gossip_edit.specs.declared.edits.EditFault.TheVariants.{NoTable}
 use Rattle.gossip_edit.specs.declared.edits.NoChange.{NoChange}
 use Rattle.gossip_edit.specs.declared.edits.NoChange.TheVariants.{InputFailed, NoMemory, Refused}
+use Rattle.gossip_edit.specs.declared.places.PlaceFault.{PlaceFault}
+use Rattle.gossip_edit.specs.declared.places.PlaceFault.TheVariants as places
 use Rattle.gossip_edit.specs.declared.edits.Refusal.{Refusal}
 use Rattle.gossip_edit.specs.declared.edits.Refusal.TheVariants.{Edit, NoToml, NotWritable, TooLong}
 
@@ -22,3 +25,8 @@ Explains expected NoMemory = ⊤
 -- what was made is what was expected, or why not is explained
 abbrev pub Gives : {A B : Type 0} → (A → B) → Result A NoChange → Result B EditFault → Type 0
 Gives seen r expected = MatchResult r (λ a. expected ≡ Ok (seen a)) (Explains expected)
+
+-- why the key of argument n can't be set
+abbrev pub no_place : ℕ → PlaceFault → NoChange
+no_place n places.NoTable = Refused (Edit (NoTable n))
+no_place n places.NoMemory = NoMemory

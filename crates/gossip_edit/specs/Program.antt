@@ -1,5 +1,6 @@
 -- How a run of the program ends, and what it has then written.
-use Rattle.std.specs.Prelude.{◌≡◌, ◌<◌, ◌++◌, ◌-◌, ◌&&◌, ⊤, ℕ, Bool, false, nat_le, List, [], codes, decimal, length, Ok, Err, None, Option, Some, IfSome, IsUtf8, unwrap_or, slice_get}
+use Rattle.std.specs.Prelude.{◌≡◌, ◌<◌, ◌++◌, ◌-◌, ◌&&◌, ◌⊎◌, ⊤, ℕ, Bool, false, nat_le, List, [], codes, decimal, length, Vec, Result, Ok, Err, None, Option, Some, IfSome, IsUtf8, unwrap_or, slice_get}
+use Rattle.std.specs.Global.{Global}
 use Rattle.std.specs.Io.KnownBytes.{Appends, Keeps}
 use Rattle.toml_parser.specs.Strings.{recursion_limit}
 use Rattle.toml.specs.Data.{Members, members_depth, members_have_valid_dates}
@@ -14,6 +15,8 @@ use Rattle.gossip_edit.specs.declared.edits.Refusal.{Refusal}
 use Rattle.gossip_edit.specs.declared.edits.Refusal.TheVariants as refusals
 use Rattle.gossip_edit.specs.declared.edits.NoChange.{NoChange}
 use Rattle.gossip_edit.specs.declared.edits.NoChange.TheVariants as causes
+use Rattle.gs_streams.specs.declared.ReadFault.{ReadFault}
+use Rattle.gs_streams.specs.declared.ReadFault.TheVariants as reads
 use Rattle.gossip_edit.specs.declared.program.ExitStatus.{ExitStatus}
 use Rattle.gossip_edit.specs.declared.program.ExitStatus.TheVariants as ends
 
@@ -60,6 +63,27 @@ IsRefusal arguments bytes refusals.TooLong = longest_input < length bytes
 IsRefusal arguments bytes refusals.NoToml = IsUtf8 bytes → parse_document bytes ≡ None
 IsRefusal arguments bytes (refusals.Edit fault) = IsRefusedEdit arguments bytes fault
 IsRefusal arguments bytes refusals.NotWritable = IsNotWritable arguments bytes
+
+-- why the bytes of a scenario were not changed: they are refused so, or there was no memory. They were read.
+abbrev pub IsNotMade : List (List ℕ) → List ℕ → NoChange → Type 0
+IsNotMade arguments bytes (causes.Refused refusal) = IsRefusal arguments bytes refusal
+IsNotMade arguments bytes causes.InputFailed = ⊥
+IsNotMade arguments bytes causes.NoMemory = ⊤
+
+-- ---- readings
+
+-- the reading is one of this input: what was read is all of it, and it is called too long only where it is
+abbrev pub IsReading : Option (List ℕ) → Result (Vec ℕ Global) ReadFault → Type 0
+IsReading input (Ok bytes) = IfSome input (λ given. bytes.items ≡ given)
+IsReading input (Err reads.Failed) = ⊤
+IsReading input (Err reads.TooLong) = IfSome input (λ given. longest_input < length given)
+IsReading input (Err reads.NoMemory) = ⊤
+
+-- why nothing is changed that was not read to its end
+abbrev pub unread : ReadFault → NoChange
+unread reads.Failed = causes.InputFailed
+unread reads.TooLong = causes.Refused refusals.TooLong
+unread reads.NoMemory = causes.NoMemory
 
 -- why an input was not changed
 abbrev pub IsNotChanged : List (List ℕ) → Option (List ℕ) → NoChange → Type 0
@@ -152,6 +176,20 @@ EndsAs ends.OutputFailed arguments input output output' errors errors' =
     OutputFailed arguments input output output' errors errors'
 EndsAs ends.WrongArguments arguments input output output' errors errors' =
     WrongArguments arguments output output' errors errors'
+
+-- a line is on errors, or a front of it, and the program ends so
+pub record Says (words : List ℕ) (wanted status : ExitStatus) (errors errors' : Option (List ℕ)) : Type 0 where
+  pub status_is : status ≡ wanted
+  pub line : AppendsFront errors errors' words
+
+-- How the program ends where nothing was changed: each cause has its own end. Of a refusal that is the end where there was
+-- memory for its line.
+abbrev pub EndsFor : NoChange → List (List ℕ) → ExitStatus → (errors errors' : Option (List ℕ)) → Type 0
+EndsFor (causes.Refused refusal) arguments status errors errors' =
+    Says (refusal_line arguments refusal) ends.EditRefused status errors errors'
+    ⊎ Says no_memory_line ends.NoMemory status errors errors'
+EndsFor causes.InputFailed arguments status errors errors' = Says input_line ends.InputFailed status errors errors'
+EndsFor causes.NoMemory arguments status errors errors' = Says no_memory_line ends.NoMemory status errors errors'
 
 -- of arguments that can't be read only the line is said that belongs to the status
 abbrev pub RefusesArguments : ExitStatus → (errors errors' : Option (List ℕ)) → Type 0

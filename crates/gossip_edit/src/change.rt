@@ -1,57 +1,75 @@
-ghost use Rattle.std.specs.Prelude.{◌≡◌, ◌≢◌, IfErr, IfOk, Some, false, map, string_bytes};
+ghost use Rattle.std.specs.Prelude.{◌≡◌, ◌≢◌, Err, IfErr, IfOk, Some, false, map, string_bytes};
+ghost use Rattle.toml.specs.Errors.{IsMemory};
 ghost use Rattle.toml.specs.View.{table_view};
-ghost use Rattle.gossip_edit.specs.Program.{IsChanged, IsNotChanged, IsTextOf, is_writable};
+ghost use Rattle.gossip_edit.specs.Program.{IsChanged, IsNotMade, IsTextOf, is_writable, unread};
 
 use crate::edits::{NoChange, Refusal, edit_all};
 use crate::nesting::table_nests_within;
-use gs_streams::{ReadFault, read_input};
+use gs_streams::ReadFault;
 use std::alloc::Global;
-use std::io::Read;
 use toml::Table;
+use toml::de::Error;
 
 /// How deep a text may nest that is read again.
 const DEEPEST: u32 = 80;
 
-/// The text of the scenario that an input holds, with each argument's value at its key.
+/// The text of the scenario that was read, with each argument's value at its key.
 ///
 /// # Errors
 /// `InputFailed` where a read failed or the reads ran out, `Refused` with the first refusal, and
-/// `NoMemory`. The reader then stands after what was read.
-pub(crate) fn changed<R: Read>(
+/// `NoMemory`.
+pub(crate) fn changed(
     alloc: Global,
     arguments: &[String],
-    input: &mut R,
+    reading: Result<Vec<u8>, ReadFault>,
 ) -> Result<String, NoChange>
-    ensures ok { IfOk result (λ text. IsChanged (map string_bytes arguments.now) (R.remaining input.old) (string_bytes text)) }
-    ensures err { IfErr result (IsNotChanged (map string_bytes arguments.now) (R.remaining input.old)) }
+    ensures made { IfOk reading (λ bytes. IfOk result
+        (λ text. IsChanged (map string_bytes arguments.now) (Some bytes.items) (string_bytes text))) }
+    ensures refused { IfOk reading (λ bytes. IfErr result (IsNotMade (map string_bytes arguments.now) bytes.items)) }
+    ensures unread { IfErr reading (λ fault. result ≡ Err (unread fault)) }
 {
-    match read_input(alloc, input) {
+    match reading {
         Ok(bytes) => changed_text(alloc, arguments, &bytes),
-        Err(ReadFault::TooLong) => Err(NoChange::Refused(Refusal::TooLong)),
-        Err(ReadFault::Failed) => Err(NoChange::InputFailed),
-        Err(ReadFault::NoMemory) => Err(NoChange::NoMemory),
+        Err(fault) => Err(unread(fault)),
+    }
+}
+
+/// Why nothing is changed that was not read to its end.
+fn unread(fault: ReadFault) -> NoChange
+    ensures { result ≡ unread fault }
+{
+    match fault {
+        ReadFault::Failed => NoChange::InputFailed,
+        ReadFault::TooLong => NoChange::Refused(Refusal::TooLong),
+        ReadFault::NoMemory => NoChange::NoMemory,
     }
 }
 
 /// The text of a scenario with each argument's value at its key.
 fn changed_text(alloc: Global, arguments: &[String], bytes: &[u8]) -> Result<String, NoChange>
     ensures ok { IfOk result (λ text. IsChanged (map string_bytes arguments.now) (Some bytes.now) (string_bytes text)) }
-    ensures err { IfErr result (IsNotChanged (map string_bytes arguments.now) (Some bytes.now)) }
+    ensures err { IfErr result (IsNotMade (map string_bytes arguments.now) bytes.now) }
 {
     let Ok(text) = str::from_utf8(bytes) else {
         return Err(NoChange::Refused(Refusal::NoToml));
     };
     let mut table = match toml::table_from_str(alloc, text) {
         Ok(table) => table,
-        Err(fault) => {
-            if fault.is_memory() {
-                return Err(NoChange::NoMemory);
-            }
-            return Err(NoChange::Refused(Refusal::NoToml));
-        }
+        Err(fault) => return Err(no_document(&fault)),
     };
     edit_all(alloc, &mut table, arguments)?;
     text_of(alloc, &table)
+}
+
+/// Why a text is no document.
+fn no_document(fault: &Error) -> NoChange
+    ensures memory { IsMemory fault.now → result ≡ NoChange.NoMemory }
+    ensures other { ¬ IsMemory fault.now → result ≡ NoChange.Refused Refusal.NoToml }
+{
+    if fault.is_memory() {
+        return NoChange::NoMemory;
+    }
+    NoChange::Refused(Refusal::NoToml)
 }
 
 /// The text of a document; a document that can't be written is refused.

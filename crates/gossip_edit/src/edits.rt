@@ -2,11 +2,13 @@
 ghost use Rattle.std.specs.Prelude.{◌≡◌, map, string_bytes};
 ghost use Rattle.toml.specs.View.{table_view};
 ghost use Rattle.gossip_edit.specs.Edits.{edited, edited_by};
-ghost use Rattle.gossip_edit.specs.Endings.{Gives};
+ghost use Rattle.toml.specs.Errors.{IsMemory};
+ghost use Rattle.gossip_edit.specs.Endings.{Gives, no_place};
 
 use crate::keys::{is_key, key_and_value};
 use crate::places::{PlaceFault, set_in_table};
 use std::alloc::Global;
+use toml::de::Error;
 use toml::{Table, Value};
 
 /// Why an argument can't be followed. A number counts the arguments from 1.
@@ -83,16 +85,31 @@ fn edit_by(alloc: Global, table: &mut Table, number: usize, argument: &str) -> R
     }
     let value = match Value::from_str(alloc, text) {
         Ok(value) => value,
-        Err(fault) => {
-            if fault.is_memory() {
-                return Err(NoChange::NoMemory);
-            }
-            return Err(EditFault::NoValue(number).into());
-        }
+        Err(fault) => return Err(no_value(&fault, number)),
     };
     match set_in_table(alloc, table, key, value) {
         Ok(()) => Ok(()),
-        Err(PlaceFault::NoTable) => Err(EditFault::NoTable(number).into()),
-        Err(PlaceFault::NoMemory) => Err(NoChange::NoMemory),
+        Err(fault) => Err(no_place(fault, number)),
+    }
+}
+
+/// Why the value of the argument with this number is none.
+fn no_value(fault: &Error, number: usize) -> NoChange
+    ensures memory { IsMemory fault.now → result ≡ NoChange.NoMemory }
+    ensures other { ¬ IsMemory fault.now → result ≡ NoChange.Refused (Refusal.Edit (EditFault.NoValue number)) }
+{
+    if fault.is_memory() {
+        return NoChange::NoMemory;
+    }
+    EditFault::NoValue(number).into()
+}
+
+/// Why the key of the argument with this number can't be set.
+fn no_place(fault: PlaceFault, number: usize) -> NoChange
+    ensures { result ≡ no_place number fault }
+{
+    match fault {
+        PlaceFault::NoTable => EditFault::NoTable(number).into(),
+        PlaceFault::NoMemory => NoChange::NoMemory,
     }
 }

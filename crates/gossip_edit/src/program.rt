@@ -1,13 +1,13 @@
 //! The program: what it reads, what it writes and how it ends.
-ghost use Rattle.std.specs.Prelude.{◌≡◌, ◌↔◌, List, Option, map, string_bytes, ℕ};
+ghost use Rattle.std.specs.Prelude.{◌≡◌, ◌↔◌, ◌⊎◌, Err, List, Option, map, string_bytes, ℕ};
 ghost use Rattle.std.specs.Process.{exit_status};
-ghost use Rattle.gossip_edit.specs.Program.{EndsAs, IsChanged, IsNotChanged, RefusesArguments, status_of};
+ghost use Rattle.gossip_edit.specs.Program.{EndsAs, EndsFor, IsChanged, IsNotChanged, IsReading, RefusesArguments, status_of};
 
 use crate::change::changed;
 use crate::edits::NoChange;
 use crate::keys::are_edits;
 use crate::reasons::refusal_line;
-use gs_streams::{try_to_write, write_text};
+use gs_streams::{ReadFault, read_input, try_to_write, write_text};
 use std::alloc::Global;
 use std::io::{ErrorKind, Read, Write};
 use std::process::ExitCode;
@@ -71,7 +71,30 @@ where
         try_to_write(errors, USAGE);
         return ExitStatus::WrongArguments;
     }
-    match changed(alloc, arguments, input) {
+    let reading = read_input(alloc, input);
+    finish(alloc, arguments, reading, output, errors)
+}
+
+/// Changes what was read, and writes it or says why there is nothing to write.
+fn finish<W, E>(
+    alloc: Global,
+    arguments: &[String],
+    reading: Result<Vec<u8>, ReadFault>,
+    output: &mut W,
+    errors: &mut E,
+) -> ExitStatus
+where
+    W: Write,
+    E: Write,
+    ensures failed { (result ≡ ExitStatus.InputFailed) ↔ (reading ≡ Err ReadFault.Failed) }
+    ensures too_long { reading ≡ Err ReadFault.TooLong
+        → (result ≡ ExitStatus.EditRefused) ⊎ (result ≡ ExitStatus.NoMemory) }
+    ensures no_memory { reading ≡ Err ReadFault.NoMemory → result ≡ ExitStatus.NoMemory }
+    ensures ends { (input : Option (List ℕ)) → IsReading input reading
+        → EndsAs result (map string_bytes arguments.now) input
+        (W.contents output.old) (W.contents output.new) (E.contents errors.old) (E.contents errors.new) }
+{
+    match changed(alloc, arguments, reading) {
         Ok(text) => write_changed(text.as_str(), output, errors),
         Err(cause) => tell_cause(alloc, arguments, cause, errors),
     }
@@ -94,7 +117,8 @@ fn write_changed<W, E>(text: &str, output: &mut W, errors: &mut E) -> ExitStatus
 where
     W: Write,
     E: Write,
-    ensures { (arguments : List (List ℕ)) → (input : Option (List ℕ))
+    ensures end { (result ≡ ExitStatus.Changed) ⊎ (result ≡ ExitStatus.OutputFailed) }
+    ensures ends { (arguments : List (List ℕ)) → (input : Option (List ℕ))
         → IsChanged arguments input text.now
         → EndsAs result arguments input
         (W.contents output.old) (W.contents output.new) (E.contents errors.old) (E.contents errors.new) }
@@ -113,7 +137,8 @@ fn tell_cause<E: Write>(
     cause: NoChange,
     errors: &mut E,
 ) -> ExitStatus
-    ensures { (input : Option (List ℕ)) → (output : Option (List ℕ))
+    ensures end { EndsFor cause (map string_bytes arguments.now) result (E.contents errors.old) (E.contents errors.new) }
+    ensures ends { (input : Option (List ℕ)) → (output : Option (List ℕ))
         → IsNotChanged (map string_bytes arguments.now) input cause
         → EndsAs result (map string_bytes arguments.now) input output output (E.contents errors.old) (E.contents errors.new) }
 {

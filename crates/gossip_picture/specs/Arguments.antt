@@ -1,18 +1,19 @@
 -- What the program's arguments ask for.
-use Rattle.std.specs.Prelude.{◌≡◌, ℕ, List, [], ◌∷◌, codes}
+use Rattle.std.specs.Prelude.{ℕ, List, [], ◌∷◌, codes, Option, Some, None}
 use Rattle.gossip_picture.specs.declared.arguments.Asked.{Asked}
 use Rattle.gossip_picture.specs.declared.arguments.Asked.TheVariants.{First, Named}
 
--- it is the topic of that name
-abbrev pub IsNamed : List ℕ → Asked → Type 0
-IsNamed name First = ⊥
-IsNamed name (Named other) = other.now ≡ name
+-- the name of the topic that is asked for: none where it is the first one
+abbrev pub name_in : Asked → Option (List ℕ)
+name_in First = None
+name_in (Named name) = Some name.now
 
--- the arguments ask for this topic: the first one where there are none
-abbrev pub AskFor : List (List ℕ) → Asked → Type 0
-AskFor [] asked = asked ≡ First
-AskFor (name ∷ []) asked = IsNamed name asked
-AskFor (name ∷ other ∷ more) asked = ⊥
+-- What the arguments ask for: the first topic where there are none, and the topic of a name where that is the only
+-- argument. Several ask for nothing that there is.
+abbrev pub asked_for : List (List ℕ) → Option (Option (List ℕ))
+asked_for [] = Some None
+asked_for (name ∷ []) = Some (Some name)
+asked_for (name ∷ other ∷ more) = None
 
 -- what is said where they are too many
 abbrev pub usage : List ℕ

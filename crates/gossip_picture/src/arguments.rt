@@ -1,8 +1,8 @@
 //! What the program's arguments ask for.
-ghost use Rattle.std.specs.Prelude.{◌≡◌, IfSome, codes, map, string_bytes};
+ghost use Rattle.std.specs.Prelude.{◌≡◌, map, option_map, string_bytes};
 ghost use Rattle.std.specs.Process.{exit_status};
 ghost use Rattle.gs_program.specs.Arguments.{IsRefusedSo, wrong_arguments};
-ghost use Rattle.gossip_picture.specs.Arguments.{AskFor, usage};
+ghost use Rattle.gossip_picture.specs.Arguments.{asked_for, name_in, usage};
 
 use gs_program::refuse_arguments;
 use std::io::Write;
@@ -22,7 +22,7 @@ pub enum Asked<'a> {
 
 /// The topic that the arguments ask for: the first one where there are none. None where there are several.
 pub fn asked_of(arguments: &[String]) -> Option<Asked<'_>>
-    ensures { IfSome result (λ asked. AskFor (map string_bytes arguments.now) asked) }
+    ensures { option_map name_in result ≡ asked_for (map string_bytes arguments.now) }
 {
     match arguments {
         [] => Some(Asked::First),

@@ -5,24 +5,20 @@
 mod arguments;
 mod program;
 
-use crate::arguments::{USAGE, asked_of};
+use crate::arguments::USAGE;
 use gs_program::{arguments_of, refuse_unread};
 use std::process::ExitCode;
 
 fn main(rt: HostRuntime) -> ExitCode {
-    let arguments = match arguments_of(&rt) {
-        Ok(arguments) => arguments,
-        Err(fault) => return refuse_unread(fault.kind(), &mut rt.stderr(), USAGE),
-    };
-    match asked_of(&arguments) {
-        Some(asked) => program::run_to_exit(
+    match arguments_of(&rt) {
+        Ok(arguments) => program::run(
             rt.alloc(),
-            asked,
+            arguments.as_slice(),
             &mut rt.stdin(),
             &mut rt.stdout(),
             &mut rt.stderr(),
         ),
-        None => arguments::refuse(&mut rt.stderr()),
+        Err(fault) => refuse_unread(fault.kind(), &mut rt.stderr(), USAGE),
     }
 }
 

@@ -1,10 +1,11 @@
 //! The program: it draws the run of the scenario that it reads.
-ghost use Rattle.std.specs.Prelude.{◌≡◌, false, IfOk};
+ghost use Rattle.std.specs.Prelude.{◌≡◌, false, IfOk, map, string_bytes};
 ghost use Rattle.std.specs.Process.{exit_status};
 ghost use Rattle.gs_program.specs.Program.{EndsWith};
-ghost use Rattle.gossip_picture.specs.Printed.{printed, topic_in};
+ghost use Rattle.gossip_picture.specs.Arguments.{asked_for, name_in};
+ghost use Rattle.gossip_picture.specs.Printed.{EndsFor, printed, topic_in};
 
-use crate::arguments::Asked;
+use crate::arguments::{Asked, asked_of, refuse};
 use bytes::Bytes;
 use gs_base::{Topic, clone_of};
 use gs_picture::{first_topic, picture_svg};
@@ -22,7 +23,7 @@ struct PictureOf<'a> {
 }
 
 impl<'a> Printer for PictureOf<'a> {
-    ghost text = { λ printer plan report. printed printer.asked plan report };
+    ghost text = { λ printer plan report. printed (name_in printer.asked) plan report };
 
     ghost in_parts = { false };
 
@@ -44,7 +45,7 @@ fn printed(
     plan: &Plan,
     report: &Report,
 ) -> Result<Vec<u8>, AllocError>
-    ensures { IfOk result (λ text. text.items ≡ printed asked.entry plan.now report.now) }
+    ensures { IfOk result (λ text. text.items ≡ printed (name_in asked.entry) plan.now report.now) }
 {
     let topic = topic_in(alloc, plan, asked)?;
     picture_svg(alloc, plan, report, &topic)
@@ -52,7 +53,7 @@ fn printed(
 
 /// The topic that is asked for. Where the script subscribes to none, the first one is the empty one.
 fn topic_in(alloc: Global, plan: &Plan, asked: Asked<'_>) -> Result<Topic, AllocError>
-    ensures { IfOk result (λ topic. topic ≡ topic_in plan.now asked.entry) }
+    ensures { IfOk result (λ topic. topic ≡ topic_in plan.now (name_in asked.entry)) }
 {
     match asked {
         Asked::Named(name) => Ok(Topic(Bytes::copy_from_slice(alloc, name.as_bytes())?)),
@@ -63,8 +64,31 @@ fn topic_in(alloc: Global, plan: &Plan, asked: Asked<'_>) -> Result<Topic, Alloc
     }
 }
 
-/// Runs the program over these streams, and gives the status that its process ends with. Its ends are those of
-/// `gossip_sim`, and its text is the picture of the run for a topic.
+/// Runs the program with these arguments over these streams, and gives the status that its process ends with. Where the
+/// arguments ask for a topic, its ends are those of `gossip_sim`, and its text is the picture of the run for that topic. Else
+/// it reads no input, says on `errors` how it is called, and ends with 64.
+pub fn run<R, W, E>(
+    alloc: Global,
+    arguments: &[String],
+    input: &mut R,
+    output: &mut W,
+    errors: &mut E,
+) -> ExitCode
+where
+    R: Read,
+    W: Write,
+    E: Write,
+    ensures { EndsFor (asked_for (map string_bytes arguments.now)) (exit_status result)
+        (R.remaining input.old) (R.remaining input.new)
+        (W.contents output.old) (W.contents output.new) (E.contents errors.old) (E.contents errors.new) }
+{
+    match asked_of(arguments) {
+        Some(asked) => run_to_exit(alloc, asked, input, output, errors),
+        None => refuse(errors),
+    }
+}
+
+/// Runs the program for the topic that is asked for.
 pub fn run_to_exit<R, W, E>(
     alloc: Global,
     asked: Asked<'_>,
@@ -76,7 +100,7 @@ where
     R: Read,
     W: Write,
     E: Write,
-    ensures { EndsWith (printed asked.entry) false false (exit_status result)
+    ensures { EndsWith (printed (name_in asked.entry)) false false (exit_status result)
         (R.remaining input.old) (R.remaining input.new)
         (W.contents output.old) (W.contents output.new) (E.contents errors.old) (E.contents errors.new) }
 {

@@ -1,9 +1,10 @@
 //! Pictures, worked out by hand.
-use crate::arguments::{Asked, asked_of, refuse};
+use crate::arguments::Asked;
 use crate::program::run_to_exit;
-use std::alloc::{AllocError, Global};
 use std::process::ExitCode;
 use std::test::*;
+
+mod arguments;
 
 /// What each picture without names along the radius begins with.
 const OPENING: &str = "\
@@ -336,34 +337,4 @@ fn a_refused_scenario_has_no_picture(rt: HostRuntime) {
     );
     assert!(rt; code == ExitCode::from(1) && output.is_empty());
     assert!(rt; errors.as_slice() == b"scenario refused: 28 round_ms\n".as_slice());
-}
-
-/// Whether these arguments ask for the first topic, for the one that is given, or for none.
-fn ask_for(alloc: Global, words: &[&str], wanted: &str) -> Result<bool, AllocError> {
-    let mut arguments = Vec::new(alloc);
-    for word in words {
-        arguments.push(String::from_str(alloc, word)?)?;
-    }
-    Ok(match asked_of(&arguments) {
-        Some(Asked::First) => wanted == "(first)",
-        Some(Asked::Named(topic)) => wanted == topic,
-        None => wanted == "(none)",
-    })
-}
-
-#[test]
-fn arguments_ask_for_a_topic(rt: HostRuntime) -> Result<(), AllocError> {
-    let alloc = rt.alloc();
-    assert!(rt; ask_for(alloc, &[], "(first)")?);
-    assert!(rt; ask_for(alloc, &["news"], "news")?);
-    assert!(rt; ask_for(alloc, &[""], "")?);
-    assert!(rt; ask_for(alloc, &["news", "olds"], "(none)")?);
-    Ok(())
-}
-
-#[test]
-fn other_arguments_get_the_usage(rt: HostRuntime) {
-    let mut errors = Vec::new(rt.alloc());
-    assert!(rt; refuse(&mut errors) == ExitCode::from(64));
-    assert!(rt; errors.as_slice() == b"usage: gossip_picture [TOPIC]\n".as_slice());
 }

@@ -1,3 +1,4 @@
 pub mod Arguments
 pub mod Printing
 pub mod Program
+pub mod Endings

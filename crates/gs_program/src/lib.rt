@@ -4,6 +4,7 @@
 mod arguments;
 mod printer;
 mod program;
+mod reading;
 mod telling;
 
 pub use arguments::{arguments_of, refuse_arguments, refuse_unread};

@@ -1,22 +1,23 @@
 //! A program's run: what it reads, what it writes and how it ends.
 ghost use Rattle.std.specs.Io.KnownBytes.{IsAtEnd};
-ghost use Rattle.std.specs.Prelude.{◌≡◌, Bool, false, IfErr, IfOk, IfSome, List, OnOk, Option, ℕ};
+ghost use Rattle.std.specs.Prelude.{◌≡◌, Bool, false, IfErr, IfOk, List, OnOk, Option, ℕ};
 ghost use Rattle.std.specs.Process.{exit_status};
 ghost use Rattle.gs_plan.specs.Plans.{IsInRange};
 ghost use Rattle.gs_seats.specs.Reports.{IsReport};
-ghost use Rattle.gs_streams.specs.Inputs.{IsRefusal, IsScenario};
+ghost use Rattle.gs_streams.specs.Inputs.{IsScenario};
 ghost use Rattle.gs_report.specs.declared.report.Report.{Report as ReportValue};
+ghost use Rattle.gs_program.specs.Endings.{EndsPrinted, EndsUnprinted};
 ghost use Rattle.gs_program.specs.Printing.{Prints, StopsPrinting};
-ghost use Rattle.gs_program.specs.Program.{EndsAs, EndsWith, MayMeet, status_of};
+ghost use Rattle.gs_program.specs.Program.{EndsAs, EndsWith, MayMeet, TellsFault, status_of};
 
 use crate::printer::{PrintFault, Printer};
-use crate::telling::{tell_fault, tell_refusal};
+use crate::reading::plan_after;
+use crate::telling::tell_fault;
 use gs_direct::run_direct;
 use gs_plan::Plan;
 use gs_report::Report;
-use gs_scenario::ScenarioFault;
 use gs_seats::NetFault;
-use gs_streams::{ReadFault, input_too_long, plan_from, read_input, try_to_write};
+use gs_streams::{read_input, try_to_write};
 use std::alloc::Global;
 use std::io::{Read, Write};
 use std::mem;
@@ -111,17 +112,8 @@ impl<P: Printer> Program<P> {
             → EndsAs (P.text self.now.printer) P.in_parts needs status (R.remaining input.old) (R.remaining input.new)
             output output (E.contents errors.old) (E.contents errors.new)) }
     {
-        match plan_in(self.alloc, input) {
-            Ok(plan) => Ok(plan),
-            Err(NoPlan::InputFailed) => {
-                try_to_write(errors, "input failed\n");
-                Err(ExitStatus::InputFailed)
-            }
-            Err(NoPlan::Refused(fault)) => {
-                tell_refusal(self.alloc, errors, &fault);
-                Err(ExitStatus::ScenarioRefused)
-            }
-        }
+        let reading = read_input(self.alloc, input);
+        plan_after(self.alloc, reading, errors)
     }
 
     /// Writes a text of what a run of this plan, which is in range, left to the output. Where it left no report, or there is no memory for the
@@ -138,7 +130,9 @@ impl<P: Printer> Program<P> {
         E: Write,
         requires in_range { IsInRange plan.now }
         requires report { IfOk ran (IsReport plan.now) }
-        ensures { (needs : Bool) → IfErr ran (MayMeet needs)
+        ensures fault { IfErr ran (λ fault. (result ≡ ExitStatus.RunRefused)
+            × TellsFault plan.now fault (E.contents errors.old) (E.contents errors.new)) }
+        ensures ends { (needs : Bool) → IfErr ran (MayMeet needs)
             → (input input' : Option (List ℕ)) → IsScenario input plan.now → IsAtEnd input'
             → EndsAs (P.text self.now.printer) P.in_parts needs result input input'
             (W.contents output.old) (W.contents output.new) (E.contents errors.old) (E.contents errors.new) }
@@ -165,7 +159,8 @@ impl<P: Printer> Program<P> {
         printed: Result<(), PrintFault>,
         errors: &mut E,
     ) -> ExitStatus
-        ensures { (needs : Bool) (report : ReportValue) → IsReport plan.now report
+        ensures end { EndsPrinted plan.now printed result (E.contents errors.old) (E.contents errors.new) }
+        ensures ends { (needs : Bool) (report : ReportValue) → IsReport plan.now report
             → (output output' : Option (List ℕ))
             → Prints P.in_parts (P.text self.now.printer plan.now report) output output' printed
             → (input input' : Option (List ℕ)) → IsScenario input plan.now → IsAtEnd input'
@@ -180,7 +175,8 @@ impl<P: Printer> Program<P> {
 
     /// Says why its text was not printed to the end.
     fn tell_unprinted<E: Write>(&self, plan: &Plan, fault: PrintFault, errors: &mut E) -> ExitStatus
-        ensures { (needs : Bool) (report : ReportValue) → IsReport plan.now report
+        ensures end { EndsUnprinted plan.now fault result (E.contents errors.old) (E.contents errors.new) }
+        ensures ends { (needs : Bool) (report : ReportValue) → IsReport plan.now report
             → (output output' : Option (List ℕ))
             → StopsPrinting P.in_parts (P.text self.now.printer plan.now report) output output' fault
             → (input input' : Option (List ℕ)) → IsScenario input plan.now
@@ -201,33 +197,5 @@ impl<P: Printer> Program<P> {
                 ExitStatus::OutputFailed
             }
         }
-    }
-}
-
-/// Why there is no plan to run.
-#[derive(Debug, Drop)]
-enum NoPlan {
-    /// A read of the input failed, or the reads ran out.
-    InputFailed,
-    /// The bytes that were read are refused.
-    Refused(ScenarioFault),
-}
-
-fn plan_in<R: Read>(alloc: Global, input: &mut R) -> Result<Plan, NoPlan>
-    ensures found { IfOk result (λ plan. IsScenario (R.remaining input.old) plan) }
-    ensures at_end { OnOk result (IsAtEnd (R.remaining input.new)) }
-    ensures in_range { IfOk result (λ plan. IsInRange plan) }
-    ensures refused { IfErr result (λ why. (fault : ScenarioFault)
-        → why ≡ NoPlan.Refused fault
-        → IfSome (R.remaining input.old) (λ bytes. IsRefusal bytes fault)) }
-{
-    match read_input(alloc, input) {
-        Ok(text) => match plan_from(alloc, &text) {
-            Ok(plan) => Ok(plan),
-            Err(fault) => Err(NoPlan::Refused(fault)),
-        },
-        Err(ReadFault::Failed) => Err(NoPlan::InputFailed),
-        Err(ReadFault::TooLong) => Err(NoPlan::Refused(input_too_long(alloc))),
-        Err(ReadFault::NoMemory) => Err(NoPlan::Refused(ScenarioFault::NoMemory)),
     }
 }

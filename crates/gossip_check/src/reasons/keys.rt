@@ -1,4 +1,9 @@
 //! Keys of a scenario that are unknown or missing.
+ghost use Rattle.std.specs.Prelude.{◌≡◌, ◌≤◌, ◌++◌, ◌∷◌, [], IfOk, List, ℕ, length, map, option_map, string_bytes, true};
+ghost use Rattle.gossip_check.specs.Near.{IsNearestOf, IsNearestSoFar, edits};
+ghost use Rattle.gossip_check.specs.Shown.{is_plain_text};
+ghost use Rattle.gossip_check.specs.Words.{SaysUnknown, is_no_key, key_in, key_of, plain_place, suggestion, table_words, unknown_words};
+
 use crate::shown::Ticked;
 use gs_scenario::TableKind;
 use std::alloc::{AllocError, Global};
@@ -73,7 +78,9 @@ static REQUIRED: [Required; 22] = [
 ];
 
 /// The last part of a place: what stands after its first point, or the whole of it.
-pub fn key_of(place: &str) -> &str {
+pub fn key_of(place: &str) -> &str
+    ensures { result.now ≡ key_of place.now }
+{
     match place.split_once('.') {
         Some((_, key)) => key,
         None => place,
@@ -101,22 +108,65 @@ pub fn missing(alloc: Global, place: &str) -> Result<String, AllocError> {
 }
 
 /// That a key is not known, and which known one is near.
-pub fn unknown(alloc: Global, place: &str, kind: TableKind) -> Result<String, AllocError> {
-    let table = table_words(kind);
-    let key = match kind {
-        TableKind::Top => place,
-        _ => key_of(place),
-    };
-    let place = Ticked(place);
-    match nearest(alloc, key, kind.known_keys())? {
-        Some(near) => {
-            format!(in alloc; "{place} is no key of {table}; did you mean `{near}`?\n")
-        }
-        None => format!(in alloc; "{place} is no key of {table}\n"),
+pub fn unknown(alloc: Global, place: &str, kind: TableKind) -> Result<String, AllocError>
+    ensures { is_plain_text place.now ≡ true → IfOk result (λ text. SaysUnknown place.now kind (string_bytes text)) }
+{
+    let near = nearest(alloc, key_in(kind, place), kind.known_keys())?;
+    unknown_words(alloc, place, kind, near)
+}
+
+fn unknown_words(
+    alloc: Global,
+    place: &str,
+    kind: TableKind,
+    near: Option<&'static str>,
+) -> Result<String, AllocError>
+    ensures { is_plain_text place.now ≡ true
+        → IfOk result (λ text. string_bytes text ≡ unknown_words place.now kind (option_map (λ name. name.now) near.entry)) }
+{
+    let mut text = is_no_key(alloc, place)?;
+    text.push_str(table_words(kind))?;
+    text.push_str(suggestion(alloc, near)?.as_str())?;
+    Ok(text)
+}
+
+fn is_no_key(alloc: Global, place: &str) -> Result<String, AllocError>
+    ensures { is_plain_text place.now ≡ true → IfOk result (λ text. string_bytes text ≡ is_no_key place.now) }
+{
+    let shown = shown_place(alloc, place)?;
+    Ok(format!(in alloc; "{shown} is no key of ")?)
+}
+
+/// A place as it is shown.
+fn shown_place(alloc: Global, place: &str) -> Result<String, AllocError>
+    ensures { is_plain_text place.now ≡ true → IfOk result (λ text. string_bytes text ≡ plain_place place.now) }
+{
+    let shown = Ticked(place);
+    format!(in alloc; "{shown}")
+}
+
+fn suggestion(alloc: Global, near: Option<&'static str>) -> Result<String, AllocError>
+    ensures { IfOk result (λ text. string_bytes text ≡ suggestion (option_map (λ name. name.now) near.entry)) }
+{
+    match near {
+        Some(name) => format!(in alloc; "; did you mean `{name}`?\n"),
+        None => String::from_str(alloc, "\n"),
     }
 }
 
-fn table_words(kind: TableKind) -> &'static str {
+/// The key that a place in a table of a kind names. A key of the top table may have points.
+fn key_in(kind: TableKind, place: &str) -> &str
+    ensures { result.now ≡ key_in kind place.now }
+{
+    match kind {
+        TableKind::Top => place,
+        _ => key_of(place),
+    }
+}
+
+fn table_words(kind: TableKind) -> &'static str
+    ensures { result.now ≡ table_words kind }
+{
     match kind {
         TableKind::Top => "the top table",
         TableKind::Params => "`[params]`",
@@ -133,24 +183,54 @@ fn table_words(kind: TableKind) -> &'static str {
 }
 
 /// The known key that fewest edits lead to, the first of several; none where those are more than a
-/// third of the bytes of the longer key. An edit puts a byte in, leaves one out, changes one, or
+/// third of the bytes of the longer key. An edit puts a character in, leaves one out, changes one, or
 /// swaps two that stand side by side.
-fn nearest<'a>(
+fn nearest(
     alloc: Global,
     key: &str,
-    known: &'a [&'static str],
-) -> Result<Option<&'static str>, AllocError> {
+    known: &[&'static str],
+) -> Result<Option<&'static str>, AllocError>
+    ensures { IfOk result (λ near. IsNearestOf key.now (map (λ name. name.now) known.now) (option_map (λ name. name.now) near)) }
+{
     if key.len() > LONGEST_NEAR {
         return Ok(None);
     }
-    let mut nearest = None;
-    let mut fewest = LONGEST_NEAR;
+    let mut nearest = Candidate {
+        name: None,
+        edits: usize::MAX,
+    };
     for name in known {
         let edits = osa_distance(alloc, key, name)?;
-        if edits < fewest && edits <= key.len().max(name.len()) / 3 {
-            fewest = edits;
-            nearest = Some(*name);
+        nearest = nearest.or(key, name, edits);
+    }
+    Ok(nearest.name)
+}
+
+/// A known key, and how many edits lead to it.
+#[derive(Clone, Copy)]
+struct Candidate {
+    name: Option<&'static str>,
+    edits: usize,
+}
+
+impl Candidate {
+    /// This one, or the next one where that is nearer: this many edits lead to it.
+    fn or(self, key: &str, name: &'static str, count: usize) -> Candidate
+        requires short { length key.now ≤ 40 }
+        requires edits { count ≡ edits key.now name.now }
+        ensures { (seen : List (List ℕ))
+            → IsNearestSoFar key.now seen (option_map (λ it. it.now) self.name) self.edits
+            → IsNearestSoFar key.now (seen ++ (name.now ∷ [])) (option_map (λ it. it.now) result.name) result.edits }
+    {
+        if count > key.len().max(name.len()) / 3 {
+            return self;
+        }
+        if count >= self.edits {
+            return self;
+        }
+        Candidate {
+            name: Some(name),
+            edits: count,
         }
     }
-    Ok(nearest)
 }

@@ -3,8 +3,8 @@ use Rattle.std.proofs.KnownBytes.{Keeps-refl}
 use Rattle.gs_program.specs.Printing.{Prints}
 use Rattle.gs_program.proofs.program.Program.tell_end.Goals as goal
 
-pub returns-in-Ok : goal.returns-in-Ok
-returns-in-Ok g c needs report run output output' printed input input' scenario at_end = record {
+pub returns-in-Ok-clause-ends : goal.returns-in-Ok-clause-ends
+returns-in-Ok-clause-ends g c needs report run output output' printed input input' scenario at_end = record {
   plan = c.args.plan.now;
   scenario = scenario;
   at_end = at_end;

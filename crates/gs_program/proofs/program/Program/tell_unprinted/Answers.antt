@@ -2,8 +2,8 @@ use Rattle.std.proofs.Common.{subst}
 use Rattle.gs_program.specs.Printing.{StopsPrinting}
 use Rattle.gs_program.proofs.program.Program.tell_unprinted.Goals as goal
 
-pub returns-in-CutOff : goal.returns-in-CutOff
-returns-in-CutOff g c needs report run output output' stopped input input' scenario =
+pub returns-in-CutOff-clause-ends : goal.returns-in-CutOff-clause-ends
+returns-in-CutOff-clause-ends g c needs report run output output' stopped input input' scenario =
     let (parts, front) = subst (StopsPrinting g.P.Printer.in_parts (g.P.Printer.text c.args.self.now.printer c.args.plan.now report) output output') c.in-CutOff.is stopped in (
       parts,
       record {
@@ -16,8 +16,8 @@ returns-in-CutOff g c needs report run output output' stopped input input' scena
       },
     )
 
-pub returns-in-WriteFailed : goal.returns-in-WriteFailed
-returns-in-WriteFailed g c needs report run output output' stopped input input' scenario = record {
+pub returns-in-WriteFailed-clause-ends : goal.returns-in-WriteFailed-clause-ends
+returns-in-WriteFailed-clause-ends g c needs report run output output' stopped input input' scenario = record {
   plan = c.args.plan.now;
   scenario = scenario;
   report = report;

@@ -1,0 +1,77 @@
+//! What comes of the reading of an input: a plan to run, or how the program ends.
+ghost use Rattle.std.specs.Prelude.{◌≡◌, ◌≤◌, Err, IfOk, MatchResult, Ok, length};
+ghost use Rattle.gs_streams.specs.Streams.{longest_input};
+ghost use Rattle.gs_program.specs.Program.{TellsRefusal};
+ghost use Rattle.gs_program.specs.Endings.{EndsUnread, GoesOn, GoesOnWith};
+
+use crate::program::ExitStatus;
+use crate::telling::tell_refusal;
+use gs_plan::Plan;
+use gs_scenario::ScenarioFault;
+use gs_streams::{ReadFault, input_too_long, plan_from, try_to_write};
+use std::alloc::Global;
+use std::io::Write;
+
+/// The plan of what was read. Where there is none, `errors` has a line that says why.
+///
+/// # Errors
+/// How the program ends then.
+pub fn plan_after<E: Write>(
+    alloc: Global,
+    reading: Result<Vec<u8>, ReadFault>,
+    errors: &mut E,
+) -> Result<Plan, ExitStatus>
+    requires short { IfOk reading (λ text. length text.items ≤ longest_input) }
+    ensures { MatchResult reading
+        (λ text. GoesOnWith text.items result (E.contents errors.old) (E.contents errors.new))
+        (λ fault. EndsUnread fault result (E.contents errors.old) (E.contents errors.new)) }
+{
+    match reading {
+        Ok(text) => go_on(alloc, plan_from(alloc, &text), errors),
+        Err(fault) => end_unread(alloc, fault, errors),
+    }
+}
+
+/// The plan, where a scenario was read as one. Where it is refused, `errors` has the line of that.
+fn go_on<E: Write>(
+    alloc: Global,
+    planned: Result<Plan, ScenarioFault>,
+    errors: &mut E,
+) -> Result<Plan, ExitStatus>
+    ensures { GoesOn planned result (E.contents errors.old) (E.contents errors.new) }
+{
+    match planned {
+        Ok(plan) => Ok(plan),
+        Err(fault) => refuse(alloc, &fault, errors),
+    }
+}
+
+/// Says why an input was not read to its end.
+fn end_unread<E: Write>(alloc: Global, fault: ReadFault, errors: &mut E) -> Result<Plan, ExitStatus>
+    ensures { EndsUnread fault result (E.contents errors.old) (E.contents errors.new) }
+{
+    match fault {
+        ReadFault::Failed => {
+            try_to_write(errors, "input failed\n");
+            Err(ExitStatus::InputFailed)
+        }
+        ReadFault::TooLong => refuse(alloc, &input_too_long(alloc), errors),
+        ReadFault::NoMemory => refuse(alloc, &ScenarioFault::NoMemory, errors),
+    }
+}
+
+/// Says why a scenario is refused.
+fn refuse<E: Write>(
+    alloc: Global,
+    fault: &ScenarioFault,
+    errors: &mut E,
+) -> Result<Plan, ExitStatus>
+    ensures end { result ≡ Err ExitStatus.ScenarioRefused }
+    ensures line { TellsRefusal fault.now (E.contents errors.old) (E.contents errors.new) }
+{
+    tell_refusal(alloc, errors, fault);
+    Err(ExitStatus::ScenarioRefused)
+}
+
+#[cfg(test)]
+mod tests;
