@@ -301,7 +301,7 @@ static CASES: [Case; 11] = [
 ];
 
 /// Arguments that ask for nothing that there is.
-static REFUSED: [&[&str]; 10] = [
+static REFUSED: [&[&str]; 14] = [
     &["b"],
     &["--peer"],
     &["--neighbours", "a"],
@@ -312,6 +312,10 @@ static REFUSED: [&[&str]; 10] = [
     &["--format", "JSON"],
     &["--rounds", "3..2"],
     &["--rounds", "1..18446744073709551616"],
+    &["--summary", "--summary"],
+    &["--summary", "--format", "json"],
+    &["--format", "csv", "--summary"],
+    &["--summary", "all"],
 ];
 
 fn argument_list(alloc: Global, words: &[&str]) -> Result<Vec<String>, AllocError> {
