@@ -1,4 +1,6 @@
 //! Scores that were worked out by hand from the scenario and the formula.
+mod summaries;
+
 use crate::program::run;
 use std::alloc::{AllocError, Global};
 use std::process::ExitCode;
