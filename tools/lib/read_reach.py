@@ -8,7 +8,8 @@ import tomllib
 NEVER = float("inf")
 SEEN_TTL_MS = 120_000
 MESSAGES = (
-    "topic payload publisher verdict publishers at_ms subscribers reached missed first_round median_round round_90 last_round"
+    "topic payload publisher verdict publishers at_ms subscribers reached missed "
+    "first_round median_round round_90 last_round"
 ).split()
 WITHIN = "outcome within_rounds pairs share".split()
 PARTS = "pairs first_round median_round round_90 round_99 last_round".split()
@@ -24,7 +25,7 @@ def chosen(names, peers):
 
 
 def at_share(rounds, percent):
-    """In how many rounds this part of all was reached, by nearest rank. Empty where so many were not reached."""
+    """In how many rounds this part of all, or the first, was reached, by nearest rank. Empty where fewer were reached."""
     rank = max(1, -(-len(rounds) * percent // 100))
     found = sorted(rounds)[rank - 1] if rounds else NEVER
     return "" if found == NEVER else found
@@ -74,10 +75,11 @@ class Reach:
 
     def end_of(self, at, topic, payload):
         """When the same is published on the topic again, once it is forgotten."""
-        return min((when for when, *same in self.published if same == [topic, payload] and when >= at + self.ttl), default=NEVER)
+        times = (when for when, *same in self.published if same == [topic, payload])
+        return min((it for it in times if it >= at + self.ttl), default=NEVER)
 
     def rounds_to(self, peer, at, payload, end):
-        """In how many rounds a payload came to a peer. The peer may have had it before."""
+        """In how many rounds a payload came to a peer, which may have had it before. It must come before `end`."""
         times = [it for it in self.delivered.get((peer, payload), ()) if at - self.ttl < it < end]
         return max(0, min(times) - at) // self.round_ms if times else NEVER
 
@@ -88,7 +90,7 @@ class Reach:
         return "accept"
 
     def messages(self, by, of):
-        """Each message, as the key of its publications, who published it, and in how many rounds it came to each subscriber."""
+        """Each message: its key, who published it, and in how many rounds it came to each subscriber."""
         first, subscribers = chosen(self.names, by), chosen(self.names, of)
         keys = sorted(self.published, key=lambda it: (it[0], self.names.index(self.published[it][0])))
         for at, topic, payload in keys:
@@ -104,8 +106,7 @@ class Reach:
         for (at, topic, payload), publishers, rounds in self.messages(by, of):
             verdict = self.verdict(topic, payload)
             missed = rounds.count(NEVER)
-            shares = [min(rounds, default=NEVER), *(at_share(rounds, it) for it in (50, 90, 100))]
-            shares[0] = "" if shares[0] == NEVER else shares[0]
+            shares = [at_share(rounds, it) for it in (0, 50, 90, 100)]
             head = [topic, payload, publishers[0], verdict, len({*publishers}), at]
             rows.append(head + [len(rounds), len(rounds) - missed, missed, *shares])
             pairs += rounds if verdict == "accept" else ()
@@ -136,8 +137,7 @@ def within(pairs):
 
 
 def parts(pairs):
-    first = min(pairs, default=NEVER)
-    return [len(pairs), "" if first == NEVER else first, *(at_share(pairs, it) for it in (50, 90, 99, 100))]
+    return [len(pairs), *(at_share(pairs, it) for it in (0, 50, 90, 99, 100))]
 
 
 def read_tables(text):
