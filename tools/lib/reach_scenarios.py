@@ -1,0 +1,55 @@
+"""Random scenarios in which messages come late, twice, to few or to nobody, for tools/check_traces. A payload is published
+by several peers at one moment, and again while it is remembered and after that. Peers subscribe late, leave and hang up."""
+from hard_scenarios import Hard
+
+AGAIN = b"\x07", b"\xff\x01", b"\x00", b"ab"
+
+
+class Reaching(Hard):
+    """Makes the scenario of a seed."""
+
+    def __init__(self, seed):
+        super().__init__(seed)
+        self.rounds = self.dice.randint(16, 30)
+        self.peers = [f"{self.dice.choice('pq')}{it}" for it in range(self.dice.randint(3, 9))]
+        self.near = {it: [] for it in self.peers}
+        self.remembered = self.dice.randint(2, 8)  # rounds
+        self.rough = self.dice.choice([0, 0, 30])
+
+    def params(self):
+        # (a round's part may be left: the lifetime needs to be no multiple of it)
+        part = self.dice.choice([0, 0, -1, 1])
+        return super().params() | {"seen_ttl_ms": self.remembered * self.round_ms + part}
+
+    def publications(self):
+        """A payload by some peers at one moment, and again later."""
+        payload, topic = self.dice.choice(AGAIN), self.dice.choice(self.topics)
+        at = self.dice.randint(1, 6)
+        while at <= self.rounds:
+            for peer in self.dice.sample(self.peers, min(len(self.peers), self.dice.choice([1, 1, 2, 3]))):
+                where = topic if self.often(80) else self.dice.choice(self.topics)
+                yield {"at": at, "peer": peer, "what": "publish", "topic": where, "hex": payload.hex()}
+            at += self.dice.choice([1, 2, self.remembered, self.remembered + 1, 2 * self.remembered])
+
+    def lines(self):
+        found = []
+        for peer in self.peers:
+            for topic in self.topics:
+                at = self.dice.choice([0, 0, 0, 1, self.dice.randint(2, self.rounds)])
+                if self.often(85):
+                    found.append({"at": at, "peer": peer, "what": "subscribe", "topic": topic})
+                if self.often(20):
+                    when = self.dice.randint(at, self.rounds)
+                    found.append({"at": when, "peer": peer, "what": "unsubscribe", "topic": topic})
+        for _ in range(self.dice.randint(2, 4)):
+            found += self.publications()
+        for peer, other in self.pairs(10):
+            found.append({"at": self.dice.randint(2, self.rounds), "peer": peer, "what": "hang_up", "to": other})
+        for peer, other in self.pairs(self.rough):
+            found += self.on_link({"at": self.dice.randint(2, self.rounds), "peer": peer, "what": "raw", "to": other})
+        return sorted(found, key=lambda it: it["at"]) if self.often(50) else found
+
+
+def reach_scenario(seed):
+    """The scenario of a seed. The same seed gives the same text."""
+    return Reaching(seed).scenario()
