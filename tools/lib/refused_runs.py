@@ -18,6 +18,8 @@ Sweep = collections.namedtuple("Sweep", "what how step")
 End = collections.namedtuple("End", "status output errors met")
 
 STARVED = "s"
+# the most growths that the start of a thread takes, with what the thread needs before it drives a task
+MOST_TO_START = 16
 NO_THREAD = 2, "", "run refused: 25\n"
 NO_MEMORY = 2, "", "run refused: 24\n"
 
@@ -241,6 +243,26 @@ def met_in_two_workers(end):
     return len(set(end.met) - {"0"}) > 1
 
 
+def lacks_of_thread(ends, number):
+    """Of each run whose refused growth was one of this thread, in order: whether it says that a thread is lacking."""
+    return [end[:3] == NO_THREAD for end in ends if end.met[:1] == number]
+
+
+def stand_in_a_row(flags):
+    """Whether those that hold stand one after the other."""
+    return sum(holds for holds, _ in itertools.groupby(flags)) <= 1
+
+
+def asked_of_starts(row, ends):
+    """A run says 25 for a growth only where a thread's start needed it. No call tells which growths these are. But they are
+    few, and of each thread they come one after the other. (The growths of several workers come in another order in each
+    run.)"""
+    many, most = sum(end[:3] == NO_THREAD for end in ends), MOST_TO_START * row.workers
+    yield f"{many} growths are those of starts, of at most {most}", 0 < many <= most
+    if row.workers == 1:
+        yield "those of each thread are in a row", all(stand_in_a_row(lacks_of_thread(ends, it)) for it in "01")
+
+
 def asked_of_all(row, sweep, ends):
     """What the runs of a sweep must show together, as a line says it, and whether they do."""
     if row.name == PARTS:
@@ -248,6 +270,8 @@ def asked_of_all(row, sweep, ends):
     if names_peers(row, sweep):
         names = names_first(ends)
         yield f"first are named, in order, {names or 'no peers'}", names == row.peers
+    if (sweep.what, sweep.how) == ("growth", "fail") and row.status == 0 and row.workers:
+        yield from asked_of_starts(row, ends)
     if (sweep.what, sweep.how) == ("thread", "fail") and row.status == 0:
         yield f"starts are {len(ends)}, workers {row.workers}", len(ends) == row.workers
     if row.name == TRACE and sweep.what == "growth":
