@@ -168,7 +168,11 @@ check_unproved() {
     tried_scores
   expect_like 'some scores' 0 'gossip_scores --peer b --neighbour s --rounds 2..3 --format csv scenario' '*' \
     tried_scores --peer b --neighbour=s --rounds 2..3 --format=csv
+  expect_like 'a summary of scores' 0 'gossip_scores --peer b --summary scenario' '*' tried_scores --peer b --summary
   usage='usage: gossip_scores [--peer NAME] [--neighbour NAME] [--rounds A..B] [--format json|csv | --summary]'
+  expect 'a summary with a format' 64 '' "$usage" tried_scores --summary --format csv
+  expect 'a format with a summary' 64 '' "$usage" tried_scores --format=csv --peer b --summary
+  expect 'two summaries' 64 '' "$usage" tried_scores --summary --summary
   expect 'scores of two neighbours' 64 '' "$usage" tried_scores --neighbour b --neighbour c
   expect 'scores of rounds that are none' 64 '' "$usage" tried_scores --rounds 3..2
   expect 'scores in no format' 64 '' "$usage" tried_scores --format xml
