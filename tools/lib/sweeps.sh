@@ -63,7 +63,7 @@ kept() {
 }
 
 long_sweep() {
-  "$@" "$top/bin/sweep" --jobs 1 --into "$room/sweeps/rows" --seeds 1..8 --set rounds=20000 "$room/sweeps/three.toml"
+  "$@" "$top/bin/sweep" --jobs 1 --into "$room/sweeps/rows" --seeds 1..8 --set rounds=60000 "$room/sweeps/three.toml"
 }
 
 # A sweep of long runs, one at a time, that gets a signal once another row is kept. It tells whether a run goes on then.
@@ -119,7 +119,7 @@ check_sweep_rows() {
 
 check_sweep_folder() {
   local rows said="of 8 rows are in $room/sweeps/rows; the same command goes on from there"
-  rows=$("$top/bin/sweep" --seeds 1..8 --set rounds=20000 "$room/sweeps/three.toml")
+  rows=$("$top/bin/sweep" --seeds 1..8 --set rounds=60000 "$room/sweeps/three.toml")
   mkdir "$room/sweeps/rows"
   expect_like 'a sweep that is ended' 143 '' "sweep: interrupted; [1-6] $said" interrupted TERM
   expect_like 'a sweep that is interrupted' 130 '' "sweep: interrupted; [2-7] $said" interrupted INT
