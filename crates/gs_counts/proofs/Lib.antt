@@ -1,0 +1,15 @@
+mod Mapped
+mod Places
+mod OneMore
+mod Lanes
+mod Memories
+mod Noted
+mod Joining
+mod MeshMembers
+mod Sorted
+mod Entries
+mod Ruled
+mod Parts
+mod Reading
+mod Listing
+mod Whole

@@ -1,0 +1,72 @@
+-- A trace that is read entry by entry.
+use Rattle.std.proofs.Common.{◌≡◌, ◌<◌, suc, List, [], ◌∷◌, ◌++◌, drop, length, reverse, refl, sym, ap, ap₂, subst, ◌∙◌, arith, append-nil, append_assoc}
+use Rattle.std.specs.Prelude.{None}
+use Rattle.std.proofs.lemmas.List.{reverse-append, reverse-reverse}
+use Rattle.gs_base.specs.declared.names.PeerNo.{PeerNo}
+use Rattle.gs_plan.specs.declared.plan.Plan.{Plan}
+use Rattle.gs_rules.specs.declared.trace.Entry.{Entry}
+use Rattle.gs_rules.specs.FellAway.{fell_away}
+use Rattle.gs_rules.specs.Peers.{Peer}
+use Rattle.gs_rules.specs.Tables.{Entries}
+use Rattle.gs_router.specs.declared.follower.Followed.{Followed}
+use Rattle.gs_router.specs.declared.follower.Follower.{Follower}
+use Rattle.gs_router.specs.Following.{Advances, Follows, GoesOn, Reading}
+use Rattle.gs_seats.specs.Rounds.{peer_in}
+use Rattle.gs_counts.specs.declared.happening.Happening.{Happening}
+use Rattle.gs_counts.specs.declared.tables.Tables.{Tables}
+use Rattle.gs_counts.specs.declared.traces.Notes.{Notes}
+use Rattle.gs_counts.specs.Reading.{IsNoted, IsRead, ShowsMore}
+use Rattle.gs_counts.specs.Runs.{entry_happenings, entry_sizes, trace_happenings, trace_sizes}
+use Rattle.gs_counts.specs.Standing.{MeshSize, Shows}
+
+module _ (plan : Plan) (p : PeerNo) (trace : Entries) where
+  pub begun : (f : Follower) (notes : Notes) (old : Tables) → Follows f (record { peer = peer_in plan p; before = []; left = reverse trace }) → IsNoted plan p notes [] → IsRead plan p trace f notes old old
+  begun f notes old follows known = record {
+    view = record { peer = peer_in plan p; before = []; left = reverse trace };
+    follows = follows;
+    peer = refl;
+    whole = append-nil (reverse (reverse trace)) ∙ reverse-reverse trace;
+    known = known;
+    shows = λ hs sizes was.
+        subst (λ (xs : List Happening). Shows plan old xs (sizes ++ [])) (sym (append-nil hs))
+        (subst (λ (xs : List MeshSize). Shows plan old hs xs) (sym (append-nil sizes)) was);
+  }
+
+  module _ {f : Follower} {notes : Notes} {old new : Tables} (read : IsRead plan p trace f notes old new) where
+    -- an entry more
+    pub onward : {seen : Followed} {f' : Follower} {notes' : Notes} {new' : Tables} (a : Advances read.view seen f')
+        → IsNoted plan p notes' (seen.entry.now ∷ read.view.before)
+        → ((hs : List Happening) (sizes : List MeshSize) → IsNoted plan p notes read.view.before → seen.fallen.items ≡ fell_away (peer_in plan p) read.view.before seen.entry.now.at seen.entry.now.event → Shows plan new hs sizes
+        → Shows plan new' (hs ++ entry_happenings plan p read.view.before seen.entry.now) (sizes ++ entry_sizes read.view.before seen.entry.now))
+        → IsRead plan p trace f' notes' old new'
+    onward {seen} {f'} {notes'} {new'} a known shown = record {
+      view = record { peer = read.view.peer; before = e ∷ L; left = a.rest };
+      follows = a.follows;
+      peer = read.peer;
+      whole = sym (append_assoc (reverse a.rest) (e ∷ []) L)
+          ∙ ap (λ (xs : List Entry). xs ++ L) (sym (reverse-append (e ∷ []) a.rest))
+          ∙ ap (λ (xs : List Entry). reverse xs ++ L) (sym a.next)
+          ∙ read.whole;
+      known = known;
+      shows = λ hs sizes was.
+          subst (λ (xs : List Happening). Shows plan new' xs (sizes ++ trace_sizes (e ∷ L))) (append_assoc hs (trace_happenings plan p L) (entry_happenings plan p L e))
+          (subst (λ (xs : List MeshSize). Shows plan new' ((hs ++ trace_happenings plan p L) ++ entry_happenings plan p L e) xs) (append_assoc sizes (trace_sizes L) (entry_sizes L e))
+          (shown (hs ++ trace_happenings plan p L) (sizes ++ trace_sizes L) read.known (a.fallen ∙ ap (λ (peer : Peer). fell_away peer L e.at e.event) read.peer) (read.shows hs sizes was)));
+    }
+      where
+        e : Entry
+        e = seen.entry.now
+
+        L : Entries
+        L = read.view.before
+
+    -- nothing is left
+    pub ended : {f' : Follower} → GoesOn read.view None f' → ShowsMore plan p old new trace
+    ended (none, follows) = subst (ShowsMore plan p old new) (ap (λ (xs : List Entry). reverse xs ++ read.view.before) (sym none) ∙ read.whole) read.shows
+
+-- fewer are left after it
+pub shorter : {v : Reading} {followed : Followed} {f f' : Follower} → Follows f v → Advances v followed f' → length (drop f'.place (reverse f'.trace.now)) < length (drop f.place (reverse f.trace.now))
+shorter {v = v} {followed = followed} {f = f} {f' = f'} follows a =
+    let before : length (drop f.place (reverse f.trace.now)) ≡ suc (length a.rest) = ap length (sym follows.left ∙ a.next) in
+    let after : length (drop f'.place (reverse f'.trace.now)) ≡ length a.rest = ap length (sym a.follows.left) in
+    omega (arith, before, after)

@@ -1,0 +1,17 @@
+pub mod Kinds
+pub mod Happenings
+pub mod Fates
+pub mod Verdicts
+pub mod Topics
+pub mod Meshes
+pub mod Memories
+pub mod Heard
+pub mod Sent
+pub mod Changes
+pub mod Lanes
+pub mod Rows
+pub mod Standing
+pub mod Sums
+pub mod Reading
+pub mod Listing
+pub mod Runs

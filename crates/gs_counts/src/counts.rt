@@ -1,0 +1,37 @@
+//! A row of a table: how often or how much of each kind.
+ghost use Rattle.std.specs.Prelude.{◌≡◌};
+ghost use Rattle.gs_counts.specs.Rows.{count_at, counted, no_counts};
+
+use crate::kind::{KINDS, Kind};
+
+/// How often or how much happened of each kind. A number that no `u64` holds is given as the greatest.
+#[derive(Clone, Copy, Debug, PartialEq, Eq)]
+pub struct Counts {
+    amounts: [u64; KINDS],
+}
+
+/// Nothing happened.
+pub fn no_counts() -> Counts
+    ensures { result ≡ no_counts }
+{
+    Counts {
+        amounts: [0; KINDS],
+    }
+}
+
+impl Counts {
+    /// How often or how much happened of a kind.
+    pub fn of(&self, kind: Kind) -> u64
+        ensures { result ≡ count_at self.now kind }
+    {
+        self.amounts[kind.place()]
+    }
+
+    /// With more of a kind.
+    pub(crate) fn add(&mut self, kind: Kind, amount: u64)
+        ensures { self.new ≡ counted self.old kind amount }
+    {
+        let place = kind.place();
+        self.amounts[place] = self.amounts[place].saturating_add(amount);
+    }
+}
