@@ -10,6 +10,7 @@ mod heard;
 mod kind;
 mod lane;
 mod laws;
+mod lengths;
 mod memory;
 mod meshes;
 mod run;
