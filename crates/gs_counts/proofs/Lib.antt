@@ -1,4 +1,5 @@
 mod Mapped
+mod Prefixes
 mod Places
 mod OneMore
 mod Lanes
