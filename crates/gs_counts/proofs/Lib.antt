@@ -2,6 +2,7 @@ mod Mapped
 mod Prefixes
 mod Places
 mod OneMore
+mod Both
 mod Lanes
 mod Memories
 mod Noted

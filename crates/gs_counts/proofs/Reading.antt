@@ -1,5 +1,5 @@
 -- A trace that is read entry by entry.
-use Rattle.std.proofs.Common.{◌≡◌, ◌<◌, ◌+◌, ℕ, suc, List, [], ◌∷◌, ◌++◌, drop, filter, get_or, length, reverse, take, refl, sym, ap, ap₂, subst, ◌∙◌, arith, append-nil, append_assoc}
+use Rattle.std.proofs.Common.{◌≡◌, ◌<◌, ◌+◌, ℕ, suc, Bool, true, if◌then◌else◌, List, [], ◌∷◌, ◌++◌, drop, filter, get_or, length, reverse, take, refl, sym, ap, ap₂, subst, ◌∙◌, arith, append-nil, append_assoc}
 use Rattle.std.specs.Prelude.{None}
 use Rattle.std.proofs.lemmas.Grind.{flat_map-append}
 use Rattle.std.proofs.lemmas.List.{reverse-append, reverse-reverse, take_more}
@@ -85,6 +85,15 @@ pub sizes_more : (plan : Plan) (of : Chosen) (xs : List (PeerNo × Finished)) (i
 sizes_more plan of xs i x below is =
     sym (flat_map-append (λ (y : PeerNo × Finished). trace_sizes y.1.trace) (chosen_peers of (take i xs)) (chosen_peers of (x ∷ [])))
     ∙ ap mesh_sizes (sym (chosen_more of xs i x below is))
+
+-- a peer that is chosen, by itself
+pub chosen_one : (plan : Plan) (of : Chosen) (x : PeerNo × Finished) (tables : Tables) (hs : List Happening) (sizes : List MeshSize) → is_chosen of x.0 ≡ true
+    → Shows plan tables (hs ++ peer_happenings plan x) (sizes ++ trace_sizes x.1.trace)
+    → Shows plan tables (hs ++ happenings plan (chosen_peers of (x ∷ []))) (sizes ++ mesh_sizes (chosen_peers of (x ∷ [])))
+chosen_one plan of x tables hs sizes is shows =
+    subst (λ (b : Bool). Shows plan tables (hs ++ happenings plan (if b then x ∷ [] else [])) (sizes ++ mesh_sizes (if b then x ∷ [] else []))) (sym is)
+    (subst (λ (xs : List Happening). Shows plan tables (hs ++ xs) (sizes ++ mesh_sizes (x ∷ []))) (sym (append-nil (peer_happenings plan x)))
+    (subst (λ (xs : List MeshSize). Shows plan tables (hs ++ peer_happenings plan x) (sizes ++ xs)) (sym (append-nil (trace_sizes x.1.trace))) shows))
 
 -- fewer are left after it
 pub shorter : {v : Reading} {followed : Followed} {f f' : Follower} → Follows f v → Advances v followed f' → length (drop f'.place (reverse f'.trace.now)) < length (drop f.place (reverse f.trace.now))

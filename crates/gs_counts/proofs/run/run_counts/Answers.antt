@@ -13,7 +13,7 @@ tables_of-requires-clause-order c =
 pub rows_of-requires-clause-shown : goal.rows_of-requires-clause-shown
 rows_of-requires-clause-shown c =
     let peers = chosen_peers c.args.of.now c.deref.result.now in
-    (happenings c.args.plan.now peers, (mesh_sizes peers, c.in_ok-tables.ensures))
+    (happenings c.args.plan.now peers, mesh_sizes peers, c.in_ok-tables.ensures)
 
 pub returns : goal.returns
 returns c =
