@@ -15,3 +15,5 @@ mod Parts
 mod Reading
 mod Listing
 mod Whole
+mod ByTopic
+mod OneEnd
