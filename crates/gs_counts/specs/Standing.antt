@@ -1,0 +1,143 @@
+-- In which row of each table a happening stands, and the tables of happenings.
+use Rattle.std.specs.Prelude.{◌≡◌, ℕ, ◌+◌, ◌/◌, max, pos, Bool, false, nat_eq, ◌&&◌, if◌then◌else◌, List, [], ◌∷◌, filter, length, map, Option, None, Some, option_to_list}
+use Rattle.std.specs.List.{flat_map, list_any, range_with_len}
+use Rattle.std.specs.Map.{lookup}
+use Rattle.std.specs.Ordering.{is_eq}
+use Rattle.std.specs.declared.vec.Vec.{Vec}
+use Rattle.std.specs.declared.alloc.Global.{Global}
+use Rattle.std.specs.BTreeMap.{BTreeMap}
+use Rattle.gs_base.specs.declared.names.Millis.{Millis}
+use Rattle.gs_base.specs.declared.names.PeerNo.{PeerNo}
+use Rattle.gs_base.specs.declared.names.Topic.{Topic}
+use Rattle.gs_base.specs.Names.{same_peer, same_topic}
+use Rattle.gs_plan.specs.declared.plan.Plan.{Plan}
+use Rattle.gs_rules.specs.Tables.{topic_order}
+use Rattle.gs_counts.specs.declared.counts.Counts.{Counts}
+use Rattle.gs_counts.specs.declared.happening.Happening.{Happening}
+use Rattle.gs_counts.specs.declared.kind.Kind.{Kind}
+use Rattle.gs_counts.specs.declared.span.Span.{Span}
+use Rattle.gs_counts.specs.declared.tables.Tables.{Tables}
+use Rattle.gs_counts.specs.Kinds.{is_of_sender}
+use Rattle.gs_counts.specs.Meshes.{span_of, widened}
+use Rattle.gs_counts.specs.Rows.{changed_at, counted, no_counts, row_of, row_where}
+
+-- ---- who stands where
+
+-- at a peer
+abbrev pub is_at : PeerNo → Happening → Bool
+is_at p h = same_peer h.peer p
+
+-- the round that a moment lies in
+abbrev pub round_at : ℕ → Millis → ℕ
+round_at round_ms at = at.0 / max 1 round_ms
+
+-- in a round
+abbrev pub is_in : ℕ → ℕ → Happening → Bool
+is_in round_ms r h = nat_eq (round_at round_ms h.at) r
+
+-- on a topic
+abbrev pub is_on : Topic → Option Topic → Bool
+is_on t None = false
+is_on t (Some u) = same_topic u t
+
+-- The peer from which the link goes that a happening concerns, and the one that it leads to: what the peer sent goes
+-- from it, and what it heard comes to it.
+abbrev pub link_of : Happening → Option (PeerNo × PeerNo)
+link_of h = elim h.neighbour [ None ↦ None | Some q ↦ Some (if is_of_sender h.kind then (h.peer, q) else (q, h.peer)) ]
+
+-- over the link from one peer to another
+abbrev pub goes_over : PeerNo → PeerNo → Option (PeerNo × PeerNo) → Bool
+goes_over p q None = false
+goes_over p q (Some link) = same_peer link.0 p && same_peer link.1 q
+
+-- ---- tables by numbers
+
+abbrev pub peer_no : ℕ → PeerNo
+peer_no n = record { 0 = n }
+
+abbrev pub peer_rows : ℕ → List Happening → List Counts
+peer_rows count hs = map (λ n. row_where (is_at (peer_no n)) hs) (range_with_len 0 count)
+
+abbrev pub round_rows : ℕ → ℕ → List Happening → List Counts
+round_rows round_ms count hs = map (λ r. row_where (is_in round_ms r) hs) (range_with_len 0 count)
+
+abbrev pub links_from : ℕ → List Happening → ℕ → List Counts
+links_from count hs n =
+    map (λ m. row_where (λ h. goes_over (peer_no n) (peer_no m) (link_of h)) hs) (range_with_len 0 count)
+
+abbrev pub link_rows : ℕ → List Happening → List (List Counts)
+link_rows count hs = map (links_from count hs) (range_with_len 0 count)
+
+-- rows in which nothing stands, and lists of them
+abbrev pub empty_rows : ℕ → List Counts
+empty_rows count = map (λ n. no_counts) (range_with_len 0 count)
+
+abbrev pub empty_grid : ℕ → List (List Counts)
+empty_grid count = map (λ n. empty_rows count) (range_with_len 0 count)
+
+-- ---- the table by topics
+
+-- the topics that these are on, as often as they stand
+abbrev pub topics_in : List Happening → List Topic
+topics_in hs = flat_map (λ h. option_to_list h.topic) hs
+
+-- ---- sizes of meshes
+
+-- the size of a mesh at a moment
+abbrev pub MeshSize : Type 0
+MeshSize = Millis × ℕ
+
+-- the smallest and the largest of those in a round
+abbrev pub span_in : ℕ → ℕ → List MeshSize → Option Span
+span_in round_ms r sizes = span_of (map (λ x. pos x.1) (filter (λ (x : MeshSize). nat_eq (round_at round_ms x.0) r) sizes))
+
+abbrev pub span_rows : ℕ → ℕ → List MeshSize → List (Option Span)
+span_rows round_ms count sizes = map (λ r. span_in round_ms r sizes) (range_with_len 0 count)
+
+abbrev pub no_spans : ℕ → List (Option Span)
+no_spans count = map (λ r. None) (range_with_len 0 count)
+
+-- ---- one more
+
+-- a row with more of a kind
+abbrev pub with_more : Kind → ℕ → Counts → Counts
+with_more kind amount counts = counted counts kind amount
+
+abbrev pub added_at : List Counts → ℕ → Kind → ℕ → List Counts
+added_at rows place kind amount = changed_at (with_more kind amount) rows place
+
+abbrev pub added_in : List (List Counts) → ℕ → ℕ → Kind → ℕ → List (List Counts)
+added_in rows from to kind amount = changed_at (λ row. added_at row to kind amount) rows from
+
+abbrev pub added_over : List (List Counts) → Option (PeerNo × PeerNo) → Kind → ℕ → List (List Counts)
+added_over rows None kind amount = rows
+added_over rows (Some link) kind amount = added_in rows link.0.0 link.1.0 kind amount
+
+abbrev pub widened_at : List (Option Span) → ℕ → ℕ → List (Option Span)
+widened_at spans place size = changed_at (λ span. widened span (pos size)) spans place
+
+-- ---- tables in memory
+
+abbrev pub lists : List (Vec Counts Global) → List (List Counts)
+lists rows = map (λ (row : Vec Counts Global). row.items) rows
+
+abbrev pub grid : Vec (Vec Counts Global) Global → List (List Counts)
+grid rows = lists rows.items
+
+-- the row of a topic, if there is one
+abbrev pub topic_row : BTreeMap Topic Counts → Topic → Option Counts
+topic_row rows t = lookup (λ u. is_eq (topic_order t u)) rows.entries
+
+-- the row that a topic is to have: none where nothing is on it
+abbrev pub row_on : List Happening → Topic → Option Counts
+row_on hs t = if list_any (same_topic t) (topics_in hs) then Some (row_where (λ h. is_on t h.topic) hs) else None
+
+-- The tables show these happenings, and these sizes of meshes.
+pub record Shows (plan : Plan) (tables : Tables) (hs : List Happening) (sizes : List MeshSize) : Type 0 where
+  pub round_ms : tables.round_ms ≡ plan.round_ms
+  pub peers : tables.peers.items ≡ peer_rows (length plan.peers) hs
+  pub rounds : tables.rounds.items ≡ round_rows plan.round_ms (plan.rounds + 1) hs
+  pub spans : tables.spans.items ≡ span_rows plan.round_ms (plan.rounds + 1) sizes
+  pub links : grid tables.links ≡ link_rows (length plan.peers) hs
+  pub topics : (t : Topic) → topic_row tables.topics t ≡ row_on hs t
+  pub all : tables.all ≡ row_of hs

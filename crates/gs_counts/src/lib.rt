@@ -1,0 +1,37 @@
+//! What happened in a run, counted: by peer, by topic, by link, by round and in all. A run is one list of happenings,
+//! and each number of a table is the sum of the amounts of those that stand in its row.
+#![tactic(auto)]
+
+mod changes;
+mod counts;
+mod fate;
+mod happening;
+mod heard;
+mod kind;
+mod lane;
+mod laws;
+mod lengths;
+mod memory;
+mod meshes;
+mod run;
+mod sent;
+mod span;
+mod tables;
+mod topics;
+mod traces;
+mod verdicts;
+
+pub use counts::{Counts, no_counts};
+pub use fate::Fate;
+pub use happening::Happening;
+pub use kind::Kind;
+pub use laws::{
+    each_message_becomes_one_thing, fates_are_those_of_the_rule, members_are_those_of_meshes,
+    rows_of_links_make_up_the_whole, rows_of_peers_make_up_the_whole,
+    rows_of_rounds_make_up_the_whole, rows_of_topics_make_up_the_whole,
+    subscribed_topics_are_joined,
+};
+pub use run::{
+    LinkCounts, PeerCounts, RoundCounts, RunCounts, TopicCounts, over_links, run_counts,
+};
+pub use span::Span;

@@ -1,0 +1,295 @@
+//! What happened in a run, by peer, by link, by topic, by round and in all.
+ghost use Rattle.std.specs.Prelude.{◌≡◌, ◌++◌, ◌∷◌, [], ℕ, IfOk, length, List, map, OnOk, Option};
+ghost use Rattle.std.specs.List.{AllByRecursion};
+ghost use Rattle.gs_base.specs.declared.names.PeerNo.{PeerNo as PeerNoValue};
+ghost use Rattle.gs_base.specs.declared.names.Topic.{Topic as TopicValue};
+ghost use Rattle.gs_plan.specs.Plans.{IsInRange};
+ghost use Rattle.gs_report.specs.declared.finished.Finished.{Finished as FinishedValue};
+ghost use Rattle.gs_router.specs.Following.{AreInOrder};
+ghost use Rattle.gs_rules.specs.Tables.{ascending};
+ghost use Rattle.gs_counts.specs.declared.counts.Counts.{Counts as CountsValue};
+ghost use Rattle.gs_counts.specs.declared.happening.Happening.{Happening as HappeningValue};
+ghost use Rattle.gs_counts.specs.declared.span.Span.{Span as SpanValue};
+ghost use Rattle.gs_counts.specs.Listing.{all_links, by_number, link_if, links_by, links_to, over_links, peer_row, round_row, with_links};
+ghost use Rattle.gs_counts.specs.Runs.{chosen_peers, counts_of, happenings, mesh_sizes, run_counts, topic_counts};
+ghost use Rattle.gs_counts.specs.Standing.{MeshSize, Shows, lists, row_on, topic_row, topics_in};
+
+use crate::counts::Counts;
+use crate::kind::Kind;
+use crate::span::Span;
+use crate::tables::Tables;
+use crate::traces::note_peer;
+use gs_base::{PeerNo, Seq, Topic, clone_of};
+use gs_plan::{Dial, Plan, are_joined};
+use gs_reach::Chosen;
+use gs_report::{Finished, Report};
+use std::alloc::{AllocError, Global};
+use std::collections::BTreeMap;
+
+/// What happened at a peer.
+#[derive(Clone, Copy, Debug, PartialEq, Eq)]
+pub struct PeerCounts {
+    pub peer: PeerNo,
+    pub counts: Counts,
+}
+
+/// What happened over the link from one peer to another: what the one sent, and what the other heard of it.
+#[derive(Clone, Copy, Debug, PartialEq, Eq)]
+pub struct LinkCounts {
+    pub from: PeerNo,
+    pub to: PeerNo,
+    pub counts: Counts,
+}
+
+/// What happened on a topic, at all peers.
+#[derive(Debug, Drop, PartialEq, Eq)]
+pub struct TopicCounts {
+    pub topic: Topic,
+    pub counts: Counts,
+}
+
+/// What happened in a round, at all peers: what stands at a moment that lies in it.
+#[derive(Clone, Copy, Debug, PartialEq, Eq)]
+pub struct RoundCounts {
+    /// Its number. The first round is 0.
+    pub round: u64,
+    pub counts: Counts,
+    /// How many members the smallest and the largest mesh of all peers' topics had when the peers ended the round.
+    pub members: Option<Span>,
+}
+
+/// What happened in a run.
+#[derive(Drop)]
+pub struct RunCounts {
+    /// A row for each peer of the plan, by number.
+    pub peers: Seq<PeerCounts>,
+    /// A row for each link of the plan's dials, by the peer that it comes from, and then by the one that it leads to.
+    pub links: Seq<LinkCounts>,
+    /// A row for each topic on which something happened, in the order of their bytes.
+    pub topics: Seq<TopicCounts>,
+    /// A row for each round, the last one of the plan included. What lies after that is in none.
+    pub rounds: Seq<RoundCounts>,
+    /// All that happened.
+    pub all: Counts,
+}
+
+/// What happened in a run of a plan, as the traces of some peers say. The tables have a row for each peer and each link of
+/// the plan all the same. In each trace no entry may be earlier than the one before it.
+///
+/// # Errors
+/// `AllocError` where there was no memory for it.
+pub fn run_counts(
+    alloc: Global,
+    plan: &Plan,
+    report: &Report,
+    of: &Chosen,
+) -> Result<RunCounts, AllocError>
+    requires range { IsInRange plan.now }
+    requires order { AllByRecursion (λ (x : PeerNoValue × FinishedValue). AreInOrder x.1.trace) report.now.peers.items }
+    ensures { IfOk result (λ counts. counts ≡ run_counts plan.now report.now of.now) }
+{
+    let tables = tables_of(alloc, plan, &report.peers, of)?;
+    let counts = rows_of(alloc, plan, &tables)?;
+    Ok(counts)
+}
+
+/// The tables of the traces of those of these peers that are chosen.
+fn tables_of(
+    alloc: Global,
+    plan: &Plan,
+    peers: &[(PeerNo, Finished)],
+    of: &Chosen,
+) -> Result<Tables, AllocError>
+    requires range { IsInRange plan.now }
+    requires order { AllByRecursion (λ (x : PeerNoValue × FinishedValue). AreInOrder x.1.trace) peers.now }
+    ensures { IfOk result (λ tables. Shows plan.now tables (happenings plan.now (chosen_peers of.now peers.now))
+        (mesh_sizes (chosen_peers of.now peers.now))) }
+{
+    let mut tables = Tables::new(alloc, plan)?;
+    for peer in peers {
+        note_chosen(alloc, plan, &mut tables, of, peer)?;
+    }
+    Ok(tables)
+}
+
+/// Notes all that happened at a peer, if it is chosen.
+fn note_chosen(
+    alloc: Global,
+    plan: &Plan,
+    tables: &mut Tables,
+    of: &Chosen,
+    peer: &(PeerNo, Finished),
+) -> Result<(), AllocError>
+    requires range { IsInRange plan.now }
+    requires order { AreInOrder peer.now.1.trace }
+    ensures { OnOk result ((hs : List HappeningValue) (sizes : List MeshSize)
+        → Shows plan.now tables.old hs sizes
+        → Shows plan.now tables.new (hs ++ happenings plan.now (chosen_peers of.now (peer.now ∷ [])))
+        (sizes ++ mesh_sizes (chosen_peers of.now (peer.now ∷ [])))) }
+{
+    if !of.contains(peer.0) {
+        return Ok(());
+    }
+    note_peer(alloc, plan, tables, peer)
+}
+
+/// The rows of these tables.
+fn rows_of(alloc: Global, plan: &Plan, tables: &Tables) -> Result<RunCounts, AllocError>
+    requires range { IsInRange plan.now }
+    requires shown { (hs : List HappeningValue) × (sizes : List MeshSize) × Shows plan.now tables.now hs sizes }
+    ensures { IfOk result (λ counts. (hs : List HappeningValue) (sizes : List MeshSize)
+        → Shows plan.now tables.now hs sizes
+        → counts ≡ counts_of plan.now hs sizes) }
+{
+    let count = plan.peers.len() as u16;
+    let peers = peer_rows(alloc, count, &tables.peers)?;
+    let links = link_rows(alloc, plan.dials.as_slice(), count, &tables.links)?;
+    let topics = topic_rows(alloc, &tables.topics)?;
+    let rounds = round_rows(alloc, &tables.rounds, &tables.spans)?;
+    Ok(RunCounts {
+        peers,
+        links,
+        topics,
+        rounds,
+        all: tables.all,
+    })
+}
+
+fn peer_rows(alloc: Global, count: u16, rows: &[Counts]) -> Result<Seq<PeerCounts>, AllocError>
+    requires { length rows.now ≡ count }
+    ensures { IfOk result (λ peers. (row : ℕ → CountsValue)
+        → rows.now ≡ by_number row count
+        → peers ≡ by_number (peer_row row) count) }
+{
+    let mut peers = Seq::new(alloc);
+    for number in 0..count {
+        peers.push(PeerCounts {
+            peer: PeerNo(number),
+            counts: rows[usize::from(number)],
+        })?;
+    }
+    Ok(peers)
+}
+
+fn link_rows(
+    alloc: Global,
+    dials: &[Dial],
+    count: u16,
+    rows: &[Vec<Counts>],
+) -> Result<Seq<LinkCounts>, AllocError>
+    requires { (row : ℕ → ℕ → CountsValue) × (lists rows.now ≡ by_number (λ n. by_number (row n) count) count) }
+    ensures { IfOk result (λ links. (row : ℕ → ℕ → CountsValue)
+        → lists rows.now ≡ by_number (λ n. by_number (row n) count) count
+        → links ≡ all_links dials.now count row) }
+{
+    let mut links = Seq::new(alloc);
+    for number in 0..count {
+        list_links(
+            &mut links,
+            dials,
+            count,
+            PeerNo(number),
+            &rows[usize::from(number)],
+        )?;
+    }
+    Ok(links)
+}
+
+fn list_links(
+    links: &mut Seq<LinkCounts>,
+    dials: &[Dial],
+    count: u16,
+    from: PeerNo,
+    rows: &[Counts],
+) -> Result<(), AllocError>
+    requires { length rows.now ≡ count }
+    ensures { OnOk result ((row : ℕ → CountsValue)
+        → rows.now ≡ by_number row count
+        → links.new ≡ links.old ++ links_by dials.now count from row) }
+{
+    for number in 0..count {
+        list_link(
+            links,
+            dials,
+            from,
+            PeerNo(number),
+            rows[usize::from(number)],
+        )?;
+    }
+    Ok(())
+}
+
+/// Lists a link, if a dial joins its ends.
+fn list_link(
+    links: &mut Seq<LinkCounts>,
+    dials: &[Dial],
+    from: PeerNo,
+    to: PeerNo,
+    counts: Counts,
+) -> Result<(), AllocError>
+    ensures { OnOk result (links.new ≡ links.old ++ link_if dials.now from to counts) }
+{
+    if !are_joined(dials, from, to) {
+        return Ok(());
+    }
+    links.push(LinkCounts { from, to, counts })
+}
+
+fn topic_rows(alloc: Global, rows: &BTreeMap<Topic, Counts>) -> Result<Seq<TopicCounts>, AllocError>
+    ensures { IfOk result (λ topics. (hs : List HappeningValue)
+        → ((t : TopicValue) → topic_row rows.now t ≡ row_on hs t)
+        → topics ≡ map (topic_counts hs) (ascending (topics_in hs))) }
+{
+    let mut topics = Seq::new(alloc);
+    for (topic, counts) in rows {
+        topics.push(TopicCounts {
+            topic: clone_of(topic)?,
+            counts: *counts,
+        })?;
+    }
+    Ok(topics)
+}
+
+fn round_rows(
+    alloc: Global,
+    rows: &[Counts],
+    spans: &[Option<Span>],
+) -> Result<Seq<RoundCounts>, AllocError>
+    requires { length spans.now ≡ length rows.now }
+    ensures { IfOk result (λ rounds. (count : ℕ) (row : ℕ → CountsValue) (span : ℕ → Option SpanValue)
+        → rows.now ≡ by_number row count
+        → spans.now ≡ by_number span count
+        → rounds ≡ by_number (round_row row span) count) }
+{
+    let mut rounds = Seq::new(alloc);
+    for place in 0..rows.len() {
+        rounds.push(RoundCounts {
+            round: place as u64,
+            counts: rows[place],
+            members: spans[place],
+        })?;
+    }
+    Ok(rounds)
+}
+
+/// How often or how much of a kind went over those of these links that lead to a peer. A number that no `u64` holds is
+/// given as the greatest.
+pub fn over_links(links: &[LinkCounts], to: PeerNo, kind: Kind) -> u64
+    ensures { result ≡ over_links links.now to kind }
+{
+    let mut sum: u64 = 0;
+    for link in links {
+        sum = with_link(sum, link, to, kind);
+    }
+    sum
+}
+
+/// A sum with what went over a link, if it leads to a peer.
+fn with_link(sum: u64, link: &LinkCounts, to: PeerNo, kind: Kind) -> u64
+    ensures { result ≡ with_links kind sum (links_to to (link.now ∷ [])) }
+{
+    if link.to != to {
+        return sum;
+    }
+    sum.saturating_add(link.counts.of(kind))
+}

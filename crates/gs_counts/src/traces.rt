@@ -1,0 +1,247 @@
+//! The happenings of a peer's trace, entry by entry.
+ghost use Rattle.std.specs.Prelude.{◌≡◌, ◌++◌, ◌∷◌, [], IfOk, List, OnOk, false, map, true};
+ghost use Rattle.std.specs.List.{flat_map};
+ghost use Rattle.gs_base.specs.Names.{peers_of};
+ghost use Rattle.gs_base.specs.declared.names.PeerNo.{PeerNo as PeerNoValue};
+ghost use Rattle.gs_plan.specs.Plans.{IsInRange};
+ghost use Rattle.gs_plan.specs.declared.plan.Plan.{Plan as PlanValue};
+ghost use Rattle.gs_router.specs.Following.{AreInOrder, Follows, Reading};
+ghost use Rattle.gs_rules.specs.Events.{of_round_end};
+ghost use Rattle.gs_rules.specs.FellAway.{fell_away};
+ghost use Rattle.gs_rules.specs.Tables.{Entries};
+ghost use Rattle.gs_seats.specs.Rounds.{neighbours, peer_in};
+ghost use Rattle.gs_counts.specs.declared.happening.Happening.{Happening as HappeningValue};
+ghost use Rattle.gs_counts.specs.declared.tables.Tables.{Tables as TablesValue};
+ghost use Rattle.gs_counts.specs.Changes.{refusal_happenings};
+ghost use Rattle.gs_counts.specs.Fates.{known_fate};
+ghost use Rattle.gs_counts.specs.Lanes.{new_lane};
+ghost use Rattle.gs_counts.specs.Reading.{IsNoted, IsRead, ShowsMore};
+ghost use Rattle.gs_counts.specs.Runs.{done_happenings, entry_happenings, entry_sizes, known_sizes, peer_happenings, sizes_of, trace_sizes};
+ghost use Rattle.gs_counts.specs.Standing.{MeshSize, Shows};
+
+use crate::changes::{note_deliveries, note_marks, note_refusals};
+use crate::happening::{Happening, Scene};
+use crate::heard::{Did, note_all_fallen, note_event};
+use crate::lane::{Lane, tell_all};
+use crate::memory::Memory;
+use crate::meshes::members_in;
+use crate::sent::{is_answer, note_sends};
+use crate::tables::Tables;
+use gs_base::{Millis, Neighbour, PeerNo, Topic};
+use gs_plan::Plan;
+use gs_report::Finished;
+use gs_router::{Followed, Follower};
+use gs_rules::{Event, Fallen, StoredEntry};
+use gs_seats::{follower_of, neighbours_of};
+use std::alloc::{AllocError, Global};
+
+/// A peer whose trace is read: what is known of it, and what goes out to its neighbours.
+#[derive(Drop)]
+struct Notes {
+    peer: PeerNo,
+    memory: Memory,
+    lanes: Vec<Lane>,
+}
+
+/// Notes all that happened at a peer.
+pub(crate) fn note_peer(
+    alloc: Global,
+    plan: &Plan,
+    tables: &mut Tables,
+    peer: &(PeerNo, Finished),
+) -> Result<(), AllocError>
+    requires range { IsInRange plan.now }
+    requires order { AreInOrder peer.now.1.trace }
+    ensures { OnOk result ((hs : List HappeningValue) (sizes : List MeshSize)
+        → Shows plan.now tables.old hs sizes
+        → Shows plan.now tables.new (hs ++ peer_happenings plan.now peer.now) (sizes ++ trace_sizes peer.now.1.trace)) }
+{
+    let (number, life) = peer;
+    let mut list = Vec::new(alloc);
+    note_trace(alloc, plan, tables, &mut list, peer)?;
+    list.clear();
+    note_refusals(&mut list, *number, life.refused.as_slice())?;
+    tables.note_all(&list)
+}
+
+/// Notes what the entries of its trace say.
+fn note_trace(
+    alloc: Global,
+    plan: &Plan,
+    tables: &mut Tables,
+    list: &mut Vec<Happening>,
+    peer: &(PeerNo, Finished),
+) -> Result<(), AllocError>
+    requires range { IsInRange plan.now }
+    requires order { AreInOrder peer.now.1.trace }
+    ensures { OnOk result (ShowsMore plan.now peer.now.0 tables.old tables.new peer.now.1.trace) }
+{
+    let mut follower = follower_of(alloc, plan, peer.0, &peer.1.trace)?;
+    let mut notes = Notes::new(alloc, plan, peer.0)?;
+    note_rest(tables, list, &mut notes, &mut follower)
+}
+
+/// Notes what the entries say that are left of a trace.
+fn note_rest(
+    tables: &mut Tables,
+    list: &mut Vec<Happening>,
+    notes: &mut Notes,
+    follower: &mut Follower<'_>,
+) -> Result<(), AllocError>
+    requires { (v : Reading) × Follows follower.old v }
+    ensures { OnOk result ((plan : PlanValue) (p : PeerNoValue) (trace : Entries) (first : TablesValue)
+        → IsRead plan p trace follower.old notes.old first tables.old
+        → ShowsMore plan p first tables.new trace) }
+{
+    while let Some(seen) = follower.advance()? {
+        note_seen(tables, notes, list, &seen)?;
+    }
+    Ok(())
+}
+
+/// Notes what an entry says.
+fn note_seen(
+    tables: &mut Tables,
+    notes: &mut Notes,
+    list: &mut Vec<Happening>,
+    seen: &Followed<'_>,
+) -> Result<(), AllocError>
+    ensures notes { OnOk result ((plan : PlanValue) (p : PeerNoValue) (L : Entries)
+        → IsNoted plan p notes.old L
+        → IsNoted plan p notes.new (seen.now.entry.now ∷ L)) }
+    ensures tables { OnOk result ((plan : PlanValue) (p : PeerNoValue) (L : Entries)
+        (hs : List HappeningValue) (sizes : List MeshSize)
+        → IsNoted plan p notes.old L
+        → seen.now.fallen.items ≡ fell_away (peer_in plan p) L seen.now.entry.now.at seen.now.entry.now.event
+        → Shows plan tables.old hs sizes
+        → Shows plan tables.new (hs ++ entry_happenings plan p L seen.now.entry.now)
+        (sizes ++ entry_sizes L seen.now.entry.now)) }
+{
+    list.clear();
+    notes.list_entry(list, seen.entry, &seen.fallen)?;
+    tables.note_all(list)?;
+    note_sizes(tables, &notes.memory, seen.entry.at(), seen.entry.event());
+    Ok(())
+}
+
+/// Notes the sizes of the meshes of a peer that ends a round.
+fn note_sizes(tables: &mut Tables, memory: &Memory, at: Millis, event: &Event)
+    ensures { (plan : PlanValue) (hs : List HappeningValue) (sizes : List MeshSize)
+        → Shows plan tables.old hs sizes
+        → Shows plan tables.new hs (sizes ++ known_sizes memory.now at event.now) }
+{
+    if !ends_round(event) {
+        return;
+    }
+    note_meshes(tables, &memory.meshes.members, &memory.meshes.topics, at);
+}
+
+/// Notes how many of these members the mesh of each of these topics has.
+fn note_meshes(tables: &mut Tables, members: &[(Topic, PeerNo)], topics: &[Topic], at: Millis)
+    ensures { (plan : PlanValue) (hs : List HappeningValue) (sizes : List MeshSize)
+        → Shows plan tables.old hs sizes
+        → Shows plan tables.new hs (sizes ++ sizes_of at members.now topics.now) }
+{
+    for topic in topics {
+        tables.note_size(at, members_in(members, topic));
+    }
+}
+
+/// Whether an event ends a round. Each event is named, so that a new one is decided on.
+fn ends_round(event: &Event) -> bool
+    ensures { result ≡ of_round_end (λ r. true) false event.now }
+{
+    match event {
+        Event::RoundEnd(_) => true,
+        Event::Heard(_, _) => false,
+        Event::Late(_, _) => false,
+        Event::Part(_, _) => false,
+        Event::BeatBegin => false,
+        Event::Step(_) => false,
+        Event::Own(_) => false,
+        Event::Lost(_, _) => false,
+        Event::Decay => false,
+        Event::Shut => false,
+    }
+}
+
+impl Notes {
+    /// Before its first entry.
+    fn new(alloc: Global, plan: &Plan, peer: PeerNo) -> Result<Notes, AllocError>
+        requires { IsInRange plan.now }
+        ensures { IfOk result (λ notes. IsNoted plan.now peer notes []) }
+    {
+        let lanes = lanes_of(alloc, plan, peer)?;
+        Ok(Notes {
+            peer,
+            memory: Memory::new(alloc),
+            lanes,
+        })
+    }
+
+    /// Lists what happens at an entry at which this came to nothing, and reads it.
+    fn list_entry(
+        &mut self,
+        list: &mut Vec<Happening>,
+        entry: &StoredEntry,
+        fallen: &[Fallen],
+    ) -> Result<(), AllocError>
+        ensures list { OnOk result ((plan : PlanValue) (p : PeerNoValue) (L : Entries)
+            → IsNoted plan p self.old L
+            → fallen.now ≡ fell_away (peer_in plan p) L entry.now.at entry.now.event
+            → list.new.items ≡ list.old.items ++ entry_happenings plan p L entry.now) }
+        ensures notes { OnOk result ((plan : PlanValue) (p : PeerNoValue) (L : Entries)
+            → IsNoted plan p self.old L
+            → IsNoted plan p self.new (entry.now ∷ L)) }
+    {
+        let scene = Scene::of(entry.at(), self.peer);
+        list_done(list, &self.memory, scene, entry, fallen)?;
+        tell_all(&mut self.lanes, list, scene, entry)?;
+        self.memory.note(entry)
+    }
+}
+
+/// Lists what happens at an entry, but for what goes out over links.
+fn list_done(
+    list: &mut Vec<Happening>,
+    memory: &Memory,
+    scene: Scene,
+    entry: &StoredEntry,
+    fallen: &[Fallen],
+) -> Result<(), AllocError>
+    ensures { OnOk result (list.new.items
+        ≡ list.old.items ++ done_happenings (known_fate memory.now) scene fallen.now entry.now) }
+{
+    let (event, marks) = (entry.event(), entry.marks());
+    let did = Did {
+        event,
+        marks,
+        fallen,
+    };
+    note_all_fallen(list, scene, fallen)?;
+    note_event(list, memory, scene, did)?;
+    note_sends(list, scene, is_answer(event), entry.sends())?;
+    note_deliveries(list, scene, entry.delivered())?;
+    note_marks(list, scene, event, marks)
+}
+
+/// The lanes to the neighbours of a peer, ascending.
+fn lanes_of(alloc: Global, plan: &Plan, peer: PeerNo) -> Result<Vec<Lane>, AllocError>
+    requires { IsInRange plan.now }
+    ensures { IfOk result (λ lanes. lanes.items ≡ map new_lane (neighbours plan.now peer)) }
+{
+    let neighbours = neighbours_of(alloc, plan, peer)?;
+    let lanes = lanes_to(alloc, &neighbours)?;
+    Ok(lanes)
+}
+
+/// The lanes to these neighbours.
+fn lanes_to(alloc: Global, neighbours: &[Neighbour]) -> Result<Vec<Lane>, AllocError>
+    ensures { IfOk result (λ lanes. lanes.items ≡ map new_lane (peers_of neighbours.now)) }
+{
+    let mut lanes = Vec::new(alloc);
+    for neighbour in neighbours {
+        lanes.push(Lane::new(alloc, neighbour.peer))?;
+    }
+    Ok(lanes)
+}

@@ -1,0 +1,9 @@
+mod cases;
+mod chosen;
+mod heard;
+mod made;
+mod made_rpcs;
+mod nothing;
+mod order;
+mod sent;
+mod told;
