@@ -4,6 +4,7 @@ mod Places
 mod OneMore
 mod Both
 mod Lanes
+mod SaidBytes
 mod Memories
 mod Noted
 mod Joining

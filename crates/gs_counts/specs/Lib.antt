@@ -10,6 +10,7 @@ pub mod Lengths
 pub mod Sent
 pub mod Changes
 pub mod Lanes
+pub mod Said
 pub mod Rows
 pub mod Standing
 pub mod Sums

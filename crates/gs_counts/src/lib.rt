@@ -14,6 +14,7 @@ mod lengths;
 mod memory;
 mod meshes;
 mod run;
+mod said;
 mod sent;
 mod span;
 mod tables;
@@ -34,4 +35,5 @@ pub use laws::{
 pub use run::{
     LinkCounts, PeerCounts, RoundCounts, RunCounts, TopicCounts, over_links, run_counts,
 };
+pub use said::{all_of_a_legal_trace_counts, bytes_that_are_counted_are_said};
 pub use span::Span;
