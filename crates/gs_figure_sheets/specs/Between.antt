@@ -9,8 +9,8 @@ use Rattle.gs_counts.specs.declared.span.Span.{Span}
 use Rattle.gs_counts.specs.Meshes.{members_in, span_of, widened}
 use Rattle.gs_counts.specs.Rows.{count_at, plus}
 use Rattle.gs_counts.specs.Topics.{subscribed}
-use Rattle.gs_opinions.specs.declared.opinions.Lowest.{Lowest}
-use Rattle.gs_opinions.specs.declared.opinions.PairOpinion.{PairOpinion}
+use Rattle.gs_opinions.specs.declared.opinion.Lowest.{Lowest}
+use Rattle.gs_opinions.specs.declared.run.PairOpinion.{PairOpinion}
 use Rattle.gs_reach.specs.declared.chosen.Chosen.{Chosen}
 use Rattle.gs_reach.specs.Chosen.{is_chosen}
 use Rattle.gs_report.specs.declared.finished.Finished.{Finished}

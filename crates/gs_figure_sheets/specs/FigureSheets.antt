@@ -2,8 +2,8 @@
 use Rattle.std.specs.Prelude.{ℕ, List, [], ◌∷◌, ◌++◌, map, Option, None, Some}
 use Rattle.gs_counts.specs.declared.run.RunCounts.{RunCounts}
 use Rattle.gs_counts.specs.Runs.{run_counts}
-use Rattle.gs_opinions.specs.declared.opinions.Opinions.{Opinions}
-use Rattle.gs_opinions.specs.Opinions.{opinions_of}
+use Rattle.gs_opinions.specs.declared.run.Opinions.{Opinions}
+use Rattle.gs_opinions.specs.Runs.{opinions_of}
 use Rattle.gs_plan.specs.declared.plan.Plan.{Plan}
 use Rattle.gs_reach.specs.declared.chosen.Chosen.{Chosen}
 use Rattle.gs_reach.specs.declared.chosen.Chosen.TheVariants.{Any, Only}

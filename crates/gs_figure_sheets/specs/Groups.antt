@@ -5,8 +5,8 @@ use Rattle.gs_base.specs.declared.names.PeerNo.{PeerNo}
 use Rattle.gs_counts.specs.declared.kind.Kind.TheVariants.{RpcsSent, BytesSent}
 use Rattle.gs_counts.specs.declared.run.LinkCounts.{LinkCounts}
 use Rattle.gs_counts.specs.declared.span.Span.{Span}
-use Rattle.gs_opinions.specs.declared.opinions.Lowest.{Lowest}
-use Rattle.gs_opinions.specs.declared.opinions.PairOpinion.{PairOpinion}
+use Rattle.gs_opinions.specs.declared.opinion.Lowest.{Lowest}
+use Rattle.gs_opinions.specs.declared.run.PairOpinion.{PairOpinion}
 use Rattle.gs_reach.specs.declared.chosen.Chosen.TheVariants.{Any}
 use Rattle.gs_reach.specs.declared.messages.MessageReach.{MessageReach}
 use Rattle.gs_reach.specs.declared.pairs.Pair.{Pair}

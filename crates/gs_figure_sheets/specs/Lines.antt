@@ -11,8 +11,8 @@ use Rattle.gs_counts.specs.declared.run.TopicCounts.{TopicCounts}
 use Rattle.gs_counts.specs.declared.span.Span.{Span}
 use Rattle.gs_counts.specs.Listing.{over_links}
 use Rattle.gs_counts.specs.Rows.{no_counts}
-use Rattle.gs_opinions.specs.declared.opinions.Opinions.{Opinions}
-use Rattle.gs_opinions.specs.declared.opinions.RoundOpinions.{RoundOpinions}
+use Rattle.gs_opinions.specs.declared.run.Opinions.{Opinions}
+use Rattle.gs_opinions.specs.declared.run.RoundOpinions.{RoundOpinions}
 use Rattle.gs_plan.specs.declared.plan.Plan.{Plan}
 use Rattle.gs_reach.specs.declared.chosen.Chosen.{Chosen}
 use Rattle.gs_reach.specs.declared.chosen.Chosen.TheVariants.{Any, Only}

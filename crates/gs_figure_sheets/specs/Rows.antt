@@ -4,8 +4,8 @@ use Rattle.gs_base.specs.declared.names.PeerNo.{PeerNo}
 use Rattle.gs_counts.specs.declared.counts.Counts.{Counts}
 use Rattle.gs_counts.specs.declared.span.Span.{Span}
 use Rattle.gs_counts.specs.Meshes.{widened}
-use Rattle.gs_counts.specs.Rows.{count_at, counts_with, no_counts, plus}
-use Rattle.gs_opinions.specs.declared.opinions.Lowest.{Lowest}
+use Rattle.gs_counts.specs.Rows.{count_at, with_counts, no_counts, plus}
+use Rattle.gs_opinions.specs.declared.opinion.Lowest.{Lowest}
 use Rattle.gs_reach.specs.declared.chosen.Chosen.{Chosen}
 use Rattle.gs_reach.specs.Chosen.{is_chosen}
 use Rattle.gs_sheets.specs.declared.sheet.Value.{Value}
@@ -113,7 +113,7 @@ lower (Some a) (Some b) = Some (if is_below b a then b else a)
 
 abbrev pub joined : RowFigures → RowFigures → RowFigures
 joined a b = record {
-  counts = counts_with a.counts b.counts;
+  counts = with_counts a.counts b.counts;
   bytes_heard = plus a.bytes_heard b.bytes_heard;
   raw_bytes_heard = plus a.raw_bytes_heard b.raw_bytes_heard;
   meshes = joined_spans a.meshes b.meshes;
