@@ -1,3 +1,5 @@
 mod order;
 mod ran;
 mod runs;
+mod scenarios;
+mod told;

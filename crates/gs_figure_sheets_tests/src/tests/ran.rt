@@ -3,13 +3,14 @@ ghost use Rattle.std.specs.Prelude.{IfOk};
 ghost use Rattle.gs_plan.specs.Plans.{IsInRange};
 
 use crate::tests::order::are_in_order;
+use crate::tests::told::told;
 use gs_base::Seq;
 use gs_direct::run_direct;
 use gs_figure_sheets::{Choice, Group, Layout, Subject, Wanted, figure_sheets};
 use gs_plan::Plan;
 use gs_report::Report;
 use gs_scenario::read_plan;
-use gs_sheets::{sheets_csv, sheets_table};
+use gs_sheets::sheets_table;
 use std::alloc::{AllocError, Global};
 
 /// Which sheets of a run of a scenario are wanted.
@@ -78,14 +79,36 @@ fn written(
     let sheets = figure_sheets(alloc, plan, report, wanted)?;
     match wanted.layout {
         Layout::Person => sheets_table(alloc, sheets.as_slice()),
-        Layout::Data => sheets_csv(alloc, sheets.as_slice()),
+        Layout::Data => told(alloc, &sheets),
     }
 }
 
-/// The sheets of a run of a case: tables for a person, or CSV.
+/// The sheets of a run of a case: tables for a person, or what stands in the sheets for a program.
 pub(crate) fn text_of(alloc: Global, case: &Case, layout: Layout) -> Result<Vec<u8>, AllocError> {
     let plan = plan_of(alloc, case.scenario)?;
     let report = report_of(alloc, &plan)?;
     let wanted = wanted_of(alloc, case, layout)?;
     written(alloc, &plan, &report, &wanted)
+}
+
+/// The name of the first case that is written otherwise, and what is written of it.
+pub(crate) fn first_wrong(
+    alloc: Global,
+    cases: &'static [Case],
+    layout: Layout,
+) -> Result<Option<(&'static str, String)>, AllocError> {
+    for case in cases {
+        let text = text_of(alloc, case, layout)?;
+        if text.as_slice() != case.text.as_bytes() {
+            return Ok(Some((case.name, shown(text))));
+        }
+    }
+    Ok(None)
+}
+
+fn shown(text: Vec<u8>) -> String {
+    match String::from_utf8(text) {
+        Ok(text) => text,
+        Err(error) => String::new(*error.into_bytes().allocator()),
+    }
 }
