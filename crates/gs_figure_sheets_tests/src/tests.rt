@@ -2,4 +2,5 @@ mod order;
 mod ran;
 mod runs;
 mod scenarios;
+mod tables;
 mod told;
