@@ -1,3 +1,4 @@
+mod names;
 mod order;
 mod ran;
 mod runs;

@@ -74,3 +74,17 @@ pub(crate) fn told(alloc: Global, sheets: &Seq<Sheet>) -> Result<Vec<u8>, AllocE
     }
     Ok(text)
 }
+
+/// A line for each sheet: its name, and those of its columns.
+pub(crate) fn names_in(alloc: Global, sheets: &Seq<Sheet>) -> Result<Vec<u8>, AllocError> {
+    let mut text = Vec::new(alloc);
+    for sheet in sheets.as_slice() {
+        text.extend_from_slice(sheet.name.as_slice())?;
+        for column in sheet.columns.as_slice() {
+            text.push(b' ')?;
+            text.extend_from_slice(column.name.as_slice())?;
+        }
+        text.push(b'\n')?;
+    }
+    Ok(text)
+}
