@@ -83,7 +83,11 @@ abbrev pub adding : Wishes → GroupWish → Option Wishes
 adding w g =
     if length w.groups == 16 || is_taken w.groups g.name then None
     else Some (record {
-      by = w.by; among = w.among; groups = w.groups ++ g ∷ []; subject = w.subject; form = w.form
+      by = w.by;
+      among = w.among;
+      groups = w.groups ++ g ∷ [];
+      subject = w.subject;
+      form = w.form;
     })
 
 abbrev pub with_group : Wishes → Option GroupWish → Option Wishes
