@@ -153,6 +153,15 @@ asked_from (Some w) (name ∷ value ∷ more) =
 abbrev pub asked_for : List (List ℕ) → Option Wishes
 asked_for arguments = asked_from (Some no_wish) arguments
 
+-- ---- options in any order
+
+-- the arguments of an option with this name: only the name, or a value after it
+abbrev pub option_words : List ℕ → List ℕ → List (List ℕ)
+option_words name value = if is_word name then name ∷ [] else name ∷ value ∷ []
+
+abbrev pub is_group_option : List ℕ → Bool
+is_group_option name = same_bytes name (codes "--group")
+
 -- what is said where they ask for nothing that there is
 unfoldable pub usage : List ℕ
 usage = codes
