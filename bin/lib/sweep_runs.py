@@ -24,6 +24,8 @@ OF_RUNS = *HOW_ENDED, "proved"
 # of a message and a subscriber missed each other.
 SHEETS = "messages", "within", "parts", "peers"
 WHOLE = "(all)"
+# The columns that these sheets give, but for the last one.
+OF_MESSAGES = "messages pairs reached missed first_round median_round round_90 round_99 last_round".split()
 
 # A scenario in which nothing happens: its figures show which columns there are.
 NOTHING = b"""
@@ -136,8 +138,8 @@ def figures_of(text, peer):
     if row is None:
         return None
     missed, pairs = next(it["pairs"] for it in within if it["outcome"] == "missed"), parts[0]["pairs"]
-    figures = {"messages": len(messages), "pairs": pairs, "reached": pairs - missed, "missed": missed} | parts[0]
-    figures |= {column: it for column, it in row.items() if column != "peer"}
+    counts = {"messages": len(messages), "pairs": pairs, "reached": pairs - missed, "missed": missed} | parts[0]
+    figures = {it: counts.get(it) for it in OF_MESSAGES} | {column: it for column, it in row.items() if column != "peer"}
     for pair in sheets.get("groups", ()):
         start = f"{pair['from']}_to_{pair['to']}"
         figures |= {f"{start}_{column}": it for column, it in pair.items() if column not in ("from", "to")}
@@ -213,7 +215,7 @@ class Sweep:
         """Asks gossip_stats which columns it has. Gives whether it answers."""
         end = self.call(self.figures, NOTHING)
         figures = figures_of(end.output.decode(errors="replace"), None) if end.status == 0 else {}
-        self.columns = (*OF_RUNS, *figures)
+        self.columns = (*OF_RUNS, *(figures or OF_MESSAGES))
         self.header = [*self.settings, *self.columns]
         return bool(figures)
 
