@@ -170,7 +170,7 @@ class Sheets:
 
 
 def differences(found, wanted):
-    """What differs between two runs' sheets, and how many cells were compared: texts, and numbers."""
+    """What differs between two runs' sheets, as texts, and how many cells were compared, as numbers."""
     if list(found) != list(wanted):
         yield f"its sheets are {list(found)}, and {list(wanted)} by the page"
     for title in (it for it in found if it in wanted):
@@ -178,15 +178,17 @@ def differences(found, wanted):
         if len(rows) != len(others):
             yield f"{title} has {len(rows)} rows, and {len(others)} by the trace"
         for number, (row, other) in enumerate(zip(rows, others), 1):
-            yield len(other)
-            if list(row) != list(other):
-                aside = [it for it in (*row, *other) if (it in row) != (it in other)]
-                yield f"{title} has other columns: {aside or 'in another order'}"
-                aside = {it for it in other if it not in row}
-                other = {key: it for key, it in other.items() if key not in aside}
-            for key, it in other.items():
-                if row[key] != it:
-                    yield f"row {number} of {title} ({', '.join(map(str, list(row.values())[:2]))}): {key} is {row[key]}, and {it} by the trace"
+            yield from row_differences(f"row {number} of {title}", row, other)
+
+
+def row_differences(place, row, other):
+    yield len(other)
+    if list(row) != list(other):
+        aside = [it for it in (*row, *other) if (it in row) != (it in other)]
+        yield f"{place} has other columns: {aside or 'in another order'}"
+    for key in (it for it in other if it in row and row[it] != other[it]):
+        begin = ", ".join(str(it) for it in list(other.values())[:2])
+        yield f"{place} ({begin}): {key} is {row[key]}, and {other[key]} by the trace"
 
 
 def figure_choices(names, number=None):
