@@ -15,9 +15,9 @@ const FIGURES = [
   ['largest_mesh', 'largest', 'members of the largest mesh, over all topics'],
 ];
 const FIGURE_GROUPS = [
-  ['users', 1],
+  ['', 1],
   ['messages heard in this round, all topics', 6],
-  ['members of a mesh', 2],
+  ['mesh members', 2],
 ];
 
 class FiguresPanel {
