@@ -9,7 +9,6 @@ from read_reach import NEVER, Reach, at_share, chosen, share_of
 from read_scores import shown
 
 SUBJECTS = "--rounds", "--topics", "--links"
-PARTS_OF_CHOICES = 4
 SHARES = {"median_round": 50, "round_90": 90, "last_round": 100}
 
 # What is asked for: PEERS or None, groups as (NAME, PEERS), and the sheet that stands in the place of the ordinary ones.
@@ -188,17 +187,16 @@ def row_differences(place, row, other):
         yield f"{place} ({begin}): {key} is {row[key]}, and {other[key]} by the trace"
 
 
-def figure_choices(names, number=None):
-    """The options of gossip_stats that are tried on a run of these peers. With a number it is a part of them."""
+def figure_choices(names):
+    """The options of gossip_stats that are tried on a run of these peers."""
     some = ",".join(names[:2])
     halves = ["--group", f"one={','.join(names[::2])}", "--group", f"q_and-2={','.join(names[1::3])},q*"]
     everybody = ["--group", "All=*", "--group", "none=nobody"]
     mixed = ["--by", f"{names[-1]},none", "--of", f"{names[0]},q*,p*"]
-    choices = [["--of", some, *halves], ["--by", "p*"], ["--of", some], [*mixed, *halves], [*everybody, *halves]]
-    choices += [["--of", "nobody", *halves]]
+    yield from ([], ["--by", "p*"], ["--of", some], ["--of", some, *halves], ["--of", "nobody", *halves])
+    yield from ([*mixed, *halves], [*everybody, *halves])
     for subject in SUBJECTS:
-        choices += [subject], [subject, "--of", some], [*halves, subject, *mixed]
-    return [[], *(choices if number is None else choices[number % PARTS_OF_CHOICES :: PARTS_OF_CHOICES])]
+        yield from ([subject], [subject, "--of", some], [*halves, subject, *mixed])
 
 
 def figure_differences(run, printed, words):
