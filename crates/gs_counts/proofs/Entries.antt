@@ -71,7 +71,7 @@ module _ (f g : Message → List Mark → Fate) (same : (m : Message) (marks : L
       (λ (hs : List Happening). flat_map (fallen_happenings s) fallen
       ++ (hs
       ++ (flat_map (send_happenings s (is_answer e.event)) e.effects.sends
-      ++ (flat_map (delivery_happenings s) e.effects.delivered ++ flat_map (mark_happenings s) e.effects.marks))))
+      ++ (flat_map (delivery_happenings s) e.effects.delivered ++ flat_map (mark_happenings s e.event) e.effects.marks))))
       (same_event s fallen e.event e.effects.marks)
 
 -- ---- lanes

@@ -39,7 +39,7 @@ total_if hs h n b is =
 -- ---- a row
 
 -- the numbers of a row by their places
-by_place : (hs : List Happening) → map (total hs) all_kinds ≡ map (total_at hs) (range_with_len 0 43)
+by_place : (hs : List Happening) → map (total hs) all_kinds ≡ map (total_at hs) (range_with_len 0 51)
 unfolding all_kinds
 by_place hs = refl
 
@@ -47,7 +47,7 @@ pub row_more : (hs : List Happening) (h : Happening) → row_of (hs ++ h ∷ [])
 row_more hs h =
     ap (λ (ns : List ℕ). record { amounts = ns })
     (by_place (hs ++ h ∷ [])
-    ∙ sym (changed (λ n. plus n h.amount) (total_at hs) (total_at (hs ++ h ∷ [])) (place_of h.kind) (λ n. total_if hs h n true) (λ n. total_if hs h n false) 43)
+    ∙ sym (changed (λ n. plus n h.amount) (total_at hs) (total_at (hs ++ h ∷ [])) (place_of h.kind) (λ n. total_if hs h n true) (λ n. total_if hs h n false) 51)
     ∙ ap (λ (ns : List ℕ). changed_at (λ n. plus n h.amount) ns (place_of h.kind)) (sym (by_place hs)))
 
 -- a row in which it stands, or does not

@@ -1,15 +1,12 @@
 -- The kinds of happenings, their places, and which end of a link each counts for.
-use Rattle.std.specs.Prelude.{ℕ, Bool, true, false, nat_eq, codes, List, [], ◌∷◌}
+use Rattle.std.specs.Prelude.{ℕ, Bool, true, false, nat_eq, List, [], ◌∷◌}
 use Rattle.gs_counts.specs.declared.kind.Kind.{Kind}
-use Rattle.gs_counts.specs.declared.kind.Kind.TheVariants.{RpcsHeard, RpcsGraylisted, RpcsLate, SubscriptionsHeard, New, Duplicates, Ignored, Rejected, Signed, OffTopic, PayloadBytesNew, PayloadBytesAgain, IhaveHeard, IdsOffered, IwantHeard, IdsAsked, IdsNotSentScore, IdsNotSentTooOften, IdsNotSentNotKept, GraftHeard, GraftRefusedExplicit, GraftRefusedBackoff, GraftRefusedScore, GraftRefusedFull, PruneHeard, PromisesBroken, Faults, RpcsSent, BytesSent, RawBytesSent, SubscriptionsSent, MessagesPushed, MessagesAnswered, IhaveSent, IdsOfferedSent, IwantSent, IdsAskedSent, GraftSent, PruneSent, Delivered, RefusedLines, Grafted, Pruned}
+use Rattle.gs_counts.specs.declared.kind.Kind.TheVariants.{RpcsHeard, New, Duplicates, Ignored, Rejected, Signed, OffTopic, PayloadBytesNew, PayloadBytesAgain, SubscriptionsHeard, IhaveHeard, IdsOffered, IwantHeard, IdsAsked, GraftHeard, PruneHeard, RpcsSent, BytesSent, RawBytesSent, MessageBytesSent, ControlBytesSent, SubscriptionBytesSent, SubscriptionsSent, MessagesPushed, MessagesAnswered, IhaveSent, IdsOfferedSent, IwantSent, IdsAskedSent, GraftSent, PruneSent, RpcsGraylisted, RpcsLate, Faults, GraftRefusedExplicit, GraftRefusedBackoff, GraftRefusedScore, GraftRefusedFull, IdsNotSentScore, IdsNotSentTooOften, IdsNotSentNotKept, PromisesBroken, RefusedLines, Delivered, Grafted, GraftedByNeighbour, GraftedByHeartbeat, Pruned, PrunedByNeighbour, PrunedByHeartbeat, PrunedByLoss}
 
 -- all of them, in the order of columns
 unfoldable pub all_kinds : List Kind
 all_kinds =
     RpcsHeard
-    ∷ RpcsGraylisted
-    ∷ RpcsLate
-    ∷ SubscriptionsHeard
     ∷ New
     ∷ Duplicates
     ∷ Ignored
@@ -18,24 +15,19 @@ all_kinds =
     ∷ OffTopic
     ∷ PayloadBytesNew
     ∷ PayloadBytesAgain
+    ∷ SubscriptionsHeard
     ∷ IhaveHeard
     ∷ IdsOffered
     ∷ IwantHeard
     ∷ IdsAsked
-    ∷ IdsNotSentScore
-    ∷ IdsNotSentTooOften
-    ∷ IdsNotSentNotKept
     ∷ GraftHeard
-    ∷ GraftRefusedExplicit
-    ∷ GraftRefusedBackoff
-    ∷ GraftRefusedScore
-    ∷ GraftRefusedFull
     ∷ PruneHeard
-    ∷ PromisesBroken
-    ∷ Faults
     ∷ RpcsSent
     ∷ BytesSent
     ∷ RawBytesSent
+    ∷ MessageBytesSent
+    ∷ ControlBytesSent
+    ∷ SubscriptionBytesSent
     ∷ SubscriptionsSent
     ∷ MessagesPushed
     ∷ MessagesAnswered
@@ -45,57 +37,81 @@ all_kinds =
     ∷ IdsAskedSent
     ∷ GraftSent
     ∷ PruneSent
-    ∷ Delivered
+    ∷ RpcsGraylisted
+    ∷ RpcsLate
+    ∷ Faults
+    ∷ GraftRefusedExplicit
+    ∷ GraftRefusedBackoff
+    ∷ GraftRefusedScore
+    ∷ GraftRefusedFull
+    ∷ IdsNotSentScore
+    ∷ IdsNotSentTooOften
+    ∷ IdsNotSentNotKept
+    ∷ PromisesBroken
     ∷ RefusedLines
+    ∷ Delivered
     ∷ Grafted
+    ∷ GraftedByNeighbour
+    ∷ GraftedByHeartbeat
     ∷ Pruned
+    ∷ PrunedByNeighbour
+    ∷ PrunedByHeartbeat
+    ∷ PrunedByLoss
     ∷ []
 
 -- the place of each among them
 abbrev pub place_of : Kind → ℕ
 place_of RpcsHeard = 0
-place_of RpcsGraylisted = 1
-place_of RpcsLate = 2
-place_of SubscriptionsHeard = 3
-place_of New = 4
-place_of Duplicates = 5
-place_of Ignored = 6
-place_of Rejected = 7
-place_of Signed = 8
-place_of OffTopic = 9
-place_of PayloadBytesNew = 10
-place_of PayloadBytesAgain = 11
-place_of IhaveHeard = 12
-place_of IdsOffered = 13
-place_of IwantHeard = 14
-place_of IdsAsked = 15
-place_of IdsNotSentScore = 16
-place_of IdsNotSentTooOften = 17
-place_of IdsNotSentNotKept = 18
-place_of GraftHeard = 19
-place_of GraftRefusedExplicit = 20
-place_of GraftRefusedBackoff = 21
-place_of GraftRefusedScore = 22
-place_of GraftRefusedFull = 23
-place_of PruneHeard = 24
-place_of PromisesBroken = 25
-place_of Faults = 26
-place_of RpcsSent = 27
-place_of BytesSent = 28
-place_of RawBytesSent = 29
-place_of SubscriptionsSent = 30
-place_of MessagesPushed = 31
-place_of MessagesAnswered = 32
-place_of IhaveSent = 33
-place_of IdsOfferedSent = 34
-place_of IwantSent = 35
-place_of IdsAskedSent = 36
-place_of GraftSent = 37
-place_of PruneSent = 38
-place_of Delivered = 39
-place_of RefusedLines = 40
-place_of Grafted = 41
-place_of Pruned = 42
+place_of New = 1
+place_of Duplicates = 2
+place_of Ignored = 3
+place_of Rejected = 4
+place_of Signed = 5
+place_of OffTopic = 6
+place_of PayloadBytesNew = 7
+place_of PayloadBytesAgain = 8
+place_of SubscriptionsHeard = 9
+place_of IhaveHeard = 10
+place_of IdsOffered = 11
+place_of IwantHeard = 12
+place_of IdsAsked = 13
+place_of GraftHeard = 14
+place_of PruneHeard = 15
+place_of RpcsSent = 16
+place_of BytesSent = 17
+place_of RawBytesSent = 18
+place_of MessageBytesSent = 19
+place_of ControlBytesSent = 20
+place_of SubscriptionBytesSent = 21
+place_of SubscriptionsSent = 22
+place_of MessagesPushed = 23
+place_of MessagesAnswered = 24
+place_of IhaveSent = 25
+place_of IdsOfferedSent = 26
+place_of IwantSent = 27
+place_of IdsAskedSent = 28
+place_of GraftSent = 29
+place_of PruneSent = 30
+place_of RpcsGraylisted = 31
+place_of RpcsLate = 32
+place_of Faults = 33
+place_of GraftRefusedExplicit = 34
+place_of GraftRefusedBackoff = 35
+place_of GraftRefusedScore = 36
+place_of GraftRefusedFull = 37
+place_of IdsNotSentScore = 38
+place_of IdsNotSentTooOften = 39
+place_of IdsNotSentNotKept = 40
+place_of PromisesBroken = 41
+place_of RefusedLines = 42
+place_of Delivered = 43
+place_of Grafted = 44
+place_of GraftedByNeighbour = 45
+place_of GraftedByHeartbeat = 46
+place_of Pruned = 47
+place_of PrunedByNeighbour = 48
+place_of PrunedByHeartbeat = 49
+place_of PrunedByLoss = 50
 
 abbrev pub same_kind : Kind → Kind → Bool
 same_kind j k = nat_eq (place_of j) (place_of k)
@@ -104,9 +120,6 @@ same_kind j k = nat_eq (place_of j) (place_of k)
 -- peer that made it.
 abbrev pub is_of_sender : Kind → Bool
 is_of_sender RpcsHeard = false
-is_of_sender RpcsGraylisted = false
-is_of_sender RpcsLate = false
-is_of_sender SubscriptionsHeard = false
 is_of_sender New = false
 is_of_sender Duplicates = false
 is_of_sender Ignored = false
@@ -115,24 +128,19 @@ is_of_sender Signed = false
 is_of_sender OffTopic = false
 is_of_sender PayloadBytesNew = false
 is_of_sender PayloadBytesAgain = false
+is_of_sender SubscriptionsHeard = false
 is_of_sender IhaveHeard = false
 is_of_sender IdsOffered = false
 is_of_sender IwantHeard = false
 is_of_sender IdsAsked = false
-is_of_sender IdsNotSentScore = false
-is_of_sender IdsNotSentTooOften = false
-is_of_sender IdsNotSentNotKept = false
 is_of_sender GraftHeard = false
-is_of_sender GraftRefusedExplicit = false
-is_of_sender GraftRefusedBackoff = false
-is_of_sender GraftRefusedScore = false
-is_of_sender GraftRefusedFull = false
 is_of_sender PruneHeard = false
-is_of_sender PromisesBroken = true
-is_of_sender Faults = false
 is_of_sender RpcsSent = true
 is_of_sender BytesSent = true
 is_of_sender RawBytesSent = true
+is_of_sender MessageBytesSent = true
+is_of_sender ControlBytesSent = true
+is_of_sender SubscriptionBytesSent = true
 is_of_sender SubscriptionsSent = true
 is_of_sender MessagesPushed = true
 is_of_sender MessagesAnswered = true
@@ -142,7 +150,23 @@ is_of_sender IwantSent = true
 is_of_sender IdsAskedSent = true
 is_of_sender GraftSent = true
 is_of_sender PruneSent = true
-is_of_sender Delivered = true
+is_of_sender RpcsGraylisted = false
+is_of_sender RpcsLate = false
+is_of_sender Faults = false
+is_of_sender GraftRefusedExplicit = false
+is_of_sender GraftRefusedBackoff = false
+is_of_sender GraftRefusedScore = false
+is_of_sender GraftRefusedFull = false
+is_of_sender IdsNotSentScore = false
+is_of_sender IdsNotSentTooOften = false
+is_of_sender IdsNotSentNotKept = false
+is_of_sender PromisesBroken = true
 is_of_sender RefusedLines = true
+is_of_sender Delivered = true
 is_of_sender Grafted = true
+is_of_sender GraftedByNeighbour = true
+is_of_sender GraftedByHeartbeat = true
 is_of_sender Pruned = true
+is_of_sender PrunedByNeighbour = true
+is_of_sender PrunedByHeartbeat = true
+is_of_sender PrunedByLoss = true

@@ -6,7 +6,7 @@ use Rattle.gs_base.specs.Names.{same_peer}
 use Rattle.gs_plan.specs.declared.plan.Dial.{Dial}
 use Rattle.gs_plan.specs.Plans.{are_joined}
 use Rattle.gs_counts.specs.declared.counts.Counts.{Counts}
-use Rattle.gs_counts.specs.declared.kind.Kind.TheVariants.{BytesSent}
+use Rattle.gs_counts.specs.declared.kind.Kind.{Kind}
 use Rattle.gs_counts.specs.declared.run.LinkCounts.{LinkCounts}
 use Rattle.gs_counts.specs.declared.run.PeerCounts.{PeerCounts}
 use Rattle.gs_counts.specs.declared.run.RoundCounts.{RoundCounts}
@@ -40,12 +40,16 @@ links_by dials count p row = flat_map (λ m. link_if dials p (peer_no m) (row m)
 abbrev pub all_links : List Dial → ℕ → (ℕ → ℕ → Counts) → List LinkCounts
 all_links dials count row = flat_map (λ n. links_by dials count (peer_no n) (row n)) (range_with_len 0 count)
 
--- ---- bytes that are heard
+-- ---- what goes over links to a peer
 
 -- those of these links that lead to a peer
 abbrev pub links_to : PeerNo → List LinkCounts → List LinkCounts
 links_to p links = filter (λ (link : LinkCounts). same_peer link.to p) links
 
--- how many bytes went over these, at most the greatest number that is given
-abbrev pub bytes_over : List LinkCounts → ℕ
-bytes_over links = fold (λ sum (link : LinkCounts). plus sum (count_at link.counts BytesSent)) 0 links
+-- a sum with what stands of a kind in these rows, at most the greatest number that is given
+abbrev pub with_links : Kind → ℕ → List LinkCounts → ℕ
+with_links kind sum links = fold (λ sum (link : LinkCounts). plus sum (count_at link.counts kind)) sum links
+
+-- how often or how much of a kind went over those of these links that lead to a peer
+abbrev pub over_links : List LinkCounts → PeerNo → Kind → ℕ
+over_links links p kind = with_links kind 0 (links_to p links)

@@ -44,6 +44,10 @@ number_at amounts place = unwrap_or (slice_get amounts place) 0
 abbrev pub count_at : Counts → Kind → ℕ
 count_at counts kind = number_at counts.amounts (place_of kind)
 
+-- what two rows are together, number by number
+abbrev pub with_counts : Counts → Counts → Counts
+with_counts counts others = record { amounts = map (λ kind. plus (count_at counts kind) (count_at others kind)) all_kinds }
+
 -- nothing happened
 abbrev pub no_counts : Counts
 no_counts = row_of []

@@ -1,5 +1,5 @@
 -- All that happened in a run, as one list, and the tables of it.
-use Rattle.std.specs.Prelude.{◌≡◌, ℕ, ◌+◌, List, [], ◌∷◌, ◌++◌, map}
+use Rattle.std.specs.Prelude.{◌≡◌, ℕ, ◌+◌, List, [], ◌∷◌, ◌++◌, filter, map}
 use Rattle.std.specs.List.{flat_map, range_with_len}
 use Rattle.gs_base.specs.declared.names.Millis.{Millis}
 use Rattle.gs_base.specs.declared.names.PeerNo.{PeerNo}
@@ -14,6 +14,8 @@ use Rattle.gs_rules.specs.Events.{of_round_end}
 use Rattle.gs_rules.specs.FellAway.{fell_away}
 use Rattle.gs_rules.specs.Tables.{Entries, ascending}
 use Rattle.gs_report.specs.declared.finished.Finished.{Finished}
+use Rattle.gs_reach.specs.Chosen.{is_chosen}
+use Rattle.gs_reach.specs.declared.chosen.Chosen.{Chosen}
 use Rattle.gs_report.specs.declared.report.Report.{Report}
 use Rattle.gs_seats.specs.Rounds.{neighbours, numbers, peer_in}
 use Rattle.gs_counts.specs.declared.fate.Fate.{Fate}
@@ -45,7 +47,7 @@ done_happenings fate s fallen e =
     flat_map (fallen_happenings s) fallen
     ++ (event_happenings fate s fallen e.event e.effects.marks
     ++ (flat_map (send_happenings s (is_answer e.event)) e.effects.sends
-    ++ (flat_map (delivery_happenings s) e.effects.delivered ++ flat_map (mark_happenings s) e.effects.marks)))
+    ++ (flat_map (delivery_happenings s) e.effects.delivered ++ flat_map (mark_happenings s e.event) e.effects.marks)))
 
 -- what happens at an entry of a peer, after a trace
 abbrev pub entry_happenings : Plan → PeerNo → Entries → Entry → List Happening
@@ -64,9 +66,9 @@ trace_happenings plan p (e ∷ L) = trace_happenings plan p L ++ entry_happening
 abbrev pub peer_happenings : Plan → PeerNo × Finished → List Happening
 peer_happenings plan x = trace_happenings plan x.0 x.1.trace ++ flat_map (refusal_happenings x.0) x.1.refused
 
--- all that happened in a run, peer by peer
-abbrev pub happenings : Plan → Report → List Happening
-happenings plan report = flat_map (peer_happenings plan) report.peers.items
+-- all that happened at these peers, peer by peer
+abbrev pub happenings : Plan → List (PeerNo × Finished) → List Happening
+happenings plan peers = flat_map (peer_happenings plan) peers
 
 -- ---- meshes
 
@@ -125,6 +127,14 @@ counts_of plan hs sizes = record {
   all = row_of hs;
 }
 
--- those of a run
-abbrev pub run_counts : Plan → Report → RunCounts
-run_counts plan report = counts_of plan (happenings plan report) (mesh_sizes report.peers.items)
+-- the peers that are chosen
+abbrev pub chosen_peers : Chosen → List (PeerNo × Finished) → List (PeerNo × Finished)
+chosen_peers of peers = filter (λ (x : PeerNo × Finished). is_chosen of x.0) peers
+
+-- the tables of what the traces of these peers say
+abbrev pub peers_counts : Plan → List (PeerNo × Finished) → RunCounts
+peers_counts plan peers = counts_of plan (happenings plan peers) (mesh_sizes peers)
+
+-- those of the chosen peers of a run
+abbrev pub run_counts : Plan → Report → Chosen → RunCounts
+run_counts plan report of = peers_counts plan (chosen_peers of report.peers.items)

@@ -1,5 +1,6 @@
--- What happens where something is sent: each part of an RPC, once for each neighbour that it goes to.
-use Rattle.std.specs.Prelude.{Bool, true, false, List, [], ◌∷◌, ◌++◌, length, Option, None, Some}
+-- What happens where something is sent: the bytes of each RPC and each of its parts, once for each neighbour that it goes
+-- to.
+use Rattle.std.specs.Prelude.{Bool, true, false, if◌then◌else◌, List, [], ◌∷◌, ◌++◌, length, Option, None, Some}
 use Rattle.std.specs.List.{flat_map}
 use Rattle.gs_base.specs.declared.names.PeerNo.{PeerNo}
 use Rattle.gs_base.specs.declared.rpc.Message.{Message}
@@ -11,6 +12,8 @@ use Rattle.gs_base.specs.declared.control.IHave.{IHave}
 use Rattle.gs_base.specs.declared.control.IWant.{IWant}
 use Rattle.gs_base.specs.declared.control.Prune.{Prune}
 use Rattle.gs_base.specs.Names.{topic_of, topic_or_empty}
+use Rattle.gs_wire.specs.Codec.{codec}
+use Rattle.gs_wire.specs.Messages.{body}
 use Rattle.gs_rules.specs.declared.event.Event.{Event}
 use Rattle.gs_rules.specs.declared.event.RpcPart.{RpcPart}
 use Rattle.gs_rules.specs.declared.event.RpcPart.TheVariants.{Sub, Msg, Have, Want, GraftIn, PruneIn}
@@ -74,10 +77,22 @@ control_sent s (Some control) =
     ++ (flat_map (iwant_sent s) control.iwant
     ++ (flat_map (graft_sent s) control.graft ++ flat_map (prune_sent s) control.prune))
 
+-- what the bytes of an RPC count as, by its messages and its control messages
+abbrev pub bytes_kind : List Message → Option Control → Kind
+bytes_kind (m ∷ ms) control = kinds.MessageBytesSent
+bytes_kind [] (Some control) = kinds.ControlBytesSent
+bytes_kind [] None = kinds.SubscriptionBytesSent
+
+-- the bytes of its body, where it fits a frame: what fits none counts for nothing, and no run sends such
+abbrev pub bytes_sent : Scene → Rpc → List Happening
+bytes_sent s rpc =
+    if codec.fits rpc then on_none s (bytes_kind rpc.publish rpc.control) (length (body rpc)) ∷ [] else []
+
 abbrev pub rpc_sent : Scene → Bool → Rpc → List Happening
 rpc_sent s answers rpc =
-    flat_map (sub_sent s) rpc.subs
-    ++ (flat_map (message_sent s (message_sent_kind answers)) rpc.publish ++ control_sent s rpc.control)
+    bytes_sent s rpc
+    ++ (flat_map (sub_sent s) rpc.subs
+    ++ (flat_map (message_sent s (message_sent_kind answers)) rpc.publish ++ control_sent s rpc.control))
 
 -- an RPC that is sent to a neighbour
 abbrev pub send_happenings : Scene → Bool → PeerNo × Rpc → List Happening

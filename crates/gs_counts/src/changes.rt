@@ -1,13 +1,14 @@
 //! What an entry delivers to the peer's own user, and what it changes of meshes.
-ghost use Rattle.std.specs.Prelude.{◌≡◌, ◌++◌, OnOk};
+ghost use Rattle.std.specs.Prelude.{◌≡◌, ◌∷◌, ◌++◌, OnOk};
 ghost use Rattle.std.specs.List.{flat_map};
-ghost use Rattle.gs_counts.specs.Changes.{delivery_happenings, mark_happenings, refusal_happenings};
+ghost use Rattle.gs_counts.specs.Changes.{cause_happenings, delivery_happenings, graft_cause, mark_happenings, prune_cause, refusal_happenings};
+ghost use Rattle.gs_counts.specs.Happenings.{on_topic};
 
 use crate::happening::{Happening, Scene, note, note_on};
 use crate::kind::Kind;
 use bytes::Bytes;
 use gs_base::{Mark, PeerNo, Topic};
-use gs_rules::RefusedLine;
+use gs_rules::{Event, RefusedLine};
 use std::alloc::AllocError;
 
 /// Notes what is delivered.
@@ -24,27 +25,45 @@ pub(crate) fn note_deliveries(
     Ok(())
 }
 
-/// Notes what marks change of meshes.
+/// Notes what marks of an event change of meshes.
 pub(crate) fn note_marks(
     list: &mut Vec<Happening>,
     scene: Scene,
+    event: &Event,
     marks: &[Mark],
 ) -> Result<(), AllocError>
-    ensures { OnOk result (list.new.items ≡ list.old.items ++ flat_map (mark_happenings scene) marks.now) }
+    ensures { OnOk result (list.new.items ≡ list.old.items ++ flat_map (mark_happenings scene event.now) marks.now) }
 {
     for mark in marks {
-        note_mark(list, scene, mark)?;
+        note_mark(list, scene, event, mark)?;
     }
     Ok(())
 }
 
-/// Notes what a mark changes of meshes. Each mark is named, so that a new one is decided on.
-fn note_mark(list: &mut Vec<Happening>, scene: Scene, mark: &Mark) -> Result<(), AllocError>
-    ensures { OnOk result (list.new.items ≡ list.old.items ++ mark_happenings scene mark.now) }
+/// Notes what a mark of an event changes of meshes. Each mark is named, so that a new one is decided on.
+fn note_mark(
+    list: &mut Vec<Happening>,
+    scene: Scene,
+    event: &Event,
+    mark: &Mark,
+) -> Result<(), AllocError>
+    ensures { OnOk result (list.new.items ≡ list.old.items ++ mark_happenings scene event.now mark.now) }
 {
     match mark {
-        Mark::Grafted(q, topic) => note_on(list, scene.with(*q), topic, Kind::Grafted, 1),
-        Mark::Pruned(q, topic) => note_on(list, scene.with(*q), topic, Kind::Pruned, 1),
+        Mark::Grafted(q, topic) => note_change(
+            list,
+            scene.with(*q),
+            topic,
+            Kind::Grafted,
+            graft_cause(event),
+        ),
+        Mark::Pruned(q, topic) => note_change(
+            list,
+            scene.with(*q),
+            topic,
+            Kind::Pruned,
+            prune_cause(event),
+        ),
         Mark::Seen(_, _) => Ok(()),
         Mark::First(_, _, _) => Ok(()),
         Mark::Near(_, _, _) => Ok(()),
@@ -59,6 +78,62 @@ fn note_mark(list: &mut Vec<Happening>, scene: Scene, mark: &Mark) -> Result<(),
         Mark::Unfanned(_, _) => Ok(()),
         Mark::Backoff(_, _, _) => Ok(()),
         Mark::Published(_) => Ok(()),
+    }
+}
+
+/// Notes a change of a mesh, and what it counts as besides.
+fn note_change(
+    list: &mut Vec<Happening>,
+    scene: Scene,
+    topic: &Topic,
+    change: Kind,
+    cause: Option<Kind>,
+) -> Result<(), AllocError>
+    ensures { OnOk result (list.new.items
+        ≡ list.old.items ++ on_topic scene topic.now change 1 ∷ cause_happenings scene topic.now cause) }
+{
+    note_on(list, scene, topic, change, 1)?;
+    match cause {
+        Some(cause) => note_on(list, scene, topic, cause, 1),
+        None => Ok(()),
+    }
+}
+
+/// What a neighbour that comes into a mesh at an event counts as besides, by what brought it in. Each event is named, so
+/// that a new one is decided on.
+fn graft_cause(event: &Event) -> Option<Kind>
+    ensures { result ≡ graft_cause event.now }
+{
+    match event {
+        Event::Part(_, _) => Some(Kind::GraftedByNeighbour),
+        Event::Step(_) => Some(Kind::GraftedByHeartbeat),
+        Event::Heard(_, _) => None,
+        Event::Late(_, _) => None,
+        Event::BeatBegin => None,
+        Event::Own(_) => None,
+        Event::Lost(_, _) => None,
+        Event::Decay => None,
+        Event::RoundEnd(_) => None,
+        Event::Shut => None,
+    }
+}
+
+/// What one that leaves a mesh at an event counts as besides, by what took it out. Each event is named, so that a new one
+/// is decided on.
+fn prune_cause(event: &Event) -> Option<Kind>
+    ensures { result ≡ prune_cause event.now }
+{
+    match event {
+        Event::Part(_, _) => Some(Kind::PrunedByNeighbour),
+        Event::Step(_) => Some(Kind::PrunedByHeartbeat),
+        Event::Lost(_, _) => Some(Kind::PrunedByLoss),
+        Event::Heard(_, _) => None,
+        Event::Late(_, _) => None,
+        Event::BeatBegin => None,
+        Event::Own(_) => None,
+        Event::Decay => None,
+        Event::RoundEnd(_) => None,
+        Event::Shut => None,
     }
 }
 

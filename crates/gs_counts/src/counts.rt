@@ -1,6 +1,6 @@
 //! A row of a table: how often or how much of each kind.
 ghost use Rattle.std.specs.Prelude.{◌≡◌};
-ghost use Rattle.gs_counts.specs.Rows.{count_at, counted, no_counts};
+ghost use Rattle.gs_counts.specs.Rows.{count_at, counted, no_counts, with_counts};
 
 use crate::kind::{KINDS, Kind};
 
@@ -25,6 +25,17 @@ impl Counts {
         ensures { result ≡ count_at self.now kind }
     {
         self.amounts[kind.place()]
+    }
+
+    /// What both are together, number by number.
+    pub fn with(&self, others: &Counts) -> Counts
+        ensures { result ≡ with_counts self.now others.now }
+    {
+        let mut both = *self;
+        for kind in &Kind::ALL {
+            both.add(*kind, others.of(*kind));
+        }
+        both
     }
 
     /// With more of a kind.

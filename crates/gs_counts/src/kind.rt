@@ -3,20 +3,15 @@ ghost use Rattle.std.specs.Prelude.{◌≡◌, ◌<◌};
 ghost use Rattle.gs_counts.specs.Kinds.{is_of_sender, place_of};
 
 /// How many kinds there are.
-pub const KINDS: usize = 43;
+pub const KINDS: usize = 51;
 
 /// What is counted. Of a part of an RPC the peer is who heard it or who sent it, and the neighbour is the other end.
 #[derive(Clone, Copy, Debug, PartialEq, Eq)]
 pub enum Kind {
+    // ---- what each peer heard
     /// RPCs that a peer heard and handled. Those that came late, or of a neighbour on the graylist, are not among
     /// them.
     RpcsHeard,
-    /// RPCs that were not handled, since their sender was on the graylist.
-    RpcsGraylisted,
-    /// RPCs that came after their sender was lost.
-    RpcsLate,
-    /// Changes of subscriptions that neighbours said.
-    SubscriptionsHeard,
     /// Messages heard that were new to the peer, and accepted.
     New,
     /// Messages heard that the peer had accepted lately.
@@ -33,6 +28,8 @@ pub enum Kind {
     PayloadBytesNew,
     /// Bytes of the payloads of all other messages heard.
     PayloadBytesAgain,
+    /// Changes of subscriptions that neighbours said.
+    SubscriptionsHeard,
     /// Offers of messages (IHAVE) that were heard.
     IhaveHeard,
     /// Identifiers in those offers.
@@ -41,34 +38,25 @@ pub enum Kind {
     IwantHeard,
     /// Identifiers in those requests.
     IdsAsked,
-    /// Identifiers asked for that got no message, since who asked scored too low.
-    IdsNotSentScore,
-    /// Identifiers asked for that got no message, since who asked had it as often as it may.
-    IdsNotSentTooOften,
-    /// Identifiers asked for that got no message, since none was kept.
-    IdsNotSentNotKept,
     /// GRAFTs that were heard.
     GraftHeard,
-    /// GRAFTs that were refused, since their sender is explicit.
-    GraftRefusedExplicit,
-    /// GRAFTs that were refused, since they came before the end of a backoff.
-    GraftRefusedBackoff,
-    /// GRAFTs that were refused, since their sender scored below 0.
-    GraftRefusedScore,
-    /// GRAFTs that were refused, since the mesh was full.
-    GraftRefusedFull,
     /// PRUNEs that were heard.
     PruneHeard,
-    /// Promises that a peer broke. It stands with that peer, and the neighbour is the one that waited.
-    PromisesBroken,
-    /// Links that a peer cut, since a neighbour's bytes spelled no RPC or ended within one.
-    Faults,
+
+    // ---- what each peer sent
     /// Frames that went out, each of the RPCs that were gathered for it.
     RpcsSent,
     /// Bytes that went out: those of frames, with the lengths before them, and those of the script as they are.
     BytesSent,
     /// Those of them that the script put on a link as they are.
     RawBytesSent,
+    /// Bytes of the bodies of RPCs that have messages. Each RPC counts as an entry sends it, before it is gathered, and once for
+    /// each neighbour that it goes to.
+    MessageBytesSent,
+    /// Bytes of the bodies of those that have control messages, and no messages.
+    ControlBytesSent,
+    /// Bytes of the bodies of those that have neither.
+    SubscriptionBytesSent,
     /// Changes of subscriptions that were sent. Each part that is sent counts once for each neighbour that it goes
     /// to.
     SubscriptionsSent,
@@ -88,23 +76,56 @@ pub enum Kind {
     GraftSent,
     /// PRUNEs that were sent.
     PruneSent,
-    /// Deliveries to the peer's own user, of what it published itself, too.
-    Delivered,
+
+    // ---- what came to nothing
+    /// RPCs that were not handled, since their sender was on the graylist.
+    RpcsGraylisted,
+    /// RPCs that came after their sender was lost.
+    RpcsLate,
+    /// Links that a peer cut, since a neighbour's bytes spelled no RPC or ended within one.
+    Faults,
+    /// GRAFTs that were refused, since their sender is explicit.
+    GraftRefusedExplicit,
+    /// GRAFTs that were refused, since they came before the end of a backoff.
+    GraftRefusedBackoff,
+    /// GRAFTs that were refused, since their sender scored below 0.
+    GraftRefusedScore,
+    /// GRAFTs that were refused, since the mesh was full.
+    GraftRefusedFull,
+    /// Identifiers asked for that got no message, since who asked scored too low.
+    IdsNotSentScore,
+    /// Identifiers asked for that got no message, since who asked had it as often as it may.
+    IdsNotSentTooOften,
+    /// Identifiers asked for that got no message, since none was kept.
+    IdsNotSentNotKept,
+    /// Promises that a peer broke. It stands with that peer, and the neighbour is the one that waited.
+    PromisesBroken,
     /// Lines of the script that were refused.
     RefusedLines,
+
+    // ---- deliveries and meshes
+    /// Deliveries to the peer's own user, of what it published itself, too.
+    Delivered,
     /// Neighbours that came into a mesh of the peer, whoever grafted whom.
     Grafted,
+    /// Those of them that came in by a part of an RPC that was heard of them: their GRAFT.
+    GraftedByNeighbour,
+    /// Those of them that came in by a step of a heartbeat.
+    GraftedByHeartbeat,
     /// Neighbours that left a mesh of the peer, for whatever reason.
     Pruned,
+    /// Those of them that left by a part of an RPC that was heard of them: their PRUNE, or their leave of the topic.
+    PrunedByNeighbour,
+    /// Those of them that left by a step of a heartbeat.
+    PrunedByHeartbeat,
+    /// Those of them that left since they were lost.
+    PrunedByLoss,
 }
 
 impl Kind {
     /// All of them, in the order of columns.
-    pub const ALL: [Kind; 43] = [
+    pub const ALL: [Kind; 51] = [
         Kind::RpcsHeard,
-        Kind::RpcsGraylisted,
-        Kind::RpcsLate,
-        Kind::SubscriptionsHeard,
         Kind::New,
         Kind::Duplicates,
         Kind::Ignored,
@@ -113,24 +134,19 @@ impl Kind {
         Kind::OffTopic,
         Kind::PayloadBytesNew,
         Kind::PayloadBytesAgain,
+        Kind::SubscriptionsHeard,
         Kind::IhaveHeard,
         Kind::IdsOffered,
         Kind::IwantHeard,
         Kind::IdsAsked,
-        Kind::IdsNotSentScore,
-        Kind::IdsNotSentTooOften,
-        Kind::IdsNotSentNotKept,
         Kind::GraftHeard,
-        Kind::GraftRefusedExplicit,
-        Kind::GraftRefusedBackoff,
-        Kind::GraftRefusedScore,
-        Kind::GraftRefusedFull,
         Kind::PruneHeard,
-        Kind::PromisesBroken,
-        Kind::Faults,
         Kind::RpcsSent,
         Kind::BytesSent,
         Kind::RawBytesSent,
+        Kind::MessageBytesSent,
+        Kind::ControlBytesSent,
+        Kind::SubscriptionBytesSent,
         Kind::SubscriptionsSent,
         Kind::MessagesPushed,
         Kind::MessagesAnswered,
@@ -140,10 +156,26 @@ impl Kind {
         Kind::IdsAskedSent,
         Kind::GraftSent,
         Kind::PruneSent,
-        Kind::Delivered,
+        Kind::RpcsGraylisted,
+        Kind::RpcsLate,
+        Kind::Faults,
+        Kind::GraftRefusedExplicit,
+        Kind::GraftRefusedBackoff,
+        Kind::GraftRefusedScore,
+        Kind::GraftRefusedFull,
+        Kind::IdsNotSentScore,
+        Kind::IdsNotSentTooOften,
+        Kind::IdsNotSentNotKept,
+        Kind::PromisesBroken,
         Kind::RefusedLines,
+        Kind::Delivered,
         Kind::Grafted,
+        Kind::GraftedByNeighbour,
+        Kind::GraftedByHeartbeat,
         Kind::Pruned,
+        Kind::PrunedByNeighbour,
+        Kind::PrunedByHeartbeat,
+        Kind::PrunedByLoss,
     ];
 
     /// Its place among all of them.
@@ -153,48 +185,56 @@ impl Kind {
     {
         match self {
             Kind::RpcsHeard => 0,
-            Kind::RpcsGraylisted => 1,
-            Kind::RpcsLate => 2,
-            Kind::SubscriptionsHeard => 3,
-            Kind::New => 4,
-            Kind::Duplicates => 5,
-            Kind::Ignored => 6,
-            Kind::Rejected => 7,
-            Kind::Signed => 8,
-            Kind::OffTopic => 9,
-            Kind::PayloadBytesNew => 10,
-            Kind::PayloadBytesAgain => 11,
-            Kind::IhaveHeard => 12,
-            Kind::IdsOffered => 13,
-            Kind::IwantHeard => 14,
-            Kind::IdsAsked => 15,
-            Kind::IdsNotSentScore => 16,
-            Kind::IdsNotSentTooOften => 17,
-            Kind::IdsNotSentNotKept => 18,
-            Kind::GraftHeard => 19,
-            Kind::GraftRefusedExplicit => 20,
-            Kind::GraftRefusedBackoff => 21,
-            Kind::GraftRefusedScore => 22,
-            Kind::GraftRefusedFull => 23,
-            Kind::PruneHeard => 24,
-            Kind::PromisesBroken => 25,
-            Kind::Faults => 26,
-            Kind::RpcsSent => 27,
-            Kind::BytesSent => 28,
-            Kind::RawBytesSent => 29,
-            Kind::SubscriptionsSent => 30,
-            Kind::MessagesPushed => 31,
-            Kind::MessagesAnswered => 32,
-            Kind::IhaveSent => 33,
-            Kind::IdsOfferedSent => 34,
-            Kind::IwantSent => 35,
-            Kind::IdsAskedSent => 36,
-            Kind::GraftSent => 37,
-            Kind::PruneSent => 38,
-            Kind::Delivered => 39,
-            Kind::RefusedLines => 40,
-            Kind::Grafted => 41,
-            Kind::Pruned => 42,
+            Kind::New => 1,
+            Kind::Duplicates => 2,
+            Kind::Ignored => 3,
+            Kind::Rejected => 4,
+            Kind::Signed => 5,
+            Kind::OffTopic => 6,
+            Kind::PayloadBytesNew => 7,
+            Kind::PayloadBytesAgain => 8,
+            Kind::SubscriptionsHeard => 9,
+            Kind::IhaveHeard => 10,
+            Kind::IdsOffered => 11,
+            Kind::IwantHeard => 12,
+            Kind::IdsAsked => 13,
+            Kind::GraftHeard => 14,
+            Kind::PruneHeard => 15,
+            Kind::RpcsSent => 16,
+            Kind::BytesSent => 17,
+            Kind::RawBytesSent => 18,
+            Kind::MessageBytesSent => 19,
+            Kind::ControlBytesSent => 20,
+            Kind::SubscriptionBytesSent => 21,
+            Kind::SubscriptionsSent => 22,
+            Kind::MessagesPushed => 23,
+            Kind::MessagesAnswered => 24,
+            Kind::IhaveSent => 25,
+            Kind::IdsOfferedSent => 26,
+            Kind::IwantSent => 27,
+            Kind::IdsAskedSent => 28,
+            Kind::GraftSent => 29,
+            Kind::PruneSent => 30,
+            Kind::RpcsGraylisted => 31,
+            Kind::RpcsLate => 32,
+            Kind::Faults => 33,
+            Kind::GraftRefusedExplicit => 34,
+            Kind::GraftRefusedBackoff => 35,
+            Kind::GraftRefusedScore => 36,
+            Kind::GraftRefusedFull => 37,
+            Kind::IdsNotSentScore => 38,
+            Kind::IdsNotSentTooOften => 39,
+            Kind::IdsNotSentNotKept => 40,
+            Kind::PromisesBroken => 41,
+            Kind::RefusedLines => 42,
+            Kind::Delivered => 43,
+            Kind::Grafted => 44,
+            Kind::GraftedByNeighbour => 45,
+            Kind::GraftedByHeartbeat => 46,
+            Kind::Pruned => 47,
+            Kind::PrunedByNeighbour => 48,
+            Kind::PrunedByHeartbeat => 49,
+            Kind::PrunedByLoss => 50,
         }
     }
 
@@ -205,9 +245,6 @@ impl Kind {
     {
         match self {
             Kind::RpcsHeard => false,
-            Kind::RpcsGraylisted => false,
-            Kind::RpcsLate => false,
-            Kind::SubscriptionsHeard => false,
             Kind::New => false,
             Kind::Duplicates => false,
             Kind::Ignored => false,
@@ -216,24 +253,19 @@ impl Kind {
             Kind::OffTopic => false,
             Kind::PayloadBytesNew => false,
             Kind::PayloadBytesAgain => false,
+            Kind::SubscriptionsHeard => false,
             Kind::IhaveHeard => false,
             Kind::IdsOffered => false,
             Kind::IwantHeard => false,
             Kind::IdsAsked => false,
-            Kind::IdsNotSentScore => false,
-            Kind::IdsNotSentTooOften => false,
-            Kind::IdsNotSentNotKept => false,
             Kind::GraftHeard => false,
-            Kind::GraftRefusedExplicit => false,
-            Kind::GraftRefusedBackoff => false,
-            Kind::GraftRefusedScore => false,
-            Kind::GraftRefusedFull => false,
             Kind::PruneHeard => false,
-            Kind::PromisesBroken => true,
-            Kind::Faults => false,
             Kind::RpcsSent => true,
             Kind::BytesSent => true,
             Kind::RawBytesSent => true,
+            Kind::MessageBytesSent => true,
+            Kind::ControlBytesSent => true,
+            Kind::SubscriptionBytesSent => true,
             Kind::SubscriptionsSent => true,
             Kind::MessagesPushed => true,
             Kind::MessagesAnswered => true,
@@ -243,10 +275,26 @@ impl Kind {
             Kind::IdsAskedSent => true,
             Kind::GraftSent => true,
             Kind::PruneSent => true,
-            Kind::Delivered => true,
+            Kind::RpcsGraylisted => false,
+            Kind::RpcsLate => false,
+            Kind::Faults => false,
+            Kind::GraftRefusedExplicit => false,
+            Kind::GraftRefusedBackoff => false,
+            Kind::GraftRefusedScore => false,
+            Kind::GraftRefusedFull => false,
+            Kind::IdsNotSentScore => false,
+            Kind::IdsNotSentTooOften => false,
+            Kind::IdsNotSentNotKept => false,
+            Kind::PromisesBroken => true,
             Kind::RefusedLines => true,
+            Kind::Delivered => true,
             Kind::Grafted => true,
+            Kind::GraftedByNeighbour => true,
+            Kind::GraftedByHeartbeat => true,
             Kind::Pruned => true,
+            Kind::PrunedByNeighbour => true,
+            Kind::PrunedByHeartbeat => true,
+            Kind::PrunedByLoss => true,
         }
     }
 }

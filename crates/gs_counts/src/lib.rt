@@ -29,5 +29,7 @@ pub use laws::{
     rows_of_peers_make_up_the_whole, rows_of_rounds_make_up_the_whole,
     subscribed_topics_are_joined,
 };
-pub use run::{LinkCounts, PeerCounts, RoundCounts, RunCounts, TopicCounts, bytes_to, run_counts};
+pub use run::{
+    LinkCounts, PeerCounts, RoundCounts, RunCounts, TopicCounts, over_links, run_counts,
+};
 pub use span::Span;

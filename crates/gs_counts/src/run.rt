@@ -1,6 +1,6 @@
 //! What happened in a run, by peer, by link, by topic, by round and in all.
-ghost use Rattle.std.specs.Prelude.{◌≡◌, ◌++◌, ◌∷◌, [], ℕ, fold, IfOk, length, List, map, OnOk, Option};
-ghost use Rattle.std.specs.List.{AllByRecursion, flat_map};
+ghost use Rattle.std.specs.Prelude.{◌≡◌, ◌++◌, ◌∷◌, [], ℕ, IfOk, length, List, map, OnOk, Option};
+ghost use Rattle.std.specs.List.{AllByRecursion};
 ghost use Rattle.gs_base.specs.declared.names.PeerNo.{PeerNo as PeerNoValue};
 ghost use Rattle.gs_base.specs.declared.names.Topic.{Topic as TopicValue};
 ghost use Rattle.gs_plan.specs.Plans.{IsInRange};
@@ -9,11 +9,9 @@ ghost use Rattle.gs_router.specs.Following.{AreInOrder};
 ghost use Rattle.gs_rules.specs.Tables.{ascending};
 ghost use Rattle.gs_counts.specs.declared.counts.Counts.{Counts as CountsValue};
 ghost use Rattle.gs_counts.specs.declared.happening.Happening.{Happening as HappeningValue};
-ghost use Rattle.gs_counts.specs.declared.kind.Kind.TheVariants.{BytesSent};
 ghost use Rattle.gs_counts.specs.declared.span.Span.{Span as SpanValue};
-ghost use Rattle.gs_counts.specs.Listing.{all_links, by_number, bytes_over, link_if, links_by, links_to, peer_row, round_row};
-ghost use Rattle.gs_counts.specs.Rows.{count_at, plus};
-ghost use Rattle.gs_counts.specs.Runs.{counts_of, mesh_sizes, peer_happenings, run_counts, topic_counts};
+ghost use Rattle.gs_counts.specs.Listing.{all_links, by_number, link_if, links_by, links_to, over_links, peer_row, round_row, with_links};
+ghost use Rattle.gs_counts.specs.Runs.{chosen_peers, counts_of, happenings, mesh_sizes, run_counts, topic_counts};
 ghost use Rattle.gs_counts.specs.Standing.{MeshSize, Shows, lists, row_on, topic_row, topics_in};
 
 use crate::counts::Counts;
@@ -23,6 +21,7 @@ use crate::tables::Tables;
 use crate::traces::note_peer;
 use gs_base::{PeerNo, Seq, Topic, clone_of};
 use gs_plan::{Dial, Plan, are_joined};
+use gs_reach::Chosen;
 use gs_report::{Finished, Report};
 use std::alloc::{AllocError, Global};
 use std::collections::BTreeMap;
@@ -74,32 +73,64 @@ pub struct RunCounts {
     pub all: Counts,
 }
 
-/// What happened in a run of a plan. In each trace no entry may be earlier than the one before it.
+/// What happened in a run of a plan, as the traces of some peers say. The tables have a row for each peer and each link of
+/// the plan all the same. In each trace no entry may be earlier than the one before it.
 ///
 /// # Errors
 /// `AllocError` where there was no memory for it.
-pub fn run_counts(alloc: Global, plan: &Plan, report: &Report) -> Result<RunCounts, AllocError>
+pub fn run_counts(
+    alloc: Global,
+    plan: &Plan,
+    report: &Report,
+    of: &Chosen,
+) -> Result<RunCounts, AllocError>
     requires range { IsInRange plan.now }
     requires order { AllByRecursion (λ (x : PeerNoValue × FinishedValue). AreInOrder x.1.trace) report.now.peers.items }
-    ensures { IfOk result (λ counts. counts ≡ run_counts plan.now report.now) }
+    ensures { IfOk result (λ counts. counts ≡ run_counts plan.now report.now of.now) }
 {
-    let tables = tables_of(alloc, plan, &report.peers)?;
+    let tables = tables_of(alloc, plan, &report.peers, of)?;
     let counts = rows_of(alloc, plan, &tables)?;
     Ok(counts)
 }
 
-/// The tables of all peers' traces.
-fn tables_of(alloc: Global, plan: &Plan, peers: &[(PeerNo, Finished)]) -> Result<Tables, AllocError>
+/// The tables of the traces of those of these peers that are chosen.
+fn tables_of(
+    alloc: Global,
+    plan: &Plan,
+    peers: &[(PeerNo, Finished)],
+    of: &Chosen,
+) -> Result<Tables, AllocError>
     requires range { IsInRange plan.now }
     requires order { AllByRecursion (λ (x : PeerNoValue × FinishedValue). AreInOrder x.1.trace) peers.now }
-    ensures { IfOk result (λ tables. Shows plan.now tables (flat_map (peer_happenings plan.now) peers.now)
-        (mesh_sizes peers.now)) }
+    ensures { IfOk result (λ tables. Shows plan.now tables (happenings plan.now (chosen_peers of.now peers.now))
+        (mesh_sizes (chosen_peers of.now peers.now))) }
 {
     let mut tables = Tables::new(alloc, plan)?;
     for peer in peers {
-        note_peer(alloc, plan, &mut tables, peer)?;
+        note_chosen(alloc, plan, &mut tables, of, peer)?;
     }
     Ok(tables)
+}
+
+/// Notes all that happened at a peer, if it is chosen.
+fn note_chosen(
+    alloc: Global,
+    plan: &Plan,
+    tables: &mut Tables,
+    of: &Chosen,
+    peer: &(PeerNo, Finished),
+) -> Result<(), AllocError>
+    requires range { IsInRange plan.now }
+    requires order { AreInOrder peer.now.1.trace }
+    ensures { OnOk result ((hs : List HappeningValue) (sizes : List MeshSize)
+        → Shows plan.now tables.old hs sizes
+        → Shows plan.now tables.new (hs ++ happenings plan.now (chosen_peers of.now (peer.now ∷ [])))
+        (sizes ++ mesh_sizes (chosen_peers of.now (peer.now ∷ [])))) }
+{
+    if !of.contains(peer.0) {
+        return Ok(());
+    }
+    note_peer(alloc, plan, tables, peer)
 }
 
 /// The rows of these tables.
@@ -241,24 +272,24 @@ fn round_rows(
     Ok(rounds)
 }
 
-/// How many bytes went over those of these links that lead to a peer: what its neighbours put there, whether or not it
-/// took them for RPCs. A number that no `u64` holds is given as the greatest.
-pub fn bytes_to(links: &[LinkCounts], peer: PeerNo) -> u64
-    ensures { result ≡ bytes_over (links_to peer links.now) }
+/// How often or how much of a kind went over those of these links that lead to a peer. A number that no `u64` holds is
+/// given as the greatest.
+pub fn over_links(links: &[LinkCounts], to: PeerNo, kind: Kind) -> u64
+    ensures { result ≡ over_links links.now to kind }
 {
     let mut sum: u64 = 0;
     for link in links {
-        sum = with_bytes_to(sum, link, peer);
+        sum = with_link(sum, link, to, kind);
     }
     sum
 }
 
-fn with_bytes_to(sum: u64, link: &LinkCounts, peer: PeerNo) -> u64
-    ensures { result
-        ≡ fold (λ sum x. plus sum (count_at x.counts BytesSent)) sum (links_to peer (link.now ∷ [])) }
+/// A sum with what went over a link, if it leads to a peer.
+fn with_link(sum: u64, link: &LinkCounts, to: PeerNo, kind: Kind) -> u64
+    ensures { result ≡ with_links kind sum (links_to to (link.now ∷ [])) }
 {
-    if link.to != peer {
+    if link.to != to {
         return sum;
     }
-    sum.saturating_add(link.counts.of(Kind::BytesSent))
+    sum.saturating_add(link.counts.of(kind))
 }

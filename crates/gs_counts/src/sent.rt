@@ -1,12 +1,13 @@
-//! What an entry sends, part by part.
+//! What an entry sends: the bytes of each RPC, and part by part.
 ghost use Rattle.std.specs.Prelude.{◌≡◌, ◌++◌, OnOk, Some};
 ghost use Rattle.std.specs.List.{flat_map};
-ghost use Rattle.gs_counts.specs.Sent.{control_sent, graft_sent, ihave_sent, is_answer, is_request, iwant_sent, message_sent, message_sent_kind, prune_sent, rpc_sent, send_happenings, sub_sent};
+ghost use Rattle.gs_counts.specs.Sent.{bytes_kind, bytes_sent, control_sent, graft_sent, ihave_sent, is_answer, is_request, iwant_sent, message_sent, message_sent_kind, prune_sent, rpc_sent, send_happenings, sub_sent};
 
 use crate::happening::{Happening, Scene, note, note_on_named};
 use crate::kind::Kind;
 use gs_base::{Control, Graft, IHave, IWant, Message, PeerNo, Prune, Rpc, Shared, SubOpt};
 use gs_rules::{Event, RpcPart};
+use gs_wire::{WireFault, encode};
 use std::alloc::AllocError;
 
 /// Whether what is sent at an event answers a request. Each event is named, so that a new one is decided on.
@@ -63,11 +64,37 @@ fn note_rpc_sent(
 ) -> Result<(), AllocError>
     ensures { OnOk result (list.new.items ≡ list.old.items ++ rpc_sent scene answers rpc.now) }
 {
+    note_bytes(list, scene, rpc)?;
     note_subs(list, scene, rpc.subs.as_slice())?;
     note_messages(list, scene, message_kind(answers), rpc.publish.as_slice())?;
     match &rpc.control {
         Some(control) => note_control(list, scene, control),
         None => Ok(()),
+    }
+}
+
+/// Notes the bytes of an RPC's body, where it fits a frame.
+fn note_bytes(list: &mut Vec<Happening>, scene: Scene, rpc: &Rpc) -> Result<(), AllocError>
+    ensures { OnOk result (list.new.items ≡ list.old.items ++ bytes_sent scene rpc.now) }
+{
+    let mut body = Vec::new(*list.allocator());
+    match encode(rpc, &mut body) {
+        Ok(()) => note(list, scene, bytes_kind(rpc), body.len() as u64),
+        Err(WireFault::TooLong) => Ok(()),
+        Err(_) => Err(AllocError),
+    }
+}
+
+/// What the bytes of an RPC count as.
+fn bytes_kind(rpc: &Rpc) -> Kind
+    ensures { result ≡ bytes_kind rpc.now.publish rpc.now.control }
+{
+    if !rpc.publish.is_empty() {
+        return Kind::MessageBytesSent;
+    }
+    match rpc.control {
+        Some(_) => Kind::ControlBytesSent,
+        None => Kind::SubscriptionBytesSent,
     }
 }
 

@@ -221,7 +221,7 @@ fn list_done(
     note_event(list, memory, scene, did)?;
     note_sends(list, scene, is_answer(entry.event()), entry.sends())?;
     note_deliveries(list, scene, entry.delivered())?;
-    note_marks(list, scene, entry.marks())
+    note_marks(list, scene, entry.event(), entry.marks())
 }
 
 /// The lanes to the neighbours of a peer, ascending.

@@ -1,4 +1,5 @@
 mod cases;
+mod chosen;
 mod heard;
 mod made;
 mod made_rpcs;

@@ -4,6 +4,7 @@ use Rattle.std.specs.List.{list_any, slice_split}
 use Rattle.gs_base.specs.declared.names.PeerNo.{PeerNo}
 use Rattle.gs_plan.specs.declared.plan.Plan.{Plan}
 use Rattle.gs_report.specs.Text.{name_of}
+use Rattle.gs_report.specs.declared.finished.Finished.{Finished}
 use Rattle.gs_report.specs.declared.report.Report.{Report}
 use Rattle.gs_reach.specs.Messages.{numbers_of}
 use Rattle.gs_reach.specs.declared.chosen.Chosen.{Chosen}
@@ -32,7 +33,9 @@ abbrev pub is_named : List ℕ → List ℕ → Bool
 is_named words name = list_any (λ word. fits word name) (slice_split (λ byte. byte == 44) words)
 
 -- the peers of a run whose names fit
+abbrev pub peers_named : Plan → List (PeerNo × Finished) → List ℕ → List PeerNo
+peers_named plan peers words = filter (λ p. is_named words (name_of plan p)) (numbers_of peers)
+
 abbrev pub chosen_by : Plan → Report → Option (List ℕ) → Chosen
 chosen_by plan report None = chosen.Any
-chosen_by plan report (Some words) =
-    chosen.Only (filter (λ p. is_named words (name_of plan p)) (numbers_of report.peers.items))
+chosen_by plan report (Some words) = chosen.Only (peers_named plan report.peers.items words)

@@ -2,7 +2,7 @@
 use Rattle.std.specs.Prelude.{ℕ, codes, List, [], ◌∷◌}
 use Rattle.gs_sheets.specs.declared.sheet.Column.{Column as SheetColumn}
 use Rattle.gs_figure_sheets.specs.declared.columns.Column.{Column}
-use Rattle.gs_figure_sheets.specs.declared.columns.Column.TheVariants.{Topic, Payload, Publisher, Verdict, Publishers, At, Subscribers, Reached, Missed, First, Median, Ninetieth, NinetyNinth, Last, Outcome, Within, Pairs, Share}
+use Rattle.gs_figure_sheets.specs.declared.columns.Column.TheVariants.{Topic, Payload, Publisher, Verdict, Publishers, At, Subscribers, Reached, Missed, First, Median, Ninetieth, NinetyNinth, Last, Outcome, Within, Pairs, Share, Peer, Round, From, To, Rpcs, Bytes, MeshMembers, MeshPlaces, LowestScore, LowestInRun, LowestAt}
 
 -- its name in CSV and JSON
 abbrev pub column_name : Column → List ℕ
@@ -24,6 +24,17 @@ column_name Outcome = codes "outcome"
 column_name Within = codes "within_rounds"
 column_name Pairs = codes "pairs"
 column_name Share = codes "share"
+column_name Peer = codes "peer"
+column_name Round = codes "round"
+column_name From = codes "from"
+column_name To = codes "to"
+column_name Rpcs = codes "rpcs_sent"
+column_name Bytes = codes "bytes_sent"
+column_name MeshMembers = codes "mesh_members"
+column_name MeshPlaces = codes "mesh_places"
+column_name LowestScore = codes "lowest_score"
+column_name LowestInRun = codes "lowest_in_run"
+column_name LowestAt = codes "lowest_at_ms"
 
 -- its header in a table for a person
 abbrev pub header_text : Column → List ℕ
@@ -45,6 +56,17 @@ header_text Outcome = codes "outcome"
 header_text Within = codes "within rounds"
 header_text Pairs = codes "pairs"
 header_text Share = codes "% of pairs"
+header_text Peer = codes "peer"
+header_text Round = codes "round"
+header_text From = codes "from"
+header_text To = codes "to"
+header_text Rpcs = codes "RPCs"
+header_text Bytes = codes "bytes"
+header_text MeshMembers = codes "in meshes"
+header_text MeshPlaces = codes "of places"
+header_text LowestScore = codes "lowest score"
+header_text LowestInRun = codes "lowest in run"
+header_text LowestAt = codes "at_ms"
 
 abbrev pub column_of : Column → SheetColumn
 column_of column = record { name = column_name column; header = header_text column }
@@ -60,3 +82,9 @@ limit_columns = Outcome ∷ Within ∷ Pairs ∷ Share ∷ []
 
 unfoldable pub spread_columns : List Column
 spread_columns = Pairs ∷ First ∷ Median ∷ Ninetieth ∷ NinetyNinth ∷ Last ∷ []
+
+-- the columns of groups
+unfoldable pub group_columns : List Column
+group_columns =
+    From ∷ To ∷ Pairs ∷ Reached ∷ Missed ∷ Share ∷ Median ∷ Ninetieth ∷ Last
+    ∷ Rpcs ∷ Bytes ∷ MeshMembers ∷ MeshPlaces ∷ LowestScore ∷ LowestInRun ∷ LowestAt ∷ []

@@ -1,3 +1,13 @@
 pub mod Choices
 pub mod Columns
 pub mod Reach
+pub mod Parties
+pub mod Wishes
+pub mod Figures
+pub mod Sections
+pub mod Rows
+pub mod Between
+pub mod Lines
+pub mod Pages
+pub mod Groups
+pub mod FigureSheets

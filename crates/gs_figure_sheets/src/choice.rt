@@ -2,7 +2,7 @@
 ghost use Rattle.std.specs.Prelude.{◌≡◌, ◌++◌, filter, IfOk};
 ghost use Rattle.gs_reach.specs.Messages.{numbers_of};
 ghost use Rattle.gs_report.specs.Text.{name_of};
-ghost use Rattle.gs_figure_sheets.specs.Choices.{chosen_by, fits, is_named, is_star, spelled};
+ghost use Rattle.gs_figure_sheets.specs.Choices.{chosen_by, fits, is_named, is_star, peers_named, spelled};
 
 use gs_base::{PeerNo, Seq};
 use gs_plan::Plan;
@@ -40,13 +40,17 @@ pub fn chosen_by(
     }
 }
 
-fn peers_named(
+/// The peers among these whose names some words name.
+///
+/// # Errors
+/// `AllocError` where there was no memory for their numbers.
+pub(crate) fn peers_named(
     alloc: Global,
     plan: &Plan,
     peers: &[(PeerNo, Finished)],
     words: &str,
 ) -> Result<Seq<PeerNo>, AllocError>
-    ensures { IfOk result (λ list. list ≡ filter (λ p. is_named words.now (name_of plan.now p)) (numbers_of peers.now)) }
+    ensures { IfOk result (λ list. list ≡ peers_named plan.now peers.now words.now) }
 {
     let mut list = Seq::new(alloc);
     for peer in peers {

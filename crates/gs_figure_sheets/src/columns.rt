@@ -1,6 +1,6 @@
 //! The columns of sheets.
 ghost use Rattle.std.specs.Prelude.{◌≡◌, ◌++◌, IfOk, OnOk, map};
-ghost use Rattle.gs_figure_sheets.specs.Columns.{column_name, column_of, header_text, limit_columns, message_columns, spread_columns};
+ghost use Rattle.gs_figure_sheets.specs.Columns.{column_name, column_of, group_columns, header_text, limit_columns, message_columns, spread_columns};
 
 use gs_base::Seq;
 use gs_sheets::{Column as SheetColumn, bytes_of};
@@ -41,6 +41,28 @@ pub enum Column {
     Pairs,
     /// Which share of all pairs that is, in per cent.
     Share,
+    /// Which peer a row is of.
+    Peer,
+    /// Which round a row is of.
+    Round,
+    /// From which peer or group.
+    From,
+    /// To which peer or group.
+    To,
+    /// How many RPCs are sent.
+    Rpcs,
+    /// How many bytes are sent.
+    Bytes,
+    /// How many places meshes have for members of a group.
+    MeshMembers,
+    /// How many places they have in all.
+    MeshPlaces,
+    /// The lowest score that is given at the end.
+    LowestScore,
+    /// The lowest score that is given over the run.
+    LowestInRun,
+    /// When that one is given first.
+    LowestAt,
 }
 
 /// The name of a column in CSV and JSON.
@@ -66,6 +88,17 @@ fn column_name(column: Column) -> &'static str
         Column::Within => "within_rounds",
         Column::Pairs => "pairs",
         Column::Share => "share",
+        Column::Peer => "peer",
+        Column::Round => "round",
+        Column::From => "from",
+        Column::To => "to",
+        Column::Rpcs => "rpcs_sent",
+        Column::Bytes => "bytes_sent",
+        Column::MeshMembers => "mesh_members",
+        Column::MeshPlaces => "mesh_places",
+        Column::LowestScore => "lowest_score",
+        Column::LowestInRun => "lowest_in_run",
+        Column::LowestAt => "lowest_at_ms",
     }
 }
 
@@ -92,6 +125,17 @@ fn header_text(column: Column) -> &'static str
         Column::Within => "within rounds",
         Column::Pairs => "pairs",
         Column::Share => "% of pairs",
+        Column::Peer => "peer",
+        Column::Round => "round",
+        Column::From => "from",
+        Column::To => "to",
+        Column::Rpcs => "RPCs",
+        Column::Bytes => "bytes",
+        Column::MeshMembers => "in meshes",
+        Column::MeshPlaces => "of places",
+        Column::LowestScore => "lowest score",
+        Column::LowestInRun => "lowest in run",
+        Column::LowestAt => "at_ms",
     }
 }
 
@@ -169,6 +213,39 @@ fn spread_list(alloc: Global) -> Result<Vec<Column>, AllocError>
     Ok(list)
 }
 
+/// The columns of groups.
+pub(crate) fn group_columns(alloc: Global) -> Result<Seq<SheetColumn>, AllocError>
+    ensures { IfOk result (λ columns. columns ≡ map column_of group_columns) }
+{
+    let columns = group_list(alloc)?;
+    columns_of(alloc, &columns)
+}
+
+#[tactic(auto, unfolding(crate::specs::Columns::group_columns))]
+fn group_list(alloc: Global) -> Result<Vec<Column>, AllocError>
+    ensures { IfOk result (λ columns. columns.items ≡ group_columns) }
+{
+    let list = vec![in alloc;
+        Column::From,
+        Column::To,
+        Column::Pairs,
+        Column::Reached,
+        Column::Missed,
+        Column::Share,
+        Column::Median,
+        Column::Ninetieth,
+        Column::Last,
+        Column::Rpcs,
+        Column::Bytes,
+        Column::MeshMembers,
+        Column::MeshPlaces,
+        Column::LowestScore,
+        Column::LowestInRun,
+        Column::LowestAt,
+    ]?;
+    Ok(list)
+}
+
 fn columns_of(alloc: Global, columns: &[Column]) -> Result<Seq<SheetColumn>, AllocError>
     ensures { IfOk result (λ list. list ≡ map column_of columns.now) }
 {
@@ -179,7 +256,11 @@ fn columns_of(alloc: Global, columns: &[Column]) -> Result<Seq<SheetColumn>, All
     Ok(list)
 }
 
-fn column_of(alloc: Global, column: Column) -> Result<SheetColumn, AllocError>
+/// A column with its name and its header.
+///
+/// # Errors
+/// `AllocError` where there was no memory for them.
+pub(crate) fn column_of(alloc: Global, column: Column) -> Result<SheetColumn, AllocError>
     ensures { IfOk result (λ made. made ≡ column_of column) }
 {
     let name = bytes_of(alloc, column_name(column).as_bytes())?;

@@ -1,11 +1,36 @@
-//! Figures of a run as sheets: how far each message came, and in how many rounds.
+//! Figures of a run as sheets: how far each message came, and in how many rounds; what each peer heard and sent, what came to
+//! nothing and why, its meshes and its scores; the same by rounds, by topics and by links; and what passes from group to group.
 #![tactic(auto)]
 
+mod between;
 mod choice;
 mod columns;
+mod concern;
+mod figure;
+mod figures;
+mod found;
+mod groups;
+mod known;
+mod lines;
+mod meshes;
+mod pages;
+mod party;
 mod reach;
 mod rows;
+mod section;
+mod sheets;
+mod span;
+mod wanted;
 
 pub use choice::{Choice, chosen_by};
 pub use columns::Column;
+pub use concern::Concern;
+pub use figure::Figure;
+pub use figures::{Label, Line, PeerFigures, RowFigures};
+pub use found::Found;
+pub use known::Known;
+pub use party::Party;
 pub use reach::reach_sheets;
+pub use section::Section;
+pub use sheets::figure_sheets;
+pub use wanted::{Group, Layout, Subject, Wanted};

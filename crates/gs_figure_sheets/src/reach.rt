@@ -37,7 +37,11 @@ pub fn reach_sheets(
     sheets_among(alloc, plan, &by, &among, messages.as_slice())
 }
 
-fn sheets_among(
+/// The same for peers that are chosen, of these messages.
+///
+/// # Errors
+/// `AllocError` where there was no memory for them.
+pub(crate) fn sheets_among(
     alloc: Global,
     plan: &Plan,
     by: &Chosen,

@@ -23,7 +23,7 @@ fn verdict_word(verdict: Verdict) -> &'static str
     }
 }
 
-fn count_or_none(number: Option<u64>) -> Value
+pub(crate) fn count_or_none(number: Option<u64>) -> Value
     ensures { result ≡ count_or_none number }
 {
     match number {
@@ -33,7 +33,7 @@ fn count_or_none(number: Option<u64>) -> Value
 }
 
 /// A part of a number in hundredths of a per cent.
-fn share_of(part: u64, all: u64) -> u64
+pub(crate) fn share_of(part: u64, all: u64) -> u64
     ensures { result ≡ share_of part all }
 {
     if all == 0 {
@@ -78,7 +78,7 @@ fn push_names(
     push_name(alloc, row, verdict_word(message.verdict).as_bytes())
 }
 
-fn push_name(alloc: Global, row: &mut Row, name: &[u8]) -> Result<(), AllocError>
+pub(crate) fn push_name(alloc: Global, row: &mut Row, name: &[u8]) -> Result<(), AllocError>
     ensures { OnOk result (row.new ≡ row.old ++ NameValue name.now ∷ []) }
 {
     row.push(Value::Name(bytes_of(alloc, name)?))

@@ -1,6 +1,7 @@
 //! Cases: what peers did, and what is counted of it.
 use crate::tests::made::Life;
 use crate::tests::told::told;
+use gs_reach::Chosen;
 use std::alloc::{AllocError, Global};
 
 /// What peers did in a run of a scenario, and a line for each row in which something stands.
@@ -51,7 +52,7 @@ pub(crate) fn first_wrong(
     cases: &'static [Case],
 ) -> Result<Option<(&'static str, String)>, AllocError> {
     for case in cases {
-        let text = told(alloc, case)?;
+        let text = told(alloc, case, &Chosen::Any)?;
         if text.as_slice() != case.told.as_bytes() {
             return Ok(Some((case.name, shown(text))));
         }

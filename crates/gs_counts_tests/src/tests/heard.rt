@@ -33,13 +33,12 @@ static HEARD: [Case; 5] = [
         told: "peer 0 RpcsHeard 1 SubscriptionsHeard 1 IhaveHeard 1 IdsOffered 5000 IwantHeard 1 IdsAsked 2 \
             GraftHeard 1 PruneHeard 1\n\
             link 1 0 RpcsHeard 1 SubscriptionsHeard 1 IhaveHeard 1 IdsOffered 5000 IwantHeard 1 IdsAsked 2 \
-            GraftHeard 1 PruneHeard 1\n\
-            else PruneHeard 1\n\
+            GraftHeard 1 PruneHeard 1\nelse PruneHeard 1\n\
             news SubscriptionsHeard 1 IhaveHeard 1 IdsOffered 5000 GraftHeard 1\n\
             round 0 RpcsHeard 1 SubscriptionsHeard 1 IhaveHeard 1 IdsOffered 5000 IwantHeard 1 IdsAsked 2 \
             GraftHeard 1 PruneHeard 1\n\
-            all RpcsHeard 1 SubscriptionsHeard 1 IhaveHeard 1 IdsOffered 5000 IwantHeard 1 IdsAsked 2 \
-            GraftHeard 1 PruneHeard 1\n",
+            all RpcsHeard 1 SubscriptionsHeard 1 IhaveHeard 1 IdsOffered 5000 IwantHeard 1 IdsAsked 2 GraftHeard 1 \
+            PruneHeard 1\n",
     },
     // Before it joins and after it leaves, a message is off the topic, whatever its marks. New: abc. Again: abc, and abc
     // that counts for its sender. Ignored: de, and de again. Rejected: f, and f again. Signed: g. Off the topic: a, bc and
@@ -71,10 +70,9 @@ static HEARD: [Case; 5] = [
         told: "peer 0 New 1 Duplicates 2 Ignored 2 Rejected 2 Signed 1 OffTopic 3 PayloadBytesNew 3 \
             PayloadBytesAgain 19\n\
             link 1 0 New 1 Duplicates 2 Ignored 2 Rejected 2 Signed 1 OffTopic 3 PayloadBytesNew 3 \
-            PayloadBytesAgain 19\n\
-            else OffTopic 1 PayloadBytesAgain 2\n\
-            news New 1 Duplicates 2 Ignored 2 Rejected 2 Signed 1 OffTopic 2 PayloadBytesNew 3 PayloadBytesAgain 17\n\
-            round 0 OffTopic 2 PayloadBytesAgain 3\n\
+            PayloadBytesAgain 19\nelse OffTopic 1 PayloadBytesAgain 2\n\
+            news New 1 Duplicates 2 Ignored 2 Rejected 2 Signed 1 OffTopic 2 PayloadBytesNew 3 PayloadBytesAgain \
+            17\nround 0 OffTopic 2 PayloadBytesAgain 3\n\
             round 1 New 1 Duplicates 2 Ignored 2 Rejected 2 Signed 1 PayloadBytesNew 3 PayloadBytesAgain 13\n\
             round 2 OffTopic 1 PayloadBytesAgain 3\n\
             all New 1 Duplicates 2 Ignored 2 Rejected 2 Signed 1 OffTopic 3 PayloadBytesNew 3 PayloadBytesAgain 19\n",

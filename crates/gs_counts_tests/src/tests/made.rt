@@ -1,10 +1,12 @@
 //! Traces that are made by hand.
-use crate::tests::made_rpcs::{Part, bytes, each_part, one_message, part_on, topic};
+use crate::tests::made_rpcs::{
+    Part, bytes, each_part, one_message, one_part, part_on, too_much, topic,
+};
 use bytes::Bytes;
 use gs_base::{Mark, Millis, MsgId, PeerNo, Rpc, Seq, Shared, Topic, Verdict};
 use gs_plan::Act;
 use gs_report::{Finished, Report};
-use gs_rules::{Effects, Entry, Event, Loss, Promise, Refusal, RefusedLine, Trace};
+use gs_rules::{BeatStep, Effects, Entry, Event, Loss, Promise, Refusal, RefusedLine, Trace};
 use std::alloc::{AllocError, Global};
 
 /// What an entry is. Neighbours are given by their numbers.
@@ -25,8 +27,10 @@ pub(crate) enum Did {
     Promised(u16, u64),
     /// A neighbour may not be grafted up to this moment.
     Barred(u16, u64),
-    Grafted(u16, &'static str),
-    Pruned(u16, &'static str),
+    /// A neighbour comes into the mesh of a topic.
+    Grafted(By, u16, &'static str),
+    /// A neighbour leaves the mesh of a topic.
+    Pruned(By, u16, &'static str),
     /// A message is kept, and a neighbour gets it as often.
     Kept(u16, u8),
     Loses(u16, Loss),
@@ -34,12 +38,29 @@ pub(crate) enum Did {
     Puts(u16, &'static [u8]),
     /// An RPC of one part of each kind goes to these neighbours.
     Sends(&'static str, &'static [u16]),
+    /// An RPC of one part goes to a neighbour.
+    SendsOne(u16, &'static str, Part),
+    /// An RPC goes to a neighbour that fits no frame.
+    SendsTooMuch(u16, &'static str),
     /// A neighbour asks for an identifier, and is sent a message.
     Answers(u16, &'static str),
     /// A payload on a topic is delivered.
     Delivers(&'static str, &'static [u8]),
     EndsRound(u64),
     Shuts,
+}
+
+/// What brings about a change of a mesh.
+#[derive(Clone, Copy)]
+pub(crate) enum By {
+    /// A part of an RPC that is heard of the neighbour.
+    Neighbour,
+    Heartbeat,
+    Loss,
+    /// An act of the peer's own user.
+    User,
+    /// What brings about no such change in a run.
+    Nothing,
 }
 
 /// What a message is found to be, by the marks of its entry.
@@ -83,9 +104,32 @@ fn event_of(alloc: Global, did: Did) -> Result<Event, AllocError> {
         Did::Loses(q, loss) => Ok(Event::Lost(PeerNo(q), loss)),
         Did::HangsUp(q) => own(alloc, Act::HangUp(PeerNo(q))),
         Did::Puts(q, raw) => own(alloc, Act::Raw(PeerNo(q), bytes(alloc, raw)?)),
+        Did::Grafted(by, q, name) => grafting(alloc, by, q, name),
+        Did::Pruned(by, q, name) => pruning(alloc, by, q, name),
         Did::EndsRound(round) => Ok(Event::RoundEnd(round)),
         Did::Shuts => Ok(Event::Shut),
         _ => Ok(Event::Decay),
+    }
+}
+
+/// An event at which a neighbour comes into a mesh.
+fn grafting(alloc: Global, by: By, q: u16, name: &str) -> Result<Event, AllocError> {
+    match by {
+        By::Neighbour => part(alloc, q, name, Part::Graft),
+        By::Heartbeat => Ok(Event::Step(BeatStep::MeshBeat(topic(alloc, name)?))),
+        By::User => own(alloc, Act::Subscribe(topic(alloc, name)?)),
+        _ => Ok(Event::Decay),
+    }
+}
+
+/// An event at which a neighbour leaves a mesh.
+fn pruning(alloc: Global, by: By, q: u16, name: &str) -> Result<Event, AllocError> {
+    match by {
+        By::Neighbour => part(alloc, q, name, Part::Prune),
+        By::Heartbeat => Ok(Event::Step(BeatStep::MeshBeat(topic(alloc, name)?))),
+        By::Loss => Ok(Event::Lost(PeerNo(q), Loss::Gone)),
+        By::User => own(alloc, Act::HangUp(PeerNo(q))),
+        By::Nothing => Ok(Event::Decay),
     }
 }
 
@@ -106,8 +150,8 @@ fn marks_of(alloc: Global, did: Did) -> Result<Seq<Mark>, AllocError> {
                 Mark::Backoff(PeerNo(q), topic(alloc, "news")?, Millis(until)),
             )
         }
-        Did::Grafted(q, name) => Seq::only(alloc, Mark::Grafted(PeerNo(q), topic(alloc, name)?)),
-        Did::Pruned(q, name) => Seq::only(alloc, Mark::Pruned(PeerNo(q), topic(alloc, name)?)),
+        Did::Grafted(_, q, name) => Seq::only(alloc, Mark::Grafted(PeerNo(q), topic(alloc, name)?)),
+        Did::Pruned(_, q, name) => Seq::only(alloc, Mark::Pruned(PeerNo(q), topic(alloc, name)?)),
         Did::Kept(q, times) => kept_marks(alloc, PeerNo(q), times),
         _ => Ok(Seq::new(alloc)),
     }
@@ -160,6 +204,8 @@ fn sends_of(alloc: Global, did: Did) -> Result<Seq<(PeerNo, Shared<Rpc>)>, Alloc
                 sends.push((PeerNo(*q), each_part(alloc, name)?))?;
             }
         }
+        Did::SendsOne(q, name, kind) => sends.push((PeerNo(q), one_part(alloc, name, kind)?))?,
+        Did::SendsTooMuch(q, name) => sends.push((PeerNo(q), too_much(alloc, name)?))?,
         Did::Answers(q, name) => sends.push((PeerNo(q), one_message(alloc, name)?))?,
         _ => (),
     }

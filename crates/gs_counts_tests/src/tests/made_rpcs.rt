@@ -128,6 +128,45 @@ pub(crate) fn one_message(alloc: Global, name: &str) -> Result<Shared<Rpc>, Allo
     Shared::new(alloc, rpc)
 }
 
+/// An RPC of one subscription, or else of one GRAFT. With a topic of four bytes its body has 10 bytes.
+pub(crate) fn one_part(alloc: Global, name: &str, part: Part) -> Result<Shared<Rpc>, AllocError> {
+    let rpc = match part {
+        Part::Subscription => Rpc {
+            subs: Seq::only(alloc, subscription(alloc, name)?)?,
+            ..Rpc::empty(alloc)
+        },
+        _ => Rpc {
+            control: Some(one_graft(alloc, name)?),
+            ..Rpc::empty(alloc)
+        },
+    };
+    Shared::new(alloc, rpc)
+}
+
+fn one_graft(alloc: Global, name: &str) -> Result<Control, AllocError> {
+    let graft = Graft {
+        topic: Some(topic(alloc, name)?),
+    };
+    Ok(Control {
+        graft: Seq::only(alloc, graft)?,
+        ..Control::empty(alloc)
+    })
+}
+
+/// An RPC of one message with a payload of 2^20 bytes, which fits no frame.
+pub(crate) fn too_much(alloc: Global, name: &str) -> Result<Shared<Rpc>, AllocError> {
+    let mut payload = Vec::new(alloc);
+    for _ in 0..1_048_576 {
+        payload.push(0)?;
+    }
+    let message = message(alloc, name, &payload, false)?;
+    let rpc = Rpc {
+        publish: Seq::only(alloc, message)?,
+        ..Rpc::empty(alloc)
+    };
+    Shared::new(alloc, rpc)
+}
+
 fn count_in(part: Part) -> usize {
     match part {
         Part::Offer(count) => count,

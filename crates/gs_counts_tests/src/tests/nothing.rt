@@ -1,6 +1,6 @@
 //! What is counted of what came to nothing.
 use crate::tests::cases::{AGREED, Case, DISLIKED, NARROW, PLAIN, SILENT, THREE, first_wrong};
-use crate::tests::made::{Did, Life};
+use crate::tests::made::{By, Did, Life};
 use crate::tests::made_rpcs::Part;
 use gs_counts::{Kind, no_counts};
 use gs_rules::Loss;
@@ -91,7 +91,7 @@ static NOTHING: [Case; 10] = [
             Life {
                 trace: &[
                     (0, Did::Joins("news")),
-                    (0, Did::Grafted(1, "news")),
+                    (0, Did::Grafted(By::Nothing, 1, "news")),
                     (7, Did::Part(2, "news", Part::Graft)),
                 ],
                 refused: &[],
@@ -114,8 +114,8 @@ static NOTHING: [Case; 10] = [
             },
             SILENT,
         ],
-        told: "peer 0 IwantHeard 1 IdsAsked 2 IdsNotSentNotKept 2\nlink 1 0 IwantHeard 1 IdsAsked 2 \
-            IdsNotSentNotKept 2\n\
+        told: "peer 0 IwantHeard 1 IdsAsked 2 IdsNotSentNotKept 2\n\
+            link 1 0 IwantHeard 1 IdsAsked 2 IdsNotSentNotKept 2\n\
             round 0 IwantHeard 1 IdsAsked 2 IdsNotSentNotKept 2\nall IwantHeard 1 IdsAsked 2 IdsNotSentNotKept 2\n",
     },
     // A message is sent three times to one that asks. So of five the last two get none.
@@ -132,8 +132,8 @@ static NOTHING: [Case; 10] = [
             },
             SILENT,
         ],
-        told: "peer 0 IwantHeard 1 IdsAsked 5 IdsNotSentTooOften 2\nlink 1 0 IwantHeard 1 IdsAsked 5 \
-            IdsNotSentTooOften 2\n\
+        told: "peer 0 IwantHeard 1 IdsAsked 5 IdsNotSentTooOften 2\n\
+            link 1 0 IwantHeard 1 IdsAsked 5 IdsNotSentTooOften 2\n\
             round 0 IwantHeard 1 IdsAsked 5 IdsNotSentTooOften 2\nall IwantHeard 1 IdsAsked 5 IdsNotSentTooOften 2\n",
     },
     Case {
@@ -149,8 +149,9 @@ static NOTHING: [Case; 10] = [
             },
             SILENT,
         ],
-        told: "peer 0 IwantHeard 1 IdsAsked 3 IdsNotSentScore 3\nlink 1 0 IwantHeard 1 IdsAsked 3 IdsNotSentScore 3\n\
-            round 0 IwantHeard 1 IdsAsked 3 IdsNotSentScore 3\nall IwantHeard 1 IdsAsked 3 IdsNotSentScore 3\n",
+        told: "peer 0 IwantHeard 1 IdsAsked 3 IdsNotSentScore 3\n\
+            link 1 0 IwantHeard 1 IdsAsked 3 IdsNotSentScore 3\nround 0 IwantHeard 1 IdsAsked 3 IdsNotSentScore 3\n\
+            all IwantHeard 1 IdsAsked 3 IdsNotSentScore 3\n",
     },
     // `c` broke two promises, and `a` waited: they stand with `c`, in the row from `c` to `a`. `b` is lost, and is charged
     // with none. The bytes of `b` spelled no RPC at `a`.
@@ -173,7 +174,7 @@ static NOTHING: [Case; 10] = [
             SILENT,
         ],
         told: "peer 0 Faults 1\npeer 2 PromisesBroken 2\nlink 1 0 Faults 1\nlink 2 0 PromisesBroken 2\n\
-            round 0 Faults 1\nround 2 PromisesBroken 2\nall PromisesBroken 2 Faults 1\n",
+            round 0 Faults 1\nround 2 PromisesBroken 2\nall Faults 1 PromisesBroken 2\n",
     },
 ];
 

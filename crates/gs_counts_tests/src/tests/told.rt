@@ -1,13 +1,14 @@
 //! Counts of a run as a text: a line for each row in which something stands, with its kinds in order, and after those of
-//! links how many bytes went to each peer.
+//! links how many bytes went to each peer, and how many of those are raw.
 ghost use Rattle.std.specs.Prelude.{IfOk};
 ghost use Rattle.gs_plan.specs.Plans.{IsInRange};
 
 use crate::tests::cases::Case;
 use crate::tests::made::report_of;
 use crate::tests::order::are_in_order;
-use gs_counts::{Counts, Kind, RunCounts, bytes_to, run_counts};
+use gs_counts::{Counts, Kind, RunCounts, over_links, run_counts};
 use gs_plan::Plan;
+use gs_reach::Chosen;
 use gs_report::Report;
 use gs_scenario::read_plan;
 use std::alloc::{AllocError, Global};
@@ -63,15 +64,26 @@ fn push_links(alloc: Global, text: &mut Vec<u8>, all: &RunCounts) -> Result<(), 
     Ok(())
 }
 
-/// Adds how many bytes went to each peer.
+/// Adds how many bytes went to each peer, and how many of those are raw.
 fn push_heard(alloc: Global, text: &mut Vec<u8>, all: &RunCounts) -> Result<(), AllocError> {
     for row in all.peers.as_slice() {
-        let bytes = bytes_to(all.links.as_slice(), row.peer);
+        let bytes = over_links(all.links.as_slice(), row.peer, Kind::BytesSent);
+        let raw = over_links(all.links.as_slice(), row.peer, Kind::RawBytesSent);
         if bytes > 0 {
-            let line = format!(in alloc; "to {} {}\n", row.peer.0, bytes)?;
+            let line = format!(in alloc; "to {} {}", row.peer.0, bytes)?;
             text.extend_from_slice(line.as_bytes())?;
+            push_raw(alloc, text, raw)?;
         }
     }
+    Ok(())
+}
+
+fn push_raw(alloc: Global, text: &mut Vec<u8>, raw: u64) -> Result<(), AllocError> {
+    if raw > 0 {
+        let line = format!(in alloc; " {} raw", raw)?;
+        text.extend_from_slice(line.as_bytes())?;
+    }
+    text.push(b'\n')?;
     Ok(())
 }
 
@@ -108,19 +120,19 @@ fn text_of(alloc: Global, all: &RunCounts) -> Result<Vec<u8>, AllocError> {
 }
 
 /// The text of a run's counts, where its traces are in order.
-fn counted(alloc: Global, plan: &Plan, report: &Report) -> Result<Vec<u8>, AllocError>
+fn counted(alloc: Global, plan: &Plan, report: &Report, of: &Chosen) -> Result<Vec<u8>, AllocError>
     requires { IsInRange plan.now }
 {
     if !are_in_order(&report.peers) {
         return Err(AllocError);
     }
-    let counts = run_counts(alloc, plan, report)?;
+    let counts = run_counts(alloc, plan, report, of)?;
     text_of(alloc, &counts)
 }
 
-/// The text of the counts of a case.
-pub(crate) fn told(alloc: Global, case: &Case) -> Result<Vec<u8>, AllocError> {
+/// The text of the counts of a case, where only what the traces of some peers say counts.
+pub(crate) fn told(alloc: Global, case: &Case, of: &Chosen) -> Result<Vec<u8>, AllocError> {
     let plan = plan_of(alloc, case.scenario)?;
     let report = report_of(alloc, case.lives)?;
-    counted(alloc, &plan, &report)
+    counted(alloc, &plan, &report, of)
 }

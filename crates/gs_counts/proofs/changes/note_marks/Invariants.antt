@@ -5,4 +5,4 @@ use Rattle.gs_counts.proofs.changes.note_marks.Given as goal
 
 -- the marks so far come after what was listed
 abbrev pub invariant-loop-mark : goal.invariant-loop-mark
-invariant-loop-mark l = l.list.items ≡ l.initial.list.items ++ flat_map (mark_happenings l.scene) (take l.mark-index l.marks)
+invariant-loop-mark l = l.list.items ≡ l.initial.list.items ++ flat_map (mark_happenings l.scene l.event) (take l.mark-index l.marks)

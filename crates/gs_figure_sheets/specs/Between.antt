@@ -1,0 +1,74 @@
+-- What some peers of a run say of others, or to them.
+use Rattle.std.specs.Prelude.{ℕ, ℤ, pos, ◌&&◌, List, filter, fold, length, map, Option, None, Some}
+use Rattle.std.specs.List.{flat_map}
+use Rattle.gs_base.specs.declared.names.PeerNo.{PeerNo}
+use Rattle.gs_base.specs.declared.names.Topic.{Topic}
+use Rattle.gs_counts.specs.declared.kind.Kind.{Kind}
+use Rattle.gs_counts.specs.declared.run.LinkCounts.{LinkCounts}
+use Rattle.gs_counts.specs.declared.span.Span.{Span}
+use Rattle.gs_counts.specs.Meshes.{members_in, span_of, widened}
+use Rattle.gs_counts.specs.Rows.{count_at, plus}
+use Rattle.gs_counts.specs.Topics.{subscribed}
+use Rattle.gs_opinions.specs.declared.opinion.Lowest.{Lowest}
+use Rattle.gs_opinions.specs.declared.run.PairOpinion.{PairOpinion}
+use Rattle.gs_reach.specs.declared.chosen.Chosen.{Chosen}
+use Rattle.gs_reach.specs.Chosen.{is_chosen}
+use Rattle.gs_report.specs.declared.finished.Finished.{Finished}
+use Rattle.gs_figure_sheets.specs.Rows.{lower}
+
+-- ---- scores
+
+-- those of these scores that some peers have
+abbrev pub scores_about : Chosen → List (PeerNo × ℤ) → List ℤ
+scores_about about scores = map (λ (x : PeerNo × ℤ). x.1) (filter (λ (x : PeerNo × ℤ). is_chosen about x.0) scores)
+
+-- the peers that are chosen
+abbrev pub only_by : Chosen → List (PeerNo × Finished) → List (PeerNo × Finished)
+only_by by peers = filter (λ (x : PeerNo × Finished). is_chosen by x.0) peers
+
+-- what some peers score some others at the end
+abbrev pub scores_between : Chosen → Chosen → List (PeerNo × Finished) → List ℤ
+scores_between by about peers = flat_map (λ (x : PeerNo × Finished). scores_about about x.1.scores) (only_by by peers)
+
+-- the lowest and the highest of them
+abbrev pub span_between : Chosen → Chosen → List (PeerNo × Finished) → Option Span
+span_between by about peers = span_of (scores_between by about peers)
+
+-- the lowest that some peers score some others over the run, and when first
+abbrev pub opinions_between : Chosen → Chosen → List PairOpinion → List PairOpinion
+opinions_between by about pairs =
+    filter (λ (x : PairOpinion). is_chosen by x.by && is_chosen about x.of) pairs
+
+abbrev pub lowest_between : Chosen → Chosen → List PairOpinion → Option Lowest
+lowest_between by about pairs =
+    fold (λ low (x : PairOpinion). lower low (Some x.lowest)) None (opinions_between by about pairs)
+
+-- ---- links
+
+-- how much there is of a kind over links from some peers to some others
+abbrev pub links_between : Chosen → Chosen → List LinkCounts → List LinkCounts
+links_between from to links =
+    filter (λ (x : LinkCounts). is_chosen from x.from && is_chosen to x.to) links
+
+abbrev pub over_between : Chosen → Chosen → Kind → List LinkCounts → ℕ
+over_between from to kind links =
+    fold (λ sum (x : LinkCounts). plus sum (count_at x.counts kind)) 0 (links_between from to links)
+
+-- ---- meshes
+
+-- how many places some meshes have for some peers
+abbrev pub places_for : Chosen → List (Topic × PeerNo) → ℕ
+places_for to members = length (filter (λ (x : Topic × PeerNo). is_chosen to x.1) members)
+
+-- how many places the meshes of some peers have at the end for some others, a place for each topic
+abbrev pub places_between : Chosen → Chosen → List (PeerNo × Finished) → ℕ
+places_between from to peers =
+    fold (λ sum (x : PeerNo × Finished). plus sum (places_for to x.1.meshes)) 0 (only_by from peers)
+
+-- how many members the mesh of each topic has at the end that a peer is subscribed to
+abbrev pub end_sizes : Finished → List ℕ
+end_sizes f = map (members_in f.meshes) (subscribed f.trace)
+
+-- the smallest and the largest of them
+abbrev pub end_meshes : Finished → Option Span
+end_meshes f = span_of (map pos (end_sizes f))

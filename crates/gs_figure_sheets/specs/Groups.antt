@@ -1,0 +1,98 @@
+-- What passes from group to group, as a sheet.
+use Rattle.std.specs.Prelude.{ℕ, codes, List, [], ◌∷◌, ◌++◌, length, map, Option}
+use Rattle.std.specs.List.{flat_map}
+use Rattle.gs_base.specs.declared.names.PeerNo.{PeerNo}
+use Rattle.gs_counts.specs.declared.kind.Kind.TheVariants.{RpcsSent, BytesSent}
+use Rattle.gs_counts.specs.declared.run.LinkCounts.{LinkCounts}
+use Rattle.gs_counts.specs.declared.span.Span.{Span}
+use Rattle.gs_opinions.specs.declared.opinion.Lowest.{Lowest}
+use Rattle.gs_opinions.specs.declared.run.PairOpinion.{PairOpinion}
+use Rattle.gs_reach.specs.declared.chosen.Chosen.TheVariants.{Any}
+use Rattle.gs_reach.specs.declared.messages.MessageReach.{MessageReach}
+use Rattle.gs_reach.specs.declared.pairs.Pair.{Pair}
+use Rattle.gs_reach.specs.declared.spread.Spread.{Spread}
+use Rattle.gs_reach.specs.Chosen.{accepted_pairs}
+use Rattle.gs_reach.specs.Reached.{missed, reached, spread}
+use Rattle.gs_report.specs.declared.finished.Finished.{Finished}
+use Rattle.gs_sheets.specs.declared.sheet.Sheet.{Sheet}
+use Rattle.gs_sheets.specs.declared.sheet.Value.{Value}
+use Rattle.gs_sheets.specs.declared.sheet.Value.TheVariants.{Name, Count, Share}
+use Rattle.gs_figure_sheets.specs.declared.groups.Dealings.{Dealings}
+use Rattle.gs_figure_sheets.specs.declared.party.Party.{Party}
+use Rattle.gs_figure_sheets.specs.Between.{lowest_between, over_between, places_between, span_between}
+use Rattle.gs_figure_sheets.specs.Columns.{column_of, group_columns}
+use Rattle.gs_figure_sheets.specs.Reach.{count_or_none, share_of}
+use Rattle.gs_figure_sheets.specs.Rows.{lowest_in, moment_of, score_of, score_or_none}
+
+-- what rows of groups are made of
+pub record Dealt : Type 0 where
+  pub messages : List MessageReach
+  pub links : List LinkCounts
+  pub peers : List (PeerNo × Finished)
+  pub opinions : List PairOpinion
+
+abbrev pub dealt_of : Dealings → Dealt
+dealt_of d = record { messages = d.messages.now; links = d.links.now; peers = d.peers.now; opinions = d.opinions.now }
+
+-- how many subscribers could be reached, were reached and were missed, and in how many rounds parts of them were reached
+abbrev pub pair_values : List Pair → List Value
+pair_values pairs =
+    Count (length pairs) ∷ Count (reached pairs) ∷ Count (missed pairs) ∷ Share (share_of (reached pairs) (length pairs)) ∷ []
+
+abbrev pub spread_values : Spread → List Value
+spread_values s = count_or_none s.median ∷ count_or_none s.ninetieth ∷ count_or_none s.last ∷ []
+
+-- what goes over links from one group to another
+abbrev pub sent_values : List LinkCounts → Party → Party → List Value
+sent_values links from to =
+    Count (over_between from.told to.peers RpcsSent links) ∷ Count (over_between from.told to.peers BytesSent links) ∷ []
+
+-- how many places the meshes of one group have for another, and in all
+abbrev pub mesh_values : List (PeerNo × Finished) → Party → Party → List Value
+mesh_values peers from to =
+    Count (places_between from.told to.peers peers) ∷ Count (places_between from.told Any peers) ∷ []
+
+-- the lowest score that one group gives another at the end, and over the run
+abbrev pub score_values : Option Span → Option Lowest → List Value
+score_values scores lowest =
+    score_or_none (lowest_in scores) ∷ score_or_none (score_of lowest) ∷ count_or_none (moment_of lowest) ∷ []
+
+-- the pairs of a message that one group published first, and a subscriber in another
+abbrev pub pairs_between : Party → Party → List MessageReach → List Pair
+pairs_between from to messages = accepted_pairs from.peers to.told messages
+
+abbrev pub reach_values : List MessageReach → Party → Party → List Value
+reach_values messages from to =
+    pair_values (pairs_between from to messages) ++ spread_values (spread (pairs_between from to messages))
+
+abbrev pub name_values : Party → Party → List Value
+name_values from to = Name from.name ∷ Name to.name ∷ []
+
+unfoldable pub group_row : Dealt → Party → Party → List Value
+group_row d from to =
+    name_values from to
+    ++ reach_values d.messages from to
+    ++ sent_values d.links from to
+    ++ mesh_values d.peers from to
+    ++ score_values (span_between from.told to.peers d.peers) (lowest_between from.told to.peers d.opinions)
+
+-- each from each
+abbrev pub rows_from : Dealt → List Party → Party → List (List Value)
+rows_from d parties from = map (group_row d from) parties
+
+abbrev pub group_rows : Dealt → List Party → List (List Value)
+group_rows d parties = flat_map (rows_from d parties) parties
+
+unfoldable pub group_sheet : Dealt → List Party → Sheet
+group_sheet d parties = record {
+  name = codes "groups";
+  title = codes "From group to group";
+  columns = map column_of group_columns;
+  names = 2;
+  rows = group_rows d parties;
+}
+
+-- only where there are groups
+abbrev pub group_pages : Dealt → List Party → List Sheet
+group_pages d [] = []
+group_pages d (first ∷ more) = group_sheet d (first ∷ more) ∷ []

@@ -1,0 +1,34 @@
+-- Groups of peers, by the names of these.
+use Rattle.std.specs.Prelude.{ℕ, List, filter, map, Option, Some}
+use Rattle.gs_base.specs.declared.names.PeerNo.{PeerNo}
+use Rattle.gs_plan.specs.declared.plan.Plan.{Plan}
+use Rattle.gs_report.specs.declared.report.Report.{Report}
+use Rattle.gs_reach.specs.declared.chosen.Chosen.{Chosen}
+use Rattle.gs_reach.specs.declared.chosen.Chosen.TheVariants as chosen
+use Rattle.gs_reach.specs.Chosen.{is_chosen}
+use Rattle.gs_figure_sheets.specs.declared.party.Party.{Party}
+use Rattle.gs_figure_sheets.specs.declared.wanted.Group.{Group}
+use Rattle.gs_figure_sheets.specs.Choices.{chosen_by, peers_named}
+
+-- a group that is asked for: its name, and the names of its peers
+pub record GroupWish : Type 0 where
+  pub name : List ℕ
+  pub peers : List ℕ
+
+abbrev pub group_wish : Group → GroupWish
+group_wish group = record { name = group.name.now; peers = group.peers.now }
+
+-- the peers of a group in a run, and those of them that some choice leaves
+abbrev pub party_of : Plan → Report → Chosen → GroupWish → Party
+party_of plan report among g = record {
+  name = g.name;
+  peers = chosen.Only (peers_named plan report.peers.items g.peers);
+  told = chosen.Only (filter (is_chosen among) (peers_named plan report.peers.items g.peers));
+}
+
+abbrev pub parties_of : Plan → Report → Chosen → List GroupWish → List Party
+parties_of plan report among groups = map (party_of plan report among) groups
+
+-- only their peers
+abbrev pub groups_of : Plan → Report → List GroupWish → List Chosen
+groups_of plan report groups = map (λ (g : GroupWish). chosen_by plan report (Some g.peers)) groups

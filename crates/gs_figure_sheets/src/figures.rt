@@ -1,0 +1,241 @@
+//! What stands in rows of figures, and the sums of several rows.
+ghost use Rattle.std.specs.Prelude.{◌≡◌, ◌++◌, ◌∷◌, [], fold, IfOk, map, OnOk};
+ghost use Rattle.gs_figure_sheets.specs.Lines.{line_of};
+ghost use Rattle.gs_figure_sheets.specs.Rows.{highest_in, joined, joined_of, label_value, line_row, lowest_in, moment_of, no_figures, only_counts, score_at, score_of, score_or_none, value_of, whole_or_none};
+
+use crate::figure::Figure;
+use crate::rows::count_or_none;
+use crate::span::{joined_spans, lower};
+use gs_base::{PeerNo, Seq};
+use gs_counts::{Counts, Span, no_counts};
+use gs_opinions::Lowest;
+use gs_reach::Chosen;
+use gs_sheets::{Row, Value, bytes_of};
+use std::alloc::{AllocError, Global};
+
+/// The figures of a row.
+#[derive(Clone, Copy, Debug, PartialEq, Eq)]
+pub struct RowFigures {
+    pub counts: Counts,
+    /// How many bytes neighbours put on their links to the peers of the row.
+    pub bytes_heard: u64,
+    /// Those of them that the script put there as they are.
+    pub raw_bytes_heard: u64,
+    /// How many members the smallest and the largest mesh have.
+    pub meshes: Option<Span>,
+    /// The lowest and the highest score that are given. Of a round only the lowest is known, which stands for both.
+    pub scores: Option<Span>,
+    /// The lowest score that is given over the run, and when first.
+    pub lowest: Option<Lowest>,
+}
+
+/// The figures of a peer.
+#[derive(Clone, Copy, Debug, PartialEq, Eq)]
+pub struct PeerFigures {
+    pub peer: PeerNo,
+    pub figures: RowFigures,
+}
+
+/// What a row is of.
+#[derive(Debug, Drop)]
+pub enum Label {
+    Named(Seq<u8>),
+    Numbered(u64),
+}
+
+/// A row of figures.
+#[derive(Debug, Drop)]
+pub struct Line {
+    pub labels: Seq<Label>,
+    pub figures: RowFigures,
+    /// The lowest score that is given one of each group, where the row says it.
+    pub groups: Seq<Option<i128>>,
+}
+
+impl Line {
+    /// A row that says nothing of groups.
+    pub(crate) fn of(alloc: Global, labels: Seq<Label>, figures: RowFigures) -> Line
+        ensures { result ≡ line_of labels figures }
+    {
+        Line {
+            labels,
+            figures,
+            groups: Seq::new(alloc),
+        }
+    }
+}
+
+/// Nothing was counted, and there is no mesh and no score.
+fn no_figures() -> RowFigures
+    ensures { result ≡ no_figures }
+{
+    RowFigures::only_counts(no_counts())
+}
+
+impl RowFigures {
+    /// What was counted, and nothing else.
+    pub(crate) fn only_counts(counts: Counts) -> RowFigures
+        ensures { result ≡ only_counts counts }
+    {
+        RowFigures {
+            counts,
+            bytes_heard: 0,
+            raw_bytes_heard: 0,
+            meshes: None,
+            scores: None,
+            lowest: None,
+        }
+    }
+
+    /// The figures of both.
+    fn joined(&self, other: &RowFigures) -> RowFigures
+        ensures { result ≡ joined self.now other.now }
+    {
+        RowFigures {
+            counts: self.counts.with(&other.counts),
+            bytes_heard: self.bytes_heard.saturating_add(other.bytes_heard),
+            raw_bytes_heard: self.raw_bytes_heard.saturating_add(other.raw_bytes_heard),
+            meshes: joined_spans(&self.meshes, &other.meshes),
+            scores: joined_spans(&self.scores, &other.scores),
+            lowest: lower(&self.lowest, &other.lowest),
+        }
+    }
+}
+
+/// The figures of those of these peers that are chosen, in one.
+pub(crate) fn joined_of(chosen: &Chosen, rows: &[PeerFigures]) -> RowFigures
+    ensures { result ≡ joined_of chosen.now rows.now }
+{
+    let mut sum = no_figures();
+    for row in rows {
+        if chosen.contains(row.peer) {
+            sum = sum.joined(&row.figures);
+        }
+    }
+    sum
+}
+
+// ---- values
+
+fn whole_or_none(number: Option<i128>) -> Value
+    ensures { result ≡ whole_or_none number }
+{
+    match number {
+        Some(number) => Value::Whole(number),
+        None => Value::Missing,
+    }
+}
+
+pub(crate) fn score_or_none(score: Option<i128>) -> Value
+    ensures { result ≡ score_or_none score }
+{
+    match score {
+        Some(score) => Value::Score(score),
+        None => Value::Missing,
+    }
+}
+
+pub(crate) fn lowest_in(span: &Option<Span>) -> Option<i128>
+    ensures { result ≡ lowest_in span.now }
+{
+    match span {
+        Some(span) => Some(span.lowest),
+        None => None,
+    }
+}
+
+fn highest_in(span: &Option<Span>) -> Option<i128>
+    ensures { result ≡ highest_in span.now }
+{
+    match span {
+        Some(span) => Some(span.highest),
+        None => None,
+    }
+}
+
+pub(crate) fn score_of(lowest: &Option<Lowest>) -> Option<i128>
+    ensures { result ≡ score_of lowest.now }
+{
+    match lowest {
+        Some(lowest) => Some(lowest.score),
+        None => None,
+    }
+}
+
+pub(crate) fn moment_of(lowest: &Option<Lowest>) -> Option<u64>
+    ensures { result ≡ moment_of lowest.now }
+{
+    match lowest {
+        Some(lowest) => Some(lowest.at.0),
+        None => None,
+    }
+}
+
+/// The score at a place, if one stands there.
+fn score_at(scores: &[Option<i128>], place: usize) -> Option<i128>
+    ensures { result ≡ score_at scores.now place }
+{
+    match scores.get(place) {
+        Some(score) => *score,
+        None => None,
+    }
+}
+
+/// What stands in a row for a figure.
+fn value_of(line: &Line, figure: Figure) -> Value
+    ensures { result ≡ value_of line.now figure }
+{
+    let figures = &line.figures;
+    match figure {
+        Figure::Of(kind) => Value::Count(figures.counts.of(kind)),
+        Figure::BytesHeard => Value::Count(figures.bytes_heard),
+        Figure::RawBytesHeard => Value::Count(figures.raw_bytes_heard),
+        Figure::SmallestMesh => whole_or_none(lowest_in(&figures.meshes)),
+        Figure::LargestMesh => whole_or_none(highest_in(&figures.meshes)),
+        Figure::LowestScore => score_or_none(lowest_in(&figures.scores)),
+        Figure::HighestScore => score_or_none(highest_in(&figures.scores)),
+        Figure::LowestInRun => score_or_none(score_of(&figures.lowest)),
+        Figure::LowestAt => count_or_none(moment_of(&figures.lowest)),
+        Figure::LowestOf(place) => score_or_none(score_at(line.groups.as_slice(), place)),
+    }
+}
+
+/// A row of these figures, after what it is of.
+///
+/// # Errors
+/// `AllocError` where there was no memory for it.
+pub(crate) fn line_row(alloc: Global, figures: &[Figure], line: &Line) -> Result<Row, AllocError>
+    ensures { IfOk result (λ row. row ≡ line_row figures.now line.now) }
+{
+    let mut row = Seq::new(alloc);
+    push_labels(alloc, &mut row, line.labels.as_slice())?;
+    push_values(&mut row, line, figures)?;
+    Ok(row)
+}
+
+fn push_labels(alloc: Global, row: &mut Row, labels: &[Label]) -> Result<(), AllocError>
+    ensures { OnOk result (row.new ≡ row.old ++ map label_value labels.now) }
+{
+    for label in labels {
+        row.push(label_value(alloc, label)?)?;
+    }
+    Ok(())
+}
+
+fn label_value(alloc: Global, label: &Label) -> Result<Value, AllocError>
+    ensures { IfOk result (λ value. value ≡ label_value label.now) }
+{
+    match label {
+        Label::Named(name) => Ok(Value::Name(bytes_of(alloc, name.as_slice())?)),
+        Label::Numbered(number) => Ok(Value::Count(*number)),
+    }
+}
+
+fn push_values(row: &mut Row, line: &Line, figures: &[Figure]) -> Result<(), AllocError>
+    ensures { OnOk result (row.new ≡ row.old ++ map (value_of line.now) figures.now) }
+{
+    for figure in figures {
+        row.push(value_of(line, *figure))?;
+    }
+    Ok(())
+}

@@ -1,0 +1,315 @@
+//! The rows of figures: of peers and groups, of rounds, of topics and of links.
+ghost use Rattle.std.specs.Prelude.{◌≡◌, [], ◌∷◌, ◌++◌, codes, IfOk, map, OnOk, option_map};
+ghost use Rattle.gs_figure_sheets.specs.Between.{only_by};
+ghost use Rattle.gs_figure_sheets.specs.declared.figures.Label.TheVariants.{Named};
+ghost use Rattle.gs_figure_sheets.specs.Lines.{all_line, figures_of_peers, just, link_line, links_at, named_line, party_line, peer_figures, peer_line, peer_lines, point, round_figures, round_line, round_with, round_without, topic_line};
+
+use crate::between::{lowest_between, span_between};
+use crate::figures::{Label, Line, PeerFigures, RowFigures, joined_of};
+use crate::known::Known;
+use crate::meshes::end_meshes;
+use crate::party::Party;
+use gs_base::{PeerNo, Seq};
+use gs_counts::{Kind, LinkCounts, RoundCounts, Span, TopicCounts, over_links};
+use gs_opinions::{Opinions, RoundOpinions};
+use gs_plan::Plan;
+use gs_reach::Chosen;
+use gs_report::{Finished, name_of};
+use gs_sheets::bytes_of;
+use std::alloc::{AllocError, Global};
+
+// ---- peers
+
+/// The figures of each peer whose trace counts.
+///
+/// # Errors
+/// `AllocError` where there was no memory for them.
+pub(crate) fn figures_of_peers(
+    alloc: Global,
+    known: &Known,
+    among: &Chosen,
+    peers: &[(PeerNo, Finished)],
+) -> Result<Vec<PeerFigures>, AllocError>
+    ensures { IfOk result (λ rows. rows.items ≡ figures_of_peers known.now among.now peers.now) }
+{
+    let mut rows = Vec::new(alloc);
+    for peer in peers {
+        if among.contains(peer.0) {
+            rows.push(peer_figures(alloc, known, among, peers, peer)?)?;
+        }
+    }
+    Ok(rows)
+}
+
+fn peer_figures(
+    alloc: Global,
+    known: &Known,
+    among: &Chosen,
+    peers: &[(PeerNo, Finished)],
+    peer: &(PeerNo, Finished),
+) -> Result<PeerFigures, AllocError>
+    ensures { IfOk result (λ row. row ≡ peer_figures known.now among.now peers.now peer.now) }
+{
+    let number = peer.0;
+    let meshes = end_meshes(alloc, &peer.1)?;
+    let about = just(alloc, number)?;
+    let figures = RowFigures {
+        counts: known.counts_of_peer(number),
+        bytes_heard: over_links(known.all_links(), number, Kind::BytesSent),
+        raw_bytes_heard: over_links(known.all_links(), number, Kind::RawBytesSent),
+        meshes,
+        scores: span_between(among, &about, peers),
+        lowest: lowest_between(among, &about, known.opinions.pairs.as_slice()),
+    };
+    Ok(PeerFigures {
+        peer: number,
+        figures,
+    })
+}
+
+/// One peer.
+fn just(alloc: Global, peer: PeerNo) -> Result<Chosen, AllocError>
+    ensures { IfOk result (λ chosen. chosen ≡ just peer) }
+{
+    let peers = Seq::only(alloc, peer)?;
+    Ok(Chosen::Only(peers))
+}
+
+/// The rows of peers, then those of groups, and last that of all.
+///
+/// # Errors
+/// `AllocError` where there was no memory for them.
+pub(crate) fn peer_lines(
+    alloc: Global,
+    plan: &Plan,
+    parties: &[Party],
+    rows: &[PeerFigures],
+) -> Result<Seq<Line>, AllocError>
+    ensures { IfOk result (λ lines. lines ≡ peer_lines plan.now parties.now rows.now) }
+{
+    let mut lines = Seq::new(alloc);
+    push_peers(alloc, &mut lines, plan, rows)?;
+    push_parties(alloc, &mut lines, parties, rows)?;
+    lines.push(all_line(alloc, rows)?)?;
+    Ok(lines)
+}
+
+fn push_peers(
+    alloc: Global,
+    lines: &mut Seq<Line>,
+    plan: &Plan,
+    rows: &[PeerFigures],
+) -> Result<(), AllocError>
+    ensures { OnOk result (lines.new ≡ lines.old ++ map (peer_line plan.now) rows.now) }
+{
+    for row in rows {
+        lines.push(peer_line(alloc, plan, row)?)?;
+    }
+    Ok(())
+}
+
+fn push_parties(
+    alloc: Global,
+    lines: &mut Seq<Line>,
+    parties: &[Party],
+    rows: &[PeerFigures],
+) -> Result<(), AllocError>
+    ensures { OnOk result (lines.new ≡ lines.old ++ map (party_line rows.now) parties.now) }
+{
+    for party in parties {
+        lines.push(party_line(alloc, rows, party)?)?;
+    }
+    Ok(())
+}
+
+fn peer_line(alloc: Global, plan: &Plan, row: &PeerFigures) -> Result<Line, AllocError>
+    ensures { IfOk result (λ line. line ≡ peer_line plan.now row.now) }
+{
+    named_line(alloc, name_of(plan, row.peer).as_bytes(), row.figures)
+}
+
+/// A row that is of a name.
+fn named_line(alloc: Global, name: &[u8], figures: RowFigures) -> Result<Line, AllocError>
+    ensures { IfOk result (λ line. line ≡ named_line name.now figures) }
+{
+    let name = bytes_of(alloc, name)?;
+    let labels = Seq::only(alloc, Label::Named(name))?;
+    Ok(Line::of(alloc, labels, figures))
+}
+
+/// The rows of a group in one.
+fn party_line(alloc: Global, rows: &[PeerFigures], party: &Party) -> Result<Line, AllocError>
+    ensures { IfOk result (λ line. line ≡ party_line rows.now party.now) }
+{
+    let name = bracketed(alloc, party.name.as_slice())?;
+    named_line(alloc, &name, joined_of(&party.told, rows))
+}
+
+fn bracketed(alloc: Global, name: &[u8]) -> Result<Vec<u8>, AllocError>
+    ensures { IfOk result (λ text. text.items ≡ codes "(" ++ name.now ++ codes ")") }
+{
+    let mut text = Vec::new(alloc);
+    text.push(b'(')?;
+    text.extend_from_slice(name)?;
+    text.push(b')')?;
+    Ok(text)
+}
+
+/// The rows of all in one.
+fn all_line(alloc: Global, rows: &[PeerFigures]) -> Result<Line, AllocError>
+    ensures { IfOk result (λ line. line ≡ all_line rows.now) }
+{
+    named_line(alloc, b"(all)", joined_of(&Chosen::Any, rows))
+}
+
+// ---- rounds
+
+/// The rows of rounds.
+///
+/// # Errors
+/// `AllocError` where there was no memory for them.
+pub(crate) fn round_lines(
+    alloc: Global,
+    opinions: &Opinions,
+    rounds: &[RoundCounts],
+) -> Result<Seq<Line>, AllocError>
+    ensures { IfOk result (λ lines. lines ≡ map (round_line opinions.now) rounds.now) }
+{
+    let mut lines = Seq::new(alloc);
+    for round in rounds {
+        lines.push(round_line(alloc, opinions, round)?)?;
+    }
+    Ok(lines)
+}
+
+fn round_line(alloc: Global, opinions: &Opinions, round: &RoundCounts) -> Result<Line, AllocError>
+    ensures { IfOk result (λ line. line ≡ round_line opinions.now round.now) }
+{
+    match opinions.rounds.as_slice().get(round.round as usize) {
+        Some(given) => round_with(alloc, round, given),
+        None => round_without(alloc, round),
+    }
+}
+
+/// The row of a round, with the scores that were given in it.
+fn round_with(
+    alloc: Global,
+    round: &RoundCounts,
+    given: &RoundOpinions,
+) -> Result<Line, AllocError>
+    ensures { IfOk result (λ line. line ≡ round_with round.now given.now) }
+{
+    let labels = Seq::only(alloc, Label::Numbered(round.round))?;
+    let groups = scores_in(alloc, given.groups.as_slice())?;
+    Ok(Line {
+        labels,
+        figures: round_figures(round, &point(&given.lowest)),
+        groups,
+    })
+}
+
+fn round_without(alloc: Global, round: &RoundCounts) -> Result<Line, AllocError>
+    ensures { IfOk result (λ line. line ≡ round_without round.now) }
+{
+    let labels = Seq::only(alloc, Label::Numbered(round.round))?;
+    Ok(Line::of(alloc, labels, round_figures(round, &None)))
+}
+
+fn round_figures(round: &RoundCounts, scores: &Option<Span>) -> RowFigures
+    ensures { result ≡ round_figures round.now scores.now }
+{
+    RowFigures {
+        counts: round.counts,
+        bytes_heard: 0,
+        raw_bytes_heard: 0,
+        meshes: round.members,
+        scores: *scores,
+        lowest: None,
+    }
+}
+
+/// A span of one value, if there is one.
+fn point(value: &Option<i128>) -> Option<Span>
+    ensures { result ≡ option_map point value.now }
+{
+    match value {
+        Some(value) => Some(Span {
+            lowest: *value,
+            highest: *value,
+        }),
+        None => None,
+    }
+}
+
+/// A copy of these scores.
+fn scores_in(alloc: Global, scores: &[Option<i128>]) -> Result<Seq<Option<i128>>, AllocError>
+    ensures { IfOk result (λ list. list ≡ scores.now) }
+{
+    let mut list = Seq::new(alloc);
+    for score in scores {
+        list.push(*score)?;
+    }
+    Ok(list)
+}
+
+// ---- topics and links
+
+/// The rows of topics.
+///
+/// # Errors
+/// `AllocError` where there was no memory for them.
+pub(crate) fn topic_lines(alloc: Global, topics: &[TopicCounts]) -> Result<Seq<Line>, AllocError>
+    ensures { IfOk result (λ lines. lines ≡ map topic_line topics.now) }
+{
+    let mut lines = Seq::new(alloc);
+    for topic in topics {
+        lines.push(topic_line(alloc, topic)?)?;
+    }
+    Ok(lines)
+}
+
+fn topic_line(alloc: Global, topic: &TopicCounts) -> Result<Line, AllocError>
+    ensures { IfOk result (λ line. line ≡ topic_line topic.now) }
+{
+    named_line(
+        alloc,
+        topic.topic.0.as_slice(),
+        RowFigures::only_counts(topic.counts),
+    )
+}
+
+/// The rows of those links that have an end whose trace counts.
+///
+/// # Errors
+/// `AllocError` where there was no memory for them.
+pub(crate) fn link_lines(
+    alloc: Global,
+    plan: &Plan,
+    among: &Chosen,
+    links: &[LinkCounts],
+) -> Result<Seq<Line>, AllocError>
+    ensures { IfOk result (λ lines. lines ≡ map (link_line plan.now) (links_at among.now links.now)) }
+{
+    let mut lines = Seq::new(alloc);
+    for link in links {
+        if among.contains(link.from) || among.contains(link.to) {
+            lines.push(link_line(alloc, plan, link)?)?;
+        }
+    }
+    Ok(lines)
+}
+
+fn link_line(alloc: Global, plan: &Plan, link: &LinkCounts) -> Result<Line, AllocError>
+    ensures { IfOk result (λ line. line ≡ link_line plan.now link.now) }
+{
+    let mut labels = Seq::new(alloc);
+    push_label(alloc, &mut labels, name_of(plan, link.from).as_bytes())?;
+    push_label(alloc, &mut labels, name_of(plan, link.to).as_bytes())?;
+    Ok(Line::of(alloc, labels, RowFigures::only_counts(link.counts)))
+}
+
+fn push_label(alloc: Global, labels: &mut Seq<Label>, name: &[u8]) -> Result<(), AllocError>
+    ensures { OnOk result (labels.new ≡ labels.old ++ Named name.now ∷ []) }
+{
+    labels.push(Label::Named(bytes_of(alloc, name)?))
+}

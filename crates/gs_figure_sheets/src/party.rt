@@ -1,0 +1,94 @@
+//! The groups of a run.
+ghost use Rattle.std.specs.Prelude.{◌≡◌, ◌++◌, ◌∷◌, [], filter, IfOk, map};
+ghost use Rattle.gs_reach.specs.Chosen.{is_chosen};
+ghost use Rattle.gs_figure_sheets.specs.Parties.{groups_of, group_wish, parties_of, party_of};
+
+use crate::choice::{Choice, chosen_by, peers_named};
+use crate::wanted::Group;
+use gs_base::{PeerNo, Seq};
+use gs_plan::Plan;
+use gs_reach::Chosen;
+use gs_report::Report;
+use gs_sheets::bytes_of;
+use std::alloc::{AllocError, Global};
+
+/// A group of a run.
+#[derive(Debug, Drop)]
+pub struct Party {
+    pub name: Seq<u8>,
+    /// Its peers.
+    pub peers: Chosen,
+    /// Those of them whose traces count.
+    pub told: Chosen,
+}
+
+/// The groups of a run, where the traces of some peers count.
+///
+/// # Errors
+/// `AllocError` where there was no memory for them.
+pub(crate) fn parties_of(
+    alloc: Global,
+    plan: &Plan,
+    report: &Report,
+    among: &Chosen,
+    groups: &[Group<'_>],
+) -> Result<Seq<Party>, AllocError>
+    ensures { IfOk result (λ parties. parties ≡ parties_of plan.now report.now among.now (map group_wish groups.now)) }
+{
+    let mut parties = Seq::new(alloc);
+    for group in groups {
+        parties.push(party_of(alloc, plan, report, among, group)?)?;
+    }
+    Ok(parties)
+}
+
+fn party_of(
+    alloc: Global,
+    plan: &Plan,
+    report: &Report,
+    among: &Chosen,
+    group: &Group<'_>,
+) -> Result<Party, AllocError>
+    ensures { IfOk result (λ party. party ≡ party_of plan.now report.now among.now (group_wish group.now)) }
+{
+    let name = bytes_of(alloc, group.name.as_bytes())?;
+    let peers = peers_named(alloc, plan, &report.peers, group.peers)?;
+    let told = told_of(alloc, among, peers.as_slice())?;
+    Ok(Party {
+        name,
+        peers: Chosen::Only(peers),
+        told: Chosen::Only(told),
+    })
+}
+
+/// Those of these peers whose traces count.
+fn told_of(alloc: Global, among: &Chosen, peers: &[PeerNo]) -> Result<Seq<PeerNo>, AllocError>
+    ensures { IfOk result (λ list. list ≡ filter (is_chosen among.now) peers.now) }
+{
+    let mut list = Seq::new(alloc);
+    for peer in peers {
+        if among.contains(*peer) {
+            list.push(*peer)?;
+        }
+    }
+    Ok(list)
+}
+
+/// Only the peers of the groups of a run.
+///
+/// # Errors
+/// `AllocError` where there was no memory for them.
+pub(crate) fn groups_of(
+    alloc: Global,
+    plan: &Plan,
+    report: &Report,
+    groups: &[Group<'_>],
+) -> Result<Seq<Chosen>, AllocError>
+    ensures { IfOk result (λ list. list ≡ groups_of plan.now report.now (map group_wish groups.now)) }
+{
+    let mut list = Seq::new(alloc);
+    for group in groups {
+        list.push(chosen_by(alloc, plan, report, Choice::Named(group.peers))?)?;
+    }
+    Ok(list)
+}

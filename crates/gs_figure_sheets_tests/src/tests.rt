@@ -1,0 +1,3 @@
+mod order;
+mod ran;
+mod runs;

@@ -1,0 +1,79 @@
+-- How tables go on with one opinion more, and what they show.
+use Rattle.std.specs.Prelude.{◌≡◌, ℕ, ℤ, ◌+◌, int_lt, Bool, true, false, if◌then◌else◌, List, filter, length, None, Option, Some, slice_get}
+use Rattle.std.specs.List.{AllZip}
+use Rattle.gs_base.specs.declared.names.PeerNo.{PeerNo}
+use Rattle.gs_plan.specs.declared.plan.Plan.{Plan}
+use Rattle.gs_reach.specs.declared.chosen.Chosen.{Chosen}
+use Rattle.gs_reach.specs.Chosen.{is_chosen}
+use Rattle.gs_seats.specs.Rounds.{peer_no}
+use Rattle.gs_opinions.specs.declared.members.Members.{Members}
+use Rattle.gs_opinions.specs.declared.opinion.Lowest.{Lowest}
+use Rattle.gs_opinions.specs.declared.opinion.Opinion.{Opinion}
+use Rattle.gs_opinions.specs.declared.tables.GroupRounds.{GroupRounds}
+use Rattle.gs_opinions.specs.declared.tables.Tables.{Tables}
+use Rattle.gs_opinions.specs.Cells.{by_number, changed_at}
+use Rattle.gs_opinions.specs.Runs.{is_about, lowest_between, lowest_in, lowest_in_round}
+
+-- ---- the lowest so far
+
+abbrev pub is_lower : {A : Type 0} → (A → ℤ) → Option A → A → Bool
+is_lower amount None x = true
+is_lower amount (Some y) x = int_lt (amount x) (amount y)
+
+abbrev pub lower : {A : Type 0} → (A → ℤ) → Option A → A → Option A
+lower amount found x = if is_lower amount found x then Some x else found
+
+-- of what one peer scores another
+abbrev pub lower_opinion : Opinion → Option Lowest → Option Lowest
+lower_opinion o found = lower (λ (x : Lowest). x.score) found (lowest_in o)
+
+-- of a round
+abbrev pub lower_score : ℤ → Option ℤ → Option ℤ
+lower_score score found = lower (λ z. z) found score
+
+-- ---- tables
+
+abbrev pub lowered_between : Opinion → List (List (Option Lowest)) → List (List (Option Lowest))
+lowered_between o rows = changed_at (λ row. changed_at (lower_opinion o) row o.of.0) rows o.by.0
+
+abbrev pub lowered_in_round : ℕ → ℤ → List (Option ℤ) → List (Option ℤ)
+lowered_in_round round score cells = changed_at (lower_score score) cells round
+
+-- a peer is one of the members: what the flag of its number says, and what the group says of a number that has none
+abbrev pub is_member : Members → PeerNo → Bool
+is_member members q = elim (slice_get members.flags q.0) [ None ↦ is_chosen members.group.now q | Some flag ↦ flag ]
+
+-- the flags of a group
+abbrev pub member_flags : Chosen → ℕ → List Bool
+member_flags group count = by_number (λ n. is_chosen group (peer_no n)) count
+
+-- the rounds of a group with one opinion more
+abbrev pub lowered_group : ℕ → Opinion → GroupRounds → GroupRounds
+lowered_group round o x =
+    if is_member x.members o.of then record x { rounds = lowered_in_round round o.score x.rounds } else x
+
+-- rows in which there is nothing
+abbrev pub empty_rows : ℕ → List (List (Option Lowest))
+empty_rows count = by_number (λ n. by_number (λ m. None) count) count
+
+-- ---- what they show
+
+abbrev pub between_numbers : List Opinion → ℕ → ℕ → Option Lowest
+between_numbers os n m = lowest_between os (peer_no n) (peer_no m)
+
+abbrev pub pair_cells : Plan → List Opinion → List (List (Option Lowest))
+pair_cells plan os = by_number (λ n. by_number (between_numbers os n) (length plan.peers)) (length plan.peers)
+
+abbrev pub round_cells : Plan → List Opinion → List (Option ℤ)
+round_cells plan os = by_number (lowest_in_round plan os) (plan.rounds + 1)
+
+-- The rounds of a group show these opinions.
+pub record ShowsGroup (plan : Plan) (os : List Opinion) (group : Chosen) (x : GroupRounds) : Type 0 where
+  pub members : (q : PeerNo) → is_member x.members q ≡ is_chosen group q
+  pub rounds : x.rounds ≡ round_cells plan (filter (is_about group) os)
+
+-- The tables show these opinions.
+pub record Shows (plan : Plan) (chosen : List Chosen) (tables : Tables) (os : List Opinion) : Type 0 where
+  pub pairs : tables.pairs.items ≡ pair_cells plan os
+  pub rounds : tables.rounds ≡ round_cells plan os
+  pub groups : AllZip (ShowsGroup plan os) chosen tables.groups.items

@@ -1,0 +1,62 @@
+-- What peers score their neighbours, and when: at each heartbeat, decay and shutdown, after what the peer did then.
+use Rattle.std.specs.Prelude.{ℤ, Bool, true, false, if◌then◌else◌, List, [], ◌∷◌, ◌++◌, filter, map}
+use Rattle.std.specs.List.{flat_map}
+use Rattle.gs_base.specs.declared.names.Millis.{Millis}
+use Rattle.gs_base.specs.declared.names.PeerNo.{PeerNo}
+use Rattle.gs_plan.specs.declared.plan.Plan.{Plan}
+use Rattle.gs_rules.specs.declared.event.Event.{Event}
+use Rattle.gs_rules.specs.declared.event.Event.TheVariants.{Heard, Late, BeatBegin, Decay, RoundEnd, Shut, Part, Step, Own, Lost}
+use Rattle.gs_rules.specs.declared.trace.Entry.{Entry}
+use Rattle.gs_rules.specs.Scoring.{score}
+use Rattle.gs_rules.specs.Tables.{Entries}
+use Rattle.gs_report.specs.declared.finished.Finished.{Finished}
+use Rattle.gs_report.specs.declared.report.Report.{Report}
+use Rattle.gs_reach.specs.declared.chosen.Chosen.{Chosen}
+use Rattle.gs_reach.specs.Chosen.{is_chosen}
+use Rattle.gs_seats.specs.Rounds.{neighbours, peer_in}
+use Rattle.gs_opinions.specs.declared.opinion.Opinion.{Opinion}
+
+-- scores are looked at after such an event
+abbrev pub is_looked_at : Event → Bool
+is_looked_at BeatBegin = true
+is_looked_at Decay = true
+is_looked_at Shut = true
+is_looked_at (Heard q rpc) = false
+is_looked_at (Late q rpc) = false
+is_looked_at (Part q part) = false
+is_looked_at (Step step) = false
+is_looked_at (Own act) = false
+is_looked_at (Lost q loss) = false
+is_looked_at (RoundEnd r) = false
+
+-- what a peer scores a neighbour after a trace, the newest entry first
+abbrev pub opinion_of : Plan → PeerNo → Entries → Millis → PeerNo → Opinion
+opinion_of plan p L at q = record { by = p; of = q; score = score (peer_in plan p) L at.0 q; at = at }
+
+-- each neighbour, ascending
+abbrev pub opinions_at : Plan → PeerNo → Entries → Millis → List Opinion
+opinions_at plan p L at = map (opinion_of plan p L at) (neighbours plan p)
+
+-- at an entry after a trace
+abbrev pub entry_opinions : Plan → PeerNo → Entry → Entries → List Opinion
+entry_opinions plan p e L = if is_looked_at e.event then opinions_at plan p (e ∷ L) e.at else []
+
+-- in a trace of a peer, the oldest entry first
+abbrev pub trace_opinions : Plan → PeerNo → Entries → List Opinion
+trace_opinions plan p [] = []
+trace_opinions plan p (e ∷ L) = trace_opinions plan p L ++ entry_opinions plan p e L
+
+abbrev pub peer_opinions : Plan → PeerNo × Finished → List Opinion
+peer_opinions plan x = trace_opinions plan x.0 x.1.trace
+
+-- a peer is chosen
+abbrev pub is_of : Chosen → PeerNo × Finished → Bool
+is_of chosen x = is_chosen chosen x.0
+
+-- all opinions of those that are chosen, peer by peer
+abbrev pub opinions_by : Plan → Chosen → List (PeerNo × Finished) → List Opinion
+opinions_by plan by peers = flat_map (peer_opinions plan) (filter (is_of by) peers)
+
+-- in a run
+abbrev pub opinions : Plan → Report → Chosen → List Opinion
+opinions plan report by = opinions_by plan by report.peers.items

@@ -1,0 +1,69 @@
+//! What a peer scores a neighbour, and the lowest of that.
+ghost use Rattle.std.specs.Prelude.{◌≡◌};
+ghost use Rattle.gs_opinions.specs.Noting.{lower_opinion, lower_score};
+ghost use Rattle.gs_opinions.specs.Runs.{lowest_in};
+
+use gs_base::{Millis, PeerNo};
+
+/// What a peer scores a neighbour at a moment.
+#[derive(Clone, Copy, Debug, PartialEq, Eq)]
+pub struct Opinion {
+    /// Whose score it is.
+    pub by: PeerNo,
+    /// The neighbour.
+    pub of: PeerNo,
+    /// In millionths.
+    pub score: i128,
+    pub at: Millis,
+}
+
+/// The lowest score of some opinions.
+#[derive(Clone, Copy, Debug, PartialEq, Eq)]
+pub struct Lowest {
+    /// In millionths.
+    pub score: i128,
+    /// The first moment at which it was so low.
+    pub at: Millis,
+}
+
+impl Opinion {
+    /// Its score, and its moment.
+    fn lowest(self) -> Lowest
+        ensures { result ≡ lowest_in self }
+    {
+        Lowest {
+            score: self.score,
+            at: self.at,
+        }
+    }
+}
+
+/// The lowest so far, or else the next opinion, if that is lower.
+pub(crate) fn lower_opinion(found: Option<Lowest>, next: Opinion) -> Option<Lowest>
+    ensures { result ≡ lower_opinion next found }
+{
+    match found {
+        None => Some(next.lowest()),
+        Some(before) => {
+            if next.score < before.score {
+                return Some(next.lowest());
+            }
+            found
+        }
+    }
+}
+
+/// The lowest score so far, or else the next one, if that is lower.
+pub(crate) fn lower_score(found: Option<i128>, next: i128) -> Option<i128>
+    ensures { result ≡ lower_score next found }
+{
+    match found {
+        None => Some(next),
+        Some(before) => {
+            if next < before {
+                return Some(next);
+            }
+            found
+        }
+    }
+}

@@ -1,0 +1,212 @@
+//! The lowest opinions of a run.
+ghost use Rattle.std.specs.Prelude.{◌≡◌, ◌++◌, IfOk, length, List, map, OnOk};
+ghost use Rattle.std.specs.List.{AllByRecursion, flat_map, range_with_len};
+ghost use Rattle.gs_base.specs.declared.names.PeerNo.{PeerNo as PeerNoValue};
+ghost use Rattle.gs_plan.specs.Plans.{IsInRange};
+ghost use Rattle.gs_report.specs.declared.finished.Finished.{Finished as FinishedValue};
+ghost use Rattle.gs_router.specs.Following.{AreInOrder};
+ghost use Rattle.gs_reach.specs.declared.chosen.Chosen.{Chosen as ChosenValue};
+ghost use Rattle.gs_opinions.specs.declared.opinion.Opinion.{Opinion as OpinionValue};
+ghost use Rattle.gs_opinions.specs.declared.tables.Tables.{Tables as TablesValue};
+ghost use Rattle.gs_opinions.specs.Cells.{cell_at};
+ghost use Rattle.gs_opinions.specs.Listing.{all_rows, groups_at, pair_in, round_at, rows_by};
+ghost use Rattle.gs_opinions.specs.Noting.{Shows};
+ghost use Rattle.gs_opinions.specs.Opinions.{opinions_by};
+ghost use Rattle.gs_opinions.specs.Runs.{lowest_opinions, opinions_of};
+
+use crate::cells::Cells;
+use crate::opinion::Lowest;
+use crate::tables::{GroupRounds, Tables};
+use crate::traces::note_peer;
+use gs_base::{PeerNo, Seq};
+use gs_plan::Plan;
+use gs_reach::Chosen;
+use gs_report::{Finished, Report};
+use std::alloc::{AllocError, Global};
+
+/// The lowest that a peer scores a neighbour over a run.
+#[derive(Clone, Copy, Debug, PartialEq, Eq)]
+pub struct PairOpinion {
+    /// Whose score it is.
+    pub by: PeerNo,
+    /// The neighbour.
+    pub of: PeerNo,
+    pub lowest: Lowest,
+}
+
+/// The lowest scores of a round, in millionths.
+#[derive(Debug, Drop, PartialEq, Eq)]
+pub struct RoundOpinions {
+    /// Its number. The first round is 0.
+    pub round: u64,
+    /// The lowest of all, if there is any.
+    pub lowest: Option<i128>,
+    /// For each group the lowest that one of it is given, if there is any.
+    pub groups: Seq<Option<i128>>,
+}
+
+/// The lowest opinions of a run. Opinions are what peers score their neighbours at each heartbeat, decay and shutdown,
+/// after what they did then.
+#[derive(Debug, Drop, PartialEq, Eq)]
+pub struct Opinions {
+    /// A row for each two peers of which the one has an opinion of the other: by the number of the one, and then by that
+    /// of the other.
+    pub pairs: Seq<PairOpinion>,
+    /// A row for each round, the last one of the plan included. What lies after that is in none.
+    pub rounds: Seq<RoundOpinions>,
+}
+
+/// The lowest opinions of some peers in a run of a plan, and the lowest of each of these groups. In each trace no entry may
+/// be earlier than the one before it.
+///
+/// # Errors
+/// `AllocError` where there was no memory for them.
+pub fn opinions_of(
+    alloc: Global,
+    plan: &Plan,
+    report: &Report,
+    of: &Chosen,
+    groups: &[Chosen],
+) -> Result<Opinions, AllocError>
+    requires range { IsInRange plan.now }
+    requires order { AllByRecursion (λ (x : PeerNoValue × FinishedValue). AreInOrder x.1.trace) report.now.peers.items }
+    ensures { IfOk result (λ opinions. opinions ≡ opinions_of plan.now report.now of.now groups.now) }
+{
+    let mut tables = Tables::new(alloc, plan, groups)?;
+    note_peers(alloc, plan, &mut tables, of, &report.peers)?;
+    let opinions = rows_of(alloc, plan, &tables)?;
+    Ok(opinions)
+}
+
+/// Notes the opinions of those of these peers that are chosen.
+fn note_peers(
+    alloc: Global,
+    plan: &Plan,
+    tables: &mut Tables<'_>,
+    of: &Chosen,
+    peers: &[(PeerNo, Finished)],
+) -> Result<(), AllocError>
+    requires range { IsInRange plan.now }
+    requires order { AllByRecursion (λ (x : PeerNoValue × FinishedValue). AreInOrder x.1.trace) peers.now }
+    ensures { OnOk result ((groups : List ChosenValue) (os : List OpinionValue)
+        → Shows plan.now groups tables.old os
+        → Shows plan.now groups tables.new (os ++ opinions_by plan.now of.now peers.now)) }
+{
+    for peer in peers {
+        if of.contains(peer.0) {
+            note_peer(alloc, plan, tables, peer)?;
+        }
+    }
+    Ok(())
+}
+
+/// The rows of these tables.
+fn rows_of(alloc: Global, plan: &Plan, tables: &Tables<'_>) -> Result<Opinions, AllocError>
+    requires range { IsInRange plan.now }
+    requires shown { (groups : List ChosenValue) × (os : List OpinionValue) × Shows plan.now groups tables.now os }
+    ensures { IfOk result (λ opinions. (groups : List ChosenValue) (os : List OpinionValue)
+        → Shows plan.now groups tables.now os
+        → opinions ≡ lowest_opinions plan.now groups os) }
+{
+    let pairs = pair_rows(alloc, plan.peers.len() as u16, &tables.pairs)?;
+    let rounds = round_rows(alloc, plan.rounds + 1, tables)?;
+    Ok(Opinions { pairs, rounds })
+}
+
+fn pair_rows(
+    alloc: Global,
+    count: u16,
+    rows: &[Cells<Option<Lowest>>],
+) -> Result<Seq<PairOpinion>, AllocError>
+    requires { length rows.now ≡ count }
+    ensures { IfOk result (λ pairs. pairs ≡ all_rows count rows.now) }
+{
+    let mut pairs = Seq::new(alloc);
+    for number in 0..count {
+        list_pairs(
+            &mut pairs,
+            count,
+            PeerNo(number),
+            &rows[usize::from(number)],
+        )?;
+    }
+    Ok(pairs)
+}
+
+/// Lists the row of each number of which a peer has an opinion.
+fn list_pairs(
+    pairs: &mut Seq<PairOpinion>,
+    count: u16,
+    by: PeerNo,
+    row: &Cells<Option<Lowest>>,
+) -> Result<(), AllocError>
+    ensures { OnOk result (pairs.new ≡ pairs.old ++ rows_by by row.now count) }
+{
+    for number in 0..count {
+        list_pair(pairs, by, PeerNo(number), row)?;
+    }
+    Ok(())
+}
+
+fn list_pair(
+    pairs: &mut Seq<PairOpinion>,
+    by: PeerNo,
+    of: PeerNo,
+    row: &Cells<Option<Lowest>>,
+) -> Result<(), AllocError>
+    ensures { OnOk result (pairs.new ≡ pairs.old ++ pair_in by row.now of) }
+{
+    match row.get(usize::from(of.0)) {
+        Some(Some(lowest)) => pairs.push(PairOpinion { by, of, lowest }),
+        _ => Ok(()),
+    }
+}
+
+fn round_rows(
+    alloc: Global,
+    count: u64,
+    tables: &Tables<'_>,
+) -> Result<Seq<RoundOpinions>, AllocError>
+    ensures { IfOk result (λ rounds. rounds ≡ map (round_at tables.now) (range_with_len 0 count)) }
+{
+    let mut rounds = Seq::new(alloc);
+    for round in 0..count {
+        rounds.push(round_row(alloc, round, tables)?)?;
+    }
+    Ok(rounds)
+}
+
+fn round_row(alloc: Global, round: u64, tables: &Tables<'_>) -> Result<RoundOpinions, AllocError>
+    ensures { IfOk result (λ row. row ≡ round_at tables.now round) }
+{
+    let groups = groups_at(alloc, round as usize, &tables.groups)?;
+    Ok(RoundOpinions {
+        round,
+        lowest: score_at(&tables.rounds, round as usize),
+        groups,
+    })
+}
+
+/// The lowest score of each group in a round.
+fn groups_at(
+    alloc: Global,
+    round: usize,
+    groups: &[GroupRounds<'_>],
+) -> Result<Seq<Option<i128>>, AllocError>
+    ensures { IfOk result (λ scores. scores ≡ groups_at round groups.now) }
+{
+    let mut scores = Seq::new(alloc);
+    for group in groups {
+        scores.push(score_at(&group.rounds, round))?;
+    }
+    Ok(scores)
+}
+
+fn score_at(cells: &Cells<Option<i128>>, round: usize) -> Option<i128>
+    ensures { result ≡ cell_at cells.now round }
+{
+    match cells.get(round) {
+        Some(score) => score,
+        None => None,
+    }
+}

@@ -1,0 +1,7 @@
+mod cases;
+mod groups;
+mod made;
+mod moments;
+mod order;
+mod pairs;
+mod told;
