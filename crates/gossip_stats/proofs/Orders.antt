@@ -6,7 +6,7 @@ use Rattle.gs_rules.specs.Rules.{same_bytes}
 use Rattle.gs_figure_sheets.specs.Parties.{GroupWish}
 use Rattle.gossip_stats.specs.declared.arguments.Form.{Form}
 use Rattle.gs_figure_sheets.specs.declared.wanted.Subject.{Subject}
-use Rattle.gossip_stats.specs.Arguments.{Wishes, asked_from, beside, form_in, group_in, is_group_option, is_taken, is_word, once, option_words, subject_in, with_among, with_by, with_form, with_group, with_option, with_subject, with_word}
+use Rattle.gossip_stats.specs.Arguments.{Wishes, asked_from, beside, form_in, group_in, is_group_option, is_taken, is_word, once, option_words, subject_in, with_among, with_by, with_group, with_option, with_word}
 
 -- ---- one option after the other
 
