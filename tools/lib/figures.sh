@@ -14,48 +14,56 @@ stats_of_input() {
   stats "$@" <"$example"
 }
 
-# Prints the sums over rounds of what a run's figures have sums of, too, and then those.
+# Prints what is counted in one row for all peers, and otherwise in all rows of each round, and of each link.
 sums_of() {
-  stats --csv "$1" >"$room/figures.csv" && stats --csv --rounds "$1" >"$room/rounds.csv" || return
-  python3 - "$room/figures.csv" "$room/rounds.csv" <<'END'
+  stats --csv "$1" >"$room/figures.csv" && stats --csv --rounds "$1" >"$room/rounds.csv" \
+    && stats --csv --links "$1" >"$room/links.csv" || return
+  python3 - "$room/figures.csv" "$room/rounds.csv" "$room/links.csv" <<'END'
 import csv, sys
-names = "messages_heard", "new", "duplicates", "bytes_sent"
-with open(sys.argv[1], newline="") as file:
-    tables = file.read().split("\n\n")
-run = [row for row in csv.DictReader(tables[1].splitlines()) if row["peer"] == "(all)"]
-with open(sys.argv[2], newline="") as file:
-    rounds = list(csv.DictReader(file))
-print(*(sum(int(row[name]) for row in rounds) for name in names))
-print(*(run[0][name] for name in names))
+labels = "peer", "round", "from", "to", "smallest_mesh", "largest_mesh", "lowest_score"
+def rows_in(path, first):
+    with open(path, newline="") as file:
+        table, = (it for it in file.read().split("\n\n") if it.startswith(first + ","))
+    return list(csv.DictReader(table.splitlines()))
+run, = (row for row in rows_in(sys.argv[1], "peer") if row["peer"] == "(all)")
+for path, first in (sys.argv[2], "round"), (sys.argv[3], "from"):
+    rows = rows_in(path, first)
+    names = [it for it in rows[0] if it in run and it not in labels]
+    if len(names) < 40:
+        print("only", len(names), "columns by", first)
+    for it in names:
+        if sum(int(row[it]) for row in rows) != int(run[it]):
+            print(it, "by", first)
 END
-}
-
-# Prints these where they are not the same.
-have_same_sums() {
-  sums_of "$1" >"$room/sums" || return
-  [ "$(uniq "$room/sums" | wc -l)" -eq 1 ] || cat "$room/sums"
 }
 
 # How their options and FILE are read. What they print of a scenario is compared with what the tests of their crates compare
 # it with.
 check_figures() {
-  local figures picture file more='--help says more'
+  local figures picture file usage more='--help says more'
   figures=$(cat "$top/crates/gossip_stats/stdout")
   picture=$(cat "$top/crates/gossip_picture/stdout")
   expect 'figures of a file' 0 "$figures" '' stats "$example"
   expect 'figures of standard input' 0 "$figures" '' stats_of_input
   expect 'figures of a changed scenario' 0 "$figures" '' stats --workers 1 --set rounds=10 "$example"
   expect_like 'figures as CSV' 0 '*,*,*' '' stats --csv "$example"
-  expect_like 'figures of rounds as JSON' 0 '[[]*"round":10,*]' '' stats --json --rounds "$example"
+  expect_like 'figures of rounds as JSON' 0 '{*"rounds":[[]*"round":10,*' '' stats --json --rounds "$example"
+  expect_like 'figures of topics' 0 '*news *' '' stats --topics "$example"
+  expect_like 'figures of links as CSV' 0 'from,to,*"a","b",*"b","a",*' '' stats --csv --links "$example"
+  expect_like 'figures of groups' 0 '*(first)*(rest)*(all)*first *rest *' '' \
+    stats --group first=a --group='rest=*' "$example"
+  expect_like 'figures by and of some' 0 '*"publisher":"a",*"peer":"b",*' '' stats --by a --of=b --json "$example"
   for file in "$top"/examples/book/*.toml; do
-    expect "the sums over rounds of $(basename "$file" .toml)" 0 '' '' have_same_sums "$file"
+    expect "the sums over rounds and links of $(basename "$file" .toml)" 0 '' '' sums_of "$file"
   done
   expect 'figures of nothing' 1 '' 'scenario refused: 28 round_ms' stats /dev/null
-  expect 'two forms of figures' 64 '' 'usage: gossip_stats [--csv | --json] [--rounds]' stats --csv --json "$example"
+  usage='usage: gossip_stats [--by PEERS] [--of PEERS] [--group NAME=PEERS].. [--rounds | --topics | --links] [--csv | --json]'
+  expect 'two forms of figures' 64 '' "$usage" stats --csv --json "$example"
+  expect 'arguments of the program that figures are of' 64 '' "$usage" "$top/crates/gossip_stats/out/gossip_stats" --group a
   expect 'figures of no such file' 66 '' "gossip_stats: there is no file $room/none" stats "$room/none"
   expect 'an option that figures do not have' 64 '' \
     'gossip_stats: there is no option --check; --help says which there are' stats --check "$example"
-  expect_like 'help on figures' 0 'Runs *--rounds*Status*' '' stats --help
+  expect_like 'help on figures' 0 'Runs *--group*--rounds*Status*' '' stats --help
   expect 'a picture of a file' 0 "$picture" '' draw "$example"
   expect 'a picture of a topic' 0 "$picture" '' draw --topic news "$example"
   expect 'a picture of the same topic' 0 "$picture" '' draw --topic=news --seed 2 "$example"

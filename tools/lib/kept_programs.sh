@@ -46,9 +46,24 @@ said_of_compiling() {
   tried "$2" 2>&1 >/dev/null | grep -v 'proved program\|told by'
 }
 
+# A name of many digits.
+digits_of() {
+  printf "%0$1d" 0
+}
+
+# Figures of many groups.
+in_groups() {
+  local it groups=()
+  for ((it = 0; it < $1; it++)); do
+    groups+=(--group "g$it=*")
+  done
+  in_tree tried=0 gossip_stats "${groups[@]}" "$example"
+}
+
 # A program is compiled for its sources, once.
 check_kept() {
-  local base='$room/tree/crates/gs_base' said='gossip_sim: compiling gossip_sim without proof'
+  local base='$room/tree/crates/gs_base' said='gossip_sim: compiling gossip_sim without proof' usage
+  usage='usage: gossip_stats [--by PEERS] [--of PEERS] [--group NAME=PEERS].. [--rounds | --topics | --links] [--csv | --json]'
   expect 'a second run of the same' 0 '' '' compiled_after :
   expect 'a run after a touch' 0 '' '' compiled_after "touch $base/src/lib.rt"
   expect 'a run after a change of tests' 0 '' '' compiled_after "echo '// a' >>$base/src/tests.rt"
@@ -67,10 +82,16 @@ cannot find value
 gossip_sim: gossip_sim could not be compiled, as the lines above say" '' \
     said_of_compiling "echo '// c' >>$base/src/lib.rt; echo 71 >\$room/tree/out/unproved/gossip_sim.seconds" none
   : >"$room/compiled"
-  expect 'two layouts, before anything is compiled' 64 '' 'usage: gossip_stats [--csv | --json] [--rounds]' \
-    in_tree tried=0 gossip_stats --csv --json "$example"
-  expect 'an option twice' 64 '' 'usage: gossip_stats [--csv | --json] [--rounds]' \
-    in_tree tried=0 gossip_stats --rounds --csv --rounds "$example"
+  expect 'two layouts, before anything is compiled' 64 '' "$usage" in_tree tried=0 gossip_stats --csv --json "$example"
+  expect 'an option twice' 64 '' "$usage" in_tree tried=0 gossip_stats --rounds --csv --rounds "$example"
+  expect 'two subjects' 64 '' "$usage" in_tree tried=0 gossip_stats --topics --links "$example"
+  expect 'peers twice' 64 '' "$usage" in_tree tried=0 gossip_stats --of b --csv --of=b "$example"
+  expect 'a group without its peers' 64 '' "$usage" in_tree tried=0 gossip_stats --group honest "$example"
+  expect 'a group without a name' 64 '' "$usage" in_tree tried=0 gossip_stats --group '=b' "$example"
+  expect 'a group with a name that can not be' 64 '' "$usage" in_tree tried=0 gossip_stats --group='a b=b' "$example"
+  expect 'a group with a long name' 64 '' "$usage" in_tree tried=0 gossip_stats --group="$(digits_of 33)=b" "$example"
+  expect 'two groups of a name' 64 '' "$usage" in_tree tried=0 gossip_stats --group a=b --group=a=c "$example"
+  expect '17 groups' 64 '' "$usage" in_groups 17
   expect 'a wrong option, before anything is compiled' 64 '' 'gossip_sim: there is no option --csv; --help says which there are' \
     in_tree tried=0 gossip_sim --csv "$example"
   expect 'that nothing was compiled' 0 '' '' compiled

@@ -48,7 +48,7 @@ make_tree() {
   local crate
   mkdir -p "$room/fake/bin" "$room/temporary" "$room/tree/crates/gs_base/mutants"
   cp -r "$top/bin" "$top/tools" "$room/tree"
-  for crate in gossip_sim gossip_check gossip_edit gossip_stats gossip_reach gossip_picture gossip_trace gossip_scores gs_base; do
+  for crate in gossip_sim gossip_check gossip_edit gossip_stats gossip_picture gossip_trace gossip_scores gs_base; do
     mkdir -p "$room/tree/crates/$crate/src"
     touch "$room/tree/crates/$crate/src"/{tests,"$([ "$crate" = gs_base ] && echo lib || echo main)"}.rt
     echo text >"$room/tree/crates/$crate/stdout"
@@ -85,10 +85,6 @@ tried_trace() {
 
 tried_scores() {
   echo scenario | in_tree tried=0 gossip_scores "$@"
-}
-
-tried_reach() {
-  echo scenario | in_tree tried=0 gossip_reach "$@"
 }
 
 tried_to_closed_output() {
@@ -177,15 +173,13 @@ check_unproved() {
   expect 'scores of rounds that are none' 64 '' "$usage" tried_scores --rounds 3..2
   expect 'scores in no format' 64 '' "$usage" tried_scores --format xml
   expect 'scores of no neighbour' 64 '' 'gossip_scores: --neighbour takes a value; --help says more' tried_scores --neighbour
-  expect_like 'reach without proof' 0 'gossip_reach  scenario' \
-    'gossip_reach: this set of figures does not come from a proved program: gossip_reach is not built*told by gossip_reach' \
-    tried_reach
-  expect_like 'reach among some' 0 'gossip_reach --by h* --of h1,x --format csv scenario' '*' \
-    tried_reach --by 'h*' --of=h1,x --format csv
-  usage='usage: gossip_reach [--by PEERS] [--of PEERS] [--format table|csv|json]'
-  expect 'reach by two' 64 '' "$usage" tried_reach --by b --by c
-  expect 'reach in no format' 64 '' "$usage" tried_reach --format xml
-  expect 'reach of nobody' 64 '' 'gossip_reach: --of takes a value; --help says more' tried_reach --of
+  expect_like 'figures among some' 0 'gossip_stats --by h* --of h1,x --json scenario' '*' \
+    tried_figures --by 'h*' --of=h1,x --json
+  expect_like 'figures of groups' 0 'gossip_stats --group honest=h* --group x=x=y --links scenario' '*' \
+    tried_figures --group 'honest=h*' --group=x=x=y --links
+  expect_like 'figures of nobody' 0 'gossip_stats --by  --group none= scenario' '*' tried_figures --by '' --group none=
+  expect 'figures of no value' 64 '' 'gossip_stats: --of takes a value; --help says more' tried_figures --of
+  expect 'figures of no group' 64 '' 'gossip_stats: --group takes a value; --help says more' tried_figures --csv --group
   expect_like 'a picture without proof' 0 'gossip_picture news scenario' \
     'gossip_picture: this picture does not come from a proved program: gossip_picture is not built*told by gossip_picture' \
     tried_picture --topic news
@@ -219,7 +213,7 @@ scenario: $room/misspelt was not read to its end, so there may be more faults" i
 
 # bin/build --unproved, twice.
 check_compiled() {
-  local said='build: compiled without proof, or proved before:' all='gossip_sim gossip_check gossip_edit gossip_stats gossip_reach gossip_picture gossip_trace gossip_scores'
+  local said='build: compiled without proof, or proved before:' all='gossip_sim gossip_check gossip_edit gossip_stats gossip_picture gossip_trace gossip_scores'
   rm -rf "$room/tree/out/unproved"
   expect 'a build without proof' 0 '' \
     "build: compiling ${all// / and } without proof, which takes about a minute"$'\n'"$said $all" in_tree tried=0 build --unproved
@@ -242,7 +236,7 @@ check_build() {
   expect 'a program that is not there' 64 '' 'build: there is no program gs_base in crates.txt' in_tree unproved= build gs_base
   expect_like 'a proof that fails' 4 '' '*proving gs_base*gs_base is not proved*the log is crates/gs_base/out/build.log' \
     in_tree unproved=gs_base build
-  expect_like 'a build' 0 '' '*proved and built: gossip_sim gossip_check gossip_edit gossip_stats gossip_reach gossip_picture gossip_trace gossip_scores' in_tree unproved= build
+  expect_like 'a build' 0 '' '*proved and built: gossip_sim gossip_check gossip_edit gossip_stats gossip_picture gossip_trace gossip_scores' in_tree unproved= build
   expect 'a build where all stands' 0 '' 'build: proved and built: gossip_sim' in_tree unproved=gs_base build gossip_sim
   touch "$place/gs_base/src/tests.rt"
   expect 'a run of what was built' 0 'proved: scenario' '' tried none

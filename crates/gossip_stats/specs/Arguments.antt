@@ -1,53 +1,168 @@
 -- What the program's arguments ask for.
-use Rattle.std.specs.Prelude.{ℕ, Bool, false, true, List, [], ◌∷◌, codes, Option, Some, None, if◌then◌else◌}
+use Rattle.std.specs.Prelude.{ℕ, Bool, not, ◌==◌, ◌&&◌, ◌||◌, nat_le, nat_lt, List, [], ◌∷◌, ◌++◌, codes, length, map, Option, Some, None, is_some, if◌then◌else◌}
+use Rattle.std.specs.Char.{is_ascii_alphanumeric}
+use Rattle.std.specs.List.{list_all, list_any, before_first, after_first, position_or_len}
 use Rattle.gs_rules.specs.Rules.{same_bytes}
+use Rattle.gs_figure_sheets.specs.Choices.{spelled}
+use Rattle.gs_figure_sheets.specs.Parties.{GroupWish}
+use Rattle.gs_figure_sheets.specs.declared.wanted.Subject.{Subject}
+use Rattle.gs_figure_sheets.specs.declared.wanted.Subject.TheVariants as subject
 use Rattle.gossip_stats.specs.declared.arguments.Asked.{Asked}
-use Rattle.gossip_stats.specs.declared.arguments.Layout.{Layout}
-use Rattle.gossip_stats.specs.declared.arguments.Layout.TheVariants.{Table, Csv, Json}
-use Rattle.gossip_stats.specs.declared.arguments.Word.{Word}
-use Rattle.gossip_stats.specs.declared.arguments.Word.TheVariants.{In, Rounds}
+use Rattle.gossip_stats.specs.declared.arguments.Form.{Form}
+use Rattle.gossip_stats.specs.declared.arguments.Form.TheVariants as form
+use Rattle.gossip_stats.specs.declared.arguments.Named.{Named}
 
--- the word that an argument is
-abbrev pub word_named : List ℕ → Option Word
-word_named name =
-    if same_bytes name (codes "--csv") then Some (In Csv)
-    else if same_bytes name (codes "--json") then Some (In Json)
-    else if same_bytes name (codes "--rounds") then Some Rounds
+-- What is wished for. Where a part is None, there is no such wish.
+pub record Wishes : Type 0 where
+  -- messages that the peers of these names published first
+  pub by : Option (List ℕ)
+  -- what the traces of peers of these names say
+  pub among : Option (List ℕ)
+  -- in the order in which they were given
+  pub groups : List GroupWish
+  pub subject : Option Subject
+  pub form : Option Form
+
+abbrev pub group_of : Named → GroupWish
+group_of g = record { name = g.name.now; peers = g.peers.now }
+
+abbrev pub wishes_of : Asked → Wishes
+wishes_of a = record {
+  by = spelled a.by;
+  among = spelled a.among;
+  groups = map group_of a.groups.items;
+  subject = a.subject;
+  form = a.form;
+}
+
+abbrev pub no_wish : Wishes
+no_wish = record { by = None; among = None; groups = []; subject = None; form = None }
+
+-- one wish more, where there was none of its kind
+abbrev pub once : {A : Type 0} → Option A → Wishes → Option Wishes
+once None wishes = Some wishes
+once (Some before) wishes = None
+
+-- ---- options with a value
+
+abbrev pub with_by : Wishes → List ℕ → Option Wishes
+with_by w peers =
+    once w.by (record { by = Some peers; among = w.among; groups = w.groups; subject = w.subject; form = w.form })
+
+abbrev pub with_among : Wishes → List ℕ → Option Wishes
+with_among w peers =
+    once w.among (record { by = w.by; among = Some peers; groups = w.groups; subject = w.subject; form = w.form })
+
+-- a byte that may stand in a group's name
+abbrev pub is_name_byte : ℕ → Bool
+is_name_byte byte = (is_ascii_alphanumeric byte || byte == 95) || byte == 45
+
+abbrev pub are_name_bytes : List ℕ → Bool
+are_name_bytes name = list_all is_name_byte name
+
+-- a name has 1 to 32 of them
+abbrev pub is_group_name : List ℕ → Bool
+is_group_name name = (not (length name == 0) && nat_le (length name) 32) && are_name_bytes name
+
+-- the byte of `=`
+abbrev pub is_equals_sign : ℕ → Bool
+is_equals_sign byte = byte == 61
+
+-- the group that `NAME=PEERS` names: none without an equals sign, or with another name
+abbrev pub group_in : List ℕ → Option GroupWish
+group_in text =
+    if nat_lt (position_or_len is_equals_sign text) (length text) && is_group_name (before_first is_equals_sign text)
+    then Some (record { name = before_first is_equals_sign text; peers = after_first is_equals_sign text })
     else None
 
-abbrev pub asking : Layout → Bool → Option Asked
-asking layout rounds = Some (record { layout = layout; rounds = rounds })
+abbrev pub is_taken : List GroupWish → List ℕ → Bool
+is_taken groups name = list_any (λ g. same_bytes g.name name) groups
 
--- what one word asks for
-abbrev pub of_one : Option Word → Option Asked
-of_one None = None
-of_one (Some Rounds) = asking Table true
-of_one (Some (In layout)) = asking layout false
+-- a group more, where fewer than 16 stand there, and none has its name
+abbrev pub adding : Wishes → GroupWish → Option Wishes
+adding w g =
+    if length w.groups == 16 || is_taken w.groups g.name then None
+    else Some (record {
+      by = w.by;
+      among = w.among;
+      groups = w.groups ++ g ∷ [];
+      subject = w.subject;
+      form = w.form;
+    })
 
--- what a word asks for beside a layout, and beside that for rounds: no word twice, and no two layouts
-abbrev pub beside_layout : Layout → Option Word → Option Asked
-beside_layout layout None = None
-beside_layout layout (Some Rounds) = asking layout true
-beside_layout layout (Some (In other)) = None
+abbrev pub with_group : Wishes → Option GroupWish → Option Wishes
+with_group w None = None
+with_group w (Some g) = adding w g
 
-abbrev pub beside_rounds : Option Word → Option Asked
-beside_rounds None = None
-beside_rounds (Some Rounds) = None
-beside_rounds (Some (In layout)) = asking layout true
+-- what an option with a value asks for beside others: none where there is no such option, or it can't come after them
+abbrev pub with_option : Wishes → List ℕ → List ℕ → Option Wishes
+with_option w name value =
+    if same_bytes name (codes "--by") then with_by w value
+    else if same_bytes name (codes "--of") then with_among w value
+    else if same_bytes name (codes "--group") then with_group w (group_in value)
+    else None
 
--- what two words ask for, in any order
-abbrev pub of_two : Option Word → Option Word → Option Asked
-of_two None second = None
-of_two (Some Rounds) second = beside_rounds second
-of_two (Some (In layout)) second = beside_layout layout second
+-- ---- options without a value
 
--- what the arguments ask for: a table where they are none
-abbrev pub asked_for : List (List ℕ) → Option Asked
-asked_for [] = asking Table false
-asked_for (name ∷ []) = of_one (word_named name)
-asked_for (name ∷ other ∷ []) = of_two (word_named name) (word_named other)
-asked_for (name ∷ other ∷ third ∷ more) = None
+-- the form of a word
+abbrev pub form_in : List ℕ → Option Form
+form_in word =
+    if same_bytes word (codes "--csv") then Some form.Csv
+    else if same_bytes word (codes "--json") then Some form.Json
+    else None
+
+-- the subject of a word
+abbrev pub subject_in : List ℕ → Option Subject
+subject_in word =
+    if same_bytes word (codes "--rounds") then Some subject.Rounds
+    else if same_bytes word (codes "--topics") then Some subject.Topics
+    else if same_bytes word (codes "--links") then Some subject.Links
+    else None
+
+abbrev pub is_word : List ℕ → Bool
+is_word name = is_some (form_in name) || is_some (subject_in name)
+
+abbrev pub with_form : Wishes → Form → Option Wishes
+with_form w f =
+    once w.form (record { by = w.by; among = w.among; groups = w.groups; subject = w.subject; form = Some f })
+
+abbrev pub with_subject : Wishes → Subject → Option Wishes
+with_subject w s =
+    once w.subject (record { by = w.by; among = w.among; groups = w.groups; subject = Some s; form = w.form })
+
+-- a form or a subject, where there was none of its kind
+abbrev pub beside : Wishes → Option Form → Option Subject → Option Wishes
+beside w (Some f) s = with_form w f
+beside w None (Some s) = with_subject w s
+beside w None None = None
+
+abbrev pub with_word : Wishes → List ℕ → Option Wishes
+with_word w name = beside w (form_in name) (subject_in name)
+
+-- ---- all of them
+
+-- what options ask for beside others
+abbrev pub asked_from : Option Wishes → List (List ℕ) → Option Wishes
+asked_from None arguments = None
+asked_from (Some w) [] = Some w
+asked_from (Some w) (name ∷ []) = with_word w name
+asked_from (Some w) (name ∷ value ∷ more) =
+    if is_word name then asked_from (with_word w name) (value ∷ more) else asked_from (with_option w name value) more
+
+-- what the arguments ask for: all of a run, as tables, where there are none
+abbrev pub asked_for : List (List ℕ) → Option Wishes
+asked_for arguments = asked_from (Some no_wish) arguments
+
+-- ---- options in any order
+
+-- the arguments of an option with this name: only the name, or a value after it
+abbrev pub option_words : List ℕ → List ℕ → List (List ℕ)
+option_words name value = if is_word name then name ∷ [] else name ∷ value ∷ []
+
+abbrev pub is_group_option : List ℕ → Bool
+is_group_option name = same_bytes name (codes "--group")
 
 -- what is said where they ask for nothing that there is
 unfoldable pub usage : List ℕ
-usage = codes "usage: gossip_stats [--csv | --json] [--rounds]\n"
+usage = codes
+    "usage: gossip_stats [--by PEERS] [--of PEERS] [--group NAME=PEERS].. [--rounds | --topics | --links] [--csv | --json]\n"

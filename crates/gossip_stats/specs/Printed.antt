@@ -1,44 +1,53 @@
 -- What the program prints of a run, and how it ends.
-use Rattle.std.specs.Prelude.{ℕ, false, if◌then◌else◌, List, Option, Some, None}
+use Rattle.std.specs.Prelude.{ℕ, false, List, Option, Some, None}
 use Rattle.gs_plan.specs.declared.plan.Plan.{Plan}
 use Rattle.gs_report.specs.declared.report.Report.{Report}
-use Rattle.gs_figures.specs.declared.figures.Figures.{Figures}
-use Rattle.gs_figures.specs.declared.rounds.RoundFigures.{RoundFigures}
-use Rattle.gs_figures.specs.declared.text.Form.TheVariants as forms
-use Rattle.gs_figures.specs.Figures.{figures}
-use Rattle.gs_figures.specs.People.{figures_table}
-use Rattle.gs_figures.specs.Rounds.{all_rounds}
-use Rattle.gs_figures.specs.RoundTables.{rounds_table}
-use Rattle.gs_figures.specs.RoundTexts.{rounds_text}
-use Rattle.gs_figures.specs.Texts.{figures_csv, figures_json}
 use Rattle.gs_program.specs.Arguments.{IsMisused}
 use Rattle.gs_program.specs.Program.{EndsWith}
-use Rattle.gossip_stats.specs.declared.arguments.Asked.{Asked}
-use Rattle.gossip_stats.specs.declared.arguments.Layout.{Layout}
-use Rattle.gossip_stats.specs.declared.arguments.Layout.TheVariants.{Table, Csv, Json}
-use Rattle.gossip_stats.specs.Arguments.{usage}
+use Rattle.gs_sheets.specs.declared.sheet.Sheet.{Sheet}
+use Rattle.gs_sheets.specs.Sheets.{sheets_csv, sheets_json, sheets_table}
+use Rattle.gs_figure_sheets.specs.FigureSheets.{figure_sheets}
+use Rattle.gs_figure_sheets.specs.Wishes.{Wishes as SheetWishes}
+use Rattle.gs_figure_sheets.specs.declared.wanted.Layout.{Layout}
+use Rattle.gs_figure_sheets.specs.declared.wanted.Layout.TheVariants as layout
+use Rattle.gs_figure_sheets.specs.declared.wanted.Subject.{Subject}
+use Rattle.gs_figure_sheets.specs.declared.wanted.Subject.TheVariants as subject
+use Rattle.gossip_stats.specs.declared.arguments.Form.{Form}
+use Rattle.gossip_stats.specs.declared.arguments.Form.TheVariants as form
+use Rattle.gossip_stats.specs.Arguments.{Wishes, usage}
 
--- figures in a layout
-abbrev pub laid_out : Layout → Plan → Figures → List ℕ
-laid_out Table plan f = figures_table plan f
-laid_out Csv plan f = figures_csv plan f
-laid_out Json plan f = figures_json plan f
+-- the run as a whole where no other subject is wished for
+abbrev pub subject_or_run : Option Subject → Subject
+subject_or_run None = subject.Run
+subject_or_run (Some s) = s
 
--- figures by rounds in a layout
-abbrev pub rounds_laid_out : Layout → List RoundFigures → List ℕ
-rounds_laid_out Table rounds = rounds_table rounds
-rounds_laid_out Csv rounds = rounds_text forms.Csv rounds
-rounds_laid_out Json rounds = rounds_text forms.Json rounds
+-- tables are for a person, and other forms for programs
+abbrev pub layout_for : Option Form → Layout
+layout_for None = layout.Person
+layout_for (Some f) = layout.Data
 
--- what is printed of a run, as it is asked for
-abbrev pub printed : Asked → Plan → Report → List ℕ
-printed asked plan report =
-    if asked.rounds then rounds_laid_out asked.layout (all_rounds plan report)
-    else laid_out asked.layout plan (figures plan report)
+-- which sheets are wished for
+abbrev pub sheets_wished : Wishes → SheetWishes
+sheets_wished w = record {
+  by = w.by;
+  among = w.among;
+  groups = w.groups;
+  subject = subject_or_run w.subject;
+  layout = layout_for w.form;
+}
 
--- how the program ends by what is asked for
-abbrev pub EndsFor : Option Asked → (status : ℕ) (input input' output output' errors errors' : Option (List ℕ)) → Type 0
+-- sheets in a form: tables where none is wished for
+abbrev pub written : Option Form → List Sheet → List ℕ
+written None sheets = sheets_table sheets
+written (Some form.Csv) sheets = sheets_csv sheets
+written (Some form.Json) sheets = sheets_json sheets
+
+-- what is printed of a run, as it is wished for
+abbrev pub printed : Wishes → Plan → Report → List ℕ
+printed w plan report = written w.form (figure_sheets plan report (sheets_wished w))
+
+abbrev pub EndsFor : Option Wishes → (status : ℕ) (input input' output output' errors errors' : Option (List ℕ)) → Type 0
 EndsFor None status input input' output output' errors errors' =
     IsMisused usage status input input' output output' errors errors'
-EndsFor (Some asked) status input input' output output' errors errors' =
-    EndsWith (printed asked) false false status input input' output output' errors errors'
+EndsFor (Some wishes) status input input' output output' errors errors' =
+    EndsWith (printed wishes) false false status input input' output output' errors errors'

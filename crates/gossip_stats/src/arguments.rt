@@ -1,118 +1,288 @@
 //! What the program's arguments ask for.
-ghost use Rattle.std.specs.Prelude.{◌≡◌, ℕ, List, [], ◌∷◌, map, string_bytes};
+ghost use Rattle.std.specs.Prelude.{◌≡◌, ◌++◌, ◌&&◌, ℕ, [], false, List, Some, map, option_map, string_bytes};
 ghost use Rattle.std.specs.Process.{exit_status};
 ghost use Rattle.gs_program.specs.Arguments.{IsRefusedSo, wrong_arguments};
-ghost use Rattle.gossip_stats.specs.Arguments.{asked_for, asking, beside_layout, beside_rounds, of_one, of_two, usage, word_named};
+ghost use Rattle.gossip_stats.specs.Arguments.{Wishes, adding, are_name_bytes, asked_for, asked_from, form_in, group_in, group_of, is_group_name, is_group_option, is_name_byte, is_taken, is_word, no_wish, option_words, subject_in, usage, wishes_of, with_among, with_by, with_form, with_group, with_option, with_subject, with_word};
 
+use arrayvec::ArrayVec;
+use gs_figure_sheets::{Choice, Subject};
 use gs_program::refuse_arguments;
 use std::io::Write;
 use std::process::ExitCode;
 
 /// How the program is called.
-pub const USAGE: &str = "usage: gossip_stats [--csv | --json] [--rounds]\n";
+pub const USAGE: &str =
+    "usage: gossip_stats [--by PEERS] [--of PEERS] [--group NAME=PEERS].. [--rounds | --topics | --links] [--csv | --json]\n";
 
-/// How figures are laid out.
+/// How many groups there may be.
+pub const MOST_GROUPS: usize = 16;
+
+/// How figures are written, where they are no tables for a person.
 #[derive(Clone, Copy, Debug, PartialEq, Eq)]
-pub enum Layout {
-    /// Tables for a person.
-    Table,
+pub enum Form {
     Csv,
     Json,
 }
 
-/// What is printed of a run.
-#[derive(Clone, Copy, Debug, PartialEq, Eq)]
-pub struct Asked {
-    pub layout: Layout,
-    /// Whether it is figures by rounds.
-    pub rounds: bool,
+/// A group of peers that is asked for.
+#[derive(Clone, Copy, Debug, Default)]
+pub struct Named<'a> {
+    pub name: &'a str,
+    /// Which peers are in it, as a choice names them.
+    pub peers: &'a str,
 }
 
-/// A word that an argument may be.
-#[derive(Clone, Copy, Debug)]
-enum Word {
-    /// A layout other than the default one.
-    In(Layout),
-    Rounds,
+/// What is asked for of a run.
+#[derive(Drop)]
+pub struct Asked<'a> {
+    /// Messages that these peers published first.
+    pub by: Choice<'a>,
+    /// What the traces of these peers say.
+    pub among: Choice<'a>,
+    /// Groups of peers, in the order in which they were given.
+    pub groups: ArrayVec<Named<'a>, MOST_GROUPS>,
+    /// The run as a whole where nothing is said.
+    pub subject: Option<Subject>,
+    /// Tables for a person where nothing is said.
+    pub form: Option<Form>,
 }
 
-/// What the arguments ask for: tables where there are none. None where they ask for nothing that there is.
-pub fn asked_by(arguments: &[String]) -> Option<Asked>
-    ensures { result ≡ asked_for (map string_bytes arguments.now) }
+/// What the arguments ask for: all of a run, as tables, where there are none. None where they ask for nothing that there is.
+pub fn asked_by(arguments: &[String]) -> Option<Asked<'_>>
+    ensures { option_map wishes_of result ≡ asked_for (map string_bytes arguments.now) }
 {
-    match arguments {
-        [] => asking(Layout::Table, false),
-        [word] => of_one(word_named(word)),
-        [word, other] => of_two(word_named(word), word_named(other)),
-        [_, _, _, ..] => None,
-    }
+    asked_from(all_of_it(), arguments)
 }
 
-/// Two arguments ask for the same in any order.
-pub fn arguments_come_in_any_order()
-    ensures { (x y : List ℕ) → asked_for (x ∷ y ∷ []) ≡ asked_for (y ∷ x ∷ []) }
+/// Options ask for the same in any order, but for that of groups. The law is about its definitions only, and its function does
+/// nothing.
+pub fn options_come_in_any_order()
+    ensures { (w : Wishes) (n v m u : List ℕ) (more : List (List ℕ)) → (is_group_option n && is_group_option m) ≡ false
+        → asked_from (Some w) (option_words n v ++ (option_words m u ++ more))
+        ≡ asked_from (Some w) (option_words m u ++ (option_words n v ++ more)) }
 {}
 
-fn word_named(name: &str) -> Option<Word>
-    ensures { result ≡ word_named name.now }
+fn all_of_it<'a>() -> Asked<'a>
+    ensures { wishes_of result ≡ no_wish }
 {
-    if name == "--csv" {
-        return Some(Word::In(Layout::Csv));
+    Asked {
+        by: Choice::Any,
+        among: Choice::Any,
+        groups: no_groups(),
+        subject: None,
+        form: None,
     }
-    if name == "--json" {
-        return Some(Word::In(Layout::Json));
+}
+
+fn no_groups<'a>() -> ArrayVec<Named<'a>, MOST_GROUPS>
+    ensures { result.items ≡ [] }
+{
+    ArrayVec::new()
+}
+
+/// What options ask for beside others. A group may come 16 times, and each other option once, so this calls itself 20 times
+/// at most.
+fn asked_from<'a>(asked: Asked<'a>, arguments: &'a [String]) -> Option<Asked<'a>>
+    ensures { option_map wishes_of result ≡ asked_from (Some (wishes_of asked.entry)) (map string_bytes arguments.now) }
+{
+    match arguments {
+        [] => Some(asked),
+        [name] => with_word(asked, name),
+        [name, value, more @ ..] => {
+            if is_word(name) {
+                return match with_word(asked, name) {
+                    Some(next) => asked_from(next, &arguments[1..]),
+                    None => None,
+                };
+            }
+            match with_option(asked, name, value) {
+                Some(next) => asked_from(next, more),
+                None => None,
+            }
+        }
     }
-    if name == "--rounds" {
-        return Some(Word::Rounds);
+}
+
+/// Whether it is an option without a value.
+fn is_word(name: &str) -> bool
+    ensures { result ≡ is_word name.now }
+{
+    form_in(name).is_some() || subject_in(name).is_some()
+}
+
+/// What an option without a value asks for beside others. None where there is no such option, or one of its kind came before.
+fn with_word<'a>(asked: Asked<'a>, name: &str) -> Option<Asked<'a>>
+    ensures { option_map wishes_of result ≡ with_word (wishes_of asked.entry) name.now }
+{
+    match form_in(name) {
+        Some(form) => with_form(asked, form),
+        None => match subject_in(name) {
+            Some(subject) => with_subject(asked, subject),
+            None => None,
+        },
+    }
+}
+
+fn with_form<'a>(asked: Asked<'a>, form: Form) -> Option<Asked<'a>>
+    ensures { option_map wishes_of result ≡ with_form (wishes_of asked.entry) form }
+{
+    match asked.form {
+        None => Some(Asked {
+            form: Some(form),
+            ..asked
+        }),
+        Some(_) => None,
+    }
+}
+
+fn with_subject<'a>(asked: Asked<'a>, subject: Subject) -> Option<Asked<'a>>
+    ensures { option_map wishes_of result ≡ with_subject (wishes_of asked.entry) subject }
+{
+    match asked.subject {
+        None => Some(Asked {
+            subject: Some(subject),
+            ..asked
+        }),
+        Some(_) => None,
+    }
+}
+
+/// The form of a word, if there is one.
+fn form_in(word: &str) -> Option<Form>
+    ensures { result ≡ form_in word.now }
+{
+    if word == "--csv" {
+        return Some(Form::Csv);
+    }
+    if word == "--json" {
+        return Some(Form::Json);
     }
     None
 }
 
-fn asking(layout: Layout, rounds: bool) -> Option<Asked>
-    ensures { result ≡ asking layout rounds }
+/// The subject of a word, if there is one.
+fn subject_in(word: &str) -> Option<Subject>
+    ensures { result ≡ subject_in word.now }
 {
-    Some(Asked { layout, rounds })
+    if word == "--rounds" {
+        return Some(Subject::Rounds);
+    }
+    if word == "--topics" {
+        return Some(Subject::Topics);
+    }
+    if word == "--links" {
+        return Some(Subject::Links);
+    }
+    None
 }
 
-fn of_one(word: Option<Word>) -> Option<Asked>
-    ensures { result ≡ of_one word }
+/// What an option with a value asks for beside others. None where there is no such option, or it can't come after them.
+fn with_option<'a>(asked: Asked<'a>, name: &str, value: &'a str) -> Option<Asked<'a>>
+    ensures { option_map wishes_of result ≡ with_option (wishes_of asked.entry) name.now value.now }
 {
-    match word {
-        None => None,
-        Some(Word::Rounds) => asking(Layout::Table, true),
-        Some(Word::In(layout)) => asking(layout, false),
+    if name == "--by" {
+        return with_by(asked, value);
+    }
+    if name == "--of" {
+        return with_among(asked, value);
+    }
+    if name == "--group" {
+        return with_group(asked, group_in(value));
+    }
+    None
+}
+
+fn with_by<'a>(asked: Asked<'a>, peers: &'a str) -> Option<Asked<'a>>
+    ensures { option_map wishes_of result ≡ with_by (wishes_of asked.entry) peers.now }
+{
+    match asked.by {
+        Choice::Any => Some(Asked {
+            by: Choice::Named(peers),
+            ..asked
+        }),
+        Choice::Named(_) => None,
     }
 }
 
-/// What two words ask for, in any order.
-fn of_two(first: Option<Word>, second: Option<Word>) -> Option<Asked>
-    ensures { result ≡ of_two first second }
+fn with_among<'a>(asked: Asked<'a>, peers: &'a str) -> Option<Asked<'a>>
+    ensures { option_map wishes_of result ≡ with_among (wishes_of asked.entry) peers.now }
 {
-    match first {
-        None => None,
-        Some(Word::Rounds) => beside_rounds(second),
-        Some(Word::In(layout)) => beside_layout(layout, second),
+    match asked.among {
+        Choice::Any => Some(Asked {
+            among: Choice::Named(peers),
+            ..asked
+        }),
+        Choice::Named(_) => None,
     }
 }
 
-fn beside_rounds(word: Option<Word>) -> Option<Asked>
-    ensures { result ≡ beside_rounds word }
+/// A group more, if there is one, there is room for it, and no other has its name.
+fn with_group<'a>(asked: Asked<'a>, group: Option<Named<'a>>) -> Option<Asked<'a>>
+    ensures { option_map wishes_of result ≡ with_group (wishes_of asked.entry) (option_map group_of group.entry) }
 {
-    match word {
+    match group {
         None => None,
-        Some(Word::Rounds) => None,
-        Some(Word::In(layout)) => asking(layout, true),
+        Some(group) => adding(asked, group),
     }
 }
 
-fn beside_layout(layout: Layout, word: Option<Word>) -> Option<Asked>
-    ensures { result ≡ beside_layout layout word }
+fn adding<'a>(asked: Asked<'a>, group: Named<'a>) -> Option<Asked<'a>>
+    ensures { option_map wishes_of result ≡ adding (wishes_of asked.entry) (group_of group.entry) }
 {
-    match word {
-        None => None,
-        Some(Word::Rounds) => asking(layout, true),
-        Some(Word::In(_)) => None,
+    if asked.groups.is_full() || is_taken(asked.groups.as_slice(), group.name) {
+        return None;
     }
+    let mut asked = asked;
+    asked.groups.push(group);
+    Some(asked)
+}
+
+/// Whether a group has this name. It calls itself 16 times at most.
+fn is_taken(groups: &[Named<'_>], name: &str) -> bool
+    ensures { result ≡ is_taken (map group_of groups.now) name.now }
+{
+    match groups {
+        [] => false,
+        [first, rest @ ..] => first.name == name || is_taken(rest, name),
+    }
+}
+
+/// The group that `NAME=PEERS` names, if it has a name.
+fn group_in(text: &str) -> Option<Named<'_>>
+    ensures { option_map group_of result ≡ group_in text.now }
+{
+    match text.split_once('=') {
+        Some((name, peers)) => {
+            if is_group_name(name) {
+                return Some(Named { name, peers });
+            }
+            None
+        }
+        None => None,
+    }
+}
+
+/// Whether a group may have this name.
+fn is_group_name(name: &str) -> bool
+    ensures { result ≡ is_group_name name.now }
+{
+    !name.is_empty() && name.len() <= 32 && are_name_bytes(name.as_bytes())
+}
+
+/// Whether each byte may stand in a name. It calls itself 32 times at most, since no name is longer.
+fn are_name_bytes(name: &[u8]) -> bool
+    ensures { result ≡ are_name_bytes name.now }
+{
+    match name {
+        [] => true,
+        [first, rest @ ..] => is_name_byte(*first) && are_name_bytes(rest),
+    }
+}
+
+fn is_name_byte(byte: u8) -> bool
+    ensures { result ≡ is_name_byte byte }
+{
+    byte.is_ascii_alphanumeric() || byte == b'_' || byte == b'-'
 }
 
 /// Says how the program is called, or a front of that, and gives the status for wrong arguments.

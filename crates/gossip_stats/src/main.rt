@@ -1,5 +1,5 @@
-//! Prints figures of a run: reads a scenario, runs it, and says how far each message came and what each peer heard and
-//! sent, or what happened in each round.
+//! Prints figures of a run: reads a scenario, runs it, and says how far each message came, and what each peer and each group
+//! heard, sent and scored; or what happened in each round, on each topic or over each link.
 #![tactic(auto)]
 
 mod arguments;

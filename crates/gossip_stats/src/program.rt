@@ -1,30 +1,36 @@
 //! The program: it writes figures of the scenario that it reads.
+ghost use Rattle.std.specs.List.{AllByRecursion};
 ghost use Rattle.std.specs.Prelude.{◌≡◌, false, IfOk, map, string_bytes};
 ghost use Rattle.std.specs.Process.{exit_status};
+ghost use Rattle.gs_base.specs.declared.names.PeerNo.{PeerNo as PeerNoValue};
+ghost use Rattle.gs_figure_sheets.specs.Parties.{group_wish};
+ghost use Rattle.gs_plan.specs.Plans.{IsInRange};
 ghost use Rattle.gs_program.specs.Program.{EndsWith};
-ghost use Rattle.gossip_stats.specs.Arguments.{asked_for};
-ghost use Rattle.gossip_stats.specs.Printed.{EndsFor, laid_out, printed, rounds_laid_out};
+ghost use Rattle.gs_report.specs.declared.finished.Finished.{Finished as FinishedValue};
+ghost use Rattle.gs_router.specs.Following.{AreInOrder};
+ghost use Rattle.gossip_stats.specs.Arguments.{asked_for, group_of, wishes_of};
+ghost use Rattle.gossip_stats.specs.Printed.{EndsFor, layout_for, printed, subject_or_run, written};
 
-use crate::arguments::{Asked, Layout, asked_by, refuse};
-use gs_figures::{
-    Figures, Form, RoundFigures, figures_csv, figures_json, figures_of, figures_table, rounds_of,
-    rounds_table, rounds_text,
-};
+use crate::arguments::{Asked, Form, Named, asked_by, refuse};
+use gs_base::Seq;
+use gs_figure_sheets::{Group, Layout, Subject, Wanted, figure_sheets};
 use gs_plan::Plan;
 use gs_program::{PrintFault, Printer, Program, print_whole};
 use gs_report::Report;
+use gs_seats::traces_of_a_report_are_in_order;
+use gs_sheets::{Sheet, sheets_csv, sheets_json, sheets_table};
 use std::alloc::{AllocError, Global};
 use std::io::{Read, Write};
 use std::process::ExitCode;
 
-/// Makes the figures of a run as they are asked for.
-#[derive(Clone, Copy, Debug, Drop)]
-struct FiguresAs {
-    asked: Asked,
+/// Makes the figures of a run that are asked for.
+#[derive(Drop)]
+struct FiguresOf<'a> {
+    asked: Asked<'a>,
 }
 
-impl Printer for FiguresAs {
-    ghost text = { λ printer plan report. printed printer.asked plan report };
+impl<'a> Printer for FiguresOf<'a> {
+    ghost text = { λ printer plan report. printed (wishes_of printer.asked) plan report };
 
     ghost in_parts = { false };
 
@@ -35,48 +41,72 @@ impl Printer for FiguresAs {
         report: &Report,
         output: &mut W,
     ) -> Result<(), PrintFault> {
-        print_whole(printed(alloc, self.asked, plan, report), output)
+        traces_of_a_report_are_in_order();
+        print_whole(printed(alloc, &self.asked, plan, report), output)
     }
 }
 
-/// The figures of a run as they are asked for.
-fn printed(alloc: Global, asked: Asked, plan: &Plan, report: &Report) -> Result<Vec<u8>, AllocError>
-    ensures { IfOk result (λ text. text.items ≡ printed asked plan.now report.now) }
-{
-    if asked.rounds {
-        let rounds = rounds_of(alloc, plan, report)?;
-        return rounds_laid_out(alloc, asked.layout, rounds.as_slice());
-    }
-    let figures = figures_of(alloc, plan, report)?;
-    laid_out(alloc, asked.layout, plan, &figures)
-}
-
-fn laid_out(
+/// The figures that are asked for.
+fn printed(
     alloc: Global,
-    layout: Layout,
+    asked: &Asked<'_>,
     plan: &Plan,
-    figures: &Figures,
+    report: &Report,
 ) -> Result<Vec<u8>, AllocError>
-    ensures { IfOk result (λ text. text.items ≡ laid_out layout plan.now figures.now) }
+    requires range { IsInRange plan.now }
+    requires order { AllByRecursion (λ (x : PeerNoValue × FinishedValue). AreInOrder x.1.trace) report.now.peers.items }
+    ensures { IfOk result (λ text. text.items ≡ printed (wishes_of asked.now) plan.now report.now) }
 {
-    match layout {
-        Layout::Table => figures_table(alloc, plan, figures),
-        Layout::Csv => figures_csv(alloc, plan, figures),
-        Layout::Json => figures_json(alloc, plan, figures),
+    let wanted = Wanted {
+        by: asked.by,
+        among: asked.among,
+        groups: groups_of(alloc, asked.groups.as_slice())?,
+        subject: subject_or_run(asked.subject),
+        layout: layout_for(asked.form),
+    };
+    let sheets = figure_sheets(alloc, plan, report, &wanted)?;
+    written(alloc, asked.form, sheets.as_slice())
+}
+
+/// The groups that are asked for, as sheets take them.
+fn groups_of<'a>(alloc: Global, named: &[Named<'a>]) -> Result<Seq<Group<'a>>, AllocError>
+    ensures { IfOk result (λ groups. map group_wish groups ≡ map group_of named.now) }
+{
+    let mut groups = Seq::new(alloc);
+    for group in named {
+        groups.push(Group {
+            name: group.name,
+            peers: group.peers,
+        })?;
+    }
+    Ok(groups)
+}
+
+fn subject_or_run(subject: Option<Subject>) -> Subject
+    ensures { result ≡ subject_or_run subject }
+{
+    match subject {
+        None => Subject::Run,
+        Some(subject) => subject,
     }
 }
 
-fn rounds_laid_out(
-    alloc: Global,
-    layout: Layout,
-    rounds: &[RoundFigures],
-) -> Result<Vec<u8>, AllocError>
-    ensures { IfOk result (λ text. text.items ≡ rounds_laid_out layout rounds.now) }
+fn layout_for(form: Option<Form>) -> Layout
+    ensures { result ≡ layout_for form }
 {
-    match layout {
-        Layout::Table => rounds_table(alloc, rounds),
-        Layout::Csv => rounds_text(alloc, Form::Csv, rounds),
-        Layout::Json => rounds_text(alloc, Form::Json, rounds),
+    match form {
+        None => Layout::Person,
+        Some(_) => Layout::Data,
+    }
+}
+
+fn written(alloc: Global, form: Option<Form>, sheets: &[Sheet]) -> Result<Vec<u8>, AllocError>
+    ensures { IfOk result (λ text. text.items ≡ written form sheets.now) }
+{
+    match form {
+        None => sheets_table(alloc, sheets),
+        Some(Form::Csv) => sheets_csv(alloc, sheets),
+        Some(Form::Json) => sheets_json(alloc, sheets),
     }
 }
 
@@ -107,7 +137,7 @@ where
 /// Runs the program for what is asked for.
 fn run_to_exit<R, W, E>(
     alloc: Global,
-    asked: Asked,
+    asked: Asked<'_>,
     input: &mut R,
     output: &mut W,
     errors: &mut E,
@@ -116,12 +146,13 @@ where
     R: Read,
     W: Write,
     E: Write,
-    ensures { EndsWith (printed asked) false false (exit_status result) (R.remaining input.old) (R.remaining input.new)
+    ensures { EndsWith (printed (wishes_of asked.entry)) false false (exit_status result)
+        (R.remaining input.old) (R.remaining input.new)
         (W.contents output.old) (W.contents output.new) (E.contents errors.old) (E.contents errors.new) }
 {
     let program = Program {
         alloc,
-        printer: FiguresAs { asked },
+        printer: FiguresOf { asked },
     };
     program.run_to_exit(input, output, errors)
 }
