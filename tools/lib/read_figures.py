@@ -183,8 +183,8 @@ def row_differences(place, row, other):
         aside = [it for it in (*row, *other) if (it in row) != (it in other)]
         yield f"{place} has other columns: {aside or 'in another order'}"
     for key in (it for it in other if it in row and row[it] != other[it]):
-        begin = ", ".join(str(it) for it in list(other.values())[:2])
-        yield f"{place} ({begin}): {key} is {row[key]}, and {other[key]} by the trace"
+        begin = ", ".join(map(ascii, list(other.values())[:2]))
+        yield f"{place} ({begin}): {key} is {row[key]!a}, and {other[key]!a} by the trace"
 
 
 def figure_choices(names):
