@@ -143,6 +143,7 @@ class Sheets:
         return [self.round_row(it, counts[it]) for it in range(self.run.trace.head["last_round"] + 1)]
 
     def round_row(self, number, counts):
+        """What happened in a round, with a column lowest_score_NAME for each group."""
         row = {"round": number} | {column: counts[column] for column in COUNTS if column not in OF_BYTES}
         row["smallest_mesh"], row["largest_mesh"] = ends(size for _, end, size in self.sizes if end == number)
         scores = [it for it in self.scores if it.round == number]
