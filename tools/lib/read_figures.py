@@ -143,6 +143,7 @@ class Sheets:
         return [self.round_row(it, counts[it]) for it in range(self.run.trace.head["last_round"] + 1)]
 
     def round_row(self, number, counts):
+        """What happened in a round, with a column lowest_score_NAME for each group."""
         row = {"round": number} | {column: counts[column] for column in COUNTS if column not in OF_BYTES}
         row["smallest_mesh"], row["largest_mesh"] = ends(size for _, end, size in self.sizes if end == number)
         scores = [it for it in self.scores if it.round == number]
@@ -183,8 +184,8 @@ def row_differences(place, row, other):
         aside = [it for it in (*row, *other) if (it in row) != (it in other)]
         yield f"{place} has other columns: {aside or 'in another order'}"
     for key in (it for it in other if it in row and row[it] != other[it]):
-        begin = ", ".join(str(it) for it in list(other.values())[:2])
-        yield f"{place} ({begin}): {key} is {row[key]}, and {other[key]} by the trace"
+        begin = ", ".join(map(ascii, list(other.values())[:2]))
+        yield f"{place} ({begin}): {key} is {row[key]!a}, and {other[key]!a} by the trace"
 
 
 def figure_choices(names):
