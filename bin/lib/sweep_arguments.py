@@ -8,7 +8,11 @@ from sweep_runs import HOW_ENDED, NETWORK, Settings, between_commas
 from until import TAKES, WHEN
 
 MOST_RUNS = 1_000_000
-Options = namedtuple("Options", "settings columns peer jobs folder until over is_table has_header is_list is_strict file")
+MOST_GROUPS = 16
+GROUP = re.compile("([a-zA-Z0-9_-]{1,32})=.*", re.DOTALL)
+Options = namedtuple(
+    "Options", "settings columns wishes peer jobs folder until over is_table has_header is_list is_strict file"
+)
 
 
 def stop(status, why):
@@ -25,7 +29,7 @@ class Arguments:
 
     def __init__(self, words, text):
         self.words, self.text, self.values, self.files = list(words), text, {}, []
-        self.settings, self.flags = Settings(refuse), set()
+        self.settings, self.flags, self.groups = Settings(refuse), set(), []
 
     def value_of(self, name, inline):
         """What stands after an option, in the same word or in the next one."""
@@ -40,7 +44,9 @@ class Arguments:
         elif name in ("--set", "--seeds", "--networks"):
             text = self.value_of(name, inline if equals else None)
             self.settings.take({"--seeds": "seed=", "--networks": f"{NETWORK}="}.get(name, "") + text)
-        elif name in ("--columns", "--peer", "--jobs", "--into", "--until", "--over"):
+        elif name == "--group":
+            self.groups.append(self.value_of(name, inline if equals else None))
+        elif name in ("--columns", "--by", "--of", "--peer", "--jobs", "--into", "--until", "--over"):
             if name in self.values:
                 refuse(f"{name} stands there twice")
             self.values[name] = self.value_of(name, inline if equals else None)
@@ -89,6 +95,32 @@ class Arguments:
         """Those that are asked for. None where all are."""
         return self.values["--columns"].split(",") if "--columns" in self.values else None
 
+    def wishes(self):
+        """The options of gossip_stats. The messages of a peer are those that it published."""
+        if "--peer" in self.values and "--by" in self.values:
+            refuse("--peer NAME has the messages that NAME published, so there is no place for --by")
+        by = self.values.get("--by", self.values.get("--peer"))
+        given = (("--by", by), ("--of", self.values.get("--of")), *(("--group", it) for it in self.groups))
+        self.check_groups()
+        return [word for name, value in given if value is not None for word in (name, value)]
+
+    def check_groups(self):
+        """Groups as gossip_stats takes them. Columns of two pairs of groups must have different names, too."""
+        found = [(it, GROUP.fullmatch(it)) for it in self.groups]
+        for text, it in found:
+            if not it:
+                refuse(f"--group takes NAME=PEERS, where NAME has 1 to 32 letters, digits, _ and -, not {text}")
+        names = [it[1] for _, it in found]
+        for it in names:
+            if names.count(it) > 1:
+                refuse(f"there are two groups {it}")
+        if len(names) > MOST_GROUPS:
+            refuse(f"there are at most {MOST_GROUPS} groups, not {len(names)}")
+        pairs = [f"{one}_to_{other}" for one in names for other in names]
+        for it in pairs:
+            if pairs.count(it) > 1:
+                refuse(f"two pairs of groups have columns {it}")
+
     def check_joined(self):
         """Joined rows are of different runs, and have no columns of single ones."""
         for it in self.columns() or ():
@@ -110,6 +142,7 @@ class Arguments:
         return Options(
             self.settings,
             self.columns(),
+            self.wishes(),
             self.values.get("--peer"),
             self.jobs(),
             self.values.get("--into"),

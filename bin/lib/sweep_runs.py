@@ -20,18 +20,12 @@ HOW_ENDED = "status", "message"
 OF_RUNS = *HOW_ENDED, "proved"
 
 
-def lowest(values):
-    return min(values, default="")
-
-
-def highest(values):
-    return max(values, default="")
-
-
-# What stands for a run in a column where gossip_stats has several rows: of publications these columns, and how many there
-# were; of peers all columns, whose sums are taken where nothing else stands here.
-OF_PUBLICATIONS = {"on_topic": sum, "delivered": sum, "last_round": highest}
-OF_PEERS = {"lowest_score": lowest, "highest_score": highest, "smallest_mesh": lowest, "largest_mesh": highest}
+# The sheets of gossip_stats that give columns, and its row of the whole run. Of the second sheet a row says how many pairs
+# of a message and a subscriber missed each other.
+SHEETS = "messages", "within", "parts", "peers"
+WHOLE = "(all)"
+# The columns that these sheets give, but for the last one.
+OF_MESSAGES = "messages pairs reached missed first_round median_round round_90 round_99 last_round".split()
 
 # A scenario in which nothing happens: its figures show which columns there are.
 NOTHING = b"""
@@ -131,32 +125,25 @@ class Settings:
             yield tuple(f"{key}={value}" for key, value in zip(keys, values))
 
 
-def tables_of(text):
-    """The rows for publications, and those for peers, of what gossip_stats --csv prints."""
-    return [list(csv.DictReader(io.StringIO(it))) for it in text.split("\n\n", 1)]
-
-
 def number(text):
     """A count, or a score, which has six digits after the point."""
     return Decimal(text) if "." in text else int(text)
 
 
-def numbers(rows, column):
-    """The numbers of a column, but for the places where there is none."""
-    return [number(row[column]) for row in rows if row[column]]
-
-
 def figures_of(text, peer):
-    """The figures of a run, or of one of its peers, by column. None where it has no such peer."""
-    publications, peers = tables_of(text)
-    peers = [it for it in peers if it["peer"] != "(all)" and peer in (None, it["peer"])]
-    publications = [it for it in publications if peer in (None, it["publisher"])]
-    if not peers:
+    """The figures of a run, or with those of one of its peers, by column. None where it has no row of that peer."""
+    sheets = json.loads(text, parse_float=str)
+    messages, within, parts, peers = (sheets[it] for it in SHEETS)
+    row = next((it for it in peers if it["peer"] == (peer or WHOLE)), None)
+    if row is None:
         return None
-    figures = {"publications": len(publications)}
-    figures |= {it: of_all(numbers(publications, it)) for it, of_all in OF_PUBLICATIONS.items()}
-    figures |= {it: OF_PEERS.get(it, sum)(numbers(peers, it)) for it in peers[0] if it != "peer"}
-    return figures
+    missed, pairs = next(it["pairs"] for it in within if it["outcome"] == "missed"), parts[0]["pairs"]
+    counts = {"messages": len(messages), "pairs": pairs, "reached": pairs - missed, "missed": missed} | parts[0]
+    figures = {it: counts.get(it) for it in OF_MESSAGES} | {column: it for column, it in row.items() if column != "peer"}
+    for pair in sheets.get("groups", ()):
+        start = f"{pair['from']}_to_{pair['to']}"
+        figures |= {f"{start}_{column}": it for column, it in pair.items() if column not in ("from", "to")}
+    return {column: "" if it is None else it for column, it in figures.items()}
 
 
 class Folder:
@@ -211,6 +198,8 @@ class Sweep:
         self.programs, self.scenario, self.peer, self.folder = programs, scenario, options.peer, folder
         self.proved, self.until = "yes" if is_proved else "no", options.until
         self.settings, self.columns, self.header = list(options.settings.values), (), []
+        self.figures = [programs["gossip_stats"], "--json", *options.wishes]
+        self.left_out = ", or --of leaves it out" if "--of" in options.wishes else ""
         self.lock, self.live, self.is_stopped = threading.Lock(), set(), False
         self.file, self.checker = options.file, functools.lru_cache(None)(checker)
         self.scenario_of = functools.lru_cache(16)(self.made_anew)
@@ -218,16 +207,17 @@ class Sweep:
         self.source = []
         if folder:
             self.source = [hash_of(scenario), *map(hash_in, programs.values()), options.peer, self.until, self.proved]
+            self.source += options.wishes
         if folder and NETWORK in options.settings.values:
             self.source.append(hash_in(options.file))
 
     def learn_columns(self):
-        """Asks gossip_stats which columns it has for peers. Gives whether it answers."""
-        end = self.call([self.programs["gossip_stats"], "--csv"], NOTHING)
-        rows = tables_of(end.output.decode(errors="replace"))[-1] if end.status == 0 else []
-        self.columns = (*OF_RUNS, "publications", *OF_PUBLICATIONS, *(it for row in rows[:1] for it in row if it != "peer"))
+        """Asks gossip_stats which columns it has. Gives whether it answers."""
+        end = self.call(self.figures, NOTHING)
+        figures = figures_of(end.output.decode(errors="replace"), None) if end.status == 0 else {}
+        self.columns = (*OF_RUNS, *(figures or OF_MESSAGES))
         self.header = [*self.settings, *self.columns]
-        return bool(rows)
+        return bool(figures)
 
     def name_of(self, settings):
         """The name of a row's file: another one wherever the row might be another one."""
@@ -252,7 +242,7 @@ class Sweep:
         figures = None
         if end.status == 0:
             figures = figures_of(end.output, self.peer)
-            end = end if figures else End(1, "", f"the scenario has no peer {self.peer}")
+            end = end if figures else End(1, "", f"the scenario has no peer {self.peer}{self.left_out}")
         cells = {"status": end.status, "message": end.message, "proved": self.proved, **(figures or {})}
         return [cells.get(it, "") for it in self.columns]
 
@@ -267,7 +257,7 @@ class Sweep:
             end = self.cut(end.output)
         if end.status == 0:
             scenario = end.output
-            end = self.explained(self.call([self.programs["gossip_stats"], "--csv"], scenario), scenario)
+            end = self.explained(self.call(self.figures, scenario), scenario)
         return end._replace(output=end.output.decode(errors="replace"))
 
     def made_anew(self, seed):

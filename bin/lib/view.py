@@ -1,9 +1,9 @@
 """Makes a page of a run of the lines of gossip_trace and gossip_scores. bin/gossip_view runs it.
 
-usage: view.py NAME ROUNDS PEER SCORES UNPROVED PAGE <TRACE
+usage: view.py NAME ROUNDS PEER SCORES UNPROVED SCENARIO PAGE <TRACE
 
 ROUNDS and PEER are empty where all are wanted, SCORES, a file of lines, where there are none, and UNPROVED where the
-programs that made the lines are proved. PAGE is written. Status: 0 it is; 1 there are too many events; 3 output failed; 4 a
+programs that made the lines are proved. SCENARIO is the file of the scenario that was run. PAGE is written. Status: 0 it is; 1 there are too many events; 3 output failed; 4 a
 package is missing; 64 there is no such peer, or no such round; 65 a line is none.
 """
 import json
@@ -13,6 +13,7 @@ import sys
 sys.dont_write_bytecode = True
 
 from view_events import EFFECTS, FATES, KINDS
+from view_messages import rules_of
 from view_page import Missing, page_of
 from view_run import Run, TooLarge
 from view_scores import Scores
@@ -29,13 +30,13 @@ class Wrong(Exception):
     """Says which argument does not fit the run."""
 
 
-def run_of(lines, rounds, only):
+def run_of(lines, rounds, only, rules=None):
     """The run that a trace shows."""
     run, number = None, 0
     try:
         for number, line in enumerate(lines, 1):
             if run is None:
-                run = begun(json.loads(line), rounds, only)
+                run = begun(json.loads(line), rounds, only, rules)
             else:
                 run.take(line)
         if run is None:
@@ -46,12 +47,12 @@ def run_of(lines, rounds, only):
     return run
 
 
-def begun(head, rounds, only):
+def begun(head, rounds, only, rules):
     if only is not None and only not in head["peers"]:
         raise Wrong(f"the run has no peer {only}")
     if rounds and rounds[0] > head["last_round"]:
         raise Wrong(f"the last round is {head['last_round']}, before those of --rounds")
-    return Run(head, rounds, only)
+    return Run(head, rounds, only, rules)
 
 
 def scores_of(file, events, only):
@@ -71,9 +72,9 @@ def scores_of(file, events, only):
     return scores and scores.data()
 
 
-def make(name, rounds, only, scores, unproved, page):
+def make(name, rounds, only, scores, unproved, scenario, page):
     rounds = tuple(map(int, rounds.split(".."))) if rounds else None
-    run = run_of(sys.stdin, rounds, only or None)
+    run = run_of(sys.stdin, rounds, only or None, rules_of(scenario))
     found = scores_of(scores, run.events, only or None)
     words = {"kinds": KINDS, "fates": FATES, "effects": EFFECTS}
     data = {"name": name, "unproved": bool(unproved), **run.data(), "scores": found, **words}

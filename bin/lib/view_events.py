@@ -39,8 +39,8 @@ class Names:
         return self.numbers[text]
 
 
-def fate_of(line, is_subscribed):
-    """What became of a message that was handled, as gossip_stats counts it."""
+def fate_of(line, is_subscribed, was_ignored):
+    """What became of a message that was handled, as gossip_stats counts it. Copies of what was ignored are ignored, too."""
     marks = {it["mark"]: it for it in line["marks"]}
     verdict = marks.get("seen", {}).get("verdict")
     if "first" in marks:
@@ -53,6 +53,8 @@ def fate_of(line, is_subscribed):
         return "ignored"
     if not is_subscribed:
         return "off_topic"
+    if was_ignored:
+        return "ignored"
     return "near" if "near" in marks else "duplicate"
 
 

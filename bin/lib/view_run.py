@@ -1,8 +1,10 @@
-"""What a page of a run has of its trace: who was in whose mesh and on which topic, figures of each round, and events."""
+"""What a page of a run has of its trace: who was in whose mesh and on which topic, figures of each round, messages, and
+events."""
 import json
 import re
 
 from view_events import PARTS, Events, fate_of
+from view_messages import Messages
 
 # How many events a page has at most.
 MOST_EVENTS = 1_000_000
@@ -12,8 +14,10 @@ BEGINNING = re.compile(r'\{"round":(\d+),"at":\d+,"peer":("(?:[^"\\]|\\.)*"|\d+)
 NOTHING_CAME = '"sent":[],"delivered":[],"promise":null,"marks":[]'
 SOMETHING_FELL = '"fell_away":[{'
 COUNTING = "message", "subscribe", "unsubscribe", "gone", "fault", "hang_up"
-DELIVERED, MESSAGES, NEW, DUPLICATES, SMALLEST, LARGEST = range(6)
-AS_DUPLICATES = "duplicate", "near", "off_topic"
+# The figures of a round, as gossip_stats has them, and which of them each fate of a message counts for.
+FIGURES = "delivered new duplicates ignored rejected signed off_topic smallest_mesh largest_mesh".split()
+DELIVERED, SMALLEST, LARGEST = (FIGURES.index(it) for it in ("delivered", "smallest_mesh", "largest_mesh"))
+COLUMNS = {"duplicate": "duplicates", "near": "duplicates", "again": "rejected"}
 
 
 class TooLarge(Exception):
@@ -41,7 +45,7 @@ class Spans:
 class Run:
     """The lines of a trace, taken in one by one."""
 
-    def __init__(self, head, rounds=None, only=None):
+    def __init__(self, head, rounds=None, only=None, rules=None):
         self.peers = head["peers"]
         self.round_ms, self.last_round = head["round_ms"], head["last_round"]
         self.dials = [[self.peers.index(it["from"]), self.peers.index(it["to"])] for it in head["dials"]]
@@ -53,7 +57,9 @@ class Run:
         self.count = 0
         self.meshes, self.subscribed, self.lost = Spans(), Spans(), Spans()
         self.members, self.ended = {}, set()
-        self.figures = [[0, 0, 0, 0, None, None] for _ in range(self.last_round + 1)]
+        self.ignored = set()
+        self.messages = Messages(rules) if rules and only is None else None
+        self.figures = [[0] * SMALLEST + [None, None] for _ in range(self.last_round + 1)]
         self.pending = None
         self.names = {}
 
@@ -98,7 +104,7 @@ class Run:
         fate = None
         if line["event"] == "message":
             topic = self.events.topic(line["part"]["topic"])
-            fate = fate_of(line, (peer, topic) in self.subscribed.open)
+            fate = fate_of(line, (peer, topic) in self.subscribed.open, (peer, line["id"]) in self.ignored)
         if line["event"] != "refused":
             self.remember(round, peer, line)
             self.count_in(round, line, fate)
@@ -131,12 +137,18 @@ class Run:
             if mark["mark"] in ("grafted", "pruned"):
                 what = peer, self.events.peer(mark["peer"]), self.events.topic(mark["topic"])
                 self.change_mesh(mark["mark"] == "grafted", round, what)
+            elif mark["mark"] == "seen":
+                (self.ignored.add if mark["verdict"] == "ignore" else self.ignored.discard)((peer, mark["id"]))
+        if self.messages:
+            self.messages.deliver(line, peer)
         if word == "subscribe":
             self.subscribed.begin((peer, self.events.topic(line["topic"])), round)
         elif word == "unsubscribe":
             self.subscribed.end((peer, self.events.topic(line["topic"])), round)
         elif word in ("gone", "fault", "hang_up"):
             self.lost.begin((peer, self.events.peer(line.get("from", line.get("to")))), round)
+        elif word == "publish" and self.messages:
+            self.messages.publish(line, peer)
         elif word == "shut":
             self.ended.add(peer)
 
@@ -154,9 +166,7 @@ class Run:
         row = self.figures[round]
         row[DELIVERED] += len(line["delivered"])
         if fate:
-            row[MESSAGES] += 1
-            row[NEW] += fate == "new"
-            row[DUPLICATES] += fate in AS_DUPLICATES
+            row[FIGURES.index(COLUMNS.get(fate, fate))] += 1
 
     def end_round(self, round, peer):
         """Notes how many members the meshes of a peer have that ends the round."""
@@ -166,6 +176,21 @@ class Run:
                 size = len(self.members.get((peer, topic), ()))
                 row[SMALLEST] = size if row[SMALLEST] is None else min(row[SMALLEST], size)
                 row[LARGEST] = size if row[LARGEST] is None else max(row[LARGEST], size)
+
+    def publications(self):
+        """What a page has of each message, and the numbers of its topic and its identifier before that. A page of one peer
+        has none, since it does not show all deliveries; and neither has one of a scenario that can't be read."""
+        if not self.messages:
+            return None
+        rows = self.messages.rows(self.first, self.last, self.could_get)
+        return [[self.events.topic(topic), self.events.message(id, None), *row] for topic, id, row in rows]
+
+    def could_get(self, topic, round):
+        """Who was on a topic before a round began, and had a link open."""
+        number, end = self.events.topic(topic), self.last_round + 1
+        on = {it[0] for it in self.subscribed.all(end) if it[1] == number and it[2] < round <= it[3]}
+        pairs = [pair for one, other in self.dials for pair in ((one, other), (other, one))]
+        return sorted(on & {it[0] for it in pairs if self.lost.open.get(it, round) >= round})
 
     def data(self):
         """What a page has of the run."""
@@ -185,6 +210,8 @@ class Run:
             "meshes": self.meshes.all(end),
             "subscribed": self.subscribed.all(end),
             "lost": self.lost.all(end),
+            "figure_names": FIGURES,
             "figures": [self.figures[it] for it in rounds],
+            "publications": self.publications(),
             "events": [self.by_round.get(it, []) for it in rounds],
         }

@@ -1,6 +1,8 @@
 """Random scenarios in which messages come late, twice, to few or to nobody, for tools/check_traces. A payload is published
-by several peers at one moment, and again while it is remembered and after that. Peers subscribe late, leave and hang up."""
-from hard_scenarios import Hard
+by several peers at one moment, and again while it is remembered and after that. Peers subscribe late, leave and hang up.
+And a scenario of messages so long that hardly two go out as one RPC."""
+from hard_scenarios import Hard, table, text
+from scenario import wire
 
 AGAIN = b"\x07", b"\xff\x01", b"\x00", b"ab"
 
@@ -53,3 +55,19 @@ class Reaching(Hard):
 def reach_scenario(seed):
     """The scenario of a seed. The same seed gives the same text."""
     return Reaching(seed).scenario()
+
+
+def large_scenario():
+    """Two messages fill a frame to its last byte, and two later ones are a byte too long for one frame."""
+    half = wire.MOST_BODY // 2
+    around = len(wire.field("Message", 2, {"data": bytes(half), "topic": b"t"})) - half
+    rest = wire.MOST_BODY - half - 2 * around
+    head = {"round_ms": 100, "rounds": 12, "workers": 1, "capacity": 64, "seed": 1}
+    parts = ["".join(f"{key} = {value}\n" for key, value in head.items()), table("topic", {"name": text("t")})]
+    parts += [table("peer", {"name": text(it)}) for it in "pq"] + [table("dial", {"from": text("p"), "to": text("q")})]
+    lines = [{"at": at, "peer": text(it), "what": text("subscribe"), "topic": text("t")} for at, it in ((0, "p"), (1, "q"))]
+    for number, length in enumerate((half, rest, half, rest + 1)):
+        payload = text(bytes([number]).hex() + "00" * (length - 1))
+        line = {"at": 3 + number // 2 * 3, "peer": text("p"), "what": text("publish"), "topic": text("t"), "hex": payload}
+        lines.append(line)
+    return "".join(parts + [table("do", it) for it in lines])

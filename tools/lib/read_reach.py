@@ -1,8 +1,5 @@
-"""Works out how far messages came from the lines of bin/gossip_trace and from the scenario, by the words of docs/FORMATS.md,
-and compares that with the rows of bin/gossip_reach --format csv."""
-import csv
-import io
-import itertools
+"""Works out how far messages came from the lines of bin/gossip_trace and from the scenario, by the words of docs/FORMATS.md
+("How far messages come")."""
 import tomllib
 
 NEVER = float("inf")
@@ -13,7 +10,6 @@ MESSAGES = (
 ).split()
 WITHIN = "outcome within_rounds pairs share".split()
 PARTS = "pairs first_round median_round round_90 round_99 last_round".split()
-TITLES = "messages", "within", "parts"
 
 
 def chosen(names, peers):
@@ -25,10 +21,16 @@ def chosen(names, peers):
 
 
 def at_share(rounds, percent):
-    """In how many rounds this part of all, or the first, was reached, by nearest rank. Empty where fewer were reached."""
+    """In how many rounds this part of all, or the first, was reached, by nearest rank. None where fewer were reached."""
     rank = max(1, -(-len(rounds) * percent // 100))
     found = sorted(rounds)[rank - 1] if rounds else NEVER
-    return "" if found == NEVER else found
+    return None if found == NEVER else found
+
+
+def share_of(part, all_of_them):
+    """Per cent with two digits, rounded down."""
+    share = part * 10_000 // all_of_them if all_of_them else 0
+    return f"{share // 100}.{share % 100:02}"
 
 
 class Reach:
@@ -98,23 +100,27 @@ class Reach:
             if publishers[0] in first:
                 end = self.end_of(at, topic, payload)
                 could = [it for it in self.names if it in subscribers - {*publishers} and self.could_get(it, topic, at)]
-                yield (at, topic, payload), publishers, [self.rounds_to(it, at, payload, end) for it in could]
+                yield (at, topic, payload), publishers, {it: self.rounds_to(it, at, payload, end) for it in could}
 
-    def tables(self, by=None, of=None):
-        """The rows of the three tables, each as the texts of its columns."""
-        rows, pairs = [], []
-        for (at, topic, payload), publishers, rounds in self.messages(by, of):
-            verdict = self.verdict(topic, payload)
+    def pairs(self, by=None, of=None):
+        """Each pair of an accepted message and a subscriber: who published it first, the subscriber, and in how many rounds
+        it came there."""
+        for (_, topic, payload), publishers, rounds in self.messages(by, of):
+            if self.verdict(topic, payload) == "accept":
+                yield from ((publishers[0], name, it) for name, it in rounds.items())
+
+    def message_rows(self, by, of):
+        for (at, topic, payload), publishers, found in self.messages(by, of):
+            rounds = list(found.values())
             missed = rounds.count(NEVER)
             shares = [at_share(rounds, it) for it in (0, 50, 90, 100)]
-            head = [topic, payload, publishers[0], verdict, len({*publishers}), at]
-            rows.append(head + [len(rounds), len(rounds) - missed, missed, *shares])
-            pairs += rounds if verdict == "accept" else ()
-        return [texts(it) for it in (rows, within(pairs), [parts(pairs)])]
+            head = [topic, payload, publishers[0], self.verdict(topic, payload), len({*publishers}), at]
+            yield dict(zip(MESSAGES, head + [len(rounds), len(rounds) - missed, missed, *shares]))
 
-
-def texts(rows):
-    return [[str(it) for it in row] for row in rows]
+    def sheets(self, by=None, of=None):
+        """The rows of the three sheets, by their names."""
+        rounds = [it for _, _, it in self.pairs(by, of)]
+        return {"messages": list(self.message_rows(by, of)), "within": within(rounds), "parts": [parts(rounds)]}
 
 
 def limits(farthest):
@@ -128,43 +134,12 @@ def limits(farthest):
 
 def within(pairs):
     def row(outcome, limit, count):
-        share = count * 10_000 // len(pairs) if pairs else 0
-        return [outcome, limit, count, f"{share // 100}.{share % 100:02}"]
+        return dict(zip(WITHIN, [outcome, limit, count, share_of(count, len(pairs))]))
 
     came = [it for it in pairs if it != NEVER]
     rows = [row("reached", limit, sum(it <= limit for it in came)) for limit in limits(max(came, default=0))]
-    return [*rows, row("missed", "", len(pairs) - len(came)), row("all", "", len(pairs))]
+    return [*rows, row("missed", None, len(pairs) - len(came)), row("all", None, len(pairs))]
 
 
 def parts(pairs):
-    return [len(pairs), *(at_share(pairs, it) for it in (0, 50, 90, 99, 100))]
-
-
-def read_tables(text):
-    """The three tables of CSV, without their headers."""
-    tables = [list(csv.reader(io.StringIO(it))) for it in text.split("\n\n")]
-    heads = [it[0] if it else [] for it in tables]
-    if heads != [MESSAGES, WITHIN, PARTS]:
-        raise ValueError(f"its tables have the columns {heads}")
-    return [it[1:] for it in tables]
-
-
-def reach_choices(names):
-    """The options of gossip_reach that are tried on a run of these peers."""
-    some = ",".join(names[:2])
-    return [], ["--by", "p*"], ["--of", some], ["--by", f"{names[-1]},none", "--of", f"{names[0]},q*,p*"]
-
-
-def reach_differences(reach, printed, words):
-    """What differs between the tables that gossip_reach prints with these options and those of a trace."""
-    options = dict(zip(words[::2], words[1::2]))
-    said = " ".join(["gossip_reach", *words])
-    try:
-        tables = read_tables(printed)
-    except ValueError as why:
-        yield f"{said}: {why}"
-        return
-    for title, found, wanted in zip(TITLES, tables, reach.tables(options.get("--by"), options.get("--of"))):
-        for number, (one, other) in enumerate(itertools.zip_longest(found, wanted)):
-            if one != other:
-                yield f"{said}: row {number + 1} of {title} is {one}, and {other} by the trace"
+    return dict(zip(PARTS, [len(pairs), *(at_share(pairs, it) for it in (0, 50, 90, 99, 100))]))

@@ -1,12 +1,7 @@
-"""Reads the lines of bin/gossip_trace back, and makes of them what a report and the figures say."""
+"""Reads the lines of bin/gossip_trace back, and makes of them what a report says."""
 import collections
 import json
 
-# The columns of gossip_stats that a peer's lines give.
-COLUMNS = (
-    "rpcs_heard messages_heard ihave_heard iwant_heard graft_heard prune_heard "
-    "messages_sent ihave_sent iwant_sent graft_sent prune_sent broken_promises refused_lines"
-).split()
 PARTS = "subscription", "message", "ihave", "iwant", "graft", "prune"
 
 
@@ -73,26 +68,6 @@ class Trace:
         """The report without its scores and its last line."""
         return [*self.deliveries(), *self.refusals(), *self.faults(), *self.meshes()]
 
-    def counts(self, name):
-        """What gossip_stats counts of a peer, by its columns. Each is there, so that one that is 0 is compared, too."""
-        found = dict.fromkeys(COLUMNS, 0)
-        for line in self.of(name):
-            word = line["event"]
-            if word in ("heard", "late"):
-                found["rpcs_heard"] += 1
-            elif word == "message":
-                found["messages_heard"] += 1
-            elif word in ("ihave", "iwant", "graft", "prune"):
-                found[f"{word}_heard"] += 1
-            elif word == "refused":
-                found["refused_lines"] += 1
-            found["broken_promises"] += sum(it["what"] == "promise" for it in line.get("fell_away", ()))
-            for it in line.get("sent", ()):
-                found["messages_sent"] += len(it["rpc"]["publish"])
-                for kind, items in (it["rpc"]["control"] or {}).items():
-                    found[f"{kind}_sent"] += len(items)
-        return found
-
     def libp2p_counts(self):
         """How many events of a kind go-libp2p's tracer has, but for SEND_RPC and DUPLICATE_MESSAGE."""
         words = collections.Counter(it["event"] for it in self.lines)
@@ -131,11 +106,6 @@ class Trace:
             verdicts = [mark["verdict"] for mark in it["marks"] if mark["mark"] == "seen"]
             count += verdicts in (["reject"], ["ignore"]) or (is_signed(it["part"]) and is_invalid(it))
         return count
-
-    def rejected_again(self):
-        """How many messages came again that were rejected: they count as invalid once more, and were seen before."""
-        unsigned = [it for it in self.messages() if not is_signed(it["part"])]
-        return sum(is_invalid(it) and all(mark["mark"] != "seen" for mark in it["marks"]) for it in unsigned)
 
     def messages(self):
         return [it for it in self.lines if it["event"] == "message"]

@@ -23,7 +23,7 @@ do = [
 END
 }
 
-own_columns=status,message,proved,publications,on_topic,delivered,last_round
+own_columns=status,message,proved,messages,pairs,reached,missed,first_round,median_round,round_90,round_99,last_round
 
 # The columns that gossip_stats has for peers.
 of_peers() {
@@ -31,8 +31,8 @@ of_peers() {
 }
 
 # Those that `three_rows` has.
-some_columns=$own_columns,rpcs_heard,bytes_heard,messages_heard,new,duplicates,graft_heard,rpcs_sent,bytes_sent,messages_sent
-some_columns+=,graft_sent,refused_lines,lowest_score,highest_score,smallest_mesh,largest_mesh
+some_columns=$own_columns,rpcs_heard,bytes_heard,new,duplicates,graft_heard,rpcs_sent,bytes_sent,messages_pushed,graft_sent
+some_columns+=,refused_lines,smallest_mesh,largest_mesh,lowest_score,highest_score
 
 # Subscriptions and GRAFTs are six RPCs each, two for each pair. The payload goes to `b` and `c`, and each of them, who has
 # it by then, gets it once more of the other: four RPCs. Without GRAFTs nobody passes it on. There is no round 12 where
@@ -41,12 +41,13 @@ some_columns+=,graft_sent,refused_lines,lowest_score,highest_score,smallest_mesh
 three_rows() {
   cat <<END
 rounds,params.heartbeat_ms,$some_columns
-15,1000,0,,yes,1,3,3,1,16,180,4,2,2,6,16,180,4,6,0,0.000000,0.000000,2,2
-15,2000,0,,yes,1,3,3,1,8,90,2,2,0,0,8,90,2,0,0,0.000000,0.000000,0,0
-11,1000,1,scenario refused: 29 do[3].at,yes,,,,,,,,,,,,,,,,,,,
-11,2000,1,scenario refused: 29 do[3].at,yes,,,,,,,,,,,,,,,,,,,
+15,1000,0,,yes,1,2,2,0,1,1,1,1,1,16,180,2,2,6,16,180,4,6,0,2,2,0.000000,0.000000
+15,2000,0,,yes,1,2,2,0,1,1,1,1,1,8,90,2,0,0,8,90,2,0,0,0,0,0.000000,0.000000
+11,1000,1,scenario refused: 29 do[3].at,yes$no_figures
+11,2000,1,scenario refused: 29 do[3].at,yes$no_figures
 END
 }
+no_figures=,,,,,,,,,,,,,,,,,,,,,,,
 
 in_sweeps() {
   (cd "$room/sweeps" && "$top/bin/sweep" "$@")
@@ -95,26 +96,46 @@ listed() {
     "$room/sweeps/three.toml"
 }
 
+# The payload goes from `a` to both members of `bc`, and of their meshes each has a place for `a` once there was a heartbeat.
+group_columns=messages,a_to_bc_pairs,a_to_bc_reached,bc_to_a_pairs,bc_to_a_mesh_members,bc_to_a_mesh_places
+group_columns+=,a_to_bc_share,a_to_bc_lowest_at_ms
+group_rows() {
+  echo "params.heartbeat_ms,$group_columns"
+  echo 1000,1,2,2,0,2,4,100.00,1000
+  echo 2000,1,2,2,0,0,0,100.00,1000
+}
+
 check_sweep_rows() {
-  local three=three.toml
+  local three=three.toml groups=(--group 'a=a' --group 'bc=b*,c')
   expect 'a sweep' 1 "$(three_rows)" \
     'sweep: 2 of 4 runs failed, first rounds=11 params.heartbeat_ms=1000: scenario refused: 29 do[3].at' \
     in_sweeps --set rounds=15,11 --set params.heartbeat_ms=1000,2000 --columns "$some_columns" "$three"
   expect 'a sweep with all columns' 0 "$(in_sweeps --columns "$own_columns,$(of_peers)" "$three")" '' in_sweeps "$three"
   expect 'a sweep of nothing' 0 $'new,duplicates\n2,2' '' in_sweeps --columns new,duplicates "$three"
-  expect 'a sweep of a peer' 0 $'seed,publications,messages_sent,new\n1,1,2,0\n2,1,2,0' '' \
-    in_sweeps --seeds 1..2 --peer a --columns publications,messages_sent,new "$three"
+  expect 'a sweep of a peer' 0 $'seed,messages,messages_pushed,new\n1,1,2,0\n2,1,2,0' '' \
+    in_sweeps --seeds 1..2 --peer a --columns messages,messages_pushed,new "$three"
+  expect 'a sweep of a peer that publishes nothing' 0 $'messages,pairs,last_round,new\n0,0,,1' '' \
+    in_sweeps --peer b --columns messages,pairs,last_round,new "$three"
   expect 'a sweep of a peer that is not there' 1 $'message\nthe scenario has no peer d' \
     'sweep: 1 of 1 runs failed, first the one: the scenario has no peer d' \
     in_sweeps --columns message --peer d "$three"
-  expect 'a sweep of a cut scenario' 0 $'seed,publications,new\n1,0,0\n2,0,0' '' \
-    in_sweeps --seeds 1..2 --until 11 --columns publications,new "$three"
-  expect 'values with commas' 0 $'topic.0.reject,invalid,new\n"[""01"", ""02""]",2,0\n[],0,2' '' \
-    in_sweeps --set 'topic.0.reject=["01", "02"],[]' --columns invalid,new "$three"
+  expect 'a sweep of a peer that is left out' 1 $'message\n"the scenario has no peer a, or --of leaves it out"' \
+    'sweep: 1 of 1 runs failed, first the one: the scenario has no peer a, or --of leaves it out' \
+    in_sweeps --columns message --peer a --of b,c "$three"
+  expect 'a sweep by some, of others' 0 $'messages,pairs,new\n0,0,1' '' \
+    in_sweeps --by 'b,c' --of c --columns messages,pairs,new "$three"
+  expect 'a sweep of groups' 0 "$(group_rows)" '' in_sweeps --set params.heartbeat_ms=1000,2000 "${groups[@]}" \
+    --columns "$group_columns" "$three"
+  expect 'a sweep of a cut scenario' 0 $'seed,messages,new\n1,0,0\n2,0,0' '' \
+    in_sweeps --seeds 1..2 --until 11 --columns messages,new "$three"
+  expect 'values with commas' 0 $'topic.0.reject,rejected,new\n"[""01"", ""02""]",2,0\n[],0,2' '' \
+    in_sweeps --set 'topic.0.reject=["01", "02"],[]' --columns rejected,new "$three"
   expect 'a list of commands' 0 "$(listed 7)"$'\n'"$(listed 8)" '' \
     in_sweeps --list --seeds 7..8 --columns new --peer a --into rows "$three"
   expect 'the commands one by one' 0 "$(three_rows | sed -n 2,3p)" '' \
     one_by_one --set rounds=15 --set params.heartbeat_ms=1000,2000 --columns "$some_columns" "$three"
+  expect 'the commands for groups one by one' 0 "$(group_rows | tail -n +2)" '' \
+    one_by_one --set params.heartbeat_ms=1000,2000 "${groups[@]}" --columns "$group_columns" "$three"
 }
 
 check_sweep_folder() {
@@ -127,14 +148,26 @@ check_sweep_folder() {
   expect 'a sweep that is taken up again' 0 "$rows" '' taken_up
 }
 
+# Puts another number in the column `new` of the row that is kept.
+change_kept() {
+  python3 - "$1" "$room/sweeps/few"/*.csv <<'PY'
+import csv, sys
+with open(sys.argv[2], newline="") as it:
+    header, row = csv.reader(it)
+row[header.index("new")] = sys.argv[1]
+with open(sys.argv[2], "w", newline="") as it:
+    csv.writer(it, lineterminator="\n").writerows([header, row])
+PY
+}
+
 # A kept row is taken as it is. One that is not whole, or of a scenario that has changed since, is made anew.
 check_kept_rows() {
   local few=(--into few --columns new one.toml)
   cp "$room/sweeps/three.toml" "$room/sweeps/one.toml"
   expect 'a row to keep' 0 $'new\n2' '' in_sweeps "${few[@]}"
-  sed -i -E 's/,16,([0-9]+),4,2,2,/,16,\1,4,99,2,/' "$room/sweeps/few"/*.csv
+  change_kept 99
   expect 'a row that is kept' 0 $'new\n99' '' in_sweeps "${few[@]}"
-  sed -i -E 's/,16,([0-9]+),4,99,2,.*//' "$room/sweeps/few"/*.csv
+  truncate -s -20 "$room/sweeps/few"/*.csv
   expect 'half a row' 0 $'new\n2' '' in_sweeps "${few[@]}"
   sed -i 's/^rounds.*/rounds = 12/' "$room/sweeps/one.toml"
   expect 'a row of a changed scenario' 0 $'new\n0' '' in_sweeps "${few[@]}"
@@ -147,6 +180,8 @@ refused_sweep() {
 }
 
 check_sweep_arguments() {
+  local many=()
+  mapfile -t many < <(printf -- '--group=g%d=a\n' {1..17})
   expect_like 'help for sweeps' 0 'Runs a scenario *Status*' '' in_sweeps --help
   refused_sweep 'a sweep of no file' 'a sweep is of one scenario, not of 0'
   refused_sweep 'a sweep of two files' 'a sweep is of one scenario, not of 2' three.toml three.toml
@@ -161,6 +196,15 @@ check_sweep_arguments() {
     --seeds 1..1001 --set a=1..1001 three.toml
   refused_sweep 'an unknown column' 'there is no column old' --columns new,old three.toml
   refused_sweep 'no round to cut at' '--until takes a round, from 1 to 999999, or a time, as "150 s"' --until 0 three.toml
+  refused_sweep 'a group without peers' \
+    '--group takes NAME=PEERS, where NAME has 1 to 32 letters, digits, _ and -, not a' --group a three.toml
+  refused_sweep 'a group twice' 'there are two groups a' --group a=a --group a=b three.toml
+  refused_sweep 'too many groups' 'there are at most 16 groups, not 17' \
+    "${many[@]}" three.toml
+  refused_sweep 'two columns of one name' 'two pairs of groups have columns a_to_b_to_c' \
+    --group a=a --group b_to_c=b --group a_to_b=c --group c=a three.toml
+  refused_sweep 'messages of a peer and by others' \
+    '--peer NAME has the messages that NAME published, so there is no place for --by' --peer a --by b three.toml
   refused_sweep 'no jobs' '--jobs takes a number from 1 to 9999' --jobs 0 three.toml
   expect 'a sweep of a file that is not there' 66 '' 'sweep: there is no file none.toml' in_sweeps none.toml
   expect 'a sweep of a folder' 66 '' 'sweep: . is a folder, not a scenario' in_sweeps .
@@ -184,8 +228,8 @@ check_joined_rows() {
     in_sweeps "${beats[@]}" --seeds 1..2 --over params.heartbeat_ms "${columns[@]}"
   expect 'rows over all keys' 0 $'runs  failed       duplicates\n   2       0  1 ± 13 (0 to 2)' '' \
     in_sweeps "${beats[@]}" --over params.heartbeat_ms --table "${columns[@]}"
-  expect 'joined rows of a peer, cut' 0 $'runs  failed    publications\n   2       0  0 ± 0 (0 to 0)' '' \
-    in_sweeps --seeds 1..2 --over seed --peer a --until 11 --columns publications --table three.toml
+  expect 'joined rows of a peer, cut' 0 $'runs  failed        messages\n   2       0  0 ± 0 (0 to 0)' '' \
+    in_sweeps --seeds 1..2 --over seed --peer a --until 11 --columns messages --table three.toml
   expect 'a list of commands for joined rows' 0 "$(in_sweeps --list --seeds 1..2 "${columns[@]}")" '' \
     in_sweeps --list --seeds 1..2 --over seed --table "${columns[@]}"
   expect 'joined rows to a closed output' 3 '' 'sweep: output failed' \
@@ -194,7 +238,7 @@ check_joined_rows() {
 
 # Rows over networks. A peer publishes once a second, from 0 to 2 seconds.
 check_rows_over_networks() {
-  local networks=(--networks '4,5' --columns publications --table ring.toml) rows
+  local networks=(--networks '4,5' --columns messages --table ring.toml) rows
   cat >"$room/sweeps/ring.toml" <<'END'
 until = "2 s"
 [network]
@@ -209,9 +253,9 @@ peer = "n"
 every = "1 s"
 END
   rows=$'1        2       0  3 ± 0 (3 to 3)\n2        2       0  3 ± 0 (3 to 3)'
-  expect 'rows over networks' 0 $'seed  runs  failed    publications\n'"$rows" '' \
+  expect 'rows over networks' 0 $'seed  runs  failed        messages\n'"$rows" '' \
     in_sweeps --seeds 1..2 --over network "${networks[@]}"
-  expect 'rows over seeds and networks' 0 $'runs  failed    publications\n   4       0  3 ± 0 (3 to 3)' '' \
+  expect 'rows over seeds and networks' 0 $'runs  failed        messages\n   4       0  3 ± 0 (3 to 3)' '' \
     in_sweeps --seeds 1..2 --over seed,network "${networks[@]}"
 }
 
@@ -260,7 +304,8 @@ END
 #!/bin/sh
 figures=\$(grep -F "\$(tail -n 1):" "$room/joined/figures") || { echo 'none of that' >&2 && exit 1; }
 set -- \${figures##*:}
-printf 'topic\n\npeer,new,lowest_score\na,%s,%s\n' "\$1" "\$2"
+printf '{"messages":[],"within":[{"outcome":"missed","pairs":0}],"parts":[{"pairs":0}],'
+printf '"peers":[{"peer":"(all)","new":%s,"lowest_score":%s}]}\n' "\$1" "\${2-null}"
 END
   chmod +x "$place"/*/out/*
 }

@@ -6,7 +6,8 @@ tried_view() {
   echo scenario | GUNTHARU_D3=$room/library in_tree tried=0 gossip_view "$@"
 }
 
-# What a page would have of these lines, and of a part of them.
+# What a page would have of these lines, and of a part of them. `rules` is a scenario, and `shown` has what is printed.
+rules='' shown=(meshes subscribed lost figures events)
 run_of() {
   local rounds=$1 only=$2
   shift 2
@@ -15,15 +16,16 @@ import sys
 sys.dont_write_bytecode = True
 sys.path.insert(0, sys.argv[1])
 from view import run_of
+from view_messages import rules_of
 rounds = tuple(map(int, sys.argv[2].split(".."))) if sys.argv[2] else None
-run = run_of(sys.stdin, rounds, sys.argv[3] or None).data()
-for it in sys.argv[4:]:
+run = run_of(sys.stdin, rounds, sys.argv[3] or None, rules_of(sys.argv[4])).data()
+for it in sys.argv[5:]:
     print(it, run[it])
-' "$top/bin/lib" "$rounds" "$only" meshes subscribed lost figures events
+' "$top/bin/lib" "$rounds" "$only" "$rules" "${shown[@]}"
 }
 
 made_view() {
-  printf '%s\n' "${@:4}" | python3 "$top/bin/lib/view.py" run "$1" "$2" "$3" '' "$room/page"
+  printf '%s\n' "${@:4}" | python3 "$top/bin/lib/view.py" run "$1" "$2" "$3" '' '' "$room/page"
 }
 
 check_views() {
@@ -50,6 +52,7 @@ check_views() {
 gossip_view: line 1 of the trace: *' tried_view
   expect_like 'a page of a scenario that is refused' 1 '' '*told by gossip_*' refused_view
   check_pages
+  check_messages
   check_scores
 }
 
@@ -84,23 +87,65 @@ check_pages() {
   expect 'what a page has of a trace' 0 "meshes [[0, 1, 0, 0, 2]]
 subscribed [[0, 0, 0, 3]]
 lost [[0, 1, 2, 3]]
-figures [[0, 0, 0, 0, 1, 1], [1, 2, 1, 1, 1, 1], [0, 0, 0, 0, 0, 0]]
+figures [[0, 0, 0, 0, 0, 0, 0, 1, 1], [1, 1, 1, 0, 0, 0, 0, 1, 1], [0, 0, 0, 0, 0, 0, 0, 0, 0]]
 events [[[0, 14, -1, 0, -1, -1, [[0, 1, 0]]]], [[0, 3, 1, 0, 0, 0], [0, 3, 1, 0, 0, 1], [0, 6, 1, 1, -1, 0, [[20, 1, 1, 0]]]], [[0, 0, 1, -1, -1, -1, [[17, 0, 1], [18, 1]]], [0, 19, 1, -1, -1, -1, [[1, 1, 0]]]]]" \
     '' run_of '' '' "$head" "${lines[@]}"
   expect 'what a page has of a round' 0 "meshes [[0, 1, 0, 0, 2]]
 subscribed [[0, 0, 0, 3]]
 lost [[0, 1, 2, 3]]
-figures [[0, 0, 0, 0, 0, 0]]
+figures [[0, 0, 0, 0, 0, 0, 0, 0, 0]]
 events [[[0, 0, 1, -1, -1, -1, [[17, 0, 1], [18, 1]]], [0, 19, 1, -1, -1, -1, [[1, 1, 0]]]]]" '' run_of 2..9 '' "$head" "${lines[@]}"
   expect 'what a page has of a peer: what others heard of it' 0 "meshes [[0, 1, 0, 0, 2]]
 subscribed [[0, 0, 0, 3]]
 lost [[0, 1, 2, 3]]
-figures [[0, 0, 0, 0, 1, 1], [1, 2, 1, 1, 1, 1], [0, 0, 0, 0, 0, 0]]
+figures [[0, 0, 0, 0, 0, 0, 0, 1, 1], [1, 1, 1, 0, 0, 0, 0, 1, 1], [0, 0, 0, 0, 0, 0, 0, 0, 0]]
 events [[], [[0, 3, 1, 0, 0, 0], [0, 3, 1, 0, 0, 1]], []]" '' run_of '' b "$head" "${lines[@]}"
   expect 'a page of a peer that is not there' 64 '' 'gossip_view: the run has no peer c' made_view '' c '' "$head"
   expect 'a page of rounds after the last one' 64 '' 'gossip_view: the last round is 2, before those of --rounds' \
     made_view 3..4 '' '' "$head"
   expect 'a page of a trace that ends at once' 65 '' 'gossip_view: the trace has no line' no_lines
+}
+
+# What a page has of messages, and of what became of them. b and c are on the topic from round 0 on, and c hangs up on its only
+# neighbour in round 1. In round 1 a publishes 01, which b has in round 2. In round 2 it publishes ff, which b ignores, and
+# ignores again. In round 5 it publishes 01 once more, which it has forgotten, and b has not.
+check_messages() {
+  local head='{"peers":["a","b","c"],"round_ms":100,"last_round":6,"dials":[{"from":"a","to":"b"},{"from":"b","to":"c"}]}'
+  local nothing='"sent":[],"delivered":[],"promise":null,"marks":[]' one=aa other=bb lines shown=(figures publications) rules=$room/rules
+  lines=("$head" "$(subscribes 0 b)" "$(subscribes 0 c)" "$(subscribes 1 a)" "$(publishes 1 $one 01 a)"
+    '{"round":1,"at":100,"peer":"c","event":"hang_up","to":"b",'"$nothing"'}' "$(handles 2 $one 01 b accept)"
+    "$(publishes 2 $other ff a)" "$(handles 3 $other ff b ignore)" "$(handles 4 $other ff b)" "$(publishes 5 $one 01 a)")
+  printf '%s\n' 'params = { seen_ttl_ms = 400 }' 'topic = [{ name = "t", ignore = ["F"] }]' >"$rules"
+  expect 'what a page has of messages' 0 "figures [[0, 0, 0, 0, 0, 0, 0, None, None], [0, 0, 0, 0, 0, 0, 0, None, None], [1, 1, 0, 0, 0, 0, 0, None, None], [0, 0, 0, 1, 0, 0, 0, None, None], [0, 0, 0, 1, 0, 0, 0, None, None], [0, 0, 0, 0, 0, 0, 0, None, None], [0, 0, 0, 0, 0, 0, 0, None, None]]
+publications [[0, 0, 1, 'accept', [0], [1, 2], [(0, 1), (1, 2)]], [0, 1, 2, 'ignore', [0], [1], [(0, 2)]], [0, 0, 5, 'accept', [0], [1], [(0, 5), (1, 5)]]]" \
+    '' run_of '' '' "${lines[@]}"
+  expect 'what a page of one round has of messages' 0 "figures [[0, 0, 0, 0, 0, 0, 0, None, None]]
+publications [[0, 0, 5, 'accept', [0], [1], [(0, 5), (1, 5)]]]" '' run_of 5..5 '' "${lines[@]}"
+  expect 'what a page of one peer has of messages' 0 "figures [[0, 0, 0, 0, 0, 0, 0, None, None]]
+publications None" '' run_of 5..5 a "${lines[@]}"
+  echo 'params =' >"$rules"
+  expect 'what a page has of messages that it can not read the rules of' 0 "figures [[0, 0, 0, 0, 0, 0, 0, None, None]]
+publications None" '' run_of 5..5 '' "${lines[@]}"
+}
+
+# Lines of a trace: a peer comes onto the topic, publishes on it, or handles a message of a.
+subscribes() {
+  echo '{"round":'"$1"',"at":'"$(($1 * 100))"',"peer":"'"$2"'","event":"subscribe","topic":"t","sent":[],"delivered":[],"promise":null,"marks":[]}'
+}
+
+publishes() {
+  local mark='{"mark":"seen","id":"'$2'","verdict":"accept"}'
+  echo '{"round":'"$1"',"at":'"$(($1 * 100))"',"peer":"'"$4"'","event":"publish","topic":"t","data":"'"$3"'","id":"'"$2"'","sent":[],"delivered":[],"promise":null,"marks":['"$mark"']}'
+}
+
+handles() {
+  local part='{"from":null,"data":"'$3'","seqno":null,"topic":"t","signature":null,"key":null}' marks='' delivered=''
+  [ -z "${5-}" ] || marks='{"mark":"seen","id":"'$2'","verdict":"'$5'"}'
+  if [ "${5-}" = accept ]; then
+    delivered='{"topic":"t","data":"'$3'","id":"'$2'"}'
+    marks+=',{"mark":"first","peer":"a","topic":"t","id":"'$2'"}'
+  fi
+  echo '{"round":'"$1"',"at":'"$(($1 * 100))"',"peer":"'"$4"'","event":"message","from":"a","part":'"$part"',"id":"'"$2"'","sent":[],"delivered":['"$delivered"'],"promise":null,"marks":['"$marks"']}'
 }
 
 # What a page has of these lines of scores.
@@ -138,5 +183,5 @@ pairs [[0, 1, [0, 0, 0]]]' '' scores_of c "$head" '{"round":0,"at":0,"peer":"a",
 }
 
 no_lines() {
-  python3 "$top/bin/lib/view.py" run '' '' '' '' "$room/page"
+  python3 "$top/bin/lib/view.py" run '' '' '' '' '' "$room/page"
 }

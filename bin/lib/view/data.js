@@ -117,39 +117,19 @@ class RunData {
     events.splice(place, 0, turn);
   }
 
-  // Each publication: who was subscribed at the end of its round, and when it was delivered to whom, until the same was
-  // published again. A page of one peer has none, since it does not have all deliveries.
+  // Each message: who published it, who could get it, and in which round each peer had it.
   setPublications() {
-    this.publications = [];
-    const latest = new Map();
-    for (let round = this.first; this.only === null && round <= this.last; round++) {
-      for (const event of this.eventsOf(round)) {
-        const [peer, , , topic, item] = event;
-        const kind = this.kinds[event[1]];
-        const key = `${topic} ${item}`;
-        if (kind === 'publish') {
-          const same = latest.get(key);
-          const delivered = same && same.round === round ? same.delivered : new Map();
-          latest.set(key, { peer, topic, item, round, delivered, subscribers: this.subscribersOf(topic, round) });
-          this.publications.push(latest.get(key));
-        }
-        if (this.isDelivery(event) && latest.has(key)) latest.get(key).delivered.set(peer, round);
-      }
-    }
+    this.hasPublications = this.publications !== null;
+    this.publications = (this.publications || []).map(([topic, item, round, verdict, publishers, subscribers, had]) => (
+      { topic, item, round, verdict, publishers, subscribers, had: new Map(had) }));
   }
 
-  isDelivery(event) {
-    const kind = this.kinds[event[1]];
-    if (kind === 'message') return this.fates[event[5]] === 'new';
-    return kind === 'publish' && (event[6] || []).some((it) => this.effects[it[0]] === 'delivered');
-  }
-
-  // Of those who were subscribed, to whom a publication was delivered up to the end of a round, and to whom not.
+  // Of those who could get a message, whom it came to up to the end of a round, and whom not.
   reachOf(publication, round) {
     const came = [];
     const lacking = [];
     for (const peer of publication.subscribers) {
-      (publication.delivered.get(peer) <= round ? came : lacking).push(peer);
+      (publication.had.get(peer) <= round ? came : lacking).push(peer);
     }
     return { came, lacking };
   }
@@ -159,9 +139,8 @@ class RunData {
   }
 
   figuresOf(round) {
-    const [delivered, messages, fresh, duplicates, smallest, largest] = this.figures[round - this.first];
-    const meshes = { smallest_mesh: smallest, largest_mesh: largest };
-    return { delivered, messages_heard: messages, new: fresh, duplicates, ...meshes };
+    const figures = this.figures[round - this.first];
+    return Object.fromEntries(this.figure_names.map((name, place) => [name, figures[place]]));
   }
 
   // The links of a topic's mesh at the end of a round: from the peer whose mesh it is, to the member; `both` where each has

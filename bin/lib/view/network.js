@@ -106,7 +106,7 @@ class Network {
     }, 'the peer is not subscribed to the topic');
     item('has the message', (svg) => {
       svg.append('circle').attr('class', 'reached legend').attr('cx', 13).attr('cy', 7).attr('r', 4.5);
-    }, 'the message that is chosen below was delivered to the peer');
+    }, 'the peer published the message that is chosen below, or it was delivered to it');
     this.addLines(item, begin);
   }
 
@@ -199,7 +199,7 @@ class Network {
       const isPale = state.peer !== null && state.peer !== number && !run.neighbours[state.peer].includes(number);
       disc.attr('class', `peer ${it.name}`)
         .classed({ off: !isOn, chosen: state.peer === number, other: state.other === number, pale: isPale })
-        .classed('has', Boolean(state.publication) && state.publication.delivered.get(number) <= state.round);
+        .classed('has', Boolean(state.publication) && state.publication.had.get(number) <= state.round);
       disc.attr('aria-label', `peer ${name}`).select('.mark').text(it.mark);
       disc.select('title').text(`${name}: ${lowest ? `lowest score ${lowest.score}, by ${run.peers[lowest.by]}` : it.words}`
         + `${isOn ? '' : '; not subscribed'}`);

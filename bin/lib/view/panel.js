@@ -5,15 +5,19 @@
 const MOST_ROWS = 400;
 const FIGURES = [
   ['delivered', 'delivered', 'deliveries to users, the publisher’s own among them'],
-  ['messages_heard', 'heard', 'messages that were heard from neighbours'],
-  ['new', 'new', 'those that were new to the peer'],
-  ['duplicates', 'duplicates', 'those that had come before, or came on a topic off which the peer is'],
+  ['new', 'new', 'messages of neighbours that were accepted, and delivered'],
+  ['duplicates', 'duplicates', 'messages that were seen lately and had been accepted'],
+  ['ignored', 'ignored', 'messages that validation ignores, their copies among them'],
+  ['rejected', 'rejected', 'messages that validation rejects, their copies among them'],
+  ['signed', 'signed', 'messages with an author, a number, a signature or a key, which is not allowed'],
+  ['off_topic', 'off topic', 'messages on a topic that the peer was not subscribed to'],
   ['smallest_mesh', 'smallest', 'members of the smallest mesh, over all topics'],
   ['largest_mesh', 'largest', 'members of the largest mesh, over all topics'],
 ];
 const FIGURE_GROUPS = [
-  ['messages in this round, all topics', 4],
-  ['members of a mesh', 2],
+  ['', 1],
+  ['messages heard in this round, all topics', 6],
+  ['mesh members', 2],
 ];
 
 class FiguresPanel {
