@@ -1,4 +1,4 @@
-//! A picture of a run: who is in whose mesh of a topic, how neighbours score each peer, and how far each publication came.
+//! A picture of a run: who is in whose mesh of a topic, how some peers score each peer, and how far each message came to them.
 #![tactic(auto)]
 
 mod chart;
