@@ -7,6 +7,7 @@ mod courses;
 mod discs;
 mod edges;
 mod frame;
+mod laws;
 mod legend;
 mod pen;
 mod picture;
@@ -14,5 +15,6 @@ mod pieces;
 mod places;
 mod topic;
 
+pub use laws::the_thick_line_is_of_all_thin_ones;
 pub use picture::picture_svg;
 pub use topic::first_topic;
