@@ -43,7 +43,7 @@ path{fill:none}
 .course{stroke:#0969da;stroke-width:1.5}
 .some{stroke-opacity:.5}
 .many{stroke-opacity:.2}
-.all{stroke:#1f2328;stroke-width:4;stroke-opacity:.7}
+.all{stroke:#1f2328;stroke-width:5;stroke-opacity:.6}
 @media (prefers-color-scheme:dark){
 text,.off text{fill:#e6edf3}
 .back,.off circle{fill:#0d1117}
@@ -192,8 +192,8 @@ static LEAVING_DRAWN: [&str; 12] = [
     LEVELS,
     TEN_ROUNDS,
     "\
-<path class=\"course few\" d=\"M60 940H140V740H860\"/>
 <path class=\"course all\" d=\"M60 940H140V740H860\"/>
+<path class=\"course few\" d=\"M60 940H140V740H860\"/>
 ",
     "</g>\n</svg>\n",
 ];

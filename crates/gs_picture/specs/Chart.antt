@@ -112,9 +112,9 @@ chart_head names all = part ChartHead ++ among_text names ++ part ChartHeadEnds 
 abbrev pub axes_text : Axis → List ℕ
 axes_text axis = flat_map level_text levels ++ flat_map (tick_text axis) ticks
 
--- a thin line for each message, and the thick one
+-- the thick line, and on it a thin one for each message
 abbrev pub lines_text : Axis → Courses → List ℕ
-lines_text axis c = flat_map (line_text axis (line_kind (length c.each))) c.each ++ whole_text axis c.all
+lines_text axis c = whole_text axis c.all ++ flat_map (line_text axis (line_kind (length c.each))) c.each
 
 -- the chart on an axis
 abbrev pub chart_on : Axis → Option (List ℕ) → Courses → List ℕ

@@ -84,7 +84,7 @@ style_text =
     ++ codes ".publish circle{fill:#cf222e;stroke:#cf222e}\n.graylist circle{fill:#6e40c9;stroke:#6e40c9}\n"
     ++ codes ".unscored circle{fill:#6e7781;stroke:#6e7781}\n.off circle{fill:#fff}\n.off text{fill:#1f2328}\n"
     ++ codes ".grid{stroke:#d0d7de}\n.course{stroke:#0969da;stroke-width:1.5}\n.some{stroke-opacity:.5}\n"
-    ++ codes ".many{stroke-opacity:.2}\n.all{stroke:#1f2328;stroke-width:4;stroke-opacity:.7}\n@media (prefers-color-scheme:dark){\ntext,.off text{fill:#e6edf3}\n"
+    ++ codes ".many{stroke-opacity:.2}\n.all{stroke:#1f2328;stroke-width:5;stroke-opacity:.6}\n@media (prefers-color-scheme:dark){\ntext,.off text{fill:#e6edf3}\n"
     ++ codes ".back,.off circle{fill:#0d1117}\n.both{stroke:#9198a1}\n.grid{stroke:#30363d}\n"
     ++ codes ".course{stroke:#58a6ff}\n.all{stroke:#e6edf3}\n}\n</style>\n"
     ++ codes "<defs><marker id=\"head\" refX=\"18\" refY=\"5\" markerWidth=\"10\" markerHeight=\"10\" "

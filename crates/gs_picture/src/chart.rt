@@ -189,7 +189,7 @@ fn push_tick_at(
     push_piece(text, Piece::TextEnds)
 }
 
-/// Adds a thin line for each course, and a thick one for all pairs in them together.
+/// Adds a thick line for all pairs together, and on it a thin one for each course.
 fn push_lines(
     alloc: Global,
     text: &mut Vec<u8>,
@@ -198,9 +198,9 @@ fn push_lines(
 ) -> Result<(), AllocError>
     ensures { OnOk result (text.new.items ≡ text.old.items ++ lines_text axis courses.now) }
 {
+    push_whole(alloc, text, axis, courses.all.as_slice())?;
     let kind = line_kind(courses.each.len());
-    push_each_line(alloc, text, axis, kind, courses.each.as_slice())?;
-    push_whole(alloc, text, axis, courses.all.as_slice())
+    push_each_line(alloc, text, axis, kind, courses.each.as_slice())
 }
 
 fn push_each_line(

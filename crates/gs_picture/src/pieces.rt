@@ -53,7 +53,7 @@ path{fill:none}
 .course{stroke:#0969da;stroke-width:1.5}
 .some{stroke-opacity:.5}
 .many{stroke-opacity:.2}
-.all{stroke:#1f2328;stroke-width:4;stroke-opacity:.7}
+.all{stroke:#1f2328;stroke-width:5;stroke-opacity:.6}
 @media (prefers-color-scheme:dark){
 text,.off text{fill:#e6edf3}
 .back,.off circle{fill:#0d1117}

@@ -52,9 +52,9 @@ const LINE_DRAWN: &[&str] = &[
     LEVELS,
     TEN_ROUNDS,
     "\
-<path class=\"course few\" d=\"M60 940H140V840H860\"/>
-<path class=\"course few\" d=\"M60 940H140V840H860\"/>
 <path class=\"course all\" d=\"M60 940H140V840H860\"/>
+<path class=\"course few\" d=\"M60 940H140V840H860\"/>
+<path class=\"course few\" d=\"M60 940H140V840H860\"/>
 ",
     "</g>\n</svg>\n",
 ];
@@ -86,9 +86,9 @@ const LINE_BY_H: &[&str] = &[
     LEVELS,
     TEN_ROUNDS,
     "\
+<path class=\"course all\" d=\"M60 940H140V807H860\"/>
 <path class=\"course few\" d=\"M60 940H140V740H860\"/>
 <path class=\"course few\" d=\"M60 940H140V840H860\"/>
-<path class=\"course all\" d=\"M60 940H140V807H860\"/>
 ",
     "</g>\n</svg>\n",
 ];
@@ -122,8 +122,8 @@ x,&lt;&amp;&gt;,3456789,3456789,3456789,12.. that each message reached</text>
     LEVELS,
     TEN_ROUNDS,
     "\
-<path class=\"course few\" d=\"M60 940H860\"/>
 <path class=\"course all\" d=\"M60 940H860\"/>
+<path class=\"course few\" d=\"M60 940H860\"/>
 ",
     "</g>\n</svg>\n",
 ];
@@ -215,9 +215,9 @@ const CHAIN_DRAWN: &[&str] = &[
 <path class=\"grid\" d=\"M860 740V940\"/><text class=\"middle\" x=\"860\" y=\"958\">12</text>
 ",
     "\
+<path class=\"course all\" d=\"M60 940H126V913H193V886H260V859H326V831H393V804H460V786H526V777H593V768H660V759H726V750H793V740H860\"/>
 <path class=\"course few\" d=\"M60 940H126V922H193V904H260V886H326V868H393V850H460V831H526V813H593V795H660V777H726V759H793V740H860\"/>
 <path class=\"course few\" d=\"M60 940H126V904H193V868H260V831H326V795H393V759H460V740H860\"/>
-<path class=\"course all\" d=\"M60 940H126V913H193V886H260V859H326V831H393V804H460V786H526V777H593V768H660V759H726V750H793V740H860\"/>
 ",
     "</g>\n</svg>\n",
 ];
