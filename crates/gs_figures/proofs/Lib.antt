@@ -1,9 +1,0 @@
-mod Sums
-mod Lanes
-mod Frames
-mod Joining
-mod Ranking
-mod Filing
-mod MeshMembers
-mod RoundTable
-mod LinkBytes

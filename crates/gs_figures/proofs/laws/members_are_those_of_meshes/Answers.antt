@@ -1,5 +1,0 @@
-use Rattle.gs_figures.proofs.MeshMembers.{as_many}
-use Rattle.gs_figures.proofs.laws.members_are_those_of_meshes.Goals as goal
-
-pub returns : goal.returns
-returns c = λ t L. as_many t L

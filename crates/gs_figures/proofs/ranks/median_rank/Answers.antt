@@ -1,5 +1,0 @@
-use Rattle.std.proofs.Common.{arith}
-use Rattle.gs_figures.proofs.ranks.median_rank.Goals as goal
-
-pub returns : goal.returns
-returns c = omega arith

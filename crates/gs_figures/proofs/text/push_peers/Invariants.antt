@@ -1,8 +1,0 @@
-use Rattle.std.proofs.Common.{◌≡◌, ◌++◌, take}
-use Rattle.std.specs.List.{flat_map}
-use Rattle.gs_figures.specs.Texts.{peer_row}
-use Rattle.gs_figures.proofs.text.push_peers.Given as goal
-
--- the rows of the peers so far come after what was there
-abbrev pub invariant-loop-figures : goal.invariant-loop-figures
-invariant-loop-figures l = l.text.items ≡ l.initial.text.items ++ flat_map (peer_row l.form l.plan) (take l.figures-index l.peers)
