@@ -1,5 +1,5 @@
 # shellcheck shell=bash disable=SC2154,SC2034
-# What bin/gossip_sim, gossip_stats, gossip_reach, gossip_picture, gossip_trace, gossip_scores and gossip_view have in common:
+# What bin/gossip_sim, gossip_stats, gossip_picture, gossip_trace, gossip_scores and gossip_view have in common:
 # the options of a run, its input, and its programs, proved or not. Each of them sets `top` to the repository's folder, `tool` to its own
 # name, `program` to the program that it runs (none where the scenario is printed) and `what` to what that prints, and has
 # `usage`, and `take_option` for the options of its own.

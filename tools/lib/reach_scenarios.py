@@ -1,6 +1,6 @@
 """Random scenarios in which messages come late, twice, to few or to nobody, for tools/check_traces. A payload is published
 by several peers at one moment, and again while it is remembered and after that. Peers subscribe late, leave and hang up.
-And a scenario of messages so long that hardly two go out as one RPC."""
+And a scenario of messages so long that hardly two go out as one RPC, and one of topics of all bytes that there are."""
 from hard_scenarios import Hard, table, text
 from scenario import wire
 
@@ -62,12 +62,35 @@ def large_scenario():
     half = wire.MOST_BODY // 2
     around = len(wire.field("Message", 2, {"data": bytes(half), "topic": b"t"})) - half
     rest = wire.MOST_BODY - half - 2 * around
+    lines = []
+    for number, length in enumerate((half, rest, half, rest + 1)):
+        payload = bytes([number]).hex() + "00" * (length - 1)
+        lines.append({"at": 3 + number // 2 * 3, "peer": "p", "what": "publish", "topic": "t", "hex": payload})
+    return of_two(lines)
+
+
+def strange_scenario():
+    """Topics of each byte that there is, of all, of none, and one that is absent, in an RPC that a peer puts on its link."""
+    topics = *(bytes([it]) for it in range(256)), bytes(range(256)), b"", None
+    offers = [on_topic(it, messageIDs=[wire.identifier(b"1")]) for it in topics]
+    rpc = {
+        "subscriptions": [on_topic(it, "topicid", subscribe=True) for it in topics],
+        "publish": [on_topic(it, "topic", data=b"1") for it in topics],
+        "control": {"ihave": offers, "graft": [on_topic(it) for it in topics]},
+    }
+    return of_two([{"at": 3, "peer": "p", "what": "raw", "to": "q", "hex": wire.frame(rpc).hex()}])
+
+
+def on_topic(topic, key="topicID", **rest):
+    """The fields of a part of an RPC; of an absent topic only the others."""
+    return rest if topic is None else rest | {key: topic}
+
+
+def of_two(lines):
+    """A scenario of the peers p and q, both on the topic t."""
     head = {"round_ms": 100, "rounds": 12, "workers": 1, "capacity": 64, "seed": 1}
     parts = ["".join(f"{key} = {value}\n" for key, value in head.items()), table("topic", {"name": text("t")})]
     parts += [table("peer", {"name": text(it)}) for it in "pq"] + [table("dial", {"from": text("p"), "to": text("q")})]
-    lines = [{"at": at, "peer": text(it), "what": text("subscribe"), "topic": text("t")} for at, it in ((0, "p"), (1, "q"))]
-    for number, length in enumerate((half, rest, half, rest + 1)):
-        payload = text(bytes([number]).hex() + "00" * (length - 1))
-        line = {"at": 3 + number // 2 * 3, "peer": text("p"), "what": text("publish"), "topic": text("t"), "hex": payload}
-        lines.append(line)
-    return "".join(parts + [table("do", it) for it in lines])
+    lines = [{"at": at, "peer": it, "what": "subscribe", "topic": "t"} for at, it in ((0, "p"), (1, "q"))] + lines
+    parts += [table("do", {key: it if key == "at" else text(it) for key, it in line.items()}) for line in lines]
+    return "".join(parts)

@@ -21,13 +21,15 @@ STATE = (
     "delivered grafted grafted_by_neighbour grafted_by_heartbeat pruned pruned_by_neighbour pruned_by_heartbeat pruned_by_loss"
 ).split()
 COUNTS = [*HEARD, *SENT, *NOTHING, *STATE]
+# What goes over a link to a peer is what the other one puts there: a column of peers only.
+OF_BYTES = {"bytes_heard": "bytes_sent", "raw_bytes_heard": "raw_bytes_sent"}
 # The six things that become of a message that is handled.
 FATES = "new", "duplicates", "ignored", "rejected", "signed", "off_topic"
 STEPS = "heartbeat", "mesh", "fanout", "gossip", "fanout_end", "heartbeat_end"
 LOSSES = "gone", "fault"
 # What belongs to no topic, and what concerns no neighbour.
 OF_NO_TOPIC = {
-    *"rpcs_heard bytes_heard raw_bytes_heard iwant_heard ids_asked rpcs_sent bytes_sent raw_bytes_sent".split(),
+    *"rpcs_heard iwant_heard ids_asked rpcs_sent bytes_sent raw_bytes_sent".split(),
     *"message_bytes_sent control_bytes_sent subscription_bytes_sent iwant_sent ids_asked_sent".split(),
     *"rpcs_graylisted rpcs_late faults promises_broken refused_lines".split(),
     *"ids_not_sent_score ids_not_sent_too_often ids_not_sent_not_kept".split(),
@@ -110,7 +112,7 @@ class Peer:
         word, part = line["event"], line.get("part", {})
         if word == "refused":
             yield self.name, None, None, "refused_lines", 1
-        elif word == "heard":
+        elif word == "heard" and all(it["what"] != "graylisted" for it in line["fell_away"]):
             yield self.of(line["from"], None, "rpcs_heard")
         elif word == "fault":
             yield self.of(line["from"], None, "faults")
@@ -219,21 +221,19 @@ def cause_of(event):
     return "heartbeat" if event in STEPS else "loss" if event in LOSSES else None
 
 
-def happenings(trace, of):
-    """All that happened by the traces of these peers. What is sent over a link is also what the peer at its end hears."""
-    for name in of:
+def happenings(trace):
+    """All that happened, by whose trace says so."""
+    found = {}
+    for name in trace.names:
         peer = Peer(name)
-        for line in trace.of(name):
-            for it in peer.see(line):
-                yield it
-                if it.column in ("bytes_sent", "raw_bytes_sent"):
-                    yield it._replace(whose=it.link[1], column=it.column.replace("sent", "heard"))
+        found[name] = [it for line in trace.of(name) for it in peer.see(line)]
+    return found
 
 
-def sizes_of_meshes(trace, of):
-    """Of each peer how many members its meshes had at the end of each round, and at the end of the run: (name, round or
-    None, size)."""
-    for name in of:
+def sizes_of_meshes(trace):
+    """How many members the meshes of peers had at the end of each round, and at the end of the run: (name, round or None,
+    size)."""
+    for name in trace.names:
         peer, is_up = Peer(name), True
         for line in trace.of(name):
             peer.see(line)

@@ -4,12 +4,11 @@ import collections
 import itertools
 import json
 
-from read_counts import COUNTS, OF_NO_LINK, OF_NO_TOPIC, happenings, sizes_of_meshes
+from read_counts import COUNTS, OF_BYTES, OF_NO_LINK, OF_NO_TOPIC, happenings, sizes_of_meshes
 from read_reach import NEVER, Reach, at_share, chosen, share_of
 from read_scores import shown
 
 SUBJECTS = "--rounds", "--topics", "--links"
-PARTS_OF_CHOICES = 4
 SHARES = {"median_round": 50, "round_90": 90, "last_round": 100}
 
 # What is asked for: PEERS or None, groups as (NAME, PEERS), and the sheet that stands in the place of the ordinary ones.
@@ -68,35 +67,28 @@ class Figures:
         lines = [it.split(" ") for it in report.splitlines()]
         self.last_scores = [(it[1], it[2], millionths(it[3])) for it in lines if it[0] == "score"]
         self.members = [it[1:] for it in lines if it[0] == "mesh"]  # peer, topic, member
-        self.kept = {}
+        self.happened, self.sizes = happenings(trace), list(sizes_of_meshes(trace))
 
     def sheets(self, wanted):
         """The sheets by their names, each as rows."""
-        of = chosen(self.trace.names, wanted.of)
-        it = Sheets(self, [name for name in self.trace.names if name in of], wanted)
+        it = Sheets(self, wanted)
         if wanted.subject:
-            return {wanted.subject[2:]: list(getattr(it, wanted.subject[2:])())}
+            return {wanted.subject[2:]: getattr(it, wanted.subject[2:])()}
         found = self.reach.sheets(wanted.by, wanted.of) | {"peers": it.peers()}
         return found | {"groups": it.group_pairs()} if wanted.groups else found
-
-    def of_traces(self, of):
-        """What happened by the traces of these peers, and the sizes of their meshes."""
-        key = tuple(of)
-        if key not in self.kept:
-            self.kept[key] = list(happenings(self.trace, of)), list(sizes_of_meshes(self.trace, of))
-        return self.kept[key]
 
 
 class Sheets:
     """The sheets by the traces of some peers."""
 
-    def __init__(self, run, of, wanted):
-        self.run, self.of, self.wanted = run, of, wanted
-        self.names = run.trace.names
+    def __init__(self, run, wanted):
+        self.run, self.wanted, self.names = run, wanted, run.trace.names
+        self.of = chosen(self.names, wanted.of)
         self.groups = [(name, chosen(self.names, peers)) for name, peers in wanted.groups]
-        self.happened, self.sizes = run.of_traces(of)
-        self.scores = [it for it in run.scores if it.by in of]
-        self.last_scores = [it for it in run.last_scores if it[0] in of]
+        self.happened = [it for name, found in run.happened.items() if name in self.of for it in found]
+        self.sizes = [it for it in run.sizes if it[0] in self.of]
+        self.scores = [it for it in run.scores if it.by in self.of]
+        self.last_scores = [it for it in run.last_scores if it[0] in self.of]
 
     def counts(self, key_of):
         """The counts, by what the key of a happening is."""
@@ -107,8 +99,12 @@ class Sheets:
 
     def peers(self):
         counts = self.counts(lambda it: it.whose)
-        rows = [(name, {name}) for name in self.of]
-        rows += [(f"({name})", members) for name, members in self.groups] + [("(all)", set(self.names))]
+        for found in self.run.happened.values():
+            for it in found:
+                for heard in (heard for heard, sent in OF_BYTES.items() if sent == it.column):
+                    counts[it.link[1]][heard] += it.amount
+        rows = [(name, {name}) for name in self.names if name in self.of]
+        rows += [(f"({name})", members & self.of) for name, members in self.groups] + [("(all)", self.of)]
         return [self.peer_row(name, members, counts) for name, members in rows]
 
     def peer_row(self, name, members, counts):
@@ -122,7 +118,7 @@ class Sheets:
         return row
 
     def group_pairs(self):
-        pairs = list(self.run.reach.pairs(self.wanted.by, self.wanted.of))
+        pairs = list(self.run.reach.pairs(None, self.wanted.of))
         links = self.counts(lambda it: it.link)
         return [self.group_row(one, other, pairs, links) for one, other in itertools.product(self.groups, repeat=2)]
 
@@ -147,7 +143,8 @@ class Sheets:
         return [self.round_row(it, counts[it]) for it in range(self.run.trace.head["last_round"] + 1)]
 
     def round_row(self, number, counts):
-        row = {"round": number} | {column: counts[column] for column in COUNTS}
+        """What happened in a round, with a column lowest_score_NAME for each group."""
+        row = {"round": number} | {column: counts[column] for column in COUNTS if column not in OF_BYTES}
         row["smallest_mesh"], row["largest_mesh"] = ends(size for _, end, size in self.sizes if end == number)
         scores = [it for it in self.scores if it.round == number]
         row["lowest_score"] = as_score(min((it.amount for it in scores), default=None))
@@ -158,15 +155,15 @@ class Sheets:
     def topics(self):
         counts = self.counts(lambda it: it.topic)
         topics = sorted((it for it in counts if it is not None), key=lambda it: it.encode("latin-1"))
-        columns = [it for it in COUNTS if it not in OF_NO_TOPIC]
+        columns = [it for it in COUNTS if it not in OF_NO_TOPIC and it not in OF_BYTES]
         return [{"topic": it} | {column: counts[it][column] for column in columns} for it in topics]
 
     def links(self):
         counts = self.counts(lambda it: it.link)
-        columns = [it for it in COUNTS if it not in OF_NO_LINK]
-        for name in self.names:
-            near = [it for it in self.names if it in self.run.reach.near[name]]
-            yield from ({"from": name, "to": it} | {column: counts[name, it][column] for column in columns} for it in near)
+        columns = [it for it in COUNTS if it not in OF_NO_LINK and it not in OF_BYTES]
+        near = self.run.reach.near
+        links = [(one, to) for one in self.names for to in self.names if to in near[one] and {one, to} & self.of]
+        return [{"from": one, "to": to} | {column: counts[one, to][column] for column in columns} for one, to in links]
 
 
 def differences(found, wanted):
@@ -187,20 +184,20 @@ def row_differences(place, row, other):
         aside = [it for it in (*row, *other) if (it in row) != (it in other)]
         yield f"{place} has other columns: {aside or 'in another order'}"
     for key in (it for it in other if it in row and row[it] != other[it]):
-        begin = ", ".join(str(it) for it in list(other.values())[:2])
-        yield f"{place} ({begin}): {key} is {row[key]}, and {other[key]} by the trace"
+        begin = ", ".join(map(ascii, list(other.values())[:2]))
+        yield f"{place} ({begin}): {key} is {row[key]!a}, and {other[key]!a} by the trace"
 
 
-def figure_choices(names, number=None):
-    """The options of gossip_stats that are tried on a run of these peers. With a number it is a part of them."""
+def figure_choices(names):
+    """The options of gossip_stats that are tried on a run of these peers."""
     some = ",".join(names[:2])
     halves = ["--group", f"one={','.join(names[::2])}", "--group", f"q_and-2={','.join(names[1::3])},q*"]
     everybody = ["--group", "All=*", "--group", "none=nobody"]
     mixed = ["--by", f"{names[-1]},none", "--of", f"{names[0]},q*,p*"]
-    choices = [["--of", some, *halves], ["--by", "p*"], ["--of", some], [*mixed, *halves], [*everybody, *halves]]
+    yield from ([], ["--by", "p*"], ["--of", some], ["--of", some, *halves], ["--of", "nobody", *halves])
+    yield from ([*mixed, *halves], [*everybody, *halves])
     for subject in SUBJECTS:
-        choices += [subject], [subject, "--of", some], [*halves, subject, *mixed]
-    return [[], *(choices if number is None else choices[number % PARTS_OF_CHOICES :: PARTS_OF_CHOICES])]
+        yield from ([subject], [subject, "--of", some], [*halves, subject, *mixed])
 
 
 def figure_differences(run, printed, words):

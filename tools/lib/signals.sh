@@ -64,7 +64,7 @@ change_library() {
 
 compile_all() {
   local it
-  for it in 'gossip_sim --check' 'gossip_sim --seed 1' gossip_stats gossip_reach gossip_picture gossip_trace gossip_scores; do
+  for it in 'gossip_sim --check' 'gossip_sim --seed 1' gossip_stats gossip_picture gossip_trace gossip_scores; do
     # shellcheck disable=SC2086 # (they are words)
     in_tree tried=0 $it <"$example" >/dev/null 2>&1
   done
@@ -87,7 +87,6 @@ check_signals() {
   check_end 'a run' 'INT TERM HUP' tried=long "$bin/gossip_sim"
   check_end 'a check' TERM tried=long "$bin/gossip_sim" --check
   check_end 'figures' INT tried=long "$bin/gossip_stats" --csv
-  check_end 'reach' INT tried=long "$bin/gossip_reach"
   check_end 'a picture' HUP tried=long "$bin/gossip_picture"
   check_end 'a trace' TERM tried=long "$bin/gossip_trace"
   check_end 'scores' TERM tried=long "$bin/gossip_scores"

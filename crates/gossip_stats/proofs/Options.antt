@@ -1,5 +1,5 @@
 -- What options ask for, one after the other.
-use Rattle.std.proofs.Common.{◌≡◌, ◌≤◌, ℕ, Bool, true, false, if◌then◌else◌, List, [], ◌∷◌, Option, Some, drop, get_or, length, map, sym, ap, ◌∙◌, arith}
+use Rattle.std.proofs.Common.{◌≡◌, ◌≤◌, ℕ, Bool, true, false, if◌then◌else◌, List, [], ◌∷◌, Some, drop, get_or, length, map, sym, ap, ◌∙◌, arith}
 use Rattle.gossip_stats.specs.Arguments.{Wishes, asked_from, is_word, with_option, with_word}
 
 -- an option without a value asks for what it does, and the arguments after it for the rest

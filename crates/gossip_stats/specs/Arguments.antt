@@ -1,5 +1,5 @@
 -- What the program's arguments ask for.
-use Rattle.std.specs.Prelude.{ℕ, Bool, true, false, not, ◌==◌, ◌&&◌, ◌||◌, nat_le, nat_lt, List, [], ◌∷◌, ◌++◌, codes, length, map, Option, Some, None, is_some, if◌then◌else◌}
+use Rattle.std.specs.Prelude.{ℕ, Bool, not, ◌==◌, ◌&&◌, ◌||◌, nat_le, nat_lt, List, [], ◌∷◌, ◌++◌, codes, length, map, Option, Some, None, is_some, if◌then◌else◌}
 use Rattle.std.specs.Char.{is_ascii_alphanumeric}
 use Rattle.std.specs.List.{list_all, list_any, before_first, after_first, position_or_len}
 use Rattle.gs_rules.specs.Rules.{same_bytes}
@@ -83,7 +83,11 @@ abbrev pub adding : Wishes → GroupWish → Option Wishes
 adding w g =
     if length w.groups == 16 || is_taken w.groups g.name then None
     else Some (record {
-      by = w.by; among = w.among; groups = w.groups ++ g ∷ []; subject = w.subject; form = w.form
+      by = w.by;
+      among = w.among;
+      groups = w.groups ++ g ∷ [];
+      subject = w.subject;
+      form = w.form;
     })
 
 abbrev pub with_group : Wishes → Option GroupWish → Option Wishes
@@ -148,6 +152,15 @@ asked_from (Some w) (name ∷ value ∷ more) =
 -- what the arguments ask for: all of a run, as tables, where there are none
 abbrev pub asked_for : List (List ℕ) → Option Wishes
 asked_for arguments = asked_from (Some no_wish) arguments
+
+-- ---- options in any order
+
+-- the arguments of an option with this name: only the name, or a value after it
+abbrev pub option_words : List ℕ → List ℕ → List (List ℕ)
+option_words name value = if is_word name then name ∷ [] else name ∷ value ∷ []
+
+abbrev pub is_group_option : List ℕ → Bool
+is_group_option name = same_bytes name (codes "--group")
 
 -- what is said where they ask for nothing that there is
 unfoldable pub usage : List ℕ

@@ -1,8 +1,8 @@
 //! What the program's arguments ask for.
-ghost use Rattle.std.specs.Prelude.{◌≡◌, [], Some, map, option_map, string_bytes};
+ghost use Rattle.std.specs.Prelude.{◌≡◌, ◌++◌, ◌&&◌, ℕ, [], false, List, Some, map, option_map, string_bytes};
 ghost use Rattle.std.specs.Process.{exit_status};
 ghost use Rattle.gs_program.specs.Arguments.{IsRefusedSo, wrong_arguments};
-ghost use Rattle.gossip_stats.specs.Arguments.{adding, are_name_bytes, asked_for, asked_from, form_in, group_in, group_of, is_group_name, is_name_byte, is_taken, is_word, no_wish, subject_in, usage, wishes_of, with_among, with_by, with_form, with_group, with_option, with_subject, with_word};
+ghost use Rattle.gossip_stats.specs.Arguments.{Wishes, adding, are_name_bytes, asked_for, asked_from, form_in, group_in, group_of, is_group_name, is_group_option, is_name_byte, is_taken, is_word, no_wish, option_words, subject_in, usage, wishes_of, with_among, with_by, with_form, with_group, with_option, with_subject, with_word};
 
 use arrayvec::ArrayVec;
 use gs_figure_sheets::{Choice, Subject};
@@ -53,6 +53,14 @@ pub fn asked_by(arguments: &[String]) -> Option<Asked<'_>>
 {
     asked_from(all_of_it(), arguments)
 }
+
+/// Options ask for the same in any order, but for that of groups. The law is about its definitions only, and its function does
+/// nothing.
+pub fn options_come_in_any_order()
+    ensures { (w : Wishes) (n v m u : List ℕ) (more : List (List ℕ)) → (is_group_option n && is_group_option m) ≡ false
+        → asked_from (Some w) (option_words n v ++ (option_words m u ++ more))
+        ≡ asked_from (Some w) (option_words m u ++ (option_words n v ++ more)) }
+{}
 
 fn all_of_it<'a>() -> Asked<'a>
     ensures { wishes_of result ≡ no_wish }

@@ -86,8 +86,8 @@ class Wrappers(unittest.TestCase):
         self.put_program("gossip_stats", f'#!/bin/sh\ncat >"{self.folder}/$$.seen"\nexec {PROGRAMS["gossip_stats"]} "$@" <"{self.folder}/$$.seen"\n')
         with open(f"{self.folder}/it.toml", "w", encoding="utf-8") as file:
             file.write(DESCRIPTION.replace('"ring"', '"random"\ndegree = 3').replace("count = 4", "count = 20"))
-        ended = self.run_in_tree("sweep", "--networks", "4,5", "--columns", "status,publications", "it.toml")
-        self.assertEqual(ended, (0, b"network,status,publications\n4,0,6\n5,0,6\n", ""))
+        ended = self.run_in_tree("sweep", "--networks", "4,5", "--columns", "status,messages", "it.toml")
+        self.assertEqual(ended, (0, b"network,status,messages\n4,0,6\n5,0,6\n", ""))
         seen = set()
         for it in os.listdir(self.folder):
             if it.endswith(".seen"):
@@ -126,6 +126,6 @@ class Wrappers(unittest.TestCase):
 
     def test_a_sweep_of_a_description(self):
         self.put_program("gossip_stats", f'#!/bin/sh\nexec {PROGRAMS["gossip_stats"]} "$@"\n')
-        ended = self.run_in_tree("sweep", "--columns", "status,publications", "it.toml")
+        ended = self.run_in_tree("sweep", "--columns", "status,messages", "it.toml")
         # (one a second, from 0 to 5)
-        self.assertEqual(ended, (0, b"status,publications\n0,6\n", ""))
+        self.assertEqual(ended, (0, b"status,messages\n0,6\n", ""))

@@ -2,8 +2,8 @@
 //! each column that there is.
 use std::alloc::{AllocError, Global};
 
-/// What CSV says: a line for each row, and an empty one between two tables. A cell of 0 and a score of 0 are left out, and
-/// each other one stands there as `name=cell`.
+/// What CSV says: a line for each row, and an empty one between two tables. A cell of 0 and a score of 0 are left out, but
+/// for the first of a row. Each other one stands there as `name=cell`.
 pub(crate) fn named_in_csv(alloc: Global, csv: &[u8]) -> Result<String, AllocError> {
     let mut text = String::new(alloc);
     for table in str::from_utf8(csv).unwrap_or("no UTF-8").split("\n\n") {
@@ -35,27 +35,14 @@ fn push_row(text: &mut String, header: &str, row: &str) -> Result<(), AllocError
 }
 
 fn push_cell(text: &mut String, name: &str, cell: &str) -> Result<(), AllocError> {
-    if cell == "0" || cell == "0.000000" {
+    let is_first = text.is_empty() || text.ends_with('\n');
+    if !is_first && (cell == "0" || cell == "0.000000") {
         return Ok(());
     }
-    if !text.is_empty() && !text.ends_with('\n') {
+    if !is_first {
         text.push_str(" ")?;
     }
     text.push_str(name)?;
     text.push_str("=")?;
     text.push_str(cell)
-}
-
-/// What JSON says, but for the members that are 0. The last member of a row stays.
-pub(crate) fn named_in_json(alloc: Global, json: &[u8]) -> Result<String, AllocError> {
-    let mut text = String::new(alloc);
-    for member in str::from_utf8(json)
-        .unwrap_or("no UTF-8")
-        .split_inclusive(',')
-    {
-        if !member.ends_with(":0,") && !member.ends_with(":0.000000,") {
-            text.push_str(member)?;
-        }
-    }
-    Ok(text)
 }
