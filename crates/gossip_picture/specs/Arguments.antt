@@ -1,20 +1,41 @@
 -- What the program's arguments ask for.
-use Rattle.std.specs.Prelude.{ℕ, List, [], ◌∷◌, codes, Option, Some, None}
+use Rattle.std.specs.Prelude.{ℕ, Bool, List, [], ◌∷◌, codes, Option, Some, None, if◌then◌else◌}
+use Rattle.gs_rules.specs.Rules.{same_bytes}
+use Rattle.gs_figure_sheets.specs.Choices.{spelled}
 use Rattle.gossip_picture.specs.declared.arguments.Asked.{Asked}
-use Rattle.gossip_picture.specs.declared.arguments.Asked.TheVariants.{First, Named}
+use Rattle.gossip_picture.specs.declared.arguments.Subject.{Subject}
+use Rattle.gossip_picture.specs.declared.arguments.Subject.TheVariants.{First, Named}
+
+-- What is asked for: the topic of a name, or the first one where there is no name, and by which peers, or by all.
+pub record Wishes : Type 0 where
+  pub topic : Option (List ℕ)
+  pub among : Option (List ℕ)
 
 -- the name of the topic that is asked for: none where it is the first one
-abbrev pub name_in : Asked → Option (List ℕ)
+abbrev pub name_in : Subject → Option (List ℕ)
 name_in First = None
 name_in (Named name) = Some name.now
 
--- What the arguments ask for: the first topic where there are none, and the topic of a name where that is the only
--- argument. Several ask for nothing that there is.
-abbrev pub asked_for : List (List ℕ) → Option (Option (List ℕ))
-asked_for [] = Some None
-asked_for (name ∷ []) = Some (Some name)
-asked_for (name ∷ other ∷ more) = None
+abbrev pub wishes_of : Asked → Wishes
+wishes_of asked = record { topic = name_in asked.topic; among = spelled asked.among }
 
--- what is said where they are too many
-abbrev pub usage : List ℕ
-usage = codes "usage: gossip_picture [TOPIC]\n"
+-- the word that the names of peers come after
+abbrev pub is_option : List ℕ → Bool
+is_option word = same_bytes word (codes "--of")
+
+-- the topic of a name, where that is not this word
+abbrev pub named : List ℕ → Option (List ℕ) → Option Wishes
+named name among = if is_option name then None else Some (record { topic = Some name; among = among })
+
+-- What the arguments ask for: a topic at most, and before or after it the names of peers at most. Others ask for nothing that
+-- there is.
+abbrev pub asked_for : List (List ℕ) → Option Wishes
+asked_for [] = Some (record { topic = None; among = None })
+asked_for (name ∷ []) = named name None
+asked_for (x ∷ y ∷ []) = if is_option x then Some (record { topic = None; among = Some y }) else None
+asked_for (x ∷ y ∷ z ∷ []) = if is_option x then named z (Some y) else if is_option y then named x (Some z) else None
+asked_for (x ∷ y ∷ z ∷ other ∷ more) = None
+
+-- what is said where they ask for nothing that there is
+unfoldable pub usage : List ℕ
+usage = codes "usage: gossip_picture [--of PEERS] [TOPIC]\n"

@@ -1,5 +1,4 @@
-//! Prints a picture of a run: reads a scenario, runs it, and draws the meshes of a topic and how far its publications
-//! came.
+//! Prints a picture of a run: reads a scenario, runs it, and draws the meshes of a topic and how far its messages came.
 #![tactic(auto)]
 
 mod arguments;

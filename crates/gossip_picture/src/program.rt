@@ -2,10 +2,10 @@
 ghost use Rattle.std.specs.Prelude.{◌≡◌, false, IfOk, map, string_bytes};
 ghost use Rattle.std.specs.Process.{exit_status};
 ghost use Rattle.gs_program.specs.Program.{EndsWith};
-ghost use Rattle.gossip_picture.specs.Arguments.{asked_for, name_in};
+ghost use Rattle.gossip_picture.specs.Arguments.{asked_for, name_in, wishes_of};
 ghost use Rattle.gossip_picture.specs.Printed.{EndsFor, printed, topic_in};
 
-use crate::arguments::{Asked, asked_of, refuse};
+use crate::arguments::{Asked, Subject, asked_of, refuse};
 use bytes::Bytes;
 use gs_base::{Topic, clone_of};
 use gs_picture::{first_topic, picture_svg};
@@ -16,14 +16,14 @@ use std::alloc::{AllocError, Global};
 use std::io::{Read, Write};
 use std::process::ExitCode;
 
-/// Makes the picture of a run for a topic.
+/// Makes the picture of a run that is asked for.
 #[derive(Clone, Copy, Debug, Drop)]
 struct PictureOf<'a> {
     asked: Asked<'a>,
 }
 
 impl<'a> Printer for PictureOf<'a> {
-    ghost text = { λ printer plan report. printed (name_in printer.asked) plan report };
+    ghost text = { λ printer plan report. printed (wishes_of printer.asked) plan report };
 
     ghost in_parts = { false };
 
@@ -38,26 +38,26 @@ impl<'a> Printer for PictureOf<'a> {
     }
 }
 
-/// The picture of a run for the topic that is asked for.
+/// The picture of a run for the topic and by the peers that are asked for.
 fn printed(
     alloc: Global,
     asked: Asked<'_>,
     plan: &Plan,
     report: &Report,
 ) -> Result<Vec<u8>, AllocError>
-    ensures { IfOk result (λ text. text.items ≡ printed (name_in asked.entry) plan.now report.now) }
+    ensures { IfOk result (λ text. text.items ≡ printed (wishes_of asked.entry) plan.now report.now) }
 {
-    let topic = topic_in(alloc, plan, asked)?;
-    picture_svg(alloc, plan, report, &topic)
+    let topic = topic_in(alloc, plan, asked.topic)?;
+    picture_svg(alloc, plan, report, &topic, asked.among)
 }
 
 /// The topic that is asked for. Where the script subscribes to none, the first one is the empty one.
-fn topic_in(alloc: Global, plan: &Plan, asked: Asked<'_>) -> Result<Topic, AllocError>
+fn topic_in(alloc: Global, plan: &Plan, asked: Subject<'_>) -> Result<Topic, AllocError>
     ensures { IfOk result (λ topic. topic ≡ topic_in plan.now (name_in asked.entry)) }
 {
     match asked {
-        Asked::Named(name) => Ok(Topic(Bytes::copy_from_slice(alloc, name.as_bytes())?)),
-        Asked::First => match first_topic(plan.script.as_slice()) {
+        Subject::Named(name) => Ok(Topic(Bytes::copy_from_slice(alloc, name.as_bytes())?)),
+        Subject::First => match first_topic(plan.script.as_slice()) {
             Some(topic) => clone_of(topic),
             None => Ok(Topic(Bytes::new())),
         },
@@ -65,7 +65,7 @@ fn topic_in(alloc: Global, plan: &Plan, asked: Asked<'_>) -> Result<Topic, Alloc
 }
 
 /// Runs the program with these arguments over these streams, and gives the status that its process ends with. Where the
-/// arguments ask for a topic, its ends are those of `gossip_sim`, and its text is the picture of the run for that topic. Else
+/// arguments ask for a picture, its ends are those of `gossip_sim`, and its text is that picture of the run. Else
 /// it reads no input, says on `errors` how it is called, and ends with 64.
 pub fn run<R, W, E>(
     alloc: Global,
@@ -88,7 +88,7 @@ where
     }
 }
 
-/// Runs the program for the topic that is asked for.
+/// Runs the program for the picture that is asked for.
 pub fn run_to_exit<R, W, E>(
     alloc: Global,
     asked: Asked<'_>,
@@ -100,7 +100,7 @@ where
     R: Read,
     W: Write,
     E: Write,
-    ensures { EndsWith (printed (name_in asked.entry)) false false (exit_status result)
+    ensures { EndsWith (printed (wishes_of asked.entry)) false false (exit_status result)
         (R.remaining input.old) (R.remaining input.new)
         (W.contents output.old) (W.contents output.new) (E.contents errors.old) (E.contents errors.new) }
 {

@@ -1,14 +1,17 @@
 //! Pictures, worked out by hand.
-use crate::arguments::Asked;
+use crate::arguments::{Asked, Subject};
 use crate::program::run_to_exit;
+use gs_figure_sheets::Choice;
+use std::alloc::Global;
 use std::process::ExitCode;
 use std::test::*;
 
 mod arguments;
+mod courses;
 
 /// What each picture without names along the radius begins with.
 const OPENING: &str = "\
-<svg xmlns=\"http://www.w3.org/2000/svg\" width=\"920\" height=\"970\" viewBox=\"0 0 920 970\">
+<svg xmlns=\"http://www.w3.org/2000/svg\" width=\"920\" height=\"990\" viewBox=\"0 0 920 990\">
 ";
 
 const STYLE: &str = "\
@@ -37,15 +40,17 @@ path{fill:none}
 .off circle{fill:#fff}
 .off text{fill:#1f2328}
 .grid{stroke:#d0d7de}
-.course{stroke:#0969da;stroke-width:2}
+.course{stroke:#0969da;stroke-width:1.5}
 .some{stroke-opacity:.5}
 .many{stroke-opacity:.2}
+.all{stroke:#1f2328;stroke-width:5;stroke-opacity:.6}
 @media (prefers-color-scheme:dark){
 text,.off text{fill:#e6edf3}
 .back,.off circle{fill:#0d1117}
 .both{stroke:#9198a1}
 .grid{stroke:#30363d}
 .course{stroke:#58a6ff}
+.all{stroke:#e6edf3}
 }
 </style>
 <defs><marker id=\"head\" refX=\"18\" refY=\"5\" markerWidth=\"10\" \
@@ -54,9 +59,13 @@ markerHeight=\"10\" markerUnits=\"userSpaceOnUse\" orient=\"auto\">\
 <rect class=\"back\" width=\"100%\" height=\"100%\"/>
 ";
 
-/// The legend, which each picture has.
-const LEGEND: &str = "\
+/// What the legend begins with where all peers count.
+const LEGEND_HEAD: &str = "\
 <text class=\"head\" x=\"60\" y=\"590\">Each disc is a peer, by the lowest score that a neighbour gives it at the end</text>
+";
+
+/// The rest of the legend, which each picture has.
+const LEGEND: &str = "\
 <g class=\"disc off\" transform=\"translate(69 660)\"><circle r=\"9\"/></g>\
 <text x=\"85\" y=\"664\">hollow: not subscribed to the topic</text>
 <path class=\"both\" d=\"M316 660H340\"/><text x=\"345\" y=\"664\">each has the other in its mesh</text>
@@ -73,56 +82,77 @@ const LEGEND: &str = "\
 <g class=\"disc graylist\" transform=\"translate(329 636)\"><circle r=\"9\"/><text y=\"4\">x</text></g>
 <text x=\"345\" y=\"640\">below the graylist threshold</text>
 <g class=\"disc unscored\" transform=\"translate(589 636)\"><circle r=\"9\"/><text y=\"4\">?</text></g>
-<text x=\"605\" y=\"640\">no neighbour scores it</text>
+<text x=\"605\" y=\"640\">there is no such score</text>
 ";
 
-/// The axes of a chart of at most nine rounds.
-const AXES: &str = "\
-<text class=\"head\" x=\"60\" y=\"700\">Share of the peers that each publication on the topic reached</text>
-<text class=\"middle\" x=\"460\" y=\"958\">rounds since it was published</text>
-<path class=\"grid\" d=\"M60 920H860\"/><text class=\"end\" x=\"52\" y=\"924\">0%</text>
-<path class=\"grid\" d=\"M60 870H860\"/><text class=\"end\" x=\"52\" y=\"874\">25%</text>
-<path class=\"grid\" d=\"M60 820H860\"/><text class=\"end\" x=\"52\" y=\"824\">50%</text>
-<path class=\"grid\" d=\"M60 770H860\"/><text class=\"end\" x=\"52\" y=\"774\">75%</text>
-<path class=\"grid\" d=\"M60 720H860\"/><text class=\"end\" x=\"52\" y=\"724\">100%</text>
-<path class=\"grid\" d=\"M60 720V920\"/><text class=\"middle\" x=\"60\" y=\"938\">0</text>
-<path class=\"grid\" d=\"M140 720V920\"/><text class=\"middle\" x=\"140\" y=\"938\">1</text>
-<path class=\"grid\" d=\"M220 720V920\"/><text class=\"middle\" x=\"220\" y=\"938\">2</text>
-<path class=\"grid\" d=\"M300 720V920\"/><text class=\"middle\" x=\"300\" y=\"938\">3</text>
-<path class=\"grid\" d=\"M380 720V920\"/><text class=\"middle\" x=\"380\" y=\"938\">4</text>
-<path class=\"grid\" d=\"M460 720V920\"/><text class=\"middle\" x=\"460\" y=\"938\">5</text>
-<path class=\"grid\" d=\"M540 720V920\"/><text class=\"middle\" x=\"540\" y=\"938\">6</text>
-<path class=\"grid\" d=\"M620 720V920\"/><text class=\"middle\" x=\"620\" y=\"938\">7</text>
-<path class=\"grid\" d=\"M700 720V920\"/><text class=\"middle\" x=\"700\" y=\"938\">8</text>
-<path class=\"grid\" d=\"M780 720V920\"/><text class=\"middle\" x=\"780\" y=\"938\">9</text>
-<path class=\"grid\" d=\"M860 720V920\"/><text class=\"middle\" x=\"860\" y=\"938\">10</text>
+/// What stands above the chart where all peers count.
+const CHART_HEAD: &str = "\
+<text class=\"head\" x=\"60\" y=\"700\">Share of the subscribers that each message reached</text>
 ";
 
-/// A peer without neighbours subscribes, and publishes twice.
+/// What stands above each chart and beside its axes.
+const CHART_WORDS: &str = "\
+<path class=\"course few\" d=\"M60 718H84\"/><text x=\"90\" y=\"722\">thin: one message</text>
+<path class=\"course all\" d=\"M222 718H246\"/><text x=\"252\" y=\"722\">thick: all messages together</text>
+<text class=\"middle\" transform=\"translate(14 840) rotate(-90)\">of the subscribers</text>
+<text class=\"middle\" x=\"460\" y=\"978\">rounds after the publication</text>
+";
+
+/// That nobody was to be reached.
+const NO_PAIRS: &str = "\
+<text class=\"end\" x=\"860\" y=\"722\">missed: 0 of 0 pairs of a message and a subscriber</text>
+";
+
+/// The shares of each chart.
+const LEVELS: &str = "\
+<path class=\"grid\" d=\"M60 940H860\"/><text class=\"end\" x=\"52\" y=\"944\">0%</text>
+<path class=\"grid\" d=\"M60 890H860\"/><text class=\"end\" x=\"52\" y=\"894\">25%</text>
+<path class=\"grid\" d=\"M60 840H860\"/><text class=\"end\" x=\"52\" y=\"844\">50%</text>
+<path class=\"grid\" d=\"M60 790H860\"/><text class=\"end\" x=\"52\" y=\"794\">75%</text>
+<path class=\"grid\" d=\"M60 740H860\"/><text class=\"end\" x=\"52\" y=\"744\">100%</text>
+";
+
+/// The axis of a chart of at most nine rounds.
+const TEN_ROUNDS: &str = "\
+<path class=\"grid\" d=\"M60 740V940\"/><text class=\"middle\" x=\"60\" y=\"958\">0</text>
+<path class=\"grid\" d=\"M140 740V940\"/><text class=\"middle\" x=\"140\" y=\"958\">1</text>
+<path class=\"grid\" d=\"M220 740V940\"/><text class=\"middle\" x=\"220\" y=\"958\">2</text>
+<path class=\"grid\" d=\"M300 740V940\"/><text class=\"middle\" x=\"300\" y=\"958\">3</text>
+<path class=\"grid\" d=\"M380 740V940\"/><text class=\"middle\" x=\"380\" y=\"958\">4</text>
+<path class=\"grid\" d=\"M460 740V940\"/><text class=\"middle\" x=\"460\" y=\"958\">5</text>
+<path class=\"grid\" d=\"M540 740V940\"/><text class=\"middle\" x=\"540\" y=\"958\">6</text>
+<path class=\"grid\" d=\"M620 740V940\"/><text class=\"middle\" x=\"620\" y=\"958\">7</text>
+<path class=\"grid\" d=\"M700 740V940\"/><text class=\"middle\" x=\"700\" y=\"958\">8</text>
+<path class=\"grid\" d=\"M780 740V940\"/><text class=\"middle\" x=\"780\" y=\"958\">9</text>
+<path class=\"grid\" d=\"M860 740V940\"/><text class=\"middle\" x=\"860\" y=\"958\">10</text>
+";
+
+/// A peer without neighbours subscribes, and publishes twice. No message has a subscriber.
 const ALONE: &str = "round_ms = 100\nrounds = 4\nworkers = 1\ncapacity = 1\nseed = 1\n\
     [[topic]]\nname = \"news\"\n[[peer]]\nname = \"alone\"\n\
     [[do]]\nwhat = \"subscribe\"\nat = 0\npeer = \"alone\"\ntopic = \"news\"\n\
     [[do]]\nwhat = \"publish\"\nat = 2\npeer = \"alone\"\ntopic = \"news\"\nhex = \"61\"\n\
     [[do]]\nwhat = \"publish\"\nat = 3\npeer = \"alone\"\ntopic = \"news\"\nhex = \"62\"\n";
 
-static ALONE_DRAWN: [&str; 7] = [
+static ALONE_DRAWN: [&str; 11] = [
     OPENING,
     STYLE,
     "\
 <text class=\"title middle\" x=\"460\" y=\"32\">Topic news</text>
-<text class=\"middle\" x=\"460\" y=\"52\">peers: 1, rounds: 0 to 4, publications: 2</text>
+<text class=\"middle\" x=\"460\" y=\"52\">peers: 1, rounds: 0 to 4, messages drawn: 0</text>
 <g transform=\"translate(0 0)\">
 <g class=\"disc unscored\" transform=\"translate(460 90)\"><circle r=\"9\"/><text y=\"4\">?</text></g>
 <text class=\"name middle\" transform=\"translate(460 72) rotate(0)\" y=\"4\">alone</text>
 </g>
 <g transform=\"translate(0 0)\">
 ",
+    LEGEND_HEAD,
     LEGEND,
-    AXES,
-    "\
-<path class=\"course few\" d=\"M60 920H60V720H860\"/>
-<path class=\"course few\" d=\"M60 920H60V720H860\"/>
-",
+    CHART_HEAD,
+    CHART_WORDS,
+    NO_PAIRS,
+    LEVELS,
+    TEN_ROUNDS,
     "</g>\n</svg>\n",
 ];
 
@@ -137,12 +167,12 @@ const LEAVING: &str = "round_ms = 100\nrounds = 11\nworkers = 1\ncapacity = 1\ns
     [[do]]\nwhat = \"publish\"\nat = 2\npeer = \"b\"\ntopic = \"olds\"\nhex = \"61\"\n\
     [[do]]\nwhat = \"unsubscribe\"\nat = 11\npeer = \"b\"\ntopic = \"news\"\n";
 
-static LEAVING_DRAWN: [&str; 7] = [
+static LEAVING_DRAWN: [&str; 12] = [
     OPENING,
     STYLE,
     "\
 <text class=\"title middle\" x=\"460\" y=\"32\">Topic news</text>
-<text class=\"middle\" x=\"460\" y=\"52\">peers: 2, rounds: 0 to 11, publications: 1</text>
+<text class=\"middle\" x=\"460\" y=\"52\">peers: 2, rounds: 0 to 11, messages drawn: 1</text>
 <g transform=\"translate(0 0)\">
 <path class=\"one\" d=\"M460 90L460 530\"/>
 <g class=\"disc fair\" transform=\"translate(460 90)\"><circle r=\"9\"/><text y=\"4\">+</text></g>
@@ -152,10 +182,18 @@ static LEAVING_DRAWN: [&str; 7] = [
 </g>
 <g transform=\"translate(0 0)\">
 ",
+    LEGEND_HEAD,
     LEGEND,
-    AXES,
+    CHART_HEAD,
+    CHART_WORDS,
     "\
-<path class=\"course few\" d=\"M60 920H60V820H140V720H860\"/>
+<text class=\"end\" x=\"860\" y=\"722\">missed: 0 of 1 pairs of a message and a subscriber</text>
+",
+    LEVELS,
+    TEN_ROUNDS,
+    "\
+<path class=\"course all\" d=\"M60 940H140V740H860\"/>
+<path class=\"course few\" d=\"M60 940H140V740H860\"/>
 ",
     "</g>\n</svg>\n",
 ];
@@ -195,12 +233,12 @@ const TWELVE_NAMES: &str = "\
 <g transform=\"translate(0 0)\">
 ";
 
-static TWELVE_DRAWN: [&str; 7] = [
+static TWELVE_DRAWN: [&str; 12] = [
     OPENING,
     STYLE,
     "\
 <text class=\"title middle\" x=\"460\" y=\"32\">Topic news</text>
-<text class=\"middle\" x=\"460\" y=\"52\">peers: 12, rounds: 0 to 1, publications: 0</text>
+<text class=\"middle\" x=\"460\" y=\"52\">peers: 12, rounds: 0 to 1, messages drawn: 0</text>
 <g transform=\"translate(0 0)\">
 <g class=\"disc fair\" transform=\"translate(460 90)\"><circle r=\"9\"/><text y=\"4\">+</text></g>
 <g class=\"disc fair off\" transform=\"translate(570 120)\"><circle r=\"9\"/><text y=\"4\">+</text></g>
@@ -216,18 +254,23 @@ static TWELVE_DRAWN: [&str; 7] = [
 <g class=\"disc unscored off\" transform=\"translate(350 120)\"><circle r=\"9\"/><text y=\"4\">?</text></g>
 ",
     TWELVE_NAMES,
+    LEGEND_HEAD,
     LEGEND,
-    AXES,
+    CHART_HEAD,
+    CHART_WORDS,
+    NO_PAIRS,
+    LEVELS,
+    TEN_ROUNDS,
     "</g>\n</svg>\n",
 ];
 
 /// The same for a topic that nobody has, with what XML does not take as it stands.
-static TWELVE_WITH_MARKUP: [&str; 7] = [
+static TWELVE_WITH_MARKUP: [&str; 12] = [
     OPENING,
     STYLE,
     "\
 <text class=\"title middle\" x=\"460\" y=\"32\">Topic a&amp;&lt;b&gt;&quot;&apos;\\xc3\\xa9</text>
-<text class=\"middle\" x=\"460\" y=\"52\">peers: 12, rounds: 0 to 1, publications: 0</text>
+<text class=\"middle\" x=\"460\" y=\"52\">peers: 12, rounds: 0 to 1, messages drawn: 0</text>
 <g transform=\"translate(0 0)\">
 <g class=\"disc fair off\" transform=\"translate(460 90)\"><circle r=\"9\"/><text y=\"4\">+</text></g>
 <g class=\"disc fair off\" transform=\"translate(570 120)\"><circle r=\"9\"/><text y=\"4\">+</text></g>
@@ -243,8 +286,13 @@ static TWELVE_WITH_MARKUP: [&str; 7] = [
 <g class=\"disc unscored off\" transform=\"translate(350 120)\"><circle r=\"9\"/><text y=\"4\">?</text></g>
 ",
     TWELVE_NAMES,
+    LEGEND_HEAD,
     LEGEND,
-    AXES,
+    CHART_HEAD,
+    CHART_WORDS,
+    NO_PAIRS,
+    LEVELS,
+    TEN_ROUNDS,
     "</g>\n</svg>\n",
 ];
 
@@ -263,65 +311,49 @@ fn is_made_of(text: &[u8], parts: &[&str]) -> bool {
     place == text.len()
 }
 
+/// The picture of a scenario that is asked for, and nothing where the run does not end with 0.
+fn drawn(alloc: Global, scenario: &str, asked: Asked<'_>) -> Vec<u8> {
+    let mut output = Vec::new(alloc);
+    let mut errors = Vec::new(alloc);
+    let mut input = scenario.as_bytes();
+    let code = run_to_exit(alloc, asked, &mut input, &mut output, &mut errors);
+    if code == ExitCode::from(0) && errors.is_empty() {
+        return output;
+    }
+    Vec::new(alloc)
+}
+
+/// A topic by what all peers say.
+fn by_all(topic: Subject<'_>) -> Asked<'_> {
+    Asked {
+        topic,
+        among: Choice::Any,
+    }
+}
+
 #[test]
 fn one_peer_is_drawn(rt: HostRuntime) {
-    let mut output = Vec::new(rt.alloc());
-    let mut errors = Vec::new(rt.alloc());
-    let code = run_to_exit(
-        rt.alloc(),
-        Asked::First,
-        &mut ALONE.as_bytes(),
-        &mut output,
-        &mut errors,
-    );
-    assert!(rt; code == ExitCode::from(0) && errors.is_empty());
-    assert!(rt; is_made_of(&output, &ALONE_DRAWN));
+    let picture = drawn(rt.alloc(), ALONE, by_all(Subject::First));
+    assert!(rt; is_made_of(&picture, &ALONE_DRAWN));
 }
 
 #[test]
 fn two_peers_are_drawn_of_which_one_leaves(rt: HostRuntime) {
-    let mut output = Vec::new(rt.alloc());
-    let mut errors = Vec::new(rt.alloc());
-    let code = run_to_exit(
-        rt.alloc(),
-        Asked::First,
-        &mut LEAVING.as_bytes(),
-        &mut output,
-        &mut errors,
-    );
-    assert!(rt; code == ExitCode::from(0) && errors.is_empty());
-    assert!(rt; is_made_of(&output, &LEAVING_DRAWN));
+    let picture = drawn(rt.alloc(), LEAVING, by_all(Subject::First));
+    assert!(rt; is_made_of(&picture, &LEAVING_DRAWN));
 }
 
 #[test]
 fn twelve_peers_stand_at_their_degrees_and_have_their_classes(rt: HostRuntime) {
-    let mut output = Vec::new(rt.alloc());
-    let mut errors = Vec::new(rt.alloc());
-    let code = run_to_exit(
-        rt.alloc(),
-        Asked::Named("news"),
-        &mut TWELVE.as_bytes(),
-        &mut output,
-        &mut errors,
-    );
-    assert!(rt; code == ExitCode::from(0) && errors.is_empty());
-    assert!(rt; is_made_of(&output, &TWELVE_DRAWN));
+    let picture = drawn(rt.alloc(), TWELVE, by_all(Subject::Named("news")));
+    assert!(rt; is_made_of(&picture, &TWELVE_DRAWN));
 }
 
 #[test]
 fn markup_in_a_topic_is_escaped(rt: HostRuntime) {
-    let mut output = Vec::new(rt.alloc());
-    let mut errors = Vec::new(rt.alloc());
-    let asked = Asked::Named("a&<b>\"'\u{e9}");
-    let code = run_to_exit(
-        rt.alloc(),
-        asked,
-        &mut TWELVE.as_bytes(),
-        &mut output,
-        &mut errors,
-    );
-    assert!(rt; code == ExitCode::from(0) && errors.is_empty());
-    assert!(rt; is_made_of(&output, &TWELVE_WITH_MARKUP));
+    let topic = Subject::Named("a&<b>\"'\u{e9}");
+    let picture = drawn(rt.alloc(), TWELVE, by_all(topic));
+    assert!(rt; is_made_of(&picture, &TWELVE_WITH_MARKUP));
 }
 
 #[test]
@@ -330,7 +362,7 @@ fn a_refused_scenario_has_no_picture(rt: HostRuntime) {
     let mut errors = Vec::new(rt.alloc());
     let code = run_to_exit(
         rt.alloc(),
-        Asked::First,
+        by_all(Subject::First),
         &mut b"rounds = 0\n".as_slice(),
         &mut output,
         &mut errors,

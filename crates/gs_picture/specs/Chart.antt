@@ -1,34 +1,52 @@
--- The chart: in how many rounds each publication on the topic reached which share of the peers.
-use Rattle.std.specs.Prelude.{ℕ, ◌+◌, ◌-◌, ◌*◌, ◌/◌, max, nat_le, if◌then◌else◌, List, [], ◌∷◌, ◌++◌, codes, decimal, filter, length}
+-- The chart: which share of its subscribers each message reached within each number of rounds, and all together.
+use Rattle.std.specs.Prelude.{ℕ, ◌+◌, ◌-◌, ◌*◌, ◌/◌, max, nat_le, nat_lt, if◌then◌else◌, List, [], ◌∷◌, ◌++◌, codes, decimal, length, Option}
 use Rattle.std.specs.List.{flat_map}
-use Rattle.gs_picture.specs.Courses.{each_once, longest}
+use Rattle.gs_reach.specs.declared.distribution.Within.{Within}
+use Rattle.gs_reach.specs.declared.pairs.Pair.{Pair}
+use Rattle.gs_reach.specs.Reached.{missed}
+use Rattle.gs_picture.specs.declared.chart.Axis.{Axis}
+use Rattle.gs_picture.specs.declared.courses.Courses.{Courses}
+use Rattle.gs_picture.specs.Courses.{longest, steps}
+use Rattle.gs_picture.specs.Texts.{among_text}
 use Rattle.gs_picture.specs.declared.pieces.Piece.TheVariants.{TextEnds, TagEnds}
-use Rattle.gs_picture.specs.declared.pieces.Part.TheVariants.{LevelBegins, LevelLabel, LevelEnds, TickBegins, TickLabel, TickText, CourseBegins, CourseLine, CourseEnds}
+use Rattle.gs_picture.specs.declared.pieces.Part.TheVariants.{ChartHead, ChartHeadEnds, MissedBegins, MissedOf, MissedEnds, LevelBegins, LevelLabel, LevelEnds, TickBegins, TickLabel, TickText, CourseBegins, CourseLine, CourseEnds}
 use Rattle.gs_picture.specs.Pieces.{chart_words, part, piece}
 
--- where its axes meet
+-- ---- axes
+
+-- where they meet, and how far they go
 abbrev pub left : ℕ
 left = 60
 
 abbrev pub bottom : ℕ
-bottom = 920
+bottom = 940
 
--- how far a tick is from the next, in the picture and in rounds: the tenth tick lies after all rounds
-abbrev pub tick_width : ℕ
-tick_width = 80
+abbrev pub wide : ℕ
+wide = 800
 
-abbrev pub step_of : List (List ℕ) → ℕ
-step_of courses = longest courses / 10 + 1
+abbrev pub tall : ℕ
+tall = 200
+
+-- by how many rounds ticks may lie apart
+unfoldable pub spacings : List ℕ
+spacings = 1 ∷ 2 ∷ 5 ∷ 10 ∷ 20 ∷ 50 ∷ 100 ∷ 200 ∷ 500 ∷ 1_000 ∷ 2_000 ∷ 5_000 ∷ 10_000 ∷ []
+
+-- the first of these of which ten are more than a number, and 20,000 where none is
+abbrev pub first_above : ℕ → List ℕ → ℕ
+first_above n [] = 20_000
+first_above n (k ∷ ks) = if nat_lt n (10 * k) then k else first_above n ks
+
+-- The axis of rounds ends after the slowest delivery, and after ten rounds at least. No more than ten ticks follow the first.
+abbrev pub axis_to : ℕ → Axis
+axis_to rounds = record { end = max 10 (rounds + 1); spacing = first_above rounds spacings }
 
 -- where a round lies from the left
-abbrev pub across : ℕ → ℕ → ℕ
-across step round = left + (tick_width * round) / max 1 step
+abbrev pub across : Axis → ℕ → ℕ
+across axis round = left + (wide * round) / max 1 axis.end
 
--- how far from above `reached` of `count` peers lie
+-- how far from above `reached` of `count` subscribers lie
 abbrev pub up : ℕ → ℕ → ℕ
-up count reached = bottom - (200 * reached) / max 1 count
-
--- ---- axes
+up count reached = bottom - (tall * reached) / max 1 count
 
 -- the line of this many quarters
 abbrev pub level_text : ℕ → List ℕ
@@ -36,11 +54,15 @@ level_text quarters =
     part LevelBegins ++ decimal (bottom - 50 * quarters) ++ part LevelLabel
     ++ decimal (bottom - 50 * quarters + 4) ++ piece TagEnds ++ decimal (25 * quarters) ++ part LevelEnds
 
--- the line of this many ticks
-abbrev pub tick_text : ℕ → ℕ → List ℕ
-tick_text step ticks =
-    part TickBegins ++ decimal (left + tick_width * ticks) ++ part TickLabel
-    ++ decimal (left + tick_width * ticks) ++ part TickText ++ decimal (step * ticks) ++ piece TextEnds
+-- the line of a number of rounds
+abbrev pub tick_at : Axis → ℕ → List ℕ
+tick_at axis round =
+    part TickBegins ++ decimal (across axis round) ++ part TickLabel
+    ++ decimal (across axis round) ++ part TickText ++ decimal round ++ piece TextEnds
+
+-- the line of this many ticks, as far as the axis goes
+abbrev pub tick_text : Axis → ℕ → List ℕ
+tick_text axis ticks = if nat_le (axis.spacing * ticks) axis.end then tick_at axis (axis.spacing * ticks) else []
 
 unfoldable pub levels : List ℕ
 levels = 0 ∷ 1 ∷ 2 ∷ 3 ∷ 4 ∷ []
@@ -50,7 +72,7 @@ ticks = 0 ∷ 1 ∷ 2 ∷ 3 ∷ 4 ∷ 5 ∷ 6 ∷ 7 ∷ 8 ∷ 9 ∷ 10 ∷ []
 
 -- ---- lines
 
--- up to how many lines are drawn thick, and up to how many less thick
+-- up to how many lines are drawn whole, and up to how many half as strong
 abbrev pub few_lines : ℕ
 few_lines = 8
 
@@ -62,25 +84,41 @@ abbrev pub line_kind : ℕ → List ℕ
 line_kind lines =
     if nat_le lines few_lines then codes "few" else if nat_le lines some_lines then codes "some" else codes "many"
 
--- how many of these rounds are not later than one
-abbrev pub by_round : List ℕ → ℕ → ℕ
-by_round rounds round = length (filter (λ n. nat_le n round) rounds)
+-- the line goes on to a number of rounds, and up to how many of `count` subscribers were reached within it
+abbrev pub step_text : Axis → ℕ → Within → List ℕ
+step_text axis count x = codes "H" ++ decimal (across axis x.limit) ++ codes "V" ++ decimal (up count x.reached)
 
--- the line goes on to a round, and up to how many peers were reached by then
-abbrev pub rise_text : ℕ → ℕ → List ℕ → ℕ → List ℕ
-rise_text count step rounds round =
-    codes "H" ++ decimal (across step round) ++ codes "V" ++ decimal (up count (by_round rounds round))
+-- a line of a kind: the share of these subscribers that was reached within each number of rounds
+abbrev pub line_text : Axis → List ℕ → List Pair → List ℕ
+line_text axis kind pairs =
+    part CourseBegins ++ kind ++ part CourseLine ++ flat_map (step_text axis (length pairs)) (steps pairs) ++ part CourseEnds
 
--- the line of a publication
-abbrev pub course_text : ℕ → ℕ → ℕ → List ℕ → List ℕ
-course_text lines count step rounds =
-    part CourseBegins ++ line_kind lines ++ part CourseLine
-    ++ flat_map (rise_text count step rounds) (each_once rounds)
-    ++ part CourseEnds
+-- the thick line of all together, where there are any
+abbrev pub whole_text : Axis → List Pair → List ℕ
+whole_text axis [] = []
+whole_text axis (x ∷ xs) = line_text axis (codes "all") (x ∷ xs)
 
 -- ---- the chart
 
-unfoldable pub chart_text : ℕ → List (List ℕ) → List ℕ
-chart_text count courses =
-    chart_words ++ flat_map level_text levels ++ flat_map (tick_text (step_of courses)) ticks
-    ++ flat_map (course_text (length courses) count (step_of courses)) courses
+-- how many of these subscribers were not reached
+abbrev pub missed_text : List Pair → List ℕ
+missed_text pairs = part MissedBegins ++ decimal (missed pairs) ++ part MissedOf ++ decimal (length pairs) ++ part MissedEnds
+
+-- what stands above the axes, by the names of the peers that count
+abbrev pub chart_head : Option (List ℕ) → List Pair → List ℕ
+chart_head names all = part ChartHead ++ among_text names ++ part ChartHeadEnds ++ chart_words ++ missed_text all
+
+-- both axes, and their lines
+abbrev pub axes_text : Axis → List ℕ
+axes_text axis = flat_map level_text levels ++ flat_map (tick_text axis) ticks
+
+-- the thick line, and on it a thin one for each message
+abbrev pub lines_text : Axis → Courses → List ℕ
+lines_text axis c = whole_text axis c.all ++ flat_map (line_text axis (line_kind (length c.each))) c.each
+
+-- the chart on an axis
+abbrev pub chart_on : Axis → Option (List ℕ) → Courses → List ℕ
+chart_on axis names c = chart_head names c.all ++ axes_text axis ++ lines_text axis c
+
+unfoldable pub chart_text : Option (List ℕ) → Courses → List ℕ
+chart_text names c = chart_on (axis_to (longest c.all)) names c

@@ -55,7 +55,7 @@ class_words BelowZero = codes "below 0"
 class_words BelowGossip = codes "below the gossip threshold"
 class_words BelowPublish = codes "below the publish threshold"
 class_words BelowGraylist = codes "below the graylist threshold"
-class_words Unscored = codes "no neighbour scores it"
+class_words Unscored = codes "there is no such score"
 
 -- a peer that is not subscribed is hollow
 abbrev pub filling : Bool → List ℕ

@@ -6,7 +6,7 @@ use Rattle.gs_plan.specs.declared.plan.PlannedPeer.{PlannedPeer}
 use Rattle.gs_picture.specs.Places.{most_level}
 use Rattle.gs_picture.specs.Texts.{escaped_all}
 use Rattle.gs_picture.specs.declared.pieces.Piece.TheVariants.{TextEnds}
-use Rattle.gs_picture.specs.declared.pieces.Part.TheVariants.{Opening, ViewBox, OpeningEnds, TitleBegins, Peers, Rounds, Publications, GroupBegins, GroupPlaced}
+use Rattle.gs_picture.specs.declared.pieces.Part.TheVariants.{Opening, ViewBox, OpeningEnds, TitleBegins, Peers, Rounds, Messages, GroupBegins, GroupPlaced}
 use Rattle.gs_picture.specs.Pieces.{part, piece}
 
 -- how many bytes the longest name has
@@ -22,20 +22,20 @@ room_of plan = room (length plan.peers) (longest_name plan.peers)
 
 -- how high a picture is without that room
 abbrev pub height : ℕ
-height = 970
+height = 990
 
 abbrev pub opening : ℕ → List ℕ
 opening tall =
     part Opening ++ decimal tall ++ part ViewBox
     ++ decimal tall ++ part OpeningEnds
 
--- the topic, and how many peers, rounds and publications on it there are
+-- the topic, and how many peers, rounds and drawn messages there are
 abbrev pub title_text : Plan → Topic → ℕ → List ℕ
-title_text plan t publications =
+title_text plan t messages =
     part TitleBegins ++ escaped_all t.0
     ++ part Peers ++ decimal (length plan.peers)
     ++ part Rounds ++ decimal plan.rounds
-    ++ part Publications ++ decimal publications
+    ++ part Messages ++ decimal messages
     ++ piece TextEnds
 
 -- what stands so far below its place

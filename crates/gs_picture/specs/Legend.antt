@@ -1,10 +1,11 @@
 -- The legend: what the discs and the lines between them mean.
-use Rattle.std.specs.Prelude.{ℕ, ◌+◌, true, List, ◌++◌, decimal}
+use Rattle.std.specs.Prelude.{ℕ, ◌+◌, true, List, ◌++◌, decimal, Option}
 use Rattle.gs_picture.specs.declared.discs.Class.{Class}
 use Rattle.gs_picture.specs.declared.discs.Class.TheVariants.{Fair, BelowZero, BelowGossip, BelowPublish, BelowGraylist, Unscored}
 use Rattle.gs_picture.specs.Circle.{class_words, disc_at}
-use Rattle.gs_picture.specs.declared.pieces.Piece.TheVariants.{TextEnds, WordsAcross, WordsDown, TagEnds}
+use Rattle.gs_picture.specs.declared.pieces.Piece.TheVariants.{TextEnds, WordsAcross, WordsDown, TagEnds, LegendHead, LegendHeadEnds}
 use Rattle.gs_picture.specs.Pieces.{legend_words, piece}
+use Rattle.gs_picture.specs.Texts.{among_text}
 
 -- where the discs of its columns and rows stand
 abbrev pub first_column : ℕ
@@ -29,9 +30,13 @@ legend_class x y class =
     ++ piece WordsAcross ++ decimal (x + 16) ++ piece WordsDown ++ decimal (y + 4) ++ piece TagEnds ++ class_words class
     ++ piece TextEnds
 
-unfoldable pub legend_text : List ℕ
-legend_text =
-    legend_words
+-- whose scores colour the discs
+abbrev pub legend_head : Option (List ℕ) → List ℕ
+legend_head names = piece LegendHead ++ among_text names ++ piece LegendHeadEnds
+
+unfoldable pub legend_text : Option (List ℕ) → List ℕ
+legend_text names =
+    legend_head names ++ legend_words
     ++ legend_class first_column first_row Fair
     ++ legend_class second_column first_row BelowZero
     ++ legend_class third_column first_row BelowGossip

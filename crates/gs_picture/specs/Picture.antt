@@ -1,12 +1,16 @@
--- The picture of a run: who is in whose mesh of a topic at the end, how neighbours score each peer, and how far each
--- publication on the topic came.
-use Rattle.std.specs.Prelude.{ℕ, ◌+◌, ◌*◌, List, ◌++◌, length}
+-- The picture of a run: who is in whose mesh of a topic at the end, how some peers score each peer, and how far each message
+-- on the topic came to them.
+use Rattle.std.specs.Prelude.{ℕ, ◌+◌, ◌*◌, List, ◌++◌, length, Option}
 use Rattle.gs_base.specs.declared.names.Topic.{Topic}
 use Rattle.gs_plan.specs.declared.plan.Plan.{Plan}
 use Rattle.gs_report.specs.declared.report.Report.{Report}
+use Rattle.gs_reach.specs.declared.chosen.Chosen.{Chosen}
+use Rattle.gs_reach.specs.Messages.{messages}
+use Rattle.gs_figure_sheets.specs.Choices.{chosen_by}
+use Rattle.gs_picture.specs.declared.courses.Courses.{Courses}
 use Rattle.gs_picture.specs.Chart.{chart_text}
 use Rattle.gs_picture.specs.Circle.{circle_text}
-use Rattle.gs_picture.specs.Courses.{courses}
+use Rattle.gs_picture.specs.Courses.{courses_of, on_topic}
 use Rattle.gs_picture.specs.Discs.{discs}
 use Rattle.gs_picture.specs.Edges.{edges}
 use Rattle.gs_picture.specs.Frame.{height, lowered, opening, room_of, title_text}
@@ -16,17 +20,26 @@ use Rattle.gs_picture.specs.Pieces.{part, style_text}
 
 -- what stands above the circle
 unfoldable pub upper_text : Plan → Topic → ℕ → List ℕ
-upper_text plan t publications = opening (height + 2 * room_of plan) ++ style_text ++ title_text plan t publications
+upper_text plan t messages = opening (height + 2 * room_of plan) ++ style_text ++ title_text plan t messages
 
--- and what stands below it
-unfoldable pub lower_text : Plan → List (List ℕ) → List ℕ
-lower_text plan all =
-    part GroupEnds ++ lowered (2 * room_of plan) ++ legend_text ++ chart_text (length plan.peers) all ++ part PictureEnds
+-- the circle, by what some peers score
+unfoldable pub middle_text : Plan → Report → Topic → Chosen → List ℕ
+middle_text plan report t of =
+    lowered (room_of plan)
+    ++ circle_text plan (length plan.peers) (edges report.peers.items t) (discs plan.params.thresholds of report.peers.items t)
 
--- the picture
-abbrev pub picture : Plan → Report → Topic → List ℕ
-picture plan report t =
-    upper_text plan t (length (courses plan.round_ms report.peers.items t))
-    ++ lowered (room_of plan)
-    ++ circle_text plan (length plan.peers) (edges report.peers.items t) (discs plan.params.thresholds report.peers.items t)
-    ++ lower_text plan (courses plan.round_ms report.peers.items t)
+-- what stands below it, by the names of those peers
+unfoldable pub lower_text : Plan → Option (List ℕ) → Courses → List ℕ
+lower_text plan names c =
+    part GroupEnds ++ lowered (2 * room_of plan) ++ legend_text names ++ chart_text names c ++ part PictureEnds
+
+-- the picture by what some peers score, and by how far messages came to them
+abbrev pub picture_by : Plan → Report → Topic → Option (List ℕ) → Chosen → Courses → List ℕ
+picture_by plan report t names of c =
+    upper_text plan t (length c.each) ++ middle_text plan report t of ++ lower_text plan names c
+
+-- the picture of a topic, where only the peers of these names count, or all
+abbrev pub picture : Plan → Report → Topic → Option (List ℕ) → List ℕ
+picture plan report t names =
+    picture_by plan report t names (chosen_by plan report names)
+    (courses_of (chosen_by plan report names) (on_topic t (messages plan report)))

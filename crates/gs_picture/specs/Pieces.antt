@@ -1,9 +1,9 @@
 -- The texts of a picture that depend on nothing.
 use Rattle.std.specs.Prelude.{ℕ, ◌++◌, List, codes}
 use Rattle.gs_picture.specs.declared.pieces.Piece.{Piece}
-use Rattle.gs_picture.specs.declared.pieces.Piece.TheVariants.{EdgeBegins, EdgeFrom, EdgeTo, PathEnds, DiscBegins, MarkPlace, DiscMark, DiscEnds, NameBegins, NameTurn, NameText, TextEnds, WordsAcross, WordsDown, TagEnds}
+use Rattle.gs_picture.specs.declared.pieces.Piece.TheVariants.{EdgeBegins, EdgeFrom, EdgeTo, PathEnds, DiscBegins, MarkPlace, DiscMark, DiscEnds, NameBegins, NameTurn, NameText, TextEnds, WordsAcross, WordsDown, TagEnds, LegendHead, LegendHeadEnds}
 use Rattle.gs_picture.specs.declared.pieces.Part.{Part}
-use Rattle.gs_picture.specs.declared.pieces.Part.TheVariants.{Opening, ViewBox, OpeningEnds, TitleBegins, Peers, Rounds, Publications, GroupBegins, GroupPlaced, GroupEnds, PictureEnds, LevelBegins, LevelLabel, LevelEnds, TickBegins, TickLabel, TickText, CourseBegins, CourseLine, CourseEnds}
+use Rattle.gs_picture.specs.declared.pieces.Part.TheVariants.{Opening, ViewBox, OpeningEnds, TitleBegins, Peers, Rounds, Messages, GroupBegins, GroupPlaced, GroupEnds, PictureEnds, ChartHead, ChartHeadEnds, MissedBegins, MissedOf, MissedEnds, LevelBegins, LevelLabel, LevelEnds, TickBegins, TickLabel, TickText, CourseBegins, CourseLine, CourseEnds}
 
 -- in the circle and the legend
 unfoldable pub piece : Piece → List ℕ
@@ -22,6 +22,8 @@ piece TextEnds = codes "</text>\n"
 piece WordsAcross = codes "<text x=\""
 piece WordsDown = codes "\" y=\""
 piece TagEnds = codes "\">"
+piece LegendHead = codes "<text class=\"head\" x=\"60\" y=\"590\">Each disc is a peer, by the lowest score that a neighbour"
+piece LegendHeadEnds = codes " gives it at the end</text>\n"
 
 -- round it, and in the chart
 unfoldable pub part : Part → List ℕ
@@ -31,27 +33,30 @@ part OpeningEnds = codes "\">\n"
 part TitleBegins = codes "<text class=\"title middle\" x=\"460\" y=\"32\">Topic "
 part Peers = codes "</text>\n<text class=\"middle\" x=\"460\" y=\"52\">peers: "
 part Rounds = codes ", rounds: 0 to "
-part Publications = codes ", publications: "
+part Messages = codes ", messages drawn: "
 part GroupBegins = codes "<g transform=\"translate(0 "
 part GroupPlaced = codes ")\">\n"
 part GroupEnds = codes "</g>\n"
 part PictureEnds = codes "</g>\n</svg>\n"
+part ChartHead = codes "<text class=\"head\" x=\"60\" y=\"700\">Share of the subscribers"
+part ChartHeadEnds = codes " that each message reached</text>\n"
+part MissedBegins = codes "<text class=\"end\" x=\"860\" y=\"722\">missed: "
+part MissedOf = codes " of "
+part MissedEnds = codes " pairs of a message and a subscriber</text>\n"
 part LevelBegins = codes "<path class=\"grid\" d=\"M60 "
 part LevelLabel = codes "H860\"/><text class=\"end\" x=\"52\" y=\""
 part LevelEnds = codes "%</text>\n"
 part TickBegins = codes "<path class=\"grid\" d=\"M"
-part TickLabel = codes " 720V920\"/><text class=\"middle\" x=\""
-part TickText = codes "\" y=\"938\">"
+part TickLabel = codes " 740V940\"/><text class=\"middle\" x=\""
+part TickText = codes "\" y=\"958\">"
 part CourseBegins = codes "<path class=\"course "
-part CourseLine = codes "\" d=\"M60 920"
+part CourseLine = codes "\" d=\"M60 940"
 part CourseEnds = codes "H860\"/>\n"
 
--- the legend but for the classes, what stands above and below the chart, and the style
+-- the rest of the legend, what stands beside the axes of the chart, and the style
 unfoldable pub legend_words : List ℕ
 legend_words =
-    codes "<text class=\"head\" x=\"60\" y=\"590\">Each disc is a peer, by the lowest score that a neighbour "
-    ++ codes "gives it at the end</text>\n"
-    ++ codes "<g class=\"disc off\" transform=\"translate(69 660)\"><circle r=\"9\"/></g><text x=\"85\" y=\"664\">"
+    codes "<g class=\"disc off\" transform=\"translate(69 660)\"><circle r=\"9\"/></g><text x=\"85\" y=\"664\">"
     ++ codes "hollow: not subscribed to the topic</text>\n"
     ++ codes "<path class=\"both\" d=\"M316 660H340\"/><text x=\"345\" y=\"664\">"
     ++ codes "each has the other in its mesh</text>\n"
@@ -60,8 +65,10 @@ legend_words =
 
 unfoldable pub chart_words : List ℕ
 chart_words =
-    codes "<text class=\"head\" x=\"60\" y=\"700\">Share of the peers that each publication on the topic "
-    ++ codes "reached</text>\n<text class=\"middle\" x=\"460\" y=\"958\">rounds since it was published</text>\n"
+    codes "<path class=\"course few\" d=\"M60 718H84\"/><text x=\"90\" y=\"722\">thin: one message</text>\n"
+    ++ codes "<path class=\"course all\" d=\"M222 718H246\"/><text x=\"252\" y=\"722\">thick: all messages together</text>\n"
+    ++ codes "<text class=\"middle\" transform=\"translate(14 840) rotate(-90)\">of the subscribers</text>\n"
+    ++ codes "<text class=\"middle\" x=\"460\" y=\"978\">rounds after the publication</text>\n"
 
 unfoldable pub style_text : List ℕ
 style_text =
@@ -76,10 +83,10 @@ style_text =
     ++ codes ".zero text{fill:#1f2328}\n.gossip circle{fill:#e16f24;stroke:#bc4c00}\n"
     ++ codes ".publish circle{fill:#cf222e;stroke:#cf222e}\n.graylist circle{fill:#6e40c9;stroke:#6e40c9}\n"
     ++ codes ".unscored circle{fill:#6e7781;stroke:#6e7781}\n.off circle{fill:#fff}\n.off text{fill:#1f2328}\n"
-    ++ codes ".grid{stroke:#d0d7de}\n.course{stroke:#0969da;stroke-width:2}\n.some{stroke-opacity:.5}\n"
-    ++ codes ".many{stroke-opacity:.2}\n@media (prefers-color-scheme:dark){\ntext,.off text{fill:#e6edf3}\n"
+    ++ codes ".grid{stroke:#d0d7de}\n.course{stroke:#0969da;stroke-width:1.5}\n.some{stroke-opacity:.5}\n"
+    ++ codes ".many{stroke-opacity:.2}\n.all{stroke:#1f2328;stroke-width:5;stroke-opacity:.6}\n@media (prefers-color-scheme:dark){\ntext,.off text{fill:#e6edf3}\n"
     ++ codes ".back,.off circle{fill:#0d1117}\n.both{stroke:#9198a1}\n.grid{stroke:#30363d}\n"
-    ++ codes ".course{stroke:#58a6ff}\n}\n</style>\n"
+    ++ codes ".course{stroke:#58a6ff}\n.all{stroke:#e6edf3}\n}\n</style>\n"
     ++ codes "<defs><marker id=\"head\" refX=\"18\" refY=\"5\" markerWidth=\"10\" markerHeight=\"10\" "
     ++ codes "markerUnits=\"userSpaceOnUse\" orient=\"auto\"><path d=\"M0 0L10 5L0 10z\"/></marker></defs>\n"
     ++ codes "<rect class=\"back\" width=\"100%\" height=\"100%\"/>\n"

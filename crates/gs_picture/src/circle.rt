@@ -165,7 +165,7 @@ pub(crate) fn class_words(class: Class) -> &'static str
         Class::BelowGossip => "below the gossip threshold",
         Class::BelowPublish => "below the publish threshold",
         Class::BelowGraylist => "below the graylist threshold",
-        Class::Unscored => "no neighbour scores it",
+        Class::Unscored => "there is no such score",
     }
 }
 

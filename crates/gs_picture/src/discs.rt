@@ -1,18 +1,18 @@
 //! What is shown of each peer.
-ghost use Rattle.std.specs.Prelude.{◌≡◌, IfOk, reverse};
+ghost use Rattle.std.specs.Prelude.{◌≡◌, [], ◌∷◌, fold, IfOk, reverse, Some};
 ghost use Rattle.std.specs.List.{list_any};
 ghost use Rattle.gs_rules.specs.Tables.{joined, joined_after, joined_by};
-ghost use Rattle.gs_picture.specs.Discs.{class_by, class_of, disc, discs, is_joined};
+ghost use Rattle.gs_picture.specs.Discs.{class_by, class_of, disc, discs, is_joined, lower, lowest, scores_about, scores_of};
 
 use gs_base::{PeerNo, Topic};
-use gs_figures::{Span, scores_of};
 use gs_params::Thresholds;
 use gs_plan::Act;
+use gs_reach::Chosen;
 use gs_report::Finished;
 use gs_rules::{Event, StoredEntry};
 use std::alloc::{AllocError, Global};
 
-/// How the neighbour that scores a peer lowest scores it.
+/// How a peer is scored by the one that scores it lowest.
 #[derive(Clone, Copy, Debug, PartialEq, Eq)]
 pub(crate) enum Class {
     /// 0 or more.
@@ -24,7 +24,7 @@ pub(crate) enum Class {
     BelowPublish,
     /// It is not listened to.
     BelowGraylist,
-    /// It has no neighbour at the end.
+    /// No peer that counts has it as a neighbour at the end.
     Unscored,
 }
 
@@ -37,42 +37,97 @@ pub(crate) struct Disc {
     pub subscribed: bool,
 }
 
-/// A disc for each peer.
+/// A disc for each peer, by what some peers score.
 pub(crate) fn discs(
     alloc: Global,
     thresholds: &Thresholds,
+    of: &Chosen,
     peers: &[(PeerNo, Finished)],
     topic: &Topic,
 ) -> Result<Vec<Disc>, AllocError>
-    ensures { IfOk result (λ found. found.items ≡ discs thresholds.now peers.now topic.now) }
+    ensures { IfOk result (λ found. found.items ≡ discs thresholds.now of.now peers.now topic.now) }
 {
     let mut found = Vec::with_capacity(alloc, peers.len())?;
     for peer in peers {
-        found.push(disc_of(thresholds, peers, topic, peer.0))?;
+        found.push(disc_of(thresholds, of, peers, topic, peer.0))?;
     }
     Ok(found)
 }
 
 fn disc_of(
     thresholds: &Thresholds,
+    of: &Chosen,
     peers: &[(PeerNo, Finished)],
     topic: &Topic,
     peer: PeerNo,
 ) -> Disc
-    ensures { result ≡ disc thresholds.now peers.now topic.now peer }
+    ensures { result ≡ disc thresholds.now of.now peers.now topic.now peer }
 {
     Disc {
         peer,
-        class: class_of(thresholds, &scores_of(peers, peer)),
+        class: class_of(thresholds, lowest_score(of, peers, peer)),
         subscribed: is_subscribed(peers, topic, peer),
     }
 }
 
-fn class_of(thresholds: &Thresholds, scores: &Option<Span>) -> Class
-    ensures { result ≡ class_of thresholds.now scores.now }
+/// The lowest score that a neighbour among some peers gives a peer.
+fn lowest_score(of: &Chosen, peers: &[(PeerNo, Finished)], peer: PeerNo) -> Option<i128>
+    ensures { result ≡ lowest (scores_of of.now peers.now peer) }
 {
-    match scores {
-        Some(span) => class_by(thresholds, &span.lowest),
+    let mut so_far = None;
+    for giver in peers {
+        so_far = lower_by_one(of, so_far, giver, peer);
+    }
+    so_far
+}
+
+fn lower_by_one(
+    of: &Chosen,
+    so_far: Option<i128>,
+    giver: &(PeerNo, Finished),
+    peer: PeerNo,
+) -> Option<i128>
+    ensures { result ≡ fold lower so_far (scores_of of.now (giver.now ∷ []) peer) }
+{
+    if of.contains(giver.0) {
+        return lower_by_all(so_far, giver.1.scores.as_slice(), peer);
+    }
+    so_far
+}
+
+fn lower_by_all(so_far: Option<i128>, scores: &[(PeerNo, i128)], peer: PeerNo) -> Option<i128>
+    ensures { result ≡ fold lower so_far (scores_about peer scores.now) }
+{
+    let mut lowest = so_far;
+    for score in scores {
+        lowest = lower_by_score(lowest, score, peer);
+    }
+    lowest
+}
+
+fn lower_by_score(so_far: Option<i128>, score: &(PeerNo, i128), peer: PeerNo) -> Option<i128>
+    ensures { result ≡ fold lower so_far (scores_about peer (score.now ∷ [])) }
+{
+    if score.0 != peer {
+        return so_far;
+    }
+    Some(lower(so_far, score.1))
+}
+
+fn lower(so_far: Option<i128>, score: i128) -> i128
+    ensures { Some result ≡ lower so_far score }
+{
+    match so_far {
+        Some(lowest) => lowest.min(score),
+        None => score,
+    }
+}
+
+fn class_of(thresholds: &Thresholds, lowest: Option<i128>) -> Class
+    ensures { result ≡ class_of thresholds.now lowest }
+{
+    match lowest {
+        Some(score) => class_by(thresholds, &score),
         None => Class::Unscored,
     }
 }

@@ -46,15 +46,15 @@ pub(crate) fn push_opening(alloc: Global, text: &mut Vec<u8>, tall: u128) -> Res
     push_part(text, Part::OpeningEnds)
 }
 
-/// Adds the topic, and how many peers, rounds and publications on it there are.
+/// Adds the topic, and how many peers, rounds and drawn messages there are.
 pub(crate) fn push_title(
     alloc: Global,
     text: &mut Vec<u8>,
     plan: &Plan,
     topic: &Topic,
-    publications: usize,
+    messages: usize,
 ) -> Result<(), AllocError>
-    ensures { OnOk result (text.new.items ≡ text.old.items ++ title_text plan.now topic.now publications) }
+    ensures { OnOk result (text.new.items ≡ text.old.items ++ title_text plan.now topic.now messages) }
 {
     push_part(text, Part::TitleBegins)?;
     push_name(alloc, text, &topic.0)?;
@@ -62,8 +62,8 @@ pub(crate) fn push_title(
     push_number(alloc, text, plan.peers.len() as u128)?;
     push_part(text, Part::Rounds)?;
     push_number(alloc, text, u128::from(plan.rounds))?;
-    push_part(text, Part::Publications)?;
-    push_number(alloc, text, publications as u128)?;
+    push_part(text, Part::Messages)?;
+    push_number(alloc, text, messages as u128)?;
     push_piece(text, Piece::TextEnds)
 }
 

@@ -1,8 +1,10 @@
 //! The small parts of a picture's text.
 ghost use Rattle.std.specs.Prelude.{◌≡◌, ◌++◌, decimal, OnOk};
-ghost use Rattle.gs_picture.specs.Texts.{escaped, escaped_all, place_text, unmarked};
+ghost use Rattle.gs_figure_sheets.specs.Choices.{spelled};
+ghost use Rattle.gs_picture.specs.Texts.{among_text, escaped, escaped_all, place_text, shortened, unmarked};
 
 use crate::places::Point;
+use gs_figure_sheets::Choice;
 use std::alloc::{AllocError, Global};
 
 /// Adds words as they are.
@@ -62,4 +64,32 @@ fn push_other(alloc: Global, text: &mut Vec<u8>, byte: u8) -> Result<(), AllocEr
         return text.extend_from_slice(digits.as_bytes());
     }
     text.extend_from_slice(&[byte])
+}
+
+/// Adds which peers count, by their names, where not all do.
+pub(crate) fn push_among(
+    alloc: Global,
+    text: &mut Vec<u8>,
+    of: Choice<'_>,
+) -> Result<(), AllocError>
+    ensures { OnOk result (text.new.items ≡ text.old.items ++ among_text (spelled of.entry)) }
+{
+    match of {
+        Choice::Any => Ok(()),
+        Choice::Named(names) => {
+            push(text, " among ")?;
+            push_shortened(alloc, text, names.as_bytes())
+        }
+    }
+}
+
+/// Adds names, or a front of them where they are many.
+fn push_shortened(alloc: Global, text: &mut Vec<u8>, names: &[u8]) -> Result<(), AllocError>
+    ensures { OnOk result (text.new.items ≡ text.old.items ++ shortened names.now) }
+{
+    if names.len() <= 32 {
+        return push_name(alloc, text, names);
+    }
+    push_name(alloc, text, &names[..32])?;
+    push(text, "..")
 }

@@ -1,22 +1,25 @@
 //! The picture of a run.
 ghost use Rattle.std.specs.Prelude.{◌≡◌, ◌++◌, IfOk, OnOk};
-ghost use Rattle.gs_picture.specs.Picture.{lower_text, picture, upper_text};
+ghost use Rattle.gs_figure_sheets.specs.Choices.{spelled};
+ghost use Rattle.gs_picture.specs.Picture.{lower_text, middle_text, picture, upper_text};
 
 use crate::chart::push_chart;
 use crate::circle::push_circle;
-use crate::courses::courses;
-use crate::discs::{Disc, discs};
-use crate::edges::{Edge, edges};
+use crate::courses::{Courses, courses_of};
+use crate::discs::discs;
+use crate::edges::edges;
 use crate::frame::{push_lowered, push_opening, push_title, room_of};
 use crate::legend::push_legend;
 use crate::pieces::{Part, push_part, push_style};
-use gs_base::{Seq, Topic};
+use gs_base::Topic;
+use gs_figure_sheets::{Choice, chosen_by};
 use gs_plan::Plan;
+use gs_reach::Chosen;
 use gs_report::Report;
 use std::alloc::{AllocError, Global};
 
-/// The picture of a run of a plan, as SVG: who is in whose mesh of a topic at the end, how neighbours score each peer,
-/// and how far each publication on the topic came.
+/// The picture of a run of a plan, as SVG: who is in whose mesh of a topic at the end, how some peers score each peer, and how
+/// far each message on the topic came to those peers.
 ///
 /// # Errors
 /// `AllocError` where there was no memory for it.
@@ -25,17 +28,16 @@ pub fn picture_svg(
     plan: &Plan,
     report: &Report,
     topic: &Topic,
+    of: Choice<'_>,
 ) -> Result<Vec<u8>, AllocError>
-    ensures { IfOk result (λ bytes. bytes.items ≡ picture plan.now report.now topic.now) }
+    ensures { IfOk result (λ bytes. bytes.items ≡ picture plan.now report.now topic.now (spelled of.entry)) }
 {
-    let courses = courses(alloc, plan.round_ms, &report.peers, topic)?;
-    let discs = discs(alloc, &plan.params.thresholds, &report.peers, topic)?;
-    let edges = edges(alloc, &report.peers, topic)?;
+    let chosen = chosen_by(alloc, plan, report, of)?;
+    let courses = courses_of(alloc, plan, report, topic, &chosen)?;
     let mut text = Vec::new(alloc);
-    push_upper(alloc, &mut text, plan, topic, courses.len())?;
-    push_lowered(alloc, &mut text, u128::from(room_of(plan)))?;
-    push_circle(alloc, &mut text, plan, &edges, &discs)?;
-    push_lower(alloc, &mut text, plan, courses.as_slice())?;
+    push_upper(alloc, &mut text, plan, topic, courses.each.len())?;
+    push_middle(alloc, &mut text, (plan, report), topic, &chosen)?;
+    push_lower(alloc, &mut text, plan, of, &courses)?;
     Ok(text)
 }
 
@@ -46,29 +48,49 @@ fn push_upper(
     text: &mut Vec<u8>,
     plan: &Plan,
     topic: &Topic,
-    publications: usize,
+    messages: usize,
 ) -> Result<(), AllocError>
-    ensures { OnOk result (text.new.items ≡ text.old.items ++ upper_text plan.now topic.now publications) }
+    ensures { OnOk result (text.new.items ≡ text.old.items ++ upper_text plan.now topic.now messages) }
 {
-    let tall = 970 + 2 * u128::from(room_of(plan));
+    let tall = 990 + 2 * u128::from(room_of(plan));
     push_opening(alloc, text, tall)?;
     push_style(text)?;
-    push_title(alloc, text, plan, topic, publications)
+    push_title(alloc, text, plan, topic, messages)
 }
 
-/// Adds what stands below it.
+/// Adds the circle of a run, by what some peers score.
+#[tactic(auto, unfolding(crate::specs::Picture::middle_text))]
+fn push_middle(
+    alloc: Global,
+    text: &mut Vec<u8>,
+    run: (&Plan, &Report),
+    topic: &Topic,
+    of: &Chosen,
+) -> Result<(), AllocError>
+    ensures { OnOk result (text.new.items ≡ text.old.items ++ middle_text run.entry.0.now run.entry.1.now topic.now of.now) }
+{
+    let plan = run.0;
+    let peers = run.1.peers.as_slice();
+    let discs = discs(alloc, &plan.params.thresholds, of, peers, topic)?;
+    let edges = edges(alloc, peers, topic)?;
+    push_lowered(alloc, text, u128::from(room_of(plan)))?;
+    push_circle(alloc, text, plan, &edges, &discs)
+}
+
+/// Adds what stands below it, by the names of those peers.
 #[tactic(auto, unfolding(crate::specs::Picture::lower_text))]
 fn push_lower(
     alloc: Global,
     text: &mut Vec<u8>,
     plan: &Plan,
-    courses: &[Seq<u64>],
+    of: Choice<'_>,
+    courses: &Courses,
 ) -> Result<(), AllocError>
-    ensures { OnOk result (text.new.items ≡ text.old.items ++ lower_text plan.now courses.now) }
+    ensures { OnOk result (text.new.items ≡ text.old.items ++ lower_text plan.now (spelled of.entry) courses.now) }
 {
     push_part(text, Part::GroupEnds)?;
     push_lowered(alloc, text, 2 * u128::from(room_of(plan)))?;
-    push_legend(alloc, text)?;
-    push_chart(alloc, text, plan.peers.len(), courses)?;
+    push_legend(alloc, text, of)?;
+    push_chart(alloc, text, of, courses)?;
     push_part(text, Part::PictureEnds)
 }

@@ -6,8 +6,6 @@ use crate::pen::push;
 use std::alloc::AllocError;
 
 const LEGEND_WORDS: &str = "\
-    <text class=\"head\" x=\"60\" y=\"590\">\
-    Each disc is a peer, by the lowest score that a neighbour gives it at the end</text>\n\
     <g class=\"disc off\" transform=\"translate(69 660)\"><circle r=\"9\"/></g>\
     <text x=\"85\" y=\"664\">hollow: not subscribed to the topic</text>\n\
     <path class=\"both\" d=\"M316 660H340\"/>\
@@ -17,10 +15,14 @@ const LEGEND_WORDS: &str = "\
     <text x=\"605\" y=\"664\">the tail alone has the head in its mesh</text>\n";
 
 const CHART_WORDS: &str = "\
-    <text class=\"head\" x=\"60\" y=\"700\">\
-    Share of the peers that each publication on the topic reached</text>\n\
-    <text class=\"middle\" x=\"460\" y=\"958\">\
-    rounds since it was published</text>\n";
+    <path class=\"course few\" d=\"M60 718H84\"/>\
+    <text x=\"90\" y=\"722\">thin: one message</text>\n\
+    <path class=\"course all\" d=\"M222 718H246\"/>\
+    <text x=\"252\" y=\"722\">thick: all messages together</text>\n\
+    <text class=\"middle\" transform=\"translate(14 840) rotate(-90)\">\
+    of the subscribers</text>\n\
+    <text class=\"middle\" x=\"460\" y=\"978\">\
+    rounds after the publication</text>\n";
 
 const STYLE: &str = "\
 <style>
@@ -48,15 +50,17 @@ path{fill:none}
 .off circle{fill:#fff}
 .off text{fill:#1f2328}
 .grid{stroke:#d0d7de}
-.course{stroke:#0969da;stroke-width:2}
+.course{stroke:#0969da;stroke-width:1.5}
 .some{stroke-opacity:.5}
 .many{stroke-opacity:.2}
+.all{stroke:#1f2328;stroke-width:5;stroke-opacity:.6}
 @media (prefers-color-scheme:dark){
 text,.off text{fill:#e6edf3}
 .back,.off circle{fill:#0d1117}
 .both{stroke:#9198a1}
 .grid{stroke:#30363d}
 .course{stroke:#58a6ff}
+.all{stroke:#e6edf3}
 }
 </style>
 <defs><marker id=\"head\" refX=\"18\" refY=\"5\" \
@@ -83,6 +87,8 @@ pub(crate) enum Piece {
     WordsAcross,
     WordsDown,
     TagEnds,
+    LegendHead,
+    LegendHeadEnds,
 }
 
 /// A text round the circle, or in the chart.
@@ -94,11 +100,16 @@ pub(crate) enum Part {
     TitleBegins,
     Peers,
     Rounds,
-    Publications,
+    Messages,
     GroupBegins,
     GroupPlaced,
     GroupEnds,
     PictureEnds,
+    ChartHead,
+    ChartHeadEnds,
+    MissedBegins,
+    MissedOf,
+    MissedEnds,
     LevelBegins,
     LevelLabel,
     LevelEnds,
@@ -130,6 +141,10 @@ fn piece_text(one: Piece) -> &'static str
         Piece::WordsAcross => "<text x=\"",
         Piece::WordsDown => "\" y=\"",
         Piece::TagEnds => "\">",
+        Piece::LegendHead => {
+            "<text class=\"head\" x=\"60\" y=\"590\">Each disc is a peer, by the lowest score that a neighbour"
+        }
+        Piece::LegendHeadEnds => " gives it at the end</text>\n",
     }
 }
 
@@ -144,19 +159,24 @@ fn text_of(one: Part) -> &'static str
         Part::TitleBegins => "<text class=\"title middle\" x=\"460\" y=\"32\">Topic ",
         Part::Peers => "</text>\n<text class=\"middle\" x=\"460\" y=\"52\">peers: ",
         Part::Rounds => ", rounds: 0 to ",
-        Part::Publications => ", publications: ",
+        Part::Messages => ", messages drawn: ",
         Part::GroupBegins => "<g transform=\"translate(0 ",
         Part::GroupPlaced => ")\">\n",
         Part::GroupEnds => "</g>\n",
         Part::PictureEnds => "</g>\n</svg>\n",
+        Part::ChartHead => { "<text class=\"head\" x=\"60\" y=\"700\">Share of the subscribers" }
+        Part::ChartHeadEnds => " that each message reached</text>\n",
+        Part::MissedBegins => "<text class=\"end\" x=\"860\" y=\"722\">missed: ",
+        Part::MissedOf => " of ",
+        Part::MissedEnds => " pairs of a message and a subscriber</text>\n",
         Part::LevelBegins => "<path class=\"grid\" d=\"M60 ",
         Part::LevelLabel => "H860\"/><text class=\"end\" x=\"52\" y=\"",
         Part::LevelEnds => "%</text>\n",
         Part::TickBegins => "<path class=\"grid\" d=\"M",
-        Part::TickLabel => " 720V920\"/><text class=\"middle\" x=\"",
-        Part::TickText => "\" y=\"938\">",
+        Part::TickLabel => " 740V940\"/><text class=\"middle\" x=\"",
+        Part::TickText => "\" y=\"958\">",
         Part::CourseBegins => "<path class=\"course ",
-        Part::CourseLine => "\" d=\"M60 920",
+        Part::CourseLine => "\" d=\"M60 940",
         Part::CourseEnds => "H860\"/>\n",
     }
 }
@@ -175,7 +195,7 @@ pub(crate) fn push_part(text: &mut Vec<u8>, one: Part) -> Result<(), AllocError>
     push(text, text_of(one))
 }
 
-/// Adds the legend but for the classes.
+/// Adds the legend but for its head and the classes.
 #[tactic(auto, unfolding(crate::specs::Pieces::legend_words))]
 pub(crate) fn push_legend_words(text: &mut Vec<u8>) -> Result<(), AllocError>
     ensures { OnOk result (text.new.items ≡ text.old.items ++ legend_words) }
@@ -183,7 +203,7 @@ pub(crate) fn push_legend_words(text: &mut Vec<u8>) -> Result<(), AllocError>
     push(text, LEGEND_WORDS)
 }
 
-/// Adds what stands above and below the chart.
+/// Adds what stands beside the axes of the chart.
 #[tactic(auto, unfolding(crate::specs::Pieces::chart_words))]
 pub(crate) fn push_chart_words(text: &mut Vec<u8>) -> Result<(), AllocError>
     ensures { OnOk result (text.new.items ≡ text.old.items ++ chart_words) }

@@ -1,6 +1,6 @@
-use Rattle.gossip_picture.specs.Arguments.{name_in}
+use Rattle.gossip_picture.specs.Arguments.{wishes_of}
 use Rattle.gossip_picture.specs.Printed.{printed}
 use Rattle.gossip_picture.proofs.program.PictureOfPrinter.print.Goals as goal
 
 pub returns : goal.returns
-returns g c = c.print_whole.ensures.made (printed (name_in c.args.self.now.asked) c.args.plan.now c.args.report.now) c.printed.ensures
+returns g c = c.print_whole.ensures.made (printed (wishes_of c.args.self.now.asked) c.args.plan.now c.args.report.now) c.printed.ensures
