@@ -1,6 +1,6 @@
 # shellcheck shell=bash disable=SC2154
 # Runs the commands of docs/BOOK.md, and looks at the book's descriptions. tools/check_statuses reads this file. It sets `top`
-# to the repository's folder and `room` to one for files, and has `expect`, `draw` and `have_same_sums`.
+# to the repository's folder and `room` to one for files, and has `expect`, `draw` and `sums_of`.
 
 # Puts the commands of a page into files N.command, and what each prints into N.output. A script in Python goes into a file
 # of the name that stands after `python`.
@@ -32,13 +32,13 @@ to_plain() {
   "$top/bin/scenario" "$1" 2>/dev/null >"$2"
 }
 
-# Looks at a description as tools/check_statuses does at plain scenarios: at the sums over its rounds, and at its picture
-# where the page has one.
+# Looks at a description as tools/check_statuses does at plain scenarios: at the sums over its rounds and links, and at its
+# picture where the page has one.
 check_description() {
   local name plain=$room/plain.toml
   name=$(basename "$1" .toml)
   expect "the plain scenario of $name" 0 '' '' to_plain "$1" "$plain"
-  expect "the sums over rounds of $name" 0 '' '' have_same_sums "$plain"
+  expect "the sums over rounds and links of $name" 0 '' '' sums_of "$plain"
   ! shows_picture "$name" >/dev/null ||
     expect "the picture of $name" 0 "$(cat "$top/docs/pictures/$name.svg")" '' draw "$plain"
 }
