@@ -1,5 +1,5 @@
 -- Each row of each sheet has a value for each column.
-use Rattle.std.proofs.Common.{◌≡◌, ℕ, ◌+◌, List, [], ◌∷◌, ◌++◌, length, map, filter, refl, sym, ap, ap₂, ◌∙◌}
+use Rattle.std.proofs.Common.{◌≡◌, ℕ, ◌+◌, List, [], ◌∷◌, ◌++◌, length, map, refl, sym, ap, ap₂, ◌∙◌}
 use Rattle.std.specs.Prelude.{Option, None, Some}
 use Rattle.std.specs.List.{AllByRecursion, flat_map}
 use Rattle.std.proofs.lemmas.List.{length-append, length-map}
@@ -12,34 +12,29 @@ use Rattle.gs_opinions.specs.Runs.{opinions_of}
 use Rattle.gs_plan.specs.declared.plan.Plan.{Plan}
 use Rattle.gs_reach.specs.declared.chosen.Chosen.{Chosen}
 use Rattle.gs_reach.specs.declared.distribution.Distribution.{Distribution}
-use Rattle.gs_reach.specs.declared.distribution.Within.{Within}
 use Rattle.gs_reach.specs.declared.messages.MessageReach.{MessageReach}
 use Rattle.gs_reach.specs.Chosen.{accepted_pairs, chosen_messages}
-use Rattle.gs_reach.specs.Messages.{messages}
 use Rattle.gs_reach.specs.Reached.{distribution}
 use Rattle.gs_report.specs.declared.report.Report.{Report}
 use Rattle.gs_rules.proofs.Each.{each_mapped, of_each}
-use Rattle.gs_sheets.specs.declared.sheet.Column.{Column as SheetColumn}
 use Rattle.gs_sheets.specs.declared.sheet.Sheet.{Sheet}
 use Rattle.gs_sheets.specs.declared.sheet.Value.{Value}
-use Rattle.gs_figure_sheets.specs.declared.columns.Column.{Column}
 use Rattle.gs_figure_sheets.specs.declared.figure.Figure.{Figure}
 use Rattle.gs_figure_sheets.specs.declared.figures.Line.{Line}
 use Rattle.gs_figure_sheets.specs.declared.figures.PeerFigures.{PeerFigures}
 use Rattle.gs_figure_sheets.specs.declared.found.Found.{Found}
 use Rattle.gs_figure_sheets.specs.declared.party.Party.{Party}
-use Rattle.gs_figure_sheets.specs.declared.section.Section.{Section}
 use Rattle.gs_figure_sheets.specs.declared.wanted.Layout.{Layout}
 use Rattle.gs_figure_sheets.specs.declared.wanted.Layout.TheVariants.{Person, Data}
 use Rattle.gs_figure_sheets.specs.declared.wanted.Subject.{Subject}
 use Rattle.gs_figure_sheets.specs.declared.wanted.Subject.TheVariants.{Run, Rounds, Topics, Links}
 use Rattle.gs_figure_sheets.specs.Columns.{column_of, group_columns, limit_columns, message_columns, spread_columns}
 use Rattle.gs_figure_sheets.specs.Choices.{chosen_by}
-use Rattle.gs_figure_sheets.specs.FigureSheets.{dealt_in, figure_sheets, found_of, lines_of_peers, lines_of_rounds, sheets_for, sheets_of, sheets_with}
+use Rattle.gs_figure_sheets.specs.FigureSheets.{dealt_in, found_of, lines_of_peers, lines_of_rounds, sheets_for, sheets_of, sheets_with}
 use Rattle.gs_figure_sheets.specs.Figures.{figure_column}
-use Rattle.gs_figure_sheets.specs.Groups.{Dealt, group_pages, group_row, group_rows, group_sheet, rows_from}
+use Rattle.gs_figure_sheets.specs.Groups.{Dealt, group_pages, group_row, group_sheet, rows_from}
 use Rattle.gs_figure_sheets.specs.Lines.{all_line, figures_of_peers, link_line, links_at, opinions_in, party_line, peer_line, peer_lines, round_line, round_with, round_without, topic_line}
-use Rattle.gs_figure_sheets.specs.Pages.{figure_pages, figure_sheet, label_columns, section_name, section_sheet, section_title, subject_name, whole_sheet, whole_title}
+use Rattle.gs_figure_sheets.specs.Pages.{figure_pages, figure_sheet, label_columns, section_name, section_sheet, section_title, subject_name, whole_title}
 use Rattle.gs_figure_sheets.specs.Parties.{groups_of, parties_of}
 use Rattle.gs_figure_sheets.specs.Reach.{limit_rows, limit_sheet, message_row, message_sheet, sheets_among, spread_row, spread_sheet, within_row}
 use Rattle.gs_figure_sheets.specs.Rows.{label_value, line_row, value_of}
@@ -84,9 +79,10 @@ row_count figures line =
 rows_filled : (subject : Subject) (parties : List Party) (figures : List Figure) (lines : List Line) → AllByRecursion (IsLabelled subject) lines
     → AllByRecursion (λ (row : List Value). length row ≡ length (map column_of (label_columns subject) ++ map (figure_column parties) figures)) (map (line_row figures) lines)
 rows_filled subject parties figures [] labelled = tt
-rows_filled subject parties figures (line ∷ lines) labelled =
-    ( row_count figures line ∙ ap (λ (m : ℕ). m + length figures) labelled.0 ∙ sym (columns_count subject parties figures)
-    , rows_filled subject parties figures lines labelled.1 )
+rows_filled subject parties figures (line ∷ lines) labelled = (
+  row_count figures line ∙ ap (λ (m : ℕ). m + length figures) labelled.0 ∙ sym (columns_count subject parties figures),
+  rows_filled subject parties figures lines labelled.1,
+)
 
 sheet_filled : (subject : Subject) (parties : List Party) (lines : List Line) → AllByRecursion (IsLabelled subject) lines
     → (name title : List ℕ) (figures : List Figure) → IsFilled (figure_sheet subject parties lines name title figures)

@@ -1,6 +1,5 @@
 -- What stands in a row of figures, and the sums of several rows.
-use Rattle.std.specs.Prelude.{ℕ, ℤ, int_lt, nat_lt, not, ◌&&◌, ◌||◌, Bool, if◌then◌else◌, List, [], ◌∷◌, ◌++◌, filter, fold, map, Option, None, Some, slice_get, unwrap_or}
-use Rattle.gs_base.specs.declared.names.PeerNo.{PeerNo}
+use Rattle.std.specs.Prelude.{ℕ, ℤ, int_lt, nat_lt, not, ◌&&◌, ◌||◌, Bool, if◌then◌else◌, List, ◌++◌, filter, fold, map, Option, None, Some, slice_get, unwrap_or}
 use Rattle.gs_counts.specs.declared.counts.Counts.{Counts}
 use Rattle.gs_counts.specs.declared.span.Span.{Span}
 use Rattle.gs_counts.specs.Meshes.{widened}

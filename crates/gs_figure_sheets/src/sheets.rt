@@ -86,7 +86,12 @@ fn run_sheets(
         lines: lines.as_slice(),
     };
     push_pages(alloc, &mut sheets, wanted.layout, &page)?;
-    push_groups(alloc, &mut sheets, &found.dealings(report), found.parties.as_slice())?;
+    push_groups(
+        alloc,
+        &mut sheets,
+        &found.dealings(report),
+        found.parties.as_slice(),
+    )?;
     Ok(sheets)
 }
 

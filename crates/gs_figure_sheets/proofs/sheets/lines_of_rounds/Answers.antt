@@ -1,4 +1,4 @@
-use Rattle.std.proofs.Common.{◌≡◌, List, map, ap, ap₂, ◌∙◌}
+use Rattle.std.proofs.Common.{List, map, ap, ap₂, ◌∙◌}
 use Rattle.gs_counts.specs.declared.run.RoundCounts.{RoundCounts}
 use Rattle.gs_counts.specs.declared.run.RunCounts.{RunCounts}
 use Rattle.gs_opinions.specs.declared.run.Opinions.{Opinions}

@@ -1,4 +1,4 @@
-use Rattle.std.proofs.Common.{◌≡◌, List, map, ap, ap₂, ◌∙◌}
+use Rattle.std.proofs.Common.{List, map, ap, ap₂, ◌∙◌}
 use Rattle.gs_figure_sheets.specs.declared.figures.Line.{Line}
 use Rattle.gs_figure_sheets.specs.declared.party.Party.{Party}
 use Rattle.gs_figure_sheets.specs.declared.wanted.Group.{Group}
