@@ -6,7 +6,7 @@ use Rattle.gs_base.specs.declared.names.Topic.{Topic}
 use Rattle.gs_counts.specs.declared.kind.Kind.{Kind}
 use Rattle.gs_counts.specs.declared.run.LinkCounts.{LinkCounts}
 use Rattle.gs_counts.specs.declared.span.Span.{Span}
-use Rattle.gs_counts.specs.Meshes.{members_in, span_of, widened}
+use Rattle.gs_counts.specs.Meshes.{members_in, span_of}
 use Rattle.gs_counts.specs.Rows.{count_at, plus}
 use Rattle.gs_counts.specs.Topics.{subscribed}
 use Rattle.gs_opinions.specs.declared.opinion.Lowest.{Lowest}

@@ -1,8 +1,7 @@
 -- The sheets of a run that are wished for.
-use Rattle.std.specs.Prelude.{ℕ, List, [], ◌∷◌, ◌++◌, map, Option, None, Some}
+use Rattle.std.specs.Prelude.{List, [], ◌++◌, map, Option, None, Some}
 use Rattle.gs_counts.specs.declared.run.RunCounts.{RunCounts}
 use Rattle.gs_counts.specs.Runs.{run_counts}
-use Rattle.gs_opinions.specs.declared.run.Opinions.{Opinions}
 use Rattle.gs_opinions.specs.Runs.{opinions_of}
 use Rattle.gs_plan.specs.declared.plan.Plan.{Plan}
 use Rattle.gs_reach.specs.declared.chosen.Chosen.{Chosen}

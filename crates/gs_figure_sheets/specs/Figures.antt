@@ -1,5 +1,5 @@
 -- The figures of rows: the column of each.
-use Rattle.std.specs.Prelude.{ℕ, codes, List, [], ◌∷◌, ◌++◌, map, option_map, slice_get, unwrap_or}
+use Rattle.std.specs.Prelude.{ℕ, codes, List, [], ◌++◌, option_map, slice_get, unwrap_or}
 use Rattle.gs_counts.specs.declared.kind.Kind.{Kind}
 use Rattle.gs_counts.specs.declared.kind.Kind.TheVariants.{RpcsHeard, New, Duplicates, Ignored, Rejected, Signed, OffTopic, PayloadBytesNew, PayloadBytesAgain, SubscriptionsHeard, IhaveHeard, IdsOffered, IwantHeard, IdsAsked, GraftHeard, PruneHeard, RpcsSent, BytesSent, RawBytesSent, MessageBytesSent, ControlBytesSent, SubscriptionBytesSent, SubscriptionsSent, MessagesPushed, MessagesAnswered, IhaveSent, IdsOfferedSent, IwantSent, IdsAskedSent, GraftSent, PruneSent, RpcsGraylisted, RpcsLate, Faults, GraftRefusedExplicit, GraftRefusedBackoff, GraftRefusedScore, GraftRefusedFull, IdsNotSentScore, IdsNotSentTooOften, IdsNotSentNotKept, PromisesBroken, RefusedLines, Delivered, Grafted, GraftedByNeighbour, GraftedByHeartbeat, Pruned, PrunedByNeighbour, PrunedByHeartbeat, PrunedByLoss}
 use Rattle.gs_sheets.specs.declared.sheet.Column.{Column as SheetColumn}

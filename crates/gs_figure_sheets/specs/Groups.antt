@@ -1,5 +1,5 @@
 -- What passes from group to group, as a sheet.
-use Rattle.std.specs.Prelude.{ℕ, codes, List, [], ◌∷◌, ◌++◌, length, map, Option}
+use Rattle.std.specs.Prelude.{codes, List, [], ◌∷◌, ◌++◌, length, map, Option}
 use Rattle.std.specs.List.{flat_map}
 use Rattle.gs_base.specs.declared.names.PeerNo.{PeerNo}
 use Rattle.gs_counts.specs.declared.kind.Kind.TheVariants.{RpcsSent, BytesSent}

@@ -11,3 +11,4 @@ pub mod Lines
 pub mod Pages
 pub mod Groups
 pub mod FigureSheets
+pub mod Shapes

@@ -6,7 +6,6 @@ use Rattle.gs_counts.specs.declared.kind.Kind.TheVariants.{BytesSent, RawBytesSe
 use Rattle.gs_counts.specs.declared.run.LinkCounts.{LinkCounts}
 use Rattle.gs_counts.specs.declared.run.PeerCounts.{PeerCounts}
 use Rattle.gs_counts.specs.declared.run.RoundCounts.{RoundCounts}
-use Rattle.gs_counts.specs.declared.run.RunCounts.{RunCounts}
 use Rattle.gs_counts.specs.declared.run.TopicCounts.{TopicCounts}
 use Rattle.gs_counts.specs.declared.span.Span.{Span}
 use Rattle.gs_counts.specs.Listing.{over_links}
@@ -18,7 +17,6 @@ use Rattle.gs_reach.specs.declared.chosen.Chosen.{Chosen}
 use Rattle.gs_reach.specs.declared.chosen.Chosen.TheVariants.{Any, Only}
 use Rattle.gs_reach.specs.Chosen.{is_chosen}
 use Rattle.gs_report.specs.declared.finished.Finished.{Finished}
-use Rattle.gs_report.specs.declared.report.Report.{Report}
 use Rattle.gs_report.specs.Text.{name_of}
 use Rattle.gs_figure_sheets.specs.declared.figures.Label.{Label}
 use Rattle.gs_figure_sheets.specs.declared.figures.Label.TheVariants.{Named, Numbered}

@@ -1,6 +1,5 @@
 -- Groups of peers, by the names of these.
-use Rattle.std.specs.Prelude.{ℕ, List, filter, map, Option, Some}
-use Rattle.gs_base.specs.declared.names.PeerNo.{PeerNo}
+use Rattle.std.specs.Prelude.{ℕ, List, filter, map, Some}
 use Rattle.gs_plan.specs.declared.plan.Plan.{Plan}
 use Rattle.gs_report.specs.declared.report.Report.{Report}
 use Rattle.gs_reach.specs.declared.chosen.Chosen.{Chosen}

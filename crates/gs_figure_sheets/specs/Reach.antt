@@ -9,7 +9,6 @@ use Rattle.gs_reach.specs.declared.chosen.Chosen.{Chosen}
 use Rattle.gs_reach.specs.declared.distribution.Distribution.{Distribution}
 use Rattle.gs_reach.specs.declared.distribution.Within.{Within}
 use Rattle.gs_reach.specs.declared.messages.MessageReach.{MessageReach}
-use Rattle.gs_reach.specs.declared.pairs.Pair.{Pair}
 use Rattle.gs_reach.specs.declared.spread.Spread.{Spread}
 use Rattle.gs_reach.specs.Chosen.{accepted_pairs, chosen_messages}
 use Rattle.gs_reach.specs.Messages.{messages}

@@ -1,6 +1,5 @@
 -- What stands in a row of figures, and the sums of several rows.
-use Rattle.std.specs.Prelude.{ℕ, ℤ, int_lt, nat_lt, not, ◌&&◌, ◌||◌, Bool, if◌then◌else◌, List, [], ◌∷◌, ◌++◌, filter, fold, map, Option, None, Some, slice_get, unwrap_or}
-use Rattle.gs_base.specs.declared.names.PeerNo.{PeerNo}
+use Rattle.std.specs.Prelude.{ℕ, ℤ, int_lt, nat_lt, not, ◌&&◌, ◌||◌, Bool, if◌then◌else◌, List, ◌++◌, filter, fold, map, Option, None, Some, slice_get, unwrap_or}
 use Rattle.gs_counts.specs.declared.counts.Counts.{Counts}
 use Rattle.gs_counts.specs.declared.span.Span.{Span}
 use Rattle.gs_counts.specs.Meshes.{widened}
@@ -69,7 +68,7 @@ label_value (labels.Named name) = Name name
 label_value (labels.Numbered n) = Count n
 
 -- a row: what it is of, and then its figures
-abbrev pub line_row : List Figure → Line → List Value
+unfoldable pub line_row : List Figure → Line → List Value
 line_row figures line = map label_value line.labels ++ map (value_of line) figures
 
 -- ---- sums

@@ -63,11 +63,7 @@ fn widened_by_one(span: &Option<Span>, about: &Chosen, score: &(PeerNo, i128)) -
 }
 
 /// The lowest score that some peers give some others over the run, and when first.
-pub(crate) fn lowest_between(
-    by: &Chosen,
-    about: &Chosen,
-    pairs: &[PairOpinion],
-) -> Option<Lowest>
+pub(crate) fn lowest_between(by: &Chosen, about: &Chosen, pairs: &[PairOpinion]) -> Option<Lowest>
     ensures { result ≡ lowest_between by.now about.now pairs.now }
 {
     let mut lowest = None;

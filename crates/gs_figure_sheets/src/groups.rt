@@ -12,9 +12,7 @@ use crate::rows::{count_or_none, push_name, share_of};
 use gs_base::{PeerNo, Seq};
 use gs_counts::{Kind, LinkCounts, Span};
 use gs_opinions::{Lowest, PairOpinion};
-use gs_reach::{
-    Chosen, MessageReach, Pair, Spread, accepted_pairs, missed, reached, spread_of,
-};
+use gs_reach::{Chosen, MessageReach, Pair, Spread, accepted_pairs, missed, reached, spread_of};
 use gs_report::Finished;
 use gs_sheets::{Row, Sheet, Value, bytes_of};
 use std::alloc::{AllocError, Global};
@@ -196,7 +194,7 @@ fn push_scores(
 ) -> Result<(), AllocError>
     ensures { OnOk result (row.new ≡ row.old
         ++ score_values (span_between from.now.told to.now.peers dealings.now.peers.now)
-            (lowest_between from.now.told to.now.peers dealings.now.opinions.now)) }
+        (lowest_between from.now.told to.now.peers dealings.now.opinions.now)) }
 {
     let scores = span_between(&from.told, &to.peers, dealings.peers);
     let lowest = lowest_between(&from.told, &to.peers, dealings.opinions);

@@ -192,11 +192,7 @@ fn round_line(alloc: Global, opinions: &Opinions, round: &RoundCounts) -> Result
 }
 
 /// The row of a round, with the scores that were given in it.
-fn round_with(
-    alloc: Global,
-    round: &RoundCounts,
-    given: &RoundOpinions,
-) -> Result<Line, AllocError>
+fn round_with(alloc: Global, round: &RoundCounts, given: &RoundOpinions) -> Result<Line, AllocError>
     ensures { IfOk result (λ line. line ≡ round_with round.now given.now) }
 {
     let labels = Seq::only(alloc, Label::Numbered(round.round))?;

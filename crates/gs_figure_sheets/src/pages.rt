@@ -163,11 +163,7 @@ pub(crate) fn push_pages(
     }
 }
 
-fn push_sections(
-    alloc: Global,
-    sheets: &mut Seq<Sheet>,
-    page: &Page<'_>,
-) -> Result<(), AllocError>
+fn push_sections(alloc: Global, sheets: &mut Seq<Sheet>, page: &Page<'_>) -> Result<(), AllocError>
     ensures { OnOk result (sheets.new
         ≡ sheets.old ++ figure_pages Person page.now.subject page.now.parties.now page.now.lines.now) }
 {

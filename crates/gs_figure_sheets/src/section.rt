@@ -227,11 +227,7 @@ fn push_section(
 }
 
 /// Adds those of these figures that stand in the rows of a subject.
-fn push_shown(
-    figures: &mut Vec<Figure>,
-    subject: Subject,
-    all: &[Figure],
-) -> Result<(), AllocError>
+fn push_shown(figures: &mut Vec<Figure>, subject: Subject, all: &[Figure]) -> Result<(), AllocError>
     ensures { OnOk result (figures.new.items ≡ figures.old.items ++ filter (is_shown subject) all.now) }
 {
     for figure in all {

@@ -86,7 +86,12 @@ fn run_sheets(
         lines: lines.as_slice(),
     };
     push_pages(alloc, &mut sheets, wanted.layout, &page)?;
-    push_groups(alloc, &mut sheets, &found.dealings(report), found.parties.as_slice())?;
+    push_groups(
+        alloc,
+        &mut sheets,
+        &found.dealings(report),
+        found.parties.as_slice(),
+    )?;
     Ok(sheets)
 }
 
@@ -110,7 +115,8 @@ fn round_sheets(
         parties: parties.as_slice(),
         lines: lines.as_slice(),
     };
-    pages_of(alloc, wanted.layout, &page)
+    let sheets = pages_of(alloc, wanted.layout, &page)?;
+    Ok(sheets)
 }
 
 fn lines_of_rounds(
@@ -127,7 +133,8 @@ fn lines_of_rounds(
     let groups = groups_of(alloc, plan, report, groups)?;
     let opinions = opinions_of(alloc, plan, report, among, groups.as_slice())?;
     let counts = run_counts(alloc, plan, report, among)?;
-    round_lines(alloc, &opinions, counts.rounds.as_slice())
+    let lines = round_lines(alloc, &opinions, counts.rounds.as_slice())?;
+    Ok(lines)
 }
 
 fn topic_sheets(
