@@ -8,9 +8,9 @@ use gs_base::{Millis, PeerNo};
 /// What a peer scores a neighbour at a moment.
 #[derive(Clone, Copy, Debug, PartialEq, Eq)]
 pub struct Opinion {
-    /// Whose score it is.
+    /// Who gives the score.
     pub by: PeerNo,
-    /// The neighbour.
+    /// The neighbour that gets it.
     pub of: PeerNo,
     /// In millionths.
     pub score: i128,

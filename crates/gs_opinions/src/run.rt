@@ -25,9 +25,9 @@ use std::alloc::{AllocError, Global};
 /// The lowest that a peer scores a neighbour over a run.
 #[derive(Clone, Copy, Debug, PartialEq, Eq)]
 pub struct PairOpinion {
-    /// Whose score it is.
+    /// Who gives the score.
     pub by: PeerNo,
-    /// The neighbour.
+    /// The neighbour that gets it.
     pub of: PeerNo,
     pub lowest: Lowest,
 }
