@@ -6,18 +6,19 @@ import re
 from antt_files import SMALL_CONSTRUCTORS, File, Unreadable, names_used
 from rust_files import Code, Contract, has_type, type_of
 
-# What Rust has without an import, and the traits that no definition speaks of.
-OF_RUST = set("Self Vec Option String Box Send Sync Copy Clone Drop Debug PartialEq Eq Some None Ok Err Result Fn FnMut".split())
+# What Rust has without an import.
+OF_RUST = set("Vec Option String Box Send Sync Copy Clone Drop Debug PartialEq Eq Some None Ok Err Result Fn FnMut".split())
 
 
 class Closure:
     """The definitions that contracts rest on. `uses` has what each uses, `words` the kit's names by module, and `first` by
-    what each definition was found first."""
+    what each definition was found first. `named` has, by file and by contract, what its imports bring: a local name's module
+    and name there, and the key of the definition, or none where that is the kit's."""
 
     def __init__(self, top):
         self.top = top
         self.files, self.codes = {}, {}
-        self.found, self.uses, self.first, self.words = {}, {}, {}, {}
+        self.found, self.uses, self.first, self.words, self.named = {}, {}, {}, {}, {}
 
     # ---- files
 
@@ -71,18 +72,24 @@ class Closure:
             path = having[0]
         return path, name
 
-    # What a word stands for among these imports: a part of an operator stands for the operator.
-    def by_imports(self, imports, word):
+    # What a word stands for among the imports of a place: a part of an operator stands for the operator.
+    def by_imports(self, place, imports, word):
         base, _, rest = word.partition(".")
         if base in imports:
             module, name = imports[base]
-            if name is None:
-                return self.of_module(module, rest.split(".")[0]) if rest else []
-            return self.of_module(module, name)
+            if name is None and not rest:
+                return []
+            keys = self.of_module(module, name or rest.split(".")[0])
+            self.note(place, base, module, name, keys)
+            return keys
         for local, (module, name) in imports.items():
             if "◌" in local and word in local.split("◌"):
                 return self.of_module(module, name)
         return None
+
+    def note(self, place, local, module, name, keys):
+        """Keeps what a local name of a file or of a contract stands for."""
+        self.named.setdefault(place, {})[local] = module, name, next(iter(keys), None)
 
     def is_constant(self, file, token):
         if token in file.constructors:
@@ -106,32 +113,39 @@ class Closure:
             elif base in file.definitions or base in file.constructors:
                 keys.add(self.in_file(file, base))
             else:
-                found = self.by_imports(file.imports, word)
+                found = self.by_imports(file.path, file.imports, word)
                 if found is None:
                     raise Unreadable(f"{file.path}: {definition.name} uses {word}, which nothing defines")
                 keys |= set(found)
         return keys - {definition.key}
 
-    # What names of code stand for: types of the same crate or of others, by how they are imported.
-    def used_by_code(self, code, names):
+    # What names of code stand for: types and traits of the same crate or of others, by how the code of a place imports them.
+    def used_by_code(self, place, code, names):
         keys = set()
-        crate = code.path.split("/")[1]
         for word in sorted(names):
             base = word.split(".")[0]
-            found = self.by_imports(code.clauses_import, word)
+            found = self.by_imports(place, code.clauses_import, word)
             if found is not None:
                 keys |= set(found)
             elif has_type(code, base):
                 keys.add((code.path, base))
             elif base in code.code_imports:
-                root, name = code.code_imports[base]
-                root = crate if root in ("crate", "super", "self") else root
-                if self.is_ours(root):
-                    keys.add(self.type_key(root, name, ""))
-                else:
-                    self.words.setdefault(f"{root} (Rust)", set()).add(name)
-            elif base not in OF_RUST and not re.fullmatch("[A-Z]", base):
+                keys |= self.of_code(place, code, base)
+            elif base in OF_RUST:
+                self.words.setdefault("Rust, without an import", set()).add(base)
+            elif not re.fullmatch("[A-Z]|Self", base):
                 raise Unreadable(f"{code.path}: {word} is a name that nothing defines")
+        return keys
+
+    # What a name stands for that code imports: of a name of the kit, none.
+    def of_code(self, place, code, local):
+        root, name = code.code_imports[local]
+        root = code.path.split("/")[1] if root in ("crate", "super", "self") else root
+        if not self.is_ours(root):
+            self.words.setdefault(f"{root} (Rust)", set()).add(name)
+            return set()
+        keys = {self.type_key(root, name, "")}
+        self.note(place, local, root, name, keys)
         return keys
 
     def read(self, key):
@@ -139,7 +153,7 @@ class Closure:
         path, name = key
         if path.endswith(".rt"):
             definition, used = type_of(self.code(path), name)
-            return definition, self.used_by_code(self.code(path), used)
+            return definition, self.used_by_code(path, self.code(path), used)
         file = self.file(path)
         return file.definitions[name], self.used_by_definition(file, file.definitions[name])
 
@@ -150,8 +164,8 @@ class Closure:
         code = self.code(f"crates/{crate}/src/{path}")
         contract = Contract(code, name)
         known = set(code.clauses_import)
-        words = contract.names_used(lambda token: token in known)
-        self.add(self.used_by_code(code, words), (code.path, f"fn {name}"))
+        words = contract.names_used(lambda token: token in known) | contract.types
+        self.add(self.used_by_code(contract.place, code, words), contract.place)
         return contract
 
     def add(self, keys, of):

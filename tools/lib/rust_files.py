@@ -64,10 +64,11 @@ def type_of(code, name):
     if " trait " in head:
         inside, used = members_of(code, inside)
         inside.append("}")
+        used |= set(CAPITAL.findall(head))
     elif model:
         value = re.search(r"ghost Value = \{(.*?)\};", model.group(0), re.DOTALL).group(1).strip()
-        used = set(CAPITAL.findall(value))
-        value = CAPITAL.sub(lambda found: code.clauses_import.get(found.group(), (None, found.group()))[1], value)
+        used = set(CAPITAL.findall(f"{value} {head}"))
+        value = as_declared(code, value)
         head, inside = f"{head.split(' {')[0].rstrip(';')} // in clauses: {value}", []
     else:
         used = types_in(head, inside)
@@ -84,23 +85,28 @@ def types_in(head, inside):
     return set(CAPITAL.findall("\n".join(bodies)))
 
 
+def as_declared(code, text):
+    """The text with each type under its own name, where clauses import it under another."""
+    return CAPITAL.sub(lambda found: code.clauses_import.get(found.group(), (None, found.group()))[1], text)
+
+
 def members_of(code, inside):
     """The ghost members of a trait, with the comments above them, and the names that they use."""
     kept, used, comments = [], set(), []
     for line in inside:
         found = re.match(r"\s*ghost (?!use)\w+(?:[: =]+)\{?(.*?)\}?;", line)
         if found:
-            kept += [*comments, line]
+            kept += [*comments, as_declared(code, line)]
             used |= {word for word in tokens_of([found.group(1)]) if NAME.match(word)}
         comments = [*comments, line] if re.match(r"\s*//", line) else []
     return kept, used - BUILT_IN
 
 
 class Contract:
-    """A public function's signature with its clauses."""
+    """A public function's signature with its clauses. `types` has the types and traits that the signature names."""
 
     def __init__(self, code, name):
-        self.code, self.name = code, name
+        self.code, self.name, self.place = code, name, (code.path, f"fn {name}")
         self.start = code.line_of(rf" *pub fn {name}\b", f"pub fn {name}")
         text = "\n".join(code.lines[self.start:])
         place, self.clauses = text.index("("), []
@@ -111,9 +117,11 @@ class Contract:
             place = closing(text, found.end())
             self.clauses.append(text[found.end() + 1:place])
         head = text[:found.start()].rstrip()
+        signature = re.split(r"\b(?:requires|ensures)\b", head)[0]
+        self.types = set(CAPITAL.findall(signature))
         self.comment = code.lines[code.above(self.start):self.start]
         self.text = [*self.comment, *head.split("\n")]
-        self.bound = {"result", "self", *re.findall(r"(\w+)\s*:", head.split("requires")[0].split("ensures")[0])}
+        self.bound = {"result", "self", *re.findall(r"(\w+)\s*:", signature)}
         # (a parameter of a type stands for the traits that it has)
         self.bounds = dict(re.findall(r"\b([A-Z])\s*:\s*([A-Z][\w +<>]*)", text[:found.start()]))
 

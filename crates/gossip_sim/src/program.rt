@@ -39,8 +39,8 @@ impl Printer for Lines {
 }
 
 /// Runs the program with these arguments over these streams, and gives the status that its process ends with. Peers are run
-/// over links, and with `--direct` without. Other arguments are refused: then it reads no input, says on `errors` how it is
-/// called, and ends with 64.
+/// over links, and with `--direct` without. Other arguments are refused: then it reads no input, puts the usage or a front of
+/// it on `errors`, and ends with 64.
 pub fn run_for<T, R, W, E>(
     rt: &T,
     arguments: &[String],
@@ -86,9 +86,9 @@ where
     }
 }
 
-/// Reads a scenario from the input, runs it over links, and writes its report to the output once the run has ended. The
-/// gate hears of each round that a peer begins. Why there is no report is a line on `errors`; where that can't be written, the
-/// status stays the same.
+/// Reads a scenario from the input, runs it over links, and writes its report to the output after the run. Why there is no
+/// report is a line on `errors`, or a front of it. The gate hears of each round that a peer begins. No clause speaks of the
+/// gate or of links, or says why a status comes.
 pub fn run<T, G, R, W, E>(
     rt: &T,
     gate: &G,
@@ -118,7 +118,8 @@ where
     }
 }
 
-/// Reads a scenario from the input, runs it without links, and writes its report to the output once the run has ended.
+/// Reads a scenario from the input, runs it without links, and writes its report to the output after the run. Why there is no
+/// report is a line on `errors`, or a front of it.
 pub fn run_direct<R, W, E>(
     alloc: Global,
     input: &mut R,

@@ -18,11 +18,11 @@ use gs_seats::{NetFault, lines_by_peer, take_list};
 use std::alloc::{AllocError, Global};
 
 /// Runs the peers of a plan on this thread, without links: in each round one peer after the other hears what its neighbours
-/// said in the round before, and does what it has to do. It takes no thread and waits for nobody, so it ends. Its report is
-/// that of the plan, whoever else computes it.
+/// said in the round before, and does what it has to do. It has no handle to wait for a thread, so the prover shows that it
+/// ends, and no clause says so. Each report of the plan has the text of this one (`a_plan_has_one_report`).
 ///
 /// # Errors
-/// `NoMemory`, of no peer.
+/// `NoMemory`. It names no peer in it, and the clause leaves that open.
 pub fn run_direct(alloc: Global, plan: &Plan) -> Result<Report, NetFault>
     requires { IsInRange plan.now }
     ensures report { IfOk result (IsReport plan.now) }

@@ -21,11 +21,13 @@ use std::thread::Threads;
 
 /// Runs the peers of a plan on worker threads: peer i on worker i mod `workers`. What one peer says
 /// to another goes over a link of their own, and the gate hears of each round that a peer begins.
-/// All threads have ended when it answers.
+/// All threads have ended when it answers. Its clause speaks only of the report. Contracts within this
+/// crate speak of workers and links, and only tests of the gate and of threads that end.
 ///
 /// # Errors
 /// `NoMemory` with the lowest peer that ran out of memory, or with none where memory ran out outside
-/// of the peers; `NoThread` where a thread could not be started or driven.
+/// of the peers; `NoThread` where a thread could not be started or driven. No clause says which fault
+/// comes, or why.
 pub fn run_net<G, R>(rt: &R, plan: &Plan, gate: &G) -> Result<Report, NetFault>
 where
     G: Gate + Sync,

@@ -28,15 +28,15 @@ use std::process::ExitCode;
 pub enum ExitStatus {
     /// The text is on the output.
     Reported,
-    /// The scenario is refused, and a line on `errors` says so.
+    /// The scenario is refused, and a line on `errors`, or a front of it, says so.
     ScenarioRefused,
-    /// The run met a fault, or there was no memory for its text.
+    /// The run met a fault, or there was no memory for its text. No clause says that either happened.
     RunRefused,
-    /// There was no memory for the rest of the text. A front of it is on the output.
+    /// There was no memory for the rest of the text. A front of it is on the output: by the clause, even all of it.
     TextRefused,
-    /// A read of the input failed, or it was read `MOST_READS` times and had not ended.
+    /// A read of the input failed, or it was read `MOST_READS` times and had not ended. No clause says that either happened.
     InputFailed,
-    /// The text could not be written.
+    /// A write of the text failed, or took nothing. A front of it is on the output: by the clause, even all of it.
     OutputFailed,
 }
 
@@ -64,8 +64,7 @@ pub struct Program<P> {
 
 impl<P: Printer> Program<P> {
     /// Reads a scenario from the input, runs it on this thread without links, and writes a text of its report to the output
-    /// once the run has ended. Why there is none is a line on `errors`; where that can't be written, the status stays the
-    /// same.
+    /// after the run. Why there is none is a line on `errors`, or a front of it.
     pub fn run<R, W, E>(&self, input: &mut R, output: &mut W, errors: &mut E) -> ExitStatus
     where
         R: Read,
@@ -96,7 +95,7 @@ impl<P: Printer> Program<P> {
         ExitCode::from(self.run(input, output, errors))
     }
 
-    /// Reads a scenario from the input. Where there is none to run, `errors` has a line that says why.
+    /// Reads a scenario from the input. Where there is none to run, `errors` has a line that says why, or a front of it.
     ///
     /// # Errors
     /// How the program ends then.
@@ -116,8 +115,8 @@ impl<P: Printer> Program<P> {
         plan_after(self.alloc, reading, errors)
     }
 
-    /// Writes a text of what a run of this plan, which is in range, left to the output. Where it left no report, or there is no memory for the
-    /// text, `errors` has a line that says why.
+    /// Writes a text of what a run of this plan, which is in range, left to the output. Where it left no report, or
+    /// there is no memory for the text, `errors` has a line that says why, or a front of it.
     pub fn write<W, E>(
         &self,
         plan: &Plan,

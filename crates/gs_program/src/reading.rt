@@ -12,7 +12,7 @@ use gs_streams::{ReadFault, input_too_long, plan_from, try_to_write};
 use std::alloc::Global;
 use std::io::Write;
 
-/// The plan of what was read. Where there is none, `errors` has a line that says why.
+/// The plan of what was read. Where there is none, `errors` has a line that says why, or a front of it.
 ///
 /// # Errors
 /// How the program ends then.
@@ -32,7 +32,7 @@ pub fn plan_after<E: Write>(
     }
 }
 
-/// The plan, where a scenario was read as one. Where it is refused, `errors` has the line of that.
+/// The plan, where a scenario was read as one. Where it is refused, `errors` has the line of that, or a front of it.
 fn go_on<E: Write>(
     alloc: Global,
     planned: Result<Plan, ScenarioFault>,

@@ -6,7 +6,7 @@ use gs_base::PeerNo;
 pub struct Report {
     /// Each peer of the plan with what is left of it, by number.
     pub peers: Vec<(PeerNo, Finished)>,
-    /// How many links were settled whole: their close was taken, and so all that was sent. Each dial
-    /// has two.
+    /// How many links were settled: of a run, two for each dial. Over links those are counted whose close was taken, and so
+    /// all that was sent.
     pub settled: u64,
 }
