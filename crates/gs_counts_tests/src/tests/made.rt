@@ -286,7 +286,7 @@ fn finished(alloc: Global, life: &Life) -> Result<Finished, AllocError> {
 pub(crate) fn report_of(alloc: Global, lives: &[Life]) -> Result<Report, AllocError> {
     let mut peers = Vec::new(alloc);
     for life in lives {
-        let number = peers.len() as u16;
+        let number = peers.len().min(63) as u16;
         peers.push((PeerNo(number), finished(alloc, life)?))?;
     }
     Ok(Report { peers, settled: 0 })

@@ -6,7 +6,7 @@ ghost use Rattle.gs_plan.specs.Plans.{IsInRange};
 use crate::tests::cases::Case;
 use crate::tests::made::report_of;
 use crate::tests::order::are_in_order;
-use gs_counts::{Counts, Kind, RunCounts, over_links, run_counts};
+use gs_counts::{Counts, Kind, RunCounts, no_counts, over_links, run_counts};
 use gs_plan::Plan;
 use gs_reach::Chosen;
 use gs_report::Report;
@@ -108,6 +108,18 @@ fn push_rounds(alloc: Global, text: &mut Vec<u8>, all: &RunCounts) -> Result<(),
     Ok(())
 }
 
+/// Adds what all peers did, where that is not all that happened.
+fn push_sum(alloc: Global, text: &mut Vec<u8>, all: &RunCounts) -> Result<(), AllocError> {
+    let mut sum = no_counts();
+    for row in all.peers.as_slice() {
+        sum = sum.with(&row.counts);
+    }
+    if sum == all.all {
+        return Ok(());
+    }
+    push_row(alloc, text, b"peers", &sum)
+}
+
 fn text_of(alloc: Global, all: &RunCounts) -> Result<Vec<u8>, AllocError> {
     let mut text = Vec::new(alloc);
     push_peers(alloc, &mut text, all)?;
@@ -115,6 +127,7 @@ fn text_of(alloc: Global, all: &RunCounts) -> Result<Vec<u8>, AllocError> {
     push_heard(alloc, &mut text, all)?;
     push_topics(alloc, &mut text, all)?;
     push_rounds(alloc, &mut text, all)?;
+    push_sum(alloc, &mut text, all)?;
     push_row(alloc, &mut text, b"all", &all.all)?;
     Ok(text)
 }
