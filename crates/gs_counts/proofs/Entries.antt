@@ -74,6 +74,25 @@ module _ (f g : Message → List Mark → Fate) (same : (m : Message) (marks : L
       ++ (flat_map (delivery_happenings s) e.effects.delivered ++ flat_map (mark_happenings s e.event) e.effects.marks))))
       (same_event s fallen e.event e.effects.marks)
 
+-- five lists, one after the other
+pub all_listed : (first a b c d e : List Happening) {one two three four all : List Happening}
+    → one ≡ first ++ a
+    → two ≡ one ++ b
+    → three ≡ two ++ c
+    → four ≡ three ++ d
+    → all ≡ four ++ e
+    → all ≡ first ++ (a ++ (b ++ (c ++ (d ++ e))))
+all_listed first a b c d e {one = one} {two = two} {three = three} is_one is_two is_three is_four is_all =
+    is_all
+    ∙ ap (λ (xs : List Happening). xs ++ e) is_four
+    ∙ append_assoc three d e
+    ∙ ap (λ (xs : List Happening). xs ++ (d ++ e)) is_three
+    ∙ append_assoc two c (d ++ e)
+    ∙ ap (λ (xs : List Happening). xs ++ (c ++ (d ++ e))) is_two
+    ∙ append_assoc one b (c ++ (d ++ e))
+    ∙ ap (λ (xs : List Happening). xs ++ (b ++ (c ++ (d ++ e)))) is_one
+    ∙ append_assoc first a (b ++ (c ++ (d ++ e)))
+
 -- ---- lanes
 
 lanes_out : (s : Scene) (e : Entry) (L : Entries) (qs : List PeerNo) → flat_map (λ lane. lane_happenings s lane e) (map (lane_of L) qs) ≡ links_happenings qs s L e

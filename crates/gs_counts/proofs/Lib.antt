@@ -1,6 +1,8 @@
 mod Mapped
+mod Prefixes
 mod Places
 mod OneMore
+mod Both
 mod Lanes
 mod Memories
 mod Noted
@@ -13,3 +15,5 @@ mod Parts
 mod Reading
 mod Listing
 mod Whole
+mod ByTopic
+mod OneEnd

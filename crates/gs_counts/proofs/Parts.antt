@@ -39,10 +39,10 @@ module _ {K : Type 0} (stands : K → Happening → Bool) where
         where
           once : (n : ℕ) → n ≡ n * 1
           once n = omega arith
-      by false = ap (λ (n : ℕ). n + amount_of (filter f hs)) (never h.amount)
+      by false = never h.amount (amount_of (filter f hs))
         where
-          never : (n : ℕ) → 0 ≡ n * 0
-          never n = omega arith
+          never : (n m : ℕ) → m ≡ n * 0 + m
+          never n m = omega arith
 
   rows_more : (h : Happening) (hs : List Happening) (ks : List K) → rows (h ∷ hs) ks ≡ h.amount * times h ks + rows hs ks
   rows_more h hs [] = nothing h.amount
@@ -70,14 +70,14 @@ module _ {K : Type 0} (stands : K → Happening → Bool) where
     where
       by : (b : Bool) → times h (k ∷ ks) ≡ one_if b + times h ks → (times h ks ≤ 1 → times h ks + one_if (in_none stands ks h) ≡ 1) → times h (k ∷ ks) + one_if (not (b || list_any (λ j. stands j h) ks)) ≡ 1
       by true first rest = omega (arith, few, first)
-      by false first rest = ap (λ (n : ℕ). n + one_if (in_none stands ks h)) first ∙ rest (omega (arith, few, first))
+      by false first rest = let others = rest (omega (arith, few, first)) in omega (arith, first, others)
 
   all_rows : (ks : List K) → ((h : Happening) → times h ks ≤ 1) → (hs : List Happening) → amount_of hs ≡ rows hs ks + amount_of (filter (in_none stands ks) hs)
   all_rows ks few [] = sym (zeros ks)
     where
       zeros : (js : List K) → rows [] js + 0 ≡ 0
       zeros [] = refl
-      zeros (j ∷ js) = ap (λ (n : ℕ). n + 0) (sum_by-cons (λ (i : K). amount_of (filter (stands i) [])) j js) ∙ zeros js
+      zeros (j ∷ js) = let first = sum_by-cons (λ (i : K). amount_of (filter (stands i) [])) j js in let others = zeros js in omega (arith, first, others)
   all_rows ks few (h ∷ hs) =
       sum_by-cons (λ (x : Happening). x.amount) h hs
       ∙ ap₂ (λ (m n : ℕ). m + n) (whole h.amount (times h ks) (one_if (in_none stands ks h)) (any_times h ks (few h))) (all_rows ks few hs)

@@ -21,10 +21,10 @@ use Rattle.gs_counts.specs.Runs.{topic_counts}
 use Rattle.gs_counts.specs.Standing.{is_on, row_on, topics_in}
 use Rattle.gs_router.proofs.Ascending.{joined_in, listed_if, one_topic, put_in_order}
 
-same_order : (t u : Topic) → is_eq (topic_order t u) ≡ same_topic t u
+pub same_order : (t u : Topic) → is_eq (topic_order t u) ≡ same_topic t u
 same_order t u = is_eq-slice_cmp t.0 u.0
 
-itself : (t : Topic) → same_topic t t ≡ true
+pub itself : (t : Topic) → same_topic t t ≡ true
 itself t = (bytes_eq-Decides t.0 t.0).1 refl
 
 -- ---- topics with a value each

@@ -35,21 +35,18 @@ one_at_most false = omega arith
 
 pub number_once : (key a n : ℕ) → sum_by (equals key) (range_with_len a n) ≤ 1
 number_once key a zero = omega arith
-number_once key a (suc n) = by (nat_eq key a) refl
+number_once key a (suc n) = by (nat_eq key a) refl (number_once key (a + 1) n)
   where
     first : sum_by (equals key) (range_with_len a (suc n)) ≡ equals key a + sum_by (equals key) (range_with_len (a + 1) n)
     first = sum_by-cons (equals key) a (range_with_len (a + 1) n)
 
-    by : (b : Bool) → nat_eq key a ≡ b → sum_by (equals key) (range_with_len a (suc n)) ≤ 1
-    by true is =
+    by : (b : Bool) → nat_eq key a ≡ b → sum_by (equals key) (range_with_len (a + 1) n) ≤ 1 → sum_by (equals key) (range_with_len a (suc n)) ≤ 1
+    by true is rest =
         let same : key < a + 1 = grind (arith, nat_tests, is) in
         let one : equals key a ≡ 1 = ap one_if is in
         let none = below_all key (a + 1) n same in
         omega (arith, first, one, none)
-    by false is =
-        let zero_here : equals key a ≡ 0 = ap one_if is in
-        let rest = number_once key (a + 1) n in
-        omega (arith, first, zero_here, rest)
+    by false is rest = let zero_here : equals key a ≡ 0 = ap one_if is in omega (arith, first, zero_here, rest)
 
 -- a number of a peer is one of several once at most
 over_peers : (f : PeerNo → ℕ) (ns : List ℕ) → sum_by f (map peer_no ns) ≡ sum_by (λ n. f (peer_no n)) ns
@@ -75,7 +72,10 @@ hits link xs = sum_by (λ x. one_if (goes_over x.0 x.1 link)) xs
 
 hits_none : (xs : List (PeerNo × PeerNo)) → hits None xs ≡ 0
 hits_none [] = refl
-hits_none (x ∷ xs) = sum_by-cons (λ (y : PeerNo × PeerNo). one_if (goes_over y.0 y.1 None)) x xs ∙ hits_none xs
+hits_none (x ∷ xs) =
+    let first = sum_by-cons (λ (y : PeerNo × PeerNo). one_if (goes_over y.0 y.1 None)) x xs in
+    let others = hits_none xs in
+    omega (arith, first, others)
 
 fewer : (f : PeerNo → ℕ) (g : PeerNo → Bool) (qs : List PeerNo) → sum_by f (filter g qs) ≤ sum_by f qs
 fewer f g [] = omega arith
@@ -89,7 +89,7 @@ fewer f g (q ∷ qs) = by (g q) (sum_by-cons f q qs) (sum_by-cons f q (filter g 
 from_one : (a b p : PeerNo) (qs : List PeerNo) → hits (Some (a, b)) (map (λ q. (p, q)) qs) ≡ (if same_peer a p then sum_by (λ q. one_if (same_peer b q)) qs else 0)
 from_one a b p [] = by (same_peer a p)
   where
-    by : (c : Bool) → 0 ≡ (if c then 0 else 0)
+    by : (c : Bool) → hits (Some (a, b)) [] ≡ (if c then sum_by (λ q. one_if (same_peer b q)) [] else 0)
     by true = refl
     by false = refl
 from_one a b p (q ∷ qs) =

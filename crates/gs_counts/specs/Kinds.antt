@@ -59,6 +59,14 @@ all_kinds =
     ∷ PrunedByLoss
     ∷ []
 
+-- what may become of a message that is heard
+abbrev pub ends_of_messages : List Kind
+ends_of_messages = New ∷ Duplicates ∷ Ignored ∷ Rejected ∷ Signed ∷ OffTopic ∷ []
+
+-- what the bytes of its payload may count as
+abbrev pub payloads_of_messages : List Kind
+payloads_of_messages = PayloadBytesNew ∷ PayloadBytesAgain ∷ []
+
 -- the place of each among them
 abbrev pub place_of : Kind → ℕ
 place_of RpcsHeard = 0

@@ -6,6 +6,7 @@ pub mod Topics
 pub mod Meshes
 pub mod Memories
 pub mod Heard
+pub mod Lengths
 pub mod Sent
 pub mod Changes
 pub mod Lanes

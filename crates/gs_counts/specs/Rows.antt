@@ -56,8 +56,10 @@ no_counts = row_of []
 abbrev pub changed_at : {A : Type 0} → (A → A) → List A → ℕ → List A
 changed_at change xs place = elim (slice_get xs place) [ None ↦ xs | Some x ↦ slice_set xs place (change x) ]
 
+-- with more at a place
+abbrev pub counted_at : Counts → ℕ → ℕ → Counts
+counted_at counts place amount = record { amounts = changed_at (λ number. plus number amount) counts.amounts place }
+
 -- with more of a kind
 abbrev pub counted : Counts → Kind → ℕ → Counts
-counted counts kind amount = record {
-  amounts = changed_at (λ number. plus number amount) counts.amounts (place_of kind);
-}
+counted counts kind amount = counted_at counts (place_of kind) amount

@@ -1,6 +1,6 @@
 //! A row of a table: how often or how much of each kind.
-ghost use Rattle.std.specs.Prelude.{◌≡◌};
-ghost use Rattle.gs_counts.specs.Rows.{count_at, counted, no_counts, with_counts};
+ghost use Rattle.std.specs.Prelude.{◌≡◌, ◌<◌};
+ghost use Rattle.gs_counts.specs.Rows.{count_at, counted, counted_at, no_counts, with_counts};
 
 use crate::kind::{KINDS, Kind};
 
@@ -32,8 +32,8 @@ impl Counts {
         ensures { result ≡ with_counts self.now others.now }
     {
         let mut both = *self;
-        for kind in &Kind::ALL {
-            both.add(*kind, others.of(*kind));
+        for place in 0..KINDS {
+            both.add_at(place, others.amounts[place]);
         }
         both
     }
@@ -42,7 +42,14 @@ impl Counts {
     pub(crate) fn add(&mut self, kind: Kind, amount: u64)
         ensures { self.new ≡ counted self.old kind amount }
     {
-        let place = kind.place();
+        self.add_at(kind.place(), amount);
+    }
+
+    /// With more at a place.
+    fn add_at(&mut self, place: usize, amount: u64)
+        requires { place < KINDS }
+        ensures { self.new ≡ counted_at self.old place amount }
+    {
         self.amounts[place] = self.amounts[place].saturating_add(amount);
     }
 }

@@ -9,17 +9,18 @@ ghost use Rattle.gs_counts.specs.Lanes.{IsSilent, closed_lane, cut_lane, cut_off
 
 use crate::happening::{Happening, Scene, note};
 use crate::kind::Kind;
+use crate::lengths::{body_len, frame_len};
 use gs_base::{PeerNo, Rpc, Shared};
 use gs_plan::Act;
 use gs_rules::{Event, StoredEntry};
-use gs_wire::{Gathered, WireFault, WrittenRpc};
+use gs_wire::GatheredRpcs;
 use std::alloc::{AllocError, Global};
 
 /// What goes out to a neighbour: the RPC that is gathered for it, and whether more may be said.
 #[derive(Drop)]
 pub(crate) struct Lane {
     to: PeerNo,
-    gathered: Gathered,
+    gathered: GatheredRpcs,
     is_open: bool,
 }
 
@@ -72,7 +73,7 @@ impl Lane {
     {
         Lane {
             to,
-            gathered: Gathered::new(alloc),
+            gathered: GatheredRpcs::new(alloc),
             is_open: true,
         }
     }
@@ -128,10 +129,9 @@ impl Lane {
         if *to != own {
             return Ok(());
         }
-        match WrittenRpc::new(*list.allocator(), rpc) {
-            Ok(written) => self.send(list, scene, written),
-            Err(WireFault::TooLong) => Ok(()),
-            Err(_) => Err(AllocError),
+        match body_len(*list.allocator(), rpc.get())? {
+            Some(_) => self.send(list, scene, rpc),
+            None => Ok(()),
         }
     }
 
@@ -139,20 +139,19 @@ impl Lane {
         &mut self,
         list: &mut Vec<Happening>,
         scene: Scene,
-        written: WrittenRpc,
+        rpc: &Shared<Rpc>,
     ) -> Result<(), AllocError>
-        requires fits { codec.fits written ≡ true }
+        requires fits { codec.fits rpc.now ≡ true }
         ensures list { OnOk result (list.new.items
-            ≡ list.old.items ++ frames_out scene (gather codec self.old.gathered written).0) }
+            ≡ list.old.items ++ frames_out scene (gather codec self.old.gathered rpc.now).0) }
         ensures lane { OnOk result (self.new
-            ≡ record self.old { gathered = (gather codec self.old.gathered written).1 }) }
+            ≡ record self.old { gathered = (gather codec self.old.gathered rpc.now).1 }) }
     {
-        let rpc = Shared::new(*list.allocator(), written)?;
-        if self.gathered.gather(&rpc)? {
+        if self.gathered.gather(rpc)? {
             return Ok(());
         }
         self.put_out(list, scene)?;
-        self.gathered.gather(&rpc)?;
+        self.gathered.gather(rpc)?;
         Ok(())
     }
 
@@ -162,8 +161,9 @@ impl Lane {
             ≡ list.old.items ++ frames_out scene (option_to_list self.old.gathered)) }
         ensures lane { OnOk result (self.new ≡ record self.old { gathered = None }) }
     {
-        match self.gathered.take_frame(*list.allocator())? {
-            Some(frame) => note_frame(list, scene, frame.len() as u64),
+        let alloc = *list.allocator();
+        match self.gathered.take(alloc)? {
+            Some(rpc) => note_frame(list, scene, frame_len(alloc, rpc.get())?),
             None => Ok(()),
         }
     }

@@ -10,6 +10,7 @@ mod heard;
 mod kind;
 mod lane;
 mod laws;
+mod lengths;
 mod memory;
 mod meshes;
 mod run;
@@ -25,8 +26,9 @@ pub use fate::Fate;
 pub use happening::Happening;
 pub use kind::Kind;
 pub use laws::{
-    fates_are_those_of_the_rule, members_are_those_of_meshes, rows_of_links_make_up_the_whole,
-    rows_of_peers_make_up_the_whole, rows_of_rounds_make_up_the_whole,
+    each_message_becomes_one_thing, fates_are_those_of_the_rule, members_are_those_of_meshes,
+    rows_of_links_make_up_the_whole, rows_of_peers_make_up_the_whole,
+    rows_of_rounds_make_up_the_whole, rows_of_topics_make_up_the_whole,
     subscribed_topics_are_joined,
 };
 pub use run::{

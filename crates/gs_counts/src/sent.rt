@@ -5,9 +5,9 @@ ghost use Rattle.gs_counts.specs.Sent.{bytes_kind, bytes_sent, control_sent, gra
 
 use crate::happening::{Happening, Scene, note, note_on_named};
 use crate::kind::Kind;
+use crate::lengths::body_len;
 use gs_base::{Control, Graft, IHave, IWant, Message, PeerNo, Prune, Rpc, Shared, SubOpt};
 use gs_rules::{Event, RpcPart};
-use gs_wire::{WireFault, encode};
 use std::alloc::AllocError;
 
 /// Whether what is sent at an event answers a request. Each event is named, so that a new one is decided on.
@@ -77,11 +77,9 @@ fn note_rpc_sent(
 fn note_bytes(list: &mut Vec<Happening>, scene: Scene, rpc: &Rpc) -> Result<(), AllocError>
     ensures { OnOk result (list.new.items ≡ list.old.items ++ bytes_sent scene rpc.now) }
 {
-    let mut body = Vec::new(*list.allocator());
-    match encode(rpc, &mut body) {
-        Ok(()) => note(list, scene, bytes_kind(rpc), body.len() as u64),
-        Err(WireFault::TooLong) => Ok(()),
-        Err(_) => Err(AllocError),
+    match body_len(*list.allocator(), rpc)? {
+        Some(len) => note(list, scene, bytes_kind(rpc), len),
+        None => Ok(()),
     }
 }
 

@@ -212,16 +212,17 @@ fn list_done(
     ensures { OnOk result (list.new.items
         ≡ list.old.items ++ done_happenings (known_fate memory.now) scene fallen.now entry.now) }
 {
+    let (event, marks) = (entry.event(), entry.marks());
     let did = Did {
-        event: entry.event(),
-        marks: entry.marks(),
+        event,
+        marks,
         fallen,
     };
     note_all_fallen(list, scene, fallen)?;
     note_event(list, memory, scene, did)?;
-    note_sends(list, scene, is_answer(entry.event()), entry.sends())?;
+    note_sends(list, scene, is_answer(event), entry.sends())?;
     note_deliveries(list, scene, entry.delivered())?;
-    note_marks(list, scene, entry.event(), entry.marks())
+    note_marks(list, scene, event, marks)
 }
 
 /// The lanes to the neighbours of a peer, ascending.

@@ -69,7 +69,7 @@ label_value (labels.Named name) = Name name
 label_value (labels.Numbered n) = Count n
 
 -- a row: what it is of, and then its figures
-abbrev pub line_row : List Figure → Line → List Value
+unfoldable pub line_row : List Figure → Line → List Value
 line_row figures line = map label_value line.labels ++ map (value_of line) figures
 
 -- ---- sums

@@ -204,6 +204,7 @@ fn value_of(line: &Line, figure: Figure) -> Value
 ///
 /// # Errors
 /// `AllocError` where there was no memory for it.
+#[tactic(auto, unfolding(crate::specs::Rows::line_row))]
 pub(crate) fn line_row(alloc: Global, figures: &[Figure], line: &Line) -> Result<Row, AllocError>
     ensures { IfOk result (λ row. row ≡ line_row figures.now line.now) }
 {

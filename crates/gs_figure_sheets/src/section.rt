@@ -105,6 +105,7 @@ const STATE: [Figure; 14] = [
 ];
 
 /// The figures of a section.
+#[tactic(auto, unfolding(crate::specs::Sections::heard_figures, crate::specs::Sections::sent_figures, crate::specs::Sections::nothing_figures, crate::specs::Sections::state_figures))]
 fn all_figures(section: Section) -> &'static [Figure]
     ensures { result.now ≡ all_figures section }
 {

@@ -1,5 +1,5 @@
 //! The lowest and the highest of several values.
-ghost use Rattle.std.specs.Prelude.{◌≡◌};
+ghost use Rattle.std.specs.Prelude.{◌≡◌, if◌then◌else◌};
 ghost use Rattle.gs_counts.specs.Meshes.{widened};
 ghost use Rattle.gs_figure_sheets.specs.Rows.{is_below, joined_spans, lower};
 

@@ -1,0 +1,10 @@
+mod Least
+mod Told
+mod Places
+mod Numbered
+mod Mapped
+mod OneMore
+mod Noted
+mod Listing
+mod Reading
+mod Listed

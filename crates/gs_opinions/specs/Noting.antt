@@ -1,5 +1,5 @@
 -- How tables go on with one opinion more, and what they show.
-use Rattle.std.specs.Prelude.{◌≡◌, ℕ, ℤ, ◌+◌, int_lt, Bool, true, false, if◌then◌else◌, List, filter, length, None, Option, Some, slice_get}
+use Rattle.std.specs.Prelude.{◌≡◌, ℕ, ℤ, ◌+◌, int_lt, Bool, true, if◌then◌else◌, List, filter, length, None, Option, Some, slice_get}
 use Rattle.std.specs.List.{AllZip}
 use Rattle.gs_base.specs.declared.names.PeerNo.{PeerNo}
 use Rattle.gs_plan.specs.declared.plan.Plan.{Plan}

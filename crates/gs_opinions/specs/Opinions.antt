@@ -1,5 +1,5 @@
 -- What peers score their neighbours, and when: at each heartbeat, decay and shutdown, after what the peer did then.
-use Rattle.std.specs.Prelude.{ℤ, Bool, true, false, if◌then◌else◌, List, [], ◌∷◌, ◌++◌, filter, map}
+use Rattle.std.specs.Prelude.{Bool, true, false, if◌then◌else◌, List, [], ◌∷◌, ◌++◌, filter, map}
 use Rattle.std.specs.List.{flat_map}
 use Rattle.gs_base.specs.declared.names.Millis.{Millis}
 use Rattle.gs_base.specs.declared.names.PeerNo.{PeerNo}

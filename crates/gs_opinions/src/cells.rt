@@ -1,6 +1,6 @@
 //! Values by number.
 ghost use Rattle.std.specs.Prelude.{◌≡◌, ◌++◌, ◌∷◌, [], IfOk, OnOk, slice_get, slice_set};
-ghost use Rattle.gs_opinions.specs.Cells.{by_number};
+ghost use Rattle.gs_opinions.specs.Cells.{by_number, cell_at};
 
 use std::alloc::{AllocError, Global};
 use std::marker::Model;
@@ -20,7 +20,7 @@ impl<T: Copy> Model for Cells<T> {
 }
 
 impl<T: Copy> Cells<T> {
-    /// Of no number at all. It takes no memory.
+    /// With no number at all. It takes no memory.
     pub(crate) fn new(alloc: Global) -> Cells<T>
         ensures { result ≡ [] }
     {
@@ -66,4 +66,14 @@ pub(crate) fn filled<T: Copy>(alloc: Global, count: usize, value: T) -> Result<C
         cells.push(value)?;
     }
     Ok(cells)
+}
+
+/// What a number has, if it is below the count and has anything.
+pub(crate) fn cell_at<T: Copy>(cells: &Cells<Option<T>>, number: usize) -> Option<T>
+    ensures { result ≡ cell_at cells.now number }
+{
+    match cells.get(number) {
+        Some(cell) => cell,
+        None => None,
+    }
 }

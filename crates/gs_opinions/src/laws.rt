@@ -7,7 +7,7 @@ ghost use Rattle.gs_opinions.specs.declared.opinion.Opinion.{Opinion as OpinionV
 ghost use Rattle.gs_opinions.specs.Runs.{is_between, lowest_between, lowest_in};
 
 /// The lowest of what one peer scores another is at most each of it. It is one of them, and those before it are higher.
-/// Only where the one never scores the other is there none.
+/// There is none only where the one never scores the other.
 pub fn the_lowest_is_the_first_that_none_is_below()
     ensures least { (os : List OpinionValue) (p q : PeerNoValue) (x : LowestValue)
         → lowest_between os p q ≡ Some x

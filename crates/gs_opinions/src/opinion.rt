@@ -8,9 +8,9 @@ use gs_base::{Millis, PeerNo};
 /// What a peer scores a neighbour at a moment.
 #[derive(Clone, Copy, Debug, PartialEq, Eq)]
 pub struct Opinion {
-    /// Whose score it is.
+    /// Who gives the score.
     pub by: PeerNo,
-    /// The neighbour.
+    /// The neighbour that gets it.
     pub of: PeerNo,
     /// In millionths.
     pub score: i128,
@@ -53,15 +53,15 @@ pub(crate) fn lower_opinion(found: Option<Lowest>, next: Opinion) -> Option<Lowe
     }
 }
 
-/// The lowest score so far, or else the next one, if that is lower.
-pub(crate) fn lower_score(found: Option<i128>, next: i128) -> Option<i128>
-    ensures { result ≡ lower_score next found }
+/// The lowest score so far, or else that of the next opinion, if that is lower.
+pub(crate) fn lower_score(found: Option<i128>, next: Opinion) -> Option<i128>
+    ensures { result ≡ lower_score next.score found }
 {
     match found {
-        None => Some(next),
+        None => Some(next.score),
         Some(before) => {
-            if next < before {
-                return Some(next);
+            if next.score < before {
+                return Some(next.score);
             }
             found
         }

@@ -1,20 +1,18 @@
 //! The lowest opinions of a run.
-ghost use Rattle.std.specs.Prelude.{◌≡◌, ◌++◌, IfOk, length, List, map, OnOk};
-ghost use Rattle.std.specs.List.{AllByRecursion, flat_map, range_with_len};
+ghost use Rattle.std.specs.Prelude.{◌≡◌, ◌++◌, ◌∷◌, [], IfOk, length, List, map, OnOk};
+ghost use Rattle.std.specs.List.{AllByRecursion, range_with_len};
 ghost use Rattle.gs_base.specs.declared.names.PeerNo.{PeerNo as PeerNoValue};
 ghost use Rattle.gs_plan.specs.Plans.{IsInRange};
 ghost use Rattle.gs_report.specs.declared.finished.Finished.{Finished as FinishedValue};
 ghost use Rattle.gs_router.specs.Following.{AreInOrder};
 ghost use Rattle.gs_reach.specs.declared.chosen.Chosen.{Chosen as ChosenValue};
 ghost use Rattle.gs_opinions.specs.declared.opinion.Opinion.{Opinion as OpinionValue};
-ghost use Rattle.gs_opinions.specs.declared.tables.Tables.{Tables as TablesValue};
-ghost use Rattle.gs_opinions.specs.Cells.{cell_at};
 ghost use Rattle.gs_opinions.specs.Listing.{all_rows, groups_at, pair_in, round_at, rows_by};
 ghost use Rattle.gs_opinions.specs.Noting.{Shows};
 ghost use Rattle.gs_opinions.specs.Opinions.{opinions_by};
 ghost use Rattle.gs_opinions.specs.Runs.{lowest_opinions, opinions_of};
 
-use crate::cells::Cells;
+use crate::cells::{Cells, cell_at};
 use crate::opinion::Lowest;
 use crate::tables::{GroupRounds, Tables};
 use crate::traces::note_peer;
@@ -27,9 +25,9 @@ use std::alloc::{AllocError, Global};
 /// The lowest that a peer scores a neighbour over a run.
 #[derive(Clone, Copy, Debug, PartialEq, Eq)]
 pub struct PairOpinion {
-    /// Whose score it is.
+    /// Who gives the score.
     pub by: PeerNo,
-    /// The neighbour.
+    /// The neighbour that gets it.
     pub of: PeerNo,
     pub lowest: Lowest,
 }
@@ -49,8 +47,8 @@ pub struct RoundOpinions {
 /// after what they did then.
 #[derive(Debug, Drop, PartialEq, Eq)]
 pub struct Opinions {
-    /// A row for each two peers of which the one has an opinion of the other: by the number of the one, and then by that
-    /// of the other.
+    /// A row for each two peers where the one has an opinion of the other: by the number of the one, and then by that of
+    /// the other.
     pub pairs: Seq<PairOpinion>,
     /// A row for each round, the last one of the plan included. What lies after that is in none.
     pub rounds: Seq<RoundOpinions>,
@@ -93,9 +91,27 @@ fn note_peers(
         → Shows plan.now groups tables.new (os ++ opinions_by plan.now of.now peers.now)) }
 {
     for peer in peers {
-        if of.contains(peer.0) {
-            note_peer(alloc, plan, tables, peer)?;
-        }
+        note_chosen(alloc, plan, tables, of, peer)?;
+    }
+    Ok(())
+}
+
+/// Notes the opinions of a peer, if it is chosen.
+fn note_chosen(
+    alloc: Global,
+    plan: &Plan,
+    tables: &mut Tables<'_>,
+    of: &Chosen,
+    peer: &(PeerNo, Finished),
+) -> Result<(), AllocError>
+    requires range { IsInRange plan.now }
+    requires order { AreInOrder peer.now.1.trace }
+    ensures { OnOk result ((groups : List ChosenValue) (os : List OpinionValue)
+        → Shows plan.now groups tables.old os
+        → Shows plan.now groups tables.new (os ++ opinions_by plan.now of.now (peer.now ∷ []))) }
+{
+    if of.contains(peer.0) {
+        return note_peer(alloc, plan, tables, peer);
     }
     Ok(())
 }
@@ -133,7 +149,7 @@ fn pair_rows(
     Ok(pairs)
 }
 
-/// Lists the row of each number of which a peer has an opinion.
+/// Lists a row for each number that a peer has an opinion of.
 fn list_pairs(
     pairs: &mut Seq<PairOpinion>,
     count: u16,
@@ -156,9 +172,9 @@ fn list_pair(
 ) -> Result<(), AllocError>
     ensures { OnOk result (pairs.new ≡ pairs.old ++ pair_in by row.now of) }
 {
-    match row.get(usize::from(of.0)) {
-        Some(Some(lowest)) => pairs.push(PairOpinion { by, of, lowest }),
-        _ => Ok(()),
+    match cell_at(row, usize::from(of.0)) {
+        Some(lowest) => pairs.push(PairOpinion { by, of, lowest }),
+        None => Ok(()),
     }
 }
 
@@ -182,7 +198,7 @@ fn round_row(alloc: Global, round: u64, tables: &Tables<'_>) -> Result<RoundOpin
     let groups = groups_at(alloc, round as usize, &tables.groups)?;
     Ok(RoundOpinions {
         round,
-        lowest: score_at(&tables.rounds, round as usize),
+        lowest: cell_at(&tables.rounds, round as usize),
         groups,
     })
 }
@@ -197,16 +213,7 @@ fn groups_at(
 {
     let mut scores = Seq::new(alloc);
     for group in groups {
-        scores.push(score_at(&group.rounds, round))?;
+        scores.push(cell_at(&group.rounds, round))?;
     }
     Ok(scores)
-}
-
-fn score_at(cells: &Cells<Option<i128>>, round: usize) -> Option<i128>
-    ensures { result ≡ cell_at cells.now round }
-{
-    match cells.get(round) {
-        Some(score) => score,
-        None => None,
-    }
 }

@@ -4,14 +4,14 @@ ghost use Rattle.std.specs.List.{AllZip};
 ghost use Rattle.gs_plan.specs.Plans.{IsInRange};
 ghost use Rattle.gs_reach.specs.declared.chosen.Chosen.{Chosen as ChosenValue};
 ghost use Rattle.gs_opinions.specs.declared.opinion.Opinion.{Opinion as OpinionValue};
-ghost use Rattle.gs_opinions.specs.Cells.{by_number, changed_at};
+ghost use Rattle.gs_opinions.specs.Cells.{changed_at};
 ghost use Rattle.gs_opinions.specs.Noting.{Shows, ShowsGroup, empty_rows, lower_opinion, lowered_between, lowered_group, lowered_in_round};
 ghost use Rattle.gs_opinions.specs.Runs.{round_of};
 
 use crate::cells::{Cells, filled};
 use crate::members::Members;
 use crate::opinion::{Lowest, Opinion, lower_opinion, lower_score};
-use gs_base::{Millis, PeerNo};
+use gs_base::Millis;
 use gs_plan::Plan;
 use gs_reach::Chosen;
 use std::alloc::{AllocError, Global};
@@ -19,14 +19,14 @@ use std::alloc::{AllocError, Global};
 /// The lowest opinions so far.
 #[derive(Drop)]
 pub(crate) struct Tables<'a> {
-    /// Of each peer by number, of each other by number.
+    /// What each peer scores each other, both by number.
     pub pairs: Vec<Cells<Option<Lowest>>>,
     /// The lowest score of each round.
     pub rounds: Cells<Option<i128>>,
     pub groups: Vec<GroupRounds<'a>>,
 }
 
-/// The lowest score that is given to one of a group, of each round.
+/// Of each round the lowest score that anybody gives one of a group.
 #[derive(Drop)]
 pub(crate) struct GroupRounds<'a> {
     pub members: Members<'a>,
@@ -61,7 +61,7 @@ impl<'a> Tables<'a> {
     {
         let round = round_of(plan, opinion.at);
         lower_between(&mut self.pairs, opinion);
-        lower_in_round(&mut self.rounds, round, opinion.score);
+        lower_in_round(&mut self.rounds, round, opinion);
         lower_groups(&mut self.groups, round, opinion);
     }
 }
@@ -81,7 +81,7 @@ impl<'a> GroupRounds<'a> {
         ensures { self.new ≡ lowered_group round opinion self.old }
     {
         if self.members.contains(opinion.of) {
-            lower_in_round(&mut self.rounds, round, opinion.score);
+            lower_in_round(&mut self.rounds, round, opinion);
         }
     }
 }
@@ -113,11 +113,11 @@ fn lower_of(row: &mut Cells<Option<Lowest>>, opinion: Opinion)
 }
 
 /// Lowers the score of a round, if the round has a number of the table.
-fn lower_in_round(cells: &mut Cells<Option<i128>>, round: usize, score: i128)
-    ensures { cells.new ≡ lowered_in_round round score cells.old }
+fn lower_in_round(cells: &mut Cells<Option<i128>>, round: usize, opinion: Opinion)
+    ensures { cells.new ≡ lowered_in_round round opinion.score cells.old }
 {
     if let Some(found) = cells.get(round) {
-        cells.put(round, lower_score(found, score));
+        cells.put(round, lower_score(found, opinion));
     }
 }
 

@@ -5,11 +5,11 @@ ghost use Rattle.gs_router.specs.Following.{AreInOrder, Follows, Reading};
 ghost use Rattle.gs_rules.specs.Tables.{Entries};
 ghost use Rattle.gs_rules.specs.declared.trace.Entry.{Entry as EntryValue};
 ghost use Rattle.gs_reach.specs.declared.chosen.Chosen.{Chosen as ChosenValue};
-ghost use Rattle.gs_seats.specs.Rounds.{neighbours_in, peer_in};
+ghost use Rattle.gs_seats.specs.Rounds.{neighbours_in};
 ghost use Rattle.gs_opinions.specs.declared.opinion.Opinion.{Opinion as OpinionValue};
 ghost use Rattle.gs_opinions.specs.declared.tables.Tables.{Tables as TablesValue};
 ghost use Rattle.gs_opinions.specs.Noting.{Shows};
-ghost use Rattle.gs_opinions.specs.Opinions.{entry_opinions, is_looked_at, opinions_at, peer_opinions};
+ghost use Rattle.gs_opinions.specs.Opinions.{entry_opinions, is_looked_at, opinion_of, opinions_at, peer_opinions};
 ghost use Rattle.gs_opinions.specs.Reading.{FollowsPeer, IsRead, ShowsMore};
 
 use crate::opinion::Opinion;
@@ -105,15 +105,21 @@ fn note_moment(judge: &Judge<'_>, tables: &mut Tables<'_>, follower: &Follower<'
         (os ++ opinions_at judge.now.plan.now judge.now.peer L at) }
 {
     for neighbour in &judge.neighbours {
-        tables.note(
-            judge.plan,
-            Opinion {
-                by: judge.peer,
-                of: neighbour.peer,
-                score: follower.score(neighbour.peer, at),
-                at,
-            },
-        );
+        tables.note(judge.plan, opinion_of(judge, follower, at, neighbour.peer));
+    }
+}
+
+/// What a neighbour scores at a moment.
+fn opinion_of(judge: &Judge<'_>, follower: &Follower<'_>, at: Millis, neighbour: PeerNo) -> Opinion
+    ensures { (L : Entries) (left : List EntryValue)
+        → FollowsPeer follower.now judge.now L left
+        → result ≡ opinion_of judge.now.plan.now judge.now.peer L at neighbour }
+{
+    Opinion {
+        by: judge.peer,
+        of: neighbour,
+        score: follower.score(neighbour, at),
+        at,
     }
 }
 

@@ -4,4 +4,4 @@ mod made;
 mod moments;
 mod order;
 mod pairs;
-mod told;
+mod texts;

@@ -3,13 +3,14 @@ ghost use Rattle.std.specs.Prelude.{IfOk};
 ghost use Rattle.gs_plan.specs.Plans.{IsInRange};
 
 use crate::tests::order::are_in_order;
+use crate::tests::told::{names_in, told};
 use gs_base::Seq;
 use gs_direct::run_direct;
 use gs_figure_sheets::{Choice, Group, Layout, Subject, Wanted, figure_sheets};
 use gs_plan::Plan;
 use gs_report::Report;
 use gs_scenario::read_plan;
-use gs_sheets::{sheets_csv, sheets_table};
+use gs_sheets::{Sheet, sheets_table};
 use std::alloc::{AllocError, Global};
 
 /// Which sheets of a run of a scenario are wanted.
@@ -64,28 +65,71 @@ fn wanted_of(alloc: Global, case: &Case, layout: Layout) -> Result<Wanted<'stati
     })
 }
 
-fn written(
+/// The sheets of a run that are wanted, where its traces are in order.
+fn sheets_of(
     alloc: Global,
     plan: &Plan,
     report: &Report,
     wanted: &Wanted<'_>,
-) -> Result<Vec<u8>, AllocError>
+) -> Result<Seq<Sheet>, AllocError>
     requires { IsInRange plan.now }
 {
     if !are_in_order(&report.peers) {
         return Err(AllocError);
     }
-    let sheets = figure_sheets(alloc, plan, report, wanted)?;
-    match wanted.layout {
-        Layout::Person => sheets_table(alloc, sheets.as_slice()),
-        Layout::Data => sheets_csv(alloc, sheets.as_slice()),
-    }
+    figure_sheets(alloc, plan, report, wanted)
 }
 
-/// The sheets of a run of a case: tables for a person, or CSV.
-pub(crate) fn text_of(alloc: Global, case: &Case, layout: Layout) -> Result<Vec<u8>, AllocError> {
+/// The sheets of a run of a case.
+fn run_of(alloc: Global, case: &Case, layout: Layout) -> Result<Seq<Sheet>, AllocError> {
     let plan = plan_of(alloc, case.scenario)?;
     let report = report_of(alloc, &plan)?;
     let wanted = wanted_of(alloc, case, layout)?;
-    written(alloc, &plan, &report, &wanted)
+    sheets_of(alloc, &plan, &report, &wanted)
+}
+
+fn written(alloc: Global, sheets: &Seq<Sheet>, layout: Layout) -> Result<Vec<u8>, AllocError> {
+    match layout {
+        Layout::Person => sheets_table(alloc, sheets.as_slice()),
+        Layout::Data => told(alloc, sheets),
+    }
+}
+
+/// The name of the first case that is written otherwise, and what is written of it: tables for a person, or what stands in the
+/// sheets for a program.
+pub(crate) fn first_wrong(
+    alloc: Global,
+    cases: &'static [Case],
+    layout: Layout,
+) -> Result<Option<(&'static str, String)>, AllocError> {
+    for case in cases {
+        let sheets = run_of(alloc, case, layout)?;
+        let text = written(alloc, &sheets, layout)?;
+        if text.as_slice() != case.text.as_bytes() {
+            return Ok(Some((case.name, shown(text))));
+        }
+    }
+    Ok(None)
+}
+
+/// The name of the first case whose columns have other names, and these.
+pub(crate) fn first_named_otherwise(
+    alloc: Global,
+    cases: &'static [Case],
+) -> Result<Option<(&'static str, String)>, AllocError> {
+    for case in cases {
+        let sheets = run_of(alloc, case, Layout::Data)?;
+        let text = names_in(alloc, &sheets)?;
+        if text.as_slice() != case.text.as_bytes() {
+            return Ok(Some((case.name, shown(text))));
+        }
+    }
+    Ok(None)
+}
+
+fn shown(text: Vec<u8>) -> String {
+    match String::from_utf8(text) {
+        Ok(text) => text,
+        Err(error) => String::new(*error.into_bytes().allocator()),
+    }
 }

@@ -1,16 +1,16 @@
-//! Cases: what peers did, and what is told of their opinions.
+//! Cases: what peers did, and the lowest of their opinions.
 use crate::tests::made::{Among, Life};
-use crate::tests::told::told;
+use crate::tests::texts::text_of_case;
 use std::alloc::{AllocError, Global};
 
-/// What peers did in a run of a scenario, whose opinions count and of which groups, and a line for each pair and each round.
+/// What peers did in a run of a scenario, whose opinions count, the groups, and a line for each pair and each round.
 pub(crate) struct Case {
     pub name: &'static str,
     pub scenario: &'static str,
     pub lives: &'static [Life],
     pub of: Among,
     pub groups: &'static [Among],
-    pub told: &'static str,
+    pub text: &'static str,
 }
 
 /// `b` dials `a`. Rounds of 100 milliseconds, and the last has number 3. Misbehaviour weighs -10, twice as much -40. A decay
@@ -27,14 +27,14 @@ pub(crate) const THREE: &str = "round_ms = 100\nrounds = 3\nworkers = 1\ncapacit
     [[app]]\npeer = \"a\"\nabout = \"b\"\nvalue = 3000000\n\
     [[app]]\npeer = \"c\"\nabout = \"a\"\nvalue = -7000000\n";
 
-/// The name of the first case that is told otherwise, and what is told of it.
+/// The name of the first case whose text is another, and that text.
 pub(crate) fn first_wrong(
     alloc: Global,
     cases: &'static [Case],
 ) -> Result<Option<(&'static str, String)>, AllocError> {
     for case in cases {
-        let text = told(alloc, case)?;
-        if text.as_slice() != case.told.as_bytes() {
+        let text = text_of_case(alloc, case)?;
+        if text.as_slice() != case.text.as_bytes() {
             return Ok(Some((case.name, shown(text))));
         }
     }

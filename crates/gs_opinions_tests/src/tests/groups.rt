@@ -15,7 +15,7 @@ static GROUPS: [Case; 3] = [
         ],
         of: None,
         groups: &[Some(&[1]), Some(&[1, 2]), Some(&[2, 0]), None, Some(&[0])],
-        told: "0 1 3000000 0\n0 2 -10000000 200\n1 0 0 0\n2 0 -7000000 0\n\
+        text: "0 1 3000000 0\n0 2 -10000000 200\n1 0 0 0\n2 0 -7000000 0\n\
             round 0 -7000000 3000000 0 -7000000 -7000000 -7000000\nround 1 - - - - - -\n\
             round 2 -10000000 3000000 -10000000 -10000000 -10000000 -\nround 3 - - - - - -\n",
     },
@@ -26,16 +26,16 @@ static GROUPS: [Case; 3] = [
         lives: &[&[(0, Did::Beats)], &[], &[]],
         of: None,
         groups: &[Some(&[]), Some(&[3, 65_535]), Some(&[2, 2])],
-        told: "0 1 3000000 0\n0 2 0 0\nround 0 0 - - 0\nround 1 - - - -\nround 2 - - - -\nround 3 - - - -\n",
+        text: "0 1 3000000 0\n0 2 0 0\nround 0 0 - - 0\nround 1 - - - -\nround 2 - - - -\nround 3 - - - -\n",
     },
-    // A group is whose score it is, and not who gives it.
+    // A group has the scores that its members get, and not those that they give.
     Case {
-        name: "a group of a peer that alone counts",
+        name: "the only peer that counts",
         scenario: THREE,
         lives: &[&[(0, Did::Beats)], &[(0, Did::Beats)], &[(0, Did::Beats)]],
         of: Some(&[2]),
         groups: &[Some(&[2]), Some(&[0])],
-        told: "2 0 -7000000 0\nround 0 -7000000 - -7000000\nround 1 - - -\nround 2 - - -\nround 3 - - -\n",
+        text: "2 0 -7000000 0\nround 0 -7000000 - -7000000\nround 1 - - -\nround 2 - - -\nround 3 - - -\n",
     },
 ];
 

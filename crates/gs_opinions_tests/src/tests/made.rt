@@ -102,9 +102,10 @@ fn finished(alloc: Global, life: Life) -> Result<Finished, AllocError> {
 /// The report of these peers, who are numbered from 0.
 pub(crate) fn report_of(alloc: Global, lives: &[Life]) -> Result<Report, AllocError> {
     let mut peers = Vec::new(alloc);
+    let mut number: u16 = 0;
     for life in lives {
-        let number = peers.len() as u16;
         peers.push((PeerNo(number), finished(alloc, *life)?))?;
+        number = number.saturating_add(1);
     }
     Ok(Report { peers, settled: 0 })
 }

@@ -20,7 +20,7 @@ static MOMENTS: [Case; 5] = [
         ],
         of: None,
         groups: &[None],
-        told: "round 0 - -\nround 1 - -\nround 2 - -\nround 3 - -\n",
+        text: "round 0 - -\nround 1 - -\nround 2 - -\nround 3 - -\n",
     },
     // What the peer notes at a heartbeat counts at it.
     Case {
@@ -29,7 +29,7 @@ static MOMENTS: [Case; 5] = [
         lives: &[&[(100, Did::BeatsBlaming(1))], &[]],
         of: None,
         groups: &[],
-        told: "0 1 -10000000 100\nround 0 -\nround 1 -10000000\nround 2 -\nround 3 -\n",
+        text: "0 1 -10000000 100\nround 0 -\nround 1 -10000000\nround 2 -\nround 3 -\n",
     },
     // A decay takes half of it first: a quarter is left of -40.
     Case {
@@ -38,7 +38,7 @@ static MOMENTS: [Case; 5] = [
         lives: &[&[(100, Did::Blames(1, 2)), (100, Did::Decays)], &[]],
         of: None,
         groups: &[],
-        told: "0 1 -10000000 100\nround 0 -\nround 1 -10000000\nround 2 -\nround 3 -\n",
+        text: "0 1 -10000000 100\nround 0 -\nround 1 -10000000\nround 2 -\nround 3 -\n",
     },
     Case {
         name: "the first and the last moment of a round",
@@ -56,7 +56,7 @@ static MOMENTS: [Case; 5] = [
         ],
         of: None,
         groups: &[],
-        told: "0 1 -40000000 199\nround 0 0\nround 1 -40000000\nround 2 -10000000\nround 3 -\n",
+        text: "0 1 -40000000 199\nround 0 0\nround 1 -40000000\nround 2 -10000000\nround 3 -\n",
     },
     // It counts for the two peers, and for no round.
     Case {
@@ -72,7 +72,7 @@ static MOMENTS: [Case; 5] = [
         ],
         of: None,
         groups: &[Some(&[1])],
-        told: "0 1 -10000000 400\nround 0 - -\nround 1 - -\nround 2 - -\nround 3 0 0\n",
+        text: "0 1 -10000000 400\nround 0 - -\nround 1 - -\nround 2 - -\nround 3 0 0\n",
     },
 ];
 

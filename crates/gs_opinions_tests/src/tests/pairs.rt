@@ -21,7 +21,7 @@ static PAIRS: [Case; 6] = [
         ],
         of: None,
         groups: &[],
-        told: "0 1 -40000000 150\nround 0 0\nround 1 -40000000\nround 2 -10000000\nround 3 -2500000\n",
+        text: "0 1 -40000000 150\nround 0 0\nround 1 -40000000\nround 2 -10000000\nround 3 -2500000\n",
     },
     // -40 twice, -10 between them, and -10 again after them.
     Case {
@@ -41,7 +41,7 @@ static PAIRS: [Case; 6] = [
         ],
         of: None,
         groups: &[],
-        told: "0 1 -40000000 110\nround 0 -\nround 1 -40000000\nround 2 -40000000\nround 3 -10000000\n",
+        text: "0 1 -40000000 110\nround 0 -\nround 1 -40000000\nround 2 -40000000\nround 3 -10000000\n",
     },
     // Each of the two directions has its own.
     Case {
@@ -53,7 +53,7 @@ static PAIRS: [Case; 6] = [
         ],
         of: None,
         groups: &[],
-        told: "0 1 -10000000 200\n1 0 -90000000 300\nround 0 0\nround 1 -\nround 2 -10000000\nround 3 -90000000\n",
+        text: "0 1 -10000000 200\n1 0 -90000000 300\nround 0 0\nround 1 -\nround 2 -10000000\nround 3 -90000000\n",
     },
     Case {
         name: "a peer that does not count",
@@ -64,7 +64,7 @@ static PAIRS: [Case; 6] = [
         ],
         of: Some(&[0]),
         groups: &[],
-        told: "0 1 -10000000 200\nround 0 -\nround 1 -\nround 2 -10000000\nround 3 -\n",
+        text: "0 1 -10000000 200\nround 0 -\nround 1 -\nround 2 -10000000\nround 3 -\n",
     },
     // Peers by number, and for each of them its neighbours by number: 1 is no neighbour of 2. The lowest of 1 by 0 is
     // above 0.
@@ -78,7 +78,7 @@ static PAIRS: [Case; 6] = [
         ],
         of: None,
         groups: &[],
-        told: "0 1 3000000 50\n0 2 0 50\n1 0 0 70\n2 0 -17000000 300\n\
+        text: "0 1 3000000 50\n0 2 0 50\n1 0 0 70\n2 0 -17000000 300\n\
             round 0 -7000000\nround 1 -\nround 2 -\nround 3 -17000000\n",
     },
     Case {
@@ -91,12 +91,12 @@ static PAIRS: [Case; 6] = [
         ],
         of: Some(&[]),
         groups: &[],
-        told: "round 0 -\nround 1 -\nround 2 -\nround 3 -\n",
+        text: "round 0 -\nround 1 -\nround 2 -\nround 3 -\n",
     },
 ];
 
 #[test]
-fn the_lowest_score_is_told_with_its_first_moment(rt: HostRuntime) -> Result<(), AllocError> {
+fn the_lowest_score_has_its_first_moment(rt: HostRuntime) -> Result<(), AllocError> {
     assert_eq!(rt; first_wrong(rt.alloc(), &PAIRS)?, None);
     Ok(())
 }

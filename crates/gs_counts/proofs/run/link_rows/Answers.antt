@@ -1,4 +1,4 @@
-use Rattle.std.proofs.Common.{◌≡◌, ◌++◌, List, ap, arith, sym, ◌∙◌}
+use Rattle.std.proofs.Common.{◌≡◌, ◌++◌, ℕ, List, ap, arith, sym, ◌∙◌}
 use Rattle.std.specs.List.{flat_map, range_with_len}
 use Rattle.gs_counts.specs.declared.run.LinkCounts.{LinkCounts}
 use Rattle.gs_counts.specs.Listing.{by_number, links_by}
@@ -14,7 +14,7 @@ bounds-rows-from c =
 pub list_links-requires : goal.list_links-requires
 list_links-requires c =
     let n = c.loop-number.number in
-    let rows = λ k. by_number (c.requires.0 k) c.args.count in
+    let rows = λ (k : ℕ). by_number (c.requires.0 k) c.args.count in
     let at = list_at rows c.args.count c.args.rows.now _ n _ c.requires.1 c.from.ensures c.loop-number-test.true in
     as_many (c.requires.0 n) c.args.count c.deref.result.now (c.deref.ensures.value ∙ ap (λ (r : Row). r.items) c.index-rows-from.is ∙ at)
 

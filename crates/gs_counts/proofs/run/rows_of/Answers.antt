@@ -1,4 +1,4 @@
-use Rattle.std.proofs.Common.{◌≡◌, List, ap, ap₂, length, refl, sym, ◌∙◌}
+use Rattle.std.proofs.Common.{◌≡◌, ℕ, List, ap, ap₂, length, refl, sym, ◌∙◌}
 use Rattle.gs_counts.specs.Listing.{all_links, by_number, peer_row}
 use Rattle.gs_counts.specs.Rows.{row_where}
 use Rattle.gs_counts.specs.Standing.{is_at, is_in, lists, peer_no, span_in}
@@ -21,7 +21,7 @@ pub returns : goal.returns
 returns c = λ hs sizes shows.
     let plan = c.args.plan.now in
     let many = c.len-count.ensures in
-    let row = λ n. row_where (is_at (peer_no n)) hs in
+    let row = λ (n : ℕ). row_where (is_at (peer_no n)) hs in
     listed plan c.args.tables.now hs sizes _ shows
     (c.in_ok-peers.ensures row (c.deref.ensures.value ∙ shows.peers ∙ ap (by_number row) (sym many)) ∙ ap (by_number (peer_row row)) many)
     (c.in_ok-links.ensures (over hs) (ap (λ (rows : List Row). lists rows) c.deref-2.ensures.value ∙ shows.links ∙ ap (λ k. by_number (λ n. by_number (over hs n) k) k) (sym many)) ∙ ap₂ (λ k dials. all_links dials k (over hs)) many c.as_slice.ensures)

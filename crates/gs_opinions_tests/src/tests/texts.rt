@@ -77,8 +77,8 @@ fn summed_up(
     text_of(alloc, &opinions)
 }
 
-/// The text of the opinions of a case.
-pub(crate) fn told(alloc: Global, case: &Case) -> Result<Vec<u8>, AllocError> {
+/// The text of a case.
+pub(crate) fn text_of_case(alloc: Global, case: &Case) -> Result<Vec<u8>, AllocError> {
     let plan = plan_of(alloc, case.scenario)?;
     let report = report_of(alloc, case.lives)?;
     summed_up(alloc, &plan, &report, case)

@@ -1,0 +1,40 @@
+//! Scenarios whose figures are worked out by hand.
+
+/// `h2` stands between `h1` and `x`. All subscribe, and no heartbeat comes, so nobody has a mesh. What `h1` and `x` publish goes
+/// to all neighbours on the topic. So `h2` delivers both a round later, and passes none on.
+pub(crate) const LINE: &str = "round_ms = 100\nrounds = 6\nworkers = 1\ncapacity = 1\nseed = 1\n\
+    [[topic]]\nname = \"news\"\n\
+    [[peer]]\nname = \"h1\"\n[[peer]]\nname = \"h2\"\n[[peer]]\nname = \"x\"\n\
+    [[dial]]\nfrom = \"h1\"\nto = \"h2\"\n[[dial]]\nfrom = \"h2\"\nto = \"x\"\n\
+    [[do]]\nwhat = \"subscribe\"\nat = 0\npeer = \"h1\"\ntopic = \"news\"\n\
+    [[do]]\nwhat = \"subscribe\"\nat = 0\npeer = \"h2\"\ntopic = \"news\"\n\
+    [[do]]\nwhat = \"subscribe\"\nat = 0\npeer = \"x\"\ntopic = \"news\"\n\
+    [[do]]\nwhat = \"publish\"\nat = 2\npeer = \"h1\"\ntopic = \"news\"\nhex = \"aa\"\n\
+    [[do]]\nwhat = \"publish\"\nat = 3\npeer = \"x\"\ntopic = \"news\"\nhex = \"bb\"\n";
+
+/// `b` subscribes when it knows that `a` is on the topic, so it grafts `a` at once. Its subscription and the GRAFT are one frame
+/// of 21 bytes. A round later `a` has `b` in its mesh, and publishes a message of 11 bytes, which `b` scores with 1. A
+/// subscription has 10 bytes. No heartbeat and no decay comes.
+pub(crate) const TWO: &str = "round_ms = 100\nrounds = 4\nworkers = 1\ncapacity = 1\nseed = 1\n\
+    [[topic]]\nname = \"news\"\nw2 = 1000000\n[[topic]]\nname = \"none\"\n\
+    [[peer]]\nname = \"a\"\n[[peer]]\nname = \"b\"\n[[dial]]\nfrom = \"a\"\nto = \"b\"\n\
+    [[do]]\nwhat = \"subscribe\"\nat = 0\npeer = \"a\"\ntopic = \"news\"\n\
+    [[do]]\nwhat = \"subscribe\"\nat = 2\npeer = \"b\"\ntopic = \"news\"\n\
+    [[do]]\nwhat = \"publish\"\nat = 3\npeer = \"a\"\ntopic = \"news\"\nhex = \"02\"\n\
+    [[do]]\nwhat = \"unsubscribe\"\nat = 4\npeer = \"a\"\ntopic = \"none\"\n";
+
+/// `h1` stands between `h2` and `x`, and its application gives `x` -100. So it handles nothing of `x`, and does not know that `x`
+/// is on the topic. `h2` publishes a payload that `h1` rejects: that counts 1, of which each decay leaves half, and its square
+/// weighs -1. A decay comes in each round but the first, and no heartbeat.
+pub(crate) const GRAY: &str = "round_ms = 100\nrounds = 5\nworkers = 1\ncapacity = 1\nseed = 1\n\
+    [params]\ndecay_ms = 100\nheartbeat_ms = 60000\n\
+    [[topic]]\nname = \"news\"\nreject = [\"ff\"]\nw4 = -1000000\n\
+    [[peer]]\nname = \"h1\"\n[[peer]]\nname = \"h2\"\n[[peer]]\nname = \"x\"\n\
+    [[dial]]\nfrom = \"h1\"\nto = \"h2\"\n[[dial]]\nfrom = \"x\"\nto = \"h1\"\n\
+    [[app]]\npeer = \"h1\"\nabout = \"x\"\nvalue = -100000000\n\
+    [[do]]\nwhat = \"subscribe\"\nat = 0\npeer = \"h1\"\ntopic = \"news\"\n\
+    [[do]]\nwhat = \"subscribe\"\nat = 0\npeer = \"h2\"\ntopic = \"news\"\n\
+    [[do]]\nwhat = \"subscribe\"\nat = 0\npeer = \"x\"\ntopic = \"news\"\n\
+    [[do]]\nwhat = \"publish\"\nat = 2\npeer = \"h2\"\ntopic = \"news\"\nhex = \"ff\"\n\
+    [[do]]\nwhat = \"publish\"\nat = 2\npeer = \"x\"\ntopic = \"news\"\nhex = \"0b\"\n\
+    [[do]]\nwhat = \"publish\"\nat = 3\npeer = \"h1\"\ntopic = \"news\"\nhex = \"0a\"\n";
