@@ -18,10 +18,11 @@ share_text n = decimal (n / 100) ++ codes "." ++ digit n 10 ∷ digit n 1 ∷ []
 
 -- ---- names
 
--- A byte of a text in quotes. What would end the text or its line is given by its number, as JSON has it, in CSV too.
+-- A byte of a text in quotes. What is no printable ASCII, or would end the text, is given by its number, as JSON has it, in
+-- CSV too.
 abbrev pub escaped : ℕ → List ℕ
 escaped byte =
-    if nat_lt byte 32 || (byte == 34 || byte == 92) then codes "\\u00" ++ encode_lower (byte ∷ []) else byte ∷ []
+    if nat_lt byte 32 || (nat_lt 126 byte || (byte == 34 || byte == 92)) then codes "\\u00" ++ encode_lower (byte ∷ []) else byte ∷ []
 
 abbrev pub quoted : List ℕ → List ℕ
 quoted name = codes "\"" ++ flat_map escaped name ++ codes "\""

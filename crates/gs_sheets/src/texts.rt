@@ -129,11 +129,11 @@ fn push_escaped_all(alloc: Global, text: &mut Vec<u8>, name: &[u8]) -> Result<()
     Ok(())
 }
 
-/// Adds a byte of a text within quotes, which some would end.
+/// Adds a byte of a text within quotes. What is no printable ASCII, or would end the text, is given by its number.
 fn push_escaped(alloc: Global, text: &mut Vec<u8>, byte: u8) -> Result<(), AllocError>
     ensures { OnOk result (text.new.items ≡ text.old.items ++ escaped byte) }
 {
-    if byte < 32 || (byte == b'"' || byte == b'\\') {
+    if byte < 32 || (byte > 126 || (byte == b'"' || byte == b'\\')) {
         let digits = hex::encode(alloc, &[byte])?;
         text.extend_from_slice(b"\\u00")?;
         return text.extend_from_slice(digits.as_bytes());
