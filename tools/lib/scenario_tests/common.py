@@ -69,12 +69,12 @@ def report(text):
 
 
 def figures(text):
-    """The figures of a description's run: of each publication, and of each peer by its name."""
+    """The figures of a description's run: of each message, and of each peer by its name."""
     return figures_of(printed(text))
 
 
 def figures_of(scenario):
     """The same of a plain scenario."""
-    publications, peers = by_program("gossip_stats", scenario, "--csv").split("\n\n")
+    messages, _, _, peers = by_program("gossip_stats", scenario, "--csv").split("\n\n")
     rows = {it["peer"]: it for it in csv.DictReader(peers.splitlines())}
-    return list(csv.DictReader(publications.splitlines())), rows
+    return list(csv.DictReader(messages.splitlines())), rows

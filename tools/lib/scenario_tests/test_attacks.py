@@ -23,9 +23,16 @@ def attack(kind, keys):
     return f'[[attack]]\nkind = "{kind}"\npeer = "x"\nto = "v"\nfrom = "2 s"\n{keys}'
 
 
+# What a peer counts together here.
+SUMS = {
+    "messages_heard": ("new", "duplicates", "ignored", "rejected", "signed", "off_topic"),
+    "invalid": ("rejected", "signed"),
+}
+
+
 def of(text, peer, *columns):
     row = figures(text)[1][peer]
-    return tuple(number(row[it]) for it in columns)
+    return tuple(sum(number(row[part]) for part in SUMS.get(it, (it,))) for it in columns)
 
 
 class Spam(unittest.TestCase):
@@ -85,12 +92,12 @@ class Floods(unittest.TestCase):
         flood = attack("ihave_flood", 'until = "7 s"\nevery = "100 ms"\ncount = 3\n')
         text = LINE + PARAMS + "w7 = 0\n" + TOPIC + flood
         self.assertEqual(of(text, "v", "ihave_heard"), (150,))
-        self.assertEqual(of(text, "v", "iwant_sent", "broken_promises"), (50, 50))
+        self.assertEqual(of(text, "v", "iwant_sent") + of(text, "x", "promises_broken"), (50, 50))
 
     def test_promises_that_are_broken_are_charged(self):
         # one offer; 3 seconds later its promise is broken, and the square of 1 times -10 is -10
         text = LINE + PARAMS + TOPIC + attack("ihave_flood", 'until = "2100 ms"\nevery = "1 s"\n')
-        self.assertEqual(of(text, "v", "iwant_sent", "broken_promises"), (1, 1))
+        self.assertEqual(of(text, "v", "iwant_sent") + of(text, "x", "promises_broken"), (1, 1))
         self.assertEqual(of(text, "x", "lowest_score"), (-10,))
 
     def test_requests_get_a_message_as_often_as_they_may(self):
@@ -154,8 +161,8 @@ every = "1 s"
 SILENT = '[[attack]]\nkind = "silent"\npeer = "x"\n'
 
 
-def delivered(text):
-    return [int(it["delivered"]) for it in figures(text)[0]]
+def reached(text):
+    return [int(it["reached"]) for it in figures(text)[0]]
 
 
 class Silence(unittest.TestCase):
@@ -164,10 +171,10 @@ class Silence(unittest.TestCase):
         self.assertEqual([it for it in lines if it.startswith("mesh v")], ["mesh v news x1", "mesh v news x2"])
 
     def test_what_others_publish_does_not_come(self):
-        # to `h` itself, and without the attack to `v` and both others as well
-        self.assertEqual(delivered(CROWD + SMALL + TOPIC + SILENT), [1] * 5)
+        # to nobody but `h` itself, and without the attack to `v` as well
+        self.assertEqual(reached(CROWD + SMALL + TOPIC + SILENT), [0] * 5)
         quiet = CROWD.replace("count = 2\n", "count = 2\ntopics = []\n")
-        self.assertEqual(delivered(quiet + SMALL + TOPIC), [2] * 5)
+        self.assertEqual(reached(quiet + SMALL + TOPIC), [1] * 5)
 
     def test_missing_deliveries_are_charged(self):
         # P3 from 1.5 seconds in the mesh on: one is missing of each silent member, which costs 1. Who is below 0 leaves the
@@ -287,6 +294,6 @@ between = ["east", "west"]
 
     def test_each_side_is_left_with_itself(self):
         # published at 2, 3, 4 and 5 seconds before it, and at 6, 7 and 8 after it
-        publications, _ = figures(self.TEXT + TOPIC)
-        found = [it["delivered"] for it in sorted(publications, key=lambda it: int(it["at_ms"]))]
-        self.assertEqual(found, ["10"] * 4 + ["6"] * 3)
+        messages, _ = figures(self.TEXT + TOPIC)
+        found = [it["reached"] for it in sorted(messages, key=lambda it: int(it["at_ms"]))]
+        self.assertEqual(found, ["9"] * 4 + ["5"] * 3)

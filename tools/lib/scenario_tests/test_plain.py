@@ -161,12 +161,13 @@ class Plain(unittest.TestCase):
 
     def test_the_example(self):
         text = called(f"{TOP}/examples/descriptions/sybil_flood.toml").stdout.decode()
-        publications, peers = figures_of(text)
-        before = [it["delivered"] for it in publications if int(it["at_ms"]) < 60_000]
-        after = [it["delivered"] for it in publications if int(it["at_ms"]) >= 60_000]
-        self.assertEqual((before, after), (["30"] * 4, ["15"] * 3))
+        messages, peers = figures_of(text)
+        good = [it for it in messages if it["verdict"] == "accept"]
+        before = [it["reached"] for it in good if int(it["at_ms"]) < 60_000]
+        after = [it["reached"] for it in good if int(it["at_ms"]) >= 60_000]
+        self.assertEqual((before, after), (["29"] * 4, ["14"] * 3))
         # (each of 10 sybils has dialled 3 peers, and each of those hears it 12 times)
-        invalid = [int(it["invalid"]) for name, it in peers.items() if name[0] in "ew"]
+        invalid = [int(it["rejected"]) + int(it["signed"]) for name, it in peers.items() if name[0] in "ew"]
         self.assertEqual({it % 12 for it in invalid}, {0})
         self.assertEqual(sum(invalid), 10 * 3 * 12)
         last = [it.split() for it in by_program("gossip_sim", text).splitlines() if it.startswith("score ")]
@@ -181,10 +182,11 @@ class Plain(unittest.TestCase):
         self.assertTrue(parts[2].startswith("until"))
         for text in (whole, *(whole + it for it in parts[:2]), parts[2]):
             self.assertTrue(by_program("gossip_check", printed(text)).startswith("ok\n"))
-        reached = {int(it["at_ms"]): it["delivered"] for it in figures(parts[2])[0]}
+        reached = {int(it["at_ms"]): it["reached"] for it in figures(parts[2])[0]}
         times = range(3_000, 40_001, 2_000)
-        # (what is published at 23 s is still offered when the gateways are back)
-        expected = ["15" if 10_000 < it < 22_000 else "30" if it == 23_000 else "32" for it in times]
+        # (what is published at 23 s is still offered when the gateways are back. These subscribe at 25 s, so they are no
+        # subscribers of what is published then)
+        expected = ["14" if 10_000 < it < 22_000 else "29" if it in (23_000, 25_000) else "31" for it in times]
         self.assertEqual([reached[it] for it in times], expected)
         for kind in attacks.KINDS:
             self.assertIn(f'kind = "{kind}"', page)
