@@ -9,7 +9,7 @@ ghost use Rattle.gs_params.specs.Picks.{IsAscending};
 ghost use Rattle.gs_link.specs.Items.{IsSendable};
 ghost use Rattle.gs_ends.specs.Ends.{has};
 ghost use Rattle.gs_ends.specs.Pairs.{accepted_for, joints_of, taken_from};
-ghost use Rattle.gs_ends.specs.Lists.{joints_in_lists, taken_in_lists};
+ghost use Rattle.gs_ends.specs.Lists.{accepted_in_lists, joints_in_lists, taken_in_lists};
 ghost use Rattle.gs_rules.specs.Peers.{links_of};
 ghost use Rattle.gs_peer.specs.Task.{CanPoll, HasJoints};
 
@@ -225,7 +225,7 @@ pub fn lists(
     every: u64,
 ) -> Result<ListEnds, AllocError>
     ensures known { IfOk result (λ ends. has (joints_in_lists ends) other ≡ true) }
-    ensures accepted { IfOk result (λ ends. (q : PeerNoValue) → accepted_for ends q ≡ []) }
+    ensures accepted { IfOk result (λ ends. (q : PeerNoValue) → accepted_in_lists ends q ≡ []) }
     ensures taken { IfOk result (λ ends. (q : PeerNoValue) → taken_in_lists ends q ≡ []) }
 {
     if !are_sendable(&items) {
