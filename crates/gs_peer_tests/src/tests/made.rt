@@ -164,6 +164,12 @@ pub fn payloads(alloc: Global) -> Result<Arc<Mutex<Payloads>>, AllocError> {
     Ok(payloads)
 }
 
+/// A flag that nobody has set.
+pub fn flag(alloc: Global) -> Result<Arc<StopFlag>, AllocError> {
+    let stop = Arc::new(alloc, StopFlag::new(alloc)?)?;
+    Ok(stop)
+}
+
 /// These ends and this gate, a flag that nobody sets, and payloads that nobody else knows.
 pub fn surrounded<G: Gate, S: Ends>(
     alloc: Global,
@@ -175,7 +181,7 @@ pub fn surrounded<G: Gate, S: Ends>(
     Ok(Surroundings {
         ends,
         gate,
-        stop: Arc::new(alloc, StopFlag::new())?,
+        stop: flag(alloc)?,
         payloads: payloads(alloc)?,
     })
 }
@@ -198,7 +204,7 @@ pub fn task<S: Ends>(
     let surroundings = Surroundings {
         ends,
         gate: NoGate,
-        stop: Arc::new(alloc, StopFlag::new())?,
+        stop: flag(alloc)?,
         payloads: payloads(alloc)?,
     };
     task_in(alloc, pair, lines, rounds, surroundings)
